@@ -1,0 +1,2 @@
+pub mod Arrows
+pub mod WordLaws
