@@ -1,0 +1,20 @@
+-- The laws of the board, from those of cycles and paths.
+use Rattle.std.proofs.Common.{false, refl}
+use Rattle.jt_board.specs.Chain.{BoardState, told}
+use Rattle.bitbang.specs.declared.Message.TheVariants.{Lines}
+use Rattle.jt_board.specs.Laws.{FiveOnesRest, OpeningRests, OpeningSettles, DefaultPathsSettleAndArrive}
+use Rattle.jt_board.proofs.Ones.{five-ones, opening-rests, reset_from_here}
+use Rattle.jt_board.proofs.Resets.{opening-law}
+use Rattle.jt_board.proofs.Moves.{go-law}
+
+pub five_ones_rest : FiveOnesRest
+five_ones_rest b released = (reset_from_here b, five-ones b released, refl)
+
+pub opening_rests : OpeningRests
+opening_rests b = (reset_from_here (told (Lines false false) b), opening-rests b, refl, refl)
+
+pub opening_settles : OpeningSettles
+opening_settles m stable = opening-law m.place m.trst m.nets m.members stable
+
+pub default_paths : DefaultPathsSettleAndArrive
+default_paths m to here there free = go-law m.place to m.trst m.nets m.members here there free

@@ -1,0 +1,14 @@
+pub mod Low
+pub mod Shift
+pub mod Vectors
+pub mod Moves
+pub mod Scan
+pub mod Trips
+pub mod Resets
+pub mod Held
+pub mod Ones
+pub mod Sound
+pub mod Short
+pub mod Sweeps
+pub mod Bares
+pub mod BoardLaws

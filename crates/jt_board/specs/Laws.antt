@@ -1,0 +1,40 @@
+-- What the definitions promise of every chain: laws between the edge meaning and the register meaning.
+use Rattle.std.specs.Prelude.{◌≡◌, true, false, List, []}
+use Rattle.std.specs.List.{AllByRecursion}
+use Rattle.jt_tap.specs.declared.State.{State}
+use Rattle.jt_tap.specs.declared.State.TheVariants.{Reset}
+use Rattle.jt_tap.specs.Controller.{is_stable}
+use Rattle.jt_board.specs.Chain.{BoardState, Heard, hear, is_held}
+use Rattle.jt_board.specs.Whole.{AtRest, arrive, opened, settle}
+use Rattle.jt_board.specs.Steps.{Go}
+use Rattle.jt_board.specs.StepBytes.{closed, opening, resets_held, step_messages}
+use Rattle.jt_board.specs.Resting.{IsAtRest, resting}
+
+-- nothing was answered, and the board is at rest in m
+abbrev pub quietly_at : AtRest → Heard
+quietly_at m = record { answers = []; board = resting m }
+
+-- the same in RESET, with some registers
+abbrev pub EndsInReset : Heard → Type 0
+EndsInReset heard = (m : AtRest) × (heard ≡ quietly_at m) × (m.place ≡ Reset)
+
+-- Five cycles with TMS 1 and TRST released bring every board to rest in RESET in all devices.
+abbrev pub FiveOnesRest : Type 0
+FiveOnesRest = (b : BoardState) → b.trst ≡ false → EndsInReset (hear (closed resets_held) b)
+
+-- The opening brings every board, in mid-scan too, to rest in RESET with TRST released.
+abbrev pub OpeningRests : Type 0
+OpeningRests = (b : BoardState) → (m : AtRest) × (hear opening b ≡ quietly_at m) × (m.place ≡ Reset) × (m.trst ≡ false)
+
+-- From rest in m the opening gives m with TRST released, settled and reset.
+abbrev pub OpeningSettles : Type 0
+OpeningSettles = (m : AtRest) → is_stable m.place ≡ true → hear opening (resting m) ≡ quietly_at (opened m)
+
+-- no device is held in RESET by TRST
+abbrev pub IsFree : AtRest → Type 0
+IsFree m = AllByRecursion (λ d. is_held m.trst d ≡ false) m.members
+
+-- From rest in m, the bytes of a default path end at rest in m settled and arrived.
+abbrev pub DefaultPathsSettleAndArrive : Type 0
+DefaultPathsSettleAndArrive = (m : AtRest) (to : State) → is_stable m.place ≡ true → is_stable to ≡ true → IsFree m
+    → hear (step_messages m.place (Go to)) (resting m) ≡ quietly_at (arrive to (settle m))

@@ -1,0 +1,14 @@
+pub mod Device
+pub mod Instruction
+pub mod Registers
+pub mod Edges
+pub mod Cells
+pub mod Nets
+pub mod Chain
+pub mod Whole
+pub mod Vector
+pub mod Steps
+pub mod StepBytes
+pub mod Resting
+pub mod Bare
+pub mod Laws
