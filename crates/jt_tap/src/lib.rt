@@ -2,7 +2,7 @@
 #![tactic(auto)]
 
 ghost use Rattle.std.specs.Prelude.{◌≡◌, find, IfSome};
-ghost use Rattle.jt_tap.specs.Controller.{Arrow, ArrowsAreTheFunction, EnteredByOne, FiveOnesReset, next, is_stable, work};
+ghost use Rattle.jt_tap.specs.Controller.{Arrow, ArrowsAreTheFunction, EnteredByOne, FiveOnesReset, entered_by, next, is_stable, work};
 ghost use Rattle.jt_tap.specs.Words as spec;
 ghost use Rattle.jt_tap.specs.Words.{IsWordOf, reads, word};
 
@@ -131,6 +131,22 @@ impl State {
             (State::IrUpdate, true) => State::DrSelect,
             (State::IrUpdate, false) => State::Idle,
         }
+    }
+
+    /// The TMS of a rising edge that enters this state: each state is entered by one value alone.
+    pub fn entered_by(self) -> bool
+        ensures { result ≡ entered_by self }
+    {
+        !matches!(
+            self,
+            State::Idle
+                | State::DrCapture
+                | State::DrShift
+                | State::DrPause
+                | State::IrCapture
+                | State::IrShift
+                | State::IrPause
+        )
     }
 
     /// What a device does in this state.
