@@ -1,0 +1,4 @@
+pub mod Bytes
+pub mod Cutting
+pub mod Left
+pub mod Scanning
