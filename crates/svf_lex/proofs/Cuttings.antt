@@ -1,11 +1,11 @@
 -- The tokens of a text are its cut, and there is one.
-use Rattle.std.proofs.Common.{◌≡◌, ℕ, zero, suc, ◌+◌, ◌<◌, ◌≤◌, Bool, true, false, cond, not, nat_eq, List, [], ◌∷◌, ◌++◌, length, take, drop, get_or, map, refl, sym, ap, ◌∙◌, subst, ◌⊎◌, inl, inr, arith, ◌↔◌}
+use Rattle.std.proofs.Common.{◌≡◌, ℕ, ◌+◌, false, nat_eq, List, [], ◌∷◌, ◌++◌, length, map, refl, sym, ap, ◌∙◌, subst, ◌⊎◌, inl, inr, arith}
 use Rattle.std.proofs.lemmas.List.{append-nil}
 use Rattle.std.specs.List.{flat_map}
 use Rattle.std.proofs.lemmas.Bool.Decides.{nat_tests}
 use Rattle.svf_lex.specs.declared.scan.Front.TheVariants.{Bad}
 use Rattle.svf_lex.specs.Bytes.{is_white, is_run, is_mark, begins_comment}
-use Rattle.svf_lex.specs.Cutting.{Lexeme, Cut, piece, bad, cut, cuts_of, front}
+use Rattle.svf_lex.specs.Cutting.{Lexeme, Cut, piece, bad, cuts_of, front}
 use Rattle.svf_lex.specs.Gaps.{bytes_of, Divides, tokens_at, TokensOf, BadAfter, BeginsNothing}
 use Rattle.svf_lex.specs.Laws.{TokensAreCut, BadByteIsCut, EachIsCut, TokensAreOne, BadByteIsOne, NeverBoth}
 use Rattle.svf_lex.proofs.Steps.{cut-nil, cut-cons}
@@ -15,7 +15,7 @@ pub tokens_cut : (text : List ℕ) (ts : List Lexeme) → TokensOf text ts → c
 tokens_cut text ts t =
     let made = map piece (tokens_at 0 t.parts) in
     divides_cut 0 t.parts text [] t.divides ∙ ap (λ (cuts : List Cut). made ++ cuts) (cut-nil 0 (0 + length (flat_map bytes_of t.parts))) ∙ append-nil made
-        ∙ ap (map piece) (sym t.among)
+    ∙ ap (map piece) (sym t.among)
 
 nothing_stands : (c : ℕ) (rest : List ℕ) → BeginsNothing c rest → front c rest ≡ Bad
 nothing_stands c rest n =
@@ -34,17 +34,20 @@ bad_cut text ts place b =
     let n = length (flat_map bytes_of b.parts) in
     let there : 0 + n ≡ place = omega (arith, b.there) in
     divides_cut 0 b.parts text (b.byte ∷ b.rest) b.divides
-        ∙ ap (λ (cuts : List Cut). made ++ cuts) (cut-cons (0 + n) b.byte b.rest Bad (nothing_stands b.byte b.rest b.nothing))
-        ∙ ap (λ (p : ℕ). made ++ bad p ∷ []) there
-        ∙ ap (λ (us : List Lexeme). map piece us ++ bad place ∷ []) (sym b.among)
+    ∙ ap (λ (cuts : List Cut). made ++ cuts) (cut-cons (0 + n) b.byte b.rest Bad (nothing_stands b.byte b.rest b.nothing))
+    ∙ ap (λ (p : ℕ). made ++ bad p ∷ []) there
+    ∙ ap (λ (us : List Lexeme). map piece us ++ bad place ∷ []) (sym b.among)
 
 each_by : (text : List ℕ) (f : Found text) (rest : List ℕ) → f.rest ≡ rest → (rest ≡ []) ⊎ ((c : ℕ) × (more : List ℕ) × (rest ≡ c ∷ more) × BeginsNothing c more)
     → ((ts : List Lexeme) × TokensOf text ts) ⊎ ((ts : List Lexeme) × (place : ℕ) × BadAfter text ts place)
 each_by text f rest is (inl none) =
     inl (tokens_at 0 f.parts, record { parts = f.parts; divides = subst (Divides f.parts text) (is ∙ none) f.divides; among = refl })
 each_by text f rest is (inr (c, more, stands, nothing)) =
-    inr (tokens_at 0 f.parts, length (flat_map bytes_of f.parts),
-        record { parts = f.parts; byte = c; rest = more; divides = subst (Divides f.parts text) (is ∙ stands) f.divides; nothing = nothing; among = refl; there = refl })
+    inr (
+      tokens_at 0 f.parts,
+      length (flat_map bytes_of f.parts),
+      record { parts = f.parts; byte = c; rest = more; divides = subst (Divides f.parts text) (is ∙ stands) f.divides; nothing = nothing; among = refl; there = refl },
+    )
 
 pub each_is_cut : EachIsCut
 each_is_cut text = let f = found text in each_by text f f.rest refl f.ends

@@ -1,13 +1,12 @@
 -- Each text is a row of parts up to its end or to a byte that begins nothing, and its cut is theirs.
-use Rattle.std.proofs.Common.{◌≡◌, ℕ, zero, suc, ◌+◌, ◌<◌, ◌≤◌, Bool, true, false, cond, not, nat_eq, List, [], ◌∷◌, ◌++◌, length, take, drop, get_or, map, refl, sym, ap, ◌∙◌, subst, ◌⊎◌, inl, inr, arith, codes}
-use Rattle.std.proofs.lemmas.List.{take-append-drop, append_assoc, length-append}
+use Rattle.std.proofs.Common.{◌≡◌, ℕ, zero, suc, ◌+◌, Bool, true, false, cond, not, nat_eq, List, [], ◌∷◌, ◌++◌, length, take, drop, get_or, map, refl, sym, ap, ◌∙◌, ◌⊎◌, inl, inr, arith}
+use Rattle.std.proofs.lemmas.List.{take-append-drop, length-append}
 use Rattle.std.specs.List.{prefix_len, flat_map, AllByRecursion}
 use Rattle.std.proofs.lemmas.Bool.Decides.{nat_tests}
-use Rattle.svf_lex.specs.declared.Kind.{Kind}
 use Rattle.svf_lex.specs.declared.Kind.TheVariants as kind
 use Rattle.svf_lex.specs.Bytes.{is_white, is_line_end, is_run, is_mark, begins_comment}
-use Rattle.svf_lex.specs.Cutting.{Lexeme, Cut, piece, bad, cut}
-use Rattle.svf_lex.specs.Gaps.{Part, white, comment, token, bytes_of, EndsLine, EndsRun, IsInLine, IsRunByte, IsComment, IsPart, Divides, tokens_at, BeginsNothing}
+use Rattle.svf_lex.specs.Cutting.{Cut, piece, cut}
+use Rattle.svf_lex.specs.Gaps.{Part, white, comment, token, bytes_of, EndsLine, EndsRun, IsInLine, IsComment, IsPart, Divides, tokens_at, BeginsNothing}
 use Rattle.svf_lex.proofs.Parts.{Ends, part_cut}
 
 tokens_more : (at : ℕ) (p : Part) (parts : List Part) (cuts : List Cut)
@@ -23,9 +22,9 @@ divides_cut at (p ∷ parts) text rest (after, is, fits, more) =
     let n = length (bytes_of p) in
     let place : at + n + length (flat_map bytes_of parts) ≡ at + length (flat_map bytes_of (p ∷ parts)) = omega (arith, length-append (bytes_of p) (flat_map bytes_of parts)) in
     ap (cut 0 at) is ∙ part_cut at p after fits
-        ∙ ap (λ (cuts : List Cut). map piece (tokens_at at (p ∷ [])) ++ cuts) (divides_cut (at + n) parts after rest more)
-        ∙ tokens_more at p parts (cut 0 (at + n + length (flat_map bytes_of parts)) rest)
-        ∙ ap (λ (q : ℕ). map piece (tokens_at at (p ∷ parts)) ++ cut 0 q rest) place
+    ∙ ap (λ (cuts : List Cut). map piece (tokens_at at (p ∷ [])) ++ cuts) (divides_cut (at + n) parts after rest more)
+    ∙ tokens_more at p parts (cut 0 (at + n + length (flat_map bytes_of parts)) rest)
+    ∙ ap (λ (q : ℕ). map piece (tokens_at at (p ∷ parts)) ++ cut 0 q rest) place
 
 -- ---- the parts of any text
 
@@ -105,13 +104,13 @@ module _ (c : ℕ) (cs : List ℕ) (later : (n : ℕ) → Found (drop n cs)) whe
   found_comment begins =
       let n = prefix_len is_in_line cs in
       before (comment (c ∷ take n cs)) (c ∷ cs) (drop n cs) (whole n)
-          (begun c cs (begins_by c (get_or cs 0 0) (nat_eq c 33) refl begins), line_ends (drop n cs) (prefix_ends is_in_line cs)) (later n)
+      (begun c cs (begins_by c (get_or cs 0 0) (nat_eq c 33) refl begins), line_ends (drop n cs) (prefix_ends is_in_line cs)) (later n)
 
   found_run : is_run c ≡ true → Found (c ∷ cs)
   found_run run =
       let n = prefix_len is_run cs in
       before (token kind.Run (c ∷ take n cs)) (c ∷ cs) (drop n cs) (whole n)
-          (omega arith, (run, prefix_passes is_run cs), run_ends (drop n cs) (prefix_ends is_run cs)) (later n)
+      (omega arith, (run, prefix_passes is_run cs), run_ends (drop n cs) (prefix_ends is_run cs)) (later n)
 
   found_mark : is_white c ≡ false → begins_comment c cs ≡ false → is_run c ≡ false → (a b d : Bool) → nat_eq c 40 ≡ a → nat_eq c 41 ≡ b → nat_eq c 59 ≡ d → Found (c ∷ cs)
   found_mark no_white no_comment no_run true b d open_is close_is semi_is =

@@ -1,12 +1,12 @@
 -- What a lexer gives for a text is what the whole text says.
-use Rattle.std.proofs.Common.{◌≡◌, ◌≢◌, ℕ, ◌+◌, List, [], ◌∷◌, ◌++◌, map, Option, Some, None, Result, Ok, Err, unwrap_or, refl, sym, ap, ◌∙◌, subst, ◌⊎◌, inl, inr, ◌↔◌}
-use Rattle.std.proofs.lemmas.List.{append-nil, append_assoc}
+use Rattle.std.proofs.Common.{◌≡◌, ◌≢◌, ℕ, List, [], ◌∷◌, ◌++◌, map, Option, Some, None, Result, Ok, Err, unwrap_or, refl, sym, ap, ◌∙◌, subst, ◌⊎◌, inl, inr}
+use Rattle.std.proofs.lemmas.List.{append-nil}
 use Rattle.std.specs.List.{AllByRecursion}
 use Rattle.svf_lex.specs.declared.Kind.{Kind}
 use Rattle.svf_lex.specs.declared.Kind.TheVariants as kind
 use Rattle.svf_lex.specs.declared.LexFault.{LexFault}
 use Rattle.svf_lex.specs.declared.LexFault.TheVariants as fault
-use Rattle.svf_lex.specs.Cutting.{Lexeme, Cut, piece, bad, cuts_of, begun_after, ending, items, items_of}
+use Rattle.svf_lex.specs.Cutting.{Lexeme, Cut, piece, bad, begun_after, ending, items, items_of}
 use Rattle.svf_lex.specs.Gaps.{TokensOf, BadAfter}
 use Rattle.svf_lex.specs.Lexed.{IsClosed, IsNoSemi, IsOpenFrom, Lexes, whole, unclosed, bad_byte}
 use Rattle.svf_lex.specs.Laws.{LexerGives}
@@ -46,8 +46,8 @@ open_stays place (t ∷ ts) all = ap (λ (b : Option ℕ). begun_by b ts) (goes_
 open_by : (ts : List Lexeme) (place : ℕ) → IsOpenFrom ts place → begun_by None ts ≡ Some place
 open_by ts place o =
     ap (begun_by None) o.whole ∙ begun_by-append None o.closed (o.first ∷ o.more) ∙ ap (λ (b : Option ℕ). begun_by b (o.first ∷ o.more)) (closed_by o.closed o.is_closed)
-        ∙ ap (λ (b : Option ℕ). begun_by b o.more) (goes_on o.first.kind None o.first.start o.no_semi.0) ∙ open_stays o.first.start o.more o.no_semi.1
-        ∙ ap (λ (p : ℕ). Some p) (sym o.starts)
+    ∙ ap (λ (b : Option ℕ). begun_by b o.more) (goes_on o.first.kind None o.first.start o.no_semi.0) ∙ open_stays o.first.start o.more o.no_semi.1
+    ∙ ap (λ (p : ℕ). Some p) (sym o.starts)
 
 -- what a lexer gives at tokens and then nothing
 tokens_give : (text : List ℕ) (ts : List Lexeme) (begun : Option ℕ) → TokensOf text ts → begun_by None ts ≡ begun → items_of text ≡ map Ok ts ++ ending begun

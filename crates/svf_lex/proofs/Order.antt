@@ -1,14 +1,13 @@
 -- Tokens are slices of the text, in rising order.
-use Rattle.std.proofs.Common.{◌≡◌, ℕ, ◌+◌, ◌<◌, ◌≤◌, List, [], ◌∷◌, ◌++◌, length, take, drop, map, Result, Ok, Err, refl, sym, ap, ◌∙◌, subst, arith}
+use Rattle.std.proofs.Common.{◌≡◌, ℕ, ◌+◌, ◌≤◌, List, [], ◌∷◌, ◌++◌, length, take, drop, map, Result, Ok, Err, refl, sym, ap, ◌∙◌, subst, arith}
 use Rattle.std.proofs.lemmas.List.{append-nil, append_assoc, length-append, drop_at, take_at}
 use Rattle.svf_lex.specs.declared.Kind.{Kind}
-use Rattle.svf_lex.specs.declared.Kind.TheVariants as kind
 use Rattle.svf_lex.specs.declared.LexFault.{LexFault}
 use Rattle.svf_lex.specs.declared.LexFault.TheVariants as fault
 use Rattle.svf_lex.specs.Cutting.{Lexeme, items_of}
-use Rattle.svf_lex.specs.Gaps.{Part, white, comment, token, bytes_of, IsPart, Divides, tokens_at, TokensOf, BadAfter}
+use Rattle.svf_lex.specs.Gaps.{Part, white, comment, token, bytes_of, IsPart, Divides, tokens_at}
 use Rattle.svf_lex.specs.Lexed.{Lexes, whole, unclosed, bad_byte, IsSlice, InOrder}
-use Rattle.svf_lex.specs.Laws.{SlicesInOrder}
+use Rattle.svf_lex.specs.Laws.{SlicesInOrder, ItemsAreFew}
 use Rattle.svf_lex.proofs.Parts.{part_holds}
 use Rattle.svf_lex.proofs.Endings.{each_lexes}
 
@@ -45,7 +44,7 @@ in_order text at (p ∷ parts) front here rest end is place (after, splits, fits
     let all : text ≡ front ++ (bytes_of p ++ after) = is ∙ ap (λ (t : List ℕ). front ++ t) splits in
     let next : length (front ++ bytes_of p) ≡ at + n = omega (arith, length-append front (bytes_of p)) in
     one_more text at p parts front after end all place fits
-        (in_order text (at + n) parts (front ++ bytes_of p) after rest end (all ∙ sym (append_assoc front (bytes_of p) after)) next more ends)
+    (in_order text (at + n) parts (front ++ bytes_of p) after rest end (all ∙ sym (append_assoc front (bytes_of p) after)) next more ends)
 
 from_start : (text : List ℕ) (parts : List Part) (rest : List ℕ) (ts : List Lexeme) (end given : Given) → Divides parts text rest → ts ≡ tokens_at 0 parts → ((n : ℕ) → InOrder text n end)
     → given ≡ map Ok ts ++ end → InOrder text 0 given
@@ -59,3 +58,14 @@ all_in_order text given (bad_byte ts place b is) = from_start text b.parts (b.by
 
 pub slices_in_order : SlicesInOrder
 slices_in_order text = all_in_order text (items_of text) (each_lexes text)
+
+few : (text : List ℕ) (from : ℕ) (given : Given) → from ≤ length text → InOrder text from given → from + length given ≤ length text + 1
+few text from [] within o = omega arith
+few text from (Ok t ∷ given) within o =
+    let fits : t.start + length t.text ≤ length text = o.2.within in
+    let more = few text (t.start + length t.text) given fits o.3 in
+    omega (arith, o.0, o.1)
+few text from (Err e ∷ given) within o = omega (arith, ap length o)
+
+pub items_are_few : ItemsAreFew
+items_are_few text = omega (arith, few text 0 (items_of text) (omega arith) (slices_in_order text))

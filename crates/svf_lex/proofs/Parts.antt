@@ -1,15 +1,14 @@
 -- The cut of a text that is a row of parts.
-use Rattle.std.proofs.Common.{◌≡◌, ℕ, zero, suc, ◌+◌, ◌<◌, ◌≤◌, Bool, true, false, cond, not, List, [], ◌∷◌, ◌++◌, length, take, drop, get_or, map, refl, sym, ap, ◌∙◌, subst, ◌⊎◌, inl, inr, arith, codes}
-use Rattle.std.proofs.lemmas.List.{drop_at, take_at, append_assoc}
-use Rattle.std.specs.List.{prefix_len, flat_map, AllByRecursion}
+use Rattle.std.proofs.Common.{◌≡◌, ℕ, suc, ◌+◌, ◌<◌, Bool, true, false, not, List, [], ◌∷◌, ◌++◌, length, drop, map, refl, sym, ap, ◌∙◌, subst, inl, inr, arith}
+use Rattle.std.proofs.lemmas.List.{drop_at, take_at}
+use Rattle.std.specs.List.{prefix_len, AllByRecursion}
 use Rattle.std.proofs.lemmas.Bool.Decides.{nat_tests}
 use Rattle.svf_lex.specs.declared.Kind.{Kind}
 use Rattle.svf_lex.specs.declared.Kind.TheVariants as kind
-use Rattle.svf_lex.specs.declared.scan.Front.{Front}
-use Rattle.svf_lex.specs.declared.scan.Front.TheVariants.{Gap, Token, Bad}
-use Rattle.svf_lex.specs.Bytes.{is_white, is_line_end, is_run, is_mark, begins_comment}
-use Rattle.svf_lex.specs.Cutting.{Lexeme, Cut, piece, bad, cut, front}
-use Rattle.svf_lex.specs.Gaps.{Part, white, comment, token, bytes_of, EndsLine, EndsRun, IsInLine, IsRunByte, IsComment, IsPart, Divides, tokens_at}
+use Rattle.svf_lex.specs.declared.scan.Front.TheVariants.{Gap, Token}
+use Rattle.svf_lex.specs.Bytes.{is_white, is_line_end, is_run, begins_comment}
+use Rattle.svf_lex.specs.Cutting.{piece, cut, front}
+use Rattle.svf_lex.specs.Gaps.{Part, white, comment, token, bytes_of, EndsLine, EndsRun, IsInLine, IsRunByte, IsComment, IsPart, tokens_at}
 use Rattle.svf_lex.proofs.Steps.{cut-cons}
 
 -- all of a front passes, and what follows it does not begin with more that passes
@@ -64,9 +63,9 @@ run_cut : (at c : ℕ) (body after : List ℕ) → is_run c ≡ true → AllByRe
 run_cut at c body after run all ends =
     let place : at + 1 + length body ≡ at + suc (length body) = omega arith in
     cut-cons at c (body ++ after) (Token kind.Run (length body)) (run_front c body after run all ends)
-        ∙ ap (λ (t : List ℕ). piece (record { kind = kind.Run; text = c ∷ t; start = at }) ∷ cut 0 (at + 1 + length body) (drop (length body) (body ++ after))) (take_at body after (length body) refl)
-        ∙ ap (λ (t : List ℕ). piece (record { kind = kind.Run; text = c ∷ body; start = at }) ∷ cut 0 (at + 1 + length body) t) (drop_at body after (length body) refl)
-        ∙ ap (λ (p : ℕ). piece (record { kind = kind.Run; text = c ∷ body; start = at }) ∷ cut 0 p after) place
+    ∙ ap (λ (t : List ℕ). piece (record { kind = kind.Run; text = c ∷ t; start = at }) ∷ cut 0 (at + 1 + length body) (drop (length body) (body ++ after))) (take_at body after (length body) refl)
+    ∙ ap (λ (t : List ℕ). piece (record { kind = kind.Run; text = c ∷ body; start = at }) ∷ cut 0 (at + 1 + length body) t) (drop_at body after (length body) refl)
+    ∙ ap (λ (p : ℕ). piece (record { kind = kind.Run; text = c ∷ body; start = at }) ∷ cut 0 p after) place
 
 mark_cut : (at c : ℕ) (k : Kind) (after : List ℕ) → front c after ≡ Token k 0 → cut 0 at (c ∷ after) ≡ piece (record { kind = k; text = c ∷ []; start = at }) ∷ cut 0 (at + 1) after
 mark_cut at c k after stands =

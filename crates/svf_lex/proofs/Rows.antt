@@ -1,17 +1,15 @@
 -- A text has one row of parts.
-use Rattle.std.proofs.Common.{◌≡◌, ℕ, zero, suc, ◌+◌, ◌<◌, ◌≤◌, Bool, true, false, cond, not, nat_eq, List, [], ◌∷◌, ◌++◌, length, take, drop, map, refl, sym, ap, ◌∙◌, subst, inl, inr, arith}
+use Rattle.std.proofs.Common.{◌≡◌, ℕ, ◌<◌, Bool, true, false, List, [], ◌∷◌, ◌++◌, length, take, refl, sym, ap, ◌∙◌, subst, inl, inr, arith}
 use Rattle.std.proofs.lemmas.List.{append_cancel_left, append_assoc, append-nil, length-append, take_at}
-use Rattle.std.specs.List.{prefix_len, flat_map, AllByRecursion}
-use Rattle.svf_lex.specs.declared.Kind.{Kind}
+use Rattle.std.specs.List.{flat_map, AllByRecursion}
 use Rattle.svf_lex.specs.declared.Kind.TheVariants as kind
 use Rattle.svf_lex.specs.declared.scan.Front.{Front}
 use Rattle.svf_lex.specs.declared.scan.Front.TheVariants.{Gap, Token, Bad}
 use Rattle.svf_lex.specs.Bytes.{is_white, is_run, begins_comment}
-use Rattle.svf_lex.specs.Cutting.{Lexeme, front}
-use Rattle.svf_lex.specs.Gaps.{Part, white, comment, token, bytes_of, EndsLine, EndsRun, IsInLine, IsRunByte, IsComment, IsPart, Divides, tokens_at, TokensOf}
+use Rattle.svf_lex.specs.Cutting.{front}
+use Rattle.svf_lex.specs.Gaps.{Part, white, comment, token, bytes_of, EndsLine, EndsRun, IsInLine, IsRunByte, IsComment, IsPart, Divides}
 use Rattle.svf_lex.specs.Laws.{PartsAreOne, PartsJoin, RunsStandApart}
 use Rattle.svf_lex.proofs.Parts.{comment_front, run_front, part_holds}
-
 
 -- the part that stands at the front of a text, where one does
 abbrev part_by : Front → Bool → ℕ → List ℕ → Part
@@ -33,8 +31,8 @@ white_first c after is = rw is refl
 comment_first : (c : ℕ) (body after : List ℕ) → is_white c ≡ false → begins_comment c (body ++ after) ≡ true → AllByRecursion IsInLine body → EndsLine after → IsFirst (comment (c ∷ body)) after
 comment_first c body after no_white begins all ends =
     ap (λ (f : Front). part_by f (is_white c) c (body ++ after)) (comment_front c body after no_white begins all ends)
-        ∙ ap (λ (b : Bool). part_by (Gap (length body)) b c (body ++ after)) no_white
-        ∙ ap (λ (t : List ℕ). comment (c ∷ t)) (take_at body after (length body) refl)
+    ∙ ap (λ (b : Bool). part_by (Gap (length body)) b c (body ++ after)) no_white
+    ∙ ap (λ (t : List ℕ). comment (c ∷ t)) (take_at body after (length body) refl)
 
 comment_either : (bytes after : List ℕ) → IsComment bytes → EndsLine after → IsFirst (comment bytes) after
 comment_either bytes after (body, inl is, all) ends = subst (λ (b : List ℕ). IsFirst (comment b) after) (sym is) (comment_first 33 body after refl refl all ends)
@@ -43,7 +41,7 @@ comment_either bytes after (body, inr is, all) ends = subst (λ (b : List ℕ). 
 run_first : (c : ℕ) (body after : List ℕ) → is_run c ≡ true → AllByRecursion IsRunByte body → EndsRun after → IsFirst (token kind.Run (c ∷ body)) after
 run_first c body after run all ends =
     ap (λ (f : Front). part_by f (is_white c) c (body ++ after)) (run_front c body after run all ends)
-        ∙ ap (λ (t : List ℕ). token kind.Run (c ∷ t)) (take_at body after (length body) refl)
+    ∙ ap (λ (t : List ℕ). token kind.Run (c ∷ t)) (take_at body after (length body) refl)
 
 -- a part before what follows it is what stands at the front there
 first_is : (p : Part) (after : List ℕ) → IsPart p after → IsFirst p after

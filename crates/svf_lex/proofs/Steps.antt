@@ -38,7 +38,7 @@ cut_at source at f lt is =
     let c = get_or source at 0 in
     let cs = drop (at + 1) source in
     ap (cut 0 at) (drop_more source at 0 lt) ∙ cut-cons at c cs f (ap (front c) (sym (take_rest source (at + 1))) ∙ sym is)
-        ∙ ap (λ (t : List ℕ). with_front f at c cs (cut 0 (at + 1 + behind f) t)) (drop-drop (behind f) (at + 1) source)
+    ∙ ap (λ (t : List ℕ). with_front f at c cs (cut 0 (at + 1 + behind f) t)) (drop-drop (behind f) (at + 1) source)
 
 pub at_end : (source : List ℕ) (at : ℕ) → length source ≤ at → cut 0 at (drop at source) ≡ []
 at_end source at past = ap (cut 0 at) (drop_all at source past) ∙ cut-nil 0 at
@@ -63,10 +63,10 @@ part-cons source at n lt =
 
 pub at_token : (source : List ℕ) (at : ℕ) (k : Kind) (n : ℕ) → at < length source → n ≤ length (rest_of source at) → Token k n ≡ front (get_or source at 0) (rest_of source at)
     → cut 0 at (drop at source)
-        ≡ piece (record { kind = k; text = part_of source at n; start = at }) ∷ cut 0 (at + length (part_of source at n)) (drop (at + length (part_of source at n)) source)
+    ≡ piece (record { kind = k; text = part_of source at n; start = at }) ∷ cut 0 (at + length (part_of source at n)) (drop (at + length (part_of source at n)) source)
 at_token source at k n lt fits is =
     let fit : n ≤ length (drop (at + 1) source) = subst (λ (t : List ℕ). n ≤ length t) (take_rest source (at + 1)) fits in
     let size : at + 1 + n ≡ at + length (part_of source at n) = omega (arith, ap length (part-cons source at n lt), length-take-le n (drop (at + 1) source) fit) in
     cut_at source at (Token k n) lt is
-        ∙ ap (λ (t : List ℕ). piece (record { kind = k; text = t; start = at }) ∷ cut 0 (at + 1 + n) (drop (at + 1 + n) source)) (sym (part-cons source at n lt))
-        ∙ ap (λ (p : ℕ). piece (record { kind = k; text = part_of source at n; start = at }) ∷ cut 0 p (drop p source)) size
+    ∙ ap (λ (t : List ℕ). piece (record { kind = k; text = t; start = at }) ∷ cut 0 (at + 1 + n) (drop (at + 1 + n) source)) (sym (part-cons source at n lt))
+    ∙ ap (λ (p : ℕ). piece (record { kind = k; text = part_of source at n; start = at }) ∷ cut 0 p (drop p source)) size

@@ -1,5 +1,5 @@
 -- Laws over every text, which public functions ensure.
-use Rattle.std.specs.Prelude.{◌≡◌, ℕ, ◌↔◌, ◌⊎◌, List, [], ◌∷◌, ◌++◌, map, Result}
+use Rattle.std.specs.Prelude.{◌≡◌, ℕ, ◌+◌, ◌≤◌, ◌↔◌, ◌⊎◌, List, [], ◌∷◌, ◌++◌, length, map, Result}
 use Rattle.std.specs.List.{flat_map}
 use Rattle.svf_lex.specs.declared.Kind.TheVariants as kind
 use Rattle.svf_lex.specs.declared.LexFault.{LexFault}
@@ -48,3 +48,7 @@ LexerGives = (text : List ℕ) (given : List (Result Lexeme LexFault)) → Lexes
 -- tokens are slices of the text, in rising order, and behind a fault is nothing
 abbrev pub SlicesInOrder : Type 0
 SlicesInOrder = (text : List ℕ) → InOrder text 0 (items_of text)
+
+-- there are at most as many items as bytes, and a fault
+abbrev pub ItemsAreFew : Type 0
+ItemsAreFew = (text : List ℕ) → length (items_of text) ≤ length text + 1

@@ -66,7 +66,11 @@ impl<'a> Lexer<'a> {
     pub fn new(source: &'a [u8]) -> Lexer<'a>
         ensures { left result ≡ items_of source.now }
     {
-        Lexer { source, at: 0, begun: None }
+        Lexer {
+            source,
+            at: 0,
+            begun: None,
+        }
     }
 
     // Nothing is left.
@@ -104,11 +108,11 @@ impl<'a> Iterator for Lexer<'a> {
             None => {
                 let begun = self.begun;
                 self.stop();
-                match begun {
-                    Some(first) => Some(Err(LexFault::Unclosed(first))),
-                    None => None,
-                }
+                begun.map(|first| Err(LexFault::Unclosed(first)))
             }
         }
     }
 }
+
+#[cfg(test)]
+mod tests;

@@ -27,7 +27,11 @@ pub(crate) fn first_token<'a>(source: &'a [u8], from: usize) -> Option<Result<To
         match front_of(source[at], &source[at + 1..]) {
             Front::Gap(more) => at += 1 + more,
             Front::Token(kind, more) => {
-                return Some(Ok(Token { kind, text: &source[at..at + 1 + more], start: at }));
+                return Some(Ok(Token {
+                    kind,
+                    text: &source[at..at + 1 + more],
+                    start: at,
+                }));
             }
             Front::Bad => return Some(Err(at)),
         }

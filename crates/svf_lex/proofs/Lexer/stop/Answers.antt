@@ -1,4 +1,4 @@
-use Rattle.std.proofs.Common.{length, Option, None, ap, arith}
+use Rattle.std.proofs.Common.{length, None, ap, arith}
 use Rattle.svf_lex.specs.Cutting.{items}
 use Rattle.svf_lex.proofs.Steps.{at_end}
 use Rattle.svf_lex.proofs.Lexer.stop.Goals as goal

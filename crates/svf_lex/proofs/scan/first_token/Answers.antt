@@ -1,4 +1,4 @@
-use Rattle.std.proofs.Common.{◌≡◌, ◌∙◌, length, arith}
+use Rattle.std.proofs.Common.{◌∙◌, arith}
 use Rattle.std.proofs.lemmas.List.{length-drop, take_rest}
 use Rattle.svf_lex.proofs.Steps.{at_end, at_gap, at_token, at_bad}
 use Rattle.svf_lex.proofs.scan.first_token.Goals as goal
