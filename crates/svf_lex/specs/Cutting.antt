@@ -1,6 +1,6 @@
 -- A whole text, cut into tokens and gaps.
-use Rattle.std.specs.Prelude.{ℕ, zero, suc, ◌+◌, not, ◌==◌, if◌then◌else◌, List, [], ◌∷◌, take, Option, Some, None, Result, Ok, Err, unwrap_or}
-use Rattle.std.specs.List.{prefix_len}
+use Rattle.std.specs.Prelude.{ℕ, zero, suc, ◌+◌, ◌==◌, if◌then◌else◌, List, [], ◌∷◌, take, Option, Some, None, Result, Ok, Err, unwrap_or}
+use Rattle.std.specs.List.{prefix_len, position_or_len}
 use Rattle.svf_lex.specs.declared.Kind.{Kind}
 use Rattle.svf_lex.specs.declared.Kind.TheVariants as kind
 use Rattle.svf_lex.specs.declared.scan.Front.{Front}
@@ -24,7 +24,7 @@ pub data Cut : Type 0 where
 abbrev pub front : ℕ → List ℕ → Front
 front c cs =
     if is_white c then Gap 0
-    else if begins_comment c cs then Gap (prefix_len (λ d. not (is_line_end d)) cs)
+    else if begins_comment c cs then Gap (position_or_len is_line_end cs)
     else if is_run c then Token kind.Run (prefix_len is_run cs)
     else if c == 40 then Token kind.Open 0
     else if c == 41 then Token kind.Close 0

@@ -47,7 +47,10 @@ pub enum LexFault {
     Unclosed(usize),
 }
 
-/// The tokens of a text that are left.
+/// The tokens of a text that are left, in order, and then the text's fault if it has one. Behind a fault and at the end it
+/// gives nothing more.
+///
+/// A copy is a bookmark: it goes on from its place.
 #[derive(Debug, Clone, Copy)]
 pub struct Lexer<'a> {
     source: &'a [u8],
