@@ -1,0 +1,121 @@
+//! The tokens of SVF text (Serial Vector Format, revision E).
+//!
+//! A text is runs of letters, digits, `.`, `+`, `-` and `_`, the marks `(`, `)` and `;`, and gaps between them: white
+//! space, and comments from `!` or `//` to the line's end.
+#![tactic(auto)]
+
+ghost use Rattle.std.specs.Prelude.{◌≡◌, ◌≤◌, [], length};
+ghost use Rattle.std.specs.Iterator.{YieldsFirstBy, item_count};
+
+use crate::scan::first_token;
+use thiserror::Error;
+
+pub mod laws;
+mod scan;
+
+/// What a token is.
+#[derive(Debug, Clone, Copy, PartialEq, Eq)]
+pub enum Kind {
+    /// The longest run of ASCII letters, digits, `.`, `+`, `-` and `_`: a word, a number or hexadecimal digits.
+    Run,
+    /// `(`
+    Open,
+    /// `)`
+    Close,
+    /// `;`, which ends a statement.
+    Semi,
+}
+
+/// A token of a text.
+#[derive(Debug, Clone, Copy, PartialEq, Eq)]
+pub struct Token<'a> {
+    pub kind: Kind,
+    /// Its bytes, which stand in the text at `start`.
+    pub text: &'a [u8],
+    /// The place of its first byte, counted in bytes from 0.
+    pub start: usize,
+}
+
+/// Why a text is no row of tokens. A place is counted in bytes from 0.
+#[derive(Debug, Drop, Clone, Copy, PartialEq, Eq, Error)]
+pub enum LexFault {
+    /// At this place stands a byte that begins no token and no gap, as `#`, or a `/` with no other `/` behind it.
+    #[error("byte {0} of the text belongs to no token, white space or comment")]
+    BadByte(usize),
+    /// The text ends in a statement with no `;`, whose first token starts at this place.
+    #[error("the statement that begins at byte {0} is not closed by a semicolon")]
+    Unclosed(usize),
+}
+
+/// The tokens of a text that are left, in order, and then the text's fault if it has one. Behind a fault and at the end it
+/// gives nothing more.
+///
+/// A copy is a bookmark: it goes on from its place.
+#[derive(Debug, Clone, Copy)]
+pub struct Lexer<'a> {
+    source: &'a [u8],
+    // where the next token or gap begins
+    at: usize,
+    // where the statement that is open there began
+    begun: Option<usize>,
+    ghost within: { at ≤ length source.now },
+}
+
+impl<'a> Lexer<'a> {
+    ghost use Rattle.svf_lex.specs.Left.{left};
+    ghost use Rattle.svf_lex.specs.Cutting.{items_of};
+
+    /// The tokens of a whole text. Takes no memory.
+    pub fn new(source: &'a [u8]) -> Lexer<'a>
+        ensures { left result ≡ items_of source.now }
+    {
+        Lexer {
+            source,
+            at: 0,
+            begun: None,
+        }
+    }
+
+    // Nothing is left.
+    fn stop(&mut self)
+        ensures { left self.new ≡ [] }
+    {
+        self.at = self.source.len();
+        self.begun = None;
+    }
+}
+
+impl<'a> Iterator for Lexer<'a> {
+    type Item = Result<Token<'a>, LexFault>;
+
+    ghost use Rattle.svf_lex.specs.Left.{left, seen};
+
+    ghost next_gives = { YieldsFirstBy seen left };
+
+    ghost remaining = { item_count left };
+
+    fn next(&mut self) -> Option<Result<Token<'a>, LexFault>> {
+        match first_token(self.source, self.at) {
+            Some(Ok(token)) => {
+                self.at = token.start + token.text.len();
+                self.begun = match token.kind {
+                    Kind::Semi => None,
+                    _ => Some(self.begun.unwrap_or(token.start)),
+                };
+                Some(Ok(token))
+            }
+            Some(Err(place)) => {
+                self.stop();
+                Some(Err(LexFault::BadByte(place)))
+            }
+            None => {
+                let begun = self.begun;
+                self.stop();
+                begun.map(|first| Err(LexFault::Unclosed(first)))
+            }
+        }
+    }
+}
+
+#[cfg(test)]
+mod tests;

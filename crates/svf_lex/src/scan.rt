@@ -1,0 +1,79 @@
+//! What stands at a place of a text.
+ghost use Rattle.std.specs.Prelude.{◌≡◌, ◌≤◌, length, drop, IfSome, IfOk};
+ghost use Rattle.std.specs.List.{prefix_len, position_or_len};
+ghost use Rattle.svf_lex.specs.Bytes as bytes;
+ghost use Rattle.svf_lex.specs.Cutting.{cut, front, behind};
+ghost use Rattle.svf_lex.specs.Scanning.{cuts_from, end_of};
+
+use crate::{Kind, Token};
+use memchr::memchr2;
+
+/// What the first byte of a text begins, and how many bytes that has behind it.
+#[derive(Clone, Copy)]
+enum Front {
+    Gap(usize),
+    Token(Kind, usize),
+    Bad,
+}
+
+/// The first token from a place on, or the place of the byte in its way that begins nothing.
+pub(crate) fn first_token<'a>(source: &'a [u8], from: usize) -> Option<Result<Token<'a>, usize>>
+    requires { from ≤ length source.now }
+    ensures cuts { cut 0 from (drop from source.now) ≡ cuts_from source.now result }
+    ensures within { IfSome result (λ found. IfOk found (λ token. end_of token ≤ length source.now)) }
+{
+    let mut at = from;
+    while at < source.len() {
+        match front_of(source[at], &source[at + 1..]) {
+            Front::Gap(more) => at += 1 + more,
+            Front::Token(kind, more) => {
+                return Some(Ok(Token {
+                    kind,
+                    text: &source[at..at + 1 + more],
+                    start: at,
+                }));
+            }
+            Front::Bad => return Some(Err(at)),
+        }
+    }
+    None
+}
+
+/// What the byte begins before this rest of the text.
+fn front_of(first: u8, rest: &[u8]) -> Front
+    ensures value { result ≡ front first rest.now }
+    ensures within { behind result ≤ length rest.now }
+{
+    match first {
+        b' ' | b'\t'..=b'\r' => Front::Gap(0),
+        b'!' => Front::Gap(line_len(rest)),
+        b'/' if rest.first() == Some(&b'/') => Front::Gap(line_len(rest)),
+        b'(' => Front::Token(Kind::Open, 0),
+        b')' => Front::Token(Kind::Close, 0),
+        b';' => Front::Token(Kind::Semi, 0),
+        _ if is_run_byte(first) => Front::Token(Kind::Run, run_len(rest)),
+        _ => Front::Bad,
+    }
+}
+
+/// How many bytes stand before the next line feed or carriage return, or before the end.
+fn line_len(text: &[u8]) -> usize
+    ensures value { result ≡ position_or_len bytes.is_line_end text.now }
+    ensures within { result ≤ length text.now }
+{
+    memchr2(b'\n', b'\r', text).unwrap_or(text.len())
+}
+
+/// How many bytes of a run stand at the front.
+fn run_len(text: &[u8]) -> usize
+    ensures value { result ≡ prefix_len bytes.is_run text.now }
+    ensures within { result ≤ length text.now }
+{
+    text.iter().take_while(|byte| is_run_byte(**byte)).count()
+}
+
+fn is_run_byte(byte: u8) -> bool
+    ensures { result ≡ bytes.is_run byte }
+{
+    byte.is_ascii_alphanumeric() || matches!(byte, b'.' | b'+' | b'-' | b'_')
+}
