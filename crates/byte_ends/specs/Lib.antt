@@ -1,0 +1,4 @@
+pub mod Counts
+pub mod Frames
+pub mod Writes
+pub mod Losses

@@ -1,0 +1,20 @@
+-- Writing all of a piece, by as many calls as its writer wants.
+use Rattle.std.specs.Prelude.{◌≡◌, ℕ, suc, Bool, true, false, List, [], ◌++◌, drop, Option, Result, Ok}
+use Rattle.std.specs.Io.KnownBytes.{Appends}
+use Rattle.byte_ends.specs.Counts.{is_lost}
+
+-- known bytes grow by a front part of `bytes`, `sent`: by none, some or all of them; `rest` is what did not go out
+pub record AppendsFront (old new : Option (List ℕ)) (bytes : List ℕ) : Type 0 where
+  pub sent : List ℕ
+  pub rest : List ℕ
+  pub split : bytes ≡ sent ++ rest
+  pub appends : Appends old new sent
+
+-- The calls that write a piece from one state of a writer to another, where `puts` says what one call may do. Each
+-- call is handed all that the calls before it left. The flag is true where nothing is left, and false where the last
+-- call was lost; no call follows a lost one.
+pub data PutsAll {S E : Type 0} (puts : S → List ℕ → Result ℕ E → S → Type 0) : S → List ℕ → Bool → S → Type 0 where
+  none_left : (s : S) → PutsAll puts s [] true s
+  call_lost : (s : S) (piece : List ℕ) (r : Result ℕ E) (t : S) → puts s piece r t → is_lost r piece ≡ true → PutsAll puts s piece false t
+  some_put : (s : S) (piece : List ℕ) (n : ℕ) (t : S) (whole : Bool) (u : S) → puts s piece (Ok (suc n)) t
+      → PutsAll puts t (drop (suc n) piece) whole u → PutsAll puts s piece whole u
