@@ -12,3 +12,4 @@ pub mod Short
 pub mod Sweeps
 pub mod Bares
 pub mod BoardLaws
+pub mod Lines

@@ -12,3 +12,4 @@ pub mod StepBytes
 pub mod Resting
 pub mod Bare
 pub mod Laws
+pub mod Report

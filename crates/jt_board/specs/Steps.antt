@@ -5,7 +5,8 @@ use Rattle.jt_tap.specs.declared.Column.TheVariants.{Dr, Ir}
 use Rattle.jt_tap.specs.declared.State.{State}
 use Rattle.jt_tap.specs.declared.State.TheVariants.{Reset}
 use Rattle.jt_tap.specs.Controller.{pause, is_at}
-use Rattle.jt_board.specs.Vector.{Part, VectorBit, tdis, judge}
+use Rattle.jt_board.specs.declared.vector.Part.{Part}
+use Rattle.jt_board.specs.Vector.{VectorBit, tdis, judge}
 use Rattle.jt_board.specs.Cells.{Member}
 use Rattle.jt_board.specs.Whole.{AtRest, capture, out, shift, update, update_member, reset_member, settle, arrive, along}
 
@@ -21,14 +22,6 @@ pub data Step : Type 0 where
   Path : List State → Step
   Run : (run : State) → (cycles : ℕ) → (end : State) → Step
   Trst : TrstWord → Step
-
-pub record Numbered : Type 0 where
-  pub number : ℕ
-  pub what : Step
-
-pub record Program : Type 0 where
-  pub statements : ℕ
-  pub steps : List Numbered
 
 -- A scan that ends in its own pause rests there with the update pending.
 abbrev pub scan_end : Column → State → AtRest → AtRest
@@ -63,23 +56,3 @@ command (Trst _) m = record m { trst = false }
 abbrev pub failure : Step → AtRest → Option (Part × ℕ)
 failure (Scan column v end) m = judge v (out column (tdis v) (capture column (settle m)))
 failure _ m = None
-
-pub data Ending : Type 0 where
-  Pass : Ending
-  Fail : (command : ℕ) → Part → (bit : ℕ) → Ending
-  Lost : (command : ℕ) → Ending
-  BadAnswer : (command byte : ℕ) → Ending
-
-pub record Outcome : Type 0 where
-  pub ending : Ending
-  pub after : AtRest
-
--- The program: step by step, up to and with the first that fails.
-abbrev pub outcome : List Numbered → AtRest → Outcome
-outcome [] m = record { ending = Pass; after = m }
-outcome (s ∷ ss) m =
-    let rest = outcome ss (command s.what m) in
-    elim (failure s.what m) [
-      | None ↦ rest
-      | Some f ↦ record { ending = Fail s.number f.0 f.1; after = command s.what m }
-    ]

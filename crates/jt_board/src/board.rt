@@ -1,6 +1,6 @@
 //! The board: a chain of devices, one byte at a time.
 
-ghost use Rattle.std.specs.Prelude.{◌≡◌, ◌+◌, ◌≤◌, ◌<◌, ℕ, Bool, ◌⊎◌, drop, map, length, IfOk, MatchResult};
+ghost use Rattle.std.specs.Prelude.{[], ◌≡◌, ◌+◌, ◌≤◌, ◌<◌, ℕ, Bool, ◌⊎◌, drop, map, length, IfOk, MatchResult};
 ghost use Rattle.bitbang.specs.Protocol.{decode};
 ghost use Rattle.jt_board.specs.Chain as chain;
 ghost use Rattle.jt_board.specs.Bare.{bare_board, bare_from, bare_member, bare_name};
@@ -89,6 +89,13 @@ impl Board {
         ensures { result ≡ self.now }
     {
         Snapshot::new(self.tck, self.trst, &self.chips)
+    }
+
+    pub(crate) fn chips(&self) -> &[Chip]
+        ensures chips { result.now ≡ self.now.chips }
+        ensures nets { self.now.nets ≡ [] }
+    {
+        &self.chips
     }
 
     /// Takes one byte from the player: written levels of TCK, TMS and TDI, of which a change of TCK is an edge for all

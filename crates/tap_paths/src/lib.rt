@@ -1,7 +1,7 @@
 //! The default paths of the Serial Vector Format through the TAP controller.
 #![tactic(auto)]
 
-ghost use Rattle.std.specs.Prelude.{◌≡◌, ◌+◌, ◌≤◌, ◌++◌, true, length};
+ghost use Rattle.std.specs.Prelude.{◌≡◌, ◌+◌, ◌<◌, ◌≤◌, ◌++◌, true, length};
 ghost use Rattle.arrayvec.specs.ArrayVec.{array_vec_len};
 ghost use Rattle.jt_tap.specs.Controller.{is_stable};
 ghost use Rattle.tap_paths.specs.Paths as spec;
@@ -20,6 +20,8 @@ pub fn go(from: State, to: State) -> ArrayVec<State, 8>
     requires to { is_stable to ≡ true }
     ensures path { result.items ≡ spec.go from to }
     ensures legal { Leads from result.items to }
+    ensures some { 0 < length result.items }
+    ensures short { length result.items ≤ 7 }
 {
     default_path(from, to)
 }

@@ -1,0 +1,20 @@
+use Rattle.std.proofs.Common.{◌≡◌, ℕ, ◌+◌, ◌-◌, ◌≤◌, List, [], ◌∷◌, ◌++◌, drop, refl, ap, ◌∙◌, subst, arith, length}
+use Rattle.std.specs.Io.KnownBytes.{Appends}
+use Rattle.std.proofs.KnownBytes.{Appends-trans}
+use Rattle.jt_board.specs.Report.{digits}
+use Rattle.jt_board.proofs.Lines.{digits-more}
+use Rattle.jt_board.proofs.report.write_bits.Goals as goal
+
+pub loop-i-preserved : goal.loop-i-preserved
+loop-i-preserved g c =
+    let n = c.loop-i.i - 1 in
+    let up : c.loop-i.i ≡ n + 1 = omega (arith, c.loop-i-test.true) in
+    let bits = c.args.bits.now in
+    let more : digits (drop c.loop-i.i bits) ++ c.digit_of.result ∷ [] ≡ digits (drop n bits) =
+    ap (λ d. digits (drop c.loop-i.i bits) ++ d ∷ []) c.digit_of.ensures ∙ digits-more bits n c.loop-i.i c.get.result up c.get.ensures in
+    record {
+      within = omega (arith, c.loop-i.invariant.within);
+      none_lost = c.in_ok-put_all.ensures.written.0 refl;
+      sent = subst (λ (l : List ℕ). Appends (g.W.Write.contents c.args.out.now.inner) (g.W.Write.contents c.put_all.new.out.inner) l) more
+          (Appends-trans _ _ _ _ _ c.loop-i.invariant.sent c.in_ok-put_all.ensures.whole);
+    }

@@ -1,0 +1,42 @@
+-- The report of a board: a line for each device, from the one nearest TDO on, and one for each named net.
+use Rattle.std.specs.Prelude.{Bool, true, false, ℕ, List, [], ◌∷◌, ◌++◌, map, reverse, flat_map, codes, Option, Some, None}
+use Rattle.jt_tap.specs.Words.{word}
+use Rattle.jt_board.specs.Device.{Name}
+use Rattle.jt_board.specs.Instruction.{instruction}
+use Rattle.jt_board.specs.Cells.{Member}
+use Rattle.jt_board.specs.Nets.{Level, Zero, One, Contend, Float, Net, level}
+use Rattle.jt_board.specs.Chain.{BoardState, ChipState, members}
+
+abbrev pub digit : Bool → ℕ
+digit true = 49
+digit false = 48
+
+-- bits as digits, the highest first
+abbrev pub digits : List Bool → List ℕ
+digits bits = map digit (reverse bits)
+
+abbrev pub shown : Option Name → List ℕ
+shown (Some name) = name
+shown None = codes "-"
+
+-- an instruction: its bits and its name
+abbrev pub instruction_part : ChipState → List ℕ
+instruction_part c =
+    digits c.member.registers.latch ++ codes " " ++ (shown (instruction c.member.device c.member.registers.latch) ++ codes "\n")
+
+-- a device: its name, the word of its controller's state, and its instruction
+abbrev pub device_line : ChipState → List ℕ
+device_line c = (c.member.name ++ codes " ") ++ (word c.state ++ codes " ") ++ instruction_part c
+
+abbrev pub level_word : Level → List ℕ
+level_word Zero = codes "Zero"
+level_word One = codes "One"
+level_word Contend = codes "Contend"
+level_word Float = codes "Float"
+
+-- a net: its name and its level
+abbrev pub net_line : List Member → Net → List ℕ
+net_line ms net = net.name ++ codes " " ++ level_word (level ms net) ++ codes "\n"
+
+abbrev pub report : BoardState → List ℕ
+report b = flat_map device_line b.chips ++ flat_map (net_line (members b.chips)) b.nets
