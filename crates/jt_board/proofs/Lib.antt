@@ -13,3 +13,4 @@ pub mod Sweeps
 pub mod Bares
 pub mod BoardLaws
 pub mod Lines
+pub mod Told

@@ -110,3 +110,8 @@ pub record Heard : Type 0 where
 abbrev pub hear : List Message → BoardState → Heard
 hear [] b = record { answers = []; board = b }
 hear (m ∷ ms) b = let rest = hear ms (told m b) in record { answers = answers m b ++ rest.answers; board = rest.board }
+
+-- The same over bytes: the board after them, one after another.
+abbrev pub after_all : List ℕ → BoardState → BoardState
+after_all [] b = b
+after_all (byte ∷ bytes) b = after_all bytes (after byte b)
