@@ -3,6 +3,10 @@
 
 mod fault;
 mod program;
+mod reader;
+mod statement;
+mod words;
 
 pub use fault::{Code, SvfFault};
 pub use program::{Action, Program, Step};
+pub use reader::accept;

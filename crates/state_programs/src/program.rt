@@ -40,8 +40,19 @@ impl Model for Program {
 }
 
 impl Program {
-    ghost use Rattle.std.specs.Prelude.{◌≡◌};
+    ghost use Rattle.std.specs.Prelude.{◌≡◌, vec_len};
     ghost use Rattle.state_programs.specs.Programs.{AllGoToStable};
+
+    /// The program of these steps, one of each statement.
+    pub(crate) fn of(steps: Vec<Step>) -> Program
+        requires { AllGoToStable steps.items }
+        ensures { result ≡ record { statements = vec_len steps; steps = steps.items } }
+    {
+        Program {
+            statements: steps.len(),
+            steps,
+        }
+    }
 
     /// How many statements the text has.
     pub fn statements(&self) -> usize
