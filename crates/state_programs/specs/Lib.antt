@@ -1,0 +1,5 @@
+pub mod Bytes
+pub mod Programs
+pub mod Reading
+pub mod Statements
+pub mod Words

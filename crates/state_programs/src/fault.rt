@@ -1,0 +1,40 @@
+//! Why a text was refused.
+
+use thiserror::Error;
+
+/// The refusal of a statement, by its number in the list of refusals.
+#[derive(Debug, Clone, Copy, PartialEq, Eq, Drop, Error)]
+pub enum Code {
+    /// A byte outside the alphabet, at this place of the text.
+    #[error("S1 BadByte")]
+    BadByte(usize),
+    /// The text ends inside a statement, whose first token stands at this place.
+    #[error("S2 Unclosed")]
+    Unclosed(usize),
+    /// The first token is not a command's word.
+    #[error("S3 UnknownCommand")]
+    UnknownCommand,
+    /// The tokens do not fit the command's form.
+    #[error("S4 BadForm")]
+    BadForm,
+    /// A state that is not stable where a stable one is needed.
+    #[error("S8 BadState")]
+    BadState,
+    /// A command or a form that this player does not take.
+    #[error("S13 Unsupported")]
+    Unsupported,
+    /// More than a text or a program may have.
+    #[error("S15 TooLarge")]
+    TooLarge,
+    /// A growth was refused.
+    #[error("S16 NoMemory")]
+    NoMemory,
+}
+
+/// The first refusal of a text: the statement, counted from 1 (0 where it is of no statement), and what is wrong with it.
+#[derive(Debug, Clone, Copy, PartialEq, Eq, Drop, Error)]
+#[error("svf {code} statement {statement}")]
+pub struct SvfFault {
+    pub statement: usize,
+    pub code: Code,
+}

@@ -1,0 +1,12 @@
+//! Programs of the Serial Vector Format that only move through the controller's states: texts of STATE statements.
+#![tactic(auto)]
+
+mod fault;
+mod program;
+mod reader;
+mod statement;
+mod words;
+
+pub use fault::{Code, SvfFault};
+pub use program::{Action, Program, Step};
+pub use reader::accept;
