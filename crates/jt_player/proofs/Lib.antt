@@ -6,3 +6,4 @@ pub mod Plain
 pub mod Buffers
 pub mod Moving
 pub mod Noting
+pub mod Told

@@ -5,3 +5,4 @@ pub mod Accepting
 pub mod Sending
 pub mod Playing
 pub mod DirectPlay
+pub mod Running

@@ -1,6 +1,10 @@
 //! How a play ends.
 
+ghost use Rattle.std.specs.Prelude.{◌≡◌};
+ghost use Rattle.jt_player.specs.Running.{status_of};
+
 use jt_board::Part;
+use std::fmt;
 
 /// How a play ended. A command is the number of its statement in the program's text, counted from 1.
 #[derive(Debug, Clone, Copy, PartialEq, Eq)]
@@ -23,4 +27,34 @@ pub enum Ending {
         command: usize,
         byte: u8,
     },
+}
+
+impl Ending {
+    /// The exit status of the program: 0 for a pass, 1 for a fail, 3 for a play that gave no verdict.
+    pub fn status(self) -> u8
+        ensures { result ≡ status_of self }
+    {
+        match self {
+            Ending::Pass => 0,
+            Ending::Fail { .. } => 1,
+            Ending::Lost { .. } | Ending::BadAnswer { .. } => 3,
+        }
+    }
+}
+
+impl fmt::Display for Ending {
+    fn fmt<W: fmt::Write>(&self, f: &mut fmt::Formatter<W>) -> fmt::Result {
+        match self {
+            Ending::Pass => write!(f, "pass"),
+            Ending::Fail { command, part, bit } => write!(
+                f,
+                "fail command {command} {part} bit {bit}"
+            ),
+            Ending::Lost { command } => write!(f, "lost command {command}"),
+            Ending::BadAnswer { command, byte } => write!(
+                f,
+                "bad answer {byte:02x} command {command}"
+            ),
+        }
+    }
 }

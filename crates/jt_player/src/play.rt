@@ -45,7 +45,11 @@ fn verdict(player: &Player) -> Ending
 /// Plays a program on a board as `play_board` does, and writes the bytes that the player sent. The flag tells that all of
 /// them were written; it is false exactly where the writer's first failure came in this call, and the play goes on all the
 /// same.
-pub fn play_noted<W: Sink>(mut player: Player, board: &mut Board, out: &mut Counted<W>) -> (Ending, bool)
+pub fn play_noted<W: Sink>(
+    mut player: Player,
+    board: &mut Board,
+    out: &mut Counted<W>,
+) -> (Ending, bool)
     requires fresh { player.given ≡ 0 }
     requires none_lost { out.old.failures ≡ 0 }
 

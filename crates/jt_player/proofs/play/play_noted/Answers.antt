@@ -39,24 +39,26 @@ loop-buffer-preserved g c =
     let some : n ≤ length W = omega (arith, c.next_piece-count.ensures.count) in
     let is : piece ≡ take n W = ap (take n) c.next_piece-count.ensures.bytes ∙ filled_front W (drop n c.loop-buffer.buffer) n some in
     let next : waiting c.next_piece-count.new.self ≡ drop n W =
-        ap waiting c.next_piece-count.ensures.player ∙ waiting-more c.loop-buffer.player n in
+    ap waiting c.next_piece-count.ensures.player ∙ waiting-more c.loop-buffer.player n in
     let cut : W ≡ piece ++ waiting c.next_piece-count.new.self =
-        sym (take-append-drop n W) ∙ (λ i. sym is i ++ sym next i) in
+    sym (take-append-drop n W) ∙ (λ i. sym is i ++ sym next i) in
     record {
       taken = ap (after_all (waiting c.next_piece-count.new.self)) c.take_all.ensures
-        ∙ sym (after_all-append piece (waiting c.next_piece-count.new.self) c.loop-buffer.board)
-        ∙ ap (λ bytes. after_all bytes c.loop-buffer.board) (sym cut)
-        ∙ c.loop-buffer.invariant.taken;
+          ∙ sym (after_all-append piece (waiting c.next_piece-count.new.self) c.loop-buffer.board)
+          ∙ ap (λ bytes. after_all bytes c.loop-buffer.board) (sym cut)
+          ∙ c.loop-buffer.invariant.taken;
       program = ap (λ (p : PlayerState). p.program) c.next_piece-count.ensures.player ∙ c.loop-buffer.invariant.program;
       got = ap (λ (p : PlayerState). p.got) c.next_piece-count.ensures.player ∙ c.loop-buffer.invariant.got;
       note = IsNoted-more _ _ _ _ _ _ piece _ _ c.loop-buffer.invariant.note cut
-        (record {
-          kept = λ lost. (ap (λ (v : CountedView g.row.W.Denot). g.W.Write.contents v.inner) (c.note.ensures.kept lost),
-            ap (λ (v : CountedView g.row.W.Denot). v.failures) (c.note.ensures.kept lost));
-          whole = c.note.ensures.whole;
-          front = c.note.ensures.front;
-          most = c.note.ensures.most;
-        });
+          (record {
+            kept = λ lost. (
+              ap (λ (v : CountedView g.row.W.Denot). g.W.Write.contents v.inner) (c.note.ensures.kept lost),
+              ap (λ (v : CountedView g.row.W.Denot). v.failures) (c.note.ensures.kept lost),
+            );
+            whole = c.note.ensures.whole;
+            front = c.note.ensures.front;
+            most = c.note.ensures.most;
+          });
     }
 
 pub returns-then-count-eq0-clause-ending : goal.returns-then-count-eq0-clause-ending
@@ -64,10 +66,10 @@ returns-then-count-eq0-clause-ending g c =
     let old = c.loop-buffer.player in
     let room : 0 < length c.loop-buffer.buffer = omega arith in
     let none : waiting old ≡ [] =
-        nothing_waits (waiting old) c.next_piece-count.result (length c.loop-buffer.buffer) c.next_piece-count.ensures.count c.if-count-eq0.true room in
+    nothing_waits (waiting old) c.next_piece-count.result (length c.loop-buffer.buffer) c.next_piece-count.ensures.count c.if-count-eq0.true room in
     let played : IsDirect c.args.player c.args.board.now c.loop-buffer.board =
-        direct-loop c.args.player old c.args.board.now c.loop-buffer.board (c.next_piece-count.ensures.moves room) c.requires.fresh
-          c.loop-buffer.invariant.program c.loop-buffer.invariant.got c.loop-buffer.invariant.taken none in
+    direct-loop c.args.player old c.args.board.now c.loop-buffer.board (c.next_piece-count.ensures.moves room) c.requires.fresh
+    c.loop-buffer.invariant.program c.loop-buffer.invariant.got c.loop-buffer.invariant.taken none in
     c.verdict.ensures ∙ played.ending
 
 pub returns-then-count-eq0-clause-board : goal.returns-then-count-eq0-clause-board
@@ -75,10 +77,10 @@ returns-then-count-eq0-clause-board g c =
     let old = c.loop-buffer.player in
     let room : 0 < length c.loop-buffer.buffer = omega arith in
     let none : waiting old ≡ [] =
-        nothing_waits (waiting old) c.next_piece-count.result (length c.loop-buffer.buffer) c.next_piece-count.ensures.count c.if-count-eq0.true room in
+    nothing_waits (waiting old) c.next_piece-count.result (length c.loop-buffer.buffer) c.next_piece-count.ensures.count c.if-count-eq0.true room in
     let played : IsDirect c.args.player c.args.board.now c.loop-buffer.board =
-        direct-loop c.args.player old c.args.board.now c.loop-buffer.board (c.next_piece-count.ensures.moves room) c.requires.fresh
-          c.loop-buffer.invariant.program c.loop-buffer.invariant.got c.loop-buffer.invariant.taken none in
+    direct-loop c.args.player old c.args.board.now c.loop-buffer.board (c.next_piece-count.ensures.moves room) c.requires.fresh
+    c.loop-buffer.invariant.program c.loop-buffer.invariant.got c.loop-buffer.invariant.taken none in
     played.board
 
 pub returns-then-count-eq0-clause-meaning : goal.returns-then-count-eq0-clause-meaning
@@ -86,10 +88,10 @@ returns-then-count-eq0-clause-meaning g c =
     let old = c.loop-buffer.player in
     let room : 0 < length c.loop-buffer.buffer = omega arith in
     let none : waiting old ≡ [] =
-        nothing_waits (waiting old) c.next_piece-count.result (length c.loop-buffer.buffer) c.next_piece-count.ensures.count c.if-count-eq0.true room in
+    nothing_waits (waiting old) c.next_piece-count.result (length c.loop-buffer.buffer) c.next_piece-count.ensures.count c.if-count-eq0.true room in
     let played : IsDirect c.args.player c.args.board.now c.loop-buffer.board =
-        direct-loop c.args.player old c.args.board.now c.loop-buffer.board (c.next_piece-count.ensures.moves room) c.requires.fresh
-          c.loop-buffer.invariant.program c.loop-buffer.invariant.got c.loop-buffer.invariant.taken none in
+    direct-loop c.args.player old c.args.board.now c.loop-buffer.board (c.next_piece-count.ensures.moves room) c.requires.fresh
+    c.loop-buffer.invariant.program c.loop-buffer.invariant.got c.loop-buffer.invariant.taken none in
     subst (λ (e : Ending). MeansFromOpening c.args.player.program c.args.board.now e c.loop-buffer.board) (sym c.verdict.ensures) played.meaning
 
 pub returns-then-count-eq0-clause-front : goal.returns-then-count-eq0-clause-front
@@ -97,12 +99,12 @@ returns-then-count-eq0-clause-front g c =
     let old = c.loop-buffer.player in
     let room : 0 < length c.loop-buffer.buffer = omega arith in
     let none : waiting old ≡ [] =
-        nothing_waits (waiting old) c.next_piece-count.result (length c.loop-buffer.buffer) c.next_piece-count.ensures.count c.if-count-eq0.true room in
+    nothing_waits (waiting old) c.next_piece-count.result (length c.loop-buffer.buffer) c.next_piece-count.ensures.count c.if-count-eq0.true room in
     let played : IsDirect c.args.player c.args.board.now c.loop-buffer.board =
-        direct-loop c.args.player old c.args.board.now c.loop-buffer.board (c.next_piece-count.ensures.moves room) c.requires.fresh
-          c.loop-buffer.invariant.program c.loop-buffer.invariant.got c.loop-buffer.invariant.taken none in
+    direct-loop c.args.player old c.args.board.now c.loop-buffer.board (c.next_piece-count.ensures.moves room) c.requires.fresh
+    c.loop-buffer.invariant.program c.loop-buffer.invariant.got c.loop-buffer.invariant.taken none in
     let noted : IsNoted (g.W.Write.contents c.args.out.now.inner) (g.W.Write.contents c.loop-buffer.out.inner) (waiting c.args.player) [] c.loop-buffer.out.failures =
-        IsNoted-over _ _ _ _ _ c.loop-buffer.invariant.note none in
+    IsNoted-over _ _ _ _ _ c.loop-buffer.invariant.note none in
     let sent : noted.sent ≡ full_bytes c.args.player.program c.args.board.now = all-sent _ _ _ _ noted ∙ played.bytes in
     subst (λ (l : List ℕ). AppendsFront (g.W.Write.contents c.args.out.now.inner) (g.W.Write.contents c.loop-buffer.out.inner) l) sent noted.front
 
@@ -111,13 +113,13 @@ returns-then-count-eq0-clause-whole g c =
     let old = c.loop-buffer.player in
     let room : 0 < length c.loop-buffer.buffer = omega arith in
     let none : waiting old ≡ [] =
-        nothing_waits (waiting old) c.next_piece-count.result (length c.loop-buffer.buffer) c.next_piece-count.ensures.count c.if-count-eq0.true room in
+    nothing_waits (waiting old) c.next_piece-count.result (length c.loop-buffer.buffer) c.next_piece-count.ensures.count c.if-count-eq0.true room in
     let played : IsDirect c.args.player c.args.board.now c.loop-buffer.board =
-        direct-loop c.args.player old c.args.board.now c.loop-buffer.board (c.next_piece-count.ensures.moves room) c.requires.fresh
-          c.loop-buffer.invariant.program c.loop-buffer.invariant.got c.loop-buffer.invariant.taken none in
+    direct-loop c.args.player old c.args.board.now c.loop-buffer.board (c.next_piece-count.ensures.moves room) c.requires.fresh
+    c.loop-buffer.invariant.program c.loop-buffer.invariant.got c.loop-buffer.invariant.taken none in
     let noted : IsNoted (g.W.Write.contents c.args.out.now.inner) (g.W.Write.contents c.loop-buffer.out.inner) (waiting c.args.player) [] c.loop-buffer.out.failures =
-        IsNoted-over _ _ _ _ _ c.loop-buffer.invariant.note none in
+    IsNoted-over _ _ _ _ _ c.loop-buffer.invariant.note none in
     let sent : noted.sent ≡ full_bytes c.args.player.program c.args.board.now = all-sent _ _ _ _ noted ∙ played.bytes in
     on_true (c.failures.result == 0) _ (λ zero.
-        let none : c.loop-buffer.out.failures ≡ 0 = sym c.failures.ensures.value ∙ (Decides-eqb c.failures.result 0).0 zero in
-        subst (λ (l : List ℕ). Appends (g.W.Write.contents c.args.out.now.inner) (g.W.Write.contents c.loop-buffer.out.inner) l) sent (noted.whole none))
+    let none : c.loop-buffer.out.failures ≡ 0 = sym c.failures.ensures.value ∙ (Decides-eqb c.failures.result 0).0 zero in
+    subst (λ (l : List ℕ). Appends (g.W.Write.contents c.args.out.now.inner) (g.W.Write.contents c.loop-buffer.out.inner) l) sent (noted.whole none))

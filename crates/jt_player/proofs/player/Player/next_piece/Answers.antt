@@ -24,7 +24,7 @@ loop-count-preserved c =
       bytes = more.bytes;
       rest = more.rest;
       moves = λ some. MovesOnly-same c.loop-count.self old c.in-Some.ensures.moves
-        (ap (λ (p : PlayerState). p.program) c.loop-count.invariant.player) (ap (λ (p : PlayerState). p.got) c.loop-count.invariant.player);
+          (ap (λ (p : PlayerState). p.program) c.loop-count.invariant.player) (ap (λ (p : PlayerState). p.got) c.loop-count.invariant.player);
       player = one.1 ∙ ap (λ (p : PlayerState). record p { given = p.given + 1 }) c.loop-count.invariant.player
           ∙ ap (λ (g : ℕ). record old { given = g }) next;
     }
@@ -32,7 +32,7 @@ loop-count-preserved c =
 pub returns-in_default-clause-moves : goal.returns-in_default-clause-moves
 returns-in_default-clause-moves c = λ some.
     MovesOnly-same c.loop-count.self c.args.self.now c.in_default.ensures.moves
-      (ap (λ (p : PlayerState). p.program) c.loop-count.invariant.player) (ap (λ (p : PlayerState). p.got) c.loop-count.invariant.player)
+    (ap (λ (p : PlayerState). p.program) c.loop-count.invariant.player) (ap (λ (p : PlayerState). p.got) c.loop-count.invariant.player)
 
 pub returns-clause-moves : goal.returns-clause-moves
 returns-clause-moves c = λ some. c.loop-count.invariant.moves (omega (arith, c.loop-count-test.false, c.loop-count.auto.buffer))
