@@ -1,0 +1,40 @@
+//! The text of a program, from a file or standard input.
+
+use std::alloc::Global;
+use std::io::{ErrorKind, Read};
+use std::rt::Files;
+use std::{fs, io};
+
+/// A text has at most 16 MiB; one byte more is read, so that a longer one is refused and not cut.
+const MOST_BYTES: u64 = 16 * 1024 * 1024 + 1;
+
+/// Why a text was not read.
+#[derive(Debug, Clone, Copy, PartialEq, Eq)]
+pub(crate) enum InputFault {
+    Unreadable,
+    NoMemory,
+}
+
+impl From<io::Error> for InputFault {
+    fn from(error: io::Error) -> InputFault {
+        if error.kind() == ErrorKind::OutOfMemory {
+            InputFault::NoMemory
+        } else {
+            InputFault::Unreadable
+        }
+    }
+}
+
+/// Reads the named file, or standard input where none is named.
+pub(crate) fn read_text<R: Files + Input + AllocGlobal>(
+    rt: &R,
+    alloc: Global,
+    name: Option<&str>,
+) -> Result<Vec<u8>, InputFault> {
+    let mut text = Vec::new(alloc);
+    match name {
+        Some(name) => fs::open(rt, name)?.take(MOST_BYTES).read_to_end(&mut text)?,
+        None => rt.reader().take(MOST_BYTES).read_to_end(&mut text)?,
+    };
+    Ok(text)
+}

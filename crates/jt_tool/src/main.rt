@@ -1,0 +1,103 @@
+//! The command line of the player and its simulated board.
+#![tactic(auto)]
+
+mod input;
+mod request;
+
+use crate::input::{InputFault, read_text};
+use crate::request::{Request, parse};
+use byte_ends::{Counted, Plain};
+use clap::error::ErrorKind;
+use jt_player::{Board, BoardFault, run_play};
+use std::alloc::Global;
+use std::process::ExitCode;
+use std::{env, fmt, io};
+
+/// A verdict was given and is a pass, or help was asked for.
+const DONE: u8 = 0;
+/// The input or the command line was refused.
+const REFUSED: u8 = 2;
+/// Something that was written was lost.
+const BROKEN: u8 = 3;
+/// Memory ran out.
+const MEMORY: u8 = 4;
+
+fn main(rt: HostRuntime) -> ExitCode {
+    let alloc = rt.alloc();
+    let Ok(args) = env::args(&rt) else {
+        return ExitCode::from(told(&rt, "memory", MEMORY));
+    };
+    let mut words = Vec::new(alloc);
+    for arg in args {
+        if words.push(arg).is_err() {
+            return ExitCode::from(told(&rt, "memory", MEMORY));
+        }
+    }
+    ExitCode::from(run(&rt, alloc, &words))
+}
+
+/// Does what the words ask for. Answers the exit status.
+fn run(rt: &HostRuntime, alloc: Global, args: &[String]) -> u8 {
+    let mut words = Vec::new(alloc);
+    for arg in args {
+        if words.push(arg.as_str()).is_err() {
+            return told(rt, "memory", MEMORY);
+        }
+    }
+    match parse(alloc, &words) {
+        Ok(request) => play(rt, alloc, &request),
+        Err(fault) => {
+            let status = if fault.exit_code() == 0 {
+                DONE
+            } else {
+                REFUSED
+            };
+            if fault.print(rt).is_err() {
+                BROKEN
+            } else {
+                status
+            }
+        }
+    }
+}
+
+/// Tells what is wrong with the words, or gives the help that they ask for.
+fn refuse_words<R: Print + Eprint>(rt: &R, fault: &clap::Error) -> u8 {
+    if fault.kind() == ErrorKind::OutOfMemory {
+        return told(rt, "memory", MEMORY);
+    }
+    let status = if fault.exit_code() == 0 { DONE } else { REFUSED };
+    if fault.print(rt).is_err() { BROKEN } else { status }
+}
+
+/// Plays a text on a board of one bare device.
+fn play(rt: &HostRuntime, alloc: Global, request: &Request<'_>) -> u8 {
+    let text = match read_text(rt, alloc, request.svf) {
+        Ok(text) => text,
+        Err(InputFault::Unreadable) => {
+            let name = request.svf.unwrap_or("-");
+            return told(rt, format_args!("file {name}"), REFUSED);
+        }
+        Err(InputFault::NoMemory) => return told(rt, "memory", MEMORY),
+    };
+    let mut board = match Board::bare(alloc, 1) {
+        Ok(board) => board,
+        Err(BoardFault::NoMemory) => return told(rt, "memory", MEMORY),
+        Err(fault) => return told(rt, format_args!("board {fault}"), REFUSED),
+    };
+    let mut out = Counted::new(Plain(io::writer(rt)));
+    let mut err = Counted::new(Plain(rt.stderr()));
+    match run_play(alloc, &text, &mut board, request.bytes, &mut out, &mut err) {
+        Ok(status) => status,
+        Err(_) => BROKEN,
+    }
+}
+
+/// Writes a line to standard error. Answers this status, or that the line was lost.
+fn told<R: Eprint, T: fmt::Display + Drop>(rt: &R, line: T, status: u8) -> u8 {
+    if rt.eprintln(line).is_err() {
+        BROKEN
+    } else {
+        status
+    }
+}
