@@ -1,6 +1,10 @@
+pub mod Accepting
+pub mod Again
 pub mod PieceLaws
 pub mod Positions
 pub mod ReadLaws
 pub mod Settling
+pub mod Spelled
+pub mod Told
 pub mod StateWords
 pub mod WordLaws

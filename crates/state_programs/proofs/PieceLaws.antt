@@ -16,11 +16,11 @@ pub pieces_of-semi : (cs : List ℕ) → pieces_of (59 ∷ cs) ≡ closed [] (pi
 unfolding pieces_of
 pieces_of-semi cs = refl
 
-pieces_of-other : (c : ℕ) (cs : List ℕ) → IsInside c → pieces_of (c ∷ cs) ≡ with_byte c (pieces_of cs)
+pub pieces_of-other : (c : ℕ) (cs : List ℕ) → IsInside c → pieces_of (c ∷ cs) ≡ with_byte c (pieces_of cs)
 unfolding pieces_of
 pieces_of-other c cs h = rw h refl
 
-pieces_of-nil : pieces_of [] ≡ last []
+pub pieces_of-nil : pieces_of [] ≡ last []
 unfolding pieces_of
 pieces_of-nil = refl
 
@@ -52,11 +52,11 @@ pieces_of-last bytes all =
 
 -- ---- by a search for the first `;`
 
-not_true : (b : Bool) → (b ≡ true → ⊥) → b ≡ false
+pub not_true : (b : Bool) → (b ≡ true → ⊥) → b ≡ false
 not_true true fails = absurd (fails refl)
 not_true false fails = refl
 
-is_semi : (c : ℕ) → (c == 59) ≡ true → c ≡ 59
+pub is_semi : (c : ℕ) → (c == 59) ≡ true → c ≡ 59
 is_semi c h = grind (arith, nat_tests)
 
 inside : (bytes : List ℕ) → ((k : ℕ) → k < length bytes → IsInside (get_or bytes k 0)) → AllByRecursion IsInside bytes

@@ -1,5 +1,6 @@
 pub mod Bytes
 pub mod Programs
 pub mod Reading
+pub mod Spelling
 pub mod Statements
 pub mod Words

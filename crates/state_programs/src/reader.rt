@@ -1,9 +1,11 @@
 //! Reading a text.
 
-ghost use Rattle.std.specs.Prelude.{◌≡◌, ◌≤◌, ◌<◌, ◌+◌, ◌^◌, find, length, IfSome, MatchOption};
+ghost use Rattle.std.specs.Prelude.{◌≡◌, ◌≢◌, ◌≤◌, ◌<◌, ◌+◌, ◌^◌, find, length, IfOk, IfErr, IfSome, MatchOption};
 ghost use Rattle.state_programs.specs.Reading as spec;
-ghost use Rattle.state_programs.specs.Reading.{Answers, steps_of, pieces_of};
+ghost use Rattle.state_programs.specs.Reading.{Answers, memory_fault, steps_of, pieces_of};
 ghost use Rattle.state_programs.specs.Statements.{piece_says};
+ghost use Rattle.state_programs.specs.Programs.{Accepted};
+ghost use Rattle.state_programs.specs.Spelling.{TextSpells, TextRefuses};
 
 use crate::fault::{Code, SvfFault};
 use crate::program::{Action, Program, Step};
@@ -26,6 +28,20 @@ const NO_MEMORY: SvfFault = SvfFault {
 
 /// The program of a text.
 pub fn accept(alloc: Global, text: &[u8]) -> Result<Program, SvfFault>
+    // What is accepted is spelled so.
+    ensures found { IfOk result (λ program. TextSpells text.now program) }
+    // What is spelled so is accepted, unless memory runs out.
+    ensures only { (program : Accepted) → TextSpells text.now program → Answers result (Ok program) }
+    // What is refused has that refusal first.
+    ensures refused { IfErr result (λ fault. fault ≢ memory_fault → TextRefuses text.now fault) }
+    // What has a refusal first is refused so, unless memory runs out.
+    ensures first { (fault : SvfFault) → TextRefuses text.now fault → Answers result (Err fault) }
+{
+    read(alloc, text)
+}
+
+/// What the whole text says.
+fn read(alloc: Global, text: &[u8]) -> Result<Program, SvfFault>
     ensures exact { Answers result (spec.text_says text.now) }
 {
     if text.len() > TEXT_LIMIT {

@@ -1,23 +1,14 @@
-use Rattle.std.proofs.Common.{Ok, sym, ◌∙◌, ap, vec_len}
-use Rattle.state_programs.specs.Programs.{Accepted}
-use Rattle.state_programs.proofs.Settling.{long_text, all_stable, refused, accepted, unstable}
+use Rattle.state_programs.proofs.Accepting.{found, refused, only, first}
 use Rattle.state_programs.proofs.reader.accept.Goals as goal
 
-pub returns-then-text-gt-TEXT_LIMIT : goal.returns-then-text-gt-TEXT_LIMIT
-returns-then-text-gt-TEXT_LIMIT c = record { exact = λ other. long_text c.args.text.now c.if-text-gt-TEXT_LIMIT.true }
+pub returns-clause-found : goal.returns-clause-found
+returns-clause-found c = found c.args.text.now c.read.result c.read.ensures.exact
 
-pub returns-in-Err : goal.returns-in-Err
-returns-in-Err c = record { exact = refused c.args.text.now c.if-text-gt-TEXT_LIMIT.false c.in-Err.fault c.in-Err.ensures }
+pub returns-clause-only : goal.returns-clause-only
+returns-clause-only c = only c.args.text.now c.read.result c.read.ensures.exact
 
-pub of-requires : goal.of-requires
-of-requires c = all_stable c.in-Ok.steps.items (rw (← c.deref.ensures.value) (sym c.in-None.ensures))
+pub returns-clause-refused : goal.returns-clause-refused
+returns-clause-refused c = refused c.args.text.now c.read.result c.read.ensures.exact
 
-pub returns-in-None : goal.returns-in-None
-returns-in-None c = record {
-  exact = accepted c.args.text.now c.if-text-gt-TEXT_LIMIT.false c.in-Ok.steps.items c.deref.result.now (vec_len c.in-Ok.steps) c.in-Ok.ensures c.deref.ensures.value c.in-None.ensures c.in-Ok.steps.ok.0 ∙ ap (λ (p : Accepted). Ok p) (sym c.of.ensures);
-}
-
-pub returns-in-Some : goal.returns-in-Some
-returns-in-Some c = record {
-  exact = λ other. unstable c.args.text.now c.if-text-gt-TEXT_LIMIT.false c.in-Ok.steps.items c.deref.result.now c.in-Some.step c.in-Ok.ensures c.deref.ensures.value c.in-Some.ensures;
-}
+pub returns-clause-first : goal.returns-clause-first
+returns-clause-first c = first c.args.text.now c.read.result c.read.ensures.exact
