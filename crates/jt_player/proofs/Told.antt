@@ -11,7 +11,8 @@ use Rattle.jt_player.specs.Accepting.{program_of}
 use Rattle.jt_player.specs.DirectPlay.{MeansFromOpening}
 use Rattle.jt_player.specs.Play.{play}
 use Rattle.jt_player.specs.Playing.{PlayerState, fresh}
-use Rattle.jt_player.specs.Running.{Runs, TextSpells, TextRefuses, no_memory, played, refused, status_of}
+use Rattle.state_programs.specs.Spelling.{TextSpells, TextRefuses}
+use Rattle.jt_player.specs.Running.{Runs, no_memory, played, refused, status_of}
 
 -- what play_and_tell says of its answer
 pub record IsTold (p : PlayerState) (before after : BoardState) (r : Result ℕ Broken) : Type 0 where

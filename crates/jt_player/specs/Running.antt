@@ -1,20 +1,14 @@
 -- A run of the player over a text: its exit status, and what it leaves.
-use Rattle.std.specs.Prelude.{◌≡◌, ℕ, List, Ok, Err}
+use Rattle.std.specs.Prelude.{◌≡◌, ℕ, List}
 use Rattle.jt_board.specs.Chain.{BoardState}
 use Rattle.state_programs.specs.declared.fault.SvfFault.{SvfFault}
 use Rattle.state_programs.specs.Programs.{Accepted}
-use Rattle.state_programs.specs.Reading.{text_says}
+use Rattle.state_programs.specs.Spelling.{TextSpells, TextRefuses}
 use Rattle.jt_player.specs.declared.ending.Ending.{Ending}
 use Rattle.jt_player.specs.declared.ending.Ending.TheVariants.{Pass, Fail, Lost, BadAnswer}
 use Rattle.jt_player.specs.Accepting.{program_of}
 use Rattle.jt_player.specs.Play.{play}
 use Rattle.jt_player.specs.DirectPlay.{MeansFromOpening}
-
-abbrev pub TextSpells : List ℕ → Accepted → Type 0
-TextSpells text a = text_says text ≡ Ok a
-
-abbrev pub TextRefuses : List ℕ → SvfFault → Type 0
-TextRefuses text f = text_says text ≡ Err f
 
 -- the exit status of an ending
 abbrev pub status_of : Ending → ℕ
