@@ -10,4 +10,4 @@ pub after_all-encoded : (messages : List Message) (b : BoardState) → after_all
 after_all-encoded [] b = refl
 after_all-encoded (m ∷ messages) b =
     ap (λ (o : Option Message). after_all (map encode messages) (elim o [ Some n ↦ told n b | None ↦ b ])) (decode-encode m)
-      ∙ after_all-encoded messages (told m b)
+    ∙ after_all-encoded messages (told m b)

@@ -17,3 +17,6 @@ pub use laws::{
 pub use report::write_report;
 pub use snapshot::Snapshot;
 pub use vector::Part;
+
+#[cfg(test)]
+mod tests;

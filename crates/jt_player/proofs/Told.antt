@@ -25,7 +25,7 @@ told-fresh : (text : List ℕ) (a : Accepted) (before after : BoardState) (r : R
 told-fresh text a before after (Err e) spells told = tt
 told-fresh text a before after (Ok status) spells told =
     subst (λ (s : ℕ). Runs text before after s) (sym told.status)
-      (played a (play (program_of a) before).ending spells refl told.board told.meaning)
+    (played a (play (program_of a) before).ending spells refl told.board told.meaning)
 
 pub runs-played : (text : List ℕ) (a : Accepted) (p : PlayerState) (before after : BoardState) (r : Result ℕ Broken) → TextSpells text a → p ≡ fresh (program_of a)
     → IsTold p before after r → IfOk r (λ status. Runs text before after status)

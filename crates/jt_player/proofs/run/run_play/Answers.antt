@@ -4,8 +4,8 @@ use Rattle.jt_player.proofs.run.run_play.Goals as goal
 pub returns-in-Ok-new-clause-runs : goal.returns-in-Ok-new-clause-runs
 returns-in-Ok-new-clause-runs g c =
     runs-played c.args.svf.now c.in-Ok.program c.in-Ok-new.player c.args.board.now c.play_and_tell.new.board c.play_and_tell.result
-      c.in-Ok.ensures.found c.in-Ok-new.ensures
-      (record { status = c.play_and_tell.ensures.status; board = c.play_and_tell.ensures.board; meaning = c.play_and_tell.ensures.meaning })
+    c.in-Ok.ensures.found c.in-Ok-new.ensures
+    (record { status = c.play_and_tell.ensures.status; board = c.play_and_tell.ensures.board; meaning = c.play_and_tell.ensures.meaning })
 
 pub returns-in-Ok-clause-runs : goal.returns-in-Ok-clause-runs
 returns-in-Ok-clause-runs g c = runs-no-memory c.args.svf.now c.args.board.now c.refuse_memory.result c.refuse_memory.ensures.status

@@ -1,0 +1,183 @@
+use crate::{Board, BoardFault, Reply, Snapshot, write_report};
+use byte_ends::Counted;
+use jt_bits::Bits;
+use jt_tap::State;
+use std::alloc::{AllocError, Global};
+use std::process::Abort;
+use std::test::Fail;
+
+/// The TMS of the cycles that lead from RESET to each state.
+const WAYS: [(State, &[u8]); 16] = [
+    (State::Reset, b""),
+    (State::Idle, b"0"),
+    (State::DrSelect, b"01"),
+    (State::DrCapture, b"010"),
+    (State::DrShift, b"0100"),
+    (State::DrExit1, b"0101"),
+    (State::DrPause, b"01010"),
+    (State::DrExit2, b"010101"),
+    (State::DrUpdate, b"01011"),
+    (State::IrSelect, b"011"),
+    (State::IrCapture, b"0110"),
+    (State::IrShift, b"01100"),
+    (State::IrExit1, b"01101"),
+    (State::IrPause, b"011010"),
+    (State::IrExit2, b"0110101"),
+    (State::IrUpdate, b"011011"),
+];
+
+/// Whole cycles with these TMS, and a low byte.
+fn cycles(board: &mut Board, ways: &[u8]) {
+    for tms in ways {
+        let one = *tms == b'1';
+        let _ = board.byte(if one { b'2' } else { b'0' });
+        let _ = board.byte(if one { b'6' } else { b'4' });
+    }
+    let _ = board.byte(b'0');
+}
+
+fn bits_shown(rt: &impl Abort, bits: &Bits, shown: &mut Vec<u8>) -> Result<(), AllocError> {
+    for i in 0..bits.len() {
+        assert!(rt; i < bits.len());
+        shown.push(u8::from(bits.get(i)))?;
+    }
+    shown.push(2)?;
+    Ok(())
+}
+
+/// Every part of a snapshot, as bytes that are equal only where the parts are.
+fn shown(rt: &impl Abort, alloc: Global, board: &Board) -> Result<Vec<u8>, AllocError> {
+    let snapshot: Snapshot<'_> = board.snapshot();
+    let mut shown = Vec::new(alloc);
+    shown.push(u8::from(snapshot.tck()))?;
+    shown.push(u8::from(snapshot.trst()))?;
+    for i in 0..snapshot.devices() {
+        assert!(rt; i < snapshot.devices());
+        shown.extend_from_slice(snapshot.name(i).as_bytes())?;
+        shown.extend_from_slice(snapshot.state(i).word().as_bytes())?;
+        bits_shown(rt, snapshot.latch(i), &mut shown)?;
+        bits_shown(rt, snapshot.stage(i), &mut shown)?;
+        bits_shown(rt, snapshot.boundary(i), &mut shown)?;
+        bits_shown(rt, snapshot.boundary_update(i), &mut shown)?;
+        shown.push(u8::from(snapshot.bypass(i)))?;
+        shown.extend_from_slice(snapshot.instruction(i).unwrap_or("-").as_bytes())?;
+    }
+    Ok(shown)
+}
+
+fn state_of(rt: &impl Abort, board: &Board) -> State {
+    let snapshot = board.snapshot();
+    assert!(rt; 0 < snapshot.devices());
+    snapshot.state(0)
+}
+
+/// Each of the 256 bytes, given to a board in each of the sixteen states: 16 are taken, and 240 are refused and leave
+/// every part of the board as it was.
+#[test]
+fn bytes_in_every_state(rt: HostRuntime) -> Result<(), Fail> {
+    for (state, way) in WAYS {
+        for byte in 0..=255u8 {
+            let mut board = Board::bare(rt.alloc(), 2)?;
+            cycles(&mut board, way);
+            assert_eq!(rt; state_of(&rt, &board), state);
+            let before = shown(&rt, rt.alloc(), &board)?;
+            let reply = board.byte(byte);
+            let wanted = match byte {
+                b'0'..=b'7' | b'B' | b'b' | b'r'..=b'u' => Reply::Nothing,
+                b'R' => Reply::Answer(reading(state)),
+                b'Q' => Reply::Quit,
+                _ => Reply::Refused(byte),
+            };
+            assert_eq!(rt; reply, wanted, "{byte} in {state:?}");
+            if reply == Reply::Refused(byte) {
+                let after = shown(&rt, rt.alloc(), &board)?;
+                assert_eq!(rt; before.as_slice(), after.as_slice());
+            }
+        }
+    }
+    Ok(())
+}
+
+/// What TDO reads: undriven 1; in DRSHIFT the bypass bit, which captured 0; in IRSHIFT the capture's lowest bit, 1.
+fn reading(state: State) -> u8 {
+    match state {
+        State::DrShift => b'0',
+        _ => b'1',
+    }
+}
+
+#[test]
+fn boards_of_every_size(rt: HostRuntime) -> Result<(), Fail> {
+    for n in [1, 2, 32] {
+        let mut board = Board::bare(rt.alloc(), n)?;
+        assert_eq!(rt; board.snapshot().devices(), n);
+        let fresh = shown(&rt, rt.alloc(), &board)?;
+        for byte in b"r26262626260" {
+            assert_eq!(rt; board.byte(*byte), Reply::Nothing);
+        }
+        let opened = shown(&rt, rt.alloc(), &board)?;
+        assert_eq!(rt; fresh.as_slice(), opened.as_slice());
+    }
+    for n in [0, 33, usize::MAX] {
+        assert_eq!(rt;
+            Board::bare(rt.alloc(), n).err(),
+            Some(BoardFault::TooLarge)
+        );
+    }
+    Ok(())
+}
+
+/// At power-up: the latch of BYPASS, every stage 0; after EXTEST and a scan of 1 that rests in its pause, the boundary
+/// stage holds the 1 and the update stage not yet.
+#[test]
+fn registers_of_a_device(rt: HostRuntime) -> Result<(), Fail> {
+    let mut board = Board::bare(rt.alloc(), 1)?;
+    assert_eq!(rt;
+        shown(&rt, rt.alloc(), &board)?.as_slice(),
+        b"\x00\x00U1RESET\x01\x01\x02\x00\x00\x02\x00\x02\x00\x02\x00BYPASS".as_slice()
+    );
+    cycles(&mut board, b"01100");
+    for byte in b"0426" {
+        let _ = board.byte(*byte);
+    }
+    assert_eq!(rt; state_of(&rt, &board), State::IrExit1);
+    cycles(&mut board, b"1");
+    cycles(&mut board, b"100");
+    let _ = board.byte(b'3');
+    let _ = board.byte(b'7');
+    cycles(&mut board, b"0");
+    assert_eq!(rt;
+        shown(&rt, rt.alloc(), &board)?.as_slice(),
+        b"\x00\x00U1DRPAUSE\x00\x00\x02\x00\x00\x02\x01\x02\x00\x02\x00EXTEST".as_slice()
+    );
+    cycles(&mut board, b"11");
+    assert_eq!(rt;
+        shown(&rt, rt.alloc(), &board)?.as_slice(),
+        b"\x00\x00U1DRUPDATE\x00\x00\x02\x00\x00\x02\x01\x02\x01\x02\x00EXTEST".as_slice()
+    );
+    Ok(())
+}
+
+#[test]
+fn reports(rt: HostRuntime) -> Result<(), Fail> {
+    let mut board = Board::bare(rt.alloc(), 2)?;
+    cycles(&mut board, b"011010");
+    cycles(&mut board, b"110");
+    let mut out = Counted::new(Vec::new(rt.alloc()));
+    assert!(rt; out.failures() == 0);
+    assert!(rt; write_report(&board, &mut out).is_ok());
+    assert_eq!(rt;
+        out.into_inner().as_slice(),
+        b"U1 IDLE 01 -\nU2 IDLE 01 -\n".as_slice()
+    );
+    Ok(())
+}
+
+#[test]
+fn faults_shown(rt: HostRuntime) -> Result<(), Fail> {
+    let fault = BoardFault::TooLarge;
+    assert_eq!(rt; format!(in rt.alloc(); "{fault}")?.as_str(), "C7 TooLarge");
+    let fault = BoardFault::NoMemory;
+    assert_eq!(rt; format!(in rt.alloc(); "{fault}")?.as_str(), "C8 NoMemory");
+    Ok(())
+}
