@@ -118,8 +118,8 @@ passed _ _ (blank before bytes states h white) rest few =
     ap (λ (text : List ℕ). pieces_say 1 0 (pieces_of text)) (append_assoc before (bytes ++ codes ";") rest)
     ∙ passed before states h (bytes ++ codes ";" ++ rest) few
     ∙ ap (in_front (steps_from 1 states)) (
-      blank_first (1 + length states) (length before) bytes rest white
-      ∙ ap (λ (place : ℕ). pieces_say (1 + length states) place (pieces_of rest)) (place_behind before bytes)
+    blank_first (1 + length states) (length before) bytes rest white
+    ∙ ap (λ (place : ℕ). pieces_say (1 + length states) place (pieces_of rest)) (place_behind before bytes)
     )
 passed _ _ (statement before bytes states s h spells) rest few =
     let fewer : 1 + length states ≤ 200000 = omega (arith, few, length-append states (s ∷ [])) in
@@ -160,15 +160,15 @@ refused_again text f (unclosed before states gap b after begins white word known
 refused_again text f (misfit before states bytes after c begins known refuses is) =
     begun text before states (bytes ++ codes ";" ++ after) begins
     ∙ ap (in_front (steps_from 1 states)) (
-      fault_first (1 + length states) (length before) bytes after c known
-      (ap (within_limit (1 + length states)) (piece_refused (length before) bytes c known refuses) ∙ limit-fault (1 + length states) c)
+    fault_first (1 + length states) (length before) bytes after c known
+    (ap (within_limit (1 + length states)) (piece_refused (length before) bytes c known refuses) ∙ limit-fault (1 + length states) c)
     )
     ∙ same_fault states c f is
 refused_again text f (past_limit before states bytes after s begins full spells is) =
     begun text before states (bytes ++ codes ";" ++ after) begins
     ∙ ap (in_front (steps_from 1 states)) (
-      fault_first (1 + length states) (length before) bytes after TooLarge spells.known
-      (ap (within_limit (1 + length states)) (piece_spelled (length before) bytes s spells) ∙ limit-past (1 + length states) s (omega (arith, full)))
+    fault_first (1 + length states) (length before) bytes after TooLarge spells.known
+    (ap (within_limit (1 + length states)) (piece_spelled (length before) bytes s spells) ∙ limit-past (1 + length states) s (omega (arith, full)))
     )
     ∙ same_fault states TooLarge f is
 

@@ -177,8 +177,8 @@ module _ (text : List ℕ) where
         let white = white_all gap all in
         let dark : is_white b ≡ false = from_not_true (is_white b) passes in
         rw (rest_unclosed place gap b after white dark known) (
-          unclosed before states gap b after begins white (λ is. let e : true ≡ false = sym is ∙ dark in cc) (all_behind IsKnown gap (b ∷ after) known)
-          (fault_is n (length states + 1) _ _ number (ap (λ (k : ℕ). Unclosed (k + length gap)) stands))
+        unclosed before states gap b after begins white (λ is. let e : true ≡ false = sym is ∙ dark in cc) (all_behind IsKnown gap (b ∷ after) known)
+        (fault_is n (length states + 1) _ _ number (ap (λ (k : ℕ). Unclosed (k + length gap)) stands))
         )
 
     last_told : (bytes : List ℕ) → Begins text before states bytes → AllByRecursion IsInside bytes → Around foreign bytes → Says (unless_fault n (rest_fault place bytes))
@@ -186,7 +186,7 @@ module _ (text : List ℕ) where
     last_told _ begins inside (somewhere front b after all passes) =
         let strange : is_known b ≡ false = from_not_true (is_known b) passes in
         rw (rest_foreign place front b after (known_all front all) strange) (
-          foreign_told front b after begins (known_all front all) strange (outside b (all_behind IsInside front (b ∷ after) inside).0)
+        foreign_told front b after begins (known_all front all) strange (outside b (all_behind IsInside front (b ∷ after) inside).0)
         )
 
     -- a piece before later ones
@@ -206,8 +206,8 @@ module _ (text : List ℕ) where
       blank_told : (bytes : List ℕ) → Begins text before states (bytes ++ 59 ∷ text_of later) → IsBlank bytes → Then bytes (Ok None)
       blank_told bytes begins white =
           rw (limit-none n) (
-            later_told (before ++ (bytes ++ codes ";")) states n (place + length bytes + 1)
-            (record { whole = whole_behind bytes begins.whole; statements = blank before bytes states begins.statements white; within_limit = begins.within_limit }) number (behind bytes)
+          later_told (before ++ (bytes ++ codes ";")) states n (place + length bytes + 1)
+          (record { whole = whole_behind bytes begins.whole; statements = blank before bytes states begins.statements white; within_limit = begins.within_limit }) number (behind bytes)
           )
 
       more_told : (bytes : List ℕ) (s : State) → Begins text before states (bytes ++ 59 ∷ text_of later) → Spells bytes s → n ≤ 200000 → Then bytes (Ok (Some s))
@@ -215,16 +215,16 @@ module _ (text : List ℕ) where
           let count : length (states ++ s ∷ []) ≡ length states + 1 = length-append states (s ∷ []) in
           let first : 1 + length states ≡ n = omega (arith, number) in
           let told =
-              later_told (before ++ (bytes ++ codes ";")) (states ++ s ∷ []) (n + 1) (place + length bytes + 1)
-              (record { whole = whole_behind bytes begins.whole; statements = statement before bytes states s begins.statements spells; within_limit = omega (arith, count, number, few) })
-              (omega (arith, count, number)) (behind bytes) in
+          later_told (before ++ (bytes ++ codes ";")) (states ++ s ∷ []) (n + 1) (place + length bytes + 1)
+          (record { whole = whole_behind bytes begins.whole; statements = statement before bytes states s begins.statements spells; within_limit = omega (arith, count, number, few) })
+          (omega (arith, count, number)) (behind bytes) in
           let steps : steps_from 1 (states ++ s ∷ []) ≡ steps_from 1 states ++ step_of n s ∷ [] =
-              steps_from-push 1 states s ∙ ap (λ (m : ℕ). steps_from 1 states ++ step_of m s ∷ []) first in
+          steps_from-push 1 states s ∙ ap (λ (m : ℕ). steps_from 1 states ++ step_of m s ∷ []) first in
           rw (limit-within n s few) (
-            subst FormSays (
-              ap (λ (xs : List Step). in_front xs (pieces_say (n + 1) (place + length bytes + 1) later)) steps
-              ∙ sym (regroup (steps_from 1 states) (step_of n s) (pieces_say (n + 1) (place + length bytes + 1) later))
-            ) told
+          subst FormSays (
+          ap (λ (xs : List Step). in_front xs (pieces_say (n + 1) (place + length bytes + 1) later)) steps
+          ∙ sym (regroup (steps_from 1 states) (step_of n s) (pieces_say (n + 1) (place + length bytes + 1) later))
+          ) told
           )
 
       past_told : (bytes : List ℕ) (s : State) → Begins text before states (bytes ++ 59 ∷ text_of later) → Spells bytes s → 200000 < n → Then bytes (Ok (Some s))
@@ -258,9 +258,9 @@ module _ (text : List ℕ) where
           let strange : is_known b ≡ false = from_not_true (is_known b) passes in
           let known = known_all front all in
           rw (piece_foreign place front b after known strange, limit-fault n (BadByte (place + length front))) (
-            foreign_told front b (after ++ 59 ∷ text_of later)
-            (again before states (front ++ b ∷ after ++ 59 ∷ text_of later) (front ++ b ∷ (after ++ 59 ∷ text_of later)) begins (append_assoc front (b ∷ after) (59 ∷ text_of later)))
-            known strange (outside b (all_behind IsInside front (b ∷ after) inside).0)
+          foreign_told front b (after ++ 59 ∷ text_of later)
+          (again before states (front ++ b ∷ after ++ 59 ∷ text_of later) (front ++ b ∷ (after ++ 59 ∷ text_of later)) begins (append_assoc front (b ∷ after) (59 ∷ text_of later)))
+          known strange (outside b (all_behind IsInside front (b ∷ after) inside).0)
           )
 
   pieces_told : (pieces : Pieces) → AreInside pieces → Told pieces
@@ -300,11 +300,11 @@ standing (s ∷ states) = one_state_more s states (is_stable s) refl (standing s
 settled_by : (text : List ℕ) (states : List State) → length text ≤ 16777216 → SpellsStates text states → Standing states → TextSays text (settled (Ok (steps_from 1 states)))
 settled_by text _ short spelled (all_stand states all) =
     rw (settled-steps (steps_from 1 states) None (none_unstable 1 states all)) (
-      record { short = short; states = states; spelled = spelled; stable = all; is = ap (λ (n : ℕ). record { statements = n; steps = steps_from 1 states }) (length-steps_from 1 states) }
+    record { short = short; states = states; spelled = spelled; stable = all; is = ap (λ (n : ℕ). record { statements = n; steps = steps_from 1 states }) (length-steps_from 1 states) }
     )
 settled_by text _ short spelled (one_falls front s after all falls) =
     rw (settled-steps (steps_from 1 (front ++ s ∷ after)) (Some (step_of (1 + length front) s)) (first_unstable 1 front s after all (not_true (is_stable s) falls))) (
-      unstable short front s after spelled all falls (ap (λ (n : ℕ). record { statement = n; code = BadState }) (numbered front))
+    unstable short front s after spelled all falls (ap (λ (n : ℕ). record { statement = n; code = BadState }) (numbered front))
     )
 
 settled_told : (text : List ℕ) (r : Result (List Step) SvfFault) → length text ≤ 16777216 → FormSays text r → TextSays text (settled r)

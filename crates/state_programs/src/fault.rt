@@ -1,5 +1,6 @@
 //! Why a text was refused.
 
+use std::fmt;
 use thiserror::Error;
 
 /// The refusal of a statement, by its number in the list of refusals.
@@ -32,9 +33,21 @@ pub enum Code {
 }
 
 /// The first refusal of a text: the statement, counted from 1 (0 where it is of no statement), and what is wrong with it.
-#[derive(Debug, Clone, Copy, PartialEq, Eq, Drop, Error)]
-#[error("svf {code} statement {statement}")]
+#[derive(Debug, Clone, Copy, PartialEq, Eq, Drop)]
 pub struct SvfFault {
     pub statement: usize,
     pub code: Code,
 }
+
+impl fmt::Display for SvfFault {
+    fn fmt<W: fmt::Write>(&self, f: &mut fmt::Formatter<W>) -> fmt::Result {
+        let code = self.code;
+        let statement = self.statement;
+        match code {
+            Code::NoMemory => write!(f, "memory"),
+            _ => write!(f, "svf {code} statement {statement}"),
+        }
+    }
+}
+
+impl std::error::Error for SvfFault {}

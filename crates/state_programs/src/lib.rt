@@ -10,3 +10,6 @@ mod words;
 pub use fault::{Code, SvfFault};
 pub use program::{Action, Program, Step};
 pub use reader::accept;
+
+#[cfg(test)]
+mod tests;

@@ -26,7 +26,27 @@ const NO_MEMORY: SvfFault = SvfFault {
     code: Code::NoMemory,
 };
 
-/// The program of a text.
+/// The program of a text of STATE statements (Serial Vector Format, revision E), or its first refusal.
+///
+/// White space is space, tab, line feed, carriage return, vertical tab and form feed. A word is a longest run of ASCII
+/// letters, digits, `.`, `+`, `-` and `_`, or a bracket `(` or `)`. The words before a `;` are a statement; where there are
+/// none, the `;` is no statement. Words match in any case. A statement is `STATE` and one state's word, of a stable state;
+/// its step walks the default path there.
+///
+/// # Errors
+///
+/// S15 `TooLarge` of statement 0 where the text has more than 16,777,216 bytes. Else the first statement that is not
+/// spelled well, with the first of these that it has:
+///
+/// - S1 `BadByte`: any other byte, a comment's first too. It belongs to the statement that is open there.
+/// - S2 `Unclosed`: words behind the last `;`.
+/// - S3 `UnknownCommand`: its first word is no command.
+/// - S4 `BadForm`: `STATE` with no state, or followed by another word than a state's.
+/// - S13 `Unsupported`: `STATE` with more than one state, or another command, whatever follows it.
+/// - S15 `TooLarge`: it is the 200,001st.
+///
+/// Where each is spelled well, S8 `BadState` of the first state in which no program may rest. S16 `NoMemory` of statement
+/// 0 may come instead of an answer to a text that is not too long, where a growth was refused.
 pub fn accept(alloc: Global, text: &[u8]) -> Result<Program, SvfFault>
     // What is accepted is spelled so.
     ensures found { IfOk result (λ program. TextSpells text.now program) }
@@ -42,7 +62,7 @@ pub fn accept(alloc: Global, text: &[u8]) -> Result<Program, SvfFault>
 
 /// What the whole text says.
 fn read(alloc: Global, text: &[u8]) -> Result<Program, SvfFault>
-    ensures exact { Answers result (spec.text_says text.now) }
+    ensures { Answers result (spec.text_says text.now) }
 {
     if text.len() > TEXT_LIMIT {
         return Err(SvfFault {
@@ -50,10 +70,7 @@ fn read(alloc: Global, text: &[u8]) -> Result<Program, SvfFault>
             code: Code::TooLarge,
         });
     }
-    let steps = match read_steps(alloc, text) {
-        Ok(steps) => steps,
-        Err(fault) => return Err(fault),
-    };
+    let steps = read_steps(alloc, text)?;
     match first_unstable(&steps) {
         None => Ok(Program::of(steps)),
         Some(step) => Err(SvfFault {
@@ -138,25 +155,5 @@ fn is_unstable(step: Step) -> bool
 {
     match step.what {
         Action::Go(state) => !state.is_stable(),
-    }
-}
-
-#[cfg(test)]
-mod tests {
-    use super::*;
-    use std::test::Fail;
-
-    #[test]
-    fn reads_states(rt: HostRuntime) -> Result<(), Fail> {
-        let program = accept(rt.alloc(), b"STATE IRPAUSE; state idle ;")?;
-        assert_eq!(rt; program.statements(), 2);
-        assert_eq!(rt;
-            accept(rt.alloc(), b"STATE DRCAPTURE; FOO;").err(),
-            Some(SvfFault {
-                statement: 2,
-                code: Code::UnknownCommand
-            })
-        );
-        Ok(())
     }
 }

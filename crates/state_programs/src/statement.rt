@@ -23,10 +23,7 @@ pub(crate) fn read_piece(place: usize, bytes: &[u8]) -> Result<Option<State>, Co
     let Some((command, rest)) = next_word(bytes) else {
         return Ok(None);
     };
-    match read_statement(command, rest) {
-        Ok(state) => Ok(Some(state)),
-        Err(code) => Err(code),
-    }
+    read_statement(command, rest).map(Some)
 }
 
 /// What is wrong with the bytes after the last `;`, which stand at this place of the text.
