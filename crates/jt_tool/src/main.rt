@@ -66,8 +66,16 @@ fn refuse_words<R: Print + Eprint>(rt: &R, fault: &clap::Error) -> u8 {
     if fault.kind() == ErrorKind::OutOfMemory {
         return told(rt, "memory", MEMORY);
     }
-    let status = if fault.exit_code() == 0 { DONE } else { REFUSED };
-    if fault.print(rt).is_err() { BROKEN } else { status }
+    let status = if fault.exit_code() == 0 {
+        DONE
+    } else {
+        REFUSED
+    };
+    if fault.print(rt).is_err() {
+        BROKEN
+    } else {
+        status
+    }
 }
 
 /// Plays a text on a board of one bare device.

@@ -1,0 +1,2 @@
+pub mod PlaysCompute
+pub mod SingleCompute

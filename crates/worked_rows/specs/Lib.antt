@@ -1,0 +1,4 @@
+pub mod Samples
+pub mod Agree
+pub mod Plays
+pub mod Single

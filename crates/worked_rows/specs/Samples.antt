@@ -1,0 +1,129 @@
+-- The devices of the worked rows, written out as a reader of their texts would give them.
+use Rattle.std.specs.Prelude.{Bool, true, false, ℕ, zero, suc, ◌/◌, ◌%◌, ◌==◌, List, [], ◌∷◌, map, replicate, length, Some, None, codes}
+use Rattle.jt_tap.specs.declared.Column.TheVariants.{Dr, Ir}
+use Rattle.jt_tap.specs.declared.State.{State}
+use Rattle.jt_tap.specs.declared.State.TheVariants.{Idle}
+use Rattle.jt_board.specs.Device.{Pattern, PortBit, In, Input, Output2, Output3, Control, Internal, Z, Cell, Opcode, AtUser, Access, Device}
+use Rattle.jt_board.specs.Cells.{Member, powered}
+use Rattle.jt_board.specs.Nets.{Net, Pin, Pull}
+use Rattle.jt_board.specs.Whole.{AtRest}
+use Rattle.jt_board.specs.Resting.{power_up}
+use Rattle.jt_board.specs.Vector.{Part3, join}
+use Rattle.jt_board.specs.Steps.{Step, Scan}
+use Rattle.jt_player.specs.Programs.{Numbered}
+
+-- the n lowest binary digits
+abbrev pub bits : ℕ → ℕ → List Bool
+bits zero v = []
+bits (suc n) v = (v % 2 == 1) ∷ bits n (v / 2)
+
+abbrev pub pattern : ℕ → ℕ → Pattern
+pattern n v = map (λ b. Some b) (bits n v)
+
+abbrev pub port : List ℕ → PortBit
+port name = record { name = name; index = None; mode = In }
+
+abbrev pub opcode : List ℕ → ℕ → Opcode
+opcode name v = record { name = name; patterns = pattern 2 v ∷ [] }
+
+abbrev pub q_cell : Cell
+q_cell = record { function = Output3; port = Some 4; control = Some (record { cell = 1; disabling = false; leaves = Z }) }
+
+abbrev pub device_with : List Opcode → Cell → List Access → List ℕ → Bool → Device
+device_with rows q accesses users trst = record {
+  ports = port (codes "TDI") ∷ port (codes "TMS") ∷ port (codes "TCK") ∷ port (codes "TDO") ∷ port (codes "Q") ∷ port (codes "D") ∷ [];
+  instruction_length = 2;
+  opcodes = rows;
+  capture = bits 2 1;
+  idcode = Some (bits 32 0x01234567);
+  usercode = None;
+  cells = q
+      ∷ record { function = Control; port = None; control = None }
+      ∷ record { function = Input; port = Some 5; control = None }
+      ∷ [];
+  private_names = [];
+  accesses = accesses;
+  users = users;
+  has_trst = trst;
+}
+
+abbrev pub rows_with : List ℕ → List Opcode
+rows_with third = opcode (codes "BYPASS") 3 ∷ opcode (codes "EXTEST") 0 ∷ opcode third 1 ∷ opcode (codes "IDCODE") 2 ∷ []
+
+abbrev pub k : Device
+k = device_with (rows_with (codes "SAMPLE")) q_cell [] [] false
+
+abbrev pub kt : Device
+kt = device_with (rows_with (codes "SAMPLE")) q_cell [] [] true
+
+abbrev pub kh : Device
+kh = device_with (rows_with (codes "HIGHZ")) (record { function = Output2; port = Some 4; control = None }) [] [] false
+
+abbrev pub ki : Device
+ki = device_with (rows_with (codes "INTEST")) q_cell [] [] false
+
+abbrev pub ku : Device
+ku = device_with (rows_with (codes "LOAD")) q_cell (record { instruction = codes "LOAD"; place = AtUser 0; captures = None } ∷ []) (4 ∷ []) false
+
+abbrev pub kuc : Device
+kuc = device_with (rows_with (codes "LOAD")) q_cell (record { instruction = codes "LOAD"; place = AtUser 0; captures = Some (bits 4 5) } ∷ []) (4 ∷ []) false
+
+-- the bare device
+abbrev pub p : Device
+p = record {
+  ports = port (codes "TDI") ∷ port (codes "TMS") ∷ port (codes "TCK") ∷ port (codes "TDO") ∷ [];
+  instruction_length = 2;
+  opcodes = opcode (codes "BYPASS") 3 ∷ opcode (codes "EXTEST") 0 ∷ [];
+  capture = bits 2 1;
+  idcode = None;
+  usercode = None;
+  cells = record { function = Internal; port = None; control = None } ∷ [];
+  private_names = [];
+  accesses = [];
+  users = [];
+  has_trst = false;
+}
+
+abbrev pub with_core : Device → ℕ → Member
+with_core d core = powered (codes "U") d (bits (length d.cells) core) false
+
+abbrev pub plain : List Device → AtRest
+plain ds = power_up [] (map (λ d. with_core d 0) ds)
+
+-- pins Q and D
+abbrev pub q : ℕ → Pin
+q i = record { device = i; port = 4 }
+
+abbrev pub d : ℕ → Pin
+d i = record { device = i; port = 5 }
+
+abbrev pub net : Pull → List Pin → List Net
+net pull pins = record { name = codes "N"; pull = pull; pins = pins } ∷ []
+
+abbrev pub nothing : Part3
+nothing = record { tdi = []; want = []; care = [] }
+
+-- a part with TDI alone, with TDO, with TDO and MASK
+abbrev pub tdi : ℕ → ℕ → Part3
+tdi n t = record { tdi = bits n t; want = bits n 0; care = bits n 0 }
+
+abbrev pub tdo : ℕ → ℕ → ℕ → Part3
+tdo n t w = record { tdi = bits n t; want = bits n w; care = replicate n true }
+
+abbrev pub mask : ℕ → ℕ → ℕ → ℕ → Part3
+mask n t w c = record { tdi = bits n t; want = bits n w; care = bits n c }
+
+abbrev pub sir : ℕ → Part3 → Numbered
+sir i part = record { number = i; what = Scan Ir (join nothing part nothing) Idle }
+
+abbrev pub sdr : ℕ → Part3 → Numbered
+sdr i part = record { number = i; what = Scan Dr (join nothing part nothing) Idle }
+
+abbrev pub sdr_to : ℕ → Part3 → State → Numbered
+sdr_to i part end = record { number = i; what = Scan Dr (join nothing part nothing) end }
+
+abbrev pub hdr_sdr : ℕ → Part3 → Part3 → Numbered
+hdr_sdr i header part = record { number = i; what = Scan Dr (join header part nothing) Idle }
+
+abbrev pub step : ℕ → Step → Numbered
+step i s = record { number = i; what = s }

@@ -1,0 +1,92 @@
+-- One chip by edges, and the rows of schedules.
+use Rattle.std.proofs.Common.{◌≡◌, Bool, true, false, ℕ, zero, suc, List, [], ◌∷◌, ◌++◌, refl, map, codes}
+use Rattle.std.specs.Prelude.{Option, Some, None, bytes_eq}
+use Rattle.jt_tap.specs.declared.State.TheVariants.{Reset, Idle, DrShift, IrPause, IrUpdate}
+use Rattle.bitbang.specs.declared.Message.{Message}
+use Rattle.bitbang.specs.declared.Message.TheVariants.{Write}
+use Rattle.jt_board.specs.Chain.{ChipState, BoardState, rise, fall, assert_trst, hear, reply, after}
+use Rattle.jt_board.specs.declared.board.Reply.TheVariants.{Refused}
+use Rattle.jt_board.specs.Resting.{standing, resting}
+use Rattle.jt_board.specs.declared.vector.Part.TheVariants.{Data}
+use Rattle.jt_player.specs.declared.ending.Ending.TheVariants.{Pass, Fail, Lost, BadAnswer}
+use Rattle.jt_player.specs.Programs.{Numbered}
+use Rattle.jt_player.specs.Play.{turns, full_play, ending_for}
+use Rattle.jt_player.specs.Events.{World, Event, Put, Serve, Take, Lose, fresh, run, ended}
+use Rattle.worked_rows.specs.Samples.{bits, k, kt, p, plain, with_core, tdo, sir}
+use Rattle.worked_rows.specs.Agree.{meant, flat_board}
+
+abbrev pub up : Bool → ChipState → ChipState
+up tms c = rise false tms true (λ port. true) c
+
+-- a fall after each rise
+abbrev pub cycled : List Bool → ChipState → ChipState
+cycled [] c = c
+cycled (tms ∷ more) c = cycled more (fall (up tms c))
+
+abbrev pub shifting : ChipState
+shifting = up false (cycled (false ∷ true ∷ false ∷ []) (standing Reset (with_core k 0)))
+
+abbrev pub tdos : ℕ → ChipState → List (Option Bool)
+tdos zero c = c.tdo ∷ []
+tdos (suc n) c = c.tdo ∷ tdos n (fall (up false c))
+
+abbrev pub reset_now : ChipState
+reset_now = assert_trst (fall (up false (cycled (false ∷ true ∷ false ∷ []) (standing Reset (with_core kt 0)))))
+
+abbrev pub paused : ChipState
+paused = cycled (false ∷ true ∷ true ∷ false ∷ true ∷ false ∷ []) (standing Reset (with_core k 0))
+
+-- row 2 under schedules
+abbrev pub ir_scan : List Numbered
+ir_scan = sir 1 (tdo 2 3 1) ∷ []
+
+abbrev pub start : World
+start = fresh (resting (plain (k ∷ [])))
+
+abbrev pub one_by_one : ℕ → List Event
+one_by_one zero = []
+one_by_one (suc n) = Put 1 ∷ Serve 1 ∷ Take 1 ∷ one_by_one n
+
+-- from mid-scan, TCK high, after the bytes of the opening on a broken-off play
+abbrev pub broken_off : BoardState
+broken_off = (hear (turns_messages ++ Write true false true ∷ []) (resting (plain (kt ∷ k ∷ [])))).board
+  where
+    turns_messages : List Message
+    turns_messages = Write true false false ∷ Write false false false ∷ Write true true false ∷ Write false true false
+        ∷ Write true false false ∷ Write false false false ∷ Write true false false ∷ Write false false true ∷ []
+
+pub record EdgeRows : Type 0 where
+  pub in_shift : shifting.state ≡ DrShift
+  pub tdo_before : shifting.tdo ≡ None
+  pub tdo_then : (fall shifting).tdo ≡ Some true
+  pub identification : tdos 31 (fall shifting) ≡ map (λ b. Some b) (bits 32 0x01234567)
+  pub trst_state : reset_now.state ≡ Reset
+  pub trst_tdo : reset_now.tdo ≡ None
+  pub trst_holds : (rise true false true (λ port. true) reset_now).state ≡ Reset
+  pub trst_released : (rise false false true (λ port. true) reset_now).state ≡ Idle
+  pub at_pause : paused.state ≡ IrPause
+  pub latch_before : (up true (cycled (true ∷ []) paused)).member.registers.latch ≡ bits 2 2
+  pub latch_after : (cycled (true ∷ true ∷ []) paused).member.registers.latch ≡ bits 2 1
+  pub state_after : (cycled (true ∷ true ∷ []) paused).state ≡ IrUpdate
+  pub third_rise : (up true (cycled (true ∷ true ∷ true ∷ true ∷ []) paused)).state ≡ Reset
+  pub third_rise_latch : (up true (cycled (true ∷ true ∷ true ∷ true ∷ []) paused)).member.registers.latch ≡ bits 2 1
+  pub third_fall_latch : (cycled (true ∷ true ∷ true ∷ true ∷ true ∷ []) paused).member.registers.latch ≡ bits 2 2
+  -- a byte off the table
+  pub refused : reply 0x5a (resting (plain (p ∷ []))) ≡ Refused 0x5a
+  pub refused_board : after 0x5a (resting (plain (p ∷ []))) ≡ resting (plain (p ∷ []))
+  pub byte_by_byte : ended 1 (turns ir_scan) (run 1 1 1 (turns ir_scan) (one_by_one 34) start) ≡ Some Pass
+  pub byte_by_byte_wide : ended 1 (turns ir_scan) (run 256 1 1 (turns ir_scan) (one_by_one 34) start) ≡ Some Pass
+  pub byte_by_byte_not_yet : ended 1 (turns ir_scan) (run 256 1 1 (turns ir_scan) (one_by_one 33) start) ≡ None
+  pub byte_by_byte_board : bytes_eq (flat_board (run 256 1 1 (turns ir_scan) (one_by_one 34) start).board) (flat_board (resting (meant (plain (k ∷ [])) ir_scan).after)) ≡ true
+  pub lost_after_an_answer : ended 1 (turns ir_scan) (run 1 1 1 (turns ir_scan) (one_by_one 26 ++ Lose ∷ []) start) ≡ Some (Lost 1)
+  pub lost_before_quit : ended 0 (turns []) (run 256 64 64 (turns []) (Put 12 ∷ Serve 12 ∷ Put 1 ∷ Lose ∷ []) start) ≡ Some (Lost 1)
+  pub lost_at_once : ended 1 (turns ir_scan) (run 256 1 1 (turns ir_scan) (Lose ∷ Put 5 ∷ []) start) ≡ Some (Lost 0)
+  pub lost_last : ended 1 (turns ir_scan) (run 256 64 64 (turns ir_scan) (Put 64 ∷ Serve 64 ∷ Take 1 ∷ Take 1 ∷ Lose ∷ []) start) ≡ Some (Lost 2)
+  pub serve_three : (run 256 64 64 (turns ir_scan) (Put 64 ∷ Serve 3 ∷ []) start).board.tck ≡ true
+  pub answers_ok : ending_for (turns ir_scan) (codes "10") ≡ Some Pass
+  pub answers_zero : ending_for (turns ir_scan) (codes "00") ≡ Some (Fail 1 Data 0)
+  pub answers_one : ending_for (turns ir_scan) (codes "11") ≡ Some (Fail 1 Data 1)
+  pub answers_bad : ending_for (turns ir_scan) (codes "1x") ≡ Some (BadAnswer 1 0x78)
+  pub answers_owed : ending_for (turns ir_scan) (codes "1") ≡ None
+  pub is_mid_scan : map (λ c. c.state) broken_off.chips ≡ DrShift ∷ DrShift ∷ []
+  pub scan_from_mid_scan : (full_play (turns (sir 1 (tdo 4 15 5) ∷ [])) broken_off).ending ≡ Pass
