@@ -74,7 +74,7 @@ impl Bits {
     }
 
     /// Moves every bit one place towards TDO, puts `bit` at the far end, and answers the bit that left: bit 0
-    /// (IEEE Std 1149.1-2001, 9.1).
+    /// (IEEE Std 1149.1-2001, clause 9).
     pub fn shift_in(&mut self, bit: bool) -> bool
         requires { 0 < length self.old }
         ensures out { slice_get self.old 0 ≡ Some result }
