@@ -1,1 +1,2 @@
-pub mod Rotating
+pub mod HexLaws
+mod Rotating

@@ -1,5 +1,5 @@
 -- A list turned by one place, its last bit replaced, is the list shifted.
-use Rattle.std.proofs.Common.{◌≡◌, ℕ, ◌+◌, ◌-◌, ◌<◌, Bool, List, [], ◌∷◌, ◌++◌, length, take, drop, set, arith, ◌∙◌, ap}
+use Rattle.std.proofs.Common.{◌≡◌, ℕ, ◌+◌, Bool, List, [], ◌∷◌, ◌++◌, length, take, drop, set, arith, ◌∙◌, ap}
 use Rattle.std.proofs.Math.Seq.{set-append_seam}
 use Rattle.jt_bits.specs.Shifting.{shifted}
 

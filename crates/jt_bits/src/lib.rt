@@ -4,8 +4,11 @@
 ghost use Rattle.std.specs.Prelude.{◌≡◌, ◌<◌, ℕ, true, false, length, replicate, slice_get, slice_set, IfOk};
 ghost use Rattle.jt_bits.specs.Shifting.{shifted};
 
+pub use hex::{HexFault, has_one_beyond};
 use std::alloc::{AllocError, Global};
 use std::marker::Model;
+
+mod hex;
 
 /// A list of bits of a fixed length. Contracts see it as that list. Bit 0 is the one nearest TDO: of a register the
 /// first to leave it in a shift, of a vector the first to be shifted in.
