@@ -46,18 +46,7 @@ fn run(rt: &HostRuntime, alloc: Global, args: &[String]) -> u8 {
     }
     match parse(alloc, &words) {
         Ok(request) => play(rt, alloc, &request),
-        Err(fault) => {
-            let status = if fault.exit_code() == 0 {
-                DONE
-            } else {
-                REFUSED
-            };
-            if fault.print(rt).is_err() {
-                BROKEN
-            } else {
-                status
-            }
-        }
+        Err(fault) => refuse_words(rt, &fault),
     }
 }
 
