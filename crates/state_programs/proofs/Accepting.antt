@@ -3,8 +3,8 @@ use Rattle.std.proofs.Common.{◌≡◌, ◌≢◌, ℕ, List, Result, Ok, Err, 
 use Rattle.std.specs.Prelude.{IfOk, IfErr}
 use Rattle.state_programs.specs.declared.fault.SvfFault.{SvfFault}
 use Rattle.state_programs.specs.Programs.{Accepted}
-use Rattle.state_programs.specs.Reading.{Answers, memory_fault, text_says}
-use Rattle.state_programs.specs.Spelling.{TextSpells, TextRefuses}
+use Rattle.state_programs.specs.Reading.{text_says}
+use Rattle.state_programs.specs.Spelling.{TextSpells, TextRefuses, Answers, memory_fault}
 use Rattle.state_programs.proofs.Again.{spelled_again, text_refused_again}
 use Rattle.state_programs.proofs.Told.{TextSays, text_told}
 

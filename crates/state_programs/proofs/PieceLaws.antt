@@ -6,6 +6,7 @@ use Rattle.std.specs.List.{AllByRecursion}
 use Rattle.std.proofs.lemmas.List.{append-nil, get_or-take, length-take-le, take_rest, drop-drop}
 use Rattle.std.proofs.Math.Seq.{split_at}
 use Rattle.memchr.specs.Find.{IsFirstByte, is_byte}
+use Rattle.state_programs.proofs.Positions.{not_true}
 use Rattle.state_programs.specs.Reading.{Pieces, last, closed, with_byte, pieces_of}
 
 -- a byte that closes nothing
@@ -51,10 +52,6 @@ pieces_of-last bytes all =
     ap pieces_of (sym (append-nil bytes)) ∙ pieces_of-front bytes [] all ∙ ap (with_bytes bytes) pieces_of-nil ∙ ap last (append-nil bytes)
 
 -- ---- by a search for the first `;`
-
-pub not_true : (b : Bool) → (b ≡ true → ⊥) → b ≡ false
-not_true true fails = absurd (fails refl)
-not_true false fails = refl
 
 pub is_semi : (c : ℕ) → (c == 59) ≡ true → c ≡ 59
 is_semi c h = grind (arith, nat_tests)

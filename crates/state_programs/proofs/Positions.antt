@@ -3,6 +3,10 @@ use Rattle.std.proofs.Common.{◌≡◌, ℕ, zero, suc, ◌+◌, ◌<◌, ◌�
 use Rattle.std.specs.List.{prefix_len, position_or_len, AllByRecursion}
 use Rattle.std.proofs.lemmas.Bool.Decides.{nat_tests}
 
+pub not_true : (b : Bool) → (b ≡ true → ⊥) → b ≡ false
+not_true true fails = absurd (fails refl)
+not_true false fails = refl
+
 zero_below : (n : ℕ) → nat_lt 0 (suc n) ≡ true
 zero_below n = grind (arith, nat_tests)
 
