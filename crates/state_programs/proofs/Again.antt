@@ -1,5 +1,5 @@
 -- What a text spells is what it says, and its first refusal is what it says too.
-use Rattle.std.proofs.Common.{◌≡◌, ◌≢◌, ℕ, zero, suc, ◌+◌, ◌<◌, ◌≤◌, ◌==◌, nat_lt, Bool, true, false, not, cond, find, List, [], ◌∷◌, ◌++◌, length, Option, Some, None, Result, Ok, Err, refl, sym, ap, subst, ◌∙◌, length-append, append_assoc, arith}
+use Rattle.std.proofs.Common.{◌≡◌, ◌≢◌, ℕ, suc, ◌+◌, ◌<◌, ◌≤◌, ◌==◌, nat_lt, true, false, find, List, [], ◌∷◌, ◌++◌, length, Some, None, Result, Ok, Err, refl, sym, ap, ◌∙◌, length-append, append_assoc, arith}
 use Rattle.std.specs.Prelude.{codes}
 use Rattle.std.specs.List.{AllByRecursion}
 use Rattle.std.proofs.lemmas.List.{append-nil}
@@ -12,11 +12,10 @@ use Rattle.state_programs.specs.declared.fault.SvfFault.{SvfFault}
 use Rattle.state_programs.specs.declared.program.Step.{Step}
 use Rattle.state_programs.specs.Programs.{Accepted}
 use Rattle.state_programs.specs.Bytes.{is_white, is_known}
-use Rattle.state_programs.specs.Words.{words}
-use Rattle.state_programs.specs.Statements.{piece_says, rest_fault}
-use Rattle.state_programs.specs.Reading.{Pieces, last, closed, with_byte, pieces_of, pieces_say, within_limit, is_unstable, settled, unless_unstable, text_says, unless_fault}
-use Rattle.state_programs.specs.Spelling.{IsWhite, IsKnown, IsForeign, IsBlank, Spells, Refuses, AreStatements, none, blank, statement, Begins, SpellsStates, RefusesForm, bad_byte, unclosed, misfit, past_limit, IsStable, steps_from, TextSpells, TextRefuses, too_long, bad_form, unstable, step_of}
-use Rattle.state_programs.proofs.Spelled.{known_inside, blank_known, all_weaker, white_is_known, piece_blank, piece_spelled, piece_refused, piece_foreign, rest_foreign, rest_blank, rest_unclosed}
+use Rattle.state_programs.specs.Statements.{piece_says}
+use Rattle.state_programs.specs.Reading.{Pieces, last, closed, with_byte, pieces_of, pieces_say, within_limit, is_unstable, settled, text_says, unless_fault}
+use Rattle.state_programs.specs.Spelling.{IsWhite, IsKnown, IsForeign, IsBlank, Spells, AreStatements, none, blank, statement, Begins, SpellsStates, RefusesForm, bad_byte, unclosed, misfit, past_limit, IsStable, steps_from, TextSpells, TextRefuses, too_long, bad_form, unstable, step_of}
+use Rattle.state_programs.proofs.Spelled.{known_inside, blank_known, piece_blank, piece_spelled, piece_refused, piece_foreign, rest_foreign, rest_blank, rest_unclosed}
 use Rattle.state_programs.proofs.Positions.{not_true}
 use Rattle.state_programs.proofs.WordLaws.{HaveWords-known}
 use Rattle.state_programs.proofs.PieceLaws.{IsInside, is_semi, with_bytes, pieces_of-front, pieces_of-other, pieces_of-closed, pieces_of-last}

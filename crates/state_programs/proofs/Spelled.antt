@@ -1,15 +1,14 @@
 -- What bytes say that spell a statement, or have a refusal.
-use Rattle.std.proofs.Common.{◌≡◌, ◌≢◌, ℕ, zero, suc, ◌+◌, ◌<◌, ◌≤◌, ◌==◌, ◌&&◌, nat_lt, Bool, true, false, not, cond, List, [], ◌∷◌, ◌++◌, length, map, option_map, IfSome, Option, Some, None, Result, Ok, Err, refl, sym, ap, subst, ◌∙◌, arith}
-use Rattle.std.specs.Prelude.{codes, Any, is_some}
-use Rattle.std.specs.List.{AllByRecursion, list_all, list_any}
+use Rattle.std.proofs.Common.{◌≡◌, ℕ, ◌+◌, ◌==◌, ◌&&◌, Bool, true, false, not, cond, List, [], ◌∷◌, ◌++◌, length, IfSome, Option, Some, None, Result, Ok, Err, refl, ap, subst, ◌∙◌, arith}
+use Rattle.std.specs.Prelude.{codes, is_some}
+use Rattle.std.specs.List.{AllByRecursion, list_all}
 use Rattle.std.specs.Bool.{Decides}
-use Rattle.std.proofs.lemmas.Bool.Decides.{nat_tests}
 use Rattle.std.proofs.lemmas.Slice.Eq.{bytes_eq-Decides}
 use Rattle.std.proofs.lemmas.List.Folds.{Any-from_list_any, list_any-from_Any}
 use Rattle.jt_tap.specs.declared.State.{State}
 use Rattle.jt_tap.specs.Words.{IsWordOf}
 use Rattle.state_programs.specs.declared.fault.Code.{Code}
-use Rattle.state_programs.specs.declared.fault.Code.TheVariants.{BadByte, Unclosed, UnknownCommand, BadForm, Unsupported, TooLarge}
+use Rattle.state_programs.specs.declared.fault.Code.TheVariants.{BadByte, Unclosed, UnknownCommand, BadForm, Unsupported}
 use Rattle.state_programs.specs.Bytes.{is_white, is_known}
 use Rattle.state_programs.specs.Words.{words, reads}
 use Rattle.state_programs.specs.Statements.{is_command, state_of, is_state, states_say, statement_says, words_say, some_state, foreign_at, word_at, piece_says, unless_foreign, rest_fault, or_foreign, unless_word, or_refuse}

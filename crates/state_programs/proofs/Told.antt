@@ -1,5 +1,5 @@
 -- Each text spells the program that it says, or has the refusal that it says.
-use Rattle.std.proofs.Common.{◌≡◌, ◌≢◌, ℕ, zero, suc, ◌+◌, ◌<◌, ◌≤◌, ◌==◌, nat_lt, Bool, true, false, not, cond, find, List, [], ◌∷◌, ◌++◌, length, Option, Some, None, Result, Ok, Err, refl, sym, ap, subst, ◌∙◌, length-append, append_assoc, ⊎_elim, arith}
+use Rattle.std.proofs.Common.{◌≡◌, ◌≢◌, ℕ, ◌+◌, ◌<◌, ◌≤◌, ◌==◌, nat_lt, Bool, true, false, not, cond, List, [], ◌∷◌, ◌++◌, length, Option, Some, None, Result, Ok, Err, refl, sym, ap, subst, ◌∙◌, length-append, append_assoc, ⊎_elim, arith}
 use Rattle.std.proofs.str.Laws.{order}
 use Rattle.std.specs.Prelude.{codes}
 use Rattle.std.specs.List.{AllByRecursion, list_all}
@@ -16,10 +16,10 @@ use Rattle.state_programs.specs.Programs.{Accepted}
 use Rattle.state_programs.specs.Bytes.{is_white, is_known}
 use Rattle.state_programs.specs.Words.{words, reads}
 use Rattle.state_programs.specs.Statements.{is_command, is_state, state_of, or_refuse, states_say, statement_says, words_say, some_state, piece_says, rest_fault}
-use Rattle.state_programs.specs.Reading.{Pieces, last, closed, with_byte, pieces_of, pieces_say, within_limit, then_says, is_unstable, goes_to_stable, settled, unless_unstable, text_says, unless_fault}
-use Rattle.state_programs.specs.Spelling.{HaveWords, nothing, white, IsWhite, IsKnown, IsForeign, IsBlank, Reads, IsCommand, IsStateWord, AreStateWords, Spells, Refuses, no_command, no_state, no_state_words, path, other_command, AreStatements, none, blank, statement, Begins, SpellsStates, RefusesForm, bad_byte, unclosed, misfit, past_limit, IsStable, steps_from, TextSpells, TextRefuses, too_long, bad_form, unstable, Word, step_of}
+use Rattle.state_programs.specs.Reading.{Pieces, last, closed, with_byte, pieces_of, pieces_say, within_limit, then_says, settled, text_says, unless_fault}
+use Rattle.state_programs.specs.Spelling.{HaveWords, nothing, white, IsWhite, IsKnown, IsBlank, Reads, Spells, Refuses, no_command, no_state, no_state_words, path, other_command, none, blank, statement, Begins, SpellsStates, RefusesForm, bad_byte, unclosed, misfit, past_limit, IsStable, steps_from, TextSpells, TextRefuses, too_long, bad_form, unstable, Word, step_of}
 use Rattle.state_programs.proofs.Positions.{Fails, Around, nowhere, somewhere, around, not_true}
-use Rattle.state_programs.proofs.Spelled.{all_weaker, Reads-reads, reads-Reads, command_known, known_command, known_states, states_known, state_word_of, nameless, known_piece, piece_foreign, piece_blank, rest_foreign, rest_blank, rest_unclosed, blank_known}
+use Rattle.state_programs.proofs.Spelled.{all_weaker, Reads-reads, reads-Reads, command_known, known_command, known_states, states_known, state_word_of, nameless, known_piece, piece_foreign, rest_foreign, rest_blank, rest_unclosed}
 use Rattle.state_programs.proofs.PieceLaws.{IsInside, is_semi, pieces_of-nil, pieces_of-semi, pieces_of-other}
 use Rattle.state_programs.proofs.WordLaws.{known-HaveWords}
 use Rattle.state_programs.proofs.ReadLaws.{in_front, in_front-nil, regroup, pieces_say-closed, pieces_say-last}

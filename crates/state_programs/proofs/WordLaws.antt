@@ -1,9 +1,9 @@
 -- The first word of bytes.
 use Rattle.state_programs.specs.Spelling.{Word, IsWhite, IsRunByte, IsBracket, IsKnown, EndsRun, HaveWords, nothing, white, bracket, run}
-use Rattle.std.proofs.Common.{◌≡◌, ℕ, zero, suc, ◌+◌, ◌<◌, ◌≤◌, Bool, true, false, not, cond, List, [], ◌∷◌, ◌++◌, length, take, drop, max, option_map, Option, Some, None, refl, sym, ap, ◌∙◌, arith}
+use Rattle.std.proofs.Common.{◌≡◌, ℕ, suc, ◌<◌, Bool, true, false, not, List, [], ◌∷◌, ◌++◌, length, take, drop, max, option_map, Option, Some, None, refl, sym, ap, ◌∙◌, arith}
 use Rattle.std.specs.List.{prefix_len, onto_first, AllByRecursion}
 use Rattle.std.proofs.lemmas.Bool.Decides.{nat_tests}
-use Rattle.state_programs.specs.Bytes.{is_white, is_run, is_bracket, is_known}
+use Rattle.state_programs.specs.Bytes.{is_white, is_run, is_bracket}
 use Rattle.state_programs.specs.Words.{words, run_from}
 use Rattle.state_programs.specs.Statements.{word_at}
 use Rattle.state_programs.proofs.Positions.{position-here, position-later, not_true}
