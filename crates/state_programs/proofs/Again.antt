@@ -1,5 +1,5 @@
 -- What a text spells is what it says, and its first refusal is what it says too.
-use Rattle.std.proofs.Common.{◌≡◌, ◌≢◌, ℕ, zero, suc, ◌+◌, ◌<◌, ◌≤◌, ◌==◌, nat_lt, Bool, true, false, not, cond, find, List, [], ◌∷◌, ◌++◌, length, Option, Some, None, Result, Ok, Err, refl, sym, ap, subst, ◌∙◌, length-append, append_assoc, arith}
+use Rattle.std.proofs.Common.{◌≡◌, ◌≢◌, ℕ, suc, ◌+◌, ◌<◌, ◌≤◌, ◌==◌, nat_lt, true, false, find, List, [], ◌∷◌, ◌++◌, length, Some, None, Result, Ok, Err, refl, sym, ap, ◌∙◌, length-append, append_assoc, arith}
 use Rattle.std.specs.Prelude.{codes}
 use Rattle.std.specs.List.{AllByRecursion}
 use Rattle.std.proofs.lemmas.List.{append-nil}
@@ -12,12 +12,13 @@ use Rattle.state_programs.specs.declared.fault.SvfFault.{SvfFault}
 use Rattle.state_programs.specs.declared.program.Step.{Step}
 use Rattle.state_programs.specs.Programs.{Accepted}
 use Rattle.state_programs.specs.Bytes.{is_white, is_known}
-use Rattle.state_programs.specs.Words.{words}
-use Rattle.state_programs.specs.Statements.{piece_says, rest_fault}
-use Rattle.state_programs.specs.Reading.{Pieces, last, closed, with_byte, pieces_of, pieces_say, within_limit, step_of, is_unstable, settled, unless_unstable, text_says, unless_fault}
-use Rattle.state_programs.specs.Spelling.{IsWhite, IsKnown, IsForeign, IsBlank, Spells, Refuses, AreStatements, none, blank, statement, Begins, SpellsStates, RefusesForm, bad_byte, unclosed, misfit, past_limit, IsStable, steps_from, TextSpells, TextRefuses, too_long, bad_form, unstable}
-use Rattle.state_programs.proofs.Spelled.{known_inside, blank_known, all_weaker, white_is_known, piece_blank, piece_spelled, piece_refused, piece_foreign, rest_foreign, rest_blank, rest_unclosed}
-use Rattle.state_programs.proofs.PieceLaws.{IsInside, not_true, is_semi, with_bytes, pieces_of-front, pieces_of-other, pieces_of-closed, pieces_of-last}
+use Rattle.state_programs.specs.Statements.{piece_says}
+use Rattle.state_programs.specs.Reading.{Pieces, last, closed, with_byte, pieces_of, pieces_say, within_limit, is_unstable, settled, text_says, unless_fault}
+use Rattle.state_programs.specs.Spelling.{IsWhite, IsKnown, IsForeign, IsBlank, Spells, AreStatements, none, blank, statement, Begins, SpellsStates, RefusesForm, bad_byte, unclosed, misfit, past_limit, IsStable, steps_from, TextSpells, TextRefuses, too_long, bad_form, unstable, step_of}
+use Rattle.state_programs.proofs.Spelled.{known_inside, blank_known, piece_blank, piece_spelled, piece_refused, piece_foreign, rest_foreign, rest_blank, rest_unclosed}
+use Rattle.state_programs.proofs.Positions.{not_true}
+use Rattle.state_programs.proofs.WordLaws.{HaveWords-known}
+use Rattle.state_programs.proofs.PieceLaws.{IsInside, is_semi, with_bytes, pieces_of-front, pieces_of-other, pieces_of-closed, pieces_of-last}
 use Rattle.state_programs.proofs.ReadLaws.{in_front, in_front-nil, regroup, pieces_say-closed, pieces_say-last}
 use Rattle.state_programs.proofs.Settling.{long_text, short_text, settled-fault, settled-steps}
 
@@ -56,6 +57,9 @@ all_append : {X : Type 0} (P : X → Type 0) (xs ys : List X) → AllByRecursion
 all_append P [] ys all more = more
 all_append P (x ∷ xs) ys all more = (all.0, all_append P xs ys all.1 more)
 
+spelled_known : (bytes : List ℕ) (s : State) → Spells bytes s → AllByRecursion IsKnown bytes
+spelled_known bytes s h = HaveWords-known bytes (h.command ∷ h.word ∷ []) h.words
+
 module _ (n place : ℕ) where
   blank_first : (bytes after : List ℕ) → IsBlank bytes → pieces_say n place (pieces_of (bytes ++ codes ";" ++ after)) ≡ pieces_say n (place + length bytes + 1) (pieces_of after)
   blank_first bytes after h =
@@ -65,7 +69,7 @@ module _ (n place : ℕ) where
   state_first : (front : List Step) (bytes after : List ℕ) (s : State) → Spells bytes s → n ≤ 200000
       → in_front front (pieces_say n place (pieces_of (bytes ++ codes ";" ++ after))) ≡ in_front (front ++ step_of n s ∷ []) (pieces_say (n + 1) (place + length bytes + 1) (pieces_of after))
   state_first front bytes after s h few =
-      ap (λ (p : Pieces). in_front front (pieces_say n place p)) (closed_pieces bytes after h.known)
+      ap (λ (p : Pieces). in_front front (pieces_say n place p)) (closed_pieces bytes after (spelled_known bytes s h))
       ∙ ap (in_front front) (pieces_say-closed n place bytes (pieces_of after) (Ok (Some s)) (ap (within_limit n) (piece_spelled place bytes s h) ∙ limit-within n s few))
       ∙ regroup front (step_of n s) (pieces_say (n + 1) (place + length bytes + 1) (pieces_of after))
 
@@ -83,7 +87,7 @@ module _ (n place : ℕ) where
       → pieces_say n place (pieces_of (front ++ b ∷ after)) ≡ Err (record { statement = n; code = BadByte (place + length front) })
   foreign_first front b after all h =
       ap (pieces_say n place) (pieces_of-front front (b ∷ after) (known_inside front all) ∙ ap (with_bytes front) (pieces_of-other b after (not_59 b h.1)))
-      ∙ foreign_in front b (pieces_of after) all h.0
+      ∙ foreign_in front b (pieces_of after) all (not_true (is_known b) h.0)
 
   unclosed_first : (gap : List ℕ) (b : ℕ) (after : List ℕ) → IsBlank gap → ¬ IsWhite b → AllByRecursion IsKnown (b ∷ after)
       → pieces_say n place (pieces_of (gap ++ b ∷ after)) ≡ Err (record { statement = n; code = Unclosed (place + length gap) })
@@ -157,17 +161,17 @@ refused_again text f (bad_byte before states front b after begins known foreign 
 refused_again text f (unclosed before states gap b after begins white word known is) =
     begun text before states (gap ++ b ∷ after) begins ∙ ap (in_front (steps_from 1 states)) (unclosed_first (1 + length states) (length before) gap b after white word known)
     ∙ same_fault states (Unclosed (length before + length gap)) f is
-refused_again text f (misfit before states bytes after c begins known refuses is) =
+refused_again text f (misfit before states bytes after ws c begins have refuses is) =
     begun text before states (bytes ++ codes ";" ++ after) begins
     ∙ ap (in_front (steps_from 1 states)) (
-    fault_first (1 + length states) (length before) bytes after c known
-    (ap (within_limit (1 + length states)) (piece_refused (length before) bytes c known refuses) ∙ limit-fault (1 + length states) c)
+    fault_first (1 + length states) (length before) bytes after c (HaveWords-known bytes ws have)
+    (ap (within_limit (1 + length states)) (piece_refused (length before) bytes ws c have refuses) ∙ limit-fault (1 + length states) c)
     )
     ∙ same_fault states c f is
 refused_again text f (past_limit before states bytes after s begins full spells is) =
     begun text before states (bytes ++ codes ";" ++ after) begins
     ∙ ap (in_front (steps_from 1 states)) (
-    fault_first (1 + length states) (length before) bytes after TooLarge spells.known
+    fault_first (1 + length states) (length before) bytes after TooLarge (spelled_known bytes s spells)
     (ap (within_limit (1 + length states)) (piece_spelled (length before) bytes s spells) ∙ limit-past (1 + length states) s (omega (arith, full)))
     )
     ∙ same_fault states TooLarge f is

@@ -1,11 +1,11 @@
 -- A text, cut at its first `;`.
-use Rattle.std.proofs.Common.{◌≡◌, ℕ, zero, suc, ◌+◌, ◌-◌, ◌<◌, ◌≤◌, ◌==◌, Bool, true, false, List, [], ◌∷◌, ◌++◌, length, take, drop, get_or, Option, Some, None, IfNone, refl, sym, ap, ◌∙◌, arith}
+use Rattle.std.proofs.Common.{◌≡◌, ℕ, suc, ◌+◌, ◌-◌, ◌<◌, ◌==◌, true, false, List, [], ◌∷◌, ◌++◌, length, take, drop, get_or, Option, Some, None, refl, sym, ap, ◌∙◌, arith}
 use Rattle.std.proofs.lemmas.Bool.Decides.{nat_tests}
-use Rattle.std.specs.Prelude.{MatchOption}
 use Rattle.std.specs.List.{AllByRecursion}
 use Rattle.std.proofs.lemmas.List.{append-nil, get_or-take, length-take-le, take_rest, drop-drop}
 use Rattle.std.proofs.Math.Seq.{split_at}
 use Rattle.memchr.specs.Find.{IsFirstByte, is_byte}
+use Rattle.state_programs.proofs.Positions.{not_true}
 use Rattle.state_programs.specs.Reading.{Pieces, last, closed, with_byte, pieces_of}
 
 -- a byte that closes nothing
@@ -51,10 +51,6 @@ pieces_of-last bytes all =
     ap pieces_of (sym (append-nil bytes)) ∙ pieces_of-front bytes [] all ∙ ap (with_bytes bytes) pieces_of-nil ∙ ap last (append-nil bytes)
 
 -- ---- by a search for the first `;`
-
-pub not_true : (b : Bool) → (b ≡ true → ⊥) → b ≡ false
-not_true true fails = absurd (fails refl)
-not_true false fails = refl
 
 pub is_semi : (c : ℕ) → (c == 59) ≡ true → c ≡ 59
 is_semi c h = grind (arith, nat_tests)

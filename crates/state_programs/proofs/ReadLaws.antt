@@ -1,5 +1,6 @@
 -- The steps of a text, one piece after another.
-use Rattle.std.proofs.Common.{◌≡◌, ℕ, suc, ◌+◌, ◌-◌, ◌<◌, ◌≤◌, nat_lt, Bool, true, false, cond, List, [], ◌∷◌, ◌++◌, length, Option, Some, None, Result, Ok, Err, refl, sym, ap, ◌∙◌, append_assoc, arith}
+use Rattle.state_programs.specs.Spelling.{step_of}
+use Rattle.std.proofs.Common.{◌≡◌, ℕ, ◌+◌, ◌-◌, ◌≤◌, nat_lt, Bool, true, false, cond, List, [], ◌∷◌, ◌++◌, length, Option, Some, None, Result, Ok, Err, refl, sym, ap, ◌∙◌, append_assoc, arith}
 use Rattle.std.proofs.lemmas.List.{append-nil}
 use Rattle.std.proofs.lemmas.Bool.Decides.{nat_tests}
 use Rattle.jt_tap.specs.declared.State.{State}
@@ -8,7 +9,7 @@ use Rattle.state_programs.specs.declared.fault.Code.TheVariants.{TooLarge}
 use Rattle.state_programs.specs.declared.fault.SvfFault.{SvfFault}
 use Rattle.state_programs.specs.declared.program.Step.{Step}
 use Rattle.state_programs.specs.Statements.{piece_says, rest_fault}
-use Rattle.state_programs.specs.Reading.{Pieces, last, closed, pieces_of, pieces_say, within_limit, step_of, with_step, then_says, unless_fault}
+use Rattle.state_programs.specs.Reading.{Pieces, last, closed, pieces_of, pieces_say, within_limit, with_step, then_says, unless_fault}
 
 -- steps that were read, before those that are read next
 abbrev pub in_front : List Step → Result (List Step) SvfFault → Result (List Step) SvfFault

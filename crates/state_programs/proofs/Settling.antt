@@ -1,13 +1,14 @@
 -- A program, of the steps of a text.
-use Rattle.std.proofs.Common.{◌≡◌, ◌≢◌, ℕ, ◌+◌, ◌<◌, ◌≤◌, nat_lt, Bool, true, false, not, cond, find, List, [], ◌∷◌, length, Option, Some, None, Result, Ok, Err, refl, sym, ap, ◌∙◌, arith}
+use Rattle.state_programs.specs.Spelling.{memory_fault}
+use Rattle.std.proofs.Common.{◌≡◌, ◌≢◌, ℕ, ◌<◌, ◌≤◌, nat_lt, Bool, true, false, not, cond, find, List, [], ◌∷◌, length, Option, Some, None, Ok, Err, refl, sym, ap, ◌∙◌, arith}
 use Rattle.std.proofs.lemmas.Bool.Decides.{nat_tests}
 use Rattle.state_programs.specs.declared.fault.Code.TheVariants.{BadState, TooLarge}
 use Rattle.state_programs.specs.declared.fault.SvfFault.{SvfFault}
 use Rattle.state_programs.specs.declared.program.Step.{Step}
 use Rattle.state_programs.specs.declared.program.Action.{Action}
 use Rattle.state_programs.specs.declared.program.Action.TheVariants.{Go}
-use Rattle.state_programs.specs.Programs.{Accepted, GoesToStable, AllGoToStable}
-use Rattle.state_programs.specs.Reading.{pieces_of, pieces_say, is_unstable, goes_to_stable, unless_unstable, settled, text_says, steps_of, memory_fault, Answers}
+use Rattle.state_programs.specs.Programs.{GoesToStable, AllGoToStable}
+use Rattle.state_programs.specs.Reading.{pieces_of, pieces_say, is_unstable, goes_to_stable, unless_unstable, settled, text_says}
 
 is_above : (a b : ℕ) → a < b → nat_lt a b ≡ true
 is_above a b h = grind (arith, nat_tests)

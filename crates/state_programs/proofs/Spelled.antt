@@ -1,23 +1,22 @@
 -- What bytes say that spell a statement, or have a refusal.
-use Rattle.std.proofs.Common.{◌≡◌, ◌≢◌, ℕ, zero, suc, ◌+◌, ◌<◌, ◌≤◌, ◌==◌, ◌&&◌, nat_lt, Bool, true, false, not, cond, List, [], ◌∷◌, ◌++◌, length, map, option_map, IfSome, Option, Some, None, Result, Ok, Err, refl, sym, ap, subst, ◌∙◌, arith}
-use Rattle.std.specs.Prelude.{codes, Any, is_some}
-use Rattle.std.specs.List.{AllByRecursion, list_all, list_any}
+use Rattle.std.proofs.Common.{◌≡◌, ℕ, ◌+◌, ◌==◌, ◌&&◌, Bool, true, false, not, cond, List, [], ◌∷◌, ◌++◌, length, IfSome, Option, Some, None, Result, Ok, Err, refl, ap, subst, ◌∙◌, arith}
+use Rattle.std.specs.Prelude.{codes, is_some}
+use Rattle.std.specs.List.{AllByRecursion, list_all}
 use Rattle.std.specs.Bool.{Decides}
-use Rattle.std.proofs.lemmas.Bool.Decides.{nat_tests}
 use Rattle.std.proofs.lemmas.Slice.Eq.{bytes_eq-Decides}
 use Rattle.std.proofs.lemmas.List.Folds.{Any-from_list_any, list_any-from_Any}
 use Rattle.jt_tap.specs.declared.State.{State}
 use Rattle.jt_tap.specs.Words.{IsWordOf}
 use Rattle.state_programs.specs.declared.fault.Code.{Code}
-use Rattle.state_programs.specs.declared.fault.Code.TheVariants.{BadByte, Unclosed, UnknownCommand, BadForm, Unsupported, TooLarge}
+use Rattle.state_programs.specs.declared.fault.Code.TheVariants.{BadByte, Unclosed, UnknownCommand, BadForm, Unsupported}
 use Rattle.state_programs.specs.Bytes.{is_white, is_known}
-use Rattle.state_programs.specs.Words.{Word, words, reads}
-use Rattle.state_programs.specs.Statements.{commands, is_command, state_of, is_state, states_say, statement_says, words_say, some_state, foreign_at, word_at, piece_says, unless_foreign, rest_fault, or_foreign, unless_word, or_refuse}
-use Rattle.state_programs.specs.Spelling.{IsWhite, IsKnown, IsBlank, Reads, IsCommand, IsStateWord, AreStateWords, Spells, Refuses, no_command, no_state, no_state_words, path, other_command}
-use Rattle.state_programs.proofs.Positions.{Fails, position_none, position_at}
+use Rattle.state_programs.specs.Words.{words, reads}
+use Rattle.state_programs.specs.Statements.{is_command, state_of, is_state, states_say, statement_says, words_say, some_state, foreign_at, word_at, piece_says, unless_foreign, rest_fault, or_foreign, unless_word, or_refuse}
+use Rattle.state_programs.specs.Spelling.{HaveWords, IsWhite, IsKnown, IsBlank, Reads, IsCommand, IsStateWord, AreStateWords, Spells, Refuses, no_command, no_state, no_state_words, path, other_command, Word, commands}
+use Rattle.state_programs.proofs.Positions.{Fails, position_none, position_at, not_true}
 use Rattle.state_programs.proofs.StateWords.{state_of-word, IfSome-state_of}
-use Rattle.state_programs.proofs.PieceLaws.{IsInside, not_true, is_semi}
-use Rattle.state_programs.proofs.WordLaws.{words-nil, words-white}
+use Rattle.state_programs.proofs.PieceLaws.{IsInside, is_semi}
+use Rattle.state_programs.proofs.WordLaws.{words-nil, words-white, HaveWords-words, HaveWords-known}
 
 pub all_weaker : {X : Type 0} (P Q : X → Type 0) → ((x : X) → P x → Q x) → (xs : List X) → AllByRecursion P xs → AllByRecursion Q xs
 all_weaker P Q f [] all = tt
@@ -177,10 +176,10 @@ piece_blank place bytes all = known_piece place bytes (blank_known bytes all) �
 
 pub piece_spelled : (place : ℕ) (bytes : List ℕ) (s : State) → Spells bytes s → piece_says place bytes ≡ Ok (Some s)
 piece_spelled place bytes s h =
-    known_piece place bytes h.known ∙ ap words_say h.two ∙ state_statement h.command (h.word ∷ []) h.reads ∙ ap some_state (one_state h.word s h.state)
+    known_piece place bytes (HaveWords-known bytes (h.command ∷ h.word ∷ []) h.words) ∙ ap words_say (HaveWords-words bytes (h.command ∷ h.word ∷ []) h.words) ∙ state_statement h.command (h.word ∷ []) h.reads ∙ ap some_state (one_state h.word s h.state)
 
-pub piece_refused : (place : ℕ) (bytes : List ℕ) (c : Code) → AllByRecursion IsKnown bytes → Refuses (words bytes) c → piece_says place bytes ≡ Err c
-piece_refused place bytes c all h = known_piece place bytes all ∙ words_refused (words bytes) c h
+pub piece_refused : (place : ℕ) (bytes : List ℕ) (ws : List Word) (c : Code) → HaveWords bytes ws → Refuses ws c → piece_says place bytes ≡ Err c
+piece_refused place bytes ws c have h = known_piece place bytes (HaveWords-known bytes ws have) ∙ ap words_say (HaveWords-words bytes ws have) ∙ words_refused ws c h
 
 pub piece_foreign : (place : ℕ) (front : List ℕ) (b : ℕ) (after : List ℕ) → AllByRecursion IsKnown front → is_known b ≡ false → piece_says place (front ++ b ∷ after) ≡ Err (BadByte (place + length front))
 unfolding piece_says

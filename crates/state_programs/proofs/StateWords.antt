@@ -1,4 +1,5 @@
 -- The state of a word, by a search of all states.
+use Rattle.state_programs.specs.Spelling.{Word}
 use Rattle.std.proofs.Common.{◌≡◌, ℕ, Bool, true, false, cond, List, [], ◌∷◌, map, find, IfSome, Option, Some, None, refl, sym, ap, ◌∙◌}
 use Rattle.std.specs.Bool.{Decides}
 use Rattle.std.proofs.lemmas.Slice.Eq.{bytes_eq-Decides}
@@ -7,7 +8,6 @@ use Rattle.std.specs.Str.{bytes_eq}
 use Rattle.jt_tap.specs.declared.State.{State}
 use Rattle.jt_tap.specs.declared.State.TheVariants.{Reset, Idle, DrSelect, DrCapture, DrShift, DrExit1, DrPause, DrExit2, DrUpdate, IrSelect, IrCapture, IrShift, IrExit1, IrPause, IrExit2, IrUpdate}
 use Rattle.jt_tap.specs.Words.{IsWordOf, reads, word}
-use Rattle.state_programs.specs.Words.{Word}
 use Rattle.state_programs.specs.Statements.{states, state_of}
 
 -- the search by a text in lower case

@@ -1,5 +1,5 @@
 -- Each text spells the program that it says, or has the refusal that it says.
-use Rattle.std.proofs.Common.{◌≡◌, ◌≢◌, ℕ, zero, suc, ◌+◌, ◌<◌, ◌≤◌, ◌==◌, nat_lt, Bool, true, false, not, cond, find, List, [], ◌∷◌, ◌++◌, length, Option, Some, None, Result, Ok, Err, refl, sym, ap, subst, ◌∙◌, length-append, append_assoc, ⊎_elim, arith}
+use Rattle.std.proofs.Common.{◌≡◌, ◌≢◌, ℕ, ◌+◌, ◌<◌, ◌≤◌, ◌==◌, nat_lt, Bool, true, false, not, cond, List, [], ◌∷◌, ◌++◌, length, Option, Some, None, Result, Ok, Err, refl, sym, ap, subst, ◌∙◌, length-append, append_assoc, ⊎_elim, arith}
 use Rattle.std.proofs.str.Laws.{order}
 use Rattle.std.specs.Prelude.{codes}
 use Rattle.std.specs.List.{AllByRecursion, list_all}
@@ -14,14 +14,14 @@ use Rattle.state_programs.specs.declared.fault.SvfFault.{SvfFault}
 use Rattle.state_programs.specs.declared.program.Step.{Step}
 use Rattle.state_programs.specs.Programs.{Accepted}
 use Rattle.state_programs.specs.Bytes.{is_white, is_known}
-use Rattle.state_programs.specs.Words.{Word, words, reads}
+use Rattle.state_programs.specs.Words.{words, reads}
 use Rattle.state_programs.specs.Statements.{is_command, is_state, state_of, or_refuse, states_say, statement_says, words_say, some_state, piece_says, rest_fault}
-use Rattle.state_programs.specs.Reading.{Pieces, last, closed, with_byte, pieces_of, pieces_say, within_limit, then_says, step_of, is_unstable, goes_to_stable, settled, unless_unstable, text_says, unless_fault}
-use Rattle.state_programs.specs.Spelling.{IsWhite, IsKnown, IsForeign, IsBlank, Reads, IsCommand, IsStateWord, AreStateWords, Spells, Refuses, no_command, no_state, no_state_words, path, other_command, AreStatements, none, blank, statement, Begins, SpellsStates, RefusesForm, bad_byte, unclosed, misfit, past_limit, IsStable, steps_from, TextSpells, TextRefuses, too_long, bad_form, unstable}
-use Rattle.state_programs.proofs.Positions.{Fails, Around, nowhere, somewhere, around}
-use Rattle.state_programs.proofs.Spelled.{all_weaker, Reads-reads, reads-Reads, command_known, known_command, known_states, states_known, state_word_of, nameless, known_piece, piece_foreign, piece_blank, rest_foreign, rest_blank, rest_unclosed, blank_known, word_at_some}
-use Rattle.state_programs.proofs.PieceLaws.{IsInside, not_true, is_semi, pieces_of-nil, pieces_of-semi, pieces_of-other}
-use Rattle.state_programs.proofs.WordLaws.{word_by}
+use Rattle.state_programs.specs.Reading.{Pieces, last, closed, with_byte, pieces_of, pieces_say, within_limit, then_says, settled, text_says, unless_fault}
+use Rattle.state_programs.specs.Spelling.{HaveWords, nothing, white, IsWhite, IsKnown, IsBlank, Reads, Spells, Refuses, no_command, no_state, no_state_words, path, other_command, none, blank, statement, Begins, SpellsStates, RefusesForm, bad_byte, unclosed, misfit, past_limit, IsStable, steps_from, TextSpells, TextRefuses, too_long, bad_form, unstable, Word, step_of}
+use Rattle.state_programs.proofs.Positions.{Fails, Around, nowhere, somewhere, around, not_true}
+use Rattle.state_programs.proofs.Spelled.{all_weaker, Reads-reads, reads-Reads, command_known, known_command, known_states, states_known, state_word_of, nameless, known_piece, piece_foreign, rest_foreign, rest_blank, rest_unclosed}
+use Rattle.state_programs.proofs.PieceLaws.{IsInside, is_semi, pieces_of-nil, pieces_of-semi, pieces_of-other}
+use Rattle.state_programs.proofs.WordLaws.{known-HaveWords}
 use Rattle.state_programs.proofs.ReadLaws.{in_front, in_front-nil, regroup, pieces_say-closed, pieces_say-last}
 use Rattle.state_programs.proofs.Again.{closing, place_behind, steps_from-push, limit-none, limit-fault, limit-within, limit-past, none_unstable, first_unstable, length-steps_from, numbered}
 use Rattle.state_programs.proofs.Settling.{long_text, short_text, settled-fault, settled-steps}
@@ -125,14 +125,9 @@ all_behind P (x ∷ xs) ys all = all_behind P xs ys all.1
 outside : (c : ℕ) → IsInside c → c ≢ 59
 outside c h e = let same : (c == 59) ≡ true = rw e refl in let none : true ≡ false = sym same ∙ h in cc
 
-no_words_by : (bytes : List ℕ) → Around visible bytes → words bytes ≡ [] → IsBlank bytes
-no_words_by _ (nowhere bytes all) h = white_all bytes all
-no_words_by _ (somewhere gap b after all passes) h =
-    let found = word_by (gap ++ b ∷ after) (Some (length gap)) (sym (word_at_some gap b after (white_all gap all) (from_not_true (is_white b) passes))) in
-    absurd (let e = sym h ∙ found.1 in cc)
-
-no_words : (bytes : List ℕ) → words bytes ≡ [] → IsBlank bytes
-no_words bytes h = no_words_by bytes (around visible bytes) h
+no_words : (bytes : List ℕ) → HaveWords bytes [] → IsBlank bytes
+no_words _ nothing = tt
+no_words _ (white c rest _ h later) = (h, no_words rest later)
 
 -- ---- what the form of a text says
 
@@ -166,18 +161,18 @@ module _ (text : List ℕ) where
 
     foreign_told : (front : List ℕ) (b : ℕ) (after : List ℕ) → Begins text before states (front ++ b ∷ after) → AllByRecursion IsKnown front → is_known b ≡ false → b ≢ 59
         → RefusesForm text (record { statement = n; code = BadByte (place + length front) })
-    foreign_told front b after begins known h other = bad_byte before states front b after begins known (h, other) (fault_is n (length states + 1) _ _ number (moved (length front)))
+    foreign_told front b after begins known h other = bad_byte before states front b after begins known ((λ is. let e : true ≡ false = sym is ∙ h in cc), other) (fault_is n (length states + 1) _ _ number (moved (length front)))
 
     -- the last piece
     open_told : (bytes : List ℕ) → Begins text before states bytes → AllByRecursion IsKnown bytes → Around visible bytes → Says (unless_fault n (rest_fault place bytes))
     open_told _ begins known (nowhere bytes all) =
-        let white = white_all bytes all in
-        rw (rest_blank place bytes white) (states, record { before = before; rest = bytes; begins = begins; blank = white }, append-nil (steps_from 1 states))
+        let all_white = white_all bytes all in
+        rw (rest_blank place bytes all_white) (states, record { before = before; rest = bytes; begins = begins; blank = all_white }, append-nil (steps_from 1 states))
     open_told _ begins known (somewhere gap b after all passes) =
-        let white = white_all gap all in
+        let all_white = white_all gap all in
         let dark : is_white b ≡ false = from_not_true (is_white b) passes in
-        rw (rest_unclosed place gap b after white dark known) (
-        unclosed before states gap b after begins white (λ is. let e : true ≡ false = sym is ∙ dark in cc) (all_behind IsKnown gap (b ∷ after) known)
+        rw (rest_unclosed place gap b after all_white dark known) (
+        unclosed before states gap b after begins all_white (λ is. let e : true ≡ false = sym is ∙ dark in cc) (all_behind IsKnown gap (b ∷ after) known)
         (fault_is n (length states + 1) _ _ number (ap (λ (k : ℕ). Unclosed (k + length gap)) stands))
         )
 
@@ -204,10 +199,10 @@ module _ (text : List ℕ) where
       closed_again bytes begins = again before states (bytes ++ 59 ∷ text_of later) (bytes ++ codes ";" ++ text_of later) begins (sym (closing bytes (text_of later)))
 
       blank_told : (bytes : List ℕ) → Begins text before states (bytes ++ 59 ∷ text_of later) → IsBlank bytes → Then bytes (Ok None)
-      blank_told bytes begins white =
+      blank_told bytes begins all_white =
           rw (limit-none n) (
           later_told (before ++ (bytes ++ codes ";")) states n (place + length bytes + 1)
-          (record { whole = whole_behind bytes begins.whole; statements = blank before bytes states begins.statements white; within_limit = begins.within_limit }) number (behind bytes)
+          (record { whole = whole_behind bytes begins.whole; statements = blank before bytes states begins.statements all_white; within_limit = begins.within_limit }) number (behind bytes)
           )
 
       more_told : (bytes : List ℕ) (s : State) → Begins text before states (bytes ++ 59 ∷ text_of later) → Spells bytes s → n ≤ 200000 → Then bytes (Ok (Some s))
@@ -236,24 +231,24 @@ module _ (text : List ℕ) where
       state_told bytes s true is begins spells = past_told bytes s begins spells (grind (arith, nat_tests))
       state_told bytes s false is begins spells = more_told bytes s begins spells (grind (arith, nat_tests))
 
-      misfit_told : (bytes : List ℕ) (c : Code) → Begins text before states (bytes ++ 59 ∷ text_of later) → AllByRecursion IsKnown bytes → Refuses (words bytes) c → Then bytes (Err c)
-      misfit_told bytes c begins known refuses =
-          rw (limit-fault n c) (misfit before states bytes (text_of later) c (closed_again bytes begins) known refuses (fault_is n (length states + 1) c c number refl))
+      misfit_told : (bytes : List ℕ) (ws : List Word) (c : Code) → Begins text before states (bytes ++ 59 ∷ text_of later) → HaveWords bytes ws → Refuses ws c → Then bytes (Err c)
+      misfit_told bytes ws c begins have refuses =
+          rw (limit-fault n c) (misfit before states bytes (text_of later) ws c (closed_again bytes begins) have refuses (fault_is n (length states + 1) c c number refl))
 
-      statement_told : (bytes : List ℕ) (command : Word) (ws : List Word) (r : Result State Code) → words bytes ≡ command ∷ ws → Begins text before states (bytes ++ 59 ∷ text_of later) → AllByRecursion IsKnown bytes
+      statement_told : (bytes : List ℕ) (command : Word) (ws : List Word) (r : Result State Code) → HaveWords bytes (command ∷ ws) → Begins text before states (bytes ++ 59 ∷ text_of later)
           → Said (command ∷ ws) r → Then bytes (some_state r)
-      statement_told bytes command ws (Err c) is begins known said = misfit_told bytes c begins known (subst (λ (xs : List Word). Refuses xs c) (sym is) said)
-      statement_told bytes command ws (Ok s) is begins known said =
-          state_told bytes s (nat_lt 200000 n) refl begins (record { known = known; command = said.0; word = said.1; two = is ∙ said.2; reads = said.3; state = said.4 })
+      statement_told bytes command ws (Err c) have begins said = misfit_told bytes (command ∷ ws) c begins have said
+      statement_told bytes command ws (Ok s) have begins said =
+          state_told bytes s (nat_lt 200000 n) refl begins (record { command = said.0; word = said.1; words = subst (HaveWords bytes) said.2 have; reads = said.3; state = said.4 })
 
-      words_told : (bytes : List ℕ) (ws : List Word) → words bytes ≡ ws → Begins text before states (bytes ++ 59 ∷ text_of later) → AllByRecursion IsKnown bytes → Then bytes (words_say ws)
+      words_told : (bytes : List ℕ) (ws : List Word) → HaveWords bytes ws → Begins text before states (bytes ++ 59 ∷ text_of later) → Then bytes (words_say ws)
       unfolding words_say
-      words_told bytes [] is begins known = blank_told bytes begins (no_words bytes is)
-      words_told bytes (command ∷ ws) is begins known = statement_told bytes command ws (statement_says command ws) is begins known (statement_said command ws)
+      words_told bytes [] have begins = blank_told bytes begins (no_words bytes have)
+      words_told bytes (command ∷ ws) have begins = statement_told bytes command ws (statement_says command ws) have begins (statement_said command ws)
 
       piece_told : (bytes : List ℕ) → Begins text before states (bytes ++ 59 ∷ text_of later) → AllByRecursion IsInside bytes → Around foreign bytes → Then bytes (piece_says place bytes)
       piece_told _ begins inside (nowhere bytes all) =
-          let known = known_all bytes all in rw (known_piece place bytes known) (words_told bytes (words bytes) refl begins known)
+          let known = known_all bytes all in rw (known_piece place bytes known) (words_told bytes (words bytes) (known-HaveWords bytes known) begins)
       piece_told _ begins inside (somewhere front b after all passes) =
           let strange : is_known b ≡ false = from_not_true (is_known b) passes in
           let known = known_all front all in

@@ -1,11 +1,12 @@
 -- The first word of bytes.
-use Rattle.std.proofs.Common.{◌≡◌, ℕ, zero, suc, ◌+◌, ◌<◌, ◌≤◌, Bool, true, false, not, cond, List, [], ◌∷◌, ◌++◌, length, take, drop, max, option_map, Option, Some, None, refl, sym, ap, ◌∙◌, arith}
-use Rattle.std.specs.List.{prefix_len, onto_first}
+use Rattle.state_programs.specs.Spelling.{Word, IsWhite, IsRunByte, IsBracket, IsKnown, EndsRun, HaveWords, nothing, white, bracket, run}
+use Rattle.std.proofs.Common.{◌≡◌, ℕ, suc, ◌<◌, Bool, true, false, not, List, [], ◌∷◌, ◌++◌, length, take, drop, max, option_map, Option, Some, None, refl, sym, ap, ◌∙◌, arith}
+use Rattle.std.specs.List.{prefix_len, onto_first, AllByRecursion}
 use Rattle.std.proofs.lemmas.Bool.Decides.{nat_tests}
-use Rattle.state_programs.specs.Bytes.{is_white, is_run}
-use Rattle.state_programs.specs.Words.{Word, words, run_from}
+use Rattle.state_programs.specs.Bytes.{is_white, is_run, is_bracket}
+use Rattle.state_programs.specs.Words.{words, run_from}
 use Rattle.state_programs.specs.Statements.{word_at}
-use Rattle.state_programs.proofs.Positions.{position-here, position-later}
+use Rattle.state_programs.proofs.Positions.{position-here, position-later, not_true}
 
 pub run_is_no_white : (c : ℕ) → is_run c ≡ true → is_white c ≡ false
 run_is_no_white c h = grind (arith, nat_tests)
@@ -72,10 +73,10 @@ front_cut : (c : ℕ) (cs : List ℕ) → is_white c ≡ false → words (c ∷ 
 front_cut c cs h = by_kind (is_run c) refl
   where
     by_kind : (b : Bool) → is_run c ≡ b → words (c ∷ cs) ≡ cut_word (front_len (c ∷ cs)) (c ∷ cs)
-    by_kind true run =
-        run_cut c cs run ∙ ap (λ (n : ℕ). cut_word n (c ∷ cs)) (one_more c cs run ∙ sym (ap (λ (n : ℕ). max n 1) (one_more c cs run) ∙ at_least_one (prefix_len is_run cs)))
-    by_kind false run =
-        words-bracket c cs h run ∙ sym (ap (λ (n : ℕ). cut_word (max n 1) (c ∷ cs)) (no_more c cs run))
+    by_kind true is =
+        run_cut c cs is ∙ ap (λ (n : ℕ). cut_word n (c ∷ cs)) (one_more c cs is ∙ sym (ap (λ (n : ℕ). max n 1) (one_more c cs is) ∙ at_least_one (prefix_len is_run cs)))
+    by_kind false is =
+        words-bracket c cs h is ∙ sym (ap (λ (n : ℕ). cut_word (max n 1) (c ∷ cs)) (no_more c cs is))
 
 word_at-white : (c : ℕ) (cs : List ℕ) → is_white c ≡ true → word_at (c ∷ cs) ≡ option_map suc (word_at cs)
 unfolding word_at
@@ -115,3 +116,79 @@ pub next_is : (cs from word rest : List ℕ) (k n : ℕ) → Some k ≡ word_at 
 next_is cs from word rest k n at back len front behind =
     (word_by cs (Some k) at).1 ∙ ap (λ (text : List ℕ). cut_word (front_len text) text) (sym back) ∙ ap (λ (m : ℕ). cut_word m from) (sym len)
     ∙ ap (λ (w : List ℕ). w ∷ words (drop n from)) (sym front) ∙ ap (λ (text : List ℕ). word ∷ words text) (sym behind)
+
+-- ---- the words that bytes have
+
+none_runs : (c : ℕ) (rest : List ℕ) → EndsRun rest → run_from c rest (words rest) ≡ (c ∷ []) ∷ words rest
+none_runs c [] ends = refl
+none_runs c (d ∷ rest) ends = stands_alone c d rest (words (d ∷ rest)) (not_true (is_run d) ends)
+
+run_words : (c : ℕ) (cs rest : List ℕ) → AllByRecursion IsRunByte (c ∷ cs) → EndsRun rest → words (c ∷ cs ++ rest) ≡ (c ∷ cs) ∷ words rest
+run_words c [] rest all ends = words-run c rest all.0 ∙ none_runs c rest ends
+run_words c (d ∷ ds) rest all ends =
+    words-run c (d ∷ ds ++ rest) all.0 ∙ joins c d (ds ++ rest) (words (d ∷ ds ++ rest)) all.1.0 ∙ ap (onto_first c) (run_words d ds rest all.1 ends)
+
+whole_run : (bytes rest : List ℕ) → 0 < length bytes → AllByRecursion IsRunByte bytes → EndsRun rest → words (bytes ++ rest) ≡ bytes ∷ words rest
+whole_run [] rest some all ends = absurd (omega arith)
+whole_run (c ∷ cs) rest some all ends = run_words c cs rest all ends
+
+bracket_alone : (c : ℕ) → IsBracket c → (is_white c ≡ false) × (is_run c ≡ false)
+bracket_alone c h = (grind (arith, nat_tests), grind (arith, nat_tests))
+
+pub HaveWords-words : (bytes : List ℕ) (ws : List Word) → HaveWords bytes ws → words bytes ≡ ws
+HaveWords-words _ _ nothing = words-nil
+HaveWords-words _ _ (white c rest ws h later) = words-white c rest h ∙ HaveWords-words rest ws later
+HaveWords-words _ _ (bracket c rest ws h later) =
+    let alone = bracket_alone c h in words-bracket c rest alone.0 alone.1 ∙ ap (λ (xs : List Word). (c ∷ []) ∷ xs) (HaveWords-words rest ws later)
+HaveWords-words _ _ (run bytes rest ws some all ends later) = whole_run bytes rest some all ends ∙ ap (λ (xs : List Word). bytes ∷ xs) (HaveWords-words rest ws later)
+
+known_white : (c : ℕ) → IsWhite c → IsKnown c
+known_white c h = let is : is_white c ≡ true = h in rw is refl
+
+known_run : (c : ℕ) → IsRunByte c → IsKnown c
+known_run c h = let is : is_run c ≡ true = h in let other : is_white c ≡ false = run_is_no_white c is in rw (other, is) refl
+
+known_bracket : (c : ℕ) → IsBracket c → IsKnown c
+known_bracket c h = let is : is_bracket c ≡ true = h in let alone = bracket_alone c h in rw (alone.0, alone.1, is) refl
+
+known_before : (bytes rest : List ℕ) → AllByRecursion IsRunByte bytes → AllByRecursion IsKnown rest → AllByRecursion IsKnown (bytes ++ rest)
+known_before [] rest all later = later
+known_before (c ∷ bytes) rest all later = (known_run c all.0, known_before bytes rest all.1 later)
+
+pub HaveWords-known : (bytes : List ℕ) (ws : List Word) → HaveWords bytes ws → AllByRecursion IsKnown bytes
+HaveWords-known _ _ nothing = tt
+HaveWords-known _ _ (white c rest ws h later) = (known_white c h, HaveWords-known rest ws later)
+HaveWords-known _ _ (bracket c rest ws h later) = (known_bracket c h, HaveWords-known rest ws later)
+HaveWords-known _ _ (run bytes rest ws some all ends later) = known_before bytes rest all (HaveWords-known rest ws later)
+
+-- a byte of a run before bytes that have words
+white_is_no_run : (c : ℕ) → IsWhite c → is_run c ≡ false
+white_is_no_run c h = grind (arith, nat_tests)
+
+alone : (c d : ℕ) (rest : List ℕ) (ws : List Word) → IsRunByte c → is_run d ≡ false → HaveWords (d ∷ rest) ws → HaveWords (c ∷ d ∷ rest) (run_from c (d ∷ rest) ws)
+alone c d rest ws h other later =
+    rw (stands_alone c d rest ws other) (run (c ∷ []) (d ∷ rest) ws (omega arith) (h, tt) (λ is. let e : true ≡ false = sym is ∙ other in cc) later)
+
+longer : (c : ℕ) (bytes rest : List ℕ) (ws : List Word) → IsRunByte c → 0 < length bytes → AllByRecursion IsRunByte bytes → EndsRun rest → HaveWords rest ws
+    → HaveWords (c ∷ bytes ++ rest) (run_from c (bytes ++ rest) (bytes ∷ ws))
+longer c [] rest ws h some all ends later = absurd (omega arith)
+longer c (d ∷ bytes) rest ws h some all ends later =
+    rw (joins c d (bytes ++ rest) ((d ∷ bytes) ∷ ws) all.0) (run (c ∷ d ∷ bytes) rest ws (omega arith) (h, all) ends later)
+
+run_before : (c : ℕ) (rest : List ℕ) (ws : List Word) → IsRunByte c → HaveWords rest ws → HaveWords (c ∷ rest) (run_from c rest ws)
+run_before c _ _ h nothing = run (c ∷ []) [] [] (omega arith) (h, tt) tt nothing
+run_before c _ _ h (white d rest ws is later) = alone c d rest ws h (white_is_no_run d is) (white d rest ws is later)
+run_before c _ _ h (bracket d rest ws is later) = alone c d rest ((d ∷ []) ∷ ws) h (bracket_alone d is).1 (bracket d rest ws is later)
+run_before c _ _ h (run bytes rest ws some all ends later) = longer c bytes rest ws h some all ends later
+
+remaining : (c : ℕ) → IsKnown c → is_white c ≡ false → is_run c ≡ false → IsBracket c
+remaining c h other none = let e = rw (other, none) at h in e
+
+known_byte : (c : ℕ) (rest : List ℕ) (is_w is_r : Bool) → is_white c ≡ is_w → is_run c ≡ is_r → IsKnown c → HaveWords rest (words rest) → HaveWords (c ∷ rest) (words (c ∷ rest))
+known_byte c rest true r w_is r_is h later = rw (words-white c rest w_is) (white c rest (words rest) w_is later)
+known_byte c rest false true w_is r_is h later = rw (words-run c rest r_is) (run_before c rest (words rest) r_is later)
+known_byte c rest false false w_is r_is h later = rw (words-bracket c rest w_is r_is) (bracket c rest (words rest) (remaining c h w_is r_is) later)
+
+pub known-HaveWords : (bytes : List ℕ) → AllByRecursion IsKnown bytes → HaveWords bytes (words bytes)
+known-HaveWords [] all = rw words-nil nothing
+known-HaveWords (c ∷ bytes) all = known_byte c bytes (is_white c) (is_run c) refl refl all.0 (known-HaveWords bytes all.1)

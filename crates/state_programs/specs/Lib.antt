@@ -1,4 +1,5 @@
 pub mod Bytes
+pub mod Laws
 pub mod Programs
 pub mod Reading
 pub mod Spelling

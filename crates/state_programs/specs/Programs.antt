@@ -1,7 +1,6 @@
 -- A program that was accepted.
 use Rattle.std.specs.Prelude.{◌≡◌, ℕ, List, true}
 use Rattle.std.specs.List.{AllByRecursion}
-use Rattle.jt_tap.specs.declared.State.{State}
 use Rattle.jt_tap.specs.Controller.{is_stable}
 use Rattle.state_programs.specs.declared.program.Step.{Step}
 use Rattle.state_programs.specs.declared.program.Action.{Action}

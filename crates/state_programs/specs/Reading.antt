@@ -1,23 +1,17 @@
--- What a whole text says: its program, or its first refusal.
-use Rattle.std.specs.Prelude.{◌≡◌, ◌≢◌, ℕ, ◌+◌, Bool, not, List, [], ◌∷◌, length, find, Option, Some, None, Result, Ok, Err, nat_lt, ◌==◌, if◌then◌else◌}
+-- What a whole text says, as a function: by law it is what `Spelling` tells.
+use Rattle.std.specs.Prelude.{ℕ, ◌+◌, Bool, not, List, [], ◌∷◌, length, find, Option, Some, None, Result, Ok, Err, nat_lt, ◌==◌, if◌then◌else◌}
 use Rattle.std.specs.Global.{Vec}
 use Rattle.jt_tap.specs.declared.State.{State}
 use Rattle.jt_tap.specs.Controller.{is_stable}
 use Rattle.state_programs.specs.declared.fault.Code.{Code}
-use Rattle.state_programs.specs.declared.fault.Code.TheVariants.{BadState, TooLarge, NoMemory}
+use Rattle.state_programs.specs.declared.fault.Code.TheVariants.{BadState, TooLarge}
 use Rattle.state_programs.specs.declared.fault.SvfFault.{SvfFault}
 use Rattle.state_programs.specs.declared.program.Step.{Step}
 use Rattle.state_programs.specs.declared.program.Action.{Action}
 use Rattle.state_programs.specs.declared.program.Action.TheVariants.{Go}
 use Rattle.state_programs.specs.Programs.{Accepted}
+use Rattle.state_programs.specs.Spelling.{text_limit, statement_limit, step_of}
 use Rattle.state_programs.specs.Statements.{piece_says, rest_fault}
-
--- a text has at most 16 MiB, and at most 200,000 statements
-abbrev pub text_limit : ℕ
-text_limit = 16777216
-
-abbrev pub statement_limit : ℕ
-statement_limit = 200000
 
 -- a text, cut at each `;`: pieces that a `;` closes, and the last, which none closes
 pub data Pieces : Type 0 where
@@ -31,10 +25,6 @@ with_byte c (closed bytes pieces) = closed (c ∷ bytes) pieces
 unfoldable pub pieces_of : List ℕ → Pieces
 pieces_of [] = last []
 pieces_of (c ∷ cs) = if c == 59 then closed [] (pieces_of cs) else with_byte c (pieces_of cs)
-
--- the step of a statement
-abbrev pub step_of : ℕ → State → Step
-step_of number s = record { number = number; what = Go s }
 
 -- a statement past the limit is refused, unless it has a lower refusal of its own
 unfoldable pub within_limit : ℕ → Result (Option State) Code → Result (Option State) Code
@@ -83,16 +73,7 @@ unfoldable pub text_says : List ℕ → Result Accepted SvfFault
 text_says text =
     if nat_lt text_limit (length text) then Err (record { statement = 0; code = TooLarge }) else settled (pieces_say 1 0 (pieces_of text))
 
--- want of memory, which may come at any point
-abbrev pub memory_fault : SvfFault
-memory_fault = record { statement = 0; code = NoMemory }
-
 -- what was read, without where it lies in memory
 abbrev pub steps_of : Result (Vec Step) SvfFault → Result (List Step) SvfFault
 steps_of (Ok v) = Ok v.items
 steps_of (Err f) = Err f
-
--- what was answered is this, unless memory ran out
-abbrev pub Answers : {A : Type 0} → Result A SvfFault → Result A SvfFault → Type 0
-Answers (Ok x) says = says ≡ Ok x
-Answers (Err f) says = f ≢ memory_fault → says ≡ Err f

@@ -1,35 +1,72 @@
 -- Which texts spell a program, and which refusal of a text comes first. Nothing here reads from left to right.
-use Rattle.std.specs.Prelude.{◌≡◌, ◌≢◌, ℕ, ◌+◌, ◌<◌, ◌≤◌, true, false, List, [], ◌∷◌, ◌++◌, length, map, codes, Any}
+use Rattle.std.specs.Prelude.{◌≡◌, ◌≢◌, ℕ, ◌+◌, ◌<◌, ◌≤◌, true, List, [], ◌∷◌, ◌++◌, length, map, codes, Any, Result, Ok, Err}
 use Rattle.std.specs.List.{AllByRecursion}
 use Rattle.std.specs.Char.{to_ascii_lowercase}
 use Rattle.jt_tap.specs.declared.State.{State}
 use Rattle.jt_tap.specs.Controller.{is_stable}
 use Rattle.jt_tap.specs.Words.{IsWordOf}
 use Rattle.state_programs.specs.declared.fault.Code.{Code}
-use Rattle.state_programs.specs.declared.fault.Code.TheVariants.{BadByte, Unclosed, UnknownCommand, BadForm, BadState, Unsupported, TooLarge}
+use Rattle.state_programs.specs.declared.fault.Code.TheVariants.{BadByte, Unclosed, UnknownCommand, BadForm, BadState, Unsupported, TooLarge, NoMemory}
 use Rattle.state_programs.specs.declared.fault.SvfFault.{SvfFault}
 use Rattle.state_programs.specs.declared.program.Step.{Step}
+use Rattle.state_programs.specs.declared.program.Action.TheVariants.{Go}
 use Rattle.state_programs.specs.Programs.{Accepted}
-use Rattle.state_programs.specs.Bytes.{is_white, is_known}
-use Rattle.state_programs.specs.Words.{Word, words}
-use Rattle.state_programs.specs.Statements.{commands}
-use Rattle.state_programs.specs.Reading.{text_limit, statement_limit, step_of}
+use Rattle.state_programs.specs.Bytes.{is_white, is_run, is_bracket, is_known}
 
--- ---- one statement
+-- ---- limits: 16 MiB, and 200,000 statements
+
+abbrev pub text_limit : ℕ
+text_limit = 16777216
+
+abbrev pub statement_limit : ℕ
+statement_limit = 200000
+
+-- ---- the words of bytes
 
 abbrev pub IsWhite : ℕ → Type 0
 IsWhite c = is_white c ≡ true
 
--- white space, a byte of a run, or a bracket
+abbrev pub IsRunByte : ℕ → Type 0
+IsRunByte c = is_run c ≡ true
+
+abbrev pub IsBracket : ℕ → Type 0
+IsBracket c = is_bracket c ≡ true
+
+-- one of these
 abbrev pub IsKnown : ℕ → Type 0
 IsKnown c = is_known c ≡ true
 
--- a byte that is none of these, and no `;`
+-- none of these, and no `;`
 abbrev pub IsForeign : ℕ → Type 0
-IsForeign c = (is_known c ≡ false) × (c ≢ 59)
+IsForeign c = ¬ IsKnown c × (c ≢ 59)
 
+-- bytes of white space alone
 abbrev pub IsBlank : List ℕ → Type 0
 IsBlank bytes = AllByRecursion IsWhite bytes
+
+-- before these bytes a run ends: they are none, or begin with a byte of no run
+abbrev pub EndsRun : List ℕ → Type 0
+EndsRun [] = Unit {0}
+EndsRun (c ∷ rest) = ¬ IsRunByte c
+
+abbrev pub Word : Type 0
+Word = List ℕ
+
+-- The bytes have these words in order, and white space besides. A word is a bracket, or a run, which goes on as far as
+-- bytes of a run go.
+pub data HaveWords : List ℕ → List Word → Type 0 where
+  nothing : HaveWords [] []
+  white : (c : ℕ) (rest : List ℕ) (ws : List Word) → IsWhite c → HaveWords rest ws → HaveWords (c ∷ rest) ws
+  bracket : (c : ℕ) (rest : List ℕ) (ws : List Word) → IsBracket c → HaveWords rest ws → HaveWords (c ∷ rest) ((c ∷ []) ∷ ws)
+  run : (bytes rest : List ℕ) (ws : List Word) → 0 < length bytes → AllByRecursion IsRunByte bytes → EndsRun rest → HaveWords rest ws → HaveWords (bytes ++ rest) (bytes ∷ ws)
+
+-- ---- one statement
+
+-- the commands of the Serial Vector Format
+abbrev pub commands : List (List ℕ)
+commands =
+    codes "ENDDR" ∷ codes "ENDIR" ∷ codes "FREQUENCY" ∷ codes "HDR" ∷ codes "HIR" ∷ codes "TDR" ∷ codes "TIR" ∷ codes "SDR"
+    ∷ codes "SIR" ∷ codes "RUNTEST" ∷ codes "STATE" ∷ codes "TRST" ∷ codes "PIO" ∷ codes "PIOMAP" ∷ []
 
 -- the word is this keyword, its letters in either case
 abbrev pub Reads : Word → List ℕ → Type 0
@@ -46,10 +83,9 @@ AreStateWords ws = AllByRecursion IsStateWord ws
 
 -- the bytes before a `;` spell a statement: `STATE` and this state's word
 pub record Spells (bytes : List ℕ) (s : State) : Type 0 where
-  pub known : AllByRecursion IsKnown bytes
   pub command : Word
   pub word : Word
-  pub two : words bytes ≡ command ∷ word ∷ []
+  pub words : HaveWords bytes (command ∷ word ∷ [])
   pub reads : Reads command (codes "STATE")
   pub state : IsWordOf s word
 
@@ -94,8 +130,8 @@ pub data RefusesForm (text : List ℕ) (fault : SvfFault) : Type 0 where
       → IsBlank gap → ¬ IsWhite byte → AllByRecursion IsKnown (byte ∷ after)
       → fault ≡ record { statement = length states + 1; code = Unclosed (length before + length gap) } → RefusesForm text fault
   -- words that do not fit
-  misfit : (before : List ℕ) (states : List State) (bytes after : List ℕ) (code : Code) → Begins text before states (bytes ++ codes ";" ++ after)
-      → AllByRecursion IsKnown bytes → Refuses (words bytes) code
+  misfit : (before : List ℕ) (states : List State) (bytes after : List ℕ) (ws : List Word) (code : Code) → Begins text before states (bytes ++ codes ";" ++ after)
+      → HaveWords bytes ws → Refuses ws code
       → fault ≡ record { statement = length states + 1; code = code } → RefusesForm text fault
   -- one more than the limit
   past_limit : (before : List ℕ) (states : List State) (bytes after : List ℕ) (s : State) → Begins text before states (bytes ++ codes ";" ++ after)
@@ -104,6 +140,10 @@ pub data RefusesForm (text : List ℕ) (fault : SvfFault) : Type 0 where
 
 abbrev pub IsStable : State → Type 0
 IsStable s = is_stable s ≡ true
+
+-- the step of a statement
+abbrev pub step_of : ℕ → State → Step
+step_of number s = record { number = number; what = Go s }
 
 -- the steps to these states, of statements that are numbered from `number` on
 abbrev pub steps_from : ℕ → List State → List Step
@@ -124,3 +164,14 @@ pub data TextRefuses (text : List ℕ) (fault : SvfFault) : Type 0 where
   bad_form : length text ≤ text_limit → RefusesForm text fault → TextRefuses text fault
   unstable : length text ≤ text_limit → (front : List State) (s : State) (after : List State) → SpellsStates text (front ++ s ∷ after) → AllByRecursion IsStable front → ¬ IsStable s
       → fault ≡ record { statement = length front + 1; code = BadState } → TextRefuses text fault
+
+-- ---- what is answered
+
+-- want of memory, which may come at any point
+abbrev pub memory_fault : SvfFault
+memory_fault = record { statement = 0; code = NoMemory }
+
+-- what was answered is this, unless memory ran out
+abbrev pub Answers : {A : Type 0} → Result A SvfFault → Result A SvfFault → Type 0
+Answers (Ok x) this = this ≡ Ok x
+Answers (Err f) this = f ≢ memory_fault → this ≡ Err f

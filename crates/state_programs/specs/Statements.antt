@@ -1,4 +1,4 @@
--- What the words of a statement say, and what the bytes before a `;` do.
+-- What the words of a statement say, and what the bytes before a `;` do, as functions.
 use Rattle.std.specs.Prelude.{ℕ, ◌+◌, Bool, not, List, [], ◌∷◌, codes, find, position, Option, Some, None, is_some, Result, Ok, Err, if◌then◌else◌}
 use Rattle.std.specs.List.{list_all, list_any}
 use Rattle.jt_tap.specs.declared.State.{State}
@@ -7,13 +7,8 @@ use Rattle.jt_tap.specs.Words as tap
 use Rattle.state_programs.specs.declared.fault.Code.{Code}
 use Rattle.state_programs.specs.declared.fault.Code.TheVariants.{BadByte, Unclosed, UnknownCommand, BadForm, Unsupported}
 use Rattle.state_programs.specs.Bytes.{is_white, is_known}
-use Rattle.state_programs.specs.Words.{Word, words, reads}
-
--- the commands of the Serial Vector Format
-abbrev pub commands : List (List ℕ)
-commands =
-    codes "ENDDR" ∷ codes "ENDIR" ∷ codes "FREQUENCY" ∷ codes "HDR" ∷ codes "HIR" ∷ codes "TDR" ∷ codes "TIR" ∷ codes "SDR"
-    ∷ codes "SIR" ∷ codes "RUNTEST" ∷ codes "STATE" ∷ codes "TRST" ∷ codes "PIO" ∷ codes "PIOMAP" ∷ []
+use Rattle.state_programs.specs.Words.{words, reads}
+use Rattle.state_programs.specs.Spelling.{Word, commands}
 
 unfoldable pub is_command : Word → Bool
 is_command w = list_any (reads w) commands

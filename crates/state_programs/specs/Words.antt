@@ -1,12 +1,10 @@
--- The words of a statement: its longest runs, and each bracket.
+-- The words of bytes, as a function: by law they are those of `Spelling`.
 use Rattle.std.specs.Prelude.{ℕ, Bool, List, [], ◌∷◌, map, if◌then◌else◌}
 use Rattle.std.specs.List.{onto_first}
 use Rattle.std.specs.Char.{to_ascii_lowercase}
 use Rattle.std.specs.Str.{bytes_eq}
 use Rattle.state_programs.specs.Bytes.{is_white, is_run}
-
-abbrev pub Word : Type 0
-Word = List ℕ
+use Rattle.state_programs.specs.Spelling.{Word}
 
 -- A byte of a run before these bytes, which have these words: it joins the run that goes on there, or is a run by itself.
 abbrev pub run_from : ℕ → List ℕ → List Word → List Word

@@ -2,10 +2,10 @@
 
 ghost use Rattle.std.specs.Prelude.{◌≡◌, ◌≢◌, ◌≤◌, ◌<◌, ◌+◌, ◌^◌, find, length, IfOk, IfErr, IfSome, MatchOption};
 ghost use Rattle.state_programs.specs.Reading as spec;
-ghost use Rattle.state_programs.specs.Reading.{Answers, memory_fault, steps_of, pieces_of};
+ghost use Rattle.state_programs.specs.Reading.{steps_of, pieces_of};
 ghost use Rattle.state_programs.specs.Statements.{piece_says};
 ghost use Rattle.state_programs.specs.Programs.{Accepted};
-ghost use Rattle.state_programs.specs.Spelling.{TextSpells, TextRefuses};
+ghost use Rattle.state_programs.specs.Spelling.{TextSpells, TextRefuses, Answers, memory_fault};
 
 use crate::fault::{Code, SvfFault};
 use crate::program::{Action, Program, Step};
