@@ -7,3 +7,4 @@ pub mod Buffers
 pub mod Moving
 pub mod Noting
 pub mod Told
+pub mod PlayLaws

@@ -5,7 +5,7 @@ use Rattle.byte_ends.specs.declared.counting.Broken.{Broken}
 use Rattle.state_programs.specs.declared.fault.Code.TheVariants.{NoMemory}
 use Rattle.state_programs.specs.declared.fault.SvfFault.{SvfFault}
 use Rattle.state_programs.specs.Programs.{Accepted}
-use Rattle.state_programs.specs.Reading.{memory_fault}
+use Rattle.state_programs.specs.Spelling.{memory_fault}
 use Rattle.jt_board.specs.Chain.{BoardState}
 use Rattle.jt_player.specs.Accepting.{program_of}
 use Rattle.jt_player.specs.DirectPlay.{MeansFromOpening}

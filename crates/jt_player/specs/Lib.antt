@@ -6,3 +6,4 @@ pub mod Sending
 pub mod Playing
 pub mod DirectPlay
 pub mod Running
+pub mod Laws

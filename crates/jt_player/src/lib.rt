@@ -2,6 +2,7 @@
 #![tactic(auto)]
 
 mod ending;
+mod laws;
 mod play;
 mod player;
 mod run;
@@ -9,6 +10,10 @@ mod source;
 
 pub use ending::Ending;
 pub use jt_board::{Board, BoardFault, Broken, Counted, Part, Reply, Snapshot, write_report};
+pub use laws::{
+    steps_ask_for_their_bits, the_empty_program_rests_every_board, the_full_play_is_both_ends,
+    the_player_grows_by_answers,
+};
 pub use play::{play_board, play_noted};
 pub use player::Player;
 pub use run::run_play;
