@@ -1,5 +1,5 @@
 -- A chain of bare devices, one device more at its TDI end.
-use Rattle.std.proofs.Common.{◌≡◌, ℕ, zero, suc, ◌+◌, List, [], ◌∷◌, ◌++◌, map, refl, sym, ap, ◌∙◌, arith}
+use Rattle.std.proofs.Common.{◌≡◌, ℕ, zero, suc, ◌+◌, List, [], ◌∷◌, ◌++◌, map, sym, ap, ◌∙◌, arith}
 use Rattle.jt_tap.specs.declared.State.TheVariants.{Reset}
 use Rattle.jt_board.specs.Bare.{bare_from, bare_member, bare_name}
 use Rattle.jt_board.specs.Chain.{ChipState}

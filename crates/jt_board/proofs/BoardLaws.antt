@@ -1,6 +1,6 @@
 -- The laws of the board, from those of cycles and paths.
 use Rattle.std.proofs.Common.{false, refl}
-use Rattle.jt_board.specs.Chain.{BoardState, told}
+use Rattle.jt_board.specs.Chain.{told}
 use Rattle.bitbang.specs.declared.Message.TheVariants.{Lines}
 use Rattle.jt_board.specs.Laws.{FiveOnesRest, OpeningRests, OpeningSettles, DefaultPathsSettleAndArrive}
 use Rattle.jt_board.proofs.Ones.{five-ones, opening-rests, reset_from_here}

@@ -1,5 +1,5 @@
 -- Registers of one and of two bits, all of them written.
-use Rattle.std.proofs.Common.{◌≡◌, ℕ, Bool, List, [], ◌∷◌, length, set, refl, arith}
+use Rattle.std.proofs.Common.{◌≡◌, Bool, List, [], ◌∷◌, length, set, refl, arith}
 
 pub set_one : (bits : List Bool) (a : Bool) → length bits ≡ 1 → set bits 0 a ≡ a ∷ []
 set_one [] a e = absurd (omega arith)

@@ -1,7 +1,7 @@
 -- The bare device, which has the smallest description that the standard allows, and the board of bare devices.
-use Rattle.std.specs.Prelude.{Bool, true, false, ℕ, zero, suc, List, [], ◌∷◌, ◌++◌, Some, None, codes, map}
+use Rattle.std.specs.Prelude.{true, false, ℕ, zero, suc, List, [], ◌∷◌, ◌++◌, Some, None, codes}
 use Rattle.std.specs.Fmt.{decimal}
-use Rattle.jt_board.specs.Device.{Name, PortBit, PortMode, In, Out, Internal, Opcode, Pattern, Device}
+use Rattle.jt_board.specs.Device.{Name, PortBit, PortMode, In, Out, Internal, Device}
 use Rattle.jt_board.specs.Cells.{Member, powered}
 use Rattle.jt_board.specs.Chain.{BoardState}
 use Rattle.jt_board.specs.Resting.{power_up, resting}

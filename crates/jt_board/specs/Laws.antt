@@ -1,5 +1,5 @@
 -- What the definitions promise of every chain: laws between the edge meaning and the register meaning.
-use Rattle.std.specs.Prelude.{◌≡◌, true, false, List, []}
+use Rattle.std.specs.Prelude.{◌≡◌, true, false, []}
 use Rattle.std.specs.List.{AllByRecursion}
 use Rattle.jt_tap.specs.declared.State.{State}
 use Rattle.jt_tap.specs.declared.State.TheVariants.{Reset}
@@ -8,7 +8,7 @@ use Rattle.jt_board.specs.Chain.{BoardState, Heard, hear, is_held}
 use Rattle.jt_board.specs.Whole.{AtRest, arrive, opened, settle}
 use Rattle.jt_board.specs.Steps.{Go}
 use Rattle.jt_board.specs.StepBytes.{closed, opening, resets_held, step_messages}
-use Rattle.jt_board.specs.Resting.{IsAtRest, resting}
+use Rattle.jt_board.specs.Resting.{resting}
 
 -- nothing was answered, and the board is at rest in m
 abbrev pub quietly_at : AtRest → Heard

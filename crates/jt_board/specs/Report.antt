@@ -1,5 +1,5 @@
 -- The report of a board: a line for each device, from the one nearest TDO on, and one for each named net.
-use Rattle.std.specs.Prelude.{Bool, true, false, ℕ, List, [], ◌∷◌, ◌++◌, map, reverse, flat_map, codes, Option, Some, None}
+use Rattle.std.specs.Prelude.{Bool, true, false, ℕ, List, ◌++◌, map, reverse, flat_map, codes, Option, Some, None}
 use Rattle.jt_tap.specs.Words.{word}
 use Rattle.jt_board.specs.Device.{Name}
 use Rattle.jt_board.specs.Instruction.{instruction}

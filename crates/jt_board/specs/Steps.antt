@@ -1,5 +1,5 @@
 -- The steps of a program and what they do to whole registers.
-use Rattle.std.specs.Prelude.{true, false, ℕ, List, [], ◌∷◌, map, Option, Some, None, if◌then◌else◌}
+use Rattle.std.specs.Prelude.{true, false, ℕ, List, map, Option, None, if◌then◌else◌}
 use Rattle.jt_tap.specs.declared.Column.{Column}
 use Rattle.jt_tap.specs.declared.Column.TheVariants.{Dr, Ir}
 use Rattle.jt_tap.specs.declared.State.{State}

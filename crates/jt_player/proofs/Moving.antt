@@ -2,11 +2,9 @@
 use Rattle.std.proofs.Common.{◌≡◌, Bool, true, false, ℕ, zero, suc, ◌+◌, List, [], ◌∷◌, ◌++◌, ◌≤◌, map, length, drop, refl, sym, ap, subst, ◌∙◌, arith, length-drop, Some}
 use Rattle.std.proofs.lemmas.List.{drop-drop}
 use Rattle.std.specs.Prelude.{if◌then◌else◌}
-use Rattle.std.specs.List.{AllByRecursion}
 use Rattle.jt_tap.specs.declared.State.{State}
 use Rattle.jt_tap.specs.declared.State.TheVariants.{Reset, Idle, DrPause, IrPause}
 use Rattle.jt_tap.specs.Controller.{is_stable}
-use Rattle.bitbang.specs.declared.Message.{Message}
 use Rattle.bitbang.specs.declared.Message.TheVariants.{Lines}
 use Rattle.bitbang.specs.Protocol.{encode}
 use Rattle.state_programs.specs.declared.program.Step.{Step}
@@ -22,16 +20,14 @@ use Rattle.jt_board.proofs.Low.{Free}
 use Rattle.jt_board.proofs.Moves.{go-law}
 use Rattle.jt_board.proofs.Ones.{opening-rests, reset_from_here}
 use Rattle.jt_board.proofs.Told.{after_all-encoded}
-use Rattle.jt_player.specs.declared.ending.Ending.{Ending}
 use Rattle.jt_player.specs.declared.ending.Ending.TheVariants.{Pass}
-use Rattle.jt_player.specs.Accepting.{meant_by, numbered, program_of}
-use Rattle.jt_player.specs.Programs.{Numbered, outcome}
+use Rattle.jt_player.specs.Accepting.{numbered}
 use Rattle.jt_player.specs.Play.{Turn, full_play, play, sent, step_turns, turns}
 use Rattle.jt_player.specs.Playing.{PlayerState, bytes_of, ended, has_bad_answer, waiting}
 use Rattle.jt_player.specs.Sending.{all_bytes}
 use Rattle.jt_player.specs.DirectPlay.{MeansFromOpening, MovesOnly, full_bytes}
-use Rattle.jt_player.proofs.Asks.{asks, asks-step, hear-asks, hear-full, sent-full, turns-ask}
-use Rattle.jt_player.proofs.Direct.{AllPlayed, IsPlayed, Same, program-law}
+use Rattle.jt_player.proofs.Asks.{asks-step, hear-asks, hear-full, sent-full, turns-ask}
+use Rattle.jt_player.proofs.Direct.{AllPlayed, IsPlayed, program-law}
 use Rattle.jt_player.proofs.Plain.{after_bytes, ended-over}
 
 released : (ms : List Member) → Free false ms

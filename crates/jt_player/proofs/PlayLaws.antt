@@ -1,5 +1,5 @@
 -- The laws of the play.
-use Rattle.std.proofs.Common.{◌≡◌, false, List, [], ◌∷◌, ◌++◌, map, refl, sym, ap, ◌∙◌}
+use Rattle.std.proofs.Common.{false, map, refl, sym, ap, ◌∙◌}
 use Rattle.std.proofs.lemmas.List.{map-append}
 use Rattle.bitbang.specs.declared.Message.TheVariants.{Lines}
 use Rattle.bitbang.specs.Protocol.{encode}

@@ -1,8 +1,8 @@
 -- What is left of a play is the end of all its bytes.
-use Rattle.std.proofs.Common.{◌≡◌, ℕ, suc, ◌+◌, ◌-◌, ◌≤◌, Bool, true, false, List, [], ◌∷◌, length, drop, refl, sym, ap, ◌∙◌, arith, drop-drop}
+use Rattle.std.proofs.Common.{◌≡◌, ℕ, ◌+◌, ◌-◌, ◌≤◌, Bool, true, List, ◌∷◌, length, drop, sym, ap, ◌∙◌, arith, drop-drop}
 use Rattle.state_programs.specs.declared.program.Step.{Step}
 use Rattle.jt_player.specs.declared.source.Source.{Source}
-use Rattle.jt_player.specs.Sending.{IsReady, IsWithin, all_bytes, count, given_of, left}
+use Rattle.jt_player.specs.Sending.{IsReady, IsWithin, all_bytes, given_of, left}
 
 -- one byte less is left
 pub record IsStep (all before after : List ℕ) : Type 0 where

@@ -1,5 +1,5 @@
 -- A run is one of the three that there are.
-use Rattle.std.proofs.Common.{◌≡◌, ◌≢◌, ℕ, ◌⊎◌, inl, inr, List, Result, Ok, Err, refl, sym, ap, subst, ◌∙◌}
+use Rattle.std.proofs.Common.{◌≡◌, ◌≢◌, ℕ, ◌⊎◌, inl, inr, List, Result, Ok, Err, refl, sym, ap, subst}
 use Rattle.std.specs.Prelude.{IfOk, OnOk}
 use Rattle.byte_ends.specs.declared.counting.Broken.{Broken}
 use Rattle.state_programs.specs.declared.fault.Code.TheVariants.{NoMemory}

@@ -1,5 +1,5 @@
 -- An accepted program, as the meaning sees it.
-use Rattle.std.specs.Prelude.{ℕ, List, map}
+use Rattle.std.specs.Prelude.{map}
 use Rattle.state_programs.specs.declared.program.Step as declared
 use Rattle.state_programs.specs.declared.program.Action.{Action}
 use Rattle.state_programs.specs.declared.program.Action.TheVariants as action

@@ -1,6 +1,6 @@
 -- The player between two calls: what it gave out and what it got determine what it may send, what is owed, and its end.
-use Rattle.std.specs.Prelude.{Bool, true, false, not, ◌||◌, ℕ, ◌-◌, ◌==◌, List, [], ◌∷◌, ◌++◌, map, length, take, drop, count_by, Option, None, is_some, if◌then◌else◌}
-use Rattle.std.specs.List.{find, list_any}
+use Rattle.std.specs.Prelude.{Bool, ◌||◌, ℕ, ◌-◌, ◌==◌, List, [], ◌∷◌, map, length, take, drop, count_by, Option, None, if◌then◌else◌}
+use Rattle.std.specs.List.{list_any}
 use Rattle.jt_player.specs.declared.ending.Ending.{Ending}
 use Rattle.jt_player.specs.Programs.{Program}
 use Rattle.jt_player.specs.Play.{Turn, ending_for, is_bad, player, turns}

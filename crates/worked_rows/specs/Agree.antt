@@ -4,12 +4,9 @@ use Rattle.jt_tap.specs.declared.State.{State}
 use Rattle.jt_tap.specs.declared.State.TheVariants.{Reset, Idle, DrPause, IrPause}
 use Rattle.jt_board.specs.Registers.{Registers, UserRegister}
 use Rattle.bitbang.specs.Protocol.{encode}
-use Rattle.jt_board.specs.Chain.{BoardState, ChipState, after, members, hear}
+use Rattle.jt_board.specs.Chain.{BoardState, ChipState}
 use Rattle.jt_board.specs.Whole.{AtRest, opened}
-use Rattle.jt_board.specs.Resting.{resting, power_up}
-use Rattle.jt_board.specs.StepBytes.{opening}
-use Rattle.jt_board.specs.Cells.{Member}
-use Rattle.jt_board.specs.Nets.{Net, Level, level}
+use Rattle.jt_board.specs.Resting.{resting}
 use Rattle.jt_player.specs.Programs.{Numbered, Outcome, outcome}
 use Rattle.jt_player.specs.declared.ending.Ending.{Ending}
 use Rattle.jt_player.specs.Play.{Played, full_play, turns}

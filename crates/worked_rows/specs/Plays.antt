@@ -1,5 +1,5 @@
 -- Worked rows, computed: the play by edges, the outcome by whole registers, and that they agree.
-use Rattle.std.proofs.Common.{◌≡◌, Bool, true, false, ℕ, List, [], ◌∷◌, refl, map, codes, length}
+use Rattle.std.proofs.Common.{◌≡◌, Bool, true, false, ℕ, List, [], ◌∷◌, map, codes, length}
 use Rattle.std.specs.Prelude.{Some, None}
 use Rattle.jt_tap.specs.declared.State.TheVariants.{Idle, DrSelect, DrCapture, DrShift, DrExit1, DrUpdate, DrPause, IrPause, Reset}
 use Rattle.jt_board.specs.Device.{Device}

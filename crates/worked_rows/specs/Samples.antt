@@ -3,7 +3,8 @@ use Rattle.std.specs.Prelude.{Bool, true, false, ℕ, zero, suc, ◌/◌, ◌%�
 use Rattle.jt_tap.specs.declared.Column.TheVariants.{Dr, Ir}
 use Rattle.jt_tap.specs.declared.State.{State}
 use Rattle.jt_tap.specs.declared.State.TheVariants.{Idle}
-use Rattle.jt_board.specs.Device.{Pattern, PortBit, In, Input, Output2, Output3, Control, Internal, Z, Cell, Opcode, AtUser, Access, Device}
+use Rattle.jt_board.specs.Bare.{bare}
+use Rattle.jt_board.specs.Device.{Pattern, PortBit, In, Input, Output2, Output3, Control, Z, Cell, Opcode, AtUser, Access, Device}
 use Rattle.jt_board.specs.Cells.{Member, powered}
 use Rattle.jt_board.specs.Nets.{Net, Pin, Pull}
 use Rattle.jt_board.specs.Whole.{AtRest}
@@ -70,19 +71,7 @@ kuc = device_with (rows_with (codes "LOAD")) q_cell (record { instruction = code
 
 -- the bare device
 abbrev pub p : Device
-p = record {
-  ports = port (codes "TDI") ∷ port (codes "TMS") ∷ port (codes "TCK") ∷ port (codes "TDO") ∷ [];
-  instruction_length = 2;
-  opcodes = opcode (codes "BYPASS") 3 ∷ opcode (codes "EXTEST") 0 ∷ [];
-  capture = bits 2 1;
-  idcode = None;
-  usercode = None;
-  cells = record { function = Internal; port = None; control = None } ∷ [];
-  private_names = [];
-  accesses = [];
-  users = [];
-  has_trst = false;
-}
+p = bare
 
 abbrev pub with_core : Device → ℕ → Member
 with_core d core = powered (codes "U") d (bits (length d.cells) core) false

@@ -1,5 +1,5 @@
 -- One chip by edges, and the rows of schedules.
-use Rattle.std.proofs.Common.{◌≡◌, Bool, true, false, ℕ, zero, suc, List, [], ◌∷◌, ◌++◌, refl, map, codes}
+use Rattle.std.proofs.Common.{◌≡◌, Bool, true, false, ℕ, zero, suc, List, [], ◌∷◌, ◌++◌, map, codes}
 use Rattle.std.specs.Prelude.{Option, Some, None, bytes_eq}
 use Rattle.jt_tap.specs.declared.State.TheVariants.{Reset, Idle, DrShift, IrPause, IrUpdate}
 use Rattle.bitbang.specs.declared.Message.{Message}

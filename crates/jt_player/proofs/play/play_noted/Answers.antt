@@ -1,4 +1,4 @@
-use Rattle.std.proofs.Common.{◌≡◌, ◌≢◌, ◌≤◌, ◌<◌, ℕ, [], ◌∷◌, ◌++◌, List, take, drop, length, Option, min, refl, sym, ap, subst, ◌∙◌, arith}
+use Rattle.std.proofs.Common.{◌≡◌, ◌≤◌, ℕ, [], ◌++◌, List, take, drop, length, refl, sym, ap, subst, ◌∙◌, arith}
 use Rattle.std.specs.Io.KnownBytes.{Appends}
 use Rattle.std.proofs.KnownBytes.{Appends-nil}
 use Rattle.std.specs.Prelude.{◌==◌}
@@ -6,13 +6,14 @@ use Rattle.std.proofs.lemmas.Bool.Decides.{Decides-eqb}
 use Rattle.std.proofs.lemmas.List.{take-append-drop}
 use Rattle.byte_ends.specs.Writes.{AppendsFront}
 use Rattle.byte_ends.specs.Counts.{CountedView}
-use Rattle.jt_board.specs.Chain.{BoardState, after_all}
+use Rattle.jt_board.specs.Chain.{after_all}
 use Rattle.jt_player.specs.declared.ending.Ending.{Ending}
-use Rattle.jt_player.specs.DirectPlay.{MeansFromOpening, MovesOnly, full_bytes}
+use Rattle.jt_player.specs.DirectPlay.{MeansFromOpening, full_bytes}
 use Rattle.jt_player.specs.Playing.{PlayerState, waiting}
 use Rattle.jt_player.proofs.Buffers.{filled_front, nothing_waits}
 use Rattle.jt_player.proofs.Moving.{IsDirect, direct-loop, waiting-more, after_all-append}
-use Rattle.jt_player.proofs.Noting.{on_true, IsNote, IsNoted, IsNoted-more, IsNoted-over, all-sent}
+use Rattle.jt_player.proofs.Noting.{on_true, IsNoted, IsNoted-more, IsNoted-over, all-sent}
+use Rattle.jt_player.proofs.play.play_noted.Given.{Over}
 use Rattle.jt_player.proofs.play.play_noted.Goals as goal
 
 pub loop-buffer-init : goal.loop-buffer-init
@@ -61,65 +62,41 @@ loop-buffer-preserved g c =
           });
     }
 
+-- nothing waits at the return
+none-left : (g : Over) (c : goal.After-drop-player-inside g) → waiting c.loop-buffer.player ≡ []
+none-left g c =
+    nothing_waits (waiting c.loop-buffer.player) c.next_piece-count.result (length c.loop-buffer.buffer) c.next_piece-count.ensures.count c.if-count-eq0.true (omega arith)
+
+-- so the play is direct play
+played : (g : Over) (c : goal.After-drop-player-inside g) → IsDirect c.args.player c.args.board.now c.loop-buffer.board
+played g c =
+    direct-loop c.args.player c.loop-buffer.player c.args.board.now c.loop-buffer.board (c.next_piece-count.ensures.moves (omega arith)) c.requires.fresh
+    c.loop-buffer.invariant.program c.loop-buffer.invariant.got c.loop-buffer.invariant.taken (none-left g c)
+
+-- and what was written is of its bytes
+noted : (g : Over) (c : goal.After-drop-player-inside g)
+    → IsNoted (g.W.Write.contents c.args.out.now.inner) (g.W.Write.contents c.loop-buffer.out.inner) (waiting c.args.player) [] c.loop-buffer.out.failures
+noted g c = IsNoted-over _ _ _ _ _ c.loop-buffer.invariant.note (none-left g c)
+
+sent : (g : Over) (c : goal.After-drop-player-inside g) → (noted g c).sent ≡ full_bytes c.args.player.program c.args.board.now
+sent g c = all-sent _ _ _ _ (noted g c) ∙ (played g c).bytes
+
 pub returns-then-count-eq0-clause-ending : goal.returns-then-count-eq0-clause-ending
-returns-then-count-eq0-clause-ending g c =
-    let old = c.loop-buffer.player in
-    let room : 0 < length c.loop-buffer.buffer = omega arith in
-    let none : waiting old ≡ [] =
-    nothing_waits (waiting old) c.next_piece-count.result (length c.loop-buffer.buffer) c.next_piece-count.ensures.count c.if-count-eq0.true room in
-    let played : IsDirect c.args.player c.args.board.now c.loop-buffer.board =
-    direct-loop c.args.player old c.args.board.now c.loop-buffer.board (c.next_piece-count.ensures.moves room) c.requires.fresh
-    c.loop-buffer.invariant.program c.loop-buffer.invariant.got c.loop-buffer.invariant.taken none in
-    c.verdict.ensures ∙ played.ending
+returns-then-count-eq0-clause-ending g c = c.verdict.ensures ∙ (played g c).ending
 
 pub returns-then-count-eq0-clause-board : goal.returns-then-count-eq0-clause-board
-returns-then-count-eq0-clause-board g c =
-    let old = c.loop-buffer.player in
-    let room : 0 < length c.loop-buffer.buffer = omega arith in
-    let none : waiting old ≡ [] =
-    nothing_waits (waiting old) c.next_piece-count.result (length c.loop-buffer.buffer) c.next_piece-count.ensures.count c.if-count-eq0.true room in
-    let played : IsDirect c.args.player c.args.board.now c.loop-buffer.board =
-    direct-loop c.args.player old c.args.board.now c.loop-buffer.board (c.next_piece-count.ensures.moves room) c.requires.fresh
-    c.loop-buffer.invariant.program c.loop-buffer.invariant.got c.loop-buffer.invariant.taken none in
-    played.board
+returns-then-count-eq0-clause-board g c = (played g c).board
 
 pub returns-then-count-eq0-clause-meaning : goal.returns-then-count-eq0-clause-meaning
 returns-then-count-eq0-clause-meaning g c =
-    let old = c.loop-buffer.player in
-    let room : 0 < length c.loop-buffer.buffer = omega arith in
-    let none : waiting old ≡ [] =
-    nothing_waits (waiting old) c.next_piece-count.result (length c.loop-buffer.buffer) c.next_piece-count.ensures.count c.if-count-eq0.true room in
-    let played : IsDirect c.args.player c.args.board.now c.loop-buffer.board =
-    direct-loop c.args.player old c.args.board.now c.loop-buffer.board (c.next_piece-count.ensures.moves room) c.requires.fresh
-    c.loop-buffer.invariant.program c.loop-buffer.invariant.got c.loop-buffer.invariant.taken none in
-    subst (λ (e : Ending). MeansFromOpening c.args.player.program c.args.board.now e c.loop-buffer.board) (sym c.verdict.ensures) played.meaning
+    subst (λ (e : Ending). MeansFromOpening c.args.player.program c.args.board.now e c.loop-buffer.board) (sym c.verdict.ensures) (played g c).meaning
 
 pub returns-then-count-eq0-clause-front : goal.returns-then-count-eq0-clause-front
 returns-then-count-eq0-clause-front g c =
-    let old = c.loop-buffer.player in
-    let room : 0 < length c.loop-buffer.buffer = omega arith in
-    let none : waiting old ≡ [] =
-    nothing_waits (waiting old) c.next_piece-count.result (length c.loop-buffer.buffer) c.next_piece-count.ensures.count c.if-count-eq0.true room in
-    let played : IsDirect c.args.player c.args.board.now c.loop-buffer.board =
-    direct-loop c.args.player old c.args.board.now c.loop-buffer.board (c.next_piece-count.ensures.moves room) c.requires.fresh
-    c.loop-buffer.invariant.program c.loop-buffer.invariant.got c.loop-buffer.invariant.taken none in
-    let noted : IsNoted (g.W.Write.contents c.args.out.now.inner) (g.W.Write.contents c.loop-buffer.out.inner) (waiting c.args.player) [] c.loop-buffer.out.failures =
-    IsNoted-over _ _ _ _ _ c.loop-buffer.invariant.note none in
-    let sent : noted.sent ≡ full_bytes c.args.player.program c.args.board.now = all-sent _ _ _ _ noted ∙ played.bytes in
-    subst (λ (l : List ℕ). AppendsFront (g.W.Write.contents c.args.out.now.inner) (g.W.Write.contents c.loop-buffer.out.inner) l) sent noted.front
+    subst (λ (l : List ℕ). AppendsFront (g.W.Write.contents c.args.out.now.inner) (g.W.Write.contents c.loop-buffer.out.inner) l) (sent g c) (noted g c).front
 
 pub returns-then-count-eq0-clause-whole : goal.returns-then-count-eq0-clause-whole
 returns-then-count-eq0-clause-whole g c =
-    let old = c.loop-buffer.player in
-    let room : 0 < length c.loop-buffer.buffer = omega arith in
-    let none : waiting old ≡ [] =
-    nothing_waits (waiting old) c.next_piece-count.result (length c.loop-buffer.buffer) c.next_piece-count.ensures.count c.if-count-eq0.true room in
-    let played : IsDirect c.args.player c.args.board.now c.loop-buffer.board =
-    direct-loop c.args.player old c.args.board.now c.loop-buffer.board (c.next_piece-count.ensures.moves room) c.requires.fresh
-    c.loop-buffer.invariant.program c.loop-buffer.invariant.got c.loop-buffer.invariant.taken none in
-    let noted : IsNoted (g.W.Write.contents c.args.out.now.inner) (g.W.Write.contents c.loop-buffer.out.inner) (waiting c.args.player) [] c.loop-buffer.out.failures =
-    IsNoted-over _ _ _ _ _ c.loop-buffer.invariant.note none in
-    let sent : noted.sent ≡ full_bytes c.args.player.program c.args.board.now = all-sent _ _ _ _ noted ∙ played.bytes in
     on_true (c.failures.result == 0) _ (λ zero.
     let none : c.loop-buffer.out.failures ≡ 0 = sym c.failures.ensures.value ∙ (Decides-eqb c.failures.result 0).0 zero in
-    subst (λ (l : List ℕ). Appends (g.W.Write.contents c.args.out.now.inner) (g.W.Write.contents c.loop-buffer.out.inner) l) sent (noted.whole none))
+    subst (λ (l : List ℕ). Appends (g.W.Write.contents c.args.out.now.inner) (g.W.Write.contents c.loop-buffer.out.inner) l) (sent g c) ((noted g c).whole none))

@@ -1,4 +1,4 @@
-use Rattle.std.proofs.Common.{◌≡◌, ◌+◌, ℕ, true, List, [], ◌∷◌, subst, sym, ap, ◌∙◌}
+use Rattle.std.proofs.Common.{◌≡◌, ◌+◌, true, List, [], ◌∷◌, subst, sym, ap, ◌∙◌}
 use Rattle.state_programs.specs.declared.program.Step.{Step}
 use Rattle.jt_player.specs.Accepting.{program_of}
 use Rattle.jt_player.specs.Playing.{PlayerState, waiting}

@@ -1,4 +1,4 @@
-use Rattle.std.proofs.Common.{◌≡◌, ◌+◌, ◌<◌, ℕ, [], ◌∷◌, length, ap, ◌∙◌, arith}
+use Rattle.std.proofs.Common.{◌≡◌, ◌+◌, ℕ, [], ◌∷◌, length, ap, ◌∙◌, arith}
 use Rattle.jt_player.specs.Playing.{PlayerState, waiting}
 use Rattle.jt_player.proofs.Buffers.{filled, none_left}
 use Rattle.jt_player.proofs.Moving.{MovesOnly-same}
