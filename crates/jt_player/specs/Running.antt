@@ -1,6 +1,7 @@
 -- A run of the player over a text: its exit status, and what it leaves.
-use Rattle.std.specs.Prelude.{◌≡◌, ℕ, List}
+use Rattle.std.specs.Prelude.{◌≡◌, Bool, true, false, ℕ, List, [], ◌++◌, codes}
 use Rattle.jt_board.specs.Chain.{BoardState}
+use Rattle.jt_board.specs.Report.{report}
 use Rattle.state_programs.specs.declared.fault.SvfFault.{SvfFault}
 use Rattle.state_programs.specs.Programs.{Accepted}
 use Rattle.state_programs.specs.Spelling.{TextSpells, TextRefuses}
@@ -8,7 +9,8 @@ use Rattle.jt_player.specs.declared.ending.Ending.{Ending}
 use Rattle.jt_player.specs.declared.ending.Ending.TheVariants.{Pass, Fail, Lost, BadAnswer}
 use Rattle.jt_player.specs.Accepting.{program_of}
 use Rattle.jt_player.specs.Play.{play}
-use Rattle.jt_player.specs.DirectPlay.{MeansFromOpening}
+use Rattle.jt_player.specs.DirectPlay.{MeansFromOpening, full_bytes}
+use Rattle.jt_player.specs.Programs.{Program}
 
 -- the exit status of an ending
 abbrev pub status_of : Ending → ℕ
@@ -17,10 +19,17 @@ status_of (Fail command part bit) = 1
 status_of (Lost command) = 3
 status_of (BadAnswer command byte) = 3
 
--- A run of a text on a board, with this status, leaves this board: an accepted text's program was played, with the ending
--- and the board of its meaning; or the text was refused; or memory ran out.
-pub data Runs (text : List ℕ) (before after : BoardState) : ℕ → Type 0 where
-  played : (program : Accepted) (ending : Ending) → TextSpells text program → ending ≡ (play (program_of program) before).ending
-      → after ≡ (play (program_of program) before).board → MeansFromOpening (program_of program) before ending after → Runs text before after (status_of ending)
-  refused : (fault : SvfFault) → TextRefuses text fault → after ≡ before → Runs text before after 2
-  no_memory : after ≡ before → Runs text before after 4
+-- what a play tells first: the bytes that were sent, where they are asked for
+abbrev pub note : Bool → Program → BoardState → List ℕ
+note true program before = codes "bytes " ++ full_bytes program before ++ codes "\n"
+note false program before = []
+
+-- A run of a text on a board, with this status, leaves this board and tells this much on its output: an accepted text's
+-- program was played, with the ending and the board of its meaning, and told of by its bytes, a line of the verdict and
+-- the board's report; or the text was refused; or memory ran out.
+pub data Runs (text : List ℕ) (bytes : Bool) (before after : BoardState) (Told : List ℕ → Type 0) : ℕ → Type 0 where
+  played : (program : Accepted) (ending : Ending) (verdict : List ℕ) → TextSpells text program → ending ≡ (play (program_of program) before).ending
+      → after ≡ (play (program_of program) before).board → MeansFromOpening (program_of program) before ending after
+      → Told (note bytes (program_of program) before ++ verdict ++ report after) → Runs text bytes before after Told (status_of ending)
+  refused : (fault : SvfFault) → TextRefuses text fault → after ≡ before → Told [] → Runs text bytes before after Told 2
+  no_memory : after ≡ before → Told [] → Runs text bytes before after Told 4

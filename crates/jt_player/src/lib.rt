@@ -18,3 +18,6 @@ pub use play::{play_board, play_noted};
 pub use player::Player;
 pub use run::run_play;
 pub use state_programs::{Action, Code, Program, Step, SvfFault, accept};
+
+#[cfg(test)]
+mod tests;

@@ -1,9 +1,11 @@
 //! A whole run: a text is accepted or refused, played, and told of.
 
-ghost use Rattle.std.specs.Prelude.{◌≡◌, ◌≢◌, ◌↔◌, ◌⊎◌, IsOk, IsErr, OnOk, IfOk};
+ghost use Rattle.std.specs.Prelude.{◌≡◌, ◌≢◌, ◌↔◌, ◌⊎◌, ◌++◌, ℕ, List, IsOk, IsErr, OnOk, IfOk};
 ghost use Rattle.jt_player.specs.DirectPlay.{MeansFromOpening};
 ghost use Rattle.jt_player.specs.Play.{play};
-ghost use Rattle.jt_player.specs.Running.{Runs, status_of};
+ghost use Rattle.jt_player.specs.Running.{Runs, note, status_of};
+ghost use Rattle.jt_board.specs.Report.{report};
+ghost use Rattle.std.specs.Io.KnownBytes.{Appends};
 
 use crate::ending::Ending;
 use crate::play::{play_board, play_noted};
@@ -34,7 +36,8 @@ pub fn run_play<W: Sink, E: Sink>(
     ensures broken { IsErr result ↔ (out.new.failures ≡ 1) ⊎ (err.new.failures ≡ 1) }
     ensures out_written { OnOk result (out.new.failures ≡ 0) }
     ensures err_written { OnOk result (err.new.failures ≡ 0) }
-    ensures runs { IfOk result (λ status. Runs svf.now board.old board.new status) }
+    ensures runs { IfOk result (λ status. Runs svf.now bytes board.old board.new
+        (λ told. Appends (W.contents out.old.inner) (W.contents out.new.inner) told) status) }
 {
     match accept(alloc, svf) {
         Ok(program) => match Player::new(alloc, program) {
@@ -59,6 +62,8 @@ fn play_and_tell<W: Sink>(
     ensures status { IfOk result (λ status. status ≡ status_of (play player.program board.old).ending) }
     ensures board { OnOk result (board.new ≡ (play player.program board.old).board) }
     ensures meaning { OnOk result (MeansFromOpening player.program board.old (play player.program board.old).ending board.new) }
+    ensures told { OnOk result ((verdict : List ℕ) × Appends (W.contents out.old.inner) (W.contents out.new.inner)
+        (note bytes player.program board.old ++ verdict ++ report board.new)) }
 {
     let ending = play_and_note(player, board, bytes, out)?;
     put_line(&ending, out)?;
@@ -80,6 +85,7 @@ fn play_and_note<W: Sink>(
     ensures ending { IfOk result (λ ending. ending ≡ (play player.program board.old).ending) }
     ensures board { OnOk result (board.new ≡ (play player.program board.old).board) }
     ensures meaning { OnOk result (MeansFromOpening player.program board.old (play player.program board.old).ending board.new) }
+    ensures told { OnOk result (Appends (W.contents out.old.inner) (W.contents out.new.inner) (note bytes player.program board.old)) }
 {
     if !bytes {
         return Ok(play_board(player, board));
@@ -123,6 +129,7 @@ fn put_line<T: fmt::Display, W: Sink>(shown: &T, out: &mut Counted<W>) -> Result
     requires { out.old.failures ≡ 0 }
     ensures written { IsOk result ↔ (out.new.failures ≡ 0) }
     ensures broken { IsErr result ↔ (out.new.failures ≡ 1) }
+    ensures told { OnOk result ((line : List ℕ) × Appends (W.contents out.old.inner) (W.contents out.new.inner) line) }
 {
     let mut line = ArrayString::<96>::new();
     let _ = writeln!(line, "{shown}");
