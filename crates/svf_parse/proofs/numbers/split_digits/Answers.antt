@@ -1,0 +1,8 @@
+use Rattle.std.proofs.Common.{ap, ◌∙◌}
+use Rattle.std.specs.List.{list_all}
+use Rattle.std.specs.Char.{is_ascii_digit}
+use Rattle.svf_parse.proofs.Digits.{digits_taken}
+use Rattle.svf_parse.proofs.numbers.split_digits.Goals as goal
+
+pub returns-clause-digits : goal.returns-clause-digits
+returns-clause-digits c = rw (c.split_at.ensures.front, c.digits_len.ensures.value) (digits_taken c.args.text.now)

@@ -1,0 +1,10 @@
+pub mod Fields
+pub mod Forms
+pub mod Judging
+pub mod Keywords
+pub mod Numbers
+pub mod Reading
+pub mod RunTests
+pub mod Spelling
+pub mod View
+pub mod Words
