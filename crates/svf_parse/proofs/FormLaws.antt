@@ -1,5 +1,5 @@
 -- The words of a form are read as that form, and what is read stands in the words.
-use Rattle.std.proofs.Common.{◌≡◌, ℕ, ◌<◌, Bool, true, false, cond, ◌&&◌, List, [], ◌∷◌, ◌++◌, length, map, Option, Some, None, Ok, refl, sym, ap, subst, ◌∙◌, append_assoc, inl, inr, ◌⊎◌, arith}
+use Rattle.std.proofs.Common.{◌≡◌, ℕ, ◌<◌, Bool, true, false, cond, ◌&&◌, List, [], ◌∷◌, ◌++◌, length, map, Option, Some, None, refl, sym, ap, subst, ◌∙◌, append_assoc, inl, inr, arith}
 use Rattle.std.specs.Prelude.{codes, option_map}
 use Rattle.std.specs.List.{flat_map, AllByRecursion}
 use Rattle.std.proofs.lemmas.List.Concat.{flat_map-cons}
@@ -12,9 +12,9 @@ use Rattle.svf_parse.specs.declared.keywords.Command.{Command}
 use Rattle.svf_parse.specs.declared.keywords.Command.TheVariants as command
 use Rattle.svf_parse.specs.declared.keywords.FieldName.{FieldName}
 use Rattle.svf_parse.specs.Words.{Word, reads, is_open, is_close, is_number}
-use Rattle.svf_parse.specs.Keywords.{command_word, field_word, trst_word, command_of, field_of, state_of, trst_of}
+use Rattle.svf_parse.specs.Keywords.{command_word, trst_word, command_of, field_of, state_of}
 use Rattle.svf_parse.specs.Fields.{◌>>?◌, Fields, no_fields, put, Closed, over, closing, before_close, cut_at_close, joined, runs, bracket, fields_say}
-use Rattle.svf_parse.specs.RunTests.{Run, run_of}
+use Rattle.svf_parse.specs.RunTests.{run_of}
 use Rattle.svf_parse.specs.Forms.{Form, end_dr_form, end_ir_form, frequency_form, scan_form, run_form, states_form, trst_form, port_form, form_of, one_state, one_trst, each_state, with_state, some_states, hertz, scan_of}
 use Rattle.svf_parse.specs.Spelling.{Reads, IsNumber, scan_word, IsRun, AreFields, AreStates, IsForm}
 use Rattle.svf_parse.proofs.StateLists.{some_read}
@@ -55,7 +55,7 @@ runs_read [] rest closer each shut = sym (ended_runs [] closer rest (closer ∷ 
 runs_read (r ∷ rs) rest closer each shut =
     let more : runs (cut_at_close (rs ++ closer ∷ rest)) ≡ Some (flat_map (λ w. w) rs, cut_at_close rest) = runs_read rs rest closer each.1 shut in
     let step : with_digits r (runs (cut_at_close (rs ++ closer ∷ rest))) ≡ runs (cut_at_close (r ∷ (rs ++ closer ∷ rest))) =
-        next_run [] r (rs ++ closer ∷ rest) (r ∷ (rs ++ closer ∷ rest)) (runs (cut_at_close (r ∷ (rs ++ closer ∷ rest)))) refl each.0.1 each.0.0 (with_digits-nil (runs (cut_at_close (r ∷ (rs ++ closer ∷ rest))))) in
+    next_run [] r (rs ++ closer ∷ rest) (r ∷ (rs ++ closer ∷ rest)) (runs (cut_at_close (r ∷ (rs ++ closer ∷ rest)))) refl each.0.1 each.0.0 (with_digits-nil (runs (cut_at_close (r ∷ (rs ++ closer ∷ rest))))) in
     sym step ∙ ap (with_digits r) more ∙ ap (λ (x : List ℕ). Some (x, cut_at_close rest)) (sym (flat_map-cons (λ w. w) r rs))
 
 pub fields_read : (ws : List Word) (given : List (FieldName × List ℕ)) (old new : Fields) → AreFields ws given old new → fields_say old (cut_at_close ws) ≡ Some new
@@ -71,7 +71,7 @@ fields_read ws (f ∷ fs) old new h =
     let rs = field.3 in
     let whole : ws ≡ name ∷ (opener ∷ (rs ++ closer ∷ rest)) = h.3 ∙ ap (λ (x : List Word). x ++ rest) field.4 ∙ ap (λ (x : List Word). name ∷ opener ∷ x) (append_assoc rs (closer ∷ []) rest) in
     let inner : Some (f.1, cut_at_close rest) ≡ bracket (cut_at_close (opener ∷ (rs ++ closer ∷ rest))) =
-        ap (λ (x : List ℕ). Some (x, cut_at_close rest)) field.9 ∙ sym (runs_read rs rest closer field.8 field.7) ∙ opened opener (rs ++ closer ∷ rest) (opener ∷ (rs ++ closer ∷ rest)) refl field.6 in
+    ap (λ (x : List ℕ). Some (x, cut_at_close rest)) field.9 ∙ sym (runs_read rs rest closer field.8 field.7) ∙ opened opener (rs ++ closer ∷ rest) (opener ∷ (rs ++ closer ∷ rest)) refl field.6 in
     let step : fields_say next (cut_at_close rest) ≡ fields_say old (cut_at_close ws) = field_put old next name (opener ∷ (rs ++ closer ∷ rest)) ws f.0 f.1 (cut_at_close rest) (fields_say old (cut_at_close ws)) whole (sym (field_read name f.0 field.5)) inner h.5 refl in
     sym step ∙ fields_read rest fs next new h.6
 
@@ -161,7 +161,6 @@ fields_found ws (closing (w ∷ x ∷ xs) rest) old new cut e =
     let more = fields_found a.tail rest p.0 new a.after p.2 in
     let split : ws ≡ (w ∷ x ∷ xs ++ a.closer ∷ []) ++ a.tail = a.split ∙ ap (λ (y : List Word). w ∷ x ∷ y) (sym (append_assoc xs (a.closer ∷ []) a.tail)) in
     ((n.0, j.0) ∷ more.0, (w ∷ x ∷ xs ++ a.closer ∷ [], a.tail, p.0, split, (w, x, a.closer, xs, refl, field_found w n.0 n.1, o.0, a.shut, r.0, r.1), p.1, more.1))
-
 
 -- ---- what is read stands there
 

@@ -1,5 +1,5 @@
 -- A word reads one keyword of each kind at most, and a search of all finds it.
-use Rattle.std.proofs.Common.{◌≡◌, ℕ, Bool, true, false, cond, List, [], ◌∷◌, map, find, IfSome, Option, Some, None, refl, sym, ap, subst, ◌∙◌}
+use Rattle.std.proofs.Common.{◌≡◌, ℕ, Bool, true, false, cond, List, [], ◌∷◌, find, IfSome, Option, Some, None, refl, sym, ap, ◌∙◌}
 use Rattle.std.specs.Prelude.{codes}
 use Rattle.std.specs.Str.{bytes_eq}
 use Rattle.std.proofs.lemmas.Slice.Eq.{bytes_eq-Decides}
@@ -140,6 +140,6 @@ pub same_state : (w : Word) (r : Option State) → IfSome r (λ s. states.IsWord
 same_state w (Some s) found only = sym (state_read w s ((bytes_eq-Decides (lower w) (lower (states.word s))).1 found))
 same_state w None found only = by (state_of w) refl
   where
-  by : (o : Option State) → state_of w ≡ o → None ≡ o
-  by None e = refl
-  by (Some s) e = only s ((bytes_eq-Decides (lower w) (lower (states.word s))).0 (state_found w s e))
+    by : (o : Option State) → state_of w ≡ o → None ≡ o
+    by None e = refl
+    by (Some s) e = only s ((bytes_eq-Decides (lower w) (lower (states.word s))).0 (state_found w s e))

@@ -3,6 +3,7 @@ pub mod FieldLaws
 pub mod FormLaws
 pub mod Grouping
 pub mod KeywordLaws
+pub mod LeastLaws
 pub mod NumberLaws
 pub mod RefusalLaws
 pub mod RunLaws

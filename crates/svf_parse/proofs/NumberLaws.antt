@@ -143,8 +143,8 @@ time_up m z many =
     let same : m * 10 ^ z ≡ (m * p) * 10 ^ 24 = omega (arith, ap (λ (k : ℕ). m * k) (sym whole), regroup m p (10 ^ 24)) in
     sym (ap (λ (a : ℕ). div_ceil a (10 ^ 24)) same ∙ div_ceil-whole (m * p) (10 ^ 24) (omega arith))
   where
-  regroup : (a b c : ℕ) → a * (b * c) ≡ (a * b) * c
-  regroup a b c = grind arith
+    regroup : (a b c : ℕ) → a * (b * c) ≡ (a * b) * c
+    regroup a b c = grind arith
 
 pub time_down : (m z d : ℕ) → z ≤ 24 → d ≡ 10 ^ (24 - z) → div_ceil m d ≡ div_ceil (m * 10 ^ z) (10 ^ 24)
 time_down m z d few is =

@@ -1,5 +1,5 @@
 -- A text that is refused has that refusal first, and what has it first is refused so.
-use Rattle.std.proofs.Common.{◌≡◌, ℕ, suc, ◌+◌, ◌<◌, ◌≤◌, Bool, true, false, cond, nat_lt, List, [], ◌∷◌, length, Option, Some, None, Result, Ok, Err, refl, sym, ap, subst, ◌∙◌, arith, inl, inr, ◌⊎◌, ⊎_elim}
+use Rattle.std.proofs.Common.{◌≡◌, ℕ, suc, ◌+◌, ◌<◌, ◌≤◌, Bool, true, false, cond, nat_lt, List, [], ◌∷◌, length, Some, None, Result, Ok, Err, refl, sym, ap, subst, ◌∙◌, arith, inl, inr, ◌⊎◌, ⊎_elim}
 use Rattle.std.specs.Prelude.{IfOk, IfErr, ◌≢◌, map}
 use Rattle.std.specs.Global.{Vec}
 use Rattle.std.proofs.str.Laws.{order}
@@ -13,11 +13,22 @@ use Rattle.svf_parse.specs.declared.fault.SvfFault.{SvfFault}
 use Rattle.svf_parse.specs.Words.{Word, Parts, last, group, parts_of}
 use Rattle.svf_parse.specs.Judging.{◌>>=◌, Said}
 use Rattle.svf_parse.specs.Reading.{lex_code, statement_says, parts_say, text_says, at_statement, within_limit}
-use Rattle.svf_parse.specs.Spelling.{Spells, Refuses, EachSpells, closed_by, TextSpells, FirstRefusal, at_end, in_words, past_limit, TextRefuses}
+use Rattle.svf_parse.specs.Spelling.{Spells, Refuses, EachSpells, closed_by, TextSpells, FirstRefusal, TextRefuses}
+use Rattle.svf_parse.specs.Spelling as spelling
 use Rattle.svf_parse.specs.View.{said, Parses, memory_fault}
 use Rattle.svf_parse.proofs.StatementLaws.{spelled, read_again, refused, refused_again}
 use Rattle.svf_parse.proofs.TextLaws.{text_found}
 use Rattle.svf_parse.proofs.Grouping.{long_text, short_text}
+
+-- ---- the first refusal of parts whose first statement has number n
+
+data RefusalFrom (n : ℕ) (parts : Parts) (f : SvfFault) : Type 0 where
+  at_end : (gs : List (List Word)) (ws : List Word) (ss : List Said) (e : LexFault) → parts ≡ closed_by gs (last ws (Some e)) → EachSpells gs ss → (n ≤ 200001 → n + length ss ≤ 200001)
+      → f ≡ record { statement = n + length ss; code = lex_code e } → RefusalFrom n parts f
+  in_words : (gs : List (List Word)) (w : Word) (ws : List Word) (after : Parts) (ss : List Said) (c : Code) → parts ≡ closed_by gs (group (w ∷ ws) after) → EachSpells gs ss → (n ≤ 200001 → n + length ss ≤ 200001)
+      → Refuses (w ∷ ws) c → f ≡ record { statement = n + length ss; code = c } → RefusalFrom n parts f
+  past_limit : (gs : List (List Word)) (w : Word) (ws : List Word) (after : Parts) (ss : List Said) (s : Said) → parts ≡ closed_by gs (group (w ∷ ws) after) → EachSpells gs ss → (n ≤ 200001 → n + length ss ≡ 200001)
+      → Spells (w ∷ ws) s → f ≡ record { statement = n + length ss; code = code.TooLarge } → RefusalFrom n parts f
 
 -- ---- whole texts
 
@@ -61,7 +72,7 @@ abbrev fault_at : ℕ → Code → SvfFault
 fault_at n c = record { statement = n; code = c }
 
 -- a group without words before it
-after_empty : (n : ℕ) (parts : Parts) (f : SvfFault) → FirstRefusal n parts f → FirstRefusal n (group [] parts) f
+after_empty : (n : ℕ) (parts : Parts) (f : SvfFault) → RefusalFrom n parts f → RefusalFrom n (group [] parts) f
 after_empty n parts f (at_end gs ws ss e cut each count is) = at_end ([] ∷ gs) ws ss e (ap (group []) cut) each count is
 after_empty n parts f (in_words gs w ws after ss c cut each count refuses is) = in_words ([] ∷ gs) w ws after ss c (ap (group []) cut) each count refuses is
 after_empty n parts f (past_limit gs w ws after ss s cut each count spells is) = past_limit ([] ∷ gs) w ws after ss s (ap (group []) cut) each count spells is
@@ -70,7 +81,7 @@ place : (n k : ℕ) (c : Code) (f : SvfFault) → f ≡ fault_at (n + 1 + k) c �
 place n k c f is = let e : n + 1 + k ≡ n + suc k = omega arith in is ∙ ap (λ (m : ℕ). fault_at m c) e
 
 -- a statement before it
-after_statement : (n : ℕ) (x : Word) (xs : List Word) (t : Said) (parts : Parts) (f : SvfFault) → n ≤ 200000 → Spells (x ∷ xs) t → FirstRefusal (n + 1) parts f → FirstRefusal n (group (x ∷ xs) parts) f
+after_statement : (n : ℕ) (x : Word) (xs : List Word) (t : Said) (parts : Parts) (f : SvfFault) → n ≤ 200000 → Spells (x ∷ xs) t → RefusalFrom (n + 1) parts f → RefusalFrom n (group (x ∷ xs) parts) f
 after_statement n x xs t parts f le here (at_end gs ws ss e cut each count is) =
     at_end ((x ∷ xs) ∷ gs) ws (t ∷ ss) e (ap (group (x ∷ xs)) cut) (here, each) (λ _. omega (arith, count (omega arith))) (place n (length ss) (lex_code e) f is)
 after_statement n x xs t parts f le here (in_words gs w ws after ss c cut each count refuses is) =
@@ -90,13 +101,13 @@ refusal f = Err f
 same_fault : (f g : SvfFault) → refusal f ≡ refusal g → f ≡ g
 same_fault f g e = cc
 
-own_fault : (n : ℕ) (w : Word) (ws : List Word) (parts : Parts) (f : SvfFault) (c : Code) → within_limit n (statement_says (w ∷ ws)) ≡ Err c → fault_at n c ≡ f → FirstRefusal n (group (w ∷ ws) parts) f
+own_fault : (n : ℕ) (w : Word) (ws : List Word) (parts : Parts) (f : SvfFault) (c : Code) → within_limit n (statement_says (w ∷ ws)) ≡ Err c → fault_at n c ≡ f → RefusalFrom n (group (w ∷ ws) parts) f
 own_fault n w ws parts f c e is =
     elim (limit_fault (nat_lt 200000 n) (statement_says (w ∷ ws)) c e) [
       | inl mine ↦ in_words [] w ws parts [] c refl tt (λ le. omega arith) (refused w ws c mine) (at_zero n c f is)
       | inr past ↦
-        let high : 200000 < n = above n past.2 in
-        past_limit [] w ws parts [] past.0 refl tt (λ le. omega arith) (spelled (w ∷ ws) past.0 past.1) (at_zero n code.TooLarge f (ap (fault_at n) (sym past.3) ∙ is))
+          let high : 200000 < n = above n past.2 in
+          past_limit [] w ws parts [] past.0 refl tt (λ le. omega arith) (spelled (w ∷ ws) past.0 past.1) (at_zero n code.TooLarge f (ap (fault_at n) (sym past.3) ∙ is))
     ]
 
 numbered_ok : (n : ℕ) (r : Result Said Code) (s : Said) → at_statement n r ≡ Ok s → r ≡ Ok s
@@ -108,7 +119,7 @@ limit_ok b (Err c) t h = absurd cc
 limit_ok true (Ok s) t h = absurd cc
 limit_ok false (Ok s) t h = (refl, h)
 
-pub parts_refused : (n : ℕ) (parts : Parts) (f : SvfFault) → parts_say n parts ≡ Err f → FirstRefusal n parts f
+parts_refused : (n : ℕ) (parts : Parts) (f : SvfFault) → parts_say n parts ≡ Err f → RefusalFrom n parts f
 unfolding parts_say
 parts_refused n (last ws None) f h = absurd cc
 parts_refused n (last ws (Some e)) f h = at_end [] ws [] e refl tt (λ le. omega arith) (at_zero n (lex_code e) f (same_fault (fault_at n (lex_code e)) f h))
@@ -118,8 +129,8 @@ parts_refused n (group (w ∷ ws) parts) f h =
     elim (then_fault (at_statement n (within_limit n (statement_says (w ∷ ws)))) (λ s. put_first s (parts_say (n + 1) parts)) f h) [
       | inl mine ↦ let a = fault_of n (within_limit n (statement_says (w ∷ ws))) f mine in own_fault n w ws parts f a.0 a.1 a.2
       | inr later ↦
-        let ok = limit_ok (nat_lt 200000 n) (statement_says (w ∷ ws)) later.0 (numbered_ok n (within_limit n (statement_says (w ∷ ws))) later.0 later.1) in
-        after_statement n w ws later.0 parts f (below n ok.0) (spelled (w ∷ ws) later.0 ok.1) (more (first_fault later.0 (parts_say (n + 1) parts) f later.2))
+          let ok = limit_ok (nat_lt 200000 n) (statement_says (w ∷ ws)) later.0 (numbered_ok n (within_limit n (statement_says (w ∷ ws))) later.0 later.1) in
+          after_statement n w ws later.0 parts f (below n ok.0) (spelled (w ∷ ws) later.0 ok.1) (more (first_fault later.0 (parts_say (n + 1) parts) f later.2))
     ]
 
 -- the other way: statements that are spelled are passed
@@ -146,7 +157,7 @@ ends_here : (m : ℕ) (ws : List Word) (e : LexFault) → parts_say m (last ws (
 unfolding parts_say
 ends_here m ws e = refl
 
-pub parts_refused_again : (n : ℕ) (parts : Parts) (f : SvfFault) → n ≤ 200001 → FirstRefusal n parts f → parts_say n parts ≡ Err f
+parts_refused_again : (n : ℕ) (parts : Parts) (f : SvfFault) → n ≤ 200001 → RefusalFrom n parts f → parts_say n parts ≡ Err f
 parts_refused_again n parts f le (at_end gs ws ss e cut each count is) =
     ap (parts_say n) cut ∙ passed n gs ss (last ws (Some e)) f each (count le) (ends_here (n + length ss) ws e ∙ ap refusal (sym is))
 parts_refused_again n parts f le (in_words gs w ws after ss c cut each count refuses is) =
@@ -156,16 +167,29 @@ parts_refused_again n parts f le (past_limit gs w ws after ss s cut each count s
 
 -- ---- whole texts
 
+numbered_so : (k : ℕ) (c : Code) → fault_at (1 + k) c ≡ fault_at (k + 1) c
+numbered_so k c = let e : 1 + k ≡ k + 1 = omega arith in ap (λ (m : ℕ). fault_at m c) e
+
+first_of : (parts : Parts) (f : SvfFault) → RefusalFrom 1 parts f → FirstRefusal parts f
+first_of parts f (at_end gs ws ss e cut each count is) = spelling.at_end gs ws ss e cut each (omega (arith, count (omega arith))) (is ∙ numbered_so (length ss) (lex_code e))
+first_of parts f (in_words gs w ws after ss c cut each count refuses is) = spelling.in_words gs w ws after ss c cut each (omega (arith, count (omega arith))) refuses (is ∙ numbered_so (length ss) c)
+first_of parts f (past_limit gs w ws after ss s cut each count spells is) = spelling.past_limit gs w ws after ss s cut each (omega (arith, count (omega arith))) spells (is ∙ numbered_so (length ss) code.TooLarge)
+
+from_first : (parts : Parts) (f : SvfFault) → FirstRefusal parts f → RefusalFrom 1 parts f
+from_first parts f (spelling.at_end gs ws ss e cut each count is) = at_end gs ws ss e cut each (λ _. omega (arith, count)) (is ∙ sym (numbered_so (length ss) (lex_code e)))
+from_first parts f (spelling.in_words gs w ws after ss c cut each count refuses is) = in_words gs w ws after ss c cut each (λ _. omega (arith, count)) refuses (is ∙ sym (numbered_so (length ss) c))
+from_first parts f (spelling.past_limit gs w ws after ss s cut each count spells is) = past_limit gs w ws after ss s cut each (λ _. omega (arith, count)) spells (is ∙ sym (numbered_so (length ss) code.TooLarge))
+
 pub text_refused : (text : List ℕ) (f : SvfFault) → text_says text ≡ Err f → TextRefuses text f
 text_refused text f says =
     ⊎_elim
     (λ long. inl (long, sym (same_fault (fault_at 0 code.TooLarge) f (sym (long_text text long) ∙ says))))
-    (λ short. inr (short, parts_refused 1 (parts_of (items_of text)) f (sym (short_text text short) ∙ says)))
+    (λ short. inr (short, first_of (parts_of (items_of text)) f (parts_refused 1 (parts_of (items_of text)) f (sym (short_text text short) ∙ says))))
     (order 16777216 (length text))
 
 pub text_refused_again : (text : List ℕ) (f : SvfFault) → TextRefuses text f → text_says text ≡ Err f
 text_refused_again text f (inl long) = long_text text long.0 ∙ ap refusal (sym long.1)
-text_refused_again text f (inr short) = short_text text short.0 ∙ parts_refused_again 1 (parts_of (items_of text)) f (omega arith) short.1
+text_refused_again text f (inr short) = short_text text short.0 ∙ parts_refused_again 1 (parts_of (items_of text)) f (omega arith) (from_first (parts_of (items_of text)) f short.1)
 
 -- ---- what `parse` ensures
 

@@ -1,18 +1,17 @@
 -- The parts of a RUNTEST are read where they stand.
-use Rattle.std.proofs.Common.{◌≡◌, ℕ, ◌+◌, ◌<◌, ◌≤◌, Bool, true, false, cond, ◌&&◌, nat_le, List, [], ◌∷◌, ◌++◌, Option, Some, None, refl, sym, ap, subst, ◌∙◌, append_assoc, inl, inr, ◌⊎◌, arith}
+use Rattle.std.proofs.Common.{◌≡◌, ℕ, Bool, true, false, cond, ◌&&◌, nat_le, List, [], ◌∷◌, ◌++◌, Option, Some, None, refl, sym, ap, subst, ◌∙◌, inl, inr, ◌⊎◌, arith}
 use Rattle.std.specs.Prelude.{codes, IsSome, slice_index}
 use Rattle.std.proofs.lemmas.Bool.Decides.{nat_tests}
 use Rattle.std.proofs.lemmas.List.{append-nil}
 use Rattle.std.specs.Str.{bytes_eq}
-use Rattle.std.proofs.lemmas.Slice.Eq.{bytes_eq-Decides}
 use Rattle.jt_tap.specs.declared.State.{State}
 use Rattle.jt_tap.specs.declared.State.TheVariants as st
 use Rattle.jt_tap.specs.Words as states
 use Rattle.svf_parse.specs.declared.keywords.Clock.{Clock}
 use Rattle.svf_parse.specs.Words.{Word, lower, reads, is_number}
-use Rattle.svf_parse.specs.Keywords.{state_of, clock_of, clock_word}
+use Rattle.svf_parse.specs.Keywords.{state_of, clock_of}
 use Rattle.svf_parse.specs.RunTests.{Run, state_or, count_or, maximum_or, take_state, take_count, take_time, take_maximum, take_end, whole_run, maximum_behind, run_behind, run_of}
-use Rattle.svf_parse.specs.Spelling.{Reads, IsNumber, IsState, IsCount, IsTime, IsMaximum, IsEnd, IsWhole, IsRunTest}
+use Rattle.svf_parse.specs.Spelling.{Reads, IsNumber, IsState, IsCount, IsTime, IsMaximum, IsEnd, IsRunTest}
 use Rattle.svf_parse.proofs.KeywordLaws.{lowered, state_read, state_found, clock_read, clock_found, seconds_are_no_clock}
 
 -- ---- numbers begin with no letter
@@ -53,9 +52,9 @@ state_begins st.IrUpdate = refl
 number_is_no_state : (n : Word) → IsNumber n → state_of n ≡ None
 number_is_no_state n h = by (state_of n) refl
   where
-  by : (o : Option State) → state_of n ≡ o → o ≡ None
-  by None e = refl
-  by (Some s) e = absurd (let f : is_number n ≡ false = no_number n (states.word s) (state_found n s e) (state_begins s) in cc)
+    by : (o : Option State) → state_of n ≡ o → o ≡ None
+    by None e = refl
+    by (Some s) e = absurd (let f : is_number n ≡ false = no_number n (states.word s) (state_found n s e) (state_begins s) in cc)
 
 -- ---- what was read stands there
 
@@ -158,15 +157,24 @@ run_found ws r e =
     let i = end_taken m.1 in
     let last : m.1 ≡ i.words = i.split ∙ ap (λ (x : List Word). i.words ++ x) f.nothing ∙ append-nil i.words in
     let split : ws ≡ a.words ++ (b.words ++ (g.words ++ (h.0.words ++ i.words))) =
-        a.split ∙ ap (λ (x : List Word). a.words ++ x) (b.split ∙ ap (λ (x : List Word). b.words ++ x) (g.split ∙ ap (λ (x : List Word). g.words ++ x) (h.0.split ∙ ap (λ (x : List Word). h.0.words ++ x) last))) in
-    (a.words, b.words, g.words, h.0.words, i.words, split,
-     subst (λ x. IsState x a.words) f.run-is a.is, subst (λ x. IsCount x b.words) f.count-is b.is, subst (λ x. IsTime x g.words) f.min-is g.is,
-     subst (λ x. IsMaximum x h.0.words) f.max-is h.0.is, subst (λ x. IsEnd x i.words) f.end-is i.is,
-     (some_of c.0 r.count t.0 r.min f.count-is f.min-is f.some, λ x. subst IsSome f.min-is (h.1 (subst IsSome (sym f.max-is) x))))
+    a.split ∙ ap (λ (x : List Word). a.words ++ x) (b.split ∙ ap (λ (x : List Word). b.words ++ x) (g.split ∙ ap (λ (x : List Word). g.words ++ x) (h.0.split ∙ ap (λ (x : List Word). h.0.words ++ x) last))) in (
+      a.words,
+      b.words,
+      g.words,
+      h.0.words,
+      i.words,
+      split,
+      subst (λ x. IsState x a.words) f.run-is a.is,
+      subst (λ x. IsCount x b.words) f.count-is b.is,
+      subst (λ x. IsTime x g.words) f.min-is g.is,
+      subst (λ x. IsMaximum x h.0.words) f.max-is h.0.is,
+      subst (λ x. IsEnd x i.words) f.end-is i.is,
+      (some_of c.0 r.count t.0 r.min f.count-is f.min-is f.some, λ x. subst IsSome f.min-is (h.1 (subst IsSome (sym f.max-is) x))),
+    )
   where
-  some_of : (c d : Option (Word × Clock)) (m n : Option Word) → c ≡ d → m ≡ n → IsSome c ⊎ IsSome m → IsSome d ⊎ IsSome n
-  some_of c d m n p q (inl x) = inl (subst IsSome p x)
-  some_of c d m n p q (inr x) = inr (subst IsSome q x)
+    some_of : (c d : Option (Word × Clock)) (m n : Option Word) → c ≡ d → m ≡ n → IsSome c ⊎ IsSome m → IsSome d ⊎ IsSome n
+    some_of c d m n p q (inl x) = inl (subst IsSome p x)
+    some_of c d m n p q (inr x) = inr (subst IsSome q x)
 
 -- ---- what stands there is read
 
@@ -211,8 +219,8 @@ unfolding take_maximum
 end_is_no_maximum None ws h = subst (λ (x : List Word). take_maximum x ≡ (None, x)) (sym h) refl
 end_is_no_maximum (Some s) ws h = subst (λ (x : List Word). take_maximum x ≡ (None, x)) (sym h.2) (rw (other h.0 h.3) refl)
   where
-  other : (k : Word) → Reads k (codes "ENDSTATE") → reads k (codes "MAXIMUM") ≡ false
-  other k h = ap (λ (l : List ℕ). bytes_eq l (lower (codes "MAXIMUM"))) (lowered k (codes "ENDSTATE") h)
+    other : (k : Word) → Reads k (codes "ENDSTATE") → reads k (codes "MAXIMUM") ≡ false
+    other k h = ap (λ (l : List ℕ). bytes_eq l (lower (codes "MAXIMUM"))) (lowered k (codes "ENDSTATE") h)
 
 time_read : (min : Option Word) (ws rest : List Word) → IsTime min ws → Unread rest → take_time (ws ++ rest) ≡ (min, rest)
 unfolding take_time

@@ -1,5 +1,5 @@
 -- What the words of a statement say is what they spell, or the refusal that they have.
-use Rattle.std.proofs.Common.{◌≡◌, ℕ, List, [], ◌∷◌, Option, Some, None, Result, Ok, Err, refl, sym, ap, subst, ◌∙◌}
+use Rattle.std.proofs.Common.{◌≡◌, List, [], ◌∷◌, Option, Some, None, Result, Ok, Err, refl, sym, ap, subst, ◌∙◌}
 use Rattle.std.specs.Prelude.{IsSome}
 use Rattle.svf_parse.specs.declared.fault.Code.{Code}
 use Rattle.svf_parse.specs.declared.fault.Code.TheVariants as code
@@ -9,9 +9,9 @@ use Rattle.svf_parse.specs.Keywords.{command_of}
 use Rattle.svf_parse.specs.Forms.{Form, form_of}
 use Rattle.svf_parse.specs.Judging.{◌>>=◌, Said, form_says}
 use Rattle.svf_parse.specs.Reading.{or_refuse, command_says, statement_says}
-use Rattle.svf_parse.specs.Spelling.{IsForm, HasCommand, Spells, Refuses, unknown, misfit, of_form}
+use Rattle.svf_parse.specs.Spelling.{IsForm, Spells, Refuses, unknown, misfit, of_form}
 use Rattle.svf_parse.proofs.KeywordLaws.{command_found}
-use Rattle.svf_parse.proofs.FormLaws.{IsRead, form_found, form_read}
+use Rattle.svf_parse.proofs.FormLaws.{form_found, form_read}
 
 -- what is spelled in a form says what the form says
 pub says_form : (ws : List Word) (f : Form) → IsForm ws f → statement_says ws ≡ form_says f
@@ -58,12 +58,13 @@ read_there w xs f h =
     let rest : r.rest ≡ xs = sym (ap behind r.split) in
     (r.command, ap command_of (sym first) ∙ r.known, ap (form_of r.command) (sym rest) ∙ r.form)
   where
-  head : List Word → Word
-  head [] = []
-  head (w ∷ ws) = w
-  behind : List Word → List Word
-  behind [] = []
-  behind (w ∷ ws) = ws
+    head : List Word → Word
+    head [] = []
+    head (w ∷ ws) = w
+
+    behind : List Word → List Word
+    behind [] = []
+    behind (w ∷ ws) = ws
 
 no_form : (w : Word) (xs : List Word) (k : Command) → command_of w ≡ Some k → form_of k xs ≡ None → (f : Form) → IsForm (w ∷ xs) f → ⊥
 no_form w xs k is none f h =

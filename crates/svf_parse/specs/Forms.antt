@@ -1,5 +1,5 @@
 -- The forms of the statements, and which of them a command's words are.
-use Rattle.std.specs.Prelude.{ℕ, ◌<◌, ◌&&◌, if◌then◌else◌, List, [], ◌∷◌, codes, Option, Some, None, option_map}
+use Rattle.std.specs.Prelude.{◌&&◌, if◌then◌else◌, List, [], ◌∷◌, codes, Option, Some, None, option_map}
 use Rattle.jt_tap.specs.declared.State.{State}
 use Rattle.svf_parse.specs.declared.statement.TrstWord.{TrstWord}
 use Rattle.svf_parse.specs.declared.statement.Which.{Which}
@@ -8,7 +8,7 @@ use Rattle.svf_parse.specs.declared.keywords.Command.{Command}
 use Rattle.svf_parse.specs.declared.keywords.Command.TheVariants as command
 use Rattle.svf_parse.specs.Words.{Word, reads, is_number}
 use Rattle.svf_parse.specs.Keywords.{state_of, trst_of}
-use Rattle.svf_parse.specs.Fields.{◌>>?◌, Fields, no_fields, cut_at_close, fields_say}
+use Rattle.svf_parse.specs.Fields.{Fields, no_fields, cut_at_close, fields_say}
 use Rattle.svf_parse.specs.RunTests.{Run, run_of}
 
 -- a statement as it is written: each number and each field as its digits

@@ -2,6 +2,7 @@ pub mod Fields
 pub mod Forms
 pub mod Judging
 pub mod Keywords
+pub mod Least
 pub mod Numbers
 pub mod Reading
 pub mod RunTests

@@ -1,5 +1,5 @@
 -- The parts of a RUNTEST: each is read if it stands there.
-use Rattle.std.specs.Prelude.{ℕ, if◌then◌else◌, ◌&&◌, List, [], ◌∷◌, codes, Option, Some, None}
+use Rattle.std.specs.Prelude.{if◌then◌else◌, ◌&&◌, List, [], ◌∷◌, codes, Option, Some, None}
 use Rattle.jt_tap.specs.declared.State.{State}
 use Rattle.svf_parse.specs.declared.keywords.Clock.{Clock}
 use Rattle.svf_parse.specs.Words.{Word, reads, is_number}

@@ -1,5 +1,5 @@
 -- The grammar: which words are a statement, and which texts are a list of them. Nothing here reads from left to right.
-use Rattle.std.specs.Prelude.{◌≡◌, ℕ, ◌+◌, ◌<◌, ◌≤◌, ◌⊎◌, IsSome, true, false, List, [], ◌∷◌, ◌++◌, length, codes, Option, Some, None, Result, Ok, Err}
+use Rattle.std.specs.Prelude.{◌≡◌, ℕ, ◌+◌, ◌<◌, ◌≤◌, ◌⊎◌, IsSome, true, false, List, [], ◌∷◌, ◌++◌, length, codes, Option, Some, None, Ok, Err}
 use Rattle.std.specs.List.{flat_map, AllByRecursion}
 use Rattle.jt_tap.specs.declared.State.{State}
 use Rattle.jt_tap.specs.Words as states
@@ -146,18 +146,22 @@ TextSpells text ss =
     (gs : List (List Word)) × (length text ≤ text_limit) × (length ss ≤ statement_limit)
     × (parts_of (items_of text) ≡ closed_by gs (last [] None)) × EachSpells gs ss
 
--- The first refusal of parts whose first statement has number n: what stands before it spells statements, and the next
--- group with words has it, or no group follows and the text is faulty there.
-pub data FirstRefusal (n : ℕ) (parts : Parts) (f : SvfFault) : Type 0 where
-  at_end : (gs : List (List Word)) (ws : List Word) (ss : List Said) (e : LexFault) → parts ≡ closed_by gs (last ws (Some e)) → EachSpells gs ss → (n ≤ 200001 → n + length ss ≤ 200001)
-      → f ≡ record { statement = n + length ss; code = lex_code e } → FirstRefusal n parts f
-  in_words : (gs : List (List Word)) (w : Word) (ws : List Word) (after : Parts) (ss : List Said) (c : Code) → parts ≡ closed_by gs (group (w ∷ ws) after) → EachSpells gs ss → (n ≤ 200001 → n + length ss ≤ 200001)
-      → Refuses (w ∷ ws) c → f ≡ record { statement = n + length ss; code = c } → FirstRefusal n parts f
-  past_limit : (gs : List (List Word)) (w : Word) (ws : List Word) (after : Parts) (ss : List Said) (s : Said) → parts ≡ closed_by gs (group (w ∷ ws) after) → EachSpells gs ss → (n ≤ 200001 → n + length ss ≡ 200001)
-      → Spells (w ∷ ws) s → f ≡ record { statement = n + length ss; code = code.TooLarge } → FirstRefusal n parts f
+-- the refusal of the statement behind these
+abbrev pub fault_behind : List Said → Code → SvfFault
+fault_behind ss c = record { statement = length ss + 1; code = c }
+
+-- The first refusal of parts: what stands before it spells statements, and then the text is faulty before another `;`, or
+-- the next group with words has the refusal, or that group is a statement too many.
+pub data FirstRefusal (parts : Parts) (f : SvfFault) : Type 0 where
+  at_end : (gs : List (List Word)) (ws : List Word) (ss : List Said) (e : LexFault) → parts ≡ closed_by gs (last ws (Some e)) → EachSpells gs ss
+      → length ss ≤ statement_limit → f ≡ fault_behind ss (lex_code e) → FirstRefusal parts f
+  in_words : (gs : List (List Word)) (w : Word) (ws : List Word) (after : Parts) (ss : List Said) (c : Code) → parts ≡ closed_by gs (group (w ∷ ws) after) → EachSpells gs ss
+      → length ss ≤ statement_limit → Refuses (w ∷ ws) c → f ≡ fault_behind ss c → FirstRefusal parts f
+  past_limit : (gs : List (List Word)) (w : Word) (ws : List Word) (after : Parts) (ss : List Said) (s : Said) → parts ≡ closed_by gs (group (w ∷ ws) after) → EachSpells gs ss
+      → length ss ≡ statement_limit → Spells (w ∷ ws) s → f ≡ fault_behind ss code.TooLarge → FirstRefusal parts f
 
 -- the first refusal of a text
 abbrev pub TextRefuses : List ℕ → SvfFault → Type 0
 TextRefuses text f =
     ((text_limit < length text) × (f ≡ record { statement = 0; code = code.TooLarge }))
-    ⊎ ((length text ≤ text_limit) × FirstRefusal 1 (parts_of (items_of text)) f)
+    ⊎ ((length text ≤ text_limit) × FirstRefusal (parts_of (items_of text)) f)

@@ -1,5 +1,5 @@
 -- What a reader of the code answers, beside what the words say.
-use Rattle.std.specs.Prelude.{◌≡◌, ◌≢◌, ℕ, Bool, List, [], ◌∷◌, map, Option, Some, None, option_map, Result, Ok, Err}
+use Rattle.std.specs.Prelude.{◌≡◌, ◌≢◌, ℕ, List, [], ◌∷◌, map, Option, Some, None, option_map, Result, Ok, Err}
 use Rattle.std.specs.Global.{Vec}
 use Rattle.svf_lex.specs.Left.{left}
 use Rattle.svf_parse.specs.declared.fault.Code.{Code}
@@ -21,7 +21,7 @@ use Rattle.svf_parse.specs.Words.{Word, Parts, last, group, parts_of}
 use Rattle.svf_parse.specs.Fields.{Fields}
 use Rattle.svf_parse.specs.RunTests.{Run}
 use Rattle.svf_parse.specs.Forms.{Form, end_dr_form, end_ir_form, frequency_form, scan_form, run_form, states_form, trst_form, port_form}
-use Rattle.svf_parse.specs.Judging.{Said, end_dr, end_ir, frequency, scan, states, trst} 
+use Rattle.svf_parse.specs.Judging.{Said, end_dr, end_ir, frequency, scan, states, trst}
 use Rattle.svf_parse.specs.Judging as judging
 
 -- the digits of fields, without where they lie in memory
@@ -33,12 +33,12 @@ fields f = record { tdi = bytes_of f.tdi; tdo = bytes_of f.tdo; mask = bytes_of 
 
 abbrev pub run : run_test.Run → Run
 run r = record {
-    run = r.run;
-    count = option_map (λ c. (c.0.now, c.1)) r.count;
-    min = option_map (λ w. w.now) r.min;
-    max = option_map (λ w. w.now) r.max;
-    end = r.end;
-  }
+  run = r.run;
+  count = option_map (λ c. (c.0.now, c.1)) r.count;
+  min = option_map (λ w. w.now) r.min;
+  max = option_map (λ w. w.now) r.max;
+  end = r.end;
+}
 
 abbrev pub form : Written → Form
 form (written.EndDr s) = end_dr_form s

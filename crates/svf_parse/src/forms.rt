@@ -29,7 +29,11 @@ pub(crate) enum Written<'a> {
 }
 
 /// The form that the words after a command have.
-pub(crate) fn form_of<'a>(alloc: Global, command: Command, words: Lexer<'a>) -> Result<Option<Written<'a>>, AllocError>
+pub(crate) fn form_of<'a>(
+    alloc: Global,
+    command: Command,
+    words: Lexer<'a>,
+) -> Result<Option<Written<'a>>, AllocError>
     ensures { IfOk result (λ o. option_map view.form o ≡ spec.form_of command (words_left words.entry)) }
 {
     let form = match command {
@@ -130,7 +134,11 @@ fn hertz<'a>(words: Lexer<'a>) -> Option<Option<&'a [u8]>>
 
 /// A length and fields.
 #[tactic(auto, unfolding(crate::specs::Forms::scan_of))]
-fn scan_of<'a>(alloc: Global, which: Which, words: Lexer<'a>) -> Result<Option<Written<'a>>, AllocError>
+fn scan_of<'a>(
+    alloc: Global,
+    which: Which,
+    words: Lexer<'a>,
+) -> Result<Option<Written<'a>>, AllocError>
     ensures { IfOk result (λ o. option_map view.form o ≡ spec.scan_of which (words_left words.entry)) }
 {
     let Some((len, rest)) = next_word(words) else {

@@ -70,12 +70,7 @@ const FIELDS: [FieldName; 4] = [
 
 const CLOCKS: [Clock; 2] = [Clock::Tck, Clock::Sck];
 
-const TRST_WORDS: [TrstWord; 4] = [
-    TrstWord::On,
-    TrstWord::Off,
-    TrstWord::Z,
-    TrstWord::Absent,
-];
+const TRST_WORDS: [TrstWord; 4] = [TrstWord::On, TrstWord::Off, TrstWord::Z, TrstWord::Absent];
 
 /// The command that the word is.
 #[tactic(auto, unfolding(crate::specs::Keywords::command_of))]

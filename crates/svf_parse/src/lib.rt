@@ -13,11 +13,11 @@ mod fields;
 mod forms;
 mod judging;
 mod keywords;
+pub mod laws;
 mod numbers;
 mod run_test;
 mod statement;
-mod text;
-mod words;
-
 #[cfg(test)]
 mod tests;
+mod text;
+mod words;

@@ -58,19 +58,36 @@ fn shown(bits: &Bits) -> [u8; 4] {
 #[test]
 fn frequencies(rt: HostRuntime) {
     let alloc = rt.alloc();
-    assert_count(&rt, alloc, b"FREQUENCY 1E13 HZ; FREQUENCY 1E-6 HZ; FREQUENCY;", 3);
+    assert_count(
+        &rt,
+        alloc,
+        b"FREQUENCY 1E13 HZ; FREQUENCY 1E-6 HZ; FREQUENCY;",
+        3,
+    );
     assert_eq!(rt; period(alloc, b"FREQUENCY 1E13 HZ;"), Some(1));
-    assert_eq!(rt; period(alloc, b"FREQUENCY 1E-6 HZ;"), Some(1_000_000_000_000_000_000));
+    assert_eq!(rt;
+        period(alloc, b"FREQUENCY 1E-6 HZ;"),
+        Some(1_000_000_000_000_000_000)
+    );
     assert_eq!(rt; period(alloc, b"FREQUENCY;"), None);
     assert_eq!(rt; period(alloc, b"frequency 3E6 hz;"), Some(333_334));
-    assert_eq!(rt; period(alloc, b"FREQUENCY 999999999999999999E18 HZ;"), Some(1));
+    assert_eq!(rt;
+        period(alloc, b"FREQUENCY 999999999999999999E18 HZ;"),
+        Some(1)
+    );
     assert_eq!(rt; period(alloc, b"FREQUENCY .5E+06 HZ;"), Some(2_000_000));
     assert_refused(&rt, alloc, b"FREQUENCY 9E-7 HZ;", 1, Code::TooLarge);
     assert_refused(&rt, alloc, b"FREQUENCY 0 HZ;", 1, Code::BadNumber);
     assert_refused(&rt, alloc, b"FREQUENCY 1..2 HZ;", 1, Code::BadNumber);
     assert_refused(&rt, alloc, b"FREQUENCY 1E HZ;", 1, Code::BadNumber);
     assert_refused(&rt, alloc, b"FREQUENCY 1E19 HZ;", 1, Code::TooLarge);
-    assert_refused(&rt, alloc, b"FREQUENCY 0000000000000000001 HZ;", 1, Code::TooLarge);
+    assert_refused(
+        &rt,
+        alloc,
+        b"FREQUENCY 0000000000000000001 HZ;",
+        1,
+        Code::TooLarge,
+    );
     assert_refused(&rt, alloc, b"FREQUENCY 1;", 1, Code::BadForm);
     assert_refused(&rt, alloc, b"FREQUENCY ABC HZ;", 1, Code::BadForm);
 }
@@ -83,16 +100,28 @@ fn runs(rt: HostRuntime) {
         Some((Some(15), Some(1_000_000_000), None))
     );
     assert_eq!(rt;
-        run(alloc, b"RUNTEST IDLE 5 TCK 1E-6 SEC MAXIMUM 1E-3 SEC ENDSTATE IRPAUSE;"),
+        run(
+            alloc,
+            b"RUNTEST IDLE 5 TCK 1E-6 SEC MAXIMUM 1E-3 SEC ENDSTATE IRPAUSE;"
+        ),
         Some((Some(5), Some(1_000_000), Some(1_000_000_000)))
     );
-    assert_eq!(rt; run(alloc, b"RUNTEST 4294967295 TCK;"), Some((Some(u32::MAX), None, None)));
+    assert_eq!(rt;
+        run(alloc, b"RUNTEST 4294967295 TCK;"),
+        Some((Some(u32::MAX), None, None))
+    );
     assert_eq!(rt;
         run(alloc, b"RUNTEST 1E6 SEC;"),
         Some((None, Some(1_000_000_000_000_000_000), None))
     );
-    assert_eq!(rt; run(alloc, b"RUNTEST 0.00000000000000001E-18 SEC;"), Some((None, Some(1), None)));
-    assert_eq!(rt; run(alloc, b"RUNTEST 0 TCK 0 SEC;"), Some((Some(0), Some(0), None)));
+    assert_eq!(rt;
+        run(alloc, b"RUNTEST 0.00000000000000001E-18 SEC;"),
+        Some((None, Some(1), None))
+    );
+    assert_eq!(rt;
+        run(alloc, b"RUNTEST 0 TCK 0 SEC;"),
+        Some((Some(0), Some(0), None))
+    );
     assert_refused(&rt, alloc, b"RUNTEST 4294967296 TCK;", 1, Code::TooLarge);
     assert_refused(&rt, alloc, b"RUNTEST 1.000001E6 SEC;", 1, Code::TooLarge);
     assert_refused(&rt, alloc, b"RUNTEST 1.5 TCK;", 1, Code::BadNumber);
@@ -100,7 +129,13 @@ fn runs(rt: HostRuntime) {
     assert_refused(&rt, alloc, b"RUNTEST 5E12 SCK;", 1, Code::Unsupported);
     assert_refused(&rt, alloc, b"RUNTEST 5.5 SCK 1E9 SEC;", 1, Code::BadNumber);
     assert_refused(&rt, alloc, b"RUNTEST IDLE;", 1, Code::BadForm);
-    assert_refused(&rt, alloc, b"RUNTEST 5 TCK MAXIMUM 1 SEC;", 1, Code::BadForm);
+    assert_refused(
+        &rt,
+        alloc,
+        b"RUNTEST 5 TCK MAXIMUM 1 SEC;",
+        1,
+        Code::BadForm,
+    );
     assert_refused(&rt, alloc, b"RUNTEST 1 SEC 5 TCK;", 1, Code::BadForm);
     assert_refused(&rt, alloc, b"RUNTEST 5 TCK ENDSTATE;", 1, Code::BadForm);
 }
@@ -108,16 +143,21 @@ fn runs(rt: HostRuntime) {
 #[test]
 fn scans(rt: HostRuntime) -> Result<(), Fail> {
     let alloc = rt.alloc();
-    let Some(Statement::Scan {
-        which,
-        len,
-        tdi: Some(tdi),
-        tdo: None,
-        mask: Some(mask),
-        smask: Some(smask),
-    }) = one(alloc, b"sdr 12 Mask (0FF) TDI (1 2\n3) SMASK ();")
+    let Some(
+        Statement::Scan {
+            which,
+            len,
+            tdi,
+            tdo,
+            mask,
+            smask,
+        },
+    ) = one(alloc, b"sdr 12 Mask (0FF) TDI (1 2\n3) SMASK ();")
     else {
         return Err(Fail::from("no scan"));
+    };
+    let (Some(tdi), None, Some(mask), Some(smask)) = (tdi, tdo, mask, smask) else {
+        return Err(Fail::from("other fields"));
     };
     assert_eq!(rt; which, Which::Sdr);
     assert_eq!(rt; len, 12);
@@ -125,7 +165,12 @@ fn scans(rt: HostRuntime) -> Result<(), Fail> {
     assert_eq!(rt; shown(&mask), *b"00FF");
     assert_eq!(rt; shown(&smask), *b"0000");
     assert_eq!(rt; smask.len(), 12);
-    assert_count(&rt, alloc, b"HDR 0; HIR 0; TDR 1 TDI (1); TIR 0; SIR 2 TDI (3); SDR 0;", 6);
+    assert_count(
+        &rt,
+        alloc,
+        b"HDR 0; HIR 0; TDR 1 TDI (1); TIR 0; SIR 2 TDI (3); SDR 0;",
+        6,
+    );
     assert_count(&rt, alloc, b"SDR 4 TDI (0F);", 1);
     assert_refused(&rt, alloc, b"SDR 4 TDI (1F);", 1, Code::TooWide);
     assert_refused(&rt, alloc, b"SDR 8 TDI (0G);", 1, Code::BadNumber);
@@ -144,8 +189,20 @@ fn the_lowest_number_is_told(rt: HostRuntime) {
     assert_count(&rt, alloc, b"SDR 65536 TDI (0);", 1);
     assert_refused(&rt, alloc, b"SDR 65537 TDI (0);", 1, Code::TooLarge);
     assert_refused(&rt, alloc, b"SDR 65537 TDI (1F);", 1, Code::TooLarge);
-    assert_refused(&rt, alloc, b"SDR 999999999999999999 TDI (1F) TDO (G);", 1, Code::BadNumber);
-    assert_refused(&rt, alloc, b"SDR 9999999999999999999 TDI (1F);", 1, Code::TooLarge);
+    assert_refused(
+        &rt,
+        alloc,
+        b"SDR 999999999999999999 TDI (1F) TDO (G);",
+        1,
+        Code::BadNumber,
+    );
+    assert_refused(
+        &rt,
+        alloc,
+        b"SDR 9999999999999999999 TDI (1F);",
+        1,
+        Code::TooLarge,
+    );
     assert_refused(&rt, alloc, b"SDR 4 TDI (1F) TDO (G);", 1, Code::BadNumber);
 }
 
@@ -166,19 +223,48 @@ fn states_and_trst(rt: HostRuntime) -> Result<(), Fail> {
     let Some(Statement::States(states)) = one(alloc, b"STATE drselect IRSELECT Reset;") else {
         return Err(Fail::from("no states"));
     };
-    assert_eq!(rt; states.as_slice(), [State::DrSelect, State::IrSelect, State::Reset].as_slice());
-    assert!(rt; matches!(one(alloc, b"ENDDR DRPAUSE;"), Some(Statement::EndDr(State::DrPause))));
-    assert!(rt; matches!(one(alloc, b"EndIr IDLE;"), Some(Statement::EndIr(State::Idle))));
+    assert_eq!(rt;
+        states.as_slice(),
+        [State::DrSelect, State::IrSelect, State::Reset].as_slice()
+    );
+    assert!(rt;
+        matches!(
+            one(alloc, b"ENDDR DRPAUSE;"),
+            Some(Statement::EndDr(State::DrPause))
+        )
+    );
+    assert!(rt;
+        matches!(
+            one(alloc, b"EndIr IDLE;"),
+            Some(Statement::EndIr(State::Idle))
+        )
+    );
     assert!(rt; matches!(one(alloc, b"TRST ON;"), Some(Statement::Trst(TrstWord::On))));
-    assert!(rt; matches!(one(alloc, b"TRST off;"), Some(Statement::Trst(TrstWord::Off))));
+    assert!(rt;
+        matches!(
+            one(alloc, b"TRST off;"),
+            Some(Statement::Trst(TrstWord::Off))
+        )
+    );
     assert!(rt; matches!(one(alloc, b"trst Z;"), Some(Statement::Trst(TrstWord::Z))));
-    assert!(rt; matches!(one(alloc, b"TRST ABSENT;"), Some(Statement::Trst(TrstWord::Absent))));
+    assert!(rt;
+        matches!(
+            one(alloc, b"TRST ABSENT;"),
+            Some(Statement::Trst(TrstWord::Absent))
+        )
+    );
     assert_refused(&rt, alloc, b"STATE;", 1, Code::BadForm);
     assert_refused(&rt, alloc, b"STATE IDLE FOO;", 1, Code::BadForm);
     assert_refused(&rt, alloc, b"ENDDR IDLE IDLE;", 1, Code::BadForm);
     assert_refused(&rt, alloc, b"TRST;", 1, Code::BadForm);
     assert_refused(&rt, alloc, b"PIO (HL);", 1, Code::Unsupported);
-    assert_refused(&rt, alloc, b"PIOMAP (IN A OUT B) ) 1;", 1, Code::Unsupported);
+    assert_refused(
+        &rt,
+        alloc,
+        b"PIOMAP (IN A OUT B) ) 1;",
+        1,
+        Code::Unsupported,
+    );
     Ok(())
 }
 
@@ -191,7 +277,13 @@ fn statements_are_counted(rt: HostRuntime) {
     assert_count(&rt, alloc, b"SIR 2 TDI (3); SIR 2 TDO (1);", 2);
     assert_refused(&rt, alloc, b"SDR 4; FOO;", 2, Code::UnknownCommand);
     assert_refused(&rt, alloc, b";;SDR 4;; ;FOO; #", 2, Code::UnknownCommand);
-    assert_refused(&rt, alloc, b"STATE DRCAPTURE; FOO;", 2, Code::UnknownCommand);
+    assert_refused(
+        &rt,
+        alloc,
+        b"STATE DRCAPTURE; FOO;",
+        2,
+        Code::UnknownCommand,
+    );
     assert_refused(&rt, alloc, b"SDR 4 TDI (F", 1, Code::Unclosed(0));
     assert_refused(&rt, alloc, b"SDR 4 TDI (F);  STATE", 2, Code::Unclosed(16));
     assert_refused(&rt, alloc, b"SDR 4 # ;", 1, Code::BadByte(6));
@@ -228,17 +320,26 @@ fn refusals_are_printed(rt: HostRuntime) -> Result<(), Fail> {
         statement: 1,
         code: Code::TooWide,
     };
-    assert_eq!(rt; format!(in rt.alloc(); "{}", wide)?.as_str(), "svf S6 TooWide statement 1");
+    assert_eq!(rt;
+        format!(in rt.alloc(); "{}", wide)?.as_str(),
+        "svf S6 TooWide statement 1"
+    );
     let bad = SvfFault {
         statement: 12,
         code: Code::BadByte(6),
     };
-    assert_eq!(rt; format!(in rt.alloc(); "{}", bad)?.as_str(), "svf S1 BadByte statement 12");
+    assert_eq!(rt;
+        format!(in rt.alloc(); "{}", bad)?.as_str(),
+        "svf S1 BadByte statement 12"
+    );
     let memory = SvfFault {
         statement: 0,
         code: Code::NoMemory,
     };
     assert_eq!(rt; format!(in rt.alloc(); "{}", memory)?.as_str(), "memory");
-    assert_eq!(rt; format!(in rt.alloc(); "{}", Code::TrstAbsent)?.as_str(), "S11 TrstAbsent");
+    assert_eq!(rt;
+        format!(in rt.alloc(); "{}", Code::TrstAbsent)?.as_str(),
+        "S11 TrstAbsent"
+    );
     Ok(())
 }

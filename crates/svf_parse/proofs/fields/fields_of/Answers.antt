@@ -1,4 +1,3 @@
-use Rattle.std.proofs.Common.{sym, ap, ◌∙◌}
 use Rattle.svf_parse.specs.Words.{words_left}
 use Rattle.svf_parse.specs.Fields.{no_fields, cut_at_close, fields_say}
 use Rattle.svf_parse.specs.View.{fields}

@@ -1,4 +1,4 @@
-use Rattle.std.proofs.Common.{◌≡◌, ◌+◌, ◌-◌, ◌*◌, ◌≤◌, ap, sym, ◌∙◌, min, get_or, arith}
+use Rattle.std.proofs.Common.{◌≡◌, ◌+◌, ◌-◌, ◌*◌, sym, ◌∙◌, min, get_or, arith}
 use Rattle.svf_parse.proofs.Digits.{capped_digit}
 use Rattle.svf_parse.proofs.numbers.capped_value.Goals as goal
 

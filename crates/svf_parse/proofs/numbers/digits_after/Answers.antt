@@ -1,4 +1,4 @@
-use Rattle.std.proofs.Common.{◌≡◌, ◌+◌, ◌-◌, ◌*◌, ◌^◌, ◌≤◌, ap, sym, ◌∙◌, length, arith}
+use Rattle.std.proofs.Common.{◌+◌, ◌*◌, ◌^◌, sym, ◌∙◌, length, arith}
 use Rattle.svf_parse.proofs.Digits.{one_digit}
 use Rattle.svf_parse.proofs.numbers.digits_after.Goals as goal
 

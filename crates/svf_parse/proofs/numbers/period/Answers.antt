@@ -1,4 +1,4 @@
-use Rattle.std.proofs.Common.{◌≡◌, ◌^◌, ◌-◌, refl, sym, ap, ◌∙◌, arith}
+use Rattle.std.proofs.Common.{◌≡◌, ◌^◌, ◌-◌, refl, ◌∙◌, arith}
 use Rattle.std.specs.Int.{div_ceil}
 use Rattle.svf_parse.specs.Numbers.{number_value}
 use Rattle.svf_parse.proofs.NumberLaws.{pow_small, least_period, too_long, middle_large, middle_fits}

@@ -1,4 +1,4 @@
-use Rattle.std.proofs.Common.{◌*◌, ◌^◌, ℕ, sym, ap, ◌∙◌, arith}
+use Rattle.std.proofs.Common.{◌∙◌, arith}
 use Rattle.svf_parse.proofs.NumberLaws.{pow_small, power_positive, time_up, time_down}
 use Rattle.svf_parse.proofs.numbers.picoseconds.Goals as goal
 

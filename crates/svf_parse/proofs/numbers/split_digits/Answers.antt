@@ -1,6 +1,3 @@
-use Rattle.std.proofs.Common.{ap, ◌∙◌}
-use Rattle.std.specs.List.{list_all}
-use Rattle.std.specs.Char.{is_ascii_digit}
 use Rattle.svf_parse.proofs.Digits.{digits_taken}
 use Rattle.svf_parse.proofs.numbers.split_digits.Goals as goal
 

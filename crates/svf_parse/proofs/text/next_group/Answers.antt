@@ -1,4 +1,4 @@
-use Rattle.std.proofs.Common.{◌≡◌, sym, ap, ◌∙◌, List, [], ◌∷◌, ◌++◌, Result, Ok}
+use Rattle.std.proofs.Common.{◌≡◌, ap, ◌∙◌, List, [], ◌∷◌, ◌++◌, Result, Ok}
 use Rattle.svf_lex.specs.declared.Token.{Token}
 use Rattle.svf_lex.specs.declared.LexFault.{LexFault}
 use Rattle.svf_lex.specs.Left.{left, seen}
@@ -16,13 +16,17 @@ returns-in-Some-Err c =
 pub returns-in-Semi-2 : goal.returns-in-Semi-2
 returns-in-Semi-2 c =
     let p = some_words c.loop-fault.is_empty c.loop-fault.invariant.0 c.loop-fault.invariant.2 c.if-is_empty.false in
-    let split : left c.loop-fault.after ≡ seen (Ok c.in-Some-Ok.token) ∷ left c.next.new.self = c.in-Some-Ok.ensures.steps ∙ ap (λ (i : Result Token LexFault). seen i ∷ left c.next.new.self) c.in-Some-Ok.field-0-is in
-    (p.0, p.1, at_semi (left c.args.lexer) (left c.loop-fault.after) (left c.next.new.self) c.loop-fault.invariant.0 c.in-Some-Ok.token.kind c.in-Some-Ok.token.text.now c.in-Some-Ok.token.start c.loop-fault.invariant.1 split c.in-Semi-2.is
-        ∙ ap (λ (ws : List Word). group ws (parts_of (left c.next.new.self))) p.2)
+    let split : left c.loop-fault.after ≡ seen (Ok c.in-Some-Ok.token) ∷ left c.next.new.self = c.in-Some-Ok.ensures.steps ∙ ap (λ (i : Result Token LexFault). seen i ∷ left c.next.new.self) c.in-Some-Ok.field-0-is in (
+      p.0,
+      p.1,
+      at_semi (left c.args.lexer) (left c.loop-fault.after) (left c.next.new.self) c.loop-fault.invariant.0 c.in-Some-Ok.token.kind c.in-Some-Ok.token.text.now c.in-Some-Ok.token.start c.loop-fault.invariant.1 split c.in-Semi-2.is
+          ∙ ap (λ (ws : List Word). group ws (parts_of (left c.next.new.self))) p.2,
+    )
 
 pub loop-fault-preserved : goal.loop-fault-preserved
 loop-fault-preserved c =
-    let split : left c.loop-fault.after ≡ seen (Ok c.in-Some-Ok.token) ∷ left c.next.new.self = c.in-Some-Ok.ensures.steps ∙ ap (λ (i : Result Token LexFault). seen i ∷ left c.next.new.self) c.in-Some-Ok.field-0-is in
-    (c.loop-fault.invariant.0 ++ c.in-Some-Ok.token.text.now ∷ [],
-     at_word (left c.args.lexer) (left c.loop-fault.after) (left c.next.new.self) c.loop-fault.invariant.0 c.in-Some-Ok.token.kind c.in-Some-Ok.token.text.now c.in-Some-Ok.token.start c.loop-fault.invariant.1 split c.in_default.not-Semi,
-     pushed c.loop-fault.invariant.0 c.in-Some-Ok.token.text.now)
+    let split : left c.loop-fault.after ≡ seen (Ok c.in-Some-Ok.token) ∷ left c.next.new.self = c.in-Some-Ok.ensures.steps ∙ ap (λ (i : Result Token LexFault). seen i ∷ left c.next.new.self) c.in-Some-Ok.field-0-is in (
+      c.loop-fault.invariant.0 ++ c.in-Some-Ok.token.text.now ∷ [],
+      at_word (left c.args.lexer) (left c.loop-fault.after) (left c.next.new.self) c.loop-fault.invariant.0 c.in-Some-Ok.token.kind c.in-Some-Ok.token.text.now c.in-Some-Ok.token.start c.loop-fault.invariant.1 split c.in_default.not-Semi,
+      pushed c.loop-fault.invariant.0 c.in-Some-Ok.token.text.now,
+    )

@@ -1,5 +1,3 @@
-use Rattle.std.proofs.Common.{Ok, Err, sym}
-use Rattle.svf_parse.specs.View.{Parses}
 use Rattle.svf_parse.proofs.TextLaws.{text_again}
 use Rattle.svf_parse.proofs.RefusalLaws.{text_refused_again, parse_found, parse_refused}
 use Rattle.svf_parse.proofs.text.parse.Goals as goal

@@ -1,5 +1,4 @@
-use Rattle.std.proofs.Common.{◌≡◌, sym, ap, subst, ◌∙◌, arith}
-use Rattle.svf_lex.specs.Left.{left}
+use Rattle.std.proofs.Common.{sym, ap, ◌∙◌, arith}
 use Rattle.svf_parse.specs.Words.{parts_of}
 use Rattle.svf_parse.specs.Reading.{parts_say}
 use Rattle.svf_parse.proofs.Grouping.{long_text, short_text}

@@ -1,4 +1,4 @@
-use Rattle.std.proofs.Common.{◌≡◌, ◌+◌, ◌≤◌, sym, ap, ◌∙◌, vec_len, arith}
+use Rattle.std.proofs.Common.{◌+◌, vec_len, arith}
 use Rattle.svf_lex.specs.Left.{left}
 use Rattle.svf_parse.specs.Words.{parts_of, words_left}
 use Rattle.svf_parse.specs.Reading.{parts_say}
