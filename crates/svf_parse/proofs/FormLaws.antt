@@ -7,16 +7,15 @@ use Rattle.jt_tap.specs.declared.State.{State}
 use Rattle.jt_tap.specs.Words as st
 use Rattle.svf_parse.specs.declared.statement.TrstWord.{TrstWord}
 use Rattle.svf_parse.specs.declared.statement.Which.{Which}
-use Rattle.svf_parse.specs.declared.statement.Which.TheVariants.{Hdr, Hir, Tdr, Tir, Sdr, Sir}
 use Rattle.svf_parse.specs.declared.keywords.Command.{Command}
 use Rattle.svf_parse.specs.declared.keywords.Command.TheVariants as command
 use Rattle.svf_parse.specs.declared.keywords.FieldName.{FieldName}
 use Rattle.svf_parse.specs.Words.{Word, reads, is_open, is_close, is_number}
-use Rattle.svf_parse.specs.Keywords.{command_word, trst_word, command_of, field_of, state_of}
+use Rattle.svf_parse.specs.Keywords.{command_word, scan_word, trst_word, command_of, field_of, state_of}
 use Rattle.svf_parse.specs.Fields.{◌>>?◌, Fields, no_fields, put, Closed, over, closing, before_close, cut_at_close, joined, runs, bracket, fields_say}
 use Rattle.svf_parse.specs.RunTests.{run_of}
 use Rattle.svf_parse.specs.Forms.{Form, end_dr_form, end_ir_form, frequency_form, scan_form, run_form, states_form, trst_form, port_form, form_of, one_state, one_trst, each_state, with_state, some_states, hertz, scan_of}
-use Rattle.svf_parse.specs.Spelling.{Reads, IsNumber, scan_word, IsRun, AreFields, AreStates, IsForm}
+use Rattle.svf_parse.specs.Spelling.{Reads, IsNumber, IsRun, AreFields, AreStates, IsForm}
 use Rattle.svf_parse.proofs.StateLists.{some_read}
 use Rattle.svf_parse.proofs.FieldLaws.{with_digits, with_digits-nil, next_run, ended_runs, opened, all_fields, field_put}
 use Rattle.svf_parse.proofs.KeywordLaws.{command_read, field_read, field_found, state_read, state_found, trst_read, trst_found}
@@ -222,12 +221,7 @@ form_found k xs command.EndIr f word e =
 form_found k xs command.Frequency f word e =
     let o = option_some frequency_form (hertz xs) f e in
     subst (IsForm (k ∷ xs)) o.2 (hertz_found k xs o.0 word o.1)
-form_found k xs command.Hdr f word e = scan_found k Hdr xs f word e
-form_found k xs command.Hir f word e = scan_found k Hir xs f word e
-form_found k xs command.Tdr f word e = scan_found k Tdr xs f word e
-form_found k xs command.Tir f word e = scan_found k Tir xs f word e
-form_found k xs command.Sdr f word e = scan_found k Sdr xs f word e
-form_found k xs command.Sir f word e = scan_found k Sir xs f word e
+form_found k xs (command.Scan which) f word e = scan_found k which xs f word e
 form_found k xs command.RunTest f word e =
     let o = option_some run_form (run_of xs) f e in
     subst (IsForm (k ∷ xs)) o.2 (k, xs, refl, word, run_found xs o.0 o.1)
@@ -256,25 +250,9 @@ pub record IsRead (ws : List Word) (f : Form) : Type 0 where
 read_as : (ws : List Word) (f : Form) (w : Word) (rest : List Word) (c : Command) → ws ≡ w ∷ rest → Reads w (command_word c) → form_of c rest ≡ Some f → IsRead ws f
 read_as ws f w rest c split word form = record { word = w; rest = rest; command = c; split = split; known = command_read w c word; form = form }
 
-scan_command : Which → Command
-scan_command Hdr = command.Hdr
-scan_command Hir = command.Hir
-scan_command Tdr = command.Tdr
-scan_command Tir = command.Tir
-scan_command Sdr = command.Sdr
-scan_command Sir = command.Sir
-
 scan_read : (which : Which) (n : Word) (xs : List Word) (fs : Fields) → IsNumber n → fields_say no_fields (cut_at_close xs) ≡ Some fs → scan_of which (n ∷ xs) ≡ Some (scan_form which n fs)
 unfolding scan_of
 scan_read which n xs fs number says = rw (number, says) refl
-
-scan_read_as : (ws : List Word) (which : Which) (n : Word) (fs : Fields) (k : Word) (xs : List Word) → ws ≡ k ∷ n ∷ xs → Reads k (scan_word which) → scan_of which (n ∷ xs) ≡ Some (scan_form which n fs) → IsRead ws (scan_form which n fs)
-scan_read_as ws Hdr n fs k xs split word says = read_as ws (scan_form Hdr n fs) k (n ∷ xs) command.Hdr split word says
-scan_read_as ws Hir n fs k xs split word says = read_as ws (scan_form Hir n fs) k (n ∷ xs) command.Hir split word says
-scan_read_as ws Tdr n fs k xs split word says = read_as ws (scan_form Tdr n fs) k (n ∷ xs) command.Tdr split word says
-scan_read_as ws Tir n fs k xs split word says = read_as ws (scan_form Tir n fs) k (n ∷ xs) command.Tir split word says
-scan_read_as ws Sdr n fs k xs split word says = read_as ws (scan_form Sdr n fs) k (n ∷ xs) command.Sdr split word says
-scan_read_as ws Sir n fs k xs split word says = read_as ws (scan_form Sir n fs) k (n ∷ xs) command.Sir split word says
 
 hertz_read : (n u : Word) → IsNumber n → Reads u (codes "HZ") → hertz (n ∷ u ∷ []) ≡ Some (Some n)
 unfolding hertz
@@ -297,7 +275,7 @@ form_read ws (end_dr_form s) h = read_as ws (end_dr_form s) h.0 (h.1 ∷ []) com
 form_read ws (end_ir_form s) h = read_as ws (end_ir_form s) h.0 (h.1 ∷ []) command.EndIr h.2 h.3 (ap (option_map end_ir_form) (one_state_read h.1 s h.4))
 form_read ws (frequency_form None) h = read_as ws (frequency_form None) h.0 [] command.Frequency h.1 h.2 (ap (option_map frequency_form) no_hertz)
 form_read ws (frequency_form (Some n)) h = read_as ws (frequency_form (Some n)) h.0 (n ∷ h.1 ∷ []) command.Frequency h.2 h.3 (ap (option_map frequency_form) (hertz_read n h.1 h.4 h.5))
-form_read ws (scan_form which n fs) h = scan_read_as ws which n fs h.0 h.1 h.3 h.4 (scan_read which n h.1 fs h.5 (fields_read h.1 h.2 no_fields fs h.6))
+form_read ws (scan_form which n fs) h = read_as ws (scan_form which n fs) h.0 (n ∷ h.1) (command.Scan which) h.3 h.4 (scan_read which n h.1 fs h.5 (fields_read h.1 h.2 no_fields fs h.6))
 form_read ws (run_form r) h = read_as ws (run_form r) h.0 h.1 command.RunTest h.2 h.3 (ap (option_map run_form) (run_read h.1 r h.4))
 form_read ws (states_form ss) h = read_as ws (states_form ss) h.0 h.1 command.State h.2 h.3 (ap (option_map states_form) (some_read ss h.1 h.4 (states_read h.1 ss h.5)))
 form_read ws (trst_form t) h = read_as ws (trst_form t) h.0 (h.1 ∷ []) command.Trst h.2 h.3 (ap (option_map trst_form) (one_trst_read h.1 t h.4))

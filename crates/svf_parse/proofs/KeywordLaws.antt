@@ -8,6 +8,7 @@ use Rattle.jt_tap.specs.declared.State.TheVariants as st
 use Rattle.jt_tap.specs.Words as states
 use Rattle.svf_parse.specs.declared.statement.TrstWord.{TrstWord}
 use Rattle.svf_parse.specs.declared.statement.TrstWord.TheVariants as trst
+use Rattle.svf_parse.specs.declared.statement.Which.TheVariants as scan
 use Rattle.svf_parse.specs.declared.keywords.Command.{Command}
 use Rattle.svf_parse.specs.declared.keywords.Command.TheVariants as command
 use Rattle.svf_parse.specs.declared.keywords.FieldName.{FieldName}
@@ -39,12 +40,12 @@ command_known : (c : Command) → found_by command_word COMMANDS (lower (command
 command_known command.EndDr = refl
 command_known command.EndIr = refl
 command_known command.Frequency = refl
-command_known command.Hdr = refl
-command_known command.Hir = refl
-command_known command.Tdr = refl
-command_known command.Tir = refl
-command_known command.Sdr = refl
-command_known command.Sir = refl
+command_known (command.Scan scan.Hdr) = refl
+command_known (command.Scan scan.Hir) = refl
+command_known (command.Scan scan.Tdr) = refl
+command_known (command.Scan scan.Tir) = refl
+command_known (command.Scan scan.Sdr) = refl
+command_known (command.Scan scan.Sir) = refl
 command_known command.RunTest = refl
 command_known command.State = refl
 command_known command.Trst = refl

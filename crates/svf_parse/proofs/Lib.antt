@@ -2,6 +2,7 @@ pub mod Digits
 pub mod FieldLaws
 pub mod FormLaws
 pub mod Grouping
+pub mod JudgedLaws
 pub mod KeywordLaws
 pub mod LeastLaws
 pub mod NumberLaws

@@ -18,6 +18,7 @@ use Rattle.svf_parse.specs.Spelling as spelling
 use Rattle.svf_parse.specs.View.{said, Parses, memory_fault}
 use Rattle.svf_parse.proofs.StatementLaws.{spelled, read_again, refused, refused_again}
 use Rattle.svf_parse.proofs.TextLaws.{text_found}
+use Rattle.svf_lex.proofs.Endings.{each_lexes, lexer_gives}
 use Rattle.svf_parse.proofs.Grouping.{long_text, short_text}
 
 -- ---- the first refusal of parts whose first statement has number n
@@ -184,19 +185,21 @@ pub text_refused : (text : List ℕ) (f : SvfFault) → text_says text ≡ Err f
 text_refused text f says =
     ⊎_elim
     (λ long. inl (long, sym (same_fault (fault_at 0 code.TooLarge) f (sym (long_text text long) ∙ says))))
-    (λ short. inr (short, first_of (parts_of (items_of text)) f (parts_refused 1 (parts_of (items_of text)) f (sym (short_text text short) ∙ says))))
+    (λ short. inr (short, items_of text, each_lexes text, first_of (parts_of (items_of text)) f (parts_refused 1 (parts_of (items_of text)) f (sym (short_text text short) ∙ says))))
     (order 16777216 (length text))
 
 pub text_refused_again : (text : List ℕ) (f : SvfFault) → TextRefuses text f → text_says text ≡ Err f
 text_refused_again text f (inl long) = long_text text long.0 ∙ ap refusal (sym long.1)
-text_refused_again text f (inr short) = short_text text short.0 ∙ parts_refused_again 1 (parts_of (items_of text)) f (omega arith) (from_first (parts_of (items_of text)) f short.1)
+text_refused_again text f (inr short) =
+    short_text text short.0 ∙ ap (λ items. parts_say 1 (parts_of items)) ((lexer_gives text short.1).0 short.2)
+    ∙ parts_refused_again 1 (parts_of short.1) f (omega arith) (from_first (parts_of short.1) f short.3)
 
 -- ---- what `parse` ensures
 
 ok_or_refused : (ss : List Said) (f : SvfFault) → accepted ss ≡ refusal f → ⊥
 ok_or_refused ss f e = cc
 
-no_long : (text : List ℕ) (ss : List Said) → text_says text ≡ Ok ss → length text ≤ 16777216
+pub no_long : (text : List ℕ) (ss : List Said) → text_says text ≡ Ok ss → length text ≤ 16777216
 no_long text ss says = ⊎_elim (λ long. absurd (ok_or_refused ss (fault_at 0 code.TooLarge) (sym says ∙ long_text text long))) (λ short. short) (order 16777216 (length text))
 
 pub parse_found : (r : Result (Vec Statement) SvfFault) (text : List ℕ) → Parses r (text_says text) → IfOk r (λ v. TextSpells text (map said v.items))

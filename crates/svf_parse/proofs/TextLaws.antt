@@ -12,6 +12,7 @@ use Rattle.svf_parse.specs.Judging.{◌>>=◌, Said}
 use Rattle.svf_parse.specs.Reading.{statement_says, parts_say, text_says, at_statement, within_limit}
 use Rattle.svf_parse.specs.Spelling.{Spells, EachSpells, closed_by, TextSpells}
 use Rattle.svf_parse.proofs.StatementLaws.{spelled, read_again}
+use Rattle.svf_lex.proofs.Endings.{each_lexes, lexer_gives}
 use Rattle.svf_parse.proofs.Grouping.{short_text}
 
 -- ---- where no fault ends the text, nothing stands after the last `;`
@@ -79,6 +80,9 @@ pub record Read (n : ℕ) (parts : Parts) (ss : List Said) : Type 0 where
   pub each : EachSpells groups ss
   pub count : n ≤ 200001 → n + length ss ≤ 200001
 
+grouped : (g : List Word) (p q : Parts) → p ≡ q → group g p ≡ group g q
+grouped g p q e = ap (group g) e
+
 pub parts_found : (n : ℕ) (parts : Parts) (ss : List Said) → parts_say n parts ≡ Ok ss → Read n parts ss
 unfolding parts_say
 parts_found n (last ws None) [] h = record { groups = []; open_words = ws; cut = refl; each = tt; count = λ le. omega arith }
@@ -94,7 +98,7 @@ parts_found n (group (w ∷ ws) parts) ss h =
     let g = limit_ok (nat_lt 200000 n) l.0 a.0 l.2 in
     let r = parts_found (n + 1) parts b.0 b.1 in
     let here : Spells (w ∷ ws) a.0 = spelled (w ∷ ws) a.0 (l.1 ∙ ap (λ (s : Said). Ok s) g.1) in
-    let made : Read n (group (w ∷ ws) parts) (a.0 ∷ b.0) = record { groups = (w ∷ ws) ∷ r.groups; open_words = r.open_words; cut = ap (group (w ∷ ws)) r.cut; each = (here, r.each); count = λ le. let m = r.count (omega (arith, within n g.0)) in omega (arith, m) } in
+    let made : Read n (group (w ∷ ws) parts) (a.0 ∷ b.0) = record { groups = (w ∷ ws) ∷ r.groups; open_words = r.open_words; cut = grouped (w ∷ ws) parts (closed_by r.groups (last r.open_words None)) r.cut; each = (here, r.each); count = λ le. let m = r.count (omega (arith, within n g.0)) in omega (arith, m) } in
     subst (Read n (group (w ∷ ws) parts)) (ok_is (a.0 ∷ b.0) ss b.2) made
 
 pub parts_again : (n : ℕ) (gs : List (List Word)) (ws : List Word) (ss : List Said) → EachSpells gs ss → n + length ss ≤ 200001 → parts_say n (closed_by gs (last ws None)) ≡ Ok ss
@@ -112,7 +116,8 @@ text_found text ss short says =
     let r = parts_found 1 (parts_of (items_of text)) ss (sym (short_text text short) ∙ says) in
     let nothing : r.open_words ≡ [] = nothing_left r.groups r.open_words None (subst (λ (p : Parts). EndsWell p None) r.cut (ends_well (cuts_of text) None)) in
     let count = r.count (omega arith) in
-    (r.groups, short, omega (arith, count), r.cut ∙ ap (λ (ws : List Word). closed_by r.groups (last ws None)) nothing, r.each)
+    (items_of text, r.groups, short, omega (arith, count), each_lexes text, r.cut ∙ ap (λ (ws : List Word). closed_by r.groups (last ws None)) nothing, r.each)
 
 pub text_again : (text : List ℕ) (ss : List Said) → TextSpells text ss → text_says text ≡ Ok ss
-text_again text ss h = short_text text h.1 ∙ ap (parts_say 1) h.3 ∙ parts_again 1 h.0 [] ss h.4 (omega (arith, h.2))
+text_again text ss h =
+    short_text text h.2 ∙ ap (λ items. parts_say 1 (parts_of items)) ((lexer_gives text h.0).0 h.4) ∙ ap (parts_say 1) h.5 ∙ parts_again 1 h.1 [] ss h.6 (omega (arith, h.3))

@@ -3,7 +3,6 @@ use Rattle.std.specs.Prelude.{◌&&◌, if◌then◌else◌, List, [], ◌∷◌
 use Rattle.jt_tap.specs.declared.State.{State}
 use Rattle.svf_parse.specs.declared.statement.TrstWord.{TrstWord}
 use Rattle.svf_parse.specs.declared.statement.Which.{Which}
-use Rattle.svf_parse.specs.declared.statement.Which.TheVariants.{Hdr, Hir, Tdr, Tir, Sdr, Sir}
 use Rattle.svf_parse.specs.declared.keywords.Command.{Command}
 use Rattle.svf_parse.specs.declared.keywords.Command.TheVariants as command
 use Rattle.svf_parse.specs.Words.{Word, reads, is_number}
@@ -65,12 +64,7 @@ abbrev pub form_of : Command → List Word → Option Form
 form_of command.EndDr ws = option_map end_dr_form (one_state ws)
 form_of command.EndIr ws = option_map end_ir_form (one_state ws)
 form_of command.Frequency ws = option_map frequency_form (hertz ws)
-form_of command.Hdr ws = scan_of Hdr ws
-form_of command.Hir ws = scan_of Hir ws
-form_of command.Tdr ws = scan_of Tdr ws
-form_of command.Tir ws = scan_of Tir ws
-form_of command.Sdr ws = scan_of Sdr ws
-form_of command.Sir ws = scan_of Sir ws
+form_of (command.Scan which) ws = scan_of which ws
 form_of command.RunTest ws = option_map run_form (run_of ws)
 form_of command.State ws = option_map states_form (some_states ws)
 form_of command.Trst ws = option_map trst_form (one_trst ws)

@@ -5,6 +5,8 @@ use Rattle.jt_tap.specs.declared.State.TheVariants.{Reset, Idle, DrSelect, DrCap
 use Rattle.jt_tap.specs.Words as states
 use Rattle.svf_parse.specs.declared.statement.TrstWord.{TrstWord}
 use Rattle.svf_parse.specs.declared.statement.TrstWord.TheVariants as trst
+use Rattle.svf_parse.specs.declared.statement.Which.{Which}
+use Rattle.svf_parse.specs.declared.statement.Which.TheVariants as scan
 use Rattle.svf_parse.specs.declared.keywords.Command.{Command}
 use Rattle.svf_parse.specs.declared.keywords.Command.TheVariants as command
 use Rattle.svf_parse.specs.declared.keywords.FieldName.{FieldName}
@@ -14,16 +16,19 @@ use Rattle.svf_parse.specs.declared.keywords.Clock.TheVariants as clock
 use Rattle.svf_parse.specs.declared.keywords.TheConstants.{COMMANDS, FIELDS, CLOCKS, TRST_WORDS}
 use Rattle.svf_parse.specs.Words.{Word, reads}
 
+abbrev pub scan_word : Which → List ℕ
+scan_word scan.Hdr = codes "HDR"
+scan_word scan.Hir = codes "HIR"
+scan_word scan.Tdr = codes "TDR"
+scan_word scan.Tir = codes "TIR"
+scan_word scan.Sdr = codes "SDR"
+scan_word scan.Sir = codes "SIR"
+
 abbrev pub command_word : Command → List ℕ
 command_word command.EndDr = codes "ENDDR"
 command_word command.EndIr = codes "ENDIR"
 command_word command.Frequency = codes "FREQUENCY"
-command_word command.Hdr = codes "HDR"
-command_word command.Hir = codes "HIR"
-command_word command.Tdr = codes "TDR"
-command_word command.Tir = codes "TIR"
-command_word command.Sdr = codes "SDR"
-command_word command.Sir = codes "SIR"
+command_word (command.Scan which) = scan_word which
 command_word command.RunTest = codes "RUNTEST"
 command_word command.State = codes "STATE"
 command_word command.Trst = codes "TRST"

@@ -1,6 +1,5 @@
 -- The refusals that a statement has of its own, all of them, and that the one with the lowest number is told.
-use Rattle.std.specs.Prelude.{◌≡◌, ℕ, ◌≤◌, ◌⊎◌, true, Option, Some, None, Ok, Err}
-use Rattle.std.specs.Prelude.{List}
+use Rattle.std.specs.Prelude.{◌≡◌, ℕ, ◌≤◌, ◌⊎◌, true, List, Option, Some, None, Ok, Err}
 use Rattle.svf_parse.specs.declared.fault.Code.{Code}
 use Rattle.svf_parse.specs.declared.fault.Code.TheVariants as code
 use Rattle.svf_parse.specs.declared.keywords.Clock.{Clock}

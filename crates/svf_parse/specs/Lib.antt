@@ -1,5 +1,6 @@
 pub mod Fields
 pub mod Forms
+pub mod Judged
 pub mod Judging
 pub mod Keywords
 pub mod Least

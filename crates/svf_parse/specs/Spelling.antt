@@ -1,19 +1,18 @@
 -- The grammar: which words are a statement, and which texts are a list of them. Nothing here reads from left to right.
-use Rattle.std.specs.Prelude.{◌≡◌, ℕ, ◌+◌, ◌<◌, ◌≤◌, ◌⊎◌, IsSome, true, false, List, [], ◌∷◌, ◌++◌, length, codes, Option, Some, None, Ok, Err}
+use Rattle.std.specs.Prelude.{◌≡◌, ℕ, ◌+◌, ◌<◌, ◌≤◌, ◌⊎◌, IsSome, true, false, List, [], ◌∷◌, ◌++◌, length, codes, Option, Some, None, Result, Ok, Err}
 use Rattle.std.specs.List.{flat_map, AllByRecursion}
 use Rattle.jt_tap.specs.declared.State.{State}
 use Rattle.jt_tap.specs.Words as states
 use Rattle.svf_lex.specs.declared.LexFault.{LexFault}
-use Rattle.svf_lex.specs.Cutting.{items_of}
+use Rattle.svf_lex.specs.Cutting.{Lexeme}
+use Rattle.svf_lex.specs.Lexed.{Lexes}
 use Rattle.svf_parse.specs.declared.fault.Code.{Code}
 use Rattle.svf_parse.specs.declared.fault.Code.TheVariants as code
 use Rattle.svf_parse.specs.declared.fault.SvfFault.{SvfFault}
-use Rattle.svf_parse.specs.declared.statement.Which.{Which}
-use Rattle.svf_parse.specs.declared.statement.Which.TheVariants.{Hdr, Hir, Tdr, Tir, Sdr, Sir}
 use Rattle.svf_parse.specs.declared.keywords.FieldName.{FieldName}
 use Rattle.svf_parse.specs.declared.keywords.Clock.{Clock}
 use Rattle.svf_parse.specs.Words.{Word, reads, is_open, is_close, is_number, Parts, last, group, parts_of}
-use Rattle.svf_parse.specs.Keywords.{field_word, clock_word, trst_word, command_of}
+use Rattle.svf_parse.specs.Keywords.{scan_word, field_word, clock_word, trst_word, command_of}
 use Rattle.svf_parse.specs.Fields.{Fields, no_fields, put}
 use Rattle.svf_parse.specs.RunTests.{Run}
 use Rattle.svf_parse.specs.Forms.{Form, end_dr_form, end_ir_form, frequency_form, scan_form, run_form, states_form, trst_form, port_form}
@@ -27,14 +26,6 @@ Reads w keyword = reads w keyword ≡ true
 -- the word stands for a number
 abbrev pub IsNumber : Word → Type 0
 IsNumber w = is_number w ≡ true
-
-abbrev pub scan_word : Which → List ℕ
-scan_word Hdr = codes "HDR"
-scan_word Hir = codes "HIR"
-scan_word Tdr = codes "TDR"
-scan_word Tir = codes "TIR"
-scan_word Sdr = codes "SDR"
-scan_word Sir = codes "SIR"
 
 -- the words are these states
 abbrev pub AreStates : List Word → List State → Type 0
@@ -143,8 +134,8 @@ closed_by (g ∷ gs) parts = group g (closed_by gs parts)
 -- stands after the last `;`.
 abbrev pub TextSpells : List ℕ → List Said → Type 0
 TextSpells text ss =
-    (gs : List (List Word)) × (length text ≤ text_limit) × (length ss ≤ statement_limit)
-    × (parts_of (items_of text) ≡ closed_by gs (last [] None)) × EachSpells gs ss
+    (tokens : List (Result Lexeme LexFault)) × (gs : List (List Word)) × (length text ≤ text_limit) × (length ss ≤ statement_limit)
+    × Lexes text tokens × (parts_of tokens ≡ closed_by gs (last [] None)) × EachSpells gs ss
 
 -- the refusal of the statement behind these
 abbrev pub fault_behind : List Said → Code → SvfFault
@@ -164,4 +155,4 @@ pub data FirstRefusal (parts : Parts) (f : SvfFault) : Type 0 where
 abbrev pub TextRefuses : List ℕ → SvfFault → Type 0
 TextRefuses text f =
     ((text_limit < length text) × (f ≡ record { statement = 0; code = code.TooLarge }))
-    ⊎ ((length text ≤ text_limit) × FirstRefusal (parts_of (items_of text)) f)
+    ⊎ ((length text ≤ text_limit) × (tokens : List (Result Lexeme LexFault)) × Lexes text tokens × FirstRefusal (parts_of tokens) f)

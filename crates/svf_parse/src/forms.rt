@@ -49,12 +49,7 @@ pub(crate) fn form_of<'a>(
             Some(number) => Some(Written::Frequency(number)),
             None => None,
         },
-        Command::Hdr => scan_of(alloc, Which::Hdr, words)?,
-        Command::Hir => scan_of(alloc, Which::Hir, words)?,
-        Command::Tdr => scan_of(alloc, Which::Tdr, words)?,
-        Command::Tir => scan_of(alloc, Which::Tir, words)?,
-        Command::Sdr => scan_of(alloc, Which::Sdr, words)?,
-        Command::Sir => scan_of(alloc, Which::Sir, words)?,
+        Command::Scan(which) => scan_of(alloc, which, words)?,
         Command::RunTest => match run_of(words) {
             Some(run) => Some(Written::RunTest(run)),
             None => None,

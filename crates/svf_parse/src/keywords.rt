@@ -3,7 +3,7 @@ ghost use Rattle.std.specs.Prelude.{◌≡◌, find};
 ghost use Rattle.svf_parse.specs.Keywords as spec;
 ghost use Rattle.svf_parse.specs.Words as words_spec;
 
-use crate::statement::TrstWord;
+use crate::statement::{TrstWord, Which};
 use crate::words::reads;
 use jt_tap::State;
 
@@ -13,12 +13,7 @@ pub(crate) enum Command {
     EndDr,
     EndIr,
     Frequency,
-    Hdr,
-    Hir,
-    Tdr,
-    Tir,
-    Sdr,
-    Sir,
+    Scan(Which),
     RunTest,
     State,
     Trst,
@@ -48,12 +43,12 @@ const COMMANDS: [Command; 14] = [
     Command::EndDr,
     Command::EndIr,
     Command::Frequency,
-    Command::Hdr,
-    Command::Hir,
-    Command::Tdr,
-    Command::Tir,
-    Command::Sdr,
-    Command::Sir,
+    Command::Scan(Which::Hdr),
+    Command::Scan(Which::Hir),
+    Command::Scan(Which::Tdr),
+    Command::Scan(Which::Tir),
+    Command::Scan(Which::Sdr),
+    Command::Scan(Which::Sir),
     Command::RunTest,
     Command::State,
     Command::Trst,
@@ -154,17 +149,25 @@ fn command_word(command: Command) -> &'static [u8]
         Command::EndDr => b"ENDDR",
         Command::EndIr => b"ENDIR",
         Command::Frequency => b"FREQUENCY",
-        Command::Hdr => b"HDR",
-        Command::Hir => b"HIR",
-        Command::Tdr => b"TDR",
-        Command::Tir => b"TIR",
-        Command::Sdr => b"SDR",
-        Command::Sir => b"SIR",
+        Command::Scan(which) => scan_word(which),
         Command::RunTest => b"RUNTEST",
         Command::State => b"STATE",
         Command::Trst => b"TRST",
         Command::Pio => b"PIO",
         Command::PioMap => b"PIOMAP",
+    }
+}
+
+fn scan_word(which: Which) -> &'static [u8]
+    ensures { result.now ≡ spec.scan_word which }
+{
+    match which {
+        Which::Hdr => b"HDR",
+        Which::Hir => b"HIR",
+        Which::Tdr => b"TDR",
+        Which::Tir => b"TIR",
+        Which::Sdr => b"SDR",
+        Which::Sir => b"SIR",
     }
 }
 
