@@ -1,0 +1,169 @@
+-- The statements of a text, one group after another.
+use Rattle.std.proofs.Common.{◌≡◌, ℕ, suc, ◌+◌, ◌<◌, ◌≤◌, nat_eq, nat_lt, length-append, Bool, true, false, List, [], ◌∷◌, ◌++◌, length, map, Option, Some, None, Result, Ok, Err, refl, sym, ap, ◌∙◌, append_assoc, arith}
+use Rattle.std.proofs.lemmas.List.{append-nil, map-append}
+use Rattle.std.proofs.lemmas.Bool.Decides.{nat_tests}
+use Rattle.svf_lex.specs.declared.Kind.{Kind}
+use Rattle.svf_lex.specs.declared.Kind.TheVariants as kind
+use Rattle.svf_lex.specs.declared.LexFault.{LexFault}
+use Rattle.svf_lex.specs.Cutting.{Lexeme, items_of}
+use Rattle.svf_parse.specs.declared.fault.Code.TheVariants as code
+use Rattle.svf_parse.specs.declared.fault.SvfFault.{SvfFault}
+use Rattle.svf_parse.specs.Words.{Word, Parts, last, group, with_word, with_token, parts_of, first_words}
+use Rattle.svf_parse.specs.declared.fault.Stop.{Stop}
+use Rattle.svf_parse.specs.declared.fault.Stop.TheVariants as stop
+use Rattle.svf_parse.specs.declared.statement.Statement.{Statement}
+use Rattle.svf_parse.specs.View.{said, Stops}
+use Rattle.svf_parse.specs.Judging.{◌>>=◌, Said}
+use Rattle.svf_parse.specs.Reading.{statement_says, parts_say, text_says, at_statement, within_limit, lex_code}
+
+-- words before parts
+abbrev pub with_words : List Word → Parts → Parts
+with_words [] parts = parts
+with_words (w ∷ ws) parts = with_word w (with_words ws parts)
+
+pub with_words-push : (ws : List Word) (w : Word) (parts : Parts) → with_words (ws ++ w ∷ []) parts ≡ with_words ws (with_word w parts)
+with_words-push [] w parts = refl
+with_words-push (x ∷ ws) w parts = ap (with_word x) (with_words-push ws w parts)
+
+pub with_words-last : (ws rest : List Word) (fault : Option LexFault) → with_words ws (last rest fault) ≡ last (ws ++ rest) fault
+with_words-last [] rest fault = refl
+with_words-last (w ∷ ws) rest fault = ap (with_word w) (with_words-last ws rest fault)
+
+pub with_words-group : (ws rest : List Word) (parts : Parts) → with_words ws (group rest parts) ≡ group (ws ++ rest) parts
+with_words-group [] rest parts = refl
+with_words-group (w ∷ ws) rest parts = ap (with_word w) (with_words-group ws rest parts)
+
+-- statements that were read, before those that are read next
+abbrev pub in_front : List Said → Result (List Said) SvfFault → Result (List Said) SvfFault
+in_front front says = says >>= λ ss. Ok (front ++ ss)
+
+regroup : (front : List Said) (s : Said) (says : Result (List Said) SvfFault) → in_front front (says >>= λ ss. Ok (s ∷ ss)) ≡ in_front (front ++ s ∷ []) says
+regroup front s (Err e) = refl
+regroup front s (Ok ss) = ap (λ (x : List Said). Ok x) (sym (append_assoc front (s ∷ []) ss))
+
+pub in_front-nil : (says : Result (List Said) SvfFault) → in_front [] says ≡ says
+in_front-nil (Err e) = refl
+in_front-nil (Ok ss) = refl
+
+-- the statement that a group with words says
+abbrev pub group_says : ℕ → List Word → Result Said SvfFault
+group_says n ws = at_statement n (within_limit n (statement_says ws))
+
+pub empty_group : (n : ℕ) (ws : List Word) (parts : Parts) → ws ≡ [] → parts_say n (group ws parts) ≡ parts_say n parts
+unfolding parts_say
+empty_group n ws parts e = rw e refl
+
+opened : (n : ℕ) (ws : List Word) (parts : Parts) → (ws ≡ [] → ⊥) → parts_say n (group ws parts) ≡ (group_says n ws >>= λ s. parts_say (n + 1) parts >>= λ ss. Ok (s ∷ ss))
+unfolding parts_say
+opened n [] parts some = absurd (some refl)
+opened n (w ∷ ws) parts some = refl
+
+pub said_group : (front : List Said) (n : ℕ) (ws : List Word) (parts : Parts) (s : Said) → (ws ≡ [] → ⊥) → group_says n ws ≡ Ok s
+    → in_front front (parts_say n (group ws parts)) ≡ in_front (front ++ s ∷ []) (parts_say (n + 1) parts)
+said_group front n ws parts s some says =
+    ap (in_front front) (opened n ws parts some ∙ ap (λ (r : Result Said SvfFault). r >>= λ s. parts_say (n + 1) parts >>= λ ss. Ok (s ∷ ss)) says) ∙ regroup front s (parts_say (n + 1) parts)
+
+pub refused_group : (front : List Said) (n : ℕ) (ws : List Word) (parts : Parts) (f : SvfFault) → (ws ≡ [] → ⊥) → group_says n ws ≡ Err f
+    → in_front front (parts_say n (group ws parts)) ≡ Err f
+refused_group front n ws parts f some says =
+    ap (in_front front) (opened n ws parts some ∙ ap (λ (r : Result Said SvfFault). r >>= λ s. parts_say (n + 1) parts >>= λ ss. Ok (s ∷ ss)) says)
+
+pub at_last : (front : List Said) (n : ℕ) (ws : List Word) → in_front front (parts_say n (last ws None)) ≡ Ok front
+unfolding parts_say
+at_last front n ws = ap (λ (x : List Said). Ok x) (append-nil front)
+
+pub at_broken : (front : List Said) (n : ℕ) (ws : List Word) (e : LexFault) → in_front front (parts_say n (last ws (Some e))) ≡ Err (record { statement = n; code = lex_code e })
+unfolding parts_say
+at_broken front n ws e = refl
+
+filled : (n : ℕ) → nat_eq (suc n) 0 ≡ false
+filled n = grind (arith, nat_tests)
+
+more_test : (n : ℕ) → nat_eq (n + 1) 0 ≡ false
+more_test n = grind (arith, nat_tests)
+
+-- ---- one token more of a group that began at `start`
+
+abbrev Items : Type 0
+Items = List (Result Lexeme LexFault)
+
+pub at_fault : (start items more : Items) (ws : List Word) (item : Result Lexeme LexFault) (e : LexFault) → parts_of start ≡ with_words ws (parts_of items) → items ≡ item ∷ more → item ≡ Err e
+    → (xs : List Word) × (parts_of start ≡ last xs (Some e))
+at_fault start items more ws item e so_far split is =
+    (ws ++ [], so_far ∙ ap (λ (xs : Items). with_words ws (parts_of xs)) (split ∙ ap (λ (i : Result Lexeme LexFault). i ∷ more) is) ∙ with_words-last ws [] (Some e))
+
+pub at_over : (start items : Items) (ws : List Word) → parts_of start ≡ with_words ws (parts_of items) → items ≡ [] → (xs : List Word) × (parts_of start ≡ last xs None)
+at_over start items ws so_far split = (ws ++ [], so_far ∙ ap (λ (xs : Items). with_words ws (parts_of xs)) split ∙ with_words-last ws [] None)
+
+pub at_semi : (start items more : Items) (ws : List Word) (k : Kind) (text : List ℕ) (place : ℕ) → parts_of start ≡ with_words ws (parts_of items) → items ≡ Ok (record { kind = k; text = text; start = place }) ∷ more → k ≡ kind.Semi
+    → parts_of start ≡ group ws (parts_of more)
+at_semi start items more ws k text place so_far split is =
+    so_far ∙ ap (λ (xs : Items). with_words ws (parts_of xs)) split ∙ ap (λ (j : Kind). with_words ws (with_token j text (parts_of more))) is ∙ with_words-group ws [] (parts_of more) ∙ ap (λ (xs : List Word). group xs (parts_of more)) (append-nil ws)
+
+other_token : (k : Kind) (text : List ℕ) (parts : Parts) → (k ≡ kind.Semi → ⊥) → with_token k text parts ≡ with_word text parts
+other_token kind.Semi text parts other = absurd (other refl)
+other_token kind.Run text parts other = refl
+other_token kind.Open text parts other = refl
+other_token kind.Close text parts other = refl
+
+pub at_word : (start items more : Items) (ws : List Word) (k : Kind) (text : List ℕ) (place : ℕ) → parts_of start ≡ with_words ws (parts_of items) → items ≡ Ok (record { kind = k; text = text; start = place }) ∷ more → (k ≡ kind.Semi → ⊥)
+    → parts_of start ≡ with_words (ws ++ text ∷ []) (parts_of more)
+at_word start items more ws k text place so_far split other =
+    so_far ∙ ap (λ (xs : Items). with_words ws (parts_of xs)) split ∙ ap (with_words ws) (other_token k text (parts_of more) other) ∙ sym (with_words-push ws text (parts_of more))
+
+pub some_words : (b : Bool) (ws : List Word) → b ≡ nat_eq (length ws) 0 → b ≡ false → (w : Word) × (xs : List Word) × (ws ≡ w ∷ xs)
+some_words b [] is other = absurd cc
+some_words b (w ∷ ws) is other = (w, ws, refl)
+
+pub no_words : (b : Bool) (ws : List Word) → b ≡ nat_eq (length ws) 0 → b ≡ true → ws ≡ []
+no_words b [] is holds = refl
+no_words b (w ∷ ws) is holds = absurd (let e : nat_eq (length (w ∷ ws)) 0 ≡ false = filled (length ws) in cc)
+
+pub pushed : (ws : List Word) (w : Word) → false ≡ nat_eq (length (ws ++ w ∷ [])) 0
+pushed ws w = sym (rw length-append (more_test (length ws)))
+
+-- ---- one group more of a text, where `all` was read before it
+
+-- how many groups are closed
+abbrev pub group_count : Parts → ℕ
+group_count (last ws fault) = 0
+group_count (group ws parts) = suc (group_count parts)
+
+module _ (all : List Statement) (n : ℕ) (parts : Parts) (total : Result (List Said) SvfFault) (so_far : in_front (map said all) (parts_say n parts) ≡ total) where
+  pub told_over : (ws : List Word) → parts ≡ last ws None → total ≡ Ok (map said all)
+  told_over ws is = sym so_far ∙ ap (λ (p : Parts). in_front (map said all) (parts_say n p)) is ∙ at_last (map said all) n ws
+
+  pub told_broken : (ws : List Word) (e : LexFault) → parts ≡ last ws (Some e) → total ≡ Err (record { statement = n; code = lex_code e })
+  told_broken ws e is = sym so_far ∙ ap (λ (p : Parts). in_front (map said all) (parts_say n p)) is ∙ at_broken (map said all) n ws e
+
+  pub told_empty : (after : Parts) → parts ≡ group [] after → in_front (map said all) (parts_say n after) ≡ total
+  told_empty after is = sym (ap (λ (p : Parts). in_front (map said all) (parts_say n p)) is ∙ ap (in_front (map said all)) (empty_group n [] after refl)) ∙ so_far
+
+  pub told_said : (w : Word) (ws : List Word) (after : Parts) (x : Statement) → parts ≡ group (w ∷ ws) after → group_says n (first_words parts) ≡ Ok (said x)
+      → in_front (map said (all ++ x ∷ [])) (parts_say (n + 1) after) ≡ total
+  told_said w ws after x is says =
+      let says' : group_says n (w ∷ ws) ≡ Ok (said x) = ap (λ (p : Parts). group_says n (first_words p)) (sym is) ∙ says in
+      ap (λ (front : List Said). in_front front (parts_say (n + 1) after)) (map-append said all (x ∷ []))
+      ∙ sym (said_group (map said all) n (w ∷ ws) after (said x) (λ e. cc) says') ∙ ap (λ (p : Parts). in_front (map said all) (parts_say n p)) (sym is) ∙ so_far
+
+  pub told_refused : (w : Word) (ws : List Word) (after : Parts) (e : Stop) → parts ≡ group (w ∷ ws) after → Stops e (group_says n (first_words parts)) → Stops e total
+  told_refused w ws after stop.Memory is stops = tt
+  told_refused w ws after (stop.Fault f) is stops =
+      let says' : group_says n (w ∷ ws) ≡ Err f = ap (λ (p : Parts). group_says n (first_words p)) (sym is) ∙ stops in
+      sym so_far ∙ ap (λ (p : Parts). in_front (map said all) (parts_say n p)) is ∙ refused_group (map said all) n (w ∷ ws) after f (λ e. cc) says'
+
+-- ---- the limit of a text
+
+is_above : (a b : ℕ) → a < b → nat_lt a b ≡ true
+is_above a b h = grind (arith, nat_tests)
+
+is_within : (a b : ℕ) → b ≤ a → nat_lt a b ≡ false
+is_within a b h = grind (arith, nat_tests)
+
+pub long_text : (text : List ℕ) → 16777216 < length text → text_says text ≡ Err (record { statement = 0; code = code.TooLarge })
+unfolding text_says
+long_text text h = rw (is_above 16777216 (length text) h) refl
+
+pub short_text : (text : List ℕ) → length text ≤ 16777216 → text_says text ≡ parts_say 1 (parts_of (items_of text))
+unfolding text_says
+short_text text h = rw (is_within 16777216 (length text) h) refl

@@ -1,0 +1,14 @@
+pub mod Digits
+pub mod FieldLaws
+pub mod FormLaws
+pub mod Grouping
+pub mod JudgedLaws
+pub mod KeywordLaws
+pub mod LeastLaws
+pub mod NumberLaws
+pub mod RefusalLaws
+pub mod RunLaws
+pub mod ScanLaws
+pub mod StateLists
+pub mod StatementLaws
+pub mod TextLaws

@@ -1,0 +1,128 @@
+-- What a statement says that is written in a form, or the refusal with the lowest number among those that it has.
+use Rattle.std.specs.Prelude.{ℕ, Bool, false, not, nat_le, if◌then◌else◌, List, Option, Some, None, option_map, Result, Ok, Err}
+use Rattle.std.specs.List.{list_all}
+use Rattle.std.specs.Char.{is_ascii_hexdigit}
+use Rattle.jt_tap.specs.declared.State.{State}
+use Rattle.jt_bits.specs.Hex.{has_one_beyond, lowest}
+use Rattle.svf_parse.specs.declared.fault.Code.{Code}
+use Rattle.svf_parse.specs.declared.fault.Code.TheVariants as code
+use Rattle.svf_parse.specs.declared.statement.TrstWord.{TrstWord}
+use Rattle.svf_parse.specs.declared.statement.Which.{Which}
+use Rattle.svf_parse.specs.declared.keywords.Clock.{Clock}
+use Rattle.svf_parse.specs.declared.keywords.Clock.TheVariants as clock
+use Rattle.svf_parse.specs.Words.{Word}
+use Rattle.svf_parse.specs.Fields.{Fields}
+use Rattle.svf_parse.specs.RunTests.{Run}
+use Rattle.svf_parse.specs.Numbers.{period_says, time_says, count_says, len_says, len_value}
+use Rattle.svf_parse.specs.Forms.{Form, end_dr_form, end_ir_form, frequency_form, scan_form, run_form, states_form, trst_form, port_form}
+
+-- a statement, without where it lies in memory
+pub data Said : Type 0 where
+  end_dr : State → Said
+  end_ir : State → Said
+  frequency : Option ℕ → Said
+  scan : Which → ℕ → Option (List Bool) → Option (List Bool) → Option (List Bool) → Option (List Bool) → Said
+  run_test : Option State → Option ℕ → Option ℕ → Option ℕ → Option State → Said
+  states : List State → Said
+  trst : TrstWord → Said
+
+infixl 10 ◌>>=◌
+abbrev pub ◌>>=◌ : {A B E : Type 0} → Result A E → (A → Result B E) → Result B E
+(Ok x) >>= f = f x
+(Err e) >>= f = Err e
+
+-- the number of a refusal
+abbrev pub number : Code → ℕ
+number (code.BadByte place) = 1
+number (code.Unclosed place) = 2
+number code.UnknownCommand = 3
+number code.BadForm = 4
+number code.BadNumber = 5
+number code.TooWide = 6
+number code.MissingTdi = 7
+number code.BadState = 8
+number code.BadPath = 9
+number code.TrstHeld = 10
+number code.TrstAbsent = 11
+number code.EmptyScan = 12
+number code.Unsupported = 13
+number code.TooSlow = 14
+number code.TooLarge = 15
+number code.NoMemory = 16
+
+-- of two refusals the one with the lower number
+abbrev pub lower_code : Code → Code → Code
+lower_code c d = if nat_le (number c) (number d) then c else d
+
+-- what this says, but for a refusal beside it, of which a lower number comes first
+abbrev pub checked : {A : Type 0} → Option Code → Result A Code → Result A Code
+checked None says = says
+checked (Some c) (Ok x) = Err c
+checked (Some c) (Err d) = Err (lower_code c d)
+
+-- what two say, or the lower refusal
+abbrev pub both : {A B : Type 0} → Result A Code → Result B Code → Result (A × B) Code
+both (Ok x) (Ok y) = Ok (x, y)
+both (Ok x) (Err d) = Err d
+both (Err c) (Ok y) = Err c
+both (Err c) (Err d) = Err (lower_code c d)
+
+-- what this says of what is given, if anything is
+abbrev pub given : {A B : Type 0} → (A → Result B Code) → Option A → Result (Option B) Code
+given says None = Ok None
+given says (Some x) = says x >>= λ y. Ok (Some y)
+
+-- ---- scans
+
+abbrev pub is_misspelt : List ℕ → Bool
+is_misspelt h = not (list_all is_ascii_hexdigit h)
+
+abbrev pub is_wider : Option ℕ → List ℕ → Bool
+is_wider None h = false
+is_wider (Some n) h = has_one_beyond n h
+
+-- the refusal of a field of a scan whose length has this value, or none
+abbrev pub field_fault : Option ℕ → Option (List ℕ) → Option Code
+field_fault n None = None
+field_fault n (Some h) = if is_misspelt h then Some code.BadNumber else if is_wider n h then Some code.TooWide else None
+
+-- the length of a scan
+unfoldable pub scan_says : Word → Fields → Result ℕ Code
+scan_says w fs =
+    let n = len_value w in
+    checked (field_fault n fs.tdi) (checked (field_fault n fs.tdo) (checked (field_fault n fs.mask) (checked (field_fault n fs.smask) (len_says w))))
+
+-- the bits of a field
+abbrev pub bits : ℕ → Option (List ℕ) → Option (List Bool)
+bits n h = option_map (lowest n) h
+
+abbrev pub scan_with : Which → Fields → ℕ → Said
+scan_with which fs n = scan which n (bits n fs.tdi) (bits n fs.tdo) (bits n fs.mask) (bits n fs.smask)
+
+-- ---- runs
+
+-- there is no free-running system clock
+abbrev pub clock_fault : Clock → Option Code
+clock_fault clock.Tck = None
+clock_fault clock.Sck = Some code.Unsupported
+
+abbrev pub cycles_say : Word × Clock → Result ℕ Code
+cycles_say c = checked (clock_fault c.1) (count_says c.0)
+
+abbrev pub run_with : Run → Option ℕ × (Option ℕ × Option ℕ) → Said
+run_with r p = run_test r.run p.0 p.1.0 p.1.1 r.end
+
+unfoldable pub run_says : Run → Result Said Code
+run_says r = both (given cycles_say r.count) (both (given time_says r.min) (given time_says r.max)) >>= λ p. Ok (run_with r p)
+
+-- ---- each form
+
+abbrev pub form_says : Form → Result Said Code
+form_says (end_dr_form s) = Ok (end_dr s)
+form_says (end_ir_form s) = Ok (end_ir s)
+form_says (frequency_form n) = given period_says n >>= λ p. Ok (frequency p)
+form_says (scan_form which w fs) = scan_says w fs >>= λ n. Ok (scan_with which fs n)
+form_says (run_form r) = run_says r
+form_says (states_form ss) = Ok (states ss)
+form_says (trst_form t) = Ok (trst t)
+form_says port_form = Err code.Unsupported

@@ -1,0 +1,96 @@
+-- What a reader of the code answers, beside what the words say.
+use Rattle.std.specs.Prelude.{◌≡◌, ◌≢◌, ℕ, List, [], ◌∷◌, map, Option, Some, None, option_map, Result, Ok, Err}
+use Rattle.std.specs.Global.{Vec}
+use Rattle.svf_lex.specs.Left.{left}
+use Rattle.svf_parse.specs.declared.fault.Code.{Code}
+use Rattle.svf_parse.specs.declared.fault.Code.TheVariants.{NoMemory}
+use Rattle.svf_parse.specs.declared.fault.SvfFault.{SvfFault}
+use Rattle.svf_parse.specs.declared.fault.Refusal.{Refusal}
+use Rattle.svf_parse.specs.declared.fault.Refusal.TheVariants as refusal
+use Rattle.svf_parse.specs.declared.fault.Stop.{Stop}
+use Rattle.svf_parse.specs.declared.fault.Stop.TheVariants as stop
+use Rattle.svf_parse.specs.declared.fields.Fields as declared
+use Rattle.svf_parse.specs.declared.run_test.Run as run_test
+use Rattle.svf_parse.specs.declared.forms.Written.{Written}
+use Rattle.svf_parse.specs.declared.forms.Written.TheVariants as written
+use Rattle.svf_parse.specs.declared.statement.Statement.{Statement}
+use Rattle.svf_parse.specs.declared.statement.Statement.TheVariants as statement
+use Rattle.svf_parse.specs.declared.text.Group.{Group}
+use Rattle.svf_parse.specs.declared.text.Group.TheVariants.{Over, Broken, Empty, Words}
+use Rattle.svf_parse.specs.Words.{Word, Parts, last, group, parts_of}
+use Rattle.svf_parse.specs.Fields.{Fields}
+use Rattle.svf_parse.specs.RunTests.{Run}
+use Rattle.svf_parse.specs.Forms.{Form, end_dr_form, end_ir_form, frequency_form, scan_form, run_form, states_form, trst_form, port_form}
+use Rattle.svf_parse.specs.Judging.{Said, end_dr, end_ir, frequency, scan, states, trst}
+use Rattle.svf_parse.specs.Judging as judging
+
+-- the digits of fields, without where they lie in memory
+abbrev pub bytes_of : Option (Vec ℕ) → Option (List ℕ)
+bytes_of o = option_map (λ v. v.items) o
+
+abbrev pub fields : declared.Fields → Fields
+fields f = record { tdi = bytes_of f.tdi; tdo = bytes_of f.tdo; mask = bytes_of f.mask; smask = bytes_of f.smask }
+
+abbrev pub run : run_test.Run → Run
+run r = record {
+  run = r.run;
+  count = option_map (λ c. (c.0.now, c.1)) r.count;
+  min = option_map (λ w. w.now) r.min;
+  max = option_map (λ w. w.now) r.max;
+  end = r.end;
+}
+
+abbrev pub form : Written → Form
+form (written.EndDr s) = end_dr_form s
+form (written.EndIr s) = end_ir_form s
+form (written.Frequency n) = frequency_form (option_map (λ w. w.now) n)
+form (written.Scan which len fs) = scan_form which len.now (fields fs)
+form (written.RunTest r) = run_form (run r)
+form (written.States v) = states_form v.items
+form (written.Trst t) = trst_form t
+form written.Port = port_form
+
+abbrev pub said : Statement → Said
+said (statement.EndDr s) = end_dr s
+said (statement.EndIr s) = end_ir s
+said (statement.Frequency p) = frequency p
+said (statement.Scan which len tdi tdo mask smask) = scan which len tdi tdo mask smask
+said (statement.RunTest run count min_ps max_ps end) = judging.run_test run count min_ps max_ps end
+said (statement.States v) = states v.items
+said (statement.Trst t) = trst t
+
+-- unless memory ran out, the refusal is that of the definition
+abbrev pub Fails : {Y : Type 0} → Refusal → Result Y Code → Type 0
+Fails refusal.Memory says = Unit {0}
+Fails (refusal.Code c) says = says ≡ Err c
+
+-- what a function answered, seen by view, is what the words say, unless memory ran out
+abbrev pub Gives : {X Y : Type 0} → (X → Y) → Result X Refusal → Result Y Code → Type 0
+Gives view (Ok x) says = says ≡ Ok (view x)
+Gives view (Err e) says = Fails e says
+
+-- unless memory ran out, the refusal of a text is that of the definition
+abbrev pub Stops : {Y : Type 0} → Stop → Result Y SvfFault → Type 0
+Stops stop.Memory says = Unit {0}
+Stops (stop.Fault f) says = says ≡ Err f
+
+-- what a function answered of a text is what the text says, unless memory ran out
+abbrev pub Tells : {X Y : Type 0} → (X → Y) → Result X Stop → Result Y SvfFault → Type 0
+Tells view (Ok x) says = says ≡ Ok (view x)
+Tells view (Err e) says = Stops e says
+
+-- want of memory, which may come at any point
+abbrev pub memory_fault : SvfFault
+memory_fault = record { statement = 0; code = NoMemory }
+
+-- what `parse` answered is what the text says, unless memory ran out
+abbrev pub Parses : Result (Vec Statement) SvfFault → Result (List Said) SvfFault → Type 0
+Parses (Ok v) says = says ≡ Ok (map said v.items)
+Parses (Err f) says = f ≢ memory_fault → says ≡ Err f
+
+-- what stands at a lexer: the text's end, a fault, or a group of words and the lexer behind it
+abbrev pub IsGroup : Group → Parts → Type 0
+IsGroup Over parts = (ws : List Word) × (parts ≡ last ws None)
+IsGroup (Broken e) parts = (ws : List Word) × (parts ≡ last ws (Some e))
+IsGroup (Empty after) parts = parts ≡ group [] (parts_of (left after))
+IsGroup (Words after) parts = (w : Word) × (ws : List Word) × (parts ≡ group (w ∷ ws) (parts_of (left after)))

@@ -1,0 +1,207 @@
+//! What a statement says that is written in a form.
+ghost use Rattle.std.specs.Prelude.{◌≡◌, Some, None, Ok, IfOk, Option, List, Bool, option_map};
+ghost use Rattle.svf_parse.specs.Judging as spec;
+ghost use Rattle.svf_parse.specs.Forms.{scan_form};
+ghost use Rattle.svf_parse.specs.Words.{Word};
+ghost use Rattle.svf_parse.specs.Numbers as numbers_spec;
+ghost use Rattle.svf_parse.specs.View as view;
+ghost use Rattle.svf_parse.specs.View.{Gives, said, fields, bytes_of};
+ghost use Rattle.svf_parse.specs.declared.keywords.Clock as declared_clock;
+ghost use Rattle.std.specs.List.{list_all};
+ghost use Rattle.std.specs.Char.{is_ascii_hexdigit};
+
+use crate::fault::{Code, Refusal};
+use crate::fields::Fields;
+use crate::forms::Written;
+use crate::keywords::Clock;
+use crate::numbers::{count, length, length_value, period, time};
+use crate::run_test::Run;
+use crate::statement::{Statement, Which};
+use jt_bits::{Bits, has_one_beyond};
+use std::alloc::Global;
+
+/// The statement, or the refusal with the lowest number among its own.
+pub(crate) fn form_says(alloc: Global, form: Written<'_>) -> Result<Statement, Refusal>
+    ensures { Gives said result (spec.form_says (view.form form.entry)) }
+{
+    match form {
+        Written::EndDr(state) => Ok(Statement::EndDr(state)),
+        Written::EndIr(state) => Ok(Statement::EndIr(state)),
+        Written::Frequency(None) => Ok(Statement::Frequency(None)),
+        Written::Frequency(Some(word)) => match period(word) {
+            Ok(period) => Ok(Statement::Frequency(Some(period))),
+            Err(code) => Err(Refusal::Code(code)),
+        },
+        Written::Scan(which, len, fields) => scan(alloc, which, len, fields),
+        Written::RunTest(run) => run_test(run),
+        Written::States(states) => Ok(Statement::States(states)),
+        Written::Trst(word) => Ok(Statement::Trst(word)),
+        Written::Port => Err(Refusal::Code(Code::Unsupported)),
+    }
+}
+
+/// What this says, but for a refusal beside it, of which a lower number comes first.
+fn checked<T: Drop>(fault: Option<Code>, says: Result<T, Code>) -> Result<T, Code>
+    ensures { result ≡ spec.checked fault says }
+{
+    match (fault, says) {
+        (None, says) => says,
+        (Some(code), Ok(_)) => Err(code),
+        (Some(code), Err(other)) => Err(code.lower(other)),
+    }
+}
+
+/// What two say, or the lower refusal.
+fn both<T: Drop, U: Drop>(first: Result<T, Code>, second: Result<U, Code>) -> Result<(T, U), Code>
+    ensures { result ≡ spec.both first second }
+{
+    match (first, second) {
+        (Ok(one), Ok(other)) => Ok((one, other)),
+        (Ok(_), Err(code)) => Err(code),
+        (Err(code), Ok(_)) => Err(code),
+        (Err(code), Err(other)) => Err(code.lower(other)),
+    }
+}
+
+// ---- scans
+
+fn scan(alloc: Global, which: Which, len: &[u8], all: Fields) -> Result<Statement, Refusal>
+    ensures { Gives said result (spec.form_says (scan_form which len.now (fields all))) }
+{
+    let len = match scan_length(len, &all) {
+        Ok(len) => len,
+        Err(code) => return Err(Refusal::Code(code)),
+    };
+    let (Ok(tdi), Ok(tdo), Ok(mask), Ok(smask)) = (
+        bits(alloc, len, &all.tdi),
+        bits(alloc, len, &all.tdo),
+        bits(alloc, len, &all.mask),
+        bits(alloc, len, &all.smask),
+    ) else {
+        return Err(Refusal::Memory);
+    };
+    Ok(Statement::Scan {
+        which,
+        len,
+        tdi,
+        tdo,
+        mask,
+        smask,
+    })
+}
+
+/// The length of a scan, unless it or a field is refused.
+#[tactic(auto, unfolding(crate::specs::Judging::scan_says))]
+fn scan_length(len: &[u8], all: &Fields) -> Result<usize, Code>
+    ensures { result ≡ spec.scan_says len.now (fields all.now) }
+{
+    let value = length_value(len);
+    let says = checked(field_fault(value, &all.smask), length(len));
+    let says = checked(field_fault(value, &all.mask), says);
+    let says = checked(field_fault(value, &all.tdo), says);
+    checked(field_fault(value, &all.tdi), says)
+}
+
+/// The refusal of a field of a scan whose length has this value.
+fn field_fault(len: Option<usize>, digits: &Option<Vec<u8>>) -> Option<Code>
+    ensures { result ≡ spec.field_fault len (bytes_of digits.now) }
+{
+    let Some(digits) = digits else {
+        return None;
+    };
+    if !are_hexadecimal(digits) {
+        Some(Code::BadNumber)
+    } else if is_wider(len, digits) {
+        Some(Code::TooWide)
+    } else {
+        None
+    }
+}
+
+fn are_hexadecimal(digits: &[u8]) -> bool
+    ensures { result ≡ list_all is_ascii_hexdigit digits.now }
+{
+    digits.iter().all(|byte| byte.is_ascii_hexdigit())
+}
+
+fn is_wider(len: Option<usize>, digits: &[u8]) -> bool
+    ensures { result ≡ spec.is_wider len digits.now }
+{
+    match len {
+        Some(len) => has_one_beyond(digits, len),
+        None => false,
+    }
+}
+
+/// The bits of a field.
+fn bits(alloc: Global, len: usize, digits: &Option<Vec<u8>>) -> Result<Option<Bits>, Refusal>
+    requires { spec.field_fault (Some len) (bytes_of digits.now) ≡ None }
+    ensures { IfOk result (λ b. b ≡ spec.bits len (bytes_of digits.now)) }
+{
+    match digits {
+        None => Ok(None),
+        Some(digits) => match Bits::from_hex(alloc, digits, len) {
+            Ok(bits) => Ok(Some(bits)),
+            Err(_) => Err(Refusal::Memory),
+        },
+    }
+}
+
+// ---- runs
+
+#[tactic(auto, unfolding(crate::specs::Judging::run_says))]
+fn run_test(run: Run<'_>) -> Result<Statement, Refusal>
+    ensures { Gives said result (spec.run_says (view.run run.entry)) }
+{
+    let times = both(given_time(run.min), given_time(run.max));
+    match both(given_cycles(run.count), times) {
+        Ok((count, (min_ps, max_ps))) => Ok(Statement::RunTest {
+            run: run.run,
+            count,
+            min_ps,
+            max_ps,
+            end: run.end,
+        }),
+        Err(code) => Err(Refusal::Code(code)),
+    }
+}
+
+fn given_time(word: Option<&[u8]>) -> Result<Option<u64>, Code>
+    ensures { result ≡ spec.given numbers_spec.time_says (option_map {U = Word} (λ w. w.now) word.entry) }
+{
+    match word {
+        None => Ok(None),
+        Some(word) => match time(word) {
+            Ok(time) => Ok(Some(time)),
+            Err(code) => Err(code),
+        },
+    }
+}
+
+fn given_cycles(count: Option<(&[u8], Clock)>) -> Result<Option<u32>, Code>
+    ensures { result ≡ spec.given spec.cycles_say (option_map {U = Word × declared_clock.Clock} (λ c. (c.0.now, c.1)) count.entry) }
+{
+    match count {
+        None => Ok(None),
+        Some((word, clock)) => match cycles(word, clock) {
+            Ok(count) => Ok(Some(count)),
+            Err(code) => Err(code),
+        },
+    }
+}
+
+fn cycles(word: &[u8], clock: Clock) -> Result<u32, Code>
+    ensures { result ≡ spec.cycles_say (word.now, clock) }
+{
+    checked(clock_fault(clock), count(word))
+}
+
+/// There is no free-running system clock.
+fn clock_fault(clock: Clock) -> Option<Code>
+    ensures { result ≡ spec.clock_fault clock }
+{
+    match clock {
+        Clock::Tck => None,
+        Clock::Sck => Some(Code::Unsupported),
+    }
+}

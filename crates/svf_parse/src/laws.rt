@@ -1,0 +1,18 @@
+//! What holds of every statement and of every text.
+ghost use Rattle.svf_parse.specs.Judged.{EachIsJudged, NeverBoth, RefusesOne, SpellsOne};
+ghost use Rattle.svf_parse.specs.Least.{AcceptedHasNone, LeastIsTold};
+
+/// Of the refusals that a statement has of its own, as each of its numbers and fields has them, the one with the lowest
+/// number is told, and a statement that is accepted has none.
+pub fn the_lowest_refusal_is_told()
+    ensures least { LeastIsTold }
+    ensures accepted { AcceptedHasNone }
+{}
+
+/// A text spells one list of statements, or has one first refusal, and never both.
+pub fn a_text_is_judged_once()
+    ensures some { EachIsJudged }
+    ensures one_list { SpellsOne }
+    ensures one_refusal { RefusesOne }
+    ensures never_both { NeverBoth }
+{}

@@ -1,0 +1,67 @@
+//! The statements.
+use jt_bits::Bits;
+use jt_tap::State;
+
+/// A scan command of SVF.
+#[derive(Debug, Clone, Copy, PartialEq, Eq)]
+pub enum Which {
+    /// `HDR`, the bits nearest TDO of each scan of a data register that follows.
+    Hdr,
+    /// `HIR`, the same of the instruction register.
+    Hir,
+    /// `TDR`, the bits farthest from TDO of each scan of a data register that follows.
+    Tdr,
+    /// `TIR`, the same of the instruction register.
+    Tir,
+    /// `SDR`, a scan of a data register.
+    Sdr,
+    /// `SIR`, a scan of the instruction register.
+    Sir,
+}
+
+/// What a `TRST` statement says.
+#[derive(Debug, Clone, Copy, PartialEq, Eq)]
+pub enum TrstWord {
+    /// TRST is held active.
+    On,
+    /// TRST is driven inactive.
+    Off,
+    /// TRST is not driven.
+    Z,
+    /// There is no TRST.
+    Absent,
+}
+
+/// A statement of SVF text, as it stands for itself.
+#[derive(Debug, Drop)]
+pub enum Statement {
+    /// `ENDDR`: the state in which scans of data registers end.
+    EndDr(State),
+    /// `ENDIR`: the state in which scans of the instruction register end.
+    EndIr(State),
+    /// `FREQUENCY`: the period of TCK in picoseconds, rounded up and at least 1, or none where no frequency is given.
+    Frequency(Option<u64>),
+    /// `HDR`, `HIR`, `TDR`, `TIR`, `SDR` or `SIR`. A field that is given has `len` bits, bit 0 first; one that is absent
+    /// is `None`.
+    Scan {
+        which: Which,
+        len: usize,
+        tdi: Option<Bits>,
+        tdo: Option<Bits>,
+        mask: Option<Bits>,
+        smask: Option<Bits>,
+    },
+    /// `RUNTEST`: the state to run in, the cycles of TCK, the least and the longest time in picoseconds, each rounded up,
+    /// and the state to end in. A count or a least time is given.
+    RunTest {
+        run: Option<State>,
+        count: Option<u32>,
+        min_ps: Option<u64>,
+        max_ps: Option<u64>,
+        end: Option<State>,
+    },
+    /// `STATE`: the states to go through, at least one.
+    States(Vec<State>),
+    /// `TRST`.
+    Trst(TrstWord),
+}

@@ -1,0 +1,345 @@
+use crate::{Code, Statement, SvfFault, TrstWord, Which, parse};
+use jt_bits::Bits;
+use jt_tap::State;
+use std::alloc::Global;
+use std::process::Abort;
+use std::test::Fail;
+
+fn assert_refused(rt: &impl Abort, alloc: Global, text: &[u8], statement: usize, code: Code) {
+    match parse(alloc, text) {
+        Ok(_) => assert!(rt; false, "accepted"),
+        Err(fault) => assert_eq!(rt; fault, SvfFault { statement, code }),
+    }
+}
+
+/// Asserts that the text has so many statements.
+fn assert_count(rt: &impl Abort, alloc: Global, text: &[u8], count: usize) {
+    match parse(alloc, text) {
+        Ok(statements) => assert_eq!(rt; statements.len(), count),
+        Err(fault) => assert!(rt; false, "{} at {}", fault.code, fault.statement),
+    }
+}
+
+/// The one statement of a text.
+fn one(alloc: Global, text: &[u8]) -> Option<Statement> {
+    parse(alloc, text).ok()?.pop()
+}
+
+fn period(alloc: Global, text: &[u8]) -> Option<u64> {
+    match one(alloc, text)? {
+        Statement::Frequency(period) => period,
+        _ => None,
+    }
+}
+
+/// The count and the least time of a RUNTEST.
+fn run(alloc: Global, text: &[u8]) -> Option<(Option<u32>, Option<u64>, Option<u64>)> {
+    match one(alloc, text)? {
+        Statement::RunTest {
+            count,
+            min_ps,
+            max_ps,
+            ..
+        } => Some((count, min_ps, max_ps)),
+        _ => None,
+    }
+}
+
+/// The lowest four hexadecimal digits of bits, the highest first.
+fn shown(bits: &Bits) -> [u8; 4] {
+    [
+        bits.hex_digit(3),
+        bits.hex_digit(2),
+        bits.hex_digit(1),
+        bits.hex_digit(0),
+    ]
+}
+
+#[test]
+fn frequencies(rt: HostRuntime) {
+    let alloc = rt.alloc();
+    assert_count(
+        &rt,
+        alloc,
+        b"FREQUENCY 1E13 HZ; FREQUENCY 1E-6 HZ; FREQUENCY;",
+        3,
+    );
+    assert_eq!(rt; period(alloc, b"FREQUENCY 1E13 HZ;"), Some(1));
+    assert_eq!(rt;
+        period(alloc, b"FREQUENCY 1E-6 HZ;"),
+        Some(1_000_000_000_000_000_000)
+    );
+    assert_eq!(rt; period(alloc, b"FREQUENCY;"), None);
+    assert_eq!(rt; period(alloc, b"frequency 3E6 hz;"), Some(333_334));
+    assert_eq!(rt;
+        period(alloc, b"FREQUENCY 999999999999999999E18 HZ;"),
+        Some(1)
+    );
+    assert_eq!(rt; period(alloc, b"FREQUENCY .5E+06 HZ;"), Some(2_000_000));
+    assert_refused(&rt, alloc, b"FREQUENCY 9E-7 HZ;", 1, Code::TooLarge);
+    assert_refused(&rt, alloc, b"FREQUENCY 0 HZ;", 1, Code::BadNumber);
+    assert_refused(&rt, alloc, b"FREQUENCY 1..2 HZ;", 1, Code::BadNumber);
+    assert_refused(&rt, alloc, b"FREQUENCY 1E HZ;", 1, Code::BadNumber);
+    assert_refused(&rt, alloc, b"FREQUENCY 1E19 HZ;", 1, Code::TooLarge);
+    assert_refused(
+        &rt,
+        alloc,
+        b"FREQUENCY 0000000000000000001 HZ;",
+        1,
+        Code::TooLarge,
+    );
+    assert_refused(&rt, alloc, b"FREQUENCY 1;", 1, Code::BadForm);
+    assert_refused(&rt, alloc, b"FREQUENCY ABC HZ;", 1, Code::BadForm);
+}
+
+#[test]
+fn runs(rt: HostRuntime) {
+    let alloc = rt.alloc();
+    assert_eq!(rt;
+        run(alloc, b"RUNTEST 1.5E1 TCK 1.00E-003 SEC;"),
+        Some((Some(15), Some(1_000_000_000), None))
+    );
+    assert_eq!(rt;
+        run(
+            alloc,
+            b"RUNTEST IDLE 5 TCK 1E-6 SEC MAXIMUM 1E-3 SEC ENDSTATE IRPAUSE;"
+        ),
+        Some((Some(5), Some(1_000_000), Some(1_000_000_000)))
+    );
+    assert_eq!(rt;
+        run(alloc, b"RUNTEST 4294967295 TCK;"),
+        Some((Some(u32::MAX), None, None))
+    );
+    assert_eq!(rt;
+        run(alloc, b"RUNTEST 1E6 SEC;"),
+        Some((None, Some(1_000_000_000_000_000_000), None))
+    );
+    assert_eq!(rt;
+        run(alloc, b"RUNTEST 0.00000000000000001E-18 SEC;"),
+        Some((None, Some(1), None))
+    );
+    assert_eq!(rt;
+        run(alloc, b"RUNTEST 0 TCK 0 SEC;"),
+        Some((Some(0), Some(0), None))
+    );
+    assert_refused(&rt, alloc, b"RUNTEST 4294967296 TCK;", 1, Code::TooLarge);
+    assert_refused(&rt, alloc, b"RUNTEST 1.000001E6 SEC;", 1, Code::TooLarge);
+    assert_refused(&rt, alloc, b"RUNTEST 1.5 TCK;", 1, Code::BadNumber);
+    assert_refused(&rt, alloc, b"RUNTEST 5 SCK;", 1, Code::Unsupported);
+    assert_refused(&rt, alloc, b"RUNTEST 5E12 SCK;", 1, Code::Unsupported);
+    assert_refused(&rt, alloc, b"RUNTEST 5.5 SCK 1E9 SEC;", 1, Code::BadNumber);
+    assert_refused(&rt, alloc, b"RUNTEST IDLE;", 1, Code::BadForm);
+    assert_refused(
+        &rt,
+        alloc,
+        b"RUNTEST 5 TCK MAXIMUM 1 SEC;",
+        1,
+        Code::BadForm,
+    );
+    assert_refused(&rt, alloc, b"RUNTEST 1 SEC 5 TCK;", 1, Code::BadForm);
+    assert_refused(&rt, alloc, b"RUNTEST 5 TCK ENDSTATE;", 1, Code::BadForm);
+}
+
+#[test]
+fn scans(rt: HostRuntime) -> Result<(), Fail> {
+    let alloc = rt.alloc();
+    let Some(
+        Statement::Scan {
+            which,
+            len,
+            tdi,
+            tdo,
+            mask,
+            smask,
+        },
+    ) = one(alloc, b"sdr 12 Mask (0FF) TDI (1 2\n3) SMASK ();")
+    else {
+        return Err(Fail::from("no scan"));
+    };
+    let (Some(tdi), None, Some(mask), Some(smask)) = (tdi, tdo, mask, smask) else {
+        return Err(Fail::from("other fields"));
+    };
+    assert_eq!(rt; which, Which::Sdr);
+    assert_eq!(rt; len, 12);
+    assert_eq!(rt; shown(&tdi), *b"0123");
+    assert_eq!(rt; shown(&mask), *b"00FF");
+    assert_eq!(rt; shown(&smask), *b"0000");
+    assert_eq!(rt; smask.len(), 12);
+    assert_count(
+        &rt,
+        alloc,
+        b"HDR 0; HIR 0; TDR 1 TDI (1); TIR 0; SIR 2 TDI (3); SDR 0;",
+        6,
+    );
+    assert_count(&rt, alloc, b"SDR 4 TDI (0F);", 1);
+    assert_refused(&rt, alloc, b"SDR 4 TDI (1F);", 1, Code::TooWide);
+    assert_refused(&rt, alloc, b"SDR 8 TDI (0G);", 1, Code::BadNumber);
+    assert_refused(&rt, alloc, b"SDR 1E1 TDI (0);", 1, Code::BadNumber);
+    assert_refused(&rt, alloc, b"SDR 4 TDI (1) TDI (1);", 1, Code::BadForm);
+    assert_refused(&rt, alloc, b"SDR TDI (1);", 1, Code::BadForm);
+    assert_refused(&rt, alloc, b"SDR 4 TDI 1;", 1, Code::BadForm);
+    assert_refused(&rt, alloc, b"SDR 4 TDI (1;", 1, Code::BadForm);
+    assert_refused(&rt, alloc, b"SDR 4 TDI ((1));", 1, Code::BadForm);
+    Ok(())
+}
+
+#[test]
+fn the_lowest_number_is_told(rt: HostRuntime) {
+    let alloc = rt.alloc();
+    assert_count(&rt, alloc, b"SDR 65536 TDI (0);", 1);
+    assert_refused(&rt, alloc, b"SDR 65537 TDI (0);", 1, Code::TooLarge);
+    assert_refused(&rt, alloc, b"SDR 65537 TDI (1F);", 1, Code::TooLarge);
+    assert_refused(
+        &rt,
+        alloc,
+        b"SDR 999999999999999999 TDI (1F) TDO (G);",
+        1,
+        Code::BadNumber,
+    );
+    assert_refused(
+        &rt,
+        alloc,
+        b"SDR 9999999999999999999 TDI (1F);",
+        1,
+        Code::TooLarge,
+    );
+    assert_refused(&rt, alloc, b"SDR 4 TDI (1F) TDO (G);", 1, Code::BadNumber);
+}
+
+#[test]
+fn a_length_above_the_limit_and_a_wider_field(rt: HostRuntime) -> Result<(), Fail> {
+    let mut text = b"SDR 65537 TDI (4".to_vec(rt.alloc())?;
+    for _ in 0..16384 {
+        text.push(b'0')?;
+    }
+    text.extend_from_slice(b");")?;
+    assert_refused(&rt, rt.alloc(), &text, 1, Code::TooWide);
+    Ok(())
+}
+
+#[test]
+fn states_and_trst(rt: HostRuntime) -> Result<(), Fail> {
+    let alloc = rt.alloc();
+    let Some(Statement::States(states)) = one(alloc, b"STATE drselect IRSELECT Reset;") else {
+        return Err(Fail::from("no states"));
+    };
+    assert_eq!(rt;
+        states.as_slice(),
+        [State::DrSelect, State::IrSelect, State::Reset].as_slice()
+    );
+    assert!(rt;
+        matches!(
+            one(alloc, b"ENDDR DRPAUSE;"),
+            Some(Statement::EndDr(State::DrPause))
+        )
+    );
+    assert!(rt;
+        matches!(
+            one(alloc, b"EndIr IDLE;"),
+            Some(Statement::EndIr(State::Idle))
+        )
+    );
+    assert!(rt; matches!(one(alloc, b"TRST ON;"), Some(Statement::Trst(TrstWord::On))));
+    assert!(rt;
+        matches!(
+            one(alloc, b"TRST off;"),
+            Some(Statement::Trst(TrstWord::Off))
+        )
+    );
+    assert!(rt; matches!(one(alloc, b"trst Z;"), Some(Statement::Trst(TrstWord::Z))));
+    assert!(rt;
+        matches!(
+            one(alloc, b"TRST ABSENT;"),
+            Some(Statement::Trst(TrstWord::Absent))
+        )
+    );
+    assert_refused(&rt, alloc, b"STATE;", 1, Code::BadForm);
+    assert_refused(&rt, alloc, b"STATE IDLE FOO;", 1, Code::BadForm);
+    assert_refused(&rt, alloc, b"ENDDR IDLE IDLE;", 1, Code::BadForm);
+    assert_refused(&rt, alloc, b"TRST;", 1, Code::BadForm);
+    assert_refused(&rt, alloc, b"PIO (HL);", 1, Code::Unsupported);
+    assert_refused(
+        &rt,
+        alloc,
+        b"PIOMAP (IN A OUT B) ) 1;",
+        1,
+        Code::Unsupported,
+    );
+    Ok(())
+}
+
+#[test]
+fn statements_are_counted(rt: HostRuntime) {
+    let alloc = rt.alloc();
+    assert_count(&rt, alloc, b"", 0);
+    assert_count(&rt, alloc, b";;", 0);
+    assert_count(&rt, alloc, b"SDR 0;", 1);
+    assert_count(&rt, alloc, b"SIR 2 TDI (3); SIR 2 TDO (1);", 2);
+    assert_refused(&rt, alloc, b"SDR 4; FOO;", 2, Code::UnknownCommand);
+    assert_refused(&rt, alloc, b";;SDR 4;; ;FOO; #", 2, Code::UnknownCommand);
+    assert_refused(
+        &rt,
+        alloc,
+        b"STATE DRCAPTURE; FOO;",
+        2,
+        Code::UnknownCommand,
+    );
+    assert_refused(&rt, alloc, b"SDR 4 TDI (F", 1, Code::Unclosed(0));
+    assert_refused(&rt, alloc, b"SDR 4 TDI (F);  STATE", 2, Code::Unclosed(16));
+    assert_refused(&rt, alloc, b"SDR 4 # ;", 1, Code::BadByte(6));
+    assert_refused(&rt, alloc, b"FOO FOO /;", 1, Code::BadByte(8));
+}
+
+#[test]
+fn as_many_statements_as_there_may_be(rt: HostRuntime) -> Result<(), Fail> {
+    let mut text = Vec::new(rt.alloc());
+    for _ in 0..200_000 {
+        text.extend_from_slice(b"HDR 0;")?;
+    }
+    assert_count(&rt, rt.alloc(), &text, 200_000);
+    text.extend_from_slice(b"HDR 0;")?;
+    assert_refused(&rt, rt.alloc(), &text, 200_001, Code::TooLarge);
+    text.truncate(1_200_000);
+    text.extend_from_slice(b"HDR;")?;
+    assert_refused(&rt, rt.alloc(), &text, 200_001, Code::BadForm);
+    Ok(())
+}
+
+#[test]
+fn as_long_a_text_as_there_may_be(rt: HostRuntime) -> Result<(), Fail> {
+    let mut text = vec![in rt.alloc(); b' '; 16_777_216]?;
+    assert_count(&rt, rt.alloc(), &text, 0);
+    text.push(b'#')?;
+    assert_refused(&rt, rt.alloc(), &text, 0, Code::TooLarge);
+    Ok(())
+}
+
+#[test]
+fn refusals_are_printed(rt: HostRuntime) -> Result<(), Fail> {
+    let wide = SvfFault {
+        statement: 1,
+        code: Code::TooWide,
+    };
+    assert_eq!(rt;
+        format!(in rt.alloc(); "{}", wide)?.as_str(),
+        "svf S6 TooWide statement 1"
+    );
+    let bad = SvfFault {
+        statement: 12,
+        code: Code::BadByte(6),
+    };
+    assert_eq!(rt;
+        format!(in rt.alloc(); "{}", bad)?.as_str(),
+        "svf S1 BadByte statement 12"
+    );
+    let memory = SvfFault {
+        statement: 0,
+        code: Code::NoMemory,
+    };
+    assert_eq!(rt; format!(in rt.alloc(); "{}", memory)?.as_str(), "memory");
+    assert_eq!(rt;
+        format!(in rt.alloc(); "{}", Code::TrstAbsent)?.as_str(),
+        "S11 TrstAbsent"
+    );
+    Ok(())
+}
