@@ -147,7 +147,7 @@ capture_from-bit : (sees : ℕ → Bool) (from_update : Bool) (m : Member) (k : 
 capture_from-bit sees from_update m k [] some = absurd (omega arith)
 capture_from-bit sees from_update m k (c ∷ cs) some = omega arith
 
-sound-captured : (column : Column) (sees : ℕ → Bool) (m : Member) → IsSoundFor m.device m.registers
+pub sound-captured : (column : Column) (sees : ℕ → Bool) (m : Member) → IsSoundFor m.device m.registers
     → IsSoundFor m.device (captured m.device column (surroundings sees m) m.registers)
 sound-captured Ir sees m sound = sound-other m.device m.registers.latch m.device.capture m.registers.update m.registers sound.capture sound
 sound-captured Dr sees m sound =
@@ -204,7 +204,7 @@ sound-update_selected d (User k) r sound = record {
 sound-update_selected d Bypass r sound = sound
 sound-update_selected d Identification r sound = sound
 
-sound-updated : (d : Device) (column : Column) (r : Registers) → IsSoundFor d r → IsSoundFor d (updated d column r)
+pub sound-updated : (d : Device) (column : Column) (r : Registers) → IsSoundFor d r → IsSoundFor d (updated d column r)
 sound-updated d Ir r sound = sound-other d r.stage r.stage r.update r sound.stage sound
 sound-updated d Dr r sound = sound-update_selected d (meaning d r.latch).selected r sound
 

@@ -1,0 +1,4 @@
+pub mod Edges
+pub mod Ready
+pub mod StepLaws
+pub mod Programs

@@ -1,0 +1,95 @@
+-- The opening leaves a sound board at rest and sound; from there every legal program plays as it means.
+use Rattle.std.proofs.Common.{◌≡◌, Bool, true, false, ℕ, suc, ◌<◌, List, [], ◌∷◌, length, map, refl, sym, ap, ◌∙◌, subst}
+use Rattle.std.specs.List.{AllByRecursion}
+use Rattle.jt_tap.specs.declared.State.{State}
+use Rattle.jt_tap.specs.declared.State.TheVariants.{Reset}
+use Rattle.bitbang.specs.declared.Message.TheVariants.{Write, Lines}
+use Rattle.jt_board.specs.Cells.{Member}
+use Rattle.jt_board.specs.Chain.{ChipState, BoardState, is_held, members, told, hear}
+use Rattle.jt_board.specs.Whole.{AtRest, reset_member}
+use Rattle.jt_board.specs.Steps.{command}
+use Rattle.jt_board.specs.Resting.{IsRest}
+use Rattle.jt_board.proofs.Ones.{opening-rests, reset_from_here}
+use Rattle.jt_board.proofs.Sound.{AllSound, Sound-reset}
+use Rattle.jt_board.proofs.Trips.{reset-all-twice}
+use Rattle.jt_player.specs.Programs.{Numbered, outcome}
+use Rattle.jt_player.specs.Play.{full_play, turns}
+use Rattle.jt_player.proofs.Direct.{AllPlayed, program-law}
+use Rattle.legal_plays.specs.Legal.{AllLegal, HasDevice, IsSoundBoard}
+use Rattle.legal_plays.specs.Laws.{IsOpened, PlaysAsItMeans, EveryLegalProgramPlaysAsItMeans}
+use Rattle.legal_plays.proofs.Edges.{sound-told, count-told}
+use Rattle.legal_plays.proofs.Ready.{count-map}
+use Rattle.legal_plays.proofs.StepLaws.{step-done}
+
+-- every step's law, and so every program's
+all-played : (ss : List Numbered) (m : AtRest) → IsRest m → AllSound m.members → 0 < length m.members → AllLegal ss m → AllPlayed ss m
+all-played [] m rest sound some legal = tt
+all-played (s ∷ ss) m rest sound some legal =
+    let done = step-done s.what m.place m.trst m.nets m.members rest sound some legal.0 in
+    let devices : 0 < length (command s.what m).members = subst (λ (n : ℕ). 0 < n) (sym done.count) some in
+    (done.answers, done.played, all-played ss (command s.what m) done.rest done.sound devices legal.1)
+
+-- one cycle with TMS 1
+abbrev one : BoardState → BoardState
+one b = told (Write true true false) (told (Write false true false) b)
+
+sound-one : (b : BoardState) → IsSoundBoard b → IsSoundBoard (one b)
+sound-one b sound = sound-told (Write true true false) (told (Write false true false) b) (sound-told (Write false true false) b sound)
+
+count-one : (b : BoardState) → length (one b).chips ≡ length b.chips
+count-one b = count-told (Write true true false) (told (Write false true false) b) ∙ count-told (Write false true false) b
+
+abbrev high : BoardState → BoardState
+high b = one (one (one (one (one b))))
+
+sound-high : (b : BoardState) → IsSoundBoard b → IsSoundBoard (high b)
+sound-high b sound =
+    sound-one (one (one (one (one b)))) (sound-one (one (one (one b))) (sound-one (one (one b)) (sound-one (one b) (sound-one b sound))))
+
+count-high : (b : BoardState) → length (high b).chips ≡ length b.chips
+count-high b = count-one (one (one (one (one b)))) ∙ count-one (one (one (one b))) ∙ count-one (one (one b)) ∙ count-one (one b) ∙ count-one b
+
+count-members : (cs : List ChipState) → length (members cs) ≡ length cs
+count-members [] = refl
+count-members (c ∷ cs) = ap (λ n. suc n) (count-members cs)
+
+-- the board as TRST is released, and the state at rest that the opening brings it to
+abbrev unasserted : BoardState → BoardState
+unasserted b = told (Lines false false) b
+
+abbrev opened_to : BoardState → AtRest
+opened_to b = reset_from_here (unasserted b)
+
+opened-count : (b : BoardState) → length (opened_to b).members ≡ length b.chips
+opened-count b =
+    count-map reset_member (members (high (unasserted b)).chips) ∙ count-members (high (unasserted b)).chips
+    ∙ count-high (unasserted b) ∙ count-told (Lines false false) b
+
+released-held : (ms : List Member) → AllByRecursion (λ d. is_held false d ≡ true → Reset ≡ Reset) ms
+released-held [] = tt
+released-held (m ∷ ms) = (λ held. refl, released-held ms)
+
+opened-is : (b : BoardState) → IsSoundBoard b → IsOpened b (opened_to b)
+opened-is b sound = record {
+  board = ap (λ h. h.board) (opening-rests b);
+  rest = record {
+    stable = refl;
+    at_reset = λ e. reset-all-twice (members (high (unasserted b)).chips);
+    held = released-held (opened_to b).members;
+  };
+  in_reset = refl;
+  released = refl;
+  sound = Sound-reset (members (high (unasserted b)).chips) (sound-high (unasserted b) (sound-told (Lines false false) b sound));
+}
+
+plays : (steps : List Numbered) (b : BoardState) → IsOpened b (opened_to b) → HasDevice b → AllLegal steps (opened_to b)
+    → PlaysAsItMeans steps b (opened_to b)
+plays steps b is some legal =
+    let devices : 0 < length (opened_to b).members = subst (λ (n : ℕ). 0 < n) (sym (opened-count b)) some in
+    let same = program-law steps b (all-played steps (opened_to b) is.rest is.sound devices legal) in
+    record { ending = same.ending; board = same.board }
+
+pub program_means : EveryLegalProgramPlaysAsItMeans
+program_means b sound some =
+    let is = opened-is b sound in
+    (opened_to b, is, λ steps legal. plays steps b is some legal)

@@ -1,0 +1,54 @@
+-- Which programs are legal from where they begin, and which boards and descriptions have a bit in every register.
+use Rattle.std.specs.Prelude.{◌≡◌, Bool, true, ◌||◌, ℕ, zero, suc, ◌<◌, List, [], ◌∷◌, length, Option, Some, None}
+use Rattle.std.specs.List.{AllByRecursion}
+use Rattle.jt_board.specs.Device.{Place, AtBypass, AtBoundary, AtDeviceId, AtUser, Access, Device}
+use Rattle.jt_board.specs.Chain.{BoardState, members}
+use Rattle.jt_board.specs.Whole.{AtRest}
+use Rattle.jt_board.specs.Steps.{command}
+use Rattle.jt_board.specs.Resting.{IsLegal}
+use Rattle.jt_board.proofs.Sound.{AllSound}
+use Rattle.jt_player.specs.Programs.{Numbered}
+
+-- Each step is legal at the state where it begins, which whole registers give.
+abbrev pub AllLegal : List Numbered → AtRest → Type 0
+AllLegal [] m = Unit {0}
+AllLegal (s ∷ ss) m = IsLegal s.what m × AllLegal ss (command s.what m)
+
+-- In every device the registers that an instruction can place between TDI and TDO have at least one bit, and so has
+-- what they capture.
+abbrev pub IsSoundBoard : BoardState → Type 0
+IsSoundBoard b = AllSound (members b.chips)
+
+-- a board has at least one device: on none, TDI and TDO meet nowhere
+abbrev pub HasDevice : BoardState → Type 0
+HasDevice b = 0 < length b.chips
+
+-- a list of bits that is not left out has a bit
+abbrev pub HasBitIfGiven : Option (List Bool) → Type 0
+HasBitIfGiven None = Unit {0}
+HasBitIfGiven (Some bits) = 0 < length bits
+
+-- the length of the k-th user register, 0 where there is none
+abbrev pub user_length : ℕ → List ℕ → ℕ
+user_length k [] = 0
+user_length zero (n ∷ ns) = n
+user_length (suc k) (n ∷ ns) = user_length k ns
+
+-- An own instruction that selects a user register selects one of at least one bit, and what it captures has one.
+abbrev pub IsSoundAccess : List ℕ → Access → Type 0
+IsSoundAccess users a = at a.place
+  where
+    at : Place → Type 0
+    at (AtUser k) = (0 < user_length k users) × HasBitIfGiven a.captures
+    at AtBypass = Unit {0}
+    at AtBoundary = Unit {0}
+    at AtDeviceId = Unit {0}
+
+-- A description in which every register and every capture has at least one bit.
+pub record IsSoundDevice (d : Device) : Type 0 where
+  pub instruction : 0 < d.instruction_length
+  pub capture : 0 < length d.capture
+  pub cells : 0 < length d.cells
+  pub idcode : HasBitIfGiven d.idcode
+  pub usercode : HasBitIfGiven d.usercode
+  pub accesses : AllByRecursion (λ a. IsSoundAccess d.users a) d.accesses

@@ -1,0 +1,24 @@
+//! Direct play of every legal program on every chain of sound devices: laws over the definitions that the contracts of
+//! the board and of the player cite.
+#![tactic(auto)]
+
+ghost use Rattle.legal_plays.specs.Laws.{BytesKeepRegistersSound, EachLegalStepPlaysAsItMeans, EveryLegalProgramPlaysAsItMeans};
+
+/// Whatever bytes a board takes, each register that can stand between TDI and TDO keeps at least one bit, the edges of a
+/// scan that broke off in the middle and the assertion of TRST included (IEEE Std 1149.1-2001, clauses 7 to 12).
+pub fn bytes_keep_registers_sound()
+    ensures { BytesKeepRegistersSound }
+{}
+
+/// From rest, the bytes of a legal step leave a chain of sound devices at rest where whole registers say, in registers
+/// that are sound again, and the first wanted bit that differs is the one that whole registers name.
+pub fn each_legal_step_plays_as_it_means()
+    ensures { EachLegalStepPlaysAsItMeans }
+{}
+
+/// The law of direct play. On every board of sound devices, whatever bytes it took before, every legal program ends
+/// edge by edge as its meaning over whole registers says, at the same statement and bit where one fails, and leaves the
+/// board at rest in the registers that this meaning gives.
+pub fn every_legal_program_plays_as_it_means()
+    ensures { EveryLegalProgramPlaysAsItMeans }
+{}
