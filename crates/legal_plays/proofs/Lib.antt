@@ -2,3 +2,4 @@ pub mod Edges
 pub mod Ready
 pub mod StepLaws
 pub mod Programs
+pub mod Powered

@@ -2,12 +2,23 @@
 //! the board and of the player cite.
 #![tactic(auto)]
 
-ghost use Rattle.legal_plays.specs.Laws.{BytesKeepRegistersSound, EachLegalStepPlaysAsItMeans, EveryLegalProgramPlaysAsItMeans};
+ghost use Rattle.legal_plays.specs.Laws.{BareBoardsAreSound, BytesKeepRegistersSound, EachLegalStepPlaysAsItMeans, EveryLegalProgramPlaysAsItMeans, SoundDescriptionsPowerUpSound};
 
 /// Whatever bytes a board takes, each register that can stand between TDI and TDO keeps at least one bit, the edges of a
 /// scan that broke off in the middle and the assertion of TRST included (IEEE Std 1149.1-2001, clauses 7 to 12).
 pub fn bytes_keep_registers_sound()
     ensures { BytesKeepRegistersSound }
+{}
+
+/// A device whose description is sound powers up sound: its instruction register, its capture, its boundary, its codes
+/// and the user registers of its own instructions have at least one bit each.
+pub fn sound_descriptions_power_up_sound()
+    ensures { SoundDescriptionsPowerUpSound }
+{}
+
+/// A board of bare devices is sound.
+pub fn bare_boards_are_sound()
+    ensures { BareBoardsAreSound }
 {}
 
 /// From rest, the bytes of a legal step leave a chain of sound devices at rest where whole registers say, in registers
