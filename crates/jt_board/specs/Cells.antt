@@ -1,4 +1,5 @@
--- The boundary cells of a device on the board: what they capture, what a reset gives them, what the pins drive.
+-- The boundary cells of a device on the board: what they capture, what a reset gives them, what the pins drive
+-- (IEEE Std 1149.1-2001, clauses 8 and 11, and Annex B for the cell table).
 use Rattle.std.specs.Prelude.{Bool, true, false, ◌&&◌, ◌||◌, ℕ, suc, ◌==◌, List, [], ◌∷◌, map, length, replicate, is_some, slice_get, Option, Some, None, unwrap_or, if◌then◌else◌}
 use Rattle.jt_board.specs.Device.{Name, Function, Input, Clock, ObserveOnly, Bidir, Output2, Output3, ControlR, Internal, Disabled, Z, Keeper, Weak0, Weak1, Pull0, Pull1, Control3, Cell, Device}
 use Rattle.jt_board.specs.Instruction.{Mode, Extest, Clamp, HighZ, meaning, reset_latch}

@@ -1,4 +1,5 @@
--- The chain byte by byte: all devices move at once, each from the TDO and the levels of before the edge.
+-- The edge meaning: the chain byte by byte (IEEE Std 1149.1-2001, clauses 4, 5 and 6; bytes of OpenOCD's remote_bitbang). All
+-- devices move at once, each from the TDO and the levels of before the edge.
 use Rattle.std.specs.Prelude.{Bool, true, false, ◌&&◌, ℕ, suc, List, [], ◌∷◌, ◌++◌, map, Option, Some, None, unwrap_or, if◌then◌else◌}
 use Rattle.jt_tap.specs.declared.State.{State}
 use Rattle.jt_tap.specs.declared.State.TheVariants.{Reset}

@@ -1,4 +1,5 @@
--- One device, edge by edge. A rising edge captures or shifts and moves; a falling edge updates, resets and sets TDO.
+-- One device, edge by edge (IEEE Std 1149.1-2001, clauses 4 and 6). A rising edge captures or shifts and moves; a falling
+-- edge updates, resets and sets TDO.
 use Rattle.std.specs.Prelude.{Bool, List, [], ◌∷◌, ◌++◌, drop, slice_get, Option, None}
 use Rattle.jt_tap.specs.declared.Work.{Work}
 use Rattle.jt_tap.specs.declared.Work.TheVariants.{Resets, Captures, Shifts, Updates}

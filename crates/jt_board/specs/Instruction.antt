@@ -1,4 +1,4 @@
--- What the instruction in a device's latch names, selects and drives.
+-- What the instruction in a device's latch names, selects and drives (IEEE Std 1149.1-2001, clauses 7 and 8).
 use Rattle.std.specs.Prelude.{Bool, true, false, not, ◌&&◌, ℕ, List, [], ◌∷◌, ◌++◌, map, replicate, Option, Some, None, unwrap_or, codes, bytes_eq, slice_get, option_and_then, if◌then◌else◌}
 use Rattle.std.specs.List.{list_any, list_all, find}
 use Rattle.jt_board.specs.Device.{Name, Pattern, Opcode, Place, AtBypass, AtBoundary, AtDeviceId, AtUser, Access, Device}

@@ -1,4 +1,4 @@
--- Nets: a level by counting the drivers, and what a port sees.
+-- Nets: a level by counting the drivers, and what a port sees. This simulation's own model of the board's wiring.
 use Rattle.std.specs.Prelude.{Bool, true, false, ◌&&◌, ℕ, zero, suc, ◌==◌, List, [], ◌∷◌, map, slice_get, count_by, find, option_map, unwrap_or}
 use Rattle.std.specs.List.{list_any}
 use Rattle.jt_board.specs.Device.{Name}

@@ -1,4 +1,4 @@
--- The cycles of a step and its messages.
+-- The cycles of a step and its messages (Serial Vector Format, revision E; OpenOCD's remote_bitbang).
 use Rattle.std.specs.Prelude.{true, false, List, [], ◌∷◌, ◌++◌, map, replicate, is_some, flat_map, if◌then◌else◌}
 use Rattle.jt_tap.specs.declared.State.{State}
 use Rattle.jt_tap.specs.declared.State.TheVariants.{Reset}

@@ -1,4 +1,4 @@
--- The steps of a program and what they do to whole registers.
+-- The steps of a program and what they do to whole registers (Serial Vector Format, revision E).
 use Rattle.std.specs.Prelude.{true, false, ℕ, List, map, Option, None, if◌then◌else◌}
 use Rattle.jt_tap.specs.declared.Column.{Column}
 use Rattle.jt_tap.specs.declared.Column.TheVariants.{Dr, Ir}

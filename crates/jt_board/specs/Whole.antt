@@ -1,4 +1,5 @@
--- Registers as wholes: a board at rest, and capture, shift, update and reset of all devices at once.
+-- The register meaning: a board at rest, and capture, shift, update and reset of all devices at once (IEEE Std 1149.1-2001,
+-- clauses 6, 7 and 9, without TCK, TDO or states other than the resting place).
 use Rattle.std.specs.Prelude.{Bool, true, false, ℕ, suc, List, [], ◌∷◌, ◌++◌, map, length, take, drop}
 use Rattle.jt_tap.specs.declared.Column.{Column}
 use Rattle.jt_tap.specs.declared.Column.TheVariants.{Dr, Ir}
