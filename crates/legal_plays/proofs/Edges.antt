@@ -102,3 +102,16 @@ count-told (Write tck tms tdi) b = count-written b.tck tck tms tdi b
 count-told (Lines true srst) b = count-map assert_trst b.chips
 count-told (Lines false srst) b = refl
 count-told _ b = refl
+
+-- the board after what a byte spells
+abbrev heard_as : Option Message → BoardState → BoardState
+heard_as said b = elim said [ Some m ↦ told m b | None ↦ b ]
+
+count-heard : (said : Option Message) (b : BoardState) → length (heard_as said b).chips ≡ length b.chips
+count-heard (Some m) b = count-told m b
+count-heard None b = refl
+
+-- Neither does a list of bytes.
+pub count-bytes : (bytes : List ℕ) (b : BoardState) → length (after_all bytes b).chips ≡ length b.chips
+count-bytes [] b = refl
+count-bytes (byte ∷ bytes) b = count-bytes bytes (after byte b) ∙ count-heard (decode byte) b

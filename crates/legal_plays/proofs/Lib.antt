@@ -3,3 +3,5 @@ pub mod Ready
 pub mod StepLaws
 pub mod Programs
 pub mod Powered
+pub mod Legality
+pub mod Described

@@ -53,7 +53,7 @@ trip : (path : List State) (s : State) → IsPath s path → IsTrip s path
 trip [] s legal = tt
 trip (t ∷ path) s legal = (legal.0, trip path t legal.1)
 
-path-stable : (path : List State) (s : State) → IsPath s path → is_stable (last_of s path) ≡ true
+pub path-stable : (path : List State) (s : State) → IsPath s path → is_stable (last_of s path) ≡ true
 path-stable [] s legal = legal
 path-stable (t ∷ path) s legal = path-stable path t legal.1
 

@@ -2,7 +2,7 @@
 //! the board and of the player cite.
 #![tactic(auto)]
 
-ghost use Rattle.legal_plays.specs.Laws.{BareBoardsAreSound, BytesKeepRegistersSound, EachLegalStepPlaysAsItMeans, EveryLegalProgramPlaysAsItMeans, SoundDescriptionsPowerUpSound};
+ghost use Rattle.legal_plays.specs.Laws.{BareBoardsAreSound, BytesKeepRegistersSound, EachLegalStepPlaysAsItMeans, EveryDescribedBoardPlaysLegalPrograms, EveryLegalProgramPlaysAsItMeans, LegalityIsOfTheProgram, SoundDescriptionsPowerUpSound, TheStateAtRestIsOne};
 
 /// Whatever bytes a board takes, each register that can stand between TDI and TDO keeps at least one bit, the edges of a
 /// scan that broke off in the middle and the assertion of TRST included (IEEE Std 1149.1-2001, clauses 7 to 12).
@@ -32,4 +32,22 @@ pub fn each_legal_step_plays_as_it_means()
 /// board at rest in the registers that this meaning gives.
 pub fn every_legal_program_plays_as_it_means()
     ensures { EveryLegalProgramPlaysAsItMeans }
+{}
+
+/// Whether a program is legal is read off its steps: off the place where each begins and whether TRST is asserted there.
+/// No register and no pin has a say in it.
+pub fn legality_is_of_the_program_alone()
+    ensures { LegalityIsOfTheProgram }
+{}
+
+/// A board that has a device is at rest in one state alone, so that "the state after the opening" names one.
+pub fn the_state_at_rest_is_one()
+    ensures { TheStateAtRestIsOne }
+{}
+
+/// The law of direct play for boards as they are described. A board of at least one device, all of sound descriptions, as
+/// it powers up or after any bytes, mid-scan too, plays every legal program as it means: the same ending, and at rest in
+/// the registers that the meaning gives.
+pub fn every_described_board_plays_legal_programs()
+    ensures { EveryDescribedBoardPlaysLegalPrograms }
 {}
