@@ -1,13 +1,12 @@
 -- A board at rest shows one state; and every board of sound descriptions plays every legal program as it means.
-use Rattle.std.proofs.Common.{◌≡◌, Bool, true, ℕ, ◌<◌, suc, List, [], ◌∷◌, length, map, refl, sym, ap, ◌∙◌, subst, arith}
+use Rattle.std.proofs.Common.{◌≡◌, ℕ, ◌<◌, suc, List, [], ◌∷◌, length, map, refl, sym, ap, ◌∙◌, subst, arith}
 use Rattle.std.specs.List.{AllByRecursion}
 use Rattle.jt_tap.specs.declared.State.{State}
 use Rattle.jt_tap.specs.declared.State.TheVariants.{Reset}
-use Rattle.jt_board.specs.Cells.{Member, powered}
-use Rattle.jt_board.specs.Nets.{Net}
-use Rattle.jt_board.specs.Chain.{BoardState, ChipState, after_all, members}
+use Rattle.jt_board.specs.Cells.{Member}
+use Rattle.jt_board.specs.Chain.{BoardState, ChipState, members}
 use Rattle.jt_board.specs.Whole.{AtRest}
-use Rattle.jt_board.specs.Resting.{IsAtRest, power_up, resting, standing}
+use Rattle.jt_board.specs.Resting.{power_up, resting, standing}
 use Rattle.jt_board.proofs.Sound.{AllSound, IsSound}
 use Rattle.legal_plays.specs.Legal.{HasDevice, IsPoweredUp, IsSoundBoard}
 use Rattle.legal_plays.specs.Laws.{EveryDescribedBoardPlaysLegalPrograms, TheStateAtRestIsOne, met_again}
@@ -42,9 +41,9 @@ one_state b m n some is also =
 described-sound : (ms : List Member) → AllByRecursion (λ d. IsPoweredUp d) ms → AllSound (members (map (standing Reset) ms))
 described-sound [] all = tt
 described-sound (m ∷ ms) all = (
-    subst (λ (d : Member). IsSound d) (sym all.0.registers) (powered_sound m.name m.device m.core m.extest_update all.0.description),
-    described-sound ms all.1,
-  )
+  subst (λ (d : Member). IsSound d) (sym all.0.registers) (powered_sound m.name m.device m.core m.extest_update all.0.description),
+  described-sound ms all.1,
+)
 
 count-standing : (p : State) (ms : List Member) → length (map (standing p) ms) ≡ length ms
 count-standing p [] = refl

@@ -1,11 +1,11 @@
 -- Every edge and every byte keeps the registers sound, and adds and removes no device.
-use Rattle.std.proofs.Common.{◌≡◌, Bool, true, false, ℕ, suc, ◌<◌, List, [], ◌∷◌, ◌++◌, length, drop, map, refl, ap, ◌∙◌, arith, length-append, Some, None}
+use Rattle.std.proofs.Common.{◌≡◌, Bool, true, false, ℕ, suc, List, [], ◌∷◌, length, drop, map, refl, ap, ◌∙◌, arith, length-append, Some, None}
 use Rattle.std.specs.Prelude.{Option, if◌then◌else◌}
 use Rattle.jt_tap.specs.declared.Work.{Work}
 use Rattle.jt_tap.specs.declared.Work.TheVariants.{Resets, Captures, Shifts, Updates, Waits}
 use Rattle.jt_tap.specs.Controller.{work}
 use Rattle.bitbang.specs.declared.Message.{Message}
-use Rattle.bitbang.specs.declared.Message.TheVariants.{Write, Ask, Quit, Lines}
+use Rattle.bitbang.specs.declared.Message.TheVariants.{Write, Lines}
 use Rattle.bitbang.specs.Protocol.{decode}
 use Rattle.jt_board.specs.Registers.{chosen}
 use Rattle.jt_board.specs.Edges.{risen, fallen, moved}

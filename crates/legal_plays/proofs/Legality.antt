@@ -1,6 +1,6 @@
 -- Where a step rests and what it leaves on the TRST line are read off the step; so legality is read off the program.
-use Rattle.std.proofs.Common.{◌≡◌, Bool, true, false, ℕ, List, [], ◌∷◌, refl, sym, ap, ◌∙◌, subst}
-use Rattle.std.specs.Prelude.{if◌then◌else◌, ◌↔◌}
+use Rattle.std.proofs.Common.{◌≡◌, Bool, true, false, List, [], ◌∷◌, refl, sym, ap, ◌∙◌, subst}
+use Rattle.std.specs.Prelude.{if◌then◌else◌}
 use Rattle.jt_tap.specs.declared.Column.{Column}
 use Rattle.jt_tap.specs.declared.Column.TheVariants.{Dr, Ir}
 use Rattle.jt_tap.specs.declared.State.{State}
@@ -14,10 +14,10 @@ use Rattle.jt_board.specs.Vector.{tdis}
 use Rattle.jt_board.specs.Whole.{AtRest, arrive, along, capture, pass, settle, shift, update}
 use Rattle.jt_board.specs.Steps.{Step, Scan, Go, Path, Run, Trst, On, Off, Z, Absent, command, move_to, move_unless_there, scan_end}
 use Rattle.jt_board.specs.StepBytes.{last_of, place_after}
-use Rattle.jt_board.specs.Resting.{IsFormed, IsLegal}
+use Rattle.jt_board.specs.Resting.{IsFormed}
 use Rattle.jt_board.proofs.Moves.{at_rest}
 use Rattle.jt_player.specs.Programs.{Numbered}
-use Rattle.legal_plays.specs.Legal.{AllLegal, AllLegalFrom, IsLegalAt, line_after}
+use Rattle.legal_plays.specs.Legal.{AllLegal, AllLegalFrom, line_after}
 use Rattle.legal_plays.specs.Laws.{LegalityIsOfTheProgram}
 use Rattle.legal_plays.proofs.StepLaws.{path-stable}
 
@@ -136,18 +136,18 @@ moved-there steps p q a b places lines legal =
 pub legal-from : (steps : List Numbered) (m : AtRest) → is_stable m.place ≡ true → AllLegalFrom m.place m.trst steps → AllLegal steps m
 legal-from [] m stable legal = tt
 legal-from (s ∷ steps) m stable legal = (
-    record { formed = legal.0.formed; stays = legal.0.stays; not_absent = legal.0.not_absent },
-    legal-from steps (command s.what m) (rest-stable s.what m stable legal.0.formed)
-    (moved-there steps _ _ _ _ (sym (place-command s.what m legal.0.formed)) (sym (line-command s.what m)) legal.1),
-  )
+  record { formed = legal.0.formed; stays = legal.0.stays; not_absent = legal.0.not_absent },
+  legal-from steps (command s.what m) (rest-stable s.what m stable legal.0.formed)
+      (moved-there steps _ _ _ _ (sym (place-command s.what m legal.0.formed)) (sym (line-command s.what m)) legal.1),
+)
 
 legal-to : (steps : List Numbered) (m : AtRest) → is_stable m.place ≡ true → AllLegal steps m → AllLegalFrom m.place m.trst steps
 legal-to [] m stable legal = tt
 legal-to (s ∷ steps) m stable legal = (
-    record { formed = legal.0.formed; stays = legal.0.stays; not_absent = legal.0.not_absent },
-    moved-there steps _ _ _ _ (place-command s.what m legal.0.formed) (line-command s.what m)
-    (legal-to steps (command s.what m) (rest-stable s.what m stable legal.0.formed) legal.1),
-  )
+  record { formed = legal.0.formed; stays = legal.0.stays; not_absent = legal.0.not_absent },
+  moved-there steps _ _ _ _ (place-command s.what m legal.0.formed) (line-command s.what m)
+      (legal-to steps (command s.what m) (rest-stable s.what m stable legal.0.formed) legal.1),
+)
 
 pub legality : LegalityIsOfTheProgram
 legality steps m stable = (legal-from steps m stable, legal-to steps m stable)

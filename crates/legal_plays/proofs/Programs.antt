@@ -1,12 +1,11 @@
 -- The opening leaves a sound board at rest and sound; from there every legal program plays as it means.
-use Rattle.std.proofs.Common.{◌≡◌, Bool, true, false, ℕ, suc, ◌<◌, List, [], ◌∷◌, length, map, refl, sym, ap, ◌∙◌, subst}
+use Rattle.std.proofs.Common.{◌≡◌, true, false, ℕ, suc, ◌<◌, List, [], ◌∷◌, length, map, refl, sym, ap, ◌∙◌, subst}
 use Rattle.std.specs.List.{AllByRecursion}
-use Rattle.jt_tap.specs.declared.State.{State}
 use Rattle.jt_tap.specs.declared.State.TheVariants.{Reset}
 use Rattle.bitbang.specs.declared.Message.TheVariants.{Write, Lines}
 use Rattle.jt_board.specs.Cells.{Member}
 use Rattle.bitbang.specs.Protocol.{encode}
-use Rattle.jt_board.specs.Chain.{ChipState, BoardState, after_all, is_held, members, told, hear}
+use Rattle.jt_board.specs.Chain.{ChipState, BoardState, after_all, is_held, members, told}
 use Rattle.jt_board.specs.Whole.{AtRest, reset_member}
 use Rattle.jt_board.specs.Steps.{command}
 use Rattle.jt_board.specs.Resting.{IsRest}
@@ -14,7 +13,7 @@ use Rattle.jt_board.proofs.Ones.{opening-rests, reset_from_here}
 use Rattle.jt_board.proofs.Sound.{AllSound, Sound-reset}
 use Rattle.jt_board.proofs.Told.{after_all-encoded}
 use Rattle.jt_board.proofs.Trips.{reset-all-twice}
-use Rattle.jt_player.specs.Programs.{Numbered, outcome}
+use Rattle.jt_player.specs.Programs.{Numbered}
 use Rattle.jt_player.specs.Play.{full_play, player, turns}
 use Rattle.jt_player.proofs.Direct.{AllPlayed, program-law}
 use Rattle.jt_player.proofs.PlayLaws.{full_play_is_both_ends}
