@@ -9,7 +9,7 @@ use Rattle.jt_board.specs.Whole.{AtRest}
 use Rattle.jt_board.specs.Resting.{power_up, resting, standing}
 use Rattle.jt_board.proofs.Sound.{AllSound, IsSound}
 use Rattle.legal_plays.specs.Legal.{HasDevice, IsPoweredUp, IsSoundBoard}
-use Rattle.legal_plays.specs.Laws.{EveryDescribedBoardPlaysLegalPrograms, TheStateAtRestIsOne, met_again}
+use Rattle.legal_plays.specs.Laws.{EveryDescribedBoardPlaysLegalPrograms, EveryLegalProgramMeansFromOpening, TheStateAtRestIsOne, met_again}
 use Rattle.legal_plays.proofs.Edges.{count-bytes, sound-bytes}
 use Rattle.legal_plays.proofs.Legality.{legal-from}
 use Rattle.legal_plays.proofs.Powered.{powered_sound}
@@ -56,3 +56,9 @@ described nets ms bytes all some =
     let sound : IsSoundBoard b = sound-bytes bytes start (described-sound ms all) in
     let devices : HasDevice b = subst (λ (n : ℕ). 0 < n) (sym (count-bytes bytes start ∙ count-standing Reset ms)) some in
     (opened_to b, opened-is b sound, λ steps legal. program-plays b sound devices steps (legal-from steps (opened_to b) refl legal))
+
+pub means_from_opening : EveryLegalProgramMeansFromOpening
+means_from_opening program b sound devices legal =
+    let is = opened-is b sound in
+    let plays = program-plays b sound devices program.steps (legal-from program.steps (opened_to b) refl legal) in
+    (opened_to b, is.board, plays.ending, plays.board)

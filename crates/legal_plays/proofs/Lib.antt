@@ -5,3 +5,4 @@ pub mod Programs
 pub mod Powered
 pub mod Legality
 pub mod Described
+pub mod Sampled

@@ -14,8 +14,9 @@ use Rattle.jt_board.specs.Steps.{Step, command, failure}
 use Rattle.jt_board.specs.Vector.{judge}
 use Rattle.jt_board.specs.Whole.{AtRest}
 use Rattle.jt_board.proofs.Sound.{AllSound, IsSound}
-use Rattle.jt_player.specs.Play.{full_play, player, turns, wants_of}
-use Rattle.jt_player.specs.Programs.{Numbered, outcome}
+use Rattle.jt_player.specs.DirectPlay.{MeansFromOpening}
+use Rattle.jt_player.specs.Play.{full_play, play, player, turns, wants_of}
+use Rattle.jt_player.specs.Programs.{Numbered, Program, outcome}
 use Rattle.legal_plays.specs.Legal.{AllLegal, AllLegalFrom, HasDevice, IsLegalProgram, IsPoweredUp, IsSoundBoard, IsSoundDevice}
 
 -- Whatever bytes a board takes, its registers stay sound.
@@ -83,3 +84,9 @@ EveryDescribedBoardPlaysLegalPrograms = (nets : List Net) (ms : List Member) (by
     → AllByRecursion (λ d. IsPoweredUp d) ms → 0 < length ms
     → (m : AtRest) × IsOpened (met_again nets ms bytes) m
     × ((steps : List Numbered) → IsLegalProgram steps → PlaysAsItMeans steps (met_again nets ms bytes) m)
+
+-- The clause that the contracts of direct play have holds for every legal program and sound board, with the play's ending
+-- and board.
+abbrev pub EveryLegalProgramMeansFromOpening : Type 0
+EveryLegalProgramMeansFromOpening = (program : Program) (b : BoardState) → IsSoundBoard b → HasDevice b → IsLegalProgram program.steps
+    → MeansFromOpening program b (play program b).ending (play program b).board
