@@ -69,7 +69,8 @@ IsSoundAccess users a = at a.place
     at AtBoundary = Unit {0}
     at AtDeviceId = Unit {0}
 
--- A description in which every register and every capture has at least one bit.
+-- A description in which every register and every capture has at least one bit. IEEE Std 1149.1-2001 asks for more: two
+-- bits of instruction (clause 7) and codes of 32 (clause 12).
 pub record IsSoundDevice (d : Device) : Type 0 where
   pub instruction : 0 < d.instruction_length
   pub capture : 0 < length d.capture
