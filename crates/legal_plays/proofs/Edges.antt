@@ -1,11 +1,11 @@
 -- Every edge and every byte keeps the registers sound, and adds and removes no device.
-use Rattle.std.proofs.Common.{◌≡◌, Bool, true, false, ℕ, suc, ◌<◌, List, [], ◌∷◌, ◌++◌, length, drop, map, refl, ap, ◌∙◌, arith, length-append, Some, None}
+use Rattle.std.proofs.Common.{◌≡◌, Bool, true, false, ℕ, suc, List, [], ◌∷◌, length, drop, map, refl, ap, ◌∙◌, arith, length-append, Some, None}
 use Rattle.std.specs.Prelude.{Option, if◌then◌else◌}
 use Rattle.jt_tap.specs.declared.Work.{Work}
 use Rattle.jt_tap.specs.declared.Work.TheVariants.{Resets, Captures, Shifts, Updates, Waits}
 use Rattle.jt_tap.specs.Controller.{work}
 use Rattle.bitbang.specs.declared.Message.{Message}
-use Rattle.bitbang.specs.declared.Message.TheVariants.{Write, Ask, Quit, Lines}
+use Rattle.bitbang.specs.declared.Message.TheVariants.{Write, Lines}
 use Rattle.bitbang.specs.Protocol.{decode}
 use Rattle.jt_board.specs.Registers.{chosen}
 use Rattle.jt_board.specs.Edges.{risen, fallen, moved}
@@ -102,3 +102,16 @@ count-told (Write tck tms tdi) b = count-written b.tck tck tms tdi b
 count-told (Lines true srst) b = count-map assert_trst b.chips
 count-told (Lines false srst) b = refl
 count-told _ b = refl
+
+-- the board after what a byte spells
+abbrev heard_as : Option Message → BoardState → BoardState
+heard_as said b = elim said [ Some m ↦ told m b | None ↦ b ]
+
+count-heard : (said : Option Message) (b : BoardState) → length (heard_as said b).chips ≡ length b.chips
+count-heard (Some m) b = count-told m b
+count-heard None b = refl
+
+-- Neither does a list of bytes.
+pub count-bytes : (bytes : List ℕ) (b : BoardState) → length (after_all bytes b).chips ≡ length b.chips
+count-bytes [] b = refl
+count-bytes (byte ∷ bytes) b = count-bytes bytes (after byte b) ∙ count-heard (decode byte) b

@@ -3,3 +3,6 @@ pub mod Ready
 pub mod StepLaws
 pub mod Programs
 pub mod Powered
+pub mod Legality
+pub mod Described
+pub mod Sampled

@@ -1,20 +1,22 @@
 -- The opening leaves a sound board at rest and sound; from there every legal program plays as it means.
-use Rattle.std.proofs.Common.{◌≡◌, Bool, true, false, ℕ, suc, ◌<◌, List, [], ◌∷◌, length, map, refl, sym, ap, ◌∙◌, subst}
+use Rattle.std.proofs.Common.{◌≡◌, true, false, ℕ, suc, ◌<◌, List, [], ◌∷◌, length, map, refl, sym, ap, ◌∙◌, subst}
 use Rattle.std.specs.List.{AllByRecursion}
-use Rattle.jt_tap.specs.declared.State.{State}
 use Rattle.jt_tap.specs.declared.State.TheVariants.{Reset}
 use Rattle.bitbang.specs.declared.Message.TheVariants.{Write, Lines}
 use Rattle.jt_board.specs.Cells.{Member}
-use Rattle.jt_board.specs.Chain.{ChipState, BoardState, is_held, members, told, hear}
+use Rattle.bitbang.specs.Protocol.{encode}
+use Rattle.jt_board.specs.Chain.{ChipState, BoardState, after_all, is_held, members, told}
 use Rattle.jt_board.specs.Whole.{AtRest, reset_member}
 use Rattle.jt_board.specs.Steps.{command}
 use Rattle.jt_board.specs.Resting.{IsRest}
 use Rattle.jt_board.proofs.Ones.{opening-rests, reset_from_here}
 use Rattle.jt_board.proofs.Sound.{AllSound, Sound-reset}
+use Rattle.jt_board.proofs.Told.{after_all-encoded}
 use Rattle.jt_board.proofs.Trips.{reset-all-twice}
-use Rattle.jt_player.specs.Programs.{Numbered, outcome}
-use Rattle.jt_player.specs.Play.{full_play, turns}
+use Rattle.jt_player.specs.Programs.{Numbered}
+use Rattle.jt_player.specs.Play.{full_play, player, turns}
 use Rattle.jt_player.proofs.Direct.{AllPlayed, program-law}
+use Rattle.jt_player.proofs.PlayLaws.{full_play_is_both_ends}
 use Rattle.legal_plays.specs.Legal.{AllLegal, HasDevice, IsSoundBoard}
 use Rattle.legal_plays.specs.Laws.{IsOpened, PlaysAsItMeans, EveryLegalProgramPlaysAsItMeans}
 use Rattle.legal_plays.proofs.Edges.{sound-told, count-told}
@@ -54,10 +56,10 @@ count-members [] = refl
 count-members (c ∷ cs) = ap (λ n. suc n) (count-members cs)
 
 -- the board as TRST is released, and the state at rest that the opening brings it to
-abbrev unasserted : BoardState → BoardState
+abbrev pub unasserted : BoardState → BoardState
 unasserted b = told (Lines false false) b
 
-abbrev opened_to : BoardState → AtRest
+abbrev pub opened_to : BoardState → AtRest
 opened_to b = reset_from_here (unasserted b)
 
 opened-count : (b : BoardState) → length (opened_to b).members ≡ length b.chips
@@ -69,7 +71,7 @@ released-held : (ms : List Member) → AllByRecursion (λ d. is_held false d ≡
 released-held [] = tt
 released-held (m ∷ ms) = (λ held. refl, released-held ms)
 
-opened-is : (b : BoardState) → IsSoundBoard b → IsOpened b (opened_to b)
+pub opened-is : (b : BoardState) → IsSoundBoard b → IsOpened b (opened_to b)
 opened-is b sound = record {
   board = ap (λ h. h.board) (opening-rests b);
   rest = record {
@@ -82,12 +84,23 @@ opened-is b sound = record {
   sound = Sound-reset (members (high (unasserted b)).chips) (sound-high (unasserted b) (sound-told (Lines false false) b sound));
 }
 
+-- the player's bytes for the play's answers leave the play's board
+by-bytes : (window : ℕ) (steps : List Numbered) (b : BoardState)
+    → after_all (player window (turns steps) (full_play (turns steps) b).answers) b ≡ (full_play (turns steps) b).board
+by-bytes window steps b =
+    let p = full_play (turns steps) b in
+    let both = full_play_is_both_ends window steps b in
+    ap (λ ms. after_all (map encode ms) b) both.0 ∙ after_all-encoded p.messages b ∙ ap (λ h. h.board) both.1
+
 plays : (steps : List Numbered) (b : BoardState) → IsOpened b (opened_to b) → HasDevice b → AllLegal steps (opened_to b)
     → PlaysAsItMeans steps b (opened_to b)
 plays steps b is some legal =
     let devices : 0 < length (opened_to b).members = subst (λ (n : ℕ). 0 < n) (sym (opened-count b)) some in
     let same = program-law steps b (all-played steps (opened_to b) is.rest is.sound devices legal) in
-    record { ending = same.ending; board = same.board }
+    record { ending = same.ending; board = same.board; bytes = λ window. by-bytes window steps b ∙ same.board }
+
+pub program-plays : (b : BoardState) → IsSoundBoard b → HasDevice b → (steps : List Numbered) → AllLegal steps (opened_to b) → PlaysAsItMeans steps b (opened_to b)
+program-plays b sound some steps legal = plays steps b (opened-is b sound) some legal
 
 pub program_means : EveryLegalProgramPlaysAsItMeans
 program_means b sound some =

@@ -1,7 +1,6 @@
 -- What the actions on whole registers keep: sound registers, no device held, and how many devices there are; and where
 -- they come to rest.
-use Rattle.std.proofs.Common.{◌≡◌, Bool, true, false, ℕ, suc, ◌<◌, List, [], ◌∷◌, ◌++◌, length, take, drop, map, refl, sym, ap, ◌∙◌, subst, arith, length-append, length-drop}
-use Rattle.std.specs.Prelude.{if◌then◌else◌}
+use Rattle.std.proofs.Common.{◌≡◌, Bool, true, false, ℕ, suc, List, [], ◌∷◌, ◌++◌, length, drop, map, refl, sym, ap, ◌∙◌, subst, arith, length-append, length-drop}
 use Rattle.std.specs.List.{AllByRecursion}
 use Rattle.jt_tap.specs.declared.Column.{Column}
 use Rattle.jt_tap.specs.declared.Column.TheVariants.{Dr, Ir}
@@ -16,7 +15,7 @@ use Rattle.jt_board.specs.Chain.{is_held}
 use Rattle.jt_board.specs.Whole.{AtRest, chosen_of, joined, cut_back, capture_all, update_member, reset_member, capture, shift, update, settle, arrive, pass, along}
 use Rattle.jt_board.specs.Steps.{scan_end, move_to, move_unless_there}
 use Rattle.jt_board.specs.StepBytes.{last_of}
-use Rattle.jt_board.specs.Resting.{IsPath, IsRest}
+use Rattle.jt_board.specs.Resting.{IsRest}
 use Rattle.jt_board.proofs.Low.{Free}
 use Rattle.jt_board.proofs.Moves.{at_rest}
 use Rattle.jt_board.proofs.Sound.{AllSound, Sound-capture_all, Sound-cut_back, Sound-update, Sound-reset}

@@ -1,6 +1,6 @@
 -- Every legal step plays as it means, and leaves the board at rest with sound registers.
-use Rattle.std.proofs.Common.{◌≡◌, ◌⊎◌, inl, inr, Bool, true, false, ℕ, zero, suc, ◌<◌, List, [], ◌∷◌, ◌++◌, length, map, replicate, refl, sym, ap, ◌∙◌, subst, arith}
-use Rattle.std.specs.Prelude.{if◌then◌else◌, ◌&&◌, not}
+use Rattle.std.proofs.Common.{◌≡◌, Bool, true, false, ℕ, zero, suc, ◌<◌, List, [], ◌∷◌, ◌++◌, length, map, replicate, refl, sym, ap, ◌∙◌, subst, arith}
+use Rattle.std.specs.Prelude.{if◌then◌else◌, not}
 use Rattle.std.specs.List.{AllByRecursion, list_all}
 use Rattle.jt_tap.specs.declared.Column.{Column}
 use Rattle.jt_tap.specs.declared.Column.TheVariants.{Dr, Ir}
@@ -11,8 +11,8 @@ use Rattle.bitbang.specs.declared.Cycle.{Cycle}
 use Rattle.jt_board.specs.Cells.{Member}
 use Rattle.jt_board.specs.Nets.{Net}
 use Rattle.jt_board.specs.Vector.{VectorBit, tdis, judge}
-use Rattle.jt_board.specs.Chain.{BoardState, Heard, hear, is_held}
-use Rattle.jt_board.specs.Whole.{AtRest, reset_member, joined, out, capture, settle, along}
+use Rattle.jt_board.specs.Chain.{hear, is_held}
+use Rattle.jt_board.specs.Whole.{AtRest, reset_member, out, capture, settle, along}
 use Rattle.jt_board.specs.Steps.{Step, Scan, Go, Path, Run, Trst, On, Off, Z, Absent, command, failure, trst_member, settled_member, move_unless_there}
 use Rattle.jt_board.specs.StepBytes.{walk, closed, step_messages, last_of, place_after}
 use Rattle.jt_board.specs.Resting.{resting, IsPath, IsRest, IsFormed, IsLegal, is_reset, leaves_reset}
@@ -26,7 +26,7 @@ use Rattle.jt_board.proofs.Sound.{AllSound, IsSound, Sound-Full, Sound-reset, So
 use Rattle.jt_board.proofs.Vectors.{picked}
 use Rattle.jt_player.specs.Play.{wants_of}
 use Rattle.jt_player.proofs.Direct.{IsPlayed, judge-picked}
-use Rattle.legal_plays.specs.Laws.{StepPlaysAsItMeans, EachLegalStepPlaysAsItMeans}
+use Rattle.legal_plays.specs.Laws.{EachLegalStepPlaysAsItMeans}
 use Rattle.legal_plays.proofs.Ready.{IsReady, Ready, IsEnd, end-is-rest, move-end, maybe-end, scan-rests, along-rests, ready-to-shift, count-map}
 
 -- what one step's law says, and what it keeps
@@ -53,7 +53,7 @@ trip : (path : List State) (s : State) → IsPath s path → IsTrip s path
 trip [] s legal = tt
 trip (t ∷ path) s legal = (legal.0, trip path t legal.1)
 
-path-stable : (path : List State) (s : State) → IsPath s path → is_stable (last_of s path) ≡ true
+pub path-stable : (path : List State) (s : State) → IsPath s path → is_stable (last_of s path) ≡ true
 path-stable [] s legal = legal
 path-stable (t ∷ path) s legal = path-stable path t legal.1
 

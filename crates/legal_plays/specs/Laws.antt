@@ -1,19 +1,23 @@
 -- The laws of direct play: what the bytes of a legal step and of a legal program do, edge by edge, is what whole registers say.
-use Rattle.std.specs.Prelude.{◌≡◌, Bool, false, ℕ, ◌<◌, List, length}
+use Rattle.std.specs.Prelude.{◌≡◌, ◌↔◌, Bool, true, false, ℕ, ◌<◌, List, length}
+use Rattle.std.specs.List.{AllByRecursion}
 use Rattle.jt_tap.specs.declared.State.TheVariants.{Reset}
+use Rattle.jt_tap.specs.Controller.{is_stable}
 use Rattle.jt_board.specs.Bare.{bare_board}
-use Rattle.jt_board.specs.Cells.{powered}
+use Rattle.jt_board.specs.Cells.{Member, powered}
+use Rattle.jt_board.specs.Nets.{Net}
 use Rattle.jt_board.specs.Chain.{BoardState, after_all, hear}
 use Rattle.jt_board.specs.Device.{Device, Name}
-use Rattle.jt_board.specs.Resting.{IsAtRest, IsLegal, IsRest, resting}
+use Rattle.jt_board.specs.Resting.{IsAtRest, IsLegal, IsRest, power_up, resting}
 use Rattle.jt_board.specs.StepBytes.{opening, step_messages}
 use Rattle.jt_board.specs.Steps.{Step, command, failure}
 use Rattle.jt_board.specs.Vector.{judge}
 use Rattle.jt_board.specs.Whole.{AtRest}
 use Rattle.jt_board.proofs.Sound.{AllSound, IsSound}
-use Rattle.jt_player.specs.Play.{full_play, turns, wants_of}
-use Rattle.jt_player.specs.Programs.{Numbered, outcome}
-use Rattle.legal_plays.specs.Legal.{AllLegal, HasDevice, IsSoundBoard, IsSoundDevice}
+use Rattle.jt_player.specs.DirectPlay.{MeansFromOpening}
+use Rattle.jt_player.specs.Play.{full_play, play, player, turns, wants_of}
+use Rattle.jt_player.specs.Programs.{Numbered, Program, outcome}
+use Rattle.legal_plays.specs.Legal.{AllLegal, AllLegalFrom, HasDevice, IsLegalProgram, IsPoweredUp, IsSoundBoard, IsSoundDevice}
 
 -- Whatever bytes a board takes, its registers stay sound.
 abbrev pub BytesKeepRegistersSound : Type 0
@@ -49,12 +53,40 @@ pub record IsOpened (b : BoardState) (m : AtRest) : Type 0 where
   pub released : m.trst ≡ false
   pub sound : AllSound m.members
 
--- the ending of the full play is that of the steps' meaning, and the board is at rest where this meaning leaves it
+-- The ending of the full play is that of the steps' meaning, and the board is at rest where this meaning leaves it. There
+-- the player's bytes leave it too, sent for the play's answers with any window of owed ones.
 pub record PlaysAsItMeans (steps : List Numbered) (b : BoardState) (m : AtRest) : Type 0 where
   pub ending : (full_play (turns steps) b).ending ≡ (outcome steps m).ending
   pub board : IsAtRest (full_play (turns steps) b).board (outcome steps m).after
+  pub bytes : (window : ℕ) → IsAtRest (after_all (player window (turns steps) (full_play (turns steps) b).answers) b) (outcome steps m).after
 
 -- From the state after the opening every legal program plays as it means, on every sound board that has a device.
 abbrev pub EveryLegalProgramPlaysAsItMeans : Type 0
 EveryLegalProgramPlaysAsItMeans = (b : BoardState) → IsSoundBoard b → HasDevice b
     → (m : AtRest) × IsOpened b m × ((steps : List Numbered) → AllLegal steps m → PlaysAsItMeans steps b m)
+
+-- Which programs are legal is a matter of the program alone, of the place and of the TRST line where it begins.
+abbrev pub LegalityIsOfTheProgram : Type 0
+LegalityIsOfTheProgram = (steps : List Numbered) (m : AtRest) → is_stable m.place ≡ true
+    → AllLegalFrom m.place m.trst steps ↔ AllLegal steps m
+
+-- A board that has a device is at rest in one state alone.
+abbrev pub TheStateAtRestIsOne : Type 0
+TheStateAtRestIsOne = (b : BoardState) (m n : AtRest) → HasDevice b → IsAtRest b m → IsAtRest b n → m ≡ n
+
+-- a board as it powers up, after some bytes
+abbrev pub met_again : List Net → List Member → List ℕ → BoardState
+met_again nets ms bytes = after_all bytes (resting (power_up nets ms))
+
+-- On every board of at least one device, all of sound descriptions, after any bytes, every legal program plays as it means.
+abbrev pub EveryDescribedBoardPlaysLegalPrograms : Type 0
+EveryDescribedBoardPlaysLegalPrograms = (nets : List Net) (ms : List Member) (bytes : List ℕ)
+    → AllByRecursion (λ d. IsPoweredUp d) ms → 0 < length ms
+    → (m : AtRest) × IsOpened (met_again nets ms bytes) m
+    × ((steps : List Numbered) → IsLegalProgram steps → PlaysAsItMeans steps (met_again nets ms bytes) m)
+
+-- The clause that the contracts of direct play have holds for every legal program and sound board, with the play's ending
+-- and board.
+abbrev pub EveryLegalProgramMeansFromOpening : Type 0
+EveryLegalProgramMeansFromOpening = (program : Program) (b : BoardState) → IsSoundBoard b → HasDevice b → IsLegalProgram program.steps
+    → MeansFromOpening program b (play program b).ending (play program b).board

@@ -1,2 +1,3 @@
 pub mod Legal
 pub mod Laws
+pub mod Samples

@@ -2,7 +2,8 @@
 //! the board and of the player cite.
 #![tactic(auto)]
 
-ghost use Rattle.legal_plays.specs.Laws.{BareBoardsAreSound, BytesKeepRegistersSound, EachLegalStepPlaysAsItMeans, EveryLegalProgramPlaysAsItMeans, SoundDescriptionsPowerUpSound};
+ghost use Rattle.legal_plays.specs.Laws.{BareBoardsAreSound, BytesKeepRegistersSound, EachLegalStepPlaysAsItMeans, EveryDescribedBoardPlaysLegalPrograms, EveryLegalProgramMeansFromOpening, EveryLegalProgramPlaysAsItMeans, LegalityIsOfTheProgram, SoundDescriptionsPowerUpSound, TheStateAtRestIsOne};
+ghost use Rattle.legal_plays.specs.Samples.{PremisesAreNeeded, PremisesCanBeMet};
 
 /// Whatever bytes a board takes, each register that can stand between TDI and TDO keeps at least one bit, the edges of a
 /// scan that broke off in the middle and the assertion of TRST included (IEEE Std 1149.1-2001, clauses 7 to 12).
@@ -32,4 +33,40 @@ pub fn each_legal_step_plays_as_it_means()
 /// board at rest in the registers that this meaning gives.
 pub fn every_legal_program_plays_as_it_means()
     ensures { EveryLegalProgramPlaysAsItMeans }
+{}
+
+/// The same as a clause that the contracts of direct play have: for every legal program and sound board, the play's
+/// ending and the board after it are what the program means from the state after the opening.
+pub fn every_legal_program_means_from_the_opening()
+    ensures { EveryLegalProgramMeansFromOpening }
+{}
+
+/// Whether a program is legal is read off its steps: off the place where each begins and whether TRST is asserted there.
+/// No register and no pin has a say in it.
+pub fn legality_is_of_the_program_alone()
+    ensures { LegalityIsOfTheProgram }
+{}
+
+/// A board that has a device is at rest in one state alone, so that "the state after the opening" names one.
+pub fn the_state_at_rest_is_one()
+    ensures { TheStateAtRestIsOne }
+{}
+
+/// The law of direct play for boards as they are described. A board of at least one device, all of sound descriptions, as
+/// it powers up or after any bytes, mid-scan too, plays every legal program as it means: the same ending, and at rest in
+/// the registers that the meaning gives.
+pub fn every_described_board_plays_legal_programs()
+    ensures { EveryDescribedBoardPlaysLegalPrograms }
+{}
+
+/// The premises can be met: a program of every kind of step is legal, and devices with a TRST port, a code and a user
+/// register have sound descriptions.
+pub fn the_premises_can_be_met()
+    ensures { PremisesCanBeMet }
+{}
+
+/// The premises are needed: on no device, on a device whose capture has no bit, and for a move that leaves RESET under
+/// TRST, edges and whole registers differ.
+pub fn the_premises_are_needed()
+    ensures { PremisesAreNeeded }
 {}
