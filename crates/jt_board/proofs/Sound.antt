@@ -9,32 +9,9 @@ use Rattle.jt_board.specs.Instruction.{Selected, Bypass, Identification, Boundar
 use Rattle.jt_board.specs.Registers.{Registers, UserRegister, chosen, put, captured, updated, stage_of, with_stage, user_stage, user_latch, with_user_stage, user_updated, capture_of, update_selected}
 use Rattle.jt_board.specs.Cells.{Member, surroundings, capture_from, takes_update}
 use Rattle.jt_board.specs.Whole.{chosen_of, joined, cut_back, capture_all, update_member, reset_member}
+use Rattle.jt_board.specs.Sound.{HasBit, IsThere, IsSoundFor, IsSound, AllSound}
 use Rattle.jt_board.proofs.Shift.{Full}
 use Rattle.jt_board.proofs.Vectors.{left-part, right-part}
-
-abbrev pub HasBit : List Bool → Type 0
-HasBit bits = 0 < length bits
-
--- what an instruction selects is there, and so is what it captures
-abbrev pub IsThere : Selected → Option (List Bool) → Registers → Type 0
-IsThere Bypass fixed r = Unit {0}
-IsThere Boundary fixed r = Unit {0}
-IsThere Identification fixed r = HasBit r.identification × HasBit (unwrap_or fixed [])
-IsThere (User k) fixed r = HasBit (user_stage k r.users) × HasBit (user_latch k r.users) × ((other : List Bool) → HasBit other → HasBit (unwrap_or fixed other))
-
-pub record IsSoundFor (d : Device) (r : Registers) : Type 0 where
-  pub stage : HasBit r.stage
-  pub capture : HasBit d.capture
-  pub bypass : HasBit r.bypass
-  pub boundary : HasBit r.boundary
-  pub cells : 0 < length d.cells
-  pub selects : (latch : List Bool) → IsThere (meaning d latch).selected (meaning d latch).fixed r
-
-pub record IsSound (m : Member) : Type 0 where
-  pub it : IsSoundFor m.device m.registers
-
-abbrev pub AllSound : List Member → Type 0
-AllSound ms = AllByRecursion (λ m. IsSound m) ms
 
 stage-bit : (s : Selected) (fixed : Option (List Bool)) (r : Registers) → HasBit r.bypass → HasBit r.boundary → IsThere s fixed r → HasBit (stage_of s r)
 stage-bit Bypass fixed r by bo there = by

@@ -17,7 +17,8 @@ use Rattle.jt_board.specs.Resting.{resting}
 use Rattle.jt_board.proofs.Low.{low, Free, cycled, ran, heard_of, hear-tail}
 use Rattle.jt_board.proofs.Vectors.{cycled-shift}
 use Rattle.jt_board.proofs.Resets.{reset-twice}
-use Rattle.jt_board.proofs.Sound.{AllSound, Sound-Full, Sound-capture_all, Sound-cut_back, Sound-update, Sound-reset}
+use Rattle.jt_board.specs.Sound.{AllSound}
+use Rattle.jt_board.proofs.Sound.{Sound-Full, Sound-capture_all, Sound-cut_back, Sound-update, Sound-reset}
 use Rattle.jt_board.proofs.Moves.{fall_whole, cycled-whole, ends_at, at_rest, low-resting, stable-quiet, IsWalk, walked, closed-walk}
 
 -- what the devices do on the rising edge that leaves a state of this work, TDI being 0

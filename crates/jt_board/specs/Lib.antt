@@ -10,6 +10,7 @@ pub mod Vector
 pub mod Steps
 pub mod StepBytes
 pub mod Resting
+pub mod Sound
 pub mod Bare
 pub mod Laws
 pub mod Report

@@ -7,7 +7,7 @@ use Rattle.jt_board.specs.Cells.{Member}
 use Rattle.jt_board.specs.Chain.{BoardState, ChipState, members}
 use Rattle.jt_board.specs.Whole.{AtRest}
 use Rattle.jt_board.specs.Resting.{power_up, resting, standing}
-use Rattle.jt_board.proofs.Sound.{AllSound, IsSound}
+use Rattle.jt_board.specs.Sound.{AllSound, IsSound}
 use Rattle.legal_plays.specs.Legal.{HasDevice, IsPoweredUp, IsSoundBoard}
 use Rattle.legal_plays.specs.Laws.{EveryDescribedBoardPlaysLegalPrograms, EveryLegalProgramMeansFromOpening, TheStateAtRestIsOne, met_again}
 use Rattle.legal_plays.proofs.Edges.{count-bytes, sound-bytes}

@@ -12,7 +12,8 @@ use Rattle.jt_board.specs.Edges.{risen, fallen, moved}
 use Rattle.jt_board.specs.Cells.{Member, surroundings}
 use Rattle.jt_board.specs.Nets.{sees}
 use Rattle.jt_board.specs.Chain.{ChipState, BoardState, is_held, rise, fall, assert_trst, tdi_before, rise_all, members, written, told, after, after_all}
-use Rattle.jt_board.proofs.Sound.{HasBit, IsSound, IsSoundFor, AllSound, sound-captured, sound-put, sound-updated, sound-other}
+use Rattle.jt_board.specs.Sound.{HasBit, IsSound, IsSoundFor, AllSound}
+use Rattle.jt_board.proofs.Sound.{sound-captured, sound-put, sound-updated, sound-other}
 use Rattle.legal_plays.specs.Legal.{IsSoundBoard}
 
 moved-bit : (tdi : Bool) (bits : List Bool) → HasBit (moved tdi bits)

@@ -11,7 +11,7 @@ use Rattle.jt_board.specs.Cells.{powered}
 use Rattle.jt_board.specs.Chain.{members}
 use Rattle.jt_board.specs.Resting.{standing}
 use Rattle.jt_board.specs.Bare.{bare, bare_from, bare_name}
-use Rattle.jt_board.proofs.Sound.{HasBit, IsThere, IsSoundFor, AllSound}
+use Rattle.jt_board.specs.Sound.{HasBit, IsThere, IsSoundFor, AllSound}
 use Rattle.legal_plays.specs.Legal.{HasBitIfGiven, IsSoundAccess, IsSoundDevice, user_length}
 use Rattle.legal_plays.specs.Laws.{BareBoardsAreSound, SoundDescriptionsPowerUpSound}
 

@@ -10,7 +10,8 @@ use Rattle.jt_board.specs.Whole.{AtRest, reset_member}
 use Rattle.jt_board.specs.Steps.{command}
 use Rattle.jt_board.specs.Resting.{IsRest}
 use Rattle.jt_board.proofs.Ones.{opening-rests, reset_from_here}
-use Rattle.jt_board.proofs.Sound.{AllSound, Sound-reset}
+use Rattle.jt_board.specs.Sound.{AllSound}
+use Rattle.jt_board.proofs.Sound.{Sound-reset}
 use Rattle.jt_board.proofs.Told.{after_all-encoded}
 use Rattle.jt_board.proofs.Trips.{reset-all-twice}
 use Rattle.jt_player.specs.Programs.{Numbered}

@@ -18,7 +18,8 @@ use Rattle.jt_board.specs.StepBytes.{last_of}
 use Rattle.jt_board.specs.Resting.{IsRest}
 use Rattle.jt_board.proofs.Low.{Free}
 use Rattle.jt_board.proofs.Moves.{at_rest}
-use Rattle.jt_board.proofs.Sound.{AllSound, Sound-capture_all, Sound-cut_back, Sound-update, Sound-reset}
+use Rattle.jt_board.specs.Sound.{AllSound}
+use Rattle.jt_board.proofs.Sound.{Sound-capture_all, Sound-cut_back, Sound-update, Sound-reset}
 use Rattle.jt_board.proofs.Trips.{StaysReset, reset-all-twice}
 
 -- sound devices, none of them held by TRST, and so many

@@ -22,7 +22,8 @@ use Rattle.jt_board.proofs.Scan.{scan-law}
 use Rattle.jt_board.proofs.Trips.{IsTrip, StaysReset, path-law, run-law}
 use Rattle.jt_board.proofs.Resets.{reset-twice, trst-on-law}
 use Rattle.jt_board.proofs.Held.{held-law}
-use Rattle.jt_board.proofs.Sound.{AllSound, IsSound, Sound-Full, Sound-reset, Sound-update}
+use Rattle.jt_board.specs.Sound.{AllSound, IsSound}
+use Rattle.jt_board.proofs.Sound.{Sound-Full, Sound-reset, Sound-update}
 use Rattle.jt_board.proofs.Vectors.{picked}
 use Rattle.jt_player.specs.Play.{wants_of}
 use Rattle.jt_player.proofs.Direct.{IsPlayed, judge-picked}

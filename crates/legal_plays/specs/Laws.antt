@@ -13,7 +13,7 @@ use Rattle.jt_board.specs.StepBytes.{opening, step_messages}
 use Rattle.jt_board.specs.Steps.{Step, command, failure}
 use Rattle.jt_board.specs.Vector.{judge}
 use Rattle.jt_board.specs.Whole.{AtRest}
-use Rattle.jt_board.proofs.Sound.{AllSound, IsSound}
+use Rattle.jt_board.specs.Sound.{AllSound, IsSound}
 use Rattle.jt_player.specs.DirectPlay.{MeansFromOpening}
 use Rattle.jt_player.specs.Play.{full_play, play, player, turns, wants_of}
 use Rattle.jt_player.specs.Programs.{Numbered, Program, outcome}

@@ -10,7 +10,7 @@ use Rattle.jt_board.specs.Whole.{AtRest}
 use Rattle.jt_board.specs.Steps.{Step, Trst, On, Absent, command}
 use Rattle.jt_board.specs.StepBytes.{place_after}
 use Rattle.jt_board.specs.Resting.{IsFormed, IsLegal, leaves_reset}
-use Rattle.jt_board.proofs.Sound.{AllSound}
+use Rattle.jt_board.specs.Sound.{AllSound}
 use Rattle.jt_player.specs.Programs.{Numbered}
 
 -- Each step is legal at the state where it begins, which whole registers give.
