@@ -35,8 +35,9 @@ enum Group<'a> {
 /// one with the lowest number. An empty statement says nothing and does not count.
 ///
 /// A text above 16 MiB is refused as a whole (S15, statement 0). Want of memory is S16 with statement 0; nothing is said of
-/// when it comes. The time is linear in the text's length. Beside the text and the answer, memory is taken only for the
-/// digits of one statement's fields.
+/// when it comes. The time is linear in the text's length and in the bits of the answer. Beside the text and the answer,
+/// memory is taken only for the digits of one statement's fields; the answer has one byte for each bit of a field that is
+/// given, and a field may be written shorter than it is.
 pub fn parse(alloc: Global, text: &[u8]) -> Result<Vec<Statement>, SvfFault>
     // What is read is spelled so.
     ensures found { IfOk result (λ v. TextSpells text.now (map said v.items)) }
