@@ -8,9 +8,9 @@ use svf_parse::{Code, parse};
 /// A text has at most 16 MiB; one byte more is read, so that a longer one is refused and not cut.
 const MOST_BYTES: u64 = 16 * 1024 * 1024 + 1;
 
-/// The text was refused.
+/// The text was refused, or could not be read.
 const REFUSED: u8 = 2;
-/// A line could not be written, or the input not read.
+/// A line could not be written.
 const BROKEN: u8 = 3;
 /// Memory ran out.
 const MEMORY: u8 = 4;
@@ -26,7 +26,7 @@ fn run<R: Print + Eprint + Input + AllocGlobal>(rt: &R) -> u8 {
         return if fault.kind() == ErrorKind::OutOfMemory {
             told(rt, "memory", MEMORY)
         } else {
-            told(rt, "file -", BROKEN)
+            told(rt, "file -", REFUSED)
         };
     }
     match parse(rt.alloc(), &text) {
