@@ -1,6 +1,5 @@
 -- What the words of a statement say is what they spell, or the refusal that they have.
 use Rattle.std.proofs.Common.{◌≡◌, List, [], ◌∷◌, Option, Some, None, Result, Ok, Err, refl, sym, ap, subst, ◌∙◌}
-use Rattle.std.specs.Prelude.{IsSome}
 use Rattle.svf_parse.specs.declared.fault.Code.{Code}
 use Rattle.svf_parse.specs.declared.fault.Code.TheVariants as code
 use Rattle.svf_parse.specs.declared.keywords.Command.{Command}
@@ -9,8 +8,8 @@ use Rattle.svf_parse.specs.Keywords.{command_of}
 use Rattle.svf_parse.specs.Forms.{Form, form_of}
 use Rattle.svf_parse.specs.Judging.{◌>>=◌, Said, form_says}
 use Rattle.svf_parse.specs.Reading.{or_refuse, command_says, statement_says}
-use Rattle.svf_parse.specs.Spelling.{IsForm, Spells, Refuses, unknown, misfit, of_form}
-use Rattle.svf_parse.proofs.KeywordLaws.{command_found}
+use Rattle.svf_parse.specs.Spelling.{IsForm, HasCommand, Spells, Refuses, unknown, misfit, of_form}
+use Rattle.svf_parse.proofs.KeywordLaws.{command_found, command_read}
 use Rattle.svf_parse.proofs.FormLaws.{form_found, form_read}
 
 -- what is spelled in a form says what the form says
@@ -74,27 +73,27 @@ no_form w xs k is none f h =
     cc
 
 refused_form : (w : Word) (xs : List Word) (k : Command) (c : Code) (o : Option Form) → command_of w ≡ Some k → form_of k xs ≡ o → said_by o ≡ Err c → Refuses (w ∷ xs) c
-refused_form w xs k c None is there e = misfit (subst IsSome (sym is) refl) (no_form w xs k is there) (sym (same_code code.BadForm c e))
+refused_form w xs k c None is there e = misfit (k, command_found w k is) (no_form w xs k is there) (sym (same_code code.BadForm c e))
 refused_form w xs k c (Some f) is there e = of_form f (form_found w xs k f (command_found w k is) there) e
 
 refused_by : (w : Word) (xs : List Word) (c : Code) (o : Option Command) → command_of w ≡ o → says_by o xs ≡ Err c → Refuses (w ∷ xs) c
-refused_by w xs c None is e = unknown (λ has. let f : IsSome {T = Command} None = subst IsSome is has in cc) (sym (same_code code.UnknownCommand c e))
+refused_by w xs c None is e = unknown (λ has. let known : command_of w ≡ Some has.0 = command_read w has.0 has.1 in cc) (sym (same_code code.UnknownCommand c e))
 refused_by w xs c (Some k) is e = refused_form w xs k c (form_of k xs) is refl e
 
 pub refused : (w : Word) (xs : List Word) (c : Code) → statement_says (w ∷ xs) ≡ Err c → Refuses (w ∷ xs) c
 unfolding statement_says
 refused w xs c e = refused_by w xs c (command_of w) refl e
 
-unknown_by : (w : Word) (xs : List Word) (o : Option Command) → command_of w ≡ o → (IsSome (command_of w) → ⊥) → says_by o xs ≡ Err code.UnknownCommand
+unknown_by : (w : Word) (xs : List Word) (o : Option Command) → command_of w ≡ o → (HasCommand (w ∷ xs) → ⊥) → says_by o xs ≡ Err code.UnknownCommand
 unknown_by w xs None is none = refl
-unknown_by w xs (Some k) is none = absurd (none (subst IsSome (sym is) refl))
+unknown_by w xs (Some k) is none = absurd (none (k, command_found w k is))
 
 misfit_form : (w : Word) (xs : List Word) (k : Command) (o : Option Form) → command_of w ≡ Some k → form_of k xs ≡ o → ((f : Form) → IsForm (w ∷ xs) f → ⊥) → said_by o ≡ Err code.BadForm
 misfit_form w xs k None is there none = refl
 misfit_form w xs k (Some f) is there none = absurd (none f (form_found w xs k f (command_found w k is) there))
 
-misfit_by : (w : Word) (xs : List Word) (o : Option Command) → command_of w ≡ o → IsSome (command_of w) → ((f : Form) → IsForm (w ∷ xs) f → ⊥) → says_by o xs ≡ Err code.BadForm
-misfit_by w xs None is some none = absurd (let e : IsSome {T = Command} None = subst IsSome is some in cc)
+misfit_by : (w : Word) (xs : List Word) (o : Option Command) → command_of w ≡ o → HasCommand (w ∷ xs) → ((f : Form) → IsForm (w ∷ xs) f → ⊥) → says_by o xs ≡ Err code.BadForm
+misfit_by w xs None is some none = absurd (let known : command_of w ≡ Some some.0 = command_read w some.0 some.1 in cc)
 misfit_by w xs (Some k) is some none = misfit_form w xs k (form_of k xs) is refl none
 
 pub refused_again : (w : Word) (xs : List Word) (c : Code) → Refuses (w ∷ xs) c → statement_says (w ∷ xs) ≡ Err c

@@ -9,10 +9,11 @@ use Rattle.svf_lex.specs.Lexed.{Lexes}
 use Rattle.svf_parse.specs.declared.fault.Code.{Code}
 use Rattle.svf_parse.specs.declared.fault.Code.TheVariants as code
 use Rattle.svf_parse.specs.declared.fault.SvfFault.{SvfFault}
+use Rattle.svf_parse.specs.declared.keywords.Command.{Command}
 use Rattle.svf_parse.specs.declared.keywords.FieldName.{FieldName}
 use Rattle.svf_parse.specs.declared.keywords.Clock.{Clock}
 use Rattle.svf_parse.specs.Words.{Word, reads, is_open, is_close, is_number, Parts, last, group, parts_of}
-use Rattle.svf_parse.specs.Keywords.{scan_word, field_word, clock_word, trst_word, command_of}
+use Rattle.svf_parse.specs.Keywords.{command_word, scan_word, field_word, clock_word, trst_word}
 use Rattle.svf_parse.specs.Fields.{Fields, no_fields, put}
 use Rattle.svf_parse.specs.RunTests.{Run}
 use Rattle.svf_parse.specs.Forms.{Form, end_dr_form, end_ir_form, frequency_form, scan_form, run_form, states_form, trst_form, port_form}
@@ -105,7 +106,7 @@ IsForm ws port_form = (k : Word) × (xs : List Word) × (ws ≡ k ∷ xs) × (Re
 -- the first word is a command's
 abbrev pub HasCommand : List Word → Type 0
 HasCommand [] = ⊥
-HasCommand (w ∷ ws) = IsSome (command_of w)
+HasCommand (w ∷ ws) = (k : Command) × Reads w (command_word k)
 
 -- the words spell this statement
 abbrev pub Spells : List Word → Said → Type 0
