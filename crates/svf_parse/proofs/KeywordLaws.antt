@@ -4,8 +4,8 @@ use Rattle.std.specs.Prelude.{codes}
 use Rattle.std.specs.Str.{bytes_eq}
 use Rattle.std.proofs.lemmas.Slice.Eq.{bytes_eq-Decides}
 use Rattle.jt_tap.specs.declared.State.{State}
-use Rattle.jt_tap.specs.declared.State.TheVariants as st
 use Rattle.jt_tap.specs.Words as states
+use Rattle.jt_tap.proofs.WordLaws.{find-word}
 use Rattle.svf_parse.specs.declared.statement.TrstWord.{TrstWord}
 use Rattle.svf_parse.specs.declared.statement.TrstWord.TheVariants as trst
 use Rattle.svf_parse.specs.declared.statement.Which.TheVariants as scan
@@ -105,27 +105,9 @@ pub trst_found : (w : Word) (t : TrstWord) → trst_of w ≡ Some t → reads w 
 unfolding trst_of
 trst_found w t e = found_passes (λ t. reads w (trst_word t)) TRST_WORDS t e
 
-state_known : (s : State) → found_by states.word all_states (lower (states.word s)) ≡ Some s
-state_known st.Reset = refl
-state_known st.Idle = refl
-state_known st.DrSelect = refl
-state_known st.DrCapture = refl
-state_known st.DrShift = refl
-state_known st.DrExit1 = refl
-state_known st.DrPause = refl
-state_known st.DrExit2 = refl
-state_known st.DrUpdate = refl
-state_known st.IrSelect = refl
-state_known st.IrCapture = refl
-state_known st.IrShift = refl
-state_known st.IrExit1 = refl
-state_known st.IrPause = refl
-state_known st.IrExit2 = refl
-state_known st.IrUpdate = refl
-
 pub state_read : (w : Word) (s : State) → reads w (states.word s) ≡ true → state_of w ≡ Some s
 unfolding state_of
-state_read w s h = ap (found_by states.word all_states) (lowered w (states.word s) h) ∙ state_known s
+state_read w s h = find-word w s (lowered w (states.word s) h)
 
 pub state_found : (w : Word) (s : State) → state_of w ≡ Some s → reads w (states.word s) ≡ true
 unfolding state_of
