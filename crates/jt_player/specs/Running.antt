@@ -24,12 +24,18 @@ abbrev pub note : Bool → Program → BoardState → List ℕ
 note true program before = codes "bytes " ++ full_bytes program before ++ codes "\n"
 note false program before = []
 
--- A run of a text on a board, with this status, leaves this board and tells this much on its output: an accepted text's
--- program was played, with the ending and the board of its meaning, and told of by its bytes, a line of the verdict and
--- the board's report; or the text was refused; or memory ran out.
-pub data Runs (text : List ℕ) (bytes : Bool) (before after : BoardState) (Told : List ℕ → Type 0) : ℕ → Type 0 where
+-- a text, as a line
+abbrev pub line : List ℕ → List ℕ
+line text = text ++ codes "\n"
+
+-- A run of a text on a board, with this status, leaves this board, tells this much on its output and says this much of a
+-- refusal: an accepted text's program was played, with the ending and the board of its meaning, and told of by its bytes, a
+-- line of the verdict and the board's report; or the text was refused in a line; or memory ran out.
+pub data Runs (text : List ℕ) (bytes : Bool) (before after : BoardState) (Told Said : List ℕ → Type 0) : ℕ → Type 0 where
   played : (program : Accepted) (ending : Ending) (verdict : List ℕ) → TextSpells text program → ending ≡ (play (program_of program) before).ending
       → after ≡ (play (program_of program) before).board → MeansFromOpening (program_of program) before ending after
-      → Told (note bytes (program_of program) before ++ verdict ++ report after) → Runs text bytes before after Told (status_of ending)
-  refused : (fault : SvfFault) → TextRefuses text fault → after ≡ before → Told [] → Runs text bytes before after Told 2
-  no_memory : after ≡ before → Told [] → Runs text bytes before after Told 4
+      → Told (note bytes (program_of program) before ++ line verdict ++ report after) → Said []
+      → Runs text bytes before after Told Said (status_of ending)
+  refused : (fault : SvfFault) (refusal : List ℕ) → TextRefuses text fault → after ≡ before → Told [] → Said (line refusal)
+      → Runs text bytes before after Told Said 2
+  no_memory : after ≡ before → Told [] → Said (line (codes "memory")) → Runs text bytes before after Told Said 4

@@ -1,9 +1,9 @@
 //! A whole run: a text is accepted or refused, played, and told of.
 
-ghost use Rattle.std.specs.Prelude.{◌≡◌, ◌≢◌, ◌↔◌, ◌⊎◌, ◌++◌, ℕ, List, IsOk, IsErr, OnOk, IfOk};
+ghost use Rattle.std.specs.Prelude.{◌≡◌, ◌≢◌, ◌↔◌, ◌⊎◌, ◌++◌, ℕ, List, codes, IsOk, IsErr, OnOk, IfOk};
 ghost use Rattle.jt_player.specs.DirectPlay.{MeansFromOpening};
 ghost use Rattle.jt_player.specs.Play.{play};
-ghost use Rattle.jt_player.specs.Running.{Runs, note, status_of};
+ghost use Rattle.jt_player.specs.Running.{Runs, line, note, status_of};
 ghost use Rattle.jt_board.specs.Report.{report};
 ghost use Rattle.std.specs.Io.KnownBytes.{Appends};
 
@@ -37,7 +37,8 @@ pub fn run_play<W: Sink, E: Sink>(
     ensures out_written { OnOk result (out.new.failures ≡ 0) }
     ensures err_written { OnOk result (err.new.failures ≡ 0) }
     ensures runs { IfOk result (λ status. Runs svf.now bytes board.old board.new
-        (λ told. Appends (W.contents out.old.inner) (W.contents out.new.inner) told) status) }
+        (λ told. Appends (W.contents out.old.inner) (W.contents out.new.inner) told)
+        (λ said. Appends (E.contents err.old.inner) (E.contents err.new.inner) said) status) }
 {
     match accept(alloc, svf) {
         Ok(program) => match Player::new(alloc, program) {
@@ -63,7 +64,7 @@ fn play_and_tell<W: Sink>(
     ensures board { OnOk result (board.new ≡ (play player.program board.old).board) }
     ensures meaning { OnOk result (MeansFromOpening player.program board.old (play player.program board.old).ending board.new) }
     ensures told { OnOk result ((verdict : List ℕ) × Appends (W.contents out.old.inner) (W.contents out.new.inner)
-        (note bytes player.program board.old ++ verdict ++ report board.new)) }
+        (note bytes player.program board.old ++ line verdict ++ report board.new)) }
 {
     let ending = play_and_note(player, board, bytes, out)?;
     put_line(&ending, out)?;
@@ -105,6 +106,8 @@ fn refuse<E: Sink>(fault: SvfFault, err: &mut Counted<E>) -> Result<u8, Broken>
     ensures written { IsOk result ↔ (err.new.failures ≡ 0) }
     ensures broken { IsErr result ↔ (err.new.failures ≡ 1) }
     ensures status { IfOk result (λ status. ((status ≡ 4) × (fault.code ≡ Code.NoMemory)) ⊎ ((status ≡ 2) × (fault.code ≢ Code.NoMemory))) }
+    ensures memory { fault.code ≡ Code.NoMemory → OnOk result (Appends (E.contents err.old.inner) (E.contents err.new.inner) (line (codes "memory"))) }
+    ensures said { fault.code ≢ Code.NoMemory → OnOk result ((refusal : List ℕ) × Appends (E.contents err.old.inner) (E.contents err.new.inner) (line refusal)) }
 {
     if fault.code == Code::NoMemory {
         return refuse_memory(err);
@@ -119,19 +122,21 @@ fn refuse_memory<E: Sink>(err: &mut Counted<E>) -> Result<u8, Broken>
     ensures written { IsOk result ↔ (err.new.failures ≡ 0) }
     ensures broken { IsErr result ↔ (err.new.failures ≡ 1) }
     ensures status { IfOk result (λ status. status ≡ 4) }
+    ensures said { OnOk result (Appends (E.contents err.old.inner) (E.contents err.new.inner) (line (codes "memory"))) }
 {
     put_all(err, b"memory\n")?;
     Ok(4)
 }
 
-/// Writes what a value shows, and ends the line. No value that is written here shows more than the line has room for.
+/// Writes what a value shows, and ends the line. No value that is written here shows more than there is room for.
 fn put_line<T: fmt::Display, W: Sink>(shown: &T, out: &mut Counted<W>) -> Result<(), Broken>
     requires { out.old.failures ≡ 0 }
     ensures written { IsOk result ↔ (out.new.failures ≡ 0) }
     ensures broken { IsErr result ↔ (out.new.failures ≡ 1) }
-    ensures told { OnOk result ((line : List ℕ) × Appends (W.contents out.old.inner) (W.contents out.new.inner) line) }
+    ensures told { OnOk result ((text : List ℕ) × Appends (W.contents out.old.inner) (W.contents out.new.inner) (line text)) }
 {
-    let mut line = ArrayString::<96>::new();
-    let _ = writeln!(line, "{shown}");
-    put_all(out, line.as_bytes())
+    let mut text = ArrayString::<96>::new();
+    let _ = write!(text, "{shown}");
+    put_all(out, text.as_bytes())?;
+    put_all(out, b"\n")
 }
