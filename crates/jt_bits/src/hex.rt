@@ -106,9 +106,7 @@ fn lowest(alloc: Global, digits: &[u8], n: usize) -> Result<Vec<bool>, AllocErro
         }
         rest = higher;
     }
-    while bits.len() < n {
-        bits.push(false)?;
-    }
+    bits.resize(n, false)?;
     Ok(bits)
 }
 

@@ -2,6 +2,7 @@
 #![tactic(auto)]
 
 ghost use Rattle.std.specs.Prelude.{◌≡◌, ◌<◌, ℕ, true, false, length, replicate, slice_get, slice_set, IfOk};
+ghost use Rattle.jt_bits.specs.Lengths.{resized};
 ghost use Rattle.jt_bits.specs.Shifting.{shifted};
 
 pub use hex::{HexFault, has_one_beyond};
@@ -51,6 +52,16 @@ impl Bits {
         Ok(Bits {
             bits: self.bits.to_vec(alloc)?,
         })
+    }
+
+    /// A list of the lowest `len` bits; those that this list does not have are 0.
+    pub fn resized(&self, alloc: Global, len: usize) -> Result<Bits, AllocError>
+        ensures { IfOk result (λ b. b ≡ resized len self.now) }
+    {
+        let mut bits = Vec::with_capacity(alloc, len)?;
+        bits.extend_from_slice(&self.bits[..self.bits.len().min(len)])?;
+        bits.resize(len, false)?;
+        Ok(Bits { bits })
     }
 
     /// How many bits there are.
@@ -133,6 +144,18 @@ mod tests {
         copy.copy_from(&bits);
         assert!(rt; !read(&rt, &copy, 0) && read(&rt, &copy, 1) && !read(&rt, &copy, 2));
         assert_eq!(rt; Bits::zeros(rt.alloc(), 0)?.len(), 0);
+        Ok(())
+    }
+
+    #[test]
+    fn resized_both_ways(rt: HostRuntime) -> Result<(), Fail> {
+        let ones = Bits::ones(rt.alloc(), 3)?;
+        let longer = ones.resized(rt.alloc(), 6)?;
+        assert_eq!(rt; longer.len(), 6);
+        assert_eq!(rt; (longer.hex_digit(1), longer.hex_digit(0)), (b'0', b'7'));
+        let shorter = ones.resized(rt.alloc(), 2)?;
+        assert_eq!(rt; (shorter.len(), shorter.hex_digit(0)), (2, b'3'));
+        assert_eq!(rt; ones.resized(rt.alloc(), 0)?.len(), 0);
         Ok(())
     }
 }

@@ -175,6 +175,7 @@ impl Chip {
     pub(crate) fn assert_trst(&mut self)
         ensures { self.new ≡ assert_trst self.old }
     {
+        // For the proof alone: a read opens the model.
         let _ = &self.state;
     }
 

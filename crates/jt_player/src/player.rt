@@ -45,6 +45,7 @@ impl Player {
     pub fn new(_alloc: Global, program: Program) -> Result<Player, Program>
         ensures { MatchResult result (λ player. player ≡ fresh (program_of program)) (λ back. back ≡ program) }
     {
+        // For the proof alone: what the program's type keeps of its steps.
         let _ = program.steps();
         Ok(Player {
             program,
@@ -101,6 +102,7 @@ impl Player {
         ensures player { self.new ≡ record self.old { got = self.old.got ++ taken self.old bytes.now } }
     {
         let _ = bytes;
+        // For the proof alone: a read opens the model.
         let _ = &self.begun;
         0
     }

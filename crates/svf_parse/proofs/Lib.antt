@@ -1,5 +1,6 @@
 pub mod Digits
 pub mod FieldLaws
+pub mod FieldValues
 pub mod FormLaws
 pub mod Grouping
 pub mod JudgedLaws
@@ -9,6 +10,7 @@ pub mod NumberLaws
 pub mod RefusalLaws
 pub mod RunLaws
 pub mod ScanLaws
+pub mod SizeLaws
 pub mod StateLists
 pub mod StatementLaws
 pub mod TextLaws

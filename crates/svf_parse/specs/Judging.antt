@@ -1,9 +1,9 @@
 -- What a statement says that is written in a form, or the refusal with the lowest number among those that it has.
-use Rattle.std.specs.Prelude.{ℕ, Bool, false, not, nat_le, if◌then◌else◌, List, Option, Some, None, option_map, Result, Ok, Err}
+use Rattle.std.specs.Prelude.{ℕ, Bool, false, not, nat_le, if◌then◌else◌, List, take, Option, Some, None, option_map, Result, Ok, Err}
 use Rattle.std.specs.List.{list_all}
 use Rattle.std.specs.Char.{is_ascii_hexdigit}
 use Rattle.jt_tap.specs.declared.State.{State}
-use Rattle.jt_bits.specs.Hex.{has_one_beyond, lowest}
+use Rattle.jt_bits.specs.Hex.{binary, has_one_beyond}
 use Rattle.svf_parse.specs.declared.fault.Code.{Code}
 use Rattle.svf_parse.specs.declared.fault.Code.TheVariants as code
 use Rattle.svf_parse.specs.declared.statement.TrstWord.{TrstWord}
@@ -92,9 +92,13 @@ scan_says w fs =
     let n = len_value w in
     checked (field_fault n fs.tdi) (checked (field_fault n fs.tdo) (checked (field_fault n fs.mask) (checked (field_fault n fs.smask) (len_says w))))
 
+-- the binary digits that a field of n bits writes, lowest first: those above them are 0, and are not kept
+abbrev pub written : ℕ → List ℕ → List Bool
+written n h = take n (binary h)
+
 -- the bits of a field
 abbrev pub bits : ℕ → Option (List ℕ) → Option (List Bool)
-bits n h = option_map (lowest n) h
+bits n h = option_map (written n) h
 
 abbrev pub scan_with : Which → Fields → ℕ → Said
 scan_with which fs n = scan which n (bits n fs.tdi) (bits n fs.tdo) (bits n fs.mask) (bits n fs.smask)

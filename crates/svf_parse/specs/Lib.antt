@@ -7,6 +7,7 @@ pub mod Least
 pub mod Numbers
 pub mod Reading
 pub mod RunTests
+pub mod Sizes
 pub mod Spelling
 pub mod View
 pub mod Words

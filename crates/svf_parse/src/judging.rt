@@ -133,17 +133,20 @@ fn is_wider(len: Option<usize>, digits: &[u8]) -> bool
     }
 }
 
-/// The bits of a field.
+/// The bits of a field that its digits write, four for each, and none beyond the length.
 fn bits(alloc: Global, len: usize, digits: &Option<Vec<u8>>) -> Result<Option<Bits>, Refusal>
     requires { spec.field_fault (Some len) (bytes_of digits.now) ≡ None }
     ensures { IfOk result (λ b. b ≡ spec.bits len (bytes_of digits.now)) }
 {
     match digits {
         None => Ok(None),
-        Some(digits) => match Bits::from_hex(alloc, digits, len) {
-            Ok(bits) => Ok(Some(bits)),
-            Err(_) => Err(Refusal::Memory),
-        },
+        Some(digits) => {
+            let written = digits.len().saturating_mul(4).min(len);
+            match Bits::from_hex(alloc, digits, written) {
+                Ok(bits) => Ok(Some(bits)),
+                Err(_) => Err(Refusal::Memory),
+            }
+        }
     }
 }
 

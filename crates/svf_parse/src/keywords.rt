@@ -1,5 +1,5 @@
 //! The keywords of SVF.
-ghost use Rattle.std.specs.Prelude.{◌≡◌, find};
+ghost use Rattle.std.specs.Prelude.{◌≡◌, ℕ, List, find};
 ghost use Rattle.svf_parse.specs.Keywords as spec;
 ghost use Rattle.svf_parse.specs.Words as words_spec;
 
@@ -67,12 +67,21 @@ const CLOCKS: [Clock; 2] = [Clock::Tck, Clock::Sck];
 
 const TRST_WORDS: [TrstWord; 4] = [TrstWord::On, TrstWord::Off, TrstWord::Z, TrstWord::Absent];
 
+/// A kind of keywords.
+trait Keyword: Copy {
+    ghost spelling: { Self → List ℕ };
+
+    /// The keyword's letters, in upper case.
+    fn letters(self) -> &'static [u8]
+        ensures { result.now ≡ spelling self };
+}
+
 /// The command that the word is.
 #[tactic(auto, unfolding(crate::specs::Keywords::command_of))]
 pub(crate) fn command_of(word: &[u8]) -> Option<Command>
     ensures { result ≡ spec.command_of word.now }
 {
-    first_command(&COMMANDS, word)
+    first_read(&COMMANDS, word)
 }
 
 /// The name of a field that the word is.
@@ -80,7 +89,7 @@ pub(crate) fn command_of(word: &[u8]) -> Option<Command>
 pub(crate) fn field_of(word: &[u8]) -> Option<FieldName>
     ensures { result ≡ spec.field_of word.now }
 {
-    first_field(&FIELDS, word)
+    first_read(&FIELDS, word)
 }
 
 /// The clock that the word is.
@@ -88,7 +97,7 @@ pub(crate) fn field_of(word: &[u8]) -> Option<FieldName>
 pub(crate) fn clock_of(word: &[u8]) -> Option<Clock>
     ensures { result ≡ spec.clock_of word.now }
 {
-    first_clock(&CLOCKS, word)
+    first_read(&CLOCKS, word)
 }
 
 /// The word of TRST that the word is.
@@ -96,7 +105,7 @@ pub(crate) fn clock_of(word: &[u8]) -> Option<Clock>
 pub(crate) fn trst_of(word: &[u8]) -> Option<TrstWord>
     ensures { result ≡ spec.trst_of word.now }
 {
-    first_trst(&TRST_WORDS, word)
+    first_read(&TRST_WORDS, word)
 }
 
 /// The state that the word is.
@@ -106,98 +115,82 @@ pub(crate) fn state_of(word: &[u8]) -> Option<State>
     State::from_word(word)
 }
 
-fn first_command(commands: &[Command], word: &[u8]) -> Option<Command>
-    ensures { result ≡ find (λ c. words_spec.reads word.now (spec.command_word c)) commands.now }
+/// The first of these keywords that the word is, in any case.
+fn first_read<K: Keyword>(keywords: &[K], word: &[u8]) -> Option<K>
+    ensures { result ≡ find (λ k. words_spec.reads word.now (K.spelling k)) keywords.now }
 {
-    commands
+    keywords
         .iter()
         .copied()
-        .find(|command| reads(word, command_word(*command)))
+        .find(|keyword| reads(word, keyword.letters()))
 }
 
-fn first_field(fields: &[FieldName], word: &[u8]) -> Option<FieldName>
-    ensures { result ≡ find (λ f. words_spec.reads word.now (spec.field_word f)) fields.now }
-{
-    fields
-        .iter()
-        .copied()
-        .find(|field| reads(word, field_word(*field)))
-}
+impl Keyword for Command {
+    ghost spelling = { spec.command_word };
 
-fn first_clock(clocks: &[Clock], word: &[u8]) -> Option<Clock>
-    ensures { result ≡ find (λ c. words_spec.reads word.now (spec.clock_word c)) clocks.now }
-{
-    clocks
-        .iter()
-        .copied()
-        .find(|clock| reads(word, clock_word(*clock)))
-}
-
-fn first_trst(words: &[TrstWord], word: &[u8]) -> Option<TrstWord>
-    ensures { result ≡ find (λ t. words_spec.reads word.now (spec.trst_word t)) words.now }
-{
-    words
-        .iter()
-        .copied()
-        .find(|trst| reads(word, trst_word(*trst)))
-}
-
-fn command_word(command: Command) -> &'static [u8]
-    ensures { result.now ≡ spec.command_word command }
-{
-    match command {
-        Command::EndDr => b"ENDDR",
-        Command::EndIr => b"ENDIR",
-        Command::Frequency => b"FREQUENCY",
-        Command::Scan(which) => scan_word(which),
-        Command::RunTest => b"RUNTEST",
-        Command::State => b"STATE",
-        Command::Trst => b"TRST",
-        Command::Pio => b"PIO",
-        Command::PioMap => b"PIOMAP",
+    fn letters(self) -> &'static [u8] {
+        match self {
+            Command::EndDr => b"ENDDR",
+            Command::EndIr => b"ENDIR",
+            Command::Frequency => b"FREQUENCY",
+            Command::Scan(which) => which.letters(),
+            Command::RunTest => b"RUNTEST",
+            Command::State => b"STATE",
+            Command::Trst => b"TRST",
+            Command::Pio => b"PIO",
+            Command::PioMap => b"PIOMAP",
+        }
     }
 }
 
-fn scan_word(which: Which) -> &'static [u8]
-    ensures { result.now ≡ spec.scan_word which }
-{
-    match which {
-        Which::Hdr => b"HDR",
-        Which::Hir => b"HIR",
-        Which::Tdr => b"TDR",
-        Which::Tir => b"TIR",
-        Which::Sdr => b"SDR",
-        Which::Sir => b"SIR",
+impl Keyword for Which {
+    ghost spelling = { spec.scan_word };
+
+    fn letters(self) -> &'static [u8] {
+        match self {
+            Which::Hdr => b"HDR",
+            Which::Hir => b"HIR",
+            Which::Tdr => b"TDR",
+            Which::Tir => b"TIR",
+            Which::Sdr => b"SDR",
+            Which::Sir => b"SIR",
+        }
     }
 }
 
-fn field_word(field: FieldName) -> &'static [u8]
-    ensures { result.now ≡ spec.field_word field }
-{
-    match field {
-        FieldName::Tdi => b"TDI",
-        FieldName::Tdo => b"TDO",
-        FieldName::Mask => b"MASK",
-        FieldName::Smask => b"SMASK",
+impl Keyword for FieldName {
+    ghost spelling = { spec.field_word };
+
+    fn letters(self) -> &'static [u8] {
+        match self {
+            FieldName::Tdi => b"TDI",
+            FieldName::Tdo => b"TDO",
+            FieldName::Mask => b"MASK",
+            FieldName::Smask => b"SMASK",
+        }
     }
 }
 
-fn clock_word(clock: Clock) -> &'static [u8]
-    ensures { result.now ≡ spec.clock_word clock }
-{
-    match clock {
-        Clock::Tck => b"TCK",
-        Clock::Sck => b"SCK",
+impl Keyword for Clock {
+    ghost spelling = { spec.clock_word };
+
+    fn letters(self) -> &'static [u8] {
+        match self {
+            Clock::Tck => b"TCK",
+            Clock::Sck => b"SCK",
+        }
     }
 }
 
-fn trst_word(word: TrstWord) -> &'static [u8]
-    ensures { result.now ≡ spec.trst_word word }
-{
-    match word {
-        TrstWord::On => b"ON",
-        TrstWord::Off => b"OFF",
-        TrstWord::Z => b"Z",
-        TrstWord::Absent => b"ABSENT",
+impl Keyword for TrstWord {
+    ghost spelling = { spec.trst_word };
+
+    fn letters(self) -> &'static [u8] {
+        match self {
+            TrstWord::On => b"ON",
+            TrstWord::Off => b"OFF",
+            TrstWord::Z => b"Z",
+            TrstWord::Absent => b"ABSENT",
+        }
     }
 }

@@ -1,6 +1,7 @@
 //! What holds of every statement and of every text.
 ghost use Rattle.svf_parse.specs.Judged.{EachIsJudged, NeverBoth, RefusesOne, SpellsOne};
 ghost use Rattle.svf_parse.specs.Least.{AcceptedHasNone, LeastIsTold};
+ghost use Rattle.svf_parse.specs.Sizes.{ValuesAreWritten};
 
 /// Of the refusals that a statement has of its own, as each of its numbers and fields has them, the one with the lowest
 /// number is told, and a statement that is accepted has none.
@@ -15,4 +16,9 @@ pub fn a_text_is_judged_once()
     ensures one_list { SpellsOne }
     ensures one_refusal { RefusesOne }
     ensures never_both { NeverBoth }
+{}
+
+/// The bits of a field, with 0s above them up to the length of the scan, are the value of its digits at that length.
+pub fn a_field_has_the_value_of_its_digits()
+    ensures { ValuesAreWritten }
 {}

@@ -164,7 +164,8 @@ fn scans(rt: HostRuntime) -> Result<(), Fail> {
     assert_eq!(rt; shown(&tdi), *b"0123");
     assert_eq!(rt; shown(&mask), *b"00FF");
     assert_eq!(rt; shown(&smask), *b"0000");
-    assert_eq!(rt; smask.len(), 12);
+    assert_eq!(rt; (tdi.len(), mask.len(), smask.len()), (12, 12, 0));
+    assert_eq!(rt; smask.resized(alloc, len)?.len(), 12);
     assert_count(
         &rt,
         alloc,
@@ -181,6 +182,36 @@ fn scans(rt: HostRuntime) -> Result<(), Fail> {
     assert_refused(&rt, alloc, b"SDR 4 TDI (1;", 1, Code::BadForm);
     assert_refused(&rt, alloc, b"SDR 4 TDI ((1));", 1, Code::BadForm);
     Ok(())
+}
+
+/// The TDI bits of a scan as they are written, how many they are, and the scan's length.
+fn written(alloc: Global, text: &[u8]) -> Option<([u8; 4], usize, usize)> {
+    match one(alloc, text)? {
+        Statement::Scan { len, tdi, .. } => {
+            let bits = tdi?;
+            Some((shown(&bits), bits.len(), len))
+        }
+        _ => None,
+    }
+}
+
+#[test]
+fn a_field_has_the_bits_that_are_written(rt: HostRuntime) {
+    let alloc = rt.alloc();
+    assert_eq!(rt; written(alloc, b"SDR 5 TDI (15);"), Some((*b"0015", 5, 5)));
+    assert_eq!(rt; written(alloc, b"SIR 2 TDI (003);"), Some((*b"0003", 2, 2)));
+    assert_eq!(rt;
+        written(alloc, b"HDR 13 TDI (A5);"),
+        Some((*b"00A5", 8, 13))
+    );
+    assert_eq!(rt;
+        written(alloc, b"SDR 65536 TDI (0);"),
+        Some((*b"0000", 4, 65_536))
+    );
+    assert_eq!(rt;
+        written(alloc, b"SDR 65536 TDI ();"),
+        Some((*b"0000", 0, 65_536))
+    );
 }
 
 #[test]

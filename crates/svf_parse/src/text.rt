@@ -1,11 +1,13 @@
 //! A text's statements, one after another.
-ghost use Rattle.std.specs.Prelude.{◌≡◌, ◌≤◌, map, IfOk, IfErr, Ok, Err, List, ◌≢◌};
+ghost use Rattle.std.specs.Prelude.{◌≡◌, ◌*◌, ◌≤◌, length, map, IfOk, IfErr, Ok, Err, List, ◌≢◌};
+ghost use Rattle.std.specs.List.{sum_by};
 ghost use Rattle.svf_lex.specs.Left.{left};
 ghost use Rattle.svf_parse.specs.Judging.{Said};
 ghost use Rattle.svf_parse.specs.Words.{words_left, parts_of};
 ghost use Rattle.svf_parse.specs.Reading as spec;
 ghost use Rattle.svf_parse.specs.Reading.{text_says, parts_say, at_statement, within_limit, statement_says};
 ghost use Rattle.svf_parse.specs.Spelling.{TextSpells, TextRefuses};
+ghost use Rattle.svf_parse.specs.Sizes.{size};
 ghost use Rattle.svf_parse.specs.View.{Gives, Tells, Parses, IsGroup, said, memory_fault};
 
 use crate::fault::{Code, Refusal, Stop, SvfFault};
@@ -35,14 +37,16 @@ enum Group<'a> {
 /// one with the lowest number. An empty statement says nothing and does not count.
 ///
 /// A text above 16 MiB is refused as a whole (S15, statement 0). Want of memory is S16 with statement 0; nothing is said of
-/// when it comes. The time is linear in the text's length and in the bits of the answer. Beside the text and the answer,
-/// memory is taken only for the digits of one statement's fields; the answer has one byte for each bit of a field that is
-/// given, and a field may be written shorter than it is.
+/// when it comes. The time is linear in the text's length. The answer has at most four bits for each byte of the text, since
+/// a field has those that its digits write; beside text and answer, memory is taken only for the digits of one statement's
+/// fields.
 pub fn parse(alloc: Global, text: &[u8]) -> Result<Vec<Statement>, SvfFault>
     // What is read is spelled so.
     ensures found { IfOk result (λ v. TextSpells text.now (map said v.items)) }
     // What is spelled so is read, unless memory runs out.
     ensures only { (ss : List Said) → TextSpells text.now ss → Parses result (Ok ss) }
+    // It is small: statements, bits of fields and states of paths together are at most four for each byte of the text.
+    ensures small { IfOk result (λ v. sum_by size (map said v.items) ≤ 4 * length text.now) }
     // What is refused has that refusal first.
     ensures refused { IfErr result (λ fault. fault ≢ memory_fault → TextRefuses text.now fault) }
     // What has a refusal first is refused so, unless memory runs out.
