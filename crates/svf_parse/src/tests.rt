@@ -12,6 +12,13 @@ fn assert_refused(rt: &impl Abort, alloc: Global, text: &[u8], statement: usize,
     }
 }
 
+/// Asserts that the first statement of each text is refused so.
+fn assert_refusals(rt: &impl Abort, alloc: Global, rows: &[(&[u8], Code)]) {
+    for (text, code) in rows {
+        assert_refused(rt, alloc, text, 1, *code);
+    }
+}
+
 /// Asserts that the text has so many statements.
 fn assert_count(rt: &impl Abort, alloc: Global, text: &[u8], count: usize) {
     match parse(alloc, text) {
@@ -76,20 +83,25 @@ fn frequencies(rt: HostRuntime) {
         Some(1)
     );
     assert_eq!(rt; period(alloc, b"FREQUENCY .5E+06 HZ;"), Some(2_000_000));
-    assert_refused(&rt, alloc, b"FREQUENCY 9E-7 HZ;", 1, Code::TooLarge);
-    assert_refused(&rt, alloc, b"FREQUENCY 0 HZ;", 1, Code::BadNumber);
-    assert_refused(&rt, alloc, b"FREQUENCY 1..2 HZ;", 1, Code::BadNumber);
-    assert_refused(&rt, alloc, b"FREQUENCY 1E HZ;", 1, Code::BadNumber);
-    assert_refused(&rt, alloc, b"FREQUENCY 1E19 HZ;", 1, Code::TooLarge);
-    assert_refused(
+}
+
+#[test]
+fn frequencies_that_are_refused(rt: HostRuntime) {
+    let alloc = rt.alloc();
+    assert_refusals(
         &rt,
         alloc,
-        b"FREQUENCY 0000000000000000001 HZ;",
-        1,
-        Code::TooLarge,
+        &[
+            (b"FREQUENCY 9E-7 HZ;", Code::TooLarge),
+            (b"FREQUENCY 0 HZ;", Code::BadNumber),
+            (b"FREQUENCY 1..2 HZ;", Code::BadNumber),
+            (b"FREQUENCY 1E HZ;", Code::BadNumber),
+            (b"FREQUENCY 1E19 HZ;", Code::TooLarge),
+            (b"FREQUENCY 0000000000000000001 HZ;", Code::TooLarge),
+            (b"FREQUENCY 1;", Code::BadForm),
+            (b"FREQUENCY ABC HZ;", Code::BadForm),
+        ],
     );
-    assert_refused(&rt, alloc, b"FREQUENCY 1;", 1, Code::BadForm);
-    assert_refused(&rt, alloc, b"FREQUENCY ABC HZ;", 1, Code::BadForm);
 }
 
 #[test]
@@ -122,22 +134,27 @@ fn runs(rt: HostRuntime) {
         run(alloc, b"RUNTEST 0 TCK 0 SEC;"),
         Some((Some(0), Some(0), None))
     );
-    assert_refused(&rt, alloc, b"RUNTEST 4294967296 TCK;", 1, Code::TooLarge);
-    assert_refused(&rt, alloc, b"RUNTEST 1.000001E6 SEC;", 1, Code::TooLarge);
-    assert_refused(&rt, alloc, b"RUNTEST 1.5 TCK;", 1, Code::BadNumber);
-    assert_refused(&rt, alloc, b"RUNTEST 5 SCK;", 1, Code::Unsupported);
-    assert_refused(&rt, alloc, b"RUNTEST 5E12 SCK;", 1, Code::Unsupported);
-    assert_refused(&rt, alloc, b"RUNTEST 5.5 SCK 1E9 SEC;", 1, Code::BadNumber);
-    assert_refused(&rt, alloc, b"RUNTEST IDLE;", 1, Code::BadForm);
-    assert_refused(
+}
+
+#[test]
+fn runs_that_are_refused(rt: HostRuntime) {
+    let alloc = rt.alloc();
+    assert_refusals(
         &rt,
         alloc,
-        b"RUNTEST 5 TCK MAXIMUM 1 SEC;",
-        1,
-        Code::BadForm,
+        &[
+            (b"RUNTEST 4294967296 TCK;", Code::TooLarge),
+            (b"RUNTEST 1.000001E6 SEC;", Code::TooLarge),
+            (b"RUNTEST 1.5 TCK;", Code::BadNumber),
+            (b"RUNTEST 5 SCK;", Code::Unsupported),
+            (b"RUNTEST 5E12 SCK;", Code::Unsupported),
+            (b"RUNTEST 5.5 SCK 1E9 SEC;", Code::BadNumber),
+            (b"RUNTEST IDLE;", Code::BadForm),
+            (b"RUNTEST 5 TCK MAXIMUM 1 SEC;", Code::BadForm),
+            (b"RUNTEST 1 SEC 5 TCK;", Code::BadForm),
+            (b"RUNTEST 5 TCK ENDSTATE;", Code::BadForm),
+        ],
     );
-    assert_refused(&rt, alloc, b"RUNTEST 1 SEC 5 TCK;", 1, Code::BadForm);
-    assert_refused(&rt, alloc, b"RUNTEST 5 TCK ENDSTATE;", 1, Code::BadForm);
 }
 
 #[test]
@@ -173,15 +190,26 @@ fn scans(rt: HostRuntime) -> Result<(), Fail> {
         6,
     );
     assert_count(&rt, alloc, b"SDR 4 TDI (0F);", 1);
-    assert_refused(&rt, alloc, b"SDR 4 TDI (1F);", 1, Code::TooWide);
-    assert_refused(&rt, alloc, b"SDR 8 TDI (0G);", 1, Code::BadNumber);
-    assert_refused(&rt, alloc, b"SDR 1E1 TDI (0);", 1, Code::BadNumber);
-    assert_refused(&rt, alloc, b"SDR 4 TDI (1) TDI (1);", 1, Code::BadForm);
-    assert_refused(&rt, alloc, b"SDR TDI (1);", 1, Code::BadForm);
-    assert_refused(&rt, alloc, b"SDR 4 TDI 1;", 1, Code::BadForm);
-    assert_refused(&rt, alloc, b"SDR 4 TDI (1;", 1, Code::BadForm);
-    assert_refused(&rt, alloc, b"SDR 4 TDI ((1));", 1, Code::BadForm);
     Ok(())
+}
+
+#[test]
+fn scans_that_are_refused(rt: HostRuntime) {
+    let alloc = rt.alloc();
+    assert_refusals(
+        &rt,
+        alloc,
+        &[
+            (b"SDR 4 TDI (1F);", Code::TooWide),
+            (b"SDR 8 TDI (0G);", Code::BadNumber),
+            (b"SDR 1E1 TDI (0);", Code::BadNumber),
+            (b"SDR 4 TDI (1) TDI (1);", Code::BadForm),
+            (b"SDR TDI (1);", Code::BadForm),
+            (b"SDR 4 TDI 1;", Code::BadForm),
+            (b"SDR 4 TDI (1;", Code::BadForm),
+            (b"SDR 4 TDI ((1));", Code::BadForm),
+        ],
+    );
 }
 
 /// The TDI bits of a scan as they are written, how many they are, and the scan's length.
@@ -218,23 +246,17 @@ fn a_field_has_the_bits_that_are_written(rt: HostRuntime) {
 fn the_lowest_number_is_told(rt: HostRuntime) {
     let alloc = rt.alloc();
     assert_count(&rt, alloc, b"SDR 65536 TDI (0);", 1);
-    assert_refused(&rt, alloc, b"SDR 65537 TDI (0);", 1, Code::TooLarge);
-    assert_refused(&rt, alloc, b"SDR 65537 TDI (1F);", 1, Code::TooLarge);
-    assert_refused(
+    assert_refusals(
         &rt,
         alloc,
-        b"SDR 999999999999999999 TDI (1F) TDO (G);",
-        1,
-        Code::BadNumber,
+        &[
+            (b"SDR 65537 TDI (0);", Code::TooLarge),
+            (b"SDR 65537 TDI (1F);", Code::TooLarge),
+            (b"SDR 999999999999999999 TDI (1F) TDO (G);", Code::BadNumber),
+            (b"SDR 9999999999999999999 TDI (1F);", Code::TooLarge),
+            (b"SDR 4 TDI (1F) TDO (G);", Code::BadNumber),
+        ],
     );
-    assert_refused(
-        &rt,
-        alloc,
-        b"SDR 9999999999999999999 TDI (1F);",
-        1,
-        Code::TooLarge,
-    );
-    assert_refused(&rt, alloc, b"SDR 4 TDI (1F) TDO (G);", 1, Code::BadNumber);
 }
 
 #[test]
@@ -284,19 +306,24 @@ fn states_and_trst(rt: HostRuntime) -> Result<(), Fail> {
             Some(Statement::Trst(TrstWord::Absent))
         )
     );
-    assert_refused(&rt, alloc, b"STATE;", 1, Code::BadForm);
-    assert_refused(&rt, alloc, b"STATE IDLE FOO;", 1, Code::BadForm);
-    assert_refused(&rt, alloc, b"ENDDR IDLE IDLE;", 1, Code::BadForm);
-    assert_refused(&rt, alloc, b"TRST;", 1, Code::BadForm);
-    assert_refused(&rt, alloc, b"PIO (HL);", 1, Code::Unsupported);
-    assert_refused(
+    Ok(())
+}
+
+#[test]
+fn states_and_ports_that_are_refused(rt: HostRuntime) {
+    let alloc = rt.alloc();
+    assert_refusals(
         &rt,
         alloc,
-        b"PIOMAP (IN A OUT B) ) 1;",
-        1,
-        Code::Unsupported,
+        &[
+            (b"STATE;", Code::BadForm),
+            (b"STATE IDLE FOO;", Code::BadForm),
+            (b"ENDDR IDLE IDLE;", Code::BadForm),
+            (b"TRST;", Code::BadForm),
+            (b"PIO (HL);", Code::Unsupported),
+            (b"PIOMAP (IN A OUT B) ) 1;", Code::Unsupported),
+        ],
     );
-    Ok(())
 }
 
 #[test]
