@@ -125,27 +125,19 @@ once : (o : Option (List ℕ)) (x y : Fields) → if_none o x ≡ Some y → (di
 once None x y e = (refl, cc)
 once (Some h) x y e = absurd cc
 
+one_more : (o : Option (List ℕ)) (old placed new : Fields) (h : List ℕ) → if_none o placed ≡ Some new → field_total placed + digits_in o ≡ field_total old + length h
+    → field_total new ≡ field_total old + length h
+one_more o old placed new h e more =
+    let p = once o placed new e in
+    let none = p.0 in
+    let same = ap field_total p.1 in
+    omega (arith, more, none, same)
+
 put_more : (f : FieldName) (h : List ℕ) (old new : Fields) → put f h old ≡ Some new → field_total new ≡ field_total old + length h
-put_more Tdi h old new e =
-    let o = once old.tdi (record old { tdi = Some h }) new e in
-    let none = o.0 in
-    let is = ap field_total o.1 in
-    omega (arith, none, is)
-put_more Tdo h old new e =
-    let o = once old.tdo (record old { tdo = Some h }) new e in
-    let none = o.0 in
-    let is = ap field_total o.1 in
-    omega (arith, none, is)
-put_more Mask h old new e =
-    let o = once old.mask (record old { mask = Some h }) new e in
-    let none = o.0 in
-    let is = ap field_total o.1 in
-    omega (arith, none, is)
-put_more Smask h old new e =
-    let o = once old.smask (record old { smask = Some h }) new e in
-    let none = o.0 in
-    let is = ap field_total o.1 in
-    omega (arith, none, is)
+put_more Tdi h old new e = one_more old.tdi old (record old { tdi = Some h }) new h e (omega arith)
+put_more Tdo h old new e = one_more old.tdo old (record old { tdo = Some h }) new h e (omega arith)
+put_more Mask h old new e = one_more old.mask old (record old { mask = Some h }) new h e (omega arith)
+put_more Smask h old new e = one_more old.smask old (record old { smask = Some h }) new h e (omega arith)
 
 field_fits : (ws : List Word) (f : FieldName) (h : List ℕ) → IsField ws f h → length h ≤ total ws
 field_fits ws f h is =
