@@ -1,5 +1,5 @@
 -- The bits that a field writes, and its value.
-use Rattle.std.proofs.Common.{◌≡◌, ℕ, ◌-◌, ◌*◌, ◌≤◌, min, Bool, true, false, not, cond, ◌&&◌, List, [], ◌∷◌, ◌++◌, length, take, replicate, reverse, Option, Some, None, Ok, Err, refl, sym, ap, ◌∙◌, arith}
+use Rattle.std.proofs.Common.{◌≡◌, ℕ, ◌-◌, ◌*◌, ◌≤◌, min, Bool, true, false, not, cond, List, [], ◌∷◌, ◌++◌, length, take, replicate, reverse, Option, Some, None, Ok, Err, refl, sym, ap, ◌∙◌, arith}
 use Rattle.std.specs.List.{list_all, flat_map, prefix_len, position}
 use Rattle.std.specs.Char.{is_ascii_hexdigit}
 use Rattle.std.proofs.lemmas.Bool.Decides.{nat_tests}
@@ -12,17 +12,13 @@ use Rattle.svf_parse.specs.declared.fault.Code.TheVariants as code
 use Rattle.jt_bits.specs.declared.hex.HexFault.TheVariants.{TooWide}
 use Rattle.svf_parse.specs.Sizes.{ValuesAreWritten}
 use Rattle.svf_parse.specs.Judging.{bits, written, field_fault}
+use Rattle.svf_parse.proofs.Digits.{and_true}
 
 digit_is_no_white : (c : ℕ) → is_ascii_hexdigit c ≡ true → is_white c ≡ false
 digit_is_no_white c h = grind (arith, nat_tests)
 
 four : (c : ℕ) → is_ascii_hexdigit c ≡ true → length (bits_of c) ≡ 4
 four c h = rw (digit_is_no_white c h) refl
-
-both_true : (a b : Bool) → (a && b) ≡ true → (a ≡ true) × (b ≡ true)
-both_true true true h = (refl, refl)
-both_true true false h = absurd cc
-both_true false b h = absurd cc
 
 pub binary-cons : (c : ℕ) (cs : List ℕ) → binary (c ∷ cs) ≡ binary cs ++ bits_of c
 unfolding binary
@@ -33,7 +29,7 @@ pub four_each : (h : List ℕ) → list_all is_ascii_hexdigit h ≡ true → len
 unfolding binary
 four_each [] all = refl
 four_each (c ∷ cs) all =
-    let b = both_true (is_ascii_hexdigit c) (list_all is_ascii_hexdigit cs) all in
+    let b = and_true (is_ascii_hexdigit c) (list_all is_ascii_hexdigit cs) all in
     let one = four c b.0 in
     let rest = four_each cs b.1 in
     ap length (binary-cons c cs) ∙ length-append (binary cs) (bits_of c) ∙ omega (arith, one, rest)
@@ -81,7 +77,7 @@ field_bits n w o h b is sound least e =
 good_ahead : (h : List ℕ) → list_all is_ascii_hexdigit h ≡ true → prefix_len (λ c. not (is_bad c)) h ≡ length h
 good_ahead [] all = refl
 good_ahead (c ∷ cs) all =
-    let b = both_true (is_ascii_hexdigit c) (list_all is_ascii_hexdigit cs) all in
+    let b = and_true (is_ascii_hexdigit c) (list_all is_ascii_hexdigit cs) all in
     let rest = good_ahead cs b.1 in
     let good : is_bad c ≡ false = rw (b.0, digit_is_no_white c b.0) refl in
     rw good (omega (arith, rest))

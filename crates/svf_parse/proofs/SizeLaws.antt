@@ -1,9 +1,9 @@
 -- How many statements, bits and states a text can spell.
 use Rattle.std.proofs.Common.{◌≡◌, ℕ, ◌+◌, ◌*◌, ◌≤◌, ◌<◌, min, List, [], ◌∷◌, ◌++◌, length, map, codes, IfOk, Option, Some, None, Result, Ok, Err, refl, sym, ap, ◌∙◌, arith}
-use Rattle.std.specs.List.{sum_by, flat_map}
+use Rattle.std.specs.List.{sum_by}
 use Rattle.std.proofs.lemmas.List.{length-append, length-take}
-use Rattle.std.proofs.lemmas.List.Concat.{flat_map-cons}
-use Rattle.std.proofs.lemmas.List.Sums.{sum_by-cons}
+use Rattle.std.proofs.lemmas.List.Concat.{length-flat_map}
+use Rattle.std.proofs.lemmas.List.Sums.{sum_by-cons, sum_by-append}
 use Rattle.jt_tap.specs.declared.State.{State}
 use Rattle.jt_tap.specs.declared.State.TheVariants as state
 use Rattle.jt_tap.specs.Words as words
@@ -37,16 +37,13 @@ use Rattle.svf_parse.proofs.FieldValues.{binary-cons}
 -- ---- the bytes of words
 
 abbrev total : List Word → ℕ
-total [] = 0
-total (w ∷ ws) = length w + total ws
+total ws = sum_by (λ w. length w) ws
+
+total-cons : (w : Word) (ws : List Word) → total (w ∷ ws) ≡ length w + total ws
+total-cons w ws = sum_by-cons (λ w. length w) w ws
 
 total-append : (xs ys : List Word) → total (xs ++ ys) ≡ total xs + total ys
-total-append [] ys = omega arith
-total-append (x ∷ xs) ys = let rest = total-append xs ys in omega (arith, rest)
-
-total-joined : (ws : List Word) → length (flat_map (λ w. w) ws) ≡ total ws
-total-joined [] = refl
-total-joined (w ∷ ws) = ap length (flat_map-cons (λ w. w) w ws) ∙ length-append w (flat_map (λ w. w) ws) ∙ ap (λ k. length w + k) (total-joined ws)
+total-append xs ys = sum_by-append (λ w. length w) xs ys
 
 abbrev item_total : List (Result Lexeme LexFault) → ℕ
 item_total [] = 0
@@ -67,8 +64,8 @@ part_total (last ws fault) = total ws
 part_total (group ws parts) = total ws + part_total parts
 
 word_more : (w : Word) (parts : Parts) → part_total (with_word w parts) ≡ length w + part_total parts
-word_more w (last ws fault) = refl
-word_more w (group ws parts) = omega arith
+word_more w (last ws fault) = total-cons w ws
+word_more w (group ws parts) = let more = total-cons w ws in omega (arith, more)
 
 token_more : (k : Kind) (w : Word) (parts : Parts) → part_total (with_token k w parts) ≤ length w + part_total parts
 token_more kind.Semi w parts = omega arith
@@ -86,12 +83,11 @@ words_fit (Ok t ∷ more) =
 words_fit (Err e ∷ more) = omega arith
 
 abbrev group_total : List (List Word) → ℕ
-group_total [] = 0
-group_total (g ∷ gs) = total g + group_total gs
+group_total gs = sum_by (λ ws. total ws) gs
 
 groups_are_parts : (gs : List (List Word)) → part_total (closed_by gs (last [] None)) ≡ group_total gs
 groups_are_parts [] = refl
-groups_are_parts (g ∷ gs) = ap (λ k. total g + k) (groups_are_parts gs)
+groups_are_parts (g ∷ gs) = ap (λ k. total g + k) (groups_are_parts gs) ∙ sym (sum_by-cons (λ ws. total ws) g gs)
 
 -- ---- the bits of fields
 
@@ -145,10 +141,12 @@ field_fits ws f h is =
     let opener = is.1 in
     let closer = is.2 in
     let runs = is.3 in
-    let all : total ws ≡ length name + (length opener + (total runs + (length closer + 0))) =
-    ap total is.4 ∙ ap (λ k. length name + (length opener + k)) (total-append runs (closer ∷ [])) in
-    let digits : length h ≡ total runs = ap length is.9 ∙ total-joined runs in
-    omega (arith, all, digits)
+    let words : total ws ≡ total (name ∷ opener ∷ runs ++ closer ∷ []) = ap total is.4 in
+    let first = total-cons name (opener ∷ runs ++ closer ∷ []) in
+    let second = total-cons opener (runs ++ closer ∷ []) in
+    let rest = total-append runs (closer ∷ []) in
+    let digits : length h ≡ total runs = ap length is.9 ∙ length-flat_map (λ w. w) runs in
+    omega (arith, words, first, second, rest, digits)
 
 fields_fit : (ws : List Word) (given : List (FieldName × List ℕ)) (old new : Fields) → AreFields ws given old new → field_total new ≤ field_total old + total ws
 fields_fit ws [] old new h = let is = ap field_total h.1 in omega (arith, is)
@@ -202,17 +200,19 @@ states_fit (w ∷ ws) [] h = absurd h
 states_fit (w ∷ ws) (s ∷ ss) h =
     let one = some_word w (words.word s) h.0 (state_word s) in
     let rest = states_fit ws ss h.1 in
-    omega (arith, one, rest)
+    let all = total-cons w ws in
+    omega (arith, one, rest, all)
 
-said_by : {A : Type 0} (r : Result A Code) (f : A → Said) (s : Said) → (r >>= λ x. Ok (f x)) ≡ Ok s → (x : A) × (f x ≡ s)
-said_by (Err e) f s h = absurd cc
-said_by (Ok x) f s h = (x, cc)
+-- a statement that is made of what was read
+made_by : {A : Type 0} (r : Result A Code) (f : A → Said) (s : Said) → (r >>= λ x. Ok (f x)) ≡ Ok s → (x : A) × (f x ≡ s)
+made_by (Err e) f s h = absurd cc
+made_by (Ok x) f s h = (x, cc)
 
 -- a statement of one word at least, that has no bits and no states
 one_fits : (k : Word) (keyword : List ℕ) (ws xs : List Word) (s : Said) → ws ≡ k ∷ xs → Reads k keyword → 0 < length keyword → size s ≡ 1 → size s ≤ 4 * total ws
 one_fits k keyword ws xs s split h some is =
     let one = some_word k keyword h some in
-    let all : total ws ≡ length k + total xs = ap total split in
+    let all : total ws ≡ length k + total xs = ap total split ∙ total-cons k xs in
     omega (arith, one, all, is)
 
 abbrev saying : Said → Result Said Code
@@ -238,26 +238,27 @@ form_fits ws (end_dr_form st) s h says = one_fits h.0 (codes "ENDDR") ws (h.1 �
 form_fits ws (end_ir_form st) s h says = one_fits h.0 (codes "ENDIR") ws (h.1 ∷ []) s h.2 h.3 (omega arith) (size_said (end_ir st) s says)
 form_fits ws (frequency_form None) s h says = one_fits h.0 (codes "FREQUENCY") ws [] s h.1 h.2 (omega arith) (size_said (frequency None) s says)
 form_fits ws (frequency_form (Some n)) s h says =
-    let p = said_by (given period_says (Some n)) (λ p. frequency p) s says in
+    let p = made_by (given period_says (Some n)) (λ p. frequency p) s says in
     one_fits h.0 (codes "FREQUENCY") ws (n ∷ h.1 ∷ []) s h.2 h.3 (omega arith) (ap size (sym p.1))
 form_fits ws (scan_form which w fs) s h says =
-    let n = said_by (scan_says w fs) (scan_with which fs) s says in
+    let n = made_by (scan_says w fs) (scan_with which fs) s says in
     let k = h.0 in
     let xs = h.1 in
     let command = some_word k (scan_word which) h.4 (scan_keyword which) in
     let digits = fields_fit xs h.2 no_fields fs h.6 in
-    let all : total ws ≡ length k + (length w + total xs) = ap total h.3 in
+    let all : total ws ≡ length k + total (w ∷ xs) = ap total h.3 ∙ total-cons k (w ∷ xs) in
+    let others = total-cons w xs in
     let bound = scan_fits which fs n.0 in
     let is = ap size n.1 in
-    omega (arith, command, digits, all, bound, is)
+    omega (arith, command, digits, all, others, bound, is)
 form_fits ws (run_form r) s h says =
-    let p = said_by (both (given cycles_say r.count) (both (given time_says r.min) (given time_says r.max))) (run_with r) s says in
+    let p = made_by (both (given cycles_say r.count) (both (given time_says r.min) (given time_says r.max))) (run_with r) s says in
     one_fits h.0 (codes "RUNTEST") ws h.1 s h.2 h.3 (omega arith) (ap size (sym p.1))
 form_fits ws (states_form ss) s h says =
     let k = h.0 in
     let command = some_word k (codes "STATE") h.3 (omega arith) in
     let path = states_fit h.1 ss h.5 in
-    let all : total ws ≡ length k + total h.1 = ap total h.2 in
+    let all : total ws ≡ length k + total h.1 = ap total h.2 ∙ total-cons k h.1 in
     let is = size_said (states ss) s says in
     omega (arith, command, path, all, is)
 form_fits ws (trst_form t) s h says = one_fits h.0 (codes "TRST") ws (h.1 ∷ []) s h.2 h.3 (omega arith) (size_said (trst t) s says)
@@ -268,13 +269,17 @@ form_fits ws port_form s h says = absurd cc
 each_fits : (gs : List (List Word)) (ss : List Said) → EachSpells gs ss → sum_by size ss ≤ 4 * group_total gs
 each_fits [] [] h = omega arith
 each_fits [] (s ∷ ss) h = absurd h
-each_fits ([] ∷ gs) ss h = let rest = each_fits gs ss h in omega (arith, rest)
+each_fits ([] ∷ gs) ss h =
+    let rest = each_fits gs ss h in
+    let groups = sum_by-cons (λ ws. total ws) [] gs in
+    omega (arith, rest, groups)
 each_fits ((w ∷ ws) ∷ gs) [] h = absurd h
 each_fits ((w ∷ ws) ∷ gs) (s ∷ ss) h =
     let one = form_fits (w ∷ ws) h.0.0 s h.0.1 h.0.2 in
     let rest = each_fits gs ss h.1 in
     let all = sum_by-cons size s ss in
-    omega (arith, one, rest, all)
+    let groups = sum_by-cons (λ ws. total ws) (w ∷ ws) gs in
+    omega (arith, one, rest, all, groups)
 
 small_text : (text : List ℕ) (ss : List Said) → TextSpells text ss → sum_by size ss ≤ 4 * length text
 small_text text ss h =
