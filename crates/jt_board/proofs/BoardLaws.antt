@@ -1,17 +1,23 @@
 -- The laws of the board, from those of cycles and paths.
-use Rattle.std.proofs.Common.{false, refl}
+use Rattle.std.proofs.Common.{◌≡◌, false, refl, List, [], ◌∷◌, map}
+use Rattle.jt_board.specs.Cells.{Member}
+use Rattle.jt_board.specs.Whole.{reset_member}
 use Rattle.jt_board.specs.Chain.{told}
 use Rattle.bitbang.specs.declared.Message.TheVariants.{Lines}
 use Rattle.jt_board.specs.Laws.{FiveOnesRest, OpeningRests, OpeningSettles, DefaultPathsSettleAndArrive}
 use Rattle.jt_board.proofs.Ones.{five-ones, opening-rests, reset_from_here}
-use Rattle.jt_board.proofs.Resets.{opening-law}
+use Rattle.jt_board.proofs.Resets.{opening-law, reset-twice}
 use Rattle.jt_board.proofs.Moves.{go-law}
 
+resets-kept : (ms : List Member) → map reset_member (map reset_member ms) ≡ map reset_member ms
+resets-kept [] = refl
+resets-kept (m ∷ ms) = λ i. reset-twice m i ∷ resets-kept ms i
+
 pub five_ones_rest : FiveOnesRest
-five_ones_rest b released = (reset_from_here b, five-ones b released, refl)
+five_ones_rest b released = (reset_from_here b, five-ones b released, record { place = refl; registers = resets-kept _ })
 
 pub opening_rests : OpeningRests
-opening_rests b = (reset_from_here (told (Lines false false) b), opening-rests b, refl, refl)
+opening_rests b = (reset_from_here (told (Lines false false) b), opening-rests b, record { place = refl; registers = resets-kept _ }, refl)
 
 pub opening_settles : OpeningSettles
 opening_settles m stable = opening-law m.place m.trst m.nets m.members stable

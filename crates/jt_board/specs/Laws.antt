@@ -1,11 +1,11 @@
 -- What the definitions promise of every chain: laws between the edge meaning and the register meaning.
-use Rattle.std.specs.Prelude.{◌≡◌, true, false, []}
+use Rattle.std.specs.Prelude.{◌≡◌, true, false, [], map}
 use Rattle.std.specs.List.{AllByRecursion}
 use Rattle.jt_tap.specs.declared.State.{State}
 use Rattle.jt_tap.specs.declared.State.TheVariants.{Reset}
 use Rattle.jt_tap.specs.Controller.{is_stable}
 use Rattle.jt_board.specs.Chain.{BoardState, Heard, hear, is_held}
-use Rattle.jt_board.specs.Whole.{AtRest, arrive, opened, settle}
+use Rattle.jt_board.specs.Whole.{AtRest, arrive, opened, reset_member, settle}
 use Rattle.jt_board.specs.Steps.{Go}
 use Rattle.jt_board.specs.StepBytes.{closed, opening, resets_held, step_messages}
 use Rattle.jt_board.specs.Resting.{resting}
@@ -14,9 +14,14 @@ use Rattle.jt_board.specs.Resting.{resting}
 abbrev pub quietly_at : AtRest → Heard
 quietly_at m = record { answers = []; board = resting m }
 
--- the same in RESET, with some registers
+-- in RESET, where nothing is left to reset: every latch is its reset instruction, every controlr cell its disabling value
+pub record IsReset (m : AtRest) : Type 0 where
+  pub place : m.place ≡ Reset
+  pub registers : map reset_member m.members ≡ m.members
+
+-- the same in RESET
 abbrev pub EndsInReset : Heard → Type 0
-EndsInReset heard = (m : AtRest) × (heard ≡ quietly_at m) × (m.place ≡ Reset)
+EndsInReset heard = (m : AtRest) × (heard ≡ quietly_at m) × IsReset m
 
 -- Five cycles with TMS 1 and TRST released bring every board to rest in RESET in all devices.
 abbrev pub FiveOnesRest : Type 0
@@ -24,7 +29,7 @@ FiveOnesRest = (b : BoardState) → b.trst ≡ false → EndsInReset (hear (clos
 
 -- The opening brings every board, in mid-scan too, to rest in RESET with TRST released.
 abbrev pub OpeningRests : Type 0
-OpeningRests = (b : BoardState) → (m : AtRest) × (hear opening b ≡ quietly_at m) × (m.place ≡ Reset) × (m.trst ≡ false)
+OpeningRests = (b : BoardState) → (m : AtRest) × (hear opening b ≡ quietly_at m) × IsReset m × (m.trst ≡ false)
 
 -- From rest in m the opening gives m with TRST released, settled and reset.
 abbrev pub OpeningSettles : Type 0

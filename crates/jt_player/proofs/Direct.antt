@@ -5,10 +5,10 @@ use Rattle.jt_tap.specs.declared.State.{State}
 use Rattle.jt_tap.specs.declared.State.TheVariants.{Reset}
 use Rattle.bitbang.specs.declared.Message.TheVariants.{Quit, Lines}
 use Rattle.jt_board.specs.Chain.{BoardState, Heard, hear, told}
-use Rattle.jt_board.specs.Whole.{AtRest}
+use Rattle.jt_board.specs.Whole.{AtRest, capture, out, settle}
 use Rattle.jt_board.specs.declared.vector.Part.{Part}
-use Rattle.jt_board.specs.Vector.{VectorBit, judge, differs}
-use Rattle.jt_board.specs.Steps.{Step, command, failure}
+use Rattle.jt_board.specs.Vector.{VectorBit, judge, differs, tdis}
+use Rattle.jt_board.specs.Steps.{Step, Scan, Go, Path, Run, Trst, command, failure}
 use Rattle.jt_player.specs.declared.ending.Ending.TheVariants.{Fail}
 use Rattle.jt_player.specs.Programs.{Numbered, outcome, Outcome}
 use Rattle.jt_board.specs.StepBytes.{step_messages, place_after}
@@ -34,11 +34,25 @@ judge-picked (v ∷ vs) (b ∷ bits) = one-bit v.wanted v vs b bits (judge-picke
     one-bit None v vs b bits e = e
     one-bit (Some w) v vs b bits e = ap (λ r. if differs (Some w) b then Some (v.part, v.place) else r) e
 
+-- what a step's questions are answered
+abbrev pub asked_of : Step → AtRest → List Bool
+asked_of (Scan column v end) m = picked v (out column (tdis v) (capture column (settle m)))
+asked_of _ m = []
+
 -- what one step's law says: the answers, the board at rest, and the place
 pub record IsPlayed (step : Step) (m : AtRest) (answers : List Bool) : Type 0 where
   pub heard : hear (step_messages m.place step) (resting m) ≡ record { answers = answers; board = resting (command step m) }
-  pub judged : judge (wants_of step) answers ≡ failure step m
+  pub said : answers ≡ asked_of step m
   pub place : (command step m).place ≡ place_after m.place step
+
+-- so the first wanted bit that differs is the one that whole registers name
+pub judged-of : (step : Step) (m : AtRest) (answers : List Bool) → answers ≡ asked_of step m → judge (wants_of step) answers ≡ failure step m
+judged-of (Scan column v end) m answers e =
+    ap (judge (wants_of (Scan column v end))) e ∙ judge-picked v (out column (tdis v) (capture column (settle m)))
+judged-of (Go s) m answers e = ap (judge []) e
+judged-of (Path path) m answers e = ap (judge []) e
+judged-of (Run run n end) m answers e = ap (judge []) e
+judged-of (Trst word) m answers e = ap (judge []) e
 
 abbrev pub AllPlayed : List Numbered → AtRest → Type 0
 AllPlayed [] m = Unit {0}
@@ -80,7 +94,7 @@ steps-law (s ∷ ss) m (answers, p, legal) =
     let rest : Same (full_play ts (resting after)) (outcome ss after) =
     subst (λ (place : State). Same (full_play (step_turns place ss) (resting after)) (outcome ss after)) p.place (steps-law ss after legal) in
     let path : full_play (t ∷ ts) (resting m) ≡ after_step t ts heard (failure s.what m) =
-    (λ i. after_step t ts (p.heard i) (judge t.wants (p.heard i).answers)) ∙ (λ i. after_step t ts heard (p.judged i)) in
+    (λ i. after_step t ts (p.heard i) (judge t.wants (p.heard i).answers)) ∙ (λ i. after_step t ts heard (judged-of s.what m answers p.said i)) in
     subst (λ (q : Played). Same q (outcome (s ∷ ss) m)) (sym path) (combine t ts s ss m answers rest (failure s.what m) refl)
 
 -- Direct play: from every board, whatever bytes it took before, the full play ends as the register meaning says, from

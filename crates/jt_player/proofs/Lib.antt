@@ -8,3 +8,4 @@ pub mod Moving
 pub mod Noting
 pub mod Told
 pub mod PlayLaws
+pub mod Shown

@@ -62,7 +62,7 @@ settles-line _ m st = absurd (cc)
 go-played : (to : State) (m : AtRest) → is_stable m.place ≡ true → is_stable to ≡ true → m.trst ≡ false → IsPlayed (Go to) m []
 go-played to m here there line = record {
   heard = go-law m.place to m.trst m.nets m.members here there (subst (λ (t : Bool). Free t m.members) (sym line) (released m.members));
-  judged = refl;
+  said = refl;
   place = arrives-at to (settle m) there;
 }
 

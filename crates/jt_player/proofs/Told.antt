@@ -15,27 +15,22 @@ use Rattle.jt_player.specs.DirectPlay.{MeansFromOpening}
 use Rattle.jt_player.specs.Play.{play}
 use Rattle.jt_player.specs.Playing.{PlayerState, fresh}
 use Rattle.state_programs.specs.Spelling.{TextSpells, TextRefuses}
+use Rattle.jt_player.specs.Showing.{verdict_text, refusal_text}
 use Rattle.jt_player.specs.Running.{Runs, line, note, no_memory, played, refused, status_of}
-
--- a text is written, and then the end of its line
-pub ends-line : {A : Type 0} (r : Result A Broken) (old middle new : Option (List ℕ)) (text : List ℕ) → Appends old middle text
-    → OnOk r (Appends middle new (codes "\n")) → OnOk r ((x : List ℕ) × Appends old new (line x))
-ends-line (Err e) old middle new text written ended = tt
-ends-line (Ok u) old middle new text written ended = (text, Appends-trans old middle new text (codes "\n") written ended)
 
 -- what play_and_tell says of its answer
 pub record IsTold (p : PlayerState) (bytes : Bool) (before after : BoardState) (Told : List ℕ → Type 0) (r : Result ℕ Broken) : Type 0 where
   pub status : IfOk r (λ status. status ≡ status_of (play p.program before).ending)
   pub board : OnOk r (after ≡ (play p.program before).board)
   pub meaning : OnOk r (MeansFromOpening p.program before (play p.program before).ending after)
-  pub told : OnOk r ((verdict : List ℕ) × Told (note bytes p.program before ++ line verdict ++ report after))
+  pub told : OnOk r (Told (note bytes p.program before ++ line (verdict_text (play p.program before).ending) ++ report after))
 
 told-fresh : (text : List ℕ) (a : Accepted) (bytes : Bool) (before after : BoardState) (Told Said : List ℕ → Type 0) (r : Result ℕ Broken) → TextSpells text a → Said []
     → IsTold (fresh (program_of a)) bytes before after Told r → IfOk r (λ status. Runs text bytes before after Told Said status)
 told-fresh text a bytes before after Told Said (Err e) spells silent is = tt
 told-fresh text a bytes before after Told Said (Ok status) spells silent is =
     subst (λ (s : ℕ). Runs text bytes before after Told Said s) (sym is.status)
-    (played a (play (program_of a) before).ending is.told.0 spells refl is.board is.meaning is.told.1 silent)
+    (played a (play (program_of a) before).ending spells refl is.board is.meaning is.told silent)
 
 pub runs-played : (text : List ℕ) (a : Accepted) (p : PlayerState) (bytes : Bool) (before after : BoardState) (Told Said : List ℕ → Type 0) (r : Result ℕ Broken)
     → TextSpells text a → Said [] → p ≡ fresh (program_of a) → IsTold p bytes before after Told r
@@ -53,7 +48,7 @@ runs-no-memory text bytes before Told Said (Ok status) nothing said four =
 pub record IsRefused (f : SvfFault) (Said : List ℕ → Type 0) (r : Result ℕ Broken) : Type 0 where
   pub status : IfOk r (λ status. ((status ≡ 4) × (f.code ≡ NoMemory)) ⊎ ((status ≡ 2) × (f.code ≢ NoMemory)))
   pub memory : f.code ≡ NoMemory → OnOk r (Said (line (codes "memory")))
-  pub said : f.code ≢ NoMemory → OnOk r ((refusal : List ℕ) × Said (line refusal))
+  pub said : f.code ≢ NoMemory → OnOk r (Said (line (refusal_text f)))
 
 pub runs-refused : (text : List ℕ) (f : SvfFault) (bytes : Bool) (before : BoardState) (Told Said : List ℕ → Type 0) (r : Result ℕ Broken) → Told []
     → (f ≢ memory_fault → TextRefuses text f) → IsRefused f Said r → IfOk r (λ status. Runs text bytes before before Told Said status)
@@ -64,4 +59,4 @@ runs-refused text f bytes before Told Said (Ok status) nothing why is = by is.st
     by (inl four) = subst (λ (s : ℕ). Runs text bytes before before Told Said s) (sym four.0) (no_memory refl nothing (is.memory four.1))
     by (inr two) =
         subst (λ (s : ℕ). Runs text bytes before before Told Said s) (sym two.0)
-        (refused f (is.said two.1).0 (why (λ e. two.1 (ap (λ (g : SvfFault). g.code) e))) refl nothing (is.said two.1).1)
+        (refused f (why (λ e. two.1 (ap (λ (g : SvfFault). g.code) e))) refl nothing (is.said two.1))

@@ -5,5 +5,6 @@ pub mod Accepting
 pub mod Sending
 pub mod Playing
 pub mod DirectPlay
+pub mod Showing
 pub mod Running
 pub mod Laws

@@ -11,6 +11,7 @@ use Rattle.jt_player.specs.Accepting.{program_of}
 use Rattle.jt_player.specs.Play.{play}
 use Rattle.jt_player.specs.DirectPlay.{MeansFromOpening, full_bytes}
 use Rattle.jt_player.specs.Programs.{Program}
+use Rattle.jt_player.specs.Showing.{verdict_text, refusal_text}
 
 -- the exit status of an ending
 abbrev pub status_of : Ending → ℕ
@@ -32,10 +33,10 @@ line text = text ++ codes "\n"
 -- refusal: an accepted text's program was played, with the ending and the board of its meaning, and told of by its bytes, a
 -- line of the verdict and the board's report; or the text was refused in a line; or memory ran out.
 pub data Runs (text : List ℕ) (bytes : Bool) (before after : BoardState) (Told Said : List ℕ → Type 0) : ℕ → Type 0 where
-  played : (program : Accepted) (ending : Ending) (verdict : List ℕ) → TextSpells text program → ending ≡ (play (program_of program) before).ending
+  played : (program : Accepted) (ending : Ending) → TextSpells text program → ending ≡ (play (program_of program) before).ending
       → after ≡ (play (program_of program) before).board → MeansFromOpening (program_of program) before ending after
-      → Told (note bytes (program_of program) before ++ line verdict ++ report after) → Said []
+      → Told (note bytes (program_of program) before ++ line (verdict_text ending) ++ report after) → Said []
       → Runs text bytes before after Told Said (status_of ending)
-  refused : (fault : SvfFault) (refusal : List ℕ) → TextRefuses text fault → after ≡ before → Told [] → Said (line refusal)
+  refused : (fault : SvfFault) → TextRefuses text fault → after ≡ before → Told [] → Said (line (refusal_text fault))
       → Runs text bytes before after Told Said 2
   no_memory : after ≡ before → Told [] → Said (line (codes "memory")) → Runs text bytes before after Told Said 4

@@ -6,6 +6,7 @@ mod laws;
 mod play;
 mod player;
 mod run;
+mod showing;
 mod source;
 
 pub use ending::Ending;

@@ -5,18 +5,17 @@ ghost use Rattle.jt_player.specs.DirectPlay.{MeansFromOpening};
 ghost use Rattle.jt_player.specs.Play.{play};
 ghost use Rattle.jt_player.specs.Running.{Runs, line, note, status_of};
 ghost use Rattle.jt_board.specs.Report.{report};
+ghost use Rattle.jt_player.specs.Showing.{verdict_text, refusal_text};
 ghost use Rattle.std.specs.Io.KnownBytes.{Appends};
 
 use crate::ending::Ending;
 use crate::play::{play_board, play_noted};
 use crate::player::Player;
-use arrayvec::ArrayString;
+use crate::showing::{write_refusal, write_verdict};
 use byte_ends::{Broken, Counted, Sink, put_all};
 use jt_board::{Board, write_report};
 use state_programs::{Code, SvfFault, accept};
 use std::alloc::Global;
-use std::fmt;
-use std::fmt::Write;
 
 /// Plays a text on a board and tells of it: to `out` a line of the bytes sent where `bytes` asks for it, the verdict and
 /// the board's report; to `err` the line of a refusal or of want of memory. Answers the exit status: 0 pass, 1 fail, 2 a
@@ -63,11 +62,11 @@ fn play_and_tell<W: Sink>(
     ensures status { IfOk result (λ status. status ≡ status_of (play player.program board.old).ending) }
     ensures board { OnOk result (board.new ≡ (play player.program board.old).board) }
     ensures meaning { OnOk result (MeansFromOpening player.program board.old (play player.program board.old).ending board.new) }
-    ensures told { OnOk result ((verdict : List ℕ) × Appends (W.contents out.old.inner) (W.contents out.new.inner)
-        (note bytes player.program board.old ++ line verdict ++ report board.new)) }
+    ensures told { OnOk result (Appends (W.contents out.old.inner) (W.contents out.new.inner)
+        (note bytes player.program board.old ++ line (verdict_text (play player.program board.old).ending) ++ report board.new)) }
 {
     let ending = play_and_note(player, board, bytes, out)?;
-    put_line(&ending, out)?;
+    write_verdict(ending, out)?;
     write_report(board, out)?;
     Ok(ending.status())
 }
@@ -107,12 +106,12 @@ fn refuse<E: Sink>(fault: SvfFault, err: &mut Counted<E>) -> Result<u8, Broken>
     ensures broken { IsErr result ↔ (err.new.failures ≡ 1) }
     ensures status { IfOk result (λ status. ((status ≡ 4) × (fault.code ≡ Code.NoMemory)) ⊎ ((status ≡ 2) × (fault.code ≢ Code.NoMemory))) }
     ensures memory { fault.code ≡ Code.NoMemory → OnOk result (Appends (E.contents err.old.inner) (E.contents err.new.inner) (line (codes "memory"))) }
-    ensures said { fault.code ≢ Code.NoMemory → OnOk result ((refusal : List ℕ) × Appends (E.contents err.old.inner) (E.contents err.new.inner) (line refusal)) }
+    ensures said { fault.code ≢ Code.NoMemory → OnOk result (Appends (E.contents err.old.inner) (E.contents err.new.inner) (line (refusal_text fault))) }
 {
     if fault.code == Code::NoMemory {
         return refuse_memory(err);
     }
-    put_line(&fault, err)?;
+    write_refusal(fault, err)?;
     Ok(2)
 }
 
@@ -126,17 +125,4 @@ fn refuse_memory<E: Sink>(err: &mut Counted<E>) -> Result<u8, Broken>
 {
     put_all(err, b"memory\n")?;
     Ok(4)
-}
-
-/// Writes what a value shows, and ends the line. No value that is written here shows more than there is room for.
-fn put_line<T: fmt::Display, W: Sink>(shown: &T, out: &mut Counted<W>) -> Result<(), Broken>
-    requires { out.old.failures ≡ 0 }
-    ensures written { IsOk result ↔ (out.new.failures ≡ 0) }
-    ensures broken { IsErr result ↔ (out.new.failures ≡ 1) }
-    ensures told { OnOk result ((text : List ℕ) × Appends (W.contents out.old.inner) (W.contents out.new.inner) (line text)) }
-{
-    let mut text = ArrayString::<96>::new();
-    let _ = write!(text, "{shown}");
-    put_all(out, text.as_bytes())?;
-    put_all(out, b"\n")
 }

@@ -25,7 +25,7 @@ use Rattle.legal_plays.proofs.Ready.{count-map}
 use Rattle.legal_plays.proofs.StepLaws.{step-done}
 
 -- every step's law, and so every program's
-all-played : (ss : List Numbered) (m : AtRest) → IsRest m → AllSound m.members → 0 < length m.members → AllLegal ss m → AllPlayed ss m
+pub all-played : (ss : List Numbered) (m : AtRest) → IsRest m → AllSound m.members → 0 < length m.members → AllLegal ss m → AllPlayed ss m
 all-played [] m rest sound some legal = tt
 all-played (s ∷ ss) m rest sound some legal =
     let done = step-done s.what m.place m.trst m.nets m.members rest sound some legal.0 in
@@ -63,7 +63,7 @@ unasserted b = told (Lines false false) b
 abbrev pub opened_to : BoardState → AtRest
 opened_to b = reset_from_here (unasserted b)
 
-opened-count : (b : BoardState) → length (opened_to b).members ≡ length b.chips
+pub opened-count : (b : BoardState) → length (opened_to b).members ≡ length b.chips
 opened-count b =
     count-map reset_member (members (high (unasserted b)).chips) ∙ count-members (high (unasserted b)).chips
     ∙ count-high (unasserted b) ∙ count-told (Lines false false) b

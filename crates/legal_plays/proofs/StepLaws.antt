@@ -13,7 +13,7 @@ use Rattle.jt_board.specs.Nets.{Net}
 use Rattle.jt_board.specs.Vector.{VectorBit, tdis, judge}
 use Rattle.jt_board.specs.Chain.{hear, is_held}
 use Rattle.jt_board.specs.Whole.{AtRest, reset_member, out, capture, settle, along}
-use Rattle.jt_board.specs.Steps.{Step, Scan, Go, Path, Run, Trst, On, Off, Z, Absent, command, failure, trst_member, settled_member, move_unless_there}
+use Rattle.jt_board.specs.Steps.{Step, Scan, Go, Path, Run, Trst, On, Off, Z, Absent, command, trst_member, settled_member, move_unless_there}
 use Rattle.jt_board.specs.StepBytes.{walk, closed, step_messages, last_of, place_after}
 use Rattle.jt_board.specs.Resting.{resting, IsPath, IsRest, IsFormed, IsLegal, is_reset, leaves_reset}
 use Rattle.jt_board.proofs.Low.{Free}
@@ -26,7 +26,7 @@ use Rattle.jt_board.specs.Sound.{AllSound, IsSound}
 use Rattle.jt_board.proofs.Sound.{Sound-Full, Sound-reset, Sound-update}
 use Rattle.jt_board.proofs.Vectors.{picked}
 use Rattle.jt_player.specs.Play.{wants_of}
-use Rattle.jt_player.proofs.Direct.{IsPlayed, judge-picked}
+use Rattle.jt_player.proofs.Direct.{IsPlayed, asked_of, judged-of}
 use Rattle.legal_plays.specs.Laws.{EachLegalStepPlaysAsItMeans}
 use Rattle.legal_plays.proofs.Ready.{IsReady, Ready, IsEnd, end-is-rest, move-end, maybe-end, scan-rests, along-rests, ready-to-shift, count-map}
 
@@ -41,10 +41,10 @@ pub record IsDone (step : Step) (m : AtRest) : Type 0 where
 -- a step that ends in a state
 done-at : (step : Step) (m : AtRest) (answers : List Bool) (to : State) → is_stable to ≡ true → place_after m.place step ≡ to
     → hear (step_messages m.place step) (resting m) ≡ record { answers = answers; board = resting (command step m) }
-    → judge (wants_of step) answers ≡ failure step m → IsEnd to (length m.members) (command step m) → IsDone step m
-done-at step m answers to stable after heard judged end = record {
+    → answers ≡ asked_of step m → IsEnd to (length m.members) (command step m) → IsDone step m
+done-at step m answers to stable after heard said end = record {
   answers = answers;
-  played = record { heard = heard; judged = judged; place = end.place ∙ sym after };
+  played = record { heard = heard; said = said; place = end.place ∙ sym after };
   rest = end-is-rest to (length m.members) (command step m) stable end;
   sound = end.ready.sound;
   count = end.ready.count;
@@ -69,8 +69,7 @@ scan-done column (v ∷ vs) end place trst nets ms here there long some ready =
     let at_shift : Ready (length ms) found = ready-to-shift column place trst nets ms (length ms) here ready in
     let devices : 0 < length found.members = subst (λ (n : ℕ). 0 < n) (sym at_shift.count) some in
     let heard = scan-law column v vs place end trst nets ms here there ready.free devices (Sound-Full column found.members at_shift.sound) in
-    done-at (Scan column (v ∷ vs) end) m (picked (v ∷ vs) (out column (tdis (v ∷ vs)) found)) end there refl heard
-    (judge-picked (v ∷ vs) (out column (tdis (v ∷ vs)) found))
+    done-at (Scan column (v ∷ vs) end) m (picked (v ∷ vs) (out column (tdis (v ∷ vs)) found)) end there refl heard refl
     (scan-rests column (tdis (v ∷ vs)) place end trst nets ms (length ms) here there ready)
 
 go-done : (to place : State) (trst : Bool) (nets : List Net) (ms : List Member) → is_stable place ≡ true → is_stable to ≡ true
@@ -112,12 +111,12 @@ free-done (Trst word) place trst nets ms leaves here kept some formed ready = ab
 
 -- A step that changes nothing.
 done-same : (step : Step) (m : AtRest) → command step m ≡ m → hear (step_messages m.place step) (resting m) ≡ record { answers = []; board = resting m }
-    → judge (wants_of step) [] ≡ failure step m → place_after m.place step ≡ m.place → IsRest m → AllSound m.members → IsDone step m
-done-same step m same heard judged after rest sound = record {
+    → [] ≡ asked_of step m → place_after m.place step ≡ m.place → IsRest m → AllSound m.members → IsDone step m
+done-same step m same heard said after rest sound = record {
   answers = [];
   played = record {
     heard = heard ∙ (λ i. record { answers = []; board = resting (sym same i) });
-    judged = judged;
+    said = said;
     place = ap (λ (n : AtRest). n.place) same ∙ sym after;
   };
   rest = subst (λ (n : AtRest). IsRest n) (sym same) rest;
@@ -229,7 +228,7 @@ on-done : (place : State) (trst : Bool) (nets : List Net) (ms : List Member) →
     → IsDone (Trst On) (at_rest place trst nets ms)
 on-done place trst nets ms here sound = record {
   answers = [];
-  played = record { heard = trst-on-law place trst nets ms here; judged = refl; place = refl };
+  played = record { heard = trst-on-law place trst nets ms here; said = refl; place = refl };
   rest = record {
     stable = refl;
     at_reset = λ e. reset-trst (settled_member place) ms;
@@ -246,7 +245,7 @@ off-done : (place : State) (trst : Bool) (nets : List Net) (ms : List Member) �
     → IsDone (Trst Off) (at_rest place trst nets ms)
 off-done place trst nets ms rest sound = record {
   answers = [];
-  played = record { heard = refl; judged = refl; place = refl };
+  played = record { heard = refl; said = refl; place = refl };
   rest = released-rest place trst nets ms rest;
   sound = sound;
   count = refl;
@@ -256,7 +255,7 @@ z-done : (place : State) (trst : Bool) (nets : List Net) (ms : List Member) → 
     → IsDone (Trst Z) (at_rest place trst nets ms)
 z-done place trst nets ms rest sound = record {
   answers = [];
-  played = record { heard = refl; judged = refl; place = refl };
+  played = record { heard = refl; said = refl; place = refl };
   rest = released-rest place trst nets ms rest;
   sound = sound;
   count = refl;
@@ -304,7 +303,7 @@ step_means step m rest sound some legal =
     let done = step-done step m.place m.trst m.nets m.members rest sound some legal in
     record {
       board = ap (λ h. h.board) done.played.heard;
-      judged = ap (λ h. judge (wants_of step) h.answers) done.played.heard ∙ done.played.judged;
+      judged = ap (λ h. judge (wants_of step) h.answers) done.played.heard ∙ judged-of step m done.answers done.played.said;
       rest = done.rest;
       sound = done.sound;
       devices = done.count;

@@ -42,10 +42,7 @@ struct Scaled {
 pub(crate) fn period(word: &[u8]) -> Result<u64, Code>
     ensures { result ≡ spec.period_says word.now }
 {
-    let number = match number_value(word) {
-        Ok(number) => number,
-        Err(code) => return Err(code),
-    };
+    let number = number_value(word)?;
     if number.mantissa == 0 {
         return Err(Code::BadNumber);
     }
@@ -68,10 +65,7 @@ pub(crate) fn period(word: &[u8]) -> Result<u64, Code>
 pub(crate) fn time(word: &[u8]) -> Result<u64, Code>
     ensures { result ≡ spec.time_says word.now }
 {
-    let number = match number_value(word) {
-        Ok(number) => number,
-        Err(code) => return Err(code),
-    };
+    let number = number_value(word)?;
     if number.mantissa == 0 {
         return Ok(0);
     }
@@ -103,10 +97,7 @@ fn picoseconds(mantissa: u64, zeros: u32) -> u128
 pub(crate) fn count(word: &[u8]) -> Result<u32, Code>
     ensures { result ≡ spec.count_says word.now }
 {
-    let number = match number_value(word) {
-        Ok(number) => number,
-        Err(code) => return Err(code),
-    };
+    let number = number_value(word)?;
     match whole(number.mantissa, number.zeros) {
         None => Err(Code::BadNumber),
         Some(count) if count > COUNT_LIMIT => Err(Code::TooLarge),

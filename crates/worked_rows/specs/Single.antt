@@ -10,8 +10,8 @@ use Rattle.jt_board.specs.Resting.{standing, resting}
 use Rattle.jt_board.specs.declared.vector.Part.TheVariants.{Data}
 use Rattle.jt_player.specs.declared.ending.Ending.TheVariants.{Pass, Fail, Lost, BadAnswer}
 use Rattle.jt_player.specs.Programs.{Numbered}
-use Rattle.jt_player.specs.Play.{turns, full_play, ending_for}
-use Rattle.jt_player.specs.Events.{World, Event, Put, Serve, Take, Lose, fresh, run, ended}
+use Rattle.jt_player.specs.Play.{turns, full_play, player, ending_for}
+use Rattle.jt_player.specs.Events.{World, Known, Event, Put, Serve, Take, Lose, by_answers, fresh, run, moving, ended}
 use Rattle.worked_rows.specs.Samples.{bits, k, kt, p, plain, with_core, tdo, sir}
 use Rattle.worked_rows.specs.Agree.{meant, flat_board}
 
@@ -40,7 +40,7 @@ paused = cycled (false ∷ true ∷ true ∷ false ∷ true ∷ false ∷ []) (s
 abbrev pub ir_scan : List Numbered
 ir_scan = sir 1 (tdo 2 3 1) ∷ []
 
-abbrev pub start : World
+abbrev pub start : World Known
 start = fresh (resting (plain (k ∷ [])))
 
 abbrev pub one_by_one : ℕ → List Event
@@ -74,15 +74,19 @@ pub record EdgeRows : Type 0 where
   -- a byte off the table
   pub refused : reply 0x5a (resting (plain (p ∷ []))) ≡ Refused 0x5a
   pub refused_board : after 0x5a (resting (plain (p ∷ []))) ≡ resting (plain (p ∷ []))
-  pub byte_by_byte : ended 1 (turns ir_scan) (run 1 1 1 (turns ir_scan) (one_by_one 34) start) ≡ Some Pass
-  pub byte_by_byte_wide : ended 1 (turns ir_scan) (run 256 1 1 (turns ir_scan) (one_by_one 34) start) ≡ Some Pass
-  pub byte_by_byte_not_yet : ended 1 (turns ir_scan) (run 256 1 1 (turns ir_scan) (one_by_one 33) start) ≡ None
-  pub byte_by_byte_board : bytes_eq (flat_board (run 256 1 1 (turns ir_scan) (one_by_one 34) start).board) (flat_board (resting (meant (plain (k ∷ [])) ir_scan).after)) ≡ true
-  pub lost_after_an_answer : ended 1 (turns ir_scan) (run 1 1 1 (turns ir_scan) (one_by_one 26 ++ Lose ∷ []) start) ≡ Some (Lost 1)
-  pub lost_before_quit : ended 0 (turns []) (run 256 64 64 (turns []) (Put 12 ∷ Serve 12 ∷ Put 1 ∷ Lose ∷ []) start) ≡ Some (Lost 1)
-  pub lost_at_once : ended 1 (turns ir_scan) (run 256 1 1 (turns ir_scan) (Lose ∷ Put 5 ∷ []) start) ≡ Some (Lost 0)
-  pub lost_last : ended 1 (turns ir_scan) (run 256 64 64 (turns ir_scan) (Put 64 ∷ Serve 64 ∷ Take 1 ∷ Take 1 ∷ Lose ∷ []) start) ≡ Some (Lost 2)
-  pub serve_three : (run 256 64 64 (turns ir_scan) (Put 64 ∷ Serve 3 ∷ []) start).board.tck ≡ true
+  pub byte_by_byte : ended 1 (turns ir_scan) (run (by_answers (player 1 (turns ir_scan))) 1 1 (one_by_one 34) start) ≡ Some Pass
+  pub byte_by_byte_wide : ended 1 (turns ir_scan) (run (by_answers (player 256 (turns ir_scan))) 1 1 (one_by_one 34) start) ≡ Some Pass
+  pub byte_by_byte_not_yet : ended 1 (turns ir_scan) (run (by_answers (player 256 (turns ir_scan))) 1 1 (one_by_one 33) start) ≡ None
+  pub byte_by_byte_board : bytes_eq (flat_board (run (by_answers (player 256 (turns ir_scan))) 1 1 (one_by_one 34) start).board) (flat_board (resting (meant (plain (k ∷ [])) ir_scan).after)) ≡ true
+  pub lost_after_an_answer : ended 1 (turns ir_scan) (run (by_answers (player 1 (turns ir_scan))) 1 1 (one_by_one 26 ++ Lose ∷ []) start) ≡ Some (Lost 1)
+  pub lost_before_quit : ended 0 (turns []) (run (by_answers (player 256 (turns []))) 64 64 (Put 12 ∷ Serve 12 ∷ Put 1 ∷ Lose ∷ []) start) ≡ Some (Lost 1)
+  pub lost_at_once : ended 1 (turns ir_scan) (run (by_answers (player 256 (turns ir_scan))) 1 1 (Lose ∷ Put 5 ∷ []) start) ≡ Some (Lost 0)
+  pub lost_last : ended 1 (turns ir_scan) (run (by_answers (player 256 (turns ir_scan))) 64 64 (Put 64 ∷ Serve 64 ∷ Take 1 ∷ Take 1 ∷ Lose ∷ []) start) ≡ Some (Lost 2)
+  -- 34 bytes each way and 2 answers
+  pub byte_by_byte_moves : moving (by_answers (player 1 (turns ir_scan))) 1 1 (one_by_one 34) start ≡ 70
+  pub lost_first_moves : moving (by_answers (player 256 (turns ir_scan))) 64 64 (Lose ∷ Put 5 ∷ []) start ≡ 0
+  pub two_events_move : moving (by_answers (player 256 (turns ir_scan))) 64 64 (Put 64 ∷ Serve 3 ∷ []) start ≡ 2
+  pub serve_three : (run (by_answers (player 256 (turns ir_scan))) 64 64 (Put 64 ∷ Serve 3 ∷ []) start).board.tck ≡ true
   pub answers_ok : ending_for (turns ir_scan) (codes "10") ≡ Some Pass
   pub answers_zero : ending_for (turns ir_scan) (codes "00") ≡ Some (Fail 1 Data 0)
   pub answers_one : ending_for (turns ir_scan) (codes "11") ≡ Some (Fail 1 Data 1)

@@ -5,4 +5,4 @@ use Rattle.svf_parse.proofs.numbers.time.Goals as goal
 
 pub returns-then-number-gt42 : goal.returns-then-number-gt42
 returns-then-number-gt42 c =
-    long_time (number_value c.args.word.now) c.in-Ok.number.mantissa c.in-Ok.number.zeros c.in-Ok.ensures.value (omega (arith, c.if-number-eq0.false)) c.if-number-gt42.true
+    long_time (number_value c.args.word.now) c.in_ok-number.number.mantissa c.in_ok-number.number.zeros c.in_ok-number.ensures.value (omega (arith, c.if-number-eq0.false)) c.if-number-gt42.true
