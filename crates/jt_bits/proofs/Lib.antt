@@ -1,3 +1,6 @@
 pub mod HexLaws
 pub mod LengthLaws
-mod Rotating
+pub mod Pieces
+pub mod Rings
+pub mod Lists
+pub mod Runs

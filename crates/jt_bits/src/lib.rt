@@ -1,29 +1,56 @@
 //! Lists of bits: the registers and vectors of a scan chain.
 #![tactic(auto)]
 
-ghost use Rattle.std.specs.Prelude.{◌≡◌, ◌<◌, ℕ, true, false, length, replicate, slice_get, slice_set, IfOk};
+ghost use Rattle.std.specs.Prelude.{◌≡◌, ◌+◌, ◌*◌, ◌%◌, ◌<◌, ◌≤◌, ℕ, true, false, length, replicate, slice_get, slice_set, IfOk};
 ghost use Rattle.jt_bits.specs.Lengths.{resized};
+ghost use Rattle.jt_bits.specs.Packed.{has_bit, packed_bit, listed, FewWords};
+ghost use Rattle.jt_bits.specs.Runs.{RunSet, copied};
 ghost use Rattle.jt_bits.specs.Shifting.{shifted};
+ghost use Rattle.jt_bits.specs.Words.{bit_of, word_of, is_bad_at, IsFirst};
 
-pub use hex::{HexFault, has_one_beyond};
+pub use digits::{HexFault, has_one_beyond};
 use std::alloc::{AllocError, Global};
 use std::marker::Model;
 
-mod hex;
+mod digits;
+mod words;
 
 /// A list of bits of a fixed length. Contracts see it as that list. Bit 0 is the one nearest TDO: of a register the
 /// first to leave it in a shift, of a vector the first to be shifted in.
+///
+/// The bits stand in words of 64, of which there are as few as hold them, and bit 0 at a place that moves: a shift
+/// changes one bit and the place.
 #[derive(Debug, Drop)]
 pub struct Bits {
-    bits: Vec<bool>,
+    words: Vec<u64>,
+    start: usize,
+    len: usize,
 }
 
 impl Model for Bits {
-    ghost use Rattle.std.specs.Prelude.{Bool, List};
+    ghost use Rattle.std.specs.Prelude.{◌+◌, ◌*◌, ◌^◌, ◌<◌, ◌≤◌, Bool, List, length};
+    ghost use Rattle.jt_bits.specs.Packed.{listed};
 
     ghost Value = { List Bool };
 
-    ghost view = { λ b. b.bits.items };
+    ghost view = { λ b. listed b.words.items b.start b.len };
+
+    ghost invariant = { λ b. record {
+      enough : b.len ≤ 64 * length b.words.items;
+      no_more : 64 * length b.words.items < b.len + 64;
+      start : 0 < b.len → b.start < 64 * length b.words.items;
+      fits : 64 * length b.words.items ≤ 2 ^ 64;
+    } };
+}
+
+/// How a list of bits is packed: bit `i` of the list is bit `(start + i) % room` of the words, where room is 64 times
+/// their count, and the lowest bit of the first word is bit 0.
+#[derive(Debug, Clone, Copy)]
+pub struct Layout<'a> {
+    /// As few words as hold the list. Their bits outside the list do not count.
+    pub words: &'a [u64],
+    /// The place of the list's bit 0 among the bits of the words.
+    pub start: usize,
 }
 
 impl Bits {
@@ -32,7 +59,9 @@ impl Bits {
         ensures { IfOk result (λ b. b ≡ replicate len false) }
     {
         Ok(Bits {
-            bits: Vec::from_elem(alloc, false, len)?,
+            words: Vec::from_elem(alloc, 0, words::words_for(len))?,
+            start: 0,
+            len,
         })
     }
 
@@ -41,7 +70,9 @@ impl Bits {
         ensures { IfOk result (λ b. b ≡ replicate len true) }
     {
         Ok(Bits {
-            bits: Vec::from_elem(alloc, true, len)?,
+            words: Vec::from_elem(alloc, u64::MAX, words::words_for(len))?,
+            start: 0,
+            len,
         })
     }
 
@@ -50,7 +81,9 @@ impl Bits {
         ensures { IfOk result (λ b. b ≡ self.now) }
     {
         Ok(Bits {
-            bits: self.bits.to_vec(alloc)?,
+            words: self.words.to_vec(alloc)?,
+            start: self.start,
+            len: self.len,
         })
     }
 
@@ -58,17 +91,23 @@ impl Bits {
     pub fn resized(&self, alloc: Global, len: usize) -> Result<Bits, AllocError>
         ensures { IfOk result (λ b. b ≡ resized len self.now) }
     {
-        let mut bits = Vec::with_capacity(alloc, len)?;
-        bits.extend_from_slice(&self.bits[..self.bits.len().min(len)])?;
-        bits.resize(len, false)?;
-        Ok(Bits { bits })
+        let count = words::words_for(len);
+        let mut words = Vec::with_capacity(alloc, count)?;
+        for k in 0..count {
+            words.push(self.word(k))?;
+        }
+        Ok(Bits {
+            words,
+            start: 0,
+            len,
+        })
     }
 
     /// How many bits there are.
     pub fn len(&self) -> usize
         ensures { result ≡ length self.now }
     {
-        self.bits.len()
+        self.len
     }
 
     /// Bit `i`.
@@ -76,7 +115,8 @@ impl Bits {
         requires { i < length self.now }
         ensures { slice_get self.now i ≡ Some result }
     {
-        self.bits[i]
+        let place = words::place(self.words.len(), self.start, i);
+        words::read(&self.words, place)
     }
 
     /// Makes bit `i` this bit and keeps all others.
@@ -84,7 +124,8 @@ impl Bits {
         requires { i < length self.old }
         ensures { self.new ≡ slice_set self.old i bit }
     {
-        self.bits[i] = bit;
+        let place = words::place(self.words.len(), self.start, i);
+        words::put(&mut self.words, place, bit);
     }
 
     /// Moves every bit one place towards TDO, puts `bit` at the far end, and answers the bit that left: bit 0
@@ -94,11 +135,45 @@ impl Bits {
         ensures out { slice_get self.old 0 ≡ Some result }
         ensures bits { self.new ≡ shifted self.old bit }
     {
-        let out = self.bits[0];
-        let last = self.bits.len() - 1;
-        self.bits.rotate_left(1);
-        self.bits[last] = bit;
-        out
+        words::shift(&mut self.words, &mut self.start, self.len, bit)
+    }
+
+    /// Makes `n` bits from `at` on those of another list from `from_at` on, 64 at a time.
+    pub fn copy_bits(&mut self, at: usize, from: &Bits, from_at: usize, n: usize)
+        requires to { at + n ≤ length self.old }
+        requires from { from_at + n ≤ length from.now }
+        ensures { self.new ≡ copied self.old at from.now from_at n }
+    {
+        // Both lengths fit their type, and so do the sums below.
+        let _ = (self.len(), from.len());
+        let mut done = 0;
+        while done < n {
+            let count = (n - done).min(64);
+            let bits = from.run(from_at + done);
+            self.put_run(at + done, bits, count);
+            done += count;
+        }
+    }
+
+    /// The bits from `at` on as a number, as many as 64 of them, bit `at` lowest. What stands above the last of the list
+    /// has no meaning.
+    fn run(&self, at: usize) -> u64
+        requires { at < length self.now }
+        ensures { (j : ℕ) → j < 64 → at + j < length self.now → has_bit result j ≡ bit_of self.now (at + j) }
+    {
+        let place = words::place(self.words.len(), self.start, at);
+        words::window(&self.words, place)
+    }
+
+    /// Makes the `n` bits from `at` on those of `bits`, its lowest first.
+    fn put_run(&mut self, at: usize, bits: u64, n: usize)
+        requires some { 0 < n }
+        requires few { n ≤ 64 }
+        requires inside { at + n ≤ length self.old }
+        ensures { RunSet self.old self.new at bits n }
+    {
+        let place = words::place(self.words.len(), self.start, at);
+        words::put_run(&mut self.words, place, bits, n);
     }
 
     /// Takes all bits of another list of the same length, as a parallel load does.
@@ -106,56 +181,63 @@ impl Bits {
         requires { length self.old ≡ length other.now }
         ensures { self.new ≡ other.now }
     {
-        self.bits.copy_from_slice(&other.bits);
+        self.words.copy_from_slice(&other.words);
+        self.start = other.start;
     }
+
+    /// The bits `64 * k` to `64 * k + 63` as a number, bit `64 * k` lowest; missing ones are 0.
+    pub fn word(&self, k: usize) -> u64
+        ensures { result ≡ word_of self.now k }
+    {
+        if k >= self.words.len() {
+            return 0;
+        }
+        let place = words::place(self.words.len(), self.start, 64 * k);
+        words::lowest_bits(words::window(&self.words, place), self.len - 64 * k)
+    }
+
+    /// The words that the bits stand in, and where bit 0 stands in them.
+    pub fn layout(&self) -> Layout<'_>
+        ensures bits { self.now ≡ listed result.words.now result.start (length self.now) }
+        ensures few { FewWords result.words.now (length self.now) }
+        ensures start { 0 < length self.now → result.start < 64 * length result.words.now }
+    {
+        Layout {
+            words: &self.words,
+            start: self.start,
+        }
+    }
+
+    /// The words of the layout.
+    pub fn packed(&self) -> &[u64]
+        ensures bits { (start : ℕ) × (self.now ≡ listed result.now start (length self.now)) }
+        ensures few { FewWords result.now (length self.now) }
+    {
+        self.layout().words
+    }
+
+    /// The place of bit 0 in the words of the layout, which says how the two belong together.
+    pub fn start(&self) -> usize
+        ensures { 0 < length self.now → result < length self.now + 64 }
+    {
+        self.layout().start
+    }
+}
+
+/// The first place where two lists differ and the mask is 1.
+pub fn first_bad(got: &Bits, want: &Bits, mask: &Bits) -> Option<usize>
+    requires want { length got.now ≡ length want.now }
+    requires mask { length got.now ≡ length mask.now }
+    ensures { IsFirst (is_bad_at got.now want.now mask.now) (length got.now) result }
+{
+    for k in 0..got.words.len() {
+        let bad = (got.word(k) ^ want.word(k)) & mask.word(k);
+        if bad != 0 {
+            return Some(64 * k + bad.trailing_zeros() as usize);
+        }
+    }
+    None
 }
 
 #[cfg(test)]
-mod tests {
-    use super::*;
-    use std::process::Abort;
-    use std::test::Fail;
-
-    fn read(rt: &impl Abort, bits: &Bits, i: usize) -> bool {
-        assert!(rt; i < bits.len());
-        bits.get(i)
-    }
-
-    fn shift(rt: &impl Abort, bits: &mut Bits, bit: bool) -> bool {
-        assert!(rt; bits.len() > 0);
-        bits.shift_in(bit)
-    }
-
-    #[test]
-    fn each_call_once(rt: HostRuntime) -> Result<(), Fail> {
-        let mut bits = Bits::zeros(rt.alloc(), 3)?;
-        assert!(rt; bits.len() == 3);
-        bits.set(1, true);
-        let mut copy = bits.try_clone(rt.alloc())?;
-        let out = [
-            shift(&rt, &mut copy, true),
-            shift(&rt, &mut copy, true),
-            shift(&rt, &mut copy, true),
-        ];
-        assert_eq!(rt; out, [false, true, false]);
-        let ones = Bits::ones(rt.alloc(), 3)?;
-        assert!(rt; read(&rt, &copy, 0) && read(&rt, &copy, 2) && read(&rt, &ones, 1));
-        assert!(rt; copy.len() == bits.len());
-        copy.copy_from(&bits);
-        assert!(rt; !read(&rt, &copy, 0) && read(&rt, &copy, 1) && !read(&rt, &copy, 2));
-        assert_eq!(rt; Bits::zeros(rt.alloc(), 0)?.len(), 0);
-        Ok(())
-    }
-
-    #[test]
-    fn resized_both_ways(rt: HostRuntime) -> Result<(), Fail> {
-        let ones = Bits::ones(rt.alloc(), 3)?;
-        let longer = ones.resized(rt.alloc(), 6)?;
-        assert_eq!(rt; longer.len(), 6);
-        assert_eq!(rt; (longer.hex_digit(1), longer.hex_digit(0)), (b'0', b'7'));
-        let shorter = ones.resized(rt.alloc(), 2)?;
-        assert_eq!(rt; (shorter.len(), shorter.hex_digit(0)), (2, b'3'));
-        assert_eq!(rt; ones.resized(rt.alloc(), 0)?.len(), 0);
-        Ok(())
-    }
-}
+mod tests;

@@ -1,0 +1,65 @@
+//! Measures calls of the crates below, for `./bench`, which measures the same work in C beside them.
+#![tactic(auto)]
+
+mod bits;
+
+use std::alloc::AllocError;
+use std::process::ExitCode;
+use std::time::Instant;
+use std::{env, io};
+
+/// How often each row is measured; the least time counts.
+const ROUNDS: u8 = 7;
+
+/// What one measured call did.
+#[derive(Drop, Clone, Copy)]
+pub struct Row {
+    /// How many bits a round moved.
+    bits: usize,
+    /// A number of what came out, which C's row must have too.
+    check: u64,
+}
+
+fn main(rt: HostRuntime) -> ExitCode {
+    let asked = match env::args(&rt) {
+        Ok(words) => words.count() > 1,
+        Err(_) => return ExitCode::FAILURE,
+    };
+    let told = if asked {
+        measure(&rt)
+    } else {
+        rt.println("usage: bench run")
+    };
+    if told.is_ok() {
+        ExitCode::SUCCESS
+    } else {
+        ExitCode::FAILURE
+    }
+}
+
+/// Measures each row and prints it.
+fn measure(rt: &HostRuntime) -> io::Result<()> {
+    bits::rows(rt)
+}
+
+/// Prints a row's name, which C's row has too, its least time of a round in nanoseconds, its bits and its check.
+pub fn print_row<F: FnMut() -> Result<Row, AllocError>>(
+    rt: &HostRuntime,
+    name: &str,
+    mut round: F,
+) -> io::Result<()>
+    requires { (f : _) → F.pre f }
+{
+    let mut least = u64::MAX;
+    let mut bits = 0;
+    let mut check = 0;
+    for _ in 0..ROUNDS {
+        let start = Instant::now(rt)?;
+        let row = round()?;
+        let time = u64::try_from(start.elapsed(rt)?.as_nanos()).unwrap_or(u64::MAX);
+        least = least.min(time);
+        bits = row.bits;
+        check = row.check;
+    }
+    rt.println(format_args!("{name} {least} {bits} {check}"))
+}

@@ -1,0 +1,12 @@
+use Rattle.std.proofs.Common.{◌≡◌, ◌*◌, None, drop, map, position}
+use Rattle.std.specs.List.{range_with_len}
+use Rattle.jt_bits.specs.Hex.{is_bad, binary}
+use Rattle.jt_bits.specs.Words.{word_of}
+use Rattle.jt_bits.proofs.digits.lowest.Given as goal
+
+abbrev pub invariant-loop-k : goal.invariant-loop-k
+invariant-loop-k l = record {
+  words : l.words.items ≡ map (word_of (binary l.digits)) (range_with_len 0 l._k);
+  rest : binary l.rest ≡ drop (64 * l._k) (binary l.digits);
+  clean : position is_bad l.rest ≡ None;
+}

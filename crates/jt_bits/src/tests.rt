@@ -1,0 +1,200 @@
+//! Each call beside a plain list of bits.
+use super::*;
+use std::process::Abort;
+use std::test::Fail;
+
+/// A list of bits in both forms.
+#[derive(Drop)]
+struct Both {
+    bits: Bits,
+    list: Vec<bool>,
+}
+
+impl Both {
+    /// `n` bits that follow no round of 64, put one by one.
+    fn mixed(rt: &impl Abort, alloc: Global, n: usize) -> Result<Both, AllocError> {
+        let mut bits = Bits::zeros(alloc, n)?;
+        let mut list = Vec::with_capacity(alloc, n)?;
+        for i in 0..n {
+            let bit = i % 3 == 0 || i % 7 == 2;
+            assert!(rt; i < bits.len());
+            bits.set(i, bit);
+            list.push(bit)?;
+        }
+        Ok(Both { bits, list })
+    }
+
+    /// Shifts both by some places, so that bit 0 stands elsewhere.
+    fn shift(&mut self, rt: &impl Abort, times: usize) {
+        for i in 0..times {
+            let bit = i % 5 < 2;
+            let Some(first) = self.list.first().copied() else {
+                return;
+            };
+            assert!(rt; self.bits.len() > 0);
+            assert_eq!(rt; self.bits.shift_in(bit), first);
+            self.list.rotate_left(1);
+            if let Some(last) = self.list.last_mut() {
+                *last = bit;
+            }
+        }
+    }
+
+    fn assert_same(&self, rt: &impl Abort) {
+        assert_list(rt, &self.bits, &self.list);
+    }
+}
+
+fn assert_list(rt: &impl Abort, bits: &Bits, list: &[bool]) {
+    assert_eq!(rt; bits.len(), list.len());
+    let layout = bits.layout();
+    assert!(rt; bits.packed() == layout.words && bits.start() == layout.start);
+    assert_eq!(rt; layout.words.len(), list.len().div_ceil(64));
+    let room = layout.words.len().wrapping_mul(64);
+    for (i, wanted) in list.iter().enumerate() {
+        assert!(rt; i < bits.len() && room > 0);
+        assert_eq!(rt; bits.get(i), *wanted);
+        let place = layout.start.wrapping_add(i) % room;
+        let word = layout.words.get(place / 64).copied().unwrap_or(0);
+        assert_eq!(rt; word >> (place % 64) & 1 == 1, *wanted);
+    }
+    for (k, part) in list.chunks(64).enumerate() {
+        let mut wanted = 0;
+        for bit in part.iter().rev() {
+            wanted = wanted << 1 | u64::from(*bit);
+        }
+        assert_eq!(rt; bits.word(k), wanted);
+    }
+    assert_eq!(rt; bits.word(list.len().div_ceil(64)), 0);
+    assert_eq!(rt; bits.word(usize::MAX), 0);
+}
+
+const LENGTHS: [usize; 7] = [0, 1, 63, 64, 65, 128, 65536];
+
+#[test]
+fn zeros_shifted_to_ones(rt: HostRuntime) -> Result<(), Fail> {
+    let mut bits = Bits::zeros(rt.alloc(), 65)?;
+    for _ in 0..65 {
+        assert!(rt; bits.len() > 0);
+        assert!(rt; !bits.shift_in(true));
+    }
+    assert_list(&rt, &bits, &[true; 65]);
+    assert_eq!(rt; bits.word(0), u64::MAX);
+    assert_eq!(rt; bits.word(1), 1);
+    assert_eq!(rt; bits.hex_digit(16), b'1');
+    Ok(())
+}
+
+#[test]
+fn read_and_shifted(rt: HostRuntime) -> Result<(), Fail> {
+    for n in LENGTHS {
+        let mut both = Both::mixed(&rt, rt.alloc(), n)?;
+        both.assert_same(&rt);
+        both.shift(&rt, 70);
+        both.assert_same(&rt);
+        let mut copy = both.bits.try_clone(rt.alloc())?;
+        assert_list(&rt, &copy, &both.list);
+        both.shift(&rt, 67);
+        assert!(rt; copy.len() == both.bits.len());
+        copy.copy_from(&both.bits);
+        assert_list(&rt, &copy, &both.list);
+        let ones = Vec::from_elem(rt.alloc(), true, n)?;
+        assert_list(&rt, &Bits::ones(rt.alloc(), n)?, &ones);
+    }
+    Ok(())
+}
+
+#[test]
+fn resized(rt: HostRuntime) -> Result<(), Fail> {
+    for n in LENGTHS {
+        let mut both = Both::mixed(&rt, rt.alloc(), n)?;
+        both.shift(&rt, 70);
+        for len in [0, n / 2, n, n + 100] {
+            let other = both.bits.resized(rt.alloc(), len)?;
+            let mut list = both.list.to_vec(rt.alloc())?;
+            list.resize(len, false)?;
+            assert_list(&rt, &other, &list);
+        }
+    }
+    Ok(())
+}
+
+#[test]
+fn runs_are_copied(rt: HostRuntime) -> Result<(), Fail> {
+    for n in LENGTHS {
+        let mut from = Both::mixed(&rt, rt.alloc(), n)?;
+        from.shift(&rt, 70);
+        for (at, from_at, count) in [
+            (n / 4, n / 3, n / 2),
+            (0, 0, n),
+            (n, 0, 0),
+            (n / 2, 0, n / 3),
+        ] {
+            let mut to = Both::mixed(&rt, rt.alloc(), n)?;
+            to.shift(&rt, 3);
+            assert!(rt; at <= to.bits.len() && count <= to.bits.len() - at);
+            assert!(rt; from_at <= from.bits.len() && count <= from.bits.len() - from_at);
+            to.bits.copy_bits(at, &from.bits, from_at, count);
+            for (bit, copied) in to
+                .list
+                .iter_mut()
+                .skip(at)
+                .zip(from.list.iter().skip(from_at).take(count))
+            {
+                *bit = *copied;
+            }
+            to.assert_same(&rt);
+        }
+    }
+    Ok(())
+}
+
+#[test]
+fn the_first_bad_bit(rt: HostRuntime) -> Result<(), Fail> {
+    for n in LENGTHS {
+        let mut got = Both::mixed(&rt, rt.alloc(), n)?;
+        got.shift(&rt, 70);
+        let mut want = got.bits.resized(rt.alloc(), n)?;
+        let mut mask = Bits::ones(rt.alloc(), n)?;
+        assert!(rt; got.bits.len() == want.len() && got.bits.len() == mask.len());
+        assert_eq!(rt; first_bad(&got.bits, &want, &mask), None);
+        let (early, late) = (n / 2, n.saturating_sub(1));
+        for i in [late, early] {
+            if i < want.len() {
+                let bit = got.bits.len() > i && got.bits.get(i);
+                want.set(i, !bit);
+                assert!(rt; got.bits.len() == want.len() && got.bits.len() == mask.len());
+                assert_eq!(rt; first_bad(&got.bits, &want, &mask), Some(i));
+            }
+        }
+        if early < mask.len() {
+            mask.set(early, false);
+            assert!(rt; got.bits.len() == want.len() && got.bits.len() == mask.len());
+            assert_eq!(rt;
+                first_bad(&got.bits, &want, &mask),
+                if early < late { Some(late) } else { None }
+            );
+        }
+    }
+    Ok(())
+}
+
+#[test]
+fn digits_there_and_back(rt: HostRuntime) -> Result<(), Fail> {
+    for n in LENGTHS {
+        let mut both = Both::mixed(&rt, rt.alloc(), n)?;
+        both.shift(&rt, 70);
+        let mut text = Vec::new(rt.alloc());
+        for k in (0..n.div_ceil(4)).rev() {
+            text.push(both.bits.hex_digit(k))?;
+            if k % 5 == 0 {
+                text.push(b' ')?;
+            }
+        }
+        let Ok(back) = Bits::from_hex(rt.alloc(), &text, n) else {
+            return Err(Fail::from("no value"));
+        };
+        assert_list(&rt, &back, &both.list);
+    }
+    Ok(())
+}
