@@ -9,7 +9,7 @@ use Rattle.jt_bits.specs.Hex.{is_white, is_bad, bits_of, binary, has_one_beyond,
 use Rattle.jt_bits.specs.Lengths.{resized}
 use Rattle.jt_bits.proofs.LengthLaws.{resized-take}
 use Rattle.svf_parse.specs.declared.fault.Code.TheVariants as code
-use Rattle.jt_bits.specs.declared.hex.HexFault.TheVariants.{TooWide}
+use Rattle.jt_bits.specs.declared.digits.HexFault.TheVariants.{TooWide}
 use Rattle.svf_parse.specs.Sizes.{ValuesAreWritten}
 use Rattle.svf_parse.specs.Judging.{bits, written, field_fault}
 use Rattle.svf_parse.proofs.Digits.{and_true}

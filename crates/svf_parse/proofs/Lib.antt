@@ -14,3 +14,4 @@ pub mod SizeLaws
 pub mod StateLists
 pub mod StatementLaws
 pub mod TextLaws
+pub mod MeasureLaws

@@ -11,3 +11,4 @@ pub mod Sizes
 pub mod Spelling
 pub mod View
 pub mod Words
+pub mod Measures

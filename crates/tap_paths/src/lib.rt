@@ -1,14 +1,16 @@
 //! The default paths of the Serial Vector Format through the TAP controller.
 #![tactic(auto)]
 
-ghost use Rattle.std.specs.Prelude.{◌≡◌, ◌+◌, ◌<◌, ◌≤◌, ◌++◌, true, length};
+ghost use Rattle.std.specs.Prelude.{◌≡◌, ◌↔◌, ◌+◌, ◌<◌, ◌≤◌, ◌++◌, Bool, true, length, IsOk, IfErr, IfSome, IsSome};
 ghost use Rattle.arrayvec.specs.ArrayVec.{array_vec_len};
 ghost use Rattle.jt_tap.specs.Controller.{is_stable};
 ghost use Rattle.tap_paths.specs.Paths as spec;
 ghost use Rattle.tap_paths.specs.Paths.{DefaultPathsLead, Leads};
+ghost use Rattle.tap_paths.specs.Stated as stated;
+ghost use Rattle.jt_tap.specs.Controller.{Arrow};
 
 use arrayvec::ArrayVec;
-use jt_tap::State;
+use jt_tap::{Column, State};
 
 /// The default path between two stable states: the states that are entered, in order, the last of them `to`
 /// (Serial Vector Format, revision E, the STATE command).
@@ -38,6 +40,59 @@ fn default_path(from: State, to: State) -> ArrayVec<State, 8>
         }
     }
     path
+}
+
+/// The default path from a stable state to the Shift state of a column.
+pub fn to_shift(from: State, column: Column) -> ArrayVec<State, 8>
+    requires { is_stable from ≡ true }
+    ensures { result.items ≡ spec.to_shift from column }
+{
+    let mut path = ArrayVec::new();
+    append(&mut path, towards_idle(from));
+    append(&mut path, shift_from_idle(column));
+    path
+}
+
+/// The default path from the Exit1 state of a column to a stable state.
+pub fn from_exit1(column: Column, to: State) -> ArrayVec<State, 8>
+    requires { is_stable to ≡ true }
+    ensures { result.items ≡ spec.from_exit1 column to }
+{
+    let mut path = ArrayVec::new();
+    match (column, to) {
+        (Column::Dr, State::DrPause) => path.push(to),
+        (Column::Ir, State::IrPause) => path.push(to),
+        _ => {
+            path.push(update_state(column));
+            append(&mut path, from_idle(to));
+        }
+    }
+    path
+}
+
+fn update_state(column: Column) -> State
+    ensures { result ≡ spec.update_state column }
+{
+    match column {
+        Column::Dr => State::DrUpdate,
+        Column::Ir => State::IrUpdate,
+    }
+}
+
+/// The path from IDLE, or from an Update state, to the Shift state of a column.
+fn shift_from_idle(column: Column) -> &'static [State]
+    ensures path { result.now ≡ spec.shift_from_idle column }
+    ensures short { length result.now ≤ 4 }
+{
+    match column {
+        Column::Dr => &[State::DrSelect, State::DrCapture, State::DrShift],
+        Column::Ir => &[
+            State::DrSelect,
+            State::IrSelect,
+            State::IrCapture,
+            State::IrShift,
+        ],
+    }
 }
 
 /// The states on the way from a stable state to where a path goes on as from IDLE.
@@ -85,6 +140,47 @@ fn append(path: &mut ArrayVec<State, 8>, states: &[State])
     for state in states {
         path.push(*state);
     }
+}
+
+/// The TMS of the one rising edge that leads from a state to another, if one edge does.
+pub fn tms_of(from: State, to: State) -> Option<bool>
+    ensures found { IfSome result (λ tms. Arrow from tms to) }
+    ensures only { (tms : Bool) → Arrow from tms to → result ≡ Some tms }
+    ensures follows { IsSome result ↔ (stated.follows from to ≡ true) }
+{
+    let tms = to.entered_by();
+    if from.step(tms) == to {
+        Some(tms)
+    } else {
+        None
+    }
+}
+
+/// Whether each state of a path is one rising edge from the one before, the first from `from`; else the place of the
+/// first that is not.
+pub fn check(from: State, path: &[State]) -> Result<(), usize>
+    ensures walk { IsOk result ↔ stated.IsWalk from path.now }
+    ensures gap { IfErr result (λ place. stated.first_gap from path.now ≡ Some place) }
+    ensures none { IsOk result ↔ (stated.first_gap from path.now ≡ None) }
+{
+    match gap(from, path) {
+        Some(place) => Err(place),
+        None => Ok(()),
+    }
+}
+
+/// The first place of a path whose state is not one rising edge from the one before.
+fn gap(from: State, path: &[State]) -> Option<usize>
+    ensures { result ≡ stated.first_gap from path.now }
+{
+    let mut before = from;
+    for (place, state) in path.iter().enumerate() {
+        if tms_of(before, *state).is_none() {
+            return Some(place);
+        }
+        before = *state;
+    }
+    None
 }
 
 /// Every default path leads by arrows of the state diagram from its first state to its last.

@@ -1,0 +1,69 @@
+//! Whole vectors.
+
+ghost use Rattle.std.specs.Prelude.{◌+◌, ◌<◌, ◌^◌};
+
+use crate::part::{Part, Part3};
+
+/// The whole vector of a scan.
+#[derive(Debug, Clone, Copy)]
+pub struct Vector<'a> {
+    header: Part3<'a>,
+    body: Part3<'a>,
+    trailer: Part3<'a>,
+    ghost fits: { header.len + body.len + trailer.len < 2 ^ 64 },
+}
+
+impl<'a> Vector<'a> {
+    ghost use Rattle.std.specs.Prelude.{◌≡◌, ◌+◌, ◌<◌, ◌^◌, Bool, Option, Some, ℕ, length, slice_get, option_map};
+    ghost use Rattle.scan_vectors.specs.declared.part.Part as declared;
+    ghost use Rattle.scan_vectors.specs.Fields.{vector_of};
+    ghost use Rattle.scan_vectors.specs.Held.{bits, fields};
+
+    pub(crate) fn of(header: Part3<'a>, body: Part3<'a>, trailer: Part3<'a>) -> Vector<'a>
+        requires { header.len + body.len + trailer.len < 2 ^ 64 }
+        ensures { bits result ≡ vector_of (fields header.entry) (fields body.entry) (fields trailer.entry) }
+    {
+        Vector {
+            header,
+            body,
+            trailer,
+        }
+    }
+
+    /// How many bits there are.
+    pub fn len(&self) -> usize
+        ensures { result ≡ length (bits self.now) }
+    {
+        self.header.len + self.body.len + self.trailer.len
+    }
+
+    /// What is shifted in as bit `i`, and what is wanted out as bit `i`, if anything is.
+    pub fn bit(&self, i: usize) -> (bool, Option<bool>)
+        requires { i < length (bits self.now) }
+        ensures { option_map {U = Bool × Option Bool} (λ b. (b.tdi, b.wanted)) (slice_get (bits self.now) i)
+            ≡ Some result }
+    {
+        if i < self.header.len {
+            self.header.bit(i)
+        } else if i - self.header.len < self.body.len {
+            self.body.bit(i - self.header.len)
+        } else {
+            self.trailer.bit(i - self.header.len - self.body.len)
+        }
+    }
+
+    /// The part in which bit `i` stands, and its place there.
+    pub fn part(&self, i: usize) -> (Part, usize)
+        requires { i < length (bits self.now) }
+        ensures { option_map {U = declared.Part × ℕ} (λ b. (b.part, b.place)) (slice_get (bits self.now) i)
+            ≡ Some result }
+    {
+        if i < self.header.len {
+            (Part::Header, i)
+        } else if i - self.header.len < self.body.len {
+            (Part::Data, i - self.header.len)
+        } else {
+            (Part::Trailer, i - self.header.len - self.body.len)
+        }
+    }
+}

@@ -1,0 +1,51 @@
+-- A reader of statements, between two of them.
+use Rattle.std.specs.Prelude.{◌≡◌, ◌≢◌, ℕ, List, [], ◌∷◌, map, option_map, reverse, take, Option, Some, None, Result, Ok, Err}
+use Rattle.std.specs.Global.{Vec}
+use Rattle.svf_parse.specs.declared.fault.Code.{Code}
+use Rattle.svf_parse.specs.declared.fault.SvfFault.{SvfFault}
+use Rattle.svf_parse.specs.Judging.{Said}
+use Rattle.svf_parse.specs.View.{memory_fault}
+use Rattle.svf_settings.specs.declared.kept.Kept.{Kept}
+use Rattle.svf_settings.specs.declared.kept.KeptStep.{KeptStep}
+use Rattle.svf_settings.specs.declared.reading.Reader.{Reader}
+use Rattle.svf_settings.specs.Steps.{Program}
+use Rattle.svf_settings.specs.Sizes.{Holding, program_of}
+use Rattle.svf_settings.specs.LookBack.{settings, place, step}
+use Rattle.svf_settings.specs.Refusals.{refusal}
+use Rattle.svf_settings.specs.Programs.{steps, first_refusal}
+use Rattle.svf_settings.specs.Held.{settings_in, numbered_in, step_in}
+
+-- the first statements, the nearest first
+abbrev pub before : ℕ → List Said → List Said
+before k all = reverse (take k all)
+
+-- a reader has the settings and the place behind these statements
+pub record IsBehind (all past : List Said) (r : Reader) : Type 0 where
+  pub settings : settings_in all r.running ≡ settings past
+  pub place : r.place ≡ place past
+
+-- it has taken a statement: it is behind it, with its step
+pub record IsTaken (all past : List Said) (s : Said) (r : Reader) (made : Option Kept) : Type 0 where
+  pub fine : refusal past s ≡ None
+  pub behind : settings_in all r.running ≡ settings (s ∷ past)
+  pub place : r.place ≡ place (s ∷ past)
+  pub step : option_map (step_in all) made ≡ step (settings past) s
+
+abbrev pub Takes : List Said → List Said → Said → Result (Reader × Option Kept) Code → Type 0
+Takes all past s (Ok p) = IsTaken all past s p.0 p.1
+Takes all past s (Err code) = refusal past s ≡ Some code
+
+-- the step of a statement with this number, if it made one
+abbrev pub kept_as : ℕ → Option Kept → List KeptStep
+kept_as n None = []
+kept_as n (Some what) = record { number = n; what = what } ∷ []
+
+-- the steps of all statements, or the first refusal, unless memory ran out
+abbrev pub Keeps : List Said → Result (Vec KeptStep) SvfFault → Type 0
+Keeps all (Ok v) = (first_refusal (reverse all) ≡ None) × (map (numbered_in all) v.items ≡ steps (reverse all))
+Keeps all (Err fault) = fault ≢ memory_fault → first_refusal (reverse all) ≡ Some fault
+
+-- what was answered is this, unless memory ran out
+abbrev pub Answers : Result Holding SvfFault → Result Program SvfFault → Type 0
+Answers (Ok p) says = says ≡ Ok (program_of p)
+Answers (Err fault) says = fault ≢ memory_fault → says ≡ Err fault

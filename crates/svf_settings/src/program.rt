@@ -1,0 +1,167 @@
+//! A program that was accepted.
+
+ghost use Rattle.std.specs.Prelude.{◌≡◌, ◌<◌, ◌+◌, ◌^◌, length, map, slice_get, Some};
+ghost use Rattle.svf_parse.specs.View.{said};
+ghost use Rattle.svf_settings.specs.Held as held;
+ghost use Rattle.svf_settings.specs.Seen as seen;
+ghost use Rattle.svf_settings.specs.Laws.{IsWithin};
+
+use crate::kept::{Kept, KeptStep, part_or_none, path_at};
+use crate::step::{Action, Step};
+use std::marker::Model;
+use svf_parse::Statement;
+
+/// A program that was accepted: the statements as they are written, and steps that name the fields in them. So it takes
+/// memory in proportion to its text, however long its vectors are.
+#[derive(Debug, Drop)]
+pub struct Program {
+    statements: Vec<Statement>,
+    steps: Vec<KeptStep>,
+}
+
+impl Model for Program {
+    ghost use Rattle.std.specs.Prelude.{map, length};
+    ghost use Rattle.std.specs.List.{sum_by};
+    ghost use Rattle.svf_settings.specs.Sizes.{Holding, content};
+
+    ghost Value = { Holding };
+
+    ghost use Rattle.svf_parse.specs.View.{said};
+    ghost use Rattle.svf_settings.specs.Held.{numbered_in};
+    ghost use Rattle.svf_settings.specs.Laws.{IsSound};
+
+    ghost view = { λ p. record {
+      statements = length p.statements.items;
+      steps = map (numbered_in (map said p.statements.items)) p.steps.items;
+      held = sum_by content (map said p.statements.items);
+    } };
+
+    ghost invariant = { λ p. IsSound (map (numbered_in (map said p.statements.items)) p.steps.items) };
+}
+
+impl Program {
+    ghost use Rattle.std.specs.Prelude.{◌≡◌, ◌<◌, length, map, slice_get, Some};
+    ghost use Rattle.svf_parse.specs.View.{said};
+    ghost use Rattle.svf_settings.specs.Held.{numbered_in};
+    ghost use Rattle.svf_settings.specs.Laws.{IsSound};
+    ghost use Rattle.svf_settings.specs.Seen.{numbered};
+    ghost use Rattle.std.specs.List.{sum_by};
+    ghost use Rattle.svf_settings.specs.Sizes.{content};
+    ghost use Rattle.svf_settings.specs.Left.{left};
+
+    /// The program of these statements and steps.
+    pub(crate) fn of(statements: Vec<Statement>, steps: Vec<KeptStep>) -> Program
+        requires { IsSound (map (numbered_in (map said statements.items)) steps.items) }
+        ensures { result ≡ record {
+          statements = length statements.items;
+          steps = map (numbered_in (map said statements.items)) steps.items;
+          held = sum_by content (map said statements.items);
+        } }
+    {
+        Program { statements, steps }
+    }
+
+    /// How many statements the text has.
+    pub fn statements(&self) -> usize
+        ensures { result ≡ self.now.statements }
+    {
+        self.statements.len()
+    }
+
+    /// How many steps they make.
+    pub fn len(&self) -> usize
+        ensures count { result ≡ length self.now.steps }
+        ensures sound { IsSound self.now.steps }
+    {
+        self.steps.len()
+    }
+
+    /// The step with this place in the order of the steps, counted from 0. It takes no memory.
+    pub fn step(&self, at: usize) -> Step<'_>
+        requires { at < length self.now.steps }
+        ensures { slice_get self.now.steps at ≡ Some (numbered result) }
+    {
+        read(self.statements.as_slice(), &self.steps[at])
+    }
+
+    /// The steps in order.
+    pub fn steps(&self) -> Steps<'_>
+        ensures { left result ≡ self.now.steps }
+    {
+        Steps {
+            program: self,
+            at: 0,
+        }
+    }
+}
+
+/// The steps of a program that are left, in order.
+#[derive(Debug, Drop)]
+pub struct Steps<'a> {
+    program: &'a Program,
+    at: usize,
+}
+
+impl<'a> Iterator for Steps<'a> {
+    type Item = Step<'a>;
+
+    ghost use Rattle.std.specs.Iterator.{YieldsFirstBy, item_count};
+    ghost use Rattle.svf_settings.specs.Seen.{numbered};
+    ghost use Rattle.svf_settings.specs.Left.{left};
+
+    ghost next_gives = { YieldsFirstBy numbered left };
+
+    ghost remaining = { item_count left };
+
+    fn next(&mut self) -> Option<Step<'a>> {
+        if self.at >= self.program.len() {
+            return None;
+        }
+        let step = self.program.step(self.at);
+        self.at += 1;
+        Some(step)
+    }
+}
+
+/// The step that is kept so.
+fn read<'a>(statements: &'a [Statement], step: &KeptStep) -> Step<'a>
+    requires { IsWithin (held.step_in (map said statements.now) step.now.what) }
+    ensures { seen.numbered result ≡ held.numbered_in (map said statements.now) step.now }
+{
+    Step {
+        number: step.number as usize,
+        what: action(statements, &step.what),
+    }
+}
+
+/// What a step does that is kept so.
+fn action<'a>(statements: &'a [Statement], what: &Kept) -> Action<'a>
+    requires { IsWithin (held.step_in (map said statements.now) what.now) }
+    ensures { seen.step result ≡ held.step_in (map said statements.now) what.now }
+{
+    match what {
+        Kept::Scan {
+            column,
+            header,
+            body,
+            trailer,
+            end,
+        } => Action::Scan {
+            column: *column,
+            vector: scan_vectors::join(
+                part_or_none(*header, statements),
+                body.part(statements),
+                part_or_none(*trailer, statements),
+            ),
+            end: *end,
+        },
+        Kept::Go(state) => Action::Go(*state),
+        Kept::Path(at) => Action::Path(path_at(statements, *at)),
+        Kept::Run { run, cycles, end } => Action::Run {
+            run: *run,
+            cycles: *cycles,
+            end: *end,
+        },
+        Kept::Trst(word) => Action::Trst(*word),
+    }
+}

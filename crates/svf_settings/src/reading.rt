@@ -1,0 +1,133 @@
+//! Statements read from the first to the last, each with what those before it set.
+
+ghost use Rattle.std.specs.Prelude.{◌≡◌, ◌++◌, ◌+◌, ◌<◌, ◌^◌, List, [], Some, Option, IfOk, IfSome, map, length, slice_get};
+ghost use Rattle.svf_parse.specs.View.{memory_fault, said};
+ghost use Rattle.svf_parse.specs.Judging.{Said};
+ghost use Rattle.svf_settings.specs.Reading.{IsBehind, Keeps, Takes, kept_as};
+
+use crate::kept::{Kept, KeptStep};
+use crate::running::Running;
+use crate::stepping::place_after;
+use jt_tap::State;
+use std::alloc::{AllocError, Global};
+use svf_parse::{Code, Statement, SvfFault};
+
+/// The settings behind some statements, and where the program rests there.
+#[derive(Debug, Clone, Copy)]
+pub(crate) struct Reader {
+    pub(crate) running: Running,
+    pub(crate) place: State,
+}
+
+impl Reader {
+    /// Before the first statement.
+    fn first() -> Reader
+        ensures { (all : List Said) → IsBehind all [] result }
+    {
+        Reader {
+            running: Running::first(),
+            place: State::Reset,
+        }
+    }
+
+    /// Takes the next statement, which stands at this place: the reader behind it, and its step, or its refusal.
+    fn take(
+        &self,
+        statements: &[Statement],
+        index: u32,
+        statement: &Statement,
+    ) -> Result<(Reader, Option<Kept>), Code>
+        requires { slice_get (map said statements.now) index ≡ Some (said statement.now) }
+        ensures { (past : List Said) → IsBehind (map said statements.now) past self.now → length past ≡ index
+            → Takes (map said statements.now) past (said statement.now) result }
+    {
+        if let Some(code) = self.running.refusal(self.place, statements, statement) {
+            return Err(code);
+        }
+        let running = self.running.next(statements, index, statement);
+        match self.running.step(statements, index, statement) {
+            None => Ok((
+                Reader {
+                    running,
+                    place: self.place,
+                },
+                None,
+            )),
+            Some(what) => Ok((
+                Reader {
+                    running,
+                    place: place_after(self.place, statements, what),
+                },
+                Some(what),
+            )),
+        }
+    }
+}
+
+/// The steps of statements, or their first refusal.
+pub(crate) fn kept_steps(alloc: Global, statements: &[Statement]) -> Result<Vec<KeptStep>, SvfFault>
+    ensures { Keeps (map said statements.now) result }
+{
+    let mut steps = Vec::new(alloc);
+    let mut reader = Reader::first();
+    for (index, statement) in statements.iter().enumerate() {
+        let Some(place) = place_of(index) else {
+            return Err(memory());
+        };
+        match reader.take(statements, place, statement) {
+            Err(code) => {
+                return Err(fault_at(index, code));
+            }
+            Ok((behind, made)) => match push_made(&mut steps, place + 1, made) {
+                Err(_) => return Err(memory()),
+                Ok(()) => reader = behind,
+            },
+        }
+    }
+    Ok(steps)
+}
+
+/// The place of a statement, as a step names it: there is room for 2^32 - 1 statements.
+fn place_of(index: usize) -> Option<u32>
+    ensures { IfSome result (λ place. (place ≡ index) × (place + 1 < 2 ^ 32)) }
+{
+    if index < u32::MAX as usize {
+        Some(index as u32)
+    } else {
+        None
+    }
+}
+
+/// Appends the step of a statement, if it made one.
+fn push_made(steps: &mut Vec<KeptStep>, number: u32, made: Option<Kept>) -> Result<(), AllocError>
+    ensures { IfOk result (λ _. steps.new.items ≡ steps.old.items ++ kept_as number made) }
+{
+    match made {
+        None => Ok(()),
+        Some(what) => match steps.push(KeptStep { number, what }) {
+            Ok(()) => Ok(()),
+            Err(_) => Err(AllocError),
+        },
+    }
+}
+
+/// The refusal of the statement at a place.
+fn fault_at(index: usize, code: Code) -> SvfFault
+    requires { index + 1 < 2 ^ 64 }
+    ensures { result ≡ record { statement = index + 1; code = code } }
+{
+    SvfFault {
+        statement: index + 1,
+        code,
+    }
+}
+
+/// Want of memory.
+fn memory() -> SvfFault
+    ensures { result ≡ memory_fault }
+{
+    SvfFault {
+        statement: 0,
+        code: Code::NoMemory,
+    }
+}

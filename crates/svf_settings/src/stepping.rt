@@ -1,0 +1,251 @@
+//! What a statement makes and sets at the settings there.
+
+ghost use Rattle.std.specs.Prelude.{◌≡◌, ℕ, Bool, List, Option, Some, None, if◌then◌else◌, is_some, map, option_and_then, option_map, slice_get, unwrap_or};
+ghost use Rattle.svf_parse.specs.View.{said};
+ghost use Rattle.svf_parse.specs.Judging.{Said};
+ghost use Rattle.svf_parse.specs.Judging as says;
+ghost use Rattle.svf_settings.specs.Steps as steps;
+ghost use Rattle.svf_settings.specs.LookBack as look;
+ghost use Rattle.svf_settings.specs.Running as running;
+ghost use Rattle.svf_settings.specs.Held.{field_at, mask_of, part_in, parts_in, settings_in, step_in, tdi_of};
+
+use crate::kept::{Kept, KeptPart, len_at, path_at};
+use crate::refusing::last_of;
+use crate::running::Running;
+use jt_bits::Bits;
+use jt_tap::{Column, State};
+use svf_parse::{Statement, TrstWord, Which};
+
+impl Running {
+    /// The step that a statement makes, which stands at this place of the statements.
+    pub(crate) fn step(
+        &self,
+        statements: &[Statement],
+        index: u32,
+        statement: &Statement,
+    ) -> Option<Kept>
+        requires { slice_get (map said statements.now) index ≡ Some (said statement.now) }
+        ensures { let all = map said statements.now in
+            option_map (step_in all) result ≡ look.step (settings_in all self.now) (said statement.now) }
+    {
+        match statement {
+            Statement::Scan {
+                which,
+                len,
+                tdi,
+                mask,
+                ..
+            } => self.scan_step(
+                *which,
+                self.in_force(statements, index, *which, *len, tdi, mask),
+            ),
+            Statement::RunTest {
+                run,
+                count,
+                min_ps,
+                end,
+                ..
+            } => Some(Kept::Run {
+                run: self.runs_in(*run),
+                cycles: self.cycles(*count, *min_ps),
+                end: self.ends_in(*run, *end),
+            }),
+            Statement::States(states) => path_step(index, states.as_slice()),
+            Statement::Trst(word) => Some(Kept::Trst(*word)),
+            Statement::EndDr(_) => None,
+            Statement::EndIr(_) => None,
+            Statement::Frequency(_) => None,
+        }
+    }
+
+    /// The step of a scan, if it scans a register.
+    fn scan_step(&self, which: Which, body: KeptPart) -> Option<Kept>
+        ensures { (all : List Said) (n : ℕ) (tdi tdo mask smask : Option (List Bool))
+            → part_in all body ≡ look.in_force n tdi tdo mask (look.last_of_command which (settings_in all self.now))
+            → option_map (step_in all) result
+            ≡ look.step (settings_in all self.now) (says.scan which n tdi tdo mask smask) }
+    {
+        match which {
+            Which::Sdr => Some(Kept::Scan {
+                column: Column::Dr,
+                header: self.hdr,
+                body,
+                trailer: self.tdr,
+                end: self.dr_end,
+            }),
+            Which::Sir => Some(Kept::Scan {
+                column: Column::Ir,
+                header: self.hir,
+                body,
+                trailer: self.tir,
+                end: self.ir_end,
+            }),
+            Which::Hdr => None,
+            Which::Hir => None,
+            Which::Tdr => None,
+            Which::Tir => None,
+        }
+    }
+
+    /// The fields in force at a scan, which stands at this place of the statements.
+    fn in_force(
+        &self,
+        statements: &[Statement],
+        index: u32,
+        which: Which,
+        len: usize,
+        tdi: &Option<Bits>,
+        mask: &Option<Bits>,
+    ) -> KeptPart
+        ensures { let all = map said statements.now in (tdo smask : Option (List Bool))
+            → slice_get all index ≡ Some (says.scan which len tdi.now tdo mask.now smask)
+            → part_in all result
+            ≡ look.in_force len tdi.now tdo mask.now (look.last_of_command which (settings_in all self.now)) }
+    {
+        let previous = self.last(which);
+        KeptPart {
+            at: index,
+            tdi: written_or(index, tdi, tdi_before(statements, previous, len)),
+            mask: written_or(index, mask, mask_before(statements, previous, len)),
+        }
+    }
+
+    /// The settings behind a statement, which stands at this place of the statements.
+    pub(crate) fn next(
+        &self,
+        statements: &[Statement],
+        index: u32,
+        statement: &Statement,
+    ) -> Running
+        requires { slice_get (map said statements.now) index ≡ Some (said statement.now) }
+        ensures { let all = map said statements.now in
+            settings_in all result ≡ running.next (settings_in all self.now) (said statement.now) }
+    {
+        match statement {
+            Statement::EndDr(state) => Running {
+                dr_end: *state,
+                ..*self
+            },
+            Statement::EndIr(state) => Running {
+                ir_end: *state,
+                ..*self
+            },
+            Statement::Frequency(period) => Running {
+                period: period.unwrap_or(1_000_000),
+                ..*self
+            },
+            Statement::Scan {
+                which,
+                len,
+                tdi,
+                mask,
+                ..
+            } => self.with_scan(
+                *which,
+                self.in_force(statements, index, *which, *len, tdi, mask),
+            ),
+            Statement::RunTest { run, end, .. } => Running {
+                run_state: self.runs_in(*run),
+                run_end: self.ends_in(*run, *end),
+                ..*self
+            },
+            Statement::States(_) => *self,
+            Statement::Trst(word) => Running {
+                trst: Some(*word),
+                ..*self
+            },
+        }
+    }
+
+    /// The settings with another last part of a scan command.
+    fn with_scan(&self, which: Which, part: KeptPart) -> Running
+        ensures { (all : List Said)
+            → settings_in all result ≡ running.with_scan which (part_in all part) (settings_in all self.now) }
+    {
+        match which {
+            Which::Hdr => Running {
+                hdr: Some(part),
+                ..*self
+            },
+            Which::Hir => Running {
+                hir: Some(part),
+                ..*self
+            },
+            Which::Tdr => Running {
+                tdr: Some(part),
+                ..*self
+            },
+            Which::Tir => Running {
+                tir: Some(part),
+                ..*self
+            },
+            Which::Sdr => Running {
+                sdr: Some(part),
+                ..*self
+            },
+            Which::Sir => Running {
+                sir: Some(part),
+                ..*self
+            },
+        }
+    }
+}
+
+/// This place where the field is written there, and else the earlier one, if there is one.
+fn written_or(index: u32, field: &Option<Bits>, earlier: Option<u32>) -> u32
+    ensures { result ≡ (if is_some field.now then index else unwrap_or earlier index) }
+{
+    if field.is_some() {
+        index
+    } else {
+        earlier.unwrap_or(index)
+    }
+}
+
+/// Where the TDI stands that a scan of this length takes over.
+fn tdi_before(statements: &[Statement], previous: Option<KeptPart>, len: usize) -> Option<u32>
+    ensures { let all = map said statements.now in
+        option_and_then (field_at tdi_of all) result ≡ look.field_or (λ f. f.tdi) len None (parts_in all previous) }
+{
+    match previous {
+        Some(part) if len_at(statements, part.at) == len => Some(part.tdi),
+        _ => None,
+    }
+}
+
+/// Where the MASK stands that a scan of this length takes over.
+fn mask_before(statements: &[Statement], previous: Option<KeptPart>, len: usize) -> Option<u32>
+    ensures { let all = map said statements.now in
+        option_and_then (field_at mask_of all) result ≡ look.field_or (λ f. f.mask) len None (parts_in all previous) }
+{
+    match previous {
+        Some(part) if len_at(statements, part.at) == len => Some(part.mask),
+        _ => None,
+    }
+}
+
+/// The step of a STATE statement, which stands at this place of the statements.
+fn path_step(index: u32, path: &[State]) -> Option<Kept>
+    ensures { (all : List Said) → slice_get all index ≡ Some (says.states path.now)
+        → option_map (step_in all) result ≡ look.along path.now }
+{
+    match path {
+        [] => None,
+        [state] => Some(Kept::Go(*state)),
+        _ => Some(Kept::Path(index)),
+    }
+}
+
+/// Where the program rests behind a step.
+pub(crate) fn place_after(place: State, statements: &[Statement], step: Kept) -> State
+    ensures { result ≡ steps.place_after place (step_in (map said statements.now) step) }
+{
+    match step {
+        Kept::Scan { end, .. } => end,
+        Kept::Go(state) => state,
+        Kept::Path(at) => last_of(place, path_at(statements, at)),
+        Kept::Run { end, .. } => end,
+        Kept::Trst(TrstWord::On) => State::Reset,
+        Kept::Trst(_) => place,
+    }
+}
