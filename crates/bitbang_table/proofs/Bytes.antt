@@ -1,9 +1,9 @@
 -- Each message is spelt by its byte.
 use Rattle.std.proofs.Common.{◌≡◌, true, false, refl}
 use Rattle.std.specs.Prelude.{Some}
-use Rattle.bitbang.specs.declared.Message.{Message}
-use Rattle.bitbang.specs.declared.Message.TheVariants.{Write, Ask, Quit, Light, Lines}
-use Rattle.bitbang.specs.Protocol.{encode, decode}
+use Rattle.bitbang_table.specs.declared.Message.{Message}
+use Rattle.bitbang_table.specs.declared.Message.TheVariants.{Write, Ask, Quit, Light, Lines}
+use Rattle.bitbang_table.specs.Protocol.{encode, decode}
 
 pub decode-encode : (m : Message) → decode (encode m) ≡ Some m
 decode-encode (Write true true true) = refl

@@ -1,0 +1,210 @@
+//! The bytes of a step, one after another.
+
+ghost use Rattle.std.specs.Prelude.{◌≡◌, ◌==◌, ◌-◌, ◌^◌, false, length, min, not, option_to_list, map};
+ghost use Rattle.tck_cycles.specs.Sources.{left as cycles_left};
+ghost use Rattle.bitbang_table.specs.Protocol.{encode};
+ghost use Rattle.bitbang_table.specs.declared.Message.TheVariants.{Write};
+ghost use Rattle.bitbang.specs.StepMessages.{line_message};
+ghost use Rattle.svf_settings.specs.Seen as seen;
+
+use crate::begun::Begun;
+use bitbang_table::Message;
+use jt_tap::State;
+use svf_parse::TrstWord;
+use svf_settings::{Action, Step};
+use tck_cycles::Source;
+
+/// A place in the bytes of a step, which may lie within a cycle. It borrows nothing.
+#[derive(Debug, Clone, Copy, PartialEq, Eq)]
+pub struct Spot {
+    line: Option<u8>,
+    begun: Begun,
+    source: tck_cycles::Spot,
+    closes: bool,
+}
+
+/// The bytes of a step that are left, in order: what it says of the line TRST, the bytes of each cycle, and where it
+/// has cycles, a last `0`.
+#[derive(Debug, Drop)]
+pub struct StepBytes<'a> {
+    // the byte of the line TRST, if it is not out
+    line: Option<u8>,
+    // the cycle of which some bytes are out
+    begun: Begun,
+    // the cycles of which none are out
+    source: Source<'a>,
+    // whether the last `0` is to come
+    closes: bool,
+}
+
+impl<'a> StepBytes<'a> {
+    ghost use Rattle.std.specs.Prelude.{◌≡◌, ◌-◌, ◌^◌, true, length, min, slice_get};
+    ghost use Rattle.jt_tap.specs.Controller.{is_stable};
+    ghost use Rattle.svf_settings.specs.Legal.{IsFormed};
+    ghost use Rattle.svf_settings.specs.Laws.{IsWithin};
+    ghost use Rattle.svf_settings.specs.Seen as seen;
+    ghost use Rattle.tck_cycles.specs.Cycles.{cycles};
+    ghost use Rattle.bitbang.specs.StepMessages.{step_bytes};
+    ghost use Rattle.bitbang.specs.Left.{behind, left, whole};
+    ghost use Rattle.std.specs.Iterator.{YieldsFirst};
+
+    /// The bytes of a step from a resting place. Takes no memory.
+    pub fn of(place: State, step: &Step<'a>) -> StepBytes<'a>
+        requires rests { is_stable place ≡ true }
+        requires formed { IsFormed place (seen.step step.now.what) }
+        requires within { IsWithin (seen.step step.now.what) }
+        ensures bytes { left result ≡ step_bytes place (seen.step step.now.what) }
+        ensures whole { whole result ≡ cycles place (seen.step step.now.what) }
+    {
+        let source = Source::of(place, step);
+        let closes = has_cycles(&source);
+        StepBytes {
+            line: line_byte(&step.what),
+            begun: Begun::over(),
+            source,
+            closes,
+        }
+    }
+
+    /// The bytes of a step from a resting place that are behind a spot of theirs.
+    pub fn resume(place: State, step: &Step<'a>, spot: Spot) -> StepBytes<'a>
+        requires rests { is_stable place ≡ true }
+        requires formed { IsFormed place (seen.step step.now.what) }
+        requires within { IsWithin (seen.step step.now.what) }
+        ensures bytes { left result ≡ behind spot (cycles place (seen.step step.now.what)) }
+        ensures whole { whole result ≡ cycles place (seen.step step.now.what) }
+    {
+        StepBytes {
+            line: spot.line,
+            begun: spot.begun,
+            source: Source::resume(place, step, spot.source),
+            closes: spot.closes,
+        }
+    }
+
+    /// Where the next byte stands.
+    pub fn spot(&self) -> Spot
+        ensures { behind result (whole self.now) ≡ left self.now }
+    {
+        Spot {
+            line: self.line,
+            begun: self.begun,
+            source: self.source.spot(),
+            closes: self.closes,
+        }
+    }
+
+    /// How many bytes are left, or the largest number where they are more, which only a path of more than 2^62 states
+    /// has. The time is that of going over what is left of a scan.
+    pub fn left(&self) -> u64
+        ensures { result ≡ min (length (left self.now)) (2 ^ 64 - 1) }
+    {
+        let cycles = 2 * u128::from(self.source.left()) + u128::from(self.source.reads());
+        let others = u64::from(self.line.is_some()) + self.begun.left() + u64::from(self.closes);
+        fitted(cycles + u128::from(others))
+    }
+
+    /// The next byte, which is out then, as `next` gives it. It tells too that the bytes are still those of the same step.
+    pub fn next_byte(&mut self) -> Option<u8>
+        ensures gives { YieldsFirst left self.old result self.new }
+        ensures whole { whole self.new ≡ whole self.old }
+    {
+        if let Some(byte) = self.line {
+            self.line = None;
+            return Some(byte);
+        }
+        if let Some(byte) = self.begun.peek() {
+            self.begun.out += 1;
+            return Some(byte);
+        }
+        match self.source.next_cycle() {
+            Some(cycle) => {
+                self.begun = Begun { cycle, out: 1 };
+                Begun { cycle, out: 0 }.peek()
+            }
+            None if self.closes => {
+                self.closes = false;
+                Some(low())
+            }
+            None => None,
+        }
+    }
+
+    /// The next byte, which stays the next one.
+    pub fn peek(&self) -> Option<u8>
+        ensures { result ≡ slice_get (left self.now) 0 }
+    {
+        if let Some(byte) = self.line {
+            return Some(byte);
+        }
+        if let Some(byte) = self.begun.peek() {
+            return Some(byte);
+        }
+        match self.source.peek() {
+            Some(cycle) => Begun { cycle, out: 0 }.peek(),
+            None if self.closes => Some(low()),
+            None => None,
+        }
+    }
+}
+
+/// Whether any cycle is left.
+fn has_cycles(source: &Source) -> bool
+    ensures { result ≡ not (length (cycles_left source.now) == 0) }
+{
+    source.left() != 0
+}
+
+/// A count, or the largest number where it is more.
+fn fitted(count: u128) -> u64
+    ensures { result ≡ min count (2 ^ 64 - 1) }
+{
+    match u64::try_from(count) {
+        Ok(count) => count,
+        Err(_) => u64::MAX,
+    }
+}
+
+/// What a step says of the line TRST.
+fn line_byte(what: &Action) -> Option<u8>
+    ensures { option_to_list result ≡ map encode (line_message (seen.step what.now)) }
+{
+    match what {
+        Action::Trst(TrstWord::On) => Some(line(true)),
+        Action::Trst(TrstWord::Off | TrstWord::Z) => Some(line(false)),
+        _ => None,
+    }
+}
+
+/// The byte that asserts or releases TRST.
+fn line(trst: bool) -> u8
+    ensures { result ≡ encode (Message.Lines trst false) }
+{
+    bitbang_table::encode(Message::Lines { trst, srst: false })
+}
+
+/// The byte that closes a step with cycles: TCK, TMS and TDI low.
+fn low() -> u8
+    ensures { result ≡ encode (Write false false false) }
+{
+    bitbang_table::encode(Message::Write {
+        tck: false,
+        tms: false,
+        tdi: false,
+    })
+}
+
+impl<'a> Iterator for StepBytes<'a> {
+    type Item = u8;
+
+    ghost use Rattle.std.specs.Iterator.{YieldsFirst, item_count};
+    ghost use Rattle.bitbang.specs.Left.{left};
+
+    ghost next_gives = { YieldsFirst left };
+
+    ghost remaining = { item_count left };
+
+    fn next(&mut self) -> Option<u8> {
+        self.next_byte()
+    }
+}

@@ -1,0 +1,152 @@
+ghost use Rattle.std.specs.Prelude.{◌≡◌, true};
+ghost use Rattle.jt_tap.specs.Controller.{is_stable};
+ghost use Rattle.svf_settings.specs.Legal.{IsFormed};
+ghost use Rattle.svf_settings.specs.Laws.{IsWithin};
+ghost use Rattle.svf_settings.specs.Seen as seen;
+
+use crate::StepBytes;
+use jt_bits::{Bits, HexFault};
+use jt_tap::{Column, State};
+use scan_vectors::{Part3, Vector, join};
+use std::alloc::Global;
+use std::process::Abort;
+use svf_parse::TrstWord;
+use svf_settings::{Action, Step};
+
+/// Asserts that these are the bytes of a step, also where it is resumed at any of them.
+fn assert_bytes(rt: &impl Abort, place: State, what: Action, wanted: &[u8])
+    requires rests { is_stable place ≡ true }
+    requires formed { IsFormed place (seen.step what) }
+    requires within { IsWithin (seen.step what) }
+{
+    let step = Step { number: 1, what };
+    let mut bytes = StepBytes::of(place, &step);
+    for (at, byte) in wanted.iter().enumerate() {
+        let mut resumed = StepBytes::resume(place, &step, bytes.spot());
+        assert_eq!(rt; resumed.left(), (wanted.len() - at) as u64);
+        assert_eq!(rt; resumed.next(), Some(*byte));
+        assert_eq!(rt; bytes.peek(), Some(*byte));
+        assert_eq!(rt; bytes.next(), Some(*byte));
+    }
+    assert_eq!(rt; bytes.left(), 0);
+    assert_eq!(rt; bytes.next(), None);
+}
+
+#[test]
+fn runs(rt: HostRuntime) {
+    // to the run state, so many cycles there, and to the end state
+    let run = Action::Run {
+        run: State::DrPause,
+        cycles: 2,
+        end: State::Idle,
+    };
+    assert_bytes(&rt, State::Reset, run, b"042604260404042626040");
+    // RESET is held by TMS 1
+    let run = Action::Run {
+        run: State::Reset,
+        cycles: 2,
+        end: State::Reset,
+    };
+    assert_bytes(&rt, State::Reset, run, b"26260");
+    // no cycle at all makes no byte, not even the last
+    let run = Action::Run {
+        run: State::Idle,
+        cycles: 0,
+        end: State::Idle,
+    };
+    assert_bytes(&rt, State::Reset, run, b"040");
+    assert_bytes(&rt, State::Idle, run, b"");
+    let run = Action::Run {
+        run: State::Idle,
+        cycles: 3,
+        end: State::Idle,
+    };
+    assert_bytes(&rt, State::Reset, run, b"040404040");
+}
+
+#[test]
+fn the_longest_run(rt: HostRuntime) {
+    let step = Step {
+        number: 1,
+        what: Action::Run {
+            run: State::Idle,
+            cycles: 4_294_967_295,
+            end: State::Reset,
+        },
+    };
+    let mut bytes = StepBytes::of(State::DrPause, &step);
+    // two cycles lead there and three away
+    assert_eq!(rt; bytes.left(), 2 * (2 + 1 + 4_294_967_295 + 3) + 1);
+    assert_eq!(rt; bytes.next(), Some(b'2'));
+    assert_eq!(rt; bytes.left(), 2 * (2 + 1 + 4_294_967_295 + 3));
+}
+
+#[test]
+fn paths_and_lines(rt: HostRuntime) {
+    let path = [
+        State::DrSelect,
+        State::DrCapture,
+        State::DrShift,
+        State::DrShift,
+        State::DrExit1,
+        State::DrUpdate,
+        State::Idle,
+    ];
+    assert_bytes(&rt, State::Idle, Action::Path(&path), b"260404042626040");
+    assert_bytes(&rt, State::Reset, Action::Go(State::Idle), b"040");
+    let words: [(TrstWord, &[u8]); 4] = [
+        (TrstWord::On, b"t26262626260"),
+        (TrstWord::Off, b"r"),
+        (TrstWord::Z, b"r"),
+        (TrstWord::Absent, b""),
+    ];
+    for (word, bytes) in words.iter() {
+        assert_bytes(&rt, State::DrPause, Action::Trst(*word), bytes);
+    }
+}
+
+/// Asserts that these are the bytes of the scan of a vector from IDLE to IDLE.
+fn assert_scan(rt: &impl Abort, column: Column, vector: Vector, wanted: &[u8]) {
+    let len = vector.len();
+    assert!(rt; len > 0 && len <= 65_536);
+    let scan = Action::Scan {
+        column,
+        vector,
+        end: State::Idle,
+    };
+    assert_bytes(rt, State::Idle, scan, wanted);
+}
+
+/// No bits.
+fn nothing() -> Part3<'static>
+    ensures { result.len ≡ 0 }
+{
+    Part3 {
+        len: 0,
+        tdi: None,
+        tdo: None,
+        mask: None,
+    }
+}
+
+#[test]
+fn scans(rt: HostRuntime) -> Result<(), HexFault> {
+    let tdi = Bits::from_hex(rt.alloc(), b"3", 2)?;
+    let tdo = Bits::from_hex(rt.alloc(), b"1", 2)?;
+    let body = Part3 {
+        len: 2,
+        tdi: Some(&tdi),
+        tdo: Some(&tdo),
+        mask: None,
+    };
+    let vector = join(nothing(), body, nothing());
+    assert_scan(&rt, Column::Ir, vector, b"262604041R53R726040");
+    // the mask 1 asks for bit 0 alone
+    let body = Part3 {
+        mask: Some(&tdo),
+        ..body
+    };
+    let vector = join(nothing(), body, nothing());
+    assert_scan(&rt, Column::Dr, vector, b"2604041R53726040");
+    Ok(())
+}

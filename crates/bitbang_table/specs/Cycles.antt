@@ -1,0 +1,25 @@
+-- Cycles of TCK, and the messages of a list of them (OpenOCD's remote_bitbang).
+use Rattle.std.specs.Prelude.{false, List, [], ◌∷◌, ◌++◌, replicate, flat_map}
+use Rattle.jt_tap.specs.declared.State.{State}
+use Rattle.jt_tap.specs.declared.State.TheVariants.{Reset}
+use Rattle.jt_tap.specs.Controller.{entered_by}
+use Rattle.bitbang_table.specs.declared.Message.{Message}
+use Rattle.bitbang_table.specs.declared.Message.TheVariants.{Write, Lines}
+use Rattle.bitbang_table.specs.declared.Cycle.{Cycle}
+use Rattle.bitbang_table.specs.Protocol.{cycle_messages}
+
+-- the cycle that enters a state
+abbrev pub walk : State → Cycle
+walk s = record { tms = entered_by s; tdi = false; read = false }
+
+abbrev pub resets_held : List Cycle
+resets_held = replicate 5 (walk Reset)
+
+-- a step that has cycles is closed by a low byte
+abbrev pub closed : List Cycle → List Message
+closed [] = []
+closed (c ∷ cs) = flat_map cycle_messages (c ∷ cs) ++ Write false false false ∷ []
+
+-- TRST released and five cycles with TMS 1
+abbrev pub opening : List Message
+opening = Lines false false ∷ closed resets_held

@@ -1,0 +1,2 @@
+pub mod Protocol
+pub mod Cycles

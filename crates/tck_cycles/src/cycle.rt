@@ -1,0 +1,18 @@
+//! Cycles of TCK.
+
+ghost use Rattle.std.specs.Prelude.{◌≡◌};
+ghost use Rattle.bitbang_table.specs.Cycles as spec;
+
+use bitbang_table::Cycle;
+use jt_tap::State;
+
+/// The cycle that enters a state.
+pub(crate) fn walk(state: State) -> Cycle
+    ensures { result ≡ spec.walk state }
+{
+    Cycle {
+        tms: state.entered_by(),
+        tdi: false,
+        read: false,
+    }
+}

@@ -1,0 +1,34 @@
+//! Where a step comes to rest.
+
+ghost use Rattle.std.specs.Prelude.{◌≡◌};
+ghost use Rattle.svf_settings.specs.Seen as seen;
+ghost use Rattle.svf_settings.specs.Steps as steps;
+
+use jt_tap::State;
+use svf_parse::TrstWord;
+use svf_settings::{Action, Step};
+
+/// Where a step comes to rest that begins at this place.
+pub fn place_after(place: State, step: &Step) -> State
+    ensures { result ≡ steps.place_after place (seen.step step.now.what) }
+{
+    match step.what {
+        Action::Scan { end, .. } => end,
+        Action::Go(state) => state,
+        Action::Path(path) => last_of(place, path),
+        Action::Run { end, .. } => end,
+        Action::Trst(TrstWord::On) => State::Reset,
+        Action::Trst(_) => place,
+    }
+}
+
+/// The last state of a path, or where it begins.
+fn last_of(place: State, path: &[State]) -> State
+    ensures { result ≡ steps.last_of place path.now }
+{
+    let mut last = place;
+    for state in path {
+        last = *state;
+    }
+    last
+}

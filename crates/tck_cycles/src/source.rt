@@ -1,0 +1,203 @@
+//! The cycles of a step, one after another.
+
+ghost use Rattle.std.specs.Prelude.{◌≡◌, ◌+◌, ◌^◌, ◌<◌, true, length};
+ghost use Rattle.arrayvec.specs.ArrayVec.{array_vec_len};
+ghost use Rattle.tck_cycles.specs.Middles.{middle_cycles};
+ghost use Rattle.jt_tap.specs.Controller.{is_stable};
+ghost use Rattle.tck_cycles.specs.Cycles as spec;
+
+use crate::middle::{Middle, path_cycle};
+use arrayvec::ArrayVec;
+use bitbang_table::Cycle;
+use jt_tap::State;
+use svf_parse::TrstWord;
+use svf_settings::{Action, Step};
+
+/// A place in the cycles of a step. It borrows nothing.
+#[derive(Debug, Clone, Copy, PartialEq, Eq)]
+pub struct Spot {
+    at: u64,
+}
+
+/// The cycles of a step that are left, in order.
+#[derive(Debug, Drop)]
+pub struct Source<'a> {
+    // the states on the way to what the step does
+    lead: ArrayVec<State, 8>,
+    middle: Middle<'a>,
+    // the states on the way from there to where the step ends
+    tail: ArrayVec<State, 8>,
+    // the number of the next cycle, counted from 0
+    at: u64,
+    ghost fits: { array_vec_len lead + length (middle_cycles middle) + array_vec_len tail < 2 ^ 64 },
+}
+
+impl<'a> Source<'a> {
+    ghost use Rattle.std.specs.Prelude.{◌≡◌, ◌≤◌, ◌<◌, ◌+◌, ◌^◌, ◌++◌, map, true, length, slice_get, count_by};
+    ghost use Rattle.arrayvec.specs.ArrayVec.{array_vec_len};
+    ghost use Rattle.tck_cycles.specs.Middles.{middle_cycles};
+    ghost use Rattle.jt_tap.specs.Controller.{is_stable};
+    ghost use Rattle.svf_settings.specs.Legal.{IsFormed};
+    ghost use Rattle.svf_settings.specs.Laws.{IsWithin};
+    ghost use Rattle.svf_settings.specs.Seen as seen;
+    ghost use Rattle.tck_cycles.specs.Cycles.{cycles, walk};
+    ghost use Rattle.tck_cycles.specs.Sources.{behind, left, whole};
+    ghost use Rattle.std.specs.Iterator.{YieldsFirst};
+
+    /// The cycles of a step from a resting place. Takes no memory.
+    pub fn of(place: State, step: &Step<'a>) -> Source<'a>
+        requires rests { is_stable place ≡ true }
+        requires formed { IsFormed place (seen.step step.now.what) }
+        requires within { IsWithin (seen.step step.now.what) }
+        ensures whole { whole result ≡ cycles place (seen.step step.now.what) }
+        ensures left { left result ≡ whole result }
+    {
+        match step.what {
+            Action::Scan {
+                column,
+                vector,
+                end,
+            } => Source::made(
+                tap_paths::to_shift(place, column),
+                Middle::Vector(vector),
+                tap_paths::from_exit1(column, end),
+            ),
+            Action::Go(state) => Source::made(
+                tap_paths::go(place, state),
+                Middle::Path(&[]),
+                ArrayVec::new(),
+            ),
+            Action::Path(path) => {
+                let middle = Middle::Path(path);
+                let _cycles = middle.len();
+                Source::made(ArrayVec::new(), middle, ArrayVec::new())
+            }
+            Action::Run { run, cycles, end } => Source::made(
+                go_unless_there(place, run),
+                Middle::Stay(run, cycles),
+                go_unless_there(run, end),
+            ),
+            Action::Trst(TrstWord::On) => Source::made(
+                ArrayVec::new(),
+                Middle::Stay(State::Reset, 5),
+                ArrayVec::new(),
+            ),
+            Action::Trst(_) => { Source::made(ArrayVec::new(), Middle::Path(&[]), ArrayVec::new()) }
+        }
+    }
+
+    /// All cycles of these parts.
+    fn made(lead: ArrayVec<State, 8>, middle: Middle<'a>, tail: ArrayVec<State, 8>) -> Source<'a>
+        requires { array_vec_len lead + length (middle_cycles middle) + array_vec_len tail < 2 ^ 64 }
+        ensures whole { whole result ≡ map walk lead.items ++ middle_cycles middle.entry ++ map walk tail.items }
+        ensures left { left result ≡ whole result }
+    {
+        Source {
+            lead,
+            middle,
+            tail,
+            at: 0,
+        }
+    }
+
+    /// The cycles of a step from a resting place that are behind a spot of theirs.
+    pub fn resume(place: State, step: &Step<'a>, spot: Spot) -> Source<'a>
+        requires rests { is_stable place ≡ true }
+        requires formed { IsFormed place (seen.step step.now.what) }
+        requires within { IsWithin (seen.step step.now.what) }
+        ensures whole { whole result ≡ cycles place (seen.step step.now.what) }
+        ensures left { left result ≡ behind spot (cycles place (seen.step step.now.what)) }
+    {
+        let mut source = Source::of(place, step);
+        source.at = spot.at;
+        source
+    }
+
+    /// Where the next cycle stands.
+    pub fn spot(&self) -> Spot
+        ensures { behind result (whole self.now) ≡ left self.now }
+    {
+        Spot { at: self.at }
+    }
+
+    /// How many cycles are left.
+    pub fn left(&self) -> u64
+        ensures { result ≡ length (left self.now) }
+    {
+        let all = self.lead.len() as u64 + self.middle.len() + self.tail.len() as u64;
+        all.saturating_sub(self.at)
+    }
+
+    /// How many of the cycles that are left read TDO. The time is that of going over what is left of a scan.
+    pub fn reads(&self) -> u64
+        ensures { result ≡ count_by (λ c. c.read) (left self.now) }
+    {
+        let lead = self.lead.len() as u64;
+        self.middle.reads_from(self.at.saturating_sub(lead))
+    }
+
+    /// The next cycle, which stays the next one.
+    pub fn peek(&self) -> Option<Cycle>
+        ensures { result ≡ slice_get (left self.now) 0 }
+    {
+        self.present()
+    }
+
+    /// The next cycle, which is behind then, as `next` gives it. It tells too that the source is still one of the same cycles.
+    pub fn next_cycle(&mut self) -> Option<Cycle>
+        ensures gives { YieldsFirst left self.old result self.new }
+        ensures whole { whole self.new ≡ whole self.old }
+    {
+        match self.present() {
+            None => None,
+            Some(cycle) => {
+                self.at += 1;
+                Some(cycle)
+            }
+        }
+    }
+
+    /// The cycle at which the source stands.
+    fn present(&self) -> Option<Cycle>
+        ensures { result ≡ slice_get (whole self.now) self.now.at }
+    {
+        let lead = self.lead.len() as u64;
+        if self.at < lead {
+            return path_cycle(self.lead.as_slice(), self.at);
+        }
+        let at = self.at - lead;
+        let middle = self.middle.len();
+        if at < middle {
+            return self.middle.cycle(at);
+        }
+        path_cycle(self.tail.as_slice(), at - middle)
+    }
+}
+
+/// The default path to a state, none where the place is that state.
+fn go_unless_there(from: State, to: State) -> ArrayVec<State, 8>
+    requires from { is_stable from ≡ true }
+    requires to { is_stable to ≡ true }
+    ensures { result.items ≡ spec.go_unless_there from to }
+{
+    if from == to {
+        ArrayVec::new()
+    } else {
+        tap_paths::go(from, to)
+    }
+}
+
+impl<'a> Iterator for Source<'a> {
+    type Item = Cycle;
+
+    ghost use Rattle.std.specs.Iterator.{YieldsFirst, item_count};
+    ghost use Rattle.tck_cycles.specs.Sources.{left};
+
+    ghost next_gives = { YieldsFirst left };
+
+    ghost remaining = { item_count left };
+
+    fn next(&mut self) -> Option<Cycle> {
+        self.next_cycle()
+    }
+}
