@@ -1,0 +1,48 @@
+//! The entity that a text spells, and what it describes.
+ghost use Rattle.bsdl.specs.Form.{text_form};
+ghost use Rattle.bsdl.specs.View.{TellsDescription, TellsForm};
+ghost use Rattle.bsdl_described.specs.Describing.{described};
+ghost use Rattle.bsdl_entity.specs.OutlineView.{outline};
+
+use crate::fault::BsdlFault;
+use bsdl_described::description::{Description, describe};
+use bsdl_entity::entity::{Outline, read_entity};
+use bsdl_lex::{Lexer, bad_byte};
+use bsdl_text::reading::Stop;
+use std::alloc::Global;
+
+/// A text has at most 4 MiB.
+const TEXT_LIMIT: usize = 4_194_304;
+
+/// The entity that a text spells, or its first refusal of B1, B2 and B9 (a text above 4 MiB, whatever it holds). Want of
+/// memory is B10; nothing is said of when it comes.
+pub fn outline_of(alloc: Global, text: &[u8]) -> Result<Outline<'_>, BsdlFault>
+    ensures { TellsForm result (text_form text.now) }
+{
+    if text.len() > TEXT_LIMIT {
+        return Err(BsdlFault::TooLarge);
+    }
+    if let Some(place) = bad_byte(text, false) {
+        return Err(BsdlFault::BadToken(place));
+    }
+    match read_entity(alloc, Lexer::new(text)) {
+        Ok((found, _)) => Ok(found),
+        Err(Stop::Misfit(Some(place))) => Err(BsdlFault::BadForm(place)),
+        Err(Stop::Misfit(None)) => Err(BsdlFault::BadForm(text.len())),
+        Err(Stop::Memory) => Err(BsdlFault::NoMemory),
+    }
+}
+
+/// What an entity describes, or B3 with the first needed attribute that is missing. Want of memory is B10.
+pub fn description_of<'a>(
+    alloc: Global,
+    entity: &'a Outline<'a>,
+) -> Result<Description<'a>, BsdlFault>
+    ensures { TellsDescription entity.now result (described (outline entity.now)) }
+{
+    match describe(alloc, entity) {
+        Ok(Ok(found)) => Ok(found),
+        Ok(Err(attribute)) => Err(BsdlFault::Missing(attribute)),
+        Err(_) => Err(BsdlFault::NoMemory),
+    }
+}

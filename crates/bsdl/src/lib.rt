@@ -1,0 +1,10 @@
+//! What a description in BSDL says of a device (IEEE Std 1149.1-2001, Annex B).
+#![tactic(auto)]
+
+pub use fault::BsdlFault;
+pub use form::{description_of, outline_of};
+
+mod fault;
+mod form;
+#[cfg(test)]
+mod tests;

@@ -1,0 +1,9 @@
+use Rattle.std.proofs.Common.{◌≡◌, map, sym, ap, ◌∙◌}
+use Rattle.bsdl_instructions.specs.View as rows_view
+use Rattle.bsdl_described.proofs.OwnLaws.{own_test}
+use Rattle.bsdl_described.proofs.names.own_accesses.Goals as goal
+
+pub returns : goal.returns
+returns c =
+    rw (← own_test c.in_ok-with_opcode.with_opcode c.in_ok-private.private (map rows_view.opcode_row c.args.opcodes.now) (map rows_view.private_name c.args.private.now) c.in_ok-with_opcode.ensures c.in_ok-private.ensures)
+    c.own_rows.ensures

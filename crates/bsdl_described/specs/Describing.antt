@@ -1,0 +1,153 @@
+-- What a description gives as a whole: each attribute's value is that of its first giving.
+use Rattle.std.specs.Prelude.{ℕ, ◌==◌, Bool, true, false, is_some, if◌then◌else◌, List, [], ◌∷◌, ◌++◌, map, filter, Option, Some, None, Result, Ok, Err, bytes_eq, codes}
+use Rattle.std.specs.List.{list_any, find}
+use Rattle.bsdl_lex.specs.Cutting.{Lexeme}
+use Rattle.bsdl_text.specs.Words.{upper, same_name}
+use Rattle.bsdl_entity.specs.declared.Attribute.{Attribute}
+use Rattle.bsdl_entity.specs.declared.Attribute.TheVariants.{TapScanIn, TapScanOut, TapScanMode, TapScanClock, TapScanReset, InstructionLength, BoundaryLength, InstructionOpcode, InstructionCapture, BoundaryRegister, IdcodeRegister, UsercodeRegister, InstructionPrivate, RegisterAccess}
+use Rattle.bsdl_device.specs.Device.{Name, Pattern}
+use Rattle.bsdl_instructions.specs.Values.{OpcodeRow, Instr, AccessRow}
+use Rattle.bsdl_cells.specs.Rows.{CellRow}
+use Rattle.bsdl_entity.specs.Entity.{File, Port, Given, Value, port, count, pattern_value, codes_value, names_value, opcodes_value, accesses_value, cells_value}
+use Rattle.bsdl_entity.specs.Attributes.{attribute_word}
+
+-- why a description is refused; a place is counted in bytes from 0
+pub data Refusal : Type 0 where
+  bad_token : ℕ → Refusal
+  bad_form : ℕ → Refusal
+  missing : Attribute → Refusal
+  twice : List ℕ → Refusal
+  bad_length : Refusal
+  bad_capture : Refusal
+  bad_id : Refusal
+  bad_cell : ℕ → Refusal
+  too_large : Refusal
+
+abbrev pub is_attribute : Attribute → Attribute → Bool
+is_attribute a b = bytes_eq (attribute_word a) (attribute_word b)
+
+-- the value of the first giving of an attribute
+abbrev pub value_given : Attribute → List Given → Option Value
+value_given a [] = None
+value_given a (g ∷ gs) = if is_attribute a g.attribute then Some g.value else value_given a gs
+
+abbrev pub as_port : Option Value → Option Name
+as_port (Some (port name)) = Some name
+as_port _ = None
+
+abbrev pub as_count : Option Value → Option ℕ
+as_count (Some (count n)) = Some n
+as_count _ = None
+
+abbrev pub as_pattern : Option Value → Option Pattern
+as_pattern (Some (pattern_value p)) = Some p
+as_pattern _ = None
+
+abbrev pub as_codes : Option Value → List Pattern
+as_codes (Some (codes_value ps)) = ps
+as_codes _ = []
+
+abbrev pub as_names : Option Value → List Name
+as_names (Some (names_value ns)) = ns
+as_names _ = []
+
+-- rows, and where their text begins
+abbrev pub as_opcodes : Option Value → Option (ℕ × List OpcodeRow)
+as_opcodes (Some (opcodes_value start rows)) = Some (start, rows)
+as_opcodes _ = None
+
+abbrev pub as_accesses : Option Value → ℕ × List AccessRow
+as_accesses (Some (accesses_value start rows)) = (start, rows)
+as_accesses _ = (0, [])
+
+abbrev pub as_cells : Option Value → Option (List CellRow)
+as_cells (Some (cells_value rows)) = Some rows
+as_cells _ = None
+
+-- ---- what is needed
+
+pub record Description : Type 0 where
+  pub ports : List Port
+  pub given : List Given
+  -- the TAP's ports, TRST among them if there is one
+  pub taps : List Name
+  pub has_trst : Bool
+  pub instruction_length : ℕ
+  pub boundary_length : ℕ
+  pub opcode_start : ℕ
+  pub opcodes : List OpcodeRow
+  pub capture : Pattern
+  pub cells : List CellRow
+  pub idcodes : List Pattern
+  pub usercodes : List Pattern
+  pub private_names : List Name
+  pub access_start : ℕ
+  -- each row with the own instructions in it, where it has any
+  pub accesses : List AccessRow
+
+infixl 10 ◌>>?◌
+abbrev pub ◌>>?◌ : {A B : Type 0} → Result A Refusal → (A → Result B Refusal) → Result B Refusal
+(Ok x) >>? f = f x
+(Err e) >>? f = Err e
+
+abbrev pub need : {A : Type 0} → Attribute → Option A → Result A Refusal
+need a None = Err (missing a)
+need a (Some x) = Ok x
+
+-- the standard's instructions
+abbrev pub standard_names : List Name
+standard_names =
+    codes "BYPASS" ∷ codes "EXTEST" ∷ codes "SAMPLE" ∷ codes "PRELOAD" ∷ codes "IDCODE" ∷ codes "USERCODE" ∷ codes "CLAMP" ∷ codes "HIGHZ" ∷ codes "INTEST"
+    ∷ codes "RUNBIST" ∷ []
+
+abbrev pub is_among : List Name → Name → Bool
+is_among names name = list_any (bytes_eq name) names
+
+abbrev pub has_opcode : List OpcodeRow → List ℕ → Bool
+has_opcode rows name = list_any (λ r. same_name r.name.text name) rows
+
+-- an instruction of the device's own: it has an opcode, and is neither the standard's nor private
+abbrev pub is_own : List OpcodeRow → List Name → Instr → Bool
+is_own rows private i = if has_opcode rows i.name.text then (if is_among standard_names (upper i.name.text) then false else if is_among private (upper i.name.text) then false else true) else false
+
+-- the own instructions of each row; a row without any is left out
+abbrev pub with_own : AccessRow → List Instr → List AccessRow → List AccessRow
+with_own row [] rows = rows
+with_own row (i ∷ is) rows = record row { instrs = i ∷ is } ∷ rows
+
+abbrev pub own_accesses : (Instr → Bool) → List AccessRow → List AccessRow
+own_accesses own [] = []
+own_accesses own (row ∷ rows) = with_own row (filter own row.instrs) (own_accesses own rows)
+
+abbrev pub and_reset : Name → Option Name → List Name
+and_reset tck None = tck ∷ []
+and_reset tck (Some trst) = tck ∷ trst ∷ []
+
+-- the whole description, or the first needed attribute that is missing
+abbrev pub described : File → Result Description Refusal
+described f =
+    let v = λ (a : Attribute). value_given a f.given in
+    let accesses = as_accesses (v RegisterAccess) in
+    let private = as_names (v InstructionPrivate) in
+    let trst = as_port (v TapScanReset) in
+    need TapScanIn (as_port (v TapScanIn)) >>? λ tdi. need TapScanOut (as_port (v TapScanOut)) >>? λ tdo. need TapScanMode (as_port (v TapScanMode)) >>? λ tms.
+    need TapScanClock (as_port (v TapScanClock)) >>? λ tck. need InstructionLength (as_count (v InstructionLength)) >>? λ len.
+    need BoundaryLength (as_count (v BoundaryLength)) >>? λ cells_len. need InstructionOpcode (as_opcodes (v InstructionOpcode)) >>? λ opcodes.
+    need InstructionCapture (as_pattern (v InstructionCapture)) >>? λ capture. need BoundaryRegister (as_cells (v BoundaryRegister)) >>? λ cells.
+    Ok (record {
+      ports = f.ports;
+      given = f.given;
+      taps = tdi ∷ tdo ∷ tms ∷ and_reset tck trst;
+      has_trst = is_some trst;
+      instruction_length = len;
+      boundary_length = cells_len;
+      opcode_start = opcodes.0;
+      opcodes = opcodes.1;
+      capture = capture;
+      cells = cells;
+      idcodes = as_codes (v IdcodeRegister);
+      usercodes = as_codes (v UsercodeRegister);
+      private_names = private;
+      access_start = accesses.0;
+      accesses = own_accesses (is_own opcodes.1 private) accesses.1;
+    })

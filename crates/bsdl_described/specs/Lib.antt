@@ -1,0 +1,3 @@
+pub mod Describing
+pub mod NameSets
+pub mod View

@@ -1,0 +1,41 @@
+-- What a description of the code stands for.
+use Rattle.std.specs.Prelude.{◌≡◌, ℕ, List, [], ◌∷◌, map, Option, option_map, is_some, Result, Ok, Err}
+use Rattle.bsdl_text.specs.View.{value}
+use Rattle.bsdl_text.specs.Words.{upper}
+use Rattle.bsdl_instructions.specs.View as rows_view
+use Rattle.bsdl_cells.specs.View.{cell_row}
+use Rattle.bsdl_device.specs.Device.{Name}
+use Rattle.bsdl_entity.specs.declared.Attribute.{Attribute}
+use Rattle.bsdl_entity.specs.declared.entity.Outline.{Outline}
+use Rattle.bsdl_entity.specs.GivenView.{given}
+use Rattle.bsdl_entity.specs.View.{ports}
+use Rattle.bsdl_described.specs.declared.description.Taps.{Taps}
+use Rattle.bsdl_described.specs.declared.description.Description as declared_description
+use Rattle.bsdl_described.specs.Describing.{Refusal, missing, Description, and_reset}
+
+abbrev pub taps : Taps → List Name
+taps t = upper t.input.text.now ∷ upper t.output.text.now ∷ upper t.mode.text.now ∷ and_reset (upper t.clock.text.now) (option_map (λ w. upper w.text.now) t.reset)
+
+abbrev pub description : Outline → declared_description.Description → Description
+description o d = record {
+  ports = ports o.groups.items;
+  given = map given o.given.items;
+  taps = taps d.taps;
+  has_trst = is_some d.taps.reset;
+  instruction_length = value d.instruction_length;
+  boundary_length = value d.boundary_length;
+  opcode_start = d.opcode_start;
+  opcodes = map rows_view.opcode_row d.opcodes.items;
+  capture = rows_view.pattern d.capture;
+  cells = map cell_row d.cells.items;
+  idcodes = map rows_view.pattern d.idcodes.items;
+  usercodes = map rows_view.pattern d.usercodes.items;
+  private_names = map rows_view.private_name d.private_names.items;
+  access_start = d.access_start;
+  accesses = map rows_view.access_row d.accesses.items;
+}
+
+-- what was found of an entity is what is described of it
+abbrev pub Describes : Outline → Result declared_description.Description Attribute → Result Description Refusal → Type 0
+Describes o (Ok d) says = says ≡ Ok (description o d)
+Describes o (Err a) says = says ≡ Err (missing a)

@@ -1,0 +1,4 @@
+pub mod ChainLaws
+pub mod PassingLaws
+pub mod ScalarLaws
+pub mod ItemLaws

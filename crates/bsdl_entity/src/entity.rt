@@ -1,0 +1,101 @@
+//! A whole description.
+ghost use Rattle.std.specs.Prelude.{◌≡◌, ◌≤◌, length, map, IfOk, true};
+ghost use Rattle.bsdl_lex.specs.Left.{left};
+ghost use Rattle.bsdl_text.specs.View.{Gives, Passes};
+ghost use Rattle.bsdl_entity.specs.Entity as spec;
+ghost use Rattle.bsdl_text.specs.Reading.{fits};
+ghost use Rattle.bsdl_entity.specs.GivenView.{given};
+ghost use Rattle.bsdl_entity.specs.OutlineView.{outline};
+ghost use Rattle.bsdl_entity.specs.View.{ports};
+
+use crate::items::{Given, behind_word, items};
+use crate::keywords::{END, ENTITY, IS};
+use crate::passing::brackets;
+use crate::ports::{Group, read_ports};
+use crate::scalars::scalars_of;
+use bsdl_lex::{Kind, Lexer};
+use bsdl_text::reading::{Stop, keyword, mark, word};
+use std::alloc::Global;
+
+/// The ports of an entity, and what its attributes say.
+#[derive(Debug, Drop)]
+pub struct Outline<'a> {
+    pub groups: Vec<Group<'a>>,
+    pub given: Vec<Given<'a>>,
+}
+
+/// A whole description.
+pub fn read_entity<'a>(alloc: Global, lexer: Lexer<'a>) -> Result<(Outline<'a>, Lexer<'a>), Stop>
+    ensures gives { Gives outline result (spec.file (left lexer.entry)) }
+{
+    let (_entity, rest) = keyword(lexer, &ENTITY)?;
+    let (_name, rest) = word(rest)?;
+    let (_is, rest) = keyword(rest, &IS)?;
+    let rest = generic(rest)?;
+    let (groups, rest) = read_ports(alloc, rest)?;
+    let (given, rest) = attributes(alloc, &groups, rest)?;
+    let rest = ending(rest)?;
+    Ok((Outline { groups, given }, rest))
+}
+
+/// `end [word] [word] ;`, behind which nothing stands.
+fn ending<'a>(lexer: Lexer<'a>) -> Result<Lexer<'a>, Stop>
+    ensures passes { Passes result (spec.ending (left lexer.entry)) }
+{
+    let (_end, rest) = keyword(lexer, &END)?;
+    let rest = past_word(rest);
+    let rest = past_word(rest);
+    let rest = mark(rest, b';')?;
+    end_of_text(rest)
+}
+
+fn end_of_text<'a>(lexer: Lexer<'a>) -> Result<Lexer<'a>, Stop>
+    ensures passes { Passes result (spec.end_of_text (left lexer.entry)) }
+{
+    match lexer.next() {
+        Some((token, _)) => Err(Stop::Misfit(Some(token.start))),
+        None => Ok(lexer),
+    }
+}
+
+/// The lexer behind a word, if one stands next.
+fn past_word<'a>(lexer: Lexer<'a>) -> Lexer<'a>
+    ensures { spec.any_word (left lexer.entry) ≡ fits true (left result) }
+{
+    match lexer.next() {
+        Some((token, rest)) => match token.kind {
+            Kind::Word => rest,
+            _ => lexer,
+        },
+        None => lexer,
+    }
+}
+
+/// The lexer behind the generic, if one stands next.
+fn generic<'a>(lexer: Lexer<'a>) -> Result<Lexer<'a>, Stop>
+    ensures passes { Passes result (spec.generic (left lexer.entry)) }
+    ensures no_longer { IfOk result (λ l. length (left l) ≤ length (left lexer.entry)) }
+{
+    match behind_word(lexer, b"GENERIC") {
+        Some(behind) => {
+            let rest = brackets(behind)?;
+            let rest = mark(rest, b';')?;
+            Ok(rest)
+        }
+        None => Ok(lexer),
+    }
+}
+
+/// What the attributes of an entity with these ports say.
+fn attributes<'a>(
+    alloc: Global,
+    groups: &[Group<'a>],
+    lexer: Lexer<'a>,
+) -> Result<(Vec<Given<'a>>, Lexer<'a>), Stop>
+    ensures gives { Gives (λ v. map given v.items) result (spec.items (spec.is_scalar (ports groups.now)) (length (left lexer.entry)) (left lexer.entry)) }
+{
+    match scalars_of(alloc, groups) {
+        Ok(scalars) => items(alloc, &scalars, lexer),
+        Err(_) => Err(Stop::Memory),
+    }
+}

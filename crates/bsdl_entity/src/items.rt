@@ -1,0 +1,203 @@
+//! The attributes of an entity.
+ghost use Rattle.std.specs.Prelude.{◌≡◌, ◌<◌, ◌≤◌, length, map, drop, option_map, is_some, IfOk, IfSome};
+ghost use Rattle.bsdl_instructions.specs.Values.{begins};
+ghost use Rattle.bsdl_lex.specs.Left.{left};
+ghost use Rattle.bsdl_text.specs.View.{Gives, Passes};
+ghost use Rattle.bsdl_text.specs.WordView.{word_lexeme};
+ghost use Rattle.bsdl_entity.specs.Attributes.{attribute_of};
+ghost use Rattle.bsdl_text.specs.Words.{upper};
+ghost use Rattle.bsdl_entity.specs.View.{value as value_view};
+ghost use Rattle.bsdl_entity.specs.Entity as spec;
+ghost use Rattle.bsdl_entity.specs.GivenView as given_view;
+ghost use Rattle.bsdl_entity.specs.Scalars.{tells};
+
+use crate::Attribute;
+use crate::keywords::{ATTRIBUTE, ATTRIBUTES, IS, OF};
+use crate::passing::past_semi;
+use crate::scalars::is_scalar;
+use crate::values::{Value, value_of};
+use bsdl_lex::Lexer;
+use bsdl_text::names::Word;
+use bsdl_text::reading::{Stop, keyword, mark, same_name, stands_for, word};
+use std::alloc::Global;
+use std::collections::BTreeMap;
+
+/// An attribute, and what it says.
+#[derive(Debug, Drop)]
+pub struct Given<'a> {
+    pub name: Word<'a>,
+    pub attribute: Attribute,
+    pub value: Value<'a>,
+}
+
+/// Whether an attribute is of a port of the TAP.
+fn is_of_tap(attribute: Attribute) -> bool
+    ensures { result ≡ spec.is_tap attribute }
+{
+    matches!(
+        attribute,
+        Attribute::TapScanIn
+            | Attribute::TapScanOut
+            | Attribute::TapScanMode
+            | Attribute::TapScanClock
+            | Attribute::TapScanReset
+    )
+}
+
+/// What an attribute is of: any word, for the TAP's a declared port of one bit.
+fn owner<'a>(
+    alloc: Global,
+    scalars: &BTreeMap<String, bool>,
+    attribute: Attribute,
+    lexer: Lexer<'a>,
+) -> Result<(Word<'a>, Lexer<'a>), Stop>
+    ensures gives { Gives word_lexeme result (spec.owner (tells scalars.now) attribute (left lexer.entry)) }
+    ensures shorter { IfOk result (λ p. length (left p.1) < length (left lexer.entry)) }
+{
+    let (name, rest) = word(lexer)?;
+    if !is_of_tap(attribute) {
+        return Ok((name, rest));
+    }
+    match is_scalar(alloc, scalars, name) {
+        Ok(true) => Ok((name, rest)),
+        Ok(false) => Err(Stop::Misfit(Some(name.start))),
+        Err(_) => Err(Stop::Memory),
+    }
+}
+
+/// What stands behind an attribute's name: `of name : word is value ;`.
+fn attribute_form<'a>(
+    alloc: Global,
+    scalars: &BTreeMap<String, bool>,
+    name: Word<'a>,
+    attribute: Attribute,
+    lexer: Lexer<'a>,
+) -> Result<(Option<Given<'a>>, Lexer<'a>), Stop>
+    ensures gives { Gives (option_map given_view.given) result (spec.attribute_form (tells scalars.now) (word_lexeme name.entry) attribute (left lexer.entry)) }
+    ensures shorter { IfOk result (λ p. length (left p.1) < length (left lexer.entry)) }
+{
+    let (_of, rest) = keyword(lexer, &OF)?;
+    let (owner, rest) = owner(alloc, scalars, attribute, rest)?;
+    let rest = mark(rest, b':')?;
+    let (_class, rest) = word(rest)?;
+    let (value, rest) = value_behind(alloc, attribute, owner, rest)?;
+    let rest = mark(rest, b';')?;
+    Ok((said(name, attribute, value), rest))
+}
+
+/// `is` and a value.
+fn value_behind<'a>(
+    alloc: Global,
+    attribute: Attribute,
+    owner: Word<'a>,
+    lexer: Lexer<'a>,
+) -> Result<(Value<'a>, Lexer<'a>), Stop>
+    ensures gives { Gives value_view result (spec.value_behind attribute (upper owner.entry.text.now) (left lexer.entry)) }
+    ensures shorter { IfOk result (λ p. length (left p.1) < length (left lexer.entry)) }
+{
+    let (_is, rest) = keyword(lexer, &IS)?;
+    value_of(alloc, attribute, owner, rest)
+}
+
+/// An attribute that says something.
+fn said<'a>(name: Word<'a>, attribute: Attribute, value: Value<'a>) -> Option<Given<'a>>
+    ensures { option_map given_view.given result ≡ spec.said (given_view.given (record { name = name.entry; attribute = attribute; value = value.entry })) (value_view value.entry) }
+{
+    match value {
+        Value::Absent => None,
+        value => Some(Given {
+            name,
+            attribute,
+            value,
+        }),
+    }
+}
+
+/// An attribute behind its name; one of another name is passed over.
+fn attribute<'a>(
+    alloc: Global,
+    scalars: &BTreeMap<String, bool>,
+    name: Word<'a>,
+    lexer: Lexer<'a>,
+) -> Result<(Option<Given<'a>>, Lexer<'a>), Stop>
+    ensures gives { Gives (option_map given_view.given) result (spec.attribute (tells scalars.now) (word_lexeme name.entry) (attribute_of name.entry.text.now) (left lexer.entry)) }
+    ensures shorter { IfOk result (λ p. length (left p.1) < length (left lexer.entry)) }
+{
+    match named(name.text) {
+        Some(attribute) => attribute_form(alloc, scalars, name, attribute, lexer),
+        None => {
+            let rest = past_semi(lexer)?;
+            Ok((None, rest))
+        }
+    }
+}
+
+#[tactic(auto, unfolding(crate::specs::Attributes::attribute_of))]
+fn named(word: &[u8]) -> Option<Attribute>
+    ensures { result ≡ attribute_of word.now }
+{
+    stands_for(&ATTRIBUTES, word)
+}
+
+/// What an item says, where it says something: `use tokens ;`, `constant tokens ;` or `attribute name tokens ;`.
+fn item<'a>(
+    alloc: Global,
+    scalars: &BTreeMap<String, bool>,
+    lexer: Lexer<'a>,
+) -> Result<(Option<Given<'a>>, Lexer<'a>), Stop>
+    ensures gives { Gives (option_map given_view.given) result (spec.item (tells scalars.now) (left lexer.entry)) }
+    ensures shorter { IfOk result (λ p. length (left p.1) < length (left lexer.entry)) }
+{
+    if let Some(behind) = behind_word(lexer, b"USE") {
+        let rest = past_semi(behind)?;
+        return Ok((None, rest));
+    }
+    if let Some(behind) = behind_word(lexer, b"CONSTANT") {
+        let rest = past_semi(behind)?;
+        return Ok((None, rest));
+    }
+    let (_attribute, rest) = keyword(lexer, &ATTRIBUTE)?;
+    let (name, rest) = word(rest)?;
+    attribute(alloc, scalars, name, rest)
+}
+
+/// The lexer behind this word, where it stands next.
+pub(crate) fn behind_word<'a>(lexer: Lexer<'a>, text: &[u8]) -> Option<Lexer<'a>>
+    ensures begins { is_some result ≡ begins text.now (left lexer.entry) }
+    ensures behind { IfSome result (λ l. left l ≡ drop 1 (left lexer.entry)) }
+    ensures shorter { IfSome result (λ l. length (left l) < length (left lexer.entry)) }
+{
+    match lexer.next() {
+        Some((token, rest)) if same_name(token.text, text) => Some(rest),
+        _ => None,
+    }
+}
+
+/// What the items up to `end` say.
+pub(crate) fn items<'a>(
+    alloc: Global,
+    scalars: &BTreeMap<String, bool>,
+    lexer: Lexer<'a>,
+) -> Result<(Vec<Given<'a>>, Lexer<'a>), Stop>
+    ensures gives { Gives (λ v. map given_view.given v.items) result (spec.items (tells scalars.now) (length (left lexer.entry)) (left lexer.entry)) }
+    ensures no_longer { IfOk result (λ p. length (left p.1) ≤ length (left lexer.entry)) }
+{
+    let mut all = Vec::new(alloc);
+    let mut rest = lexer;
+    'items: loop {
+        if behind_word(rest, b"END").is_some() {
+            return Ok((all, rest));
+        }
+        let (found, more) = match item(alloc, scalars, rest) {
+            Ok(read) => read,
+            Err(stop) => return Err(stop),
+        };
+        rest = more;
+        if let Some(given) = found {
+            match all.push(given) {
+                Ok(()) => {}
+                Err(_) => return Err(Stop::Memory),
+            }
+        }
+    }
+}

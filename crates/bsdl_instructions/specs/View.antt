@@ -1,0 +1,27 @@
+-- What values of the code stand for.
+use Rattle.std.specs.Prelude.{option_map, map, reverse}
+use Rattle.bsdl_text.specs.Words.{upper}
+use Rattle.bsdl_text.specs.View.{value}
+use Rattle.bsdl_text.specs.WordView.{word_lexeme}
+use Rattle.bsdl_instructions.specs.declared.patterns.WrittenPattern as declared_pattern
+use Rattle.bsdl_instructions.specs.declared.names.OpcodeRow as declared_opcodes
+use Rattle.bsdl_instructions.specs.declared.names.PrivateName as declared_private
+use Rattle.bsdl_instructions.specs.declared.names.Instr as declared_instr
+use Rattle.bsdl_instructions.specs.declared.names.AccessRow as declared_access
+use Rattle.bsdl_device.specs.Device.{Name, Pattern}
+use Rattle.bsdl_instructions.specs.Values.{bit, OpcodeRow, Instr, AccessRow}
+
+abbrev pub pattern : declared_pattern.WrittenPattern → Pattern
+pattern p = reverse (map bit p.digits.items)
+
+abbrev pub opcode_row : declared_opcodes.OpcodeRow → OpcodeRow
+opcode_row r = record { name = word_lexeme r.name; patterns = map pattern r.patterns.items }
+
+abbrev pub private_name : declared_private.PrivateName → Name
+private_name p = upper p.name.text.now
+
+abbrev pub instr : declared_instr.Instr → Instr
+instr i = record { name = word_lexeme i.name; captures = option_map pattern i.captures }
+
+abbrev pub access_row : declared_access.AccessRow → AccessRow
+access_row r = record { register = upper r.register.now; len = option_map value r.len; instrs = map instr r.instrs.items }

@@ -1,0 +1,7 @@
+pub mod Ascii
+pub mod Bytes
+pub mod Cutting
+pub mod Gaps
+pub mod Laws
+pub mod Left
+pub mod Scanning

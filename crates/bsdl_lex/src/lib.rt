@@ -1,0 +1,100 @@
+//! The tokens of a device description (BSDL: IEEE Std 1149.1-2001, Annex B, whose lexical elements are VHDL's).
+//!
+//! A text is words, numbers, strings and marks, and gaps between them: white space, and comments from `--` to the line's
+//! end. What stands within the quotes of strings is cut in the same way, without comments and strings.
+#![tactic(auto)]
+
+ghost use Rattle.std.specs.Prelude.{◌≡◌, ◌≤◌, ◌<◌, ◌^◌, ◌∷◌, [], length, MatchOption, false, true};
+ghost use Rattle.bsdl_lex.specs.Ascii.{IsAsciiWord};
+
+use crate::scan::first_token;
+pub use scan::bad_byte;
+
+pub mod laws;
+mod scan;
+
+/// What a token is.
+#[derive(Debug, Clone, Copy, PartialEq, Eq)]
+pub enum Kind {
+    /// A letter, and then letters, digits and `_`.
+    Word,
+    /// A digit, and then letters, digits, `_` and `.`.
+    Number,
+    /// A string, with its quotes.
+    Text,
+    /// A single byte of `( ) [ ] , ; : . & = * + - < > ' / |`.
+    Mark,
+}
+
+/// A token of a text.
+#[derive(Debug, Clone, Copy, PartialEq, Eq)]
+pub struct Token<'a> {
+    pub kind: Kind,
+    /// Its bytes, which stand in the text at `start`.
+    pub text: &'a [u8],
+    /// The place of its first byte, counted in bytes from 0.
+    pub start: usize,
+    // the bytes of a word are ASCII
+    pub ghost ascii: { IsAsciiWord kind text.now },
+}
+
+/// The tokens of a text that are left, in order, up to the first byte that begins none.
+///
+/// A copy is a bookmark: it goes on from its place.
+#[derive(Debug, Clone, Copy)]
+pub struct Lexer<'a> {
+    source: &'a [u8],
+    // where the next token or gap begins
+    at: usize,
+    // whether the text stands within quotes
+    quoted: bool,
+    ghost within: { at ≤ length source.now },
+}
+
+impl<'a> Lexer<'a> {
+    ghost use Rattle.bsdl_lex.specs.Left.{left, lexeme};
+    ghost use Rattle.bsdl_lex.specs.Cutting.{cuts_of, tokens};
+
+    /// The tokens of a description. Takes no memory.
+    #[tactic(auto, unfolding(crate::specs::Left::left))]
+    pub fn new(source: &'a [u8]) -> Lexer<'a>
+        ensures { left result ≡ tokens (cuts_of false source.now) }
+    {
+        Lexer {
+            source,
+            at: 0,
+            quoted: false,
+        }
+    }
+
+    /// The tokens of what stands within quotes, where `--` and `"` begin nothing of their own. Takes no memory.
+    #[tactic(auto, unfolding(crate::specs::Left::left))]
+    pub fn within_quotes(source: &'a [u8]) -> Lexer<'a>
+        ensures { left result ≡ tokens (cuts_of true source.now) }
+    {
+        Lexer {
+            source,
+            at: 0,
+            quoted: true,
+        }
+    }
+
+    /// The next token, and the lexer behind it. There is none at the text's end and at a byte that begins nothing.
+    #[tactic(auto, unfolding(crate::specs::Left::left))]
+    pub fn next(self) -> Option<(Token<'a>, Lexer<'a>)>
+        ensures tokens { MatchOption result (left self.entry ≡ []) (λ p. left self.entry ≡ lexeme p.0 ∷ left p.1) }
+        ensures few { length (left self.entry) < 2 ^ 64 }
+    {
+        match first_token(self.source, self.quoted, self.at) {
+            Some(Ok(token)) => {
+                let behind = Lexer {
+                    source: self.source,
+                    at: token.start + token.text.len(),
+                    quoted: self.quoted,
+                };
+                Some((token, behind))
+            }
+            _ => None,
+        }
+    }
+}

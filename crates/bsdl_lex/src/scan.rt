@@ -1,0 +1,140 @@
+//! What stands at a place of a text.
+ghost use Rattle.std.specs.Prelude.{◌≡◌, ◌≤◌, ◌<◌, length, drop, IfSome, IfOk, false};
+ghost use Rattle.std.specs.List.{prefix_len, position_or_len};
+ghost use Rattle.bsdl_lex.specs.Bytes as bytes;
+ghost use Rattle.bsdl_lex.specs.Cutting.{cut, front, behind, cuts_of, bad_place};
+ghost use Rattle.bsdl_lex.specs.Scanning.{cuts_from};
+ghost use Rattle.bsdl_lex.specs.Left.{end_of};
+
+use crate::{Kind, Token};
+use memchr::memchr2;
+
+/// What the first byte of a text begins, and how many bytes that has behind it.
+#[derive(Clone, Copy)]
+enum Front {
+    Gap(usize),
+    Token(Kind, usize),
+    Bad,
+}
+
+/// The first token from a place on, or the place of the byte in its way that begins nothing.
+pub(crate) fn first_token<'a>(
+    source: &'a [u8],
+    quoted: bool,
+    from: usize,
+) -> Option<Result<Token<'a>, usize>>
+    requires { from ≤ length source.now }
+    ensures cuts { cut quoted 0 from (drop from source.now) ≡ cuts_from quoted source.now result }
+    ensures within { IfSome result (λ found. IfOk found (λ token. end_of token ≤ length source.now)) }
+    ensures on { IfSome result (λ found. IfOk found (λ token. from < end_of token)) }
+{
+    let mut at = from;
+    while at < source.len() {
+        match front_of(quoted, source[at], &source[at + 1..]) {
+            Front::Gap(more) => at += 1 + more,
+            Front::Token(kind, more) => {
+                return Some(Ok(Token {
+                    kind,
+                    text: &source[at..at + 1 + more],
+                    start: at,
+                }));
+            }
+            Front::Bad => return Some(Err(at)),
+        }
+    }
+    None
+}
+
+/// The place of the first byte of a text that begins no token and no gap, as `#`, or as the quote of a string that is not
+/// closed on its line.
+pub fn bad_byte(source: &[u8], quoted: bool) -> Option<usize>
+    ensures { result ≡ bad_place (cuts_of quoted source.now) }
+{
+    let mut at = 0;
+    loop {
+        match first_token(source, quoted, at) {
+            Some(Ok(token)) => at = token.start + token.text.len(),
+            Some(Err(place)) => return Some(place),
+            None => return None,
+        }
+    }
+}
+
+/// What the byte begins before this rest of the text.
+fn front_of(quoted: bool, first: u8, rest: &[u8]) -> Front
+    ensures value { result ≡ front quoted first rest.now }
+    ensures within { behind result ≤ length rest.now }
+{
+    match first {
+        b' ' | b'\t'..=b'\r' => Front::Gap(0),
+        b'-' if !quoted && rest.first() == Some(&b'-') => Front::Gap(line_len(rest)),
+        b'"' if !quoted => string_front(rest),
+        b'A'..=b'Z' | b'a'..=b'z' => Front::Token(Kind::Word, word_len(rest)),
+        b'0'..=b'9' => Front::Token(Kind::Number, number_len(rest)),
+        b'&'..=b'/' | b':'..=b'>' | b'[' | b']' | b'|' => Front::Token(Kind::Mark, 0),
+        _ => Front::Bad,
+    }
+}
+
+/// What a quote begins before this rest of the text: a string, where its line has another quote.
+fn string_front(rest: &[u8]) -> Front
+    ensures value { result ≡ front false 34 rest.now }
+    ensures within { behind result ≤ length rest.now }
+{
+    let len = within_len(rest);
+    if rest.get(len) == Some(&b'"') {
+        Front::Token(Kind::Text, len + 1)
+    } else {
+        Front::Bad
+    }
+}
+
+/// How many bytes at the front can stand within a string.
+fn within_len(text: &[u8]) -> usize
+    ensures value { result ≡ prefix_len bytes.is_within text.now }
+    ensures within { result ≤ length text.now }
+{
+    text.iter().take_while(|byte| is_within(**byte)).count()
+}
+
+/// How many bytes stand before the next line feed or carriage return, or before the end.
+fn line_len(text: &[u8]) -> usize
+    ensures value { result ≡ position_or_len bytes.is_line_end text.now }
+    ensures within { result ≤ length text.now }
+{
+    memchr2(b'\n', b'\r', text).unwrap_or(text.len())
+}
+
+/// How many bytes of a word stand at the front.
+fn word_len(text: &[u8]) -> usize
+    ensures value { result ≡ prefix_len bytes.is_word text.now }
+    ensures within { result ≤ length text.now }
+{
+    text.iter().take_while(|byte| is_word(**byte)).count()
+}
+
+/// How many bytes of a number stand at the front.
+fn number_len(text: &[u8]) -> usize
+    ensures value { result ≡ prefix_len bytes.is_number text.now }
+    ensures within { result ≤ length text.now }
+{
+    text.iter().take_while(|byte| is_number(**byte)).count()
+}
+
+fn is_within(byte: u8) -> bool
+    ensures { result ≡ bytes.is_within byte }
+{
+    !matches!(byte, b'"' | b'\n' | b'\r')
+}
+
+fn is_word(byte: u8) -> bool
+    ensures { result ≡ bytes.is_word byte }
+{
+    byte.is_ascii_alphanumeric() || byte == b'_'
+}
+
+fn is_number(byte: u8) -> bool
+    ensures { result ≡ bytes.is_number byte }
+{
+    byte.is_ascii_alphanumeric() || matches!(byte, b'_' | b'.')
+}

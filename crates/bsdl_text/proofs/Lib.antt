@@ -1,0 +1,4 @@
+pub mod JoinedLaws
+pub mod ListLaws
+pub mod NameLaws
+pub mod NumberLaws

@@ -1,0 +1,26 @@
+-- Words, in any case.
+use Rattle.std.specs.Prelude.{ℕ, Bool, List, [], ◌∷◌, map, length, take, drop, ◌-◌, Option, Some, None, if◌then◌else◌, bytes_eq}
+use Rattle.std.specs.List.{flat_map}
+use Rattle.std.specs.Char.{to_ascii_uppercase}
+use Rattle.bsdl_lex.specs.Cutting.{Lexeme}
+
+-- a name in upper case
+abbrev pub upper : List ℕ → List ℕ
+upper word = map to_ascii_uppercase word
+
+-- two names are the same
+abbrev pub same_name : List ℕ → List ℕ → Bool
+same_name a b = bytes_eq (upper a) (upper b)
+
+-- what a word stands for in a table of words
+abbrev pub stands_for : {A : Type 0} → List (List ℕ × A) → List ℕ → Option A
+stands_for [] word = None
+stands_for (row ∷ rows) word = if same_name word row.0 then Some row.1 else stands_for rows word
+
+-- the bytes between a string's quotes
+abbrev pub inner : Lexeme → List ℕ
+inner t = take (length t.text - 2) (drop 1 t.text)
+
+-- the text of strings that `&` joins
+abbrev pub joined : List Lexeme → List ℕ
+joined strings = flat_map inner strings

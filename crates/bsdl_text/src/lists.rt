@@ -1,0 +1,68 @@
+//! Lists of entries with separators between them.
+ghost use Rattle.std.specs.Prelude.{◌≡◌, ◌<◌, List, length, map, IfOk};
+ghost use Rattle.bsdl_lex.specs.Cutting.{Lexeme};
+ghost use Rattle.bsdl_lex.specs.Left.{left};
+ghost use Rattle.bsdl_text.specs.Reading as spec;
+ghost use Rattle.bsdl_text.specs.Reading.{Read};
+ghost use Rattle.bsdl_text.specs.View as view;
+ghost use Rattle.bsdl_text.specs.View.{Gives};
+
+use crate::reading::{Stop, closes, mark};
+use bsdl_lex::Lexer;
+use std::alloc::Global;
+
+/// What lists have for entries.
+pub trait Entry<'a>: Drop {
+    ghost Seen: { Type 0 };
+
+    ghost seen: { Self → Seen };
+
+    ghost says: { List Lexeme → Read Seen };
+
+    /// The entry that stands next, and the lexer behind it.
+    fn read(alloc: Global, lexer: Lexer<'a>) -> Result<(Self, Lexer<'a>), Stop>
+        ensures gives { Gives seen result (says (left lexer.entry)) }
+        ensures shorter { IfOk result (λ p. length (left p.1) < length (left lexer.entry)) };
+}
+
+/// Entries with a separator between them, which may stand behind the last one too, up to where the list closes.
+pub fn listed<'a, E: Entry<'a>>(
+    alloc: Global,
+    lexer: Lexer<'a>,
+    separator: u8,
+    close: Option<u8>,
+) -> Result<(Vec<E>, Lexer<'a>), Stop>
+    ensures gives { Gives (λ v. map E.seen v.items) result (spec.listed E.says separator (view.closes close) (left lexer.entry)) }
+    ensures shorter { IfOk result (λ p. length (left p.1) < length (left lexer.entry)) }
+{
+    let mut all = Vec::new(alloc);
+    let (first, behind) = match E::read(alloc, lexer) {
+        Ok(read) => read,
+        Err(stop) => return Err(stop),
+    };
+    match all.push(first) {
+        Ok(()) => {}
+        Err(_) => return Err(Stop::Memory),
+    }
+    let mut rest = behind;
+    'entries: loop {
+        if closes(rest, close) {
+            return Ok((all, rest));
+        }
+        let after = match mark(rest, separator) {
+            Ok(after) => after,
+            Err(stop) => return Err(stop),
+        };
+        if closes(after, close) {
+            return Ok((all, after));
+        }
+        let (entry, more) = match E::read(alloc, after) {
+            Ok(read) => read,
+            Err(stop) => return Err(stop),
+        };
+        match all.push(entry) {
+            Ok(()) => rest = more,
+            Err(_) => return Err(Stop::Memory),
+        }
+    }
+}

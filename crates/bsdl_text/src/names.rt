@@ -1,0 +1,28 @@
+//! Names, which are ASCII.
+ghost use Rattle.std.specs.Prelude.{◌≡◌, IfOk, string_bytes};
+ghost use Rattle.bsdl_lex.specs.Ascii.{IsAscii};
+ghost use Rattle.bsdl_text.specs.Words.{upper};
+
+use std::alloc::{AllocError, Global};
+
+/// A word of a text: a letter, and then letters, digits and `_`.
+#[derive(Debug, Clone, Copy, PartialEq, Eq)]
+pub struct Word<'a> {
+    pub text: &'a [u8],
+    /// The place of its first byte, counted in bytes from 0.
+    pub start: usize,
+    pub ghost ascii: { IsAscii text.now },
+}
+
+impl Word<'_> {
+    /// The word in upper case.
+    pub fn upper_name(self, alloc: Global) -> Result<String, AllocError>
+        ensures { IfOk result (λ name. string_bytes name ≡ upper self.entry.text.now) }
+    {
+        let mut name = String::with_capacity(alloc, self.text.len())?;
+        for byte in self.text {
+            name.push(char::from(byte.to_ascii_uppercase()))?;
+        }
+        Ok(name)
+    }
+}

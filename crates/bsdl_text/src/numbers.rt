@@ -1,0 +1,82 @@
+//! Whole numbers of any length.
+ghost use Rattle.std.specs.Prelude.{◌≡◌, ◌≤◌, ◌^◌, ◌<◌, ◌+◌, ◌-◌, ◌*◌, true, min, length, take};
+ghost use Rattle.std.specs.Char.{is_ascii_digit};
+ghost use Rattle.std.specs.List.{list_all};
+ghost use Rattle.std.specs.Ordering.{nat_cmp};
+ghost use Rattle.std.specs.Str.Parse.{digits_value};
+
+use std::cmp::Ordering;
+
+/// A whole number of any length, by its digits.
+#[derive(Debug, Clone, Copy)]
+pub struct Digits<'a> {
+    pub digits: &'a [u8],
+    pub ghost all: { list_all is_ascii_digit digits.now ≡ true },
+}
+
+impl Digits<'_> {
+    /// How two numbers compare, however long they are.
+    pub fn compare(self, other: Digits<'_>) -> Ordering
+        ensures { result ≡ nat_cmp (digits_value 10 self.entry.digits.now) (digits_value 10 other.entry.digits.now) }
+    {
+        compare(self.digits, other.digits)
+    }
+
+    /// The number, or `most` where it is larger.
+    pub fn up_to(self, most: usize) -> usize
+        requires { most < 2 ^ 32 }
+        ensures { result ≡ min (digits_value 10 self.entry.digits.now) most }
+    {
+        up_to(self.digits, most)
+    }
+}
+
+/// How the numbers of two rows of digits compare: from the highest place on, with zeros before the shorter one.
+fn compare(one: &[u8], other: &[u8]) -> Ordering
+    requires one { list_all is_ascii_digit one.now ≡ true }
+    requires other { list_all is_ascii_digit other.now ≡ true }
+    ensures { result ≡ nat_cmp (digits_value 10 one.now) (digits_value 10 other.now) }
+{
+    let mut order = Ordering::Equal;
+    let mut left = one.len().max(other.len());
+    while left > 0 {
+        left -= 1;
+        let (digit, other_digit) = (digit_at(one, left), digit_at(other, left));
+        order = order.then(digit.cmp(&other_digit));
+    }
+    order
+}
+
+/// The digit with so many places behind it, or 0 before the first.
+fn digit_at(digits: &[u8], place: usize) -> u8
+    requires { list_all is_ascii_digit digits.now ≡ true }
+    ensures small { result ≤ 9 }
+    ensures value { digits_value 10 (take (length digits.now - place) digits.now) ≡ digits_value 10 (take (length digits.now - (place + 1)) digits.now) * 10 + result }
+{
+    if place < digits.len() {
+        digit_of(digits, digits.len() - 1 - place)
+    } else {
+        0
+    }
+}
+
+fn digit_of(digits: &[u8], i: usize) -> u8
+    requires all { list_all is_ascii_digit digits.now ≡ true }
+    requires within { i < length digits.now }
+    ensures small { result ≤ 9 }
+    ensures value { digits_value 10 (take (i + 1) digits.now) ≡ digits_value 10 (take i digits.now) * 10 + result }
+{
+    digits[i] - b'0'
+}
+
+fn up_to(digits: &[u8], most: usize) -> usize
+    requires digits { list_all is_ascii_digit digits.now ≡ true }
+    requires most { most < 2 ^ 32 }
+    ensures { result ≡ min (digits_value 10 digits.now) most }
+{
+    let mut value = 0;
+    for i in 0..digits.len() {
+        value = (value * 10 + usize::from(digit_of(digits, i))).min(most);
+    }
+    value
+}

@@ -1,0 +1,55 @@
+//! Strings, and the text that strings joined by `&` make.
+ghost use Rattle.std.specs.Prelude.{◌≡◌, ◌<◌, length, IfOk};
+ghost use Rattle.bsdl_lex.specs.Left.{left, lexeme};
+ghost use Rattle.bsdl_text.specs.Reading as spec;
+ghost use Rattle.bsdl_text.specs.Words as words;
+ghost use Rattle.bsdl_text.specs.View.{Gives};
+
+use crate::reading::{Stop, mark, stands, string};
+use bsdl_lex::{Lexer, Token};
+use std::alloc::Global;
+
+/// The text of a string, or of several joined by `&`, and the lexer behind them.
+pub fn joined_text<'a>(alloc: Global, lexer: Lexer<'a>) -> Result<(Vec<u8>, Lexer<'a>), Stop>
+    ensures gives { Gives (λ v. v.items) result (spec.joined_text (left lexer.entry)) }
+    ensures shorter { IfOk result (λ p. length (left p.1) < length (left lexer.entry)) }
+{
+    let mut text = Vec::new(alloc);
+    let (first, behind) = match string(lexer) {
+        Ok(read) => read,
+        Err(stop) => return Err(stop),
+    };
+    match text.extend_from_slice(inner(first)) {
+        Ok(()) => {}
+        Err(_) => return Err(Stop::Memory),
+    }
+    let mut rest = behind;
+    'strings: loop {
+        if !stands(rest, b'&') {
+            return Ok((text, rest));
+        }
+        let after = match mark(rest, b'&') {
+            Ok(after) => after,
+            Err(stop) => return Err(stop),
+        };
+        let (next, more) = match string(after) {
+            Ok(read) => read,
+            Err(stop) => return Err(stop),
+        };
+        match text.extend_from_slice(inner(next)) {
+            Ok(()) => rest = more,
+            Err(_) => return Err(Stop::Memory),
+        }
+    }
+}
+
+/// The bytes between a string's quotes.
+fn inner(token: Token<'_>) -> &[u8]
+    ensures { result.now ≡ words.inner (lexeme token.entry) }
+{
+    let text = token.text;
+    if text.len() < 2 {
+        return &[];
+    }
+    &text[1..text.len() - 1]
+}
