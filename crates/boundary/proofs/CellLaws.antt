@@ -1,0 +1,120 @@
+-- Cells by their place.
+use Rattle.std.proofs.Common.{◌≡◌, ℕ, zero, suc, ◌+◌, ◌<◌, ◌≤◌, Bool, true, false, ◌==◌, List, [], ◌∷◌, ◌++◌, length, take, drop, set, get_or, slice_get, Option, Some, None, if◌then◌else◌, refl, sym, ap, ◌∙◌, arith}
+use Rattle.std.proofs.Math.Seq.{drop-cons, get_or-append_right}
+use Rattle.std.proofs.lemmas.List.{take_all, drop_all, append-nil, get_or-drop, length-take}
+use Rattle.std.proofs.lemmas.Bool.Decides.{nat_tests}
+use Rattle.std.proofs.lemmas.Option.{get_or_from_slice_get}
+use Rattle.bsdl_device.specs.declared.Cell.{Cell}
+use Rattle.bsdl_device.specs.declared.Control3.{Control3}
+use Rattle.boundary.specs.Cells.{capture_from, cell_captures, reset_from, reset_cell, disabling_value, disabling_of}
+
+pub capture-length : (cells : List Cell) (seen update core : List Bool) (from_update : Bool) → length seen ≡ length cells → length update ≡ length cells → length core ≡ length cells
+    → length (capture_from cells seen from_update update core) ≡ length cells
+capture-length [] [] [] [] f a b d = refl
+capture-length [] (s ∷ seen) update core f a b d = absurd (omega arith)
+capture-length [] [] (u ∷ update) core f a b d = absurd (omega arith)
+capture-length [] [] [] (c ∷ core) f a b d = absurd (omega arith)
+capture-length (cell ∷ cells) [] update core f a b d = absurd (omega arith)
+capture-length (cell ∷ cells) (s ∷ seen) [] core f a b d = absurd (omega arith)
+capture-length (cell ∷ cells) (s ∷ seen) (u ∷ update) [] f a b d = absurd (omega arith)
+capture-length (cell ∷ cells) (s ∷ seen) (u ∷ update) (c ∷ core) f a b d = let h = capture-length cells seen update core f (omega arith) (omega arith) (omega arith) in omega (arith, h)
+
+pub reset-length : (all : List Cell) (k : ℕ) (cells : List Cell) (us : List Bool) → length (reset_from all k cells us) ≡ length us
+reset-length all k [] us = refl
+reset-length all k (c ∷ cs) [] = refl
+reset-length all k (c ∷ cs) (u ∷ us) = let h = reset-length all (suc k) cs us in omega (arith, h)
+
+-- the first i cells have captured
+pub captured_more : (cells : List Cell) (seen update core stage : List Bool) (f : Bool) (i : ℕ) (x : Cell) (s u c : Bool) → length seen ≡ length cells → length update ≡ length cells → length core ≡ length cells → length stage ≡ length cells
+    → i < length cells
+    → set (take i (capture_from cells seen f update core) ++ drop i stage) i (cell_captures (get_or seen i s) f (get_or update i u) (get_or core i c) (get_or cells i x).port (get_or cells i x).function)
+    ≡ take (suc i) (capture_from cells seen f update core) ++ drop (suc i) stage
+captured_more [] seen update core stage f i x s u c ls lu lc lt h = absurd (omega arith)
+captured_more (cell ∷ cells) [] update core stage f i x s u c ls lu lc lt h = absurd (omega arith)
+captured_more (cell ∷ cells) (a ∷ seen) [] core stage f i x s u c ls lu lc lt h = absurd (omega arith)
+captured_more (cell ∷ cells) (a ∷ seen) (b ∷ update) [] stage f i x s u c ls lu lc lt h = absurd (omega arith)
+captured_more (cell ∷ cells) (a ∷ seen) (b ∷ update) (d ∷ core) [] f i x s u c ls lu lc lt h = absurd (omega arith)
+captured_more (cell ∷ cells) (a ∷ seen) (b ∷ update) (d ∷ core) (t ∷ stage) f zero x s u c ls lu lc lt h = refl
+captured_more (cell ∷ cells) (a ∷ seen) (b ∷ update) (d ∷ core) (t ∷ stage) f (suc i) x s u c ls lu lc lt h =
+    ap (λ r. cell_captures a f b d cell.port cell.function ∷ r) (captured_more cells seen update core stage f i x s u c (omega arith) (omega arith) (omega arith) (omega arith) (omega arith))
+
+pub captured_all : (cells : List Cell) (seen update core stage : List Bool) (f : Bool) (i : ℕ) → length seen ≡ length cells → length update ≡ length cells → length core ≡ length cells → length stage ≡ length cells
+    → length cells ≤ i → take i (capture_from cells seen f update core) ++ drop i stage ≡ capture_from cells seen f update core
+captured_all cells seen update core stage f i ls lu lc lt h =
+    let long = capture-length cells seen update core f ls lu lc in
+    ap (λ (t : List Bool). t ++ drop i stage) (take_all i (capture_from cells seen f update core) (omega (arith, long)))
+    ∙ ap (λ (r : List Bool). capture_from cells seen f update core ++ r) (drop_all i stage (omega arith)) ∙ append-nil (capture_from cells seen f update core)
+
+-- the first i cells have been reset
+pub reset_more : (all : List Cell) (k j : ℕ) (cells : List Cell) (us : List Bool) (i : ℕ) (x : Cell) (u : Bool) → length us ≡ length cells → i < length cells → j ≡ k + i
+    → set (take i (reset_from all k cells us) ++ drop i us) i (reset_cell all j (get_or cells i x).function (get_or us i u)) ≡ take (suc i) (reset_from all k cells us) ++ drop (suc i) us
+reset_more all k j [] us i x u l h e = absurd (omega arith)
+reset_more all k j (c ∷ cs) [] i x u l h e = absurd (omega arith)
+reset_more all k j (c ∷ cs) (b ∷ us) zero x u l h e = let at : j ≡ k = omega arith in ap (λ n. reset_cell all n c.function b ∷ us) at
+reset_more all k j (c ∷ cs) (b ∷ us) (suc i) x u l h e = ap (λ r. reset_cell all k c.function b ∷ r) (reset_more all (suc k) j cs us i x u (omega arith) (omega arith) (omega arith))
+
+pub unread : (bits front : List Bool) (i : ℕ) (d : Bool) → length front ≡ i → get_or (front ++ drop i bits) i d ≡ get_or bits i d
+unread bits front i d e = get_or-append_right front (drop i bits) i d (omega arith) ∙ ap (λ n. get_or (drop i bits) n d) (omega arith) ∙ get_or-drop i bits 0 d ∙ ap (λ n. get_or bits n d) (omega arith)
+
+-- ---- the disabling value, cell by cell
+disabling_at : (k : ℕ) (cells : List Cell) (i : ℕ) (x : Cell) → i < length cells → disabling_value k (drop i cells) ≡ disabling_of k (get_or cells i x).control (disabling_value k (drop (i + 1) cells))
+disabling_at k cells i x h =
+    let next : i + 1 ≡ suc i = omega arith in
+    ap (disabling_value k) (drop-cons cells i x h) ∙ ap (λ n. disabling_of k (get_or cells i x).control (disabling_value k (drop n cells))) (sym next)
+
+pub disabling_here : (k : ℕ) (cells : List Cell) (i : ℕ) (x : Cell) (t : Control3) → i < length cells → disabling_value k cells ≡ disabling_value k (drop i cells) → (get_or cells i x).control ≡ Some t
+    → t.cell ≡ k → t.disabling ≡ disabling_value k cells
+disabling_here k cells i x t h so_far is named =
+    let yes_ : (t.cell == k) ≡ true = grind (arith, nat_tests) in
+    sym (so_far ∙ disabling_at k cells i x h ∙ ap (λ (o : Option Control3). disabling_of k o (disabling_value k (drop (i + 1) cells))) is
+    ∙ ap (λ (b : Bool). if b then t.disabling else disabling_value k (drop (i + 1) cells)) yes_)
+
+pub disabling_other : (k : ℕ) (cells : List Cell) (i : ℕ) (x : Cell) (t : Control3) → i < length cells → disabling_value k cells ≡ disabling_value k (drop i cells) → (get_or cells i x).control ≡ Some t
+    → (t.cell ≡ k → ⊥) → disabling_value k cells ≡ disabling_value k (drop (i + 1) cells)
+disabling_other k cells i x t h so_far is other =
+    let no_ : (t.cell == k) ≡ false = grind (arith, nat_tests) in
+    so_far ∙ disabling_at k cells i x h ∙ ap (λ (o : Option Control3). disabling_of k o (disabling_value k (drop (i + 1) cells))) is
+    ∙ ap (λ (b : Bool). if b then t.disabling else disabling_value k (drop (i + 1) cells)) no_
+
+pub disabling_none : (k : ℕ) (cells : List Cell) (i : ℕ) (x : Cell) → i < length cells → disabling_value k cells ≡ disabling_value k (drop i cells) → (get_or cells i x).control ≡ None
+    → disabling_value k cells ≡ disabling_value k (drop (i + 1) cells)
+disabling_none k cells i x h so_far is =
+    so_far ∙ disabling_at k cells i x h ∙ ap (λ (o : Option Control3). disabling_of k o (disabling_value k (drop (i + 1) cells))) is
+
+pub capture_step : (cells : List Cell) (seen update core stage now new : List Bool) (f : Bool) (i : ℕ) (x : Cell) (s u c bit : Bool) → length seen ≡ length cells → length update ≡ length cells → length core ≡ length cells → length stage ≡ length cells
+    → i < length cells → now ≡ take i (capture_from cells seen f update core) ++ drop i stage → new ≡ set now i bit → bit ≡ cell_captures s f u c (get_or cells i x).port (get_or cells i x).function
+    → slice_get seen i ≡ Some s → slice_get update i ≡ Some u → slice_get core i ≡ Some c → new ≡ take (i + 1) (capture_from cells seen f update core) ++ drop (i + 1) stage
+capture_step cells seen update core stage now new f i x s u c bit ls lu lc lt h so_far stored is a b d =
+    let next : i + 1 ≡ suc i = omega arith in
+    let all = capture_from cells seen f update core in
+    let q = (get_or cells i x).port in
+    let k = (get_or cells i x).function in
+    stored ∙ ap (λ (st : List Bool). set st i bit) so_far
+    ∙ ap (λ (y : Bool). set (take i all ++ drop i stage) i y)
+    (is ∙ ap (λ (y : Bool). cell_captures y f u c q k) (sym (get_or_from_slice_get seen i s s a))
+    ∙ ap (λ (y : Bool). cell_captures (get_or seen i s) f y c q k) (sym (get_or_from_slice_get update i u u b))
+    ∙ ap (λ (y : Bool). cell_captures (get_or seen i s) f (get_or update i u) y q k) (sym (get_or_from_slice_get core i c c d)))
+    ∙ captured_more cells seen update core stage f i x s u c ls lu lc lt h
+    ∙ ap (λ n. take n all ++ drop n stage) (sym next)
+
+-- the bit that is read while the cells below it have been reset
+pub still_there : (all : List Cell) (cells : List Cell) (us now : List Bool) (i : ℕ) (b : Bool) → length us ≡ length cells → i < length cells → now ≡ take i (reset_from all 0 cells us) ++ drop i us
+    → slice_get now i ≡ Some b → get_or us i b ≡ b
+still_there all cells us now i b same h so_far is =
+    let r = reset_from all 0 cells us in
+    let front : length (take i r) ≡ i = omega (arith, length-take i r, reset-length all 0 cells us) in
+    sym (unread us (take i r) i b front) ∙ ap (λ (n : List Bool). get_or n i b) (sym so_far) ∙ get_or_from_slice_get now i b b is
+
+pub reset_step : (cells : List Cell) (us now new : List Bool) (i : ℕ) (x : Cell) (u bit : Bool) → length us ≡ length cells → i < length cells → now ≡ take i (reset_from cells 0 cells us) ++ drop i us
+    → slice_get now i ≡ Some u → bit ≡ reset_cell cells i (get_or cells i x).function u → new ≡ set now i bit → new ≡ take (i + 1) (reset_from cells 0 cells us) ++ drop (i + 1) us
+reset_step cells us now new i x u bit same h so_far is gives stored =
+    let next : i + 1 ≡ suc i = omega arith in
+    let r = reset_from cells 0 cells us in
+    stored ∙ ap (λ (n : List Bool). set n i bit) so_far
+    ∙ ap (λ (y : Bool). set (take i r ++ drop i us) i y) (gives ∙ ap (reset_cell cells i (get_or cells i x).function) (sym (still_there cells cells us now i u same h so_far is)))
+    ∙ reset_more cells 0 i cells us i x u same h (omega arith) ∙ ap (λ n. take n r ++ drop n us) (sym next)
+
+pub reset_all_of : (cells : List Cell) (us : List Bool) (i : ℕ) → length us ≡ length cells → length cells ≤ i → take i (reset_from cells 0 cells us) ++ drop i us ≡ reset_from cells 0 cells us
+reset_all_of cells us i same h =
+    let r = reset_from cells 0 cells us in
+    ap (λ (t : List Bool). t ++ drop i us) (take_all i r (omega (arith, reset-length cells 0 cells us))) ∙ ap (λ (t : List Bool). r ++ t) (drop_all i us (omega arith)) ∙ append-nil r

@@ -1,0 +1,131 @@
+-- The boundary cells of a device on the board: what they capture, what a reset gives them, what the pins drive
+-- (IEEE Std 1149.1-2001, clauses 8 and 11, and Annex B for the cell table).
+use Rattle.std.specs.Prelude.{Bool, true, false, ◌&&◌, ℕ, suc, ◌==◌, List, [], ◌∷◌, length, replicate, slice_get, Option, Some, None, unwrap_or, if◌then◌else◌}
+use Rattle.bsdl_device.specs.declared.Cell.{Cell}
+use Rattle.bsdl_device.specs.declared.Control3.{Control3}
+use Rattle.bsdl_device.specs.declared.Disabled.{Disabled}
+use Rattle.bsdl_device.specs.declared.Disabled.TheVariants.{Z, Keeper, Weak0, Weak1, Pull0, Pull1}
+use Rattle.bsdl_device.specs.declared.Function.{Function}
+use Rattle.bsdl_device.specs.declared.Function.TheVariants.{Input, Clock, ObserveOnly, Bidir, Output2, Output3, ControlR, Internal}
+use Rattle.scan_registers.specs.declared.Mode.{Mode}
+use Rattle.scan_registers.specs.declared.Mode.TheVariants.{Extest, Clamp, HighZ}
+use Rattle.pin_nets.specs.declared.Drive.{Drive}
+use Rattle.pin_nets.specs.declared.Drive.TheVariants.{Strong, Weak, Nothing}
+
+-- a boundary register on the board; `seen` is what the port of each cell sees
+pub record BoundaryValue : Type 0 where
+  pub cells : List Cell
+  pub core : List Bool
+  pub extest_update : Bool
+  pub seen : List Bool
+  pub stage : List Bool
+  pub update : List Bool
+
+abbrev pub bit : List Bool → ℕ → Bool
+bit bits k = unwrap_or (slice_get bits k) false
+
+-- whether a capture takes the update stage: EXTEST on a device whose board file says so
+abbrev pub takes_update : Bool → Mode → Bool
+takes_update extest_update Extest = extest_update
+takes_update extest_update _ = false
+
+-- What one cell captures: an input what its port sees, any other its core bit or, as above, its update bit.
+abbrev pub cell_captures : (seen from_update update core : Bool) → Option ℕ → Function → Bool
+cell_captures s from_update u c (Some p) Input = s
+cell_captures s from_update u c (Some p) Clock = s
+cell_captures s from_update u c (Some p) ObserveOnly = s
+cell_captures s from_update u c (Some p) Bidir = s
+cell_captures s from_update u c port Internal = c
+cell_captures s from_update u c port _ = if from_update then u else c
+
+-- the whole boundary's capture
+abbrev pub capture_from : List Cell → (seen : List Bool) → (from_update : Bool) → (update core : List Bool) → List Bool
+capture_from (cell ∷ cells) (s ∷ seen) from_update (u ∷ update) (c ∷ core) =
+    cell_captures s from_update u c cell.port cell.function ∷ capture_from cells seen from_update update core
+capture_from _ _ _ _ _ = []
+
+abbrev pub captured : BoundaryValue → Mode → List Bool
+captured b mode = capture_from b.cells b.seen (takes_update b.extest_update mode) b.update b.core
+
+-- The disabling value of control cell k: that of the lowest cell that names it, 0 if none does.
+abbrev pub disabling_of : ℕ → Option Control3 → Bool → Bool
+disabling_of k (Some t) otherwise = if t.cell == k then t.disabling else otherwise
+disabling_of k None otherwise = otherwise
+
+abbrev pub disabling_value : ℕ → List Cell → Bool
+disabling_value k [] = false
+disabling_value k (c ∷ cs) = disabling_of k c.control (disabling_value k cs)
+
+abbrev pub reset_cell : List Cell → ℕ → Function → Bool → Bool
+reset_cell all k ControlR u = disabling_value k all
+reset_cell all k _ u = u
+
+-- the update stage with each controlr cell at its disabling value, from cell k on
+abbrev pub reset_from : List Cell → ℕ → List Cell → List Bool → List Bool
+reset_from all k (c ∷ cs) (u ∷ us) = reset_cell all k c.function u ∷ reset_from all (suc k) cs us
+reset_from all k _ us = us
+
+abbrev pub at_reset : BoundaryValue → List Bool
+at_reset b = reset_from b.cells 0 b.cells b.update
+
+-- the bits that drive: the update stage under EXTEST and CLAMP, else the core's
+abbrev pub in_force : Mode → BoundaryValue → List Bool
+in_force Extest b = b.update
+in_force Clamp b = b.update
+in_force _ b = b.core
+
+-- what a disabled driver leaves on its pin
+abbrev pub left_by : Disabled → Drive
+left_by Z = Nothing
+left_by Keeper = Nothing
+left_by Weak0 = Weak false
+left_by Pull0 = Weak false
+left_by Weak1 = Weak true
+left_by Pull1 = Weak true
+
+-- whether a cell of this function drives its port
+abbrev pub drives : Function → Bool
+drives Output2 = true
+drives Output3 = true
+drives Bidir = true
+drives _ = false
+
+abbrev pub same_bit : Bool → Bool → Bool
+same_bit true b = b
+same_bit false true = false
+same_bit false false = true
+
+-- What driving cell k drives under the bits in force: what its control leaves while disabled, else its own bit.
+abbrev pub cell_drive : List Bool → ℕ → Option Control3 → Drive
+cell_drive bits k None = Strong (bit bits k)
+cell_drive bits k (Some t) =
+    if same_bit (bit bits t.cell) t.disabling then left_by t.leaves else Strong (bit bits k)
+
+abbrev pub is_port : ℕ → Option ℕ → Bool
+is_port p (Some q) = p == q
+is_port p None = false
+
+-- the drive of a port bit: that of the cell that drives it, Nothing if none does
+abbrev pub drive_from : List Bool → ℕ → ℕ → List Cell → Drive
+drive_from bits p k [] = Nothing
+drive_from bits p k (c ∷ cs) =
+    if drives c.function && is_port p c.port then cell_drive bits k c.control else drive_from bits p (suc k) cs
+
+-- Under HIGHZ every pin drives nothing.
+abbrev pub drive_in : Mode → BoundaryValue → ℕ → Drive
+drive_in HighZ b p = Nothing
+drive_in mode b p = drive_from (in_force mode b) p 0 b.cells
+
+abbrev pub zeros : ℕ → List Bool
+zeros n = replicate n false
+
+-- At power-up every bit is 0, but for the controlr update cells.
+abbrev pub powered : List Cell → (core : List Bool) → (extest_update : Bool) → BoundaryValue
+powered cells core extest_update = record {
+  cells = cells;
+  core = core;
+  extest_update = extest_update;
+  seen = zeros (length cells);
+  stage = zeros (length cells);
+  update = reset_from cells 0 cells (zeros (length cells));
+}

@@ -1,0 +1,318 @@
+//! The boundary register of a device on the board: what its cells capture, what a reset gives them, what the pins drive
+//! (IEEE Std 1149.1-2001, clauses 8 and 11, and Annex B for the cell table).
+#![tactic(auto)]
+
+ghost use Rattle.std.specs.Prelude.{◌≡◌, ◌<◌, ℕ, List, Bool, length, slice_get, IfOk};
+ghost use Rattle.boundary.specs.Cells as cells;
+ghost use Rattle.boundary.specs.Cells.{BoundaryValue};
+ghost use Rattle.boundary.specs.Sight.{CapturesBySight};
+
+use bsdl_device::{Cell, Control3, Disabled, Function};
+use jt_bits::Bits;
+pub use pin_nets::Drive;
+use scan_registers::{Mode, Register, SharedDevice};
+use std::alloc::{AllocError, Global};
+use std::marker::Model;
+
+/// The cells of a device with what their ports see, their core's bits, and the two lists of the register.
+#[derive(Drop)]
+pub struct Boundary {
+    device: SharedDevice,
+    core: Bits,
+    extest_update: bool,
+    seen: Bits,
+    stage: Bits,
+    update: Bits,
+}
+
+impl Model for Boundary {
+    ghost use Rattle.std.specs.Prelude.{◌≡◌, length};
+    ghost use Rattle.boundary.specs.Cells.{BoundaryValue};
+
+    ghost Value = { BoundaryValue };
+
+    ghost view = { λ b. record {
+      cells = b.device.cells;
+      core = b.core;
+      extest_update = b.extest_update;
+      seen = b.seen;
+      stage = b.stage;
+      update = b.update;
+    } };
+
+    ghost invariant = { λ b. record {
+      core : length b.core ≡ length b.device.cells;
+      seen : length b.seen ≡ length b.device.cells;
+      stage : length b.stage ≡ length b.device.cells;
+      update : length b.update ≡ length b.device.cells;
+    } };
+}
+
+impl Register for Boundary {
+    ghost use Rattle.std.specs.Prelude.{refl, slice_set};
+    ghost use Rattle.boundary.specs.Cells as cells;
+    ghost use Rattle.boundary.specs.Laws.{seen_alone, taken_part};
+
+    ghost stage = { λ b. b.stage };
+
+    ghost update_part = { λ b. b.update };
+
+    ghost with_parts = { λ b s u. record b { stage = s; update = u } };
+
+    ghost captured = { cells.captured };
+
+    ghost at_reset = { cells.at_reset };
+
+    ghost saw = { λ b cell bit. record b { seen = slice_set b.seen cell bit } };
+
+    fn len(&self) -> usize {
+        self.stage.len()
+    }
+
+    fn get(&self, i: usize) -> bool {
+        self.stage.get(i)
+    }
+
+    fn see(&mut self, cell: usize, bit: bool) {
+        self.seen.set(cell, bit);
+    }
+
+    fn capture(&mut self, mode: Mode) {
+        let from_update = self.extest_update && matches!(mode, Mode::Extest);
+        capture_all(
+            self.device.get().cells(),
+            &self.core,
+            from_update,
+            &self.seen,
+            &self.update,
+            &mut self.stage,
+        );
+    }
+
+    fn shift_in(&mut self, bit: bool) -> bool {
+        self.stage.shift_in(bit)
+    }
+
+    fn update(&mut self) {
+        self.update.copy_from(&self.stage);
+    }
+
+    fn reset(&mut self) {
+        reset_all(self.device.get().cells(), &mut self.update);
+    }
+
+    ghost stage_of = { λ r s u. refl };
+
+    ghost update_of = { λ r s u. refl };
+
+    ghost parts_twice = { λ r s u t v. refl };
+
+    ghost parts_same = { λ r. refl };
+
+    ghost captured_by_update = { λ r s mode. refl };
+
+    ghost reset_by_update = { λ r s. refl };
+
+    ghost sees_stage = { λ r cell bit. refl };
+
+    ghost sees_update = { λ r cell bit. refl };
+
+    ghost sees_alone = { λ r cell bit mode i apart. seen_alone r.cells r.seen r.update r.core (cells.takes_update r.extest_update mode) cell bit i apart };
+
+    ghost sees_reset = { λ r cell bit. refl };
+
+    ghost sees_parts = { λ r cell bit s u. refl };
+
+    ghost captured_part = { λ r mode i. taken_part r mode i };
+}
+
+/// Each cell of the stage takes what it captures.
+fn capture_all(
+    list: &[Cell],
+    core: &Bits,
+    from_update: bool,
+    seen: &Bits,
+    update: &Bits,
+    stage: &mut Bits,
+)
+    requires core { length core.now ≡ length list.now }
+    requires seen { length seen.now ≡ length list.now }
+    requires update { length update.now ≡ length list.now }
+    requires stage { length stage.old ≡ length list.now }
+    ensures { stage.new ≡ cells.capture_from list.now seen.now from_update update.now core.now }
+{
+    for k in 0..list.len() {
+        let bit = cell_captures(
+            seen.get(k),
+            from_update,
+            update.get(k),
+            core.get(k),
+            list[k].port,
+            list[k].function,
+        );
+        stage.set(k, bit);
+    }
+}
+
+/// What one cell captures.
+fn cell_captures(
+    seen: bool,
+    from_update: bool,
+    update: bool,
+    core: bool,
+    port: Option<usize>,
+    function: Function,
+) -> bool
+    ensures { result ≡ cells.cell_captures seen from_update update core port function }
+{
+    match (port, function) {
+        (Some(_), Function::Input | Function::Clock | Function::ObserveOnly | Function::Bidir) =>
+            seen,
+        (_, Function::Internal) => core,
+        _ => { if from_update { update } else { core } }
+    }
+}
+
+/// Once each cell with a port was told what its port sees, a capture is the board's.
+pub fn captures_what_ports_see()
+    ensures { CapturesBySight }
+{}
+
+/// Each controlr cell takes its disabling value.
+fn reset_all(list: &[Cell], update: &mut Bits)
+    requires { length update.old ≡ length list.now }
+    ensures { update.new ≡ cells.reset_from list.now 0 list.now update.old }
+{
+    for k in 0..list.len() {
+        let bit = reset_cell(list, k, list[k].function, update.get(k));
+        update.set(k, bit);
+    }
+}
+
+/// What a reset gives cell `k` of this function and update bit.
+fn reset_cell(list: &[Cell], k: usize, function: Function, update: bool) -> bool
+    ensures { result ≡ cells.reset_cell list.now k function update }
+{
+    match function {
+        Function::ControlR => disabling_value(list, k),
+        _ => update,
+    }
+}
+
+/// The disabling value of control cell `k`: that of the lowest cell that names it, 0 if none does.
+fn disabling_value(list: &[Cell], k: usize) -> bool
+    ensures { result ≡ cells.disabling_value k list.now }
+{
+    for cell in list {
+        if let Some(control) = cell.control {
+            if control.cell == k {
+                return control.disabling;
+            }
+        }
+    }
+    false
+}
+
+impl Boundary {
+    /// The boundary register of a device at power-up: every bit 0, but for the controlr cells of the update stage, which
+    /// have their disabling values. `core` has a bit for each cell; with `extest_update` a capture under EXTEST takes the
+    /// update stage in place of the core's bits.
+    pub fn new(
+        alloc: Global,
+        device: &SharedDevice,
+        core: &Bits,
+        extest_update: bool,
+    ) -> Result<Boundary, AllocError>
+        requires { length core.now ≡ length device.now.cells }
+        ensures { IfOk result (λ b. b ≡ cells.powered device.now.cells core.now extest_update) }
+    {
+        let device = device.share()?;
+        let mut update = Bits::zeros(alloc, core.len())?;
+        reset_all(device.get().cells(), &mut update);
+        let seen = Bits::zeros(alloc, core.len())?;
+        let stage = Bits::zeros(alloc, core.len())?;
+        Ok(Boundary {
+            device,
+            core: core.try_clone(alloc)?,
+            extest_update,
+            seen,
+            stage,
+            update,
+        })
+    }
+
+    /// The bits between TDI and TDO.
+    pub fn stage(&self) -> &Bits
+        ensures { result.now ≡ self.now.stage }
+    {
+        &self.stage
+    }
+
+    /// The bits that drive under EXTEST and CLAMP.
+    pub fn update_stage(&self) -> &Bits
+        ensures { result.now ≡ self.now.update }
+    {
+        &self.update
+    }
+
+    /// What a port bit drives in a mode.
+    pub fn drive(&self, port: usize, mode: Mode) -> Drive
+        ensures { result ≡ cells.drive_in mode self.now port }
+    {
+        match mode {
+            Mode::HighZ => Drive::Nothing,
+            Mode::Extest => drive_of(self.device.get().cells(), &self.update, port),
+            Mode::Clamp => drive_of(self.device.get().cells(), &self.update, port),
+            Mode::Core => drive_of(self.device.get().cells(), &self.core, port),
+        }
+    }
+}
+
+/// The drive of a port bit under the bits in force.
+fn drive_of(list: &[Cell], bits: &Bits, port: usize) -> Drive
+    ensures { result ≡ cells.drive_from bits.now port 0 list.now }
+{
+    for k in 0..list.len() {
+        if drives(list[k].function) && list[k].port == Some(port) {
+            return cell_drive(bits, k, list[k].control);
+        }
+    }
+    Drive::Nothing
+}
+
+fn drives(function: Function) -> bool
+    ensures { result ≡ cells.drives function }
+{
+    matches!(
+        function,
+        Function::Output2 | Function::Output3 | Function::Bidir
+    )
+}
+
+fn cell_drive(bits: &Bits, k: usize, control: Option<Control3>) -> Drive
+    ensures { result ≡ cells.cell_drive bits.now k control }
+{
+    match control {
+        Some(control) if bit(bits, control.cell) == control.disabling => left_by(control.leaves),
+        _ => Drive::Strong(bit(bits, k)),
+    }
+}
+
+fn left_by(leaves: Disabled) -> Drive
+    ensures { result ≡ cells.left_by leaves }
+{
+    match leaves {
+        Disabled::Z | Disabled::Keeper => Drive::Nothing,
+        Disabled::Weak0 | Disabled::Pull0 => Drive::Weak(false),
+        Disabled::Weak1 | Disabled::Pull1 => Drive::Weak(true),
+    }
+}
+
+fn bit(bits: &Bits, k: usize) -> bool
+    ensures { result ≡ cells.bit bits.now k }
+{
+    k < bits.len() && bits.get(k)
+}
+
+#[cfg(test)]
+mod tests;

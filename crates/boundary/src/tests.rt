@@ -1,0 +1,100 @@
+//! A register of five cells: output3 on port 0, its control, input on port 1, a controlr cell, and output2 on port 2 that
+//! the controlr cell disables by 1, with a pull to 1.
+use super::*;
+use bsdl_device::{Device, Parts, Ports};
+use std::process::Abort;
+use std::test::Fail;
+
+fn cell(function: Function, port: Option<usize>, control: Option<(usize, bool, Disabled)>) -> Cell {
+    let control = match control {
+        Some((cell, disabling, leaves)) => Some(Control3 {
+            cell,
+            disabling,
+            leaves,
+        }),
+        None => None,
+    };
+    Cell {
+        function,
+        port,
+        control,
+    }
+}
+
+fn device(alloc: Global) -> Result<Device, AllocError> {
+    let mut cells = Vec::with_capacity(alloc, 5)?;
+    cells.push(cell(Function::Output3, Some(0), Some((1, false, Disabled::Z))))?;
+    cells.push(cell(Function::Control, None, None))?;
+    cells.push(cell(Function::Input, Some(1), None))?;
+    cells.push(cell(Function::ControlR, None, None))?;
+    cells.push(cell(Function::Output2, Some(2), Some((3, true, Disabled::Pull1))))?;
+    Ok(Device::new(Parts {
+        ports: Ports::new(alloc),
+        instruction_length: 2,
+        opcodes: Vec::new(alloc),
+        capture: Bits::zeros(alloc, 2)?,
+        idcode: None,
+        usercode: None,
+        cells,
+        private_names: Vec::new(alloc),
+        accesses: Vec::new(alloc),
+        users: Vec::new(alloc),
+        has_trst: false,
+    }))
+}
+
+/// The register with core bits 1, 1, 0, 0, 0.
+fn register(rt: &impl Abort, alloc: Global, extest_update: bool) -> Result<Boundary, Fail> {
+    let shared = SharedDevice::new(alloc, device(alloc)?)?;
+    let Ok(core) = Bits::from_hex(alloc, b"03", 5) else {
+        return Err(Fail::from("no core"));
+    };
+    assert!(rt; core.len() == shared.get().cells().len());
+    Ok(Boundary::new(alloc, &shared, &core, extest_update)?)
+}
+
+fn digits(bits: &Bits) -> (u8, u8) {
+    (bits.hex_digit(1), bits.hex_digit(0))
+}
+
+#[test]
+fn drives_in_each_mode(rt: HostRuntime) -> Result<(), Fail> {
+    let mut register = register(&rt, rt.alloc(), false)?;
+    assert_eq!(rt; register.drive(0, Mode::Core), Drive::Strong(true));
+    assert_eq!(rt; register.drive(0, Mode::Extest), Drive::Nothing);
+    assert_eq!(rt; register.drive(1, Mode::Core), Drive::Nothing);
+    assert_eq!(rt; register.drive(2, Mode::Core), Drive::Strong(false));
+    assert_eq!(rt; register.drive(2, Mode::Clamp), Drive::Weak(true));
+    assert_eq!(rt; register.drive(2, Mode::HighZ), Drive::Nothing);
+    for bit in [false, true, false, false, true] {
+        assert!(rt; register.len() > 0);
+        register.shift_in(bit);
+    }
+    register.update();
+    assert_eq!(rt; digits(register.update_stage()), (b'1', b'2'));
+    assert_eq!(rt; register.drive(0, Mode::Extest), Drive::Strong(false));
+    assert_eq!(rt; register.drive(2, Mode::Extest), Drive::Strong(true));
+    register.reset();
+    assert_eq!(rt; digits(register.update_stage()), (b'1', b'A'));
+    assert_eq!(rt; register.drive(2, Mode::Clamp), Drive::Weak(true));
+    Ok(())
+}
+
+#[test]
+fn captures(rt: HostRuntime) -> Result<(), Fail> {
+    for extest_update in [false, true] {
+        let mut register = register(&rt, rt.alloc(), extest_update)?;
+        assert!(rt; register.len() > 2);
+        register.see(2, true);
+        register.capture(Mode::Core);
+        assert_eq!(rt; digits(register.stage()), (b'0', b'7'));
+        register.capture(Mode::Extest);
+        let wanted = if extest_update {
+            (b'0', b'C')
+        } else {
+            (b'0', b'7')
+        };
+        assert_eq!(rt; digits(register.stage()), wanted);
+    }
+    Ok(())
+}

@@ -1,0 +1,3 @@
+pub mod Building
+pub mod Levels
+pub mod Places

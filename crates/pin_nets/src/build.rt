@@ -1,0 +1,117 @@
+//! The nets of a board at power-up.
+
+ghost use Rattle.std.specs.Prelude.{◌≡◌, ◌<◌, ◌++◌, ℕ, [], ◌∷◌, None, length, map, slice_index, IfOk, OnOk};
+ghost use Rattle.pin_nets.specs.Levels.{four, counts_of, pull_drive};
+ghost use Rattle.pin_nets.specs.Places.{IsOnce, Marked, Joined, Lone, Short, AllNone, alone, lone_nets};
+ghost use Rattle.pin_nets.specs.Building.{Below, built, net_value};
+
+use crate::nets::{Net, Nets};
+use crate::{Drive, Pull, listed, pull_counts};
+use std::alloc::{AllocError, Global};
+
+/// A net as a board has it: its pins by number, and its pull.
+#[derive(Debug, Drop)]
+pub struct NetSpec {
+    pub pins: Vec<usize>,
+    pub pull: Pull,
+}
+
+impl Nets {
+    /// These nets over so many pins, each of which drives nothing. A pin on none of them is a net by itself, without a
+    /// pull, after the others, by rising number. No pin stands twice, and each is below the count.
+    pub fn build(alloc: Global, pins: usize, nets: &[NetSpec]) -> Result<Nets, AllocError>
+        requires once { IsOnce (map net_value nets.now) }
+        requires below { Below pins (map net_value nets.now) }
+        ensures { IfOk result (λ n. n ≡ built pins (map net_value nets.now)) }
+    {
+        let mut net_of = Vec::from_elem(alloc, None, pins)?;
+        let mut all = named_nets(alloc, nets, &mut net_of)?;
+        add_lone(alloc, &mut all, &mut net_of)?;
+        let counts = start_counts(alloc, &all)?;
+        let drives = Vec::from_elem(alloc, Drive::Nothing, pins)?;
+        Ok(Nets {
+            drives,
+            net_of,
+            nets: all,
+            counts,
+        })
+    }
+}
+
+/// The named nets, each entered at its pins.
+fn named_nets(
+    alloc: Global,
+    specs: &[NetSpec],
+    net_of: &mut [Option<usize>],
+) -> Result<Vec<Net>, AllocError>
+    requires once { IsOnce (map net_value specs.now) }
+    requires below { Below (length net_of.old) (map net_value specs.now) }
+    requires none { AllNone net_of.old }
+    ensures nets { IfOk result (λ v. v.items ≡ map net_value specs.now) }
+    ensures marked { IfOk result (λ v. Marked net_of.new v.items) }
+    ensures short { IfOk result (λ v. Short v.items) }
+{
+    let mut nets = Vec::with_capacity(alloc, specs.len())?;
+    for spec in specs {
+        join(net_of, nets.len(), &spec.pins);
+        nets.push(Net {
+            pull: spec.pull,
+            pins: spec.pins.to_vec(alloc)?,
+        })?;
+    }
+    Ok(nets)
+}
+
+/// Enters a net at its pins.
+fn join(net_of: &mut [Option<usize>], net: usize, pins: &[usize])
+    requires { (i : ℕ) → i < length pins.now → slice_index pins.now i < length net_of.old }
+    ensures { Joined net_of.old net_of.new net pins.now }
+{
+    for pin in pins {
+        net_of[*pin] = Some(net);
+    }
+}
+
+/// Makes each pin that is on no net a net by itself.
+fn add_lone(
+    alloc: Global,
+    nets: &mut Vec<Net>,
+    net_of: &mut [Option<usize>],
+) -> Result<(), AllocError>
+    requires marked { Marked net_of.old nets.old.items }
+    requires once { IsOnce nets.old.items }
+    requires short { Short nets.old.items }
+    ensures { OnOk result (Lone nets.old.items (length net_of.old) net_of.new nets.new.items) }
+{
+    for pin in 0..net_of.len() {
+        if net_of[pin].is_none() {
+            net_of[pin] = Some(nets.len());
+            add_alone(alloc, nets, pin)?;
+        }
+    }
+    Ok(())
+}
+
+/// One more net, of one pin and without a pull.
+fn add_alone(alloc: Global, nets: &mut Vec<Net>, pin: usize) -> Result<(), AllocError>
+    ensures { OnOk result (nets.new.items ≡ nets.old.items ++ alone pin ∷ []) }
+{
+    let mut pins = Vec::with_capacity(alloc, 1)?;
+    pins.push(pin)?;
+    nets.push(Net {
+        pull: Pull::Free,
+        pins,
+    })?;
+    Ok(())
+}
+
+/// The numbers of drivers while no pin drives.
+fn start_counts(alloc: Global, nets: &[Net]) -> Result<Vec<[usize; 4]>, AllocError>
+    ensures { IfOk result (λ v. v.items ≡ map (λ x. four (counts_of (pull_drive x.pull ∷ []))) nets.now) }
+{
+    let mut counts = Vec::with_capacity(alloc, nets.len())?;
+    for net in nets {
+        counts.push(listed(pull_counts(net.pull)))?;
+    }
+    Ok(counts)
+}

@@ -1,0 +1,172 @@
+//! Levels of nets, by counting their drivers.
+#![tactic(auto)]
+
+ghost use Rattle.std.specs.Prelude.{◌≡◌, ◌≢◌, ◌↔◌, IsTrue, [], ◌∷◌};
+ghost use Rattle.pin_nets.specs.Levels as levels;
+ghost use Rattle.pin_nets.specs.Levels.{Has, IsFew, Moved, four};
+ghost use Rattle.pin_nets.specs.declared.Drive.TheVariants.{Nothing};
+
+pub use build::NetSpec;
+pub use nets::Nets;
+
+mod build;
+mod nets;
+
+/// What a pin drives.
+#[derive(Debug, Clone, Copy, PartialEq, Eq)]
+pub enum Drive {
+    Strong(bool),
+    Weak(bool),
+    Nothing,
+}
+
+#[derive(Debug, Clone, Copy, PartialEq, Eq)]
+pub enum Level {
+    Zero,
+    One,
+    Contend,
+    Float,
+}
+
+/// How many drivers of each kind a net has.
+#[derive(Debug, Clone, Copy)]
+pub(crate) struct Counts {
+    strong_zeros: usize,
+    strong_ones: usize,
+    weak_zeros: usize,
+    weak_ones: usize,
+}
+
+const NO_DRIVER: Counts = Counts {
+    strong_zeros: 0,
+    strong_ones: 0,
+    weak_zeros: 0,
+    weak_ones: 0,
+};
+
+#[derive(Debug, Clone, Copy, PartialEq, Eq)]
+pub enum Pull {
+    Up,
+    Down,
+    Free,
+}
+
+fn pull_counts(pull: Pull) -> Counts
+    ensures { result ≡ levels.counts_of (levels.pull_drive pull ∷ []) }
+{
+    match pull {
+        Pull::Up => Counts {
+            weak_ones: 1,
+            ..NO_DRIVER
+        },
+        Pull::Down => Counts {
+            weak_zeros: 1,
+            ..NO_DRIVER
+        },
+        Pull::Free => NO_DRIVER,
+    }
+}
+
+/// The numbers where a driver of the second kind takes the place of one of the first.
+fn moved(counts: Counts, old: Drive, new: Drive) -> Counts
+    requires there { Has old counts }
+    requires few { IsFew counts }
+    ensures { Moved counts result old new }
+{
+    with(without(counts, old), new)
+}
+
+/// The numbers with one driver less.
+fn without(counts: Counts, drive: Drive) -> Counts
+    requires { Has drive counts }
+    ensures { Moved counts result drive Nothing }
+{
+    let mut fewer = counts;
+    match drive {
+        Drive::Strong(false) => fewer.strong_zeros -= 1,
+        Drive::Strong(true) => fewer.strong_ones -= 1,
+        Drive::Weak(false) => fewer.weak_zeros -= 1,
+        Drive::Weak(true) => fewer.weak_ones -= 1,
+        Drive::Nothing => {}
+    }
+    fewer
+}
+
+/// The numbers with one driver more.
+fn with(counts: Counts, drive: Drive) -> Counts
+    requires { IsFew counts }
+    ensures { Moved counts result Nothing drive }
+{
+    let mut more = counts;
+    match drive {
+        Drive::Strong(false) => more.strong_zeros += 1,
+        Drive::Strong(true) => more.strong_ones += 1,
+        Drive::Weak(false) => more.weak_zeros += 1,
+        Drive::Weak(true) => more.weak_ones += 1,
+        Drive::Nothing => {}
+    }
+    more
+}
+
+/// Four numbers by their names.
+fn named(counts: &[usize; 4]) -> Counts
+    ensures { four result ≡ counts.now }
+{
+    Counts {
+        strong_zeros: counts[0],
+        strong_ones: counts[1],
+        weak_zeros: counts[2],
+        weak_ones: counts[3],
+    }
+}
+
+/// The four numbers in a row.
+fn listed(counts: Counts) -> [usize; 4]
+    ensures { result ≡ four counts }
+{
+    [
+        counts.strong_zeros,
+        counts.strong_ones,
+        counts.weak_zeros,
+        counts.weak_ones,
+    ]
+}
+
+/// The level of a net by its numbers of drivers: the strong ones decide, else the weak ones, else it floats.
+fn level_of(counts: Counts) -> Level
+    ensures { result ≡ levels.level_by counts }
+{
+    of_counts(
+        counts.strong_zeros,
+        counts.strong_ones,
+        of_counts(counts.weak_zeros, counts.weak_ones, Level::Float),
+    )
+}
+
+/// Whether two levels differ.
+fn differ(one: Level, other: Level) -> bool
+    ensures { IsTrue result ↔ (one ≢ other) }
+{
+    one != other
+}
+
+fn of_counts(zeros: usize, ones: usize, otherwise: Level) -> Level
+    ensures { result ≡ levels.of_counts zeros ones otherwise }
+{
+    match (zeros == 0, ones == 0) {
+        (true, true) => otherwise,
+        (true, false) => Level::One,
+        (false, true) => Level::Zero,
+        (false, false) => Level::Contend,
+    }
+}
+
+/// What a port sees of a net: Contend reads 0, Float reads 1.
+pub fn reads(level: Level) -> bool
+    ensures { result ≡ levels.reads level }
+{
+    matches!(level, Level::One | Level::Float)
+}
+
+#[cfg(test)]
+mod tests;

@@ -1,0 +1,96 @@
+//! The nets of a board, whose numbers of drivers are kept.
+
+ghost use Rattle.std.specs.Prelude.{◌≡◌, ◌≢◌, ◌↔◌, ◌<◌, IsTrue, length, option_map, slice_get, slice_set, Some};
+ghost use Rattle.pin_nets.specs.Levels as levels;
+ghost use Rattle.pin_nets.specs.Levels.{four, net_counts};
+
+use crate::{Counts, Drive, Level, Pull, differ, level_of, listed, moved, named, reads};
+use std::marker::Model;
+
+/// A net: its pull, and its pins.
+#[derive(Drop)]
+pub(crate) struct Net {
+    pub(crate) pull: Pull,
+    pub(crate) pins: Vec<usize>,
+}
+
+impl Model for Net {
+    ghost use Rattle.pin_nets.specs.Levels.{NetValue};
+
+    ghost Value = { NetValue };
+
+    ghost view = { λ n. record { pull = n.pull; pins = n.pins.items } };
+}
+
+/// What each pin drives, and the nets. Contracts see it as the two lists.
+///
+/// The numbers of drivers of each net stand ready: a pin's new drive changes those of its net alone.
+#[derive(Drop)]
+pub struct Nets {
+    pub(crate) drives: Vec<Drive>,
+    pub(crate) net_of: Vec<Option<usize>>,
+    pub(crate) nets: Vec<Net>,
+    pub(crate) counts: Vec<[usize; 4]>,
+}
+
+impl Model for Nets {
+    ghost use Rattle.std.specs.Prelude.{◌≡◌, length, map};
+    ghost use Rattle.pin_nets.specs.Levels.{NetsValue, four, net_counts};
+    ghost use Rattle.pin_nets.specs.Places.{Placed, Short};
+
+    ghost Value = { NetsValue };
+
+    ghost view = { λ n. record { drives = n.drives.items; nets = n.nets.items } };
+
+    ghost invariant = { λ n. record {
+      long : length n.net_of.items ≡ length n.drives.items;
+      placed : Placed n.net_of.items n.nets.items;
+      short : Short n.nets.items;
+      counts : n.counts.items ≡ map (λ x. four (net_counts n.drives.items x)) n.nets.items;
+    } };
+}
+
+impl Nets {
+    /// A pin drives this from now on. Answers whether the level of its net changed.
+    pub fn put(&mut self, pin: usize, drive: Drive) -> bool
+        requires { pin < length self.old.drives }
+        ensures drives { self.new ≡ record self.old { drives = slice_set self.old.drives pin drive } }
+        ensures changed { IsTrue result ↔ (levels.all_levels self.old ≢ levels.all_levels self.new) }
+    {
+        let old = self.drives[pin];
+        self.drives[pin] = drive;
+        match self.net_of[pin] {
+            None => false,
+            Some(net) => {
+                let before = named(&self.counts[net]);
+                let after = moved(before, old, drive);
+                self.counts[net] = listed(after);
+                differ(level_of(before), level_of(after))
+            }
+        }
+    }
+
+    /// The level of a net.
+    pub fn level(&self, net: usize) -> Level
+        requires { net < length self.now.nets }
+        ensures { option_map (levels.level self.now.drives) (slice_get self.now.nets net) ≡ Some result }
+    {
+        level_of(named(&self.counts[net]))
+    }
+
+    /// What the ports on a net see: Contend reads 0, Float reads 1.
+    pub fn seen(&self, net: usize) -> bool
+        requires { net < length self.now.nets }
+        ensures { option_map (λ x. levels.reads (levels.level self.now.drives x)) (slice_get self.now.nets net) ≡ Some result }
+    {
+        reads(self.level(net))
+    }
+
+    /// How many drivers a net has, its pull among them: to 0 and to 1, and weak ones to 0 and to 1.
+    pub fn counts(&self, net: usize) -> &[usize; 4]
+        requires { net < length self.now.nets }
+        ensures { option_map (λ x. four (net_counts self.now.drives x)) (slice_get self.now.nets net) ≡ Some result.now }
+    {
+        &self.counts[net]
+    }
+}

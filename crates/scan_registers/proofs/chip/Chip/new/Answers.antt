@@ -1,0 +1,32 @@
+use Rattle.std.proofs.Common.{◌≡◌, false, length, sym, ap, subst, ◌∙◌, arith, if◌then◌else◌}
+use Rattle.std.proofs.lemmas.List.{length-replicate}
+use Rattle.bsdl_device.specs.Device.{Device}
+use Rattle.scan_registers.specs.Fitting.{IsFormed, Fits, has_code}
+use Rattle.scan_registers.specs.Instruction.{reset_latch}
+use Rattle.scan_registers.proofs.ChipLaws.{started, started_at, users_start}
+use Rattle.scan_registers.proofs.chip.Chip.new.Goals as goal
+
+pub invariant_of-result : goal.invariant_of-result
+invariant_of-result g c =
+    let d = c.in_ok-device.device in
+    let described = c.get-description.result.now in
+    let same : described ≡ d = c.get-description.ensures in
+    let formed : IsFormed d = subst IsFormed (sym c.in_ok-device.ensures) c.requires.formed in
+    let reset : c.in_ok-reset_latch.reset_latch ≡ reset_latch d = c.in_ok-reset_latch.ensures ∙ ap reset_latch same in
+    let latch : c.in_ok-latch.latch ≡ reset_latch d = c.in_ok-latch.ensures ∙ reset in
+    let many : c.instruction_length-length.result ≡ d.instruction_length = c.instruction_length-length.ensures ∙ ap (λ (x : Device). x.instruction_length) same in
+    let fits : Fits d c.decode-decoded.result = subst (λ (x : Device). Fits x c.decode-decoded.result) same c.decode-decoded.ensures.fits in
+    let cells = ap (λ (x : Device). length x.cells) c.in_ok-device.ensures in
+    record {
+      formed = formed;
+      reset_latch = reset;
+      reset_decoded = started d described c.decode-decoded.result c.in_ok-latch.latch same c.decode-decoded.ensures.meaning latch;
+      reset_fits = fits;
+      decoded = started_at d described c.decode-decoded.result c.in_ok-latch.latch same c.decode-decoded.ensures.meaning;
+      fits = fits;
+      latch = ap length latch ∙ formed.reset;
+      stage = ap length c.in_ok-stage.ensures ∙ length-replicate c.instruction_length-length.result false ∙ many;
+      identification = ap length c.in_ok-identification.ensures ∙ length-replicate c.code_length.result false ∙ c.code_length.ensures ∙ ap (λ (x : Device). if has_code x then 32 else 0) same;
+      boundary = omega (arith, c.requires.cells, c.requires.formed.cells);
+      users = users_start d.users c.users.result.now c.in_ok-users.users.items (c.users.ensures ∙ ap (λ (x : Device). x.users) same) c.in_ok-users.ensures;
+    }

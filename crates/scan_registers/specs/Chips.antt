@@ -1,0 +1,73 @@
+-- A chip round any boundary register, as its parts and as one device.
+use Rattle.std.specs.Prelude.{Bool, false, ℕ, List, [], ◌∷◌, map, replicate, Option, None, if◌then◌else◌}
+use Rattle.jt_tap.specs.declared.State.{State}
+use Rattle.jt_tap.specs.declared.State.TheVariants.{Reset}
+use Rattle.bsdl_device.specs.Device.{Device}
+use Rattle.scan_registers.specs.declared.Mode.{Mode}
+use Rattle.scan_registers.specs.declared.users.UserRegister.{UserRegister}
+use Rattle.scan_registers.specs.Registers.{Registers, Surroundings}
+use Rattle.scan_registers.specs.Edges.{OneChip}
+use Rattle.scan_registers.specs.Fitting.{has_code}
+use Rattle.scan_registers.specs.Instruction.{reset_latch}
+
+pub record ChipValue (B : Type 0) : Type 0 where
+  pub device : Device
+  pub state : State
+  pub tdo : Option Bool
+  pub trst : Bool
+  pub latch : List Bool
+  pub stage : List Bool
+  pub bypass : Bool
+  pub identification : List Bool
+  pub boundary : B
+  pub users : List UserRegister
+
+-- the same with the two lists of its boundary register, given as functions of it
+abbrev pub one_chip : {B : Type 0} → (stage update : B → List Bool) → ChipValue B → OneChip
+one_chip stage update c = record {
+  device = c.device;
+  registers = record {
+    latch = c.latch;
+    stage = c.stage;
+    bypass = c.bypass ∷ [];
+    identification = c.identification;
+    boundary = stage c.boundary;
+    update = update c.boundary;
+    users = c.users;
+  };
+  state = c.state;
+  tdo = c.tdo;
+  trst = c.trst;
+}
+
+-- what its boundary register knows
+abbrev pub around : {B : Type 0} → (captured : B → Mode → List Bool) → (at_reset : B → List Bool) → ChipValue B → Surroundings
+around captured at_reset c = record { captures = captured c.boundary; at_reset = at_reset c.boundary }
+
+abbrev pub registers : {B : Type 0} → (stage update : B → List Bool) → ChipValue B → Registers
+registers stage update c = (one_chip stage update c).registers
+
+-- a device with other registers
+abbrev pub with_registers : Registers → OneChip → OneChip
+with_registers r c = record c { registers = r }
+
+abbrev pub zeros : ℕ → List Bool
+zeros n = replicate n false
+
+abbrev pub new_user : ℕ → UserRegister
+new_user n = record { stage = zeros n; latch = zeros n }
+
+-- At power-up the device is in RESET with its reset instruction; every other bit of its own registers is 0.
+abbrev pub powered : {B : Type 0} → Device → B → ChipValue B
+powered d boundary = record {
+  device = d;
+  state = Reset;
+  tdo = None;
+  trst = false;
+  latch = reset_latch d;
+  stage = zeros d.instruction_length;
+  bypass = false;
+  identification = zeros (if has_code d then 32 else 0);
+  boundary = boundary;
+  users = map new_user d.users;
+}

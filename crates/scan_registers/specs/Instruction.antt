@@ -1,0 +1,104 @@
+-- What the instruction in a device's latch names, selects and drives (IEEE Std 1149.1-2001, clauses 7 and 8).
+use Rattle.std.specs.Prelude.{Bool, true, false, not, ◌&&◌, List, [], ◌∷◌, ◌++◌, map, replicate, Option, Some, None, unwrap_or, codes, bytes_eq, slice_get, option_and_then, if◌then◌else◌}
+use Rattle.std.specs.List.{list_any, list_all, find}
+use Rattle.bsdl_device.specs.Device.{Name, Pattern, Opcode, Access, Device}
+use Rattle.bsdl_device.specs.declared.Place.{Place}
+use Rattle.bsdl_device.specs.declared.Place.TheVariants.{AtBypass, AtBoundary, AtDeviceId, AtUser}
+use Rattle.scan_registers.specs.declared.Mode.{Mode}
+use Rattle.scan_registers.specs.declared.Mode.TheVariants.{Extest, Clamp, HighZ, Core}
+use Rattle.scan_registers.specs.declared.Selected.{Selected}
+use Rattle.scan_registers.specs.declared.Selected.TheVariants.{Bypass, Identification, Boundary, User}
+
+-- What an instruction does; `fixed` is what its identification or user register captures, if that is fixed.
+pub record Meaning : Type 0 where
+  pub mode : Mode
+  pub selected : Selected
+  pub fixed : Option (List Bool)
+
+-- a pattern matches an opcode of its own length, an X either bit
+abbrev pub matches : Pattern → List Bool → Bool
+matches [] [] = true
+matches (None ∷ p) (b ∷ bits) = matches p bits
+matches (Some true ∷ p) (b ∷ bits) = b && matches p bits
+matches (Some false ∷ p) (b ∷ bits) = not b && matches p bits
+matches _ _ = false
+
+abbrev pub names_it : List Bool → Opcode → Bool
+names_it latch o = list_any (λ p. matches p latch) o.patterns
+
+abbrev pub name_of : Option Opcode → Option Name
+name_of (Some o) = Some o.name
+name_of None = None
+
+-- All ones is BYPASS; else the first row with a matching opcode names the instruction.
+abbrev pub instruction : Device → List Bool → Option Name
+instruction d latch = if list_all (λ b. b) latch then Some (codes "BYPASS") else name_of (find (names_it latch) d.opcodes)
+
+abbrev pub selects : Mode → Selected → Meaning
+selects mode selected = record { mode = mode; selected = selected; fixed = None }
+
+-- An instruction without a meaning of its own here selects bypass and leaves the pins to the core.
+abbrev pub bypassed : Meaning
+bypassed = selects Core Bypass
+
+-- the identification register with this code; bypass where the device lacks it
+abbrev pub identified : Option (List Bool) → Meaning
+identified (Some code) = record { mode = Core; selected = Identification; fixed = Some code }
+identified None = bypassed
+
+-- The standard's instructions. INTEST and RUNBIST are left out here, and so stand for BYPASS.
+abbrev pub standard : Device → List (Name × Meaning)
+standard d =
+    (codes "BYPASS", bypassed)
+    ∷ (codes "EXTEST", selects Extest Boundary)
+    ∷ (codes "SAMPLE", selects Core Boundary)
+    ∷ (codes "PRELOAD", selects Core Boundary)
+    ∷ (codes "CLAMP", selects Clamp Bypass)
+    ∷ (codes "HIGHZ", selects HighZ Bypass)
+    ∷ (codes "IDCODE", identified d.idcode)
+    ∷ (codes "USERCODE", identified d.usercode)
+    ∷ (codes "INTEST", bypassed)
+    ∷ (codes "RUNBIST", bypassed)
+    ∷ []
+
+abbrev pub access_meaning : Device → Access → Name × Meaning
+access_meaning d a = (a.instruction, at a.place)
+  where
+    at : Place → Meaning
+    at AtBypass = bypassed
+    at AtBoundary = selects Core Boundary
+    at AtDeviceId = identified d.idcode
+    at (AtUser k) = record { mode = Core; selected = User k; fixed = a.captures }
+
+abbrev pub look_up : Name → List (Name × Meaning) → Meaning
+look_up name [] = bypassed
+look_up name (row ∷ rows) = if bytes_eq name row.0 then row.1 else look_up name rows
+
+-- A private instruction means BYPASS, then the standard's have their meaning, then the device's own.
+abbrev pub meaning_of : Device → Option Name → Meaning
+meaning_of d None = bypassed
+meaning_of d (Some name) =
+    if list_any (bytes_eq name) d.private_names
+    then bypassed
+    else look_up name (standard d ++ map (access_meaning d) d.accesses)
+
+-- what the instruction in a latch does
+abbrev pub meaning : Device → List Bool → Meaning
+meaning d latch = meaning_of d (instruction d latch)
+
+abbrev pub is_idcode : Opcode → Bool
+is_idcode o = bytes_eq (codes "IDCODE") o.name
+
+abbrev pub idcode_opcode : List Opcode → Option Pattern
+idcode_opcode rows = option_and_then (λ o. slice_get o.patterns 0) (find is_idcode rows)
+
+abbrev pub x_as_0 : Pattern → List Bool
+x_as_0 opcode = map (λ b. unwrap_or b false) opcode
+
+-- The latch that a reset gives: IDCODE where the device has its code and its opcode, X as 0; else all ones.
+abbrev pub reset_latch : Device → List Bool
+reset_latch d = given d.idcode (idcode_opcode d.opcodes)
+  where
+    given : Option (List Bool) → Option Pattern → List Bool
+    given (Some code) (Some opcode) = x_as_0 opcode
+    given _ _ = replicate d.instruction_length true

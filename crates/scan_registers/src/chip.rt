@@ -1,0 +1,336 @@
+//! One device, edge by edge.
+
+ghost use Rattle.std.specs.Prelude.{◌≡◌, ◌<◌, ℕ, [], ◌∷◌, true, Bool, List, None, Some, length, option_map, slice_get, unwrap_or, if◌then◌else◌, IfOk};
+ghost use Rattle.jt_tap.specs.Controller.{work};
+ghost use Rattle.scan_registers.specs.declared.Mode.{Mode as TheMode};
+ghost use Rattle.scan_registers.specs.Chips.{ChipValue, one_chip, around, powered, registers, with_registers};
+ghost use Rattle.scan_registers.specs.Edges.{OneChip, rise, fall, told_trst, risen, fallen, moved, tdo_after};
+ghost use Rattle.scan_registers.specs.Fitting.{IsFormed, meaning_by, has_code as is_coded};
+ghost use Rattle.scan_registers.specs.Instruction.{instruction, meaning};
+ghost use Rattle.scan_registers.specs.Registers.{captured, put, chosen, updated, reset};
+
+use crate::decode::{Decoded, decode, fixed_bits, instruction_of};
+use crate::start::{code_length, has_code, new_users, reset_latch};
+use crate::users::{self, UserRegister};
+use crate::{Mode, Register, Selected, SharedDevice};
+use jt_bits::Bits;
+use jt_tap::{Column, State, Work};
+use std::alloc::{AllocError, Global};
+use std::marker::Model;
+
+/// A device with its controller, round a boundary register.
+///
+/// The instruction in the latch is decoded when the latch changes, and not at each edge; that of the reset latch once.
+#[derive(Drop)]
+pub struct Chip<B: Register> {
+    device: SharedDevice,
+    reset_latch: Bits,
+    reset_decoded: Decoded,
+    decoded: Decoded,
+    state: State,
+    tdo: Option<bool>,
+    trst: bool,
+    latch: Bits,
+    stage: Bits,
+    bypass: bool,
+    identification: Bits,
+    boundary: B,
+    users: Vec<UserRegister>,
+}
+
+impl<B: Register> Model for Chip<B> {
+    ghost use Rattle.std.specs.Prelude.{◌≡◌, ◌<◌, true, length, if◌then◌else◌};
+    ghost use Rattle.scan_registers.specs.Chips.{ChipValue};
+    ghost use Rattle.scan_registers.specs.Fitting.{IsFormed, Fits, UsersFit, has_code, meaning_by};
+    ghost use Rattle.scan_registers.specs.Instruction as named;
+
+    ghost Value = { ChipValue B };
+
+    ghost view = { λ c. record {
+      device = c.device;
+      state = c.state;
+      tdo = c.tdo;
+      trst = c.trst;
+      latch = c.latch;
+      stage = c.stage;
+      bypass = c.bypass;
+      identification = c.identification;
+      boundary = c.boundary;
+      users = c.users.items;
+    } };
+
+    ghost invariant = { λ c. record {
+      formed : IsFormed c.device;
+      reset_latch : c.reset_latch ≡ named.reset_latch c.device;
+      reset_decoded : meaning_by c.device c.reset_decoded ≡ named.meaning c.device (named.reset_latch c.device);
+      reset_fits : Fits c.device c.reset_decoded;
+      decoded : meaning_by c.device c.decoded ≡ named.meaning c.device c.latch;
+      fits : Fits c.device c.decoded;
+      latch : length c.latch ≡ c.device.instruction_length;
+      stage : length c.stage ≡ c.device.instruction_length;
+      identification : length c.identification ≡ (if has_code c.device then 32 else 0);
+      boundary : 0 < length (B.stage c.boundary);
+      users : UsersFit c.device.users c.users.items;
+    } };
+}
+
+impl<B: Register> Chip<B> {
+    /// The device at power-up, round a boundary register of a bit for each of its cells: in RESET with its reset
+    /// instruction, all else 0.
+    pub fn new(alloc: Global, device: &SharedDevice, boundary: B) -> Result<Chip<B>, AllocError>
+        requires formed { IsFormed device.now }
+        requires cells { length (B.stage boundary) ≡ length device.now.cells }
+        ensures { IfOk result (λ c. c ≡ powered device.now boundary) }
+    {
+        let device = device.share()?;
+        let description = device.get();
+        let length = description.instruction_length();
+        let reset_latch = reset_latch(alloc, description)?;
+        let latch = reset_latch.try_clone(alloc)?;
+        let stage = Bits::zeros(alloc, length)?;
+        let identification = Bits::zeros(alloc, code_length(description))?;
+        let users = new_users(alloc, description.users())?;
+        let decoded = decode(description, &latch);
+        Ok(Chip {
+            device,
+            reset_latch,
+            reset_decoded: decoded,
+            decoded,
+            state: State::Reset,
+            tdo: None,
+            trst: false,
+            latch,
+            stage,
+            bypass: false,
+            identification,
+            boundary,
+            users,
+        })
+    }
+
+    /// A rising edge of TCK: the state's capture or shift, and then the move to the next state.
+    pub fn rise(&mut self, tms: bool, tdi: bool)
+        ensures chip { one_chip B.stage B.update_part self.new ≡ rise tms tdi (around B.captured B.at_reset self.old) (one_chip B.stage B.update_part self.old) }
+        ensures boundary { self.new.boundary ≡ B.with_parts self.old.boundary (B.stage self.new.boundary) (B.update_part self.new.boundary) }
+    {
+        if self.trst && self.device.get().has_trst() {
+            return;
+        }
+        match self.state.work() {
+            Work::Captures(column) => self.capture(column),
+            Work::Shifts(column) => self.shift(column, tdi),
+            _ => {}
+        }
+        self.state = self.state.step(tms);
+    }
+
+    /// A falling edge of TCK: the state's update or reset, and then TDO.
+    pub fn fall(&mut self)
+        ensures chip { one_chip B.stage B.update_part self.new ≡ fall (around B.captured B.at_reset self.old) (one_chip B.stage B.update_part self.old) }
+        ensures boundary { self.new.boundary ≡ B.with_parts self.old.boundary (B.stage self.new.boundary) (B.update_part self.new.boundary) }
+    {
+        match self.state.work() {
+            Work::Updates(column) => self.load(column),
+            Work::Resets => self.reset(),
+            _ => {}
+        }
+        self.tdo = self.first_bit();
+    }
+
+    /// TRST is asserted or released.
+    pub fn trst(&mut self, trst: bool)
+        ensures chip { one_chip B.stage B.update_part self.new ≡ told_trst trst (around B.captured B.at_reset self.old) (one_chip B.stage B.update_part self.old) }
+        ensures boundary { self.new.boundary ≡ B.with_parts self.old.boundary (B.stage self.new.boundary) (B.update_part self.new.boundary) }
+    {
+        if trst && self.device.get().has_trst() {
+            self.reset();
+            self.state = State::Reset;
+            self.tdo = None;
+        }
+        self.trst = trst;
+    }
+
+    /// A cell of the boundary register sees this bit.
+    pub fn see(&mut self, cell: usize, bit: bool)
+        requires { cell < length (B.stage self.old.boundary) }
+        ensures { self.new ≡ record self.old { boundary = B.saw self.old.boundary cell bit } }
+    {
+        self.boundary.see(cell, bit);
+    }
+
+    pub fn state(&self) -> State
+        ensures { result ≡ self.now.state }
+    {
+        self.state
+    }
+
+    /// The level of TDO since the last falling edge, `None` while it is not driven.
+    pub fn tdo(&self) -> Option<bool>
+        ensures { result ≡ self.now.tdo }
+    {
+        self.tdo
+    }
+
+    pub fn mode(&self) -> Mode
+        ensures { result ≡ (meaning self.now.device self.now.latch).mode }
+    {
+        self.decoded.mode
+    }
+
+    pub fn latch(&self) -> &Bits
+        ensures { result.now ≡ self.now.latch }
+    {
+        &self.latch
+    }
+
+    pub fn stage(&self) -> &Bits
+        ensures { result.now ≡ self.now.stage }
+    {
+        &self.stage
+    }
+
+    pub fn bypass(&self) -> bool
+        ensures { result ≡ self.now.bypass }
+    {
+        self.bypass
+    }
+
+    pub fn boundary(&self) -> &B
+        ensures { result.now ≡ self.now.boundary }
+    {
+        &self.boundary
+    }
+
+    /// The stage of the identification register, where the device has one.
+    pub fn id(&self) -> Option<&Bits>
+        ensures { option_map {U = List Bool} (λ b. b.now) result ≡ (if is_coded self.now.device then Some self.now.identification else None) }
+    {
+        if has_code(self.device.get()) {
+            Some(&self.identification)
+        } else {
+            None
+        }
+    }
+
+    /// The stage and the latch of user register `k`, counted in the order in which the description first names them.
+    pub fn user(&self, k: usize) -> Option<(&Bits, &Bits)>
+        ensures { option_map {U = List Bool × List Bool} (λ p. (p.0.now, p.1.now)) result ≡ option_map (λ u. (u.stage, u.latch)) (slice_get self.now.users k) }
+    {
+        match self.users.get(k) {
+            Some(user) => Some((&user.stage, &user.latch)),
+            None => None,
+        }
+    }
+
+    /// The name of the instruction in the latch, in upper case; `None` where no opcode matches.
+    pub fn instruction(&self) -> Option<&str>
+        ensures { option_map {U = List ℕ} (λ s. s.now) result ≡ instruction self.now.device self.now.latch }
+    {
+        instruction_of(self.device.get(), &self.latch)
+    }
+
+    /// The column's register captures.
+    fn capture(&mut self, column: Column)
+        ensures chip { one_chip B.stage B.update_part self.new
+            ≡ with_registers (captured self.old.device column (around B.captured B.at_reset self.old) (registers B.stage B.update_part self.old)) (one_chip B.stage B.update_part self.old) }
+        ensures boundary { self.new.boundary ≡ B.with_parts self.old.boundary (B.stage self.new.boundary) (B.update_part self.new.boundary) }
+    {
+        match column {
+            Column::Ir => self.stage.copy_from(self.device.get().capture()),
+            Column::Dr => match self.decoded.selected {
+                Selected::Bypass => self.bypass = false,
+                Selected::Identification => {
+                    copy_fixed(
+                        &mut self.identification,
+                        fixed_bits(self.device.get(), self.decoded.fixed),
+                    )
+                }
+                Selected::Boundary => self.boundary.capture(self.decoded.mode),
+                Selected::User(k) => users::capture(
+                    &mut self.users,
+                    k,
+                    fixed_bits(self.device.get(), self.decoded.fixed),
+                ),
+            },
+        }
+    }
+
+    /// The column's register moves one place towards TDO.
+    fn shift(&mut self, column: Column, tdi: bool)
+        ensures chip { one_chip B.stage B.update_part self.new
+            ≡ with_registers (put self.old.device column (moved tdi (chosen self.old.device column (registers B.stage B.update_part self.old))) (registers B.stage B.update_part self.old)) (one_chip B.stage B.update_part self.old) }
+        ensures boundary { self.new.boundary ≡ B.with_parts self.old.boundary (B.stage self.new.boundary) (B.update_part self.new.boundary) }
+    {
+        match column {
+            Column::Ir => {
+                self.stage.shift_in(tdi);
+            }
+            Column::Dr => match self.decoded.selected {
+                Selected::Bypass => self.bypass = tdi,
+                Selected::Identification => {
+                    self.identification.shift_in(tdi);
+                }
+                Selected::Boundary => {
+                    self.boundary.shift_in(tdi);
+                }
+                Selected::User(k) => users::shift(&mut self.users, k, tdi),
+            },
+        }
+    }
+
+    /// The latch takes the instruction stage, or a selected register's update part takes its stage.
+    fn load(&mut self, column: Column)
+        ensures chip { one_chip B.stage B.update_part self.new
+            ≡ with_registers (updated self.old.device column (registers B.stage B.update_part self.old)) (one_chip B.stage B.update_part self.old) }
+        ensures boundary { self.new.boundary ≡ B.with_parts self.old.boundary (B.stage self.new.boundary) (B.update_part self.new.boundary) }
+    {
+        match column {
+            Column::Ir => {
+                self.latch.copy_from(&self.stage);
+                self.decoded = decode(self.device.get(), &self.latch);
+            }
+            Column::Dr => match self.decoded.selected {
+                Selected::Boundary => self.boundary.update(),
+                Selected::User(k) => users::update(&mut self.users, k),
+                _ => {}
+            },
+        }
+    }
+
+    /// The latch takes its reset instruction, and the boundary register is reset.
+    fn reset(&mut self)
+        ensures chip { one_chip B.stage B.update_part self.new
+            ≡ with_registers (reset self.old.device (around B.captured B.at_reset self.old) (registers B.stage B.update_part self.old)) (one_chip B.stage B.update_part self.old) }
+        ensures boundary { self.new.boundary ≡ B.with_parts self.old.boundary (B.stage self.new.boundary) (B.update_part self.new.boundary) }
+    {
+        self.latch.copy_from(&self.reset_latch);
+        self.decoded = self.reset_decoded;
+        self.boundary.reset();
+    }
+
+    /// What TDO shows from a falling edge on: bit 0 of the selected register in a Shift state.
+    fn first_bit(&self) -> Option<bool>
+        ensures { result ≡ tdo_after (work self.now.state) self.now.device (registers B.stage B.update_part self.now) }
+    {
+        match self.state.work() {
+            Work::Shifts(Column::Ir) => Some(self.stage.get(0)),
+            Work::Shifts(Column::Dr) => match self.decoded.selected {
+                Selected::Bypass => Some(self.bypass),
+                Selected::Identification => Some(self.identification.get(0)),
+                Selected::Boundary => Some(self.boundary.get(0)),
+                Selected::User(k) => users::first_bit(&self.users, k),
+            },
+            _ => None,
+        }
+    }
+}
+
+/// A register takes the bits, if there are some.
+fn copy_fixed(register: &mut Bits, bits: Option<&Bits>)
+    requires { (b : List Bool) → option_map {U = List Bool} (λ x. x.now) bits ≡ Some b → length b ≡ length register.old }
+    ensures { register.new ≡ unwrap_or (option_map {U = List Bool} (λ x. x.now) bits.entry) register.old }
+{
+    if let Some(other) = bits {
+        register.copy_from(other);
+    }
+}

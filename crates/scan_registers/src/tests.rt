@@ -1,0 +1,186 @@
+//! One chip, edge by edge. The device has an identification code 01234567, three cells, and the instructions BYPASS 11,
+//! EXTEST 00, IDCODE 10 and SAMPLE or LOAD 01, of which LOAD selects a user register of four bits.
+use super::*;
+use bsdl_device::{
+    Access, Cell, Control3, Device, Disabled, Function, Opcode, Parts, Pattern, Place, Ports,
+};
+use jt_bits::Bits;
+use jt_tap::State;
+use std::alloc::{AllocError, Global};
+use std::process::Abort;
+use std::test::Fail;
+
+fn name(alloc: Global, text: &str) -> Result<String, AllocError> {
+    let mut name = String::new(alloc);
+    name.push_str(text)?;
+    Ok(name)
+}
+
+/// An instruction of one opcode, its lowest bit first.
+fn opcode(alloc: Global, text: &str, low: bool, high: bool) -> Result<Opcode, AllocError> {
+    let mut bits = Vec::with_capacity(alloc, 2)?;
+    bits.push(Some(low))?;
+    bits.push(Some(high))?;
+    let mut patterns = Vec::with_capacity(alloc, 1)?;
+    patterns.push(Pattern::new(bits))?;
+    Ok(Opcode::new(name(alloc, text)?, patterns))
+}
+
+fn cell(function: Function, control: Option<Control3>) -> Cell {
+    Cell {
+        function,
+        port: None,
+        control,
+    }
+}
+
+/// The device, with a TRST port or a user register where asked.
+fn device(alloc: Global, has_trst: bool, has_user: bool) -> Result<Device, Fail> {
+    let mut opcodes = Vec::with_capacity(alloc, 4)?;
+    opcodes.push(opcode(alloc, "BYPASS", true, true)?)?;
+    opcodes.push(opcode(alloc, "EXTEST", false, false)?)?;
+    opcodes.push(opcode(alloc, if has_user { "LOAD" } else { "SAMPLE" }, true, false)?)?;
+    opcodes.push(opcode(alloc, "IDCODE", false, true)?)?;
+    let mut cells = Vec::with_capacity(alloc, 3)?;
+    let control = Control3 {
+        cell: 1,
+        disabling: false,
+        leaves: Disabled::Z,
+    };
+    cells.push(cell(Function::Output3, Some(control)))?;
+    cells.push(cell(Function::Control, None))?;
+    cells.push(cell(Function::Input, None))?;
+    let mut accesses = Vec::new(alloc);
+    let mut users = Vec::new(alloc);
+    if has_user {
+        accesses.push(Access::new(name(alloc, "LOAD")?, Place::AtUser(0), None))?;
+        users.push(4)?;
+    }
+    let Ok(idcode) = Bits::from_hex(alloc, b"01234567", 32) else {
+        return Err(Fail::from("no code"));
+    };
+    let Ok(capture) = Bits::from_hex(alloc, b"1", 2) else {
+        return Err(Fail::from("no capture"));
+    };
+    Ok(Device::new(Parts {
+        ports: Ports::new(alloc),
+        instruction_length: 2,
+        opcodes,
+        capture,
+        idcode: Some(idcode),
+        usercode: None,
+        cells,
+        private_names: Vec::new(alloc),
+        accesses,
+        users,
+        has_trst,
+    }))
+}
+
+fn chip(
+    rt: &impl Abort,
+    alloc: Global,
+    has_trst: bool,
+    has_user: bool,
+) -> Result<Chip<Plain>, Fail> {
+    let device = device(alloc, has_trst, has_user)?;
+    assert!(rt; is_formed(&device));
+    assert!(rt; device.cells().len() == 3);
+    let shared = SharedDevice::new(alloc, device)?;
+    Ok(Chip::new(alloc, &shared, Plain::new(alloc, 3)?)?)
+}
+
+/// Edges with these TMS values and TDI 1, a falling edge after each rising one.
+fn edges(chip: &mut Chip<Plain>, tms: &[bool]) {
+    for bit in tms {
+        chip.rise(*bit, true);
+        chip.fall();
+    }
+}
+
+fn latch(chip: &Chip<Plain>) -> (u8, u8) {
+    (chip.latch().hex_digit(0), chip.stage().hex_digit(0))
+}
+
+#[test]
+fn the_code_is_shifted_out(rt: HostRuntime) -> Result<(), Fail> {
+    let mut chip = chip(&rt, rt.alloc(), false, false)?;
+    assert_eq!(rt; chip.instruction(), Some("IDCODE"));
+    edges(&mut chip, &[false, true, false]);
+    chip.rise(false, true);
+    assert_eq!(rt; (chip.state(), chip.tdo()), (State::DrShift, None));
+    chip.fall();
+    assert_eq!(rt; chip.tdo(), Some(true));
+    let mut code: u32 = 1;
+    for i in 1..32u32 {
+        edges(&mut chip, &[false]);
+        if chip.tdo() == Some(true) {
+            code |= 1 << i;
+        }
+    }
+    assert_eq!(rt; code, 0x01234567);
+    Ok(())
+}
+
+#[test]
+fn trst_holds_a_device_that_has_it(rt: HostRuntime) -> Result<(), Fail> {
+    let mut chip = chip(&rt, rt.alloc(), true, false)?;
+    edges(&mut chip, &[false, true, false, false]);
+    assert_eq!(rt; chip.state(), State::DrShift);
+    chip.trst(true);
+    assert_eq!(rt; (chip.state(), chip.tdo()), (State::Reset, None));
+    chip.rise(false, true);
+    assert_eq!(rt; chip.state(), State::Reset);
+    chip.trst(false);
+    chip.rise(false, true);
+    assert_eq!(rt; chip.state(), State::Idle);
+    Ok(())
+}
+
+#[test]
+fn the_latch_changes_on_falling_edges(rt: HostRuntime) -> Result<(), Fail> {
+    let mut chip = chip(&rt, rt.alloc(), false, false)?;
+    edges(&mut chip, &[false, true, true, false, true, false]);
+    assert_eq!(rt;
+        (chip.state(), latch(&chip)),
+        (State::IrPause, (b'2', b'1'))
+    );
+    edges(&mut chip, &[true]);
+    chip.rise(true, true);
+    assert_eq!(rt;
+        (chip.state(), latch(&chip)),
+        (State::IrUpdate, (b'2', b'1'))
+    );
+    chip.fall();
+    assert_eq!(rt;
+        (latch(&chip), chip.instruction()),
+        ((b'1', b'1'), Some("SAMPLE"))
+    );
+    edges(&mut chip, &[true, true]);
+    chip.rise(true, true);
+    assert_eq!(rt; (chip.state(), latch(&chip)), (State::Reset, (b'1', b'1')));
+    chip.fall();
+    assert_eq!(rt;
+        (latch(&chip), chip.instruction()),
+        ((b'2', b'1'), Some("IDCODE"))
+    );
+    Ok(())
+}
+
+#[test]
+fn a_user_register_keeps_what_it_is_given(rt: HostRuntime) -> Result<(), Fail> {
+    let mut chip = chip(&rt, rt.alloc(), false, true)?;
+    edges(&mut chip, &[false, true, true, false, true, true]);
+    assert_eq!(rt; chip.instruction(), Some("LOAD"));
+    edges(&mut chip, &[true, false, false, false, false, true, true]);
+    let Some((stage, held)) = chip.user(0) else {
+        return Err(Fail::from("no user register"));
+    };
+    assert_eq!(rt; (stage.hex_digit(0), held.hex_digit(0)), (b'E', b'E'));
+    assert!(rt; chip.user(1).is_none() && !chip.bypass());
+    let Some(code) = chip.id() else {
+        return Err(Fail::from("no identification register"));
+    };
+    assert_eq!(rt; (code.len(), code.hex_digit(0)), (32, b'0'));
+    Ok(())
+}
