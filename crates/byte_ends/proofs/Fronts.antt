@@ -1,10 +1,12 @@
 -- What writes one after another append.
-use Rattle.std.proofs.Common.{◌≡◌, ℕ, zero, suc, Bool, List, ◌++◌, ◌-◌, ◌<◌, length, take, drop, sym, ap, subst, ◌∙◌, append_assoc, Option, Result, Ok, arith}
-use Rattle.std.proofs.lemmas.List.{take-append-drop, length-drop}
+use Rattle.std.proofs.Common.{◌≡◌, ℕ, zero, suc, Bool, List, [], refl, ◌++◌, ◌-◌, ◌<◌, length, take, drop, sym, ap, subst, ◌∙◌, append_assoc, Option, Result, Ok, arith}
+use Rattle.std.proofs.lemmas.List.{append-nil, take-append-drop, length-drop}
 use Rattle.std.proofs.Math.Seq.{take-length}
 use Rattle.std.proofs.KnownBytes.{Appends-trans, Keeps-refl, Keeps-trans}
 use Rattle.std.specs.Io.KnownBytes.{Appends, Keeps}
-use Rattle.byte_ends.specs.Writes.{AppendsFront, PutsAll, none_left, call_lost, some_put}
+use Rattle.std.specs.Prelude.{Err, IsOk, IsErr, OnOk}
+use Rattle.byte_ends.specs.Counts.{CountedView}
+use Rattle.byte_ends.specs.Writes.{AppendsFront, PutsAll, WritesAll, none_left, call_lost, some_put}
 
 -- known bytes grow by what stands before `rest` in `bytes`
 pub record AppendsUpTo (old new : Option (List ℕ)) (bytes rest : List ℕ) : Type 0 where
@@ -48,8 +50,69 @@ AppendsFront-next a b c xs ys whole h = record {
   appends = Appends-trans a b c xs h.sent whole h.appends;
 }
 
+OnOk-then : {A E : Type 0} (a b c : Option (List ℕ)) (xs ys : List ℕ) (r : Result A E) → Appends a b xs → OnOk r (Appends b c ys)
+    → OnOk r (Appends a c (xs ++ ys))
+OnOk-then a b c xs ys (Ok x) one more = Appends-trans a b c xs ys one more
+OnOk-then a b c xs ys (Err e) one more = tt
+
+-- the same bytes
+pub WritesAll-is : {W A E : Type 0} {contents : W → Option (List ℕ)} {a b : CountedView W} {xs ys : List ℕ} {result : Result A E} → xs ≡ ys
+    → WritesAll contents a b xs result → WritesAll contents a b ys result
+WritesAll-is {contents = contents} {a = a} {b = b} {result = result} same one = subst (λ (l : List ℕ). WritesAll contents a b l result) same one
+
+-- one piece, and then another
+pub WritesAll-then : {W A B E F : Type 0} {contents : W → Option (List ℕ)} {a b c : CountedView W} {xs ys : List ℕ} {first : Result A E}
+    {result : Result B F} → WritesAll contents a b xs first → IsOk first → WritesAll contents b c ys result → WritesAll contents a c (xs ++ ys) result
+WritesAll-then {contents = contents} {a = a} {b = b} {c = c} {xs = xs} {ys = ys} {first = Ok x} {result = result} one is more = record {
+  ok = more.ok;
+  broken = more.broken;
+  whole = OnOk-then (contents a.inner) (contents b.inner) (contents c.inner) xs ys result one.whole more.whole;
+  front = AppendsFront-next (contents a.inner) (contents b.inner) (contents c.inner) xs ys one.whole more.front;
+}
+WritesAll-then {first = Err e} one is more = absurd (cc)
+
+-- the first piece was lost
+pub WritesAll-stopped : {W A B E F : Type 0} {contents : W → Option (List ℕ)} {a b : CountedView W} {xs : List ℕ} {first : Result A E}
+    {result : Result B F} (ys : List ℕ) → WritesAll contents a b xs first → IsErr first → IsErr result → WritesAll contents a b (xs ++ ys) result
+WritesAll-stopped {first = Err f} {result = Err e} ys one is so = record {
+  ok = (λ o. absurd (cc), λ o. let bad : 0 ≡ 1 = sym o ∙ one.broken.0 refl in absurd (cc));
+  broken = (λ o. one.broken.0 refl, λ o. refl);
+  whole = tt;
+  front = AppendsFront-first ys one.front;
+}
+WritesAll-stopped {first = Ok x} ys one is so = absurd (cc)
+WritesAll-stopped {first = Err f} {result = Ok x} ys one is so = absurd (cc)
+
+-- some pieces were written, and of those that are left the first was lost
+pub WritesAll-lost : {W A B E F : Type 0} {contents : W → Option (List ℕ)} {a b c : CountedView W} {ys : List ℕ} {first : Result A E}
+    {result : Result B F} (all xs rest : List ℕ) → all ≡ (xs ++ ys) ++ rest → Appends (contents a.inner) (contents b.inner) xs
+    → WritesAll contents b c ys first → IsErr first → IsErr result → WritesAll contents a c all result
+WritesAll-lost {B = B} {F = F} {contents = contents} {a = a} {b = b} {c = c} {ys = ys} {first = first} {result = result} all xs rest split before one is so =
+    let stopped : WritesAll contents b c (ys ++ rest) result = WritesAll-stopped rest one is so in
+    record {
+      ok = stopped.ok;
+      broken = stopped.broken;
+      whole = none result so;
+      front = subst (AppendsFront (contents a.inner) (contents c.inner)) (sym split)
+          (AppendsFront-first rest (AppendsFront-next (contents a.inner) (contents b.inner) (contents c.inner) xs ys before one.front));
+    }
+  where
+    none : (r : Result B F) → IsErr r → OnOk r (Appends (contents a.inner) (contents c.inner) all)
+    none (Err e) so = tt
+    none (Ok x) so = absurd (cc)
+
+-- all pieces were written
+pub WritesAll-done : {W A E : Type 0} {contents : W → Option (List ℕ)} {a b : CountedView W} {xs : List ℕ} (x : A) → b.failures ≡ 0
+    → Appends (contents a.inner) (contents b.inner) xs → WritesAll {A = A} {E = E} contents a b xs (Ok x)
+WritesAll-done {contents = contents} {a = a} {b = b} {xs = xs} x none whole = record {
+  ok = (λ is. none, λ e. refl);
+  broken = (λ is. absurd (cc), λ e. absurd (cc));
+  whole = whole;
+  front = record { sent = xs; rest = []; split = sym (append-nil xs); appends = whole };
+}
+
 -- for a function that writes one piece after another
-pub ruleset fronts = (AppendsFront-first, AppendsFront-next)
+pub ruleset fronts = (WritesAll-then, WritesAll-stopped)
 
 -- a call that took n bytes, and the calls for the rest
 pub PutsAll-more : {S E : Type 0} {puts : S → List ℕ → Result ℕ E → S → Type 0} {s t u : S} {piece : List ℕ} {whole : Bool} (n : ℕ)

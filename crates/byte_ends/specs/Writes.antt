@@ -1,7 +1,7 @@
 -- Writing all of a piece, by as many calls as its writer wants.
-use Rattle.std.specs.Prelude.{◌≡◌, ℕ, suc, Bool, true, false, List, [], ◌++◌, drop, Option, Result, Ok}
+use Rattle.std.specs.Prelude.{◌≡◌, ◌↔◌, ℕ, suc, Bool, true, false, List, [], ◌++◌, drop, Option, Result, Ok, Err, IsOk, IsErr, OnOk}
 use Rattle.std.specs.Io.KnownBytes.{Appends}
-use Rattle.byte_ends.specs.Counts.{is_lost}
+use Rattle.byte_ends.specs.Counts.{CountedView, is_lost}
 
 -- known bytes grow by a front part of `bytes`, `sent`: by none, some or all of them; `rest` is what did not go out
 pub record AppendsFront (old new : Option (List ℕ)) (bytes : List ℕ) : Type 0 where
@@ -9,6 +9,19 @@ pub record AppendsFront (old new : Option (List ℕ)) (bytes : List ℕ) : Type 
   pub rest : List ℕ
   pub split : bytes ≡ sent ++ rest
   pub appends : Appends old new sent
+
+-- A call that writes `bytes` to a counted writer: it answers Ok exactly where no call of the writer was lost, and Err exactly
+-- where one was. On Ok all of the bytes went out; in any case a front part of them did, and nothing else.
+pub record WritesAll {W A E : Type 0} (contents : W → Option (List ℕ)) (old new : CountedView W) (bytes : List ℕ) (result : Result A E) : Type 0 where
+  pub ok : IsOk result ↔ (new.failures ≡ 0)
+  pub broken : IsErr result ↔ (new.failures ≡ 1)
+  pub whole : OnOk result (Appends (contents old.inner) (contents new.inner) bytes)
+  pub front : AppendsFront (contents old.inner) (contents new.inner) bytes
+
+-- a flag that tells whether all was written, as an answer
+abbrev pub flagged : Bool → Result (Unit {0}) (Unit {0})
+flagged true = Ok tt
+flagged false = Err tt
 
 -- The calls that write a piece from one state of a writer to another, where `puts` says what one call may do. Each
 -- call is handed all that the calls before it left. The flag is true where nothing is left, and false where the last

@@ -1,9 +1,9 @@
 // A reader, a writer or an end that notes its first loss, and writing all of a text through one.
-ghost use Rattle.std.specs.Prelude.{◌≡◌, ℕ, ◌≤◌, ◌↔◌, false, true, IsTrue, IsOk, IsErr, OnOk, is_ok};
+ghost use Rattle.std.specs.Prelude.{◌≡◌, ℕ, ◌≤◌, ◌↔◌, false, true, IsTrue, IsOk, IsErr, OnOk, flat_map, is_ok};
 ghost use Rattle.std.specs.Io.{ReadsAtMost, WritesAtMost};
 ghost use Rattle.std.specs.Io.KnownBytes.{Appends, Keeps, ReadConsumes, WriteAppends};
 ghost use Rattle.byte_ends.specs.Counts.{CountedView, written_after, read_after, flushed_after, ended_after};
-ghost use Rattle.byte_ends.specs.Writes.{AppendsFront, PutsAll};
+ghost use Rattle.byte_ends.specs.Writes.{PutsAll, WritesAll};
 
 use crate::ends::{End, Sink, Source};
 use std::io;
@@ -192,13 +192,8 @@ impl<T: End> End for Counted<T> {
 /// It stops at the first lost call and answers [`Broken`]; a front part of `bytes` is then written.
 pub fn put_all<W: Sink>(out: &mut Counted<W>, bytes: &[u8]) -> Result<(), Broken>
     requires { out.old.failures ≡ 0 }
-    ensures written { IsOk result ↔ (out.new.failures ≡ 0) }
-    ensures broken { IsErr result ↔ (out.new.failures ≡ 1) }
+    ensures writes { WritesAll W.contents out.old out.new bytes.now result }
     ensures at_end { out.new.at_end ≡ out.old.at_end }
-
-    // All of the bytes on `Ok`, and else a front part of them.
-    ensures whole { OnOk result (Appends (W.contents out.old.inner) (W.contents out.new.inner) bytes.now) }
-    ensures front { AppendsFront (W.contents out.old.inner) (W.contents out.new.inner) bytes.now }
 
     // What the writer was asked, call by call.
     ensures calls { PutsAll W.puts out.old.inner bytes.now (is_ok result) out.new.inner }
@@ -209,6 +204,17 @@ pub fn put_all<W: Sink>(out: &mut Counted<W>, bytes: &[u8]) -> Result<(), Broken
             Ok(0) | Err(_) => return Err(Broken),
             Ok(n) => rest = &rest[n..],
         }
+    }
+    Ok(())
+}
+
+/// Writes pieces one after another, as `put_all` writes each.
+pub fn put_pieces<W: Sink>(out: &mut Counted<W>, pieces: &[&[u8]]) -> Result<(), Broken>
+    requires { out.old.failures ≡ 0 }
+    ensures { WritesAll W.contents out.old out.new (flat_map (λ piece. piece.now) pieces.now) result }
+{
+    for piece in pieces {
+        put_all(out, piece)?;
     }
     Ok(())
 }

@@ -11,7 +11,7 @@ mod memory;
 mod socket;
 
 pub use adapters::{Both, Plain};
-pub use counting::{Broken, Counted, put_all};
+pub use counting::{Broken, Counted, put_all, put_pieces};
 pub use ends::{End, Sink, Source};
 
 #[cfg(test)]

@@ -1,0 +1,37 @@
+use Rattle.std.proofs.Common.{◌≡◌, ℕ, ◌+◌, ◌++◌, List, length, refl, sym, drop, take, ap, ◌∙◌, subst, arith}
+use Rattle.std.proofs.Math.Seq.{take-length}
+use Rattle.std.specs.Prelude.{flat_map}
+use Rattle.std.specs.Io.KnownBytes.{Appends}
+use Rattle.std.proofs.KnownBytes.{Appends-trans}
+use Rattle.byte_ends.proofs.Fronts.{WritesAll-lost, WritesAll-done}
+use Rattle.byte_ends.proofs.Pieces.{flat_map-more, flat_map-split}
+use Rattle.byte_ends.proofs.counting.put_pieces.Goals as goal
+
+pub loop-piece-preserved : goal.loop-piece-preserved
+loop-piece-preserved g c =
+    let pieces = c.args.pieces.now in
+    let i = c.loop-piece.piece-index in
+    record {
+      none_lost = c.in_ok-put_all.ensures.writes.ok.0 refl;
+      sent = subst (λ (l : List ℕ). Appends (g.W.Write.contents c.args.out.now.inner) (g.W.Write.contents c.put_all.new.out.inner) l)
+          (flat_map-more (λ piece. piece.now) pieces i _ c.loop-piece-test.true)
+          (Appends-trans _ _ _ _ _ c.loop-piece.invariant.sent c.in_ok-put_all.ensures.writes.whole);
+    }
+
+pub returns-in_err-put_all : goal.returns-in_err-put_all
+returns-in_err-put_all g c =
+    let pieces = c.args.pieces.now in
+    let i = c.loop-piece.piece-index in
+    WritesAll-lost _ (flat_map (λ piece. piece.now) (take i pieces)) (flat_map (λ piece. piece.now) (drop (i + 1) pieces))
+    (flat_map-split (λ piece. piece.now) pieces (i + 1)
+    ∙ ap (λ l. l ++ flat_map (λ piece. piece.now) (drop (i + 1) pieces)) (sym (flat_map-more (λ piece. piece.now) pieces i _ c.loop-piece-test.true)))
+    c.loop-piece.invariant.sent c.in_err-put_all.ensures.writes refl c.from_residual.ensures.0
+
+pub returns : goal.returns
+returns g c =
+    let pieces = c.args.pieces.now in
+    let i = c.loop-piece.piece-index in
+    let all : i ≡ length pieces = omega (arith, c.loop-piece-test.false, c.loop-piece.auto.piece-index-end) in
+    WritesAll-done tt c.loop-piece.invariant.none_lost
+    (subst (λ l. Appends (g.W.Write.contents c.args.out.now.inner) (g.W.Write.contents c.loop-piece.out.inner) (flat_map (λ piece. piece.now) l))
+    (ap (λ n. take n pieces) all ∙ take-length pieces) c.loop-piece.invariant.sent)
