@@ -3,13 +3,13 @@ use Rattle.std.proofs.Common.{◌≡◌, false, refl, List, [], ◌∷◌, map}
 use Rattle.jt_board.specs.Cells.{Member}
 use Rattle.jt_board.specs.Whole.{reset_member}
 use Rattle.jt_board.specs.Chain.{told}
-use Rattle.bitbang.specs.declared.Message.TheVariants.{Lines}
+use Rattle.bitbang_table.specs.declared.Message.TheVariants.{Lines}
 use Rattle.jt_board.specs.Laws.{FiveOnesRest, OpeningRests, OpeningSettles, DefaultPathsSettleAndArrive}
 use Rattle.jt_board.proofs.Ones.{five-ones, opening-rests, reset_from_here}
 use Rattle.jt_board.proofs.Resets.{opening-law, reset-twice}
 use Rattle.jt_board.proofs.Moves.{go-law}
 
-resets-kept : (ms : List Member) → map reset_member (map reset_member ms) ≡ map reset_member ms
+pub resets-kept : (ms : List Member) → map reset_member (map reset_member ms) ≡ map reset_member ms
 resets-kept [] = refl
 resets-kept (m ∷ ms) = λ i. reset-twice m i ∷ resets-kept ms i
 

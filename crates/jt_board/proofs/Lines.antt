@@ -1,21 +1,8 @@
 -- A report that grows line by line, and bits that are written from the highest down.
-use Rattle.std.proofs.Common.{◌≡◌, Bool, ℕ, zero, suc, ◌+◌, ◌<◌, List, [], ◌∷◌, ◌++◌, length, take, drop, get_or, map, reverse, refl, sym, ap, ◌∙◌, arith, Some}
-use Rattle.std.specs.Prelude.{flat_map, slice_get}
-use Rattle.std.proofs.Math.Seq.{take-suc}
-use Rattle.std.proofs.lemmas.Grind.{flat_map-append}
-use Rattle.std.proofs.lemmas.List.{map-append, reverse-append}
+use Rattle.std.proofs.Common.{◌≡◌, Bool, ℕ, zero, suc, ◌+◌, List, [], ◌∷◌, ◌++◌, take, drop, map, reverse, sym, ap, ◌∙◌, arith, Some}
+use Rattle.std.specs.Prelude.{slice_get}
+use Rattle.std.proofs.lemmas.List.{map-append, reverse-append, take-append-drop}
 use Rattle.jt_board.specs.Report.{digit, digits}
-
-append-nil : (xs : List ℕ) → xs ++ [] ≡ xs
-append-nil [] = refl
-append-nil (x ∷ xs) = ap (λ r. x ∷ r) (append-nil xs)
-
-pub flat_map-more : {X : Type 0} (f : X → List ℕ) (xs : List X) (i : ℕ) (x : X) → i < length xs
-    → flat_map f (take i xs) ++ f (get_or xs i x) ≡ flat_map f (take (i + 1) xs)
-flat_map-more f xs i x h =
-    let next : i + 1 ≡ suc i = omega arith in
-    sym (ap (λ n. flat_map f (take n xs)) next ∙ ap (flat_map f) (take-suc xs i x h) ∙ flat_map-append f (take i xs) (get_or xs i x ∷ [])
-    ∙ ap (λ r. flat_map f (take i xs) ++ r) (append-nil (f (get_or xs i x))))
 
 drop-there : (bits : List Bool) (n : ℕ) (b : Bool) → slice_get bits n ≡ Some b → drop n bits ≡ b ∷ drop (suc n) bits
 drop-there [] zero b e = absurd (cc)
@@ -29,3 +16,9 @@ digits-more bits n i b e there =
     ap (λ k. digits (drop k bits) ++ digit b ∷ []) next
     ∙ sym (ap digits (drop-there bits n b there) ∙ ap (map digit) (reverse-append (b ∷ []) (drop (suc n) bits))
     ∙ map-append digit (reverse (drop (suc n) bits)) (b ∷ []))
+
+-- the digits before a place, and those from there on
+pub digits-split : (bits : List Bool) (n : ℕ) → digits bits ≡ digits (drop n bits) ++ digits (take n bits)
+digits-split bits n =
+    ap digits (sym (take-append-drop n bits)) ∙ ap (map digit) (reverse-append (take n bits) (drop n bits))
+    ∙ map-append digit (reverse (drop n bits)) (reverse (take n bits))

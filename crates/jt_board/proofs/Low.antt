@@ -7,10 +7,10 @@ use Rattle.jt_tap.specs.Controller.{next, work}
 use Rattle.jt_board.specs.Edges.{risen, fallen, tdo_after}
 use Rattle.jt_board.specs.Cells.{Member, surroundings}
 use Rattle.jt_board.specs.Nets.{Net, sees}
-use Rattle.bitbang.specs.declared.Message.{Message}
-use Rattle.bitbang.specs.declared.Message.TheVariants.{Write, Ask}
-use Rattle.bitbang.specs.declared.Cycle.{Cycle}
-use Rattle.bitbang.specs.Protocol.{cycle_messages}
+use Rattle.bitbang_table.specs.declared.Message.{Message}
+use Rattle.bitbang_table.specs.declared.Message.TheVariants.{Write, Ask}
+use Rattle.bitbang_table.specs.declared.Cycle.{Cycle}
+use Rattle.bitbang_table.specs.Protocol.{cycle_messages}
 use Rattle.jt_board.specs.Chain.{ChipState, BoardState, is_held, rise, fall, rise_all, tdi_before, members, hear, Heard}
 
 -- a device after a falling edge in a state

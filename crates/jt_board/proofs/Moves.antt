@@ -12,10 +12,9 @@ use Rattle.jt_board.specs.Device.{Device}
 use Rattle.jt_board.specs.Registers.{Registers}
 use Rattle.jt_board.specs.Nets.{Net, sees}
 use Rattle.jt_board.specs.Chain.{hear}
-use Rattle.jt_board.specs.Whole.{AtRest, capture_all, update_member, reset_member}
-use Rattle.jt_board.specs.Steps.{Go, command}
-use Rattle.tap_paths.specs.Paths.{go}
-use Rattle.jt_board.specs.StepBytes.{walk, closed, step_messages, last_of}
+use Rattle.jt_board.specs.Whole.{AtRest, arrive, capture_all, settle, update_member, reset_member}
+use Rattle.tap_paths.specs.Paths.{go, last_of}
+use Rattle.bitbang_table.specs.Cycles.{walk, closed}
 use Rattle.jt_board.specs.Resting.{resting, standing}
 use Rattle.jt_board.proofs.Low.{low, lowered, Free, given, risen_one, risen_all, fallen_one, cycled, Ran, ran, heard_of, hear-tail}
 
@@ -159,7 +158,7 @@ pub record IsMove (from to : State) : Type 0 where
   pub walk : IsWalk from (go from to)
   pub ends : last_of from (go from to) ≡ to
   pub effect : (trst : Bool) (nets : List Net) (ms : List Member)
-      → at_rest to trst nets (walked nets from (go from to) ms) ≡ command (Go to) (at_rest from trst nets ms)
+      → at_rest to trst nets (walked nets from (go from to) ms) ≡ arrive to (settle (at_rest from trst nets ms))
 
 pub default-path : (from to : State) → is_stable from ≡ true → is_stable to ≡ true → IsMove from to
 default-path Reset Reset sf st = record { walk = (refl, refl, tt); ends = refl; effect = λ trst nets ms. refl }
@@ -192,12 +191,12 @@ closed-walk (t ∷ path) s trst nets ms legal free =
 
 -- From rest, a STATE step's bytes settle and arrive.
 pub go-law : (from to : State) (trst : Bool) (nets : List Net) (ms : List Member) → is_stable from ≡ true → is_stable to ≡ true → Free trst ms
-    → hear (step_messages from (Go to)) (resting (at_rest from trst nets ms))
-    ≡ record { answers = []; board = resting (command (Go to) (at_rest from trst nets ms)) }
+    → hear (closed (map walk (go from to))) (resting (at_rest from trst nets ms))
+    ≡ record { answers = []; board = resting (arrive to (settle (at_rest from trst nets ms))) }
 go-law from to trst nets ms sf st free =
     let move = default-path from to sf st in
     let after = walked nets from (go from to) ms in
-    ap (λ b. hear (step_messages from (Go to)) b) (sym (low-resting from trst nets ms (stable-quiet from sf)))
+    ap (λ b. hear (closed (map walk (go from to))) b) (sym (low-resting from trst nets ms (stable-quiet from sf)))
     ∙ closed-walk (go from to) from trst nets ms move.walk free
     ∙ (λ i. record { answers = []; board = low (move.ends i) trst nets after })
     ∙ (λ i. record { answers = []; board = low-resting to trst nets after (stable-quiet to st) i })

@@ -5,10 +5,10 @@ use Rattle.jt_tap.specs.declared.State.{State}
 use Rattle.jt_tap.specs.declared.State.TheVariants.{Reset, Idle, DrSelect, DrCapture, DrShift, DrExit1, DrPause, DrExit2, DrUpdate, IrSelect, IrCapture, IrShift, IrExit1, IrPause, IrExit2, IrUpdate}
 use Rattle.jt_tap.specs.Controller.{next}
 use Rattle.jt_board.specs.Nets.{sees}
-use Rattle.bitbang.specs.declared.Message.TheVariants.{Write, Lines}
+use Rattle.bitbang_table.specs.declared.Message.TheVariants.{Write, Lines}
 use Rattle.jt_board.specs.Chain.{ChipState, BoardState, fall, rise_all, members, written, told, hear}
 use Rattle.jt_board.specs.Whole.{AtRest, reset_member}
-use Rattle.jt_board.specs.StepBytes.{resets_held, closed, opening}
+use Rattle.bitbang_table.specs.Cycles.{resets_held, closed, opening}
 use Rattle.jt_board.specs.Resting.{standing, resting}
 
 abbrev pub states : List ChipState → List State

@@ -12,11 +12,10 @@ use Rattle.jt_board.specs.Registers.{Registers, Surroundings}
 use Rattle.jt_board.specs.Edges.{risen}
 use Rattle.jt_board.specs.Cells.{Member, surroundings, reset_cell, reset_from}
 use Rattle.jt_board.specs.Nets.{Net, sees}
-use Rattle.bitbang.specs.declared.Message.TheVariants.{Write}
+use Rattle.bitbang_table.specs.declared.Message.TheVariants.{Lines, Write}
 use Rattle.jt_board.specs.Chain.{ChipState, BoardState, is_held, assert_trst, rise, fall, rise_all, tdi_before, members, told, hear}
-use Rattle.jt_board.specs.Whole.{reset_member, opened}
-use Rattle.jt_board.specs.Steps.{Trst, On, command, settled_member, trst_member}
-use Rattle.jt_board.specs.StepBytes.{resets_held, closed, opening, step_messages}
+use Rattle.jt_board.specs.Whole.{reset_member, opened, settled_member, trst_asserted, trst_member}
+use Rattle.bitbang_table.specs.Cycles.{resets_held, closed, opening}
 use Rattle.jt_board.specs.Resting.{standing, resting}
 use Rattle.jt_board.proofs.Moves.{at_rest}
 
@@ -207,8 +206,8 @@ asserted-quiet place (m ∷ ms) stable = (asserted-quiet-one m.device.has_trst p
 
 -- From rest, the bytes of TRST ON reset a device with a TRST port at once, and settle and reset any other.
 pub trst-on-law : (place : State) (trst : Bool) (nets : List Net) (ms : List Member) → is_stable place ≡ true
-    → hear (step_messages place (Trst On)) (resting (at_rest place trst nets ms))
-    ≡ record { answers = []; board = resting (command (Trst On) (at_rest place trst nets ms)) }
+    → hear (Lines true false ∷ closed resets_held) (resting (at_rest place trst nets ms))
+    ≡ record { answers = []; board = resting (trst_asserted (at_rest place trst nets ms)) }
 trst-on-law place trst nets ms stable =
     ones-through true nets (map assert_trst (map (standing place) ms)) (asserted-quiet place ms stable)
     ∙ (λ i. record { answers = []; board = board false true nets (asserted-all place ms stable i) })

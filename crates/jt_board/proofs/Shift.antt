@@ -1,6 +1,7 @@
 -- One cycle in Shift moves the joined list by one place.
-use Rattle.std.proofs.Common.{◌≡◌, Bool, true, ℕ, suc, ◌<◌, List, [], ◌∷◌, ◌++◌, length, take, drop, refl, sym, ap, ◌∙◌, append_assoc, arith}
-use Rattle.std.specs.Prelude.{unwrap_or, slice_get}
+use Rattle.std.proofs.Common.{◌≡◌, Bool, true, ℕ, suc, ◌<◌, List, [], ◌∷◌, ◌++◌, length, take, drop, refl, sym, ap, ◌∙◌, append_assoc, arith, length-append, length-drop}
+use Rattle.std.proofs.lemmas.List.{length-take-le}
+use Rattle.std.specs.Prelude.{unwrap_or, slice_get, ◌+◌}
 use Rattle.std.specs.List.{AllByRecursion}
 use Rattle.jt_tap.specs.declared.Column.{Column}
 use Rattle.jt_tap.specs.declared.Column.TheVariants.{Dr, Ir}
@@ -92,3 +93,16 @@ shift-one column tdi sight k (m ∷ ms) full =
     shift-one column tdi sight (suc k) ms full.1
     ∙ ap (λ r. cut_back column r ms) (sym (ap (λ r. drop (length c) r) whole ∙ drop-moved c g rest full.0)) in
     λ i. head i ∷ tail i
+
+-- the parts of a list as long as a chain that begins with this register
+pub left-part : (column : Column) (m : Member) (ms : List Member) (X : List Bool) → length X ≡ length (joined column (m ∷ ms))
+    → length (take (length (chosen_of column m)) X) ≡ length (chosen_of column m)
+left-part column m ms X e =
+    let sum : length (joined column (m ∷ ms)) ≡ length (chosen_of column m) + length (joined column ms) = length-append (chosen_of column m) (joined column ms) in
+    length-take-le (length (chosen_of column m)) X (omega arith)
+
+pub right-part : (column : Column) (m : Member) (ms : List Member) (X : List Bool) → length X ≡ length (joined column (m ∷ ms))
+    → length (drop (length (chosen_of column m)) X) ≡ length (joined column ms)
+right-part column m ms X e =
+    let sum : length (joined column (m ∷ ms)) ≡ length (chosen_of column m) + length (joined column ms) = length-append (chosen_of column m) (joined column ms) in
+    omega (arith, length-drop (length (chosen_of column m)) X)

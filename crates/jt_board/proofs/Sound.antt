@@ -1,7 +1,6 @@
 -- Every register that an instruction can select has at least one bit, and no action changes that.
 use Rattle.std.proofs.Common.{◌≡◌, Bool, ℕ, zero, suc, ◌<◌, List, [], ◌∷◌, length, take, drop, refl, sym, map, subst, arith}
-use Rattle.std.specs.Prelude.{Option, unwrap_or}
-use Rattle.std.specs.List.{AllByRecursion}
+use Rattle.std.specs.Prelude.{Option}
 use Rattle.jt_tap.specs.declared.Column.{Column}
 use Rattle.jt_tap.specs.declared.Column.TheVariants.{Dr, Ir}
 use Rattle.jt_board.specs.Device.{Device, Cell}
@@ -9,9 +8,8 @@ use Rattle.jt_board.specs.Instruction.{Selected, Bypass, Identification, Boundar
 use Rattle.jt_board.specs.Registers.{Registers, UserRegister, chosen, put, captured, updated, stage_of, with_stage, user_stage, user_latch, with_user_stage, user_updated, capture_of, update_selected}
 use Rattle.jt_board.specs.Cells.{Member, surroundings, capture_from, takes_update}
 use Rattle.jt_board.specs.Whole.{chosen_of, joined, cut_back, capture_all, update_member, reset_member}
-use Rattle.jt_board.specs.Sound.{HasBit, IsThere, IsSoundFor, IsSound, AllSound}
-use Rattle.jt_board.proofs.Shift.{Full}
-use Rattle.jt_board.proofs.Vectors.{left-part, right-part}
+use Rattle.jt_board.specs.Sound.{HasBit, IsThere, IsSoundFor, AllSound}
+use Rattle.jt_board.proofs.Shift.{Full, left-part, right-part}
 
 stage-bit : (s : Selected) (fixed : Option (List Bool)) (r : Registers) → HasBit r.bypass → HasBit r.boundary → IsThere s fixed r → HasBit (stage_of s r)
 stage-bit Bypass fixed r by bo there = by

@@ -1,9 +1,9 @@
 -- Bytes that spell messages do what the messages do.
 use Rattle.std.proofs.Common.{◌≡◌, List, [], ◌∷◌, map, refl, ap, ◌∙◌}
 use Rattle.std.specs.Prelude.{Option, Some, None}
-use Rattle.bitbang.specs.declared.Message.{Message}
-use Rattle.bitbang.specs.Protocol.{encode}
-use Rattle.bitbang.proofs.Bytes.{decode-encode}
+use Rattle.bitbang_table.specs.declared.Message.{Message}
+use Rattle.bitbang_table.specs.Protocol.{encode}
+use Rattle.bitbang_table.proofs.Bytes.{decode-encode}
 use Rattle.jt_board.specs.Chain.{BoardState, after_all, hear, told}
 
 pub after_all-encoded : (messages : List Message) (b : BoardState) → after_all (map encode messages) b ≡ (hear messages b).board

@@ -8,9 +8,9 @@ use Rattle.jt_board.specs.Registers.{Registers, reset}
 use Rattle.jt_board.specs.Edges.{risen, fallen, tdo_after}
 use Rattle.jt_board.specs.Cells.{Member, surroundings}
 use Rattle.jt_board.specs.Nets.{Net, sees}
-use Rattle.bitbang.specs.declared.Message.{Message}
-use Rattle.bitbang.specs.declared.Message.TheVariants.{Write, Ask, Quit, Lines}
-use Rattle.bitbang.specs.Protocol.{decode, answer}
+use Rattle.bitbang_table.specs.declared.Message.{Message}
+use Rattle.bitbang_table.specs.declared.Message.TheVariants.{Write, Ask, Quit, Lines}
+use Rattle.bitbang_table.specs.Protocol.{decode, answer}
 use Rattle.jt_board.specs.declared.board.Reply.{Reply}
 use Rattle.jt_board.specs.declared.board.Reply.TheVariants as said
 

@@ -1,13 +1,17 @@
 -- What the definitions promise of every chain: laws between the edge meaning and the register meaning.
-use Rattle.std.specs.Prelude.{◌≡◌, true, false, [], map}
+use Rattle.std.specs.Prelude.{◌≡◌, Bool, true, false, ℕ, List, [], map}
 use Rattle.std.specs.List.{AllByRecursion}
 use Rattle.jt_tap.specs.declared.State.{State}
 use Rattle.jt_tap.specs.declared.State.TheVariants.{Reset}
 use Rattle.jt_tap.specs.Controller.{is_stable}
-use Rattle.jt_board.specs.Chain.{BoardState, Heard, hear, is_held}
+use Rattle.jt_board.specs.Bare.{bare_board}
+use Rattle.jt_board.specs.Cells.{powered}
+use Rattle.jt_board.specs.Chain.{BoardState, Heard, after_all, hear, is_held}
+use Rattle.jt_board.specs.Device.{Device, Name}
+use Rattle.jt_board.specs.Sound.{IsSound, IsSoundBoard, IsSoundDevice}
 use Rattle.jt_board.specs.Whole.{AtRest, arrive, opened, reset_member, settle}
-use Rattle.jt_board.specs.Steps.{Go}
-use Rattle.jt_board.specs.StepBytes.{closed, opening, resets_held, step_messages}
+use Rattle.tap_paths.specs.Paths.{go}
+use Rattle.bitbang_table.specs.Cycles.{closed, opening, resets_held, walk}
 use Rattle.jt_board.specs.Resting.{resting}
 
 -- nothing was answered, and the board is at rest in m
@@ -42,4 +46,16 @@ IsFree m = AllByRecursion (λ d. is_held m.trst d ≡ false) m.members
 -- From rest in m, the bytes of a default path end at rest in m settled and arrived.
 abbrev pub DefaultPathsSettleAndArrive : Type 0
 DefaultPathsSettleAndArrive = (m : AtRest) (to : State) → is_stable m.place ≡ true → is_stable to ≡ true → IsFree m
-    → hear (step_messages m.place (Go to)) (resting m) ≡ quietly_at (arrive to (settle m))
+    → hear (closed (map walk (go m.place to))) (resting m) ≡ quietly_at (arrive to (settle m))
+
+-- Whatever bytes a board takes, its registers stay sound.
+abbrev pub BytesKeepRegistersSound : Type 0
+BytesKeepRegistersSound = (bytes : List ℕ) (b : BoardState) → IsSoundBoard b → IsSoundBoard (after_all bytes b)
+
+-- A device powers up sound if its description is.
+abbrev pub SoundDescriptionsPowerUpSound : Type 0
+SoundDescriptionsPowerUpSound = (name : Name) (d : Device) (core : List Bool) (extest_update : Bool)
+    → IsSoundDevice d → IsSound (powered name d core extest_update)
+
+abbrev pub BareBoardsAreSound : Type 0
+BareBoardsAreSound = (n : ℕ) → IsSoundBoard (bare_board n)

@@ -6,9 +6,6 @@ pub mod Cells
 pub mod Nets
 pub mod Chain
 pub mod Whole
-pub mod Vector
-pub mod Steps
-pub mod StepBytes
 pub mod Resting
 pub mod Sound
 pub mod Bare

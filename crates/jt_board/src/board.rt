@@ -1,15 +1,16 @@
 //! The board: a chain of devices, one byte at a time.
 
 ghost use Rattle.std.specs.Prelude.{[], ◌≡◌, ◌+◌, ◌≤◌, ◌<◌, ℕ, Bool, ◌⊎◌, drop, map, length, IfOk, MatchResult};
-ghost use Rattle.bitbang.specs.Protocol.{decode};
+ghost use Rattle.bitbang_table.specs.Protocol.{decode};
 ghost use Rattle.jt_board.specs.Chain as chain;
 ghost use Rattle.jt_board.specs.Bare.{bare_board, bare_from, bare_member, bare_name};
 ghost use Rattle.jt_board.specs.Resting.{standing};
+ghost use Rattle.jt_board.specs.Sound.{IsSoundBoard};
 ghost use Rattle.jt_tap.specs.declared.State.TheVariants.{Reset};
 
 use crate::chip::Chip;
 use crate::snapshot::Snapshot;
-use bitbang::Message;
+use bitbang_table::Message;
 use std::alloc::{AllocError, Global};
 use std::marker::Model;
 use thiserror::Error;
@@ -58,8 +59,11 @@ impl Model for Board {
     ghost Value = { BoardState };
 
     ghost use Rattle.std.specs.Prelude.{[]};
+    ghost use Rattle.jt_board.specs.Sound.{IsChain};
 
     ghost view = { λ b. record { tck = b.tck; trst = b.trst; nets = []; chips = b.chips.items } };
+
+    ghost invariant = { λ b. IsChain b.chips.items };
 }
 
 impl Board {
@@ -84,6 +88,16 @@ impl Board {
         }
     }
 
+    /// How many devices the chain has: 1 to 32.
+    pub fn devices(&self) -> usize
+        ensures count { result ≡ length self.now.chips }
+        ensures some { 0 < result }
+        ensures most { result ≤ 32 }
+        ensures sound { IsSoundBoard self.now }
+    {
+        self.chips.len()
+    }
+
     /// What every part of the board shows now.
     pub fn snapshot(&self) -> Snapshot<'_>
         ensures { result ≡ self.now }
@@ -106,7 +120,7 @@ impl Board {
         ensures reply { result ≡ chain.reply byte self.old }
         ensures board { self.new ≡ chain.after byte self.old }
     {
-        match bitbang::decode(byte) {
+        match bitbang_table::decode(byte) {
             None => Reply::Refused(byte),
             Some(message) => {
                 let reply = self.reply(message);
@@ -121,7 +135,7 @@ impl Board {
         ensures { result ≡ chain.reply_of message self.now }
     {
         match message {
-            Message::Ask => Reply::Answer(bitbang::answer(tdi_before(true, &self.chips))),
+            Message::Ask => Reply::Answer(bitbang_table::answer(tdi_before(true, &self.chips))),
             Message::Quit => Reply::Quit,
             _ => Reply::Nothing,
         }

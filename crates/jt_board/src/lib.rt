@@ -6,17 +6,16 @@ mod chip;
 mod laws;
 mod report;
 mod snapshot;
-mod vector;
 
 pub use board::{Board, BoardFault, Reply};
 pub use byte_ends::{Broken, Counted};
 pub use laws::{
-    default_paths_settle_and_arrive, five_ones_reset_every_board, the_opening_rests_every_board,
+    bare_boards_are_sound, bytes_keep_registers_sound, default_paths_settle_and_arrive,
+    five_ones_reset_every_board, sound_descriptions_power_up_sound, the_opening_rests_every_board,
     the_opening_settles_and_resets,
 };
 pub use report::write_report;
 pub use snapshot::Snapshot;
-pub use vector::Part;
 
 #[cfg(test)]
 mod tests;

@@ -1,7 +1,7 @@
 //! The report of a board.
 
-ghost use Rattle.std.specs.Prelude.{◌≡◌, ◌≤◌, ◌↔◌, ◌++◌, [], map, flat_map, length, reverse, IsOk, IsErr, OnOk};
-ghost use Rattle.std.specs.Io.KnownBytes.{Appends};
+ghost use Rattle.std.specs.Prelude.{◌≡◌, ◌++◌, flat_map};
+ghost use Rattle.byte_ends.specs.Writes.{WritesAll};
 ghost use Rattle.jt_board.specs.Report.{device_line, digit, digits, instruction_part, report, shown};
 ghost use Rattle.jt_board.specs.Instruction.{instruction};
 
@@ -16,9 +16,7 @@ use jt_bits::Bits;
 /// `Broken` comes exactly where the writer's first failure came in this call.
 pub fn write_report<W: Sink>(board: &Board, out: &mut Counted<W>) -> Result<(), Broken>
     requires { out.old.failures ≡ 0 }
-    ensures written { IsOk result ↔ (out.new.failures ≡ 0) }
-    ensures broken { IsErr result ↔ (out.new.failures ≡ 1) }
-    ensures whole { OnOk result (Appends (W.contents out.old.inner) (W.contents out.new.inner) (report board.now)) }
+    ensures { WritesAll W.contents out.old out.new (report board.now) result }
 {
     write_devices(board.chips(), out)
 }
@@ -26,9 +24,7 @@ pub fn write_report<W: Sink>(board: &Board, out: &mut Counted<W>) -> Result<(), 
 /// Writes a line for each device.
 fn write_devices<W: Sink>(chips: &[Chip], out: &mut Counted<W>) -> Result<(), Broken>
     requires { out.old.failures ≡ 0 }
-    ensures written { IsOk result ↔ (out.new.failures ≡ 0) }
-    ensures broken { IsErr result ↔ (out.new.failures ≡ 1) }
-    ensures whole { OnOk result (Appends (W.contents out.old.inner) (W.contents out.new.inner) (flat_map device_line chips.now)) }
+    ensures { WritesAll W.contents out.old out.new (flat_map device_line chips.now) result }
 {
     for chip in chips {
         write_device(chip, out)?;
@@ -37,11 +33,10 @@ fn write_devices<W: Sink>(chips: &[Chip], out: &mut Counted<W>) -> Result<(), Br
 }
 
 /// Writes the line of one device.
+#[tactic(auto, using(byte_ends::proofs::Fronts::fronts))]
 fn write_device<W: Sink>(chip: &Chip, out: &mut Counted<W>) -> Result<(), Broken>
     requires { out.old.failures ≡ 0 }
-    ensures written { IsOk result ↔ (out.new.failures ≡ 0) }
-    ensures broken { IsErr result ↔ (out.new.failures ≡ 1) }
-    ensures whole { OnOk result (Appends (W.contents out.old.inner) (W.contents out.new.inner) (device_line chip.now)) }
+    ensures { WritesAll W.contents out.old out.new (device_line chip.now) result }
 {
     write_field(chip.name().as_bytes(), b" ", out)?;
     write_field(chip.state().word().as_bytes(), b" ", out)?;
@@ -49,11 +44,10 @@ fn write_device<W: Sink>(chip: &Chip, out: &mut Counted<W>) -> Result<(), Broken
 }
 
 /// Writes a device's instruction, its bits and its name, and ends the line.
+#[tactic(auto, using(byte_ends::proofs::Fronts::fronts))]
 fn write_instruction<W: Sink>(chip: &Chip, out: &mut Counted<W>) -> Result<(), Broken>
     requires { out.old.failures ≡ 0 }
-    ensures written { IsOk result ↔ (out.new.failures ≡ 0) }
-    ensures broken { IsErr result ↔ (out.new.failures ≡ 1) }
-    ensures whole { OnOk result (Appends (W.contents out.old.inner) (W.contents out.new.inner) (instruction_part chip.now)) }
+    ensures { WritesAll W.contents out.old out.new (instruction_part chip.now) result }
 {
     write_bits(chip.latch(), out)?;
     put_all(out, b" ")?;
@@ -71,11 +65,10 @@ fn name_or_dash(chip: &Chip) -> &[u8]
 }
 
 /// Writes a field and what ends it.
+#[tactic(auto, using(byte_ends::proofs::Fronts::fronts))]
 fn write_field<W: Sink>(field: &[u8], end: &[u8], out: &mut Counted<W>) -> Result<(), Broken>
     requires { out.old.failures ≡ 0 }
-    ensures written { IsOk result ↔ (out.new.failures ≡ 0) }
-    ensures broken { IsErr result ↔ (out.new.failures ≡ 1) }
-    ensures whole { OnOk result (Appends (W.contents out.old.inner) (W.contents out.new.inner) (field.now ++ end.now)) }
+    ensures { WritesAll W.contents out.old out.new (field.now ++ end.now) result }
 {
     put_all(out, field)?;
     put_all(out, end)
@@ -84,9 +77,7 @@ fn write_field<W: Sink>(field: &[u8], end: &[u8], out: &mut Counted<W>) -> Resul
 /// Writes bits as digits, the highest first.
 fn write_bits<W: Sink>(bits: &Bits, out: &mut Counted<W>) -> Result<(), Broken>
     requires { out.old.failures ≡ 0 }
-    ensures written { IsOk result ↔ (out.new.failures ≡ 0) }
-    ensures broken { IsErr result ↔ (out.new.failures ≡ 1) }
-    ensures whole { OnOk result (Appends (W.contents out.old.inner) (W.contents out.new.inner) (digits bits.now)) }
+    ensures { WritesAll W.contents out.old out.new (digits bits.now) result }
 {
     let mut i = bits.len();
     while i > 0 {

@@ -1,7 +1,8 @@
 //! What a board shows between two bytes.
 
-ghost use Rattle.std.specs.Prelude.{◌≡◌, ◌<◌, [], ◌∷◌, ℕ, List, length, option_map, slice_get};
+ghost use Rattle.std.specs.Prelude.{◌≡◌, ◌<◌, ◌≤◌, [], ◌∷◌, ℕ, List, length, option_map, slice_get};
 ghost use Rattle.jt_board.specs.Instruction.{instruction};
+ghost use Rattle.jt_board.specs.Sound.{IsChain};
 
 use crate::chip::Chip;
 use jt_bits::Bits;
@@ -23,12 +24,16 @@ impl<'a> Model for Snapshot<'a> {
     ghost Value = { BoardState };
 
     ghost use Rattle.std.specs.Prelude.{[]};
+    ghost use Rattle.jt_board.specs.Sound.{IsChain};
 
     ghost view = { λ s. record { tck = s.tck; trst = s.trst; nets = []; chips = s.chips.now.items } };
+
+    ghost invariant = { λ s. IsChain s.chips.now.items };
 }
 
 impl<'a> Snapshot<'a> {
     pub(crate) fn new(tck: bool, trst: bool, chips: &'a Vec<Chip>) -> Snapshot<'a>
+        requires { IsChain chips.now.items }
         ensures { result ≡ record { tck = tck; trst = trst; nets = []; chips = chips.now.items } }
     {
         Snapshot { tck, trst, chips }
@@ -48,9 +53,11 @@ impl<'a> Snapshot<'a> {
         self.trst
     }
 
-    /// How many devices the chain has.
+    /// How many devices the chain has: 1 to 32.
     pub fn devices(&self) -> usize
-        ensures { result ≡ length self.now.chips }
+        ensures count { result ≡ length self.now.chips }
+        ensures some { 0 < result }
+        ensures most { result ≤ 32 }
     {
         self.chips.len()
     }

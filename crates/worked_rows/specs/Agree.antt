@@ -3,13 +3,14 @@ use Rattle.std.specs.Prelude.{◌≡◌, Bool, true, false, ℕ, List, [], ◌�
 use Rattle.jt_tap.specs.declared.State.{State}
 use Rattle.jt_tap.specs.declared.State.TheVariants.{Reset, Idle, DrPause, IrPause}
 use Rattle.jt_board.specs.Registers.{Registers, UserRegister}
-use Rattle.bitbang.specs.Protocol.{encode}
+use Rattle.bitbang_table.specs.Protocol.{encode}
 use Rattle.jt_board.specs.Chain.{BoardState, ChipState}
 use Rattle.jt_board.specs.Whole.{AtRest, opened}
 use Rattle.jt_board.specs.Resting.{resting}
-use Rattle.jt_player.specs.Programs.{Numbered, Outcome, outcome}
-use Rattle.jt_player.specs.declared.ending.Ending.{Ending}
-use Rattle.jt_player.specs.Play.{Played, full_play, turns}
+use Rattle.svf_settings.specs.Steps.{Numbered}
+use Rattle.plays.specs.Meaning.{Outcome, outcome}
+use Rattle.plays.specs.declared.ending.Ending.{Ending}
+use Rattle.plays.specs.Play.{Played, full_play, turns}
 
 abbrev pub played : AtRest → List Numbered → Played
 played m steps = full_play (turns steps) (resting m)

@@ -9,11 +9,11 @@ use Rattle.jt_board.specs.Instruction.{instruction}
 use Rattle.jt_board.specs.Registers.{Registers}
 use Rattle.jt_board.specs.Whole.{AtRest}
 use Rattle.jt_board.specs.Resting.{power_up, resting}
-use Rattle.jt_board.specs.declared.vector.Part.TheVariants.{Header, Data}
-use Rattle.jt_player.specs.declared.ending.Ending.TheVariants.{Pass, Fail}
-use Rattle.jt_board.specs.Steps.{Go, Path, Run, Trst, On}
-use Rattle.jt_player.specs.Programs.{Numbered}
-use Rattle.jt_player.specs.Play.{player, turns}
+use Rattle.scan_vectors.specs.declared.part.Part.TheVariants.{Header, Data}
+use Rattle.plays.specs.declared.ending.Ending.TheVariants.{Pass, Fail}
+use Rattle.svf_settings.specs.Steps.{Go, Path, Run, Trst, Numbered}
+use Rattle.svf_parse.specs.declared.statement.TrstWord.TheVariants.{On}
+use Rattle.plays.specs.Play.{player, turns}
 use Rattle.worked_rows.specs.Samples.{bits, k, kt, kh, ki, ku, kuc, p, plain, with_core, q, d, net, tdi, tdo, mask, sir, sdr, sdr_to, hdr_sdr, step}
 use Rattle.worked_rows.specs.Agree.{Row, played}
 
@@ -73,7 +73,7 @@ pub record PlayRows : Type 0 where
       (codes "r2626262626004262604040404042626040260404151504151526040t26262626260Q") Pass
   pub trst_keeps_update_stages : map (λ r. r.update) (registers_of (played (plain (kt ∷ k ∷ [])) trst_after_a_pause).board) ≡ bits 3 0 ∷ bits 3 3 ∷ []
   pub trst_resets_latches : latches (played (plain (kt ∷ k ∷ [])) trst_after_a_pause).board ≡ bits 2 2 ∷ bits 2 2 ∷ []
-  -- row 13's cycles
+  -- three cycles in IDLE
   pub runtest_cycles : Row (plain (k ∷ [])) (step 2 (Run Idle 3 Idle) ∷ []) (codes "r26262626260040404040Q") Pass
   pub contention : Row (opposed_drivers Free) (sir 1 (tdi 4 0) ∷ sdr 2 (tdi 6 0x13) ∷ sdr 3 (tdo 6 0x13 0x20) ∷ [])
       (codes "r2626262626004262604040404042626040260404151504041526260402604041R51R50R40R41R52R626040Q") Pass

@@ -9,9 +9,8 @@ use Rattle.jt_board.specs.Cells.{Member, powered}
 use Rattle.jt_board.specs.Nets.{Net, Pin, Pull}
 use Rattle.jt_board.specs.Whole.{AtRest}
 use Rattle.jt_board.specs.Resting.{power_up}
-use Rattle.jt_board.specs.Vector.{Part3, join}
-use Rattle.jt_board.specs.Steps.{Step, Scan}
-use Rattle.jt_player.specs.Programs.{Numbered}
+use Rattle.scan_vectors.specs.Vector.{Part3, join}
+use Rattle.svf_settings.specs.Steps.{Step, Scan, Numbered}
 
 -- the n lowest binary digits
 abbrev pub bits : ℕ → ℕ → List Bool

@@ -2,16 +2,16 @@
 use Rattle.std.proofs.Common.{◌≡◌, Bool, true, false, ℕ, zero, suc, List, [], ◌∷◌, ◌++◌, map, codes}
 use Rattle.std.specs.Prelude.{Option, Some, None, bytes_eq}
 use Rattle.jt_tap.specs.declared.State.TheVariants.{Reset, Idle, DrShift, IrPause, IrUpdate}
-use Rattle.bitbang.specs.declared.Message.{Message}
-use Rattle.bitbang.specs.declared.Message.TheVariants.{Write}
+use Rattle.bitbang_table.specs.declared.Message.{Message}
+use Rattle.bitbang_table.specs.declared.Message.TheVariants.{Write}
 use Rattle.jt_board.specs.Chain.{ChipState, BoardState, rise, fall, assert_trst, hear, reply, after}
 use Rattle.jt_board.specs.declared.board.Reply.TheVariants.{Refused}
 use Rattle.jt_board.specs.Resting.{standing, resting}
-use Rattle.jt_board.specs.declared.vector.Part.TheVariants.{Data}
-use Rattle.jt_player.specs.declared.ending.Ending.TheVariants.{Pass, Fail, Lost, BadAnswer}
-use Rattle.jt_player.specs.Programs.{Numbered}
-use Rattle.jt_player.specs.Play.{turns, full_play, player, ending_for}
-use Rattle.jt_player.specs.Events.{World, Known, Event, Put, Serve, Take, Lose, by_answers, fresh, run, moving, ended}
+use Rattle.scan_vectors.specs.declared.part.Part.TheVariants.{Data}
+use Rattle.plays.specs.declared.ending.Ending.TheVariants.{Pass, Fail, Lost, BadAnswer}
+use Rattle.svf_settings.specs.Steps.{Numbered}
+use Rattle.plays.specs.Play.{turns, full_play, player, ending_for}
+use Rattle.plays.specs.Events.{World, Known, Event, Put, Serve, Take, Lose, by_answers, fresh, run, moving, ended}
 use Rattle.worked_rows.specs.Samples.{bits, k, kt, p, plain, with_core, tdo, sir}
 use Rattle.worked_rows.specs.Agree.{meant, flat_board}
 
@@ -36,7 +36,7 @@ reset_now = assert_trst (fall (up false (cycled (false ∷ true ∷ false ∷ []
 abbrev pub paused : ChipState
 paused = cycled (false ∷ true ∷ true ∷ false ∷ true ∷ false ∷ []) (standing Reset (with_core k 0))
 
--- row 2 under schedules
+-- a scan of the instruction register under schedules
 abbrev pub ir_scan : List Numbered
 ir_scan = sir 1 (tdo 2 3 1) ∷ []
 

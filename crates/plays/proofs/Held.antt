@@ -1,0 +1,53 @@
+-- While a step stays in RESET nothing changes, whether or not TRST holds a device there.
+use Rattle.std.proofs.Common.{◌≡◌, Bool, true, false, ℕ, zero, suc, List, [], ◌∷◌, replicate, refl, ap, ◌∙◌, map}
+use Rattle.std.specs.Prelude.{if◌then◌else◌}
+use Rattle.jt_tap.specs.declared.State.TheVariants.{Reset}
+use Rattle.jt_board.specs.Cells.{Member}
+use Rattle.jt_board.specs.Nets.{Net}
+use Rattle.jt_board.specs.Chain.{ChipState, BoardState, fall, is_held, hear}
+use Rattle.jt_board.specs.Whole.{reset_member}
+use Rattle.bitbang_table.specs.Cycles.{walk, closed}
+use Rattle.jt_board.specs.Resting.{standing, resting}
+use Rattle.jt_board.proofs.Low.{tail}
+use Rattle.jt_board.proofs.Moves.{at_rest}
+use Rattle.jt_board.proofs.Resets.{up, board, one, one-low, one-high, standing-quiet}
+
+same-either : (held : Bool) (c : ChipState) → (if held then c else c) ≡ c
+same-either true c = refl
+same-either false c = refl
+
+ups : (trst : Bool) (ms : List Member) → map (up trst) (map (standing Reset) ms) ≡ map (standing Reset) ms
+ups trst [] = refl
+ups trst (m ∷ ms) = λ i. same-either (is_held trst m) (standing Reset m) i ∷ ups trst ms i
+
+falls : (ms : List Member) → map reset_member ms ≡ ms → map fall (map (standing Reset) ms) ≡ map (standing Reset) ms
+falls ms kept = go ms ∙ ap (map (standing Reset)) kept
+  where
+    go : (ms : List Member) → map fall (map (standing Reset) ms) ≡ map (standing Reset) (map reset_member ms)
+    go [] = refl
+    go (m ∷ ms) = ap (λ r. standing Reset (reset_member m) ∷ r) (go ms)
+
+abbrev here : Bool → Bool → List Net → List Member → BoardState
+here tck trst nets ms = board tck trst nets (map (standing Reset) ms)
+
+-- one cycle with TMS 1 from either level of TCK
+one-more : (tck trst : Bool) (nets : List Net) (ms : List Member) → map reset_member ms ≡ ms → one (here tck trst nets ms) ≡ here true trst nets ms
+one-more false trst nets ms kept =
+    one-low trst nets (map (standing Reset) ms) (standing-quiet Reset ms refl) ∙ ap (board true trst nets) (ups trst ms)
+one-more true trst nets ms kept =
+    one-high trst nets (map (standing Reset) ms) (standing-quiet Reset ms refl)
+    ∙ ap (λ cs. board true trst nets (map (up trst) cs)) (falls ms kept)
+    ∙ ap (board true trst nets) (ups trst ms)
+
+stay : (n : ℕ) (tck trst : Bool) (nets : List Net) (ms : List Member) → map reset_member ms ≡ ms
+    → hear (tail (replicate n (walk Reset))) (here tck trst nets ms) ≡ record { answers = []; board = here false trst nets ms }
+stay zero false trst nets ms kept = refl
+stay zero true trst nets ms kept = λ i. record { answers = []; board = board false trst nets (falls ms kept i) }
+stay (suc n) tck trst nets ms kept =
+    (λ i. hear (tail (replicate n (walk Reset))) (one-more tck trst nets ms kept i)) ∙ stay n true trst nets ms kept
+
+-- From rest in RESET, any number of cycles with TMS 1 leave the board as it is.
+pub held-law : (n : ℕ) (trst : Bool) (nets : List Net) (ms : List Member) → map reset_member ms ≡ ms
+    → hear (closed (replicate n (walk Reset))) (resting (at_rest Reset trst nets ms)) ≡ record { answers = []; board = resting (at_rest Reset trst nets ms) }
+held-law zero trst nets ms kept = refl
+held-law (suc n) trst nets ms kept = stay (suc n) false trst nets ms kept

@@ -1,0 +1,15 @@
+pub mod Vectors
+pub mod Scan
+pub mod Trips
+pub mod Held
+pub mod Direct
+pub mod Grow
+pub mod Asks
+pub mod Opened
+pub mod PlayLaws
+pub mod Ready
+pub mod StepLaws
+pub mod Programs
+pub mod Legality
+pub mod Described
+pub mod Sampled

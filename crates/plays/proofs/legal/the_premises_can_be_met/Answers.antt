@@ -1,0 +1,5 @@
+use Rattle.plays.proofs.Sampled.{met}
+use Rattle.plays.proofs.legal.the_premises_can_be_met.Goals as goal
+
+pub returns : goal.returns
+returns c = met

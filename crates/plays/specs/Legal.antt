@@ -1,0 +1,25 @@
+-- Which steps and programs are legal at a state of whole registers.
+use Rattle.std.specs.Prelude.{◌≡◌, ◌≢◌, Bool, true, false, ℕ, zero, suc, ◌<◌, List, [], ◌∷◌, length, Option, Some, None}
+use Rattle.std.specs.List.{AllByRecursion}
+use Rattle.jt_tap.specs.declared.State.{State}
+use Rattle.jt_tap.specs.declared.State.TheVariants.{Reset}
+use Rattle.jt_board.specs.Cells.{Member, powered}
+use Rattle.jt_board.specs.Device.{Place, AtBypass, AtBoundary, AtDeviceId, AtUser, Access, Device}
+use Rattle.jt_board.specs.Chain.{BoardState, members}
+use Rattle.jt_board.specs.Whole.{AtRest}
+use Rattle.svf_settings.specs.Steps.{Step, Trst, place_after, Numbered}
+use Rattle.svf_parse.specs.declared.statement.TrstWord.TheVariants.{On, Absent}
+use Rattle.plays.specs.Meaning.{command}
+use Rattle.svf_settings.specs.Legal.{IsFormed, leaves_reset}
+use Rattle.jt_board.specs.Sound.{AllSound}
+
+-- Legal at M: formed, and while TRST is asserted no step from RESET leaves it, and none is TRST ABSENT.
+pub record IsLegal (step : Step) (m : AtRest) : Type 0 where
+  pub formed : IsFormed m.place step
+  pub stays : m.trst ≡ true → m.place ≡ Reset → leaves_reset step ≡ false
+  pub not_absent : m.trst ≡ true → step ≢ Trst Absent
+
+-- Each step is legal at the state where it begins, which whole registers give.
+abbrev pub AllLegal : List Numbered → AtRest → Type 0
+AllLegal [] m = Unit {0}
+AllLegal (s ∷ ss) m = IsLegal s.what m × AllLegal ss (command s.what m)

@@ -1,0 +1,12 @@
+pub mod Endings
+pub mod Meaning
+pub mod Play
+pub mod Playing
+pub mod DirectPlay
+pub mod PlayLaws
+pub mod Legal
+pub mod LegalPlays
+pub mod LegalSamples
+pub mod Events
+pub mod PlayingOn
+pub mod Streams

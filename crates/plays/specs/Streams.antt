@@ -1,0 +1,147 @@
+-- The player that keeps no answers: it judges each as it comes, and keeps how many they were and what differed.
+use Rattle.std.specs.Prelude.{Bool, true, false, ◌&&◌, ◌||◌, ℕ, suc, ◌+◌, ◌-◌, ◌==◌, min, nat_le, nat_lt, List, [], ◌∷◌, ◌++◌, map, length, take, drop, count_by, is_some, Option, Some, None, if◌then◌else◌}
+use Rattle.std.specs.List.{list_any}
+use Rattle.bitbang_table.specs.declared.Message.{Message}
+use Rattle.bitbang_table.specs.declared.Message.TheVariants.{Quit}
+use Rattle.bitbang_table.specs.Protocol.{answer, encode}
+use Rattle.scan_vectors.specs.Vector.{VectorBit, differs}
+use Rattle.plays.specs.declared.ending.Ending.{Ending}
+use Rattle.plays.specs.declared.ending.Ending.TheVariants.{BadAnswer}
+use Rattle.plays.specs.Events.{Side}
+use Rattle.plays.specs.Play.{Turn, is_bad, turns, up_to_asks}
+use Rattle.plays.specs.Playing.{up_to_bad}
+use Rattle.svf_settings.specs.Steps.{Program}
+use Rattle.plays.specs.PlayingOn.{Kind, Stops, PlaysOn, Mismatch, ending_of}
+
+-- Of the bits that differed, the first ones, and how many they were; a player that stops counts no further than to the first.
+pub record Found : Type 0 where
+  pub list : List Mismatch
+  pub total : ℕ
+
+abbrev pub kept : Kind → ℕ
+kept Stops = 1
+kept PlaysOn = 256
+
+abbrev pub counted : Kind → ℕ → ℕ
+counted Stops n = min 1 n
+counted PlaysOn n = n
+
+-- what is kept of all that differed
+abbrev pub found_of : Kind → List Mismatch → Found
+found_of kind all = record { list = take (kept kind) all; total = counted kind (length all) }
+
+abbrev pub noted : Kind → List Mismatch → Found → Found
+noted kind more f = record { list = take (kept kind) (f.list ++ more); total = counted kind (f.total + length more) }
+
+-- the program, how many bytes were given out, how many answers `0` and `1` were taken, what differed, and the other byte, if
+-- one came
+pub record StreamState : Type 0 where
+  pub program : Program
+  pub kind : Kind
+  pub given : ℕ
+  pub answered : ℕ
+  pub found : Found
+  pub bad : Option ℕ
+
+abbrev pub fresh : Kind → Program → StreamState
+fresh kind program = record { program = program; kind = kind; given = 0; answered = 0; found = record { list = []; total = 0 }; bad = None }
+
+abbrev pub turns_of : StreamState → List Turn
+turns_of s = turns s.program.steps
+
+-- a wanted bit and its command
+pub record Wanted : Type 0 where
+  pub command : ℕ
+  pub bit : VectorBit
+
+-- all of a play, one an answer
+abbrev pub wanted : List Turn → List Wanted
+wanted [] = []
+wanted (t ∷ ts) = map (λ v. record { command = t.command; bit = v }) t.wants ++ wanted ts
+
+-- what the next answer adds to that
+abbrev pub judged : List Wanted → Bool → List Mismatch
+judged [] b = []
+judged (w ∷ ws) b = if differs w.bit.wanted b then record { command = w.command; part = w.bit.part; place = w.bit.place } ∷ [] else []
+
+-- the command that an answer belongs to, by its place among all answers
+abbrev pub command_at : List Turn → ℕ → ℕ
+command_at [] n = 0
+command_at (t ∷ ts) n = if nat_lt n (length t.wants) then t.command else command_at ts (n - length t.wants)
+
+-- the wanted bits that are not yet answered
+abbrev pub unanswered : StreamState → List Wanted
+unanswered s = drop s.answered (wanted (turns_of s))
+
+-- One answer is judged. After a bad one nothing is heard.
+abbrev pub hear : ℕ → StreamState → StreamState
+hear byte s =
+    if is_some s.bad then s else
+    if is_bad byte then record s { bad = Some byte } else
+    record s { answered = s.answered + 1; found = noted s.kind (judged (unanswered s) (byte == 49)) s.found }
+
+abbrev pub hear_all : List ℕ → StreamState → StreamState
+hear_all [] s = s
+hear_all (byte ∷ bytes) s = hear_all bytes (hear byte s)
+
+abbrev pub some_differ : List Mismatch → Bool
+some_differ [] = false
+some_differ (f ∷ fs) = true
+
+-- a bit differed and the player stops for it
+abbrev pub stops_for : Kind → List Mismatch → Bool
+stops_for Stops found = some_differ found
+stops_for PlaysOn found = false
+
+abbrev pub stops : StreamState → Bool
+stops s = stops_for s.kind s.found.list
+
+-- What may be sent, when so many answers were taken: turns of which all answers are there, then the present one up to the
+-- window. A player that stops does so after the turn of the last answer.
+abbrev pub sends : (window : ℕ) → List Turn → (answered : ℕ) → (stops : Bool) → List Message
+sends window [] n stops = Quit ∷ []
+sends window (t ∷ ts) n stops =
+    let wants = length t.wants in
+    if nat_lt n wants then up_to_asks t.messages (n + window) else
+    t.messages ++ (if stops && nat_le n wants then Quit ∷ [] else sends window ts (n - wants) stops)
+
+-- the command in work
+abbrev pub works : (statements : ℕ) → List Turn → (given answered : ℕ) → (stops : Bool) → ℕ
+works statements [] given n stops = suc statements
+works statements (t ∷ ts) given n stops =
+    let wants = length t.wants in
+    if nat_lt given (length t.messages) || nat_lt n wants then t.command else
+    if stops && nat_le n wants then suc statements else works statements ts (given - length t.messages) (n - wants) stops
+
+abbrev pub working : StreamState → ℕ
+working s = works s.program.statements (turns_of s) s.given s.answered (stops s)
+
+module _ (window : ℕ) where
+  abbrev pub bytes_of : StreamState → List ℕ
+  bytes_of s = map encode (sends window (turns_of s) s.answered (stops s))
+
+  abbrev pub waiting : StreamState → List ℕ
+  waiting s = if is_some s.bad then [] else drop s.given (bytes_of s)
+
+  abbrev pub given_out : StreamState → List ℕ
+  given_out s = take s.given (bytes_of s)
+
+  abbrev pub owed : StreamState → ℕ
+  owed s = if is_some s.bad then 0 else count_by (λ b. b == 82) (given_out s) - s.answered
+
+  abbrev pub taken : StreamState → List ℕ → List ℕ
+  taken s bytes = up_to_bad (take (owed s) bytes)
+
+  abbrev pub ended : StreamState → Option Ending
+  ended s = elim s.bad [
+    | Some byte ↦ Some (BadAnswer (command_at (turns_of s) s.answered) byte)
+    | None ↦ if list_any (λ b. b == 81) (given_out s) then Some (ending_of s.found.list) else None
+  ]
+
+  -- as events see it
+  abbrev pub side : Side StreamState
+  side = record {
+    waiting = waiting;
+    give = λ n s. record s { given = s.given + n };
+    hear = λ bit s. hear_all (taken s (answer bit ∷ [])) s;
+  }
