@@ -1,11 +1,6 @@
-pub mod Direct
-pub mod Grow
-pub mod Asks
 pub mod Tails
 pub mod Plain
 pub mod Buffers
 pub mod Moving
 pub mod Noting
 pub mod Told
-pub mod PlayLaws
-pub mod Shown

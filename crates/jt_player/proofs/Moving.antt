@@ -5,8 +5,8 @@ use Rattle.std.specs.Prelude.{if◌then◌else◌}
 use Rattle.jt_tap.specs.declared.State.{State}
 use Rattle.jt_tap.specs.declared.State.TheVariants.{Reset, Idle, DrPause, IrPause}
 use Rattle.jt_tap.specs.Controller.{is_stable}
-use Rattle.bitbang.specs.declared.Message.TheVariants.{Lines}
-use Rattle.bitbang.specs.Protocol.{encode}
+use Rattle.bitbang_table.specs.declared.Message.TheVariants.{Lines}
+use Rattle.bitbang_table.specs.Protocol.{encode}
 use Rattle.state_programs.specs.declared.program.Step.{Step}
 use Rattle.state_programs.specs.declared.program.Action.{Action}
 use Rattle.state_programs.specs.declared.program.Action.TheVariants as action
@@ -14,20 +14,26 @@ use Rattle.state_programs.specs.Programs.{Accepted, AllGoToStable, GoesToStable}
 use Rattle.jt_board.specs.Cells.{Member}
 use Rattle.jt_board.specs.Chain.{BoardState, after, after_all, hear, told}
 use Rattle.jt_board.specs.Whole.{AtRest, arrive, settle}
-use Rattle.jt_board.specs.Steps.{Go, command}
-use Rattle.jt_board.specs.StepBytes.{opening, step_messages}
+use Rattle.svf_settings.specs.Steps.{Go}
+use Rattle.plays.specs.Meaning.{command}
+use Rattle.bitbang_table.specs.Cycles.{opening}
+use Rattle.bitbang.specs.StepMessages.{step_messages}
 use Rattle.jt_board.proofs.Low.{Free}
 use Rattle.jt_board.proofs.Moves.{go-law}
 use Rattle.jt_board.proofs.Ones.{opening-rests, reset_from_here}
 use Rattle.jt_board.proofs.Told.{after_all-encoded}
-use Rattle.jt_player.specs.declared.ending.Ending.TheVariants.{Pass}
-use Rattle.jt_player.specs.Accepting.{numbered}
-use Rattle.jt_player.specs.Play.{Turn, full_play, play, sent, step_turns, turns}
-use Rattle.jt_player.specs.Playing.{PlayerState, bytes_of, ended, has_bad_answer, waiting}
+use Rattle.plays.specs.declared.ending.Ending.{Ending}
+use Rattle.plays.specs.declared.ending.Ending.TheVariants.{Pass}
+use Rattle.jt_player.specs.Accepting.{numbered, program_of}
+use Rattle.plays.specs.Play.{Turn, full_play, play, sent, step_turns, turns}
+use Rattle.plays.specs.Playing.{PlayerState, bytes_of, ended, has_bad_answer, waiting}
 use Rattle.jt_player.specs.Sending.{all_bytes}
-use Rattle.jt_player.specs.DirectPlay.{MeansFromOpening, MovesOnly, full_bytes}
-use Rattle.jt_player.proofs.Asks.{asks-step, hear-asks, hear-full, sent-full, turns-ask}
-use Rattle.jt_player.proofs.Direct.{AllPlayed, IsPlayed, program-law}
+use Rattle.plays.specs.DirectPlay.{MeansFromOpening, full_bytes}
+use Rattle.jt_player.specs.Moving.{MovesOnly}
+use Rattle.plays.proofs.Asks.{asks-step, hear-asks, hear-full, sent-full, turns-ask}
+use Rattle.plays.proofs.Direct.{AllPlayed, IsPlayed, program-law}
+use Rattle.plays.proofs.Described.{means}
+use Rattle.plays.proofs.Opened.{opened-is-reset}
 use Rattle.jt_player.proofs.Plain.{after_bytes, ended-over}
 
 released : (ms : List Member) → Free false ms
@@ -143,7 +149,7 @@ of-accepted a before after stable taken =
       ending = sym silent.ending;
       board = board;
       bytes = bytes-full a.steps before;
-      meaning = (m, ap (λ h. h.board) (opening-rests before), sym silent.ending ∙ same.ending, board ∙ same.board);
+      meaning = means (program_of a) before Pass after m (opened-is-reset before) (ap (λ h. h.board) (opening-rests before)) (sym silent.ending ∙ same.ending) (board ∙ same.board);
     }
 
 fresh-is : (p : PlayerState) (moves : MovesOnly p) → p.given ≡ 0 → after_bytes moves.accepted 0 ≡ p
@@ -193,3 +199,11 @@ waiting-more p n = drop-either (has_bad_answer p) (bytes_of p) p.given n
 pub after_all-append : (xs ys : List ℕ) (b : BoardState) → after_all (xs ++ ys) b ≡ after_all ys (after_all xs b)
 after_all-append [] ys b = refl
 after_all-append (x ∷ xs) ys b = after_all-append xs ys (after x b)
+
+-- So a program that only moves, from a fresh player, plays as it means on every board.
+pub plays_as_it_means : (p : PlayerState) (before : BoardState) → MovesOnly p → p.given ≡ 0
+    → MeansFromOpening p.program before (play p.program before).ending (play p.program before).board
+plays_as_it_means p before moves fresh =
+    let is = direct p before (after_all (waiting p) before) moves fresh refl in
+    subst (λ (after : BoardState). MeansFromOpening p.program before (play p.program before).ending after) is.board
+    (subst (λ (ending : Ending). MeansFromOpening p.program before ending (after_all (waiting p) before)) is.ending is.meaning)

@@ -1,9 +1,10 @@
 -- What was written of a play so far.
-use Rattle.std.specs.Bool.{OnTrue}
-use Rattle.std.proofs.Common.{◌≡◌, Bool, true, false, ◌≢◌, ℕ, zero, suc, ◌≤◌, List, [], ◌∷◌, ◌++◌, Option, refl, sym, ap, subst, ◌∙◌, append_assoc}
+use Rattle.std.specs.Prelude.{◌==◌, ◌⊎◌}
+use Rattle.byte_ends.specs.Counts.{CountedView}
+use Rattle.std.proofs.Common.{◌≡◌, Bool, true, false, ◌≢◌, ℕ, zero, suc, ◌≤◌, List, [], ◌∷◌, ◌++◌, Option, refl, sym, ap, subst, ◌∙◌, append_assoc, inl, inr, arith}
 use Rattle.std.specs.Io.KnownBytes.{Appends}
 use Rattle.std.proofs.KnownBytes.{Appends-trans}
-use Rattle.byte_ends.specs.Writes.{AppendsFront}
+use Rattle.byte_ends.specs.Writes.{AppendsFront, WritesAll, flagged}
 use Rattle.byte_ends.proofs.Fronts.{AppendsFront-first, AppendsFront-next}
 
 -- of all bytes these are left; a front part of those before them was written, and all of them while no write failed
@@ -51,6 +52,29 @@ IsNoted-over old now all left failures so_far none = subst (λ (l : List ℕ). I
 pub all-sent : (old now : Option (List ℕ)) (all : List ℕ) (failures : ℕ) (end : IsNoted old now all [] failures) → end.sent ≡ all
 all-sent old now all failures end = sym (end.split ∙ append-nil end.sent)
 
-pub on_true : (b : Bool) (P : Type 0) → (b ≡ true → P) → OnTrue b P
-on_true true P then_so = then_so refl
-on_true false P then_so = tt
+-- of the failures of one call there is one or none, and the flag says which
+tells-which : (n : ℕ) (flag : Bool) → n ≤ 1 → flag ≡ (n == 0) → ((n ≡ 0) × (flag ≡ true)) ⊎ ((n ≡ 1) × (flag ≡ false))
+tells-which zero flag most is = inl (refl, is)
+tells-which (suc zero) flag most is = inr (refl, is)
+tells-which (suc (suc n)) flag most is = absurd (omega (arith, most))
+
+-- Once nothing is left, what was written is said as of any other call that writes.
+pub noted-writes : {W : Type 0} (contents : W → Option (List ℕ)) (old new : CountedView W) (all : List ℕ) (flag : Bool) → flag ≡ (new.failures == 0)
+    → (end : IsNoted (contents old.inner) (contents new.inner) all [] new.failures) → WritesAll contents old new end.sent (flagged flag)
+noted-writes contents old new all flag is end = by flag (tells-which new.failures flag end.most is)
+  where
+    by : (flag : Bool) → ((new.failures ≡ 0) × (flag ≡ true)) ⊎ ((new.failures ≡ 1) × (flag ≡ false)) → WritesAll contents old new end.sent (flagged flag)
+    by true (inl none) = record {
+      ok = (λ o. none.0, λ z. refl);
+      broken = (λ o. absurd (cc), λ one. let bad : 0 ≡ 1 = sym none.0 ∙ one in absurd (cc));
+      whole = end.whole none.0;
+      front = end.front;
+    }
+    by false (inl none) = absurd (cc)
+    by true (inr lost) = absurd (cc)
+    by false (inr lost) = record {
+      ok = (λ o. absurd (cc), λ z. let bad : 0 ≡ 1 = sym z ∙ lost.0 in absurd (cc));
+      broken = (λ o. lost.0, λ one. refl);
+      whole = tt;
+      front = end.front;
+    }

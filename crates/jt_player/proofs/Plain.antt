@@ -6,21 +6,22 @@ use Rattle.std.specs.List.{AllByRecursion, list_any}
 use Rattle.jt_tap.specs.declared.State.{State}
 use Rattle.jt_tap.specs.declared.State.TheVariants.{Reset}
 use Rattle.jt_tap.specs.Controller.{entered_by}
-use Rattle.bitbang.specs.declared.Message.{Message}
-use Rattle.bitbang.specs.declared.Message.TheVariants.{Write}
-use Rattle.bitbang.specs.Protocol.{cycle_messages, encode}
+use Rattle.bitbang_table.specs.declared.Message.{Message}
+use Rattle.bitbang_table.specs.declared.Message.TheVariants.{Write}
+use Rattle.bitbang_table.specs.Protocol.{cycle_messages, encode}
 use Rattle.tap_paths.specs.Paths.{go}
 use Rattle.state_programs.specs.declared.program.Step.{Step}
 use Rattle.state_programs.specs.declared.program.Action.{Action}
 use Rattle.state_programs.specs.declared.program.Action.TheVariants as action
-use Rattle.jt_board.specs.StepBytes.{closed, opening, step_messages, walk}
-use Rattle.jt_board.specs.Steps.{Go}
-use Rattle.jt_player.specs.declared.ending.Ending.TheVariants.{Pass}
+use Rattle.bitbang_table.specs.Cycles.{closed, opening, walk}
+use Rattle.bitbang.specs.StepMessages.{step_messages}
+use Rattle.svf_settings.specs.Steps.{Go}
+use Rattle.plays.specs.declared.ending.Ending.TheVariants.{Pass}
 use Rattle.state_programs.specs.Programs.{Accepted}
 use Rattle.jt_player.specs.declared.source.Source.{Source}
 use Rattle.jt_player.specs.Accepting.{numbered, program_of}
-use Rattle.jt_player.specs.Play.{ending_for, sent, step_turns, turns}
-use Rattle.jt_player.specs.Playing.{PlayerState, ended, taken, up_to_bad}
+use Rattle.plays.specs.Play.{ending_for, sent, step_turns, turns}
+use Rattle.plays.specs.Playing.{PlayerState, ended, taken, up_to_bad}
 use Rattle.jt_player.specs.Sending.{all_bytes, left}
 
 -- neither `Q` nor `R`

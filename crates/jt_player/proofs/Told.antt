@@ -1,62 +1,122 @@
--- A run is one of the three that there are.
-use Rattle.std.proofs.Common.{◌≡◌, ◌≢◌, Bool, ℕ, [], ◌++◌, ◌⊎◌, inl, inr, List, Result, Ok, Err, refl, sym, ap, subst}
-use Rattle.std.specs.Prelude.{IfOk, OnOk, Option, codes}
+-- What became of a run, from what one of its two writers was told.
+use Rattle.std.proofs.Common.{◌≡◌, ◌≢◌, ◌⊎◌, Bool, false, ℕ, List, [], inl, inr, Result, Ok, Err, refl, sym, ap, subst, ◌∙◌}
+use Rattle.std.specs.Prelude.{IfOk, OnOk, Option, IsErr, codes, is_ok}
 use Rattle.std.specs.Io.KnownBytes.{Appends}
-use Rattle.std.proofs.KnownBytes.{Appends-trans}
+use Rattle.std.proofs.KnownBytes.{Appends-nil}
+use Rattle.byte_ends.specs.Counts.{CountedView}
+use Rattle.byte_ends.specs.Writes.{AppendsFront, WritesAll}
 use Rattle.byte_ends.specs.declared.counting.Broken.{Broken}
+use Rattle.jt_board.specs.Chain.{BoardState}
 use Rattle.state_programs.specs.declared.fault.Code.TheVariants.{NoMemory}
 use Rattle.state_programs.specs.declared.fault.SvfFault.{SvfFault}
-use Rattle.state_programs.specs.Programs.{Accepted}
-use Rattle.state_programs.specs.Spelling.{memory_fault}
-use Rattle.jt_board.specs.Chain.{BoardState}
-use Rattle.jt_board.specs.Report.{report}
-use Rattle.jt_player.specs.Accepting.{program_of}
-use Rattle.jt_player.specs.DirectPlay.{MeansFromOpening}
-use Rattle.jt_player.specs.Play.{play}
-use Rattle.jt_player.specs.Playing.{PlayerState, fresh}
-use Rattle.state_programs.specs.Spelling.{TextSpells, TextRefuses}
-use Rattle.jt_player.specs.Showing.{verdict_text, refusal_text}
-use Rattle.jt_player.specs.Running.{Runs, line, note, no_memory, played, refused, status_of}
+use Rattle.state_programs.specs.Spelling.{memory_fault, TextRefuses}
+use Rattle.jt_player.specs.Running.{Happens, IsRunOf, Run, Tells, memory_run, no_memory, refused, refused_run}
+use Rattle.jt_player.specs.Showing.{refusal_line}
 
--- what play_and_tell says of its answer
-pub record IsTold (p : PlayerState) (bytes : Bool) (before after : BoardState) (Told : List ℕ → Type 0) (r : Result ℕ Broken) : Type 0 where
-  pub status : IfOk r (λ status. status ≡ status_of (play p.program before).ending)
-  pub board : OnOk r (after ≡ (play p.program before).board)
-  pub meaning : OnOk r (MeansFromOpening p.program before (play p.program before).ending after)
-  pub told : OnOk r (Told (note bytes p.program before ++ line (verdict_text (play p.program before).ending) ++ report after))
+on_ok : {A E : Type 0} (r : Result A E) (P : Type 0) → P → OnOk r P
+on_ok (Ok x) P p = p
+on_ok (Err e) P p = tt
 
-told-fresh : (text : List ℕ) (a : Accepted) (bytes : Bool) (before after : BoardState) (Told Said : List ℕ → Type 0) (r : Result ℕ Broken) → TextSpells text a → Said []
-    → IsTold (fresh (program_of a)) bytes before after Told r → IfOk r (λ status. Runs text bytes before after Told Said status)
-told-fresh text a bytes before after Told Said (Err e) spells silent is = tt
-told-fresh text a bytes before after Told Said (Ok status) spells silent is =
-    subst (λ (s : ℕ). Runs text bytes before after Told Said s) (sym is.status)
-    (played a (play (program_of a) before).ending spells refl is.board is.meaning is.told silent)
+on_ok-with : {A E : Type 0} (r : Result A E) (P Q : Type 0) → (P → Q) → OnOk r P → OnOk r Q
+on_ok-with (Ok x) P Q f p = f p
+on_ok-with (Err e) P Q f p = tt
 
-pub runs-played : (text : List ℕ) (a : Accepted) (p : PlayerState) (bytes : Bool) (before after : BoardState) (Told Said : List ℕ → Type 0) (r : Result ℕ Broken)
-    → TextSpells text a → Said [] → p ≡ fresh (program_of a) → IsTold p bytes before after Told r
-    → IfOk r (λ status. Runs text bytes before after Told Said status)
-runs-played text a p bytes before after Told Said r spells silent is told =
-    told-fresh text a bytes before after Told Said r spells silent (subst (λ (q : PlayerState). IsTold q bytes before after Told r) is told)
+-- a writer that was left alone
+nothing-told : (known : Option (List ℕ)) (bytes : List ℕ) → bytes ≡ [] → Appends known known bytes
+nothing-told known bytes none = subst (Appends known known) (sym none) (Appends-nil known)
 
-pub runs-no-memory : (text : List ℕ) (bytes : Bool) (before : BoardState) (Told Said : List ℕ → Type 0) (r : Result ℕ Broken) → Told []
-    → OnOk r (Said (line (codes "memory"))) → IfOk r (λ status. status ≡ 4) → IfOk r (λ status. Runs text bytes before before Told Said status)
-runs-no-memory text bytes before Told Said (Err e) nothing said four = tt
-runs-no-memory text bytes before Told Said (Ok status) nothing said four =
-    subst (λ (s : ℕ). Runs text bytes before before Told Said s) (sym four) (no_memory refl nothing said)
+front-of-nothing : (known : Option (List ℕ)) (bytes : List ℕ) → bytes ≡ [] → AppendsFront known known bytes
+front-of-nothing known bytes none = record { sent = []; rest = []; split = none; appends = Appends-nil known }
 
--- what refuse says of its answer
-pub record IsRefused (f : SvfFault) (Said : List ℕ → Type 0) (r : Result ℕ Broken) : Type 0 where
-  pub status : IfOk r (λ status. ((status ≡ 4) × (f.code ≡ NoMemory)) ⊎ ((status ≡ 2) × (f.code ≢ NoMemory)))
-  pub memory : f.code ≡ NoMemory → OnOk r (Said (line (codes "memory")))
-  pub said : f.code ≢ NoMemory → OnOk r (Said (line (refusal_text f)))
+-- what a writer says of its failures after an answer
+failures-after : {W A E : Type 0} (contents : W → Option (List ℕ)) (old new : CountedView W) (bytes : List ℕ) (r : Result A E)
+    → WritesAll contents old new bytes r → OnOk r (new.failures ≡ 0)
+failures-after contents old new bytes (Ok x) writes = writes.ok.0 refl
+failures-after contents old new bytes (Err e) writes = tt
 
-pub runs-refused : (text : List ℕ) (f : SvfFault) (bytes : Bool) (before : BoardState) (Told Said : List ℕ → Type 0) (r : Result ℕ Broken) → Told []
-    → (f ≢ memory_fault → TextRefuses text f) → IsRefused f Said r → IfOk r (λ status. Runs text bytes before before Told Said status)
-runs-refused text f bytes before Told Said (Err e) nothing why is = tt
-runs-refused text f bytes before Told Said (Ok status) nothing why is = by is.status
+one-or-none : (n : ℕ) → n ≡ 0 → n ≡ 1 → ⊥
+one-or-none n none one = let bad : 0 ≡ 1 = sym none ∙ one in cc
+
+-- the output was told of the run, and the errors were left alone
+pub happens-out : {W E : Type 0} (contents : W → Option (List ℕ)) (errors : E → Option (List ℕ)) (run : Run) (before after : BoardState)
+    (out out_after : CountedView W) (err : CountedView E) (r : Result ℕ Broken) → run.err ≡ [] → err.failures ≡ 0 → WritesAll contents out out_after run.out r
+    → IfOk r (λ s. s ≡ run.status) → OnOk r (after ≡ run.board) → (after ≡ before) ⊎ (after ≡ run.board)
+    → Happens contents errors run before after out out_after err err r
+happens-out contents errors run before after out out_after err r silent none writes status left board = record {
+  status = status;
+  broken = (λ e. inl (writes.broken.0 e), back);
+  unbroken = on_ok-with r _ _ (λ zero. (zero, none)) (failures-after contents out out_after run.out r writes);
+  out_whole = writes.whole;
+  out_front = writes.front;
+  err_whole = on_ok r _ (nothing-told (errors err.inner) run.err silent);
+  err_front = front-of-nothing (errors err.inner) run.err silent;
+  left = left;
+  board = board;
+}
   where
-    by : ((status ≡ 4) × (f.code ≡ NoMemory)) ⊎ ((status ≡ 2) × (f.code ≢ NoMemory)) → Runs text bytes before before Told Said status
-    by (inl four) = subst (λ (s : ℕ). Runs text bytes before before Told Said s) (sym four.0) (no_memory refl nothing (is.memory four.1))
-    by (inr two) =
-        subst (λ (s : ℕ). Runs text bytes before before Told Said s) (sym two.0)
-        (refused f (why (λ e. two.1 (ap (λ (g : SvfFault). g.code) e))) refl nothing (is.said two.1))
+    back : (out_after.failures ≡ 1) ⊎ (err.failures ≡ 1) → IsErr r
+    back (inl lost) = writes.broken.1 lost
+    back (inr lost) = absurd (one-or-none err.failures none lost)
+
+-- the errors were told of the run, and the output and the board were left alone
+pub happens-err : {W E : Type 0} (contents : W → Option (List ℕ)) (errors : E → Option (List ℕ)) (run : Run) (before : BoardState)
+    (out : CountedView W) (err err_after : CountedView E) (r : Result ℕ Broken) → run.out ≡ [] → run.board ≡ before → out.failures ≡ 0
+    → WritesAll errors err err_after run.err r → IfOk r (λ s. s ≡ run.status)
+    → Happens contents errors run before before out out err err_after r
+happens-err contents errors run before out err err_after r silent same none writes status = record {
+  status = status;
+  broken = (λ e. inr (writes.broken.0 e), back);
+  unbroken = on_ok-with r _ _ (λ zero. (none, zero)) (failures-after errors err err_after run.err r writes);
+  out_whole = on_ok r _ (nothing-told (contents out.inner) run.out silent);
+  out_front = front-of-nothing (contents out.inner) run.out silent;
+  err_whole = writes.whole;
+  err_front = writes.front;
+  left = on_ok r _ (sym same);
+  board = inl refl;
+}
+  where
+    back : (out.failures ≡ 1) ⊎ (err_after.failures ≡ 1) → IsErr r
+    back (inl lost) = absurd (one-or-none out.failures none lost)
+    back (inr lost) = writes.broken.1 lost
+
+-- another answer that is Ok where this one is
+pub WritesAll-like : {W A B E F : Type 0} {contents : W → Option (List ℕ)} {old new : CountedView W} {bytes : List ℕ} (r : Result A E) (s : Result B F)
+    → is_ok r ≡ is_ok s → WritesAll contents old new bytes r → WritesAll contents old new bytes s
+WritesAll-like (Ok x) (Ok y) same writes = record { ok = writes.ok; broken = writes.broken; whole = writes.whole; front = writes.front }
+WritesAll-like (Err x) (Err y) same writes = record { ok = writes.ok; broken = writes.broken; whole = tt; front = writes.front }
+WritesAll-like (Ok x) (Err y) same writes = absurd (cc)
+WritesAll-like (Err x) (Ok y) same writes = absurd (cc)
+
+pub not-ok : {B F : Type 0} (s : Result B F) → IsErr s → false ≡ is_ok s
+not-ok (Ok y) is = absurd (cc)
+not-ok (Err y) is = refl
+
+-- a fault that is want of memory, or another
+pub record IsRefused {W E : Type 0} (contents : W → Option (List ℕ)) (errors : E → Option (List ℕ)) (text : List ℕ) (bytes : Bool) (before : BoardState)
+    (out : CountedView W) (err err_after : CountedView E) (r : Result ℕ Broken) : Type 0 where
+  pub run : Run
+  pub is : IsRunOf text bytes before run
+  pub happens : Happens contents errors run before before out out err err_after r
+
+pub out-of-memory : {W E : Type 0} (contents : W → Option (List ℕ)) (errors : E → Option (List ℕ)) (text : List ℕ) (bytes : Bool) (before : BoardState)
+    (out : CountedView W) (err err_after : CountedView E) (r : Result ℕ Broken) → out.failures ≡ 0 → Tells errors err err_after (codes "memory\n") 4 r
+    → IsRefused contents errors text bytes before out err err_after r
+out-of-memory contents errors text bytes before out err err_after r none told = record {
+  run = memory_run before;
+  is = no_memory;
+  happens = happens-err contents errors (memory_run before) before out err err_after r refl refl none told.writes told.is_status;
+}
+
+pub refused-or-memory : {W E : Type 0} (contents : W → Option (List ℕ)) (errors : E → Option (List ℕ)) (text : List ℕ) (fault : SvfFault) (bytes : Bool)
+    (before : BoardState) (out : CountedView W) (err err_after : CountedView E) (r : Result ℕ Broken) → out.failures ≡ 0
+    → (fault ≢ memory_fault → TextRefuses text fault)
+    → ((fault.code ≡ NoMemory) × Tells errors err err_after (codes "memory\n") 4 r)
+    ⊎ ((fault.code ≢ NoMemory) × Tells errors err err_after (refusal_line fault) 2 r)
+    → IsRefused contents errors text bytes before out err err_after r
+refused-or-memory contents errors text fault bytes before out err err_after r none why (inl memory) =
+    out-of-memory contents errors text bytes before out err err_after r none memory.1
+refused-or-memory contents errors text fault bytes before out err err_after r none why (inr other) = record {
+  run = refused_run fault before;
+  is = refused fault (why (λ e. other.0 (ap (λ (f : SvfFault). f.code) e)));
+  happens = happens-err contents errors (refused_run fault before) before out err err_after r refl refl none other.1.writes other.1.is_status;
+}

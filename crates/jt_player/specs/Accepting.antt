@@ -4,8 +4,7 @@ use Rattle.state_programs.specs.declared.program.Step as declared
 use Rattle.state_programs.specs.declared.program.Action.{Action}
 use Rattle.state_programs.specs.declared.program.Action.TheVariants as action
 use Rattle.state_programs.specs.Programs.{Accepted}
-use Rattle.jt_board.specs.Steps.{Step, Go}
-use Rattle.jt_player.specs.Programs.{Numbered, Program}
+use Rattle.svf_settings.specs.Steps.{Step, Go, Numbered, Program}
 
 abbrev pub meant_by : Action → Step
 meant_by (action.Go s) = Go s

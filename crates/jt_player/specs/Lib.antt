@@ -1,10 +1,5 @@
-pub mod Programs
-pub mod Play
-pub mod Events
 pub mod Accepting
 pub mod Sending
-pub mod Playing
-pub mod DirectPlay
+pub mod Moving
 pub mod Showing
 pub mod Running
-pub mod Laws

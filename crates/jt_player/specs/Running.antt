@@ -1,42 +1,73 @@
--- A run of the player over a text: its exit status, and what it leaves.
-use Rattle.std.specs.Prelude.{◌≡◌, Bool, true, false, ℕ, List, [], ◌++◌, codes}
-use Rattle.jt_board.specs.Chain.{BoardState}
-use Rattle.jt_board.specs.Report.{report}
+-- A run of the player over a text: what it tells, its exit status, and the board that it leaves.
+use Rattle.std.specs.Prelude.{◌≡◌, ◌↔◌, ◌⊎◌, Bool, true, false, ℕ, List, [], ◌++◌, codes, Option, Result, IsErr, IfOk, OnOk}
+use Rattle.std.specs.Io.KnownBytes.{Appends}
+use Rattle.byte_ends.specs.Counts.{CountedView}
+use Rattle.byte_ends.specs.Writes.{AppendsFront, WritesAll}
+use Rattle.byte_ends.specs.declared.counting.Broken.{Broken}
 use Rattle.state_programs.specs.declared.fault.SvfFault.{SvfFault}
 use Rattle.state_programs.specs.Programs.{Accepted}
 use Rattle.state_programs.specs.Spelling.{TextSpells, TextRefuses}
-use Rattle.jt_player.specs.declared.ending.Ending.{Ending}
-use Rattle.jt_player.specs.declared.ending.Ending.TheVariants.{Pass, Fail, Lost, BadAnswer}
+use Rattle.svf_settings.specs.Steps.{Program}
+use Rattle.jt_board.specs.Chain.{BoardState}
+use Rattle.jt_board.specs.Report.{report}
+use Rattle.plays.specs.DirectPlay.{MeansFromOpening, full_bytes}
+use Rattle.plays.specs.Endings.{status_of, verdict_line}
+use Rattle.plays.specs.Play.{play}
 use Rattle.jt_player.specs.Accepting.{program_of}
-use Rattle.jt_player.specs.Play.{play}
-use Rattle.jt_player.specs.DirectPlay.{MeansFromOpening, full_bytes}
-use Rattle.jt_player.specs.Programs.{Program}
-use Rattle.jt_player.specs.Showing.{verdict_text, refusal_text}
-
--- the exit status of an ending
-abbrev pub status_of : Ending → ℕ
-status_of Pass = 0
-status_of (Fail command part bit) = 1
-status_of (Lost command) = 3
-status_of (BadAnswer command byte) = 3
+use Rattle.jt_player.specs.Showing.{refusal_line}
 
 -- what a play tells first: the bytes that were sent, where they are asked for
 abbrev pub note : Bool → Program → BoardState → List ℕ
 note true program before = codes "bytes " ++ full_bytes program before ++ codes "\n"
 note false program before = []
 
--- a text, as a line
-abbrev pub line : List ℕ → List ℕ
-line text = text ++ codes "\n"
+-- what a run tells its output and its errors, its exit status, and the board that it leaves
+pub record Run : Type 0 where
+  pub out : List ℕ
+  pub err : List ℕ
+  pub status : ℕ
+  pub board : BoardState
 
--- A run of a text on a board, with this status, leaves this board, tells this much on its output and says this much of a
--- refusal: an accepted text's program was played, with the ending and the board of its meaning, and told of by its bytes, a
--- line of the verdict and the board's report; or the text was refused in a line; or memory ran out.
-pub data Runs (text : List ℕ) (bytes : Bool) (before after : BoardState) (Told Said : List ℕ → Type 0) : ℕ → Type 0 where
-  played : (program : Accepted) (ending : Ending) → TextSpells text program → ending ≡ (play (program_of program) before).ending
-      → after ≡ (play (program_of program) before).board → MeansFromOpening (program_of program) before ending after
-      → Told (note bytes (program_of program) before ++ line (verdict_text ending) ++ report after) → Said []
-      → Runs text bytes before after Told Said (status_of ending)
-  refused : (fault : SvfFault) → TextRefuses text fault → after ≡ before → Told [] → Said (line (refusal_text fault))
-      → Runs text bytes before after Told Said 2
-  no_memory : after ≡ before → Told [] → Said (line (codes "memory")) → Runs text bytes before after Told Said 4
+-- A program was played: its bytes where they are asked for, the line of its verdict, and the report of the board.
+abbrev pub played_run : Bool → Program → BoardState → Run
+played_run bytes program before = let p = play program before in record {
+  out = note bytes program before ++ verdict_line p.ending ++ report p.board;
+  err = [];
+  status = status_of p.ending;
+  board = p.board;
+}
+
+-- the text was refused
+abbrev pub refused_run : SvfFault → BoardState → Run
+refused_run fault before = record { out = []; err = refusal_line fault; status = 2; board = before }
+
+-- memory ran out
+abbrev pub memory_run : BoardState → Run
+memory_run before = record { out = []; err = codes "memory\n"; status = 4; board = before }
+
+-- The runs of a text on a board: its program, played as it means over whole registers; its refusal; or want of memory.
+pub data IsRunOf (text : List ℕ) (bytes : Bool) (before : BoardState) : Run → Type 0 where
+  played : (program : Accepted) → TextSpells text program
+      → MeansFromOpening (program_of program) before (play (program_of program) before).ending (play (program_of program) before).board
+      → IsRunOf text bytes before (played_run bytes (program_of program) before)
+  refused : (fault : SvfFault) → TextRefuses text fault → IsRunOf text bytes before (refused_run fault before)
+  no_memory : IsRunOf text bytes before (memory_run before)
+
+-- A writer was told these bytes, and the answer is this status.
+pub record Tells {E : Type 0} (errors : E → Option (List ℕ)) (err err_after : CountedView E) (bytes : List ℕ) (status : ℕ) (result : Result ℕ Broken) : Type 0 where
+  pub writes : WritesAll errors err err_after bytes result
+  pub is_status : IfOk result (λ s. s ≡ status)
+
+-- What became of a run, over two counted writers: on Ok each was told all that it is owed, with the run's status and board; on
+-- Err, exactly where one of them was lost, each was told a front part of it, and the board is as it was or as the run leaves it.
+pub record Happens {W E : Type 0} (contents : W → Option (List ℕ)) (errors : E → Option (List ℕ)) (run : Run) (before after : BoardState)
+    (out out_after : CountedView W) (err err_after : CountedView E) (result : Result ℕ Broken) : Type 0 where
+  pub status : IfOk result (λ s. s ≡ run.status)
+  pub broken : IsErr result ↔ (out_after.failures ≡ 1) ⊎ (err_after.failures ≡ 1)
+  pub unbroken : OnOk result ((out_after.failures ≡ 0) × (err_after.failures ≡ 0))
+  pub out_whole : OnOk result (Appends (contents out.inner) (contents out_after.inner) run.out)
+  pub out_front : AppendsFront (contents out.inner) (contents out_after.inner) run.out
+  pub err_whole : OnOk result (Appends (errors err.inner) (errors err_after.inner) run.err)
+  pub err_front : AppendsFront (errors err.inner) (errors err_after.inner) run.err
+  pub left : OnOk result (after ≡ run.board)
+  pub board : (after ≡ before) ⊎ (after ≡ run.board)

@@ -1,12 +1,12 @@
 -- What the player has left to send, while no answer is owed: the program has no reads.
 use Rattle.std.specs.Prelude.{◌≡◌, ◌≤◌, ◌+◌, ◌-◌, ℕ, Bool, true, false, List, [], ◌++◌, map, length, drop, if◌then◌else◌}
 use Rattle.jt_tap.specs.Controller.{is_stable}
-use Rattle.bitbang.specs.Protocol.{encode}
+use Rattle.bitbang_table.specs.Protocol.{encode}
 use Rattle.state_programs.specs.declared.program.Step as declared
 use Rattle.state_programs.specs.Programs.{AllGoToStable}
 use Rattle.jt_player.specs.declared.source.Source.{Source}
 use Rattle.jt_player.specs.Accepting.{numbered}
-use Rattle.jt_player.specs.Play.{player, sent, step_turns, turns}
+use Rattle.plays.specs.Play.{player, sent, step_turns, turns}
 
 -- the bytes that are left: the rest of the present turn, and the turns of the steps that were not begun
 abbrev pub left : List declared.Step → Source → List ℕ

@@ -3,16 +3,17 @@
 ghost use Rattle.std.specs.Prelude.{◌≡◌, ◌≢◌, ◌≤◌, ◌↔◌, [], false, IsTrue};
 ghost use Rattle.std.specs.Bool.{OnTrue};
 ghost use Rattle.std.specs.Io.KnownBytes.{Appends};
-ghost use Rattle.byte_ends.specs.Writes.{AppendsFront};
-ghost use Rattle.jt_player.specs.DirectPlay.{MeansFromOpening, MovesOnly, full_bytes};
-ghost use Rattle.jt_player.specs.Playing.{waiting};
-ghost use Rattle.jt_player.specs.Play.{play};
+ghost use Rattle.byte_ends.specs.Writes.{AppendsFront, WritesAll, flagged};
+ghost use Rattle.plays.specs.DirectPlay.{MeansFromOpening, full_bytes};
+ghost use Rattle.jt_player.specs.Moving.{MovesOnly};
+ghost use Rattle.plays.specs.Playing.{waiting};
+ghost use Rattle.plays.specs.Play.{play};
 ghost use Rattle.jt_board.specs.Chain.{after_all};
 
-use crate::ending::Ending;
 use crate::player::Player;
 use byte_ends::{Counted, Sink, put_all};
 use jt_board::Board;
+use plays::Ending;
 
 /// Plays a program on a board: each byte is taken by the board as soon as it is given out.
 ///
@@ -59,10 +60,7 @@ pub fn play_noted<W: Sink>(
     ensures meaning { MeansFromOpening player.program board.old result.0 board.new }
 
     // What was written of it.
-    ensures written { IsTrue result.1 ↔ (out.new.failures ≡ 0) }
-    ensures broken { (result.1 ≡ false) ↔ (out.new.failures ≡ 1) }
-    ensures whole { OnTrue result.1 (Appends (W.contents out.old.inner) (W.contents out.new.inner) (full_bytes player.program board.old)) }
-    ensures front { AppendsFront (W.contents out.old.inner) (W.contents out.new.inner) (full_bytes player.program board.old) }
+    ensures writes { WritesAll W.contents out.old out.new (full_bytes player.program board.old) (flagged result.1) }
 {
     let mut buffer = [0; 64];
     loop {

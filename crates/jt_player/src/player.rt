@@ -1,12 +1,12 @@
 //! The player: it gives out the bytes of a play and takes the answers.
 
-ghost use Rattle.std.specs.Prelude.{◌≡◌, ◌+◌, ◌<◌, ◌↔◌, [], ◌∷◌, ◌++◌, ℕ, IsTrue, length, min, take, drop, MatchOption, MatchResult};
+ghost use Rattle.std.specs.Prelude.{◌≡◌, ◌+◌, ◌<◌, ◌↔◌, [], ◌∷◌, ◌++◌, ℕ, IfOk, IsTrue, length, min, take, drop, MatchOption, MatchResult};
 ghost use Rattle.jt_player.specs.Accepting.{program_of};
-ghost use Rattle.jt_player.specs.Playing as playing;
-ghost use Rattle.jt_player.specs.Playing.{fresh, taken, waiting};
+ghost use Rattle.plays.specs.Playing as playing;
+ghost use Rattle.plays.specs.Playing.{fresh, taken, waiting};
 
-use crate::ending::Ending;
 use crate::source::Source;
+use plays::Ending;
 use state_programs::Program;
 use std::alloc::Global;
 use std::marker::Model;
@@ -23,7 +23,7 @@ pub struct Player {
 }
 
 impl Model for Player {
-    ghost use Rattle.jt_player.specs.Playing.{PlayerState};
+    ghost use Rattle.plays.specs.Playing.{PlayerState};
 
     ghost Value = { PlayerState };
 
@@ -37,13 +37,14 @@ impl Model for Player {
 }
 
 impl Player {
-    ghost use Rattle.jt_player.specs.DirectPlay.{MovesOnly};
+    ghost use Rattle.jt_player.specs.Moving.{MovesOnly};
 
     /// A fresh player of a program. For want of memory the program comes back.
     ///
     /// The memory is for the answers of a scan; the steps of today's programs read none.
     pub fn new(_alloc: Global, program: Program) -> Result<Player, Program>
-        ensures { MatchResult result (λ player. player ≡ fresh (program_of program)) (λ back. back ≡ program) }
+        ensures player { MatchResult result (λ player. player ≡ fresh (program_of program)) (λ back. back ≡ program) }
+        ensures moves { IfOk result (λ player. MovesOnly player) }
     {
         // For the proof alone: what the program's type keeps of its steps.
         let _ = program.steps();

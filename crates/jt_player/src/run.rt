@@ -1,19 +1,17 @@
 //! A whole run: a text is accepted or refused, played, and told of.
 
-ghost use Rattle.std.specs.Prelude.{◌≡◌, ◌≢◌, ◌↔◌, ◌⊎◌, ◌++◌, ℕ, List, codes, IsOk, IsErr, OnOk, IfOk};
-ghost use Rattle.jt_player.specs.DirectPlay.{MeansFromOpening};
-ghost use Rattle.jt_player.specs.Play.{play};
-ghost use Rattle.jt_player.specs.Running.{Runs, line, note, status_of};
-ghost use Rattle.jt_board.specs.Report.{report};
-ghost use Rattle.jt_player.specs.Showing.{verdict_text, refusal_text};
-ghost use Rattle.std.specs.Io.KnownBytes.{Appends};
+ghost use Rattle.std.specs.Prelude.{◌≡◌, ◌≢◌, ◌⊎◌, IfOk, OnOk, codes};
+ghost use Rattle.byte_ends.specs.Writes.{WritesAll};
+ghost use Rattle.plays.specs.Play.{play};
+ghost use Rattle.jt_player.specs.Running.{Happens, IsRunOf, Run, Tells, note, played_run};
+ghost use Rattle.jt_player.specs.Showing.{refusal_line};
 
-use crate::ending::Ending;
 use crate::play::{play_board, play_noted};
 use crate::player::Player;
 use crate::showing::{write_refusal, write_verdict};
 use byte_ends::{Broken, Counted, Sink, put_all};
 use jt_board::{Board, write_report};
+use plays::Ending;
 use state_programs::{Code, SvfFault, accept};
 use std::alloc::Global;
 
@@ -21,7 +19,8 @@ use std::alloc::Global;
 /// the board's report; to `err` the line of a refusal or of want of memory. Answers the exit status: 0 pass, 1 fail, 2 a
 /// refused text, 4 want of memory.
 ///
-/// `Broken` comes exactly where the first failure of one of the two writers came in this call.
+/// `Broken` comes exactly where the first failure of one of the two writers came in this call. Then each was told a front
+/// part of what it was owed, and the board is as it was or as the whole play leaves it.
 pub fn run_play<W: Sink, E: Sink>(
     alloc: Global,
     svf: &[u8],
@@ -32,12 +31,8 @@ pub fn run_play<W: Sink, E: Sink>(
 ) -> Result<u8, Broken>
     requires out_whole { out.old.failures ≡ 0 }
     requires err_whole { err.old.failures ≡ 0 }
-    ensures broken { IsErr result ↔ (out.new.failures ≡ 1) ⊎ (err.new.failures ≡ 1) }
-    ensures out_written { OnOk result (out.new.failures ≡ 0) }
-    ensures err_written { OnOk result (err.new.failures ≡ 0) }
-    ensures runs { IfOk result (λ status. Runs svf.now bytes board.old board.new
-        (λ told. Appends (W.contents out.old.inner) (W.contents out.new.inner) told)
-        (λ said. Appends (E.contents err.old.inner) (E.contents err.new.inner) said) status) }
+    ensures { (run : Run) × IsRunOf svf.now bytes board.old run
+        × Happens W.contents E.contents run board.old board.new out.old out.new err.old err.new result }
 {
     match accept(alloc, svf) {
         Ok(program) => match Player::new(alloc, program) {
@@ -57,13 +52,10 @@ fn play_and_tell<W: Sink>(
 ) -> Result<u8, Broken>
     requires fresh { player.given ≡ 0 }
     requires none_lost { out.old.failures ≡ 0 }
-    ensures written { IsOk result ↔ (out.new.failures ≡ 0) }
-    ensures broken { IsErr result ↔ (out.new.failures ≡ 1) }
-    ensures status { IfOk result (λ status. status ≡ status_of (play player.program board.old).ending) }
-    ensures board { OnOk result (board.new ≡ (play player.program board.old).board) }
-    ensures meaning { OnOk result (MeansFromOpening player.program board.old (play player.program board.old).ending board.new) }
-    ensures told { OnOk result (Appends (W.contents out.old.inner) (W.contents out.new.inner)
-        (note bytes player.program board.old ++ line (verdict_text (play player.program board.old).ending) ++ report board.new)) }
+    ensures writes { WritesAll W.contents out.old out.new (played_run bytes player.program board.old).out result }
+    ensures status { IfOk result (λ status. status ≡ (played_run bytes player.program board.old).status) }
+    ensures left { OnOk result (board.new ≡ (play player.program board.old).board) }
+    ensures board { (board.new ≡ board.old) ⊎ (board.new ≡ (play player.program board.old).board) }
 {
     let ending = play_and_note(player, board, bytes, out)?;
     write_verdict(ending, out)?;
@@ -80,12 +72,10 @@ fn play_and_note<W: Sink>(
 ) -> Result<Ending, Broken>
     requires fresh { player.given ≡ 0 }
     requires none_lost { out.old.failures ≡ 0 }
-    ensures written { IsOk result ↔ (out.new.failures ≡ 0) }
-    ensures broken { IsErr result ↔ (out.new.failures ≡ 1) }
+    ensures writes { WritesAll W.contents out.old out.new (note bytes player.program board.old) result }
     ensures ending { IfOk result (λ ending. ending ≡ (play player.program board.old).ending) }
-    ensures board { OnOk result (board.new ≡ (play player.program board.old).board) }
-    ensures meaning { OnOk result (MeansFromOpening player.program board.old (play player.program board.old).ending board.new) }
-    ensures told { OnOk result (Appends (W.contents out.old.inner) (W.contents out.new.inner) (note bytes player.program board.old)) }
+    ensures left { OnOk result (board.new ≡ (play player.program board.old).board) }
+    ensures board { (board.new ≡ board.old) ⊎ (board.new ≡ (play player.program board.old).board) }
 {
     if !bytes {
         return Ok(play_board(player, board));
@@ -99,14 +89,11 @@ fn play_and_note<W: Sink>(
     Ok(ending)
 }
 
-/// Writes the line of a refusal, or of want of memory. Answers the exit status of either.
+/// Writes the line of a refusal, or that memory ran out. Answers the exit status of either.
 fn refuse<E: Sink>(fault: SvfFault, err: &mut Counted<E>) -> Result<u8, Broken>
     requires { err.old.failures ≡ 0 }
-    ensures written { IsOk result ↔ (err.new.failures ≡ 0) }
-    ensures broken { IsErr result ↔ (err.new.failures ≡ 1) }
-    ensures status { IfOk result (λ status. ((status ≡ 4) × (fault.code ≡ Code.NoMemory)) ⊎ ((status ≡ 2) × (fault.code ≢ Code.NoMemory))) }
-    ensures memory { fault.code ≡ Code.NoMemory → OnOk result (Appends (E.contents err.old.inner) (E.contents err.new.inner) (line (codes "memory"))) }
-    ensures said { fault.code ≢ Code.NoMemory → OnOk result (Appends (E.contents err.old.inner) (E.contents err.new.inner) (line (refusal_text fault))) }
+    ensures { ((fault.code ≡ Code.NoMemory) × Tells E.contents err.old err.new (codes "memory\n") 4 result)
+        ⊎ ((fault.code ≢ Code.NoMemory) × Tells E.contents err.old err.new (refusal_line fault) 2 result) }
 {
     if fault.code == Code::NoMemory {
         return refuse_memory(err);
@@ -118,10 +105,7 @@ fn refuse<E: Sink>(fault: SvfFault, err: &mut Counted<E>) -> Result<u8, Broken>
 /// Writes that memory ran out.
 fn refuse_memory<E: Sink>(err: &mut Counted<E>) -> Result<u8, Broken>
     requires { err.old.failures ≡ 0 }
-    ensures written { IsOk result ↔ (err.new.failures ≡ 0) }
-    ensures broken { IsErr result ↔ (err.new.failures ≡ 1) }
-    ensures status { IfOk result (λ status. status ≡ 4) }
-    ensures said { OnOk result (Appends (E.contents err.old.inner) (E.contents err.new.inner) (line (codes "memory"))) }
+    ensures { Tells E.contents err.old err.new (codes "memory\n") 4 result }
 {
     put_all(err, b"memory\n")?;
     Ok(4)

@@ -2,15 +2,16 @@
 
 ghost use Rattle.std.specs.Prelude.{◌≡◌, ◌≤◌, ◌<◌, ◌+◌, ◌*◌, [], ◌∷◌, ◌++◌, true, ℕ, List, map, length, flat_map, MatchOption, MatchBool, false};
 ghost use Rattle.arrayvec.specs.ArrayVec.{array_vec_len};
-ghost use Rattle.bitbang.specs.Protocol.{cycle_messages, encode};
-ghost use Rattle.bitbang.specs.declared.Message.TheVariants.{Quit};
+ghost use Rattle.bitbang_table.specs.Protocol.{cycle_messages, encode};
+ghost use Rattle.bitbang_table.specs.declared.Message.TheVariants.{Quit};
 ghost use Rattle.jt_tap.specs.Controller.{is_stable};
-ghost use Rattle.jt_board.specs.StepBytes as step;
-ghost use Rattle.jt_board.specs.StepBytes.{opening, step_messages};
-ghost use Rattle.jt_board.specs.Steps.{Go};
+ghost use Rattle.bitbang_table.specs.Cycles as cycles;
+ghost use Rattle.bitbang_table.specs.Cycles.{opening};
+ghost use Rattle.bitbang.specs.StepMessages.{step_messages};
+ghost use Rattle.svf_settings.specs.Steps.{Go};
 
 use arrayvec::ArrayVec;
-use bitbang::{Cycle, Message};
+use bitbang_table::{Cycle, Message};
 use jt_tap::State;
 use state_programs::{Action, Step};
 
@@ -34,7 +35,7 @@ pub(crate) struct Source {
 
 /// The cycle that enters a state.
 fn walk(state: State) -> Cycle
-    ensures { result ≡ step.walk state }
+    ensures { result ≡ cycles.walk state }
 {
     Cycle {
         tms: state.entered_by(),
@@ -54,17 +55,17 @@ fn step_bytes(from: State, to: State) -> TurnBytes
     for state in path.as_slice() {
         push_walk(&mut bytes, *state);
     }
-    bytes.push(bitbang::encode(low()));
+    bytes.push(bitbang_table::encode(low()));
     bytes
 }
 
 /// Appends the bytes of the cycle that enters a state.
 fn push_walk(bytes: &mut TurnBytes, state: State)
     requires { array_vec_len bytes.old + 2 ≤ 16 }
-    ensures bytes { bytes.new.items ≡ bytes.old.items ++ map encode (cycle_messages (step.walk state)) }
+    ensures bytes { bytes.new.items ≡ bytes.old.items ++ map encode (cycle_messages (cycles.walk state)) }
     ensures len { array_vec_len bytes.new ≡ array_vec_len bytes.old + 2 }
 {
-    for byte in bitbang::cycle_bytes(walk(state)).as_slice() {
+    for byte in bitbang_table::cycle_bytes(walk(state)).as_slice() {
         bytes.push(*byte);
     }
 }
@@ -96,7 +97,7 @@ fn quit_bytes() -> TurnBytes
     ensures { result.items ≡ map encode (Quit ∷ []) }
 {
     let mut bytes = ArrayVec::new();
-    bytes.push(bitbang::encode(Message::Quit));
+    bytes.push(bitbang_table::encode(Message::Quit));
     bytes
 }
 
@@ -105,7 +106,7 @@ impl Source {
     ghost use Rattle.state_programs.specs.declared.program.Step.{Step};
     ghost use Rattle.state_programs.specs.Programs.{AllGoToStable};
     ghost use Rattle.jt_player.specs.Accepting.{numbered};
-    ghost use Rattle.jt_player.specs.Play.{player, turns};
+    ghost use Rattle.plays.specs.Play.{player, turns};
     ghost use Rattle.jt_player.specs.Sending.{IsReady, left};
 
     /// Before the first byte of a play.

@@ -1,4 +1,4 @@
-use crate::{Board, Ending, Part, Player, accept, play_board, run_play};
+use crate::{Board, Ending, Player, accept, play_board, run_play};
 use byte_ends::{Counted, Plain};
 use std::alloc::Global;
 use std::process::Abort;
@@ -136,61 +136,5 @@ fn a_play_on_a_used_board(rt: HostRuntime) -> Result<(), Fail> {
     assert!(rt; player.is_fresh());
     assert_eq!(rt; play_board(player, &mut board), Ending::Pass);
     assert!(rt; !board.snapshot().tck());
-    Ok(())
-}
-
-#[test]
-fn endings_shown(rt: HostRuntime) -> Result<(), Fail> {
-    let rows = [
-        (Ending::Pass, "pass", 0),
-        (
-            Ending::Fail {
-                command: 3,
-                part: Part::Header,
-                bit: 0,
-            },
-            "fail command 3 header bit 0",
-            1,
-        ),
-        (
-            Ending::Fail {
-                command: 2,
-                part: Part::Data,
-                bit: 31,
-            },
-            "fail command 2 data bit 31",
-            1,
-        ),
-        (
-            Ending::Fail {
-                command: 2,
-                part: Part::Trailer,
-                bit: 1,
-            },
-            "fail command 2 trailer bit 1",
-            1,
-        ),
-        (Ending::Lost { command: 1 }, "lost command 1", 3),
-        (
-            Ending::BadAnswer {
-                command: 1,
-                byte: 0x41,
-            },
-            "bad answer 41 command 1",
-            3,
-        ),
-        (
-            Ending::BadAnswer {
-                command: 1,
-                byte: 0x0a,
-            },
-            "bad answer 0a command 1",
-            3,
-        ),
-    ];
-    for (ending, line, status) in rows {
-        assert_eq!(rt; format!(in rt.alloc(); "{ending}")?.as_str(), line);
-        assert_eq!(rt; ending.status(), status);
-    }
     Ok(())
 }

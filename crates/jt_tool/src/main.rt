@@ -3,15 +3,18 @@
 
 mod input;
 mod request;
+mod words;
 
 use crate::input::{InputFault, read_text};
 use crate::request::{Request, parse};
+use crate::words::command_words;
 use byte_ends::{Counted, Plain};
-use clap::error::ErrorKind;
+use clap::error::ErrorKind as WordsFault;
 use jt_player::{Board, BoardFault, run_play};
 use std::alloc::Global;
+use std::io::ErrorKind;
 use std::process::ExitCode;
-use std::{env, fmt, io};
+use std::{fmt, io};
 
 /// A verdict was given and is a pass, or help was asked for.
 const DONE: u8 = 0;
@@ -24,16 +27,12 @@ const MEMORY: u8 = 4;
 
 fn main(rt: HostRuntime) -> ExitCode {
     let alloc = rt.alloc();
-    let Ok(args) = env::args(&rt) else {
-        return ExitCode::from(told(&rt, "memory", MEMORY));
+    let status = match command_words(&rt, alloc) {
+        Ok(words) => run(&rt, alloc, words.as_slice()),
+        Err(fault) if fault.kind() == ErrorKind::OutOfMemory => told(&rt, "memory", MEMORY),
+        Err(_) => told(&rt, "a word of the command line is not UTF-8", REFUSED),
     };
-    let mut words = Vec::new(alloc);
-    for arg in args {
-        if words.push(arg).is_err() {
-            return ExitCode::from(told(&rt, "memory", MEMORY));
-        }
-    }
-    ExitCode::from(run(&rt, alloc, &words))
+    ExitCode::from(status)
 }
 
 /// Does what the words ask for. Answers the exit status.
@@ -52,7 +51,7 @@ fn run(rt: &HostRuntime, alloc: Global, args: &[String]) -> u8 {
 
 /// Tells what is wrong with the words, or gives the help that they ask for.
 fn refuse_words<R: Print + Eprint>(rt: &R, fault: &clap::Error) -> u8 {
-    if fault.kind() == ErrorKind::OutOfMemory {
+    if fault.kind() == WordsFault::OutOfMemory {
         return told(rt, "memory", MEMORY);
     }
     let status = if fault.exit_code() == 0 {

@@ -1,6 +1,6 @@
 use Rattle.std.proofs.Common.{subst, sym, ◌∙◌}
-use Rattle.jt_player.specs.declared.ending.Ending.{Ending}
-use Rattle.jt_player.specs.DirectPlay.{MeansFromOpening}
+use Rattle.plays.specs.declared.ending.Ending.{Ending}
+use Rattle.plays.specs.DirectPlay.{MeansFromOpening}
 use Rattle.jt_player.proofs.Moving.{direct-loop}
 use Rattle.jt_player.proofs.play.play_board.Goals as goal
 

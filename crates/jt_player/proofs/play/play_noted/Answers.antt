@@ -2,17 +2,16 @@ use Rattle.std.proofs.Common.{◌≡◌, ◌≤◌, ℕ, [], ◌++◌, List, tak
 use Rattle.std.specs.Io.KnownBytes.{Appends}
 use Rattle.std.proofs.KnownBytes.{Appends-nil}
 use Rattle.std.specs.Prelude.{◌==◌}
-use Rattle.std.proofs.lemmas.Bool.Decides.{Decides-eqb}
 use Rattle.std.proofs.lemmas.List.{take-append-drop}
-use Rattle.byte_ends.specs.Writes.{AppendsFront}
+use Rattle.byte_ends.specs.Writes.{WritesAll, flagged}
 use Rattle.byte_ends.specs.Counts.{CountedView}
 use Rattle.jt_board.specs.Chain.{after_all}
-use Rattle.jt_player.specs.declared.ending.Ending.{Ending}
-use Rattle.jt_player.specs.DirectPlay.{MeansFromOpening, full_bytes}
-use Rattle.jt_player.specs.Playing.{PlayerState, waiting}
+use Rattle.plays.specs.declared.ending.Ending.{Ending}
+use Rattle.plays.specs.DirectPlay.{MeansFromOpening, full_bytes}
+use Rattle.plays.specs.Playing.{PlayerState, waiting}
 use Rattle.jt_player.proofs.Buffers.{filled_front, nothing_waits}
 use Rattle.jt_player.proofs.Moving.{IsDirect, direct-loop, waiting-more, after_all-append}
-use Rattle.jt_player.proofs.Noting.{on_true, IsNoted, IsNoted-more, IsNoted-over, all-sent}
+use Rattle.jt_player.proofs.Noting.{noted-writes, IsNoted, IsNoted-more, IsNoted-over, all-sent}
 use Rattle.jt_player.proofs.play.play_noted.Given.{Over}
 use Rattle.jt_player.proofs.play.play_noted.Goals as goal
 
@@ -91,12 +90,8 @@ pub returns-then-count-eq0-clause-meaning : goal.returns-then-count-eq0-clause-m
 returns-then-count-eq0-clause-meaning g c =
     subst (λ (e : Ending). MeansFromOpening c.args.player.program c.args.board.now e c.loop-buffer.board) (sym c.verdict.ensures) (played g c).meaning
 
-pub returns-then-count-eq0-clause-front : goal.returns-then-count-eq0-clause-front
-returns-then-count-eq0-clause-front g c =
-    subst (λ (l : List ℕ). AppendsFront (g.W.Write.contents c.args.out.now.inner) (g.W.Write.contents c.loop-buffer.out.inner) l) (sent g c) (noted g c).front
-
-pub returns-then-count-eq0-clause-whole : goal.returns-then-count-eq0-clause-whole
-returns-then-count-eq0-clause-whole g c =
-    on_true (c.failures.result == 0) _ (λ zero.
-    let none : c.loop-buffer.out.failures ≡ 0 = sym c.failures.ensures.value ∙ (Decides-eqb c.failures.result 0).0 zero in
-    subst (λ (l : List ℕ). Appends (g.W.Write.contents c.args.out.now.inner) (g.W.Write.contents c.loop-buffer.out.inner) l) (sent g c) ((noted g c).whole none))
+pub returns-then-count-eq0-clause-writes : goal.returns-then-count-eq0-clause-writes
+returns-then-count-eq0-clause-writes g c =
+    subst (λ (l : List ℕ). WritesAll g.W.Write.contents c.args.out.now c.loop-buffer.out l (flagged (c.failures.result == 0))) (sent g c)
+    (noted-writes g.W.Write.contents c.args.out.now c.loop-buffer.out (waiting c.args.player) (c.failures.result == 0)
+    (ap (λ n. n == 0) c.failures.ensures.value) (noted g c))

@@ -1,6 +1,6 @@
 use Rattle.std.proofs.Common.{◌≡◌, length}
 use Rattle.jt_board.specs.Chain.{after_all}
-use Rattle.jt_player.specs.Playing.{waiting}
+use Rattle.plays.specs.Playing.{waiting}
 use Rattle.jt_player.proofs.Noting.{IsNoted}
 use Rattle.jt_player.proofs.play.play_noted.Given as goal
 

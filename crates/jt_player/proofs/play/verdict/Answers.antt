@@ -1,5 +1,5 @@
 use Rattle.std.proofs.Common.{◌≡◌, Some, None, sym, ◌∙◌}
-use Rattle.jt_player.specs.declared.ending.Ending.TheVariants.{Pass}
+use Rattle.plays.specs.declared.ending.Ending.TheVariants.{Pass}
 use Rattle.jt_player.proofs.Moving.{ended-passed}
 use Rattle.jt_player.proofs.play.verdict.Goals as goal
 

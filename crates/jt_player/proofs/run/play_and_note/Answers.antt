@@ -1,19 +1,41 @@
-use Rattle.std.proofs.Common.{◌≡◌, Bool, true, sym, subst}
-use Rattle.std.specs.Bool.{OnTrue}
-use Rattle.std.specs.Io.KnownBytes.{Appends}
-use Rattle.std.proofs.KnownBytes.{Appends-trans}
-use Rattle.jt_player.specs.DirectPlay.{full_bytes}
+use Rattle.std.proofs.Common.{◌≡◌, ◌++◌, Bool, true, false, List, ℕ, [], refl, sym, subst, ap}
+use Rattle.std.proofs.KnownBytes.{Appends-nil}
+use Rattle.std.specs.Prelude.{codes, is_ok, is_err}
+use Rattle.byte_ends.specs.Writes.{WritesAll, flagged}
+use Rattle.byte_ends.proofs.Fronts.{WritesAll-is, WritesAll-then, WritesAll-stopped, WritesAll-done}
+use Rattle.plays.specs.DirectPlay.{full_bytes}
 use Rattle.jt_player.specs.Running.{note}
+use Rattle.jt_player.proofs.Told.{WritesAll-like, not-ok}
 use Rattle.jt_player.proofs.run.play_and_note.Goals as goal
 
-pub returns-clause-told : goal.returns-clause-told
-returns-clause-told g c =
-    let asked : c.args.bytes ≡ true = c.if-not-bytes.false in
-    let noted : c.play_noted-ending.result.1 ≡ true = c.if-not-noted.false in
-    let bytes : Appends (g.W.Write.contents c.put_all.new.out.inner) (g.W.Write.contents c.play_noted-ending.new.out.inner)
-    (full_bytes c.args.player.program c.args.board.now) =
-    subst (λ (b : Bool). OnTrue b (Appends (g.W.Write.contents c.put_all.new.out.inner) (g.W.Write.contents c.play_noted-ending.new.out.inner)
-    (full_bytes c.args.player.program c.args.board.now))) noted c.play_noted-ending.ensures.whole in
-    subst (λ (b : Bool). Appends (g.W.Write.contents c.args.out.now.inner) (g.W.Write.contents c.put_all-2.new.out.inner)
-    (note b c.args.player.program c.args.board.now)) (sym asked)
-    (Appends-trans _ _ _ _ _ (Appends-trans _ _ _ _ _ c.in_ok-put_all.ensures.whole bytes) c.in_ok-put_all-2.ensures.whole)
+pub returns-then-not-bytes-clause-writes : goal.returns-then-not-bytes-clause-writes
+returns-then-not-bytes-clause-writes g c =
+    WritesAll-is (ap (λ b. note b c.args.player.program c.args.board.now) (sym c.if-not-bytes.true))
+    (WritesAll-done c.play_board.result c.requires.none_lost (Appends-nil _))
+
+pub returns-in_err-put_all-clause-writes : goal.returns-in_err-put_all-clause-writes
+returns-in_err-put_all-clause-writes g c =
+    let so = c.from_residual.ensures.0 in
+    WritesAll-is (ap (λ b. note b c.args.player.program c.args.board.now) (sym c.if-not-bytes.false))
+    (WritesAll-stopped (codes "\n") (WritesAll-stopped (full_bytes c.args.player.program c.args.board.now) c.in_err-put_all.ensures.writes refl so) so so)
+
+pub returns-then-not-noted-clause-writes : goal.returns-then-not-noted-clause-writes
+returns-then-not-noted-clause-writes g c =
+    WritesAll-is (ap (λ b. note b c.args.player.program c.args.board.now) (sym c.if-not-bytes.false))
+    (WritesAll-stopped (codes "\n") (WritesAll-then c.in_ok-put_all.ensures.writes refl c.play_noted-ending.ensures.writes)
+    (ap (λ b. is_err (flagged b)) c.if-not-noted.true) refl)
+
+pub returns-in_err-put_all-2-clause-writes : goal.returns-in_err-put_all-2-clause-writes
+returns-in_err-put_all-2-clause-writes g c =
+    let so = c.from_residual-in_err-put_all-2.ensures.0 in
+    WritesAll-is (ap (λ b. note b c.args.player.program c.args.board.now) (sym c.if-not-bytes.false))
+    (WritesAll-like _ _ (not-ok _ so)
+    (WritesAll-then (WritesAll-then c.in_ok-put_all.ensures.writes refl c.play_noted-ending.ensures.writes)
+    (ap (λ b. is_ok (flagged b)) c.if-not-noted.false) c.in_err-put_all-2.ensures.writes))
+
+pub returns-clause-writes : goal.returns-clause-writes
+returns-clause-writes g c =
+    WritesAll-is (ap (λ b. note b c.args.player.program c.args.board.now) (sym c.if-not-bytes.false))
+    (WritesAll-like _ _ refl
+    (WritesAll-then (WritesAll-then c.in_ok-put_all.ensures.writes refl c.play_noted-ending.ensures.writes)
+    (ap (λ b. is_ok (flagged b)) c.if-not-noted.false) c.in_ok-put_all-2.ensures.writes))

@@ -1,14 +1,33 @@
-use Rattle.std.proofs.Common.{◌++◌, subst}
-use Rattle.std.specs.Io.KnownBytes.{Appends}
-use Rattle.std.proofs.KnownBytes.{Appends-trans}
+use Rattle.std.proofs.Common.{refl, ap}
+use Rattle.byte_ends.proofs.Fronts.{WritesAll-is, WritesAll-then, WritesAll-stopped}
 use Rattle.jt_board.specs.Report.{report}
-use Rattle.jt_player.specs.declared.ending.Ending.{Ending}
-use Rattle.jt_player.specs.Running.{line, note}
-use Rattle.jt_player.specs.Showing.{verdict_text}
+use Rattle.plays.specs.Endings.{verdict_line}
+use Rattle.plays.specs.Play.{play}
+use Rattle.jt_player.proofs.Told.{WritesAll-like, not-ok}
 use Rattle.jt_player.proofs.run.play_and_tell.Goals as goal
 
-pub returns-clause-told : goal.returns-clause-told
-returns-clause-told g c =
-    subst (λ (e : Ending). Appends (g.W.Write.contents c.args.out.now.inner) (g.W.Write.contents c.write_report.new.out.inner)
-    ((note c.args.bytes c.args.player.program c.args.board.now ++ line (verdict_text e)) ++ report c.play_and_note.new.board)) c.in_ok-ending.ensures.ending
-    (Appends-trans _ _ _ _ _ (Appends-trans _ _ _ _ _ c.in_ok-ending.ensures.told c.in_ok-write_verdict.ensures.told) c.in_ok-write_report.ensures.whole)
+pub returns-in_err-ending-clause-writes : goal.returns-in_err-ending-clause-writes
+returns-in_err-ending-clause-writes g c =
+    let p = play c.args.player.program c.args.board.now in
+    let so = c.from_residual.ensures.0 in
+    WritesAll-stopped (report p.board) (WritesAll-stopped (verdict_line p.ending) c.in_err-ending.ensures.writes refl so) so so
+
+pub returns-in_err-write_verdict-clause-writes : goal.returns-in_err-write_verdict-clause-writes
+returns-in_err-write_verdict-clause-writes g c =
+    let p = play c.args.player.program c.args.board.now in
+    let so = c.from_residual-in_err-write_verdict.ensures.0 in
+    WritesAll-stopped (report p.board)
+    (WritesAll-then c.in_ok-ending.ensures.writes refl (WritesAll-is (ap verdict_line c.in_ok-ending.ensures.ending) c.in_err-write_verdict.ensures)) refl so
+
+pub returns-in_err-write_report-clause-writes : goal.returns-in_err-write_report-clause-writes
+returns-in_err-write_report-clause-writes g c =
+    let so = c.from_residual-in_err-write_report.ensures.0 in
+    WritesAll-like _ _ (not-ok _ so)
+    (WritesAll-then (WritesAll-then c.in_ok-ending.ensures.writes refl (WritesAll-is (ap verdict_line c.in_ok-ending.ensures.ending) c.in_ok-write_verdict.ensures)) refl
+    (WritesAll-is (ap report c.in_ok-ending.ensures.left) c.in_err-write_report.ensures))
+
+pub returns-clause-writes : goal.returns-clause-writes
+returns-clause-writes g c =
+    WritesAll-like _ _ refl
+    (WritesAll-then (WritesAll-then c.in_ok-ending.ensures.writes refl (WritesAll-is (ap verdict_line c.in_ok-ending.ensures.ending) c.in_ok-write_verdict.ensures)) refl
+    (WritesAll-is (ap report c.in_ok-ending.ensures.left) c.in_ok-write_report.ensures))

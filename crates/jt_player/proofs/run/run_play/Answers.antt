@@ -1,33 +1,37 @@
-use Rattle.std.proofs.Common.{List, ℕ}
-use Rattle.std.specs.Io.KnownBytes.{Appends}
-use Rattle.std.proofs.KnownBytes.{Appends-nil}
-use Rattle.jt_player.proofs.Told.{runs-played, runs-no-memory, runs-refused}
+use Rattle.std.proofs.Common.{◌≡◌, refl, ap, subst, sym}
+use Rattle.svf_settings.specs.Steps.{Program}
+use Rattle.plays.specs.DirectPlay.{MeansFromOpening}
+use Rattle.plays.specs.Play.{play}
+use Rattle.plays.specs.Playing.{PlayerState}
+use Rattle.jt_player.specs.Accepting.{program_of}
+use Rattle.jt_player.specs.Running.{IsRunOf, played, played_run}
+use Rattle.jt_player.proofs.Moving.{plays_as_it_means}
+use Rattle.jt_player.proofs.Told.{happens-out, out-of-memory, refused-or-memory}
 use Rattle.jt_player.proofs.run.run_play.Goals as goal
 
-pub returns-in-Ok-new-clause-runs : goal.returns-in-Ok-new-clause-runs
-returns-in-Ok-new-clause-runs g c =
-    runs-played c.args.svf.now c.in-Ok.program c.in-Ok-new.player c.args.bytes c.args.board.now c.play_and_tell.new.board
-    (λ (told : List ℕ). Appends (g.W.Write.contents c.args.out.now.inner) (g.W.Write.contents c.play_and_tell.new.out.inner) told)
-    (λ (said : List ℕ). Appends (g.E.Write.contents c.args.err.now.inner) (g.E.Write.contents c.args.err.now.inner) said) c.play_and_tell.result
-    c.in-Ok.ensures.found (Appends-nil _) c.in-Ok-new.ensures
-    (record {
-      status = c.play_and_tell.ensures.status;
-      board = c.play_and_tell.ensures.board;
-      meaning = c.play_and_tell.ensures.meaning;
-      told = c.play_and_tell.ensures.told;
-    })
+pub returns-in-Ok-new : goal.returns-in-Ok-new
+returns-in-Ok-new g c =
+    let before = c.args.board.now in
+    let run = played_run c.args.bytes c.in-Ok-new.player.program before in
+    let same : c.in-Ok-new.player.program ≡ program_of c.in-Ok.program = ap (λ (p : PlayerState). p.program) c.in-Ok-new.ensures.player in
+    let means = subst (λ (p : Program). MeansFromOpening p before (play p before).ending (play p before).board) same
+    (plays_as_it_means c.in-Ok-new.player before c.in-Ok-new.ensures.moves (ap (λ (p : PlayerState). p.given) c.in-Ok-new.ensures.player)) in (
+      run,
+      subst (λ (p : Program). IsRunOf c.args.svf.now c.args.bytes before (played_run c.args.bytes p before)) (sym same)
+          (played c.in-Ok.program c.in-Ok.ensures.found means),
+      happens-out g.W.Write.contents g.E.Write.contents run before c.play_and_tell.new.board c.args.out.now c.play_and_tell.new.out c.args.err.now
+          c.play_and_tell.result refl c.requires.err_whole c.play_and_tell.ensures.writes c.play_and_tell.ensures.status c.play_and_tell.ensures.left
+          c.play_and_tell.ensures.board,
+    )
 
-pub returns-in-Ok-clause-runs : goal.returns-in-Ok-clause-runs
-returns-in-Ok-clause-runs g c =
-    runs-no-memory c.args.svf.now c.args.bytes c.args.board.now
-    (λ (told : List ℕ). Appends (g.W.Write.contents c.args.out.now.inner) (g.W.Write.contents c.args.out.now.inner) told)
-    (λ (said : List ℕ). Appends (g.E.Write.contents c.args.err.now.inner) (g.E.Write.contents c.refuse_memory.new.err.inner) said)
-    c.refuse_memory.result (Appends-nil _) c.refuse_memory.ensures.said c.refuse_memory.ensures.status
+pub returns-in-Ok : goal.returns-in-Ok
+returns-in-Ok g c =
+    let told = out-of-memory g.W.Write.contents g.E.Write.contents c.args.svf.now c.args.bytes c.args.board.now c.args.out.now c.args.err.now
+    c.refuse_memory.new.err c.refuse_memory.result c.requires.out_whole c.refuse_memory.ensures in
+    (told.run, told.is, told.happens)
 
-pub returns-clause-runs : goal.returns-clause-runs
-returns-clause-runs g c =
-    runs-refused c.args.svf.now c.in-Err.fault c.args.bytes c.args.board.now
-    (λ (told : List ℕ). Appends (g.W.Write.contents c.args.out.now.inner) (g.W.Write.contents c.args.out.now.inner) told)
-    (λ (said : List ℕ). Appends (g.E.Write.contents c.args.err.now.inner) (g.E.Write.contents c.refuse.new.err.inner) said)
-    c.refuse.result (Appends-nil _) c.in-Err.ensures.refused
-    (record { status = c.refuse.ensures.status; memory = c.refuse.ensures.memory; said = c.refuse.ensures.said })
+pub returns : goal.returns
+returns g c =
+    let told = refused-or-memory g.W.Write.contents g.E.Write.contents c.args.svf.now c.in-Err.fault c.args.bytes c.args.board.now c.args.out.now c.args.err.now
+    c.refuse.new.err c.refuse.result c.requires.out_whole c.in-Err.ensures.refused c.refuse.ensures in
+    (told.run, told.is, told.happens)

@@ -1,8 +1,8 @@
 use Rattle.std.proofs.Common.{◌≡◌, ◌*◌, map, take}
 use Rattle.std.specs.Prelude.{flat_map}
 use Rattle.arrayvec.specs.ArrayVec.{array_vec_len}
-use Rattle.bitbang.specs.Protocol.{cycle_messages, encode}
-use Rattle.jt_board.specs.StepBytes.{walk}
+use Rattle.bitbang_table.specs.Protocol.{cycle_messages, encode}
+use Rattle.bitbang_table.specs.Cycles.{walk}
 use Rattle.jt_player.proofs.source.step_bytes.Given as goal
 
 abbrev pub invariant-loop-state : goal.invariant-loop-state

@@ -1,6 +1,6 @@
 use Rattle.std.proofs.Common.{◌≡◌, ◌++◌, length, sym, ap, subst, ◌∙◌}
 use Rattle.jt_player.specs.Accepting.{program_of}
-use Rattle.jt_player.specs.Playing.{PlayerState, taken}
+use Rattle.plays.specs.Playing.{PlayerState, taken}
 use Rattle.jt_player.specs.Sending.{given_of}
 use Rattle.jt_player.proofs.Plain.{taken-nothing}
 use Rattle.jt_player.proofs.player.Player.answers.Goals as goal

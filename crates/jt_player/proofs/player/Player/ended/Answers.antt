@@ -1,6 +1,6 @@
 use Rattle.std.proofs.Common.{◌≡◌, ◌<◌, ◌≤◌, List, [], length, ap, subst, ◌∙◌, arith}
 use Rattle.state_programs.specs.declared.program.Step.{Step}
-use Rattle.jt_player.specs.Playing.{ended}
+use Rattle.plays.specs.Playing.{ended}
 use Rattle.jt_player.specs.Sending.{all_bytes, given_of, left}
 use Rattle.jt_player.proofs.Plain.{ended-over, ended-not}
 use Rattle.jt_player.proofs.player.Player.ended.Goals as goal

@@ -1,7 +1,7 @@
 use Rattle.std.proofs.Common.{◌≡◌, ◌+◌, true, List, [], ◌∷◌, subst, sym, ap, ◌∙◌}
 use Rattle.state_programs.specs.declared.program.Step.{Step}
 use Rattle.jt_player.specs.Accepting.{program_of}
-use Rattle.jt_player.specs.Playing.{PlayerState, waiting}
+use Rattle.plays.specs.Playing.{PlayerState, waiting}
 use Rattle.jt_player.specs.Sending.{IsReady, IsWithin, given_of, left}
 use Rattle.jt_player.proofs.Tails.{IsWithin-next, given-next}
 use Rattle.jt_player.proofs.player.Player.next_byte.Goals as goal

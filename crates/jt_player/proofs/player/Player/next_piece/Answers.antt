@@ -1,5 +1,5 @@
 use Rattle.std.proofs.Common.{◌≡◌, ◌+◌, ℕ, [], ◌∷◌, length, ap, ◌∙◌, arith}
-use Rattle.jt_player.specs.Playing.{PlayerState, waiting}
+use Rattle.plays.specs.Playing.{PlayerState, waiting}
 use Rattle.jt_player.proofs.Buffers.{filled, none_left}
 use Rattle.jt_player.proofs.Moving.{MovesOnly-same}
 use Rattle.jt_player.proofs.player.Player.next_piece.Goals as goal

@@ -1,6 +1,6 @@
 use Rattle.std.proofs.Common.{◌≡◌, ◌+◌, ◌-◌, ◌<◌, ◌≤◌, ◌++◌, length, take, drop}
-use Rattle.jt_player.specs.DirectPlay.{MovesOnly}
-use Rattle.jt_player.specs.Playing.{waiting}
+use Rattle.jt_player.specs.Moving.{MovesOnly}
+use Rattle.plays.specs.Playing.{waiting}
 use Rattle.jt_player.proofs.player.Player.next_piece.Given as goal
 
 abbrev pub invariant-loop-count : goal.invariant-loop-count

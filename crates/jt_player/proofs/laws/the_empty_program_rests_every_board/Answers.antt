@@ -1,5 +1,0 @@
-use Rattle.jt_player.proofs.PlayLaws.{empty_rests}
-use Rattle.jt_player.proofs.laws.the_empty_program_rests_every_board.Goals as goal
-
-pub returns : goal.returns
-returns c = empty_rests
