@@ -1,0 +1,3 @@
+pub mod Wants
+pub mod Replies
+pub mod Turns

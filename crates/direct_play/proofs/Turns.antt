@@ -1,0 +1,78 @@
+-- The full play, one step after another.
+use Rattle.std.proofs.Common.{◌≡◌, Bool, true, false, ℕ, ◌<◌, List, [], ◌∷◌, ◌++◌, refl, sym, ap, ◌∙◌, subst, Some, None}
+use Rattle.std.specs.Prelude.{Option}
+use Rattle.jt_tap.specs.Controller.{is_stable}
+use Rattle.jt_tap.specs.declared.State.{State}
+use Rattle.bitbang_table.specs.declared.Message.TheVariants.{Quit}
+use Rattle.bitbang.specs.StepMessages.{step_messages}
+use Rattle.scan_vectors.specs.declared.part.Part.{Part}
+use Rattle.scan_vectors.specs.Vector.{judge}
+use Rattle.svf_parse.specs.declared.statement.TrstWord.TheVariants.{On, Off, Z, Absent}
+use Rattle.svf_settings.specs.Legal.{IsFormed, IsLegalProgram, IsPath}
+use Rattle.svf_settings.specs.Steps.{Step, Scan, Go, Path, Run, Trst, Numbered, Program, place_after}
+use Rattle.tap_paths.specs.Paths.{last_of}
+use Rattle.jt_board.specs.Chain.{BoardState, Heard, hear}
+use Rattle.jt_board.specs.Sound.{HasDevice, IsSoundBoard}
+use Rattle.plays.specs.declared.ending.Ending.{Ending}
+use Rattle.plays.specs.declared.ending.Ending.TheVariants.{Fail}
+use Rattle.plays.specs.DirectPlay.{MeansFromOpening}
+use Rattle.plays.specs.Play.{Played, Turn, full_play, play, step_turns, wants_of}
+use Rattle.plays.proofs.Described.{means_from_opening}
+
+-- a play ends so, with this board
+pub record EndsSo (p : Played) (ending : Ending) (board : BoardState) : Type 0 where
+  pub ending_is : p.ending ≡ ending
+  pub board_is : p.board ≡ board
+
+abbrev heard-of : State → Numbered → BoardState → Heard
+heard-of place s b = hear (step_messages place s.what) b
+
+abbrev decided : State → Numbered → List Numbered → BoardState → Option (Part × ℕ) → Played
+decided place s ss b found =
+    let heard = heard-of place s b in
+    let messages = step_messages place s.what in
+    let rest = full_play (step_turns (place_after place s.what) ss) heard.board in
+    elim found [
+      | None ↦ record { messages = messages ++ rest.messages; answers = heard.answers ++ rest.answers; ending = rest.ending; board = rest.board }
+      | Some f ↦ record { messages = messages ++ Quit ∷ []; answers = heard.answers; ending = Fail s.number f.0 f.1; board = heard.board }
+    ]
+
+module _ (place : State) (s : Numbered) (ss : List Numbered) (b : BoardState) where
+  -- a step that passes is followed by the others
+  pub passed : judge (wants_of s.what) (heard-of place s b).answers ≡ None
+      → EndsSo (full_play (step_turns place (s ∷ ss)) b) (full_play (step_turns (place_after place s.what) ss) (heard-of place s b).board).ending
+      (full_play (step_turns (place_after place s.what) ss) (heard-of place s b).board).board
+  passed none = record {
+    ending_is = ap (λ (o : Option (Part × ℕ)). (decided place s ss b o).ending) none;
+    board_is = ap (λ (o : Option (Part × ℕ)). (decided place s ss b o).board) none;
+  }
+
+  -- a step that fails is the last one
+  pub failed : (f : Part × ℕ) → judge (wants_of s.what) (heard-of place s b).answers ≡ Some f
+      → EndsSo (full_play (step_turns place (s ∷ ss)) b) (Fail s.number f.0 f.1) (heard-of place s b).board
+  failed f some = record {
+    ending_is = ap (λ (o : Option (Part × ℕ)). (decided place s ss b o).ending) some;
+    board_is = ap (λ (o : Option (Part × ℕ)). (decided place s ss b o).board) some;
+  }
+
+path-stable : (place : State) (path : List State) → IsPath place path → is_stable (last_of place path) ≡ true
+path-stable place [] is = is
+path-stable place (s ∷ path) is = path-stable s path is.1
+
+-- a step that is formed rests in a stable state
+pub stable-after : (place : State) (s : Step) → is_stable place ≡ true → IsFormed place s → is_stable (place_after place s) ≡ true
+stable-after place (Scan column v end) here formed = formed.1
+stable-after place (Go s) here formed = formed
+stable-after place (Path path) here formed = path-stable place path formed
+stable-after place (Run run n end) here formed = formed.1
+stable-after place (Trst On) here formed = refl
+stable-after place (Trst Off) here formed = here
+stable-after place (Trst Z) here formed = here
+stable-after place (Trst Absent) here formed = here
+
+-- what is played so means what the program means
+pub means-so : (program : Program) (b : BoardState) → IsSoundBoard b → HasDevice b → IsLegalProgram program.steps → (ending : Ending) (after : BoardState)
+    → ending ≡ (play program b).ending → after ≡ (play program b).board → MeansFromOpening program b ending after
+means-so program b sound some legal ending after same-ending same-board =
+    subst (λ (e : Ending). MeansFromOpening program b e after) (sym same-ending)
+    (subst (λ (a : BoardState). MeansFromOpening program b (play program b).ending a) (sym same-board) (means_from_opening program b sound some legal))

@@ -1,0 +1,7 @@
+use Rattle.std.proofs.Common.{◌∙◌}
+use Rattle.bitbang_table.specs.Cycles.{opening}
+use Rattle.jt_board.proofs.Told.{after_all-encoded}
+use Rattle.direct_play.proofs.stepping.play_opening.Goals as goal
+
+pub returns : goal.returns
+returns c = c.take_all.ensures ∙ after_all-encoded opening c.args.board.now

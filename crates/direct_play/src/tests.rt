@@ -1,0 +1,80 @@
+use crate::{accept, play_program};
+use jt_board::Board;
+use plays::Ending;
+use scan_vectors::Part;
+use std::alloc::Global;
+use std::process::Abort;
+use std::test::Fail;
+use svf_parse::{Code, SvfFault};
+
+/// How a text's program ends on a fresh board of bare devices.
+fn ending(rt: &impl Abort, alloc: Global, text: &[u8], devices: usize) -> Result<Ending, Fail> {
+    let mut board = Board::bare(alloc, devices)?;
+    let program = accept(alloc, text).ok().ok_or("refused")?;
+    let ending = play_program(&program, &mut board);
+    assert!(rt; !board.snapshot().tck());
+    Ok(ending)
+}
+
+/// An ending by the first bit that did not come out.
+fn fails(command: usize, part: Part, bit: usize) -> Ending {
+    Ending::Fail { command, part, bit }
+}
+
+#[test]
+fn scans_end_as_they_mean(rt: HostRuntime) -> Result<(), Fail> {
+    let rows: [(&[u8], usize, Ending); 8] = [
+        (b"", 1, Ending::Pass),
+        (b"SIR 2 TDI (3) TDO (1);", 1, Ending::Pass),
+        (b"SIR 4 TDI (F); SDR 3 TDI (5) TDO (4);", 2, Ending::Pass),
+        (
+            b"SIR 4 TDI (F); HDR 1 TDI (0) TDO (1); SDR 1 TDI (1) TDO (1);",
+            2,
+            fails(3, Part::Header, 0),
+        ),
+        (
+            b"SIR 2 TDI (3); SDR 8 TDI (00) TDO (F0) MASK (0F); SDR 4 TDI (0) TDO (0); SDR 8 TDI (00) TDO (F0);",
+            1,
+            fails(4, Part::Data, 4),
+        ),
+        (b"SIR 2 TDI (3); SDR 5 TDI (15) TDO (0A);", 1, Ending::Pass),
+        (
+            b"SIR 2 TDI (3); STATE DRSELECT DRCAPTURE DRSHIFT DRSHIFT DREXIT1 DRUPDATE IDLE;",
+            1,
+            Ending::Pass,
+        ),
+        (
+            b"TRST ON; TRST OFF; STATE IDLE; FREQUENCY 3E6 HZ; RUNTEST 1E-6 SEC;",
+            1,
+            Ending::Pass,
+        ),
+    ];
+    for (text, devices, wanted) in rows {
+        assert_eq!(rt; ending(&rt, rt.alloc(), text, devices)?, wanted);
+    }
+    Ok(())
+}
+
+#[test]
+fn each_pass_names_its_own_refusals(rt: HostRuntime) -> Result<(), Fail> {
+    let rows: [(&[u8], usize, Code); 6] = [
+        (b"STATE DRCAPTURE; FOO;", 2, Code::UnknownCommand),
+        (b"SDR 4 TDI (1F);", 1, Code::TooWide),
+        (b"SDR 4;", 1, Code::MissingTdi),
+        (b"TRST ON; STATE IDLE;", 2, Code::TrstHeld),
+        (b"SDR 0; STATE DRCAPTURE;", 1, Code::EmptyScan),
+        (b"HDR 1 TDI (0); SDR 65536 TDI (0);", 2, Code::TooLarge),
+    ];
+    for (text, statement, code) in rows {
+        let fault = accept(rt.alloc(), text).err().ok_or("accepted")?;
+        assert_eq!(rt; fault, SvfFault { statement, code });
+    }
+    Ok(())
+}
+
+#[test]
+fn the_largest_scan_plays_on_the_longest_chain(rt: HostRuntime) -> Result<(), Fail> {
+    let text = b"SIR 64 TDI (FFFFFFFFFFFFFFFF); SDR 65536 TDI (0) TDO (0);";
+    assert_eq!(rt; ending(&rt, rt.alloc(), text, 32)?, Ending::Pass);
+    Ok(())
+}
