@@ -1,5 +1,4 @@
-use crate::{BsdlFault, description_of, outline_of};
-use bsdl_entity::Attribute;
+use crate::{BsdlFault, outline_of};
 use std::alloc::Global;
 use std::process::Abort;
 
@@ -16,47 +15,10 @@ fn assert_misfit(rt: &impl Abort, alloc: Global, text: &[u8]) {
     }
 }
 
-fn assert_described(rt: &impl Abort, alloc: Global, text: &[u8]) {
-    match outline_of(alloc, text) {
-        Ok(entity) => match description_of(alloc, &entity) {
-            Ok(found) => {
-                assert_eq!(rt; (entity.groups.len(), entity.given.len()), (4, 10));
-                assert_eq!(rt; found.instruction_length.up_to(99), 2);
-                assert_eq!(rt; found.boundary_length.up_to(99), 3);
-                assert_eq!(rt; (found.opcodes.len(), found.cells.len()), (4, 3));
-                assert_eq!(rt; found.taps.clock.text, b"TCK".as_slice());
-                assert!(rt; found.taps.reset.is_none());
-            }
-            Err(_) => assert!(rt; false, "not described"),
-        },
-        Err(_) => assert!(rt; false, "not spelled"),
-    }
-}
-
-#[test]
-fn a_description_is_read(rt: HostRuntime) {
-    assert_described(&rt, rt.alloc(), K);
-}
-
 /// A text that is cut anywhere is refused for its form.
 #[test]
 fn cut_at_each_byte(rt: HostRuntime) {
     for len in 0..K.len() {
         assert_misfit(&rt, rt.alloc(), &K[..len]);
     }
-}
-
-fn assert_missing(rt: &impl Abort, alloc: Global, text: &[u8]) {
-    match outline_of(alloc, text) {
-        Ok(entity) => match description_of(alloc, &entity) {
-            Err(BsdlFault::Missing(missing)) => assert_eq!(rt; missing, Attribute::TapScanIn),
-            _ => assert!(rt; false, "nothing is missing"),
-        },
-        Err(_) => assert!(rt; false, "not spelled"),
-    }
-}
-
-#[test]
-fn a_needed_attribute_is_missing(rt: HostRuntime) {
-    assert_missing(&rt, rt.alloc(), b"entity E is port (A : in bit); end;");
 }
