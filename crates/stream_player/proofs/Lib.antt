@@ -1,0 +1,4 @@
+pub mod Ahead
+pub mod Window
+pub mod Here
+pub mod Ends

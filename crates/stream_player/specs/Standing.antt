@@ -1,0 +1,53 @@
+-- Where a player that stops at the first failing step stands in its play.
+use Rattle.std.specs.Prelude.{ℕ, zero, suc, ◌+◌, ◌==◌, List, [], ◌∷◌, ◌++◌, length, take, Option, Some, None, if◌then◌else◌}
+use Rattle.bitbang_table.specs.declared.Message.{Message}
+use Rattle.svf_settings.specs.Steps.{Program}
+use Rattle.plays.specs.Play.{Turn, turns}
+use Rattle.plays.specs.PlayingOn.{Mismatch, Stops}
+use Rattle.plays.specs.Streams.{Found, StreamState}
+
+-- how many turns are over, how many messages of the present one are out and how many of its answers are there, what differed,
+-- and the byte that was no answer, if one came
+pub record Standing : Type 0 where
+  pub over : ℕ
+  pub gone : ℕ
+  pub heard : ℕ
+  pub failed : Option Mismatch
+  pub bad : Option ℕ
+
+-- the messages of turns, and the answers that they want
+abbrev pub messages_in : List Turn → List Message
+messages_in [] = []
+messages_in (t ∷ ts) = t.messages ++ messages_in ts
+
+abbrev pub wanted_in : List Turn → ℕ
+wanted_in [] = 0
+wanted_in (t ∷ ts) = length t.wants + wanted_in ts
+
+-- of all that differed, one that stops keeps the first
+abbrev pub found : Option Mismatch → Found
+found None = record { list = []; total = 0 }
+found (Some m) = record { list = m ∷ []; total = 1 }
+
+-- the player that stands so
+abbrev pub state_at : Program → Standing → StreamState
+state_at program s =
+    let before = take s.over (turns program.steps) in record {
+      program = program;
+      kind = Stops;
+      given = length (messages_in before) + s.gone;
+      answered = wanted_in before + s.heard;
+      found = found s.failed;
+      bad = s.bad;
+    }
+
+-- the bytes up to the first `R` past so many
+abbrev pub up_to_reads : List ℕ → ℕ → List ℕ
+up_to_reads [] n = []
+up_to_reads (b ∷ bytes) n =
+    if b == 82 then elim n [ zero ↦ [] | suc m ↦ b ∷ up_to_reads bytes m ] else b ∷ up_to_reads bytes n
+
+-- how many `R` there are
+abbrev pub reads : List ℕ → ℕ
+reads [] = 0
+reads (b ∷ bytes) = if b == 82 then suc (reads bytes) else reads bytes
