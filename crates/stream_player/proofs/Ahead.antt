@@ -88,7 +88,7 @@ quits-in [] none (suc k) = refl
 quits-in (t ∷ ts) none (suc k) =
     quit-append t.messages (messages_in (take k ts)) ∙ (λ i. none.0 i || quits-in ts none.1 k i)
 
-map-take : (n : ℕ) (ms : List Message) → take n (map encode ms) ≡ map encode (take n ms)
+pub map-take : (n : ℕ) (ms : List Message) → take n (map encode ms) ≡ map encode (take n ms)
 map-take zero ms = refl
 map-take (suc n) [] = refl
 map-take (suc n) (m ∷ ms) = ap (λ l. encode m ∷ l) (map-take n ms)

@@ -2,3 +2,5 @@ pub mod Ahead
 pub mod Window
 pub mod Here
 pub mod Ends
+pub mod Steps
+pub mod Within

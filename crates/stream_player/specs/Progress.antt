@@ -1,0 +1,129 @@
+-- What the fields of a player say of where it stands in its play.
+use Rattle.std.specs.Prelude.{◌≡◌, ◌≤◌, ◌<◌, ◌+◌, ◌-◌, ℕ, suc, Bool, true, false, List, [], ◌∷◌, length, take, drop, filter, is_some, option_map, Option, Some, None}
+use Rattle.jt_tap.specs.Controller.{is_stable}
+use Rattle.jt_tap.specs.declared.State.{State}
+use Rattle.jt_tap.specs.declared.State.TheVariants.{Reset}
+use Rattle.bitbang_table.specs.Protocol.{encode}
+use Rattle.bitbang_table.specs.Cycles.{opening}
+use Rattle.bitbang.specs.Left.{behind}
+use Rattle.bitbang.specs.StepMessages.{step_bytes, step_messages}
+use Rattle.bitbang.specs.declared.step_bytes.Spot.{Spot}
+use Rattle.scan_vectors.specs.Vector.{VectorBit}
+use Rattle.svf_settings.specs.Laws.{AllWithin}
+use Rattle.svf_settings.specs.Legal.{AllLegalFrom}
+use Rattle.svf_settings.specs.Steps.{Step, Scan, Numbered, Program}
+use Rattle.tck_cycles.specs.Cycles.{cycles}
+use Rattle.plays.specs.Play.{step_turns, turns, wants_of}
+use Rattle.plays.specs.PlayingOn as playing_on
+use Rattle.plays.specs.Streams.{StreamState}
+use Rattle.stream_player.specs.declared.progress.Mismatch as declared
+use Rattle.stream_player.specs.declared.progress.Phase.{Phase}
+use Rattle.stream_player.specs.declared.progress.Phase.TheVariants.{Opening, Within, Over}
+use Rattle.stream_player.specs.declared.progress.Progress.{Progress}
+use Rattle.stream_player.specs.Standing.{Standing, reads, state_at}
+
+abbrev pub mismatch : declared.Mismatch → playing_on.Mismatch
+mismatch m = record { command = m.command; part = m.part; place = m.bit }
+
+-- how many turns are over: the opening is one, and each step
+abbrev pub over : Progress → ℕ
+over p = elim p.phase [ Opening n ↦ 0 | Within spot ↦ suc p.at | Over out ↦ suc p.at ]
+
+abbrev pub one : Bool → ℕ
+one true = 1
+one false = 0
+
+-- the messages of the first of these steps
+abbrev pub present : State → List Numbered → ℕ
+present place [] = 0
+present place (s ∷ ss) = length (step_messages place s.what)
+
+-- what is left behind a spot of the first of these steps
+abbrev pub rest_of : State → List Numbered → Spot → List ℕ
+rest_of place [] spot = []
+rest_of place (s ∷ ss) spot = behind spot (cycles place s.what)
+
+-- of the present turn, how many messages are out; `Quit` stands behind the turn that failed, or behind all
+abbrev pub gone : List Numbered → Progress → ℕ
+gone rest p = elim p.phase [
+    | Opening n ↦ n
+    | Within spot ↦ present p.place rest - length (rest_of p.place rest spot)
+    | Over out ↦ present p.place rest + one out
+  ]
+
+abbrev pub standing : List Numbered → Progress → Standing
+standing steps p = record {
+  over = over p;
+  gone = gone (drop p.at steps) p;
+  heard = p.heard;
+  failed = option_map mismatch p.failed;
+  bad = p.bad;
+}
+
+-- the player that its fields say
+abbrev pub state_of : Program → Progress → StreamState
+state_of program p = state_at program (standing program.steps p)
+
+-- the bits of the vector of a step
+abbrev pub vector_bits : Step → List VectorBit
+vector_bits (Scan column v end) = v
+vector_bits _ = []
+
+-- A step begins here, and those from it on are legal and within the limits.
+pub record Rests (steps : List Numbered) (at : ℕ) (place : State) : Type 0 where
+  pub stable : is_stable place ≡ true
+  pub line : Bool
+  pub legal : AllLegalFrom place line (drop at steps)
+  pub within : AllWithin (drop at steps)
+  pub turns_are : drop (suc at) (turns steps) ≡ step_turns place (drop at steps)
+
+-- before the first step
+pub record InOpening (n : ℕ) (p : Progress) : Type 0 where
+  pub some : n ≤ length opening
+  pub at : p.at ≡ 0
+  pub place : p.place ≡ Reset
+  pub heard : p.heard ≡ 0
+  pub owed : p.owed ≡ 0
+  pub failed : p.failed ≡ None
+  pub bad : p.bad ≡ None
+
+-- in a step: what is left of it, and of the answers to what is out some are heard and the others owed
+pub record InStep (spot : Spot) (rest : List Numbered) (p : Progress) : Type 0 where
+  pub step : Numbered
+  pub later : List Numbered
+  pub is : rest ≡ step ∷ later
+  pub left : rest_of p.place rest spot ≡ drop (gone rest p) (step_bytes p.place step.what)
+  pub some : length (rest_of p.place rest spot) ≤ present p.place rest
+  pub asked : reads (take (gone rest p) (step_bytes p.place step.what)) ≡ p.heard + p.owed
+  pub allowed : p.owed ≤ 256
+  pub judged : p.failed ≡ None → filter (λ v. is_some v.wanted) (drop p.judged (vector_bits step.what)) ≡ drop p.heard (wants_of step.what)
+  pub fair : is_some p.failed ≡ true → 0 < p.heard
+  pub bad : is_some p.bad ≡ true → 0 < p.owed
+
+-- behind the last step, or behind one that failed
+pub record IsOver (rest : List Numbered) (p : Progress) : Type 0 where
+  pub passed : p.failed ≡ None → (rest ≡ []) × (p.heard ≡ 0)
+  pub stopped : is_some p.failed ≡ true
+      → (step : Numbered) × (later : List Numbered) × (rest ≡ step ∷ later) × (p.heard ≡ length (wants_of step.what)) × (0 < p.heard)
+  pub owed : p.owed ≡ 0
+  pub bad : p.bad ≡ None
+
+abbrev pub InPhase : List Numbered → Progress → Phase → Type 0
+InPhase rest p phase = elim phase [ Opening n ↦ InOpening n p | Within spot ↦ InStep spot rest p | Over out ↦ IsOver rest p ]
+
+-- the fields of a player of these steps
+pub record Stands (steps : List Numbered) (p : Progress) : Type 0 where
+  pub rests : Rests steps p.at p.place
+  pub phase : InPhase (drop p.at steps) p p.phase
+
+-- something is to be done before another turn begins: a byte to give out, or an answer to hear
+abbrev pub IsReady : List Numbered → Progress → Phase → Type 0
+IsReady rest p phase = elim phase [
+    | Opening n ↦ n < length opening
+    | Within spot ↦ (rest_of p.place rest spot ≡ []) → 0 < p.owed
+    | Over out ↦ Unit {0}
+  ]
+
+-- the turns that are left, at most
+abbrev pub ahead : List Numbered → Progress → ℕ
+ahead steps p = elim p.phase [ Opening n ↦ length steps + 2 | Within spot ↦ length steps - p.at + 1 | Over out ↦ 0 ]

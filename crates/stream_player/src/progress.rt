@@ -1,0 +1,110 @@
+//! Where a player stands in its play, and how it goes on to the next turn.
+
+ghost use Rattle.std.specs.Prelude.{◌≡◌, ◌≤◌, ◌<◌, ◌+◌, suc, drop, length, None, MatchOption};
+ghost use Rattle.svf_settings.specs.Sizes.{program_of};
+ghost use Rattle.stream_player.specs.Standing.{state_at};
+ghost use Rattle.stream_player.specs.Progress.{IsReady, Rests, Stands, ahead, state_of};
+
+use bitbang::{Spot, StepBytes};
+use jt_tap::State;
+use scan_vectors::Part;
+use svf_settings::Program;
+use tck_cycles::place_after;
+
+/// How many bytes open a play.
+pub(crate) const OPENING: &[u8; 12] = b"r26262626260";
+
+/// A wanted bit that did not come out: the statement of its step, counted from 1, its part of the vector and its place there,
+/// counted from 0.
+#[derive(Debug, Clone, Copy, PartialEq, Eq)]
+pub struct Mismatch {
+    pub command: usize,
+    pub part: Part,
+    pub bit: usize,
+}
+
+/// The present turn.
+#[derive(Debug, Clone, Copy)]
+pub(crate) enum Phase {
+    /// The opening, of which so many bytes are out.
+    Opening(usize),
+    /// A step, of which the bytes before this spot are out.
+    Within(Spot),
+    /// No turn is left; whether `Q` is out.
+    Over(bool),
+}
+
+/// Where a player stands.
+#[derive(Debug, Clone, Copy)]
+pub(crate) struct Progress {
+    pub(crate) phase: Phase,
+    /// The present step, counted from 0.
+    pub(crate) at: usize,
+    /// Where it begins.
+    pub(crate) place: State,
+    /// How many of its answers were taken, and how many more are owed.
+    pub(crate) heard: usize,
+    pub(crate) owed: usize,
+    /// The bit of its vector from which on no wanted bit is judged.
+    pub(crate) judged: usize,
+    /// The first bit that differed.
+    pub(crate) failed: Option<Mismatch>,
+    /// The byte that was no answer.
+    pub(crate) bad: Option<u8>,
+}
+
+impl Progress {
+    ghost use Rattle.std.specs.Prelude.{◌≡◌, None};
+
+    /// The start of a play.
+    pub(crate) fn opening() -> Progress
+        ensures { result ≡ record {
+          phase = Phase.Opening 0;
+          at = 0;
+          place = State.Reset;
+          heard = 0;
+          owed = 0;
+          judged = 0;
+          failed = None;
+          bad = None;
+        } }
+    {
+        Progress {
+            phase: Phase::Opening(0),
+            ..Progress::before(Phase::Over(false), 0, State::Reset)
+        }
+    }
+
+    /// A turn of which nothing is out.
+    fn before(phase: Phase, at: usize, place: State) -> Progress
+        ensures { result ≡ record { phase = phase; at = at; place = place; heard = 0; owed = 0; judged = 0; failed = None; bad = None } }
+    {
+        Progress {
+            phase,
+            at,
+            place,
+            heard: 0,
+            owed: 0,
+            judged: 0,
+            failed: None,
+            bad: None,
+        }
+    }
+}
+
+/// The start of the step with this place in the order of the steps; behind the last one, the end of the play.
+pub(crate) fn entered(program: &Program, at: usize, place: State) -> Progress
+    requires rests { Rests program.now.steps at place }
+    ensures stands { Stands program.now.steps result }
+    ensures same { state_of (program_of program.now) result
+        ≡ state_at (program_of program.now) (record { over = suc at; gone = 0; heard = 0; failed = None; bad = None }) }
+    ensures fewer { ahead program.now.steps result ≤ length (drop at program.now.steps) + 1 }
+{
+    if at < program.len() {
+        let step = program.step(at);
+        let spot = StepBytes::of(place, &step).spot();
+        Progress::before(Phase::Within(spot), at, place)
+    } else {
+        Progress::before(Phase::Over(false), at, place)
+    }
+}
