@@ -104,3 +104,30 @@ pub enters-same : (program : Program) (spot : Spot) (at : ℕ) (place : State) (
 enters-same program spot at place s later e all =
     ap (λ (n : ℕ). state_at program (record { over = suc at; gone = n; heard = 0; failed = None; bad = None }))
     (ap (λ (l : List Numbered). gone l (start spot at place)) e ∙ nothing-gone spot at place s later all)
+
+-- one list has one first member
+pub same-first : {A : Type 0} (rest : List A) (s t : A) (later more : List A) → rest ≡ s ∷ later → rest ≡ t ∷ more → s ≡ t
+same-first [] s t later more e f = absurd (cc)
+same-first (x ∷ rest) s t later more e f = let a : x ≡ s = cc in let b : x ≡ t = cc in sym a ∙ b
+
+-- nothing is left, or something
+pub none-first : (l : List ℕ) → is_some (slice_get l 0) ≡ false → l ≡ []
+none-first [] e = refl
+none-first (x ∷ l) e = absurd (cc)
+
+pub some-first : (l : List ℕ) → is_some (slice_get l 0) ≡ true → l ≡ [] → ⊥
+some-first [] e none = cc
+some-first (x ∷ l) e none = cc
+
+-- a step that stands first is one of them
+pub below : (steps : List Numbered) (at : ℕ) (s : Numbered) (later : List Numbered) → drop at steps ≡ s ∷ later → at < length steps
+below [] zero s later e = absurd (cc)
+below [] (suc at) s later e = absurd (cc)
+below (x ∷ steps) zero s later e = omega arith
+below (x ∷ steps) (suc at) s later e = let less = below steps at s later e in omega arith
+
+pub length-below : (steps : List Numbered) (at : ℕ) (s : Numbered) (later : List Numbered) → drop at steps ≡ s ∷ later → length later + at + 1 ≡ length steps
+length-below [] zero s later e = absurd (cc)
+length-below [] (suc at) s later e = absurd (cc)
+length-below (x ∷ steps) zero s later e = let n = ap length e in omega (arith, n)
+length-below (x ∷ steps) (suc at) s later e = let n = length-below steps at s later e in omega (arith, n)

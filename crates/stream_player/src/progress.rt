@@ -108,3 +108,57 @@ pub(crate) fn entered(program: &Program, at: usize, place: State) -> Progress
         Progress::before(Phase::Over(false), at, place)
     }
 }
+
+/// The next turn, where nothing of the present one is left to be done: all its bytes are out, and all its answers are there.
+pub(crate) fn advanced(program: &Program, p: Progress) -> Option<Progress>
+    requires stands { Stands program.now.steps p }
+    ensures { MatchOption result (IsReady (drop p.at program.now.steps) p p.phase)
+        (λ next. Stands program.now.steps next
+        × (state_of (program_of program.now) next ≡ state_of (program_of program.now) p)
+        × (ahead program.now.steps next < ahead program.now.steps p)) }
+{
+    match p.phase {
+        Phase::Opening(n) if n == OPENING.len() => Some(entered(program, 0, State::Reset)),
+        Phase::Within(spot) if p.owed == 0 => after_step(program, p, spot),
+        _ => None,
+    }
+}
+
+/// What follows a step of which no answer is owed, once all its bytes are out.
+fn after_step(program: &Program, p: Progress, spot: Spot) -> Option<Progress>
+    requires stands { Stands program.now.steps p }
+    requires is { p.phase ≡ Phase.Within spot }
+    requires nothing { p.owed ≡ 0 }
+    ensures { MatchOption result (IsReady (drop p.at program.now.steps) p p.phase)
+        (λ next. Stands program.now.steps next
+        × (state_of (program_of program.now) next ≡ state_of (program_of program.now) p)
+        × (ahead program.now.steps next < ahead program.now.steps p)) }
+{
+    // For the proof alone: the steps are counted.
+    let _ = program.len();
+    let step = program.step(p.at);
+    if StepBytes::resume(p.place, &step, spot).peek().is_some() {
+        return None;
+    }
+    if p.failed.is_some() {
+        return Some(Progress {
+            phase: Phase::Over(false),
+            ..p
+        });
+    }
+    Some(entered(program, p.at + 1, place_after(p.place, &step)))
+}
+
+/// The turn that is next at work: the present one, or where nothing of it is left to be done, one behind it.
+pub(crate) fn settled(program: &Program, p: Progress) -> Progress
+    requires { Stands program.now.steps p }
+    ensures stands { Stands program.now.steps result }
+    ensures same { state_of (program_of program.now) result ≡ state_of (program_of program.now) p }
+    ensures ready { IsReady (drop result.at program.now.steps) result result.phase }
+{
+    let mut p = p;
+    while let Some(next) = advanced(program, p) {
+        p = next;
+    }
+    p
+}

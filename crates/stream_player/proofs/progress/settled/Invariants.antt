@@ -1,0 +1,13 @@
+use Rattle.std.proofs.Common.{◌≡◌}
+use Rattle.svf_settings.specs.Sizes.{program_of}
+use Rattle.stream_player.specs.Progress.{Stands, ahead, state_of}
+use Rattle.stream_player.proofs.progress.settled.Given as goal
+
+abbrev pub invariant-loop-next : goal.invariant-loop-next
+invariant-loop-next l = record {
+  stands : Stands l.program.steps l.p;
+  same : state_of (program_of l.program) l.p ≡ state_of (program_of l.program) l.initial.p;
+}
+
+abbrev pub decreases-loop-next : goal.decreases-loop-next
+decreases-loop-next l = ahead l.program.steps l.p
