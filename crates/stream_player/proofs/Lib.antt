@@ -4,3 +4,5 @@ pub mod Here
 pub mod Ends
 pub mod Steps
 pub mod Within
+pub mod GivenOut
+pub mod Pieced

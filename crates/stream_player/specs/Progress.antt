@@ -1,5 +1,5 @@
 -- What the fields of a player say of where it stands in its play.
-use Rattle.std.specs.Prelude.{◌≡◌, ◌≤◌, ◌<◌, ◌+◌, ◌-◌, ℕ, suc, Bool, true, false, List, [], ◌∷◌, length, take, drop, filter, is_some, option_map, Option, Some, None}
+use Rattle.std.specs.Prelude.{◌≡◌, ◌≤◌, ◌<◌, ◌+◌, ◌-◌, ℕ, suc, Bool, true, false, List, [], ◌∷◌, ◌++◌, length, take, drop, filter, is_some, option_map, Option, Some, None}
 use Rattle.jt_tap.specs.Controller.{is_stable}
 use Rattle.jt_tap.specs.declared.State.{State}
 use Rattle.jt_tap.specs.declared.State.TheVariants.{Reset}
@@ -15,7 +15,7 @@ use Rattle.svf_settings.specs.Steps.{Step, Scan, Numbered, Program}
 use Rattle.tck_cycles.specs.Cycles.{cycles}
 use Rattle.plays.specs.Play.{step_turns, turns, wants_of}
 use Rattle.plays.specs.PlayingOn as playing_on
-use Rattle.plays.specs.Streams.{StreamState}
+use Rattle.plays.specs.Streams.{StreamState, waiting}
 use Rattle.stream_player.specs.declared.progress.Mismatch as declared
 use Rattle.stream_player.specs.declared.progress.Phase.{Phase}
 use Rattle.stream_player.specs.declared.progress.Phase.TheVariants.{Opening, Within, Over}
@@ -127,3 +127,14 @@ IsReady rest p phase = elim phase [
 -- the turns that are left, at most
 abbrev pub ahead : List Numbered → Progress → ℕ
 ahead steps p = elim p.phase [ Opening n ↦ length steps + 2 | Within spot ↦ length steps - p.at + 1 | Over out ↦ 0 ]
+
+-- Bytes were given out to the front of a buffer: the next that wait, as many as were counted; none only where there is no room or
+-- nothing waits.
+pub record Gives (program : Program) (p : Progress) (buffer after : List ℕ) (next : Progress) (count : ℕ) : Type 0 where
+  pub stands : Stands program.steps next
+  pub good : next.bad ≡ None
+  pub state : state_of program next ≡ record (state_of program p) { given = (state_of program p).given + count }
+  pub some : count ≤ length (waiting 256 (state_of program p))
+  pub room : count ≤ length buffer
+  pub bytes : after ≡ take count (waiting 256 (state_of program p)) ++ drop count buffer
+  pub none : 0 < length buffer → count ≡ 0 → waiting 256 (state_of program p) ≡ []

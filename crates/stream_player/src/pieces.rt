@@ -1,0 +1,74 @@
+//! Giving out the bytes of a play.
+
+ghost use Rattle.std.specs.Prelude.{◌≡◌, ◌<◌, None, drop, length};
+ghost use Rattle.svf_settings.specs.Sizes.{program_of};
+ghost use Rattle.stream_player.specs.Progress.{Gives, IsReady, Stands};
+
+use crate::giving::give;
+use crate::progress::{OPENING, Phase, Progress, settled};
+use bitbang::{Spot, StepBytes};
+use svf_settings::Program;
+
+/// Fills the buffer from its front with bytes that wait. Answers where the player stands then, and how many they are: none only
+/// where none waits or there is no room.
+pub(crate) fn piece(program: &Program, p: Progress, buffer: &mut [u8]) -> (Progress, usize)
+    requires stands { Stands program.now.steps p }
+    requires good { p.bad ≡ None }
+    ensures { Gives (program_of program.now) p buffer.old buffer.new result.0 result.1 }
+{
+    let p = settled(program, p);
+    match p.phase {
+        Phase::Opening(n) => opening_piece(program, p, n, buffer),
+        Phase::Within(spot) => step_piece(program, p, spot, buffer),
+        Phase::Over(out) => quit_piece(program, p, out, buffer),
+    }
+}
+
+/// The next byte of the opening.
+fn opening_piece(program: &Program, p: Progress, n: usize, buffer: &mut [u8]) -> (Progress, usize)
+    requires stands { Stands program.now.steps p }
+    requires is { p.phase ≡ Phase.Opening n }
+    requires left { n < 12 }
+    ensures { Gives (program_of program.now) p buffer.old buffer.new result.0 result.1 }
+{
+    let _ = program;
+    if buffer.is_empty() {
+        return (p, 0);
+    }
+    buffer[0] = OPENING[n];
+    let phase = Phase::Opening(n + 1);
+    (Progress { phase, ..p }, 1)
+}
+
+/// The next bytes of a step.
+fn step_piece(program: &Program, p: Progress, spot: Spot, buffer: &mut [u8]) -> (Progress, usize)
+    requires stands { Stands program.now.steps p }
+    requires is { p.phase ≡ Phase.Within spot }
+    requires ready { IsReady (drop p.at program.now.steps) p (Phase.Within spot) }
+    requires good { p.bad ≡ None }
+    ensures { Gives (program_of program.now) p buffer.old buffer.new result.0 result.1 }
+{
+    let step = program.step(p.at);
+    let mut bytes = StepBytes::resume(p.place, &step, spot);
+    let (count, owed) = give(&mut bytes, p.owed, buffer);
+    let phase = Phase::Within(bytes.spot());
+    (Progress { phase, owed, ..p }, count)
+}
+
+/// `Q`, unless it is out.
+fn quit_piece(program: &Program, p: Progress, out: bool, buffer: &mut [u8]) -> (Progress, usize)
+    requires stands { Stands program.now.steps p }
+    requires is { p.phase ≡ Phase.Over out }
+    ensures { Gives (program_of program.now) p buffer.old buffer.new result.0 result.1 }
+{
+    let _ = program;
+    if out {
+        return (p, 0);
+    }
+    if buffer.is_empty() {
+        return (p, 0);
+    }
+    buffer[0] = b'Q';
+    let phase = Phase::Over(true);
+    (Progress { phase, ..p }, 1)
+}
