@@ -76,7 +76,7 @@ impl<'a> Judge<'a> {
 }
 
 /// The first bit from this place on that is wanted.
-fn next_wanted(vector: &Vector, from: usize) -> Option<usize>
+pub fn next_wanted(vector: &Vector, from: usize) -> Option<usize>
     ensures next { MatchOption result (wanted (drop from (bits vector.now)) ≡ [])
         (λ i. (i < length (bits vector.now)) × (v : VectorBit) × (slice_get (bits vector.now) i ≡ Some v)
         × (wanted (drop from (bits vector.now)) ≡ v ∷ wanted (drop (i + 1) (bits vector.now)))) }
@@ -91,7 +91,7 @@ fn next_wanted(vector: &Vector, from: usize) -> Option<usize>
 }
 
 /// The part of a bit, and its place there, if what came out of it is not what is wanted.
-fn difference(vector: &Vector, i: usize, out: bool) -> Option<(Part, usize)>
+pub fn difference(vector: &Vector, i: usize, out: bool) -> Option<(Part, usize)>
     requires { i < length (bits vector.now) }
     ensures { (v : VectorBit) → slice_get (bits vector.now) i ≡ Some v
         → result ≡ (if differs v.wanted out then Some (v.part, v.place) else None) }

@@ -10,6 +10,7 @@ mod playing;
 mod stepping;
 
 pub use accepting::accept;
+pub use judging::{difference, next_wanted};
 pub use noted::play_program_noted;
 pub use playing::play_program;
 

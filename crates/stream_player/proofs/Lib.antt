@@ -6,3 +6,4 @@ pub mod Steps
 pub mod Within
 pub mod GivenOut
 pub mod Pieced
+pub mod Filled

@@ -2,7 +2,10 @@
 #![tactic(auto)]
 
 mod giving;
+// mod hearing;
 mod pieces;
+// mod player;
 mod progress;
 
+// pub use player::Player;
 pub use progress::Mismatch;

@@ -1,8 +1,9 @@
 //! Giving out the bytes of a play.
 
-ghost use Rattle.std.specs.Prelude.{◌≡◌, ◌<◌, None, drop, length};
+ghost use Rattle.std.specs.Prelude.{◌≡◌, ◌<◌, ◌+◌, ◌++◌, None, drop, length, min, take};
 ghost use Rattle.svf_settings.specs.Sizes.{program_of};
-ghost use Rattle.stream_player.specs.Progress.{Gives, IsReady, Stands};
+ghost use Rattle.stream_player.specs.Progress.{Gives, IsReady, Stands, state_of};
+ghost use Rattle.plays.specs.Streams.{waiting};
 
 use crate::giving::give;
 use crate::progress::{OPENING, Phase, Progress, settled};
@@ -22,6 +23,29 @@ pub(crate) fn piece(program: &Program, p: Progress, buffer: &mut [u8]) -> (Progr
         Phase::Within(spot) => step_piece(program, p, spot, buffer),
         Phase::Over(out) => quit_piece(program, p, out, buffer),
     }
+}
+
+/// Fills the buffer with the bytes that wait, as many as fit. Answers where the player stands then, and how many they are.
+pub(crate) fn fill(program: &Program, p: Progress, buffer: &mut [u8]) -> (Progress, usize)
+    requires stands { Stands program.now.steps p }
+    requires good { p.bad ≡ None }
+    ensures stands { Stands program.now.steps result.0 }
+    ensures state { state_of (program_of program.now) result.0
+        ≡ record (state_of (program_of program.now) p) { given = (state_of (program_of program.now) p).given + result.1 } }
+    ensures count { result.1 ≡ min (length buffer.old) (length (waiting 256 (state_of (program_of program.now) p))) }
+    ensures bytes { buffer.new ≡ take result.1 (waiting 256 (state_of (program_of program.now) p)) ++ drop result.1 buffer.old }
+{
+    let mut p = p;
+    let mut count = 0;
+    while count < buffer.len() {
+        let (next, more) = piece(program, p, &mut buffer[count..]);
+        p = next;
+        if more == 0 {
+            return (p, count);
+        }
+        count += more;
+    }
+    (p, count)
 }
 
 /// The next byte of the opening.
