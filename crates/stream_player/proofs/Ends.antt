@@ -18,7 +18,7 @@ use Rattle.plays.specs.Streams as stream
 use Rattle.plays.specs.Streams.{Found, StreamState, Wanted, command_at, hear, judged, noted, wanted, works}
 use Rattle.plays.proofs.Asks.{asks}
 use Rattle.every_schedule.proofs.Quits.{has_quit, quit-append}
-use Rattle.stream_player.specs.Standing.{Standing, found, messages_in, state_at, wanted_in}
+use Rattle.stream_player.specs.Standing.{Standing, differing_bit, first_of, found, messages_in, state_at, wanted_in}
 use Rattle.stream_player.proofs.Ahead.{ahead, is-out, owes, sends-last, stops_at, waits}
 use Rattle.stream_player.proofs.Here.{IsIn, fits, no-quit, reached}
 
@@ -44,26 +44,17 @@ next-wanted t zero vs more w ws e = ap (λ l. map (of-turn t) l ++ more) e
 next-wanted t (suc n) [] more w ws e = absurd (cc)
 next-wanted t (suc n) (v ∷ vs) more w ws e = next-wanted t n vs more w ws e
 
--- what differs of an answer to a wanted bit
-abbrev pub differing-bit : ℕ → VectorBit → Bool → Option Mismatch
-differing-bit command w bit = if differs w.wanted bit then Some (record { command = command; part = w.part; place = w.place }) else None
-
 abbrev listed : Option Mismatch → List Mismatch
 listed None = []
 listed (Some m) = m ∷ []
 
--- the first that differs is kept
-abbrev pub first-of : Option Mismatch → Option Mismatch → Option Mismatch
-first-of None later = later
-first-of (Some m) later = Some m
-
-noted-first : (had more : Option Mismatch) → noted Stops (listed more) (found had) ≡ found (first-of had more)
+noted-first : (had more : Option Mismatch) → noted Stops (listed more) (found had) ≡ found (first_of had more)
 noted-first None None = refl
 noted-first None (Some m) = refl
 noted-first (Some m) None = refl
 noted-first (Some m) (Some n) = refl
 
-judged-one : (t : Turn) (w : VectorBit) (rest : List Wanted) (bit : Bool) → judged (of-turn t w ∷ rest) bit ≡ listed (differing-bit t.command w bit)
+judged-one : (t : Turn) (w : VectorBit) (rest : List Wanted) (bit : Bool) → judged (of-turn t w ∷ rest) bit ≡ listed (differing_bit t.command w bit)
 judged-one t w rest bit = by (differs w.wanted bit)
   where
     by : (b : Bool) → (if b then record { command = t.command; part = w.part; place = w.place } ∷ [] else [])
@@ -75,18 +66,18 @@ module _ (program : Program) (s : Standing) (t : Turn) (later : List Turn) (here
   -- An answer is heard: it is judged by the next wanted bit.
   pub hears : (byte : ℕ) (w : VectorBit) (ws : List VectorBit) → s.bad ≡ None → is_bad byte ≡ false → drop s.heard t.wants ≡ w ∷ ws
       → hear byte (state_at program s)
-      ≡ state_at program (record s { heard = s.heard + 1; failed = first-of s.failed (differing-bit t.command w (byte == 49)) })
+      ≡ state_at program (record s { heard = s.heard + 1; failed = first_of s.failed (differing_bit t.command w (byte == 49)) })
   hears byte w ws none good next =
       let now = state_at program s in
       let left : drop now.answered (wanted (turns program.steps)) ≡ of-turn t w ∷ (map (of-turn t) ws ++ wanted later) =
       wanted-past s.over (turns program.steps) s.heard ∙ ap (λ (l : List Turn). drop s.heard (wanted l)) here
       ∙ next-wanted t s.heard t.wants (wanted later) w ws next in
-      let judge : judged (drop now.answered (wanted (turns program.steps))) (byte == 49) ≡ listed (differing-bit t.command w (byte == 49)) =
+      let judge : judged (drop now.answered (wanted (turns program.steps))) (byte == 49) ≡ listed (differing_bit t.command w (byte == 49)) =
       ap (λ (l : List Wanted). judged l (byte == 49)) left ∙ judged-one t w (map (of-turn t) ws ++ wanted later) (byte == 49) in
       let count : now.answered + 1 ≡ wanted_in (take s.over (turns program.steps)) + (s.heard + 1) = omega arith in
       (λ k. if is_some (none k) then now else if good k then record now { bad = Some byte } else
           record now { answered = count k; found = (ap (λ (m : List Mismatch). noted Stops m (found s.failed)) judge
-          ∙ noted-first s.failed (differing-bit t.command w (byte == 49))) k })
+          ∙ noted-first s.failed (differing_bit t.command w (byte == 49))) k })
 
   -- a byte that is no answer ends the play
   pub hears-bad : (byte : ℕ) → s.bad ≡ None → is_bad byte ≡ true → hear byte (state_at program s) ≡ state_at program (record s { bad = Some byte })

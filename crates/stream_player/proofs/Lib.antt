@@ -7,3 +7,4 @@ pub mod Within
 pub mod GivenOut
 pub mod Pieced
 pub mod Filled
+pub mod Heard

@@ -115,16 +115,16 @@ gives-one program p next (x ∷ xs) after b more stands good state waits room is
 
 -- the opening
 module _ (program : Program) (p : Progress) (n : ℕ) (is : p.phase ≡ Opening n) (stands : Stands program.steps p) where
-  abbrev start : Standing
+  abbrev pub start : Standing
   start = record { over = 0; gone = n; heard = 0; failed = None; bad = None }
 
-  abbrev first : Turn
+  abbrev pub first : Turn
   first = record { command = 0; messages = opening; wants = [] }
 
   nothing-asked : asks (take n opening) ≡ 0
   nothing-asked = omega (arith, asks-split n opening)
 
-  opened : IsIn program start first (step_turns Reset program.steps) 0
+  pub opened : IsIn program start first (step_turns Reset program.steps) 0
   opened = record {
     here = refl;
     within = (in-opening program p n is stands).some;
@@ -257,7 +257,7 @@ module _ (program : Program) (p : Progress) (spot : Spot) (is : p.phase ≡ With
           none = λ room zero-count. nothing w (omega (arith, counted, zero-count, room)) ready;
         }
 
-none-of : (failed : Option declared.Mismatch) → is_some failed ≡ false → failed ≡ None
+pub none-of : (failed : Option declared.Mismatch) → is_some failed ≡ false → failed ≡ None
 none-of None e = refl
 none-of (Some m) e = absurd (cc)
 
@@ -275,7 +275,7 @@ module _ (program : Program) (p : Progress) (out : Bool) (is : p.phase ≡ Over 
   pub turns-end : drop (over p) (turns program.steps) ≡ step_turns p.place (drop p.at program.steps)
   turns-end = ap (λ (n : ℕ). drop n (turns program.steps)) over-end ∙ stands.rests.turns_are
 
-  stops-is : (b : Bool) → is_some p.failed ≡ b → stops_at (standing program.steps p) ≡ b
+  pub stops-is : (b : Bool) → is_some p.failed ≡ b → stops_at (standing program.steps p) ≡ b
   stops-is b e = by p.failed b e
     where
       by : (failed : Option declared.Mismatch) (b : Bool) → is_some failed ≡ b → some_differ (found (option_map mismatch failed)).list ≡ b
@@ -331,9 +331,9 @@ drop-index zero (x ∷ l) less = refl
 drop-index (suc n) (x ∷ l) less = drop-index n l (omega (arith, less))
 
 -- what is said of where it stands is said of where it goes on
-pub gives-same : (program : Program) (p q : Progress) (buffer after : List ℕ) (next : Progress) (count : ℕ) → state_of program q ≡ state_of program p
-    → Gives program q buffer after next count → Gives program p buffer after next count
-gives-same program p q buffer after next count same g = record {
+pub gives-same : (program : Program) (p q : Progress) (buffer after : List ℕ) (now : Progress) (count : ℕ) → state_of program q ≡ state_of program p
+    → Gives program q buffer after now count → Gives program p buffer after now count
+gives-same program p q buffer after now count same g = record {
   stands = g.stands;
   good = g.good;
   state = g.state ∙ ap (λ (s : StreamState). record s { given = s.given + count }) same;

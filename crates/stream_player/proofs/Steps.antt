@@ -65,7 +65,7 @@ next-rests steps at place r s e =
 abbrev pub start : Spot → ℕ → State → Progress
 start spot at place = record { phase = Within spot; at = at; place = place; heard = 0; owed = 0; judged = 0; failed = None; bad = None }
 
-wants-of-vector : (s : Step) → filter (λ v. is_some v.wanted) (vector_bits s) ≡ wants_of s
+pub wants-of-vector : (s : Step) → filter (λ v. is_some v.wanted) (vector_bits s) ≡ wants_of s
 wants-of-vector (Scan column v end) = refl
 wants-of-vector (Go s) = refl
 wants-of-vector (Path path) = refl

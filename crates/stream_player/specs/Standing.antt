@@ -1,6 +1,7 @@
 -- Where a player that stops at the first failing step stands in its play.
-use Rattle.std.specs.Prelude.{ℕ, zero, suc, ◌+◌, ◌==◌, List, [], ◌∷◌, ◌++◌, length, take, Option, Some, None, if◌then◌else◌}
+use Rattle.std.specs.Prelude.{ℕ, Bool, zero, suc, ◌+◌, ◌==◌, List, [], ◌∷◌, ◌++◌, length, take, Option, Some, None, if◌then◌else◌}
 use Rattle.bitbang_table.specs.declared.Message.{Message}
+use Rattle.scan_vectors.specs.Vector.{VectorBit, differs}
 use Rattle.svf_settings.specs.Steps.{Program}
 use Rattle.plays.specs.Play.{Turn, turns}
 use Rattle.plays.specs.PlayingOn.{Mismatch, Stops}
@@ -51,3 +52,12 @@ up_to_reads (b ∷ bytes) n =
 abbrev pub reads : List ℕ → ℕ
 reads [] = 0
 reads (b ∷ bytes) = if b == 82 then suc (reads bytes) else reads bytes
+
+-- what differs of an answer to a wanted bit of a command
+abbrev pub differing_bit : ℕ → VectorBit → Bool → Option Mismatch
+differing_bit command w bit = if differs w.wanted bit then Some (record { command = command; part = w.part; place = w.place }) else None
+
+-- the first that differs is kept
+abbrev pub first_of : Option Mismatch → Option Mismatch → Option Mismatch
+first_of None later = later
+first_of (Some m) later = Some m

@@ -2,7 +2,7 @@
 #![tactic(auto)]
 
 mod giving;
-// mod hearing;
+mod hearing;
 mod pieces;
 // mod player;
 mod progress;

@@ -1,0 +1,25 @@
+use Rattle.std.proofs.Common.{◌≡◌, ◌<◌, sym, ap, ◌∙◌, arith}
+use Rattle.scan_vectors.specs.Held.{bits}
+use Rattle.svf_settings.specs.Seen.{numbered}
+use Rattle.svf_settings.specs.Sizes.{program_of}
+use Rattle.stream_player.proofs.Heard.{counts-below, counts-on, counts-same}
+use Rattle.stream_player.proofs.hearing.hear_one.Goals as goal
+
+pub overflow_add-result : goal.overflow_add-result
+overflow_add-result c =
+    let below = counts-below (program_of c.args.program.now) c.args.p c.judged-p.result c.requires.stands c.requires.good c.requires.owed c.args.byte c.in-Some.bit
+    (sym c.read_answer.ensures ∙ c.in-Some.is) (numbered c.args.step.now) c.requires.first (bits c.args.vector.now) c.requires.scans
+    c.judged-p.ensures.kept c.judged-p.ensures.rest c.judged-p.ensures.judged in
+    omega (arith, below, c.len-2.ensures)
+
+pub returns-clause-stands : goal.returns-clause-stands
+returns-clause-stands c =
+    counts-on (program_of c.args.program.now) c.args.p c.judged-p.result c.requires.stands c.requires.good c.requires.owed c.args.byte c.in-Some.bit
+    (sym c.read_answer.ensures ∙ c.in-Some.is) (numbered c.args.step.now) c.requires.first (bits c.args.vector.now) c.requires.scans
+    c.judged-p.ensures.kept c.judged-p.ensures.rest c.judged-p.ensures.judged
+
+pub returns-clause-state : goal.returns-clause-state
+returns-clause-state c =
+    counts-same (program_of c.args.program.now) c.args.p c.judged-p.result c.requires.stands c.requires.good c.requires.owed c.args.byte c.in-Some.bit
+    (sym c.read_answer.ensures ∙ c.in-Some.is) (numbered c.args.step.now) c.requires.first (bits c.args.vector.now) c.requires.scans
+    c.judged-p.ensures.kept c.judged-p.ensures.rest c.judged-p.ensures.judged

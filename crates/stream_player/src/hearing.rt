@@ -1,0 +1,115 @@
+//! Taking the answers.
+
+ghost use Rattle.std.specs.Prelude.{◌≡◌, ◌<◌, ◌+◌, ◌∷◌, false, true, List, [], MatchOption, None, Some, drop, is_some, length, option_map, slice_get};
+ghost use Rattle.scan_vectors.specs.Held.{bits};
+ghost use Rattle.scan_vectors.specs.Vector.{VectorBit};
+ghost use Rattle.direct_play.specs.Judging.{wanted};
+ghost use Rattle.svf_settings.specs.Sizes.{program_of};
+ghost use Rattle.svf_settings.specs.Seen as seen;
+ghost use Rattle.svf_settings.specs.Seen.{numbered};
+ghost use Rattle.plays.specs.Play.{is_bad};
+ghost use Rattle.plays.specs.Streams.{hear_all, taken};
+ghost use Rattle.plays.specs.Streams as stream;
+ghost use Rattle.stream_player.specs.Progress.{Stands, mismatch, state_of, vector_bits};
+ghost use Rattle.stream_player.specs.Standing.{differing_bit};
+
+use crate::progress::{Mismatch, Progress};
+use bitbang::read_answer;
+use direct_play::{difference, next_wanted};
+use scan_vectors::Vector;
+use svf_settings::{Action, Program, Step};
+
+/// Takes as many answers as are owed, up to and with the first that is none. Answers where the player stands then, and how many were
+/// taken.
+pub(crate) fn hear(program: &Program, p: Progress, bytes: &[u8]) -> (Progress, usize)
+    requires { Stands program.now.steps p }
+    ensures stands { Stands program.now.steps result.0 }
+    ensures count { result.1 ≡ length (taken 256 (state_of (program_of program.now) p) bytes.now) }
+    ensures state { state_of (program_of program.now) result.0
+        ≡ hear_all (taken 256 (state_of (program_of program.now) p) bytes.now) (state_of (program_of program.now) p) }
+{
+    if p.bad.is_some() {
+        return (p, 0);
+    }
+    if p.owed == 0 {
+        return (p, 0);
+    }
+    let step = program.step(p.at);
+    let Some(vector) = vector_of(&step.what) else {
+        return (p, 0);
+    };
+    let mut p = p;
+    let mut count = 0;
+    for byte in bytes {
+        if p.bad.is_some() {
+            return (p, count);
+        }
+        if p.owed == 0 {
+            return (p, count);
+        }
+        p = hear_one(program, &step, &vector, p, *byte);
+        count += 1;
+    }
+    (p, count)
+}
+
+/// The vector that a step scans, if it does.
+fn vector_of<'a>(what: &Action<'a>) -> Option<Vector<'a>>
+    ensures { MatchOption result (vector_bits (seen.step what.now) ≡ []) (λ v. vector_bits (seen.step what.now) ≡ bits v) }
+{
+    match what {
+        Action::Scan { vector, .. } => Some(*vector),
+        _ => None,
+    }
+}
+
+/// Takes one answer, of a step that scans this vector.
+fn hear_one(program: &Program, step: &Step<'_>, vector: &Vector<'_>, p: Progress, byte: u8) -> Progress
+    requires stands { Stands program.now.steps p }
+    requires first { slice_get program.now.steps p.at ≡ Some (numbered step.now) }
+    requires scans { vector_bits (seen.step step.now.what) ≡ bits vector.now }
+    requires good { p.bad ≡ None }
+    requires owed { 0 < p.owed }
+    ensures stands { Stands program.now.steps result }
+    ensures state { state_of (program_of program.now) result ≡ stream.hear byte (state_of (program_of program.now) p) }
+    ensures at { result.at ≡ p.at }
+    ensures taken { is_bad byte ≡ false → (result.owed + 1 ≡ p.owed) × (result.bad ≡ None) }
+    ensures bad { is_bad byte ≡ true → result.bad ≡ Some byte }
+{
+    // For the proof alone: what is kept of the program, and how long the vector is.
+    let _ = (program.len(), vector.len());
+    let Some(bit) = read_answer(byte) else {
+        let bad = Some(byte);
+        return Progress { bad, ..p };
+    };
+    let p = judged(step.number, vector, p, bit);
+    Progress {
+        heard: p.heard + 1,
+        owed: p.owed - 1,
+        ..p
+    }
+}
+
+/// Judges one bit by the next wanted one, unless a bit differed before.
+fn judged(command: usize, vector: &Vector<'_>, p: Progress, bit: bool) -> Progress
+    ensures kept { is_some p.failed ≡ true → result ≡ p }
+    ensures rest { result ≡ record p { judged = result.judged; failed = result.failed } }
+    ensures judged { p.failed ≡ None → (w : VectorBit) (ws : List VectorBit) → wanted (drop p.judged (bits vector.now)) ≡ w ∷ ws
+        → (wanted (drop result.judged (bits vector.now)) ≡ ws) × (option_map mismatch result.failed ≡ differing_bit command w bit) }
+{
+    if p.failed.is_some() {
+        return p;
+    }
+    let Some(i) = next_wanted(vector, p.judged) else {
+        return p;
+    };
+    let failed = match difference(vector, i, bit) {
+        Some((part, bit)) => Some(Mismatch { command, part, bit }),
+        None => None,
+    };
+    Progress {
+        judged: i + 1,
+        failed,
+        ..p
+    }
+}
