@@ -29,7 +29,7 @@ ask-of k [] all t rest e = absurd (none k e)
 ask-of zero (x ∷ ts) all t rest e = let same : x ≡ t = cc in subst (λ (y : Turn). asks y.messages ≡ length y.wants) same all.0
 ask-of (suc k) (x ∷ ts) all t rest e = ask-of k ts all.1 t rest e
 
-quit-of : (k : ℕ) (ts : List Turn) → NoneQuit ts → (t : Turn) (rest : List Turn) → drop k ts ≡ t ∷ rest → has_quit t.messages ≡ false
+pub quit-of : (k : ℕ) (ts : List Turn) → NoneQuit ts → (t : Turn) (rest : List Turn) → drop k ts ≡ t ∷ rest → has_quit t.messages ≡ false
 quit-of k [] all t rest e = absurd (none k e)
   where
     none : (k : ℕ) → drop k [] ≡ t ∷ rest → ⊥

@@ -8,3 +8,4 @@ pub mod GivenOut
 pub mod Pieced
 pub mod Filled
 pub mod Heard
+pub mod Ended

@@ -138,3 +138,9 @@ pub record Gives (program : Program) (p : Progress) (buffer after : List ℕ) (n
   pub room : count ≤ length buffer
   pub bytes : after ≡ take count (waiting 256 (state_of program p)) ++ drop count buffer
   pub none : 0 < length buffer → count ≡ 0 → waiting 256 (state_of program p) ≡ []
+
+-- `Q` is out
+abbrev pub is_out : Phase → Bool
+is_out (Opening n) = false
+is_out (Within spot) = false
+is_out (Over out) = out

@@ -4,8 +4,9 @@
 mod giving;
 mod hearing;
 mod pieces;
-// mod player;
+mod player;
 mod progress;
+mod telling;
 
-// pub use player::Player;
+pub use player::Player;
 pub use progress::Mismatch;

@@ -1,0 +1,23 @@
+use Rattle.std.proofs.Common.{◌≡◌, ◌-◌, ◌^◌, ℕ, drop, min, sym, ap, subst, ◌∙◌, arith}
+use Rattle.svf_settings.specs.Seen.{numbered}
+use Rattle.svf_settings.specs.Sizes.{program_of}
+use Rattle.plays.specs.Streams as stream
+use Rattle.stream_player.specs.declared.progress.Phase.{Phase}
+use Rattle.stream_player.specs.Progress.{IsReady}
+use Rattle.stream_player.proofs.Ended.{works-over, works-within}
+use Rattle.stream_player.proofs.telling.working.Goals as goal
+
+pub returns-in-Within : goal.returns-in-Within
+returns-in-Within c =
+    let program = program_of c.args.program.now in
+    let p = c.settled-p.result in
+    let number = works-within program p c.in-Within.field-0 c.in-Within.is c.settled-p.ensures.stands (numbered c.step.result) c.step.ensures
+    (subst (IsReady (drop p.at program.steps) p) c.in-Within.is c.settled-p.ensures.ready) in
+    omega (arith, number, ap stream.working c.settled-p.ensures.same, c.step.type_inv)
+
+pub returns-in-Over : goal.returns-in-Over
+returns-in-Over c =
+    let program = program_of c.args.program.now in
+    let p = c.settled-p.result in
+    let all = works-over program p c.in-Over.field-0 c.in-Over.is c.settled-p.ensures.stands in
+    omega (arith, all, ap stream.working c.settled-p.ensures.same, c.statements.ensures, c.saturating_add.ensures)

@@ -1,0 +1,110 @@
+//! The player of a program.
+
+ghost use Rattle.std.specs.Prelude.{◌≡◌, ◌+◌, ◌-◌, ◌^◌, ◌↔◌, ◌++◌, IsTrue, MatchResult, length, min, take, drop};
+ghost use Rattle.svf_settings.specs.Sizes.{program_of};
+ghost use Rattle.plays.specs.PlayingOn.{Stops};
+ghost use Rattle.plays.specs.Streams as stream;
+ghost use Rattle.plays.specs.Streams.{fresh, hear_all, taken, waiting};
+
+use crate::hearing::hear;
+use crate::pieces::fill;
+use crate::progress::{Phase, Progress};
+use crate::telling;
+use plays::Ending;
+use std::alloc::Global;
+use std::marker::Model;
+use svf_settings::Program;
+
+/// The player of one program: a pure machine that gives out the bytes of the play and takes the answers to them. It judges each
+/// answer as it comes and keeps none; up to 256 may be owed within one step.
+///
+/// Contracts see it as the program, how many bytes were given out, how many answers were taken, the first wanted bit that
+/// differed, and the byte that was no answer, if one came (`StreamState`); these determine what it may send next, how many answers
+/// are owed, and how the play has ended. No call takes memory.
+#[derive(Debug, Drop)]
+pub struct Player {
+    program: Program,
+    progress: Progress,
+}
+
+impl Model for Player {
+    ghost use Rattle.plays.specs.Streams.{StreamState};
+
+    ghost Value = { StreamState };
+
+    ghost use Rattle.svf_settings.specs.Sizes.{program_of};
+    ghost use Rattle.stream_player.specs.Progress.{Stands, state_of};
+
+    ghost view = { λ p. state_of (program_of p.program) p.progress };
+
+    ghost invariant = { λ p. Stands p.program.steps p.progress };
+}
+
+impl Player {
+    /// A fresh player of a program. It takes no memory, and always answers `Ok`.
+    pub fn new(_alloc: Global, program: Program) -> Result<Player, Program>
+        ensures { MatchResult result (λ player. player ≡ fresh Stops (program_of program)) (λ back. back ≡ program) }
+    {
+        // For the proof alone: what the program's type keeps of its steps.
+        let _ = program.len();
+        Ok(Player {
+            program,
+            progress: Progress::opening(),
+        })
+    }
+
+    /// Fills the buffer with the next bytes that may be sent: as many as fit and as the owed answers allow. Answers how
+    /// many they are.
+    pub fn next_bytes(&mut self, buffer: &mut [u8]) -> usize
+        ensures count { result ≡ min (length buffer.old) (length (waiting 256 self.old)) }
+        ensures bytes { buffer.new ≡ take result (waiting 256 self.old) ++ drop result buffer.old }
+        ensures player { self.new ≡ record self.old { given = self.old.given + result } }
+    {
+        if self.progress.bad.is_some() {
+            return 0;
+        }
+        let (progress, count) = fill(&self.program, self.progress, buffer);
+        self.progress = progress;
+        count
+    }
+
+    /// Takes answers, the bytes that came back for the `R`s that were given out: as many as are owed, up to and with the
+    /// first that is neither `0` nor `1`, which ends the play. Answers how many were taken.
+    pub fn answers(&mut self, bytes: &[u8]) -> usize
+        ensures count { result ≡ length (taken 256 self.old bytes.now) }
+        ensures player { self.new ≡ hear_all (taken 256 self.old bytes.now) self.old }
+    {
+        let (progress, count) = hear(&self.program, self.progress, bytes);
+        self.progress = progress;
+        count
+    }
+
+    /// How the play ended: set once `Q` was given out, or after a bad answer.
+    pub fn ended(&self) -> Option<Ending>
+        ensures { result ≡ stream.ended 256 self.now }
+    {
+        telling::ended(&self.program, self.progress)
+    }
+
+    /// The command in work: 0 during the opening, then the statement of the first step not yet sent and answered, and afterwards the
+    /// count of statements plus 1 (or the largest number, where that is more). A step that sends nothing is never in work.
+    pub fn working(&self) -> usize
+        ensures { result ≡ min (stream.working self.now) (2 ^ 64 - 1) }
+    {
+        telling::working(&self.program, self.progress)
+    }
+
+    /// Whether no byte was given out and no answer taken yet.
+    pub fn is_fresh(&self) -> bool
+        ensures { IsTrue result ↔ (self.now ≡ fresh Stops self.now.program) }
+    {
+        matches!(self.progress.phase, Phase::Opening(0))
+    }
+
+    /// The program that is played.
+    pub fn program(&self) -> &Program
+        ensures { program_of result.now ≡ self.now.program }
+    {
+        &self.program
+    }
+}

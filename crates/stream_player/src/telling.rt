@@ -1,0 +1,62 @@
+//! What a player tells: its ending, and the command in work.
+
+ghost use Rattle.std.specs.Prelude.{◌≡◌, ◌-◌, ◌^◌, min, option_map};
+ghost use Rattle.svf_settings.specs.Sizes.{program_of};
+ghost use Rattle.plays.specs.PlayingOn.{ending_of};
+ghost use Rattle.plays.specs.Streams as stream;
+ghost use Rattle.stream_player.specs.Progress.{Stands, is_out, mismatch, state_of};
+ghost use Rattle.stream_player.specs.Standing.{found};
+
+use crate::progress::{Mismatch, Phase, Progress, settled};
+use plays::Ending;
+use svf_settings::Program;
+
+/// How the play ended, if it did.
+pub(crate) fn ended(program: &Program, p: Progress) -> Option<Ending>
+    requires { Stands program.now.steps p }
+    ensures { result ≡ stream.ended 256 (state_of (program_of program.now) p) }
+{
+    if let Some(byte) = p.bad {
+        let command = program.step(p.at).number;
+        return Some(Ending::BadAnswer { command, byte });
+    }
+    if quit_is_out(p) {
+        Some(verdict(p.failed))
+    } else {
+        None
+    }
+}
+
+/// Whether `Q` is out.
+fn quit_is_out(p: Progress) -> bool
+    ensures { result ≡ is_out p.phase }
+{
+    match p.phase {
+        Phase::Opening(_) => false,
+        Phase::Within(_) => false,
+        Phase::Over(out) => out,
+    }
+}
+
+/// The verdict of a play of which `Q` is out.
+fn verdict(failed: Option<Mismatch>) -> Ending
+    ensures { result ≡ ending_of (found (option_map mismatch failed)).list }
+{
+    match failed {
+        Some(Mismatch { command, part, bit }) => Ending::Fail { command, part, bit },
+        None => Ending::Pass,
+    }
+}
+
+/// The command in work, or the largest number where it is more.
+pub(crate) fn working(program: &Program, p: Progress) -> usize
+    requires { Stands program.now.steps p }
+    ensures { result ≡ min (stream.working (state_of (program_of program.now) p)) (2 ^ 64 - 1) }
+{
+    let p = settled(program, p);
+    match p.phase {
+        Phase::Opening(_) => 0,
+        Phase::Within(_) => program.step(p.at).number,
+        Phase::Over(_) => program.statements().saturating_add(1),
+    }
+}
