@@ -1,4 +1,4 @@
-use crate::{Board, run_check, run_play};
+use crate::{Board, Ending, Player, accept, play_board, run_check, run_play};
 use byte_ends::{Counted, Plain};
 use std::alloc::Global;
 use std::process::Abort;
@@ -150,5 +150,19 @@ fn a_full_output(rt: HostRuntime) -> Result<(), Fail> {
     );
     assert_eq!(rt; out.failures(), 1);
     assert_eq!(rt; err.failures(), 0);
+    Ok(())
+}
+
+#[test]
+fn a_play_on_a_used_board(rt: HostRuntime) -> Result<(), Fail> {
+    let mut board = Board::bare(rt.alloc(), 3)?;
+    for byte in b"04260404151" {
+        let _ = board.byte(*byte);
+    }
+    let program = accept(rt.alloc(), b"SIR 6 TDI (3F) TDO (15); STATE DRPAUSE;").ok().ok_or("refused")?;
+    let player = Player::new(rt.alloc(), program).ok().ok_or("no memory")?;
+    assert!(rt; player.is_fresh());
+    assert_eq!(rt; play_board(player, &mut board), Ending::Pass);
+    assert!(rt; !board.snapshot().tck());
     Ok(())
 }

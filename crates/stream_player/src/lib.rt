@@ -10,3 +10,6 @@ mod telling;
 
 pub use player::Player;
 pub use progress::Mismatch;
+
+#[cfg(test)]
+mod tests;
