@@ -3,6 +3,7 @@
 
 mod bits;
 mod chips;
+mod programs;
 mod scans;
 
 use std::alloc::AllocError;
@@ -23,14 +24,15 @@ pub struct Row {
 }
 
 fn main(rt: HostRuntime) -> ExitCode {
-    let asked = match env::args(&rt) {
-        Ok(words) => words.count() > 1,
+    let mut words = match env::args(&rt) {
+        Ok(words) => words,
         Err(_) => return ExitCode::FAILURE,
     };
-    let told = if asked {
-        measure(&rt)
-    } else {
-        rt.println("usage: bench run")
+    let _program = words.next();
+    let told = match words.next() {
+        Some(word) if word.as_str() == "run" => measure(&rt),
+        Some(word) if word.as_str() == "accept" => programs::accept(&rt),
+        _ => rt.println("usage: bench run | bench accept <text"),
     };
     if told.is_ok() {
         ExitCode::SUCCESS
