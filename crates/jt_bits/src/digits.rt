@@ -166,7 +166,7 @@ fn bad_place(digits: &[u8]) -> Option<usize>
 {
     digits
         .iter()
-        .position(|byte| !(is_white(*byte) || byte.is_ascii_hexdigit()))
+        .position(|byte| !(byte.is_ascii_hexdigit() || is_white(*byte)))
 }
 
 fn is_white(byte: u8) -> bool
