@@ -66,7 +66,8 @@ fn measure(rt: &HostRuntime) -> io::Result<()> {
     chips::rows(rt)
 }
 
-/// Prints a row's name and unit, which C's row has too, its least time of a round in nanoseconds, its count and its check.
+/// Prints a row's name and unit, which C's row has too, its least time of a round in nanoseconds, its count and its
+/// check.
 pub fn print_row<F: FnMut() -> Result<Row, AllocError>>(
     rt: &HostRuntime,
     name: &str,

@@ -7,8 +7,8 @@ use svf_settings::resolve;
 /// A text has at most 16 MiB.
 const MOST_BYTES: u64 = 16 * 1024 * 1024 + 1;
 
-/// Reads a text from standard input, and tells how many statements and steps it has, and the milliseconds that `parse` and
-/// `resolve` took.
+/// Reads a text from standard input, and tells how many statements and steps it has, and the milliseconds that `parse`
+/// and `resolve` took.
 pub fn accept(rt: &HostRuntime) -> io::Result<()> {
     let mut text = Vec::new(rt.alloc());
     rt.reader().take(MOST_BYTES).read_to_end(&mut text)?;
@@ -25,5 +25,7 @@ pub fn accept(rt: &HostRuntime) -> io::Result<()> {
     };
     let resolved = start.elapsed(rt)?.as_millis();
     let (statements, steps) = (program.statements(), program.len());
-    rt.println(format_args!("{statements} statements {steps} steps parse {parsed} ms resolve {resolved} ms"))
+    rt.println(format_args!(
+        "{statements} statements {steps} steps parse {parsed} ms resolve {resolved} ms"
+    ))
 }
