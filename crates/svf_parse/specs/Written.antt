@@ -1,5 +1,5 @@
--- How a number is written (Serial Vector Format, revision E): digits with at most one point among, before or behind them,
--- and then, if wanted, an `E`, a sign if wanted, and digits.
+-- How a number is written (Serial Vector Format, revision E): digits with at most one point among, before or behind
+-- them, and then, if wanted, an `E`, a sign if wanted, and digits.
 use Rattle.std.specs.Prelude.{◌≡◌, ◌↔◌, ℕ, ◌+◌, ◌<◌, Bool, true, false, List, [], ◌∷◌, ◌++◌, length, Some}
 use Rattle.std.specs.List.{list_all}
 use Rattle.std.specs.Char.{is_ascii_digit}
@@ -29,11 +29,11 @@ pub data WritesSign : (negative : Bool) → (text : List ℕ) → Type 0 where
 -- The exponent, which may be left out; where it is written, it has at least one digit.
 pub data WritesExponent : (negative : Bool) → (digits text : List ℕ) → Type 0 where
   no_exponent : WritesExponent false [] []
-  exponent : (mark : ℕ) (negative : Bool) (sign ds : List ℕ) → IsMark mark → WritesSign negative sign → AreDigits ds → 0 < length ds
-      → WritesExponent negative ds (mark ∷ sign ++ ds)
+  exponent : (mark : ℕ) (negative : Bool) (sign ds : List ℕ) → IsMark mark → WritesSign negative sign
+      → AreDigits ds → 0 < length ds → WritesExponent negative ds (mark ∷ sign ++ ds)
 
--- A word writes a number: its digits before the point, and how the two other parts are written. Before the exponent there is
--- a digit.
+-- A word writes a number: its digits before the point, and how the two other parts are written. Before the exponent
+-- there is a digit.
 pub record Writes (n : Numeral) (w : Word) : Type 0 where
   pub fraction : List ℕ
   pub exponent : List ℕ
