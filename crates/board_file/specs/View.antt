@@ -1,0 +1,112 @@
+-- What the code's values stand for.
+use Rattle.std.specs.Prelude.{◌≡◌, ℕ, List, map, string_bytes, Option, Some, None, Result, Ok, Err}
+use Rattle.std.specs.List.{AllZip}
+use Rattle.std.specs.Prelude.{Vec, String}
+use Rattle.std.specs.declared.alloc.Global.{Global}
+use Rattle.std.specs.BTreeMap.{BTreeMap}
+use denote.Ref.{Bor}
+use Rattle.toml.specs.View.{table_view}
+use Rattle.toml.specs.declared.value.Value.{Value}
+use Rattle.bsdl_device.specs.Device as described
+use Rattle.board_tables.specs.declared.fields.Unfit.{Unfit}
+use Rattle.board_tables.specs.declared.fields.Unfit.TheVariants.{Field, Memory}
+use Rattle.board_file.specs.declared.fault.BoardFault.{BoardFault}
+use Rattle.board_file.specs.declared.fault.BoardFault.TheVariants as fault
+use Rattle.board_file.specs.declared.library.Unread.{Unread}
+use Rattle.board_file.specs.declared.library.Unread.TheVariants as unread
+use Rattle.board_file.specs.declared.library.Reading.{Reading}
+use Rattle.board_file.specs.declared.library.Reading.TheVariants as reading
+use Rattle.board_file.specs.declared.plan.Plan.{Plan}
+use Rattle.board_file.specs.declared.plan.PlannedDevice.{PlannedDevice}
+use Rattle.board_file.specs.declared.plan.PlannedNet.{PlannedNet}
+use Rattle.board_file.specs.Files.{Reads, IsBadToml, File, text_of}
+use Rattle.board_file.specs.Wiring.{Member, Net, Wiring, Fault, BadField, UnknownFile, Bsdl, UnknownPin, PinTwice, TooLarge}
+
+-- the files handed in
+abbrev pub file_of : Bor (List ℕ) × Bor (List ℕ) → File
+file_of f = (f.0.now, f.1.now)
+
+abbrev pub files_of : List (Bor (List ℕ) × Bor (List ℕ)) → List File
+files_of fs = map file_of fs
+
+-- ---- the board file's text
+
+-- what reading a text as TOML gives
+abbrev pub ReadsToml : {F : Type 0} → List ℕ → Result (BTreeMap (String Global) Value) (BoardFault F) → Type 0
+ReadsToml text (Ok t) = Reads text (table_view t)
+ReadsToml text (Err fault.BadToml) = IsBadToml text
+ReadsToml text (Err fault.NoMemory) = Unit {0}
+ReadsToml text (Err _) = ⊥
+
+-- The names where no key is at fault, and else the key that is, unless memory runs out.
+abbrev pub TellsNames : {F : Type 0} → Result (Vec (String Global) Global) (BoardFault F) → Result (List (List ℕ)) (List ℕ) → Type 0
+TellsNames (Ok v) said = said ≡ Ok (map string_bytes v.items)
+TellsNames (Err (fault.BadField k)) said = said ≡ Err (string_bytes k)
+TellsNames (Err fault.NoMemory) said = Unit {0}
+TellsNames (Err _) said = ⊥
+
+-- the text is refused as no TOML, unless memory runs out
+abbrev pub TellsBadToml : {A F : Type 0} → Result A (BoardFault F) → Type 0
+TellsBadToml (Err fault.BadToml) = Unit {0}
+TellsBadToml (Err fault.NoMemory) = Unit {0}
+TellsBadToml _ = ⊥
+
+-- a key at fault as a caller sees it
+abbrev pub IsTold : {F : Type 0} → Unfit → BoardFault F → Type 0
+IsTold (Field k) (fault.BadField s) = string_bytes s ≡ k.now
+IsTold (Field k) fault.NoMemory = Unit {0}
+IsTold Memory fault.NoMemory = Unit {0}
+IsTold _ _ = ⊥
+
+-- ---- descriptions: `says` is the device that a text describes, and `refuses` why a text is refused
+
+-- what reading a description gives
+abbrev pub Describes : {F : Type 0} → (List ℕ → Option described.Device) → (List ℕ → F → Type 0) → List ℕ → Result described.Device (Unread F) → Type 0
+Describes says refuses text (Ok d) = says text ≡ Some d
+Describes says refuses text (Err (unread.Refused f)) = (says text ≡ None) × refuses text f
+Describes says refuses text (Err unread.Memory) = Unit {0}
+
+-- what stands in a text
+abbrev pub IsRead : {F : Type 0} → (List ℕ → Option described.Device) → (List ℕ → F → Type 0) → List ℕ → Reading F → Type 0
+IsRead says refuses text reading.Missing = ⊥
+IsRead says refuses text (reading.Refused f) = (says text ≡ None) × refuses text f
+IsRead says refuses text (reading.Described d) = says text ≡ Some d
+
+-- what stands in the file of a name
+abbrev pub IsReading : {F : Type 0} → (List ℕ → Option described.Device) → (List ℕ → F → Type 0) → List File → List ℕ → Reading F → Type 0
+IsReading says refuses files name reading.Missing = text_of files name ≡ None
+IsReading says refuses files name r = (text : List ℕ) × (text_of files name ≡ Some text) × IsRead says refuses text r
+
+-- ---- refusals and boards
+
+-- the fault that a refusal names, unless memory runs out
+abbrev pub TellsFault : {F : Type 0} → (List ℕ → F → Type 0) → BoardFault F → Option Fault → Type 0
+TellsFault refuses (fault.BadField k) o = o ≡ Some (BadField (string_bytes k))
+TellsFault refuses (fault.UnknownFile s) o = o ≡ Some (UnknownFile (string_bytes s))
+TellsFault refuses (fault.Bsdl f) o = (text : List ℕ) × (o ≡ Some (Bsdl text)) × refuses text f
+TellsFault refuses (fault.UnknownPin s) o = o ≡ Some (UnknownPin (string_bytes s))
+TellsFault refuses (fault.PinTwice s) o = o ≡ Some (PinTwice (string_bytes s))
+TellsFault refuses fault.TooLarge o = o ≡ Some TooLarge
+TellsFault refuses fault.NoMemory o = Unit {0}
+TellsFault refuses fault.BadToml o = ⊥
+
+-- A judgement passes where there is no fault, and else names it.
+abbrev pub Judges : {A F : Type 0} → (List ℕ → F → Type 0) → Result A (BoardFault F) → Option Fault → Type 0
+Judges refuses (Ok x) o = o ≡ None
+Judges refuses (Err f) o = TellsFault refuses f o
+
+abbrev pub member : PlannedDevice → Member
+member m = record { name = string_bytes m.name; device = m.device; core = m.core; extest_update = m.extest_update }
+
+abbrev pub net : PlannedNet → Net
+net n = record { name = string_bytes n.name; pull = n.pull; pins = n.pins.items }
+
+-- the board that is planned
+abbrev pub wiring : Plan → Wiring
+wiring p = record { members = map member p.devices.items; nets = map net p.nets.items }
+
+-- The board, or the fault that the refusal names, unless memory runs out.
+abbrev pub TellsBoard : {F : Type 0} → (List ℕ → F → Type 0) → Result Plan (BoardFault F) → Result Wiring Fault → Type 0
+TellsBoard refuses (Ok p) said = said ≡ Ok (wiring p)
+TellsBoard refuses (Err f) (Ok w) = TellsFault refuses f None
+TellsBoard refuses (Err f) (Err e) = TellsFault refuses f (Some e)

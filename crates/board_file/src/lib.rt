@@ -1,0 +1,14 @@
+//! The board file: which devices are on a board, and how they are wired.
+#![tactic(auto)]
+
+mod fault;
+mod files;
+mod library;
+mod pins;
+mod plan;
+
+pub use fault::BoardFault;
+pub use files::bsdl_names;
+pub use library::{Describe, Unread};
+pub use pins::Pin;
+pub use plan::{Plan, PlannedDevice, PlannedNet};
