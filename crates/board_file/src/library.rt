@@ -61,13 +61,29 @@ pub(crate) fn read_files<R: Describe>(
     let places = file_places(alloc, files)?;
     let mut readings = Vec::with_capacity(alloc, names.len())?;
     for name in names {
-        let reading = match places.place_of(name) {
-            Some(place) => read_file(alloc, reader, files[place].1)?,
-            None => Reading::Missing,
-        };
-        readings.push(reading)?;
+        readings.push(read_named(alloc, reader, files, &places, name)?)?;
     }
     Ok(readings)
+}
+
+/// What stands in the file of a name, given the places of all names.
+fn read_named<R: Describe>(
+    alloc: Global,
+    reader: &R,
+    files: &[(&str, &[u8])],
+    places: &Places<&str>,
+    name: &str,
+) -> Result<Reading<R::Fault>, AllocError>
+    requires { texts_of places.now ≡ map (λ f. f.0.now) files.now }
+    ensures { IfOk result (IsReading R.says R.refuses (files_of files.now) name.now) }
+{
+    let Some(place) = places.place_of(name) else {
+        return Ok(Reading::Missing);
+    };
+    match files.get(place) {
+        Some((_, text)) => read_file(alloc, reader, text),
+        None => Ok(Reading::Missing),
+    }
 }
 
 /// The names of the files.

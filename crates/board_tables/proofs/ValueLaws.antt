@@ -37,7 +37,7 @@ pub map_with : {A B : Type 0} (f : A → B) (test : B → Bool) (b : Bool) (xs :
 map_with f test true xs x = refl
 map_with f test false xs x = map-append f xs (x ∷ [])
 
-prefix_len_map : {A B : Type 0} (test : B → Bool) (f : A → B) (xs : List A) → prefix_len test (map f xs) ≡ prefix_len (λ x. test (f x)) xs
+pub prefix_len_map : {A B : Type 0} (test : B → Bool) (f : A → B) (xs : List A) → prefix_len test (map f xs) ≡ prefix_len (λ x. test (f x)) xs
 prefix_len_map test f [] = refl
 prefix_len_map test f (x ∷ xs) = ap (λ k. cond (test (f x)) (1 + k) 0) (prefix_len_map test f xs)
 
