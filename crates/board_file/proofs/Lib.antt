@@ -1,2 +1,4 @@
 pub mod FileLaws
 pub mod ZipLaws
+pub mod IndexLaws
+pub mod PinLaws

@@ -1,5 +1,5 @@
 -- Which port bits the pins of the nets are. A pin is a port bit of a device; the TAP's ports are none.
-use Rattle.std.specs.Prelude.{ℕ, Bool, not, ◌&&◌, ◌==◌, nat_le, List, [], ◌∷◌, ◌++◌, filter_map, codes, bytes_eq, option_map, option_and_then, Option, Some, None, position, slice_get, if◌then◌else◌}
+use Rattle.std.specs.Prelude.{ℕ, Bool, not, ◌&&◌, ◌==◌, nat_lt, List, [], ◌∷◌, ◌++◌, filter_map, codes, bytes_eq, option_map, option_and_then, Option, Some, None, position, slice_get, if◌then◌else◌}
 use Rattle.std.specs.List.{list_any}
 use Rattle.std.specs.Str.Parse.{digits_value}
 use Rattle.toml.specs.Data.{Members}
@@ -12,7 +12,7 @@ use Rattle.board_file.specs.declared.pins.Pin.{Pin}
 
 -- The index that digits write. No description has one above 65,535.
 abbrev pub index_of : List ℕ → Option ℕ
-index_of digits = if nat_le (digits_value 10 digits) 65535 then Some (digits_value 10 digits) else None
+index_of digits = if nat_lt (digits_value 10 digits) 65536 then Some (digits_value 10 digits) else None
 
 -- the port bit of this name, in any case, and index
 abbrev pub bit_of : Device → List ℕ → Option (List ℕ) → Option ℕ
@@ -23,12 +23,12 @@ bit_of d port (Some digits) = option_and_then (λ index. bit_number port (Some i
 abbrev pub no_tap : Device → ℕ → Option ℕ
 no_tap d k = option_and_then (λ (bit : PortBit). if bit.is_tap then None else Some k) (slice_get d.ports k)
 
-abbrev pub port_bit : Device → PinText → Option ℕ
-port_bit d p = option_and_then (no_tap d) (bit_of d p.port p.index)
+abbrev pub pin_bit : Device → List ℕ → Option (List ℕ) → Option ℕ
+pin_bit d port index = option_and_then (no_tap d) (bit_of d port index)
 
 -- the port bit of the device at this place on the board
 abbrev pub bit_at : List Device → PinText → ℕ → Option Pin
-bit_at ds p place = option_and_then (λ d. option_map (λ bit. record { device = place; port = bit }) (port_bit d p)) (slice_get ds place)
+bit_at ds p place = option_and_then (λ d. option_map (λ bit. record { device = place; port = bit }) (pin_bit d p.port p.index)) (slice_get ds place)
 
 -- The pin that a text names, given the names of all devices and what is described of each.
 unfoldable pub pin_at : List (List ℕ) → List Device → List ℕ → Option Pin

@@ -6,6 +6,7 @@ mod files;
 mod library;
 mod pins;
 mod plan;
+mod wiring;
 
 pub use fault::BoardFault;
 pub use files::bsdl_names;

@@ -1,5 +1,5 @@
 //! Pins as the board file writes them: `U1.Q`, or `U1.A(3)`.
-ghost use Rattle.std.specs.Prelude.{◌≡◌, ◌<◌, ℕ, List, option_map};
+ghost use Rattle.std.specs.Prelude.{◌≡◌, ◌<◌, ℕ, true, List, option_map, IfSome};
 ghost use Rattle.std.specs.List.{list_all};
 ghost use Rattle.std.specs.Char.{is_ascii_digit};
 ghost use Rattle.board_tables.specs.PinTexts as spec;
@@ -17,7 +17,8 @@ pub struct PinText<'a> {
 /// The pin that a text spells.
 #[tactic(auto, unfolding(crate::specs::PinTexts::pin_of))]
 pub fn pin_of(text: &str) -> Option<PinText<'_>>
-    ensures { option_map {U = spec.PinText} (λ p. record { device = p.device.now; port = p.port.now; index = option_map (λ d. d.now) p.index }) result ≡ spec.pin_of text.now }
+    ensures pin { option_map {U = spec.PinText} (λ p. record { device = p.device.now; port = p.port.now; index = option_map (λ d. d.now) p.index }) result ≡ spec.pin_of text.now }
+    ensures digits { IfSome result (λ p. IfSome p.index (λ d. spec.is_number d.now ≡ true)) }
 {
     let (device, rest) = split_at_byte(text, '.')?;
     if !is_name(device) {
@@ -29,7 +30,8 @@ pub fn pin_of(text: &str) -> Option<PinText<'_>>
 /// The pin of this device whose port the text spells.
 #[tactic(auto, unfolding(crate::specs::PinTexts::port_of))]
 fn port_of<'a>(device: &'a str, text: &'a str) -> Option<PinText<'a>>
-    ensures { option_map {U = spec.PinText} (λ p. record { device = p.device.now; port = p.port.now; index = option_map (λ d. d.now) p.index }) result ≡ spec.port_of device.now text.now }
+    ensures pin { option_map {U = spec.PinText} (λ p. record { device = p.device.now; port = p.port.now; index = option_map (λ d. d.now) p.index }) result ≡ spec.port_of device.now text.now }
+    ensures digits { IfSome result (λ p. IfSome p.index (λ d. spec.is_number d.now ≡ true)) }
 {
     let (port, index) = match split_at_byte(text, '(') {
         None => (text, None),
@@ -51,7 +53,8 @@ fn port_of<'a>(device: &'a str, text: &'a str) -> Option<PinText<'a>>
 /// The digits of an index, behind its `(` and up to the `)` that ends the text.
 #[tactic(auto, unfolding(crate::specs::PinTexts::index_of))]
 fn index_of(text: &str) -> Option<&str>
-    ensures { option_map (λ d. d.now) result ≡ spec.index_of text.now }
+    ensures index { option_map (λ d. d.now) result ≡ spec.index_of text.now }
+    ensures digits { IfSome result (λ d. spec.is_number d.now ≡ true) }
 {
     match split_at_byte(text, ')') {
         Some((digits, "")) if is_number(digits) => Some(digits),

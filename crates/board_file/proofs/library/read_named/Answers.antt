@@ -19,6 +19,6 @@ returns-in-Some-get g c =
     let name = c.args.name.now in
     let place = ap (position (bytes_eq name)) (sym c.requires) ∙ sym c.place_of.ensures ∙ c.in-Some.is in
     let here : slice_get c.args.files.now c.in-Some.place ≡ Some c.in-Some-get.field-0.now =
-        slice_get_read c.args.files.now (length c.args.files.now) c.in-Some.place c.in-Some-get.field-0.now refl (ltb-true c.in-Some.place (length c.args.files.now) (sym c.in-Some-get.ensures.lookup.0)) c.in-Some-get.ensures.lookup.1 in
+    slice_get_read c.args.files.now (length c.args.files.now) c.in-Some.place c.in-Some-get.field-0.now refl (ltb-true c.in-Some.place (length c.args.files.now) (sym c.in-Some-get.ensures.lookup.0)) c.in-Some-get.ensures.lookup.1 in
     let text = a_file name c.args.files.now c.in-Some.place (Some c.in-Some-get.field-0.now) place here in
     IfOk-weaker c.read_file.result _ _ (as_named g.R.Describe.says g.R.Describe.refuses (files_of c.args.files.now) name _ text) c.read_file.ensures
