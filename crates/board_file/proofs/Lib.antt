@@ -1,4 +1,5 @@
 pub mod FileLaws
-pub mod ZipLaws
 pub mod IndexLaws
 pub mod PinLaws
+pub mod BitLaws
+pub mod LibraryLaws

@@ -1,6 +1,5 @@
 -- What the code's values stand for.
-use Rattle.std.specs.Prelude.{◌≡◌, ℕ, List, map, string_bytes, Option, Some, None, Result, Ok, Err}
-use Rattle.std.specs.List.{AllZip}
+use Rattle.std.specs.Prelude.{◌≡◌, ℕ, List, map, length, slice_get, position, bytes_eq, codes, string_bytes, Option, Some, None, option_map, option_and_then, Result, Ok, Err}
 use Rattle.std.specs.Prelude.{Vec, String}
 use Rattle.std.specs.declared.alloc.Global.{Global}
 use Rattle.std.specs.BTreeMap.{BTreeMap}
@@ -16,11 +15,15 @@ use Rattle.board_file.specs.declared.library.Unread.{Unread}
 use Rattle.board_file.specs.declared.library.Unread.TheVariants as unread
 use Rattle.board_file.specs.declared.library.Reading.{Reading}
 use Rattle.board_file.specs.declared.library.Reading.TheVariants as reading
+use Rattle.board_file.specs.declared.wiring.Miswired.{Miswired}
+use Rattle.board_file.specs.declared.wiring.Miswired.TheVariants as miswired
 use Rattle.board_file.specs.declared.plan.Plan.{Plan}
 use Rattle.board_file.specs.declared.plan.PlannedDevice.{PlannedDevice}
 use Rattle.board_file.specs.declared.plan.PlannedNet.{PlannedNet}
 use Rattle.board_file.specs.Files.{Reads, IsBadToml, File, text_of}
-use Rattle.board_file.specs.Wiring.{Member, Net, Wiring, Fault, BadField, UnknownFile, Bsdl, UnknownPin, PinTwice, TooLarge}
+use Rattle.toml.specs.Data.{Members}
+use Rattle.board_tables.specs.Fields.{text_at}
+use Rattle.board_file.specs.Wiring.{Member, member_of, Net, Wiring, Fault, BadField, UnknownFile, Bsdl, UnknownPin, PinTwice, TooLarge}
 
 -- the files handed in
 abbrev pub file_of : Bor (List ℕ) × Bor (List ℕ) → File
@@ -77,6 +80,39 @@ abbrev pub IsReading : {F : Type 0} → (List ℕ → Option described.Device) �
 IsReading says refuses files name reading.Missing = text_of files name ≡ None
 IsReading says refuses files name r = (text : List ℕ) × (text_of files name ≡ Some text) × IsRead says refuses text r
 
+-- the device that is described there
+abbrev pub device_in : {F : Type 0} → Reading F → Option described.Device
+device_in (reading.Described d) = Some d
+device_in _ = None
+
+-- the first missing name, after what stands in the file of one more
+abbrev pub missing_with : {F : Type 0} → Option (Bor (List ℕ)) → Bor (List ℕ) → Reading F → Option (Bor (List ℕ))
+missing_with (Some first) name r = Some first
+missing_with None name reading.Missing = Some name
+missing_with None name _ = None
+
+-- and the first refusal
+abbrev pub refused_with : {F : Type 0} → Option F → Reading F → Option F
+refused_with (Some first) r = Some first
+refused_with None (reading.Refused f) = Some f
+refused_with None _ = None
+
+-- The first refusal so far: it is that of the whole, or what is left has the first of the whole.
+abbrev pub IsFirstRefusal : {F : Type 0} → (List ℕ → F → Type 0) → Option F → (left whole : Option (List ℕ)) → Type 0
+IsFirstRefusal refuses (Some f) left whole = (text : List ℕ) × (whole ≡ Some text) × refuses text f
+IsFirstRefusal refuses None left whole = left ≡ whole
+
+-- what is described of a device, given all names of files and what is described in each
+abbrev pub stands_at : List (List ℕ) → List (Option described.Device) → Members → Option described.Device
+stands_at names ds t =
+    option_and_then (λ d. d) (option_and_then (slice_get ds) (option_and_then (λ name. position (bytes_eq name) names) (text_at (codes "bsdl") t)))
+
+abbrev pub cells_in : List (List ℕ) → List (Option described.Device) → Members → Option ℕ
+cells_in names ds t = option_map (λ (d : described.Device). length d.cells) (stands_at names ds t)
+
+abbrev pub member_in : List (List ℕ) → List (Option described.Device) → Members → Option Member
+member_in names ds t = option_map (member_of t) (stands_at names ds t)
+
 -- ---- refusals and boards
 
 -- the fault that a refusal names, unless memory runs out
@@ -94,6 +130,14 @@ TellsFault refuses fault.BadToml o = ⊥
 abbrev pub Judges : {A F : Type 0} → (List ℕ → F → Type 0) → Result A (BoardFault F) → Option Fault → Type 0
 Judges refuses (Ok x) o = o ≡ None
 Judges refuses (Err f) o = TellsFault refuses f o
+
+-- a judgement of pins
+abbrev pub ChecksPins : {A : Type 0} → Result A Miswired → Option Fault → Type 0
+ChecksPins (Ok x) o = o ≡ None
+ChecksPins (Err (miswired.UnknownPin s)) o = o ≡ Some (UnknownPin s.now)
+ChecksPins (Err (miswired.PinTwice s)) o = o ≡ Some (PinTwice s.now)
+ChecksPins (Err miswired.TooLarge) o = o ≡ Some TooLarge
+ChecksPins (Err miswired.Memory) o = Unit {0}
 
 abbrev pub member : PlannedDevice → Member
 member m = record { name = string_bytes m.name; device = m.device; core = m.core; extest_update = m.extest_update }
