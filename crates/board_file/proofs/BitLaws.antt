@@ -1,7 +1,7 @@
 -- Bits that are shifted in one after another.
-use Rattle.std.proofs.Common.{◌≡◌, ℕ, zero, suc, ◌+◌, Bool, true, false, List, [], ◌∷◌, ◌++◌, fold, map, length, drop, replicate, append_assoc, refl, ap, sym, ◌∙◌, arith}
+use Rattle.std.proofs.Common.{◌≡◌, ℕ, Bool, false, List, [], ◌∷◌, ◌++◌, fold, length, replicate, append_assoc, ap, sym, ◌∙◌}
 use Rattle.std.proofs.Math.Nat.{suc_inj}
-use Rattle.std.proofs.lemmas.List.{append-nil, length-map, length-replicate}
+use Rattle.std.proofs.lemmas.List.{append-nil, length-replicate}
 use Rattle.jt_bits.specs.Shifting.{shifted}
 
 past : (xs ys zs : List Bool) → length xs ≡ length zs → fold shifted (xs ++ ys) zs ≡ ys ++ zs

@@ -1,8 +1,8 @@
 -- Files found by their names.
-use Rattle.std.proofs.Common.{◌≡◌, ℕ, zero, suc, ◌+◌, nat_lt, Bool, true, false, not, cond, List, [], ◌∷◌, ◌++◌, map, length, take, Option, Some, None, option_map, option_and_then, slice_get, refl, ap, sym, ◌∙◌, ◌≤◌, arith}
+use Rattle.std.proofs.Common.{◌≡◌, ℕ, nat_lt, Bool, true, false, cond, List, [], ◌∷◌, map, length, Option, Some, None, option_map, option_and_then, slice_get, refl, ap, sym, ◌∙◌, ◌≤◌, arith}
 use Rattle.std.proofs.lemmas.Option.{slice_get_past}
 use Rattle.std.proofs.lemmas.Bool.Decides.{nat_tests}
-use Rattle.std.specs.List.{AllZip, position, position_or_len, prefix_len, find}
+use Rattle.std.specs.List.{position, position_or_len, find}
 use Rattle.std.specs.Str.{bytes_eq}
 use Rattle.std.proofs.lemmas.List.Folds.{find_at}
 use Rattle.board_tables.proofs.ValueLaws.{position_map}
@@ -24,7 +24,7 @@ at_first xs k true h = refl
 at_first xs k false h = past xs k h
 
 -- an item found by its place
-found_at : {A : Type 0} (p : A → Bool) (xs : List A) → find p xs ≡ option_and_then (λ i. slice_get xs i) (position p xs)
+pub found_at : {A : Type 0} (p : A → Bool) (xs : List A) → find p xs ≡ option_and_then (λ i. slice_get xs i) (position p xs)
 found_at p xs = find_at p xs ∙ at_first xs (position_or_len p xs) (nat_lt (position_or_len p xs) (length xs)) refl
 
 first_file : (name : List ℕ) (files : List Handed) → find (λ (f : File). bytes_eq name f.0) (files_of files) ≡ option_map file_of (find (λ f. bytes_eq name f.0.now) files)

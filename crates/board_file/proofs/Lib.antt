@@ -3,3 +3,5 @@ pub mod IndexLaws
 pub mod PinLaws
 pub mod BitLaws
 pub mod LibraryLaws
+pub mod DescribedLaws
+pub mod BoardLaws

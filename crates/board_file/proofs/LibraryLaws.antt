@@ -1,5 +1,5 @@
 -- What one more reading adds.
-use Rattle.std.proofs.Common.{◌≡◌, ℕ, List, [], ◌∷◌, Option, Some, None, option_map, option_and_then, refl, ap, sym, ◌∙◌, ◌++◌, ◌+◌, ◌<◌, map, length, drop, append_assoc}
+use Rattle.std.proofs.Common.{◌≡◌, ℕ, List, [], ◌∷◌, Option, Some, None, option_map, refl, ap, sym, ◌∙◌, ◌++◌, ◌+◌, ◌<◌, map, length, drop, append_assoc}
 use Rattle.std.proofs.lemmas.List.{drop_more}
 use Rattle.std.proofs.Math.ListN.{get_or}
 use Rattle.board_tables.specs.View.{texts_of}
@@ -8,7 +8,7 @@ use Rattle.bsdl_device.specs.Device.{Device}
 use Rattle.board_tables.specs.Faults.{or_else}
 use Rattle.board_file.specs.declared.library.Reading.{Reading}
 use Rattle.board_file.specs.declared.library.Reading.TheVariants as reading
-use Rattle.board_file.specs.Files.{File, text_of, described, refused, missing_in, refused_in}
+use Rattle.board_file.specs.Files.{File, described, missing_in, refused_in}
 use Rattle.board_file.specs.View.{IsReading, IsFirstRefusal, device_in, missing_with, refused_with}
 
 module _ {F : Type 0} (says : List ℕ → Option Device) (refuses : List ℕ → F → Type 0) (files : List File) where

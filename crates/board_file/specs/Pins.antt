@@ -1,5 +1,5 @@
 -- Which port bits the pins of the nets are. A pin is a port bit of a device; the TAP's ports are none.
-use Rattle.std.specs.Prelude.{ℕ, Bool, not, ◌&&◌, ◌==◌, nat_lt, List, [], ◌∷◌, ◌++◌, filter_map, codes, bytes_eq, option_map, option_and_then, Option, Some, None, position, slice_get, if◌then◌else◌}
+use Rattle.std.specs.Prelude.{ℕ, Bool, ◌&&◌, ◌==◌, nat_lt, List, [], ◌∷◌, ◌++◌, filter_map, codes, bytes_eq, option_map, option_and_then, Option, Some, None, position, slice_get, if◌then◌else◌}
 use Rattle.std.specs.List.{list_any}
 use Rattle.std.specs.Str.Parse.{digits_value}
 use Rattle.toml.specs.Data.{Members}

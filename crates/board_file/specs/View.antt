@@ -22,8 +22,9 @@ use Rattle.board_file.specs.declared.plan.PlannedDevice.{PlannedDevice}
 use Rattle.board_file.specs.declared.plan.PlannedNet.{PlannedNet}
 use Rattle.board_file.specs.Files.{Reads, IsBadToml, File, text_of}
 use Rattle.toml.specs.Data.{Members}
-use Rattle.board_tables.specs.Fields.{text_at}
-use Rattle.board_file.specs.Wiring.{Member, member_of, Net, Wiring, Fault, BadField, UnknownFile, Bsdl, UnknownPin, PinTwice, TooLarge}
+use Rattle.std.specs.List.{filter_map}
+use Rattle.board_tables.specs.Fields.{text_at, name_at}
+use Rattle.board_file.specs.Wiring.{Member, member_of, net_of, wire_fault, Net, Wiring, Fault, BadField, UnknownFile, Bsdl, UnknownPin, PinTwice, TooLarge}
 
 -- the files handed in
 abbrev pub file_of : Bor (List ℕ) × Bor (List ℕ) → File
@@ -126,10 +127,17 @@ TellsFault refuses fault.TooLarge o = o ≡ Some TooLarge
 TellsFault refuses fault.NoMemory o = Unit {0}
 TellsFault refuses fault.BadToml o = ⊥
 
--- A judgement passes where there is no fault, and else names it.
-abbrev pub Judges : {A F : Type 0} → (List ℕ → F → Type 0) → Result A (BoardFault F) → Option Fault → Type 0
-Judges refuses (Ok x) o = o ≡ None
-Judges refuses (Err f) o = TellsFault refuses f o
+-- A judgement of keys passes where none is at fault, and else names the one that is, unless memory runs out.
+abbrev pub JudgesKeys : {F : Type 0} → Result (Unit {0}) (BoardFault F) → Option (List ℕ) → Type 0
+JudgesKeys (Ok x) o = o ≡ None
+JudgesKeys (Err (fault.BadField k)) o = o ≡ Some (string_bytes k)
+JudgesKeys (Err fault.NoMemory) o = Unit {0}
+JudgesKeys (Err _) o = ⊥
+
+abbrev pub IsUnknownFile : {F : Type 0} → List ℕ → BoardFault F → Type 0
+IsUnknownFile name (fault.UnknownFile s) = string_bytes s ≡ name
+IsUnknownFile name fault.NoMemory = Unit {0}
+IsUnknownFile name _ = ⊥
 
 -- a judgement of pins
 abbrev pub ChecksPins : {A : Type 0} → Result A Miswired → Option Fault → Type 0
@@ -138,6 +146,14 @@ ChecksPins (Err (miswired.UnknownPin s)) o = o ≡ Some (UnknownPin s.now)
 ChecksPins (Err (miswired.PinTwice s)) o = o ≡ Some (PinTwice s.now)
 ChecksPins (Err miswired.TooLarge) o = o ≡ Some TooLarge
 ChecksPins (Err miswired.Memory) o = Unit {0}
+
+-- as a caller sees it
+abbrev pub IsMiswired : {F : Type 0} → Miswired → BoardFault F → Type 0
+IsMiswired f fault.NoMemory = Unit {0}
+IsMiswired (miswired.UnknownPin t) (fault.UnknownPin s) = string_bytes s ≡ t.now
+IsMiswired (miswired.PinTwice t) (fault.PinTwice s) = string_bytes s ≡ t.now
+IsMiswired miswired.TooLarge fault.TooLarge = Unit {0}
+IsMiswired _ _ = ⊥
 
 abbrev pub member : PlannedDevice → Member
 member m = record { name = string_bytes m.name; device = m.device; core = m.core; extest_update = m.extest_update }
@@ -154,3 +170,16 @@ abbrev pub TellsBoard : {F : Type 0} → (List ℕ → F → Type 0) → Result 
 TellsBoard refuses (Ok p) said = said ≡ Ok (wiring p)
 TellsBoard refuses (Err f) (Ok w) = TellsFault refuses f None
 TellsBoard refuses (Err f) (Err e) = TellsFault refuses f (Some e)
+
+-- The board of these devices and nets, or the fault of their pins, unless memory runs out; given all names of files and
+-- what is described in each.
+abbrev pub PlansBoard : {F : Type 0} → Result Plan (BoardFault F) → List (List ℕ) → List (Option described.Device) → List Members → List Members → Type 0
+PlansBoard {F} r files ds devices nets = by r (map name_at devices) (filter_map (stands_at files ds) devices)
+  where
+    by : Result Plan (BoardFault F) → List (List ℕ) → List described.Device → Type 0
+    by (Ok p) names found = (wire_fault names found nets ≡ None) × (wiring p ≡ record { members = filter_map (member_in files ds) devices; nets = map (net_of names found) nets })
+    by (Err (fault.UnknownPin s)) names found = wire_fault names found nets ≡ Some (UnknownPin (string_bytes s))
+    by (Err (fault.PinTwice s)) names found = wire_fault names found nets ≡ Some (PinTwice (string_bytes s))
+    by (Err fault.TooLarge) names found = wire_fault names found nets ≡ Some TooLarge
+    by (Err fault.NoMemory) names found = Unit {0}
+    by (Err _) names found = ⊥

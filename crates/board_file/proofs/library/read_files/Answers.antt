@@ -1,4 +1,4 @@
-use Rattle.std.proofs.Common.{◌≡◌, ◌∙◌, ◌++◌, ◌∷◌, [], sym, ap, subst, map, drop, option_map, Bor, List, ℕ, ◌+◌}
+use Rattle.std.proofs.Common.{◌∙◌, [], sym, ap, subst, drop, option_map, Bor, List, ℕ, ◌+◌}
 use Rattle.std.proofs.Math.ListN.{get_or}
 use Rattle.board_tables.specs.Faults.{or_else}
 use Rattle.board_tables.specs.View.{texts_of}

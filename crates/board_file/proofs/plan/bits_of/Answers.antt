@@ -1,4 +1,4 @@
-use Rattle.std.proofs.Common.{◌≡◌, ◌∙◌, ◌==◌, sym, ap, fold, map, length}
+use Rattle.std.proofs.Common.{◌∙◌, ◌==◌, sym, ap, fold, map, length}
 use Rattle.std.proofs.Math.ListN.{drop_of_length-le}
 use Rattle.std.proofs.lemmas.List.{length-map}
 use Rattle.jt_bits.specs.Shifting.{shifted}
