@@ -1,102 +1,28 @@
 -- Judging a description that is well formed: the refusals in their order, and the device that it says.
-use Rattle.std.specs.Prelude.{ℕ, zero, suc, ◌+◌, ◌-◌, nat_lt, nat_le, ◌==◌, min, max, Bool, true, false, not, ◌&&◌, ◌||◌, is_some, is_none, if◌then◌else◌, List, [], ◌∷◌, ◌++◌, map, filter, length, take, reverse, Option, Some, None, option_map, option_and_then, unwrap_or, Result, Ok, Err, bytes_eq, codes, slice_get}
-use Rattle.std.specs.List.{list_any, list_all, find, count_by, sum_by, range_with_len, flat_map, filter_map, fold}
-use Rattle.bsdl_lex.specs.Cutting.{Lexeme}
-use Rattle.bsdl_text.specs.Words.{upper, same_name}
+use Rattle.std.specs.Prelude.{ℕ, suc, ◌+◌, ◌-◌, nat_lt, nat_le, ◌==◌, min, max, Bool, true, false, not, ◌&&◌, ◌||◌, is_some, is_none, if◌then◌else◌, List, [], ◌∷◌, map, filter, length, Option, Some, None, option_map, option_and_then, unwrap_or, Result, Ok, Err, bytes_eq, codes, slice_get}
+use Rattle.std.specs.List.{list_any, list_all, find, sum_by, range_with_len, flat_map, fold}
+use Rattle.bsdl_text.specs.Words.{upper}
 use Rattle.bsdl.specs.Form.{text_form}
 use Rattle.bsdl_device.specs.declared.Function.{Function}
 use Rattle.bsdl_device.specs.declared.Function.TheVariants.{Bidir, Output2, Output3, Control, ControlR, Internal}
-use Rattle.bsdl_device.specs.Device.{Name, Pattern, PortBit, Opcode, Access, Device}
+use Rattle.bsdl_device.specs.Device.{Name, Pattern, PortBit, Access, Device}
 use Rattle.bsdl_device.specs.declared.Control3.{Control3}
 use Rattle.bsdl_device.specs.declared.Cell.{Cell}
 use Rattle.bsdl_device.specs.declared.Place.{Place}
 use Rattle.bsdl_device.specs.declared.Place.TheVariants.{AtBypass, AtBoundary, AtDeviceId, AtUser}
-use Rattle.bsdl_instructions.specs.Values.{OpcodeRow, Instr, AccessRow}
+use Rattle.bsdl_instructions.specs.Values.{Instr, AccessRow}
 use Rattle.bsdl_cells.specs.Rows.{PortName, CellRow}
-use Rattle.bsdl_entity.specs.Entity.{Range, Port, Given, File}
-use Rattle.bsdl_described.specs.Describing.{Refusal, bad_token, bad_form, twice, bad_length, bad_capture, bad_id, bad_cell, too_large, Description, described, is_among, ◌>>?◌}
+use Rattle.bsdl_entity.specs.Entity.{Range, Port, File}
+use Rattle.bsdl_twice.specs.ResetOpcode.{bits, opcode, resets_to_idcode}
+use Rattle.bsdl_twice.specs.Twice.{Naming, given_again}
+use Rattle.bsdl_described.specs.Describing.{Refusal, twice, bad_length, bad_capture, bad_id, bad_cell, too_large, Description, described, is_among, ◌>>?◌}
 
 -- ---- given twice
-
--- A place: of a token, or of the first quote of a text and then within that text. Places are in order by the first, then
--- by the second.
-pub record Spot : Type 0 where
-  pub outer : ℕ
-  pub within : ℕ
-
-abbrev pub before : Spot → Spot → Bool
-before p q = nat_lt p.outer q.outer || (p.outer == q.outer && nat_lt p.within q.within)
-
--- a name that is given at a place
-pub record Naming : Type 0 where
-  pub name : List ℕ
-  pub spot : Spot
-
--- one of the same name stands before
-abbrev pub is_repeated : List Naming → Naming → Bool
-is_repeated all n = list_any (λ m. same_name m.name n.name && before m.spot n.spot) all
-
-abbrev pub repeated : List Naming → List Naming
-repeated all = filter (is_repeated all) all
-
-abbrev pub earlier : Naming → Option Naming → Naming
-earlier n None = n
-earlier n (Some m) = if before m.spot n.spot then m else n
-
-abbrev pub earliest : List Naming → Option Naming
-earliest [] = None
-earliest (n ∷ ns) = Some (earlier n (earliest ns))
-
-abbrev pub outside : Lexeme → Naming
-outside t = record { name = t.text; spot = record { outer = t.start; within = 0 } }
-
-abbrev pub inside : ℕ → Lexeme → Naming
-inside start t = record { name = t.text; spot = record { outer = start; within = t.start } }
-
--- ports, attributes, instructions with an opcode, own instructions with a register: the first that is given again
-abbrev pub given_again : Description → Option Naming
-given_again d =
-    earliest (repeated (map (λ p. outside p.name) d.ports)
-    ++ repeated (map (λ g. outside g.name) d.given)
-    ++ repeated (map (λ r. inside d.opcode_start r.name) d.opcodes)
-    ++ repeated (map (λ i. inside d.access_start i.name) (flat_map (λ r. r.instrs) d.accesses)))
-
--- ---- opcodes
-
--- X as 0
-abbrev pub bits : Pattern → List Bool
-bits p = map (λ b. unwrap_or b false) p
-
-abbrev pub opcode : OpcodeRow → Opcode
-opcode r = record { name = upper r.name.text; patterns = r.patterns }
-
--- a pattern matches an opcode of its own length, an X either bit
-abbrev pub matches : Pattern → List Bool → Bool
-matches [] [] = true
-matches (None ∷ p) (b ∷ bs) = matches p bs
-matches (Some true ∷ p) (b ∷ bs) = b && matches p bs
-matches (Some false ∷ p) (b ∷ bs) = not b && matches p bs
-matches _ _ = false
-
-abbrev pub names_it : List Bool → Opcode → Bool
-names_it latch o = list_any (λ p. matches p latch) o.patterns
-
--- all ones is BYPASS; else the first row with a matching opcode names the instruction
-abbrev pub instruction : List Opcode → List Bool → Option Name
-instruction opcodes latch = if list_all (λ b. b) latch then Some (codes "BYPASS") else option_map (λ o. o.name) (find (names_it latch) opcodes)
-
--- the opcode that a reset loads: the first of IDCODE's row, X as 0
-abbrev pub reset_opcode : List Opcode → Option (List Bool)
-reset_opcode opcodes = option_map bits (option_and_then (λ o. slice_get o.patterns 0) (find (λ o. bytes_eq (codes "IDCODE") o.name) opcodes))
-
-abbrev pub names_idcode : List Opcode → Option (List Bool) → Bool
-names_idcode opcodes None = true
-names_idcode opcodes (Some latch) = bytes_eq (unwrap_or (instruction opcodes latch) []) (codes "IDCODE")
 
 -- the first name given again, or IDCODE where its opcode names another instruction
 abbrev pub twice_in : Description → Option Naming → Option Refusal
 twice_in d (Some n) = Some (twice n.name)
-twice_in d None = let opcodes = map opcode d.opcodes in if names_idcode opcodes (reset_opcode opcodes) then None else Some (twice (codes "IDCODE"))
+twice_in d None = let opcodes = map opcode d.opcodes in if resets_to_idcode opcodes then None else Some (twice (codes "IDCODE"))
 
 -- ---- lengths
 
