@@ -1,20 +1,21 @@
 -- Judging a description that is well formed: the refusals in their order, and the device that it says.
-use Rattle.std.specs.Prelude.{ℕ, suc, ◌+◌, ◌-◌, nat_lt, nat_le, ◌==◌, min, max, Bool, true, false, not, ◌&&◌, ◌||◌, is_some, is_none, if◌then◌else◌, List, [], ◌∷◌, map, filter, length, Option, Some, None, option_map, option_and_then, unwrap_or, Result, Ok, Err, bytes_eq, codes, slice_get}
+use Rattle.std.specs.Prelude.{ℕ, suc, ◌+◌, ◌-◌, nat_lt, nat_le, ◌==◌, min, max, Bool, true, false, not, ◌&&◌, ◌||◌, is_some, is_none, if◌then◌else◌, List, [], ◌∷◌, map, filter, length, Option, Some, None, option_map, option_and_then, Result, Ok, Err, bytes_eq, codes, slice_get}
 use Rattle.std.specs.List.{list_any, list_all, find, sum_by, range_with_len, flat_map, fold}
 use Rattle.bsdl_text.specs.Words.{upper}
 use Rattle.bsdl.specs.Form.{text_form}
 use Rattle.bsdl_device.specs.declared.Function.{Function}
 use Rattle.bsdl_device.specs.declared.Function.TheVariants.{Bidir, Output2, Output3, Control, ControlR, Internal}
-use Rattle.bsdl_device.specs.Device.{Name, Pattern, PortBit, Access, Device}
+use Rattle.bsdl_device.specs.Device.{Name, PortBit, Access, Device}
 use Rattle.bsdl_device.specs.declared.Control3.{Control3}
 use Rattle.bsdl_device.specs.declared.Cell.{Cell}
 use Rattle.bsdl_device.specs.declared.Place.{Place}
 use Rattle.bsdl_device.specs.declared.Place.TheVariants.{AtBypass, AtBoundary, AtDeviceId, AtUser}
-use Rattle.bsdl_instructions.specs.Values.{Instr, AccessRow}
+use Rattle.bsdl_instructions.specs.Values.{AccessRow}
 use Rattle.bsdl_cells.specs.Rows.{PortName, CellRow}
 use Rattle.bsdl_entity.specs.Entity.{Range, Port, File}
 use Rattle.bsdl_twice.specs.ResetOpcode.{bits, opcode, resets_to_idcode}
 use Rattle.bsdl_twice.specs.Twice.{Naming, given_again}
+use Rattle.bsdl_lengths.specs.Lengths.{captures_one, ends_in_one, lengths_fit}
 use Rattle.bsdl_described.specs.Describing.{Refusal, twice, bad_length, bad_capture, bad_id, bad_cell, too_large, Description, described, is_among, ◌>>?◌}
 
 -- ---- given twice
@@ -23,50 +24,6 @@ use Rattle.bsdl_described.specs.Describing.{Refusal, twice, bad_length, bad_capt
 abbrev pub twice_in : Description → Option Naming → Option Refusal
 twice_in d (Some n) = Some (twice n.name)
 twice_in d None = let opcodes = map opcode d.opcodes in if resets_to_idcode opcodes then None else Some (twice (codes "IDCODE"))
-
--- ---- lengths
-
-abbrev pub has_len : ℕ → Pattern → Bool
-has_len n p = length p == n
-
--- the length of the register of a row: its own, or the public register's
-abbrev pub row_len : Description → AccessRow → ℕ
-row_len d r = unwrap_or r.len (if bytes_eq r.register (codes "BOUNDARY") then d.boundary_length else if bytes_eq r.register (codes "BYPASS") then 1 else 32)
-
-abbrev pub captures_fit : ℕ → Instr → Bool
-captures_fit n i = list_all (has_len n) (captured i.captures)
-  where
-    captured : Option Pattern → List Pattern
-    captured None = []
-    captured (Some p) = p ∷ []
-
--- two rows give one register of the device's own two lengths
-abbrev pub differ : AccessRow → AccessRow → Bool
-differ a b = is_some a.len && (is_some b.len && (bytes_eq a.register b.register && not (unwrap_or a.len 0 == unwrap_or b.len 0)))
-
-abbrev pub is_empty : AccessRow → Bool
-is_empty r = is_some r.len && unwrap_or r.len 0 == 0
-
-abbrev pub lengths_fit : Description → Bool
-lengths_fit d =
-    nat_le 2 d.instruction_length && (nat_le 1 d.boundary_length
-    && (list_all (λ r. list_all (has_len d.instruction_length) r.patterns) d.opcodes
-    && (has_len d.instruction_length d.capture
-    && (list_all (has_len 32) d.idcodes
-    && (list_all (has_len 32) d.usercodes
-    && (list_all (λ r. not (is_empty r) && list_all (captures_fit (row_len d r)) r.instrs) d.accesses
-    && list_all (λ r. not (list_any (differ r) d.accesses)) d.accesses))))))
-
--- ---- captures and codes, as written
-
-abbrev pub captures_one : Pattern → Bool
-captures_one (Some true ∷ Some false ∷ p) = true
-captures_one _ = false
-
-abbrev pub ends_in_one : List Pattern → Bool
-ends_in_one [] = true
-ends_in_one ((Some true ∷ p) ∷ ps) = true
-ends_in_one _ = false
 
 -- ---- cells
 
