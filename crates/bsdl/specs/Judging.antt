@@ -1,6 +1,6 @@
 -- Judging a description that is well formed: the refusals in their order, and the device that it says.
-use Rattle.std.specs.Prelude.{ℕ, suc, ◌+◌, ◌-◌, nat_lt, nat_le, ◌==◌, min, max, Bool, true, false, not, ◌&&◌, ◌||◌, is_some, is_none, if◌then◌else◌, List, [], ◌∷◌, map, filter, length, Option, Some, None, option_map, option_and_then, Result, Ok, Err, bytes_eq, codes, slice_get}
-use Rattle.std.specs.List.{list_any, list_all, find, sum_by, range_with_len, flat_map, fold}
+use Rattle.std.specs.Prelude.{ℕ, suc, nat_lt, nat_le, ◌==◌, min, max, Bool, true, false, not, ◌&&◌, ◌||◌, is_some, is_none, if◌then◌else◌, List, [], ◌∷◌, map, filter, length, Option, Some, None, option_map, option_and_then, unwrap_or, Result, Ok, Err, bytes_eq, codes, slice_get}
+use Rattle.std.specs.List.{list_any, list_all, find, range_with_len, flat_map, fold}
 use Rattle.bsdl_text.specs.Words.{upper}
 use Rattle.bsdl.specs.Form.{text_form}
 use Rattle.bsdl_device.specs.declared.Function.{Function}
@@ -16,6 +16,9 @@ use Rattle.bsdl_entity.specs.Entity.{Range, Port, File}
 use Rattle.bsdl_twice.specs.ResetOpcode.{bits, opcode, resets_to_idcode}
 use Rattle.bsdl_twice.specs.Twice.{Naming, given_again}
 use Rattle.bsdl_lengths.specs.Lengths.{captures_one, ends_in_one, lengths_fit}
+use Rattle.bsdl_limits.specs.Limits.{is_within_limits, subscript_limit}
+use Rattle.bsdl_limits.specs.PortBits.{bit_number, width}
+use Rattle.bsdl_limits.specs.Users.{user_number, users_of}
 use Rattle.bsdl_described.specs.Describing.{Refusal, twice, bad_length, bad_capture, bad_id, bad_cell, too_large, Description, described, is_among, ◌>>?◌}
 
 -- ---- given twice
@@ -26,24 +29,6 @@ twice_in d (Some n) = Some (twice n.name)
 twice_in d None = let opcodes = map opcode d.opcodes in if resets_to_idcode opcodes then None else Some (twice (codes "IDCODE"))
 
 -- ---- cells
-
-abbrev pub width : Option Range → ℕ
-width None = 1
-width (Some r) = r.high - r.low + 1
-
--- the place of an index among a port's bits
-abbrev pub bit_at : Option Range → Option ℕ → Option ℕ
-bit_at None None = Some 0
-bit_at None (Some i) = None
-bit_at (Some r) None = None
-bit_at (Some r) (Some i) = if nat_le r.low i && nat_le i r.high then Some (i - r.low) else None
-
--- the number of the port bit of this name, behind n others
-abbrev pub bit_number : ℕ → List Port → PortName → Option ℕ
-bit_number n [] name = None
-bit_number n (p ∷ ps) name =
-    if bytes_eq (upper p.name.text) name.name then option_map (λ k. n + k) (bit_at p.range name.index)
-    else bit_number (n + width p.range) ps name
 
 abbrev pub port_bit : Description → CellRow → Option ℕ
 port_bit d r = option_and_then (bit_number 0 d.ports) r.port
@@ -84,10 +69,6 @@ port_fits d r =
     if is_internal r.function then is_none r.port
     else is_some (port_bit d r) && (not (names_tap d r.port) && not (drives r.function && is_driven_below d r))
 
--- no cell has a number above this
-abbrev pub subscript_limit : ℕ
-subscript_limit = 65535
-
 abbrev pub is_control_cell : Description → ℕ → Bool
 is_control_cell d n = nat_le n subscript_limit && list_any (λ s. s.number == n && is_control s.function) d.cells
 
@@ -118,30 +99,6 @@ cells_end d = fold (λ n r. max n (suc r.number)) d.boundary_length d.cells
 abbrev pub unfit_cell : Description → Option ℕ
 unfit_cell d = find (λ k. not (is_fit d k)) (range_with_len 0 (min (suc subscript_limit) (cells_end d)))
 
--- ---- limits
-
--- the registers of the device's own, each with its length, in the order in which they are first named
-abbrev pub users_of : List AccessRow → List (Name × ℕ)
-users_of [] = []
-users_of (r ∷ rows) = and_user r.register r.len (filter (λ u. not (bytes_eq u.0 r.register)) (users_of rows)) (users_of rows)
-  where
-    and_user : Name → Option ℕ → List (Name × ℕ) → List (Name × ℕ) → List (Name × ℕ)
-    and_user name None others all = all
-    and_user name (Some n) others all = (name, n) ∷ others
-
-abbrev pub highest : Option Range → ℕ
-highest None = 0
-highest (Some r) = r.high
-
-abbrev pub is_within_limits : Description → Bool
-is_within_limits d =
-    nat_le d.instruction_length 64 && (nat_le (length d.opcodes) 256
-    && (nat_le d.boundary_length 4096
-    && (list_all (λ r. nat_le r.number subscript_limit) d.cells
-    && (list_all (λ p. nat_le (highest p.range) subscript_limit) d.ports
-    && (nat_le (sum_by (λ p. width p.range) d.ports) 8192
-    && (nat_le (length (users_of d.accesses)) 64 && list_all (λ u. nat_le u.1 4096) (users_of d.accesses)))))))
-
 -- ---- the device
 
 abbrev pub port_bits : Description → Port → List PortBit
@@ -162,12 +119,8 @@ cell d r = record { function = r.function; port = port_bit d r; control = if dri
 abbrev pub cells_of : Description → List Cell
 cells_of d = flat_map (λ k. map (cell d) (listed d k)) (range_with_len 0 d.boundary_length)
 
-abbrev pub user_number : List (Name × ℕ) → Name → ℕ
-user_number [] name = 0
-user_number (u ∷ us) name = if bytes_eq u.0 name then 0 else suc (user_number us name)
-
 abbrev pub place_of : List (Name × ℕ) → AccessRow → Option ℕ → Place
-place_of users r (Some n) = AtUser (user_number users r.register)
+place_of users r (Some n) = AtUser (unwrap_or (user_number users r.register) 0)
 place_of users r None = if bytes_eq r.register (codes "BOUNDARY") then AtBoundary else if bytes_eq r.register (codes "BYPASS") then AtBypass else AtDeviceId
 
 -- a pattern behind CAPTURES counts for a register of the device's own
