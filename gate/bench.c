@@ -1,5 +1,6 @@
 // The work of the program `bench` as plain loops in C: 64 bits to a word, with a moving start. Each row does what the row of
-// that name does there, prints its least time of a round in nanoseconds, its bits and a check, and must have the same check.
+// that name does there, prints its unit, its least time of a round in nanoseconds, its count and a check, and must have the
+// same count and check.
 #include <stdint.h>
 #include <stdio.h>
 #include <stdlib.h>
@@ -100,6 +101,8 @@ static Bits mixed(size_t n, size_t turned) {
 	return b;
 }
 
+static size_t count; // of what the last round went over
+
 static Bits reg, got, want, mask, to;
 static uint8_t digits[VECTOR / 4];
 
@@ -107,6 +110,7 @@ static uint64_t run_shift_in(void) {
 	uint64_t check = 0;
 	for (size_t i = 0; i < SHIFTS; i++)
 		check += shift_in(&reg, i % 3 == 0);
+	count = SHIFTS;
 	return check;
 }
 
@@ -116,6 +120,7 @@ static uint64_t run_first_bad(void) {
 		check += first_bad(&got, &want, &mask);
 		__asm__ volatile("" : : : "memory");
 	}
+	count = TIMES * VECTOR;
 	return check;
 }
 
@@ -127,6 +132,7 @@ static uint64_t run_from_hex(void) {
 			check += word(&b, k);
 		free(b.words);
 	}
+	count = TIMES * VECTOR;
 	return check;
 }
 
@@ -136,10 +142,221 @@ static uint64_t run_copy_bits(void) {
 		copy_bits(&to, k, &got, 7, COUNT);
 		check += word(&to, k);
 	}
+	count = TIMES * COUNT;
 	return check;
 }
 
-static void row(const char *name, uint64_t (*round)(void), size_t bits) {
+// ---- whole vectors, and the bytes of steps
+
+enum { HEADER = 5, DATA = 65520, TRAILER = 11, CYCLES = 100000, STEPS = 20, ROOM = 220000 };
+
+typedef struct { size_t len; Bits tdi, tdo, mask; } Part;
+
+static Part parts[3]; // header, data, trailer
+static Bits out;
+static uint8_t buffer[ROOM];
+
+static int get(const Bits *b, size_t i) {
+	size_t p = place(b, i);
+	return b->words[p / 64] >> (p % 64) & 1;
+}
+
+// Bit i of the whole vector: what is shifted in, and what is wanted out, or -1.
+static int vector_bit(size_t i, int *wanted) {
+	const Part *p = parts;
+	while (i >= p->len) i -= p++->len;
+	*wanted = get(&p->mask, i) ? get(&p->tdo, i) : -1;
+	return get(&p->tdi, i);
+}
+
+static size_t vector_len(void) { return parts[0].len + parts[1].len + parts[2].len; }
+
+static void make_vector(void) {
+	size_t lens[] = { HEADER, DATA, TRAILER }, last_wanted = 0;
+	int wanted;
+	for (int k = 0; k < 3; k++)
+		parts[k] = (Part){ lens[k], mixed(lens[k], 3), mixed(lens[k], 7), mixed(lens[k], 11) };
+	out = zeros(vector_len());
+	for (size_t i = 0; i < out.len; i++) {
+		vector_bit(i, &wanted);
+		if (wanted < 0) continue;
+		out.words[i / 64] |= (uint64_t)wanted << (i % 64);
+		last_wanted = i;
+	}
+	out.words[last_wanted / 64] ^= 1ull << (last_wanted % 64);
+}
+
+static uint64_t run_vector_bits(void) {
+	uint64_t check = 0;
+	for (int t = 0; t < STEPS; t++) {
+		size_t len = vector_len();
+		for (size_t i = 0; i < len; i++) {
+			int wanted, tdi = vector_bit(i, &wanted);
+			check += tdi + (wanted < 0 ? 0 : wanted ? 4 : 2);
+		}
+		__asm__ volatile("" : : : "memory");
+	}
+	count = (size_t)STEPS * (HEADER + DATA + TRAILER);
+	return check;
+}
+
+// The first bit that is not as wanted: its part from 1 on and its place there, or 0.
+static uint64_t judge(void) {
+	size_t i = 0;
+	for (int k = 0; k < 3; k++)
+		for (size_t at = 0; at < parts[k].len; at++, i++)
+			if (get(&parts[k].mask, at) && get(&parts[k].tdo, at) != get(&out, i))
+				return k + 1 + 4 * at;
+	return 0;
+}
+
+static uint64_t run_judge(void) {
+	uint64_t check = 0;
+	for (int t = 0; t < STEPS; t++) {
+		check += judge();
+		__asm__ volatile("" : : : "memory");
+	}
+	count = (size_t)STEPS * (HEADER + DATA + TRAILER);
+	return check;
+}
+
+static uint8_t *cycle(uint8_t *b, int tms, int tdi, int read) {
+	*b++ = '0' + 2 * tms + tdi;
+	if (read) *b++ = 'R';
+	*b++ = '4' + 2 * tms + tdi;
+	return b;
+}
+
+static uint8_t *walk(uint8_t *b, const char *path) { // a digit for the TMS of each state
+	while (*path) b = cycle(b, *path++ - '0', 0, 0);
+	return b;
+}
+
+static uint64_t digest(size_t n) {
+	uint64_t d = 0;
+	for (size_t i = 0; i < n; i++)
+		d = (d << 5 | d >> 59) ^ buffer[i];
+	return d;
+}
+
+static uint64_t run_scan_bytes(void) {
+	uint8_t *b = buffer;
+	for (int t = 0; t < STEPS; t++) {
+		size_t len = vector_len();
+		b = walk(buffer, "100");
+		for (size_t i = 0; i < len; i++) {
+			int wanted, tdi = vector_bit(i, &wanted);
+			b = cycle(b, i + 1 == len, tdi, wanted >= 0);
+		}
+		b = walk(b, "10");
+		*b++ = '0';
+		__asm__ volatile("" : : : "memory");
+	}
+	count = STEPS * (b - buffer);
+	return digest(b - buffer);
+}
+
+// The cycle of the state that a run stays in. It is read at each turn: if the compiler knew it, it would put down a fixed
+// pattern of sixteen bytes at once, which a source that may stop at any byte cannot.
+static volatile struct { int tms, tdi, read; } stay;
+
+static uint64_t run_run_bytes(void) {
+	uint8_t *b = buffer;
+	for (int t = 0; t < STEPS; t++) {
+		b = walk(buffer, "1010");
+		for (size_t i = 0; i < CYCLES; i++)
+			b = cycle(b, stay.tms, stay.tdi, stay.read);
+		b = walk(b, "110");
+		*b++ = '0';
+		__asm__ volatile("" : : : "memory");
+	}
+	count = STEPS * (b - buffer);
+	return digest(b - buffer);
+}
+
+// ---- one device, edge by edge
+
+enum { CELLS = 256, EDGES = 1000000 };
+enum { RESET, IDLE, DR_SELECT, DR_CAPTURE, DR_SHIFT, DR_EXIT1, DR_PAUSE, DR_EXIT2, DR_UPDATE,
+	IR_SELECT, IR_CAPTURE, IR_SHIFT, IR_EXIT1, IR_PAUSE, IR_EXIT2, IR_UPDATE };
+
+static const uint8_t after[16][2] = {
+	{ IDLE, RESET }, { IDLE, DR_SELECT }, { DR_CAPTURE, IR_SELECT }, { DR_SHIFT, DR_EXIT1 }, { DR_SHIFT, DR_EXIT1 },
+	{ DR_PAUSE, DR_UPDATE }, { DR_PAUSE, DR_EXIT2 }, { DR_SHIFT, DR_UPDATE }, { IDLE, DR_SELECT },
+	{ IR_CAPTURE, RESET }, { IR_SHIFT, IR_EXIT1 }, { IR_SHIFT, IR_EXIT1 },
+	{ IR_PAUSE, IR_UPDATE }, { IR_PAUSE, IR_EXIT2 }, { IR_SHIFT, IR_UPDATE }, { IDLE, DR_SELECT },
+};
+
+typedef struct {
+	int state, tdo, trst, has_trst, bypass, selects_boundary; // tdo is -1 where it is not driven
+	uint32_t latch, stage;
+	Bits core, boundary, update;
+} Chip;
+
+static Chip chip;
+
+static void take(Bits *to, const Bits *from) {
+	for (size_t k = 0; k < to->count; k++) to->words[k] = from->words[k];
+	to->start = from->start;
+}
+
+static void decode(Chip *c) { c->selects_boundary = c->latch == 0 || c->latch == 1; }
+
+static void rise(Chip *c, int tms, int tdi) {
+	if (c->trst && c->has_trst) return;
+	switch (c->state) {
+	case DR_CAPTURE:
+		if (c->selects_boundary) take(&c->boundary, &c->core);
+		else c->bypass = 0;
+		break;
+	case DR_SHIFT:
+		if (c->selects_boundary) shift_in(&c->boundary, tdi);
+		else c->bypass = tdi;
+		break;
+	case IR_CAPTURE: c->stage = 1; break;
+	case IR_SHIFT: c->stage = c->stage >> 1 | (uint32_t)tdi << 1; break;
+	}
+	c->state = after[c->state][tms];
+}
+
+static void fall(Chip *c) {
+	switch (c->state) {
+	case DR_UPDATE:
+		if (c->selects_boundary) take(&c->update, &c->boundary);
+		break;
+	case IR_UPDATE: c->latch = c->stage; decode(c); break;
+	case RESET: c->latch = 3; decode(c); break;
+	}
+	c->tdo = c->state == DR_SHIFT ? (c->selects_boundary ? get(&c->boundary, 0) : c->bypass) : c->state == IR_SHIFT ? (int)(c->stage & 1) : -1;
+}
+
+static void make_chip(void) {
+	chip = (Chip){ .tdo = -1, .has_trst = 1, .latch = 3, .core = zeros(CELLS), .boundary = zeros(CELLS), .update = zeros(CELLS) };
+	for (size_t k = 0; k < chip.core.count; k++) chip.core.words[k] = ~0ull;
+}
+
+static void clocked(const char *path, int tdi) {
+	for (; *path; path++) {
+		rise(&chip, *path - '0', tdi);
+		fall(&chip);
+	}
+}
+
+static uint64_t run_chip_shift(void) {
+	uint64_t check = 0;
+	clocked("1111101100", 0);
+	clocked("0", 1);
+	clocked("11100", 0);
+	for (size_t i = 0; i < EDGES / 2; i++) {
+		rise(&chip, 0, i % 3 == 0);
+		fall(&chip);
+		if (chip.tdo == 1) check += i;
+	}
+	count = EDGES;
+	return check;
+}
+
+static void row(const char *name, const char *unit, uint64_t (*round)(void)) {
 	uint64_t least = UINT64_MAX, check = 0;
 	for (int r = 0; r < ROUNDS; r++) {
 		struct timespec a, b;
@@ -149,7 +366,7 @@ static void row(const char *name, uint64_t (*round)(void), size_t bits) {
 		uint64_t t = (b.tv_sec - a.tv_sec) * 1000000000ull + b.tv_nsec - a.tv_nsec;
 		if (t < least) least = t;
 	}
-	printf("%s %llu %zu %llu\n", name, (unsigned long long)least, bits, (unsigned long long)check);
+	printf("%s %s %llu %zu %llu\n", name, unit, (unsigned long long)least, count, (unsigned long long)check);
 }
 
 int main(void) {
@@ -165,9 +382,16 @@ int main(void) {
 	for (size_t k = 0; k < VECTOR / 4; k++)
 		digits[VECTOR / 4 - 1 - k] = "0123456789ABCDEF"[word(&got, k / 16) >> (4 * (k % 16)) & 15];
 	to = mixed(VECTOR, 11);
-	row("shift_in", run_shift_in, SHIFTS);
-	row("first_bad", run_first_bad, (size_t)TIMES * VECTOR);
-	row("from_hex", run_from_hex, (size_t)TIMES * VECTOR);
-	row("copy_bits", run_copy_bits, (size_t)TIMES * COUNT);
+	row("shift_in", "bit", run_shift_in);
+	row("first_bad", "bit", run_first_bad);
+	row("from_hex", "bit", run_from_hex);
+	row("copy_bits", "bit", run_copy_bits);
+	make_vector();
+	row("vector_bits", "bit", run_vector_bits);
+	row("judge", "bit", run_judge);
+	row("scan_bytes", "byte", run_scan_bytes);
+	row("run_bytes", "byte", run_run_bytes);
+	make_chip();
+	row("chip_shift", "edge", run_chip_shift);
 	return 0;
 }

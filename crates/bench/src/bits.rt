@@ -1,5 +1,5 @@
 //! Lists of bits.
-use crate::{Row, print_row};
+use crate::{Row, Unit, print_row};
 use jt_bits::{Bits, first_bad};
 use std::alloc::{AllocError, Global};
 use std::io;
@@ -36,7 +36,7 @@ impl Numbers {
 }
 
 /// A list of `n` such bits, whose bit 0 has moved by `turned` places.
-fn mixed(alloc: Global, n: usize, turned: usize) -> Result<Bits, AllocError> {
+pub fn mixed(alloc: Global, n: usize, turned: usize) -> Result<Bits, AllocError> {
     let mut bits = Bits::zeros(alloc, n)?;
     let mut numbers = Numbers::new();
     for _ in 0..n.saturating_add(turned) {
@@ -51,7 +51,7 @@ fn mixed(alloc: Global, n: usize, turned: usize) -> Result<Bits, AllocError> {
 pub fn rows(rt: &HostRuntime) -> io::Result<()> {
     let alloc = rt.alloc();
     let mut register = mixed(alloc, REGISTER, 5)?;
-    print_row(rt, "shift_in", || Ok(shift_in(&mut register)))?;
+    print_row(rt, "shift_in", Unit::Bit, || Ok(shift_in(&mut register)))?;
     let got = mixed(alloc, VECTOR, 5)?;
     let mut want = got.resized(alloc, VECTOR)?;
     let last = VECTOR - 1;
@@ -60,14 +60,19 @@ pub fn rows(rt: &HostRuntime) -> io::Result<()> {
         want.set(last, !bit);
     }
     let mask = Bits::ones(alloc, VECTOR)?;
-    print_row(rt, "first_bad", || Ok(find_first_bad(&got, &want, &mask)))?;
+    print_row(
+        rt,
+        "first_bad",
+        Unit::Bit,
+        || Ok(find_first_bad(&got, &want, &mask)),
+    )?;
     let mut digits = Vec::with_capacity(alloc, VECTOR / 4)?;
     for k in (0..VECTOR / 4).rev() {
         digits.push(got.hex_digit(k))?;
     }
-    print_row(rt, "from_hex", || from_hex(alloc, &digits))?;
+    print_row(rt, "from_hex", Unit::Bit, || from_hex(alloc, &digits))?;
     let mut to = mixed(alloc, VECTOR, 11)?;
-    print_row(rt, "copy_bits", || Ok(copy_bits(&mut to, &got)))
+    print_row(rt, "copy_bits", Unit::Bit, || Ok(copy_bits(&mut to, &got)))
 }
 
 fn shift_in(register: &mut Bits) -> Row {
@@ -78,7 +83,7 @@ fn shift_in(register: &mut Bits) -> Row {
         }
     }
     Row {
-        bits: SHIFTS,
+        count: SHIFTS,
         check,
     }
 }
@@ -92,7 +97,7 @@ fn find_first_bad(got: &Bits, want: &Bits, mask: &Bits) -> Row {
         }
     }
     Row {
-        bits: TIMES * VECTOR,
+        count: TIMES * VECTOR,
         check,
     }
 }
@@ -106,7 +111,7 @@ fn from_hex(alloc: Global, digits: &[u8]) -> Result<Row, AllocError> {
         }
     }
     Ok(Row {
-        bits: TIMES * VECTOR,
+        count: TIMES * VECTOR,
         check,
     })
 }
@@ -121,7 +126,7 @@ fn copy_bits(to: &mut Bits, from: &Bits) -> Row {
         }
     }
     Row {
-        bits: TIMES * COUNT,
+        count: TIMES * COUNT,
         check,
     }
 }

@@ -2,6 +2,9 @@
 #![tactic(auto)]
 
 mod bits;
+mod chips;
+mod programs;
+mod scans;
 
 use std::alloc::AllocError;
 use std::process::ExitCode;
@@ -14,21 +17,22 @@ const ROUNDS: u8 = 7;
 /// What one measured call did.
 #[derive(Drop, Clone, Copy)]
 pub struct Row {
-    /// How many bits a round moved.
-    bits: usize,
+    /// How many bits, bytes or edges a round went over.
+    count: usize,
     /// A number of what came out, which C's row must have too.
     check: u64,
 }
 
 fn main(rt: HostRuntime) -> ExitCode {
-    let asked = match env::args(&rt) {
-        Ok(words) => words.count() > 1,
+    let mut words = match env::args(&rt) {
+        Ok(words) => words,
         Err(_) => return ExitCode::FAILURE,
     };
-    let told = if asked {
-        measure(&rt)
-    } else {
-        rt.println("usage: bench run")
+    let _program = words.next();
+    let told = match words.next() {
+        Some(word) if word.as_str() == "run" => measure(&rt),
+        Some(word) if word.as_str() == "accept" => programs::accept(&rt),
+        _ => rt.println("usage: bench run | bench accept <text"),
     };
     if told.is_ok() {
         ExitCode::SUCCESS
@@ -37,29 +41,52 @@ fn main(rt: HostRuntime) -> ExitCode {
     }
 }
 
-/// Measures each row and prints it.
-fn measure(rt: &HostRuntime) -> io::Result<()> {
-    bits::rows(rt)
+/// What a row counts.
+#[derive(Drop, Clone, Copy)]
+pub enum Unit {
+    Bit,
+    Byte,
+    Edge,
 }
 
-/// Prints a row's name, which C's row has too, its least time of a round in nanoseconds, its bits and its check.
+impl Unit {
+    fn word(self) -> &'static str {
+        match self {
+            Unit::Bit => "bit",
+            Unit::Byte => "byte",
+            Unit::Edge => "edge",
+        }
+    }
+}
+
+/// Measures each row and prints it.
+fn measure(rt: &HostRuntime) -> io::Result<()> {
+    bits::rows(rt)?;
+    scans::rows(rt)?;
+    chips::rows(rt)
+}
+
+/// Prints a row's name and unit, which C's row has too, its least time of a round in nanoseconds, its count and its
+/// check.
 pub fn print_row<F: FnMut() -> Result<Row, AllocError>>(
     rt: &HostRuntime,
     name: &str,
+    unit: Unit,
     mut round: F,
 ) -> io::Result<()>
     requires { (f : _) → F.pre f }
 {
     let mut least = u64::MAX;
-    let mut bits = 0;
+    let mut count = 0;
     let mut check = 0;
     for _ in 0..ROUNDS {
         let start = Instant::now(rt)?;
         let row = round()?;
         let time = u64::try_from(start.elapsed(rt)?.as_nanos()).unwrap_or(u64::MAX);
         least = least.min(time);
-        bits = row.bits;
+        count = row.count;
         check = row.check;
     }
-    rt.println(format_args!("{name} {least} {bits} {check}"))
+    let unit = unit.word();
+    rt.println(format_args!("{name} {unit} {least} {count} {check}"))
 }

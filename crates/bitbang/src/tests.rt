@@ -105,8 +105,10 @@ fn paths_and_lines(rt: HostRuntime) {
     }
 }
 
-/// Asserts that these are the bytes of the scan of a vector from IDLE to IDLE.
-fn assert_scan(rt: &impl Abort, column: Column, vector: Vector, wanted: &[u8]) {
+/// Asserts that these are the bytes of the scan of a vector from a resting place to IDLE.
+fn assert_scan(rt: &impl Abort, place: State, column: Column, vector: Vector, wanted: &[u8])
+    requires { is_stable place ≡ true }
+{
     let len = vector.len();
     assert!(rt; len > 0 && len <= 65_536);
     let scan = Action::Scan {
@@ -114,7 +116,7 @@ fn assert_scan(rt: &impl Abort, column: Column, vector: Vector, wanted: &[u8]) {
         vector,
         end: State::Idle,
     };
-    assert_bytes(rt, State::Idle, scan, wanted);
+    assert_bytes(rt, place, scan, wanted);
 }
 
 /// No bits.
@@ -140,13 +142,60 @@ fn scans(rt: HostRuntime) -> Result<(), HexFault> {
         mask: None,
     };
     let vector = join(nothing(), body, nothing());
-    assert_scan(&rt, Column::Ir, vector, b"262604041R53R726040");
+    assert_scan(
+        &rt,
+        State::Reset,
+        Column::Ir,
+        vector,
+        b"04262604041R53R726040",
+    );
+    assert_scan(
+        &rt,
+        State::IrPause,
+        Column::Ir,
+        vector,
+        b"2626262604041R53R726040",
+    );
     // the mask 1 asks for bit 0 alone
     let body = Part3 {
         mask: Some(&tdo),
         ..body
     };
     let vector = join(nothing(), body, nothing());
-    assert_scan(&rt, Column::Dr, vector, b"2604041R53726040");
+    assert_scan(&rt, State::Idle, Column::Dr, vector, b"2604041R53726040");
+    Ok(())
+}
+
+/// Each of 300 bits is three bytes, between those that lead there, those that lead away and the last one.
+#[test]
+fn a_scan_of_300_bits(rt: HostRuntime) -> Result<(), HexFault> {
+    let zero = Bits::from_hex(rt.alloc(), b"0", 1)?;
+    let body = Part3 {
+        len: 300,
+        tdi: Some(&zero),
+        tdo: Some(&zero),
+        mask: None,
+    };
+    let vector = join(nothing(), body, nothing());
+    assert!(rt; vector.len() == 300);
+    let step = Step {
+        number: 1,
+        what: Action::Scan {
+            column: Column::Dr,
+            vector,
+            end: State::Idle,
+        },
+    };
+    let mut bytes = StepBytes::of(State::Reset, &step);
+    assert_eq!(rt; bytes.left(), 8 + 900 + 4 + 1);
+    let mut asked: u32 = 0;
+    for at in 0..913u64 {
+        assert_eq!(rt; bytes.left(), 913 - at);
+        if bytes.next() == Some(b'R') {
+            asked = asked.saturating_add(1);
+            assert_eq!(rt; bytes.peek(), Some(if asked == 300 { b'6' } else { b'4' }));
+        }
+    }
+    assert_eq!(rt; (asked, bytes.next()), (300, None));
     Ok(())
 }

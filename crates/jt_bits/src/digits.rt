@@ -73,6 +73,10 @@ pub fn has_one_beyond(digits: &[u8], n: usize) -> bool
     let mut rest = digits;
     let mut left = n;
     while let Some((digit, front)) = rest.split_last() {
+        // No more digits than there are places left, at four places a digit.
+        if rest.len() <= left / 4 {
+            return false;
+        }
         if digit_has_one_beyond(*digit, left) {
             return true;
         }
@@ -87,7 +91,7 @@ pub fn has_one_beyond(digits: &[u8], n: usize) -> bool
 fn digit_has_one_beyond(digit: u8, n: usize) -> bool
     ensures { result ≡ list_any (λ bit. bit) (drop n (spec.bits_of digit)) }
 {
-    !is_white(digit) && four_bits(digit).iter().skip(n).any(|bit| *bit)
+    n < 4 && !is_white(digit) && four_bits(digit).iter().skip(n).any(|bit| *bit)
 }
 
 /// The `n` lowest binary digits of hexadecimal text, the lowest first: sixteen digits a word, from the last on.
@@ -162,7 +166,7 @@ fn bad_place(digits: &[u8]) -> Option<usize>
 {
     digits
         .iter()
-        .position(|byte| !(is_white(*byte) || byte.is_ascii_hexdigit()))
+        .position(|byte| !(byte.is_ascii_hexdigit() || is_white(*byte)))
 }
 
 fn is_white(byte: u8) -> bool

@@ -14,4 +14,5 @@ pub mod SizeLaws
 pub mod StateLists
 pub mod StatementLaws
 pub mod TextLaws
+pub mod WrittenLaws
 pub mod MeasureLaws

@@ -1,5 +1,5 @@
 -- Periods and times are least, counts whole.
-use Rattle.std.proofs.Common.{◌≡◌, ℕ, ◌+◌, ◌*◌, ◌/◌, ◌%◌, ◌^◌, ◌<◌, ◌≤◌, Bool, true, false, nat_lt, if◌then◌else◌, Result, Ok, Err, refl, sym, ap, subst, ◌∙◌, arith, ⊎_elim}
+use Rattle.std.proofs.Common.{◌≡◌, ℕ, ◌+◌, ◌*◌, ◌/◌, ◌%◌, ◌^◌, ◌<◌, ◌≤◌, Bool, true, false, nat_lt, if◌then◌else◌, Result, Ok, Err, refl, ap, subst, ◌∙◌, arith, ⊎_elim}
 use Rattle.std.specs.Prelude.{◌==◌}
 use Rattle.std.proofs.str.Laws.{order}
 use Rattle.std.specs.Int.{div_ceil}
@@ -8,7 +8,6 @@ use Rattle.std.proofs.lemmas.Grind.{div_ceil_times}
 use Rattle.std.proofs.lemmas.Bool.Decides.{nat_tests}
 use Rattle.svf_parse.specs.declared.fault.Code.{Code}
 use Rattle.svf_parse.specs.declared.fault.Code.TheVariants as code
-use Rattle.svf_parse.specs.Numbers.{count_of, period_of, time_of}
 use Rattle.svf_parse.specs.Measures.{CountIsWhole, IsLeast, PeriodIsLeast, TimeIsLeast}
 
 -- a quotient rounded up is the least number whose product is not below

@@ -11,4 +11,5 @@ pub mod Sizes
 pub mod Spelling
 pub mod View
 pub mod Words
+pub mod Written
 pub mod Measures

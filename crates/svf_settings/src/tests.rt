@@ -118,6 +118,13 @@ fn fields_that_are_taken_over(rt: HostRuntime) -> Result<(), Fail> {
             ),
             // a mask is not kept past a change of length, and a TDO not at all
             (
+                b"SIR 2 TDI (3); SDR 8 TDI (00) TDO (F0) MASK (0F); SDR 4 TDI (0) TDO (0); SDR 8 TDI (00) TDO (F0);",
+                "4; 1 Ir Data0 Data1 11 xx IDLE; \
+                 2 Dr Data0 Data1 Data2 Data3 Data4 Data5 Data6 Data7 00000000 0000xxxx IDLE; \
+                 3 Dr Data0 Data1 Data2 Data3 0000 0000 IDLE; \
+                 4 Dr Data0 Data1 Data2 Data3 Data4 Data5 Data6 Data7 00000000 00001111 IDLE",
+            ),
+            (
                 b"SDR 2 TDI (0) TDO (2) MASK (1); SDR 2 TDO (3); SDR 1 TDI (0); SDR 2 TDI (0) TDO (2); SDR 2;",
                 "5; 1 Dr Data0 Data1 00 0x IDLE; 2 Dr Data0 Data1 00 1x IDLE; 3 Dr Data0 0 x IDLE; \
                  4 Dr Data0 Data1 00 01 IDLE; 5 Dr Data0 Data1 00 xx IDLE",
@@ -152,8 +159,9 @@ fn ends_and_paths(rt: HostRuntime) -> Result<(), Fail> {
         rt.alloc(),
         &[
             (
-                b"SIR 2 TDI (0); ENDDR DRPAUSE; SDR 2 TDI (1); TRST ON;",
-                "4; 1 Ir Data0 Data1 00 xx IDLE; 3 Dr Data0 Data1 10 xx DRPAUSE; 4 On",
+                b"SIR 4 TDI (0); ENDDR DRPAUSE; SDR 6 TDI (1B); TRST ON;",
+                "4; 1 Ir Data0 Data1 Data2 Data3 0000 xxxx IDLE; \
+                 3 Dr Data0 Data1 Data2 Data3 Data4 Data5 110110 xxxxxx DRPAUSE; 4 On",
             ),
             (
                 b"SIR 2 TDI (3); STATE DRSELECT DRCAPTURE DRSHIFT DRSHIFT DREXIT1 DRUPDATE IDLE;",

@@ -85,6 +85,11 @@ tail_at l m t i k e =
     let at : i ≡ length (l ++ m) + k = omega (arith, length-append l m) in
     ap (slice_get (l ++ m ++ t)) at ∙ get-right (l ++ m) t k
 
+pub past_end : {A : Type 0} (xs : List A) (i : ℕ) → slice_get xs i ≡ None → length xs ≤ i
+past_end [] i e = omega arith
+past_end (x ∷ xs) zero e = absurd (cc)
+past_end (x ∷ xs) (suc i) e = omega (arith, past_end xs i e)
+
 -- ---- paths
 
 short_towards : (s : State) → length (towards_idle s) ≤ 2

@@ -12,3 +12,6 @@ mod source;
 pub use bitbang_table::Cycle;
 pub use place::place_after;
 pub use source::{Source, Spot};
+
+#[cfg(test)]
+mod tests;

@@ -166,11 +166,10 @@ impl<'a> Source<'a> {
             return path_cycle(self.lead.as_slice(), self.at);
         }
         let at = self.at - lead;
-        let middle = self.middle.len();
-        if at < middle {
-            return self.middle.cycle(at);
+        if let Some(cycle) = self.middle.cycle(at) {
+            return Some(cycle);
         }
-        path_cycle(self.tail.as_slice(), at - middle)
+        path_cycle(self.tail.as_slice(), at.saturating_sub(self.middle.len()))
     }
 }
 

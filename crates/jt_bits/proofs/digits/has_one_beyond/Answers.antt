@@ -1,6 +1,9 @@
 use Rattle.std.proofs.Common.{sym, ◌∙◌, arith}
-use Rattle.jt_bits.proofs.HexLaws.{beyond_found, beyond_next, beyond-none, white_bits, digit_bits}
+use Rattle.jt_bits.proofs.HexLaws.{beyond_short, beyond_found, beyond_next, beyond-none, white_bits, digit_bits}
 use Rattle.jt_bits.proofs.digits.has_one_beyond.Goals as goal
+
+pub returns-then-rest-left : goal.returns-then-rest-left
+returns-then-rest-left c = sym (beyond_short c.loop-digit.left c.loop-digit.rest.now c.if-rest-left.true) ∙ c.loop-digit.invariant
 
 pub returns-then-digit_has_one_beyond : goal.returns-then-digit_has_one_beyond
 returns-then-digit_has_one_beyond c =
