@@ -1,5 +1,8 @@
 -- Playing on until the end: why it comes.
-use Rattle.std.specs.Prelude.{◌≡◌, Bool, true, ◌||◌, ℕ, ◌+◌, ◌*◌, ◌-◌, ◌<◌, List, [], ◌∷◌, length}
+use Rattle.std.specs.Prelude.{◌≡◌, Bool, true, ◌||◌, ℕ, ◌+◌, ◌*◌, ◌-◌, ◌^◌, ◌<◌, List, [], ◌∷◌, length, min, Option, Some, None, if◌then◌else◌}
+use Rattle.plays.specs.declared.ending.Ending.{Ending}
+use Rattle.plays.specs.declared.ending.Ending.TheVariants.{Lost}
+use Rattle.plays.specs.Streams as stream
 use Rattle.jt_board.specs.Chain.{BoardState}
 use Rattle.plays.specs.Events.{Event, Put, Serve, Take, World, empty_pipes, run}
 use Rattle.plays.specs.Play.{turns}
@@ -39,3 +42,7 @@ pub record IsFinished (before after : JoinedState) : Type 0 where
   pub kept : HasNoLose events
   pub state : after ≡ record before { world = run side before.down_room before.up_room events before.world }
   pub over : is_over after.world ≡ true
+
+-- How a play stands: lost at the command in work, or once the board took `Q` with what the player tells of its end.
+abbrev pub ended_of : World StreamState → Option Ending
+ended_of w = if w.lost then Some (Lost (min (stream.working w.player) (2 ^ 64 - 1))) else if w.quit then stream.ended 256 w.player else None

@@ -1,15 +1,16 @@
 //! Player and board joined by two bounded pipes.
 
-ghost use Rattle.std.specs.Prelude.{◌≡◌, ◌≤◌, ◌<◌, ℕ, map, MatchResult};
+ghost use Rattle.std.specs.Prelude.{◌≡◌, ◌≤◌, ◌<◌, ℕ, Some, map, MatchResult};
 ghost use Rattle.plays.specs.Events.{empty_pipes, moving, run};
 ghost use Rattle.plays.specs.PlayingOn.{Stops};
 ghost use Rattle.plays.specs.Streams.{fresh};
-ghost use Rattle.joined.specs.Finishing.{IsFinished};
+ghost use Rattle.joined.specs.Finishing.{IsFinished, ended_of};
 ghost use Rattle.joined.specs.Joining.{event_of, side};
 
-use crate::event::Event;
+use crate::event::{Event, Standing};
 use crate::pipes::Pipes;
 use jt_board::Board;
+use plays::Ending;
 use stream_player::Player;
 use std::alloc::Global;
 use std::marker::Model;
@@ -59,18 +60,41 @@ impl Joined {
         }
     }
 
-    /// What a list of events does, and how many of them moved something.
-    pub fn run(&mut self, events: &[Event]) -> u64
-        ensures moved { result ≡ moving side self.old.down_room self.old.up_room (map event_of events.now) self.old.world }
+    /// What a list of events does: how many of them moved something, and how the play stands then. After an end or a loss nothing
+    /// changes.
+    pub fn run(&mut self, events: &[Event]) -> Standing
+        ensures ended { result.ended ≡ ended_of self.new.world }
+        ensures lost { result.lost ≡ self.new.world.lost }
+        ensures moved { result.moved ≡ moving side self.old.down_room self.old.up_room (map event_of events.now) self.old.world }
         ensures world { self.new ≡ record self.old { world = run side self.old.down_room self.old.up_room (map event_of events.now) self.old.world } }
     {
-        self.pipes.run(events)
+        let moved = self.pipes.run(events);
+        Standing {
+            moved,
+            ended: self.pipes.ended(),
+            lost: self.pipes.is_lost(),
+        }
     }
 
-    /// Goes on, without a loss, until the play has ended or was lost before.
-    pub fn finish(&mut self)
-        ensures { IsFinished self.old self.new }
+    /// Goes on, without a loss, until the play has ended or was lost before. Answers how it ended.
+    pub fn finish(&mut self) -> Ending
+        ensures finished { IsFinished self.old self.new }
+        ensures ending { ended_of self.new.world ≡ Some result }
     {
-        self.pipes.finish();
+        self.pipes.finish()
+    }
+
+    /// The board, as the events left it.
+    pub fn board(&self) -> &Board
+        ensures { result.now ≡ self.now.world.board }
+    {
+        self.pipes.board()
+    }
+
+    /// The board, of which this play gives up its hold.
+    pub fn into_board(self) -> Board
+        ensures { result ≡ self.world.board }
+    {
+        self.pipes.into_board()
     }
 }

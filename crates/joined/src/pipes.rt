@@ -1,9 +1,9 @@
 //! The two pipes, and what each event does to them.
 
-ghost use Rattle.std.specs.Prelude.{◌≡◌, ◌≤◌, ◌<◌, ◌+◌, ◌-◌, ℕ, Bool, [], min, length, take, map, is_some, nat_lt, false, unwrap_or, MatchResult};
+ghost use Rattle.std.specs.Prelude.{◌≡◌, ◌≤◌, ◌<◌, ◌+◌, ◌-◌, ℕ, Bool, [], min, length, take, map, is_some, nat_lt, false, unwrap_or, Some, MatchResult};
 ghost use Rattle.bitbang_table.specs.Protocol.{decode};
 ghost use Rattle.plays.specs.Events.{empty_pipes, happens, has_room, moved, moving, put_bytes, run, served, take_answers};
-ghost use Rattle.joined.specs.Finishing.{IsFinished, IsReached, is_over};
+ghost use Rattle.joined.specs.Finishing.{IsFinished, IsReached, ended_of, is_over};
 ghost use Rattle.joined.specs.Joining.{event_of, serve_one, side};
 
 use crate::event::Event;
@@ -11,6 +11,7 @@ use crate::joined::Unjoined;
 use bitbang_table::{Message, decode};
 use circular_buffer::HeapCircularBuffer;
 use jt_board::{Board, Reply};
+use plays::Ending;
 use stream_player::Player;
 use std::alloc::Global;
 use std::marker::Model;
@@ -208,8 +209,54 @@ impl Pipes {
         self.quit || self.lost
     }
 
+    /// Whether the play was lost.
+    pub(crate) fn is_lost(&self) -> bool
+        ensures { result ≡ self.now.world.lost }
+    {
+        self.lost
+    }
+
+    /// How the play ended, if it did.
+    pub(crate) fn ended(&self) -> Option<Ending>
+        ensures { result ≡ ended_of self.now.world }
+    {
+        if self.lost {
+            let command = self.player.working();
+            return Some(Ending::Lost { command });
+        }
+        if self.quit { self.player.ended() } else { None }
+    }
+
+    /// The board.
+    pub(crate) fn board(&self) -> &Board
+        ensures { result.now ≡ self.now.world.board }
+    {
+        &self.board
+    }
+
+    /// The board, given up.
+    pub(crate) fn into_board(self) -> Board
+        ensures { result ≡ self.world.board }
+    {
+        let Pipes { board, .. } = self;
+        board
+    }
+
+    /// Goes on, without a loss, until the play has ended. Answers how it ended.
+    pub(crate) fn finish(&mut self) -> Ending
+        requires { IsReached self.old }
+        ensures finished { IsFinished self.old self.new }
+        ensures ending { ended_of self.new.world ≡ Some result }
+    {
+        self.go_on();
+        match self.ended() {
+            Some(ending) => ending,
+            None => unreachable!(),
+        }
+    }
+
     /// Goes on, without a loss, until the play has ended.
-    pub(crate) fn finish(&mut self)
+    fn go_on(&mut self)
         requires { IsReached self.old }
         ensures { IsFinished self.old self.new }
     {

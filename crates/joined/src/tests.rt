@@ -1,6 +1,7 @@
 use crate::{Event, Joined};
 use direct_play::accept;
 use jt_board::Board;
+use plays::Ending;
 use stream_player::Player;
 use std::process::Abort;
 use std::test::Fail;
@@ -21,10 +22,10 @@ fn byte_by_byte(rt: HostRuntime) -> Result<(), Fail> {
     };
     let mut moved = 0u64;
     for _ in 0..20 {
-        moved = moved.saturating_add(joined.run(&[Event::Put(1), Event::Serve(1), Event::Take(1)]));
+        moved = moved.saturating_add(joined.run(&[Event::Put(1), Event::Serve(1), Event::Take(1)]).moved);
     }
     assert!(&rt; moved == 32);
-    joined.finish();
-    assert!(&rt; joined.run(&[Event::Put(1), Event::Lose]) == 0);
+    assert!(&rt; joined.finish() == Ending::Pass);
+    assert!(&rt; joined.run(&[Event::Put(1), Event::Lose]).moved == 0);
     Ok(())
 }

@@ -3,7 +3,7 @@ use Rattle.plays.specs.Events.{Event, run}
 use Rattle.every_schedule.specs.Fair.{HasNoLose}
 use Rattle.joined.specs.Finishing.{most, sum_of}
 use Rattle.joined.specs.Joining.{side}
-use Rattle.joined.proofs.pipes.Pipes.finish.Given as goal
+use Rattle.joined.proofs.pipes.Pipes.go_on.Given as goal
 
 abbrev pub invariant-loop-self : goal.invariant-loop-self
 invariant-loop-self l =
