@@ -12,17 +12,18 @@ use Rattle.jt_board.specs.Sound.{HasDevice, IsSoundBoard}
 use Rattle.plays.specs.declared.ending.Ending.{Ending}
 use Rattle.plays.specs.declared.ending.Ending.TheVariants.{Lost}
 use Rattle.plays.specs.DirectPlay.{MeansFromOpening}
-use Rattle.plays.specs.Events.{Event, Known, World, by_answers, fresh as fresh_world, run}
+use Rattle.plays.specs.Events.{Event, Known, World, by_answers, empty_pipes, fresh as fresh_world, run}
 use Rattle.plays.specs.Play.{Played, ending_for, play, player, sent, turns}
 use Rattle.plays.specs.Playing.{PlayerState, has_bad_answer}
 use Rattle.plays.specs.PlayingOn.{Stops}
 use Rattle.plays.specs.Streams as stream
-use Rattle.plays.specs.Streams.{StreamState}
+use Rattle.plays.specs.Streams.{StreamState, fresh}
 use Rattle.plays.proofs.Asks.{asks, hear-asks, hear-full, sent-full, turns-ask}
 use Rattle.plays.proofs.Described.{means_from_opening}
 use Rattle.every_schedule.specs.Laws.{IsInside, IsWhole, taken_in}
 use Rattle.every_schedule.proofs.Honest.{ending-full, none-bad-any, told-bits}
 use Rattle.every_schedule.proofs.Quits.{full-quits, turns-no-quit}
+use Rattle.every_schedule.proofs.Runs.{run-append}
 use Rattle.every_schedule.proofs.Whole.{every_schedule_inside, whole_at_end}
 use Rattle.streaming.specs.Histories as history
 use Rattle.streaming.specs.Histories.{WasAsked}
@@ -30,7 +31,7 @@ use Rattle.streaming.specs.Laws.{history_of, stream_of}
 use Rattle.streaming.proofs.Agree.{agree, ask-count, counts, quit-byte}
 use Rattle.joined.specs.Finishing.{IsReached, ended_of, is_over}
 use Rattle.joined.specs.Joining.{JoinedState, side}
-use Rattle.joined.specs.Laws.{EndsAsTheFullPlay, WhatIsJoinedEndsAsTheFullPlay, WhatIsJoinedMeansTheProgram, joined_after}
+use Rattle.joined.specs.Laws.{EndsAsTheFullPlay, MeansAfter, WhatIsJoinedEndsAsTheFullPlay, WhatIsJoinedMeansTheProgram, joined_after}
 use Rattle.joined.proofs.Finished.{carries, link, world_of}
 
 -- A history that has all of the full play: its ending is the full play's.
@@ -134,3 +135,13 @@ tells-some s r done none = by s.world.lost refl
         let quit : s.world.quit ≡ true = quit-of s.world.quit s.world.lost done unlost in
         let at-end = ends P r.start s.down_room s.up_room r.events (ap (λ (w : World StreamState). w.quit) (sym r.world) ∙ quit) in
         let clash : Some (play P r.start).ending ≡ None = sym at-end.ending ∙ ap ended_of (sym r.world) ∙ none in cc
+
+-- further events of a play that came from a program and a board
+pub means-after : (s : JoinedState) (more : List Event) (after : World StreamState) → after ≡ run side s.down_room s.up_room more s.world → MeansAfter s after
+means-after s more after e program start es from legal sound some ending unlost ended =
+    let there : after ≡ joined_after program start s.down_room s.up_room (es ++ more) =
+    e ∙ ap (run side s.down_room s.up_room more) from
+    ∙ sym (run-append side s.down_room s.up_room es more (empty_pipes (fresh Stops program) start)) in
+    subst (λ (w : World StreamState). MeansFromOpening program start ending w.board) (sym there)
+    (means program start s.down_room s.up_room (es ++ more) ending legal sound some (ap (λ (w : World StreamState). w.lost) (sym there) ∙ unlost)
+    (ap ended_of (sym there) ∙ ended))

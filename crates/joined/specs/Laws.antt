@@ -11,7 +11,7 @@ use Rattle.plays.specs.Play.{play}
 use Rattle.plays.specs.PlayingOn.{Stops}
 use Rattle.plays.specs.Streams.{StreamState, fresh}
 use Rattle.joined.specs.Finishing.{ended_of}
-use Rattle.joined.specs.Joining.{side}
+use Rattle.joined.specs.Joining.{JoinedState, side}
 
 -- the world that events lead to, from a fresh player and a board with empty pipes
 abbrev pub joined_after : Program → BoardState → (down_room up_room : ℕ) → List Event → World StreamState
@@ -34,3 +34,10 @@ abbrev pub WhatIsJoinedMeansTheProgram : Type 0
 WhatIsJoinedMeansTheProgram = (program : Program) (b : BoardState) (down_room up_room : ℕ) (es : List Event) (ending : Ending)
     → IsLegalProgram program.steps → IsSoundBoard b → HasDevice b → let w = joined_after program b down_room up_room es in
     w.lost ≡ false → ended_of w ≡ Some ending → MeansFromOpening program b ending w.board
+
+-- What more events make of a joined play: if the play came from this program and this board, and ends unlost, it means the program.
+abbrev pub MeansAfter : JoinedState → World StreamState → Type 0
+MeansAfter before after = (program : Program) (start : BoardState) (es : List Event)
+    → before.world ≡ joined_after program start before.down_room before.up_room es
+    → IsLegalProgram program.steps → IsSoundBoard start → HasDevice start
+    → (ending : Ending) → after.lost ≡ false → ended_of after ≡ Some ending → MeansFromOpening program start ending after.board

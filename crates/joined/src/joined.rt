@@ -6,6 +6,7 @@ ghost use Rattle.plays.specs.PlayingOn.{Stops};
 ghost use Rattle.plays.specs.Streams.{fresh};
 ghost use Rattle.joined.specs.Finishing.{IsFinished, ended_of};
 ghost use Rattle.joined.specs.Joining.{event_of, side};
+ghost use Rattle.joined.specs.Laws.{MeansAfter};
 
 use crate::event::{Event, Standing};
 use crate::pipes::Pipes;
@@ -62,9 +63,14 @@ impl Joined {
 
     /// What a list of events does: how many of them moved something, and how the play stands then. After an end or a loss nothing
     /// changes.
+    ///
+    /// For every accepted program, every board of sound devices, every room of the pipes and every order of events: a play that ends
+    /// unlost gives exactly the verdict, and leaves exactly the registers and pin levels, of the register-level meaning from the state
+    /// after the opening.
     pub fn run(&mut self, events: &[Event]) -> Standing
         ensures ended { result.ended ≡ ended_of self.new.world }
         ensures lost { result.lost ≡ self.new.world.lost }
+        ensures means { MeansAfter self.old self.new.world }
         ensures moved { result.moved ≡ moving side self.old.down_room self.old.up_room (map event_of events.now) self.old.world }
         ensures world { self.new ≡ record self.old { world = run side self.old.down_room self.old.up_room (map event_of events.now) self.old.world } }
     {
@@ -80,6 +86,7 @@ impl Joined {
     pub fn finish(&mut self) -> Ending
         ensures finished { IsFinished self.old self.new }
         ensures ending { ended_of self.new.world ≡ Some result }
+        ensures means { MeansAfter self.old self.new.world }
     {
         self.pipes.finish()
     }
