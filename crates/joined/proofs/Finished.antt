@@ -1,0 +1,213 @@
+-- Each round adds to a sum that the program bounds.
+use Rattle.std.proofs.Common.{◌≡◌, Bool, true, false, ◌||◌, ℕ, ◌+◌, ◌-◌, ◌<◌, ◌≤◌, List, [], ◌∷◌, ◌++◌, map, length, refl, sym, ap, ◌∙◌, subst, arith, length-append, lt-ltb, Option, Some, None}
+use Rattle.bitbang_table.specs.declared.Message.TheVariants.{Quit}
+use Rattle.jt_board.specs.Chain.{BoardState, hear}
+use Rattle.scan_vectors.specs.declared.part.Part.{Part}
+use Rattle.scan_vectors.specs.Vector.{judge}
+use Rattle.plays.specs.Events.{Event, Known, World, by_answers, empty_pipes, fresh as fresh_world, run}
+use Rattle.plays.specs.Play.{Turn, Played, full_play, player, sent, turns}
+use Rattle.plays.specs.Streams.{StreamState, fresh}
+use Rattle.bitbang_table.specs.Protocol.{answer}
+use Rattle.streaming.specs.Laws.{good, history_of, stream_of, with_player}
+use Rattle.streaming.proofs.Schedules.{carry_over}
+use Rattle.every_schedule.specs.Laws.{Link}
+use Rattle.svf_settings.specs.Steps.{Program}
+use Rattle.plays.proofs.Asks.{AllAsk, hear-asks, turns-ask}
+use Rattle.std.specs.List.{list_any}
+use Rattle.every_schedule.specs.Fair.{HasNoLose, IsFair, loses}
+use Rattle.every_schedule.specs.InWork.{answers_in, bytes_in}
+use Rattle.every_schedule.specs.Laws.{full}
+use Rattle.plays.specs.PlayingOn.{Stops}
+use Rattle.every_schedule.proofs.Moves.{total}
+use Rattle.every_schedule.proofs.Progress.{fair-moves, moving-total, total-bound}
+use Rattle.every_schedule.proofs.Quits.{played_of, sent-eager}
+use Rattle.every_schedule.proofs.Runs.{run-append}
+use Rattle.every_schedule.proofs.Whole.{is-play, reached}
+use Rattle.joined.specs.Finishing.{IsReached, a_round, is_over, most, sum_of}
+use Rattle.joined.specs.Joining.{JoinedState, side}
+
+-- whatever the board answers, a play has no more than the program's bytes and `Q`, and no more than its answers
+pub record IsWithin (ts : List Turn) (p : Played) : Type 0 where
+  pub bytes : length p.messages ≤ bytes_in ts + 1
+  pub answers : length p.answers ≤ answers_in ts
+
+within : (ts : List Turn) (b : BoardState) → AllAsk ts → IsWithin ts (full_play ts b)
+within [] b all = record { bytes = omega arith; answers = omega arith }
+within (t ∷ ts) b all = one (judge t.wants (hear t.messages b).answers) (within ts (hear t.messages b).board all.1)
+  where
+    H : List Bool
+    H = (hear t.messages b).answers
+
+    long : length H ≡ length t.wants
+    long = hear-asks t.messages b ∙ all.0
+
+    one : (found : Option (Part × ℕ)) → IsWithin ts (full_play ts (hear t.messages b).board)
+        → IsWithin (t ∷ ts) (played_of t ts (hear t.messages b) found)
+    one None rest = record {
+      bytes = omega (arith, rest.bytes, length-append t.messages (full_play ts (hear t.messages b).board).messages);
+      answers = omega (arith, rest.answers, long, length-append H (full_play ts (hear t.messages b).board).answers);
+    }
+    one (Some f) rest = record {
+      bytes = omega (arith, length-append t.messages (Quit ∷ []));
+      answers = omega (arith, long);
+    }
+
+abbrev pub link : ℕ → ℕ → Link
+link down_room up_room = record { kind = Stops; window = 256; down_room = down_room; up_room = up_room }
+
+-- the player, as what is known of it says
+abbrev pub world_of : Program → World Known → World StreamState
+world_of program w = with_player (λ p. stream_of Stops (history_of program p)) w
+
+pub carries : (program : Program) (b : BoardState) (down_room up_room : ℕ) (es : List Event) → run side down_room up_room es (empty_pipes (fresh Stops program) b)
+    ≡ world_of program (run (by_answers (player 256 (turns program.steps))) down_room up_room es (fresh_world b))
+carries program b down_room up_room es = carry_over Stops 256 program b down_room up_room es
+
+good-answers : (got : List Bool) → length (good (map answer got)) ≡ length got
+good-answers [] = refl
+good-answers (true ∷ got) = let rest = good-answers got in omega (arith, rest)
+good-answers (false ∷ got) = let rest = good-answers got in omega (arith, rest)
+
+sum-same : (program : Program) (k : World Known) → sum_of (world_of program k) ≡ total k
+sum-same program k = omega (arith, good-answers k.player.got)
+
+module _ (program : Program) (b : BoardState) (down_room up_room : ℕ) where
+  abbrev start : World StreamState
+  start = empty_pipes (fresh Stops program) b
+
+  abbrev known : List Event → World Known
+  known es = run (by_answers (player 256 (turns program.steps))) down_room up_room es (fresh_world b)
+
+  abbrev at : List Event → World StreamState
+  at es = run side down_room up_room es start
+
+  pub program-kept : (es : List Event) → (at es).player.program ≡ program
+  program-kept es = ap (λ w. w.player.program) (carries program b down_room up_room es)
+
+  pub sum-bounded : (es : List Event) → sum_of (at es) ≤ most program
+  sum-bounded es =
+      let r = reached (link down_room up_room) program.steps b es in
+      let limit = total-bound (sent 256 (turns program.steps)) b (full Stops program.steps b).board (full Stops program.steps b).messages
+      (full Stops program.steps b).answers down_room up_room (is-play Stops 256 program.steps b) r.took r.queued (known es) r.inside in
+      let w = within (turns program.steps) b (turns-ask program.steps) in
+      omega (arith, limit, w.bytes, w.answers, ap sum_of (carries program b down_room up_room es), sum-same program (known es))
+
+  a-round-fair : (n : ℕ) → 0 < n → IsFair (a_round n)
+  a-round-fair n some =
+      let yes = lt-ltb 0 n some in
+      record {
+        put = λ i. yes i || false;
+        serve = λ i. yes i || false;
+        take = λ i. yes i || false;
+        kept = refl;
+      }
+
+  not-either : (q l : Bool) → (q || l) ≡ false → (q ≡ false) × (l ≡ false)
+  not-either true l e = absurd (cc)
+  not-either false l e = (refl, e)
+
+  pub round-adds : (es : List Event) (n : ℕ) → 0 < n → 0 < down_room → 0 < up_room → is_over (at es) ≡ false
+      → sum_of (at es) < sum_of (run side down_room up_room (a_round n) (at es))
+  round-adds es n some down_some up_some going =
+      let k = known es in
+      let same = carries program b down_room up_room es in
+      let parts = not-either k.quit k.lost (ap is_over (sym same) ∙ going) in
+      let r = reached (link down_room up_room) program.steps b es in
+      let S = sent 256 (turns program.steps) in
+      let f = full Stops program.steps b in
+      let play = is-play Stops 256 program.steps b in
+      let moves = fair-moves S b f.board f.messages f.answers down_room up_room play
+      (λ got none. sent-eager 256 (omega arith) (turns program.steps) (turns-ask program.steps) got none)
+      down_some up_some (a_round n) r.took r.queued k r.inside parts.0 parts.1 (a-round-fair n some) in
+      let adds = moving-total S b f.board f.messages f.answers down_room up_room play (a_round n) r.took r.queued k r.inside in
+      let next : run side down_room up_room (a_round n) (at es) ≡ world_of program (run (by_answers (player 256 (turns program.steps))) down_room up_room (a_round n) k) =
+      sym (run-append side down_room up_room es (a_round n) start)
+      ∙ carries program b down_room up_room (es ++ a_round n)
+      ∙ ap (world_of program) (run-append (by_answers (player 256 (turns program.steps))) down_room up_room es (a_round n) (fresh_world b)) in
+      omega (
+        arith,
+        moves,
+        adds,
+        ap sum_of same,
+        sum-same program k,
+        ap sum_of next,
+        sum-same program (run (by_answers (player 256 (turns program.steps))) down_room up_room (a_round n) k),
+      )
+
+-- what is reached stays reached
+pub reached-more : (s t : JoinedState) (es : List Event) → IsReached s → t ≡ record s { world = run side s.down_room s.up_room es s.world } → IsReached t
+reached-more s t es r e = subst (λ (u : JoinedState). IsReached u) (sym e) (record {
+  start = r.start;
+  events = r.events ++ es;
+  down_room = r.down_room;
+  up_room = r.up_room;
+  world = there ∙ ap (λ p. run side s.down_room s.up_room (r.events ++ es) (empty_pipes (fresh Stops p) r.start)) (sym kept);
+})
+  where
+    P : Program
+    P = s.world.player.program
+
+    there : run side s.down_room s.up_room es s.world ≡ run side s.down_room s.up_room (r.events ++ es) (empty_pipes (fresh Stops P) r.start)
+    there = ap (run side s.down_room s.up_room es) r.world ∙ sym (run-append side s.down_room s.up_room r.events es (empty_pipes (fresh Stops P) r.start))
+
+    kept : (run side s.down_room s.up_room es s.world).player.program ≡ P
+    kept = ap (λ w. w.player.program) there ∙ program-kept P r.start s.down_room s.up_room (r.events ++ es)
+
+-- One round of `finish`: it adds to the sum, which stays bounded by the program.
+pub record IsRound (s t : JoinedState) : Type 0 where
+  pub more : sum_of s.world < sum_of t.world
+  pub less : sum_of t.world ≤ most s.world.player.program
+  pub program : t.world.player.program ≡ s.world.player.program
+
+pub one-round : (s t : JoinedState) (n : ℕ) → 0 < n → IsReached s → is_over s.world ≡ false
+    → t ≡ record s { world = run side s.down_room s.up_room (a_round n) s.world } → IsRound s t
+one-round s t n some r going e = subst (λ (u : JoinedState). IsRound s u) (sym e) (record {
+  more = subst (λ (w : World StreamState). sum_of w < sum_of (run side s.down_room s.up_room (a_round n) w)) (sym r.world)
+      (round-adds P r.start s.down_room s.up_room r.events n some r.down_room r.up_room (ap is_over (sym r.world) ∙ going));
+  less = subst (λ (w : World StreamState). sum_of w ≤ most P) (sym there) (sum-bounded P r.start s.down_room s.up_room (r.events ++ a_round n));
+  program = ap (λ w. w.player.program) there ∙ program-kept P r.start s.down_room s.up_room (r.events ++ a_round n);
+})
+  where
+    P : Program
+    P = s.world.player.program
+
+    there : run side s.down_room s.up_room (a_round n) s.world ≡ run side s.down_room s.up_room (r.events ++ a_round n) (empty_pipes (fresh Stops P) r.start)
+    there = ap (run side s.down_room s.up_room (a_round n)) r.world ∙ sym (run-append side s.down_room s.up_room r.events (a_round n) (empty_pipes (fresh Stops P) r.start))
+
+abbrev pub after_events : List Event → JoinedState → JoinedState
+after_events es s = record s { world = run side s.down_room s.up_room es s.world }
+
+pub finish-smaller : (start now next : JoinedState) (es : List Event) (n : ℕ) → 0 < n → IsReached start → now ≡ after_events es start
+    → is_over now.world ≡ false → next ≡ after_events (a_round n) now
+    → most next.world.player.program - sum_of next.world < most now.world.player.program - sum_of now.world
+finish-smaller start now next es n some r e going f =
+    let round = one-round now next n some (reached-more start now es r e) going f in
+    omega (arith, round.more, round.less, ap most round.program)
+
+kept-more : (es fs : List Event) → HasNoLose es → HasNoLose fs → HasNoLose (es ++ fs)
+kept-more [] fs p q = q
+kept-more (e ∷ es) fs p q = one (loses e) p (λ r. kept-more es fs r q)
+  where
+    one : (l : Bool) → (l || list_any loses es) ≡ false → (list_any loses es ≡ false → list_any loses (es ++ fs) ≡ false)
+        → (l || list_any loses (es ++ fs)) ≡ false
+    one true p rest = absurd (cc)
+    one false p rest = rest p
+
+pub finish-keeps : (start now next : JoinedState) (es : List Event) (n : ℕ) → HasNoLose es → now ≡ after_events es start → next ≡ after_events (a_round n) now
+    → (fs : List Event) × HasNoLose fs × (next ≡ after_events fs start)
+finish-keeps start now next es n kept e f = (
+  es ++ a_round n,
+  kept-more es (a_round n) kept refl,
+  f ∙ ap (after_events (a_round n)) e
+      ∙ (λ i. record start { world = sym (run-append side start.down_room start.up_room es (a_round n) start.world) i }),
+)
+
+pub reached-new : (p : StreamState) (b : BoardState) (down_room up_room : ℕ) (s : JoinedState) → p ≡ fresh Stops p.program → 0 < down_room → 0 < up_room
+    → s ≡ record { world = empty_pipes p b; down_room = down_room; up_room = up_room } → IsReached s
+reached-new p b down_room up_room s first down up e = subst (λ (u : JoinedState). IsReached u) (sym e) (record {
+  start = b;
+  events = [];
+  down_room = down;
+  up_room = up;
+  world = ap (λ q. empty_pipes q b) first;
+})

@@ -1,0 +1,243 @@
+-- The steps of the pipes' loops.
+use Rattle.std.proofs.Common.{◌≡◌, Bool, true, false, not, ◌||◌, ℕ, zero, suc, ◌+◌, ◌-◌, ◌<◌, ◌≤◌, min, List, [], ◌∷◌, ◌++◌, length, take, drop, refl, sym, ap, ◌∙◌, subst, arith, append_assoc, append-nil, length-append, length-drop, length-take, Option, Some, None, is_some}
+use Rattle.std.proofs.Math.Seq.{take-add}
+use Rattle.std.specs.Prelude.{if◌then◌else◌}
+use Rattle.std.specs.Option.{unwrap_or}
+use Rattle.bitbang_table.specs.declared.Message.{Message}
+use Rattle.bitbang_table.specs.declared.Message.TheVariants.{Write, Ask, Quit, Light, Lines}
+use Rattle.bitbang_table.specs.Protocol.{decode}
+use Rattle.plays.specs.Events.{World, has_room, put_bytes, served, take_answers, taken}
+use Rattle.plays.specs.Streams.{StreamState}
+use Rattle.stream_player.proofs.Filled.{waiting-more}
+use Rattle.joined.specs.Joining.{serve_one, side}
+
+abbrev Pipes : Type 0
+Pipes = World StreamState
+
+module _ (down_room up_room : ℕ) where
+  -- one answer, then the others
+  pub take-step : (m : ℕ) (w : Pipes) → take_answers side down_room up_room m (take_answers side down_room up_room 1 w) ≡ take_answers side down_room up_room (suc m) w
+  take-step m w = one w.up m
+    where
+      one : (up : List Bool) (m : ℕ) → take_answers side down_room up_room m (take_answers side down_room up_room 1 (record w { up = up }))
+          ≡ take_answers side down_room up_room (suc m) (record w { up = up })
+      one [] zero = refl
+      one [] (suc m) = refl
+      one (x ∷ up) m = refl
+
+  pub take-none : (m : ℕ) (w : Pipes) → length w.up ≡ 0 → take_answers side down_room up_room m w ≡ w
+  take-none m w e = one w.up m e
+    where
+      one : (up : List Bool) (m : ℕ) → length up ≡ 0 → take_answers side down_room up_room m (record w { up = up }) ≡ record w { up = up }
+      one [] zero e = refl
+      one [] (suc m) e = refl
+      one (x ∷ up) m e = absurd (omega arith)
+
+  pub take-count : (w : Pipes) → 0 < length w.up → 1 + length (take_answers side down_room up_room 1 w).up ≡ length w.up
+  take-count w some = omega (arith, length-drop 1 w.up)
+
+taken-down : (bytes : List ℕ) (o : Option Message) (w : World StreamState) → (taken bytes o w).down ≡ bytes
+taken-down bytes None w = refl
+taken-down bytes (Some Ask) w = refl
+taken-down bytes (Some Quit) w = refl
+taken-down bytes (Some (Write tck tms tdi)) w = refl
+taken-down bytes (Some (Light l)) w = refl
+taken-down bytes (Some (Lines t s)) w = refl
+
+abbrev stop_of : ℕ → World StreamState → ℕ → Bool
+stop_of room w b = w.quit || not (has_room room w (decode b))
+
+abbrev one_of : ℕ → World StreamState → List ℕ → Option (World StreamState)
+one_of room w [] = None
+one_of room w (b ∷ bytes) = if stop_of room w b then None else Some (taken bytes (decode b) w)
+
+one-is : (room : ℕ) (w : World StreamState) → serve_one room w ≡ one_of room w w.down
+one-is room w = go w.down
+  where
+    go : (down : List ℕ) → serve_one room (record w { down = down }) ≡ one_of room (record w { down = down }) down
+    go [] = refl
+    go (b ∷ bytes) = refl
+
+-- one byte, then the others
+pub record IsStep (room m : ℕ) (w v : World StreamState) : Type 0 where
+  pub rest : served room m v.down v ≡ served room (suc m) w.down w
+  pub count : 1 + length v.down ≡ length w.down
+
+pub serve-step : (room m : ℕ) (w : World StreamState) → is_some (serve_one room w) ≡ true → IsStep room m w (unwrap_or (serve_one room w) w)
+serve-step room m w some =
+    subst (λ (o : Option (World StreamState)). IsStep room m w (unwrap_or o w)) (sym (one-is room w))
+    (one w.down refl (ap is_some (sym (one-is room w)) ∙ some))
+  where
+    one : (down : List ℕ) → w.down ≡ down → is_some (one_of room w down) ≡ true → IsStep room m w (unwrap_or (one_of room w down) w)
+    one [] e some = absurd (cc)
+    one (b ∷ bytes) e some = two (stop_of room w b) refl some
+      where
+        two : (stop : Bool) → stop_of room w b ≡ stop → is_some (if stop then None else Some (taken bytes (decode b) w)) ≡ true
+            → IsStep room m w (unwrap_or (if stop then None else Some (taken bytes (decode b) w)) w)
+        two true s some = absurd (cc)
+        two false s some = record {
+          rest = ap (λ d. served room m d (taken bytes (decode b) w)) (taken-down bytes (decode b) w)
+              ∙ sym (ap (λ (q : Bool). if q then w else served room m bytes (taken bytes (decode b) w)) s)
+              ∙ ap (λ d. served room (suc m) d w) (sym e);
+          count = omega (arith, ap length (taken-down bytes (decode b) w), ap length e);
+        }
+
+pub record IsStill (room m : ℕ) (w v : World StreamState) : Type 0 where
+  pub same : v ≡ w
+  pub rest : served room m w.down w ≡ w
+
+pub serve-none : (room m : ℕ) (w : World StreamState) → is_some (serve_one room w) ≡ false → IsStill room m w (unwrap_or (serve_one room w) w)
+serve-none room m w none =
+    subst (λ (o : Option (World StreamState)). IsStill room m w (unwrap_or o w)) (sym (one-is room w))
+    (one w.down refl (ap is_some (sym (one-is room w)) ∙ none))
+  where
+    empty : (m : ℕ) → served room m [] w ≡ w
+    empty zero = refl
+    empty (suc m) = refl
+
+    one : (down : List ℕ) → w.down ≡ down → is_some (one_of room w down) ≡ false → IsStill room m w (unwrap_or (one_of room w down) w)
+    one [] e none = record { same = refl; rest = ap (λ d. served room m d w) e ∙ empty m }
+    one (b ∷ bytes) e none = two (stop_of room w b) refl none
+      where
+        stopped : (m : ℕ) → stop_of room w b ≡ true → served room m (b ∷ bytes) w ≡ w
+        stopped zero s = refl
+        stopped (suc m) s = ap (λ (q : Bool). if q then w else served room m bytes (taken bytes (decode b) w)) s
+
+        two : (stop : Bool) → stop_of room w b ≡ stop → is_some (if stop then None else Some (taken bytes (decode b) w)) ≡ false
+            → IsStill room m w (unwrap_or (if stop then None else Some (taken bytes (decode b) w)) w)
+        two true s none = record { same = refl; rest = ap (λ d. served room m d w) e ∙ stopped m s }
+        two false s none = absurd (cc)
+
+same-take : (n : ℕ) (xs : List ℕ) → take (length (take n xs)) xs ≡ take n xs
+same-take zero xs = refl
+same-take (suc n) [] = refl
+same-take (suc n) (x ∷ xs) = ap (λ l. x ∷ l) (same-take n xs)
+
+-- a piece, then the others
+module _ (down_room up_room : ℕ) where
+  abbrev puts : ℕ → World StreamState → World StreamState
+  puts n w = put_bytes side down_room up_room n w
+
+  abbrev piece_of : ℕ → World StreamState → List ℕ
+  piece_of n w = take (min n (down_room - length w.down)) (side.waiting w.player)
+
+  put-count : (k : ℕ) (w : World StreamState) → length (puts k w).down ≡ length w.down + length (piece_of k w)
+  put-count k w = length-append w.down (piece_of k w)
+
+  pub put-step : (m k : ℕ) (w : World StreamState) → k ≤ m
+      → puts (m - (length (puts k w).down - length w.down)) (puts k w) ≡ puts m w
+  put-step m k w le =
+      λ i. record w { player = player i; down = down i }
+    where
+      W : List ℕ
+      W = side.waiting w.player
+
+      first : List ℕ
+      first = piece_of k w
+
+      c : ℕ
+      c = length first
+
+      left : ℕ
+      left = m - (length (puts k w).down - length w.down)
+
+      second : List ℕ
+      second = piece_of left (puts k w)
+
+      left-is : left ≡ m - c
+      left-is = omega (arith, put-count k w)
+
+      second-is : second ≡ take (min (m - c) (down_room - length w.down - c)) (drop c W)
+      second-is =
+          let room : down_room - length (puts k w).down ≡ down_room - length w.down - c = omega (arith, put-count k w) in
+          (λ i. take (min (left-is i) (room i)) (waiting-more w.player c i))
+
+      within : (c ≤ k) × (c ≤ down_room - length w.down)
+      within = (omega (arith, length-take (min k (down_room - length w.down)) W), omega (arith, length-take (min k (down_room - length w.down)) W))
+
+      whole : first ++ second ≡ piece_of m w
+      whole =
+          let j = min (m - c) (down_room - length w.down - c) in
+          let sum : c + j ≡ min m (down_room - length w.down) = omega (arith, within.0, within.1, le) in
+          (λ i. sym (same-take (min k (down_room - length w.down)) W) i ++ second-is i)
+          ∙ sym (take-add c j W)
+          ∙ ap (λ n. take n W) sum
+
+      player : side.give (length second) (side.give c w.player) ≡ side.give (length (piece_of m w)) w.player
+      player =
+          let count : w.player.given + c + length second ≡ w.player.given + length (piece_of m w) = omega (arith, length-append first second, ap length whole) in
+          λ i. record w.player { given = count i }
+
+      down : (w.down ++ first) ++ second ≡ w.down ++ piece_of m w
+      down = append_assoc w.down first second ∙ ap (λ l. w.down ++ l) whole
+
+  -- a piece of none: nothing waits, or there is no room
+  pub put-none : (m k : ℕ) (w : World StreamState) → 0 < k → length (puts k w).down - length w.down ≡ 0 → puts m w ≡ w
+  put-none m k w some none = λ i. record w { player = record w.player { given = given i }; down = down i }
+    where
+      r : ℕ
+      r = down_room - length w.down
+
+      W : List ℕ
+      W = side.waiting w.player
+
+      empty : piece_of m w ≡ []
+      empty = empty-length (piece_of m w) (omega (arith, put-count k w, length-take (min k r) W, length-take (min m r) W))
+        where
+          empty-length : (xs : List ℕ) → length xs ≡ 0 → xs ≡ []
+          empty-length [] e = refl
+          empty-length (x ∷ xs) e = absurd (omega arith)
+
+      given : w.player.given + length (piece_of m w) ≡ w.player.given
+      given = omega (arith, ap length empty)
+
+      down : w.down ++ piece_of m w ≡ w.down
+      down = ap (λ l. w.down ++ l) empty ∙ append-nil w.down
+
+-- The loops' invariants, one turn on.
+pub take-keeps : (down_room up_room n count : ℕ) (w v start : World StreamState) → count < n → v ≡ take_answers side down_room up_room 1 w
+    → take_answers side down_room up_room (n - count) w ≡ take_answers side down_room up_room n start
+    → take_answers side down_room up_room (n - (count + 1)) v ≡ take_answers side down_room up_room n start
+take-keeps down_room up_room n count w v start some e rest =
+    let m = n - (count + 1) in
+    let next : suc m ≡ n - count = omega arith in
+    ap (take_answers side down_room up_room m) e ∙ take-step down_room up_room m w
+    ∙ ap (λ k. take_answers side down_room up_room k w) next ∙ rest
+
+pub serve-keeps : (room n count : ℕ) (w v start : World StreamState) → count < n → v ≡ unwrap_or (serve_one room w) w → is_some (serve_one room w) ≡ true
+    → served room (n - count) w.down w ≡ served room n start.down start
+    → (served room (n - (count + 1)) v.down v ≡ served room n start.down start) × (1 + length v.down ≡ length w.down)
+serve-keeps room n count w v start some e took rest =
+    let m = n - (count + 1) in
+    let next : suc m ≡ n - count = omega arith in
+    let step = serve-step room m w took in (
+      ap (λ u. served room m u.down u) e ∙ step.rest ∙ ap (λ k. served room k w.down w) next ∙ rest,
+      ap (λ u. 1 + length u.down) e ∙ step.count,
+    )
+
+pub put-keeps : (down_room up_room n count more : ℕ) (w v start : World StreamState) → count < n
+    → v ≡ put_bytes side down_room up_room (min (n - count) 64) w → more ≡ length v.down - length w.down
+    → put_bytes side down_room up_room (n - count) w ≡ put_bytes side down_room up_room n start
+    → (put_bytes side down_room up_room (n - (count + more)) v ≡ put_bytes side down_room up_room n start)
+    × (length w.down + more ≡ length v.down) × (count + more ≤ n)
+put-keeps down_room up_room n count more w v start some e moved rest =
+    let m = n - count in
+    let k = min m 64 in
+    let piece = take (min k (down_room - length w.down)) (side.waiting w.player) in
+    let grown : length v.down ≡ length w.down + length piece = ap (λ u. length u.down) e ∙ length-append w.down piece in
+    let within : length piece ≤ m = omega (arith, length-take (min k (down_room - length w.down)) (side.waiting w.player)) in
+    let next : n - (count + more) ≡ m - (length v.down - length w.down) = omega (arith, grown, moved) in (
+      ap (λ j. put_bytes side down_room up_room j v) next
+          ∙ ap (λ u. put_bytes side down_room up_room (m - (length u.down - length w.down)) u) e
+          ∙ put-step down_room up_room m k w (omega arith) ∙ rest,
+      omega (arith, grown, moved),
+      omega (arith, grown, moved, within),
+    )
+
+-- A board that takes no byte has taken all that it will.
+pub serve-stops : (room n count : ℕ) (w start : World StreamState) → is_some (serve_one room w) ≡ false
+    → served room (n - count) w.down w ≡ served room n start.down start
+    → unwrap_or (serve_one room w) w ≡ served room n start.down start
+serve-stops room n count w start none rest =
+    let still = serve-none room (n - count) w none in
+    still.same ∙ sym still.rest ∙ rest

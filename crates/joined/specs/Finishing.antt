@@ -1,0 +1,48 @@
+-- Playing on until the end: why it comes.
+use Rattle.std.specs.Prelude.{◌≡◌, Bool, true, ◌||◌, ℕ, ◌+◌, ◌*◌, ◌-◌, ◌^◌, ◌<◌, List, [], ◌∷◌, length, min, Option, Some, None, if◌then◌else◌}
+use Rattle.plays.specs.declared.ending.Ending.{Ending}
+use Rattle.plays.specs.declared.ending.Ending.TheVariants.{Lost}
+use Rattle.plays.specs.Streams as stream
+use Rattle.jt_board.specs.Chain.{BoardState}
+use Rattle.plays.specs.Events.{Event, Put, Serve, Take, World, empty_pipes, run}
+use Rattle.plays.specs.Play.{turns}
+use Rattle.plays.specs.PlayingOn.{Stops}
+use Rattle.plays.specs.Streams.{StreamState, fresh}
+use Rattle.svf_settings.specs.Steps.{Program}
+use Rattle.every_schedule.specs.Fair.{HasNoLose}
+use Rattle.every_schedule.specs.InWork.{answers_in, bytes_in}
+use Rattle.joined.specs.Joining.{JoinedState, side}
+
+-- Some events led here from a fresh player and a board with empty pipes; this is what the type keeps.
+pub record IsReached (s : JoinedState) : Type 0 where
+  pub start : BoardState
+  pub events : List Event
+  pub down_room : 0 < s.down_room
+  pub up_room : 0 < s.up_room
+  pub world : s.world ≡ run side s.down_room s.up_room events (empty_pipes (fresh Stops s.world.player.program) start)
+
+abbrev pub is_over : World StreamState → Bool
+is_over w = w.quit || w.lost
+
+-- bytes given out, bytes taken, answers taken
+abbrev pub sum_of : World StreamState → ℕ
+sum_of w = w.player.given + (w.player.given - length w.down) + w.player.answered
+
+-- the most that it can be, whatever the board answers
+abbrev pub most : Program → ℕ
+most program = 2 * (bytes_in (turns program.steps) + 1) + answers_in (turns program.steps)
+
+-- as much as may be, each way
+abbrev pub a_round : ℕ → List Event
+a_round n = Put n ∷ Serve n ∷ Take n ∷ []
+
+-- Events without a loss after which the play is over.
+pub record IsFinished (before after : JoinedState) : Type 0 where
+  pub events : List Event
+  pub kept : HasNoLose events
+  pub state : after ≡ record before { world = run side before.down_room before.up_room events before.world }
+  pub over : is_over after.world ≡ true
+
+-- How a play stands: lost at the command in work, or once the board took `Q` with what the player tells of its end.
+abbrev pub ended_of : World StreamState → Option Ending
+ended_of w = if w.lost then Some (Lost (min (stream.working w.player) (2 ^ 64 - 1))) else if w.quit then stream.ended 256 w.player else None

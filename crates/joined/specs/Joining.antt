@@ -1,0 +1,48 @@
+-- Player and board joined by two bounded pipes, as the program holds them.
+use Rattle.std.specs.Prelude.{◌≡◌, Bool, not, ◌||◌, ℕ, ◌+◌, ◌==◌, List, [], ◌∷◌, ◌++◌, map, Option, Some, None, if◌then◌else◌}
+use Rattle.bitbang_table.specs.Protocol.{answer, decode}
+use Rattle.circular_buffer.specs.Buffer.{Buffer}
+use Rattle.jt_board.specs.Chain.{BoardState}
+use Rattle.joined.specs.declared.event.Event as declared
+use Rattle.joined.specs.declared.event.Event.TheVariants as happening
+use Rattle.plays.specs.Events.{Event, Put, Serve, Take, Lose, Side, World, has_room, taken as taken_byte}
+use Rattle.plays.specs.Streams as stream
+use Rattle.plays.specs.Streams.{StreamState}
+
+-- The player, as events see it, with up to 256 answers owed.
+abbrev pub side : Side StreamState
+side = stream.side 256
+
+pub record JoinedState : Type 0 where
+  pub world : World StreamState
+  pub down_room : ℕ
+  pub up_room : ℕ
+
+-- the bits that answer bytes tell
+abbrev pub bits : List ℕ → List Bool
+bits bytes = map (λ b. b == 49) bytes
+
+abbrev pub joined : StreamState → BoardState → Buffer ℕ → Buffer ℕ → (quit lost : Bool) → JoinedState
+joined player board down up quit lost = record {
+  world = record { player = player; down = down.items; up = bits up.items; board = board; quit = quit; lost = lost };
+  down_room = down.capacity;
+  up_room = up.capacity;
+}
+
+-- every byte in the up pipe is an answer
+abbrev pub AreAnswers : List ℕ → Type 0
+AreAnswers bytes = bytes ≡ map answer (bits bytes)
+
+-- the world after the board took one byte, if it takes one
+abbrev pub serve_one : ℕ → World StreamState → Option (World StreamState)
+serve_one capacity w = one w.down
+  where
+    one : List ℕ → Option (World StreamState)
+    one [] = None
+    one (b ∷ bytes) = if w.quit || not (has_room capacity w (decode b)) then None else Some (taken_byte bytes (decode b) w)
+
+abbrev pub event_of : declared.Event → Event
+event_of (happening.Put n) = Put n
+event_of (happening.Serve n) = Serve n
+event_of (happening.Take n) = Take n
+event_of happening.Lose = Lose

@@ -1,0 +1,107 @@
+//! Player and board joined by two bounded pipes.
+
+ghost use Rattle.std.specs.Prelude.{◌≡◌, ◌≤◌, ◌<◌, ℕ, Some, map, MatchResult};
+ghost use Rattle.plays.specs.Events.{empty_pipes, moving, run};
+ghost use Rattle.plays.specs.PlayingOn.{Stops};
+ghost use Rattle.plays.specs.Streams.{fresh};
+ghost use Rattle.joined.specs.Finishing.{IsFinished, ended_of};
+ghost use Rattle.joined.specs.Joining.{event_of, side};
+ghost use Rattle.joined.specs.Laws.{MeansAfter};
+
+use crate::event::{Event, Standing};
+use crate::pipes::Pipes;
+use jt_board::Board;
+use plays::Ending;
+use stream_player::Player;
+use std::alloc::Global;
+use std::marker::Model;
+
+/// Player and board with two bounded pipes between them, from a fresh player on.
+#[derive(Drop)]
+pub struct Joined {
+    pipes: Pipes,
+}
+
+impl Model for Joined {
+    ghost use Rattle.joined.specs.Finishing.{IsReached};
+    ghost use Rattle.joined.specs.Joining.{JoinedState};
+
+    ghost Value = { JoinedState };
+
+    ghost view = { λ j. j.pipes };
+
+    ghost invariant = { λ j. IsReached j.pipes };
+}
+
+/// Player and board that were not joined, for want of memory.
+#[derive(Drop)]
+pub struct Unjoined {
+    pub player: Player,
+    pub board: Board,
+}
+
+impl Joined {
+    /// Joins a fresh player and a board by two empty pipes. For want of memory both come back.
+    pub fn new(
+        alloc: Global,
+        player: Player,
+        board: Board,
+        down: usize,
+        up: usize,
+    ) -> Result<Joined, Unjoined>
+        requires fresh { player ≡ fresh Stops player.program }
+        requires down { 0 < down }
+        requires up { 0 < up }
+        ensures { MatchResult result (λ j. j ≡ record { world = empty_pipes player board; down_room = down; up_room = up })
+            (λ back. (back.player ≡ player) × (back.board ≡ board)) }
+    {
+        match Pipes::new(alloc, player, board, down, up) {
+            Ok(pipes) => Ok(Joined { pipes }),
+            Err(back) => Err(back),
+        }
+    }
+
+    /// What a list of events does: how many of them moved something, and how the play stands then. After an end or a loss nothing
+    /// changes.
+    ///
+    /// For every accepted program, every board of sound devices, every room of the pipes and every order of events: a play that ends
+    /// unlost gives exactly the verdict, and leaves exactly the registers and pin levels, of the register-level meaning from the state
+    /// after the opening.
+    pub fn run(&mut self, events: &[Event]) -> Standing
+        ensures ended { result.ended ≡ ended_of self.new.world }
+        ensures lost { result.lost ≡ self.new.world.lost }
+        ensures means { MeansAfter self.old self.new.world }
+        ensures moved { result.moved ≡ moving side self.old.down_room self.old.up_room (map event_of events.now) self.old.world }
+        ensures world { self.new ≡ record self.old { world = run side self.old.down_room self.old.up_room (map event_of events.now) self.old.world } }
+    {
+        let moved = self.pipes.run(events);
+        Standing {
+            moved,
+            ended: self.pipes.ended(),
+            lost: self.pipes.is_lost(),
+        }
+    }
+
+    /// Goes on, without a loss, until the play has ended or was lost before. Answers how it ended.
+    pub fn finish(&mut self) -> Ending
+        ensures finished { IsFinished self.old self.new }
+        ensures ending { ended_of self.new.world ≡ Some result }
+        ensures means { MeansAfter self.old self.new.world }
+    {
+        self.pipes.finish()
+    }
+
+    /// The board, as the events left it.
+    pub fn board(&self) -> &Board
+        ensures { result.now ≡ self.now.world.board }
+    {
+        self.pipes.board()
+    }
+
+    /// The board, of which this play gives up its hold.
+    pub fn into_board(self) -> Board
+        ensures { result ≡ self.world.board }
+    {
+        self.pipes.into_board()
+    }
+}

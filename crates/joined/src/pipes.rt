@@ -1,0 +1,271 @@
+//! The two pipes, and what each event does to them.
+
+ghost use Rattle.std.specs.Prelude.{◌≡◌, ◌≤◌, ◌<◌, ◌+◌, ◌-◌, ℕ, Bool, [], min, length, take, map, is_some, nat_lt, false, unwrap_or, Some, MatchResult};
+ghost use Rattle.bitbang_table.specs.Protocol.{decode};
+ghost use Rattle.plays.specs.Events.{empty_pipes, happens, has_room, moved, moving, put_bytes, run, served, take_answers};
+ghost use Rattle.joined.specs.Finishing.{IsFinished, IsReached, ended_of, is_over};
+ghost use Rattle.joined.specs.Joining.{event_of, serve_one, side};
+
+use crate::event::Event;
+use crate::joined::Unjoined;
+use bitbang_table::{Message, decode};
+use circular_buffer::HeapCircularBuffer;
+use jt_board::{Board, Reply};
+use plays::Ending;
+use stream_player::Player;
+use std::alloc::Global;
+use std::marker::Model;
+
+/// Player and board with two bounded pipes between them, in whatever state.
+#[derive(Drop)]
+pub(crate) struct Pipes {
+    player: Player,
+    board: Board,
+    down: HeapCircularBuffer<u8>,
+    up: HeapCircularBuffer<u8>,
+    quit: bool,
+    lost: bool,
+}
+
+impl Model for Pipes {
+    ghost use Rattle.joined.specs.Joining.{AreAnswers, JoinedState, joined};
+
+    ghost Value = { JoinedState };
+
+    ghost view = { λ j. joined j.player j.board j.down j.up j.quit j.lost };
+
+    ghost invariant = { λ j. AreAnswers j.up.items };
+}
+
+/// The most bytes that are put into a pipe at once.
+const PIECE: usize = 64;
+
+impl Pipes {
+    /// Empty pipes between a player and a board. For want of memory both come back.
+    pub(crate) fn new(
+        alloc: Global,
+        player: Player,
+        board: Board,
+        down: usize,
+        up: usize,
+    ) -> Result<Pipes, Unjoined>
+        ensures { MatchResult result (λ j. j ≡ record { world = empty_pipes player board; down_room = down; up_room = up })
+            (λ back. (back.player ≡ player) × (back.board ≡ board)) }
+    {
+        let Ok(down) = HeapCircularBuffer::with_capacity(alloc, down) else {
+            return Err(Unjoined { player, board });
+        };
+        let Ok(up) = HeapCircularBuffer::with_capacity(alloc, up) else {
+            return Err(Unjoined { player, board });
+        };
+        Ok(Pipes {
+            player,
+            board,
+            down,
+            up,
+            quit: false,
+            lost: false,
+        })
+    }
+
+    /// Puts some of the player's next bytes into the down pipe: as many as wait, have room, and are asked for, and a piece
+    /// at most.
+    fn put_piece(&mut self, n: usize) -> usize
+        ensures moved { result ≡ length self.new.world.down - length self.old.world.down }
+        ensures world { self.new ≡ record self.old { world = put_bytes side self.old.down_room self.old.up_room (min n 64) self.old.world } }
+    {
+        let room = self.down.capacity() - self.down.len();
+        let mut piece = [0; PIECE];
+        let ask = n.min(PIECE).min(room);
+        let count = self.player.next_bytes(&mut piece[..ask]);
+        self.down.fill_from_slice(&piece[..count])
+    }
+
+    /// The player takes one answer, if there is one.
+    fn take_answer(&mut self) -> bool
+        ensures taken { result ≡ nat_lt 0 (length self.old.world.up) }
+        ensures world { self.new ≡ record self.old { world = take_answers side self.old.down_room self.old.up_room 1 self.old.world } }
+    {
+        match self.up.pop_front() {
+            Some(answer) => {
+                self.player.answers(&[answer]);
+                true
+            }
+            None => false,
+        }
+    }
+
+    /// The player takes up to n answers.
+    fn take(&mut self, n: usize) -> usize
+        ensures moved { result ≡ length self.old.world.up - length self.new.world.up }
+        ensures world { self.new ≡ record self.old { world = take_answers side self.old.down_room self.old.up_room n self.old.world } }
+    {
+        let mut count = 0;
+        while count < n && self.take_answer() {
+            count += 1;
+        }
+        count
+    }
+
+    /// The board takes up to n bytes.
+    fn serve(&mut self, n: usize) -> usize
+        ensures moved { result ≡ length self.old.world.down - length self.new.world.down }
+        ensures world { self.new ≡ record self.old { world = served self.old.up_room n self.old.world.down self.old.world } }
+    {
+        let mut count = 0;
+        while count < n && self.serve_byte() {
+            count += 1;
+        }
+        count
+    }
+
+    /// The player puts up to n bytes into the down pipe.
+    fn put(&mut self, n: usize) -> usize
+        ensures moved { result ≡ length self.new.world.down - length self.old.world.down }
+        ensures world { self.new ≡ record self.old { world = put_bytes side self.old.down_room self.old.up_room n self.old.world } }
+    {
+        let mut count = 0;
+        while count < n {
+            let more = self.put_piece(n - count);
+            if more == 0 {
+                return count;
+            }
+            count += more;
+        }
+        count
+    }
+
+    /// Whether the up pipe has room for the answer to a byte, where it asks for one.
+    fn has_room(&self, byte: u8) -> bool
+        ensures { result ≡ has_room self.now.up_room self.now.world (decode byte) }
+    {
+        match decode(byte) {
+            Some(Message::Ask) => self.up.len() < self.up.capacity(),
+            _ => true,
+        }
+    }
+
+    /// Lets the board take one byte, unless it is an `R` whose answer has no room. Answers whether it took one.
+    fn serve_byte(&mut self) -> bool
+        ensures taken { result ≡ is_some (serve_one self.old.up_room self.old.world) }
+        ensures world { self.new ≡ record self.old { world = unwrap_or (serve_one self.old.up_room self.old.world) self.old.world } }
+    {
+        let Some(byte) = self.down.front() else {
+            return false;
+        };
+        let byte = *byte;
+        if self.quit || !self.has_room(byte) {
+            return false;
+        }
+        self.down.pop_front();
+        match self.board.byte(byte) {
+            Reply::Answer(answer) => {
+                self.up.push_back(answer);
+            }
+            Reply::Quit => self.quit = true,
+            Reply::Nothing | Reply::Refused(_) => {}
+        }
+        true
+    }
+
+    /// What an event does. Answers whether it moved something.
+    pub(crate) fn happen(&mut self, event: Event) -> bool
+        ensures moved { result ≡ nat_lt 0 (moved side self.old.down_room self.old.up_room (event_of event) self.old.world) }
+        ensures world { self.new ≡ record self.old { world = happens side self.old.down_room self.old.up_room (event_of event) self.old.world } }
+    {
+        if self.quit || self.lost {
+            return false;
+        }
+        match event {
+            Event::Put(n) => self.put(n) > 0,
+            Event::Serve(n) => self.serve(n) > 0,
+            Event::Take(n) => self.take(n) > 0,
+            Event::Lose => {
+                self.lost = true;
+                false
+            }
+        }
+    }
+
+    /// A whole schedule. Answers how many of its events moved something.
+    pub(crate) fn run(&mut self, events: &[Event]) -> u64
+        ensures moved { result ≡ moving side self.old.down_room self.old.up_room (map event_of events.now) self.old.world }
+        ensures world { self.new ≡ record self.old { world = run side self.old.down_room self.old.up_room (map event_of events.now) self.old.world } }
+    {
+        let mut moved = 0;
+        for i in 0..events.len() {
+            let event = events[i];
+            if self.happen(event) {
+                moved += 1;
+            }
+        }
+        moved
+    }
+
+    /// Whether the play has ended or was lost.
+    pub(crate) fn is_over(&self) -> bool
+        ensures { result ≡ is_over self.now.world }
+    {
+        self.quit || self.lost
+    }
+
+    /// Whether the play was lost.
+    pub(crate) fn is_lost(&self) -> bool
+        ensures { result ≡ self.now.world.lost }
+    {
+        self.lost
+    }
+
+    /// How the play ended, if it did.
+    pub(crate) fn ended(&self) -> Option<Ending>
+        ensures { result ≡ ended_of self.now.world }
+    {
+        if self.lost {
+            let command = self.player.working();
+            return Some(Ending::Lost { command });
+        }
+        if self.quit { self.player.ended() } else { None }
+    }
+
+    /// The board.
+    pub(crate) fn board(&self) -> &Board
+        ensures { result.now ≡ self.now.world.board }
+    {
+        &self.board
+    }
+
+    /// The board, given up.
+    pub(crate) fn into_board(self) -> Board
+        ensures { result ≡ self.world.board }
+    {
+        let Pipes { board, .. } = self;
+        board
+    }
+
+    /// Goes on, without a loss, until the play has ended. Answers how it ended.
+    pub(crate) fn finish(&mut self) -> Ending
+        requires { IsReached self.old }
+        ensures finished { IsFinished self.old self.new }
+        ensures ending { ended_of self.new.world ≡ Some result }
+    {
+        self.go_on();
+        match self.ended() {
+            Some(ending) => ending,
+            None => unreachable!(),
+        }
+    }
+
+    /// Goes on, without a loss, until the play has ended.
+    fn go_on(&mut self)
+        requires { IsReached self.old }
+        ensures { IsFinished self.old self.new }
+    {
+        while !self.is_over() {
+            self.run(&[
+                Event::Put(usize::MAX),
+                Event::Serve(usize::MAX),
+                Event::Take(usize::MAX),
+            ]);
+        }
+    }
+}
