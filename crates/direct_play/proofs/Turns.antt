@@ -1,10 +1,14 @@
 -- The full play, one step after another.
-use Rattle.std.proofs.Common.{◌≡◌, Bool, true, false, ℕ, ◌<◌, List, [], ◌∷◌, ◌++◌, refl, sym, ap, ◌∙◌, subst, Some, None}
+use Rattle.std.proofs.Common.{◌≡◌, Bool, true, false, ℕ, ◌<◌, List, [], ◌∷◌, ◌++◌, refl, sym, ap, ◌∙◌, subst, map, Some, None}
 use Rattle.std.specs.Prelude.{Option}
 use Rattle.jt_tap.specs.Controller.{is_stable}
 use Rattle.jt_tap.specs.declared.State.{State}
 use Rattle.bitbang_table.specs.declared.Message.TheVariants.{Quit}
-use Rattle.bitbang.specs.StepMessages.{step_messages}
+use Rattle.jt_tap.specs.declared.State.TheVariants.{Reset}
+use Rattle.bitbang_table.specs.declared.Message.{Message}
+use Rattle.bitbang_table.specs.Protocol.{encode}
+use Rattle.bitbang_table.specs.Cycles.{opening}
+use Rattle.bitbang.specs.StepMessages.{step_bytes, step_messages}
 use Rattle.scan_vectors.specs.declared.part.Part.{Part}
 use Rattle.scan_vectors.specs.Vector.{judge}
 use Rattle.svf_parse.specs.declared.statement.TrstWord.TheVariants.{On, Off, Z, Absent}
@@ -15,7 +19,7 @@ use Rattle.jt_board.specs.Chain.{BoardState, Heard, hear}
 use Rattle.jt_board.specs.Sound.{HasDevice, IsSoundBoard}
 use Rattle.plays.specs.declared.ending.Ending.{Ending}
 use Rattle.plays.specs.declared.ending.Ending.TheVariants.{Fail}
-use Rattle.plays.specs.DirectPlay.{MeansFromOpening}
+use Rattle.plays.specs.DirectPlay.{MeansFromOpening, full_bytes}
 use Rattle.plays.specs.Play.{Played, Turn, full_play, play, step_turns, wants_of}
 use Rattle.plays.proofs.Described.{means_from_opening}
 
@@ -76,3 +80,29 @@ pub means-so : (program : Program) (b : BoardState) → IsSoundBoard b → HasDe
 means-so program b sound some legal ending after same-ending same-board =
     subst (λ (e : Ending). MeansFromOpening program b e after) (sym same-ending)
     (subst (λ (a : BoardState). MeansFromOpening program b (play program b).ending a) (sym same-board) (means_from_opening program b sound some legal))
+
+map-append : (xs ys : List Message) → map encode (xs ++ ys) ≡ map encode xs ++ map encode ys
+map-append [] ys = refl
+map-append (x ∷ xs) ys = ap (λ (l : List ℕ). encode x ∷ l) (map-append xs ys)
+
+-- the bytes of a full play
+abbrev pub bytes-of : Played → List ℕ
+bytes-of p = map encode p.messages
+
+module _ (program : Program) (b : BoardState) where
+  -- the bytes of the opening come first
+  pub opening-first : full_bytes program b ≡ map encode opening ++ bytes-of (full_play (step_turns Reset program.steps) (hear opening b).board)
+  opening-first = map-append opening (full_play (step_turns Reset program.steps) (hear opening b).board).messages
+
+module _ (place : State) (s : Numbered) (ss : List Numbered) (b : BoardState) where
+  -- the bytes of a step that passes are followed by those of the others
+  pub passed-bytes : judge (wants_of s.what) (heard-of place s b).answers ≡ None → bytes-of (full_play (step_turns place (s ∷ ss)) b)
+      ≡ step_bytes place s.what ++ bytes-of (full_play (step_turns (place_after place s.what) ss) (heard-of place s b).board)
+  passed-bytes none = ap (λ (o : Option (Part × ℕ)). bytes-of (decided place s ss b o)) none
+      ∙ map-append (step_messages place s.what) (full_play (step_turns (place_after place s.what) ss) (heard-of place s b).board).messages
+
+  -- those of a step that fails by `Q`
+  pub failed-bytes : (f : Part × ℕ) → judge (wants_of s.what) (heard-of place s b).answers ≡ Some f
+      → bytes-of (full_play (step_turns place (s ∷ ss)) b) ≡ step_bytes place s.what ++ 81 ∷ []
+  failed-bytes f some = ap (λ (o : Option (Part × ℕ)). bytes-of (decided place s ss b o)) some
+      ∙ map-append (step_messages place s.what) (Quit ∷ [])

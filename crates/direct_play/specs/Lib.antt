@@ -1,3 +1,4 @@
 pub mod Accepting
 pub mod Judging
 pub mod Hearing
+pub mod Noting

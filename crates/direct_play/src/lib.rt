@@ -4,10 +4,13 @@
 
 mod accepting;
 mod judging;
+mod noted;
+mod noting;
 mod playing;
 mod stepping;
 
 pub use accepting::accept;
+pub use noted::play_program_noted;
 pub use playing::play_program;
 
 #[cfg(test)]

@@ -18,11 +18,14 @@ use jt_tap::State;
 use scan_vectors::Part;
 use svf_settings::Step;
 
+/// The bytes that open a play: TRST is released, five cycles with TMS 1 follow, and TCK, TMS and TDI are low again.
+pub(crate) const OPENING: &[u8] = b"r26262626260";
+
 /// Opens a play: TRST is released, and five cycles with TMS 1 follow.
 pub(crate) fn play_opening(board: &mut Board)
     ensures { board.new ≡ (hear opening board.old).board }
 {
-    take_all(board, b"r26262626260");
+    take_all(board, OPENING);
 }
 
 /// The board takes bytes, one after another.

@@ -1,6 +1,1 @@
-pub mod Tails
-pub mod Plain
-pub mod Buffers
-pub mod Moving
-pub mod Noting
 pub mod Told

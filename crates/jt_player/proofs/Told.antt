@@ -7,13 +7,14 @@ use Rattle.byte_ends.specs.Counts.{CountedView}
 use Rattle.byte_ends.specs.Writes.{AppendsFront, WritesAll}
 use Rattle.byte_ends.specs.declared.counting.Broken.{Broken}
 use Rattle.jt_board.specs.Chain.{BoardState}
-use Rattle.state_programs.specs.declared.fault.Code.TheVariants.{NoMemory}
-use Rattle.state_programs.specs.declared.fault.SvfFault.{SvfFault}
-use Rattle.state_programs.specs.Spelling.{memory_fault, TextRefuses}
-use Rattle.jt_player.specs.Running.{Happens, IsRunOf, Run, Tells, memory_run, no_memory, refused, refused_run}
+use Rattle.svf_parse.specs.declared.fault.Code.TheVariants.{NoMemory}
+use Rattle.svf_parse.specs.declared.fault.SvfFault.{SvfFault}
+use Rattle.svf_parse.specs.View.{memory_fault}
+use Rattle.direct_play.specs.Accepting.{Refuses}
+use Rattle.jt_player.specs.Running.{Happens, Run, Tells, memory_run, refused_run}
 use Rattle.jt_player.specs.Showing.{refusal_line}
 
-on_ok : {A E : Type 0} (r : Result A E) (P : Type 0) → P → OnOk r P
+pub on_ok : {A E : Type 0} (r : Result A E) (P : Type 0) → P → OnOk r P
 on_ok (Ok x) P p = p
 on_ok (Err e) P p = tt
 
@@ -91,32 +92,27 @@ pub not-ok : {B F : Type 0} (s : Result B F) → IsErr s → false ≡ is_ok s
 not-ok (Ok y) is = absurd (cc)
 not-ok (Err y) is = refl
 
--- a fault that is want of memory, or another
-pub record IsRefused {W E : Type 0} (contents : W → Option (List ℕ)) (errors : E → Option (List ℕ)) (text : List ℕ) (bytes : Bool) (before : BoardState)
-    (out : CountedView W) (err err_after : CountedView E) (r : Result ℕ Broken) : Type 0 where
-  pub run : Run
-  pub is : IsRunOf text bytes before run
-  pub happens : Happens contents errors run before before out out err err_after r
+module _ {W E : Type 0} (contents : W → Option (List ℕ)) (errors : E → Option (List ℕ)) (text : List ℕ) (before : BoardState) where
+  -- a text that is not played, whose run is one of these
+  pub record IsTold (runs : Run → Type 0) (out : CountedView W) (err err_after : CountedView E) (r : Result ℕ Broken) : Type 0 where
+    pub run : Run
+    pub is : runs run
+    pub happens : Happens contents errors run before before out out err err_after r
 
-pub out-of-memory : {W E : Type 0} (contents : W → Option (List ℕ)) (errors : E → Option (List ℕ)) (text : List ℕ) (bytes : Bool) (before : BoardState)
-    (out : CountedView W) (err err_after : CountedView E) (r : Result ℕ Broken) → out.failures ≡ 0 → Tells errors err err_after (codes "memory\n") 4 r
-    → IsRefused contents errors text bytes before out err err_after r
-out-of-memory contents errors text bytes before out err err_after r none told = record {
-  run = memory_run before;
-  is = no_memory;
-  happens = happens-err contents errors (memory_run before) before out err err_after r refl refl none told.writes told.is_status;
-}
-
-pub refused-or-memory : {W E : Type 0} (contents : W → Option (List ℕ)) (errors : E → Option (List ℕ)) (text : List ℕ) (fault : SvfFault) (bytes : Bool)
-    (before : BoardState) (out : CountedView W) (err err_after : CountedView E) (r : Result ℕ Broken) → out.failures ≡ 0
-    → (fault ≢ memory_fault → TextRefuses text fault)
-    → ((fault.code ≡ NoMemory) × Tells errors err err_after (codes "memory\n") 4 r)
-    ⊎ ((fault.code ≢ NoMemory) × Tells errors err err_after (refusal_line fault) 2 r)
-    → IsRefused contents errors text bytes before out err err_after r
-refused-or-memory contents errors text fault bytes before out err err_after r none why (inl memory) =
-    out-of-memory contents errors text bytes before out err err_after r none memory.1
-refused-or-memory contents errors text fault bytes before out err err_after r none why (inr other) = record {
-  run = refused_run fault before;
-  is = refused fault (why (λ e. other.0 (ap (λ (f : SvfFault). f.code) e)));
-  happens = happens-err contents errors (refused_run fault before) before out err err_after r refl refl none other.1.writes other.1.is_status;
-}
+  -- a fault that is want of memory, or another
+  pub refused-or-memory : (runs : Run → Type 0) → runs (memory_run before) → ((fault : SvfFault) → Refuses text fault → runs (refused_run fault before))
+      → (fault : SvfFault) (out : CountedView W) (err err_after : CountedView E) (r : Result ℕ Broken) → out.failures ≡ 0
+      → (fault ≢ memory_fault → Refuses text fault)
+      → ((fault.code ≡ NoMemory) × Tells errors err err_after (codes "memory\n") 4 r)
+      ⊎ ((fault.code ≢ NoMemory) × Tells errors err err_after (refusal_line fault) 2 r)
+      → IsTold runs out err err_after r
+  refused-or-memory runs memory other fault out err err_after r none why (inl told) = record {
+    run = memory_run before;
+    is = memory;
+    happens = happens-err contents errors (memory_run before) before out err err_after r refl refl none told.1.writes told.1.is_status;
+  }
+  refused-or-memory runs memory other fault out err err_after r none why (inr told) = record {
+    run = refused_run fault before;
+    is = other fault (why (λ e. told.0 (ap (λ (f : SvfFault). f.code) e)));
+    happens = happens-err contents errors (refused_run fault before) before out err err_after r refl refl none told.1.writes told.1.is_status;
+  }

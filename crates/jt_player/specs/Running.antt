@@ -4,17 +4,15 @@ use Rattle.std.specs.Io.KnownBytes.{Appends}
 use Rattle.byte_ends.specs.Counts.{CountedView}
 use Rattle.byte_ends.specs.Writes.{AppendsFront, WritesAll}
 use Rattle.byte_ends.specs.declared.counting.Broken.{Broken}
-use Rattle.state_programs.specs.declared.fault.SvfFault.{SvfFault}
-use Rattle.state_programs.specs.Programs.{Accepted}
-use Rattle.state_programs.specs.Spelling.{TextSpells, TextRefuses}
+use Rattle.svf_parse.specs.declared.fault.SvfFault.{SvfFault}
 use Rattle.svf_settings.specs.Steps.{Program}
 use Rattle.jt_board.specs.Chain.{BoardState}
 use Rattle.jt_board.specs.Report.{report}
 use Rattle.plays.specs.DirectPlay.{MeansFromOpening, full_bytes}
 use Rattle.plays.specs.Endings.{status_of, verdict_line}
 use Rattle.plays.specs.Play.{play}
-use Rattle.jt_player.specs.Accepting.{program_of}
-use Rattle.jt_player.specs.Showing.{refusal_line}
+use Rattle.direct_play.specs.Accepting.{Accepts, Refuses}
+use Rattle.jt_player.specs.Showing.{accepted_line, refusal_line}
 
 -- what a play tells first: the bytes that were sent, where they are asked for
 abbrev pub note : Bool → Program → BoardState → List ℕ
@@ -47,11 +45,21 @@ memory_run before = record { out = []; err = codes "memory\n"; status = 4; board
 
 -- The runs of a text on a board: its program, played as it means over whole registers; its refusal; or want of memory.
 pub data IsRunOf (text : List ℕ) (bytes : Bool) (before : BoardState) : Run → Type 0 where
-  played : (program : Accepted) → TextSpells text program
-      → MeansFromOpening (program_of program) before (play (program_of program) before).ending (play (program_of program) before).board
-      → IsRunOf text bytes before (played_run bytes (program_of program) before)
-  refused : (fault : SvfFault) → TextRefuses text fault → IsRunOf text bytes before (refused_run fault before)
+  played : (program : Program) → Accepts text program
+      → MeansFromOpening program before (play program before).ending (play program before).board
+      → IsRunOf text bytes before (played_run bytes program before)
+  refused : (fault : SvfFault) → Refuses text fault → IsRunOf text bytes before (refused_run fault before)
   no_memory : IsRunOf text bytes before (memory_run before)
+
+-- A text was checked, and is accepted as a program.
+abbrev pub accepted_run : Program → BoardState → Run
+accepted_run program before = record { out = accepted_line program; err = []; status = 0; board = before }
+
+-- The checks of a text: its program, which is told of and not played; its refusal; or want of memory.
+pub data IsCheckOf (text : List ℕ) (before : BoardState) : Run → Type 0 where
+  accepted : (program : Program) → Accepts text program → IsCheckOf text before (accepted_run program before)
+  refused_check : (fault : SvfFault) → Refuses text fault → IsCheckOf text before (refused_run fault before)
+  no_memory_check : IsCheckOf text before (memory_run before)
 
 -- A writer was told these bytes, and the answer is this status.
 pub record Tells {E : Type 0} (errors : E → Option (List ℕ)) (err err_after : CountedView E) (bytes : List ℕ) (status : ℕ) (result : Result ℕ Broken) : Type 0 where

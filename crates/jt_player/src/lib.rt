@@ -1,19 +1,16 @@
 //! A player of Serial Vector Format programs, and a simulated board that it is proved to agree with.
 #![tactic(auto)]
 
-mod play;
-mod player;
 mod run;
 mod showing;
-mod source;
 
+pub use direct_play::{accept, play_program, play_program_noted};
 pub use jt_board::{Board, BoardFault, Broken, Counted, Reply, Snapshot, write_report};
-pub use play::{play_board, play_noted};
-pub use player::Player;
 pub use plays::Ending;
-pub use run::run_play;
+pub use run::{run_check, run_play};
 pub use scan_vectors::Part;
-pub use state_programs::{Action, Code, Program, Step, SvfFault, accept};
+pub use svf_parse::{Code, SvfFault};
+pub use svf_settings::{Action, Program, Step};
 
 #[cfg(test)]
 mod tests;

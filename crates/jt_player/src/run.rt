@@ -1,19 +1,20 @@
-//! A whole run: a text is accepted or refused, played, and told of.
+//! A whole run: a text is accepted or refused, played or only checked, and told of.
 
 ghost use Rattle.std.specs.Prelude.{◌≡◌, ◌≢◌, ◌⊎◌, IfOk, OnOk, codes};
 ghost use Rattle.byte_ends.specs.Writes.{WritesAll};
 ghost use Rattle.plays.specs.Play.{play};
-ghost use Rattle.jt_player.specs.Running.{Happens, IsRunOf, Run, Tells, note, played_run};
-ghost use Rattle.jt_player.specs.Showing.{refusal_line};
+ghost use Rattle.svf_settings.specs.Sizes.{program_of};
+ghost use Rattle.jt_player.specs.Running.{Happens, IsCheckOf, IsRunOf, Run, Tells, note, played_run};
+ghost use Rattle.jt_player.specs.Showing.{accepted_line, refusal_line};
 
-use crate::play::{play_board, play_noted};
-use crate::player::Player;
-use crate::showing::{write_refusal, write_verdict};
+use crate::showing::{write_accepted, write_refusal, write_verdict};
 use byte_ends::{Broken, Counted, Sink, put_all};
+use direct_play::{accept, play_program, play_program_noted};
 use jt_board::{Board, write_report};
 use plays::Ending;
-use state_programs::{Code, SvfFault, accept};
 use std::alloc::Global;
+use svf_parse::{Code, SvfFault};
+use svf_settings::Program;
 
 /// Plays a text on a board and tells of it: to `out` a line of the bytes sent where `bytes` asks for it, the verdict and
 /// the board's report; to `err` the line of a refusal or of want of memory. Answers the exit status: 0 pass, 1 fail, 2 a
@@ -35,29 +36,64 @@ pub fn run_play<W: Sink, E: Sink>(
         × Happens W.contents E.contents run board.old board.new out.old out.new err.old err.new result }
 {
     match accept(alloc, svf) {
-        Ok(program) => match Player::new(alloc, program) {
-            Ok(player) => play_and_tell(player, board, bytes, out),
-            Err(_) => refuse_memory(err),
-        },
+        Ok(program) => {
+            // For the proof alone: what the types keep of a program's steps and of a board's devices.
+            let _ = program.len();
+            let _ = board.devices();
+            play_and_tell(&program, board, bytes, out)
+        }
         Err(fault) => refuse(fault, err),
     }
 }
 
+/// Checks a text and tells of it: to `out` a line of how many statements it has and how many steps they make; to `err` the
+/// line of a refusal or of want of memory. Nothing is played: the board is the one that the text is meant for. Answers the exit status: 0
+/// accepted, 2 a refused text, 4 want of memory.
+///
+/// `Broken` comes exactly where the first failure of one of the two writers came in this call. Then each was told a front
+/// part of what it was owed.
+pub fn run_check<W: Sink, E: Sink>(
+    alloc: Global,
+    svf: &[u8],
+    board: &Board,
+    out: &mut Counted<W>,
+    err: &mut Counted<E>,
+) -> Result<u8, Broken>
+    requires out_whole { out.old.failures ≡ 0 }
+    requires err_whole { err.old.failures ≡ 0 }
+    ensures { (run : Run) × IsCheckOf svf.now board.now run
+        × Happens W.contents E.contents run board.now board.now out.old out.new err.old err.new result }
+{
+    let _ = board;
+    match accept(alloc, svf) {
+        Ok(program) => tell_accepted(&program, out),
+        Err(fault) => refuse(fault, err),
+    }
+}
+
+/// Writes that a text is accepted. Answers the exit status.
+fn tell_accepted<W: Sink>(program: &Program, out: &mut Counted<W>) -> Result<u8, Broken>
+    requires { out.old.failures ≡ 0 }
+    ensures { Tells W.contents out.old out.new (accepted_line (program_of program.now)) 0 result }
+{
+    write_accepted(program, out)?;
+    Ok(0)
+}
+
 /// Plays and writes the bytes, the verdict and the report. Answers the exit status of the ending.
 fn play_and_tell<W: Sink>(
-    player: Player,
+    program: &Program,
     board: &mut Board,
     bytes: bool,
     out: &mut Counted<W>,
 ) -> Result<u8, Broken>
-    requires fresh { player.given ≡ 0 }
     requires none_lost { out.old.failures ≡ 0 }
-    ensures writes { WritesAll W.contents out.old out.new (played_run bytes player.program board.old).out result }
-    ensures status { IfOk result (λ status. status ≡ (played_run bytes player.program board.old).status) }
-    ensures left { OnOk result (board.new ≡ (play player.program board.old).board) }
-    ensures board { (board.new ≡ board.old) ⊎ (board.new ≡ (play player.program board.old).board) }
+    ensures writes { WritesAll W.contents out.old out.new (played_run bytes (program_of program.now) board.old).out result }
+    ensures status { IfOk result (λ status. status ≡ (played_run bytes (program_of program.now) board.old).status) }
+    ensures left { OnOk result (board.new ≡ (play (program_of program.now) board.old).board) }
+    ensures board { (board.new ≡ board.old) ⊎ (board.new ≡ (play (program_of program.now) board.old).board) }
 {
-    let ending = play_and_note(player, board, bytes, out)?;
+    let ending = play_and_note(program, board, bytes, out)?;
     write_verdict(ending, out)?;
     write_report(board, out)?;
     Ok(ending.status())
@@ -65,23 +101,22 @@ fn play_and_tell<W: Sink>(
 
 /// Plays, and writes the line of the bytes sent where they are asked for.
 fn play_and_note<W: Sink>(
-    player: Player,
+    program: &Program,
     board: &mut Board,
     bytes: bool,
     out: &mut Counted<W>,
 ) -> Result<Ending, Broken>
-    requires fresh { player.given ≡ 0 }
     requires none_lost { out.old.failures ≡ 0 }
-    ensures writes { WritesAll W.contents out.old out.new (note bytes player.program board.old) result }
-    ensures ending { IfOk result (λ ending. ending ≡ (play player.program board.old).ending) }
-    ensures left { OnOk result (board.new ≡ (play player.program board.old).board) }
-    ensures board { (board.new ≡ board.old) ⊎ (board.new ≡ (play player.program board.old).board) }
+    ensures writes { WritesAll W.contents out.old out.new (note bytes (program_of program.now) board.old) result }
+    ensures ending { IfOk result (λ ending. ending ≡ (play (program_of program.now) board.old).ending) }
+    ensures left { OnOk result (board.new ≡ (play (program_of program.now) board.old).board) }
+    ensures board { (board.new ≡ board.old) ⊎ (board.new ≡ (play (program_of program.now) board.old).board) }
 {
     if !bytes {
-        return Ok(play_board(player, board));
+        return Ok(play_program(program, board));
     }
     put_all(out, b"bytes ")?;
-    let (ending, noted) = play_noted(player, board, out);
+    let (ending, noted) = play_program_noted(program, board, out);
     if !noted {
         return Err(Broken);
     }

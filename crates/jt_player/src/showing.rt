@@ -3,7 +3,8 @@
 ghost use Rattle.std.specs.Prelude.{◌≡◌};
 ghost use Rattle.byte_ends.specs.Writes.{WritesAll};
 ghost use Rattle.jt_player.specs.Showing as showing;
-ghost use Rattle.jt_player.specs.Showing.{refusal_line};
+ghost use Rattle.jt_player.specs.Showing.{accepted_line, refusal_line};
+ghost use Rattle.svf_settings.specs.Sizes.{program_of};
 ghost use Rattle.plays.specs.Endings as endings;
 ghost use Rattle.plays.specs.Endings.{verdict_line};
 
@@ -11,7 +12,8 @@ use byte_ends::{Broken, Counted, Sink, put_all, put_pieces};
 use itoa::Buffer;
 use plays::Ending;
 use scan_vectors::Part;
-use state_programs::{Code, SvfFault};
+use svf_parse::{Code, SvfFault};
+use svf_settings::Program;
 
 /// Writes the line of a verdict.
 pub(crate) fn write_verdict<W: Sink>(ending: Ending, out: &mut Counted<W>) -> Result<(), Broken>
@@ -69,6 +71,25 @@ pub(crate) fn write_refusal<W: Sink>(fault: SvfFault, out: &mut Counted<W>) -> R
     )
 }
 
+/// Writes the line of a text that is accepted.
+pub(crate) fn write_accepted<W: Sink>(program: &Program, out: &mut Counted<W>) -> Result<(), Broken>
+    requires { out.old.failures ≡ 0 }
+    ensures { WritesAll W.contents out.old out.new (accepted_line (program_of program.now)) result }
+{
+    let mut statements = Buffer::new();
+    let mut steps = Buffer::new();
+    put_pieces(
+        out,
+        &[
+            b"accepted ",
+            statements.format(program.statements()).as_bytes(),
+            b" statements ",
+            steps.format(program.len()).as_bytes(),
+            b" steps\n",
+        ],
+    )
+}
+
 fn hex_byte(byte: u8) -> [u8; 2]
     ensures { result ≡ endings.hex_byte byte }
 {
@@ -97,8 +118,16 @@ fn code_words(code: Code) -> &'static str
         Code::Unclosed(_) => "S2 Unclosed",
         Code::UnknownCommand => "S3 UnknownCommand",
         Code::BadForm => "S4 BadForm",
+        Code::BadNumber => "S5 BadNumber",
+        Code::TooWide => "S6 TooWide",
+        Code::MissingTdi => "S7 MissingTdi",
         Code::BadState => "S8 BadState",
+        Code::BadPath => "S9 BadPath",
+        Code::TrstHeld => "S10 TrstHeld",
+        Code::TrstAbsent => "S11 TrstAbsent",
+        Code::EmptyScan => "S12 EmptyScan",
         Code::Unsupported => "S13 Unsupported",
+        Code::TooSlow => "S14 TooSlow",
         Code::TooLarge => "S15 TooLarge",
         Code::NoMemory => "S16 NoMemory",
     }

@@ -1,4 +1,4 @@
-use crate::{Board, Ending, Player, accept, play_board, run_play};
+use crate::{Board, run_check, run_play};
 use byte_ends::{Counted, Plain};
 use std::alloc::Global;
 use std::process::Abort;
@@ -20,9 +20,19 @@ fn ran(
     Ok((out.into_inner(), err.into_inner(), status))
 }
 
+/// The same of a check.
+fn checked(rt: &impl Abort, alloc: Global, text: &[u8]) -> Result<(Vec<u8>, Vec<u8>, u8), Fail> {
+    let board = Board::bare(alloc, 1)?;
+    let mut out = Counted::new(Vec::new(alloc));
+    let mut err = Counted::new(Vec::new(alloc));
+    assert!(rt; out.failures() == 0 && err.failures() == 0);
+    let status = run_check(alloc, text, &board, &mut out, &mut err).unwrap_or(255);
+    Ok((out.into_inner(), err.into_inner(), status))
+}
+
 #[test]
 fn runs_of_the_table(rt: HostRuntime) -> Result<(), Fail> {
-    let rows: [(&[u8], usize, &[u8], &[u8], u8); 7] = [
+    let rows: [(&[u8], usize, &[u8], &[u8], u8); 9] = [
         (
             b"",
             1,
@@ -52,6 +62,20 @@ fn runs_of_the_table(rt: HostRuntime) -> Result<(), Fail> {
             0,
         ),
         (
+            b"SIR 2 TDI (3) TDO (1);",
+            1,
+            b"bytes r2626262626004262604041R53R726040Q\npass\nU1 IDLE 11 BYPASS\n",
+            b"",
+            0,
+        ),
+        (
+            b"SIR 4 TDI (F); HDR 1 TDI (0) TDO (1); SDR 1 TDI (1) TDO (1);",
+            2,
+            b"bytes r26262626260042626040415151537260402604040R43R726040Q\nfail command 3 header bit 0\nU1 IDLE 11 BYPASS\nU2 IDLE 11 BYPASS\n",
+            b"",
+            1,
+        ),
+        (
             b"STATE DRCAPTURE;",
             1,
             b"",
@@ -59,7 +83,7 @@ fn runs_of_the_table(rt: HostRuntime) -> Result<(), Fail> {
             2,
         ),
         (
-            b"STATE IDLE; SIR 2;",
+            b"STATE IDLE; PIO (HL);",
             1,
             b"",
             b"svf S13 Unsupported statement 2\n",
@@ -75,6 +99,33 @@ fn runs_of_the_table(rt: HostRuntime) -> Result<(), Fail> {
     }
     let (wrote, _, _) = ran(&rt, rt.alloc(), b"STATE RESET;", 1, false)?;
     assert_eq!(rt; wrote.as_slice(), b"pass\nU1 RESET 11 BYPASS\n".as_slice());
+    Ok(())
+}
+
+#[test]
+fn checks_of_the_table(rt: HostRuntime) -> Result<(), Fail> {
+    let rows: [(&[u8], &[u8], &[u8], u8); 4] = [
+        (b"", b"accepted 0 statements 0 steps\n", b"", 0),
+        (
+            b"FREQUENCY 3E6 HZ; RUNTEST 1E-6 SEC;",
+            b"accepted 2 statements 1 steps\n",
+            b"",
+            0,
+        ),
+        (b"SDR 4;", b"", b"svf S7 MissingTdi statement 1\n", 2),
+        (
+            b"STATE IDLE; STATE DRPAUSE",
+            b"",
+            b"svf S2 Unclosed statement 2\n",
+            2,
+        ),
+    ];
+    for (text, out, err, status) in rows {
+        let (wrote, told, ended) = checked(&rt, rt.alloc(), text)?;
+        assert_eq!(rt; wrote.as_slice(), out);
+        assert_eq!(rt; told.as_slice(), err);
+        assert_eq!(rt; ended, status);
+    }
     Ok(())
 }
 
@@ -99,42 +150,5 @@ fn a_full_output(rt: HostRuntime) -> Result<(), Fail> {
     );
     assert_eq!(rt; out.failures(), 1);
     assert_eq!(rt; err.failures(), 0);
-    Ok(())
-}
-
-#[test]
-fn a_player_in_small_pieces(rt: HostRuntime) -> Result<(), Fail> {
-    let program = accept(rt.alloc(), b"STATE IDLE; STATE RESET;")?;
-    assert_eq!(rt; program.statements(), 2);
-    assert_eq!(rt; program.steps().len(), 2);
-    let mut player = Player::new(rt.alloc(), program).ok().ok_or("no memory")?;
-    assert!(rt; player.is_fresh());
-    assert_eq!(rt; player.answers(b"01"), 0);
-    let mut all = Vec::new(rt.alloc());
-    let mut buffer = [0u8; 5];
-    for _ in 0..20 {
-        let count = player.next_bytes(&mut buffer);
-        for byte in buffer.iter().take(count) {
-            all.push(*byte)?;
-        }
-        assert!(rt; !player.is_fresh());
-    }
-    assert_eq!(rt; all.as_slice(), b"r262626262600402626260Q".as_slice());
-    assert_eq!(rt; player.ended(), Some(Ending::Pass));
-    assert_eq!(rt; player.next_bytes(&mut buffer), 0);
-    Ok(())
-}
-
-#[test]
-fn a_play_on_a_used_board(rt: HostRuntime) -> Result<(), Fail> {
-    let mut board = Board::bare(rt.alloc(), 3)?;
-    for byte in b"04260404151" {
-        let _ = board.byte(*byte);
-    }
-    let program = accept(rt.alloc(), b"STATE DRPAUSE;")?;
-    let player = Player::new(rt.alloc(), program).ok().ok_or("no memory")?;
-    assert!(rt; player.is_fresh());
-    assert_eq!(rt; play_board(player, &mut board), Ending::Pass);
-    assert!(rt; !board.snapshot().tck());
     Ok(())
 }

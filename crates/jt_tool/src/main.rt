@@ -6,11 +6,11 @@ mod request;
 mod words;
 
 use crate::input::{InputFault, read_text};
-use crate::request::{Request, parse};
+use crate::request::{Request, Task, parse};
 use crate::words::command_words;
 use byte_ends::{Counted, Plain};
 use clap::error::ErrorKind as WordsFault;
-use jt_player::{Board, BoardFault, run_play};
+use jt_player::{Board, BoardFault, run_check, run_play};
 use std::alloc::Global;
 use std::io::ErrorKind;
 use std::process::ExitCode;
@@ -44,7 +44,7 @@ fn run(rt: &HostRuntime, alloc: Global, args: &[String]) -> u8 {
         }
     }
     match parse(alloc, &words) {
-        Ok(request) => play(rt, alloc, &request),
+        Ok(request) => run_text(rt, alloc, &request),
         Err(fault) => refuse_words(rt, &fault),
     }
 }
@@ -66,8 +66,8 @@ fn refuse_words<R: Print + Eprint>(rt: &R, fault: &clap::Error) -> u8 {
     }
 }
 
-/// Plays a text on a board of one bare device.
-fn play(rt: &HostRuntime, alloc: Global, request: &Request<'_>) -> u8 {
+/// Plays or checks a text, on a board of one bare device.
+fn run_text(rt: &HostRuntime, alloc: Global, request: &Request<'_>) -> u8 {
     let text = match read_text(rt, alloc, request.svf) {
         Ok(text) => text,
         Err(InputFault::Unreadable) => {
@@ -83,10 +83,11 @@ fn play(rt: &HostRuntime, alloc: Global, request: &Request<'_>) -> u8 {
     };
     let mut out = Counted::new(Plain(io::writer(rt)));
     let mut err = Counted::new(Plain(rt.stderr()));
-    match run_play(alloc, &text, &mut board, request.bytes, &mut out, &mut err) {
-        Ok(status) => status,
-        Err(_) => BROKEN,
-    }
+    let told = match request.task {
+        Task::Play { bytes } => run_play(alloc, &text, &mut board, bytes, &mut out, &mut err),
+        Task::Check => run_check(alloc, &text, &board, &mut out, &mut err),
+    };
+    told.unwrap_or(BROKEN)
 }
 
 /// Writes a line to standard error. Answers this status, or that the line was lost.

@@ -3,13 +3,22 @@
 use clap::{Arg, ArgAction, ArgMatches, Command, Error};
 use std::alloc::{AllocError, Global};
 
-/// A play that the command line asks for.
+/// What is done with a text.
+#[derive(Debug, Clone, Copy, PartialEq, Eq)]
+pub(crate) enum Task {
+    /// It is played, and where `bytes` is set the bytes sent are told too.
+    Play { bytes: bool },
+    /// It is only checked.
+    Check,
+}
+
+/// What the command line asks for.
 #[derive(Debug, Clone, Copy)]
 pub(crate) struct Request<'a> {
     /// The file of the text, `None` for standard input.
     pub svf: Option<&'a str>,
-    /// Whether the line of the bytes sent is asked for.
-    pub bytes: bool,
+    /// What is done with it.
+    pub task: Task,
 }
 
 /// Reads the words of a command line, of which the first is the program's name. Without any more it is `play --bytes`.
@@ -21,13 +30,19 @@ pub(crate) fn parse<'a>(alloc: Global, words: &'a [&'a str]) -> Result<Request<'
 
 fn request_of<'a>(matches: &ArgMatches<'a>) -> Request<'a> {
     match matches.subcommand() {
+        Some(("check", check)) => Request {
+            svf: check.get_str("svf"),
+            task: Task::Check,
+        },
         Some((_, play)) => Request {
             svf: play.get_str("svf"),
-            bytes: play.get_flag("bytes"),
+            task: Task::Play {
+                bytes: play.get_flag("bytes"),
+            },
         },
         None => Request {
             svf: None,
-            bytes: true,
+            task: Task::Play { bytes: true },
         },
     }
 }
@@ -35,19 +50,29 @@ fn request_of<'a>(matches: &ArgMatches<'a>) -> Request<'a> {
 fn command<'a>(alloc: Global) -> Result<Command<'a>, AllocError> {
     Command::new(alloc, "jt_tool")
         .about("Plays Serial Vector Format programs on a simulated boundary-scan board")
-        .subcommand(play_command(alloc)?)
+        .subcommand(play_command(alloc)?)?
+        .subcommand(check_command(alloc)?)
 }
 
 fn play_command<'a>(alloc: Global) -> Result<Command<'a>, AllocError> {
-    let svf = Arg::new(alloc, "svf").action(ArgAction::Set).help(
-        "The file of the program; standard input where none is named",
-    );
     let bytes = Arg::new(alloc, "bytes")
         .long("bytes")
         .action(ArgAction::SetTrue)
         .help("Also prints the bytes sent");
     Command::new(alloc, "play")
         .about("Plays a program in process, and prints the verdict and the board's report")
-        .arg(svf)?
+        .arg(svf_arg(alloc))?
         .arg(bytes)
+}
+
+fn check_command<'a>(alloc: Global) -> Result<Command<'a>, AllocError> {
+    Command::new(alloc, "check")
+        .about("Tells whether a program is accepted, and how many statements and steps it has")
+        .arg(svf_arg(alloc))
+}
+
+fn svf_arg<'a>(alloc: Global) -> Arg<'a> {
+    Arg::new(alloc, "svf")
+        .action(ArgAction::Set)
+        .help("The file of the program; standard input where none is named")
 }

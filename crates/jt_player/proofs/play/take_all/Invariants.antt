@@ -1,6 +1,0 @@
-use Rattle.std.proofs.Common.{◌≡◌, drop}
-use Rattle.jt_board.specs.Chain.{after_all}
-use Rattle.jt_player.proofs.play.take_all.Given as goal
-
-abbrev pub invariant-loop-byte : goal.invariant-loop-byte
-invariant-loop-byte l = after_all (drop l.byte-index l.bytes) l.board ≡ after_all l.bytes l.initial.board
