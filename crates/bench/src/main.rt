@@ -31,8 +31,9 @@ fn main(rt: HostRuntime) -> ExitCode {
     let _program = words.next();
     let told = match words.next() {
         Some(word) if word.as_str() == "run" => measure(&rt),
-        Some(word) if word.as_str() == "accept" => programs::accept(&rt),
-        _ => rt.println("usage: bench run | bench accept <text"),
+        Some(word) if word.as_str() == "parse" => programs::tell_statements(&rt),
+        Some(word) if word.as_str() == "accept" => programs::tell_program(&rt),
+        _ => rt.println("usage: bench run | bench parse <text | bench accept <text"),
     };
     if told.is_ok() {
         ExitCode::SUCCESS

@@ -1,4 +1,5 @@
-//! Accepted programs.
+//! Texts, and the programs that they are.
+use std::alloc::Global;
 use std::io::{self, Read};
 use std::time::Instant;
 use svf_parse::parse;
@@ -7,11 +8,31 @@ use svf_settings::resolve;
 /// A text has at most 16 MiB.
 const MOST_BYTES: u64 = 16 * 1024 * 1024 + 1;
 
-/// Reads a text from standard input, and tells how many statements and steps it has, and the milliseconds that `parse`
-/// and `resolve` took.
-pub fn accept(rt: &HostRuntime) -> io::Result<()> {
+/// The text from standard input.
+fn text(rt: &HostRuntime) -> io::Result<Vec<u8, Global>> {
     let mut text = Vec::new(rt.alloc());
     rt.reader().take(MOST_BYTES).read_to_end(&mut text)?;
+    Ok(text)
+}
+
+/// Reads a text from standard input, and tells how many statements it has, and the milliseconds that `parse` took.
+pub fn tell_statements(rt: &HostRuntime) -> io::Result<()> {
+    let text = text(rt)?;
+    let start = Instant::now(rt)?;
+    match parse(rt.alloc(), &text) {
+        Ok(statements) => {
+            let parsed = start.elapsed(rt)?.as_millis();
+            let count = statements.len();
+            rt.println(format_args!("{count} statements parse {parsed} ms"))
+        }
+        Err(fault) => rt.println(fault),
+    }
+}
+
+/// Reads a text from standard input, and tells how many statements and steps it has, and the milliseconds that `parse`
+/// and `resolve` took.
+pub fn tell_program(rt: &HostRuntime) -> io::Result<()> {
+    let text = text(rt)?;
     let start = Instant::now(rt)?;
     let statements = match parse(rt.alloc(), &text) {
         Ok(statements) => statements,

@@ -41,6 +41,14 @@ pub record Fits (d : Device) (m : Decoded) : Type 0 where
 abbrev pub AccessFits : Device → Access → Type 0
 AccessFits d a = (u : ℕ) → a.place ≡ AtUser u → (n : ℕ) × (slice_get d.users u ≡ Some n) × (0 < n) × ((bits : List Bool) → a.captures ≡ Some bits → length bits ≡ n)
 
+-- every access does
+abbrev pub AllFit : Device → Type 0
+AllFit d = (k : ℕ) (a : Access) → access_at d k ≡ Some a → AccessFits d a
+
+-- bits, where there are some, are so many
+abbrev pub AreLong : Option (List Bool) → ℕ → Type 0
+AreLong bits n = (b : List Bool) → bits ≡ Some b → length b ≡ n
+
 pub record IsFormed (d : Device) : Type 0 where
   pub instruction : 0 < d.instruction_length
   pub capture : length d.capture ≡ d.instruction_length
@@ -48,7 +56,7 @@ pub record IsFormed (d : Device) : Type 0 where
   pub reset : length (reset_latch d) ≡ d.instruction_length
   pub idcode : (code : List Bool) → d.idcode ≡ Some code → length code ≡ 32
   pub usercode : (code : List Bool) → d.usercode ≡ Some code → length code ≡ 32
-  pub accesses : (k : ℕ) (a : Access) → access_at d k ≡ Some a → AccessFits d a
+  pub accesses : AllFit d
 
 -- the user registers have their lengths
 abbrev pub UsersFit : List ℕ → List UserRegister → Type 0

@@ -1,8 +1,7 @@
 //! Whether a description is one that a chip can rest on.
 
-ghost use Rattle.std.specs.Prelude.{◌≡◌, ◌∷◌, ℕ, Bool, List, IsTrue, length, option_map};
-ghost use Rattle.bsdl_device.specs.Device.{Access as TheAccess};
-ghost use Rattle.scan_registers.specs.Fitting.{AccessFits, IsFormed, access_at};
+ghost use Rattle.std.specs.Prelude.{◌≡◌, Bool, List, IsTrue, length, option_map};
+ghost use Rattle.scan_registers.specs.Fitting.{AccessFits, AllFit, AreLong, IsFormed};
 ghost use Rattle.scan_registers.specs.Instruction.{reset_latch};
 
 use crate::start::idcode_opcode;
@@ -12,10 +11,11 @@ use jt_bits::Bits;
 /// The length of an identification code (IEEE Std 1149.1-2001, clause 12).
 const CODE: usize = 32;
 
-/// Whether each list that a register of the device takes has that register's length: the test for what a chip asks of its
-/// description.
+/// Whether each list that a register of the device takes has that register's length: the test for what a chip asks of
+/// its description.
 pub fn is_formed(device: &Device) -> bool
-    ensures { IsTrue result → IsFormed device.now }
+    ensures formed { IsTrue result → IsFormed device.now }
+    ensures needed { IsFormed device.now → IsTrue result }
 {
     let instruction = device.instruction_length();
     if instruction == 0 || device.capture().len() != instruction {
@@ -32,7 +32,8 @@ pub fn is_formed(device: &Device) -> bool
 
 /// Whether these bits, if there are some, are so many.
 fn is_long(bits: Option<&Bits>, n: usize) -> bool
-    ensures { IsTrue result → (b : List Bool) → option_map {U = List Bool} (λ x. x.now) bits.entry ≡ Some b → length b ≡ n }
+    ensures fits { IsTrue result → AreLong (option_map {U = List Bool} (λ x. x.now) bits.entry) n }
+    ensures needed { AreLong (option_map {U = List Bool} (λ x. x.now) bits.entry) n → IsTrue result }
 {
     match bits {
         Some(found) => found.len() == n,
@@ -42,7 +43,8 @@ fn is_long(bits: Option<&Bits>, n: usize) -> bool
 
 /// Whether the latch that a reset gives is as long as the instruction register.
 fn resets_whole(device: &Device) -> bool
-    ensures { IsTrue result → length (reset_latch device.now) ≡ device.now.instruction_length }
+    ensures fits { IsTrue result → length (reset_latch device.now) ≡ device.now.instruction_length }
+    ensures needed { length (reset_latch device.now) ≡ device.now.instruction_length → IsTrue result }
 {
     match (device.idcode(), idcode_opcode(device.opcodes())) {
         (Some(_), Some(opcode)) => opcode.bits().len() == device.instruction_length(),
@@ -52,7 +54,8 @@ fn resets_whole(device: &Device) -> bool
 
 fn accesses_fit(device: &Device, accesses: &[Access]) -> bool
     requires { accesses.now ≡ device.now.accesses }
-    ensures { IsTrue result → (k : ℕ) (a : TheAccess) → access_at device.now k ≡ Some a → AccessFits device.now a }
+    ensures fits { IsTrue result → AllFit device.now }
+    ensures needed { AllFit device.now → IsTrue result }
 {
     for access in accesses {
         if !access_fits(device, access) {
@@ -64,7 +67,8 @@ fn accesses_fit(device: &Device, accesses: &[Access]) -> bool
 
 /// Whether an access to a user register names one that is there, and captures as many bits.
 fn access_fits(device: &Device, access: &Access) -> bool
-    ensures { IsTrue result → AccessFits device.now access.now }
+    ensures fits { IsTrue result → AccessFits device.now access.now }
+    ensures needed { AccessFits device.now access.now → IsTrue result }
 {
     match access.place() {
         Place::AtUser(u) => match device.users().get(u) {
