@@ -7,3 +7,6 @@ ghost use Rattle.board_file_rows.specs.Rows.{BoardRows};
 pub fn rows_compute()
     ensures { BoardRows }
 {}
+
+#[cfg(test)]
+mod tests;
