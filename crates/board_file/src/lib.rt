@@ -4,6 +4,7 @@
 mod board;
 mod fault;
 mod files;
+mod instructions;
 mod library;
 mod pins;
 mod plan;
@@ -12,6 +13,7 @@ mod wiring;
 pub use board::plan_of_text;
 pub use fault::BoardFault;
 pub use files::bsdl_names;
+pub use instructions::left_out;
 pub use library::{Describe, Unread};
 pub use pins::Pin;
 pub use plan::{Plan, PlannedDevice, PlannedNet};

@@ -2,3 +2,4 @@ pub mod PlaceLaws
 pub mod ValueLaws
 pub mod KeyLaws
 pub mod TextLaws
+pub mod SpellLaws

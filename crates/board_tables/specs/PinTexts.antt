@@ -1,5 +1,5 @@
 -- A pin as the board file writes it: `U1.Q`, or `U1.A(3)`.
-use Rattle.std.specs.Prelude.{◌≡◌, ℕ, Bool, true, ◌&&◌, ◌==◌, nat_lt, List, [], ◌∷◌, ◌++◌, length, Option, Some, None, option_map, option_and_then, if◌then◌else◌}
+use Rattle.std.specs.Prelude.{◌≡◌, ◌↔◌, ℕ, Bool, true, ◌&&◌, ◌==◌, nat_lt, List, [], ◌∷◌, ◌++◌, length, Option, Some, None, option_map, option_and_then, if◌then◌else◌}
 use Rattle.std.specs.List.{list_all, position_or_len, before_first, after_first}
 use Rattle.std.specs.Char.{is_ascii_digit}
 use Rattle.board_tables.specs.Names.{is_name}
@@ -60,3 +60,9 @@ port_of device text = elim (split_at 40 text) [ Some p ↦ indexed device p.0 p.
 
 unfoldable pub pin_of : List ℕ → Option PinText
 pin_of text = option_and_then (λ p. if is_name p.0 then port_of p.0 p.1 else None) (split_at 46 text)
+
+-- ---- the two are one
+
+-- A text is read as a pin exactly where it spells that pin.
+abbrev pub PinsAreReadAsSpelt : Type 0
+PinsAreReadAsSpelt = (text : List ℕ) (p : PinText) → (pin_of text ≡ Some p) ↔ Spells text p

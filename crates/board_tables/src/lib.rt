@@ -3,6 +3,7 @@
 
 mod fields;
 mod keys;
+mod laws;
 mod names;
 mod pins;
 mod places;
@@ -10,6 +11,7 @@ mod tables;
 mod values;
 
 pub use fields::{Unfit, check_fields};
+pub use laws::pins_are_read_as_spelt;
 pub use names::is_name;
 pub use pins::{PinText, pin_of};
 pub use places::Places;

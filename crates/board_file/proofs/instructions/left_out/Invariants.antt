@@ -1,0 +1,9 @@
+use Rattle.std.proofs.Common.{◌≡◌, drop, filter, map, slice_get}
+use Rattle.bsdl_device.specs.Device.{Opcode}
+use Rattle.board_file.specs.LeftOut.{is_left_out, left_out}
+use Rattle.board_file.proofs.instructions.left_out.Given as goal
+
+-- what is left is counted as the whole is
+abbrev pub invariant-loop-opcode : goal.invariant-loop-opcode
+invariant-loop-opcode l =
+    slice_get (filter (is_left_out l.device) (map (λ (o : Opcode). o.name) (drop l.opcode-index l.opcode-items))) l.before ≡ slice_get (left_out l.device) l.fn.k

@@ -1,0 +1,3 @@
+pub mod Samples
+pub mod Rows
+pub mod Small

@@ -1,0 +1,285 @@
+//! Board files as text, over one small device of three cells.
+ghost use Rattle.std.specs.Prelude.{◌≡◌, [], ◌∷◌, IfOk, string_bytes};
+ghost use Rattle.board_file_rows.specs.Small.{small_cell, small_device, small_ports};
+
+use board_file::{BoardFault, Describe, Pin, Plan, Unread, bsdl_names, plan_of_text};
+use bsdl_device::{Cell as BoundaryCell, Device, Function, Indices, Parts, Port, PortMode, Ports};
+use jt_bits::Bits;
+use pin_nets::Pull;
+use std::alloc::{AllocError, Global};
+use std::cell::Cell;
+use std::process::Abort;
+use std::test::Fail;
+
+fn port(alloc: Global, name: &str, mode: PortMode, is_tap: bool) -> Result<Port, AllocError>
+    ensures name { IfOk result (λ p. string_bytes p.name ≡ name.now) }
+    ensures mode { IfOk result (λ p. p.mode ≡ mode) }
+    ensures tap { IfOk result (λ p. p.is_tap ≡ is_tap) }
+{
+    Ok(Port {
+        name: String::from_str(alloc, name)?,
+        mode,
+        is_tap,
+    })
+}
+
+fn ports(alloc: Global) -> Result<Ports, AllocError>
+    ensures { IfOk result (λ p. p ≡ small_ports) }
+{
+    let ports = Ports::new(alloc);
+    let ports = ports.with(port(alloc, "TDI", PortMode::In, true)?, None)?;
+    let ports = ports.with(port(alloc, "Q", PortMode::Out, false)?, None)?;
+    let ports = ports.with(port(alloc, "D", PortMode::In, false)?, None)?;
+    let bus = Indices { low: 2, len: 2 };
+    let ports = ports.with(port(alloc, "A", PortMode::In, false)?, Some(bus))?;
+    ports.with(port(alloc, "VCC", PortMode::Linkage, false)?, None)
+}
+
+fn cells(alloc: Global) -> Result<Vec<BoundaryCell>, AllocError>
+    ensures { IfOk result (λ v. v.items ≡ small_cell ∷ small_cell ∷ small_cell ∷ []) }
+{
+    let cell = BoundaryCell {
+        function: Function::Internal,
+        port: None,
+        control: None,
+    };
+    let mut cells = Vec::new(alloc);
+    cells.push(cell)?;
+    cells.push(cell)?;
+    cells.push(cell)?;
+    Ok(cells)
+}
+
+fn device(alloc: Global) -> Result<Device, AllocError>
+    ensures { IfOk result (λ d. d ≡ small_device) }
+{
+    Ok(Device::new(Parts {
+        ports: ports(alloc)?,
+        instruction_length: 2,
+        opcodes: Vec::new(alloc),
+        capture: Bits::ones(alloc, 1)?,
+        idcode: None,
+        usercode: None,
+        cells: cells(alloc)?,
+        private_names: Vec::new(alloc),
+        accesses: Vec::new(alloc),
+        users: Vec::new(alloc),
+        has_trst: false,
+    }))
+}
+
+/// A reader to which `K` is the small device; it refuses any other text.
+struct Small;
+
+impl Describe for Small {
+    type Fault = u8;
+
+    ghost use Rattle.std.specs.Prelude.{◌≡◌};
+    ghost use Rattle.board_file_rows.specs.Small.{small_says};
+
+    ghost says = { small_says };
+
+    ghost refuses = { λ _ fault. fault ≡ 6 };
+
+    fn read(&self, alloc: Global, text: &[u8]) -> Result<Device, Unread<u8>> {
+        if text != b"K".as_slice() {
+            return Err(Unread::Refused(6));
+        }
+        match device(alloc) {
+            Ok(device) => Ok(device),
+            Err(_) => Err(Unread::Memory),
+        }
+    }
+}
+
+/// The board of a text over the files `k`, `bad` and another `k`.
+fn board(alloc: Global, text: &str) -> Result<Plan, BoardFault<u8>> {
+    let files: [(&str, &[u8]); 3] = [("k", b"K"), ("bad", b"X"), ("k", b"Y")];
+    plan_of_text(alloc, &Small, text.as_bytes(), &files)
+}
+
+const U1: &str = "[[device]]\nname = \"U1\"\nbsdl = \"k\"\n";
+
+/// The refusal, as its line and what it names.
+fn told(alloc: Global, text: &str) -> Result<String, Fail> {
+    let line = match board(alloc, text) {
+        Ok(_) => format!(in alloc; "made")?,
+        Err(fault) => match &fault {
+            BoardFault::BadField(key) => format!(in alloc; "{fault} {key}")?,
+            BoardFault::UnknownFile(name) => format!(in alloc; "{fault} {name}")?,
+            BoardFault::UnknownPin(pin) | BoardFault::PinTwice(pin) => format!(in alloc;
+                "{fault} {pin}"
+            )?,
+            BoardFault::Bsdl(why) => format!(in alloc; "{fault} {why}")?,
+            _ => format!(in alloc; "{fault}")?,
+        },
+    };
+    Ok(line)
+}
+
+/// A board of U1 with one net of these pins.
+fn wired(alloc: Global, pins: &str) -> Result<String, Fail> {
+    let text = format!(in alloc; "{U1}[[net]]\nname = \"N\"\npins = [{pins}]\n")?;
+    told(alloc, text.as_str())
+}
+
+#[test]
+fn refusals(rt: HostRuntime) -> Result<(), Fail> {
+    let alloc = rt.alloc();
+    assert_eq!(&rt; told(alloc, "device = ")?.as_str(), "C1 BadToml");
+    assert_eq!(&rt; told(alloc, "")?.as_str(), "C2 BadField device");
+    assert_eq!(&rt;
+        told(alloc, "[[device]]\nbsdl = \"k\"\nname = \"1\"\n")?.as_str(),
+        "C2 BadField name"
+    );
+    assert_eq!(&rt;
+        told(alloc, "[[device]]\nname = \"U1\"\nbsdl = \"none\"\n")?.as_str(),
+        "C3 UnknownFile none"
+    );
+    assert_eq!(&rt;
+        told(alloc, "[[device]]\nname = \"U1\"\nbsdl = \"bad\"\n")?.as_str(),
+        "C4 Bsdl 6"
+    );
+    assert_eq!(&rt;
+        wired(alloc, "\"U1.TDI\"")?.as_str(),
+        "C5 UnknownPin U1.TDI"
+    );
+    assert_eq!(&rt;
+        wired(alloc, "\"U1.Q\", \"u1.q\"")?.as_str(),
+        "C5 UnknownPin u1.q"
+    );
+    assert_eq!(&rt;
+        wired(alloc, "\"U1.Q\", \"U1.q\"")?.as_str(),
+        "C6 PinTwice U1.q"
+    );
+    assert_eq!(&rt;
+        wired(alloc, "\"U1.A(99999999999999999999)\"")?.as_str(),
+        "C5 UnknownPin U1.A(99999999999999999999)"
+    );
+    assert_eq!(&rt;
+        wired(alloc, "\"U1.A(0002)\", \"U1.vcc\"")?.as_str(),
+        "made"
+    );
+    Ok(())
+}
+
+const TWO: &str = "[[device]]
+name = \"U1\"
+bsdl = \"k\"
+core = \"011\"
+extest = \"update\"
+[[device]]
+name = \"u1\"
+bsdl = \"k\"
+[[net]]
+name = \"N\"
+pull = \"down\"
+pins = [\"U1.Q\", \"u1.a(3)\"]
+[[net]]
+name = \"M\"
+pins = []
+";
+
+#[test]
+fn a_board_of_two(rt: HostRuntime) -> Result<(), Fail> {
+    let Ok(plan) = board(rt.alloc(), TWO) else {
+        return Err(Fail::from("refused"));
+    };
+    let [first, second] = plan.devices.as_slice() else {
+        return Err(Fail::from("not two devices"));
+    };
+    assert_eq!(&rt; first.name.as_str(), "U1");
+    assert_eq!(&rt; (first.core.len(), first.core.hex_digit(0)), (3, b'3'));
+    assert!(&rt; first.extest_update);
+    assert_eq!(&rt; second.name.as_str(), "u1");
+    assert_eq!(&rt; second.core.len(), 3);
+    assert!(&rt; !second.extest_update);
+    let [net, open] = plan.nets.as_slice() else {
+        return Err(Fail::from("not two nets"));
+    };
+    assert_eq!(&rt; net.name.as_str(), "N");
+    assert_eq!(&rt; net.pull, Pull::Down);
+    let pins = [Pin { device: 0, port: 1 }, Pin { device: 1, port: 4 }];
+    assert_eq!(&rt; net.pins.as_slice(), pins.as_slice());
+    assert_eq!(&rt; (open.pull, open.pins.len()), (Pull::Free, 0));
+    Ok(())
+}
+
+/// A file of so many devices, and nets without pins.
+fn many(alloc: Global, devices: usize, nets: usize) -> Result<String, AllocError> {
+    let mut text = String::new(alloc);
+    for i in 0..devices {
+        text.push_str(format!(in alloc; "[[device]]\nname = \"U{i}\"\nbsdl = \"k\"\n")?.as_str())?;
+    }
+    for i in 0..nets {
+        text.push_str(format!(in alloc; "[[net]]\nname = \"N{i}\"\npins = []\n")?.as_str())?;
+    }
+    Ok(text)
+}
+
+#[test]
+fn limits(rt: HostRuntime) -> Result<(), Fail> {
+    let alloc = rt.alloc();
+    assert_eq!(&rt;
+        told(alloc, many(alloc, 32, 4_096)?.as_str())?.as_str(),
+        "made"
+    );
+    assert_eq!(&rt;
+        told(alloc, many(alloc, 33, 0)?.as_str())?.as_str(),
+        "C7 TooLarge"
+    );
+    assert_eq!(&rt;
+        told(alloc, many(alloc, 1, 4_097)?.as_str())?.as_str(),
+        "C7 TooLarge"
+    );
+    Ok(())
+}
+
+/// A reader that counts.
+#[derive(Drop)]
+struct Counting {
+    reads: Cell<u32>,
+}
+
+impl Describe for Counting {
+    type Fault = u8;
+
+    ghost use Rattle.std.specs.Prelude.{◌≡◌};
+    ghost use Rattle.board_file_rows.specs.Small.{small_says};
+
+    ghost says = { small_says };
+
+    ghost refuses = { λ _ fault. fault ≡ 6 };
+
+    fn read(&self, alloc: Global, text: &[u8]) -> Result<Device, Unread<u8>> {
+        self.reads.set(self.reads.get().wrapping_add(1));
+        Small.read(alloc, text)
+    }
+}
+
+#[test]
+fn a_file_is_read_once(rt: HostRuntime) -> Result<(), Fail> {
+    let alloc = rt.alloc();
+    let reader = Counting {
+        reads: Cell::new(0),
+    };
+    let files: [(&str, &[u8]); 2] = [("k", b"K"), ("other", b"K")];
+    let text = many(alloc, 32, 0)?;
+    assert!(&rt; plan_of_text(alloc, &reader, text.as_bytes(), &files).is_ok());
+    assert_eq!(&rt; reader.reads.get(), 1);
+    Ok(())
+}
+
+#[test]
+fn each_name_once(rt: HostRuntime) -> Result<(), Fail> {
+    let text =
+        "device = [{name = \"A\", bsdl = \"k\"}, {name = \"B\", bsdl = \"p\"}, {name = \"C\", bsdl = \"k\"}]";
+    let Ok(names) = bsdl_names::<u8>(rt.alloc(), text.as_bytes()) else {
+        return Err(Fail::from("refused"));
+    };
+    let [first, second] = names.as_slice() else {
+        return Err(Fail::from("not two names"));
+    };
+    assert_eq!(&rt; (first.as_str(), second.as_str()), ("k", "p"));
+    Ok(())
+}
