@@ -13,19 +13,19 @@ use std::collections::BTreeSet;
 
 /// The ports by their names, the lowest drivers, the controls and the ports of the TAP.
 #[derive(Debug, Drop)]
-pub struct Known<'a> {
-    pub places: Places<'a>,
-    pub drivers: Drivers<'a>,
+pub struct Known<'t, 'o> {
+    pub places: Places<'t>,
+    pub drivers: Drivers<'o>,
     pub controls: BTreeSet<usize>,
-    pub taps: Taps<'a>,
+    pub taps: Taps<'o>,
 }
 
 /// What is known of a description.
-pub fn known_of<'a>(
+pub fn known_of<'t, 'o>(
     alloc: Global,
-    outline: &Outline<'a>,
-    described: &Description<'a>,
-) -> Result<Known<'a>, AllocError>
+    outline: &Outline<'t>,
+    described: &Description<'o>,
+) -> Result<Known<'t, 'o>, AllocError>
     ensures { IfOk result (λ k. Holds k (description outline.now described.now)) }
 {
     let places = places_of(alloc, &outline.groups)?;

@@ -25,7 +25,7 @@ use std::alloc::{AllocError, Global};
 /// Whether the row of a cell of this number fits.
 pub fn row_fits<'a>(
     alloc: Global,
-    known: &Known<'a>,
+    known: &Known<'_, 'a>,
     row: &CellRow<'a>,
     number: usize,
 ) -> Result<bool, AllocError>
@@ -40,7 +40,7 @@ pub fn row_fits<'a>(
 /// Whether the port of a row fits its function: `*`, or a port bit that is no TAP's and that no lower cell drives.
 fn port_fits<'a>(
     alloc: Global,
-    known: &Known<'a>,
+    known: &Known<'_, 'a>,
     row: &CellRow<'a>,
     number: usize,
 ) -> Result<bool, AllocError>
@@ -70,7 +70,7 @@ fn is_internal(function: Function) -> bool
 
 /// Whether a port bit is no TAP's, and no lower cell drives it.
 fn seat_fits<'a>(
-    known: &Known<'a>,
+    known: &Known<'_, 'a>,
     function: Function,
     port: PortName<'_>,
     seat: Seat<'a>,
@@ -81,7 +81,12 @@ fn seat_fits<'a>(
     !names_tap(&known.taps, port.name.text) && !drives_again(known, function, seat, number)
 }
 
-fn drives_again<'a>(known: &Known<'a>, function: Function, seat: Seat<'a>, number: usize) -> bool
+fn drives_again<'a>(
+    known: &Known<'_, 'a>,
+    function: Function,
+    seat: Seat<'a>,
+    number: usize,
+) -> bool
     ensures { result ≡ (spec.drives function && is_below (driver_at known.now.drivers seat.entry) number) }
 {
     drives(function) && known.drivers.is_driven_below(seat, number)
@@ -110,7 +115,7 @@ fn names_reset(reset: Option<Word<'_>>, name: &[u8]) -> bool
 /// Whether the control of a cell is there, where the function needs one, and is a control cell or, for output2, the cell
 /// itself.
 fn control_fits(
-    known: &Known<'_>,
+    known: &Known<'_, '_>,
     function: Function,
     control: Option<Controlling<'_>>,
     number: usize,
@@ -134,7 +139,7 @@ fn control_fits(
 }
 
 /// Whether a cell of this number is a control cell.
-fn is_control_cell(known: &Known<'_>, cell: Digits<'_>) -> bool
+fn is_control_cell(known: &Known<'_, '_>, cell: Digits<'_>) -> bool
     ensures { (d : described.Description) → Holds known.now d → result ≡ spec.is_control_cell d (value cell.entry) }
 {
     let number = cell.up_to(65_536);

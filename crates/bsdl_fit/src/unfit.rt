@@ -21,10 +21,10 @@ use std::alloc::{AllocError, Global};
 
 /// The least cell, of those up to 65,535, that is listed twice, missing or not below the length, or whose port, function or
 /// control does not fit.
-pub fn unfit_cell<'a>(
+pub fn unfit_cell(
     alloc: Global,
-    outline: &Outline<'a>,
-    described: &Description<'a>,
+    outline: &Outline<'_>,
+    described: &Description<'_>,
 ) -> Result<Option<usize>, AllocError>
     ensures { IfOk result (λ o. o ≡ spec.unfit_cell (description outline.now described.now)) }
 {
@@ -36,7 +36,11 @@ pub fn unfit_cell<'a>(
 }
 
 /// The cells that rows list.
-fn table_of<'a>(alloc: Global, known: &Known<'a>, rows: &[CellRow<'a>]) -> Result<Table, AllocError>
+fn table_of<'a>(
+    alloc: Global,
+    known: &Known<'_, 'a>,
+    rows: &[CellRow<'a>],
+) -> Result<Table, AllocError>
     ensures { IfOk result (λ t. (d : described.Description) → Holds known.now d → (n : ℕ) → n ≤ 65535 → get nat_cmp t.cells n ≡ cells.kept (spec.row_fits d) (map cell_row rows.now) n) }
 {
     let mut table = Table::new(alloc);
@@ -49,7 +53,7 @@ fn table_of<'a>(alloc: Global, known: &Known<'a>, rows: &[CellRow<'a>]) -> Resul
 fn add_row<'a>(
     alloc: Global,
     table: &mut Table,
-    known: &Known<'a>,
+    known: &Known<'_, 'a>,
     row: &CellRow<'a>,
 ) -> Result<(), AllocError>
     ensures { OnOk result ((d : described.Description) → Holds known.now d → (n : ℕ) → n ≤ 65535 → get nat_cmp table.new.cells n ≡ (if value row.now.number == n then cells.with_row (get nat_cmp table.old.cells n) (spec.row_fits d (cell_row row.now)) else get nat_cmp table.old.cells n)) }
