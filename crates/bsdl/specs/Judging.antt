@@ -88,10 +88,9 @@ abbrev pub fault : Description → Option Refusal
 fault d =
     or_else (twice_in d (given_again d))
     (or_else (unless (lengths_fit d) bad_length)
-    (or_else (unless (captures_one d.capture) bad_capture)
-    (or_else (unless (ends_in_one d.idcodes) bad_id)
+    (or_else (or_else (unless (captures_one d.capture) bad_capture) (unless (ends_in_one d.idcodes) bad_id))
     (or_else (option_map bad_cell (unfit_cell d))
-    (unless (is_within_limits d) too_large)))))
+    (unless (is_within_limits d) too_large))))
 
 abbrev pub judged : Option Refusal → Description → Result Device Refusal
 judged None d = Ok (device d)

@@ -34,10 +34,10 @@ pub fn outline_of(alloc: Global, text: &[u8]) -> Result<Outline<'_>, BsdlFault>
 }
 
 /// What an entity describes, or B3 with the first needed attribute that is missing. Want of memory is B10.
-pub fn description_of<'a>(
+pub fn description_of<'o, 't: 'o>(
     alloc: Global,
-    entity: &'a Outline<'a>,
-) -> Result<Description<'a>, BsdlFault>
+    entity: &'o Outline<'t>,
+) -> Result<Description<'o>, BsdlFault>
     ensures { TellsDescription entity.now result (described (outline entity.now)) }
 {
     match describe(alloc, entity) {

@@ -3,8 +3,11 @@
 
 pub use fault::BsdlFault;
 pub use form::{description_of, outline_of};
+pub use judged::check;
 
 mod fault;
 mod form;
+mod judge;
+mod judged;
 #[cfg(test)]
 mod tests;

@@ -49,10 +49,10 @@ pub struct Description<'a> {
 }
 
 /// What an entity describes, or the first needed attribute that is missing.
-pub fn describe<'a>(
+pub fn describe<'o, 't: 'o>(
     alloc: Global,
-    outline: &'a Outline<'a>,
-) -> Result<Result<Description<'a>, Attribute>, AllocError>
+    outline: &'o Outline<'t>,
+) -> Result<Result<Description<'o>, Attribute>, AllocError>
     ensures { IfOk result (λ found. Describes outline.now found (spec.described (outline_view outline.now))) }
 {
     let given = outline.given.as_slice();

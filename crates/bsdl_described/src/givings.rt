@@ -53,7 +53,7 @@ fn is_attribute(one: Attribute, other: Attribute) -> bool
 }
 
 /// What the first giving of an attribute says.
-pub fn value_given<'a>(given: &'a [Given<'a>], attribute: Attribute) -> Option<&'a Value<'a>>
+pub fn value_given<'o, 't>(given: &'o [Given<'t>], attribute: Attribute) -> Option<&'o Value<'t>>
     ensures { option_map {U = entity.Value} (λ v. value_view v.now) result ≡ spec.value_given attribute (map given_view given.now) }
 {
     for giving in given {
@@ -65,7 +65,7 @@ pub fn value_given<'a>(given: &'a [Given<'a>], attribute: Attribute) -> Option<&
 }
 
 /// The port of the TAP that an attribute names.
-pub fn port_given<'a>(given: &'a [Given<'a>], attribute: Attribute) -> Option<Word<'a>>
+pub fn port_given<'t>(given: &[Given<'t>], attribute: Attribute) -> Option<Word<'t>>
     ensures { option_map (λ w. upper w.text.now) result ≡ spec.as_port (spec.value_given attribute (map given_view given.now)) }
 {
     match value_given(given, attribute) {
@@ -75,7 +75,7 @@ pub fn port_given<'a>(given: &'a [Given<'a>], attribute: Attribute) -> Option<Wo
 }
 
 /// The length that an attribute says.
-pub fn count_given<'a>(given: &'a [Given<'a>], attribute: Attribute) -> Option<Digits<'a>>
+pub fn count_given<'t>(given: &[Given<'t>], attribute: Attribute) -> Option<Digits<'t>>
     ensures { option_map number_value result ≡ spec.as_count (spec.value_given attribute (map given_view given.now)) }
 {
     match value_given(given, attribute) {
@@ -97,7 +97,7 @@ fn rows_in<'a, E: Entry<'a>>(alloc: Global, text: &'a [u8]) -> Result<Vec<E>, Al
 /// The opcodes, and where their text begins.
 pub fn opcodes_given<'a>(
     alloc: Global,
-    given: &'a [Given<'a>],
+    given: &'a [Given<'_>],
 ) -> Result<Option<(usize, Vec<OpcodeRow<'a>>)>, AllocError>
     ensures { IfOk result (λ o. option_map {U = ℕ × List rows.OpcodeRow} (λ p. (p.0, map rows_view.opcode_row p.1.items)) o ≡ spec.as_opcodes (spec.value_given Attribute.InstructionOpcode (map given_view given.now))) }
 {
@@ -116,7 +116,7 @@ pub fn opcodes_given<'a>(
 /// The rows of the boundary register.
 pub fn cells_given<'a>(
     alloc: Global,
-    given: &'a [Given<'a>],
+    given: &'a [Given<'_>],
 ) -> Result<Option<Vec<CellRow<'a>>>, AllocError>
     ensures { IfOk result (λ o. option_map {U = List cell_rows.CellRow} (λ v. map cells_view.cell_row v.items) o ≡ spec.as_cells (spec.value_given Attribute.BoundaryRegister (map given_view given.now))) }
 {
@@ -130,9 +130,9 @@ pub fn cells_given<'a>(
 }
 
 /// The patterns of a code register; none where it is not given.
-pub fn codes_given<'a>(
+pub fn codes_given(
     alloc: Global,
-    given: &'a [Given<'a>],
+    given: &[Given<'_>],
     attribute: Attribute,
 ) -> Result<Vec<WrittenPattern>, AllocError>
     ensures { IfOk result (λ v. map rows_view.pattern v.items ≡ spec.as_codes (spec.value_given attribute (map given_view given.now))) }
@@ -149,7 +149,7 @@ pub fn codes_given<'a>(
 /// The names of the private instructions; none where they are not given.
 pub fn private_names_given<'a>(
     alloc: Global,
-    given: &'a [Given<'a>],
+    given: &'a [Given<'_>],
 ) -> Result<Vec<PrivateName<'a>>, AllocError>
     ensures { IfOk result (λ v. map rows_view.private_name v.items ≡ spec.as_names (spec.value_given Attribute.InstructionPrivate (map given_view given.now))) }
 {
@@ -165,7 +165,7 @@ pub fn private_names_given<'a>(
 /// The registers, and where their text begins; none at place 0 where they are not given.
 pub fn accesses_given<'a>(
     alloc: Global,
-    given: &'a [Given<'a>],
+    given: &'a [Given<'_>],
 ) -> Result<(usize, Vec<AccessRow<'a>>), AllocError>
     ensures { IfOk result (λ p. (p.0, map rows_view.access_row p.1.items) ≡ spec.as_accesses (spec.value_given Attribute.RegisterAccess (map given_view given.now))) }
 {
@@ -182,9 +182,9 @@ pub fn accesses_given<'a>(
 }
 
 /// What the instruction register captures.
-pub fn capture_given<'a>(
+pub fn capture_given(
     alloc: Global,
-    given: &'a [Given<'a>],
+    given: &[Given<'_>],
 ) -> Result<Option<WrittenPattern>, AllocError>
     ensures { IfOk result (λ o. option_map rows_view.pattern o ≡ spec.as_pattern (spec.value_given Attribute.InstructionCapture (map given_view given.now))) }
 {

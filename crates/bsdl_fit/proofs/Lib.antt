@@ -1,2 +1,4 @@
 pub mod DriverLaws
 pub mod PlaceLaws
+pub mod SeatLaws
+pub mod TableLaws

@@ -96,24 +96,3 @@ mapped f false x o = refl
 pub some_mapped : {A B : Type 0} (f : A → B) (o : Option A) → is_some (option_map f o) ≡ is_some o
 some_mapped f None = refl
 some_mapped f (Some x) = refl
-
--- ---- port bits by number, and by port and index
-
-numbered_from : (m : ℕ) (ps : List Port) (name : PortName) (x : ℕ) → bit_number m ps name ≡ Some x → m ≤ x
-numbered_from m [] name x e = absurd cc
-numbered_from m (p ∷ ps) name x e = by_test (bytes_eq (upper p.name.text) name.name) refl (λ f. numbered_from (m + width p.range) ps name x f)
-  where
-    by_bit : (o : Option ℕ) → option_map (λ k. m + k) o ≡ Some x → m ≤ x
-    by_bit None f = absurd cc
-    by_bit (Some k) f =
-        let same : m + k ≡ x = cc in
-        omega arith
-
-    by_test : (b : Bool) → bytes_eq (upper p.name.text) name.name ≡ b → (bit_number (m + width p.range) ps name ≡ Some x → m + width p.range ≤ x) → m ≤ x
-    by_test true is rest =
-        let here : option_map (λ k. m + k) (bit_at p.range name.index) ≡ Some x = rw is at e in
-        by_bit (bit_at p.range name.index) here
-    by_test false is rest =
-        let there : bit_number (m + width p.range) ps name ≡ Some x = rw is at e in
-        let far = rest there in
-        omega arith

@@ -8,9 +8,9 @@ ghost use Rattle.bsdl_instructions.specs.View as rows_view;
 ghost use Rattle.bsdl_text.specs.WordView.{word_lexeme};
 ghost use Rattle.bsdl_described.specs.View.{description};
 ghost use Rattle.bsdl_twice.specs.Twice as spec;
-ghost use Rattle.bsdl_twice.specs.View.{naming};
+ghost use Rattle.bsdl_twice.specs.View.{again, naming};
 
-use crate::naming::{Naming, Spot, earlier, first_repeat};
+use crate::naming::{Again, Naming, Spot, earlier_again, first_again};
 use bsdl_described::description::Description;
 use bsdl_entity::entity::Outline;
 use bsdl_entity::items::Given;
@@ -115,54 +115,54 @@ fn add_instrs<'a>(
     Ok(())
 }
 
-fn port_again<'a>(alloc: Global, groups: &[Group<'a>]) -> Result<Option<Naming<'a>>, AllocError>
-    ensures { IfOk result (λ o. option_map naming o ≡ spec.earliest (spec.repeated (map (λ p. spec.outside p.name) (entity_view.ports groups.now)))) }
+fn port_again(alloc: Global, groups: &[Group<'_>]) -> Result<Option<Again>, AllocError>
+    ensures { IfOk result (λ o. option_map again o ≡ spec.earliest (spec.repeated (map (λ p. spec.outside p.name) (entity_view.ports groups.now)))) }
 {
     let names = port_names(alloc, groups)?;
-    first_repeat(alloc, &names)
+    first_again(alloc, &names)
 }
 
-fn attribute_again<'a>(alloc: Global, given: &[Given<'a>]) -> Result<Option<Naming<'a>>, AllocError>
-    ensures { IfOk result (λ o. option_map naming o ≡ spec.earliest (spec.repeated (map (λ g. spec.outside g.name) (map given_view given.now)))) }
+fn attribute_again<'a>(alloc: Global, given: &[Given<'a>]) -> Result<Option<Again>, AllocError>
+    ensures { IfOk result (λ o. option_map again o ≡ spec.earliest (spec.repeated (map (λ g. spec.outside g.name) (map given_view given.now)))) }
 {
     let names = attribute_names(alloc, given)?;
-    first_repeat(alloc, &names)
+    first_again(alloc, &names)
 }
 
-fn opcode_again<'a>(
+fn opcode_again(
     alloc: Global,
     start: usize,
-    rows: &[OpcodeRow<'a>],
-) -> Result<Option<Naming<'a>>, AllocError>
-    ensures { IfOk result (λ o. option_map naming o ≡ spec.earliest (spec.repeated (map (λ r. spec.inside start r.name) (map rows_view.opcode_row rows.now)))) }
+    rows: &[OpcodeRow<'_>],
+) -> Result<Option<Again>, AllocError>
+    ensures { IfOk result (λ o. option_map again o ≡ spec.earliest (spec.repeated (map (λ r. spec.inside start r.name) (map rows_view.opcode_row rows.now)))) }
 {
     let names = opcode_names(alloc, start, rows)?;
-    first_repeat(alloc, &names)
+    first_again(alloc, &names)
 }
 
-fn own_again<'a>(
+fn own_again(
     alloc: Global,
     start: usize,
-    rows: &[AccessRow<'a>],
-) -> Result<Option<Naming<'a>>, AllocError>
-    ensures { IfOk result (λ o. option_map naming o ≡ spec.earliest (spec.repeated (map (λ i. spec.inside start i.name) (flat_map (λ r. r.instrs) (map rows_view.access_row rows.now))))) }
+    rows: &[AccessRow<'_>],
+) -> Result<Option<Again>, AllocError>
+    ensures { IfOk result (λ o. option_map again o ≡ spec.earliest (spec.repeated (map (λ i. spec.inside start i.name) (flat_map (λ r. r.instrs) (map rows_view.access_row rows.now))))) }
 {
     let names = own_names(alloc, start, rows)?;
-    first_repeat(alloc, &names)
+    first_again(alloc, &names)
 }
 
 /// The first name that is given again: of a port, of an attribute, of an instruction with an opcode, or of an own
 /// instruction with a register; equal but for case.
-pub fn given_again<'a>(
+pub fn given_again(
     alloc: Global,
-    outline: &'a Outline<'a>,
-    described: &Description<'a>,
-) -> Result<Option<Naming<'a>>, AllocError>
-    ensures { IfOk result (λ o. option_map naming o ≡ spec.given_again (description outline.now described.now)) }
+    outline: &Outline<'_>,
+    described: &Description<'_>,
+) -> Result<Option<Again>, AllocError>
+    ensures { IfOk result (λ o. option_map again o ≡ spec.given_again (description outline.now described.now)) }
 {
     let ports = port_again(alloc, &outline.groups)?;
     let attribute = attribute_again(alloc, &outline.given)?;
     let opcode = opcode_again(alloc, described.opcode_start, &described.opcodes)?;
     let own = own_again(alloc, described.access_start, &described.accesses)?;
-    Ok(earlier(ports, earlier(attribute, earlier(opcode, own))))
+    Ok(earlier_again(ports, earlier_again(attribute, earlier_again(opcode, own))))
 }

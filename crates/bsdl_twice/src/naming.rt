@@ -4,7 +4,7 @@ ghost use Rattle.std.specs.BTreeMap.{get_by_text};
 ghost use Rattle.bsdl_twice.specs.Spots.{begins_before, either, is_naming, is_named_before};
 ghost use Rattle.bsdl_twice.specs.Twice as spec;
 ghost use Rattle.bsdl_text.specs.Words.{upper};
-ghost use Rattle.bsdl_twice.specs.View.{naming};
+ghost use Rattle.bsdl_twice.specs.View.{again, naming};
 
 use bsdl_text::names::Word;
 use std::alloc::{AllocError, Global};
@@ -55,6 +55,44 @@ pub fn earlier<'a>(one: Option<Naming<'a>>, other: Option<Naming<'a>>) -> Option
                 Some(first)
             }
         }
+    }
+}
+
+/// A name that is given again, as it is spelt there.
+#[derive(Debug, Drop)]
+pub struct Again {
+    pub name: String,
+    pub spot: Spot,
+}
+
+/// The earlier of two.
+pub fn earlier_again(one: Option<Again>, other: Option<Again>) -> Option<Again>
+    ensures { option_map again result ≡ either (option_map again one) (option_map again other) }
+{
+    match (one, other) {
+        (None, found) => found,
+        (found, None) => found,
+        (Some(first), Some(second)) => {
+            if second.spot.is_before(first.spot) {
+                Some(second)
+            } else {
+                Some(first)
+            }
+        }
+    }
+}
+
+/// The first of these that has the same name, in any case, before it, as it is spelt.
+pub fn first_again(alloc: Global, names: &[Naming<'_>]) -> Result<Option<Again>, AllocError>
+    ensures { IfOk result (λ o. option_map again o ≡ spec.earliest (spec.repeated (map naming names.now))) }
+{
+    match first_repeat(alloc, names)? {
+        Some(found) => {
+            let name = found.name.spelling(alloc)?;
+            let spot = found.spot;
+            Ok(Some(Again { name, spot }))
+        }
+        None => Ok(None),
     }
 }
 

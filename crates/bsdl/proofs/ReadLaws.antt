@@ -1,0 +1,33 @@
+-- A refusal of one step is the first of all.
+use Rattle.std.proofs.Common.{◌≡◌, ap, ◌∙◌}
+use Rattle.std.specs.Prelude.{⊤, Option, Some, None, MatchOption, Result, Ok, Err, is_ok}
+use Rattle.bsdl_device.specs.Device.{Device}
+use Rattle.bsdl_described.specs.Describing.{Refusal, Description, ◌>>?◌}
+use Rattle.bsdl.specs.Judging.{fault, judged}
+use Rattle.bsdl.specs.View.{Judges, TellsWhether, refusal}
+use Rattle.bsdl.specs.declared.fault.BsdlFault.{BsdlFault}
+
+-- the first step refuses
+pub refused_first : {A B : Type 0} (o : Option Refusal) (x : Result A Refusal) (f : A → Result B Refusal) → MatchOption o ⊤ (λ r. x ≡ Err r) → MatchOption o ⊤ (λ r. (x >>? f) ≡ Err r)
+refused_first None x f h = h
+refused_first (Some r) x f h = ap (λ y. y >>? f) h
+
+-- a later step refuses
+pub refused_then : {A B : Type 0} (o : Option Refusal) (x : Result A Refusal) (a : A) (f : A → Result B Refusal) → x ≡ Ok a → MatchOption o ⊤ (λ r. f a ≡ Err r)
+    → MatchOption o ⊤ (λ r. (x >>? f) ≡ Err r)
+refused_then None x a f is h = h
+refused_then (Some r) x a f is h = ap (λ y. y >>? f) is ∙ h
+
+pub refused_last : (o : Option Refusal) (d : Description) → MatchOption o ⊤ (λ r. fault d ≡ Some r) → MatchOption o ⊤ (λ r. judged (fault d) d ≡ Err r)
+refused_last None d h = h
+refused_last (Some r) d h = ap (λ f. judged f d) h
+
+-- ---- whether a text is a description, step by step
+
+pub whether_judged : {A : Type 0} (r : Result A BsdlFault) (d : Description) → Judges r (fault d) → TellsWhether r (judged (fault d) d)
+whether_judged (Ok x) d h = ap (λ o. is_ok (judged o d)) h
+whether_judged (Err e) d h = refused_last (refusal e) d h
+
+pub whether_then : {A B : Type 0} (r : Result A BsdlFault) (x : Result B Refusal) (b : B) (f : B → Result Device Refusal) → x ≡ Ok b → TellsWhether r (f b) → TellsWhether r (x >>? f)
+whether_then (Ok u) x b f is h = ap is_ok (ap (λ y. y >>? f) is) ∙ h
+whether_then (Err e) x b f is h = refused_then (refusal e) x b f is h

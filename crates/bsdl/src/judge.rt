@@ -1,0 +1,133 @@
+//! Judging a description that is well formed.
+ghost use Rattle.std.specs.Prelude.{None, option_map};
+ghost use Rattle.bsdl.specs.Judging as spec;
+ghost use Rattle.bsdl.specs.View.{Judges};
+ghost use Rattle.bsdl_described.specs.Describing.{bad_capture, bad_cell, bad_id, bad_length, too_large};
+ghost use Rattle.bsdl_described.specs.View.{description};
+ghost use Rattle.bsdl_fit.specs.Fits.{unfit_cell as unfit_cell_of};
+ghost use Rattle.bsdl_lengths.specs.Lengths as lengths;
+ghost use Rattle.bsdl_limits.specs.Limits.{is_within_limits as keeps_limits};
+ghost use Rattle.bsdl_twice.specs.Twice.{given_again as first_given_again};
+
+use crate::fault::BsdlFault;
+use bsdl_described::description::Description;
+use bsdl_entity::entity::Outline;
+use bsdl_fit::unfit::unfit_cell;
+use bsdl_lengths::ends::{captures_one, ends_in_one};
+use bsdl_lengths::lengths::lengths_fit;
+use bsdl_limits::limits::is_within_limits;
+use bsdl_limits::users::users_of;
+use bsdl_twice::again::given_again;
+use bsdl_twice::reset_opcode::resets_to_idcode;
+use std::alloc::Global;
+
+/// The first refusal of B4 to B9 of a description that is well formed, if there is one. Want of memory is B10; nothing is
+/// said of when it comes.
+pub fn judge(
+    alloc: Global,
+    outline: &Outline<'_>,
+    described: &Description<'_>,
+) -> Result<(), BsdlFault>
+    ensures { Judges result (spec.fault (description outline.now described.now)) }
+{
+    judge_names(alloc, outline, described)?;
+    judge_lengths(alloc, outline, described)?;
+    judge_ends(outline, described)?;
+    judge_cells(alloc, outline, described)?;
+    judge_limits(alloc, outline, described)
+}
+
+/// B4: no name is given again, and a reset loads IDCODE.
+fn judge_names(
+    alloc: Global,
+    outline: &Outline<'_>,
+    described: &Description<'_>,
+) -> Result<(), BsdlFault>
+    ensures { Judges result (spec.twice_in (description outline.now described.now) (first_given_again (description outline.now described.now))) }
+{
+    match given_again(alloc, outline, described) {
+        Ok(Some(again)) => Err(BsdlFault::Twice(again.name)),
+        Ok(None) => judge_reset(alloc, outline, described),
+        Err(_) => Err(BsdlFault::NoMemory),
+    }
+}
+
+/// B4: a reset loads IDCODE.
+fn judge_reset(
+    alloc: Global,
+    outline: &Outline<'_>,
+    described: &Description<'_>,
+) -> Result<(), BsdlFault>
+    ensures { Judges result (spec.twice_in (description outline.now described.now) None) }
+{
+    if resets_to_idcode(&described.opcodes) {
+        return Ok(());
+    }
+    match String::from_str(alloc, "IDCODE") {
+        Ok(name) => Err(BsdlFault::Twice(name)),
+        Err(_) => Err(BsdlFault::NoMemory),
+    }
+}
+
+/// B5: lengths fit.
+fn judge_lengths(
+    alloc: Global,
+    outline: &Outline<'_>,
+    described: &Description<'_>,
+) -> Result<(), BsdlFault>
+    ensures { Judges result (spec.unless (lengths.lengths_fit (description outline.now described.now)) bad_length) }
+{
+    match lengths_fit(alloc, described) {
+        Ok(true) => Ok(()),
+        Ok(false) => Err(BsdlFault::BadLength),
+        Err(_) => Err(BsdlFault::NoMemory),
+    }
+}
+
+/// B6 and B7: what captures and codes end in.
+fn judge_ends(outline: &Outline<'_>, described: &Description<'_>) -> Result<(), BsdlFault>
+    ensures { Judges result (spec.or_else (spec.unless (lengths.captures_one (description outline.now described.now).capture) bad_capture) (spec.unless (lengths.ends_in_one (description outline.now described.now).idcodes) bad_id)) }
+{
+    if !captures_one(&described.capture) {
+        return Err(BsdlFault::BadCapture);
+    }
+    if !ends_in_one(&described.idcodes) {
+        return Err(BsdlFault::BadId);
+    }
+    Ok(())
+}
+
+/// B8: every cell fits.
+fn judge_cells(
+    alloc: Global,
+    outline: &Outline<'_>,
+    described: &Description<'_>,
+) -> Result<(), BsdlFault>
+    ensures { Judges result (option_map bad_cell (unfit_cell_of (description outline.now described.now))) }
+{
+    match unfit_cell(alloc, outline, described) {
+        Ok(Some(number)) => Err(BsdlFault::BadCell(number)),
+        Ok(None) => Ok(()),
+        Err(_) => Err(BsdlFault::NoMemory),
+    }
+}
+
+/// B9: no limit is passed.
+fn judge_limits(
+    alloc: Global,
+    outline: &Outline<'_>,
+    described: &Description<'_>,
+) -> Result<(), BsdlFault>
+    ensures { Judges result (spec.unless (keeps_limits (description outline.now described.now)) too_large) }
+{
+    match users_of(alloc, &described.accesses) {
+        Ok(users) => {
+            if is_within_limits(outline, described, &users) {
+                Ok(())
+            } else {
+                Err(BsdlFault::TooLarge)
+            }
+        }
+        Err(_) => Err(BsdlFault::NoMemory),
+    }
+}

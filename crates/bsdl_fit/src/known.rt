@@ -1,0 +1,40 @@
+//! What is known of the ports and cells of a description.
+ghost use Rattle.std.specs.Prelude.{IfOk};
+ghost use Rattle.bsdl_described.specs.View.{description};
+ghost use Rattle.bsdl_fit.specs.Holds.{Holds};
+
+use crate::controls::controls_of;
+use crate::drivers::{Drivers, drivers_of};
+use crate::places::{Places, places_of};
+use bsdl_described::description::{Description, Taps};
+use bsdl_entity::entity::Outline;
+use std::alloc::{AllocError, Global};
+use std::collections::BTreeSet;
+
+/// The ports by their names, the lowest drivers, the controls and the ports of the TAP.
+#[derive(Debug, Drop)]
+pub struct Known<'t, 'o> {
+    pub places: Places<'t>,
+    pub drivers: Drivers<'o>,
+    pub controls: BTreeSet<usize>,
+    pub taps: Taps<'o>,
+}
+
+/// What is known of a description.
+pub fn known_of<'t, 'o>(
+    alloc: Global,
+    outline: &Outline<'t>,
+    described: &Description<'o>,
+) -> Result<Known<'t, 'o>, AllocError>
+    ensures { IfOk result (λ k. Holds k (description outline.now described.now)) }
+{
+    let places = places_of(alloc, &outline.groups)?;
+    let drivers = drivers_of(alloc, &places, &described.cells)?;
+    let controls = controls_of(alloc, &described.cells)?;
+    Ok(Known {
+        places,
+        drivers,
+        controls,
+        taps: described.taps,
+    })
+}

@@ -1,0 +1,147 @@
+//! Whether a row of the boundary register fits.
+ghost use Rattle.std.specs.Prelude.{◌≡◌, ◌≤◌, ◌&&◌, ℕ, List, not, option_map, option_to_list, bytes_eq, IfOk};
+ghost use Rattle.std.specs.List.{list_any};
+ghost use Rattle.bsdl_text.specs.Words.{upper};
+ghost use Rattle.bsdl_text.specs.View.{value};
+ghost use Rattle.bsdl_cells.specs.View as cells_view;
+ghost use Rattle.bsdl_described.specs.Describing as described;
+ghost use Rattle.bsdl_described.specs.View.{taps as taps_view};
+ghost use Rattle.bsdl_fit.specs.Drivers.{driver_at, is_below};
+ghost use Rattle.bsdl_fit.specs.Fits as spec;
+ghost use Rattle.bsdl_fit.specs.Holds.{Holds};
+
+use crate::drivers::drives;
+use crate::known::Known;
+use crate::places::seat_of;
+use crate::seat::Seat;
+use bsdl_cells::{CellRow, Controlling, PortName};
+use bsdl_described::description::Taps;
+use bsdl_device::Function;
+use bsdl_text::names::Word;
+use bsdl_text::numbers::Digits;
+use bsdl_text::reading::same_name;
+use std::alloc::{AllocError, Global};
+
+/// Whether the row of a cell of this number fits.
+pub fn row_fits<'a>(
+    alloc: Global,
+    known: &Known<'_, 'a>,
+    row: &CellRow<'a>,
+    number: usize,
+) -> Result<bool, AllocError>
+    requires { number ≤ 65535 }
+    ensures { IfOk result (λ b. (d : described.Description) → Holds known.now d → number ≡ value row.now.number → b ≡ spec.row_fits d (cells_view.cell_row row.now)) }
+{
+    let port = port_fits(alloc, known, row, number)?;
+    let control = control_fits(known, row.function, row.control, number);
+    Ok(port && control)
+}
+
+/// Whether the port of a row fits its function: `*`, or a port bit that is no TAP's and that no lower cell drives.
+fn port_fits<'a>(
+    alloc: Global,
+    known: &Known<'_, 'a>,
+    row: &CellRow<'a>,
+    number: usize,
+) -> Result<bool, AllocError>
+    requires { number ≤ 65535 }
+    ensures { IfOk result (λ b. (d : described.Description) → Holds known.now d → number ≡ value row.now.number → b ≡ spec.port_fits d (cells_view.cell_row row.now)) }
+{
+    if is_internal(row.function) {
+        return Ok(row.port.is_none());
+    }
+    match row.port {
+        Some(port) => match seat_of(alloc, &known.places, port)? {
+            Some(seat) => Ok(seat_fits(known, row.function, port, seat, number)),
+            None => Ok(false),
+        },
+        None => Ok(false),
+    }
+}
+
+fn is_internal(function: Function) -> bool
+    ensures { result ≡ spec.is_internal function }
+{
+    matches!(
+        function,
+        Function::Control | Function::ControlR | Function::Internal
+    )
+}
+
+/// Whether a port bit is no TAP's, and no lower cell drives it.
+fn seat_fits<'a>(
+    known: &Known<'_, 'a>,
+    function: Function,
+    port: PortName<'_>,
+    seat: Seat<'a>,
+    number: usize,
+) -> bool
+    ensures { result ≡ (not (described.is_among (taps_view known.now.taps) (upper port.entry.name.text.now)) && not (spec.drives function && is_below (driver_at known.now.drivers seat.entry) number)) }
+{
+    !names_tap(&known.taps, port.name.text) && !drives_again(known, function, seat, number)
+}
+
+fn drives_again<'a>(
+    known: &Known<'_, 'a>,
+    function: Function,
+    seat: Seat<'a>,
+    number: usize,
+) -> bool
+    ensures { result ≡ (spec.drives function && is_below (driver_at known.now.drivers seat.entry) number) }
+{
+    drives(function) && known.drivers.is_driven_below(seat, number)
+}
+
+/// Whether a port of this name is one of the TAP's.
+fn names_tap(taps: &Taps<'_>, name: &[u8]) -> bool
+    ensures { result ≡ described.is_among (taps_view taps.now) (upper name.now) }
+{
+    same_name(name, taps.input.text)
+        || same_name(name, taps.output.text)
+        || same_name(name, taps.mode.text)
+        || same_name(name, taps.clock.text)
+        || names_reset(taps.reset, name)
+}
+
+fn names_reset(reset: Option<Word<'_>>, name: &[u8]) -> bool
+    ensures { result ≡ list_any (bytes_eq (upper name.now)) (option_to_list (option_map {U = List ℕ} (λ w. upper w.text.now) reset.entry)) }
+{
+    match reset {
+        Some(port) => same_name(name, port.text),
+        None => false,
+    }
+}
+
+/// Whether the control of a cell is there, where the function needs one, and is a control cell or, for output2, the cell
+/// itself.
+fn control_fits(
+    known: &Known<'_, '_>,
+    function: Function,
+    control: Option<Controlling<'_>>,
+    number: usize,
+) -> bool
+    requires { number ≤ 65535 }
+    ensures { (d : described.Description) → Holds known.now d → result ≡ spec.control_fits d number function (option_map cells_view.control control.entry) }
+{
+    match function {
+        Function::Output3 | Function::Bidir => match control {
+            Some(control) => is_control_cell(known, control.cell),
+            None => false,
+        },
+        Function::Output2 => match control {
+            Some(control) => {
+                control.cell.up_to(65_536) == number || is_control_cell(known, control.cell)
+            }
+            None => true,
+        },
+        _ => true,
+    }
+}
+
+/// Whether a cell of this number is a control cell.
+fn is_control_cell(known: &Known<'_, '_>, cell: Digits<'_>) -> bool
+    ensures { (d : described.Description) → Holds known.now d → result ≡ spec.is_control_cell d (value cell.entry) }
+{
+    let number = cell.up_to(65_536);
+    number <= 65_535 && known.controls.contains(&number)
+}
