@@ -356,6 +356,74 @@ static uint64_t run_chip_shift(void) {
 	return check;
 }
 
+// ---- whole plays
+
+enum { SCAN = 65536 };
+typedef struct { int state, latch, stage, bypass, tdo; } Bare;
+static Bare bare[32];
+static int bare_count, bare_tck;
+
+static void bare_edge(int tck, int tms, int tdi) {
+	if (tck && !bare_tck) {
+		for (int i = 0; i < bare_count; i++) {
+			Bare *d = &bare[i];
+			int in = i + 1 < bare_count ? bare[i + 1].tdo != 0 : tdi;
+			switch (d->state) {
+			case DR_CAPTURE: d->bypass = 0; break;
+			case DR_SHIFT: d->bypass = in; break;
+			case IR_CAPTURE: d->stage = 1; break;
+			case IR_SHIFT: d->stage = d->stage >> 1 | in << 1; break;
+			}
+			d->state = after[d->state][tms];
+		}
+	} else if (!tck && bare_tck) {
+		for (int i = 0; i < bare_count; i++) {
+			Bare *d = &bare[i];
+			if (d->state == RESET) d->latch = 3;
+			if (d->state == IR_UPDATE) d->latch = d->stage;
+			d->tdo = d->state == DR_SHIFT ? d->bypass : d->state == IR_SHIFT ? d->stage & 1 : -1;
+		}
+	}
+	bare_tck = tck;
+}
+
+static int bare_byte(int byte) { // the answer, or -1
+	if (byte == 'R') return bare[0].tdo != 0;
+	if (byte >= '0' && byte <= '7') bare_edge(byte >> 2 & 1, byte >> 1 & 1, byte & 1);
+	return -1;
+}
+
+// A scan whose bits are all wanted, each byte taken by the devices as soon as it is made.
+static uint64_t run_play(int devices) {
+	uint64_t passed = 1;
+	size_t n = 0;
+	bare_count = devices;
+	bare_tck = 0;
+	for (int i = 0; i < devices; i++) bare[i] = (Bare){ RESET, 3, 0, 0, -1 };
+	for (const char *p = "r26262626260" "04260404"; *p; p++, n++) bare_byte(*p);
+	for (size_t i = 0; i < SCAN; i++, n += 3) {
+		int tms = i + 1 == SCAN;
+		bare_byte('0' + 2 * tms);
+		if (bare_byte('R') != 0) passed = 0;
+		bare_byte('4' + 2 * tms);
+	}
+	for (const char *p = "26040" "Q"; *p; p++, n++) bare_byte(*p);
+	count = n;
+	return passed;
+}
+static uint64_t run_play_1(void) { return run_play(1); }
+static uint64_t run_play_32(void) { return run_play(32); }
+
+static uint64_t run_next_bytes(void) {
+	uint8_t *b = buffer;
+	for (const char *p = "r26262626260" "04260404"; *p; p++) *b++ = *p;
+	for (size_t i = 0; i < SCAN; i++)
+		b = cycle(b, i + 1 == SCAN, 0, 0);
+	for (const char *p = "26040" "Q"; *p; p++) *b++ = *p;
+	count = b - buffer;
+	return digest(count);
+}
+
 static void row(const char *name, const char *unit, uint64_t (*round)(void)) {
 	uint64_t least = UINT64_MAX, check = 0;
 	for (int r = 0; r < ROUNDS; r++) {
@@ -393,5 +461,11 @@ int main(void) {
 	row("run_bytes", "byte", run_run_bytes);
 	make_chip();
 	row("chip_shift", "edge", run_chip_shift);
+	row("next_bytes", "byte", run_next_bytes);
+	row("play_1", "byte", run_play_1);
+	row("play_32", "byte", run_play_32);
+	row("finish_1", "byte", run_play_1); // by edges, without pipes
+	row("finish_64", "byte", run_play_1);
+	row("finish_65536", "byte", run_play_1);
 	return 0;
 }

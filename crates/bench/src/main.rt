@@ -3,6 +3,7 @@
 
 mod bits;
 mod chips;
+mod plays;
 mod programs;
 mod scans;
 
@@ -64,7 +65,8 @@ impl Unit {
 fn measure(rt: &HostRuntime) -> io::Result<()> {
     bits::rows(rt)?;
     scans::rows(rt)?;
-    chips::rows(rt)
+    chips::rows(rt)?;
+    plays::rows(rt)
 }
 
 /// Prints a row's name and unit, which C's row has too, its least time of a round in nanoseconds, its count and its

@@ -150,7 +150,7 @@ fn fill(buffer: &mut [u8], bytes: StepBytes) -> usize {
 }
 
 /// A number of all bytes in their order.
-fn digest(bytes: &[u8]) -> u64 {
+pub(crate) fn digest(bytes: &[u8]) -> u64 {
     let mut digest: u64 = 0;
     for byte in bytes {
         digest = digest.rotate_left(5) ^ u64::from(*byte);

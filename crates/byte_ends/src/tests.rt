@@ -214,6 +214,19 @@ fn plain_hands_on_what_std_reads_and_writes(rt: HostRuntime) -> Result<(), Fail>
     Ok(())
 }
 
+/// `Plain` promises nothing of a call's relation, so its calls are counted: each write and each flush is one of the writer within.
+#[test]
+fn plain_makes_one_call_of_each(rt: HostRuntime) {
+    let one = Call::Moves(1);
+    let mut out = Counted::new(Plain(Faulty::new(rt.alloc(), [one, one, one, one])));
+    assert_eq!(rt; put_all(&mut out, b"abc"), Ok(()));
+    assert!(rt; out.put_through().is_ok());
+    assert_eq!(rt; out.failures(), 0);
+    let Plain(inner) = out.into_inner();
+    assert_eq!(rt; inner.made, 4);
+    assert_eq!(rt; inner.taken.as_slice(), b"abc".as_slice());
+}
+
 /// Writes a byte at one end, and reads it at the other.
 fn cross<T: End>(from: &mut T, to: &mut T) -> io::Result<u8> {
     let mut byte = [0];

@@ -6,6 +6,7 @@ mod run;
 mod showing;
 
 pub use direct_play::accept;
+pub use joined::{Event, Joined, Standing, Unjoined};
 pub use jt_board::{Board, BoardFault, Broken, Counted, Reply, Snapshot, write_report};
 pub use play::{play_board, play_noted};
 pub use plays::Ending;

@@ -166,3 +166,35 @@ fn a_play_on_a_used_board(rt: HostRuntime) -> Result<(), Fail> {
     assert!(rt; !board.snapshot().tck());
     Ok(())
 }
+
+/// With ample memory each size is played: chains of one to thirty-two, and a field of 65,536 bits.
+#[test]
+fn boards_of_every_size(rt: HostRuntime) -> Result<(), Fail> {
+    for devices in 1..=32 {
+        let (wrote, _, status) = ran(&rt, rt.alloc(), b"STATE RESET;", devices, false)?;
+        assert_eq!(rt; status, 0);
+        // a line of the verdict, and one of each device, U1 to U9 and on
+        assert_eq!(rt; wrote.len(), 5 + 19 * devices + devices.saturating_sub(9));
+    }
+    assert!(rt; Board::bare(rt.alloc(), 33).is_err());
+    let (_, _, status) = ran(&rt, rt.alloc(), b"SDR 65536 TDI (0) TDO (0);", 32, false)?;
+    assert_eq!(rt; status, 0);
+    Ok(())
+}
+
+/// 200,000 statements are accepted, and one more is refused.
+#[test]
+fn the_longest_program(rt: HostRuntime) -> Result<(), Fail> {
+    let mut text = Vec::new(rt.alloc());
+    for _ in 0..200_000u32 {
+        text.extend_from_slice(b"STATE IDLE;")?;
+    }
+    let (wrote, _, status) = checked(&rt, rt.alloc(), &text)?;
+    assert_eq!(rt; wrote.as_slice(), b"accepted 200000 statements 200000 steps\n".as_slice());
+    assert_eq!(rt; status, 0);
+    text.extend_from_slice(b"STATE IDLE;")?;
+    let (_, told, status) = checked(&rt, rt.alloc(), &text)?;
+    assert_eq!(rt; told.as_slice(), b"svf S15 TooLarge statement 200001\n".as_slice());
+    assert_eq!(rt; status, 2);
+    Ok(())
+}
