@@ -1,263 +1,30 @@
 -- Judging a description that is well formed: the refusals in their order, and the device that it says.
-use Rattle.std.specs.Prelude.{ℕ, zero, suc, ◌+◌, ◌-◌, nat_lt, nat_le, ◌==◌, min, max, Bool, true, false, not, ◌&&◌, ◌||◌, is_some, is_none, if◌then◌else◌, List, [], ◌∷◌, ◌++◌, map, filter, length, take, reverse, Option, Some, None, option_map, option_and_then, unwrap_or, Result, Ok, Err, bytes_eq, codes, slice_get}
-use Rattle.std.specs.List.{list_any, list_all, find, count_by, sum_by, range_with_len, flat_map, filter_map, fold}
-use Rattle.bsdl_lex.specs.Cutting.{Lexeme}
-use Rattle.bsdl_text.specs.Words.{upper, same_name}
+use Rattle.std.specs.Prelude.{ℕ, Bool, is_some, if◌then◌else◌, List, [], ◌∷◌, map, Option, Some, None, option_map, unwrap_or, Result, Ok, Err, bytes_eq, codes, slice_get}
+use Rattle.std.specs.List.{range_with_len, flat_map}
+use Rattle.bsdl_text.specs.Words.{upper}
 use Rattle.bsdl.specs.Form.{text_form}
-use Rattle.bsdl_device.specs.declared.Function.{Function}
-use Rattle.bsdl_device.specs.declared.Function.TheVariants.{Bidir, Output2, Output3, Control, ControlR, Internal}
-use Rattle.bsdl_device.specs.Device.{Name, Pattern, PortBit, Opcode, Access, Device}
-use Rattle.bsdl_device.specs.declared.Control3.{Control3}
+use Rattle.bsdl_device.specs.Device.{Name, PortBit, Access, Device}
 use Rattle.bsdl_device.specs.declared.Cell.{Cell}
 use Rattle.bsdl_device.specs.declared.Place.{Place}
 use Rattle.bsdl_device.specs.declared.Place.TheVariants.{AtBypass, AtBoundary, AtDeviceId, AtUser}
-use Rattle.bsdl_instructions.specs.Values.{OpcodeRow, Instr, AccessRow}
-use Rattle.bsdl_cells.specs.Rows.{PortName, CellRow}
-use Rattle.bsdl_entity.specs.Entity.{Range, Port, Given, File}
-use Rattle.bsdl_described.specs.Describing.{Refusal, bad_token, bad_form, twice, bad_length, bad_capture, bad_id, bad_cell, too_large, Description, described, is_among, ◌>>?◌}
+use Rattle.bsdl_instructions.specs.Values.{AccessRow}
+use Rattle.bsdl_cells.specs.Rows.{CellRow}
+use Rattle.bsdl_entity.specs.Entity.{Range, Port, File}
+use Rattle.bsdl_twice.specs.ResetOpcode.{bits, opcode, resets_to_idcode}
+use Rattle.bsdl_twice.specs.Twice.{Naming, given_again}
+use Rattle.bsdl_lengths.specs.Lengths.{captures_one, ends_in_one, lengths_fit}
+use Rattle.bsdl_fit.specs.Fits.{drives, listed, port_bit, unfit_cell}
+use Rattle.bsdl_limits.specs.Limits.{is_within_limits}
+use Rattle.bsdl_limits.specs.PortBits.{width}
+use Rattle.bsdl_limits.specs.Users.{user_number, users_of}
+use Rattle.bsdl_described.specs.Describing.{Refusal, twice, bad_length, bad_capture, bad_id, bad_cell, too_large, Description, described, is_among, ◌>>?◌}
 
 -- ---- given twice
-
--- A place: of a token, or of the first quote of a text and then within that text. Places are in order by the first, then
--- by the second.
-pub record Spot : Type 0 where
-  pub outer : ℕ
-  pub within : ℕ
-
-abbrev pub before : Spot → Spot → Bool
-before p q = nat_lt p.outer q.outer || (p.outer == q.outer && nat_lt p.within q.within)
-
--- a name that is given at a place
-pub record Naming : Type 0 where
-  pub name : List ℕ
-  pub spot : Spot
-
--- one of the same name stands before
-abbrev pub is_repeated : List Naming → Naming → Bool
-is_repeated all n = list_any (λ m. same_name m.name n.name && before m.spot n.spot) all
-
-abbrev pub repeated : List Naming → List Naming
-repeated all = filter (is_repeated all) all
-
-abbrev pub earlier : Naming → Option Naming → Naming
-earlier n None = n
-earlier n (Some m) = if before m.spot n.spot then m else n
-
-abbrev pub earliest : List Naming → Option Naming
-earliest [] = None
-earliest (n ∷ ns) = Some (earlier n (earliest ns))
-
-abbrev pub outside : Lexeme → Naming
-outside t = record { name = t.text; spot = record { outer = t.start; within = 0 } }
-
-abbrev pub inside : ℕ → Lexeme → Naming
-inside start t = record { name = t.text; spot = record { outer = start; within = t.start } }
-
--- ports, attributes, instructions with an opcode, own instructions with a register: the first that is given again
-abbrev pub given_again : Description → Option Naming
-given_again d =
-    earliest (repeated (map (λ p. outside p.name) d.ports)
-    ++ repeated (map (λ g. outside g.name) d.given)
-    ++ repeated (map (λ r. inside d.opcode_start r.name) d.opcodes)
-    ++ repeated (map (λ i. inside d.access_start i.name) (flat_map (λ r. r.instrs) d.accesses)))
-
--- ---- opcodes
-
--- X as 0
-abbrev pub bits : Pattern → List Bool
-bits p = map (λ b. unwrap_or b false) p
-
-abbrev pub opcode : OpcodeRow → Opcode
-opcode r = record { name = upper r.name.text; patterns = r.patterns }
-
--- a pattern matches an opcode of its own length, an X either bit
-abbrev pub matches : Pattern → List Bool → Bool
-matches [] [] = true
-matches (None ∷ p) (b ∷ bs) = matches p bs
-matches (Some true ∷ p) (b ∷ bs) = b && matches p bs
-matches (Some false ∷ p) (b ∷ bs) = not b && matches p bs
-matches _ _ = false
-
-abbrev pub names_it : List Bool → Opcode → Bool
-names_it latch o = list_any (λ p. matches p latch) o.patterns
-
--- all ones is BYPASS; else the first row with a matching opcode names the instruction
-abbrev pub instruction : List Opcode → List Bool → Option Name
-instruction opcodes latch = if list_all (λ b. b) latch then Some (codes "BYPASS") else option_map (λ o. o.name) (find (names_it latch) opcodes)
-
--- the opcode that a reset loads: the first of IDCODE's row, X as 0
-abbrev pub reset_opcode : List Opcode → Option (List Bool)
-reset_opcode opcodes = option_map bits (option_and_then (λ o. slice_get o.patterns 0) (find (λ o. bytes_eq (codes "IDCODE") o.name) opcodes))
-
-abbrev pub names_idcode : List Opcode → Option (List Bool) → Bool
-names_idcode opcodes None = true
-names_idcode opcodes (Some latch) = bytes_eq (unwrap_or (instruction opcodes latch) []) (codes "IDCODE")
 
 -- the first name given again, or IDCODE where its opcode names another instruction
 abbrev pub twice_in : Description → Option Naming → Option Refusal
 twice_in d (Some n) = Some (twice n.name)
-twice_in d None = let opcodes = map opcode d.opcodes in if names_idcode opcodes (reset_opcode opcodes) then None else Some (twice (codes "IDCODE"))
-
--- ---- lengths
-
-abbrev pub has_len : ℕ → Pattern → Bool
-has_len n p = length p == n
-
--- the length of the register of a row: its own, or the public register's
-abbrev pub row_len : Description → AccessRow → ℕ
-row_len d r = unwrap_or r.len (if bytes_eq r.register (codes "BOUNDARY") then d.boundary_length else if bytes_eq r.register (codes "BYPASS") then 1 else 32)
-
-abbrev pub captures_fit : ℕ → Instr → Bool
-captures_fit n i = list_all (has_len n) (captured i.captures)
-  where
-    captured : Option Pattern → List Pattern
-    captured None = []
-    captured (Some p) = p ∷ []
-
--- two rows give one register of the device's own two lengths
-abbrev pub differ : AccessRow → AccessRow → Bool
-differ a b = is_some a.len && (is_some b.len && (bytes_eq a.register b.register && not (unwrap_or a.len 0 == unwrap_or b.len 0)))
-
-abbrev pub is_empty : AccessRow → Bool
-is_empty r = is_some r.len && unwrap_or r.len 0 == 0
-
-abbrev pub lengths_fit : Description → Bool
-lengths_fit d =
-    nat_le 2 d.instruction_length && (nat_le 1 d.boundary_length
-    && (list_all (λ r. list_all (has_len d.instruction_length) r.patterns) d.opcodes
-    && (has_len d.instruction_length d.capture
-    && (list_all (has_len 32) d.idcodes
-    && (list_all (has_len 32) d.usercodes
-    && (list_all (λ r. not (is_empty r) && list_all (captures_fit (row_len d r)) r.instrs) d.accesses
-    && list_all (λ r. not (list_any (differ r) d.accesses)) d.accesses))))))
-
--- ---- captures and codes, as written
-
-abbrev pub captures_one : Pattern → Bool
-captures_one (Some true ∷ Some false ∷ p) = true
-captures_one _ = false
-
-abbrev pub ends_in_one : List Pattern → Bool
-ends_in_one [] = true
-ends_in_one ((Some true ∷ p) ∷ ps) = true
-ends_in_one _ = false
-
--- ---- cells
-
-abbrev pub width : Option Range → ℕ
-width None = 1
-width (Some r) = r.high - r.low + 1
-
--- the place of an index among a port's bits
-abbrev pub bit_at : Option Range → Option ℕ → Option ℕ
-bit_at None None = Some 0
-bit_at None (Some i) = None
-bit_at (Some r) None = None
-bit_at (Some r) (Some i) = if nat_le r.low i && nat_le i r.high then Some (i - r.low) else None
-
--- the number of the port bit of this name, behind n others
-abbrev pub bit_number : ℕ → List Port → PortName → Option ℕ
-bit_number n [] name = None
-bit_number n (p ∷ ps) name =
-    if bytes_eq (upper p.name.text) name.name then option_map (λ k. n + k) (bit_at p.range name.index)
-    else bit_number (n + width p.range) ps name
-
-abbrev pub port_bit : Description → CellRow → Option ℕ
-port_bit d r = option_and_then (bit_number 0 d.ports) r.port
-
-abbrev pub drives : Function → Bool
-drives Output2 = true
-drives Output3 = true
-drives Bidir = true
-drives _ = false
-
--- cells without a port
-abbrev pub is_internal : Function → Bool
-is_internal Control = true
-is_internal ControlR = true
-is_internal Internal = true
-is_internal _ = false
-
-abbrev pub is_control : Function → Bool
-is_control Control = true
-is_control ControlR = true
-is_control _ = false
-
-abbrev pub same_bit : Option ℕ → Option ℕ → Bool
-same_bit (Some a) (Some b) = a == b
-same_bit _ _ = false
-
--- a cell of a lower number drives the port bit too
-abbrev pub is_driven_below : Description → CellRow → Bool
-is_driven_below d r = list_any (λ s. nat_lt s.number r.number && (drives s.function && same_bit (port_bit d s) (port_bit d r))) d.cells
-
-abbrev pub names_tap : Description → Option PortName → Bool
-names_tap d None = false
-names_tap d (Some p) = is_among d.taps p.name
-
--- the port of a row fits its function: `*`, or a port bit that is no TAP's and that no lower cell drives
-abbrev pub port_fits : Description → CellRow → Bool
-port_fits d r =
-    if is_internal r.function then is_none r.port
-    else is_some (port_bit d r) && (not (names_tap d r.port) && not (drives r.function && is_driven_below d r))
-
--- no cell has a number above this
-abbrev pub subscript_limit : ℕ
-subscript_limit = 65535
-
-abbrev pub is_control_cell : Description → ℕ → Bool
-is_control_cell d n = nat_le n subscript_limit && list_any (λ s. s.number == n && is_control s.function) d.cells
-
-abbrev pub control_fits : Description → ℕ → Function → Option Control3 → Bool
-control_fits d n Output3 None = false
-control_fits d n Output3 (Some c) = is_control_cell d c.cell
-control_fits d n Bidir None = false
-control_fits d n Bidir (Some c) = is_control_cell d c.cell
-control_fits d n Output2 None = true
-control_fits d n Output2 (Some c) = c.cell == n || is_control_cell d c.cell
-control_fits d n _ c = true
-
-abbrev pub row_fits : Description → CellRow → Bool
-row_fits d r = port_fits d r && control_fits d r.number r.function r.control
-
-abbrev pub listed : Description → ℕ → List CellRow
-listed d k = filter (λ r. r.number == k) d.cells
-
--- Cell k is fit: below the length it has one row, which fits; from the length on it has none.
-abbrev pub is_fit : Description → ℕ → Bool
-is_fit d k = if nat_lt k d.boundary_length then length (listed d k) == 1 && list_all (row_fits d) (listed d k) else length (listed d k) == 0
-
--- no cell from here on is below the length or listed
-abbrev pub cells_end : Description → ℕ
-cells_end d = fold (λ n r. max n (suc r.number)) d.boundary_length d.cells
-
--- the least cell that is not fit, of those up to 65,535
-abbrev pub unfit_cell : Description → Option ℕ
-unfit_cell d = find (λ k. not (is_fit d k)) (range_with_len 0 (min (suc subscript_limit) (cells_end d)))
-
--- ---- limits
-
--- the registers of the device's own, each with its length, in the order in which they are first named
-abbrev pub users_of : List AccessRow → List (Name × ℕ)
-users_of [] = []
-users_of (r ∷ rows) = and_user r.register r.len (filter (λ u. not (bytes_eq u.0 r.register)) (users_of rows)) (users_of rows)
-  where
-    and_user : Name → Option ℕ → List (Name × ℕ) → List (Name × ℕ) → List (Name × ℕ)
-    and_user name None others all = all
-    and_user name (Some n) others all = (name, n) ∷ others
-
-abbrev pub highest : Option Range → ℕ
-highest None = 0
-highest (Some r) = r.high
-
-abbrev pub is_within_limits : Description → Bool
-is_within_limits d =
-    nat_le d.instruction_length 64 && (nat_le (length d.opcodes) 256
-    && (nat_le d.boundary_length 4096
-    && (list_all (λ r. nat_le r.number subscript_limit) d.cells
-    && (list_all (λ p. nat_le (highest p.range) subscript_limit) d.ports
-    && (nat_le (sum_by (λ p. width p.range) d.ports) 8192
-    && (nat_le (length (users_of d.accesses)) 64 && list_all (λ u. nat_le u.1 4096) (users_of d.accesses)))))))
+twice_in d None = let opcodes = map opcode d.opcodes in if resets_to_idcode opcodes then None else Some (twice (codes "IDCODE"))
 
 -- ---- the device
 
@@ -279,12 +46,8 @@ cell d r = record { function = r.function; port = port_bit d r; control = if dri
 abbrev pub cells_of : Description → List Cell
 cells_of d = flat_map (λ k. map (cell d) (listed d k)) (range_with_len 0 d.boundary_length)
 
-abbrev pub user_number : List (Name × ℕ) → Name → ℕ
-user_number [] name = 0
-user_number (u ∷ us) name = if bytes_eq u.0 name then 0 else suc (user_number us name)
-
 abbrev pub place_of : List (Name × ℕ) → AccessRow → Option ℕ → Place
-place_of users r (Some n) = AtUser (user_number users r.register)
+place_of users r (Some n) = AtUser (unwrap_or (user_number users r.register) 0)
 place_of users r None = if bytes_eq r.register (codes "BOUNDARY") then AtBoundary else if bytes_eq r.register (codes "BYPASS") then AtBypass else AtDeviceId
 
 -- a pattern behind CAPTURES counts for a register of the device's own

@@ -1,5 +1,5 @@
 -- What answers of the code stand for.
-use Rattle.std.specs.Prelude.{◌≡◌, ℕ, ⊤, List, Option, Some, None, MatchOption, Result, Ok, Err, string_bytes}
+use Rattle.std.specs.Prelude.{◌≡◌, ⊤, Option, Some, None, MatchOption, Result, Ok, Err, string_bytes}
 use Rattle.bsdl.specs.declared.fault.BsdlFault.{BsdlFault}
 use Rattle.bsdl.specs.declared.fault.BsdlFault.TheVariants.{BadToken, BadForm, Missing, Twice, BadLength, BadCapture, BadId, BadCell, TooLarge, NoMemory}
 use Rattle.bsdl_entity.specs.declared.entity.Outline.{Outline}

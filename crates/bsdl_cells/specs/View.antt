@@ -9,7 +9,7 @@ use Rattle.bsdl_cells.specs.declared.CellRow as declared_row
 use Rattle.bsdl_cells.specs.Rows.{PortName, CellRow}
 
 abbrev pub port_name : declared_port.PortName → PortName
-port_name p = record { name = upper p.name.now; index = option_map value p.index }
+port_name p = record { name = upper p.name.text.now; index = option_map value p.index }
 
 abbrev pub control : declared_control.Controlling → Control3
 control c = record { cell = value c.cell; disabling = c.disabling; leaves = c.leaves }

@@ -13,6 +13,7 @@ use crate::keywords::{BITS, DISABLED, FUNCTIONS, SAFE};
 use bsdl_device::{Disabled, Function};
 use bsdl_lex::Lexer;
 use bsdl_text::lists::Entry;
+use bsdl_text::names::Word;
 use bsdl_text::numbers::Digits;
 use bsdl_text::reading::{Stop, keyword, mark, number, stands, word};
 use std::alloc::Global;
@@ -22,7 +23,7 @@ mod keywords;
 /// A port bit, by its name and its index.
 #[derive(Debug, Clone, Copy)]
 pub struct PortName<'a> {
-    pub name: &'a [u8],
+    pub name: Word<'a>,
     pub index: Option<Digits<'a>>,
 }
 
@@ -85,11 +86,7 @@ fn cell_port<'a>(lexer: Lexer<'a>) -> Result<(Option<PortName<'a>>, Lexer<'a>), 
     }
     let (name, rest) = word(lexer)?;
     let (index, rest) = port_index(rest)?;
-    let port = PortName {
-        name: name.text,
-        index,
-    };
-    Ok((Some(port), rest))
+    Ok((Some(PortName { name, index }), rest))
 }
 
 /// The index of a port, where one stands between brackets.

@@ -92,7 +92,7 @@ impl<'a> Entry<'a> for Instr<'a> {
 /// A row of registers: `register (instr {, instr})`.
 #[derive(Debug, Drop)]
 pub struct AccessRow<'a> {
-    pub register: &'a [u8],
+    pub register: Word<'a>,
     pub len: Option<Digits<'a>>,
     pub instrs: Vec<Instr<'a>>,
 }
@@ -109,7 +109,7 @@ impl<'a> Entry<'a> for AccessRow<'a> {
         let (len, rest) = register_len(register, rest)?;
         let (instrs, rest) = bracketed(alloc, rest)?;
         let row = AccessRow {
-            register: register.text,
+            register,
             len,
             instrs,
         };

@@ -2,3 +2,4 @@ pub mod JoinedLaws
 pub mod ListLaws
 pub mod NameLaws
 pub mod NumberLaws
+pub mod SpellingLaws

@@ -18,7 +18,7 @@ order_step a b x y small other_small =
 pub capped_step : (v d most : ℕ) → min (min v most * 10 + d) most ≡ min (v * 10 + d) most
 capped_step v d most = grind (arith)
 
-and_true : (a b : Bool) → (a && b) ≡ true → (a ≡ true) × (b ≡ true)
+pub and_true : (a b : Bool) → (a && b) ≡ true → (a ≡ true) × (b ≡ true)
 and_true true b h = (refl, h)
 and_true false b h = absurd cc
 
@@ -33,7 +33,7 @@ digit_low c h = grind (arith, nat_tests)
 pub digit_high : (c : ℕ) → is_ascii_digit c ≡ true → c ≤ 57
 digit_high c h = grind (arith, nat_tests)
 
-digit_is : (c : ℕ) → 48 ≤ c → c ≤ 57 → digit_value c ≡ c - 48
+pub digit_is : (c : ℕ) → 48 ≤ c → c ≤ 57 → digit_value c ≡ c - 48
 digit_is c low high = grind (arith, nat_tests)
 
 pub one_more : (ds : List ℕ) (i : ℕ) → list_all is_ascii_digit ds ≡ true → i < length ds → digits_value 10 (take (i + 1) ds) ≡ digits_value 10 (take i ds) * 10 + (get_or ds i 0 - 48)

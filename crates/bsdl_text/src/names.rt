@@ -25,4 +25,15 @@ impl Word<'_> {
         }
         Ok(name)
     }
+
+    /// The word as it is spelt.
+    pub fn spelling(self, alloc: Global) -> Result<String, AllocError>
+        ensures { IfOk result (λ name. string_bytes name ≡ self.entry.text.now) }
+    {
+        let mut name = String::with_capacity(alloc, self.text.len())?;
+        for byte in self.text {
+            name.push(char::from(*byte))?;
+        }
+        Ok(name)
+    }
 }

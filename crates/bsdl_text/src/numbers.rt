@@ -1,9 +1,10 @@
 //! Whole numbers of any length.
-ghost use Rattle.std.specs.Prelude.{◌≡◌, ◌≤◌, ◌^◌, ◌<◌, ◌+◌, ◌-◌, ◌*◌, true, min, length, take};
+ghost use Rattle.std.specs.Prelude.{◌≡◌, ◌≤◌, ◌^◌, ◌<◌, ◌+◌, ◌-◌, ◌*◌, true, min, length, take, drop, SomeIff};
 ghost use Rattle.std.specs.Char.{is_ascii_digit};
 ghost use Rattle.std.specs.List.{list_all};
 ghost use Rattle.std.specs.Ordering.{nat_cmp};
 ghost use Rattle.std.specs.Str.Parse.{digits_value};
+ghost use Rattle.bsdl_text.specs.Numbers.{significant};
 
 use std::cmp::Ordering;
 
@@ -14,12 +15,22 @@ pub struct Digits<'a> {
     pub ghost all: { list_all is_ascii_digit digits.now ≡ true },
 }
 
-impl Digits<'_> {
+impl<'a> Digits<'a> {
     /// How two numbers compare, however long they are.
     pub fn compare(self, other: Digits<'_>) -> Ordering
         ensures { result ≡ nat_cmp (digits_value 10 self.entry.digits.now) (digits_value 10 other.entry.digits.now) }
     {
-        compare(self.digits, other.digits)
+        compare(significant(self.digits), significant(other.digits))
+    }
+
+    /// The same number without zeros before it, and 0 without digits: two such compare in the time of the shorter.
+    pub fn significant(self) -> Digits<'a>
+        ensures digits { result.digits.now ≡ significant self.entry.digits.now }
+        ensures value { digits_value 10 result.digits.now ≡ digits_value 10 self.entry.digits.now }
+    {
+        Digits {
+            digits: significant(self.digits),
+        }
     }
 
     /// The number, or `most` where it is larger.
@@ -27,12 +38,69 @@ impl Digits<'_> {
         requires { most < 2 ^ 32 }
         ensures { result ≡ min (digits_value 10 self.entry.digits.now) most }
     {
-        up_to(self.digits, most)
+        up_to(self.digits, most as u128) as usize
+    }
+
+    /// The number, where it is below 2^64.
+    pub fn size(self) -> Option<usize>
+        ensures { SomeIff result (digits_value 10 self.entry.digits.now < 2 ^ 64) (digits_value 10 self.entry.digits.now) }
+    {
+        let value = up_to(self.digits, 1 << 64);
+        if value < 1 << 64 {
+            Some(value as usize)
+        } else {
+            None
+        }
+    }
+}
+
+/// The digits without zeros before them.
+fn significant(digits: &[u8]) -> &[u8]
+    requires { list_all is_ascii_digit digits.now ≡ true }
+    ensures digits { result.now ≡ significant digits.now }
+    ensures all { list_all is_ascii_digit result.now ≡ true }
+    ensures value { digits_value 10 result.now ≡ digits_value 10 digits.now }
+    ensures starts { significant result.now ≡ result.now }
+{
+    behind_zeros(digits)
+}
+
+fn behind_zeros(digits: &[u8]) -> &[u8]
+    ensures { result.now ≡ significant digits.now }
+{
+    &digits[zeros(digits)..]
+}
+
+/// How many zeros stand before the other digits.
+fn zeros(digits: &[u8]) -> usize
+    ensures within { result ≤ length digits.now }
+    ensures digits { drop result digits.now ≡ significant digits.now }
+{
+    for i in 0..digits.len() {
+        if digits[i] != b'0' {
+            return i;
+        }
+    }
+    digits.len()
+}
+
+/// How two numbers without zeros before them compare: the one with more digits is larger.
+fn compare(one: &[u8], other: &[u8]) -> Ordering
+    requires one { list_all is_ascii_digit one.now ≡ true }
+    requires other { list_all is_ascii_digit other.now ≡ true }
+    requires one_starts { significant one.now ≡ one.now }
+    requires other_starts { significant other.now ≡ other.now }
+    ensures { result ≡ nat_cmp (digits_value 10 one.now) (digits_value 10 other.now) }
+{
+    match one.len().cmp(&other.len()) {
+        Ordering::Less => Ordering::Less,
+        Ordering::Equal => compare_places(one, other),
+        Ordering::Greater => Ordering::Greater,
     }
 }
 
 /// How the numbers of two rows of digits compare: from the highest place on, with zeros before the shorter one.
-fn compare(one: &[u8], other: &[u8]) -> Ordering
+fn compare_places(one: &[u8], other: &[u8]) -> Ordering
     requires one { list_all is_ascii_digit one.now ≡ true }
     requires other { list_all is_ascii_digit other.now ≡ true }
     ensures { result ≡ nat_cmp (digits_value 10 one.now) (digits_value 10 other.now) }
@@ -69,14 +137,14 @@ fn digit_of(digits: &[u8], i: usize) -> u8
     digits[i] - b'0'
 }
 
-fn up_to(digits: &[u8], most: usize) -> usize
+fn up_to(digits: &[u8], most: u128) -> u128
     requires digits { list_all is_ascii_digit digits.now ≡ true }
-    requires most { most < 2 ^ 32 }
+    requires most { most < 2 ^ 65 }
     ensures { result ≡ min (digits_value 10 digits.now) most }
 {
     let mut value = 0;
     for i in 0..digits.len() {
-        value = (value * 10 + usize::from(digit_of(digits, i))).min(most);
+        value = (value * 10 + u128::from(digit_of(digits, i))).min(most);
     }
     value
 }

@@ -72,7 +72,7 @@ fn check_command<'a>(alloc: Global) -> Result<Command<'a>, AllocError> {
 }
 
 fn svf_arg<'a>(alloc: Global) -> Arg<'a> {
-    Arg::new(alloc, "svf")
-        .action(ArgAction::Set)
-        .help("The file of the program; standard input where none is named")
+    Arg::new(alloc, "svf").action(ArgAction::Set).help(
+        "The file of the program; standard input where none is named",
+    )
 }

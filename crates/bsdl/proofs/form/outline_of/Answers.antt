@@ -1,4 +1,4 @@
-use Rattle.std.proofs.Common.{◌≡◌, false, sym, ◌∙◌, Some, None}
+use Rattle.std.proofs.Common.{sym, Some, None}
 use Rattle.bsdl_lex.specs.Left.{left}
 use Rattle.bsdl_entity.specs.Entity.{file}
 use Rattle.bsdl_entity.specs.OutlineView.{outline}

@@ -1,0 +1,67 @@
+use Rattle.std.proofs.Common.{◌∙◌, sym, ap, subst, map, option_map, codes, None}
+use Rattle.toml.specs.View.{table_view}
+use Rattle.board_tables.specs.Fields.{tables_in, tables_at}
+use Rattle.board_tables.specs.View.{texts_of}
+use Rattle.board_file.specs.Files.{file_at, distinct, described, missing_in, refused_in}
+use Rattle.board_file.specs.View.{files_of, IsFirstRefusal, PlansBoard}
+use Rattle.board_file.proofs.BoardLaws.{keys_fault, missing_fault, refused_fault, planned}
+use Rattle.board_file.proofs.board.plan_in.Goals as goal
+
+-- src/board.rt:59:9
+pub returns-in-Err : goal.returns-in-Err
+returns-in-Err g c =
+    let says = g.R.Describe.says in
+    let refuses = g.R.Describe.refuses in
+    let files = files_of c.args.files.now in
+    let t = table_view c.args.table.now in
+    let names = texts_of c.in-Ok.names in
+    let names_is = c.in-Ok.ensures ∙ ap (λ items. distinct (map file_at (tables_in items))) c.items_at.ensures in
+    let ds_is = c.deref.ensures.value ∙ c.in-Ok-read_files.ensures.devices ∙ ap (λ ks. map (described says files) (texts_of ks)) c.keys.ensures in
+    keys_fault refuses says files t names c.deref.result.now names_is ds_is c.in-Err.fault c.in-Err.ensures
+
+-- src/board.rt:62:9
+pub returns-in-Some : goal.returns-in-Some
+returns-in-Some g c =
+    let says = g.R.Describe.says in
+    let refuses = g.R.Describe.refuses in
+    let files = files_of c.args.files.now in
+    let t = table_view c.args.table.now in
+    let names = texts_of c.in-Ok.names in
+    let names_is = c.in-Ok.ensures ∙ ap (λ items. distinct (map file_at (tables_in items))) c.items_at.ensures in
+    let ds_is = c.deref.ensures.value ∙ c.in-Ok-read_files.ensures.devices ∙ ap (λ ks. map (described says files) (texts_of ks)) c.keys.ensures in
+    let missing_is = ap (λ ks. missing_in files (texts_of ks)) (sym c.keys.ensures) ∙ sym c.in-Ok-read_files.ensures.missing in
+    missing_fault refuses says files t names c.deref.result.now names_is ds_is c.in_default-check_keys.ensures c.unknown_file.result c.in-Some.name.now
+    (missing_is ∙ ap (option_map (λ n. n.now)) c.in-Some.is) c.unknown_file.ensures
+
+-- src/board.rt:65:9
+pub returns-in-Some-refused : goal.returns-in-Some-refused
+returns-in-Some-refused g c =
+    let says = g.R.Describe.says in
+    let refuses = g.R.Describe.refuses in
+    let files = files_of c.args.files.now in
+    let t = table_view c.args.table.now in
+    let names = texts_of c.in-Ok.names in
+    let names_is = c.in-Ok.ensures ∙ ap (λ items. distinct (map file_at (tables_in items))) c.items_at.ensures in
+    let ds_is = c.deref.ensures.value ∙ c.in-Ok-read_files.ensures.devices ∙ ap (λ ks. map (described says files) (texts_of ks)) c.keys.ensures in
+    let missing_is = ap (λ ks. missing_in files (texts_of ks)) (sym c.keys.ensures) ∙ sym c.in-Ok-read_files.ensures.missing in
+    let refused_is = ap (λ ks. refused_in says files (texts_of ks)) (sym c.keys.ensures) in
+    let (text, is, why) = subst (λ o. IsFirstRefusal refuses o None (refused_in says files (texts_of c.keys.result.now))) c.in-Some-refused.is c.in-Ok-read_files.ensures.refused in
+    refused_fault refuses says files t names c.deref.result.now names_is ds_is c.in_default-check_keys.ensures (missing_is ∙ ap (option_map (λ n. n.now)) c.in_default-missing.is)
+    c.in-Some-refused.fault text (refused_is ∙ is) why
+
+-- src/board.rt:39:1
+pub returns : goal.returns
+returns g c =
+    let says = g.R.Describe.says in
+    let refuses = g.R.Describe.refuses in
+    let files = files_of c.args.files.now in
+    let t = table_view c.args.table.now in
+    let names = texts_of c.in-Ok.names in
+    let names_is = c.in-Ok.ensures ∙ ap (λ items. distinct (map file_at (tables_in items))) c.items_at.ensures in
+    let ds_is = c.deref.ensures.value ∙ c.in-Ok-read_files.ensures.devices ∙ ap (λ ks. map (described says files) (texts_of ks)) c.keys.ensures in
+    let missing_is = ap (λ ks. missing_in files (texts_of ks)) (sym c.keys.ensures) ∙ sym c.in-Ok-read_files.ensures.missing in
+    let refused_is = ap (λ ks. refused_in says files (texts_of ks)) (sym c.keys.ensures) in
+    let none = subst (λ o. IsFirstRefusal refuses o None (refused_in says files (texts_of c.keys.result.now))) c.in_default-refused.is c.in-Ok-read_files.ensures.refused in
+    planned refuses says files t names c.deref.result.now names_is ds_is c.in_default-check_keys.ensures (missing_is ∙ ap (option_map (λ n. n.now)) c.in_default-missing.is)
+    (refused_is ∙ sym none) c.plan_described.result
+    (subst (λ ds. PlansBoard c.plan_described.result names ds (tables_at (codes "device") t) (tables_at (codes "net") t)) (c.deref-2.ensures.value ∙ sym c.deref.ensures.value) c.plan_described.ensures)

@@ -1,0 +1,5 @@
+pub mod Files
+pub mod Pins
+pub mod Wiring
+pub mod LeftOut
+pub mod View

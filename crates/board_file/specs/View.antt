@@ -1,0 +1,185 @@
+-- What the code's values stand for.
+use Rattle.std.specs.Prelude.{◌≡◌, ℕ, List, map, length, slice_get, position, bytes_eq, codes, string_bytes, Option, Some, None, option_map, option_and_then, Result, Ok, Err}
+use Rattle.std.specs.Prelude.{Vec, String}
+use Rattle.std.specs.declared.alloc.Global.{Global}
+use Rattle.std.specs.BTreeMap.{BTreeMap}
+use denote.Ref.{Bor}
+use Rattle.toml.specs.View.{table_view}
+use Rattle.toml.specs.declared.value.Value.{Value}
+use Rattle.bsdl_device.specs.Device as described
+use Rattle.board_tables.specs.declared.fields.Unfit.{Unfit}
+use Rattle.board_tables.specs.declared.fields.Unfit.TheVariants.{Field, Memory}
+use Rattle.board_file.specs.declared.fault.BoardFault.{BoardFault}
+use Rattle.board_file.specs.declared.fault.BoardFault.TheVariants as fault
+use Rattle.board_file.specs.declared.library.Unread.{Unread}
+use Rattle.board_file.specs.declared.library.Unread.TheVariants as unread
+use Rattle.board_file.specs.declared.library.Reading.{Reading}
+use Rattle.board_file.specs.declared.library.Reading.TheVariants as reading
+use Rattle.board_file.specs.declared.wiring.Miswired.{Miswired}
+use Rattle.board_file.specs.declared.wiring.Miswired.TheVariants as miswired
+use Rattle.board_file.specs.declared.plan.Plan.{Plan}
+use Rattle.board_file.specs.declared.plan.PlannedDevice.{PlannedDevice}
+use Rattle.board_file.specs.declared.plan.PlannedNet.{PlannedNet}
+use Rattle.board_file.specs.Files.{Reads, IsBadToml, File, text_of}
+use Rattle.toml.specs.Data.{Members}
+use Rattle.std.specs.List.{filter_map}
+use Rattle.board_tables.specs.Fields.{text_at, name_at}
+use Rattle.board_file.specs.Wiring.{Member, member_of, net_of, wire_fault, Net, Wiring, Fault, BadField, UnknownFile, Bsdl, UnknownPin, PinTwice, TooLarge}
+
+-- the files handed in
+abbrev pub file_of : Bor (List ℕ) × Bor (List ℕ) → File
+file_of f = (f.0.now, f.1.now)
+
+abbrev pub files_of : List (Bor (List ℕ) × Bor (List ℕ)) → List File
+files_of fs = map file_of fs
+
+-- ---- the board file's text
+
+-- what reading a text as TOML gives
+abbrev pub ReadsToml : {F : Type 0} → List ℕ → Result (BTreeMap (String Global) Value) (BoardFault F) → Type 0
+ReadsToml text (Ok t) = Reads text (table_view t)
+ReadsToml text (Err fault.BadToml) = IsBadToml text
+ReadsToml text (Err fault.NoMemory) = Unit {0}
+ReadsToml text (Err _) = ⊥
+
+-- The names where no key is at fault, and else the key that is, unless memory runs out.
+abbrev pub TellsNames : {F : Type 0} → Result (Vec (String Global) Global) (BoardFault F) → Result (List (List ℕ)) (List ℕ) → Type 0
+TellsNames (Ok v) said = said ≡ Ok (map string_bytes v.items)
+TellsNames (Err (fault.BadField k)) said = said ≡ Err (string_bytes k)
+TellsNames (Err fault.NoMemory) said = Unit {0}
+TellsNames (Err _) said = ⊥
+
+-- the text is refused as no TOML, unless memory runs out
+abbrev pub TellsBadToml : {A F : Type 0} → Result A (BoardFault F) → Type 0
+TellsBadToml (Err fault.BadToml) = Unit {0}
+TellsBadToml (Err fault.NoMemory) = Unit {0}
+TellsBadToml _ = ⊥
+
+-- a key at fault as a caller sees it
+abbrev pub IsTold : {F : Type 0} → Unfit → BoardFault F → Type 0
+IsTold (Field k) (fault.BadField s) = string_bytes s ≡ k.now
+IsTold (Field k) fault.NoMemory = Unit {0}
+IsTold Memory fault.NoMemory = Unit {0}
+IsTold _ _ = ⊥
+
+-- ---- descriptions: `says` is the device that a text describes, and `refuses` why a text is refused
+
+-- what reading a description gives
+abbrev pub Describes : {F : Type 0} → (List ℕ → Option described.Device) → (List ℕ → F → Type 0) → List ℕ → Result described.Device (Unread F) → Type 0
+Describes says refuses text (Ok d) = says text ≡ Some d
+Describes says refuses text (Err (unread.Refused f)) = (says text ≡ None) × refuses text f
+Describes says refuses text (Err unread.Memory) = Unit {0}
+
+-- what stands in a text
+abbrev pub IsRead : {F : Type 0} → (List ℕ → Option described.Device) → (List ℕ → F → Type 0) → List ℕ → Reading F → Type 0
+IsRead says refuses text reading.Missing = ⊥
+IsRead says refuses text (reading.Refused f) = (says text ≡ None) × refuses text f
+IsRead says refuses text (reading.Described d) = says text ≡ Some d
+
+-- what stands in the file of a name
+abbrev pub IsReading : {F : Type 0} → (List ℕ → Option described.Device) → (List ℕ → F → Type 0) → List File → List ℕ → Reading F → Type 0
+IsReading says refuses files name reading.Missing = text_of files name ≡ None
+IsReading says refuses files name r = (text : List ℕ) × (text_of files name ≡ Some text) × IsRead says refuses text r
+
+-- the device that is described there
+abbrev pub device_in : {F : Type 0} → Reading F → Option described.Device
+device_in (reading.Described d) = Some d
+device_in _ = None
+
+-- the first missing name, after what stands in the file of one more
+abbrev pub missing_with : {F : Type 0} → Option (Bor (List ℕ)) → Bor (List ℕ) → Reading F → Option (Bor (List ℕ))
+missing_with (Some first) name r = Some first
+missing_with None name reading.Missing = Some name
+missing_with None name _ = None
+
+-- and the first refusal
+abbrev pub refused_with : {F : Type 0} → Option F → Reading F → Option F
+refused_with (Some first) r = Some first
+refused_with None (reading.Refused f) = Some f
+refused_with None _ = None
+
+-- The first refusal so far: it is that of the whole, or what is left has the first of the whole.
+abbrev pub IsFirstRefusal : {F : Type 0} → (List ℕ → F → Type 0) → Option F → (left whole : Option (List ℕ)) → Type 0
+IsFirstRefusal refuses (Some f) left whole = (text : List ℕ) × (whole ≡ Some text) × refuses text f
+IsFirstRefusal refuses None left whole = left ≡ whole
+
+-- what is described of a device, given all names of files and what is described in each
+abbrev pub stands_at : List (List ℕ) → List (Option described.Device) → Members → Option described.Device
+stands_at names ds t =
+    option_and_then (λ d. d) (option_and_then (slice_get ds) (option_and_then (λ name. position (bytes_eq name) names) (text_at (codes "bsdl") t)))
+
+abbrev pub cells_in : List (List ℕ) → List (Option described.Device) → Members → Option ℕ
+cells_in names ds t = option_map (λ (d : described.Device). length d.cells) (stands_at names ds t)
+
+abbrev pub member_in : List (List ℕ) → List (Option described.Device) → Members → Option Member
+member_in names ds t = option_map (member_of t) (stands_at names ds t)
+
+-- ---- refusals and boards
+
+-- the fault that a refusal names, unless memory runs out
+abbrev pub TellsFault : {F : Type 0} → (List ℕ → F → Type 0) → BoardFault F → Option Fault → Type 0
+TellsFault refuses (fault.BadField k) o = o ≡ Some (BadField (string_bytes k))
+TellsFault refuses (fault.UnknownFile s) o = o ≡ Some (UnknownFile (string_bytes s))
+TellsFault refuses (fault.Bsdl f) o = (text : List ℕ) × (o ≡ Some (Bsdl text)) × refuses text f
+TellsFault refuses (fault.UnknownPin s) o = o ≡ Some (UnknownPin (string_bytes s))
+TellsFault refuses (fault.PinTwice s) o = o ≡ Some (PinTwice (string_bytes s))
+TellsFault refuses fault.TooLarge o = o ≡ Some TooLarge
+TellsFault refuses fault.NoMemory o = Unit {0}
+TellsFault refuses fault.BadToml o = ⊥
+
+-- A judgement of keys passes where none is at fault, and else names the one that is, unless memory runs out.
+abbrev pub JudgesKeys : {F : Type 0} → Result (Unit {0}) (BoardFault F) → Option (List ℕ) → Type 0
+JudgesKeys (Ok x) o = o ≡ None
+JudgesKeys (Err (fault.BadField k)) o = o ≡ Some (string_bytes k)
+JudgesKeys (Err fault.NoMemory) o = Unit {0}
+JudgesKeys (Err _) o = ⊥
+
+abbrev pub IsUnknownFile : {F : Type 0} → List ℕ → BoardFault F → Type 0
+IsUnknownFile name (fault.UnknownFile s) = string_bytes s ≡ name
+IsUnknownFile name fault.NoMemory = Unit {0}
+IsUnknownFile name _ = ⊥
+
+-- a judgement of pins
+abbrev pub ChecksPins : {A : Type 0} → Result A Miswired → Option Fault → Type 0
+ChecksPins (Ok x) o = o ≡ None
+ChecksPins (Err (miswired.UnknownPin s)) o = o ≡ Some (UnknownPin s.now)
+ChecksPins (Err (miswired.PinTwice s)) o = o ≡ Some (PinTwice s.now)
+ChecksPins (Err miswired.TooLarge) o = o ≡ Some TooLarge
+ChecksPins (Err miswired.Memory) o = Unit {0}
+
+-- as a caller sees it
+abbrev pub IsMiswired : {F : Type 0} → Miswired → BoardFault F → Type 0
+IsMiswired f fault.NoMemory = Unit {0}
+IsMiswired (miswired.UnknownPin t) (fault.UnknownPin s) = string_bytes s ≡ t.now
+IsMiswired (miswired.PinTwice t) (fault.PinTwice s) = string_bytes s ≡ t.now
+IsMiswired miswired.TooLarge fault.TooLarge = Unit {0}
+IsMiswired _ _ = ⊥
+
+abbrev pub member : PlannedDevice → Member
+member m = record { name = string_bytes m.name; device = m.device; core = m.core; extest_update = m.extest_update }
+
+abbrev pub net : PlannedNet → Net
+net n = record { name = string_bytes n.name; pull = n.pull; pins = n.pins.items }
+
+-- the board that is planned
+abbrev pub wiring : Plan → Wiring
+wiring p = record { members = map member p.devices.items; nets = map net p.nets.items }
+
+-- The board, or the fault that the refusal names, unless memory runs out.
+abbrev pub TellsBoard : {F : Type 0} → (List ℕ → F → Type 0) → Result Plan (BoardFault F) → Result Wiring Fault → Type 0
+TellsBoard refuses (Ok p) said = said ≡ Ok (wiring p)
+TellsBoard refuses (Err f) (Ok w) = TellsFault refuses f None
+TellsBoard refuses (Err f) (Err e) = TellsFault refuses f (Some e)
+
+-- The board of these devices and nets, or the fault of their pins, unless memory runs out; given all names of files and
+-- what is described in each.
+abbrev pub PlansBoard : {F : Type 0} → Result Plan (BoardFault F) → List (List ℕ) → List (Option described.Device) → List Members → List Members → Type 0
+PlansBoard {F} r files ds devices nets = by r (map name_at devices) (filter_map (stands_at files ds) devices)
+  where
+    by : Result Plan (BoardFault F) → List (List ℕ) → List described.Device → Type 0
+    by (Ok p) names found = (wire_fault names found nets ≡ None) × (wiring p ≡ record { members = filter_map (member_in files ds) devices; nets = map (net_of names found) nets })
+    by (Err (fault.UnknownPin s)) names found = wire_fault names found nets ≡ Some (UnknownPin (string_bytes s))
+    by (Err (fault.PinTwice s)) names found = wire_fault names found nets ≡ Some (PinTwice (string_bytes s))
+    by (Err fault.TooLarge) names found = wire_fault names found nets ≡ Some TooLarge
+    by (Err fault.NoMemory) names found = Unit {0}
+    by (Err _) names found = ⊥

@@ -1,0 +1,105 @@
+-- What a board file says, given the files that it names: the board's devices and nets, or why it is refused.
+use Rattle.std.specs.Prelude.{ℕ, Bool, false, ◌||◌, ◌==◌, nat_lt, List, [], map, length, filter_map, replicate, reverse, codes, bytes_eq, option_map, Option, Some, None, Result, Ok, Err, if◌then◌else◌}
+use Rattle.toml.specs.Data.{Members}
+use Rattle.bsdl_device.specs.Device.{Device}
+use Rattle.pin_nets.specs.declared.Pull.{Pull}
+use Rattle.pin_nets.specs.declared.Pull.TheVariants.{Up, Down, Free}
+use Rattle.board_tables.specs.Fields.{text_at, name_at, tables_at}
+use Rattle.board_tables.specs.Faults.{or_else, unfit}
+use Rattle.board_file.specs.declared.pins.Pin.{Pin}
+use Rattle.board_file.specs.Files.{File, file_names, device_at, cells_at, devices_of, missing_in, refused_in}
+use Rattle.board_file.specs.Pins.{pins_at, unknown_in_nets, twice_in_nets}
+
+-- ---- a board as it is wired
+
+-- A device: its name, what is described of it, its core's bits (one a cell, cell 0 first), and whether EXTEST captures the
+-- update stage.
+pub record Member : Type 0 where
+  pub name : List ℕ
+  pub device : Device
+  pub core : List Bool
+  pub extest_update : Bool
+
+pub record Net : Type 0 where
+  pub name : List ℕ
+  pub pull : Pull
+  pub pins : List Pin
+
+-- the devices, the first nearest the board's TDO, and the nets
+pub record Wiring : Type 0 where
+  pub members : List Member
+  pub nets : List Net
+
+-- ---- what a table says of it
+
+-- the core's bits, cell 0 rightmost; all 0 where none are given
+abbrev pub core_of : ℕ → Option (List ℕ) → List Bool
+core_of cells None = replicate cells false
+core_of cells (Some s) = map (λ c. c == 49) (reverse s)
+
+abbrev pub is_update : Option (List ℕ) → Bool
+is_update None = false
+is_update (Some s) = bytes_eq s (codes "update")
+
+abbrev pub member_of : Members → Device → Member
+member_of t d = record {
+  name = name_at t;
+  device = d;
+  core = core_of (length d.cells) (text_at (codes "core") t);
+  extest_update = is_update (text_at (codes "extest") t);
+}
+
+abbrev pub member_at : (List ℕ → Option Device) → List File → Members → Option Member
+member_at says files t = option_map (member_of t) (device_at says files t)
+
+abbrev pub pull_of : Option (List ℕ) → Pull
+pull_of None = Free
+pull_of (Some s) = if bytes_eq s (codes "up") then Up else if bytes_eq s (codes "down") then Down else Free
+
+abbrev pub net_of : List (List ℕ) → List Device → Members → Net
+net_of names ds t = record { name = name_at t; pull = pull_of (text_at (codes "pull") t); pins = pins_at names ds t }
+
+abbrev pub wiring_of : (List ℕ → Option Device) → List File → Members → Wiring
+wiring_of says files t =
+    let devices = tables_at (codes "device") t in
+    record {
+      members = filter_map (member_at says files) devices;
+      nets = map (net_of (map name_at devices) (devices_of says files devices)) (tables_at (codes "net") t);
+    }
+
+-- ---- why it is refused
+
+pub data Fault : Type 0 where
+  BadField : (key : List ℕ) → Fault
+  UnknownFile : (name : List ℕ) → Fault
+  -- this description is refused
+  Bsdl : (text : List ℕ) → Fault
+  UnknownPin : (text : List ℕ) → Fault
+  PinTwice : (text : List ℕ) → Fault
+  TooLarge : Fault
+
+-- at most 32 devices and 4,096 nets
+abbrev pub large : ℕ → ℕ → Option Fault
+large devices nets = if nat_lt 32 devices || nat_lt 4096 nets then Some TooLarge else None
+
+-- of the pins, given the names of the devices and what is described of each
+abbrev pub wire_fault : List (List ℕ) → List Device → List Members → Option Fault
+wire_fault names ds nets =
+    or_else (option_map UnknownPin (unknown_in_nets names ds nets))
+    (or_else (option_map PinTwice (twice_in_nets names ds [] nets)) (large (length names) (length nets)))
+
+-- of the descriptions that are named
+abbrev pub file_fault : (List ℕ → Option Device) → List File → List (List ℕ) → Option Fault
+file_fault says files names = or_else (option_map UnknownFile (missing_in files names)) (option_map Bsdl (refused_in says files names))
+
+-- Of the whole: the first in the order of the cases, and in each the first device, net and pin.
+abbrev pub fault_of : (List ℕ → Option Device) → List File → Members → Option Fault
+fault_of says files t =
+    let devices = tables_at (codes "device") t in
+    or_else (option_map BadField (unfit (map (cells_at says files) devices) t))
+    (or_else (file_fault says files (file_names t))
+    (wire_fault (map name_at devices) (devices_of says files devices) (tables_at (codes "net") t)))
+
+-- the board, or why the table and the files make none
+abbrev pub makes : (List ℕ → Option Device) → List File → Members → Result Wiring Fault
+makes says files t = elim (fault_of says files t) [ None ↦ Ok (wiring_of says files t) | Some f ↦ Err f ]

@@ -1,0 +1,160 @@
+//! A board by its file and its descriptions.
+ghost use Rattle.std.specs.Prelude.{◌≡◌, codes, map, Ok, IfOk, IfErr};
+ghost use Rattle.toml.specs.Data.{Members};
+ghost use Rattle.toml.specs.View.{table_view, items_view};
+ghost use Rattle.board_tables.specs.Fields.{name_at, tables_at, tables_in};
+ghost use Rattle.board_tables.specs.Faults.{unfit};
+ghost use Rattle.board_tables.specs.View.{texts_of};
+ghost use Rattle.board_file.specs.Files.{Reads, IsBadToml};
+ghost use Rattle.board_file.specs.Wiring.{makes};
+ghost use Rattle.board_file.specs.View.{IsMiswired, IsUnknownFile, JudgesKeys, PlansBoard, TellsBadToml, TellsBoard, cells_in, files_of};
+
+use crate::fault::{BoardFault, told};
+use crate::files::{distinct_files, read_table};
+use crate::library::{Describe, Library, cells_of, devices_of, read_files};
+use crate::plan::{Plan, plan_devices, plan_nets};
+use crate::wiring::{Miswired, check_pins};
+use board_tables::{Places, check_fields, items_at, name_at};
+use scan_registers::SharedDevice;
+use std::alloc::{AllocError, Global};
+use toml::{Table, Value};
+
+/// The board that a board file and the descriptions in these files make, each given by its name and its text, or the first
+/// refusal. Of two files of one name the first counts; files that no device names are not read.
+pub fn plan_of_text<'f, R: Describe>(
+    alloc: Global,
+    reader: &R,
+    toml_text: &[u8],
+    files: &[(&'f str, &'f [u8])],
+) -> Result<Plan, BoardFault<R::Fault>>
+    // The board that the table and the files make, or their fault, unless memory runs out.
+    ensures told { (t : Members) → Reads toml_text.now t → TellsBoard R.refuses result (makes R.says (files_of files.now) t) }
+    // What is no TOML is refused as that, unless memory runs out.
+    ensures bad_toml { IsBadToml toml_text.now → TellsBadToml result }
+{
+    let table = read_table(alloc, toml_text)?;
+    plan_in(alloc, reader, files, &table)
+}
+
+fn plan_in<'f, R: Describe>(
+    alloc: Global,
+    reader: &R,
+    files: &[(&'f str, &'f [u8])],
+    table: &Table,
+) -> Result<Plan, BoardFault<R::Fault>>
+    ensures { TellsBoard R.refuses result (makes R.says (files_of files.now) (table_view table.now)) }
+{
+    let Ok(names) = distinct_files(alloc, items_at(table, "device")) else {
+        return Err(BoardFault::NoMemory);
+    };
+    let Ok(library) = read_files(alloc, reader, files, names.keys()) else {
+        return Err(BoardFault::NoMemory);
+    };
+    let Library {
+        devices,
+        missing,
+        refused,
+    } = library;
+    if let Err(fault) = check_keys(alloc, table, &names, &devices) {
+        return Err(fault);
+    }
+    if let Some(name) = missing {
+        return Err(unknown_file(alloc, name));
+    }
+    if let Some(fault) = refused {
+        return Err(BoardFault::Bsdl(fault));
+    }
+    plan_described(alloc, table, &names, &devices)
+}
+
+/// Want of memory, as a refusal.
+fn no_memory<T, F>(outcome: Result<T, AllocError>) -> Result<T, BoardFault<F>>
+    ensures ok { IfOk result (λ x. outcome ≡ Ok x) }
+    ensures err { IfErr result (λ e. e ≡ BoardFault.NoMemory) }
+{
+    match outcome {
+        Ok(value) => Ok(value),
+        Err(_) => Err(BoardFault::NoMemory),
+    }
+}
+
+/// Judges the keys of the whole file, given all names of files and what is described in each.
+fn check_keys<F>(
+    alloc: Global,
+    table: &Table,
+    names: &Places<&str>,
+    described: &[Option<SharedDevice>],
+) -> Result<(), BoardFault<F>>
+    ensures { JudgesKeys result (unfit (map (cells_in (texts_of names.now) described.now) (tables_at (codes "device") (table_view table.now))) (table_view table.now)) }
+{
+    let cells = match cells_of(alloc, names, described, items_at(table, "device")) {
+        Ok(cells) => cells,
+        Err(_) => return Err(BoardFault::NoMemory),
+    };
+    match check_fields(alloc, table, &cells) {
+        Ok(()) => Ok(()),
+        Err(unfit) => Err(told(alloc, unfit)),
+    }
+}
+
+/// The refusal for a name that no file has.
+fn unknown_file<F>(alloc: Global, name: &str) -> BoardFault<F>
+    ensures { IsUnknownFile name.now result }
+{
+    match String::from_str(alloc, name) {
+        Ok(name) => BoardFault::UnknownFile(name),
+        Err(_) => BoardFault::NoMemory,
+    }
+}
+
+/// The board, where the keys are good and each description is there, given all names of files and what is described in each.
+fn plan_described<F>(
+    alloc: Global,
+    table: &Table,
+    names: &Places<&str>,
+    described: &[Option<SharedDevice>],
+) -> Result<Plan, BoardFault<F>>
+    ensures { PlansBoard result (texts_of names.now) described.now (tables_at (codes "device") (table_view table.now)) (tables_at (codes "net") (table_view table.now)) }
+{
+    let entries = items_at(table, "device");
+    let nets = items_at(table, "net");
+    let board = no_memory(board_names(alloc, entries))?;
+    let devices = no_memory(devices_of(alloc, names, described, entries))?;
+    if let Err(fault) = check_pins(alloc, &board, &devices, nets) {
+        return Err(miswired(alloc, fault));
+    }
+    Ok(Plan {
+        devices: no_memory(plan_devices(alloc, names, described, entries))?,
+        nets: no_memory(plan_nets(alloc, &board, &devices, nets))?,
+    })
+}
+
+/// The names of the devices.
+fn board_names<'t>(alloc: Global, devices: &'t [Value]) -> Result<Places<&'t str>, AllocError>
+    ensures { IfOk result (λ names. texts_of names ≡ map name_at (tables_in (items_view devices.now))) }
+{
+    let mut names = Places::new(alloc);
+    for device in devices {
+        if let Some(table) = device.as_table() {
+            names.push(name_at(table))?;
+        }
+    }
+    Ok(names)
+}
+
+/// The refusal for pins and nets that do not fit.
+fn miswired<F>(alloc: Global, fault: Miswired<'_>) -> BoardFault<F>
+    ensures { IsMiswired fault.entry result }
+{
+    let (text, is_twice) = match fault {
+        Miswired::UnknownPin(text) => (text, false),
+        Miswired::PinTwice(text) => (text, true),
+        Miswired::TooLarge => return BoardFault::TooLarge,
+        Miswired::Memory => return BoardFault::NoMemory,
+    };
+    match String::from_str(alloc, text) {
+        Ok(text) if is_twice => BoardFault::PinTwice(text),
+        Ok(text) => BoardFault::UnknownPin(text),
+        Err(_) => BoardFault::NoMemory,
+    }
+}

@@ -1,0 +1,17 @@
+//! The board file: which devices are on a board, and how they are wired.
+#![tactic(auto)]
+
+mod board;
+mod fault;
+mod files;
+mod library;
+mod pins;
+mod plan;
+mod wiring;
+
+pub use board::plan_of_text;
+pub use fault::BoardFault;
+pub use files::bsdl_names;
+pub use library::{Describe, Unread};
+pub use pins::Pin;
+pub use plan::{Plan, PlannedDevice, PlannedNet};

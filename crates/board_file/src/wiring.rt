@@ -1,0 +1,162 @@
+//! Pins that are none, and pins that stand twice.
+ghost use Rattle.std.specs.Prelude.{◌≡◌, map, option_map, ◌++◌, ◌∷◌, [], not, true, IfOk, None, length};
+ghost use Rattle.std.specs.List.{list_any, filter_map};
+ghost use Rattle.toml.specs.View.{items_view};
+ghost use Rattle.board_tables.specs.Fields.{tables_in, texts_in};
+ghost use Rattle.board_tables.specs.View.{texts_of};
+ghost use Rattle.board_file.specs.Pins as spec;
+ghost use Rattle.board_file.specs.Wiring.{wire_fault};
+ghost use Rattle.board_file.specs.View.{ChecksPins};
+
+use crate::pins::{Pin, find_pin};
+use board_tables::{Places, items_at};
+use scan_registers::SharedDevice;
+use std::alloc::{AllocError, Global};
+use toml::Value;
+
+/// The first text among the pins of all nets that names no pin.
+pub(crate) fn first_unknown<'t>(
+    names: &Places<&str>,
+    devices: &[SharedDevice],
+    nets: &'t [Value],
+) -> Option<&'t str>
+    ensures { option_map (λ s. s.now) result ≡ spec.unknown_in_nets (texts_of names.now) devices.now (tables_in (items_view nets.now)) }
+{
+    for net in nets {
+        if let Some(table) = net.as_table() {
+            if let Some(text) = unknown_in(names, devices, items_at(table, "pins")) {
+                return Some(text);
+            }
+        }
+    }
+    None
+}
+
+fn unknown_in<'t>(
+    names: &Places<&str>,
+    devices: &[SharedDevice],
+    pins: &'t [Value],
+) -> Option<&'t str>
+    ensures { option_map (λ s. s.now) result ≡ spec.unknown_pin (texts_of names.now) devices.now (texts_in (items_view pins.now)) }
+{
+    for pin in pins {
+        if let Some(text) = pin.as_str() {
+            if find_pin(names, devices, text).is_none() {
+                return Some(text);
+            }
+        }
+    }
+    None
+}
+
+/// The first text among the pins of all nets whose pin stands before it.
+pub(crate) fn first_twice<'t>(
+    alloc: Global,
+    names: &Places<&str>,
+    devices: &[SharedDevice],
+    nets: &'t [Value],
+) -> Result<Option<&'t str>, AllocError>
+    ensures { IfOk result (λ r. option_map (λ s. s.now) r ≡ spec.twice_in_nets (texts_of names.now) devices.now [] (tables_in (items_view nets.now))) }
+{
+    let mut used = Places::new(alloc);
+    for net in nets {
+        if let Some(table) = net.as_table() {
+            if let Some(text) = add_pins(&mut used, names, devices, items_at(table, "pins"))? {
+                return Ok(Some(text));
+            }
+        }
+    }
+    Ok(None)
+}
+
+/// Adds the pins of a net, up to the first that is there.
+fn add_pins<'t>(
+    used: &mut Places<Pin>,
+    names: &Places<&str>,
+    devices: &[SharedDevice],
+    pins: &'t [Value],
+) -> Result<Option<&'t str>, AllocError>
+    ensures judged { IfOk result (λ r. option_map (λ s. s.now) r ≡ spec.twice (texts_of names.now) devices.now used.old (texts_in (items_view pins.now))) }
+    ensures added { IfOk result (λ r. r ≡ None → used.new ≡ used.old ++ filter_map (spec.pin_at (texts_of names.now) devices.now) (texts_in (items_view pins.now))) }
+{
+    for pin in pins {
+        if let Some(text) = pin.as_str() {
+            if let Some(pin) = find_pin(names, devices, text) {
+                if !add_pin(used, pin)? {
+                    return Ok(Some(text));
+                }
+            }
+        }
+    }
+    Ok(None)
+}
+
+/// Adds a pin. Answers whether it was not there yet.
+fn add_pin(used: &mut Places<Pin>, pin: Pin) -> Result<bool, AllocError>
+    ensures new { IfOk result (λ r. r ≡ not (list_any (spec.same_pin pin) used.old)) }
+    ensures added { IfOk result (λ r. r ≡ true → used.new ≡ used.old ++ pin ∷ []) }
+{
+    if has_pin(used, pin) {
+        return Ok(false);
+    }
+    used.push(pin)?;
+    Ok(true)
+}
+
+fn has_pin(used: &Places<Pin>, pin: Pin) -> bool
+    ensures { result ≡ list_any (spec.same_pin pin) used.now }
+{
+    used.place(pin).is_some()
+}
+
+/// Why the pins and nets of a board file are refused.
+pub(crate) enum Miswired<'t> {
+    /// This text names no pin.
+    UnknownPin(&'t str),
+    /// The pin of this text stands before it.
+    PinTwice(&'t str),
+    /// There are too many devices or nets.
+    TooLarge,
+    Memory,
+}
+
+/// A board has at most 32 devices.
+const MOST_DEVICES: usize = 32;
+
+/// A board has at most 4,096 nets with a name.
+const MOST_NETS: usize = 4_096;
+
+/// Judges pins and nets, given the names of all devices, and the devices.
+pub(crate) fn check_pins<'t>(
+    alloc: Global,
+    names: &Places<&str>,
+    devices: &[SharedDevice],
+    nets: &'t [Value],
+) -> Result<(), Miswired<'t>>
+    ensures { ChecksPins result (wire_fault (texts_of names.now) devices.now (tables_in (items_view nets.now))) }
+{
+    if let Some(text) = first_unknown(names, devices, nets) {
+        return Err(Miswired::UnknownPin(text));
+    }
+    match first_twice(alloc, names, devices, nets) {
+        Ok(None) => {}
+        Ok(Some(text)) => return Err(Miswired::PinTwice(text)),
+        Err(_) => return Err(Miswired::Memory),
+    }
+    if names.len() > MOST_DEVICES || count_tables(nets) > MOST_NETS {
+        return Err(Miswired::TooLarge);
+    }
+    Ok(())
+}
+
+fn count_tables(items: &[Value]) -> usize
+    ensures { result ≡ length (tables_in (items_view items.now)) }
+{
+    let mut count = 0;
+    for item in items {
+        if item.is_table() {
+            count += 1;
+        }
+    }
+    count
+}

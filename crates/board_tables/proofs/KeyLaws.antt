@@ -1,0 +1,85 @@
+-- What it means that no key of a table is at fault.
+use Rattle.std.proofs.Common.{◌≡◌, ℕ, Bool, true, false, not, ◌&&◌, cond, List, [], ◌∷◌, ◌++◌, fold, codes, Option, Some, None, is_some, unwrap_or, option_and_then, nat_cmp, refl}
+use Rattle.std.specs.Ordering.{is_lt, match_ordering}
+use Rattle.std.specs.declared.cmp.Ordering.{Ordering}
+use Rattle.std.specs.declared.cmp.Ordering.TheVariants.{Less, Equal, Greater}
+use Rattle.std.specs.Str.{bytes_eq}
+use Rattle.std.specs.List.{list_any}
+use Rattle.std.specs.Cmp.Lexicographic.{slice_cmp}
+use Rattle.std.proofs.lemmas.Bool.{false≢true, and_parts}
+use Rattle.std.proofs.lemmas.Map.Lookups.{exact_bytes}
+use Rattle.toml.specs.Data.{Data, Members, no_members, member, get_member, as_str}
+use Rattle.board_tables.specs.Names.{is_name}
+use Rattle.board_tables.specs.Fields.{name_at, passes}
+use Rattle.board_tables.specs.Keys.{Key, device_keys, net_keys, unfit_key, earlier, earliest, misfits, missing, needed, fits_one, is_new_name}
+
+both : (b : Bool) (k l : List ℕ) (ks : List (List ℕ)) → (fold earlier (Some l) ks ≡ None → ⊥) → (fold earlier (Some k) ks ≡ None → ⊥) → fold earlier (cond b (Some l) (Some k)) ks ≡ None → ⊥
+both true k l ks one other h = one h
+both false k l ks one other h = other h
+
+-- a key in hand stays, or gives way to another
+kept : (k : List ℕ) (ks : List (List ℕ)) → fold earlier (Some k) ks ≡ None → ⊥
+kept k [] h = cc
+kept k (l ∷ ks) h = both (is_lt (slice_cmp nat_cmp l k)) k l ks (kept l ks) (kept k ks) h
+
+none_left : (ks : List (List ℕ)) → earliest ks ≡ None → ks ≡ []
+none_left [] h = refl
+none_left (k ∷ ks) h = absurd (kept k ks h)
+
+parts_empty : {A : Type 0} (xs ys : List A) → xs ++ ys ≡ [] → (xs ≡ []) × (ys ≡ [])
+parts_empty [] ys h = (refl, h)
+parts_empty (x ∷ xs) ys h = absurd cc
+
+head_out : {A : Type 0} (b : Bool) (x : A) (xs : List A) → cond b xs (x ∷ xs) ≡ [] → (b ≡ true) × (xs ≡ [])
+head_out true x xs h = (refl, h)
+head_out false x xs h = absurd cc
+
+head_in : {A : Type 0} (b : Bool) (x : A) (xs : List A) → cond b (x ∷ xs) xs ≡ [] → (b ≡ false) × (xs ≡ [])
+head_in true x xs h = absurd cc
+head_in false x xs h = (refl, h)
+
+at : (fits : List ℕ → Data → Bool) (k l : List ℕ) (d e : Data) (rest : Option Data) (o : Ordering) → slice_cmp nat_cmp k l ≡ o
+    → match_ordering o rest (Some e) rest ≡ Some d → (rest ≡ Some d → fits k d ≡ true) → fits l e ≡ true → fits k d ≡ true
+at fits k l d e rest Less same g more here = more g
+at fits k l d e rest Equal same g more here = let p : k ≡ l = exact_bytes k l same in let q : e ≡ d = cc in rw (p, ← q) here
+at fits k l d e rest Greater same g more here = more g
+
+-- each value that is given fits
+each_fits : (fits : List ℕ → Data → Bool) (t : Members) → misfits fits t ≡ [] → (k : List ℕ) (d : Data) → get_member k t ≡ Some d → fits k d ≡ true
+each_fits fits no_members h k d g = absurd cc
+each_fits fits (member l e ms) h k d g =
+    let parts = head_out (fits l e) l (misfits fits ms) h in
+    at fits k l d e (get_member k ms) (slice_cmp nat_cmp k l) refl g (each_fits fits ms parts.1 k d) parts.0
+
+-- no key is at fault: each value fits, and no needed key is missing
+pub fitting : (keys : List Key) (t : Members) → unfit_key keys t ≡ None
+    → ((k : List ℕ) (d : Data) → get_member k t ≡ Some d → fits_one keys k d ≡ true) × (missing (needed keys) t ≡ [])
+fitting keys t h =
+    let parts = parts_empty (misfits (fits_one keys) t) (missing (needed keys) t) (none_left _ h) in
+    (each_fits (fits_one keys) t parts.0, parts.1)
+
+new_text : (names : List (List ℕ)) (s : Option (List ℕ)) → passes (λ s. is_name s && not (list_any (bytes_eq s) names)) s ≡ true → list_any (bytes_eq (unwrap_or s [])) names ≡ false
+new_text names None h = absurd (false≢true h)
+new_text names (Some s) h = not_true (list_any (bytes_eq s) names) ((and_parts (is_name s) _ h).1)
+  where
+    not_true : (b : Bool) → not b ≡ true → b ≡ false
+    not_true true h = absurd (false≢true h)
+    not_true false h = refl
+
+new_value : (names : List (List ℕ)) (g : Option Data) → not (is_some g) ≡ false → ((d : Data) → g ≡ Some d → is_new_name names d ≡ true) → list_any (bytes_eq (unwrap_or (option_and_then as_str g) [])) names ≡ false
+new_value names None h f = absurd cc
+new_value names (Some d) h f = new_text names (as_str d) (f d refl)
+
+-- the name of a device that is not at fault is none of those before it
+pub new_device : (names : List (List ℕ)) (cells : Option ℕ) (t : Members) → unfit_key (device_keys names cells) t ≡ None → list_any (bytes_eq (name_at t)) names ≡ false
+new_device names cells t h =
+    let (fit, none) = fitting (device_keys names cells) t h in
+    let one = head_in (not (is_some (get_member (codes "bsdl") t))) (codes "bsdl") _ none in
+    let two = head_in (not (is_some (get_member (codes "name") t))) (codes "name") [] one.1 in
+    new_value names (get_member (codes "name") t) two.0 (λ d g. fit (codes "name") d g)
+
+pub new_net : (names : List (List ℕ)) (t : Members) → unfit_key (net_keys names) t ≡ None → list_any (bytes_eq (name_at t)) names ≡ false
+new_net names t h =
+    let (fit, none) = fitting (net_keys names) t h in
+    let one = head_in (not (is_some (get_member (codes "name") t))) (codes "name") _ none in
+    new_value names (get_member (codes "name") t) one.0 (λ d g. fit (codes "name") d g)

@@ -1,0 +1,4 @@
+pub mod PlaceLaws
+pub mod ValueLaws
+pub mod KeyLaws
+pub mod TextLaws

@@ -1,0 +1,12 @@
+use Rattle.std.proofs.Common.{◌≡◌, drop, []}
+use Rattle.toml.specs.View.{items_view}
+use Rattle.board_tables.specs.Fields.{tables_in}
+use Rattle.board_tables.specs.Faults.{unfit_device}
+use Rattle.board_tables.specs.View.{texts_of}
+use Rattle.board_tables.proofs.fields.check_devices.Given as goal
+
+-- what is left is judged as the whole is
+abbrev pub invariant-loop-device : goal.invariant-loop-device
+invariant-loop-device l =
+    unfit_device (texts_of l.names) l.rest (tables_in (items_view (drop l.device-index l.devices)))
+    ≡ unfit_device [] l.cells (tables_in (items_view l.devices))

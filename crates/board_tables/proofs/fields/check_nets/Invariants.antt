@@ -1,0 +1,12 @@
+use Rattle.std.proofs.Common.{◌≡◌, drop, []}
+use Rattle.toml.specs.View.{items_view}
+use Rattle.board_tables.specs.Fields.{tables_in}
+use Rattle.board_tables.specs.Faults.{unfit_net}
+use Rattle.board_tables.specs.View.{texts_of}
+use Rattle.board_tables.proofs.fields.check_nets.Given as goal
+
+-- what is left is judged as the whole is
+abbrev pub invariant-loop-net : goal.invariant-loop-net
+invariant-loop-net l =
+    unfit_net (texts_of l.names) (tables_in (items_view (drop l.net-index l.nets)))
+    ≡ unfit_net [] (tables_in (items_view l.nets))

@@ -1,0 +1,62 @@
+-- A pin as the board file writes it: `U1.Q`, or `U1.A(3)`.
+use Rattle.std.specs.Prelude.{◌≡◌, ℕ, Bool, true, ◌&&◌, ◌==◌, nat_lt, List, [], ◌∷◌, ◌++◌, length, Option, Some, None, option_map, option_and_then, if◌then◌else◌}
+use Rattle.std.specs.List.{list_all, position_or_len, before_first, after_first}
+use Rattle.std.specs.Char.{is_ascii_digit}
+use Rattle.board_tables.specs.Names.{is_name}
+
+-- its device and its port, and the digits of its index, if it has one
+pub record PinText : Type 0 where
+  pub device : List ℕ
+  pub port : List ℕ
+  pub index : Option (List ℕ)
+
+-- some digits
+abbrev pub is_number : List ℕ → Bool
+is_number ds = nat_lt 0 (length ds) && list_all is_ascii_digit ds
+
+-- ---- as a spelling
+
+abbrev pub index_text : Option (List ℕ) → List ℕ
+index_text None = []
+index_text (Some ds) = 40 ∷ ds ++ 41 ∷ []
+
+abbrev pub pin_text : PinText → List ℕ
+pin_text p = p.device ++ 46 ∷ p.port ++ index_text p.index
+
+abbrev pub is_index : Option (List ℕ) → Bool
+is_index None = true
+is_index (Some ds) = is_number ds
+
+-- the text spells this pin
+pub record Spells (text : List ℕ) (p : PinText) : Type 0 where
+  pub spelt : text ≡ pin_text p
+  pub device : is_name p.device ≡ true
+  pub port : is_name p.port ≡ true
+  pub index : is_index p.index ≡ true
+
+-- ---- as a reading
+
+-- what stands before and behind the first such byte
+abbrev pub split_at : ℕ → List ℕ → Option (List ℕ × List ℕ)
+split_at c text =
+    if nat_lt (position_or_len (λ b. b == c) text) (length text)
+    then Some (before_first (λ b. b == c) text, after_first (λ b. b == c) text)
+    else None
+
+-- the digits of an index, behind its `(`
+unfoldable pub index_of : List ℕ → Option (List ℕ)
+index_of text = option_and_then (λ p. if is_number p.0 && length p.1 == 0 then Some p.0 else None) (split_at 41 text)
+
+abbrev pub indexed : List ℕ → List ℕ → List ℕ → Option PinText
+indexed device port text =
+    if is_name port then option_map (λ ds. record { device = device; port = port; index = Some ds }) (index_of text) else None
+
+abbrev pub scalar : List ℕ → List ℕ → Option PinText
+scalar device port = if is_name port then Some (record { device = device; port = port; index = None }) else None
+
+-- the pin of a device whose name stood before this text
+unfoldable pub port_of : List ℕ → List ℕ → Option PinText
+port_of device text = elim (split_at 40 text) [ Some p ↦ indexed device p.0 p.1 | None ↦ scalar device text ]
+
+unfoldable pub pin_of : List ℕ → Option PinText
+pin_of text = option_and_then (λ p. if is_name p.0 then port_of p.0 p.1 else None) (split_at 46 text)

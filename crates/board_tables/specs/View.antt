@@ -1,0 +1,23 @@
+-- What the code's values stand for.
+use Rattle.std.specs.Prelude.{◌≡◌, ℕ, List, map, Option, Some, None, Result, Ok, Err}
+use Rattle.board_tables.specs.declared.fields.Unfit.{Unfit}
+use Rattle.board_tables.specs.declared.fields.Unfit.TheVariants.{Field, Memory}
+use denote.Ref.{Bor}
+use Rattle.board_tables.specs.declared.keys.Keys.{Keys}
+use Rattle.board_tables.specs.declared.keys.Keys.TheVariants.{Top, Device, Net}
+use Rattle.board_tables.specs.Keys.{Key, top_keys, device_keys, net_keys}
+
+-- the texts that are borrowed, in order
+abbrev pub texts_of : List (Bor (List ℕ)) → List (List ℕ)
+texts_of ks = map (λ k. k.now) ks
+
+abbrev pub keys_of : Keys → List Key
+keys_of Top = top_keys
+keys_of (Device names cells) = device_keys (texts_of names.now) cells
+keys_of (Net names) = net_keys (texts_of names.now)
+
+-- A check passes where no key is at fault, and else names the one that is, unless memory runs out.
+abbrev pub Checks : {A : Type 0} → Result A Unfit → Option (List ℕ) → Type 0
+Checks (Ok x) unfit = unfit ≡ None
+Checks (Err (Field k)) unfit = unfit ≡ Some k.now
+Checks (Err Memory) unfit = Unit {0}

@@ -1,0 +1,119 @@
+-- Ports by their names, one more.
+use Rattle.std.proofs.Common.{◌≡◌, ◌≤◌, ℕ, suc, ◌+◌, Bool, true, false, cond, List, [], ◌∷◌, ◌++◌, length, map, refl, sym, ap, ◌∙◌, arith}
+use Rattle.std.specs.Prelude.{Option, Some, None, is_some, option_map, bytes_eq}
+use Rattle.std.proofs.lemmas.List.{length-map}
+use Rattle.std.proofs.lemmas.Slice.Eq.{bytes_eq-Decides}
+use Rattle.bsdl_device.specs.declared.PortMode.{PortMode}
+use Rattle.bsdl_text.specs.Words.{upper}
+use Rattle.bsdl_text.specs.WordView.{word_lexeme}
+use Rattle.bsdl_text.specs.declared.names.Word.{Word}
+use Rattle.bsdl_cells.specs.Rows.{PortName}
+use Rattle.bsdl_entity.specs.declared.ports.Range as declared_range
+use Rattle.bsdl_entity.specs.declared.ports.Group.{Group}
+use Rattle.bsdl_entity.specs.Entity.{Port, Range}
+use Rattle.bsdl_entity.specs.View as view
+use Rattle.bsdl_limits.proofs.WidthLaws.{ports_named}
+use Rattle.bsdl_limits.specs.PortBits.{bit_at, bit_number, width}
+use Rattle.bsdl_fit.specs.Places.{at_name, find_port, or_first}
+
+pub or_none : {A : Type 0} (o : Option A) → or_first o None ≡ o
+or_none None = refl
+or_none (Some x) = refl
+
+or_assoc : {A : Type 0} (a b c : Option A) → or_first (or_first a b) c ≡ or_first a (or_first b c)
+or_assoc None b c = refl
+or_assoc (Some x) b c = refl
+
+-- a port more
+one_port : (n : ℕ) (p : Port) (ps : List Port) (q : List ℕ) → find_port n (p ∷ ps) q ≡ or_first (at_name (upper p.name.text) (n, p.range) q) (find_port (suc n) ps q)
+one_port n p ps q = by_test (bytes_eq (upper p.name.text) q) refl
+  where
+    by_test : (b : Bool) → bytes_eq (upper p.name.text) q ≡ b → find_port n (p ∷ ps) q ≡ or_first (at_name (upper p.name.text) (n, p.range) q) (find_port (suc n) ps q)
+    by_test true is = rw is refl
+    by_test false is = rw is refl
+
+pub port_kept : (before after : List ℕ → Option (ℕ × Option Range)) (n next : ℕ) (p : Port) (ps : List Port) (q : List ℕ) → next ≡ n + 1
+    → ((q : List ℕ) → after q ≡ or_first (before q) (at_name (upper p.name.text) (n, p.range) q))
+    → or_first (after q) (find_port next ps q) ≡ or_first (before q) (find_port n (p ∷ ps) q)
+port_kept before after n next p ps q is step =
+    let e : next ≡ suc n = omega arith in
+    ap (λ (k : ℕ). or_first (after q) (find_port k ps q)) e ∙ ap (λ o. or_first o (find_port (suc n) ps q)) (step q)
+    ∙ or_assoc (before q) (at_name (upper p.name.text) (n, p.range) q) (find_port (suc n) ps q) ∙ ap (or_first (before q)) (sym (one_port n p ps q))
+
+pub ports_both : (n : ℕ) (ps more : List Port) (q : List ℕ) → find_port n (ps ++ more) q ≡ or_first (find_port n ps q) (find_port (n + length ps) more q)
+ports_both n [] more q = ap (λ (k : ℕ). find_port k more q) (omega arith)
+ports_both n (p ∷ ps) more q =
+    let e : suc n + length ps ≡ n + length (p ∷ ps) = omega arith in
+    one_port n p (ps ++ more) q ∙ ap (or_first (at_name (upper p.name.text) (n, p.range) q)) (ports_both (suc n) ps more q)
+    ∙ sym (or_assoc (at_name (upper p.name.text) (n, p.range) q) (find_port (suc n) ps q) (find_port (suc n + length ps) more q))
+    ∙ ap (λ o. or_first o (find_port (suc n + length ps) more q)) (sym (one_port n p ps q)) ∙ ap (λ (k : ℕ). or_first (find_port n (p ∷ ps) q) (find_port k more q)) e
+
+pub group_kept : (before after : List ℕ → Option (ℕ × Option Range)) (n next : ℕ) (g : Group) (gs : List Group) (q : List ℕ) → next ≡ n + length (view.group g)
+    → ((q : List ℕ) → after q ≡ or_first (before q) (find_port n (view.group g) q))
+    → or_first (after q) (find_port next (view.ports gs) q) ≡ or_first (before q) (find_port n (view.ports (g ∷ gs)) q)
+group_kept before after n next g gs q is step =
+    ap (λ (k : ℕ). or_first (after q) (find_port k (view.ports gs) q)) is ∙ ap (λ o. or_first o (find_port (n + length (view.group g)) (view.ports gs) q)) (step q)
+    ∙ or_assoc (before q) (find_port n (view.group g) q) (find_port (n + length (view.group g)) (view.ports gs) q) ∙ ap (or_first (before q)) (sym (ports_both n (view.group g) (view.ports gs) q))
+
+pub named_len : (mode : PortMode) (r : Option declared_range.Range) (ws : List Word) → length (ports_named mode r ws) ≡ length ws
+named_len mode r ws = length-map (map word_lexeme ws) (λ n. record { name = n; mode = mode; range = option_map view.range r }) ∙ length-map ws word_lexeme
+
+-- a name that is put where it is new
+pub name_put : (before : List ℕ → Option (ℕ × Option Range)) (key name q : List ℕ) (x : ℕ × Option Range) → key ≡ name → is_some (before key) ≡ false
+    → cond (bytes_eq key q) (Some x) (before q) ≡ or_first (before q) (at_name name x q)
+name_put before key name q x same new = by_test (bytes_eq key q) refl
+  where
+    none_is : (o : Option (ℕ × Option Range)) → is_some o ≡ false → o ≡ None
+    none_is None e = refl
+    none_is (Some y) e = absurd cc
+
+    by_test : (b : Bool) → bytes_eq key q ≡ b → cond (bytes_eq key q) (Some x) (before q) ≡ or_first (before q) (at_name name x q)
+    by_test true is =
+        let here : before q ≡ None = ap before (sym ((bytes_eq-Decides key q).0 is)) ∙ none_is (before key) new in
+        let there : bytes_eq name q ≡ true = ap (λ (n : List ℕ). bytes_eq n q) (sym same) ∙ is in
+        rw (is, here, there) refl
+    by_test false is =
+        let there : bytes_eq name q ≡ false = ap (λ (n : List ℕ). bytes_eq n q) (sym same) ∙ is in
+        rw (is, there) (sym (or_none (before q)))
+
+pub name_known : (before : List ℕ → Option (ℕ × Option Range)) (key name q : List ℕ) (x : ℕ × Option Range) → key ≡ name → is_some (before key) ≡ true → before q ≡ or_first (before q) (at_name name x q)
+name_known before key name q x same known = by_test (bytes_eq name q) refl
+  where
+    some_is : (o : Option (ℕ × Option Range)) → is_some o ≡ true → o ≡ or_first o (Some x)
+    some_is None e = absurd cc
+    some_is (Some y) e = refl
+
+    by_test : (b : Bool) → bytes_eq name q ≡ b → before q ≡ or_first (before q) (at_name name x q)
+    by_test true is =
+        let here : key ≡ q = same ∙ (bytes_eq-Decides name q).0 is in
+        rw is (some_is (before q) (ap (λ (k : List ℕ). is_some (before k)) (sym here) ∙ known))
+    by_test false is = rw is (sym (or_none (before q)))
+
+pub mapped : {A B : Type 0} (f : A → B) (b : Bool) (x : A) (o : Option A) → option_map f (cond b (Some x) o) ≡ cond b (Some (f x)) (option_map f o)
+mapped f true x o = refl
+mapped f false x o = refl
+
+pub some_mapped : {A B : Type 0} (f : A → B) (o : Option A) → is_some (option_map f o) ≡ is_some o
+some_mapped f None = refl
+some_mapped f (Some x) = refl
+
+-- ---- port bits by number, and by port and index
+
+numbered_from : (m : ℕ) (ps : List Port) (name : PortName) (x : ℕ) → bit_number m ps name ≡ Some x → m ≤ x
+numbered_from m [] name x e = absurd cc
+numbered_from m (p ∷ ps) name x e = by_test (bytes_eq (upper p.name.text) name.name) refl (λ f. numbered_from (m + width p.range) ps name x f)
+  where
+    by_bit : (o : Option ℕ) → option_map (λ k. m + k) o ≡ Some x → m ≤ x
+    by_bit None f = absurd cc
+    by_bit (Some k) f =
+        let same : m + k ≡ x = cc in
+        omega arith
+
+    by_test : (b : Bool) → bytes_eq (upper p.name.text) name.name ≡ b → (bit_number (m + width p.range) ps name ≡ Some x → m + width p.range ≤ x) → m ≤ x
+    by_test true is rest =
+        let here : option_map (λ k. m + k) (bit_at p.range name.index) ≡ Some x = rw is at e in
+        by_bit (bit_at p.range name.index) here
+    by_test false is rest =
+        let there : bit_number (m + width p.range) ps name ≡ Some x = rw is at e in
+        let far = rest there in
+        omega arith

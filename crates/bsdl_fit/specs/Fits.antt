@@ -1,0 +1,79 @@
+-- Which boundary cells fit (IEEE Std 1149.1-2001, Annex B.8.14).
+use Rattle.std.specs.Prelude.{ℕ, suc, nat_lt, nat_le, ◌==◌, min, max, Bool, true, false, not, ◌&&◌, ◌||◌, is_some, is_none, if◌then◌else◌, List, filter, length, Option, Some, None, option_and_then}
+use Rattle.std.specs.List.{list_any, list_all, find, range_with_len, fold}
+use Rattle.bsdl_device.specs.declared.Function.{Function}
+use Rattle.bsdl_device.specs.declared.Function.TheVariants.{Bidir, Output2, Output3, Control, ControlR, Internal}
+use Rattle.bsdl_device.specs.declared.Control3.{Control3}
+use Rattle.bsdl_cells.specs.Rows.{PortName, CellRow}
+use Rattle.bsdl_described.specs.Describing.{Description, is_among}
+use Rattle.bsdl_limits.specs.Limits.{subscript_limit}
+use Rattle.bsdl_limits.specs.PortBits.{bit_number}
+
+abbrev pub port_bit : Description → CellRow → Option ℕ
+port_bit d r = option_and_then (bit_number 0 d.ports) r.port
+
+abbrev pub drives : Function → Bool
+drives Output2 = true
+drives Output3 = true
+drives Bidir = true
+drives _ = false
+
+-- cells without a port
+abbrev pub is_internal : Function → Bool
+is_internal Control = true
+is_internal ControlR = true
+is_internal Internal = true
+is_internal _ = false
+
+abbrev pub is_control : Function → Bool
+is_control Control = true
+is_control ControlR = true
+is_control _ = false
+
+abbrev pub same_bit : Option ℕ → Option ℕ → Bool
+same_bit (Some a) (Some b) = a == b
+same_bit _ _ = false
+
+-- a cell of a lower number drives the port bit too
+abbrev pub is_driven_below : Description → CellRow → Bool
+is_driven_below d r = list_any (λ s. nat_lt s.number r.number && (drives s.function && same_bit (port_bit d s) (port_bit d r))) d.cells
+
+abbrev pub names_tap : Description → Option PortName → Bool
+names_tap d None = false
+names_tap d (Some p) = is_among d.taps p.name
+
+-- the port of a row fits its function: `*`, or a port bit that is no TAP's and that no lower cell drives
+abbrev pub port_fits : Description → CellRow → Bool
+port_fits d r =
+    if is_internal r.function then is_none r.port
+    else is_some (port_bit d r) && (not (names_tap d r.port) && not (drives r.function && is_driven_below d r))
+
+abbrev pub is_control_cell : Description → ℕ → Bool
+is_control_cell d n = nat_le n subscript_limit && list_any (λ s. s.number == n && is_control s.function) d.cells
+
+abbrev pub control_fits : Description → ℕ → Function → Option Control3 → Bool
+control_fits d n Output3 None = false
+control_fits d n Output3 (Some c) = is_control_cell d c.cell
+control_fits d n Bidir None = false
+control_fits d n Bidir (Some c) = is_control_cell d c.cell
+control_fits d n Output2 None = true
+control_fits d n Output2 (Some c) = c.cell == n || is_control_cell d c.cell
+control_fits d n _ c = true
+
+abbrev pub row_fits : Description → CellRow → Bool
+row_fits d r = port_fits d r && control_fits d r.number r.function r.control
+
+abbrev pub listed : Description → ℕ → List CellRow
+listed d k = filter (λ r. r.number == k) d.cells
+
+-- Cell k is fit: below the length it has one row, which fits; from the length on it has none.
+abbrev pub is_fit : Description → ℕ → Bool
+is_fit d k = if nat_lt k d.boundary_length then length (listed d k) == 1 && list_all (row_fits d) (listed d k) else length (listed d k) == 0
+
+-- no cell from here on is below the length or listed
+abbrev pub cells_end : Description → ℕ
+cells_end d = fold (λ n r. max n (suc r.number)) d.boundary_length d.cells
+
+-- the least cell that is not fit, of those up to 65,535
+abbrev pub unfit_cell : Description → Option ℕ
+unfit_cell d = find (λ k. not (is_fit d k)) (range_with_len 0 (min (suc subscript_limit) (cells_end d)))

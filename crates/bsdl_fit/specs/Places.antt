@@ -1,0 +1,30 @@
+-- Ports by their names, and a port bit by its port and its index.
+use Rattle.std.specs.Prelude.{ℕ, suc, ◌==◌, Bool, false, ◌&&◌, if◌then◌else◌, List, [], ◌∷◌, Option, Some, None, option_map, option_and_then, unwrap_or, bytes_eq}
+use Rattle.bsdl_text.specs.Words.{upper}
+use Rattle.bsdl_cells.specs.Rows.{PortName}
+use Rattle.bsdl_entity.specs.Entity.{Range, Port}
+use Rattle.bsdl_limits.specs.PortBits.{bit_at}
+
+-- the first port of a name, in upper case, behind n others, with its range
+abbrev pub find_port : ℕ → List Port → List ℕ → Option (ℕ × Option Range)
+find_port n [] q = None
+find_port n (p ∷ ps) q = if bytes_eq (upper p.name.text) q then Some (n, p.range) else find_port (suc n) ps q
+
+-- the port and the index of a bit, where the port has the index
+abbrev pub seat_at : Option ℕ → ℕ × Option Range → Option (ℕ × ℕ)
+seat_at index place = option_map (λ k. (place.0, unwrap_or index 0)) (bit_at place.1 index)
+
+abbrev pub seat_of : List Port → PortName → Option (ℕ × ℕ)
+seat_of ps name = option_and_then (seat_at name.index) (find_port 0 ps name.name)
+
+abbrev pub same_seat : Option (ℕ × ℕ) → Option (ℕ × ℕ) → Bool
+same_seat (Some a) (Some b) = a.0 == b.0 && a.1 == b.1
+same_seat _ _ = false
+
+-- the first of two
+abbrev pub or_first : {A : Type 0} → Option A → Option A → Option A
+or_first (Some x) next = Some x
+or_first None next = next
+
+abbrev pub at_name : {A : Type 0} → List ℕ → A → List ℕ → Option A
+at_name name x q = if bytes_eq name q then Some x else None

@@ -1,0 +1,24 @@
+-- What places of the code stand for.
+use Rattle.std.specs.Prelude.{◌≡◌, ℕ, List, Option, option_map}
+use Rattle.std.specs.BTreeMap.{get_by_text}
+use Rattle.bsdl_text.specs.View.{value}
+use Rattle.bsdl_entity.specs.Entity.{Range, Port}
+use Rattle.bsdl_entity.specs.View.{range}
+use Rattle.bsdl_fit.specs.declared.places.Place as declared_place
+use Rattle.bsdl_fit.specs.declared.places.Places as declared_places
+use Rattle.bsdl_fit.specs.declared.seat.Seat as declared_seat
+use Rattle.bsdl_fit.specs.Places.{find_port}
+
+abbrev pub place : declared_place.Place → ℕ × Option Range
+place p = (p.number, option_map range p.range)
+
+abbrev pub seat : declared_seat.Seat → ℕ × ℕ
+seat s = (s.port, value s.index)
+
+-- the first port of a name, as it is kept
+abbrev pub found : declared_places.Places → List ℕ → Option (ℕ × Option Range)
+found p q = option_map place (get_by_text p.by_name q)
+
+-- these ports are kept
+abbrev pub AreAt : declared_places.Places → List Port → Type 0
+AreAt p ps = (q : List ℕ) → found p q ≡ find_port 0 ps q

@@ -1,0 +1,8 @@
+//! Which cells of a boundary register fit: their ports, drivers and controls (BSDL: IEEE Std 1149.1-2001, Annex B.8.14).
+#![tactic(auto)]
+
+pub mod controls;
+pub mod drivers;
+pub mod places;
+pub mod seat;
+pub mod table;

@@ -1,0 +1,21 @@
+-- What patterns end in.
+use Rattle.std.proofs.Common.{◌≡◌, ◌&&◌, true, false, List, [], ◌∷◌, refl}
+use Rattle.std.specs.Prelude.{Some, None, slice_get}
+use Rattle.bsdl_device.specs.Device.{Pattern}
+use Rattle.bsdl_lengths.specs.Lengths.{captures_one, ends_in_one}
+use Rattle.bsdl_lengths.specs.Sizes.{is_bit}
+
+pub captures_by_bits : (p : Pattern) → captures_one p ≡ (is_bit (slice_get p 0) true && is_bit (slice_get p 1) false)
+captures_by_bits [] = refl
+captures_by_bits (None ∷ p) = refl
+captures_by_bits (Some false ∷ p) = refl
+captures_by_bits (Some true ∷ []) = refl
+captures_by_bits (Some true ∷ None ∷ p) = refl
+captures_by_bits (Some true ∷ Some true ∷ p) = refl
+captures_by_bits (Some true ∷ Some false ∷ p) = refl
+
+pub ends_by_bit : (p : Pattern) (ps : List Pattern) → ends_in_one (p ∷ ps) ≡ is_bit (slice_get p 0) true
+ends_by_bit [] ps = refl
+ends_by_bit (None ∷ p) ps = refl
+ends_by_bit (Some true ∷ p) ps = refl
+ends_by_bit (Some false ∷ p) ps = refl

@@ -1,0 +1,3 @@
+pub mod AgreeLaws
+pub mod EndLaws
+pub mod SizeLaws

@@ -1,0 +1,51 @@
+-- Lengths of patterns of the code.
+use Rattle.std.proofs.Common.{◌≡◌, ◌<◌, ◌^◌, ℕ, Bool, true, false, ◌&&◌, List, [], ◌∷◌, length, map, refl, sym, ap, ◌∙◌, arith}
+use Rattle.std.specs.Prelude.{Option, Some, None, option_map, not}
+use Rattle.std.specs.List.{list_all}
+use Rattle.std.proofs.lemmas.Bool.Decides.{nat_tests}
+use Rattle.std.proofs.lemmas.List.{length-map, length-reverse}
+use Rattle.bsdl_instructions.specs.declared.patterns.WrittenPattern.{WrittenPattern}
+use Rattle.bsdl_instructions.specs.declared.names.Instr.{Instr}
+use Rattle.bsdl_instructions.specs.View as view
+use Rattle.bsdl_lengths.specs.Lengths.{access_fits, captured, captures_fit, has_len, is_empty, row_len}
+use Rattle.bsdl_instructions.specs.Values.{AccessRow}
+use Rattle.bsdl_lengths.specs.Sizes.{IsSize, captures_are, is_len}
+
+short : (p : WrittenPattern) → length (view.pattern p) < 2 ^ 64
+short p =
+    let ok = p.digits.ok in
+    let small = p.digits.small in
+    rw (length-reverse, length-map) (omega arith)
+
+-- a pattern of the code has the length n where it has it as a size
+sized : (p : WrittenPattern) (s : Option ℕ) (n : ℕ) → IsSize s n → is_len s (view.pattern p) ≡ has_len n (view.pattern p)
+sized p None n is =
+    let few = short p in
+    grind (arith, nat_tests)
+sized p (Some m) n is = ap (λ k. has_len k (view.pattern p)) is.1
+
+pub all_sized : (ps : List WrittenPattern) (s : Option ℕ) (n : ℕ) → IsSize s n → list_all (is_len s) (map view.pattern ps) ≡ list_all (has_len n) (map view.pattern ps)
+all_sized [] s n is = refl
+all_sized (p ∷ ps) s n is = rw (sized p s n is, all_sized ps s n is) refl
+
+pub instr_sized : (i : Instr) (s : Option ℕ) (n : ℕ) → IsSize s n → captures_are s (view.instr i) ≡ captures_fit n (view.instr i)
+instr_sized i s n is = by_captures i.captures
+  where
+    by_captures : (c : Option WrittenPattern) → list_all (is_len s) (captured (option_map view.pattern c)) ≡ list_all (has_len n) (captured (option_map view.pattern c))
+    by_captures None = refl
+    by_captures (Some p) = ap (λ b. b && true) (sized p s n is)
+
+pub all_captures : (is : List Instr) (s : Option ℕ) (n : ℕ) → IsSize s n → list_all (captures_are s) (map view.instr is) ≡ list_all (captures_fit n) (map view.instr is)
+all_captures [] s n is = refl
+all_captures (i ∷ rest) s n is = rw (instr_sized i s n is, all_captures rest s n is) refl
+
+pub access_by : (n : ℕ) (r : AccessRow) {found : Bool} → is_empty r ≡ false → found ≡ list_all (captures_fit (row_len n r)) r.instrs → found ≡ access_fits n r
+access_by n r some fits = fits ∙ sym (ap (λ b. not b && list_all (captures_fit (row_len n r)) r.instrs) some)
+
+-- ---- conjunctions, one part after the other
+
+pub first_fails : (a b : Bool) → a ≡ false → false ≡ (a && b)
+first_fails a b fails = rw fails refl
+
+pub rest_is : (a b : Bool) → a ≡ true → b ≡ (a && b)
+rest_is a b holds = rw holds refl

@@ -1,0 +1,33 @@
+-- The lengths that are known of registers.
+use Rattle.std.specs.Prelude.{ℕ, ◌==◌, Bool, true, false, ◌&&◌, is_some, if◌then◌else◌, List, Option, Some, None, unwrap_or, bytes_eq}
+use Rattle.bsdl_instructions.specs.Values.{AccessRow}
+
+-- a row gives this register this length
+abbrev pub gives : List ℕ → ℕ → AccessRow → Bool
+gives name n r = is_some r.len && (bytes_eq r.register name && unwrap_or r.len 0 == n)
+
+-- this length is known
+abbrev pub tells : Option ℕ → ℕ → Bool
+tells None n = false
+tells (Some m) n = m == n
+
+-- no other length is known
+abbrev pub is_new : Option ℕ → ℕ → Bool
+is_new None n = true
+is_new (Some m) n = m == n
+
+-- a row says nothing else than what is known
+abbrev pub is_new_row : (List ℕ → Option ℕ) → AccessRow → Bool
+is_new_row known r = at_len r.len
+  where
+    at_len : Option ℕ → Bool
+    at_len None = true
+    at_len (Some n) = is_new (known r.register) n
+
+-- what is known with a row
+abbrev pub noted : (List ℕ → Option ℕ) → AccessRow → List ℕ → Option ℕ
+noted known r q = at_len r.len
+  where
+    at_len : Option ℕ → Option ℕ
+    at_len None = known q
+    at_len (Some n) = if bytes_eq r.register q then Some n else known q

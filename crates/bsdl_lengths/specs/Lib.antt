@@ -1,0 +1,3 @@
+pub mod Agreeing
+pub mod Lengths
+pub mod Sizes

@@ -1,0 +1,60 @@
+//! Whether each register of the device's own has one length.
+ghost use Rattle.std.specs.Prelude.{◌≡◌, List, ℕ, map, option_map, cond, bytes_eq, IfOk, OnOk, Some};
+ghost use Rattle.std.specs.BTreeMap.{get_by_text};
+ghost use Rattle.bsdl_text.specs.Words.{upper};
+ghost use Rattle.bsdl_text.specs.View.{value};
+ghost use Rattle.bsdl_instructions.specs.View as rows_view;
+ghost use Rattle.bsdl_lengths.specs.Agreeing.{is_new, is_new_row, noted};
+ghost use Rattle.bsdl_lengths.specs.Lengths as spec;
+
+use bsdl_instructions::names::AccessRow;
+use bsdl_text::names::Word;
+use bsdl_text::numbers::Digits;
+use std::alloc::{AllocError, Global};
+use std::cmp::Ordering;
+use std::collections::BTreeMap;
+
+/// Whether each register has one length.
+pub(crate) fn agree(alloc: Global, rows: &[AccessRow<'_>]) -> Result<bool, AllocError>
+    ensures { IfOk result (λ b. b ≡ spec.agree (map rows_view.access_row rows.now)) }
+{
+    let mut lengths = BTreeMap::new(alloc);
+    for row in rows {
+        if !put_row(alloc, &mut lengths, row)? {
+            return Ok(false);
+        }
+    }
+    Ok(true)
+}
+
+/// Notes the length of a row's register, and tells whether it is the one known before.
+fn put_row<'a>(
+    alloc: Global,
+    lengths: &mut BTreeMap<String, Digits<'a>>,
+    row: &AccessRow<'a>,
+) -> Result<bool, AllocError>
+    ensures known { IfOk result (λ b. b ≡ is_new_row (λ q. option_map value (get_by_text lengths.old q)) (rows_view.access_row row.now)) }
+    ensures noted { OnOk result ((q : List ℕ) → option_map value (get_by_text lengths.new q) ≡ noted (λ p. option_map value (get_by_text lengths.old p)) (rows_view.access_row row.now) q) }
+{
+    match row.len {
+        Some(len) => put_len(alloc, lengths, row.register, len),
+        None => Ok(true),
+    }
+}
+
+/// Notes a length of a register, and tells whether it is the one known before.
+fn put_len<'a>(
+    alloc: Global,
+    lengths: &mut BTreeMap<String, Digits<'a>>,
+    register: Word<'_>,
+    len: Digits<'a>,
+) -> Result<bool, AllocError>
+    ensures known { IfOk result (λ b. b ≡ is_new (option_map value (get_by_text lengths.old (upper register.entry.text.now))) (value len.entry)) }
+    ensures noted { OnOk result ((q : List ℕ) → get_by_text lengths.new q ≡ cond (bytes_eq (upper register.entry.text.now) q) (Some len.entry) (get_by_text lengths.old q)) }
+{
+    let key = register.upper_name(alloc)?;
+    match lengths.insert(key, len)? {
+        Some(known) => Ok(known.compare(len) == Ordering::Equal),
+        None => Ok(true),
+    }
+}

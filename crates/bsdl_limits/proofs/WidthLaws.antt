@@ -1,0 +1,81 @@
+-- How many bits ports have.
+use Rattle.std.proofs.Common.{◌≡◌, ℕ, ◌+◌, ◌≤◌, ◌<◌, min, Bool, true, false, ◌&&◌, List, [], ◌∷◌, map, length, drop, get_or, refl, sym, ap, ◌∙◌, arith}
+use Rattle.std.specs.Prelude.{Option, Some, None, option_map, nat_le}
+use Rattle.std.specs.List.{list_all, sum_by}
+use Rattle.std.proofs.lemmas.Bool.Decides.{nat_tests}
+use Rattle.std.proofs.lemmas.List.{at_drop_more}
+use Rattle.std.proofs.lemmas.List.Sums.{sum_by-append, sum_by-cons}
+use Rattle.bsdl_device.specs.declared.PortMode.{PortMode}
+use Rattle.bsdl_text.specs.WordView.{word_lexeme}
+use Rattle.bsdl_text.specs.declared.names.Word.{Word}
+use Rattle.bsdl_entity.specs.declared.ports.Range as declared_range
+use Rattle.bsdl_entity.specs.declared.ports.Group.{Group}
+use Rattle.bsdl_entity.specs.Entity.{Port, Range}
+use Rattle.bsdl_entity.specs.View as view
+use Rattle.bsdl_limits.specs.Limits.{subscript_limit}
+use Rattle.bsdl_limits.specs.PortBits.{highest, width}
+use Rattle.bsdl_limits.specs.Widths.{capped_width}
+
+-- words, each a port of this kind
+abbrev pub ports_named : PortMode → Option declared_range.Range → List Word → List Port
+ports_named mode r ws = map (λ n. record { name = n; mode = mode; range = option_map view.range r }) (map word_lexeme ws)
+
+abbrev pub total : List Port → ℕ
+total ps = sum_by (λ p. capped_width p.range) ps
+
+pub capped_more : (count w s : ℕ) → min (min (count + w) 8193 + s) 8193 ≡ min (count + (w + s)) 8193
+capped_more count w s = grind arith
+
+pub one_more : (mode : PortMode) (r : Option declared_range.Range) (w : Word) (ws : List Word) → total (ports_named mode r (w ∷ ws)) ≡ capped_width (option_map view.range r) + total (ports_named mode r ws)
+one_more mode r w ws = sum_by-cons (λ (p : Port). capped_width p.range) (record { name = word_lexeme w; mode = mode; range = option_map view.range r }) (ports_named mode r ws)
+
+pub groups_more : (g : Group) (gs : List Group) → total (view.ports (g ∷ gs)) ≡ total (view.group g) + total (view.ports gs)
+groups_more g gs = sum_by-append (λ (p : Port). capped_width p.range) (view.group g) (view.ports gs)
+
+-- where no index is above 65,535, that is the number of bits
+exact : (r : Option Range) → nat_le (highest r) subscript_limit ≡ true → capped_width r ≡ width r
+exact None within = refl
+exact (Some r) within =
+    let high : r.high ≤ 65535 = grind (arith, nat_tests) in
+    omega arith
+
+pub all_exact : (ps : List Port) → list_all (λ p. nat_le (highest p.range) subscript_limit) ps ≡ true → total ps ≡ sum_by (λ p. width p.range) ps
+all_exact [] within = refl
+all_exact (p ∷ ps) within =
+    let parts = both (nat_le (highest p.range) subscript_limit) (list_all (λ q. nat_le (highest q.range) subscript_limit) ps) within in
+    sum_by-cons (λ (q : Port). capped_width q.range) p ps ∙ ap (λ (n : ℕ). n + total ps) (exact p.range parts.0) ∙ ap (λ (n : ℕ). width p.range + n) (all_exact ps parts.1)
+    ∙ sym (sum_by-cons (λ (q : Port). width q.range) p ps)
+  where
+    both : (a b : Bool) → (a && b) ≡ true → (a ≡ true) × (b ≡ true)
+    both true b h = (refl, h)
+    both false b h = absurd cc
+
+pub ports_by : (ps : List Port) → (list_all (λ p. nat_le (highest p.range) subscript_limit) ps && nat_le (total ps) 8192)
+    ≡ (list_all (λ p. nat_le (highest p.range) subscript_limit) ps && nat_le (sum_by (λ p. width p.range) ps) 8192)
+ports_by ps = by_test (list_all (λ p. nat_le (highest p.range) subscript_limit) ps) refl
+  where
+    by_test : (b : Bool) → list_all (λ p. nat_le (highest p.range) subscript_limit) ps ≡ b → (list_all (λ p. nat_le (highest p.range) subscript_limit) ps && nat_le (total ps) 8192)
+        ≡ (list_all (λ p. nat_le (highest p.range) subscript_limit) ps && nat_le (sum_by (λ p. width p.range) ps) 8192)
+    by_test true is = ap (λ (n : ℕ). list_all (λ p. nat_le (highest p.range) subscript_limit) ps && nat_le n 8192) (all_exact ps is)
+    by_test false is = rw is refl
+
+-- ---- the count, one port and one group more
+
+pub name_counted : (mode : PortMode) (r : Option declared_range.Range) (ws : List Word) (i : ℕ) (d : Word) (count w next : ℕ) → i < length ws → w ≡ capped_width (option_map view.range r)
+    → next ≡ min (count + w) 8193 → min (next + total (ports_named mode r (drop (i + 1) ws))) 8193 ≡ min (count + total (ports_named mode r (drop i ws))) 8193
+name_counted mode r ws i d count w next h width_is next_is =
+    let rest = total (ports_named mode r (drop (i + 1) ws)) in
+    let whole : total (ports_named mode r (drop i ws)) ≡ w + rest =
+    at_drop_more (λ xs. total (ports_named mode r xs)) ws i d h ∙ one_more mode r (get_or ws i d) (drop (i + 1) ws) ∙ ap (λ (n : ℕ). n + rest) (sym width_is) in
+    ap (λ (n : ℕ). min (n + rest) 8193) next_is ∙ capped_more count w rest ∙ ap (λ (n : ℕ). min (count + n) 8193) (sym whole)
+
+pub group_counted : (gs : List Group) (i : ℕ) (g : Group) (count next : ℕ) → i < length gs → g ≡ get_or gs i g → next ≡ min (count + total (view.group g)) 8193
+    → min (next + total (view.ports (drop (i + 1) gs))) 8193 ≡ min (count + total (view.ports (drop i gs))) 8193
+group_counted gs i g count next h is next_is =
+    let rest = total (view.ports (drop (i + 1) gs)) in
+    let whole : total (view.ports (drop i gs)) ≡ total (view.group g) + rest =
+    at_drop_more (λ xs. total (view.ports xs)) gs i g h ∙ groups_more (get_or gs i g) (drop (i + 1) gs) ∙ ap (λ (k : Group). total (view.group k) + rest) (sym is) in
+    ap (λ (n : ℕ). min (n + rest) 8193) next_is ∙ capped_more count (total (view.group g)) rest ∙ ap (λ (n : ℕ). min (count + n) 8193) (sym whole)
+
+pub is_counted : (count total : ℕ) → count ≤ 8193 → min (count + 0) 8193 ≡ min total 8193 → count ≡ min total 8193
+is_counted count total small e = omega arith

@@ -1,0 +1,8 @@
+use Rattle.std.proofs.Common.{◌≡◌, map, drop}
+use Rattle.std.specs.Prelude.{nat_le}
+use Rattle.std.specs.List.{list_all}
+use Rattle.bsdl_text.specs.View.{value}
+use Rattle.bsdl_limits.proofs.limits.are_lengths_within.Given as goal
+
+abbrev pub invariant-loop-length : goal.invariant-loop-length
+invariant-loop-length l = list_all (λ n. nat_le n 4096) (map value (drop l.length-index l.lengths)) ≡ list_all (λ n. nat_le n 4096) (map value l.lengths)

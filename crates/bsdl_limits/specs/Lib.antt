@@ -1,0 +1,5 @@
+pub mod Limits
+pub mod PortBits
+pub mod Users
+pub mod View
+pub mod Widths

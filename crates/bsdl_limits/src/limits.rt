@@ -1,0 +1,164 @@
+//! The limits of a description.
+ghost use Rattle.std.specs.Prelude.{◌≡◌, ◌+◌, ◌&&◌, ℕ, List, map, min, nat_le, length, option_map, ◌≤◌, ◌<◌};
+ghost use Rattle.std.specs.List.{list_all, sum_by};
+ghost use Rattle.bsdl_text.specs.View.{value};
+ghost use Rattle.bsdl_cells.specs.View.{cell_row};
+ghost use Rattle.bsdl_entity.specs.declared.entity.Outline as declared_outline;
+ghost use Rattle.bsdl_entity.specs.View as entity_view;
+ghost use Rattle.bsdl_described.specs.View.{description};
+ghost use Rattle.bsdl_limits.specs.Limits as spec;
+ghost use Rattle.bsdl_limits.specs.PortBits.{highest};
+ghost use Rattle.bsdl_limits.specs.Users.{users_of};
+ghost use Rattle.bsdl_limits.specs.View.{Lists};
+ghost use Rattle.bsdl_limits.specs.Widths.{capped_width, ports_fit};
+
+use crate::users::Users;
+use bsdl_cells::CellRow;
+use bsdl_described::description::Description;
+use bsdl_entity::entity::Outline;
+use bsdl_entity::ports::{Group, Range};
+use bsdl_text::numbers::Digits;
+
+/// Whether a description keeps the limits: instructions of 64 bits, 256 of them; 4,096 cells; 8,192 port bits; 64
+/// registers of the device's own with 4,096 bits; indices and numbers of cells up to 65,535.
+pub fn is_within_limits(
+    outline: &Outline<'_>,
+    described: &Description<'_>,
+    users: &Users<'_>,
+) -> bool
+    requires { Lists users.now (users_of (description outline.now described.now).accesses) }
+    ensures { result ≡ spec.is_within_limits (description outline.now described.now) }
+{
+    if !instructions_within(described) {
+        return false;
+    }
+    if !cells_within(described) {
+        return false;
+    }
+    if !ports_within(&outline.groups) {
+        return false;
+    }
+    users_within(&users.lengths)
+}
+
+fn instructions_within(described: &Description<'_>) -> bool
+    ensures { (o : declared_outline.Outline) → result ≡ spec.instructions_within (description o described.now) }
+{
+    described.instruction_length.up_to(65) <= 64 && described.opcodes.len() <= 256
+}
+
+fn cells_within(described: &Description<'_>) -> bool
+    ensures { (o : declared_outline.Outline) → result ≡ spec.cells_within (description o described.now) }
+{
+    described.boundary_length.up_to(4097) <= 4096 && numbers_within(&described.cells)
+}
+
+fn numbers_within(rows: &[CellRow<'_>]) -> bool
+    ensures { result ≡ list_all (λ r. nat_le r.number spec.subscript_limit) (map cell_row rows.now) }
+{
+    for row in rows {
+        if row.number.up_to(65_536) > 65_535 {
+            return false;
+        }
+    }
+    true
+}
+
+fn ports_within(groups: &[Group<'_>]) -> bool
+    ensures { result ≡ ports_fit (entity_view.ports groups.now) }
+{
+    few_bits(groups)
+}
+
+fn few_bits(groups: &[Group<'_>]) -> bool
+    ensures { result ≡ (list_all (λ p. nat_le (highest p.range) spec.subscript_limit) (entity_view.ports groups.now) && nat_le (sum_by (λ p. capped_width p.range) (entity_view.ports groups.now)) 8192) }
+{
+    highs_within(groups) && bit_count(groups) <= 8192
+}
+
+fn highs_within(groups: &[Group<'_>]) -> bool
+    ensures { result ≡ list_all (λ p. nat_le (highest p.range) spec.subscript_limit) (entity_view.ports groups.now) }
+{
+    for group in groups {
+        if !high_within(group) {
+            return false;
+        }
+    }
+    true
+}
+
+fn high_within(group: &Group<'_>) -> bool
+    ensures { result ≡ list_all (λ p. nat_le (highest p.range) spec.subscript_limit) (entity_view.group group.now) }
+{
+    let within = is_range_within(group.range);
+    for _name in &group.names {
+        if !within {
+            return false;
+        }
+    }
+    true
+}
+
+fn is_range_within(range: Option<Range<'_>>) -> bool
+    ensures { result ≡ nat_le (highest (option_map entity_view.range range.entry)) spec.subscript_limit }
+{
+    match range {
+        Some(range) => range.high.up_to(65_536) <= 65_535,
+        None => true,
+    }
+}
+
+/// How many port bits there are, at most 8,193, where no index is above 65,535.
+fn bit_count(groups: &[Group<'_>]) -> usize
+    ensures { result ≡ min (sum_by (λ p. capped_width p.range) (entity_view.ports groups.now)) 8193 }
+{
+    let mut count = 0;
+    for group in groups {
+        count = with_group(count, group);
+    }
+    count
+}
+
+fn with_group(before: usize, group: &Group<'_>) -> usize
+    requires { before ≤ 8193 }
+    ensures { result ≡ min (before + sum_by (λ p. capped_width p.range) (entity_view.group group.now)) 8193 }
+{
+    let width = width_of(group.range);
+    let mut count = before;
+    for _name in &group.names {
+        count = (count + width).min(8193);
+    }
+    count
+}
+
+/// How many bits a port of this range has, where no index is above 65,535.
+fn width_of(range: Option<Range<'_>>) -> usize
+    ensures within { result < 65_538 }
+    ensures width { result ≡ capped_width (option_map entity_view.range range.entry) }
+{
+    match range {
+        Some(range) => {
+            let high = range.high.up_to(65_536);
+            let low = range.low.up_to(65_536);
+            high.saturating_sub(low) + 1
+        }
+        None => 1,
+    }
+}
+
+fn users_within(lengths: &[Digits<'_>]) -> bool
+    ensures { result ≡ (nat_le (length lengths.now) 64 && list_all (λ n. nat_le n 4096) (map value lengths.now)) }
+{
+    lengths.len() <= 64 && are_lengths_within(lengths)
+}
+
+fn are_lengths_within(lengths: &[Digits<'_>]) -> bool
+    ensures { result ≡ list_all (λ n. nat_le n 4096) (map value lengths.now) }
+{
+    for length in lengths {
+        if length.up_to(4097) > 4096 {
+            return false;
+        }
+    }
+    true
+}

@@ -1,0 +1,8 @@
+use Rattle.std.proofs.Common.{◌≡◌, ◌++◌, map, drop}
+use Rattle.bsdl_entity.specs.View.{ports}
+use Rattle.bsdl_twice.specs.Twice.{outside}
+use Rattle.bsdl_twice.specs.View.{naming}
+use Rattle.bsdl_twice.proofs.again.port_names.Given as goal
+
+abbrev pub invariant-loop-group : goal.invariant-loop-group
+invariant-loop-group l = map naming l.names.items ++ map (λ p. outside p.name) (ports (drop l.group-index l.groups)) ≡ map (λ p. outside p.name) (ports l.groups)

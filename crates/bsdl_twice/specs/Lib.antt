@@ -1,0 +1,4 @@
+pub mod ResetOpcode
+pub mod Spots
+pub mod Twice
+pub mod View

@@ -1,0 +1,168 @@
+//! The first name that a description gives again.
+ghost use Rattle.std.specs.Prelude.{◌≡◌, ◌++◌, map, option_map, IfOk, OnOk};
+ghost use Rattle.std.specs.List.{flat_map};
+ghost use Rattle.bsdl_entity.specs.OutlineView.{outline as outline_view};
+ghost use Rattle.bsdl_entity.specs.View as entity_view;
+ghost use Rattle.bsdl_entity.specs.GivenView.{given as given_view};
+ghost use Rattle.bsdl_instructions.specs.View as rows_view;
+ghost use Rattle.bsdl_text.specs.WordView.{word_lexeme};
+ghost use Rattle.bsdl_described.specs.View.{description};
+ghost use Rattle.bsdl_twice.specs.Twice as spec;
+ghost use Rattle.bsdl_twice.specs.View.{naming};
+
+use crate::naming::{Naming, Spot, earlier, first_repeat};
+use bsdl_described::description::Description;
+use bsdl_entity::entity::Outline;
+use bsdl_entity::items::Given;
+use bsdl_entity::ports::Group;
+use bsdl_instructions::names::{AccessRow, Instr, OpcodeRow};
+use bsdl_text::names::Word;
+use std::alloc::{AllocError, Global};
+
+/// A word of the text itself.
+fn outside<'a>(name: Word<'a>) -> Naming<'a>
+    ensures { naming result ≡ spec.outside (word_lexeme name.entry) }
+{
+    Naming {
+        name,
+        spot: Spot {
+            outer: name.start,
+            within: 0,
+        },
+    }
+}
+
+/// A word of a text within quotes, whose first quote is at this place.
+fn inside<'a>(start: usize, name: Word<'a>) -> Naming<'a>
+    ensures { naming result ≡ spec.inside start (word_lexeme name.entry) }
+{
+    Naming {
+        name,
+        spot: Spot {
+            outer: start,
+            within: name.start,
+        },
+    }
+}
+
+fn port_names<'a>(alloc: Global, groups: &[Group<'a>]) -> Result<Vec<Naming<'a>>, AllocError>
+    ensures { IfOk result (λ v. map naming v.items ≡ map (λ p. spec.outside p.name) (entity_view.ports groups.now)) }
+{
+    let mut names = Vec::new(alloc);
+    for group in groups {
+        add_group(&mut names, group)?;
+    }
+    Ok(names)
+}
+
+fn add_group<'a>(names: &mut Vec<Naming<'a>>, group: &Group<'a>) -> Result<(), AllocError>
+    ensures { OnOk result (map naming names.new.items ≡ map naming names.old.items ++ map (λ p. spec.outside p.name) (entity_view.group group.now)) }
+{
+    for name in &group.names {
+        names.push(outside(*name))?;
+    }
+    Ok(())
+}
+
+fn attribute_names<'a>(alloc: Global, given: &[Given<'a>]) -> Result<Vec<Naming<'a>>, AllocError>
+    ensures { IfOk result (λ v. map naming v.items ≡ map (λ g. spec.outside g.name) (map given_view given.now)) }
+{
+    let mut names = Vec::new(alloc);
+    for giving in given {
+        names.push(outside(giving.name))?;
+    }
+    Ok(names)
+}
+
+fn opcode_names<'a>(
+    alloc: Global,
+    start: usize,
+    rows: &[OpcodeRow<'a>],
+) -> Result<Vec<Naming<'a>>, AllocError>
+    ensures { IfOk result (λ v. map naming v.items ≡ map (λ r. spec.inside start r.name) (map rows_view.opcode_row rows.now)) }
+{
+    let mut names = Vec::new(alloc);
+    for row in rows {
+        names.push(inside(start, row.name))?;
+    }
+    Ok(names)
+}
+
+fn own_names<'a>(
+    alloc: Global,
+    start: usize,
+    rows: &[AccessRow<'a>],
+) -> Result<Vec<Naming<'a>>, AllocError>
+    ensures { IfOk result (λ v. map naming v.items ≡ map (λ i. spec.inside start i.name) (flat_map (λ r. r.instrs) (map rows_view.access_row rows.now))) }
+{
+    let mut names = Vec::new(alloc);
+    for row in rows {
+        add_instrs(&mut names, start, &row.instrs)?;
+    }
+    Ok(names)
+}
+
+fn add_instrs<'a>(
+    names: &mut Vec<Naming<'a>>,
+    start: usize,
+    instrs: &[Instr<'a>],
+) -> Result<(), AllocError>
+    ensures { OnOk result (map naming names.new.items ≡ map naming names.old.items ++ map (λ i. spec.inside start i.name) (map rows_view.instr instrs.now)) }
+{
+    for instr in instrs {
+        names.push(inside(start, instr.name))?;
+    }
+    Ok(())
+}
+
+fn port_again<'a>(alloc: Global, groups: &[Group<'a>]) -> Result<Option<Naming<'a>>, AllocError>
+    ensures { IfOk result (λ o. option_map naming o ≡ spec.earliest (spec.repeated (map (λ p. spec.outside p.name) (entity_view.ports groups.now)))) }
+{
+    let names = port_names(alloc, groups)?;
+    first_repeat(alloc, &names)
+}
+
+fn attribute_again<'a>(alloc: Global, given: &[Given<'a>]) -> Result<Option<Naming<'a>>, AllocError>
+    ensures { IfOk result (λ o. option_map naming o ≡ spec.earliest (spec.repeated (map (λ g. spec.outside g.name) (map given_view given.now)))) }
+{
+    let names = attribute_names(alloc, given)?;
+    first_repeat(alloc, &names)
+}
+
+fn opcode_again<'a>(
+    alloc: Global,
+    start: usize,
+    rows: &[OpcodeRow<'a>],
+) -> Result<Option<Naming<'a>>, AllocError>
+    ensures { IfOk result (λ o. option_map naming o ≡ spec.earliest (spec.repeated (map (λ r. spec.inside start r.name) (map rows_view.opcode_row rows.now)))) }
+{
+    let names = opcode_names(alloc, start, rows)?;
+    first_repeat(alloc, &names)
+}
+
+fn own_again<'a>(
+    alloc: Global,
+    start: usize,
+    rows: &[AccessRow<'a>],
+) -> Result<Option<Naming<'a>>, AllocError>
+    ensures { IfOk result (λ o. option_map naming o ≡ spec.earliest (spec.repeated (map (λ i. spec.inside start i.name) (flat_map (λ r. r.instrs) (map rows_view.access_row rows.now))))) }
+{
+    let names = own_names(alloc, start, rows)?;
+    first_repeat(alloc, &names)
+}
+
+/// The first name that is given again: of a port, of an attribute, of an instruction with an opcode, or of an own
+/// instruction with a register; equal but for case.
+pub fn given_again<'a>(
+    alloc: Global,
+    outline: &'a Outline<'a>,
+    described: &Description<'a>,
+) -> Result<Option<Naming<'a>>, AllocError>
+    ensures { IfOk result (λ o. option_map naming o ≡ spec.given_again (description outline.now described.now)) }
+{
+    let ports = port_again(alloc, &outline.groups)?;
+    let attribute = attribute_again(alloc, &outline.given)?;
+    let opcode = opcode_again(alloc, described.opcode_start, &described.opcodes)?;
+    let own = own_again(alloc, described.access_start, &described.accesses)?;
+    Ok(earlier(ports, earlier(attribute, earlier(opcode, own))))
+}
