@@ -5,3 +5,4 @@ pub mod BitLaws
 pub mod LibraryLaws
 pub mod DescribedLaws
 pub mod BoardLaws
+pub mod FitLaws

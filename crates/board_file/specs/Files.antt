@@ -1,5 +1,5 @@
--- Which descriptions a board file names, and what they say. A description stands in a file; `says` is the device that a text
--- describes, None where the text is refused.
+-- Which descriptions a board file names, and what they say. A description stands in a file; `says` is the device that a
+-- text describes, None where the text is refused.
 use Rattle.std.specs.Prelude.{◌≡◌, ℕ, List, [], ◌∷◌, length, map, fold, filter_map, codes, bytes_eq, is_none, option_map, option_and_then, Option, Some, None, unwrap_or, Result, Ok, Err, IsUtf8, if◌then◌else◌}
 use Rattle.std.specs.List.{find}
 use Rattle.toml.specs.Data.{Members}
@@ -74,4 +74,5 @@ refused says text = if is_none (says text) then Some text else None
 -- the text of the first name whose file is refused
 abbrev pub refused_in : (List ℕ → Option Device) → List File → List (List ℕ) → Option (List ℕ)
 refused_in says files [] = None
-refused_in says files (name ∷ names) = or_else (option_and_then (refused says) (text_of files name)) (refused_in says files names)
+refused_in says files (name ∷ names) =
+    or_else (option_and_then (refused says) (text_of files name)) (refused_in says files names)

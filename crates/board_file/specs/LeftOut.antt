@@ -1,11 +1,12 @@
--- The instructions of a device that have an opcode but no meaning of their own here: each stands for BYPASS, and is told so.
+-- The instructions of a device that have an opcode but no meaning of their own here: each stands for BYPASS.
 use Rattle.std.specs.Prelude.{Bool, ◌||◌, List, map, filter, codes, bytes_eq}
 use Rattle.std.specs.List.{list_any}
 use Rattle.bsdl_device.specs.Device.{Name, Opcode, Device}
 
 -- the standard's INTEST and RUNBIST, and the private ones
 abbrev pub is_left_out : Device → Name → Bool
-is_left_out d name = bytes_eq name (codes "INTEST") || bytes_eq name (codes "RUNBIST") || list_any (bytes_eq name) d.private_names
+is_left_out d name =
+    bytes_eq name (codes "INTEST") || bytes_eq name (codes "RUNBIST") || list_any (bytes_eq name) d.private_names
 
 -- in the order of the opcode rows
 abbrev pub left_out : Device → List Name

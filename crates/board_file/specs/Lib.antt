@@ -3,3 +3,4 @@ pub mod Pins
 pub mod Wiring
 pub mod LeftOut
 pub mod View
+pub mod Fits

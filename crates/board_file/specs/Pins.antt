@@ -28,22 +28,26 @@ pin_bit d port index = option_and_then (no_tap d) (bit_of d port index)
 
 -- the port bit of the device at this place on the board
 abbrev pub bit_at : List Device → PinText → ℕ → Option Pin
-bit_at ds p place = option_and_then (λ d. option_map (λ bit. record { device = place; port = bit }) (pin_bit d p.port p.index)) (slice_get ds place)
+bit_at ds p place =
+    option_and_then (λ d. option_map (λ bit. record { device = place; port = bit }) (pin_bit d p.port p.index)) (slice_get ds place)
 
 -- The pin that a text names, given the names of all devices and what is described of each.
 unfoldable pub pin_at : List (List ℕ) → List Device → List ℕ → Option Pin
-pin_at names ds text = option_and_then (λ p. option_and_then (bit_at ds p) (position (bytes_eq p.device) names)) (pin_of text)
+pin_at names ds text =
+    option_and_then (λ p. option_and_then (bit_at ds p) (position (bytes_eq p.device) names)) (pin_of text)
 
 -- ---- texts that name no pin
 
 abbrev pub unknown_pin : List (List ℕ) → List Device → List (List ℕ) → Option (List ℕ)
 unknown_pin names ds [] = None
-unknown_pin names ds (text ∷ texts) = elim (pin_at names ds text) [ None ↦ Some text | Some p ↦ unknown_pin names ds texts ]
+unknown_pin names ds (text ∷ texts) =
+    elim (pin_at names ds text) [ None ↦ Some text | Some p ↦ unknown_pin names ds texts ]
 
 -- the first among the pins of all nets
 abbrev pub unknown_in_nets : List (List ℕ) → List Device → List Members → Option (List ℕ)
 unknown_in_nets names ds [] = None
-unknown_in_nets names ds (t ∷ ts) = or_else (unknown_pin names ds (texts_at (codes "pins") t)) (unknown_in_nets names ds ts)
+unknown_in_nets names ds (t ∷ ts) =
+    or_else (unknown_pin names ds (texts_at (codes "pins") t)) (unknown_in_nets names ds ts)
 
 -- ---- pins a second time
 
@@ -66,4 +70,5 @@ pins_at names ds t = filter_map (pin_at names ds) (texts_at (codes "pins") t)
 abbrev pub twice_in_nets : List (List ℕ) → List Device → List Pin → List Members → Option (List ℕ)
 twice_in_nets names ds before [] = None
 twice_in_nets names ds before (t ∷ ts) =
-    or_else (twice names ds before (texts_at (codes "pins") t)) (twice_in_nets names ds (before ++ pins_at names ds t) ts)
+    or_else (twice names ds before (texts_at (codes "pins") t))
+    (twice_in_nets names ds (before ++ pins_at names ds t) ts)

@@ -177,7 +177,9 @@ abbrev pub PlansBoard : {F : Type 0} → Result Plan (BoardFault F) → List (Li
 PlansBoard {F} r files ds devices nets = by r (map name_at devices) (filter_map (stands_at files ds) devices)
   where
     by : Result Plan (BoardFault F) → List (List ℕ) → List described.Device → Type 0
-    by (Ok p) names found = (wire_fault names found nets ≡ None) × (wiring p ≡ record { members = filter_map (member_in files ds) devices; nets = map (net_of names found) nets })
+    by (Ok p) names found =
+        (wire_fault names found nets ≡ None)
+        × (wiring p ≡ record { members = filter_map (member_in files ds) devices; nets = map (net_of names found) nets })
     by (Err (fault.UnknownPin s)) names found = wire_fault names found nets ≡ Some (UnknownPin (string_bytes s))
     by (Err (fault.PinTwice s)) names found = wire_fault names found nets ≡ Some (PinTwice (string_bytes s))
     by (Err fault.TooLarge) names found = wire_fault names found nets ≡ Some TooLarge

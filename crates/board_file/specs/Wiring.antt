@@ -12,8 +12,8 @@ use Rattle.board_file.specs.Pins.{pins_at, unknown_in_nets, twice_in_nets}
 
 -- ---- a board as it is wired
 
--- A device: its name, what is described of it, its core's bits (one a cell, cell 0 first), and whether EXTEST captures the
--- update stage.
+-- A device: its name, what is described of it, its core's bits (one a cell, cell 0 first), and whether EXTEST captures
+-- the update stage.
 pub record Member : Type 0 where
   pub name : List ℕ
   pub device : Device
@@ -90,7 +90,8 @@ wire_fault names ds nets =
 
 -- of the descriptions that are named
 abbrev pub file_fault : (List ℕ → Option Device) → List File → List (List ℕ) → Option Fault
-file_fault says files names = or_else (option_map UnknownFile (missing_in files names)) (option_map Bsdl (refused_in says files names))
+file_fault says files names =
+    or_else (option_map UnknownFile (missing_in files names)) (option_map Bsdl (refused_in says files names))
 
 -- Of the whole: the first in the order of the cases, and in each the first device, net and pin.
 abbrev pub fault_of : (List ℕ → Option Device) → List File → Members → Option Fault

@@ -7,7 +7,8 @@ ghost use Rattle.board_tables.specs.Faults.{unfit};
 ghost use Rattle.board_tables.specs.View.{texts_of};
 ghost use Rattle.board_file.specs.Files.{Reads, IsBadToml};
 ghost use Rattle.board_file.specs.Wiring.{makes};
-ghost use Rattle.board_file.specs.View.{IsMiswired, IsUnknownFile, JudgesKeys, PlansBoard, TellsBadToml, TellsBoard, cells_in, files_of};
+ghost use Rattle.board_file.specs.View.{IsMiswired, IsUnknownFile, JudgesKeys, PlansBoard, TellsBadToml, TellsBoard, cells_in, files_of, wiring};
+ghost use Rattle.board_file.specs.Fits.{FitsTogether};
 
 use crate::fault::{BoardFault, told};
 use crate::files::{distinct_files, read_table};
@@ -19,8 +20,8 @@ use scan_registers::SharedDevice;
 use std::alloc::{AllocError, Global};
 use toml::{Table, Value};
 
-/// The board that a board file and the descriptions in these files make, each given by its name and its text, or the first
-/// refusal. Of two files of one name the first counts; files that no device names are not read.
+/// The board that a board file and the descriptions in these files make, each file given by its name and its text; or the
+/// first refusal. Of two files of one name the first counts; files that no device names are not read, others once.
 pub fn plan_of_text<'f, R: Describe>(
     alloc: Global,
     reader: &R,
@@ -31,6 +32,8 @@ pub fn plan_of_text<'f, R: Describe>(
     ensures told { (t : Members) → Reads toml_text.now t → TellsBoard R.refuses result (makes R.says (files_of files.now) t) }
     // What is no TOML is refused as that, unless memory runs out.
     ensures bad_toml { IsBadToml toml_text.now → TellsBadToml result }
+    // A board has 1 to 32 devices with whole cores and at most 4,096 nets; each pin is a port bit of a device, none twice.
+    ensures fits { IfOk result (λ p. FitsTogether (wiring p)) }
 {
     let table = read_table(alloc, toml_text)?;
     plan_in(alloc, reader, files, &table)
@@ -42,7 +45,8 @@ fn plan_in<'f, R: Describe>(
     files: &[(&'f str, &'f [u8])],
     table: &Table,
 ) -> Result<Plan, BoardFault<R::Fault>>
-    ensures { TellsBoard R.refuses result (makes R.says (files_of files.now) (table_view table.now)) }
+    ensures told { TellsBoard R.refuses result (makes R.says (files_of files.now) (table_view table.now)) }
+    ensures fits { IfOk result (λ p. FitsTogether (wiring p)) }
 {
     let Ok(names) = distinct_files(alloc, items_at(table, "device")) else {
         return Err(BoardFault::NoMemory);
@@ -107,7 +111,8 @@ fn unknown_file<F>(alloc: Global, name: &str) -> BoardFault<F>
     }
 }
 
-/// The board, where the keys are good and each description is there, given all names of files and what is described in each.
+/// The board, where the keys are good and each description is there, given all names of files and what is described in
+/// each.
 fn plan_described<F>(
     alloc: Global,
     table: &Table,

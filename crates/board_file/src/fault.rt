@@ -21,7 +21,8 @@ pub enum BoardFault<F> {
     /// The first description that is refused, and why.
     #[error("C4 Bsdl")]
     Bsdl(F),
-    /// The first text that names no pin: it has another form, or there is no such device or port bit, or the port is the TAP's.
+    /// The first text that names no pin: it has another form, there is no such device or port bit, or the port is the
+    /// TAP's.
     #[error("C5 UnknownPin")]
     UnknownPin(String),
     /// The first text whose pin stands before it, in its net or in another.

@@ -17,8 +17,8 @@ use scan_registers::SharedDevice;
 use std::alloc::{AllocError, Global};
 use toml::{Table, Value};
 
-/// A device: its name, its description, its core's bits (one a cell, cell 0 first), and whether EXTEST captures the update
-/// stage.
+/// A device: its name, its description, its core's bits (one a cell, cell 0 first), and whether EXTEST captures the
+/// update stage.
 #[derive(Drop)]
 pub struct PlannedDevice {
     pub name: String,

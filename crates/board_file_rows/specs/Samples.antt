@@ -1,4 +1,4 @@
--- Board files of the worked rows, as TOML tables, over three devices written out as a reader of their texts would give them.
+-- Board files of the worked rows, as TOML tables, over three devices written out as a reader of texts would give them.
 use Rattle.std.specs.Prelude.{ℕ, Bool, true, false, List, [], ◌∷◌, map, replicate, Option, Some, None, codes, bytes_eq, if◌then◌else◌, Result, Ok, Err}
 use Rattle.toml.specs.Data.{Data, string, array, table, Items, no_items, item, Members, no_members, member}
 use Rattle.bsdl_device.specs.Device.{PortBit, Opcode, Device}

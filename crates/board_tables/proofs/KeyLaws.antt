@@ -34,7 +34,7 @@ head_out : {A : Type 0} (b : Bool) (x : A) (xs : List A) → cond b xs (x ∷ xs
 head_out true x xs h = (refl, h)
 head_out false x xs h = absurd cc
 
-head_in : {A : Type 0} (b : Bool) (x : A) (xs : List A) → cond b (x ∷ xs) xs ≡ [] → (b ≡ false) × (xs ≡ [])
+pub head_in : {A : Type 0} (b : Bool) (x : A) (xs : List A) → cond b (x ∷ xs) xs ≡ [] → (b ≡ false) × (xs ≡ [])
 head_in true x xs h = absurd cc
 head_in false x xs h = (refl, h)
 

@@ -18,7 +18,8 @@ first_cells (n ∷ ns) = n
 abbrev pub unfit_device : List (List ℕ) → List (Option ℕ) → List Members → Option (List ℕ)
 unfit_device names cells [] = None
 unfit_device names cells (t ∷ ts) =
-    or_else (unfit_key (device_keys names (first_cells cells)) t) (unfit_device (names ++ name_at t ∷ []) (drop 1 cells) ts)
+    or_else (unfit_key (device_keys names (first_cells cells)) t)
+    (unfit_device (names ++ name_at t ∷ []) (drop 1 cells) ts)
 
 -- of these nets, given the names before them
 abbrev pub unfit_net : List (List ℕ) → List Members → Option (List ℕ)

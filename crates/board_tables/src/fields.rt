@@ -22,7 +22,7 @@ pub enum Unfit<'t> {
     Memory,
 }
 
-/// Judges the keys of the file, then those of each device, then those of each net. The numbers of cells of the devices are
+/// Judges the keys of the file, then those of each device, then those of each net. The numbers of the devices' cells are
 /// given as far as they are known.
 pub fn check_fields<'t>(
     alloc: Global,

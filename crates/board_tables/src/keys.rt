@@ -44,7 +44,8 @@ impl Keys<'_, '_> {
     }
 }
 
-/// The first key in byte order that is at fault in a table: it is needed and missing, or unknown, or its value does not fit.
+/// The first key in byte order that is at fault in a table: it is needed and missing, or unknown, or its value does not
+/// fit.
 pub(crate) fn unfit_key<'t>(keys: Keys<'_, '_>, table: &'t Table) -> Option<&'t str>
     ensures { option_map (λ k. k.now) result ≡ spec.unfit_key (keys_of keys.entry) (table_view table.now) }
 {

@@ -5,11 +5,12 @@ use Rattle.board_tables.specs.View.{texts_of}
 use Rattle.board_file.specs.Files.{file_at, distinct, described, missing_in, refused_in}
 use Rattle.board_file.specs.View.{files_of, IsFirstRefusal, PlansBoard}
 use Rattle.board_file.proofs.BoardLaws.{keys_fault, missing_fault, refused_fault, planned}
+use Rattle.board_file.proofs.FitLaws.{told_fits}
 use Rattle.board_file.proofs.board.plan_in.Goals as goal
 
 -- src/board.rt:59:9
-pub returns-in-Err : goal.returns-in-Err
-returns-in-Err g c =
+pub returns-in-Err-clause-told : goal.returns-in-Err-clause-told
+returns-in-Err-clause-told g c =
     let says = g.R.Describe.says in
     let refuses = g.R.Describe.refuses in
     let files = files_of c.args.files.now in
@@ -20,8 +21,8 @@ returns-in-Err g c =
     keys_fault refuses says files t names c.deref.result.now names_is ds_is c.in-Err.fault c.in-Err.ensures
 
 -- src/board.rt:62:9
-pub returns-in-Some : goal.returns-in-Some
-returns-in-Some g c =
+pub returns-in-Some-clause-told : goal.returns-in-Some-clause-told
+returns-in-Some-clause-told g c =
     let says = g.R.Describe.says in
     let refuses = g.R.Describe.refuses in
     let files = files_of c.args.files.now in
@@ -34,8 +35,8 @@ returns-in-Some g c =
     (missing_is ∙ ap (option_map (λ n. n.now)) c.in-Some.is) c.unknown_file.ensures
 
 -- src/board.rt:65:9
-pub returns-in-Some-refused : goal.returns-in-Some-refused
-returns-in-Some-refused g c =
+pub returns-in-Some-refused-clause-told : goal.returns-in-Some-refused-clause-told
+returns-in-Some-refused-clause-told g c =
     let says = g.R.Describe.says in
     let refuses = g.R.Describe.refuses in
     let files = files_of c.args.files.now in
@@ -50,8 +51,8 @@ returns-in-Some-refused g c =
     c.in-Some-refused.fault text (refused_is ∙ is) why
 
 -- src/board.rt:39:1
-pub returns : goal.returns
-returns g c =
+pub returns-clause-told : goal.returns-clause-told
+returns-clause-told g c =
     let says = g.R.Describe.says in
     let refuses = g.R.Describe.refuses in
     let files = files_of c.args.files.now in
@@ -65,3 +66,6 @@ returns g c =
     planned refuses says files t names c.deref.result.now names_is ds_is c.in_default-check_keys.ensures (missing_is ∙ ap (option_map (λ n. n.now)) c.in_default-missing.is)
     (refused_is ∙ sym none) c.plan_described.result
     (subst (λ ds. PlansBoard c.plan_described.result names ds (tables_at (codes "device") t) (tables_at (codes "net") t)) (c.deref-2.ensures.value ∙ sym c.deref.ensures.value) c.plan_described.ensures)
+
+pub returns-clause-fits : goal.returns-clause-fits
+returns-clause-fits g c = told_fits g.R.Describe.refuses g.R.Describe.says (files_of c.args.files.now) (table_view c.args.table.now) c.plan_described.result (returns-clause-told g c)

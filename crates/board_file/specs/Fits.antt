@@ -1,0 +1,32 @@
+-- What holds of every board that a board file makes.
+use Rattle.std.specs.Prelude.{◌≡◌, ◌<◌, ◌≤◌, false, List, [], ◌∷◌, ◌++◌, length, slice_get, Some}
+use Rattle.std.specs.List.{list_any, flat_map, AllByRecursion}
+use Rattle.board_file.specs.declared.pins.Pin.{Pin}
+use Rattle.board_file.specs.Pins.{same_pin}
+use Rattle.board_file.specs.Wiring.{Member, Net, Wiring}
+
+-- the core has a bit for each cell
+abbrev pub HasCore : Member → Type 0
+HasCore m = length m.core ≡ length m.device.cells
+
+-- the pin is a port bit of one of the devices
+abbrev pub IsPinOf : List Member → Pin → Type 0
+IsPinOf members p = (m : Member) × (slice_get members p.device ≡ Some m) × (p.port < length m.device.ports)
+
+-- each pin differs from those before it
+abbrev pub AreApart : (before pins : List Pin) → Type 0
+AreApart before [] = Unit {0}
+AreApart before (p ∷ ps) = (list_any (same_pin p) before ≡ false) × AreApart (before ++ p ∷ []) ps
+
+-- the pins of all nets
+abbrev pub all_pins : List Net → List Pin
+all_pins nets = flat_map (λ n. n.pins) nets
+
+-- 1 to 32 devices with whole cores, at most 4,096 nets, each pin a port bit of a device, and none twice
+pub record FitsTogether (w : Wiring) : Type 0 where
+  pub some : 0 < length w.members
+  pub most : length w.members ≤ 32
+  pub nets : length w.nets ≤ 4096
+  pub cores : AllByRecursion HasCore w.members
+  pub pins : AllByRecursion (IsPinOf w.members) (all_pins w.nets)
+  pub apart : AreApart [] (all_pins w.nets)
