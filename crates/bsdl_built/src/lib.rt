@@ -1,0 +1,5 @@
+//! The device that a description says, once it is judged (BSDL: IEEE Std 1149.1-2001, Annex B).
+#![tactic(auto)]
+
+pub mod accesses;
+pub mod patterns;
