@@ -25,12 +25,22 @@ const UNWANTED_BYTES: usize = 12 + 8 + 2 * 65536 + 5 + 1;
 pub fn rows(rt: &HostRuntime) -> io::Result<()> {
     let alloc = rt.alloc();
     let mut buffer = Vec::from_elem(alloc, 0, UNWANTED_BYTES)?;
-    print_row(rt, "next_bytes", Unit::Byte, || Ok(next_bytes(alloc, &mut buffer)))?;
+    print_row(
+        rt,
+        "next_bytes",
+        Unit::Byte,
+        || Ok(next_bytes(alloc, &mut buffer)),
+    )?;
     print_row(rt, "play_1", Unit::Byte, || Ok(played(alloc, 1)))?;
     print_row(rt, "play_32", Unit::Byte, || Ok(played(alloc, 32)))?;
     print_row(rt, "finish_1", Unit::Byte, || Ok(finished(alloc, 1)))?;
     print_row(rt, "finish_64", Unit::Byte, || Ok(finished(alloc, 64)))?;
-    print_row(rt, "finish_65536", Unit::Byte, || Ok(finished(alloc, 65536)))
+    print_row(
+        rt,
+        "finish_65536",
+        Unit::Byte,
+        || Ok(finished(alloc, 65536)),
+    )
 }
 
 /// A fresh player of a text.

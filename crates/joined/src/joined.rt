@@ -12,9 +12,9 @@ use crate::event::{Event, Standing};
 use crate::pipes::Pipes;
 use jt_board::Board;
 use plays::Ending;
-use stream_player::Player;
 use std::alloc::Global;
 use std::marker::Model;
+use stream_player::Player;
 
 /// Player and board with two bounded pipes between them, from a fresh player on.
 #[derive(Drop)]

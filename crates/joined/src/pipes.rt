@@ -12,9 +12,9 @@ use bitbang_table::{Message, decode};
 use circular_buffer::HeapCircularBuffer;
 use jt_board::{Board, Reply};
 use plays::Ending;
-use stream_player::Player;
 use std::alloc::Global;
 use std::marker::Model;
+use stream_player::Player;
 
 /// Player and board with two bounded pipes between them, in whatever state.
 #[derive(Drop)]

@@ -11,11 +11,21 @@ use stream_player::Player;
 const SCAN: &[u8] = b"SIR 2 TDI (3) TDO (1);";
 
 /// A text's player joined to a board by pipes of this room.
-fn joined(rt: &impl Abort, alloc: Global, text: &[u8], board: Board, room: usize) -> Result<Joined, Fail> {
+fn joined(
+    rt: &impl Abort,
+    alloc: Global,
+    text: &[u8],
+    board: Board,
+    room: usize,
+) -> Result<Joined, Fail> {
     assert!(rt; room > 0);
     let program = accept(alloc, text).ok().ok_or("refused")?;
     let player = Player::new(alloc, program).ok().ok_or("no memory")?;
-    Ok(Joined::new(alloc, player, board, room, room).ok().ok_or("no memory")?)
+    Ok(
+        Joined::new(alloc, player, board, room, room)
+            .ok()
+            .ok_or("no memory")?,
+    )
 }
 
 /// One byte each way in turn, over pipes of one byte: each byte is put and served, and each answer taken.
@@ -70,7 +80,12 @@ fn the_board_is_ahead_of_the_player(rt: HostRuntime) -> Result<(), Fail> {
 fn a_loss_within_a_scan(rt: HostRuntime) -> Result<(), Fail> {
     let board = Board::bare(rt.alloc(), 1)?;
     let mut first = joined(&rt, rt.alloc(), SCAN, board, 64)?;
-    let standing = first.run(&[Event::Put(64), Event::Serve(64), Event::Take(1), Event::Lose]);
+    let standing = first.run(&[
+        Event::Put(64),
+        Event::Serve(64),
+        Event::Take(1),
+        Event::Lose,
+    ]);
     assert_eq!(rt; standing.ended, Some(Ending::Lost { command: 1 }));
     assert!(rt; standing.lost);
     let mut again = joined(&rt, rt.alloc(), SCAN, first.into_board(), 64)?;

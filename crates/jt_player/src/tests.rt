@@ -159,7 +159,9 @@ fn a_play_on_a_used_board(rt: HostRuntime) -> Result<(), Fail> {
     for byte in b"04260404151" {
         let _ = board.byte(*byte);
     }
-    let program = accept(rt.alloc(), b"SIR 6 TDI (3F) TDO (15); STATE DRPAUSE;").ok().ok_or("refused")?;
+    let program = accept(rt.alloc(), b"SIR 6 TDI (3F) TDO (15); STATE DRPAUSE;")
+        .ok()
+        .ok_or("refused")?;
     let player = Player::new(rt.alloc(), program).ok().ok_or("no memory")?;
     assert!(rt; player.is_fresh());
     assert_eq!(rt; play_board(player, &mut board), Ending::Pass);
@@ -190,11 +192,17 @@ fn the_longest_program(rt: HostRuntime) -> Result<(), Fail> {
         text.extend_from_slice(b"STATE IDLE;")?;
     }
     let (wrote, _, status) = checked(&rt, rt.alloc(), &text)?;
-    assert_eq!(rt; wrote.as_slice(), b"accepted 200000 statements 200000 steps\n".as_slice());
+    assert_eq!(rt;
+        wrote.as_slice(),
+        b"accepted 200000 statements 200000 steps\n".as_slice()
+    );
     assert_eq!(rt; status, 0);
     text.extend_from_slice(b"STATE IDLE;")?;
     let (_, told, status) = checked(&rt, rt.alloc(), &text)?;
-    assert_eq!(rt; told.as_slice(), b"svf S15 TooLarge statement 200001\n".as_slice());
+    assert_eq!(rt;
+        told.as_slice(),
+        b"svf S15 TooLarge statement 200001\n".as_slice()
+    );
     assert_eq!(rt; status, 2);
     Ok(())
 }

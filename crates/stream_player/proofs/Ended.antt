@@ -113,8 +113,11 @@ module _ (program : Program) (p : Progress) (spot : Spot) (is : p.phase ≡ With
       (cut program.steps p.at s first_is) (in-step program p spot is stands).is
 
   some-owed : 0 < p.owed → p.heard < length (turn program p spot is stands).wants
-  some-owed some = omega (arith, some,
-      reached program (standing program.steps p) (turn program p spot is stands) (later program p spot is stands) p.owed (is-in program p spot is stands))
+  some-owed some = omega (
+    arith,
+    some,
+    reached program (standing program.steps p) (turn program p spot is stands) (later program p spot is stands) p.owed (is-in program p spot is stands),
+  )
 
   pub works-within : (rest_of p.place (drop p.at program.steps) spot ≡ [] → 0 < p.owed) → stream.working (state_of program p) ≡ s.number
   works-within ready =
@@ -132,7 +135,7 @@ module _ (program : Program) (p : Progress) (spot : Spot) (is : p.phase ≡ With
       let some : 0 < p.owed = (in-step program p spot is stands).bad (ap is_some e) in
       (λ k. elim (e k) [
         | Some b ↦ Some (BadAnswer (command-here program (standing program.steps p) (turn program p spot is stands) (later program p spot is stands)
-        (is-in program p spot is stands).here (some-owed some) k) b)
+            (is-in program p spot is stands).here (some-owed some) k) b)
         | None ↦ stream.ended 256 (record (state_of program p) { bad = None })
       ]) ∙ ap (λ (x : Numbered). Some (BadAnswer x.number byte)) (sym same)
 

@@ -76,8 +76,11 @@ module _ (program : Program) (s : Standing) (t : Turn) (later : List Turn) (here
       ap (λ (l : List Wanted). judged l (byte == 49)) left ∙ judged-one t w (map (of-turn t) ws ++ wanted later) (byte == 49) in
       let count : now.answered + 1 ≡ wanted_in (take s.over (turns program.steps)) + (s.heard + 1) = omega arith in
       (λ k. if is_some (none k) then now else if good k then record now { bad = Some byte } else
-          record now { answered = count k; found = (ap (λ (m : List Mismatch). noted Stops m (found s.failed)) judge
-          ∙ noted-first s.failed (differing_bit t.command w (byte == 49))) k })
+      record now {
+        answered = count k;
+        found = (ap (λ (m : List Mismatch). noted Stops m (found s.failed)) judge
+            ∙ noted-first s.failed (differing_bit t.command w (byte == 49))) k;
+      })
 
   -- a byte that is no answer ends the play
   pub hears-bad : (byte : ℕ) → s.bad ≡ None → is_bad byte ≡ true → hear byte (state_at program s) ≡ state_at program (record s { bad = Some byte })
@@ -198,6 +201,6 @@ module _ (program : Program) (s : Standing) (fair : stops_at s ≡ true → 0 < 
 
   pub ends : s.bad ≡ None → stream.ended 256 (state_at program s) ≡ ending-by (has_quit (take s.gone (ahead program s fair)))
   ends none = (λ i. elim (none i) [
-      | Some byte ↦ Some (BadAnswer (command_at (turns program.steps) (state_at program s).answered) byte)
-      | None ↦ ending-by (is-out program s fair i)
-    ])
+    | Some byte ↦ Some (BadAnswer (command_at (turns program.steps) (state_at program s).answered) byte)
+    | None ↦ ending-by (is-out program s fair i)
+  ])

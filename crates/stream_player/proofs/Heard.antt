@@ -224,7 +224,7 @@ module _ (program : Program) (p r : Progress) (stands : Stands program.steps p) 
     (told : read_answer byte ≡ Some bit) (s : Numbered) (first : slice_get program.steps p.at ≡ Some s) (v : List VectorBit) (scans : vector_bits s.what ≡ v)
     (kept : is_some p.failed ≡ true → r ≡ p) (rest : r ≡ record p { judged = r.judged; failed = r.failed })
     (one : p.failed ≡ None → (w : VectorBit) (ws : List VectorBit) → filter (λ v. is_some v.wanted) (drop p.judged v) ≡ w ∷ ws
-      → (filter (λ v. is_some v.wanted) (drop r.judged v) ≡ ws) × (option_map mismatch r.failed ≡ differing_bit s.number w bit)) where
+    → (filter (λ v. is_some v.wanted) (drop r.judged v) ≡ ws) × (option_map mismatch r.failed ≡ differing_bit s.number w bit)) where
   abbrev at : (spot : Spot) × (p.phase ≡ Within spot)
   at = where-owed program p stands some
 
@@ -286,5 +286,10 @@ asks-nothing program p s stands first none some =
     let same : s ≡ work.step = same-first (drop p.at program.steps) s work.step (drop (suc p.at) program.steps) work.later (cut program.steps p.at s first) work.is in
     let wants : wants_of work.step.what ≡ [] =
     ap (λ (x : Numbered). wants_of x.what) (sym same) ∙ sym (wants-of-vector s.what) ∙ ap (filter (λ v. is_some v.wanted)) none in
-    omega (arith, some, ap length wants, reached program (standing program.steps p) (turn program p at.0 at.1 stands) (later program p at.0 at.1 stands) p.owed
-    (is-in program p at.0 at.1 stands))
+    omega (
+      arith,
+      some,
+      ap length wants,
+      reached program (standing program.steps p) (turn program p at.0 at.1 stands) (later program p at.0 at.1 stands) p.owed
+          (is-in program p at.0 at.1 stands),
+    )

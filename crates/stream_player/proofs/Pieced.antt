@@ -229,7 +229,7 @@ module _ (program : Program) (p : Progress) (spot : Spot) (is : p.phase ≡ With
         (λ k. state_at program (record (standing program.steps p) { over = suc p.at; gone = gone-then k }))
         ∙ given-more program (record (standing program.steps p) { over = suc p.at }) count
         ∙ (λ k. let s = state_at program (record (standing program.steps p) { over = sym (over-is program p spot is stands) k }) in
-            record s { given = s.given + count })
+        record s { given = s.given + count })
 
     nothing : (w : StepWaits) → length (up_to_reads left (256 - p.owed)) ≡ 0 → IsReady rest p (Within spot) → waiting 256 (state_of program p) ≡ []
     nothing w none ready = by p.owed refl

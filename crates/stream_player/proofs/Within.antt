@@ -159,9 +159,9 @@ module _ (program : Program) (p : Progress) (n : ℕ) (is : p.phase ≡ Opening 
 
   pub opens : state_of program p ≡ state_at program (record { over = 0; gone = n; heard = 0; failed = None; bad = None })
   opens = (λ k. state_at program (record {
-      over = over-none k;
-      gone = gone-so k;
-      heard = in-opening.heard k;
-      failed = option_map mismatch (in-opening.failed k);
-      bad = in-opening.bad k;
-    }))
+    over = over-none k;
+    gone = gone-so k;
+    heard = in-opening.heard k;
+    failed = option_map mismatch (in-opening.failed k);
+    bad = in-opening.bad k;
+  }))

@@ -46,10 +46,10 @@ rest_of place (s ∷ ss) spot = behind spot (cycles place s.what)
 -- of the present turn, how many messages are out; `Quit` stands behind the turn that failed, or behind all
 abbrev pub gone : List Numbered → Progress → ℕ
 gone rest p = elim p.phase [
-    | Opening n ↦ n
-    | Within spot ↦ present p.place rest - length (rest_of p.place rest spot)
-    | Over out ↦ present p.place rest + one out
-  ]
+  | Opening n ↦ n
+  | Within spot ↦ present p.place rest - length (rest_of p.place rest spot)
+  | Over out ↦ present p.place rest + one out
+]
 
 abbrev pub standing : List Numbered → Progress → Standing
 standing steps p = record {
@@ -119,10 +119,10 @@ pub record Stands (steps : List Numbered) (p : Progress) : Type 0 where
 -- something is to be done before another turn begins: a byte to give out, or an answer to hear
 abbrev pub IsReady : List Numbered → Progress → Phase → Type 0
 IsReady rest p phase = elim phase [
-    | Opening n ↦ n < length opening
-    | Within spot ↦ (rest_of p.place rest spot ≡ []) → 0 < p.owed
-    | Over out ↦ Unit {0}
-  ]
+  | Opening n ↦ n < length opening
+  | Within spot ↦ (rest_of p.place rest spot ≡ []) → 0 < p.owed
+  | Over out ↦ Unit {0}
+]
 
 -- the turns that are left, at most
 abbrev pub ahead : List Numbered → Progress → ℕ

@@ -64,7 +64,13 @@ fn vector_of<'a>(what: &Action<'a>) -> Option<Vector<'a>>
 }
 
 /// Takes one answer, of a step that scans this vector.
-fn hear_one(program: &Program, step: &Step<'_>, vector: &Vector<'_>, p: Progress, byte: u8) -> Progress
+fn hear_one(
+    program: &Program,
+    step: &Step<'_>,
+    vector: &Vector<'_>,
+    p: Progress,
+    byte: u8,
+) -> Progress
     requires stands { Stands program.now.steps p }
     requires first { slice_get program.now.steps p.at ≡ Some (numbered step.now) }
     requires scans { vector_bits (seen.step step.now.what) ≡ bits vector.now }

@@ -71,7 +71,8 @@ fn a_byte_that_is_no_answer_ends_the_play(rt: HostRuntime) -> Result<(), Fail> {
 
 #[test]
 fn the_first_bit_that_differs_is_told_once_the_step_is_over(rt: HostRuntime) -> Result<(), Fail> {
-    let text = b"HDR 1 TDI (0) TDO (1); SDR 8 TDI (00) TDO (F0) MASK (3C); STATE RESET; STATE IDLE;";
+    let text =
+        b"HDR 1 TDI (0) TDO (1); SDR 8 TDI (00) TDO (F0) MASK (3C); STATE RESET; STATE IDLE;";
     let mut player = player_of(rt.alloc(), text)?;
     let mut buffer = [0; 64];
     // no room gives nothing, and room for one byte one
@@ -80,7 +81,12 @@ fn the_first_bit_that_differs_is_told_once_the_step_is_over(rt: HostRuntime) -> 
         assert_eq!(rt; player.next_bytes(&mut buffer[..1]), 1);
     }
     // the header's bit and bits 2 to 5 of the data are wanted, the others masked
-    assert_next(&rt, &mut player, 64, b"042604040R404040R40R40R40R4042626040");
+    assert_next(
+        &rt,
+        &mut player,
+        64,
+        b"042604040R404040R40R40R40R4042626040",
+    );
     // the header's bit differs, and so does bit 5 of the data
     assert_eq!(rt; player.answers(b"0001"), 4);
     assert_next(&rt, &mut player, 64, b"");
