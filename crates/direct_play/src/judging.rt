@@ -44,33 +44,29 @@ impl<'a> Judge<'a> {
         }
     }
 
-    /// The judge after a reply of the board.
-    pub(crate) fn hear_reply(self, reply: Reply) -> Judge<'a>
-        ensures { (answers : List Bool) → finds result answers ≡ finds self.entry (answered reply ++ answers) }
+    /// Hears a reply of the board.
+    pub(crate) fn hear_reply(&mut self, reply: Reply)
+        ensures { (answers : List Bool) → finds self.new answers ≡ finds self.old (answered reply ++ answers) }
     {
-        match reply {
-            Reply::Answer(byte) => self.hear(byte == b'1'),
-            _ => self,
+        if let Reply::Answer(byte) = reply {
+            self.hear(byte == b'1');
         }
     }
 
-    /// The judge after an answer.
-    fn hear(self, bit: bool) -> Judge<'a>
-        ensures { (answers : List Bool) → finds result answers ≡ finds self.entry (bit ∷ answers) }
+    /// Hears an answer.
+    fn hear(&mut self, bit: bool)
+        ensures { (answers : List Bool) → finds self.new answers ≡ finds self.old (bit ∷ answers) }
     {
         if self.failed.is_some() {
-            return self;
+            return;
         }
-        let Some(vector) = self.vector else {
-            return self;
+        let Some(vector) = &self.vector else {
+            return;
         };
-        match next_wanted(&vector, self.at) {
-            Some(i) => Judge {
-                vector: self.vector,
-                at: i + 1,
-                failed: difference(&vector, i, bit),
-            },
-            None => self,
+        if let Some(i) = next_wanted(vector, self.at) {
+            let failed = difference(vector, i, bit);
+            self.at = i + 1;
+            self.failed = failed;
         }
     }
 }

@@ -48,7 +48,7 @@ pub(crate) fn play_step(place: State, step: &Step<'_>, board: &mut Board) -> Opt
     let mut judge = Judge::of(&step.what);
     let mut bytes = StepBytes::of(place, step);
     while let Some(byte) = bytes.next() {
-        judge = judge.hear_reply(board.byte(byte));
+        judge.hear_reply(board.byte(byte));
     }
     judge.failed
 }

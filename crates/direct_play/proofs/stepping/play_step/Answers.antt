@@ -30,7 +30,7 @@ loop-byte-preserved c =
       messages = one.more;
       left = one.rest_is;
       board = ap (λ (x : BoardState). (hear one.more x).board) now ∙ ap (λ (ms : List Message). (hear ms b).board) (sym one.is) ∙ i.board;
-      judged = c.hear_reply-judge.ensures (hear one.more c.byte.new.self).answers
+      judged = c.hear_reply.ensures (hear one.more c.byte.new.self).answers
           ∙ (λ k. finds c.loop-byte.judge (said k ++ (hear one.more (now k)).answers))
           ∙ ap (λ (ms : List Message). finds c.loop-byte.judge (hear ms b).answers) (sym one.is)
           ∙ i.judged;
