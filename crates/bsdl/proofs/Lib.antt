@@ -1,2 +1,4 @@
 pub mod FormLaws
+pub mod OnceLaws
 pub mod ReadLaws
+pub mod SoundLaws

@@ -1,10 +1,10 @@
 -- A refusal of one step is the first of all.
 use Rattle.std.proofs.Common.{◌≡◌, ap, ◌∙◌}
-use Rattle.std.specs.Prelude.{⊤, Option, Some, None, MatchOption, Result, Ok, Err, is_ok}
+use Rattle.std.specs.Prelude.{⊤, Option, Some, None, MatchOption, Result, Ok, Err}
 use Rattle.bsdl_device.specs.Device.{Device}
 use Rattle.bsdl_described.specs.Describing.{Refusal, Description, ◌>>?◌}
 use Rattle.bsdl.specs.Judging.{fault, judged}
-use Rattle.bsdl.specs.View.{Judges, TellsWhether, refusal}
+use Rattle.bsdl.specs.View.{Tells, refusal}
 use Rattle.bsdl.specs.declared.fault.BsdlFault.{BsdlFault}
 
 -- the first step refuses
@@ -22,12 +22,7 @@ pub refused_last : (o : Option Refusal) (d : Description) → MatchOption o ⊤ 
 refused_last None d h = h
 refused_last (Some r) d h = ap (λ f. judged f d) h
 
--- ---- whether a text is a description, step by step
-
-pub whether_judged : {A : Type 0} (r : Result A BsdlFault) (d : Description) → Judges r (fault d) → TellsWhether r (judged (fault d) d)
-whether_judged (Ok x) d h = ap (λ o. is_ok (judged o d)) h
-whether_judged (Err e) d h = refused_last (refusal e) d h
-
-pub whether_then : {A B : Type 0} (r : Result A BsdlFault) (x : Result B Refusal) (b : B) (f : B → Result Device Refusal) → x ≡ Ok b → TellsWhether r (f b) → TellsWhether r (x >>? f)
-whether_then (Ok u) x b f is h = ap is_ok (ap (λ y. y >>? f) is) ∙ h
-whether_then (Err e) x b f is h = refused_then (refusal e) x b f is h
+-- the device, or the refusal of a later step
+pub told_then : {B : Type 0} (r : Result Device BsdlFault) (x : Result B Refusal) (b : B) (f : B → Result Device Refusal) → x ≡ Ok b → Tells r (f b) → Tells r (x >>? f)
+told_then (Ok v) x b f is h = ap (λ y. y >>? f) is ∙ h
+told_then (Err e) x b f is h = refused_then (refusal e) x b f is h

@@ -10,6 +10,7 @@ use Rattle.bsdl_device.specs.declared.Place.TheVariants.{AtBypass, AtBoundary, A
 use Rattle.bsdl_instructions.specs.Values.{AccessRow}
 use Rattle.bsdl_cells.specs.Rows.{CellRow}
 use Rattle.bsdl_entity.specs.Entity.{Range, Port, File}
+use Rattle.bsdl_built.specs.Built.{device}
 use Rattle.bsdl_twice.specs.ResetOpcode.{bits, opcode, resets_to_idcode}
 use Rattle.bsdl_twice.specs.Twice.{Naming, given_again}
 use Rattle.bsdl_lengths.specs.Lengths.{captures_one, ends_in_one, lengths_fit}
@@ -25,54 +26,6 @@ use Rattle.bsdl_described.specs.Describing.{Refusal, twice, bad_length, bad_capt
 abbrev pub twice_in : Description → Option Naming → Option Refusal
 twice_in d (Some n) = Some (twice n.name)
 twice_in d None = let opcodes = map opcode d.opcodes in if resets_to_idcode opcodes then None else Some (twice (codes "IDCODE"))
-
--- ---- the device
-
-abbrev pub port_bits : Description → Port → List PortBit
-port_bits d p = each p.range
-  where
-    bit_of_index : Option ℕ → PortBit
-    bit_of_index i = record { name = upper p.name.text; index = i; mode = p.mode; is_tap = is_among d.taps (upper p.name.text) }
-
-    each : Option Range → List PortBit
-    each None = bit_of_index None ∷ []
-    each (Some r) = map (λ i. bit_of_index (Some i)) (range_with_len r.low (width (Some r)))
-
--- the control counts at the cells that drive
-abbrev pub cell : Description → CellRow → Cell
-cell d r = record { function = r.function; port = port_bit d r; control = if drives r.function then r.control else None }
-
--- cells stand by their numbers
-abbrev pub cells_of : Description → List Cell
-cells_of d = flat_map (λ k. map (cell d) (listed d k)) (range_with_len 0 d.boundary_length)
-
-abbrev pub place_of : List (Name × ℕ) → AccessRow → Option ℕ → Place
-place_of users r (Some n) = AtUser (unwrap_or (user_number users r.register) 0)
-place_of users r None = if bytes_eq r.register (codes "BOUNDARY") then AtBoundary else if bytes_eq r.register (codes "BYPASS") then AtBypass else AtDeviceId
-
--- a pattern behind CAPTURES counts for a register of the device's own
-abbrev pub accesses_of_row : List (Name × ℕ) → AccessRow → List Access
-accesses_of_row users r =
-    map (λ i. record {
-      instruction = upper i.name.text;
-      place = place_of users r r.len;
-      captures = if is_some r.len then option_map bits i.captures else None;
-    }) r.instrs
-
-abbrev pub device : Description → Device
-device d = record {
-  ports = flat_map (port_bits d) d.ports;
-  instruction_length = d.instruction_length;
-  opcodes = map opcode d.opcodes;
-  capture = bits d.capture;
-  idcode = option_map bits (slice_get d.idcodes 0);
-  usercode = option_map bits (slice_get d.usercodes 0);
-  cells = cells_of d;
-  private_names = d.private_names;
-  accesses = flat_map (accesses_of_row (users_of d.accesses)) d.accesses;
-  users = map (λ u. u.1) (users_of d.accesses);
-  has_trst = d.has_trst;
-}
 
 -- ---- the judgement
 

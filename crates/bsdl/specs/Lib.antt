@@ -1,3 +1,4 @@
 pub mod Form
 pub mod Judging
+pub mod Laws
 pub mod View

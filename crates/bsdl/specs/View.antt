@@ -1,5 +1,5 @@
 -- What answers of the code stand for.
-use Rattle.std.specs.Prelude.{◌≡◌, ⊤, true, Option, Some, None, MatchOption, Result, Ok, Err, is_ok, string_bytes}
+use Rattle.std.specs.Prelude.{◌≡◌, ⊤, Option, Some, None, MatchOption, Result, Ok, Err, string_bytes}
 use Rattle.bsdl_device.specs.Device.{Device}
 use Rattle.bsdl.specs.declared.fault.BsdlFault.{BsdlFault}
 use Rattle.bsdl.specs.declared.fault.BsdlFault.TheVariants.{BadToken, BadForm, Missing, Twice, BadLength, BadCapture, BadId, BadCell, TooLarge, NoMemory}
@@ -40,7 +40,7 @@ abbrev pub Judges : {A : Type 0} → Result A BsdlFault → Option Refusal → T
 Judges (Ok x) says = says ≡ None
 Judges (Err fault) says = MatchOption (refusal fault) ⊤ (λ r. says ≡ Some r)
 
--- unless memory ran out, the text is a description, or this is its first refusal
-abbrev pub TellsWhether : {A : Type 0} → Result A BsdlFault → Result Device Refusal → Type 0
-TellsWhether (Ok x) says = is_ok says ≡ true
-TellsWhether (Err fault) says = Refuses fault says
+-- unless memory ran out, this is the device that the text says, or its first refusal
+abbrev pub Tells : Result Device BsdlFault → Result Device Refusal → Type 0
+Tells (Ok device) says = says ≡ Ok device
+Tells (Err fault) says = Refuses fault says

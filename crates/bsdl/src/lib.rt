@@ -3,11 +3,12 @@
 
 pub use fault::BsdlFault;
 pub use form::{description_of, outline_of};
-pub use judged::check;
+pub use reading::read;
 
 mod fault;
 mod form;
 mod judge;
-mod judged;
+pub mod laws;
+mod reading;
 #[cfg(test)]
 mod tests;

@@ -1,1 +1,3 @@
 pub mod BitLaws
+pub mod CellLaws
+pub mod NumberLaws

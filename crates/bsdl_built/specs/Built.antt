@@ -1,5 +1,5 @@
 -- The device that a description says.
-use Rattle.std.specs.Prelude.{ℕ, Bool, is_some, if◌then◌else◌, List, [], ◌∷◌, map, Option, Some, None, option_map, unwrap_or, bytes_eq, codes, slice_get}
+use Rattle.std.specs.Prelude.{ℕ, ◌+◌, ◌-◌, ◌==◌, Bool, filter, option_and_then, is_some, if◌then◌else◌, List, map, Option, Some, None, option_map, unwrap_or, bytes_eq, codes, slice_get}
 use Rattle.std.specs.List.{range_with_len, flat_map}
 use Rattle.bsdl_text.specs.Words.{upper}
 use Rattle.bsdl_device.specs.Device.{Name, PortBit, Access, Device}
@@ -8,30 +8,25 @@ use Rattle.bsdl_device.specs.declared.Place.{Place}
 use Rattle.bsdl_device.specs.declared.Place.TheVariants.{AtBypass, AtBoundary, AtDeviceId, AtUser}
 use Rattle.bsdl_instructions.specs.Values.{AccessRow, Instr}
 use Rattle.bsdl_cells.specs.Rows.{CellRow}
-use Rattle.bsdl_entity.specs.Entity.{Range, Port}
+use Rattle.bsdl_entity.specs.Entity.{Port}
 use Rattle.bsdl_twice.specs.ResetOpcode.{bits, opcode}
-use Rattle.bsdl_fit.specs.Fits.{drives, listed, port_bit}
-use Rattle.bsdl_limits.specs.PortBits.{width}
+use Rattle.bsdl_fit.specs.Fits.{drives}
+use Rattle.bsdl_limits.specs.PortBits.{bit_number}
+use Rattle.bsdl_device.specs.Ports.{bits_of}
 use Rattle.bsdl_limits.specs.Users.{user_number, users_of}
 use Rattle.bsdl_described.specs.Describing.{Description, is_among}
 
-abbrev pub port_bits : Description → Port → List PortBit
-port_bits d p = each p.range
-  where
-    bit_of_index : Option ℕ → PortBit
-    bit_of_index i = record { name = upper p.name.text; index = i; mode = p.mode; is_tap = is_among d.taps (upper p.name.text) }
-
-    each : Option Range → List PortBit
-    each None = bit_of_index None ∷ []
-    each (Some r) = map (λ i. bit_of_index (Some i)) (range_with_len r.low (width (Some r)))
+-- the bits of a port, by rising index
+abbrev pub port_bits : List Name → Port → List PortBit
+port_bits taps p = bits_of (upper p.name.text) p.mode (is_among taps (upper p.name.text)) (option_map (λ r. (r.low, r.high - r.low + 1)) p.range)
 
 -- the control counts at the cells that drive
-abbrev pub cell : Description → CellRow → Cell
-cell d r = record { function = r.function; port = port_bit d r; control = if drives r.function then r.control else None }
+abbrev pub cell : List Port → CellRow → Cell
+cell ps r = record { function = r.function; port = option_and_then (bit_number 0 ps) r.port; control = if drives r.function then r.control else None }
 
 -- cells stand by their numbers
-abbrev pub cells_of : Description → List Cell
-cells_of d = flat_map (λ k. map (cell d) (listed d k)) (range_with_len 0 d.boundary_length)
+abbrev pub cells_of : List Port → List CellRow → ℕ → List Cell
+cells_of ps rows len = flat_map (λ k. map (cell ps) (filter (λ r. r.number == k) rows)) (range_with_len 0 len)
 
 -- a register that is not the device's own
 abbrev pub public_place : Name → Place
@@ -50,13 +45,13 @@ accesses_of_row users r = map (access (place_of users r r.len) (is_some r.len)) 
 
 abbrev pub device : Description → Device
 device d = record {
-  ports = flat_map (port_bits d) d.ports;
+  ports = flat_map (port_bits d.taps) d.ports;
   instruction_length = d.instruction_length;
   opcodes = map opcode d.opcodes;
   capture = bits d.capture;
   idcode = option_map bits (slice_get d.idcodes 0);
   usercode = option_map bits (slice_get d.usercodes 0);
-  cells = cells_of d;
+  cells = cells_of d.ports d.cells d.boundary_length;
   private_names = d.private_names;
   accesses = flat_map (accesses_of_row (users_of d.accesses)) d.accesses;
   users = map (λ u. u.1) (users_of d.accesses);

@@ -2,4 +2,8 @@
 #![tactic(auto)]
 
 pub mod accesses;
+pub mod bits;
+pub mod cells;
+pub mod device;
 pub mod patterns;
+pub mod ports;

@@ -1,10 +1,8 @@
 //! Patterns and opcodes of a device.
-ghost use Rattle.std.specs.Prelude.{◌≡◌, List, Bool, map, reverse, option_map, slice_get, string_bytes, IfOk};
-ghost use Rattle.bsdl_device.specs.Device as device;
+ghost use Rattle.std.specs.Prelude.{◌≡◌, map, option_map, slice_get, string_bytes, IfOk};
 ghost use Rattle.bsdl_instructions.specs.Values.{bit};
 ghost use Rattle.bsdl_instructions.specs.View as rows_view;
 ghost use Rattle.bsdl_twice.specs.ResetOpcode.{bits as bits_of_pattern, opcode};
-ghost use Rattle.bsdl_text.specs.Words.{upper};
 
 use bsdl_device::{Opcode, Pattern};
 use bsdl_instructions::names::{OpcodeRow, PrivateName};
@@ -26,7 +24,7 @@ pub fn bits_of(alloc: Global, pattern: &WrittenPattern) -> Result<Bits, AllocErr
 
 /// The first code, where there is one.
 pub fn code_of(alloc: Global, codes: &[WrittenPattern]) -> Result<Option<Bits>, AllocError>
-    ensures { IfOk result (λ o. option_map {U = List Bool} (λ b. b) o ≡ option_map bits_of_pattern (slice_get (map rows_view.pattern codes.now) 0)) }
+    ensures { IfOk result (λ o. o ≡ option_map bits_of_pattern (slice_get (map rows_view.pattern codes.now) 0)) }
 {
     match codes.first() {
         Some(code) => Ok(Some(bits_of(alloc, code)?)),

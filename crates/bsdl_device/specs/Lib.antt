@@ -1,3 +1,4 @@
 pub mod Device
 pub mod Ports
+pub mod Sound
 pub mod View

@@ -1,5 +1,5 @@
 -- Ports by their names, one more.
-use Rattle.std.proofs.Common.{◌≡◌, ◌≤◌, ℕ, suc, ◌+◌, Bool, true, false, cond, List, [], ◌∷◌, ◌++◌, length, map, refl, sym, ap, ◌∙◌, arith}
+use Rattle.std.proofs.Common.{◌≡◌, ℕ, suc, ◌+◌, Bool, true, false, cond, List, [], ◌∷◌, ◌++◌, length, map, refl, sym, ap, ◌∙◌, arith}
 use Rattle.std.specs.Prelude.{Option, Some, None, is_some, option_map, bytes_eq}
 use Rattle.std.proofs.lemmas.List.{length-map}
 use Rattle.std.proofs.lemmas.Slice.Eq.{bytes_eq-Decides}
@@ -7,13 +7,11 @@ use Rattle.bsdl_device.specs.declared.PortMode.{PortMode}
 use Rattle.bsdl_text.specs.Words.{upper}
 use Rattle.bsdl_text.specs.WordView.{word_lexeme}
 use Rattle.bsdl_text.specs.declared.names.Word.{Word}
-use Rattle.bsdl_cells.specs.Rows.{PortName}
 use Rattle.bsdl_entity.specs.declared.ports.Range as declared_range
 use Rattle.bsdl_entity.specs.declared.ports.Group.{Group}
 use Rattle.bsdl_entity.specs.Entity.{Port, Range}
 use Rattle.bsdl_entity.specs.View as view
 use Rattle.bsdl_limits.proofs.WidthLaws.{ports_named}
-use Rattle.bsdl_limits.specs.PortBits.{bit_at, bit_number, width}
 use Rattle.bsdl_fit.specs.Places.{at_name, find_port, or_first}
 
 pub or_none : {A : Type 0} (o : Option A) → or_first o None ≡ o

@@ -1,6 +1,6 @@
 -- Cells by their numbers, one row more; and which are fit.
 use Rattle.std.proofs.Common.{◌≡◌, ◌<◌, ◌≤◌, ℕ, zero, suc, ◌+◌, ◌-◌, Bool, true, false, nat_eq, nat_lt, min, max, ◌&&◌, cond, List, [], ◌∷◌, ◌++◌, length, refl, sym, ap, ◌∙◌, arith}
-use Rattle.std.specs.Prelude.{Option, Some, None, not, filter, if◌then◌else◌}
+use Rattle.std.specs.Prelude.{Option, Some, filter, if◌then◌else◌}
 use Rattle.std.specs.List.{find, list_all, fold, range_with_len}
 use Rattle.std.proofs.lemmas.Bool.Decides.{nat_tests}
 use Rattle.std.proofs.lemmas.List.Elements.{filter-append}

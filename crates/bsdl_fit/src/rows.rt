@@ -93,7 +93,7 @@ fn drives_again<'a>(
 }
 
 /// Whether a port of this name is one of the TAP's.
-fn names_tap(taps: &Taps<'_>, name: &[u8]) -> bool
+pub fn names_tap(taps: &Taps<'_>, name: &[u8]) -> bool
     ensures { result ≡ described.is_among (taps_view taps.now) (upper name.now) }
 {
     same_name(name, taps.input.text)

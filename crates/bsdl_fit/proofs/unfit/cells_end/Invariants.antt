@@ -1,4 +1,4 @@
-use Rattle.std.proofs.Common.{◌≡◌, ◌≤◌, suc, max, min, map, take}
+use Rattle.std.proofs.Common.{◌≡◌, suc, max, min, map, take}
 use Rattle.std.specs.List.{fold}
 use Rattle.bsdl_cells.specs.View.{cell_row}
 use Rattle.bsdl_fit.proofs.unfit.cells_end.Given as goal

@@ -1,8 +1,5 @@
-use Rattle.std.proofs.Common.{◌≡◌, ◌+◌, ◌++◌, ◌∷◌, [], ℕ, Bool, nat_eq, cond, ap, sym, ◌∙◌, map, take, get_or}
-use Rattle.std.specs.BTreeMap.{get}
-use Rattle.std.specs.Ordering.{nat_cmp}
+use Rattle.std.proofs.Common.{◌≡◌, ◌+◌, ◌++◌, ◌∷◌, [], nat_eq, cond, ap, sym, ◌∙◌, map, take, get_or}
 use Rattle.std.proofs.lemmas.List.{take_all, take_more, map-append}
-use Rattle.bsdl_text.specs.View.{value}
 use Rattle.bsdl_cells.specs.View.{cell_row}
 use Rattle.bsdl_cells.specs.declared.CellRow.{CellRow}
 use Rattle.bsdl_fit.specs.Fits.{row_fits}

@@ -1,4 +1,4 @@
-use Rattle.std.proofs.Common.{◌≡◌, ◌<◌, ◌≤◌, ◌+◌, ℕ, suc, min, max, nat_lt, ap, sym, ◌∙◌, map, arith}
+use Rattle.std.proofs.Common.{◌≡◌, ◌≤◌, ℕ, suc, min, max, nat_lt, ap, sym, ◌∙◌, map, arith}
 use Rattle.std.specs.Prelude.{not}
 use Rattle.std.specs.BTreeMap.{get}
 use Rattle.std.specs.List.{find, fold, range_with_len}

@@ -3,13 +3,13 @@ use Rattle.bsdl_described.specs.View.{description}
 use Rattle.bsdl_entity.specs.OutlineView.{outline}
 use Rattle.bsdl.specs.Judging.{fault, judged}
 use Rattle.bsdl.specs.View.{refusal}
-use Rattle.bsdl.proofs.ReadLaws.{refused_first, whether_judged, whether_then}
-use Rattle.bsdl.proofs.judged.check_entity.Goals as goal
+use Rattle.bsdl.proofs.ReadLaws.{refused_first, told_then}
+use Rattle.bsdl.proofs.reading.read_entity.Goals as goal
 
 pub returns-in-Ok : goal.returns-in-Ok
 returns-in-Ok c =
     let d = description c.args.entity.now c.in-Ok.found in
-    whether_then c.judge.result (described (outline c.args.entity.now)) d (λ e. judged (fault e) e) c.in-Ok.ensures (whether_judged c.judge.result d c.judge.ensures)
+    told_then c.read_description.result (described (outline c.args.entity.now)) d (λ e. judged (fault e) e) c.in-Ok.ensures c.read_description.ensures
 
 pub returns-in-Err : goal.returns-in-Err
 returns-in-Err c = refused_first (refusal c.in-Err.fault) (described (outline c.args.entity.now)) (λ d. judged (fault d) d) c.in-Err.ensures

@@ -1,0 +1,83 @@
+-- A description that no rule refuses lists each cell once.
+use Rattle.std.proofs.Common.{◌≡◌, ◌<◌, ◌≤◌, ℕ, zero, suc, ◌+◌, Bool, true, false, nat_eq, nat_lt, min, max, ◌&&◌, cond, List, [], ◌∷◌, length, refl, sym, ap, ◌∙◌, arith}
+use Rattle.std.specs.Prelude.{Option, Some, None, not, option_map, filter, nat_le}
+use Rattle.std.specs.List.{find, fold, range_with_len, list_all}
+use Rattle.std.proofs.lemmas.Bool.Decides.{nat_tests}
+use Rattle.bsdl_cells.specs.Rows.{CellRow}
+use Rattle.bsdl_described.specs.Describing.{Description, Refusal, bad_capture, bad_cell, bad_id, bad_length, too_large}
+use Rattle.bsdl_fit.specs.Fits.{cells_end, is_fit, listed, row_fits, unfit_cell}
+use Rattle.bsdl_lengths.specs.Lengths.{captures_one, ends_in_one, lengths_fit}
+use Rattle.bsdl_limits.specs.Limits.{instructions_within, cells_within, is_within_limits, ports_within, users_within}
+use Rattle.bsdl_twice.specs.Twice.{given_again}
+use Rattle.bsdl.specs.Judging.{fault, or_else, twice_in, unless}
+
+pub record Neither (a b : Option Refusal) : Type 0 where
+  pub first : a ≡ None
+  pub second : b ≡ None
+
+pub neither : (a b : Option Refusal) → or_else a b ≡ None → Neither a b
+neither None b e = record { first = refl; second = e }
+neither (Some r) b e = absurd cc
+
+pub holds : (b : Bool) (r : Refusal) → unless b r ≡ None → b ≡ true
+holds true r e = refl
+holds false r e = absurd cc
+
+none_mapped : (o : Option ℕ) → option_map bad_cell o ≡ None → o ≡ None
+none_mapped None e = refl
+none_mapped (Some n) e = absurd cc
+
+pub both : (a b : Bool) → (a && b) ≡ true → (a ≡ true) × (b ≡ true)
+both true b h = (refl, h)
+both false b h = absurd cc
+
+none_found : (f : ℕ → Bool) (a n k : ℕ) → find f (range_with_len a n) ≡ None → a ≤ k → k < a + n → f k ≡ false
+none_found f a zero k e low high = absurd (omega arith)
+none_found f a (suc n) k e low high = by_test (f a) refl (λ rest above. none_found f (a + 1) n k rest above (omega arith))
+  where
+    by_place : (here : Bool) → nat_eq a k ≡ here → f a ≡ false → (a + 1 ≤ k → f k ≡ false) → f k ≡ false
+    by_place true same fails rest =
+        let place : a ≡ k = grind (arith, nat_tests) in
+        ap f (sym place) ∙ fails
+    by_place false apart fails rest = rest (grind (arith, nat_tests))
+
+    by_test : (b : Bool) → f a ≡ b → (find f (range_with_len (a + 1) n) ≡ None → a + 1 ≤ k → f k ≡ false) → f k ≡ false
+    by_test true is rest =
+        let found : find f (range_with_len a (suc n)) ≡ Some a = rw is refl in
+        absurd cc
+    by_test false is rest =
+        let later : find f (range_with_len a (suc n)) ≡ find f (range_with_len (a + 1) n) = rw is refl in
+        by_place (nat_eq a k) refl is (rest (sym later ∙ e))
+
+at_least : (n : ℕ) (rows : List CellRow) → n ≤ fold (λ m r. max m (suc r.number)) n rows
+at_least n [] = omega arith
+at_least n (r ∷ rows) =
+    let more = at_least (max n (suc r.number)) rows in
+    omega arith
+
+one_listed : (d : Description) (k : ℕ) → k < d.boundary_length → is_fit d k ≡ true → length (listed d k) ≡ 1
+one_listed d k h fit =
+    let below : nat_lt k d.boundary_length ≡ true = grind (arith, nat_tests) in
+    let here : (nat_eq (length (listed d k)) 1 && list_all (row_fits d) (listed d k)) ≡ true = rw below at fit in
+    let one = (both (nat_eq (length (listed d k)) 1) (list_all (row_fits d) (listed d k)) here).0 in
+    grind (arith, nat_tests, one)
+
+not_false : (b : Bool) → not b ≡ false → b ≡ true
+not_false true e = refl
+not_false false e = absurd cc
+
+pub each_cell_once : (d : Description) → fault d ≡ None → (k : ℕ) → k < d.boundary_length → length (listed d k) ≡ 1
+each_cell_once d e k h =
+    let names = neither (twice_in d (given_again d)) _ e in
+    let lengths = neither (unless (lengths_fit d) bad_length) _ names.second in
+    let ends = neither (or_else (unless (captures_one d.capture) bad_capture) (unless (ends_in_one d.idcodes) bad_id)) _ lengths.second in
+    let cells = neither (option_map bad_cell (unfit_cell d)) (unless (is_within_limits d) too_large) ends.second in
+    let unfit : unfit_cell d ≡ None = none_mapped (unfit_cell d) cells.first in
+    let limits : is_within_limits d ≡ true = holds (is_within_limits d) too_large cells.second in
+    let behind = (both (instructions_within d) (cells_within d && (ports_within d && users_within d)) limits).1 in
+    let within = (both (cells_within d) (ports_within d && users_within d) behind).0 in
+    let few : nat_le d.boundary_length 4096 ≡ true = (both (nat_le d.boundary_length 4096) _ within).0 in
+    let small : d.boundary_length ≤ 4096 = grind (arith, nat_tests, few) in
+    let reach : d.boundary_length ≤ cells_end d = at_least d.boundary_length d.cells in
+    let inside : k < 0 + min 65536 (cells_end d) = omega arith in
+    one_listed d k h (not_false (is_fit d k) (none_found (λ n. not (is_fit d n)) 0 (min 65536 (cells_end d)) k unfit (omega arith) inside))

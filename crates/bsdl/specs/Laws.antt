@@ -1,0 +1,9 @@
+-- Laws over all texts, which public functions ensure.
+use Rattle.std.specs.Prelude.{◌≡◌, ℕ, List, Ok}
+use Rattle.bsdl_device.specs.Device.{Device}
+use Rattle.bsdl_device.specs.Sound.{IsSoundDevice}
+use Rattle.bsdl.specs.Judging.{text_says}
+
+-- every device that a text says is sound
+abbrev pub EveryDeviceIsSound : Type 0
+EveryDeviceIsSound = (text : List ℕ) (d : Device) → text_says text ≡ Ok d → IsSoundDevice d

@@ -1,0 +1,51 @@
+//! Reading a description: the device that it says, or its first refusal.
+ghost use Rattle.bsdl.specs.Judging.{fault, file_says, judged, text_says};
+ghost use Rattle.bsdl.specs.View.{Tells};
+ghost use Rattle.bsdl_described.specs.View.{description};
+ghost use Rattle.bsdl_entity.specs.OutlineView.{outline};
+
+use crate::fault::BsdlFault;
+use crate::form::{description_of, outline_of};
+use crate::judge::judge;
+use bsdl_built::device::device_of;
+use bsdl_described::description::Description;
+use bsdl_device::Device;
+use bsdl_entity::entity::Outline;
+use std::alloc::Global;
+
+/// The device that a text says, or its first refusal. Want of memory is B10; nothing is said of when it comes.
+pub fn read(alloc: Global, text: &[u8]) -> Result<Device, BsdlFault>
+    ensures { Tells result (text_says text.now) }
+{
+    match outline_of(alloc, text) {
+        Ok(found) => read_entity(alloc, &found),
+        Err(fault) => Err(fault),
+    }
+}
+
+/// The device that an entity says.
+fn read_entity(alloc: Global, entity: &Outline<'_>) -> Result<Device, BsdlFault>
+    ensures { Tells result (file_says (outline entity.now)) }
+{
+    match description_of(alloc, entity) {
+        Ok(found) => read_description(alloc, entity, &found),
+        Err(fault) => Err(fault),
+    }
+}
+
+/// The device that a description says, once it is judged.
+fn read_description(
+    alloc: Global,
+    entity: &Outline<'_>,
+    described: &Description<'_>,
+) -> Result<Device, BsdlFault>
+    ensures { Tells result (judged (fault (description entity.now described.now)) (description entity.now described.now)) }
+{
+    match judge(alloc, entity, described) {
+        Ok(()) => match device_of(alloc, entity, described) {
+            Ok(device) => Ok(device),
+            Err(_) => Err(BsdlFault::NoMemory),
+        },
+        Err(fault) => Err(fault),
+    }
+}

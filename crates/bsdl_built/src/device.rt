@@ -1,0 +1,79 @@
+//! A whole device.
+ghost use Rattle.std.specs.Prelude.{◌≡◌, ◌<◌, ◌==◌, ℕ, filter, length, map, IfOk};
+ghost use Rattle.bsdl_text.specs.View.{value};
+ghost use Rattle.bsdl_described.specs.View.{description};
+ghost use Rattle.bsdl_built.specs.Built as spec;
+
+use crate::accesses::accesses_of;
+use crate::bits::firsts_of;
+use crate::cells::cells_of;
+use crate::patterns::{bits_of, code_of, opcodes_of, private_names_of};
+use crate::ports::{ports_of, size_of};
+use bsdl_described::description::Description;
+use bsdl_device::{Cell, Device, Parts};
+use bsdl_entity::entity::Outline;
+use bsdl_fit::places::places_of;
+use bsdl_limits::users::users_of;
+use bsdl_text::numbers::Digits;
+use std::alloc::{AllocError, Global};
+
+/// The device that a description says, where each cell below the length of the boundary register has one row.
+pub fn device_of(
+    alloc: Global,
+    outline: &Outline<'_>,
+    described: &Description<'_>,
+) -> Result<Device, AllocError>
+    ensures { IfOk result (λ v. ((k : ℕ) → k < (description outline.now described.now).boundary_length → length (filter (λ r. r.number == k) (description outline.now described.now).cells) ≡ 1) → v ≡ spec.device (description outline.now described.now)) }
+{
+    let ports = ports_of(alloc, &described.taps, &outline.groups)?;
+    let instruction_length = size_of(described.instruction_length)?;
+    let opcodes = opcodes_of(alloc, &described.opcodes)?;
+    let capture = bits_of(alloc, &described.capture)?;
+    let idcode = code_of(alloc, &described.idcodes)?;
+    let usercode = code_of(alloc, &described.usercodes)?;
+    let cells = boundary_of(alloc, outline, described)?;
+    let private_names = private_names_of(alloc, &described.private_names)?;
+    let known = users_of(alloc, &described.accesses)?;
+    let accesses = accesses_of(alloc, &known, &described.accesses)?;
+    let users = lengths_of(alloc, &known.lengths)?;
+    let has_trst = described.taps.reset.is_some();
+    Ok(Device::new(Parts {
+        ports,
+        instruction_length,
+        opcodes,
+        capture,
+        idcode,
+        usercode,
+        cells,
+        private_names,
+        accesses,
+        users,
+        has_trst,
+    }))
+}
+
+/// The boundary register.
+fn boundary_of(
+    alloc: Global,
+    outline: &Outline<'_>,
+    described: &Description<'_>,
+) -> Result<Vec<Cell>, AllocError>
+    ensures { IfOk result (λ v. ((k : ℕ) → k < (description outline.now described.now).boundary_length → length (filter (λ r. r.number == k) (description outline.now described.now).cells) ≡ 1) → v.items ≡ spec.cells_of (description outline.now described.now).ports (description outline.now described.now).cells (description outline.now described.now).boundary_length) }
+{
+    let places = places_of(alloc, &outline.groups)?;
+    let firsts = firsts_of(alloc, &outline.groups)?;
+    let len = size_of(described.boundary_length)?;
+    let cells = cells_of(alloc, &places, &firsts.bits, &described.cells, len)?;
+    Ok(cells)
+}
+
+fn lengths_of(alloc: Global, lengths: &[Digits<'_>]) -> Result<Vec<usize>, AllocError>
+    ensures { IfOk result (λ v. v.items ≡ map value lengths.now) }
+{
+    let mut all = Vec::new(alloc);
+    for length in lengths {
+        let size = size_of(*length)?;
+        all.push(size)?;
+    }
+    Ok(all)
+}
