@@ -3,9 +3,9 @@
 
 mod bits;
 mod chips;
-mod plays;
 mod programs;
 mod scans;
+mod whole_plays;
 
 use std::alloc::AllocError;
 use std::process::ExitCode;
@@ -66,7 +66,7 @@ fn measure(rt: &HostRuntime) -> io::Result<()> {
     bits::rows(rt)?;
     scans::rows(rt)?;
     chips::rows(rt)?;
-    plays::rows(rt)
+    whole_plays::rows(rt)
 }
 
 /// Prints a row's name and unit, which C's row has too, its least time of a round in nanoseconds, its count and its
