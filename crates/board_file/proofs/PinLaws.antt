@@ -6,7 +6,7 @@ use Rattle.std.specs.declared.cmp.Ordering.TheVariants.{Less, Equal, Greater}
 use Rattle.std.specs.List.{list_any, position}
 use Rattle.std.specs.Ordering.{is_eq, ordering_then}
 use Rattle.board_tables.proofs.TextLaws.{is_there}
-use Rattle.board_file.specs.declared.pins.Pin.{Pin}
+use Rattle.pin_nets.specs.declared.Pin.{Pin}
 use Rattle.board_file.specs.Pins.{same_pin}
 
 then_at : (o p : Ordering) → is_eq (ordering_then o p) ≡ is_eq o && is_eq p

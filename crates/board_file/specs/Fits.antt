@@ -1,9 +1,10 @@
 -- What holds of every board that a board file makes.
 use Rattle.std.specs.Prelude.{◌≡◌, ◌<◌, ◌≤◌, false, List, [], ◌∷◌, ◌++◌, length, slice_get, Some}
 use Rattle.std.specs.List.{list_any, flat_map, AllByRecursion}
-use Rattle.board_file.specs.declared.pins.Pin.{Pin}
+use Rattle.pin_nets.specs.declared.Pin.{Pin}
 use Rattle.board_file.specs.Pins.{same_pin}
-use Rattle.board_file.specs.Wiring.{Member, Net, Wiring}
+use Rattle.pin_nets.specs.Wired.{Net}
+use Rattle.board_file.specs.Wiring.{Member, Wiring}
 
 -- the core has a bit for each cell
 abbrev pub HasCore : Member → Type 0

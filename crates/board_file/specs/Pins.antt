@@ -8,7 +8,7 @@ use Rattle.bsdl_device.specs.Ports.{bit_number}
 use Rattle.board_tables.specs.PinTexts.{PinText, pin_of}
 use Rattle.board_tables.specs.Fields.{texts_at}
 use Rattle.board_tables.specs.Faults.{or_else}
-use Rattle.board_file.specs.declared.pins.Pin.{Pin}
+use Rattle.pin_nets.specs.declared.Pin.{Pin}
 
 -- The index that digits write. No description has one above 65,535.
 abbrev pub index_of : List ℕ → Option ℕ

@@ -23,8 +23,9 @@ use Rattle.board_file.specs.declared.plan.PlannedNet.{PlannedNet}
 use Rattle.board_file.specs.Files.{Reads, IsBadToml, File, text_of}
 use Rattle.toml.specs.Data.{Members}
 use Rattle.std.specs.List.{filter_map}
+use Rattle.pin_nets.specs.Wired.{Net}
 use Rattle.board_tables.specs.Fields.{text_at, name_at}
-use Rattle.board_file.specs.Wiring.{Member, member_of, net_of, wire_fault, Net, Wiring, Fault, BadField, UnknownFile, Bsdl, UnknownPin, PinTwice, TooLarge}
+use Rattle.board_file.specs.Wiring.{Member, member_of, net_of, wire_fault, Wiring, Fault, BadField, UnknownFile, Bsdl, UnknownPin, PinTwice, TooLarge}
 
 -- the files handed in
 abbrev pub file_of : Bor (List ℕ) × Bor (List ℕ) → File

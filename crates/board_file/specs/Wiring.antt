@@ -6,7 +6,7 @@ use Rattle.pin_nets.specs.declared.Pull.{Pull}
 use Rattle.pin_nets.specs.declared.Pull.TheVariants.{Up, Down, Free}
 use Rattle.board_tables.specs.Fields.{text_at, name_at, tables_at}
 use Rattle.board_tables.specs.Faults.{or_else, unfit}
-use Rattle.board_file.specs.declared.pins.Pin.{Pin}
+use Rattle.pin_nets.specs.Wired.{Net}
 use Rattle.board_file.specs.Files.{File, file_names, device_at, cells_at, devices_of, missing_in, refused_in}
 use Rattle.board_file.specs.Pins.{pins_at, unknown_in_nets, twice_in_nets}
 
@@ -19,11 +19,6 @@ pub record Member : Type 0 where
   pub device : Device
   pub core : List Bool
   pub extest_update : Bool
-
-pub record Net : Type 0 where
-  pub name : List ℕ
-  pub pull : Pull
-  pub pins : List Pin
 
 -- the devices, the first nearest the board's TDO, and the nets
 pub record Wiring : Type 0 where

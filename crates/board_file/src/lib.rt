@@ -15,5 +15,5 @@ pub use fault::BoardFault;
 pub use files::bsdl_names;
 pub use instructions::left_out;
 pub use library::{Describe, Unread};
-pub use pins::Pin;
+pub use pin_nets::Pin;
 pub use plan::{Plan, PlannedDevice, PlannedNet};

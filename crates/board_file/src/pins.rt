@@ -6,14 +6,8 @@ ghost use Rattle.board_file.specs.Pins as spec;
 
 use board_tables::{PinText, Places, pin_of};
 use bsdl_device::Device;
+use pin_nets::Pin;
 use scan_registers::SharedDevice;
-
-/// A pin: the place of its device on the board, and the number of its port bit.
-#[derive(Debug, Drop, Clone, Copy, PartialEq, Eq, PartialOrd, Ord)]
-pub struct Pin {
-    pub device: usize,
-    pub port: usize,
-}
 
 /// The pin that a text names, given the names of all devices, and the devices.
 #[tactic(auto, unfolding(crate::specs::Pins::pin_at))]

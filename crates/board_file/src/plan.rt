@@ -9,10 +9,10 @@ ghost use Rattle.board_file.specs.Wiring as spec;
 ghost use Rattle.board_file.specs.View as view;
 
 use crate::library::described_at;
-use crate::pins::{Pin, find_pin};
+use crate::pins::find_pin;
 use board_tables::{Places, items_at, name_at, text_at};
 use jt_bits::Bits;
-use pin_nets::Pull;
+use pin_nets::{Pin, Pull};
 use scan_registers::SharedDevice;
 use std::alloc::{AllocError, Global};
 use toml::{Table, Value};

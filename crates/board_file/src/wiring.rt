@@ -8,8 +8,9 @@ ghost use Rattle.board_file.specs.Pins as spec;
 ghost use Rattle.board_file.specs.Wiring.{wire_fault};
 ghost use Rattle.board_file.specs.View.{ChecksPins};
 
-use crate::pins::{Pin, find_pin};
+use crate::pins::find_pin;
 use board_tables::{Places, items_at};
+use pin_nets::Pin;
 use scan_registers::SharedDevice;
 use std::alloc::{AllocError, Global};
 use toml::Value;

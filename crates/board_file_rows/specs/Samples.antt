@@ -9,9 +9,10 @@ use Rattle.bsdl_device.specs.declared.Function.TheVariants.{Input, Output2, Outp
 use Rattle.bsdl_device.specs.declared.Disabled.TheVariants.{Z}
 use Rattle.bsdl_device.specs.declared.Cell.{Cell}
 use Rattle.pin_nets.specs.declared.Pull.{Pull}
-use Rattle.board_file.specs.declared.pins.Pin.{Pin}
+use Rattle.pin_nets.specs.declared.Pin.{Pin}
 use Rattle.board_file.specs.Files.{File}
-use Rattle.board_file.specs.Wiring.{Member, Net, Wiring, Fault, makes}
+use Rattle.pin_nets.specs.Wired.{Net}
+use Rattle.board_file.specs.Wiring.{Member, Wiring, Fault, makes}
 
 -- ---- devices
 

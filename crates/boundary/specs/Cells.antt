@@ -1,6 +1,6 @@
 -- The boundary cells of a device on the board: what they capture, what a reset gives them, what the pins drive
 -- (IEEE Std 1149.1-2001, clauses 8 and 11, and Annex B for the cell table).
-use Rattle.std.specs.Prelude.{Bool, true, false, ◌&&◌, ℕ, suc, ◌==◌, List, [], ◌∷◌, length, replicate, slice_get, Option, Some, None, unwrap_or, if◌then◌else◌}
+use Rattle.std.specs.Prelude.{◌≡◌, Bool, true, false, ◌&&◌, ℕ, suc, ◌==◌, List, [], ◌∷◌, length, replicate, position, slice_get, Option, Some, None, unwrap_or, if◌then◌else◌}
 use Rattle.bsdl_device.specs.declared.Cell.{Cell}
 use Rattle.bsdl_device.specs.declared.Control3.{Control3}
 use Rattle.bsdl_device.specs.declared.Disabled.{Disabled}
@@ -69,10 +69,10 @@ abbrev pub at_reset : BoundaryValue → List Bool
 at_reset b = reset_from b.cells 0 b.cells b.update
 
 -- the bits that drive: the update stage under EXTEST and CLAMP, else the core's
-abbrev pub in_force : Mode → BoundaryValue → List Bool
-in_force Extest b = b.update
-in_force Clamp b = b.update
-in_force _ b = b.core
+abbrev pub in_force : Mode → (update core : List Bool) → List Bool
+in_force Extest update core = update
+in_force Clamp update core = update
+in_force _ update core = core
 
 -- what a disabled driver leaves on its pin
 abbrev pub left_by : Disabled → Drive
@@ -112,9 +112,20 @@ drive_from bits p k (c ∷ cs) =
     if drives c.function && is_port p c.port then cell_drive bits k c.control else drive_from bits p (suc k) cs
 
 -- Under HIGHZ every pin drives nothing.
-abbrev pub drive_in : Mode → BoundaryValue → ℕ → Drive
-drive_in HighZ b p = Nothing
-drive_in mode b p = drive_from (in_force mode b) p 0 b.cells
+abbrev pub drive_in : Mode → List Cell → (update core : List Bool) → ℕ → Drive
+drive_in HighZ cells update core p = Nothing
+drive_in mode cells update core p = drive_from (in_force mode update core) p 0 cells
+
+-- the cell that drives a port bit, if one does
+abbrev pub driver : ℕ → List Cell → Option ℕ
+driver p cells = position (λ (c : Cell). drives c.function && is_port p c.port) cells
+
+-- the four lists have a bit for each cell
+pub record IsWhole (b : BoundaryValue) : Type 0 where
+  pub core : length b.core ≡ length b.cells
+  pub seen : length b.seen ≡ length b.cells
+  pub stage : length b.stage ≡ length b.cells
+  pub update : length b.update ≡ length b.cells
 
 abbrev pub zeros : ℕ → List Bool
 zeros n = replicate n false

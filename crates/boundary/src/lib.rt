@@ -257,7 +257,7 @@ impl Boundary {
 
     /// What a port bit drives in a mode.
     pub fn drive(&self, port: usize, mode: Mode) -> Drive
-        ensures { result ≡ cells.drive_in mode self.now port }
+        ensures { result ≡ cells.drive_in mode self.now.cells self.now.update self.now.core port }
     {
         match mode {
             Mode::HighZ => Drive::Nothing,

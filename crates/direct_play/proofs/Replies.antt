@@ -7,9 +7,9 @@ use Rattle.bitbang_table.specs.Protocol.{answer, encode}
 use Rattle.bitbang_table.proofs.Bytes.{decode-encode}
 use Rattle.scan_vectors.specs.declared.part.Part.{Part}
 use Rattle.scan_vectors.specs.Vector.{VectorBit, judge}
-use Rattle.jt_board.specs.Chain.{BoardState, after, answers, hear, reply, reply_of, tdi_before, told}
-use Rattle.jt_board.specs.declared.board.Reply.{Reply}
-use Rattle.jt_board.specs.declared.board.Reply.TheVariants as said
+use Rattle.board_meaning.specs.Chain.{BoardState, after, answers, hear, reply, reply_of, tdi_before, told}
+use Rattle.board_meaning.specs.declared.Reply.{Reply}
+use Rattle.board_meaning.specs.declared.Reply.TheVariants as said
 use Rattle.direct_play.specs.Hearing.{answered}
 use Rattle.direct_play.specs.Judging.{finds, left, or_found}
 use Rattle.direct_play.specs.declared.judging.Judge.{Judge}

@@ -15,8 +15,8 @@ use Rattle.svf_parse.specs.declared.statement.TrstWord.TheVariants.{On, Off, Z, 
 use Rattle.svf_settings.specs.Legal.{IsFormed, IsLegalProgram, IsPath}
 use Rattle.svf_settings.specs.Steps.{Step, Scan, Go, Path, Run, Trst, Numbered, Program, place_after}
 use Rattle.tap_paths.specs.Paths.{last_of}
-use Rattle.jt_board.specs.Chain.{BoardState, Heard, hear}
-use Rattle.jt_board.specs.Sound.{HasDevice, IsSoundBoard}
+use Rattle.board_meaning.specs.Chain.{BoardState, Heard, hear}
+use Rattle.board_meaning.specs.Sound.{HasDevice, IsSoundBoard}
 use Rattle.plays.specs.declared.ending.Ending.{Ending}
 use Rattle.plays.specs.declared.ending.Ending.TheVariants.{Fail}
 use Rattle.plays.specs.DirectPlay.{MeansFromOpening, full_bytes}

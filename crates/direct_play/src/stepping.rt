@@ -8,7 +8,7 @@ ghost use Rattle.scan_vectors.specs.Vector.{judge};
 ghost use Rattle.svf_settings.specs.Legal.{IsFormed};
 ghost use Rattle.svf_settings.specs.Laws.{IsWithin};
 ghost use Rattle.svf_settings.specs.Seen as seen;
-ghost use Rattle.jt_board.specs.Chain.{after_all, hear};
+ghost use Rattle.board_meaning.specs.Chain.{after_all, hear};
 ghost use Rattle.plays.specs.Play.{wants_of};
 
 use crate::judging::Judge;

@@ -7,8 +7,8 @@ use Rattle.std.specs.List.{list_any}
 use Rattle.bitbang_table.specs.Protocol.{answer, encode}
 use Rattle.svf_settings.specs.Legal.{IsLegalProgram}
 use Rattle.svf_settings.specs.Steps.{Program}
-use Rattle.jt_board.specs.Chain.{BoardState}
-use Rattle.jt_board.specs.Sound.{HasDevice, IsSoundBoard}
+use Rattle.board_meaning.specs.Chain.{BoardState}
+use Rattle.board_meaning.specs.Sound.{HasDevice, IsSoundBoard}
 use Rattle.plays.specs.declared.ending.Ending.{Ending}
 use Rattle.plays.specs.declared.ending.Ending.TheVariants.{Lost}
 use Rattle.plays.specs.DirectPlay.{MeansFromOpening}

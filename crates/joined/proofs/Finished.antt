@@ -1,7 +1,7 @@
 -- Each round adds to a sum that the program bounds.
 use Rattle.std.proofs.Common.{◌≡◌, Bool, true, false, ◌||◌, ℕ, ◌+◌, ◌-◌, ◌<◌, ◌≤◌, List, [], ◌∷◌, ◌++◌, map, length, refl, sym, ap, ◌∙◌, subst, arith, length-append, lt-ltb, Option, Some, None}
 use Rattle.bitbang_table.specs.declared.Message.TheVariants.{Quit}
-use Rattle.jt_board.specs.Chain.{BoardState, hear}
+use Rattle.board_meaning.specs.Chain.{BoardState, hear}
 use Rattle.scan_vectors.specs.declared.part.Part.{Part}
 use Rattle.scan_vectors.specs.Vector.{judge}
 use Rattle.plays.specs.Events.{Event, Known, World, by_answers, empty_pipes, fresh as fresh_world, run}

@@ -3,7 +3,7 @@ use Rattle.std.specs.Prelude.{◌≡◌, Bool, true, ◌||◌, ℕ, ◌+◌, ◌
 use Rattle.plays.specs.declared.ending.Ending.{Ending}
 use Rattle.plays.specs.declared.ending.Ending.TheVariants.{Lost}
 use Rattle.plays.specs.Streams as stream
-use Rattle.jt_board.specs.Chain.{BoardState}
+use Rattle.board_meaning.specs.Chain.{BoardState}
 use Rattle.plays.specs.Events.{Event, Put, Serve, Take, World, empty_pipes, run}
 use Rattle.plays.specs.Play.{turns}
 use Rattle.plays.specs.PlayingOn.{Stops}

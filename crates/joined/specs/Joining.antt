@@ -2,7 +2,7 @@
 use Rattle.std.specs.Prelude.{◌≡◌, Bool, not, ◌||◌, ℕ, ◌+◌, ◌==◌, List, [], ◌∷◌, ◌++◌, map, Option, Some, None, if◌then◌else◌}
 use Rattle.bitbang_table.specs.Protocol.{answer, decode}
 use Rattle.circular_buffer.specs.Buffer.{Buffer}
-use Rattle.jt_board.specs.Chain.{BoardState}
+use Rattle.board_meaning.specs.Chain.{BoardState}
 use Rattle.joined.specs.declared.event.Event as declared
 use Rattle.joined.specs.declared.event.Event.TheVariants as happening
 use Rattle.plays.specs.Events.{Event, Put, Serve, Take, Lose, Side, World, has_room, taken as taken_byte}

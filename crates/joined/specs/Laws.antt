@@ -2,8 +2,8 @@
 use Rattle.std.specs.Prelude.{◌≡◌, true, false, ℕ, List, Some}
 use Rattle.svf_settings.specs.Legal.{IsLegalProgram}
 use Rattle.svf_settings.specs.Steps.{Program}
-use Rattle.jt_board.specs.Chain.{BoardState}
-use Rattle.jt_board.specs.Sound.{HasDevice, IsSoundBoard}
+use Rattle.board_meaning.specs.Chain.{BoardState}
+use Rattle.board_meaning.specs.Sound.{HasDevice, IsSoundBoard}
 use Rattle.plays.specs.declared.ending.Ending.{Ending}
 use Rattle.plays.specs.DirectPlay.{MeansFromOpening}
 use Rattle.plays.specs.Events.{Event, World, empty_pipes, run}

@@ -1,9 +1,9 @@
 -- A chain of bare devices, one device more at its TDI end.
 use Rattle.std.proofs.Common.{◌≡◌, ℕ, zero, suc, ◌+◌, List, [], ◌∷◌, ◌++◌, map, sym, ap, ◌∙◌, arith}
 use Rattle.jt_tap.specs.declared.State.TheVariants.{Reset}
-use Rattle.jt_board.specs.Bare.{bare_from, bare_member, bare_name}
-use Rattle.jt_board.specs.Chain.{ChipState}
-use Rattle.jt_board.specs.Resting.{standing}
+use Rattle.board_meaning.specs.Bare.{bare_from, bare_member, bare_name}
+use Rattle.board_meaning.specs.Chain.{ChipState}
+use Rattle.board_meaning.specs.Resting.{standing}
 
 abbrev chip : ℕ → ChipState
 chip k = standing Reset (bare_member (bare_name k))

@@ -1,14 +1,4 @@
-pub mod Low
-pub mod Moves
-pub mod Resets
-pub mod Ones
 pub mod Short
 pub mod Sweeps
 pub mod Bares
-pub mod BoardLaws
 pub mod Lines
-pub mod Told
-pub mod Shift
-pub mod Sound
-pub mod SoundEdges
-pub mod Powered

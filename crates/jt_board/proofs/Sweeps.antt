@@ -1,6 +1,6 @@
 -- A chain whose devices are taken one after another, as the loops over it go.
 use Rattle.std.proofs.Common.{◌≡◌, Bool, true, ℕ, zero, suc, ◌+◌, ◌<◌, ◌≤◌, List, [], ◌∷◌, ◌++◌, length, take, drop, set, get_or, map, refl, sym, ap, ◌∙◌, arith, unwrap_or}
-use Rattle.jt_board.specs.Chain.{ChipState, rise, rise_all, tdi_before}
+use Rattle.board_meaning.specs.Chain.{ChipState, rise, rise_all, tdi_before}
 
 -- one more element replaced by its image
 mapped : {A : Type 0} (f : A → A) (xs : List A) (i : ℕ) (x : A) → i < length xs

@@ -1,11 +1,14 @@
 -- The report of a board: a line for each device, from the one nearest TDO on, and one for each named net.
 use Rattle.std.specs.Prelude.{Bool, true, false, ℕ, List, ◌++◌, map, reverse, flat_map, codes, Option, Some, None}
 use Rattle.jt_tap.specs.Words.{word}
-use Rattle.jt_board.specs.Device.{Name}
-use Rattle.jt_board.specs.Instruction.{instruction}
-use Rattle.jt_board.specs.Cells.{Member}
-use Rattle.jt_board.specs.Nets.{Level, Zero, One, Contend, Float, Net, level}
-use Rattle.jt_board.specs.Chain.{BoardState, ChipState, members}
+use Rattle.bsdl_device.specs.Device.{Name}
+use Rattle.scan_registers.specs.Instruction.{instruction}
+use Rattle.board_meaning.specs.Cells.{Member}
+use Rattle.pin_nets.specs.declared.Level.{Level}
+use Rattle.pin_nets.specs.declared.Level.TheVariants.{Zero, One, Contend, Float}
+use Rattle.pin_nets.specs.Wired.{Net}
+use Rattle.board_meaning.specs.Nets.{level}
+use Rattle.board_meaning.specs.Chain.{BoardState, ChipState, members}
 
 abbrev pub digit : Bool → ℕ
 digit true = 49

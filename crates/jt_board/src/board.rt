@@ -2,10 +2,10 @@
 
 ghost use Rattle.std.specs.Prelude.{[], ◌≡◌, ◌+◌, ◌≤◌, ◌<◌, ℕ, Bool, ◌⊎◌, drop, map, length, IfOk, MatchResult};
 ghost use Rattle.bitbang_table.specs.Protocol.{decode};
-ghost use Rattle.jt_board.specs.Chain as chain;
-ghost use Rattle.jt_board.specs.Bare.{bare_board, bare_from, bare_member, bare_name};
-ghost use Rattle.jt_board.specs.Resting.{standing};
-ghost use Rattle.jt_board.specs.Sound.{IsSoundBoard};
+ghost use Rattle.board_meaning.specs.Chain as chain;
+ghost use Rattle.board_meaning.specs.Bare.{bare_board, bare_from, bare_member, bare_name};
+ghost use Rattle.board_meaning.specs.Resting.{standing};
+ghost use Rattle.board_meaning.specs.Sound.{IsSoundBoard};
 ghost use Rattle.jt_tap.specs.declared.State.TheVariants.{Reset};
 
 use crate::chip::Chip;
@@ -54,12 +54,12 @@ pub struct Board {
 }
 
 impl Model for Board {
-    ghost use Rattle.jt_board.specs.Chain.{BoardState};
+    ghost use Rattle.board_meaning.specs.Chain.{BoardState};
 
     ghost Value = { BoardState };
 
     ghost use Rattle.std.specs.Prelude.{[]};
-    ghost use Rattle.jt_board.specs.Sound.{IsChain};
+    ghost use Rattle.board_meaning.specs.Sound.{IsChain};
 
     ghost view = { λ b. record { tck = b.tck; trst = b.trst; nets = []; chips = b.chips.items } };
 

@@ -2,13 +2,15 @@
 
 ghost use Rattle.std.specs.Prelude.{◌≡◌, [], ◌∷◌, ℕ, Bool, List, if◌then◌else◌, IfOk, option_map, string_bytes};
 ghost use Rattle.std.specs.Bool.{MatchBool};
-ghost use Rattle.jt_board.specs.Bare.{bare_member};
-ghost use Rattle.jt_board.specs.Cells.{surroundings};
-ghost use Rattle.jt_board.specs.Chain.{assert_trst, fall, rise, with_registers};
-ghost use Rattle.jt_board.specs.Edges.{fallen, moved, tdo_after};
-ghost use Rattle.jt_board.specs.Instruction.{Extest, Boundary, bypassed, instruction, meaning, selects};
-ghost use Rattle.jt_board.specs.Registers.{captured, chosen, put, reset, updated};
-ghost use Rattle.jt_board.specs.Resting.{standing};
+ghost use Rattle.board_meaning.specs.Bare.{bare_member};
+ghost use Rattle.board_meaning.specs.Cells.{surroundings};
+ghost use Rattle.board_meaning.specs.Chain.{assert_trst, fall, rise, with_registers};
+ghost use Rattle.scan_registers.specs.Edges.{fallen, moved, tdo_after};
+ghost use Rattle.scan_registers.specs.declared.Mode.TheVariants.{Extest};
+ghost use Rattle.scan_registers.specs.declared.Selected.TheVariants.{Boundary};
+ghost use Rattle.scan_registers.specs.Instruction.{bypassed, instruction, meaning, selects};
+ghost use Rattle.scan_registers.specs.Registers.{captured, chosen, put, reset, updated};
+ghost use Rattle.board_meaning.specs.Resting.{standing};
 ghost use Rattle.jt_tap.specs.declared.State.TheVariants.{Reset};
 ghost use Rattle.jt_tap.specs.Controller.{work};
 
@@ -32,12 +34,12 @@ pub(crate) struct Chip {
 }
 
 impl Model for Chip {
-    ghost use Rattle.jt_board.specs.Chain.{ChipState};
+    ghost use Rattle.board_meaning.specs.Chain.{ChipState};
 
     ghost Value = { ChipState };
 
     ghost use Rattle.std.specs.Prelude.{◌≡◌, [], ◌∷◌, false, length, string_bytes};
-    ghost use Rattle.jt_board.specs.Bare.{bare};
+    ghost use Rattle.board_meaning.specs.Bare.{bare};
 
     ghost view = { λ c. record {
       member = record {

@@ -3,7 +3,7 @@
 ghost use Rattle.std.specs.Prelude.{◌≡◌, ◌++◌, flat_map};
 ghost use Rattle.byte_ends.specs.Writes.{WritesAll};
 ghost use Rattle.jt_board.specs.Report.{device_line, digit, digits, instruction_part, report, shown};
-ghost use Rattle.jt_board.specs.Instruction.{instruction};
+ghost use Rattle.scan_registers.specs.Instruction.{instruction};
 
 use crate::board::Board;
 use crate::chip::Chip;

@@ -1,8 +1,8 @@
 //! What a board shows between two bytes.
 
 ghost use Rattle.std.specs.Prelude.{◌≡◌, ◌<◌, ◌≤◌, [], ◌∷◌, ℕ, List, length, option_map, slice_get};
-ghost use Rattle.jt_board.specs.Instruction.{instruction};
-ghost use Rattle.jt_board.specs.Sound.{IsChain};
+ghost use Rattle.scan_registers.specs.Instruction.{instruction};
+ghost use Rattle.board_meaning.specs.Sound.{IsChain};
 
 use crate::chip::Chip;
 use jt_bits::Bits;
@@ -19,12 +19,12 @@ pub struct Snapshot<'a> {
 }
 
 impl<'a> Model for Snapshot<'a> {
-    ghost use Rattle.jt_board.specs.Chain.{BoardState};
+    ghost use Rattle.board_meaning.specs.Chain.{BoardState};
 
     ghost Value = { BoardState };
 
     ghost use Rattle.std.specs.Prelude.{[]};
-    ghost use Rattle.jt_board.specs.Sound.{IsChain};
+    ghost use Rattle.board_meaning.specs.Sound.{IsChain};
 
     ghost view = { λ s. record { tck = s.tck; trst = s.trst; nets = []; chips = s.chips.now.items } };
 

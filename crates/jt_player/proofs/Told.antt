@@ -6,7 +6,7 @@ use Rattle.std.proofs.KnownBytes.{Appends-nil}
 use Rattle.byte_ends.specs.Counts.{CountedView}
 use Rattle.byte_ends.specs.Writes.{AppendsFront, WritesAll}
 use Rattle.byte_ends.specs.declared.counting.Broken.{Broken}
-use Rattle.jt_board.specs.Chain.{BoardState}
+use Rattle.board_meaning.specs.Chain.{BoardState}
 use Rattle.svf_parse.specs.declared.fault.Code.TheVariants.{NoMemory}
 use Rattle.svf_parse.specs.declared.fault.SvfFault.{SvfFault}
 use Rattle.svf_parse.specs.View.{memory_fault}

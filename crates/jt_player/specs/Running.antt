@@ -6,7 +6,7 @@ use Rattle.byte_ends.specs.Writes.{AppendsFront, WritesAll}
 use Rattle.byte_ends.specs.declared.counting.Broken.{Broken}
 use Rattle.svf_parse.specs.declared.fault.SvfFault.{SvfFault}
 use Rattle.svf_settings.specs.Steps.{Program}
-use Rattle.jt_board.specs.Chain.{BoardState}
+use Rattle.board_meaning.specs.Chain.{BoardState}
 use Rattle.jt_board.specs.Report.{report}
 use Rattle.plays.specs.DirectPlay.{MeansFromOpening, full_bytes}
 use Rattle.plays.specs.Endings.{status_of, verdict_line}

@@ -1,3 +1,4 @@
 pub mod Building
 pub mod Levels
 pub mod Places
+pub mod Wired

@@ -28,6 +28,13 @@ pub enum Level {
     Float,
 }
 
+/// A pin: the place of its device on the board, the one nearest TDO being 0, and the number of its port bit.
+#[derive(Debug, Drop, Clone, Copy, PartialEq, Eq, PartialOrd, Ord)]
+pub struct Pin {
+    pub device: usize,
+    pub port: usize,
+}
+
 /// How many drivers of each kind a net has.
 #[derive(Debug, Clone, Copy)]
 pub(crate) struct Counts {

@@ -3,11 +3,11 @@ use Rattle.std.proofs.Common.{◌≡◌, ℕ, ◌<◌, suc, List, [], ◌∷◌,
 use Rattle.std.specs.List.{AllByRecursion}
 use Rattle.jt_tap.specs.declared.State.{State}
 use Rattle.jt_tap.specs.declared.State.TheVariants.{Reset}
-use Rattle.jt_board.specs.Cells.{Member}
-use Rattle.jt_board.specs.Chain.{BoardState, ChipState, hear, members}
-use Rattle.jt_board.specs.Whole.{AtRest}
-use Rattle.jt_board.specs.Resting.{IsAtRest, power_up, resting, standing}
-use Rattle.jt_board.specs.Sound.{AllSound, IsSound, HasDevice, IsPoweredUp, IsSoundBoard}
+use Rattle.board_meaning.specs.Cells.{Member}
+use Rattle.board_meaning.specs.Chain.{BoardState, ChipState, hear, members}
+use Rattle.board_meaning.specs.Whole.{AtRest}
+use Rattle.board_meaning.specs.Resting.{IsAtRest, power_up, resting, standing}
+use Rattle.board_meaning.specs.Sound.{AllSound, IsSound, HasDevice, IsPoweredUp, IsSoundBoard}
 use Rattle.plays.specs.LegalPlays.{EveryDescribedBoardPlaysLegalPrograms, EveryLegalProgramMeansFromOpening, IsOpened, PlaysAsItMeans, TheStateAtRestIsOne, met_again}
 use Rattle.plays.specs.declared.ending.Ending.{Ending}
 use Rattle.plays.specs.DirectPlay.{MeansFromOpening, opened_state}
@@ -16,10 +16,10 @@ use Rattle.plays.specs.Play.{play}
 use Rattle.svf_settings.specs.Legal.{IsLegalProgram}
 use Rattle.svf_settings.specs.Steps.{Numbered, Program}
 use Rattle.bitbang_table.specs.Cycles.{opening}
-use Rattle.jt_board.proofs.SoundEdges.{count-bytes, sound-bytes}
+use Rattle.board_meaning.proofs.SoundEdges.{count-bytes, sound-bytes}
 use Rattle.plays.proofs.Legality.{legal-from}
 use Rattle.plays.proofs.Opened.{opened-is-reset, standing-members}
-use Rattle.jt_board.proofs.Powered.{powered_sound}
+use Rattle.board_meaning.proofs.Powered.{powered_sound}
 use Rattle.plays.proofs.Programs.{opened-is, opened_to, program-plays}
 
 first_state : List ChipState → State

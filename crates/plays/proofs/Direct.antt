@@ -4,8 +4,8 @@ use Rattle.std.specs.Prelude.{Option, Some, None, if◌then◌else◌, is_some, 
 use Rattle.jt_tap.specs.declared.State.{State}
 use Rattle.jt_tap.specs.declared.State.TheVariants.{Reset}
 use Rattle.bitbang_table.specs.declared.Message.TheVariants.{Quit, Lines}
-use Rattle.jt_board.specs.Chain.{BoardState, Heard, hear, told}
-use Rattle.jt_board.specs.Whole.{AtRest, capture, out, settle}
+use Rattle.board_meaning.specs.Chain.{BoardState, Heard, hear, told}
+use Rattle.board_meaning.specs.Whole.{AtRest, capture, out, settle}
 use Rattle.scan_vectors.specs.declared.part.Part.{Part}
 use Rattle.scan_vectors.specs.Vector.{VectorBit, judge, differs, tdis}
 use Rattle.svf_settings.specs.Steps.{Step, Scan, Go, Path, Run, Trst, Numbered, place_after}
@@ -13,9 +13,9 @@ use Rattle.plays.specs.Meaning.{command, failure, outcome, Outcome}
 use Rattle.plays.specs.declared.ending.Ending.TheVariants.{Fail}
 use Rattle.bitbang.specs.StepMessages.{step_messages}
 use Rattle.plays.specs.Play.{Turn, Played, wants_of, step_turns, turns, full_play}
-use Rattle.jt_board.specs.Resting.{resting}
+use Rattle.board_meaning.specs.Resting.{resting}
 use Rattle.plays.proofs.Vectors.{picked}
-use Rattle.jt_board.proofs.Ones.{opening-rests, reset_from_here}
+use Rattle.board_meaning.proofs.Ones.{opening-rests, reset_from_here}
 
 -- the first wanted bit that differs is the same, found in the whole out or among the answers
 pub judge-picked : (v : List VectorBit) (bits : List Bool) → judge (filter (λ b. is_some b.wanted) v) (picked v bits) ≡ judge v bits

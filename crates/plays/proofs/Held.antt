@@ -2,15 +2,15 @@
 use Rattle.std.proofs.Common.{◌≡◌, Bool, true, false, ℕ, zero, suc, List, [], ◌∷◌, replicate, refl, ap, ◌∙◌, map}
 use Rattle.std.specs.Prelude.{if◌then◌else◌}
 use Rattle.jt_tap.specs.declared.State.TheVariants.{Reset}
-use Rattle.jt_board.specs.Cells.{Member}
-use Rattle.jt_board.specs.Nets.{Net}
-use Rattle.jt_board.specs.Chain.{ChipState, BoardState, fall, is_held, hear}
-use Rattle.jt_board.specs.Whole.{reset_member}
+use Rattle.board_meaning.specs.Cells.{Member}
+use Rattle.pin_nets.specs.Wired.{Net}
+use Rattle.board_meaning.specs.Chain.{ChipState, BoardState, fall, is_held, hear}
+use Rattle.board_meaning.specs.Whole.{reset_member}
 use Rattle.bitbang_table.specs.Cycles.{walk, closed}
-use Rattle.jt_board.specs.Resting.{standing, resting}
-use Rattle.jt_board.proofs.Low.{tail}
-use Rattle.jt_board.proofs.Moves.{at_rest}
-use Rattle.jt_board.proofs.Resets.{up, board, one, one-low, one-high, standing-quiet}
+use Rattle.board_meaning.specs.Resting.{standing, resting}
+use Rattle.board_meaning.proofs.Low.{tail}
+use Rattle.board_meaning.proofs.Moves.{at_rest}
+use Rattle.board_meaning.proofs.Resets.{up, board, one, one-low, one-high, standing-quiet}
 
 same-either : (held : Bool) (c : ChipState) → (if held then c else c) ≡ c
 same-either true c = refl

@@ -8,16 +8,16 @@ use Rattle.jt_tap.specs.declared.State.TheVariants.{Reset, Idle, DrPause, IrPaus
 use Rattle.jt_tap.specs.declared.Work.{Work}
 use Rattle.jt_tap.specs.declared.Work.TheVariants.{Resets, Captures, Shifts, Updates, Waits}
 use Rattle.jt_tap.specs.Controller.{work, is_at, is_stable, pause}
-use Rattle.jt_board.specs.Cells.{Member}
-use Rattle.jt_board.specs.Nets.{Net}
+use Rattle.board_meaning.specs.Cells.{Member}
+use Rattle.pin_nets.specs.Wired.{Net}
 use Rattle.scan_vectors.specs.Vector.{tdis}
-use Rattle.jt_board.specs.Whole.{AtRest, arrive, along, capture, pass, settle, shift, update}
+use Rattle.board_meaning.specs.Whole.{AtRest, arrive, along, capture, pass, settle, shift, update}
 use Rattle.svf_settings.specs.Steps.{Step, Scan, Go, Path, Run, Trst, place_after, Numbered, line_after}
 use Rattle.svf_parse.specs.declared.statement.TrstWord.TheVariants.{On, Off, Z, Absent}
 use Rattle.plays.specs.Meaning.{command, move_to, move_unless_there, scan_end}
 use Rattle.tap_paths.specs.Paths.{last_of}
 use Rattle.svf_settings.specs.Legal.{IsFormed, AllLegalFrom}
-use Rattle.jt_board.proofs.Moves.{at_rest}
+use Rattle.board_meaning.proofs.Moves.{at_rest}
 use Rattle.plays.specs.Legal.{AllLegal}
 use Rattle.plays.specs.LegalPlays.{LegalityIsOfTheProgram}
 use Rattle.plays.proofs.StepLaws.{path-stable}

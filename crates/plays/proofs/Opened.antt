@@ -3,10 +3,10 @@ use Rattle.std.proofs.Common.{◌≡◌, false, List, [], ◌∷◌, map, refl, 
 use Rattle.jt_tap.specs.declared.State.{State}
 use Rattle.jt_tap.specs.declared.State.TheVariants.{Reset}
 use Rattle.bitbang_table.specs.declared.Message.TheVariants.{Lines}
-use Rattle.jt_board.specs.Cells.{Member}
-use Rattle.jt_board.specs.Chain.{BoardState, members, told}
-use Rattle.jt_board.specs.Resting.{standing}
-use Rattle.jt_board.proofs.Ones.{opening-rests, reset_from_here}
+use Rattle.board_meaning.specs.Cells.{Member}
+use Rattle.board_meaning.specs.Chain.{BoardState, members, told}
+use Rattle.board_meaning.specs.Resting.{standing}
+use Rattle.board_meaning.proofs.Ones.{opening-rests, reset_from_here}
 use Rattle.plays.specs.DirectPlay.{opened_state}
 
 pub standing-members : (p : State) (ms : List Member) → members (map (standing p) ms) ≡ ms

@@ -3,11 +3,11 @@ use Rattle.std.proofs.Common.{◌≡◌, [], map, refl, sym, ap, subst, ◌∙�
 use Rattle.std.proofs.lemmas.List.{map-append}
 use Rattle.bitbang_table.specs.Protocol.{encode}
 use Rattle.bitbang.specs.StepMessages.{step_messages}
-use Rattle.jt_board.specs.Laws.{IsReset}
-use Rattle.jt_board.specs.Resting.{IsAtRest}
-use Rattle.jt_board.specs.Whole.{AtRest}
-use Rattle.jt_board.proofs.BoardLaws.{resets-kept}
-use Rattle.jt_board.proofs.Ones.{opening-rests}
+use Rattle.board_meaning.specs.Laws.{IsReset}
+use Rattle.board_meaning.specs.Resting.{IsAtRest}
+use Rattle.board_meaning.specs.Whole.{AtRest}
+use Rattle.board_meaning.proofs.BoardLaws.{resets-kept}
+use Rattle.board_meaning.proofs.Ones.{opening-rests}
 use Rattle.plays.specs.declared.ending.Ending.TheVariants.{Pass}
 use Rattle.plays.proofs.Opened.{opened-is-reset}
 use Rattle.plays.specs.Play.{full_play, sent, turns}

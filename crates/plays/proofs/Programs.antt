@@ -3,16 +3,16 @@ use Rattle.std.proofs.Common.{◌≡◌, true, false, ℕ, suc, ◌<◌, List, [
 use Rattle.std.specs.List.{AllByRecursion}
 use Rattle.jt_tap.specs.declared.State.TheVariants.{Reset}
 use Rattle.bitbang_table.specs.declared.Message.TheVariants.{Write, Lines}
-use Rattle.jt_board.specs.Cells.{Member}
+use Rattle.board_meaning.specs.Cells.{Member}
 use Rattle.bitbang_table.specs.Protocol.{encode}
-use Rattle.jt_board.specs.Chain.{ChipState, BoardState, after_all, is_held, members, told}
-use Rattle.jt_board.specs.Whole.{AtRest, reset_member}
+use Rattle.board_meaning.specs.Chain.{ChipState, BoardState, after_all, is_held, members, told}
+use Rattle.board_meaning.specs.Whole.{AtRest, reset_member}
 use Rattle.plays.specs.Meaning.{command}
-use Rattle.jt_board.specs.Resting.{IsRest}
-use Rattle.jt_board.proofs.Ones.{opening-rests, reset_from_here}
-use Rattle.jt_board.specs.Sound.{AllSound, HasDevice, IsSoundBoard}
-use Rattle.jt_board.proofs.Sound.{Sound-reset}
-use Rattle.jt_board.proofs.Told.{after_all-encoded}
+use Rattle.board_meaning.specs.Resting.{IsRest}
+use Rattle.board_meaning.proofs.Ones.{opening-rests, reset_from_here}
+use Rattle.board_meaning.specs.Sound.{AllSound, HasDevice, IsSoundBoard}
+use Rattle.board_meaning.proofs.Sound.{Sound-reset}
+use Rattle.board_meaning.proofs.Told.{after_all-encoded}
 use Rattle.plays.proofs.Trips.{reset-all-twice}
 use Rattle.svf_settings.specs.Steps.{Numbered}
 use Rattle.plays.specs.Play.{full_play, player, turns}
@@ -20,7 +20,7 @@ use Rattle.plays.proofs.Direct.{AllPlayed, program-law}
 use Rattle.plays.proofs.PlayLaws.{full_play_is_both_ends}
 use Rattle.plays.specs.Legal.{AllLegal}
 use Rattle.plays.specs.LegalPlays.{IsOpened, PlaysAsItMeans, EveryLegalProgramPlaysAsItMeans}
-use Rattle.jt_board.proofs.SoundEdges.{sound-told, count-told}
+use Rattle.board_meaning.proofs.SoundEdges.{sound-told, count-told}
 use Rattle.plays.proofs.Ready.{count-map}
 use Rattle.plays.proofs.Opened.{opened-is-reset}
 use Rattle.plays.proofs.StepLaws.{step-done}

@@ -9,17 +9,18 @@ use Rattle.jt_tap.specs.declared.State.TheVariants.{Reset, Idle, DrPause, IrPaus
 use Rattle.jt_tap.specs.declared.Work.{Work}
 use Rattle.jt_tap.specs.declared.Work.TheVariants.{Resets, Captures, Shifts, Updates, Waits}
 use Rattle.jt_tap.specs.Controller.{work, is_stable}
-use Rattle.jt_board.specs.Cells.{Member}
-use Rattle.jt_board.specs.Nets.{Net, sees}
-use Rattle.jt_board.specs.Chain.{is_held}
-use Rattle.jt_board.specs.Whole.{AtRest, chosen_of, joined, cut_back, capture_all, update_member, reset_member, capture, shift, update, settle, arrive, pass, along}
+use Rattle.board_meaning.specs.Cells.{Member}
+use Rattle.pin_nets.specs.Wired.{Net}
+use Rattle.board_meaning.specs.Nets.{sees}
+use Rattle.board_meaning.specs.Chain.{is_held}
+use Rattle.board_meaning.specs.Whole.{AtRest, chosen_of, joined, cut_back, capture_all, update_member, reset_member, capture, shift, update, settle, arrive, pass, along}
 use Rattle.plays.specs.Meaning.{scan_end, move_to, move_unless_there}
 use Rattle.tap_paths.specs.Paths.{last_of}
-use Rattle.jt_board.specs.Resting.{IsRest}
-use Rattle.jt_board.proofs.Low.{Free}
-use Rattle.jt_board.proofs.Moves.{at_rest}
-use Rattle.jt_board.specs.Sound.{AllSound}
-use Rattle.jt_board.proofs.Sound.{Sound-capture_all, Sound-cut_back, Sound-update, Sound-reset}
+use Rattle.board_meaning.specs.Resting.{IsRest}
+use Rattle.board_meaning.proofs.Low.{Free}
+use Rattle.board_meaning.proofs.Moves.{at_rest}
+use Rattle.board_meaning.specs.Sound.{AllSound}
+use Rattle.board_meaning.proofs.Sound.{Sound-capture_all, Sound-cut_back, Sound-update, Sound-reset}
 use Rattle.plays.proofs.Trips.{StaysReset, reset-all-twice}
 
 -- sound devices, none of them held by TRST, and so many

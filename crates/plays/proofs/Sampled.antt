@@ -2,11 +2,11 @@
 use Rattle.std.proofs.Common.{◌≡◌, ◌≢◌, true, false, refl, arith}
 use Rattle.jt_tap.specs.declared.State.{State}
 use Rattle.jt_tap.specs.declared.State.TheVariants.{Reset}
-use Rattle.jt_board.specs.Bare.{bare}
+use Rattle.board_meaning.specs.Bare.{bare}
 use Rattle.svf_settings.specs.Steps.{Step, Trst}
 use Rattle.svf_parse.specs.declared.statement.TrstWord.TheVariants.{Absent}
 use Rattle.svf_settings.specs.Legal.{IsFormed, leaves_reset, IsLegalAt}
-use Rattle.jt_board.specs.Sound.{IsSoundDevice}
+use Rattle.bsdl_device.specs.Sound.{IsSoundDevice}
 use Rattle.plays.specs.LegalSamples.{PremisesAreNeeded, PremisesCanBeMet, rich}
 
 released : (place : State) (step : Step) → IsFormed place step → IsLegalAt place false step

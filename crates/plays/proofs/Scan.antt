@@ -5,10 +5,10 @@ use Rattle.jt_tap.specs.declared.Column.TheVariants.{Dr, Ir}
 use Rattle.jt_tap.specs.declared.State.{State}
 use Rattle.jt_tap.specs.declared.State.TheVariants.{Reset, Idle, DrPause, IrPause}
 use Rattle.jt_tap.specs.Controller.{next, is_stable}
-use Rattle.jt_board.specs.Cells.{Member}
-use Rattle.jt_board.specs.Nets.{Net}
-use Rattle.jt_board.specs.Chain.{hear}
-use Rattle.jt_board.specs.Whole.{AtRest, joined, cut_back, capture, settle, out, shift}
+use Rattle.board_meaning.specs.Cells.{Member}
+use Rattle.pin_nets.specs.Wired.{Net}
+use Rattle.board_meaning.specs.Chain.{hear}
+use Rattle.board_meaning.specs.Whole.{AtRest, joined, cut_back, capture, settle, out, shift}
 use Rattle.scan_vectors.specs.Vector.{VectorBit, tdis}
 use Rattle.svf_settings.specs.Steps.{Scan}
 use Rattle.plays.specs.Meaning.{command, scan_end}
@@ -17,11 +17,11 @@ use Rattle.bitbang_table.specs.declared.Cycle.{Cycle}
 use Rattle.bitbang_table.specs.Cycles.{walk, closed}
 use Rattle.bitbang.specs.StepMessages.{step_messages}
 use Rattle.tck_cycles.specs.Cycles.{scan_cycles}
-use Rattle.jt_board.specs.Resting.{resting}
-use Rattle.jt_board.proofs.Low.{low, Free, Ran, ran, heard_of, tail, hear-tail, asked, cycled}
-use Rattle.jt_board.proofs.Shift.{shift_state, Full}
+use Rattle.board_meaning.specs.Resting.{resting}
+use Rattle.board_meaning.proofs.Low.{low, Free, Ran, ran, heard_of, tail, hear-tail, asked, cycled}
+use Rattle.board_meaning.proofs.Shift.{shift_state, Full}
 use Rattle.plays.proofs.Vectors.{vector, shifted, picked}
-use Rattle.jt_board.proofs.Moves.{IsWalk, walked, ran-walk, ends_at, at_rest, low-resting, stable-quiet}
+use Rattle.board_meaning.proofs.Moves.{IsWalk, walked, ran-walk, ends_at, at_rest, low-resting, stable-quiet}
 
 -- one run after another
 abbrev and_then : Ran → Ran → Ran

@@ -8,28 +8,28 @@ use Rattle.jt_tap.specs.declared.State.{State}
 use Rattle.jt_tap.specs.declared.State.TheVariants.{Reset, Idle, DrPause, IrPause}
 use Rattle.jt_tap.specs.Controller.{is_stable}
 use Rattle.bitbang_table.specs.declared.Cycle.{Cycle}
-use Rattle.jt_board.specs.Cells.{Member}
-use Rattle.jt_board.specs.Nets.{Net}
+use Rattle.board_meaning.specs.Cells.{Member}
+use Rattle.pin_nets.specs.Wired.{Net}
 use Rattle.scan_vectors.specs.Vector.{VectorBit, tdis, judge}
-use Rattle.jt_board.specs.Chain.{hear, is_held}
-use Rattle.jt_board.specs.Whole.{AtRest, reset_member, out, capture, settle, along, trst_member, settled_member}
+use Rattle.board_meaning.specs.Chain.{hear, is_held}
+use Rattle.board_meaning.specs.Whole.{AtRest, reset_member, out, capture, settle, along, trst_member, settled_member}
 use Rattle.svf_settings.specs.Steps.{Step, Scan, Go, Path, Run, Trst, place_after}
 use Rattle.svf_parse.specs.declared.statement.TrstWord.TheVariants.{On, Off, Z, Absent}
 use Rattle.plays.specs.Meaning.{command, move_unless_there}
 use Rattle.bitbang_table.specs.Cycles.{walk, closed}
 use Rattle.bitbang.specs.StepMessages.{step_messages}
 use Rattle.tap_paths.specs.Paths.{last_of}
-use Rattle.jt_board.specs.Resting.{resting, IsRest}
+use Rattle.board_meaning.specs.Resting.{resting, IsRest}
 use Rattle.svf_settings.specs.Legal.{IsPath, IsFormed, is_reset, leaves_reset}
 use Rattle.plays.specs.Legal.{IsLegal}
-use Rattle.jt_board.proofs.Low.{Free}
-use Rattle.jt_board.proofs.Moves.{at_rest, go-law}
+use Rattle.board_meaning.proofs.Low.{Free}
+use Rattle.board_meaning.proofs.Moves.{at_rest, go-law}
 use Rattle.plays.proofs.Scan.{scan-law}
 use Rattle.plays.proofs.Trips.{IsTrip, StaysReset, path-law, run-law}
-use Rattle.jt_board.proofs.Resets.{reset-twice, trst-on-law}
+use Rattle.board_meaning.proofs.Resets.{reset-twice, trst-on-law}
 use Rattle.plays.proofs.Held.{held-law}
-use Rattle.jt_board.specs.Sound.{AllSound, IsSound}
-use Rattle.jt_board.proofs.Sound.{Sound-Full, Sound-reset, Sound-update}
+use Rattle.board_meaning.specs.Sound.{AllSound, IsSound}
+use Rattle.board_meaning.proofs.Sound.{Sound-Full, Sound-reset, Sound-update}
 use Rattle.plays.proofs.Vectors.{picked}
 use Rattle.plays.specs.Play.{wants_of}
 use Rattle.plays.proofs.Direct.{IsPlayed, asked_of, judged-of}

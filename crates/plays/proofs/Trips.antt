@@ -7,23 +7,24 @@ use Rattle.jt_tap.specs.declared.State.TheVariants.{Reset, Idle, DrSelect, DrCap
 use Rattle.jt_tap.specs.declared.Work.{Work}
 use Rattle.jt_tap.specs.declared.Work.TheVariants.{Resets, Captures, Shifts, Updates, Waits}
 use Rattle.jt_tap.specs.Controller.{next, work, entered_by, is_stable}
-use Rattle.jt_board.specs.Cells.{Member}
-use Rattle.jt_board.specs.Nets.{Net, sees}
-use Rattle.jt_board.specs.Chain.{hear}
-use Rattle.jt_board.specs.Whole.{joined, cut_back, capture_all, reset_member, pass, along}
+use Rattle.board_meaning.specs.Cells.{Member}
+use Rattle.pin_nets.specs.Wired.{Net}
+use Rattle.board_meaning.specs.Nets.{sees}
+use Rattle.board_meaning.specs.Chain.{hear}
+use Rattle.board_meaning.specs.Whole.{joined, cut_back, capture_all, reset_member, pass, along}
 use Rattle.svf_settings.specs.Steps.{Path, Run}
 use Rattle.plays.specs.Meaning.{command, move_unless_there}
 use Rattle.bitbang_table.specs.Cycles.{walk, closed}
 use Rattle.tck_cycles.specs.Cycles.{cycles, go_unless_there}
 use Rattle.bitbang.specs.StepMessages.{step_messages}
 use Rattle.tap_paths.specs.Paths.{last_of}
-use Rattle.jt_board.specs.Resting.{resting}
-use Rattle.jt_board.proofs.Low.{low, Free, cycled, ran, heard_of, hear-tail}
+use Rattle.board_meaning.specs.Resting.{resting}
+use Rattle.board_meaning.proofs.Low.{low, Free, cycled, ran, heard_of, hear-tail}
 use Rattle.plays.proofs.Vectors.{cycled-shift}
-use Rattle.jt_board.proofs.Resets.{reset-twice}
-use Rattle.jt_board.specs.Sound.{AllSound}
-use Rattle.jt_board.proofs.Sound.{Sound-Full, Sound-capture_all, Sound-cut_back, Sound-update, Sound-reset}
-use Rattle.jt_board.proofs.Moves.{fall_whole, cycled-whole, ends_at, at_rest, low-resting, stable-quiet, IsWalk, walked, closed-walk}
+use Rattle.board_meaning.proofs.Resets.{reset-twice}
+use Rattle.board_meaning.specs.Sound.{AllSound}
+use Rattle.board_meaning.proofs.Sound.{Sound-Full, Sound-capture_all, Sound-cut_back, Sound-update, Sound-reset}
+use Rattle.board_meaning.proofs.Moves.{fall_whole, cycled-whole, ends_at, at_rest, low-resting, stable-quiet, IsWalk, walked, closed-walk}
 
 -- what the devices do on the rising edge that leaves a state of this work, TDI being 0
 abbrev pub leave : Work → List Net → List Member → List Member

@@ -5,16 +5,20 @@ use Rattle.std.specs.Prelude.{is_some, if◌then◌else◌}
 use Rattle.jt_tap.specs.declared.Column.{Column}
 use Rattle.jt_tap.specs.declared.Column.TheVariants.{Dr, Ir}
 use Rattle.jt_tap.specs.Controller.{next}
-use Rattle.jt_board.specs.Device.{Device}
-use Rattle.jt_board.specs.Instruction.{Selected, Bypass, Identification, Boundary, User, meaning}
-use Rattle.jt_board.specs.Registers.{Registers, UserRegister, chosen, put, stage_of, with_stage, user_stage, with_user_stage}
-use Rattle.jt_board.specs.Cells.{Member}
-use Rattle.jt_board.specs.Nets.{Net, sees}
-use Rattle.jt_board.specs.Whole.{chosen_of, joined, cut_back}
+use Rattle.bsdl_device.specs.Device.{Device}
+use Rattle.scan_registers.specs.declared.Selected.{Selected}
+use Rattle.scan_registers.specs.declared.Selected.TheVariants.{Bypass, Identification, Boundary, User}
+use Rattle.scan_registers.specs.Instruction.{meaning}
+use Rattle.scan_registers.specs.Registers.{Registers, chosen, put, stage_of, with_stage, user_stage, with_user_stage}
+use Rattle.scan_registers.specs.declared.users.UserRegister.{UserRegister}
+use Rattle.board_meaning.specs.Cells.{Member}
+use Rattle.pin_nets.specs.Wired.{Net}
+use Rattle.board_meaning.specs.Nets.{sees}
+use Rattle.board_meaning.specs.Whole.{chosen_of, joined, cut_back}
 use Rattle.scan_vectors.specs.Vector.{VectorBit, tdis}
 use Rattle.tck_cycles.specs.Cycles.{scan_cycles}
-use Rattle.jt_board.proofs.Low.{given, cycled, fallen_one, ran, Ran, asked}
-use Rattle.jt_board.proofs.Shift.{shift_state, Full, given-joined, left-part, right-part, shift-one}
+use Rattle.board_meaning.proofs.Low.{given, cycled, fallen_one, ran, Ran, asked}
+use Rattle.board_meaning.proofs.Shift.{shift_state, Full, given-joined, left-part, right-part, shift-one}
 
 user-put : (k : ℕ) (bits : List Bool) (us : List UserRegister) → 0 < length (user_stage k us) → user_stage k (with_user_stage k bits us) ≡ bits
 user-put k bits [] full = absurd (omega arith)

@@ -2,10 +2,10 @@
 use Rattle.std.specs.Prelude.{◌≡◌, false, ℕ, List, map}
 use Rattle.jt_tap.specs.declared.State.TheVariants.{Reset}
 use Rattle.bitbang_table.specs.Protocol.{encode}
-use Rattle.jt_board.specs.Chain.{BoardState, hear, members}
-use Rattle.jt_board.specs.Whole.{AtRest}
+use Rattle.board_meaning.specs.Chain.{BoardState, hear, members}
+use Rattle.board_meaning.specs.Whole.{AtRest}
 use Rattle.bitbang_table.specs.Cycles.{opening}
-use Rattle.jt_board.specs.Resting.{IsAtRest}
+use Rattle.board_meaning.specs.Resting.{IsAtRest}
 use Rattle.plays.specs.declared.ending.Ending.{Ending}
 use Rattle.svf_settings.specs.Steps.{Program}
 use Rattle.plays.specs.Meaning.{outcome}

@@ -3,7 +3,7 @@ use Rattle.std.specs.Prelude.{Bool, true, false, not, ◌||◌, ℕ, zero, suc, 
 use Rattle.bitbang_table.specs.declared.Message.{Message}
 use Rattle.bitbang_table.specs.declared.Message.TheVariants.{Ask, Quit}
 use Rattle.bitbang_table.specs.Protocol.{decode}
-use Rattle.jt_board.specs.Chain.{BoardState, told, answers}
+use Rattle.board_meaning.specs.Chain.{BoardState, told, answers}
 use Rattle.plays.specs.declared.ending.Ending.{Ending}
 use Rattle.plays.specs.declared.ending.Ending.TheVariants.{Lost}
 use Rattle.plays.specs.Play.{Turn, verdict, in_work}

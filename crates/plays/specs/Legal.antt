@@ -3,15 +3,17 @@ use Rattle.std.specs.Prelude.{◌≡◌, ◌≢◌, Bool, true, false, ℕ, zero
 use Rattle.std.specs.List.{AllByRecursion}
 use Rattle.jt_tap.specs.declared.State.{State}
 use Rattle.jt_tap.specs.declared.State.TheVariants.{Reset}
-use Rattle.jt_board.specs.Cells.{Member, powered}
-use Rattle.jt_board.specs.Device.{Place, AtBypass, AtBoundary, AtDeviceId, AtUser, Access, Device}
-use Rattle.jt_board.specs.Chain.{BoardState, members}
-use Rattle.jt_board.specs.Whole.{AtRest}
+use Rattle.board_meaning.specs.Cells.{Member, powered}
+use Rattle.bsdl_device.specs.declared.Place.{Place}
+use Rattle.bsdl_device.specs.declared.Place.TheVariants.{AtBypass, AtBoundary, AtDeviceId, AtUser}
+use Rattle.bsdl_device.specs.Device.{Access, Device}
+use Rattle.board_meaning.specs.Chain.{BoardState, members}
+use Rattle.board_meaning.specs.Whole.{AtRest}
 use Rattle.svf_settings.specs.Steps.{Step, Trst, place_after, Numbered}
 use Rattle.svf_parse.specs.declared.statement.TrstWord.TheVariants.{On, Absent}
 use Rattle.plays.specs.Meaning.{command}
 use Rattle.svf_settings.specs.Legal.{IsFormed, leaves_reset}
-use Rattle.jt_board.specs.Sound.{AllSound}
+use Rattle.board_meaning.specs.Sound.{AllSound}
 
 -- Legal at M: formed, and while TRST is asserted no step from RESET leaves it, and none is TRST ABSENT.
 pub record IsLegal (step : Step) (m : AtRest) : Type 0 where

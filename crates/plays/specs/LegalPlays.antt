@@ -3,20 +3,21 @@ use Rattle.std.specs.Prelude.{◌≡◌, ◌↔◌, Bool, true, false, ℕ, ◌<
 use Rattle.std.specs.List.{AllByRecursion}
 use Rattle.jt_tap.specs.declared.State.TheVariants.{Reset}
 use Rattle.jt_tap.specs.Controller.{is_stable}
-use Rattle.jt_board.specs.Bare.{bare_board}
-use Rattle.jt_board.specs.Cells.{Member, powered}
-use Rattle.jt_board.specs.Nets.{Net}
-use Rattle.jt_board.specs.Chain.{BoardState, after_all, hear}
-use Rattle.jt_board.specs.Device.{Device, Name}
-use Rattle.jt_board.specs.Resting.{IsAtRest, IsRest, power_up, resting}
+use Rattle.board_meaning.specs.Bare.{bare_board}
+use Rattle.board_meaning.specs.Cells.{Member, powered}
+use Rattle.pin_nets.specs.Wired.{Net}
+use Rattle.board_meaning.specs.Chain.{BoardState, after_all, hear}
+use Rattle.bsdl_device.specs.Device.{Device, Name}
+use Rattle.board_meaning.specs.Resting.{IsAtRest, IsRest, power_up, resting}
 use Rattle.plays.specs.Legal.{IsLegal, AllLegal}
-use Rattle.jt_board.specs.Sound.{HasDevice, IsPoweredUp, IsSoundBoard, IsSoundDevice, AllSound, IsSound}
+use Rattle.board_meaning.specs.Sound.{HasDevice, IsPoweredUp, IsSoundBoard, AllSound, IsSound}
+use Rattle.bsdl_device.specs.Sound.{IsSoundDevice}
 use Rattle.bitbang_table.specs.Cycles.{opening}
 use Rattle.bitbang.specs.StepMessages.{step_messages}
 use Rattle.svf_settings.specs.Steps.{Step, Numbered, Program}
 use Rattle.plays.specs.Meaning.{command, failure, outcome}
 use Rattle.scan_vectors.specs.Vector.{judge}
-use Rattle.jt_board.specs.Whole.{AtRest}
+use Rattle.board_meaning.specs.Whole.{AtRest}
 use Rattle.plays.specs.DirectPlay.{MeansFromOpening, opened_state}
 use Rattle.plays.specs.Play.{full_play, play, player, turns, wants_of}
 use Rattle.svf_settings.specs.Legal.{AllLegalFrom, IsLegalProgram}

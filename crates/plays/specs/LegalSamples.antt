@@ -5,21 +5,22 @@ use Rattle.std.specs.List.{AllByRecursion}
 use Rattle.jt_tap.specs.declared.Column.TheVariants.{Dr, Ir}
 use Rattle.jt_tap.specs.declared.State.{State}
 use Rattle.jt_tap.specs.declared.State.TheVariants.{Reset, Idle, DrShift, DrExit1, DrPause, DrExit2, DrUpdate, IrPause}
-use Rattle.jt_board.specs.Bare.{bare, bare_name}
-use Rattle.jt_board.specs.Cells.{Member, powered}
-use Rattle.jt_board.specs.Chain.{BoardState}
-use Rattle.jt_board.specs.Device.{AtUser, Device}
-use Rattle.jt_board.specs.Resting.{power_up, resting}
+use Rattle.board_meaning.specs.Bare.{bare, bare_name}
+use Rattle.board_meaning.specs.Cells.{Member, powered}
+use Rattle.board_meaning.specs.Chain.{BoardState}
+use Rattle.bsdl_device.specs.declared.Place.TheVariants.{AtUser}
+use Rattle.bsdl_device.specs.Device.{Device}
+use Rattle.board_meaning.specs.Resting.{power_up, resting}
 use Rattle.svf_settings.specs.Steps.{Step, Scan, Go, Path, Run, Trst, Numbered}
 use Rattle.svf_parse.specs.declared.statement.TrstWord.TheVariants.{On, Off, Z, Absent}
 use Rattle.scan_vectors.specs.Vector.{VectorBit}
-use Rattle.jt_board.specs.Whole.{AtRest, opened}
+use Rattle.board_meaning.specs.Whole.{AtRest, opened}
 use Rattle.scan_vectors.specs.declared.part.Part.TheVariants.{Data}
 use Rattle.plays.specs.declared.ending.Ending.TheVariants.{Fail, Pass}
 use Rattle.plays.specs.Play.{full_play, turns}
 use Rattle.plays.specs.Meaning.{outcome}
 use Rattle.svf_settings.specs.Legal.{IsLegalProgram}
-use Rattle.jt_board.specs.Sound.{IsPoweredUp}
+use Rattle.board_meaning.specs.Sound.{IsPoweredUp}
 
 -- the bare device with a TRST port, a code and a user register of three bits
 abbrev pub rich : Device

@@ -5,7 +5,7 @@ use Rattle.jt_tap.specs.declared.State.TheVariants.{Reset}
 use Rattle.bitbang_table.specs.declared.Message.{Message}
 use Rattle.bitbang_table.specs.declared.Message.TheVariants.{Ask, Quit}
 use Rattle.bitbang_table.specs.Protocol.{encode, read_answer}
-use Rattle.jt_board.specs.Chain.{BoardState, hear}
+use Rattle.board_meaning.specs.Chain.{BoardState, hear}
 use Rattle.scan_vectors.specs.Vector.{VectorBit, judge}
 use Rattle.svf_settings.specs.Steps.{Step, Scan, Numbered, Program, place_after}
 use Rattle.plays.specs.declared.ending.Ending.{Ending}

@@ -1,11 +1,11 @@
 -- What the definitions of the play promise of every program, board and window.
 use Rattle.std.specs.Prelude.{◌≡◌, Bool, ℕ, List, [], ◌++◌, length}
 use Rattle.jt_tap.specs.declared.State.{State}
-use Rattle.jt_board.specs.Chain.{BoardState, hear}
+use Rattle.board_meaning.specs.Chain.{BoardState, hear}
 use Rattle.svf_settings.specs.Steps.{Step, Numbered}
 use Rattle.bitbang.specs.StepMessages.{step_messages}
-use Rattle.jt_board.specs.Laws.{IsReset}
-use Rattle.jt_board.specs.Resting.{IsAtRest}
+use Rattle.board_meaning.specs.Laws.{IsReset}
+use Rattle.board_meaning.specs.Resting.{IsAtRest}
 use Rattle.plays.specs.DirectPlay.{opened_state}
 use Rattle.plays.specs.declared.ending.Ending.TheVariants.{Pass}
 use Rattle.plays.specs.Play.{full_play, player, sent, turns, wants_of}

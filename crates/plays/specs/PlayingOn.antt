@@ -3,7 +3,7 @@ use Rattle.std.specs.Prelude.{Bool, ℕ, List, [], ◌∷◌, ◌++◌, map, len
 use Rattle.svf_settings.specs.Steps.{Step, Scan, Numbered}
 use Rattle.plays.specs.Meaning.{command}
 use Rattle.scan_vectors.specs.Vector.{VectorBit, differs, tdis}
-use Rattle.jt_board.specs.Whole.{AtRest, capture, out, settle}
+use Rattle.board_meaning.specs.Whole.{AtRest, capture, out, settle}
 use Rattle.scan_vectors.specs.declared.part.Part.{Part}
 use Rattle.plays.specs.declared.ending.Ending.{Ending}
 use Rattle.plays.specs.declared.ending.Ending.TheVariants.{Pass, Fail}

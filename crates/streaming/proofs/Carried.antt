@@ -6,7 +6,7 @@ use Rattle.std.specs.Prelude.{cond, if◌then◌else◌}
 use Rattle.bitbang_table.specs.declared.Message.{Message}
 use Rattle.bitbang_table.specs.declared.Message.TheVariants.{Write, Ask, Quit, Light, Lines}
 use Rattle.bitbang_table.specs.Protocol.{answer, decode, encode}
-use Rattle.jt_board.specs.Chain.{BoardState}
+use Rattle.board_meaning.specs.Chain.{BoardState}
 use Rattle.plays.specs.Events.{Event, Put, Serve, Take, Lose, Known, World, by_answers, fresh as fresh_world, happens, has_room, hear_all, put_bytes, run, served, take_answers, taken}
 use Rattle.plays.specs.Play.{player, sent}
 use Rattle.plays.specs.Playing.{PlayerState, up_to_bad}

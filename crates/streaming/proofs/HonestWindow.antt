@@ -4,8 +4,8 @@ use Rattle.std.specs.Prelude.{if◌then◌else◌}
 use Rattle.std.specs.List.{list_any}
 use Rattle.bitbang_table.specs.declared.Message.{Message}
 use Rattle.bitbang_table.specs.Protocol.{answer, encode}
-use Rattle.jt_board.specs.Chain.{after_all, hear}
-use Rattle.jt_board.proofs.Told.{after_all-encoded}
+use Rattle.board_meaning.specs.Chain.{after_all, hear}
+use Rattle.board_meaning.proofs.Told.{after_all-encoded}
 use Rattle.plays.specs.Play.{ending_for, is_bad, sent, turns}
 use Rattle.plays.specs.Playing.{has_bad_answer}
 use Rattle.svf_settings.specs.Steps.{Numbered}

@@ -1,7 +1,7 @@
 -- The player that keeps no answers goes as the one that is known by them.
 use Rattle.std.specs.Prelude.{Bool, Some, true, ◌≡◌, false, ℕ, ◌+◌, ◌≤◌, List, [], ◌∷◌, ◌++◌, map, length, find, if◌then◌else◌}
 use Rattle.bitbang_table.specs.Protocol.{answer}
-use Rattle.jt_board.specs.Chain.{BoardState, after_all}
+use Rattle.board_meaning.specs.Chain.{BoardState, after_all}
 use Rattle.plays.specs.Events.{Event, Known, World, by_answers, empty_pipes, fresh as fresh_world, run}
 use Rattle.plays.specs.Play.{is_bad, player, turns}
 use Rattle.plays.specs.Playing as playing

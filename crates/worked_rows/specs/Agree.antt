@@ -2,11 +2,12 @@
 use Rattle.std.specs.Prelude.{◌≡◌, Bool, true, false, ℕ, List, [], ◌∷◌, ◌++◌, map, Option, Some, None, bytes_eq}
 use Rattle.jt_tap.specs.declared.State.{State}
 use Rattle.jt_tap.specs.declared.State.TheVariants.{Reset, Idle, DrPause, IrPause}
-use Rattle.jt_board.specs.Registers.{Registers, UserRegister}
+use Rattle.scan_registers.specs.Registers.{Registers}
+use Rattle.scan_registers.specs.declared.users.UserRegister.{UserRegister}
 use Rattle.bitbang_table.specs.Protocol.{encode}
-use Rattle.jt_board.specs.Chain.{BoardState, ChipState}
-use Rattle.jt_board.specs.Whole.{AtRest, opened}
-use Rattle.jt_board.specs.Resting.{resting}
+use Rattle.board_meaning.specs.Chain.{BoardState, ChipState}
+use Rattle.board_meaning.specs.Whole.{AtRest, opened}
+use Rattle.board_meaning.specs.Resting.{resting}
 use Rattle.svf_settings.specs.Steps.{Numbered}
 use Rattle.plays.specs.Meaning.{Outcome, outcome}
 use Rattle.plays.specs.declared.ending.Ending.{Ending}

@@ -2,13 +2,17 @@
 use Rattle.std.proofs.Common.{◌≡◌, Bool, true, false, ℕ, List, [], ◌∷◌, map, codes, length}
 use Rattle.std.specs.Prelude.{Some, None}
 use Rattle.jt_tap.specs.declared.State.TheVariants.{Idle, DrSelect, DrCapture, DrShift, DrExit1, DrUpdate, DrPause, IrPause, Reset}
-use Rattle.jt_board.specs.Device.{Device}
-use Rattle.jt_board.specs.Nets.{Pull, level, Level, Zero, One, Contend, Float, Up, Down, Free}
-use Rattle.jt_board.specs.Chain.{BoardState, members}
-use Rattle.jt_board.specs.Instruction.{instruction}
-use Rattle.jt_board.specs.Registers.{Registers}
-use Rattle.jt_board.specs.Whole.{AtRest}
-use Rattle.jt_board.specs.Resting.{power_up, resting}
+use Rattle.bsdl_device.specs.Device.{Device}
+use Rattle.pin_nets.specs.declared.Pull.{Pull}
+use Rattle.board_meaning.specs.Nets.{level}
+use Rattle.pin_nets.specs.declared.Level.{Level}
+use Rattle.pin_nets.specs.declared.Level.TheVariants.{Zero, One, Contend, Float}
+use Rattle.pin_nets.specs.declared.Pull.TheVariants.{Up, Down, Free}
+use Rattle.board_meaning.specs.Chain.{BoardState, members}
+use Rattle.scan_registers.specs.Instruction.{instruction}
+use Rattle.scan_registers.specs.Registers.{Registers}
+use Rattle.board_meaning.specs.Whole.{AtRest}
+use Rattle.board_meaning.specs.Resting.{power_up, resting}
 use Rattle.scan_vectors.specs.declared.part.Part.TheVariants.{Header, Data}
 use Rattle.plays.specs.declared.ending.Ending.TheVariants.{Pass, Fail}
 use Rattle.svf_settings.specs.Steps.{Go, Path, Run, Trst, Numbered}

@@ -3,12 +3,19 @@ use Rattle.std.specs.Prelude.{Bool, true, false, ℕ, zero, suc, ◌/◌, ◌%�
 use Rattle.jt_tap.specs.declared.Column.TheVariants.{Dr, Ir}
 use Rattle.jt_tap.specs.declared.State.{State}
 use Rattle.jt_tap.specs.declared.State.TheVariants.{Idle}
-use Rattle.jt_board.specs.Bare.{bare}
-use Rattle.jt_board.specs.Device.{Pattern, PortBit, In, Input, Output2, Output3, Control, Z, Cell, Opcode, AtUser, Access, Device}
-use Rattle.jt_board.specs.Cells.{Member, powered}
-use Rattle.jt_board.specs.Nets.{Net, Pin, Pull}
-use Rattle.jt_board.specs.Whole.{AtRest}
-use Rattle.jt_board.specs.Resting.{power_up}
+use Rattle.board_meaning.specs.Bare.{bare}
+use Rattle.bsdl_device.specs.Device.{Pattern, PortBit, Opcode, Access, Device}
+use Rattle.bsdl_device.specs.declared.PortMode.TheVariants.{In}
+use Rattle.bsdl_device.specs.declared.Function.TheVariants.{Input, Output2, Output3, Control}
+use Rattle.bsdl_device.specs.declared.Disabled.TheVariants.{Z}
+use Rattle.bsdl_device.specs.declared.Cell.{Cell}
+use Rattle.bsdl_device.specs.declared.Place.TheVariants.{AtUser}
+use Rattle.board_meaning.specs.Cells.{Member, powered}
+use Rattle.pin_nets.specs.Wired.{Net}
+use Rattle.pin_nets.specs.declared.Pin.{Pin}
+use Rattle.pin_nets.specs.declared.Pull.{Pull}
+use Rattle.board_meaning.specs.Whole.{AtRest}
+use Rattle.board_meaning.specs.Resting.{power_up}
 use Rattle.scan_vectors.specs.Vector.{Part3, join}
 use Rattle.svf_settings.specs.Steps.{Step, Scan, Numbered}
 

@@ -4,9 +4,9 @@ use Rattle.std.specs.Prelude.{Option, Some, None, bytes_eq}
 use Rattle.jt_tap.specs.declared.State.TheVariants.{Reset, Idle, DrShift, IrPause, IrUpdate}
 use Rattle.bitbang_table.specs.declared.Message.{Message}
 use Rattle.bitbang_table.specs.declared.Message.TheVariants.{Write}
-use Rattle.jt_board.specs.Chain.{ChipState, BoardState, rise, fall, assert_trst, hear, reply, after}
-use Rattle.jt_board.specs.declared.board.Reply.TheVariants.{Refused}
-use Rattle.jt_board.specs.Resting.{standing, resting}
+use Rattle.board_meaning.specs.Chain.{ChipState, BoardState, rise, fall, assert_trst, hear, reply, after}
+use Rattle.board_meaning.specs.declared.Reply.TheVariants.{Refused}
+use Rattle.board_meaning.specs.Resting.{standing, resting}
 use Rattle.scan_vectors.specs.declared.part.Part.TheVariants.{Data}
 use Rattle.plays.specs.declared.ending.Ending.TheVariants.{Pass, Fail, Lost, BadAnswer}
 use Rattle.svf_settings.specs.Steps.{Numbered}

@@ -8,7 +8,7 @@ use Rattle.svf_settings.specs.Legal.{AllLegalFrom}
 use Rattle.svf_settings.specs.Seen.{numbered}
 use Rattle.svf_settings.specs.Sizes.{program_of}
 use Rattle.svf_settings.specs.Steps.{Numbered, line_after}
-use Rattle.jt_board.specs.Chain.{BoardState}
+use Rattle.board_meaning.specs.Chain.{BoardState}
 use Rattle.plays.specs.DirectPlay.{full_bytes}
 use Rattle.plays.specs.Play.{full_play, play, step_turns}
 use Rattle.direct_play.proofs.NotedPieces.{Notes-is, Notes-then}

@@ -3,7 +3,7 @@ use Rattle.bitbang_table.specs.declared.Message.{Message}
 use Rattle.bitbang.specs.Left.{left}
 use Rattle.bitbang.specs.StepMessages.{step_messages}
 use Rattle.svf_settings.specs.Seen.{step}
-use Rattle.jt_board.specs.Chain.{BoardState, after, answers, hear, reply, told}
+use Rattle.board_meaning.specs.Chain.{BoardState, after, answers, hear, reply, told}
 use Rattle.direct_play.specs.Hearing.{answered}
 use Rattle.direct_play.specs.Judging.{finds}
 use Rattle.direct_play.proofs.Replies.{IsCut, after-encoded, answered-encoded, cut, finds-at-end, none-left}

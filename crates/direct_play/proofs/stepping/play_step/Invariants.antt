@@ -5,7 +5,7 @@ use Rattle.bitbang.specs.Left.{left}
 use Rattle.bitbang.specs.StepMessages.{step_messages}
 use Rattle.scan_vectors.specs.Vector.{judge}
 use Rattle.svf_settings.specs.Seen.{step}
-use Rattle.jt_board.specs.Chain.{hear}
+use Rattle.board_meaning.specs.Chain.{hear}
 use Rattle.plays.specs.Play.{wants_of}
 use Rattle.direct_play.specs.Judging.{finds}
 use Rattle.direct_play.proofs.stepping.play_step.Given as goal

@@ -1,5 +1,5 @@
 use Rattle.std.proofs.Common.{◌≡◌, drop}
-use Rattle.jt_board.specs.Chain.{after_all}
+use Rattle.board_meaning.specs.Chain.{after_all}
 use Rattle.direct_play.proofs.stepping.take_all.Given as goal
 
 abbrev pub invariant-loop-byte : goal.invariant-loop-byte

@@ -1,4 +1,4 @@
-use Rattle.jt_board.specs.Chain.{assert_trst}
+use Rattle.board_meaning.specs.Chain.{assert_trst}
 use Rattle.jt_board.proofs.Sweeps.{mapped_more}
 use Rattle.jt_board.proofs.board.assert_trst_all.Goals as goal
 

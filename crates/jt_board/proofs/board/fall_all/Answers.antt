@@ -1,4 +1,4 @@
-use Rattle.jt_board.specs.Chain.{fall}
+use Rattle.board_meaning.specs.Chain.{fall}
 use Rattle.jt_board.proofs.Sweeps.{mapped_more}
 use Rattle.jt_board.proofs.board.fall_all.Goals as goal
 

@@ -1,5 +1,5 @@
 use Rattle.std.proofs.Common.{◌≡◌, ◌++◌, map, take, drop}
-use Rattle.jt_board.specs.Chain.{fall}
+use Rattle.board_meaning.specs.Chain.{fall}
 use Rattle.jt_board.proofs.board.fall_all.Given as goal
 
 abbrev pub invariant-loop-chip : goal.invariant-loop-chip

@@ -1,5 +1,5 @@
 use Rattle.std.proofs.Common.{◌≡◌, ℕ, Bool, ◌++◌, take, drop}
-use Rattle.jt_board.specs.Chain.{rise_all}
+use Rattle.board_meaning.specs.Chain.{rise_all}
 use Rattle.jt_board.proofs.board.rise_all.Given as goal
 
 abbrev pub invariant-loop-i : goal.invariant-loop-i

@@ -3,7 +3,7 @@ use Rattle.std.proofs.Math.Seq.{take-length}
 use Rattle.std.specs.Prelude.{flat_map}
 use Rattle.std.specs.Io.KnownBytes.{Appends}
 use Rattle.std.proofs.KnownBytes.{Appends-trans}
-use Rattle.jt_board.specs.Chain.{ChipState}
+use Rattle.board_meaning.specs.Chain.{ChipState}
 use Rattle.jt_board.specs.Report.{device_line}
 use Rattle.byte_ends.proofs.Fronts.{WritesAll-lost, WritesAll-done}
 use Rattle.byte_ends.proofs.Pieces.{flat_map-more, flat_map-split}

@@ -1,6 +1,6 @@
 use Rattle.std.proofs.Common.{sym, subst}
-use Rattle.jt_board.specs.Sound.{IsChain}
-use Rattle.jt_board.proofs.Powered.{bare_chain}
+use Rattle.board_meaning.specs.Sound.{IsChain}
+use Rattle.board_meaning.proofs.Powered.{bare_chain}
 use Rattle.jt_board.proofs.board.Board.bare.Goals as goal
 
 pub invariant_of-result : goal.invariant_of-result

@@ -4,11 +4,11 @@ use Rattle.std.proofs.lemmas.List.{with_items_is}
 use Rattle.std.specs.Vec.{with_items}
 use Rattle.bitbang_table.specs.declared.Message.{Message}
 use Rattle.bitbang_table.specs.declared.Message.TheVariants.{Write, Lines}
-use Rattle.jt_board.specs.Chain.{BoardState, ChipState, members, told}
-use Rattle.jt_board.specs.Nets.{sees}
-use Rattle.jt_board.specs.Sound.{IsChain}
+use Rattle.board_meaning.specs.Chain.{BoardState, ChipState, members, told}
+use Rattle.board_meaning.specs.Nets.{sees}
+use Rattle.board_meaning.specs.Sound.{IsChain}
 use Rattle.jt_board.specs.declared.board.Board.TheInside.{Inside}
-use Rattle.jt_board.proofs.SoundEdges.{IsChain-told, count-told}
+use Rattle.board_meaning.proofs.SoundEdges.{IsChain-told, count-told}
 use Rattle.jt_board.proofs.board.Board.hear.Goals.{then-self+then-tck, in-true-false, in-false-true, else-self+else-this, then-trst, else-trst}
 use Rattle.jt_board.proofs.board.Board.hear.Goals as goal
 

@@ -2,9 +2,9 @@ use Rattle.std.proofs.Common.{◌≡◌, ap, ◌∙◌}
 use Rattle.jt_tap.specs.declared.Work.{Work}
 use Rattle.jt_tap.specs.declared.Work.TheVariants.{Resets}
 use Rattle.jt_tap.specs.Controller.{work}
-use Rattle.jt_board.specs.Cells.{surroundings}
-use Rattle.jt_board.specs.Chain.{ChipState, with_registers}
-use Rattle.jt_board.specs.Edges.{fallen}
+use Rattle.board_meaning.specs.Cells.{surroundings}
+use Rattle.board_meaning.specs.Chain.{ChipState, with_registers}
+use Rattle.scan_registers.specs.Edges.{fallen}
 use Rattle.jt_board.proofs.chip.Chip.settle.Goals as goal
 
 pub returns-in-Resets : goal.returns-in-Resets

@@ -1,0 +1,10 @@
+pub mod Low
+pub mod Moves
+pub mod Resets
+pub mod Ones
+pub mod BoardLaws
+pub mod Told
+pub mod Shift
+pub mod Sound
+pub mod SoundEdges
+pub mod Powered

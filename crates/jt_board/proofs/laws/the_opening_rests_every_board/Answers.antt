@@ -1,5 +1,0 @@
-use Rattle.jt_board.proofs.BoardLaws.{opening_rests}
-use Rattle.jt_board.proofs.laws.the_opening_rests_every_board.Goals as goal
-
-pub returns : goal.returns
-returns c = opening_rests
