@@ -11,7 +11,7 @@ use Rattle.scan_registers.specs.Instruction.{meaning}
 use Rattle.scan_registers.specs.Registers.{Registers, chosen, put, captured, updated, stage_of, with_stage, user_stage, user_latch, with_user_stage, user_updated, capture_of, update_selected}
 use Rattle.scan_registers.specs.declared.users.UserRegister.{UserRegister}
 use Rattle.board_meaning.specs.Cells.{Member, surroundings}
-use Rattle.boundary.specs.Sight.{capture_from}
+use Rattle.boundary.specs.Sight.{capture_by_sight}
 use Rattle.boundary.specs.Cells.{takes_update}
 use Rattle.board_meaning.specs.Whole.{chosen_of, joined, cut_back, capture_all, update_member, reset_member}
 use Rattle.board_meaning.specs.Sound.{HasBit, IsThere, IsSoundFor, AllSound}
@@ -124,9 +124,10 @@ capture-bit Identification fixed seen r some there = there.1
 capture-bit Boundary fixed seen r some there = some
 capture-bit (User k) fixed seen r some there = there.2 (user_latch k r.users) there.1
 
-capture_from-bit : (sees : ℕ → Bool) (from_update : Bool) (m : Member) (k : ℕ) (cs : List Cell) → 0 < length cs → HasBit (capture_from sees from_update m k cs)
-capture_from-bit sees from_update m k [] some = absurd (omega arith)
-capture_from-bit sees from_update m k (c ∷ cs) some = omega arith
+capture-has-bit : (sees : ℕ → Bool) (from_update : Bool) (update core : List Bool) (k : ℕ) (cs : List Cell)
+    → 0 < length cs → HasBit (capture_by_sight sees from_update update core k cs)
+capture-has-bit sees from_update update core k [] some = absurd (omega arith)
+capture-has-bit sees from_update update core k (c ∷ cs) some = omega arith
 
 pub sound-captured : (column : Column) (sees : ℕ → Bool) (m : Member) → IsSoundFor m.device m.registers
     → IsSoundFor m.device (captured m.device column (surroundings sees m) m.registers)
@@ -134,7 +135,7 @@ sound-captured Ir sees m sound = sound-other m.device m.registers.latch m.device
 sound-captured Dr sees m sound =
     let me = meaning m.device m.registers.latch in
     sound-with_stage m.device me.selected _ m.registers
-    (capture-bit me.selected me.fixed _ m.registers (capture_from-bit sees (takes_update m me.mode) m 0 m.device.cells sound.cells) (sound.selects m.registers.latch))
+    (capture-bit me.selected me.fixed _ m.registers (capture-has-bit sees (takes_update m.extest_update me.mode) m.registers.update m.core 0 m.device.cells sound.cells) (sound.selects m.registers.latch))
     sound
 
 pub Sound-capture_all : (column : Column) (sight : ℕ → ℕ → Bool) (k : ℕ) (ms : List Member) → AllSound ms → AllSound (capture_all column sight k ms)

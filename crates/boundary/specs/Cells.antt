@@ -1,6 +1,6 @@
 -- The boundary cells of a device on the board: what they capture, what a reset gives them, what the pins drive
 -- (IEEE Std 1149.1-2001, clauses 8 and 11, and Annex B for the cell table).
-use Rattle.std.specs.Prelude.{◌≡◌, Bool, true, false, ◌&&◌, ℕ, suc, ◌==◌, List, [], ◌∷◌, length, replicate, position, slice_get, Option, Some, None, unwrap_or, if◌then◌else◌}
+use Rattle.std.specs.Prelude.{◌≡◌, ◌<◌, Bool, true, false, ◌&&◌, ℕ, suc, ◌==◌, List, [], ◌∷◌, length, replicate, slice_get, slice_index_or, Option, Some, None, unwrap_or, if◌then◌else◌}
 use Rattle.bsdl_device.specs.declared.Cell.{Cell}
 use Rattle.bsdl_device.specs.declared.Control3.{Control3}
 use Rattle.bsdl_device.specs.declared.Disabled.{Disabled}
@@ -116,9 +116,34 @@ abbrev pub drive_in : Mode → List Cell → (update core : List Bool) → ℕ �
 drive_in HighZ cells update core p = Nothing
 drive_in mode cells update core p = drive_from (in_force mode update core) p 0 cells
 
--- the cell that drives a port bit, if one does
-abbrev pub driver : ℕ → List Cell → Option ℕ
-driver p cells = position (λ (c : Cell). drives c.function && is_port p c.port) cells
+-- the first cell, from cell k on, that drives a port bit
+abbrev pub driver_from : ℕ → ℕ → List Cell → Option ℕ
+driver_from p k [] = None
+driver_from p k (c ∷ cs) = if drives c.function && is_port p c.port then Some k else driver_from p (suc k) cs
+
+-- for each of the first port bits the cell that drives it
+pub record AreDrivers (cells : List Cell) (table : List (Option ℕ)) : Type 0 where
+  pub each : (p : ℕ) → p < length table → slice_index_or table p None ≡ driver_from p 0 cells
+
+-- cell k is entered at its port, if it drives one of these
+pub record Entered (old new : List (Option ℕ)) (k : ℕ) (c : Cell) : Type 0 where
+  pub long : length new ≡ length old
+  pub each : (p : ℕ) → p < length old
+      → slice_index_or new p None ≡ (if drives c.function && is_port p c.port then Some k else slice_index_or old p None)
+
+-- what a port bit drives whose driving cell is this one
+abbrev pub driven : List Bool → Option ℕ → List Cell → Drive
+driven bits None cells = Nothing
+driven bits (Some k) cells = elim (slice_get cells k) [ None ↦ Nothing | Some c ↦ cell_drive bits k c.control ]
+
+abbrev pub driven_in : Mode → List Cell → (update core : List Bool) → Option ℕ → Drive
+driven_in HighZ cells update core driver = Nothing
+driven_in mode cells update core driver = driven (in_force mode update core) driver cells
+
+-- A port bit's drive is that of its driving cell.
+abbrev pub DrivenByCell : Type 0
+DrivenByCell = (mode : Mode) (cells : List Cell) (update core : List Bool) (p : ℕ)
+    → driven_in mode cells update core (driver_from p 0 cells) ≡ drive_in mode cells update core p
 
 -- the four lists have a bit for each cell
 pub record IsWhole (b : BoundaryValue) : Type 0 where

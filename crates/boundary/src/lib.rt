@@ -4,7 +4,7 @@
 
 ghost use Rattle.std.specs.Prelude.{◌≡◌, ◌<◌, ℕ, List, Bool, length, slice_get, IfOk};
 ghost use Rattle.boundary.specs.Cells as cells;
-ghost use Rattle.boundary.specs.Cells.{BoundaryValue};
+ghost use Rattle.boundary.specs.Cells.{AreDrivers, BoundaryValue, DrivenByCell, Entered, IsWhole};
 ghost use Rattle.boundary.specs.Sight.{CapturesBySight};
 
 use bsdl_device::{Cell, Control3, Disabled, Function};
@@ -264,6 +264,75 @@ impl Boundary {
             Mode::Extest => drive_of(self.device.get().cells(), &self.update, port),
             Mode::Clamp => drive_of(self.device.get().cells(), &self.update, port),
             Mode::Core => drive_of(self.device.get().cells(), &self.core, port),
+        }
+    }
+}
+
+impl Boundary {
+    /// The cells, cell 0 nearest TDO; each of the four lists has a bit for each of them.
+    pub fn cells(&self) -> &[Cell]
+        ensures cells { result.now ≡ self.now.cells }
+        ensures whole { IsWhole self.now }
+    {
+        self.device.get().cells()
+    }
+
+    /// What a port bit drives in a mode whose driving cell is this one; without a driving cell it drives nothing.
+    pub fn driven(&self, driver: Option<usize>, mode: Mode) -> Drive
+        ensures { result ≡ cells.driven_in mode self.now.cells self.now.update self.now.core driver }
+    {
+        let bits = match mode {
+            Mode::HighZ => return Drive::Nothing,
+            Mode::Extest | Mode::Clamp => &self.update,
+            Mode::Core => &self.core,
+        };
+        driven(self.device.get().cells(), bits, driver)
+    }
+}
+
+/// What the driving cell drives under the bits in force.
+fn driven(list: &[Cell], bits: &Bits, driver: Option<usize>) -> Drive
+    ensures { result ≡ cells.driven bits.now driver list.now }
+{
+    match driver {
+        None => Drive::Nothing,
+        Some(k) => match list.get(k) {
+            None => Drive::Nothing,
+            Some(cell) => cell_drive(bits, k, cell.control),
+        },
+    }
+}
+
+/// A port bit's drive is that of its driving cell.
+pub fn a_driving_cell_drives_its_port()
+    ensures { DrivenByCell }
+{}
+
+/// For each of the first `ports` port bits the cell that drives it: the lowest that may.
+pub fn drivers(
+    alloc: Global,
+    list: &[Cell],
+    ports: usize,
+) -> Result<Vec<Option<usize>>, AllocError>
+    ensures long { IfOk result (λ v. length v.items ≡ ports) }
+    ensures drivers { IfOk result (λ v. AreDrivers list.now v.items) }
+{
+    let mut table = Vec::from_elem(alloc, None, ports)?;
+    let mut k = list.len();
+    while k > 0 {
+        k -= 1;
+        enter_driver(&mut table, k, list[k]);
+    }
+    Ok(table)
+}
+
+/// Cell `k` drives its port, if it drives.
+fn enter_driver(table: &mut [Option<usize>], k: usize, cell: Cell)
+    ensures { Entered table.old table.new k cell }
+{
+    if let Some(port) = cell.port {
+        if drives(cell.function) && port < table.len() {
+            table[port] = Some(k);
         }
     }
 }
