@@ -177,6 +177,13 @@ impl<B: Register> Chip<B> {
         self.decoded.mode
     }
 
+    /// The data register that the instruction in the latch selects.
+    pub fn selected(&self) -> Selected
+        ensures { result ≡ (meaning self.now.device self.now.latch).selected }
+    {
+        self.decoded.selected
+    }
+
     pub fn latch(&self) -> &Bits
         ensures { result.now ≡ self.now.latch }
     {

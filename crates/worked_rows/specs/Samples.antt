@@ -27,8 +27,8 @@ bits (suc n) v = (v % 2 == 1) ∷ bits n (v / 2)
 abbrev pub pattern : ℕ → ℕ → Pattern
 pattern n v = map (λ b. Some b) (bits n v)
 
-abbrev pub port : List ℕ → PortBit
-port name = record { name = name; index = None; mode = In }
+abbrev pub port : (is_tap : Bool) → List ℕ → PortBit
+port is_tap name = record { name = name; index = None; mode = In; is_tap = is_tap }
 
 abbrev pub opcode : List ℕ → ℕ → Opcode
 opcode name v = record { name = name; patterns = pattern 2 v ∷ [] }
@@ -38,7 +38,7 @@ q_cell = record { function = Output3; port = Some 4; control = Some (record { ce
 
 abbrev pub device_with : List Opcode → Cell → List Access → List ℕ → Bool → Device
 device_with rows q accesses users trst = record {
-  ports = port (codes "TDI") ∷ port (codes "TMS") ∷ port (codes "TCK") ∷ port (codes "TDO") ∷ port (codes "Q") ∷ port (codes "D") ∷ [];
+  ports = port true (codes "TDI") ∷ port true (codes "TMS") ∷ port true (codes "TCK") ∷ port true (codes "TDO") ∷ port false (codes "Q") ∷ port false (codes "D") ∷ [];
   instruction_length = 2;
   opcodes = rows;
   capture = bits 2 1;

@@ -1,0 +1,6 @@
+pub mod EdgeLaws
+pub mod DriveLaws
+pub mod LevelLaws
+pub mod TellLaws
+pub mod SweepLaws
+pub mod ChainLaws

@@ -1,0 +1,41 @@
+use Rattle.std.proofs.Common.{◌≡◌, ◌∙◌, Bool, List, length, map, sym, ap, subst, if◌then◌else◌}
+use Rattle.std.proofs.lemmas.List.{with_items_is}
+use Rattle.std.specs.Vec.{with_items}
+use Rattle.board_meaning.specs.Chain as meant
+use Rattle.board_meaning.specs.Chain.{ChipState, members, rise_all}
+use Rattle.board_meaning.specs.Nets.{sees}
+use Rattle.pin_nets.specs.Wired.{Net}
+use Rattle.chip_chain.specs.Chains.{ChainValue}
+use Rattle.chip_chain.specs.Seats.{AllTold, SeatValue, chip_state}
+use Rattle.chip_chain.specs.Sweeping.{EachFrom, Falls, Rises, TakesTrst}
+use Rattle.chip_chain.specs.Wires.{IsWired}
+use Rattle.chip_chain.specs.contracts.chain.Chain.{the_view}
+use Rattle.chip_chain.proofs.SweepLaws.{each_long}
+use Rattle.chip_chain.proofs.ChainLaws.{all_chips, all_told, rises_chips, rises_told, rises_wired, trst_chips, trst_told}
+use Rattle.chip_chain.proofs.chain.Chain.rise.Goals as goal
+
+pub invariant_of-self : goal.invariant_of-self
+invariant_of-self c =
+    let s = c.self.inside in
+    let new = c.rise_all.new.seats in
+    let R = Rises s.wiring c.args.tms c.args.tdi s.seats.items in
+    let each : EachFrom R 0 s.seats.items new =
+        subst (λ (l : List SeatValue). EachFrom (Rises s.wiring c.args.tms c.args.tdi l) 0 l new) c.deref_mut.ensures.value c.rise_all.ensures in
+    let is = with_items_is s.seats new (each_long R 0 s.seats.items new each ∙ sym s.seats.ok.0) in
+    record {
+      told = subst (AllTold s.trst) (sym is) (rises_told s.wiring c.args.tms c.args.tdi s.seats.items c.self.invariant.wired s.trst new each c.self.invariant.told);
+      wired = subst (λ (l : List SeatValue). IsWired l s.wiring) (sym is) (rises_wired s.wiring c.args.tms c.args.tdi s.seats.items c.self.invariant.wired new each);
+    }
+
+pub returns : goal.returns
+returns c =
+    let s = c.self.inside in
+    let new = c.rise_all.new.seats in
+    let R = Rises s.wiring c.args.tms c.args.tdi s.seats.items in
+    let each : EachFrom R 0 s.seats.items new =
+        subst (λ (l : List SeatValue). EachFrom (Rises s.wiring c.args.tms c.args.tdi l) 0 l new) c.deref_mut.ensures.value c.rise_all.ensures in
+    let is = with_items_is s.seats new (each_long R 0 s.seats.items new each ∙ sym s.seats.ok.0) in
+    let chips-are = ap (map chip_state) is ∙ rises_chips s.wiring c.args.tms c.args.tdi s.seats.items c.self.invariant.wired s.trst new each c.self.invariant.told in
+    let now = the_view (record s { seats = with_items s.seats new }) in
+    subst (λ (v : ChainValue). now ≡ record v { chips = rise_all v.trst c.args.tms c.args.tdi (sees v.nets (members v.chips)) 0 v.chips }) c.self.view_is
+    (ap (λ (cs : List ChipState). record (the_view s) { chips = cs }) chips-are)

@@ -1,0 +1,85 @@
+-- A device at its place in the chain, as the code keeps it: its chip round a boundary register, and the net of each cell.
+use Rattle.std.specs.Prelude.{◌≡◌, ◌<◌, ℕ, suc, Bool, true, false, List, [], ◌∷◌, map, slice_get, option_and_then, Option, Some, None, if◌then◌else◌}
+use Rattle.std.specs.List.{AllByRecursion}
+use Rattle.jt_tap.specs.declared.Column.TheVariants.{Dr}
+use Rattle.jt_tap.specs.declared.Work.{Work}
+use Rattle.jt_tap.specs.declared.Work.TheVariants.{Resets, Captures, Updates}
+use Rattle.jt_tap.specs.Controller.{work}
+use Rattle.bsdl_device.specs.declared.Cell.{Cell}
+use Rattle.scan_registers.specs.declared.Selected.{Selected}
+use Rattle.scan_registers.specs.declared.Selected.TheVariants.{Boundary}
+use Rattle.scan_registers.specs.Chips.{ChipValue, registers}
+use Rattle.scan_registers.specs.Instruction.{meaning}
+use Rattle.pin_nets.specs.Wired.{Net}
+use Rattle.boundary.specs.Cells.{BoundaryValue, IsWhole}
+use Rattle.boundary.specs.Sight.{Told}
+use Rattle.board_meaning.specs.Cells.{Member}
+use Rattle.board_meaning.specs.Chain.{ChipState}
+use Rattle.board_meaning.specs.Nets.{joins}
+
+pub record SeatValue : Type 0 where
+  pub name : List ℕ
+  pub chip : ChipValue BoundaryValue
+  -- of each cell the net that its port is on, if it has a port and that is on a net
+  pub nets : List (Option ℕ)
+
+-- the device of the meaning
+abbrev pub member_of : SeatValue → Member
+member_of s = record {
+  name = s.name;
+  device = s.chip.device;
+  core = s.chip.boundary.core;
+  extest_update = s.chip.boundary.extest_update;
+  registers = registers (λ b. b.stage) (λ b. b.update) s.chip;
+}
+
+abbrev pub chip_state : SeatValue → ChipState
+chip_state s = record { member = member_of s; state = s.chip.state; tdo = s.chip.tdo }
+
+-- What a boundary's cells were told of their ports is no part of the meaning.
+abbrev pub with_seen : List Bool → SeatValue → SeatValue
+with_seen seen s = record s { chip = record s.chip { boundary = record s.chip.boundary { seen = seen } } }
+
+-- the first net, from net n on, that joins a port bit of the device at a place
+abbrev pub first_net : (place port n : ℕ) → List Net → Option ℕ
+first_net place port n [] = None
+first_net place port n (x ∷ xs) = if joins place port x then Some n else first_net place port (suc n) xs
+
+-- the net of a cell's port
+abbrev pub cell_net : List Net → ℕ → Cell → Option ℕ
+cell_net nets place c = option_and_then (λ p. first_net place p 0 nets) c.port
+
+-- each net is one of so many
+abbrev pub AreBelow : ℕ → List (Option ℕ) → Type 0
+AreBelow n nets = (k net : ℕ) → slice_get nets k ≡ Some (Some net) → net < n
+
+-- What no edge changes: the name, the description, the core, and what the device is wired to.
+pub record IsKept (old new : SeatValue) : Type 0 where
+  pub name : new.name ≡ old.name
+  pub device : new.chip.device ≡ old.chip.device
+  pub core : new.chip.boundary.core ≡ old.chip.boundary.core
+  pub extest_update : new.chip.boundary.extest_update ≡ old.chip.boundary.extest_update
+  pub nets : new.nets ≡ old.nets
+
+-- every chip was told this level of TRST last
+abbrev pub AllTold : Bool → List SeatValue → Type 0
+AllTold trst seats = AllByRecursion (λ s. s.chip.trst ≡ trst) seats
+
+-- whether the rising edge that comes captures the boundary register
+abbrev pub captures_boundary : Work → Selected → Bool
+captures_boundary (Captures Dr) Boundary = true
+captures_boundary _ _ = false
+
+-- if it does, each cell with a port was told what its port sees
+abbrev pub IsSighted : (ℕ → Bool) → SeatValue → Type 0
+IsSighted sees s = captures_boundary (work s.chip.state) (meaning s.chip.device s.chip.latch).selected ≡ true
+    → IsWhole s.chip.boundary × Told sees s.chip.device.cells s.chip.boundary.seen
+
+-- whether the falling edge that comes may change what a pin drives: it updates or resets
+abbrev pub changes_drives : Work → Bool
+changes_drives (Updates column) = true
+changes_drives Resets = true
+changes_drives _ = false
+
+abbrev pub may_drive_anew : SeatValue → Bool
+may_drive_anew s = changes_drives (work s.chip.state)
