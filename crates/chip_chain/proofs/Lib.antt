@@ -4,3 +4,4 @@ pub mod LevelLaws
 pub mod TellLaws
 pub mod SweepLaws
 pub mod ChainLaws
+pub mod BuildLaws

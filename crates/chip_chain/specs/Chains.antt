@@ -1,9 +1,6 @@
 -- A chain of devices with its nets, as contracts see it.
-use Rattle.std.specs.Prelude.{◌≡◌, Bool, false, List, map, length}
-use Rattle.std.specs.List.{AllByRecursion}
+use Rattle.std.specs.Prelude.{Bool, false, List, map}
 use Rattle.jt_tap.specs.declared.State.TheVariants.{Reset}
-use Rattle.bsdl_device.specs.Device.{Device}
-use Rattle.scan_registers.specs.Fitting.{IsFormed}
 use Rattle.pin_nets.specs.Wired.{Net}
 use Rattle.board_file.specs.Wiring as planned
 use Rattle.board_meaning.specs.Cells.{Member, powered}
@@ -23,7 +20,3 @@ powered_up m = powered m.name m.device m.core m.extest_update
 -- a planned chain as it powers up
 abbrev pub chain_of : planned.Wiring → ChainValue
 chain_of w = record { trst = false; nets = w.nets; chips = map (λ m. standing Reset (powered_up m)) w.members }
-
--- the descriptions of all devices are formed
-abbrev pub AreFormed : planned.Wiring → Type 0
-AreFormed w = AllByRecursion (λ (m : planned.Member). IsFormed m.device) w.members

@@ -3,3 +3,4 @@ pub mod Wires
 pub mod Telling
 pub mod Sweeping
 pub mod Chains
+pub mod Building

@@ -1,10 +1,10 @@
 //! The chain of devices with its nets.
 
-ghost use Rattle.std.specs.Prelude.{◌≡◌, true, drop, map, if◌then◌else◌};
+ghost use Rattle.std.specs.Prelude.{◌≡◌, true, false, drop, map, if◌then◌else◌};
 ghost use Rattle.std.specs.List.{list_any};
 ghost use Rattle.board_meaning.specs.Chain as meant;
 ghost use Rattle.board_meaning.specs.Nets as nets;
-ghost use Rattle.chip_chain.specs.Seats.{chip_state, may_drive_anew};
+ghost use Rattle.chip_chain.specs.Seats.{AllTold, chip_state, may_drive_anew};
 ghost use Rattle.chip_chain.specs.Sweeping.{EachFrom, Falls, Rises, TakesTrst};
 ghost use Rattle.chip_chain.specs.Wires.{IsWired};
 
@@ -39,6 +39,19 @@ impl Model for Chain {
 }
 
 impl Chain {
+    /// Devices with TRST released and the nets between them.
+    pub(crate) fn of(seats: Vec<Seat>, wiring: Wiring) -> Chain
+        requires told { AllTold false seats.items }
+        requires wired { IsWired seats.items wiring }
+        ensures { result ≡ record { trst = false; nets = wiring.nets; chips = map chip_state seats.items } }
+    {
+        Chain {
+            trst: false,
+            seats,
+            wiring,
+        }
+    }
+
     /// A rising edge of all devices at once, each from its own state, the levels before the edge, and as TDI the TDO of
     /// the next device, 1 while undriven; the last takes `tdi`.
     pub fn rise(&mut self, tms: bool, tdi: bool)

@@ -1,22 +1,27 @@
 //! One device at its place in the chain.
 
-ghost use Rattle.std.specs.Prelude.{◌≡◌, ◌≢◌, ◌<◌, ℕ, Bool, List, [], ◌∷◌, length, slice_get, Some, if◌then◌else◌};
+ghost use Rattle.std.specs.Prelude.{◌≡◌, ◌≢◌, ◌<◌, ℕ, Bool, List, [], ◌∷◌, length, slice_get, Some, if◌then◌else◌, IfOk};
 ghost use Rattle.jt_tap.specs.Controller.{work};
+ghost use Rattle.scan_registers.specs.Fitting.{IsFormed};
 ghost use Rattle.scan_registers.specs.Instruction.{meaning};
 ghost use Rattle.pin_nets.specs.Levels as levels;
 ghost use Rattle.pin_nets.specs.declared.Drive.TheVariants as driving;
 ghost use Rattle.boundary.specs.Cells as cells;
+ghost use Rattle.board_file.specs.View.{member as planned_member};
 ghost use Rattle.board_meaning.specs.Cells.{Member};
 ghost use Rattle.board_meaning.specs.Cells as meant;
 ghost use Rattle.board_meaning.specs.Chain as chain;
+ghost use Rattle.chip_chain.specs.Building.{seat_of};
 ghost use Rattle.chip_chain.specs.Seats.{AreBelow, IsKept, IsSighted, captures_boundary, chip_state, first_net, member_of, with_seen};
 ghost use Rattle.chip_chain.specs.Telling.{IsAt, TellsAll, TellsCell, sight};
 
 use crate::wiring::Wiring;
-use boundary::{Boundary, Drive};
+use board_file::PlannedDevice;
+use boundary::{Boundary, Drive, drivers};
 use jt_tap::{Column, State, Work};
 use pin_nets::reads;
 use scan_registers::{Chip, Selected};
+use std::alloc::{AllocError, Global};
 use std::marker::Model;
 
 /// A device with its name and, for its cells and port bits, what they are wired to. Contracts see it without the table
@@ -48,6 +53,29 @@ impl Model for Seat {
 }
 
 impl Seat {
+    /// A planned device as it powers up, given the net of each of its cells.
+    pub(crate) fn new(
+        alloc: Global,
+        device: &PlannedDevice,
+        nets: Vec<Option<usize>>,
+    ) -> Result<Seat, AllocError>
+        requires formed { IsFormed device.now.device }
+        requires core { length device.now.core ≡ length device.now.device.cells }
+        requires nets { length nets.items ≡ length device.now.device.cells }
+        ensures { IfOk result (λ s. s ≡ seat_of nets.items (planned_member device.now)) }
+    {
+        let description = device.device.get();
+        let drivers = drivers(alloc, description.cells(), description.port_count())?;
+        let boundary = Boundary::new(alloc, &device.device, &device.core, device.extest_update)?;
+        let chip = Chip::new(alloc, &device.device, boundary)?;
+        Ok(Seat {
+            name: String::from_str(alloc, &device.name)?,
+            chip,
+            nets,
+            drivers,
+        })
+    }
+
     pub(crate) fn state(&self) -> State
         ensures { result ≡ self.now.chip.state }
     {

@@ -1,7 +1,8 @@
 //! The nets of a board, with what was last put to them.
 
-ghost use Rattle.std.specs.Prelude.{◌≡◌, ◌<◌, ◌∷◌, map, length, slice_get, slice_set, option_map, Some, IfOk};
+ghost use Rattle.std.specs.Prelude.{◌≡◌, ◌<◌, ◌∷◌, map, length, slice_get, option_map, replicate, Some, IfOk};
 ghost use Rattle.pin_nets.specs.declared.Drive.{Drive as TheDrive};
+ghost use Rattle.pin_nets.specs.declared.Drive.TheVariants as driving;
 ghost use Rattle.pin_nets.specs.declared.Pin.{Pin as ThePin};
 ghost use Rattle.pin_nets.specs.Levels as levels;
 ghost use Rattle.board_file.specs.Fits.{all_pins};
@@ -10,9 +11,11 @@ ghost use Rattle.board_meaning.specs.Nets.{pin_drive};
 ghost use Rattle.chip_chain.specs.Seats.{member_of};
 ghost use Rattle.chip_chain.specs.Wires.{AreSeated, WiringValue};
 
+use crate::build::number_nets;
 use crate::seat::Seat;
 use board_file::PlannedNet;
-use pin_nets::{Level, Nets, Pin, reads};
+use pin_nets::{Level, Nets, Pin};
+use std::alloc::{AllocError, Global};
 use std::marker::Model;
 
 /// The nets by name, and their levels. Contracts see the nets, and what was last put to each of their pins.
@@ -42,6 +45,19 @@ impl Model for Wiring {
 }
 
 impl Wiring {
+    /// These nets, to whose pins nothing was put yet.
+    pub(crate) fn new(alloc: Global, nets: Vec<PlannedNet>) -> Result<Wiring, AllocError>
+        ensures { IfOk result (λ w. w ≡ record {
+          nets = map planned_net nets.items;
+          drives = replicate (length (all_pins (map planned_net nets.items))) driving.Nothing;
+        }) }
+    {
+        let mut pins = Vec::new(alloc);
+        let specs = number_nets(alloc, &nets, &mut pins)?;
+        let levels = Nets::build(alloc, pins.len(), &specs)?;
+        Ok(Wiring { nets, pins, levels })
+    }
+
     /// How many nets have a name.
     pub(crate) fn count(&self) -> usize
         ensures { result ≡ length self.now.nets }
