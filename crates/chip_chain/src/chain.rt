@@ -1,6 +1,6 @@
 //! The chain of devices with its nets.
 
-ghost use Rattle.std.specs.Prelude.{◌≡◌, true, false, drop, map, if◌then◌else◌};
+ghost use Rattle.std.specs.Prelude.{◌≡◌, ◌<◌, true, false, drop, length, map, option_map, slice_get, Some, if◌then◌else◌};
 ghost use Rattle.std.specs.List.{list_any};
 ghost use Rattle.board_meaning.specs.Chain as meant;
 ghost use Rattle.board_meaning.specs.Nets as nets;
@@ -11,6 +11,7 @@ ghost use Rattle.chip_chain.specs.Wires.{IsWired};
 use crate::seat::{Seat, rise};
 use crate::wiring::Wiring;
 use jt_tap::Work;
+use pin_nets::Level;
 use std::marker::Model;
 
 /// Devices on one TAP, the first nearest the board's TDO, with the nets between their pins. Contracts see the level of
@@ -74,6 +75,51 @@ impl Chain {
     {
         tell_trst_wired(&mut self.seats, &mut self.wiring, trst);
         self.trst = trst;
+    }
+
+    /// Whether TRST is asserted.
+    pub fn trst(&self) -> bool
+        ensures { result ≡ self.now.trst }
+    {
+        self.trst
+    }
+
+    /// How many devices there are.
+    pub fn devices(&self) -> usize
+        ensures { result ≡ length self.now.chips }
+    {
+        self.seats.len()
+    }
+
+    /// Device `i`, counted from the one nearest TDO.
+    pub fn seat(&self, i: usize) -> &Seat
+        requires { i < length self.now.chips }
+        ensures { slice_get self.now.chips i ≡ Some (chip_state result.now) }
+    {
+        &self.seats[i]
+    }
+
+    /// How many nets have a name.
+    pub fn nets(&self) -> usize
+        ensures { result ≡ length self.now.nets }
+    {
+        self.wiring.count()
+    }
+
+    /// The name of a net.
+    pub fn net_name(&self, net: usize) -> &str
+        requires { net < length self.now.nets }
+        ensures { option_map (λ n. n.name) (slice_get self.now.nets net) ≡ Some result.now }
+    {
+        self.wiring.name(net)
+    }
+
+    /// The level of a net: that of resolving it anew.
+    pub fn level(&self, net: usize) -> Level
+        requires { net < length self.now.nets }
+        ensures { option_map (nets.level (meant.members self.now.chips)) (slice_get self.now.nets net) ≡ Some result }
+    {
+        self.wiring.level(net)
     }
 
     /// The TDO of the first device, which reads 1 while it is not driven.

@@ -7,3 +7,4 @@ mod seat;
 mod wiring;
 
 pub use chain::Chain;
+pub use seat::Seat;

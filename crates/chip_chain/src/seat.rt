@@ -1,9 +1,9 @@
 //! One device at its place in the chain.
 
-ghost use Rattle.std.specs.Prelude.{◌≡◌, ◌≢◌, ◌<◌, ℕ, Bool, List, [], ◌∷◌, length, slice_get, Some, if◌then◌else◌, IfOk};
+ghost use Rattle.std.specs.Prelude.{◌≡◌, ◌≢◌, ◌<◌, ℕ, Bool, List, [], ◌∷◌, length, slice_get, Some, None, option_map, if◌then◌else◌, IfOk};
 ghost use Rattle.jt_tap.specs.Controller.{work};
-ghost use Rattle.scan_registers.specs.Fitting.{IsFormed};
-ghost use Rattle.scan_registers.specs.Instruction.{meaning};
+ghost use Rattle.scan_registers.specs.Fitting.{IsFormed, has_code};
+ghost use Rattle.scan_registers.specs.Instruction.{instruction, meaning};
 ghost use Rattle.pin_nets.specs.Levels as levels;
 ghost use Rattle.pin_nets.specs.declared.Drive.TheVariants as driving;
 ghost use Rattle.boundary.specs.Cells as cells;
@@ -18,6 +18,8 @@ ghost use Rattle.chip_chain.specs.Telling.{IsAt, TellsAll, TellsCell, sight};
 use crate::wiring::Wiring;
 use board_file::PlannedDevice;
 use boundary::{Boundary, Drive, drivers};
+use bsdl_device::Device;
+use jt_bits::Bits;
 use jt_tap::{Column, State, Work};
 use pin_nets::reads;
 use scan_registers::{Chip, Selected};
@@ -27,7 +29,7 @@ use std::marker::Model;
 /// A device with its name and, for its cells and port bits, what they are wired to. Contracts see it without the table
 /// of its driving cells, which its description gives.
 #[derive(Drop)]
-pub(crate) struct Seat {
+pub struct Seat {
     name: String,
     chip: Chip<Boundary>,
     /// Of each cell the net that its port is on.
@@ -76,14 +78,87 @@ impl Seat {
         })
     }
 
-    pub(crate) fn state(&self) -> State
+    /// The name of the device on the board.
+    pub fn name(&self) -> &str
+        ensures { result.now ≡ self.now.name }
+    {
+        self.name.as_str()
+    }
+
+    /// Its description.
+    pub fn device(&self) -> &Device
+        ensures { result.now ≡ self.now.chip.device }
+    {
+        self.chip.device()
+    }
+
+    /// The state of its controller.
+    pub fn state(&self) -> State
         ensures { result ≡ self.now.chip.state }
     {
         self.chip.state()
     }
 
+    /// Its present instruction, bit 0 nearest TDO.
+    pub fn latch(&self) -> &Bits
+        ensures { result.now ≡ self.now.chip.latch }
+    {
+        self.chip.latch()
+    }
+
+    /// The name of the instruction in its latch; `None` where the description has none for it.
+    pub fn instruction(&self) -> Option<&str>
+        ensures { option_map {U = List ℕ} (λ s. s.now) result ≡ instruction self.now.chip.device self.now.chip.latch }
+    {
+        self.chip.instruction()
+    }
+
+    /// Its instruction stage, the shift register in the IR column.
+    pub fn stage(&self) -> &Bits
+        ensures { result.now ≡ self.now.chip.stage }
+    {
+        self.chip.stage()
+    }
+
+    /// The one bit of its bypass register.
+    pub fn bypass(&self) -> bool
+        ensures { result ≡ self.now.chip.bypass }
+    {
+        self.chip.bypass()
+    }
+
+    /// Its identification register, where its description has a code.
+    pub fn id(&self) -> Option<&Bits>
+        ensures { option_map {U = List Bool} (λ b. b.now) result
+            ≡ (if has_code self.now.chip.device then Some self.now.chip.identification else None) }
+    {
+        self.chip.id()
+    }
+
+    /// The shift stage of its boundary register; cell 0 is the one nearest TDO.
+    pub fn boundary(&self) -> &Bits
+        ensures { result.now ≡ self.now.chip.boundary.stage }
+    {
+        self.chip.boundary().stage()
+    }
+
+    /// The update stage of its boundary register.
+    pub fn boundary_update(&self) -> &Bits
+        ensures { result.now ≡ self.now.chip.boundary.update }
+    {
+        self.chip.boundary().update_stage()
+    }
+
+    /// The stage and the latch of its user register `k`, counted in the order in which the description first names them.
+    pub fn user(&self, k: usize) -> Option<(&Bits, &Bits)>
+        ensures { option_map {U = List Bool × List Bool} (λ p. (p.0.now, p.1.now)) result
+            ≡ option_map (λ u. (u.stage, u.latch)) (slice_get self.now.chip.users k) }
+    {
+        self.chip.user(k)
+    }
+
     /// The level of TDO since the last falling edge, `None` while it is not driven.
-    pub(crate) fn tdo(&self) -> Option<bool>
+    pub fn tdo(&self) -> Option<bool>
         ensures { result ≡ self.now.chip.tdo }
     {
         self.chip.tdo()

@@ -1,4 +1,1 @@
-pub mod Short
-pub mod Sweeps
-pub mod Bares
 pub mod Lines

@@ -1,13 +1,3 @@
-pub mod Device
-pub mod Instruction
-pub mod Registers
-pub mod Edges
-pub mod Cells
-pub mod Nets
-pub mod Chain
-pub mod Whole
-pub mod Resting
-pub mod Sound
-pub mod Bare
-pub mod Laws
+pub mod Made
 pub mod Report
+pub mod Shown

@@ -13,6 +13,7 @@ use crate::decode::{Decoded, decode, fixed_bits, instruction_of};
 use crate::start::{code_length, has_code, new_users, reset_latch};
 use crate::users::{self, UserRegister};
 use crate::{Mode, Register, Selected, SharedDevice};
+use bsdl_device::Device;
 use jt_bits::Bits;
 use jt_tap::{Column, State, Work};
 use std::alloc::{AllocError, Global};
@@ -156,6 +157,13 @@ impl<B: Register> Chip<B> {
         ensures { self.new ≡ record self.old { boundary = B.saw self.old.boundary cell bit } }
     {
         self.boundary.see(cell, bit);
+    }
+
+    /// The description.
+    pub fn device(&self) -> &Device
+        ensures { result.now ≡ self.now.device }
+    {
+        self.device.get()
     }
 
     pub fn state(&self) -> State

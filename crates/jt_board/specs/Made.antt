@@ -1,0 +1,32 @@
+-- Boards as they are made.
+use Rattle.std.specs.Prelude.{◌<◌, ◌≤◌, Bool, false, ℕ, zero, suc, List, [], ◌∷◌, length, map, Some}
+use Rattle.std.specs.List.{AllByRecursion}
+use Rattle.bsdl_device.specs.Device.{Pattern}
+use Rattle.bsdl_device.specs.Sound.{IsSoundDevice}
+use Rattle.board_file.specs.Wiring as planned
+use Rattle.board_meaning.specs.Bare.{bare, bare_name}
+use Rattle.board_meaning.specs.Chain.{BoardState}
+use Rattle.board_meaning.specs.Resting.{power_up, resting}
+use Rattle.chip_chain.specs.Chains.{powered_up}
+
+-- a planned board as it powers up
+abbrev pub board_of : planned.Wiring → BoardState
+board_of w = resting (power_up w.nets (map powered_up w.members))
+
+-- 1 to 32 devices whose descriptions are sound
+pub record IsSoundWiring (w : planned.Wiring) : Type 0 where
+  pub some : 0 < length w.members
+  pub most : length w.members ≤ 32
+  pub sound : AllByRecursion (λ (m : planned.Member). IsSoundDevice m.device) w.members
+
+-- n bare devices, the first of them U and this number
+abbrev pub bare_planned : ℕ → ℕ → List planned.Member
+bare_planned k zero = []
+bare_planned k (suc n) = record { name = bare_name k; device = bare; core = false ∷ []; extest_update = false } ∷ bare_planned (suc k) n
+
+abbrev pub bare_wiring : ℕ → planned.Wiring
+bare_wiring n = record { members = bare_planned 1 n; nets = [] }
+
+-- the opcode of two of these bits
+abbrev pub two_bits : Bool → Pattern
+two_bits bit = Some bit ∷ Some bit ∷ []
