@@ -140,7 +140,7 @@ pub seats_told : (nets : List Net) (k : ℕ) (ms : List planned.Member) → AllT
 seats_told nets k [] = tt
 seats_told nets k (m ∷ ms) = (refl, seats_told nets (suc k) ms)
 
-pub seats_stand : (nets : List Net) (k : ℕ) (ms : List planned.Member) → map chip_state (seats_of nets k ms) ≡ map (λ m. standing Reset (powered_up m)) ms
+pub seats_stand : (nets : List Net) (k : ℕ) (ms : List planned.Member) → map chip_state (seats_of nets k ms) ≡ map (standing Reset) (map powered_up ms)
 seats_stand nets k [] = refl
 seats_stand nets k (m ∷ ms) = ap (λ (r : List ChipState). standing Reset (powered_up m) ∷ r) (seats_stand nets (suc k) ms)
 

@@ -19,4 +19,4 @@ powered_up m = powered m.name m.device m.core m.extest_update
 
 -- a planned chain as it powers up
 abbrev pub chain_of : planned.Wiring → ChainValue
-chain_of w = record { trst = false; nets = w.nets; chips = map (λ m. standing Reset (powered_up m)) w.members }
+chain_of w = record { trst = false; nets = w.nets; chips = map (standing Reset) (map powered_up w.members) }

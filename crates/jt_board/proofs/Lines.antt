@@ -1,8 +1,14 @@
 -- A report that grows line by line, and bits that are written from the highest down.
-use Rattle.std.proofs.Common.{◌≡◌, Bool, ℕ, zero, suc, ◌+◌, List, [], ◌∷◌, ◌++◌, take, drop, map, reverse, sym, ap, ◌∙◌, arith, Some}
+use Rattle.std.proofs.Common.{◌≡◌, Bool, ℕ, zero, suc, ◌+◌, List, [], ◌∷◌, ◌++◌, take, drop, map, reverse, sym, ap, ◌∙◌, arith, refl, get_or, option_map, Option, None, Some}
 use Rattle.std.specs.Prelude.{slice_get}
+use Rattle.std.proofs.lemmas.Option.{get_or_from_slice_get, none-some, same_Some}
+use Rattle.pin_nets.specs.declared.Level.{Level}
+use Rattle.pin_nets.specs.declared.Pull.TheVariants.{Free}
+use Rattle.pin_nets.specs.Wired.{Net}
+use Rattle.board_meaning.specs.Cells.{Member}
+use Rattle.board_meaning.specs.Nets.{level}
 use Rattle.std.proofs.lemmas.List.{map-append, reverse-append, take-append-drop}
-use Rattle.jt_board.specs.Report.{digit, digits}
+use Rattle.jt_board.specs.Report.{digit, digits, level_line, net_line}
 
 drop-there : (bits : List Bool) (n : ℕ) (b : Bool) → slice_get bits n ≡ Some b → drop n bits ≡ b ∷ drop (suc n) bits
 drop-there [] zero b e = absurd (cc)
@@ -22,3 +28,18 @@ pub digits-split : (bits : List Bool) (n : ℕ) → digits bits ≡ digits (drop
 digits-split bits n =
     ap digits (sym (take-append-drop n bits)) ∙ ap (map digit) (reverse-append (take n bits) (drop n bits))
     ∙ map-append digit (reverse (drop n bits)) (reverse (take n bits))
+
+pub nowhere : Net
+nowhere = record { name = []; pull = Free; pins = [] }
+
+-- the line of a net, by its name and its level
+pub net_said : (ms : List Member) (nets : List Net) (k : ℕ) (name : List ℕ) (l : Level) → option_map (λ n. n.name) (slice_get nets k) ≡ Some name
+    → option_map (level ms) (slice_get nets k) ≡ Some l → level_line name l ≡ net_line ms (get_or nets k nowhere)
+net_said ms nets k name l named is = by (slice_get nets k) refl
+  where
+    by : (o : Option Net) → slice_get nets k ≡ o → level_line name l ≡ net_line ms (get_or nets k nowhere)
+    by None at = absurd (none-some name (sym (ap (option_map (λ (n : Net). n.name)) at) ∙ named))
+    by (Some n) at =
+        let name-is : n.name ≡ name = same_Some _ _ (sym (ap (option_map (λ (n : Net). n.name)) at) ∙ named) in
+        let level-is : level ms n ≡ l = same_Some _ _ (sym (ap (option_map (level ms)) at) ∙ is) in
+        sym (ap (λ (x : List ℕ). level_line x l) name-is) ∙ sym (ap (level_line n.name) level-is) ∙ sym (ap (net_line ms) (get_or_from_slice_get nets k n nowhere at))

@@ -7,7 +7,11 @@ use Rattle.board_file.specs.Wiring as planned
 use Rattle.board_meaning.specs.Bare.{bare, bare_name}
 use Rattle.board_meaning.specs.Chain.{BoardState}
 use Rattle.board_meaning.specs.Resting.{power_up, resting}
-use Rattle.chip_chain.specs.Chains.{powered_up}
+use Rattle.chip_chain.specs.Chains.{ChainValue, powered_up}
+
+-- a board of this chain, at this level of TCK
+abbrev pub board_at : Bool → ChainValue → BoardState
+board_at tck c = record { tck = tck; trst = c.trst; nets = c.nets; chips = c.chips }
 
 -- a planned board as it powers up
 abbrev pub board_of : planned.Wiring → BoardState
@@ -19,10 +23,14 @@ pub record IsSoundWiring (w : planned.Wiring) : Type 0 where
   pub most : length w.members ≤ 32
   pub sound : AllByRecursion (λ (m : planned.Member). IsSoundDevice m.device) w.members
 
--- n bare devices, the first of them U and this number
+-- the bare device U and this number, its core 0
+abbrev pub bare_at : ℕ → planned.Member
+bare_at k = record { name = bare_name k; device = bare; core = false ∷ []; extest_update = false }
+
+-- n of them, the first with this number
 abbrev pub bare_planned : ℕ → ℕ → List planned.Member
 bare_planned k zero = []
-bare_planned k (suc n) = record { name = bare_name k; device = bare; core = false ∷ []; extest_update = false } ∷ bare_planned (suc k) n
+bare_planned k (suc n) = bare_at k ∷ bare_planned (suc k) n
 
 abbrev pub bare_wiring : ℕ → planned.Wiring
 bare_wiring n = record { members = bare_planned 1 n; nets = [] }

@@ -4,8 +4,8 @@ ghost use Rattle.std.specs.Prelude.{◌≡◌, [], ◌∷◌, ◌≤◌, true, f
 ghost use Rattle.bsdl_device.specs.Device as described;
 ghost use Rattle.bsdl_device.specs.declared.port_bits.Port.{Port as ThePort};
 ghost use Rattle.board_file.specs.View.{member, wiring};
-ghost use Rattle.board_meaning.specs.Bare.{bare, bare_name};
-ghost use Rattle.jt_board.specs.Made.{bare_planned, bare_wiring, two_bits};
+ghost use Rattle.board_meaning.specs.Bare.{bare};
+ghost use Rattle.jt_board.specs.Made.{bare_at, bare_planned, bare_wiring, two_bits};
 
 use board_file::{Plan, PlannedDevice};
 use bsdl_device::{Cell, Device, Function, Opcode, Parts, Pattern, Port, PortMode, Ports};
@@ -34,15 +34,22 @@ fn bare_devices(alloc: Global, device: &SharedDevice, n: usize) -> Result<Vec<Pl
 {
     let mut devices = Vec::with_capacity(alloc, n)?;
     for i in 0..n {
-        let number = i + 1;
-        devices.push(PlannedDevice {
-            name: format!(in alloc; "U{number}")?,
-            device: device.share()?,
-            core: Bits::zeros(alloc, 1)?,
-            extest_update: false,
-        })?;
+        devices.push(planned_device(alloc, device, i + 1)?)?;
     }
     Ok(devices)
+}
+
+/// The device U and this number, of this description.
+fn planned_device(alloc: Global, device: &SharedDevice, number: usize) -> Result<PlannedDevice, AllocError>
+    requires { device.now ≡ bare }
+    ensures { IfOk result (λ d. member d ≡ bare_at number) }
+{
+    Ok(PlannedDevice {
+        name: format!(in alloc; "U{number}")?,
+        device: device.share()?,
+        core: Bits::zeros(alloc, 1)?,
+        extest_update: false,
+    })
 }
 
 /// Two instruction bits, BYPASS 11 and EXTEST 00, capture 01, no code, one internal cell, and the TAP's four ports.

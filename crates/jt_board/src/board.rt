@@ -1,14 +1,12 @@
 //! The board: a chain of devices with its nets, one byte at a time.
 
-ghost use Rattle.std.specs.Prelude.{◌≡◌, ◌<◌, ◌≤◌, ◌⊎◌, length, map, IfOk, MatchResult};
-ghost use Rattle.std.specs.List.{AllByRecursion};
-ghost use Rattle.bsdl_device.specs.Sound.{IsSoundDevice};
+ghost use Rattle.std.specs.Prelude.{◌≡◌, ◌<◌, ◌≤◌, ◌⊎◌, length, IfOk, MatchResult};
 ghost use Rattle.board_file.specs.View.{wiring};
 ghost use Rattle.board_meaning.specs.Bare.{bare_board};
 ghost use Rattle.board_meaning.specs.Chain as chain;
 ghost use Rattle.board_meaning.specs.Sound.{IsSoundBoard};
 ghost use Rattle.chip_chain.specs.Building.{IsReady};
-ghost use Rattle.jt_board.specs.Made.{board_of, IsSoundWiring};
+ghost use Rattle.jt_board.specs.Made.{IsSoundWiring, board_at, board_of};
 
 use crate::bare::bare_plan;
 use crate::snapshot::Snapshot;
@@ -67,7 +65,7 @@ impl Board {
         if n == 0 || n > MOST_DEVICES {
             return Err(BoardFault::TooLarge);
         }
-        match bare_board(alloc, n) {
+        match bare_devices(alloc, n) {
             Ok(board) => Ok(board),
             Err(_) => Err(BoardFault::NoMemory),
         }
@@ -100,6 +98,13 @@ impl Board {
         ensures { result ≡ self.now }
     {
         Snapshot::new(self.tck, &self.chain)
+    }
+
+    pub(crate) fn chain(&self) -> &Chain
+        ensures chips { result.now.chips ≡ self.now.chips }
+        ensures nets { result.now.nets ≡ self.now.nets }
+    {
+        &self.chain
     }
 
     /// Takes one byte from the player: written levels of TCK, TMS and TDI, of which a change of TCK is an edge for all
@@ -137,11 +142,7 @@ impl Board {
     {
         match message {
             Message::Write { tck, tms, tdi } => {
-                match (self.tck, tck) {
-                    (false, true) => self.chain.rise(tms, tdi),
-                    (true, false) => self.chain.fall(),
-                    _ => {}
-                }
+                write(&mut self.chain, self.tck, tck, tms, tdi);
                 self.tck = tck;
             }
             Message::Lines { trst, srst: _ } => self.chain.tell_trst(trst),
@@ -150,8 +151,19 @@ impl Board {
     }
 }
 
+/// Written levels of TCK, TMS and TDI: a change of TCK is an edge.
+fn write(devices: &mut Chain, was: bool, tck: bool, tms: bool, tdi: bool)
+    ensures { devices.new ≡ record devices.old { chips = chain.written was tck tms tdi (board_at was devices.old) } }
+{
+    match (was, tck) {
+        (false, true) => devices.rise(tms, tdi),
+        (true, false) => devices.fall(),
+        _ => {}
+    }
+}
+
 /// A board of so many bare devices.
-fn bare_board(alloc: Global, n: usize) -> Result<Board, AllocError>
+fn bare_devices(alloc: Global, n: usize) -> Result<Board, AllocError>
     requires some { 0 < n }
     requires most { n ≤ 32 }
     ensures { IfOk result (λ b. b ≡ bare_board n) }

@@ -2,13 +2,17 @@
 
 ghost use Rattle.std.specs.Prelude.{◌≡◌, ◌++◌, flat_map};
 ghost use Rattle.byte_ends.specs.Writes.{WritesAll};
-ghost use Rattle.jt_board.specs.Report.{device_line, digit, digits, instruction_part, report, shown};
+ghost use Rattle.jt_board.specs.Report.{device_line, digit, digits, instruction_part, level_line, net_line, report, shown};
+ghost use Rattle.jt_board.specs.Report.{level_word as said_level};
+ghost use Rattle.board_meaning.specs.Chain.{members};
+ghost use Rattle.chip_chain.specs.Seats.{chip_state};
 ghost use Rattle.scan_registers.specs.Instruction.{instruction};
 
 use crate::board::Board;
-use crate::chip::Chip;
+use chip_chain::{Chain, Seat};
 use byte_ends::{Broken, Counted, Sink, put_all};
 use jt_bits::Bits;
+use pin_nets::Level;
 
 /// Writes the report of a board: for each device, from the one nearest TDO on, a line of its name, the word of its
 /// controller's state, the bits of its instruction, highest first, and the instruction's name, `-` where it has none.
@@ -18,47 +22,80 @@ pub fn write_report<W: Sink>(board: &Board, out: &mut Counted<W>) -> Result<(), 
     requires { out.old.failures ≡ 0 }
     ensures { WritesAll W.contents out.old out.new (report board.now) result }
 {
-    write_devices(board.chips(), out)
+    write_devices(board.chain(), out)?;
+    write_nets(board.chain(), out)
 }
 
 /// Writes a line for each device.
-fn write_devices<W: Sink>(chips: &[Chip], out: &mut Counted<W>) -> Result<(), Broken>
+fn write_devices<W: Sink>(chain: &Chain, out: &mut Counted<W>) -> Result<(), Broken>
     requires { out.old.failures ≡ 0 }
-    ensures { WritesAll W.contents out.old out.new (flat_map device_line chips.now) result }
+    ensures { WritesAll W.contents out.old out.new (flat_map device_line chain.now.chips) result }
 {
-    for chip in chips {
-        write_device(chip, out)?;
+    for i in 0..chain.devices() {
+        write_device(chain.seat(i), out)?;
     }
     Ok(())
 }
 
+/// Writes a line for each net.
+fn write_nets<W: Sink>(chain: &Chain, out: &mut Counted<W>) -> Result<(), Broken>
+    requires { out.old.failures ≡ 0 }
+    ensures { WritesAll W.contents out.old out.new (flat_map (net_line (members chain.now.chips)) chain.now.nets) result }
+{
+    for k in 0..chain.nets() {
+        write_level(chain.net_name(k), chain.level(k), out)?;
+    }
+    Ok(())
+}
+
+/// Writes the line of a net.
+fn write_level<W: Sink>(name: &str, level: Level, out: &mut Counted<W>) -> Result<(), Broken>
+    requires { out.old.failures ≡ 0 }
+    ensures { WritesAll W.contents out.old out.new (level_line name.now level) result }
+{
+    write_field(name.as_bytes(), b" ", out)?;
+    write_field(level_word(level), b"\n", out)
+}
+
+/// The word of a level.
+fn level_word(level: Level) -> &'static [u8]
+    ensures { result.now ≡ said_level level }
+{
+    match level {
+        Level::Zero => b"Zero",
+        Level::One => b"One",
+        Level::Contend => b"Contend",
+        Level::Float => b"Float",
+    }
+}
+
 /// Writes the line of one device.
 #[tactic(auto, using(byte_ends::proofs::Fronts::fronts))]
-fn write_device<W: Sink>(chip: &Chip, out: &mut Counted<W>) -> Result<(), Broken>
+fn write_device<W: Sink>(seat: &Seat, out: &mut Counted<W>) -> Result<(), Broken>
     requires { out.old.failures ≡ 0 }
-    ensures { WritesAll W.contents out.old out.new (device_line chip.now) result }
+    ensures { WritesAll W.contents out.old out.new (device_line (chip_state seat.now)) result }
 {
-    write_field(chip.name().as_bytes(), b" ", out)?;
-    write_field(chip.state().word().as_bytes(), b" ", out)?;
-    write_instruction(chip, out)
+    write_field(seat.name().as_bytes(), b" ", out)?;
+    write_field(seat.state().word().as_bytes(), b" ", out)?;
+    write_instruction(seat, out)
 }
 
 /// Writes a device's instruction, its bits and its name, and ends the line.
 #[tactic(auto, using(byte_ends::proofs::Fronts::fronts))]
-fn write_instruction<W: Sink>(chip: &Chip, out: &mut Counted<W>) -> Result<(), Broken>
+fn write_instruction<W: Sink>(seat: &Seat, out: &mut Counted<W>) -> Result<(), Broken>
     requires { out.old.failures ≡ 0 }
-    ensures { WritesAll W.contents out.old out.new (instruction_part chip.now) result }
+    ensures { WritesAll W.contents out.old out.new (instruction_part (chip_state seat.now)) result }
 {
-    write_bits(chip.latch(), out)?;
+    write_bits(seat.latch(), out)?;
     put_all(out, b" ")?;
-    write_field(name_or_dash(chip), b"\n", out)
+    write_field(name_or_dash(seat), b"\n", out)
 }
 
 /// The name of a device's instruction, `-` where it has none.
-fn name_or_dash(chip: &Chip) -> &[u8]
-    ensures { result.now ≡ shown (instruction chip.now.member.device chip.now.member.registers.latch) }
+fn name_or_dash(seat: &Seat) -> &[u8]
+    ensures { result.now ≡ shown (instruction seat.now.chip.device seat.now.chip.latch) }
 {
-    match chip.instruction() {
+    match seat.instruction() {
         Some(name) => name.as_bytes(),
         None => b"-",
     }

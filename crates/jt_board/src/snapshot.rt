@@ -3,9 +3,8 @@
 ghost use Rattle.std.specs.Prelude.{◌≡◌, ◌<◌, ◌≤◌, [], ◌∷◌, ℕ, Bool, List, Some, length, option_map, slice_get};
 ghost use Rattle.scan_registers.specs.Instruction.{instruction};
 ghost use Rattle.board_meaning.specs.Chain.{members};
-ghost use Rattle.board_meaning.specs.Nets.{level};
 ghost use Rattle.board_meaning.specs.Sound.{IsChain};
-ghost use Rattle.jt_board.specs.Shown.{id_of, user_of};
+ghost use Rattle.jt_board.specs.Shown.{id_of, shown_net, user_of};
 
 use chip_chain::Chain;
 use jt_bits::Bits;
@@ -158,7 +157,7 @@ impl<'a> Snapshot<'a> {
     /// The name of net `k`, and its level.
     pub fn net(&self, k: usize) -> (&'a str, Level)
         requires { k < length self.now.nets }
-        ensures { option_map (λ n. (n.name, level (members self.now.chips) n)) (slice_get self.now.nets k) ≡ Some (result.0.now, result.1) }
+        ensures { option_map (shown_net (members self.now.chips)) (slice_get self.now.nets k) ≡ Some (result.0.now, result.1) }
     {
         (self.chain.net_name(k), self.chain.level(k))
     }

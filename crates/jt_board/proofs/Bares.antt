@@ -1,0 +1,95 @@
+-- Boards of sound devices, and bare ones.
+use Rattle.std.proofs.Common.{◌≡◌, ◌<◌, ◌≤◌, ℕ, zero, suc, ◌+◌, false, List, [], ◌∷◌, ◌++◌, length, map, Some, None, refl, sym, ap, subst, ◌∙◌, arith, slice_get}
+use Rattle.std.specs.List.{AllByRecursion}
+use Rattle.std.proofs.lemmas.List.{length-map}
+use Rattle.std.proofs.lemmas.Option.{none-some}
+use Rattle.jt_tap.specs.declared.State.TheVariants.{Reset}
+use Rattle.bsdl_device.specs.Sound.{IsSoundDevice}
+use Rattle.scan_registers.specs.Fitting.{IsFormed}
+use Rattle.board_file.specs.Fits.{HasCore}
+use Rattle.board_file.specs.Wiring as planned
+use Rattle.board_meaning.specs.Bare.{bare, bare_board, bare_from, bare_name}
+use Rattle.board_meaning.specs.Cells.{Member}
+use Rattle.board_meaning.specs.Chain.{members}
+use Rattle.board_meaning.specs.Resting.{power_up, resting, standing}
+use Rattle.board_meaning.specs.Sound.{AllSound, IsChain}
+use Rattle.board_meaning.proofs.Powered.{powered_sound}
+use Rattle.chip_chain.specs.Building.{IsReady}
+use Rattle.chip_chain.specs.Chains.{powered_up}
+use Rattle.jt_board.specs.Made.{IsSoundWiring, bare_at, bare_planned, bare_wiring, board_of}
+
+-- ---- sound devices
+
+all-sound : (ms : List planned.Member) → AllByRecursion (λ (m : planned.Member). IsSoundDevice m.device) ms → AllSound (members (map (standing Reset) (map powered_up ms)))
+all-sound [] all = tt
+all-sound (m ∷ ms) all = (powered_sound m.name m.device m.core m.extest_update all.0, all-sound ms all.1)
+
+pub sound_chain : (w : planned.Wiring) → IsSoundWiring w → IsChain (map (standing Reset) (map powered_up w.members))
+sound_chain w is =
+    let long : length (map (standing Reset) (map powered_up w.members)) ≡ length w.members = length-map (map powered_up w.members) (standing Reset) ∙ length-map w.members powered_up in
+    record {
+      some = subst (λ (n : ℕ). 0 < n) (sym long) is.some;
+      most = subst (λ (n : ℕ). n ≤ 32) (sym long) is.most;
+      sound = all-sound w.members is.sound;
+    }
+
+-- ---- bare devices
+
+grown : (k n j : ℕ) → j ≡ k + n → bare_planned k (suc n) ≡ bare_planned k n ++ bare_at j ∷ []
+grown k zero j e = let at : j ≡ k = omega arith in ap (λ (m : ℕ). bare_at m ∷ []) (sym at)
+grown k (suc n) j e = ap (λ (r : List planned.Member). bare_at k ∷ r) (grown (suc k) n j (omega arith))
+
+pub bare_more : (n j : ℕ) → j ≡ n + 1 → bare_planned 1 (n + 1) ≡ bare_planned 1 n ++ bare_at j ∷ []
+bare_more n j e = let next : n + 1 ≡ suc n = omega arith in ap (bare_planned 1) next ∙ grown 1 n j (omega arith)
+
+bare-length : (k n : ℕ) → length (bare_planned k n) ≡ n
+bare-length k zero = refl
+bare-length k (suc n) = let rest = bare-length (suc k) n in omega (arith, rest)
+
+bare-formed : IsFormed bare
+bare-formed = record {
+  instruction = omega arith;
+  capture = refl;
+  cells = omega arith;
+  reset = refl;
+  idcode = λ code e. absurd (none-some code e);
+  usercode = λ code e. absurd (none-some code e);
+  accesses = λ k a e. absurd (none-some a e);
+}
+
+bare-sound : IsSoundDevice bare
+bare-sound = record { instruction = omega arith; capture = omega arith; cells = omega arith; idcode = tt; usercode = tt; accesses = tt }
+
+cores : (k n : ℕ) → AllByRecursion HasCore (bare_planned k n)
+cores k zero = tt
+cores k (suc n) = (refl, cores (suc k) n)
+
+formed : (k n : ℕ) → AllByRecursion (λ (m : planned.Member). IsFormed m.device) (bare_planned k n)
+formed k zero = tt
+formed k (suc n) = (bare-formed, formed (suc k) n)
+
+sound : (k n : ℕ) → AllByRecursion (λ (m : planned.Member). IsSoundDevice m.device) (bare_planned k n)
+sound k zero = tt
+sound k (suc n) = (bare-sound, sound (suc k) n)
+
+pub bare_ready : (n : ℕ) → IsReady (bare_wiring n)
+bare_ready n = record { cores = cores 1 n; pins = tt; formed = formed 1 n }
+
+pub bare_sound : (n : ℕ) → 0 < n → n ≤ 32 → IsSoundWiring (bare_wiring n)
+bare_sound n some most = record {
+  some = subst (λ (m : ℕ). 0 < m) (sym (bare-length 1 n)) some;
+  most = subst (λ (m : ℕ). m ≤ 32) (sym (bare-length 1 n)) most;
+  sound = sound 1 n;
+}
+
+powered-bares : (k n : ℕ) → map powered_up (bare_planned k n) ≡ bare_from k n
+powered-bares k zero = refl
+powered-bares k (suc n) = ap (λ (r : List Member). powered_up (bare_at k) ∷ r) (powered-bares (suc k) n)
+
+pub bare_is : (n : ℕ) → board_of (bare_wiring n) ≡ bare_board n
+bare_is n = ap (λ (ms : List Member). resting (power_up [] ms)) (powered-bares 1 n)
+
+pub bare_push : (n j : ℕ) (devices new : List planned.Member) (d : planned.Member) → j ≡ n + 1 → devices ≡ bare_planned 1 n → d ≡ bare_at j → new ≡ devices ++ d ∷ []
+    → new ≡ bare_planned 1 (n + 1)
+bare_push n j devices new d e are is pushed =
+    pushed ∙ ap (λ (l : List planned.Member). l ++ d ∷ []) are ∙ ap (λ (x : planned.Member). bare_planned 1 n ++ x ∷ []) is ∙ sym (bare_more n j e)
