@@ -1,5 +1,6 @@
 -- Judging a description that is well formed: the refusals in their order, and the device that it says.
-use Rattle.std.specs.Prelude.{ℕ, Bool, is_some, if◌then◌else◌, List, [], ◌∷◌, map, Option, Some, None, option_map, unwrap_or, Result, Ok, Err, bytes_eq, codes, slice_get}
+use Rattle.std.specs.Prelude.{ℕ, Bool, is_some, if◌then◌else◌, List, [], ◌∷◌, map, Option, Some, None, option_map}
+use Rattle.std.specs.Prelude.{unwrap_or, Result, Ok, Err, bytes_eq, codes, slice_get}
 use Rattle.std.specs.List.{range_with_len, flat_map}
 use Rattle.bsdl_text.specs.Words.{upper}
 use Rattle.bsdl.specs.Form.{text_form}
@@ -18,14 +19,16 @@ use Rattle.bsdl_fit.specs.Fits.{drives, listed, port_bit, unfit_cell}
 use Rattle.bsdl_limits.specs.Limits.{is_within_limits}
 use Rattle.bsdl_limits.specs.PortBits.{width}
 use Rattle.bsdl_limits.specs.Users.{user_number, users_of}
-use Rattle.bsdl_described.specs.Describing.{Refusal, twice, bad_length, bad_capture, bad_id, bad_cell, too_large, Description, described, is_among, ◌>>?◌}
+use Rattle.bsdl_described.specs.Describing.{Refusal, twice, bad_length, bad_capture, bad_id, bad_cell, too_large}
+use Rattle.bsdl_described.specs.Describing.{Description, described, is_among, ◌>>?◌}
 
 -- ---- given twice
 
 -- the first name given again, or IDCODE where its opcode names another instruction
 abbrev pub twice_in : Description → Option Naming → Option Refusal
 twice_in d (Some n) = Some (twice n.name)
-twice_in d None = let opcodes = map opcode d.opcodes in if resets_to_idcode opcodes then None else Some (twice (codes "IDCODE"))
+twice_in d None =
+    let opcodes = map opcode d.opcodes in if resets_to_idcode opcodes then None else Some (twice (codes "IDCODE"))
 
 -- ---- the judgement
 
