@@ -12,7 +12,7 @@ names-init c = (
   length (left c.in-Ok.read.1),
   omega arith,
   c.in-Ok.ensures.shorter,
-  rw (c.in-Ok-push.ensures.items, c.new-all.ensures.items) (first_chained word 44 (left c.args.lexer) (word_lexeme c.in-Ok.read.0) (left c.in-Ok.read.1) c.in-Ok.ensures.gives),
+  rw (c.in-Ok-push.ensures.items, c.in_ok-all.ensures.empty) (first_chained word 44 (left c.args.lexer) (word_lexeme c.in-Ok.read.0) (left c.in-Ok.read.1) c.in-Ok.ensures.gives),
 )
 
 pub returns-then-not-stands-clause-gives : goal.returns-then-not-stands-clause-gives
