@@ -27,7 +27,8 @@ attribute_word RegisterAccess = codes "REGISTER_ACCESS"
 abbrev pub attributes : List Attribute
 attributes =
     TapScanIn ∷ TapScanOut ∷ TapScanMode ∷ TapScanClock ∷ TapScanReset ∷ InstructionLength ∷ BoundaryLength
-    ∷ InstructionOpcode ∷ InstructionCapture ∷ BoundaryRegister ∷ IdcodeRegister ∷ UsercodeRegister ∷ InstructionPrivate ∷ RegisterAccess ∷ []
+    ∷ InstructionOpcode ∷ InstructionCapture ∷ BoundaryRegister ∷ IdcodeRegister ∷ UsercodeRegister
+    ∷ InstructionPrivate ∷ RegisterAccess ∷ []
 
 -- the attribute that a word names, in any case
 unfoldable pub attribute_of : List ℕ → Option Attribute
