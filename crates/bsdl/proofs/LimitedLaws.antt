@@ -1,25 +1,23 @@
 -- Every device that a text says keeps the limits.
-use Rattle.std.proofs.Common.{◌≡◌, ◌<◌, ◌≤◌, ℕ, zero, suc, ◌+◌, ◌-◌, Bool, true, false, nat_eq, ◌&&◌, List, [], ◌∷◌, ◌++◌, length, map, refl, sym, ap, ◌∙◌, arith}
+use Rattle.std.proofs.Common.{◌≡◌, ◌<◌, ◌≤◌, ℕ, zero, suc, ◌+◌, ◌-◌, true, false, List, [], ◌∷◌, length, map, refl, sym, ◌∙◌, arith}
 use Rattle.std.specs.Prelude.{Option, Some, None, Result, Ok, Err, option_map, unwrap_or, nat_le, slice_get}
 use Rattle.std.specs.List.{AllByRecursion, flat_map, list_all, range_with_len, sum_by}
 use Rattle.std.proofs.lemmas.Bool.Decides.{nat_tests}
 use Rattle.std.proofs.lemmas.List.{length-append, length-map}
 use Rattle.std.proofs.lemmas.List.FromFn.{length-map-range_with_len}
 use Rattle.std.proofs.lemmas.List.Sums.{sum_by-cons}
-use Rattle.bsdl_device.specs.Device.{Device, Name, Opcode, Pattern, PortBit}
-use Rattle.bsdl_device.specs.Ports.{bits_of}
-use Rattle.bsdl_device.specs.declared.PortMode.{PortMode}
+use Rattle.bsdl_device.specs.Device.{Device, Name, Pattern}
 use Rattle.bsdl_instructions.specs.Values.{OpcodeRow}
 use Rattle.bsdl_entity.specs.Entity.{File, Port, Range}
 use Rattle.bsdl_described.specs.Describing.{Description, Refusal, bad_capture, bad_cell, bad_id, bad_length, described, too_large, ◌>>?◌}
 use Rattle.bsdl_fit.specs.Fits.{listed, unfit_cell}
-use Rattle.bsdl_lengths.specs.Lengths.{access_fits, agree, captures_one, codes_fit, ends_in_one, has_bits, has_len, instructions_fit, lengths_fit}
+use Rattle.bsdl_lengths.specs.Lengths.{captures_one, codes_fit, ends_in_one, has_bits, has_len, instructions_fit, lengths_fit}
 use Rattle.bsdl_limits.specs.Limits.{cells_within, instructions_within, is_within_limits, ports_within, subscript_limit, users_within}
 use Rattle.bsdl_limits.specs.PortBits.{highest, width}
 use Rattle.bsdl_limits.specs.Users.{users_of}
 use Rattle.bsdl_twice.specs.ResetOpcode.{bits, opcode}
 use Rattle.bsdl_twice.specs.Twice.{given_again}
-use Rattle.bsdl_built.specs.Built.{cell, cells_of, device, port_bits}
+use Rattle.bsdl_built.specs.Built.{cell, device, port_bits}
 use Rattle.bsdl.specs.Form.{text_form}
 use Rattle.bsdl.specs.Judging.{fault, file_says, judged, or_else, text_says, twice_in, unless}
 use Rattle.bsdl.specs.Limited.{HasLengthIfGiven, HasPatternsOf, IsLimitedDevice}
