@@ -3,7 +3,6 @@ use Rattle.std.specs.Prelude.{ℕ, Bool, true, false, if◌then◌else◌, List,
 use Rattle.std.specs.Prelude.{bytes_eq}
 use Rattle.std.specs.BTreeMap.{BTreeMap, get_by_text}
 use Rattle.std.proofs.Common.{String, Global}
-use Rattle.bsdl_lex.specs.Cutting.{Lexeme}
 use Rattle.bsdl_text.specs.Words.{upper}
 use Rattle.bsdl_entity.specs.Entity.{Port}
 

@@ -1,5 +1,5 @@
 -- What the parts of an entity of the code stand for.
-use Rattle.std.specs.Prelude.{ℕ, Bool, List, [], map, Option, option_map, unwrap_or, is_some}
+use Rattle.std.specs.Prelude.{ℕ, Bool, List, [], map, option_map, unwrap_or, is_some}
 use Rattle.bsdl_text.specs.Reading.{quoted_value}
 use Rattle.bsdl_text.specs.Words.{upper}
 use Rattle.bsdl_text.specs.View.{value as number_value}

@@ -1,10 +1,10 @@
-use Rattle.std.proofs.Common.{◌≡◌, ◌<◌, ◌≤◌, true, false, length, map, sym, ap, ◌∙◌, arith}
+use Rattle.std.proofs.Common.{◌≡◌, ◌<◌, true, false, length, map, sym, ◌∙◌, arith}
 use Rattle.std.proofs.lemmas.List.{map-append}
 use Rattle.bsdl_lex.specs.Left.{left}
-use Rattle.bsdl_text.specs.Reading.{mark, word, stands, joined_by}
+use Rattle.bsdl_text.specs.Reading.{word, stands, joined_by}
 use Rattle.bsdl_text.specs.WordView.{word_lexeme}
 use Rattle.bsdl_text.proofs.ListLaws.{stops_where}
-use Rattle.bsdl_entity.proofs.ChainLaws.{all_chained, chained_no_mark, chained_no_entry, one_chained, first_chained, none_chained}
+use Rattle.bsdl_entity.proofs.ChainLaws.{all_chained, chained_no_entry, one_chained, first_chained}
 use Rattle.bsdl_entity.proofs.ports.names.Goals as goal
 
 pub names-init : goal.names-init
