@@ -89,7 +89,7 @@ chain item separator zero ts = fits [] ts
 chain item separator (suc n) ts =
     if stands separator ts
     then (mark separator ts >>= λ m rest. item rest >>= λ x more. chain item separator n more >>=
-        λ xs after. fits (x ∷ xs) after)
+    λ xs after. fits (x ∷ xs) after)
     else fits [] ts
 
 -- `one {separator one}`
