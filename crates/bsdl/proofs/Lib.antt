@@ -1,4 +1,5 @@
 pub mod FormLaws
+pub mod LimitedLaws
 pub mod OnceLaws
 pub mod ReadLaws
 pub mod SoundLaws

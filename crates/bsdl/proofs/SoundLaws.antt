@@ -1,6 +1,6 @@
 -- Every device that a text says is sound.
-use Rattle.std.proofs.Common.{◌≡◌, ◌<◌, ◌≤◌, ℕ, zero, suc, ◌+◌, ◌-◌, Bool, true, false, nat_eq, ◌&&◌, ◌||◌, cond, List, [], ◌∷◌, ◌++◌, length, map, refl, sym, ap, ◌∙◌, arith}
-use Rattle.std.specs.Prelude.{Option, Some, None, Result, Ok, Err, is_some, not, option_map, unwrap_or, filter, bytes_eq, codes, nat_le, slice_get, if◌then◌else◌}
+use Rattle.std.proofs.Common.{◌≡◌, ◌<◌, ℕ, zero, suc, ◌+◌, Bool, true, false, nat_eq, ◌||◌, cond, List, [], ◌∷◌, ◌++◌, length, map, refl, sym, ap, ◌∙◌, arith}
+use Rattle.std.specs.Prelude.{Option, Some, None, Result, Ok, Err, is_some, not, option_map, unwrap_or, filter, bytes_eq, codes, nat_le, slice_get}
 use Rattle.std.specs.List.{AllByRecursion, flat_map, list_all, list_any, range_with_len}
 use Rattle.std.proofs.lemmas.Bool.Decides.{nat_tests}
 use Rattle.std.proofs.lemmas.List.{length-append, length-map}
@@ -15,7 +15,7 @@ use Rattle.bsdl_lengths.specs.Lengths.{access_fits, agree, captured, captures_fi
 use Rattle.bsdl_limits.specs.Users.{is_other, user_number, users_of}
 use Rattle.bsdl_twice.specs.ResetOpcode.{bits}
 use Rattle.bsdl_twice.specs.Twice.{given_again}
-use Rattle.bsdl_built.specs.Built.{access, accesses_of_row, cell, cells_of, device, place_of, public_place}
+use Rattle.bsdl_built.specs.Built.{access, accesses_of_row, cell, cells_of, device, public_place}
 use Rattle.bsdl.specs.Form.{text_form}
 use Rattle.bsdl.specs.Judging.{fault, file_says, judged, text_says, twice_in, unless}
 use Rattle.bsdl.proofs.OnceLaws.{both, each_cell_once, holds, neither}

@@ -1,31 +1,25 @@
 -- Judging a description that is well formed: the refusals in their order, and the device that it says.
-use Rattle.std.specs.Prelude.{ℕ, Bool, is_some, if◌then◌else◌, List, [], ◌∷◌, map, Option, Some, None, option_map, unwrap_or, Result, Ok, Err, bytes_eq, codes, slice_get}
-use Rattle.std.specs.List.{range_with_len, flat_map}
-use Rattle.bsdl_text.specs.Words.{upper}
+use Rattle.std.specs.Prelude.{ℕ, Bool, if◌then◌else◌, List, map, Option, Some, None, option_map}
+use Rattle.std.specs.Prelude.{Result, Ok, Err, codes}
 use Rattle.bsdl.specs.Form.{text_form}
-use Rattle.bsdl_device.specs.Device.{Name, PortBit, Access, Device}
-use Rattle.bsdl_device.specs.declared.Cell.{Cell}
-use Rattle.bsdl_device.specs.declared.Place.{Place}
-use Rattle.bsdl_device.specs.declared.Place.TheVariants.{AtBypass, AtBoundary, AtDeviceId, AtUser}
-use Rattle.bsdl_instructions.specs.Values.{AccessRow}
-use Rattle.bsdl_cells.specs.Rows.{CellRow}
-use Rattle.bsdl_entity.specs.Entity.{Range, Port, File}
+use Rattle.bsdl_device.specs.Device.{Device}
+use Rattle.bsdl_entity.specs.Entity.{File}
 use Rattle.bsdl_built.specs.Built.{device}
-use Rattle.bsdl_twice.specs.ResetOpcode.{bits, opcode, resets_to_idcode}
+use Rattle.bsdl_twice.specs.ResetOpcode.{opcode, resets_to_idcode}
 use Rattle.bsdl_twice.specs.Twice.{Naming, given_again}
 use Rattle.bsdl_lengths.specs.Lengths.{captures_one, ends_in_one, lengths_fit}
-use Rattle.bsdl_fit.specs.Fits.{drives, listed, port_bit, unfit_cell}
+use Rattle.bsdl_fit.specs.Fits.{unfit_cell}
 use Rattle.bsdl_limits.specs.Limits.{is_within_limits}
-use Rattle.bsdl_limits.specs.PortBits.{width}
-use Rattle.bsdl_limits.specs.Users.{user_number, users_of}
-use Rattle.bsdl_described.specs.Describing.{Refusal, twice, bad_length, bad_capture, bad_id, bad_cell, too_large, Description, described, is_among, ◌>>?◌}
+use Rattle.bsdl_described.specs.Describing.{Refusal, twice, bad_length, bad_capture, bad_id, bad_cell, too_large}
+use Rattle.bsdl_described.specs.Describing.{Description, described, ◌>>?◌}
 
 -- ---- given twice
 
 -- the first name given again, or IDCODE where its opcode names another instruction
 abbrev pub twice_in : Description → Option Naming → Option Refusal
 twice_in d (Some n) = Some (twice n.name)
-twice_in d None = let opcodes = map opcode d.opcodes in if resets_to_idcode opcodes then None else Some (twice (codes "IDCODE"))
+twice_in d None =
+    let opcodes = map opcode d.opcodes in if resets_to_idcode opcodes then None else Some (twice (codes "IDCODE"))
 
 -- ---- the judgement
 

@@ -3,7 +3,12 @@ use Rattle.std.specs.Prelude.{◌≡◌, ℕ, List, Ok}
 use Rattle.bsdl_device.specs.Device.{Device}
 use Rattle.bsdl_device.specs.Sound.{IsSoundDevice}
 use Rattle.bsdl.specs.Judging.{text_says}
+use Rattle.bsdl.specs.Limited.{IsLimitedDevice}
 
 -- every device that a text says is sound
 abbrev pub EveryDeviceIsSound : Type 0
 EveryDeviceIsSound = (text : List ℕ) (d : Device) → text_says text ≡ Ok d → IsSoundDevice d
+
+-- every device that a text says keeps the limits
+abbrev pub EveryDeviceIsLimited : Type 0
+EveryDeviceIsLimited = (text : List ℕ) (d : Device) → text_says text ≡ Ok d → IsLimitedDevice d

@@ -1,4 +1,5 @@
 pub mod Form
 pub mod Judging
 pub mod Laws
+pub mod Limited
 pub mod View

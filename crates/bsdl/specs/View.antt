@@ -2,12 +2,14 @@
 use Rattle.std.specs.Prelude.{◌≡◌, ⊤, Option, Some, None, MatchOption, Result, Ok, Err, string_bytes}
 use Rattle.bsdl_device.specs.Device.{Device}
 use Rattle.bsdl.specs.declared.fault.BsdlFault.{BsdlFault}
-use Rattle.bsdl.specs.declared.fault.BsdlFault.TheVariants.{BadToken, BadForm, Missing, Twice, BadLength, BadCapture, BadId, BadCell, TooLarge, NoMemory}
+use Rattle.bsdl.specs.declared.fault.BsdlFault.TheVariants.{BadToken, BadForm, Missing, Twice, BadLength, BadCapture}
+use Rattle.bsdl.specs.declared.fault.BsdlFault.TheVariants.{BadId, BadCell, TooLarge, NoMemory}
 use Rattle.bsdl_entity.specs.declared.entity.Outline.{Outline}
 use Rattle.bsdl_entity.specs.Entity.{File}
 use Rattle.bsdl_entity.specs.OutlineView.{outline}
 use Rattle.bsdl_described.specs.declared.description.Description as declared_description
-use Rattle.bsdl_described.specs.Describing.{Refusal, bad_token, bad_form, missing, twice, bad_length, bad_capture, bad_id, bad_cell, too_large, Description}
+use Rattle.bsdl_described.specs.Describing.{Refusal, bad_token, bad_form, missing, twice, bad_length, bad_capture}
+use Rattle.bsdl_described.specs.Describing.{bad_id, bad_cell, too_large, Description}
 use Rattle.bsdl_described.specs.View.{description}
 
 -- want of memory is no refusal of the text
@@ -31,7 +33,8 @@ abbrev pub TellsForm : Result Outline BsdlFault → Result File Refusal → Type
 TellsForm (Ok o) says = says ≡ Ok (outline o)
 TellsForm (Err fault) says = Refuses fault says
 
-abbrev pub TellsDescription : Outline → Result declared_description.Description BsdlFault → Result Description Refusal → Type 0
+abbrev pub TellsDescription : Outline → Result declared_description.Description BsdlFault → Result Description Refusal
+    → Type 0
 TellsDescription o (Ok d) says = says ≡ Ok (description o d)
 TellsDescription o (Err fault) says = Refuses fault says
 

@@ -8,7 +8,8 @@ pub enum BsdlFault {
     /// A byte at this place begins no token, or the quote of a string that its line does not close.
     #[error("B1 BadToken {0}")]
     BadToken(usize),
-    /// The first token that does not fit stands at this place; a text within quotes that says nothing, at its first quote.
+    /// The first token that does not fit stands at this place; a text within quotes that says nothing, at its first
+    /// quote.
     #[error("B2 BadForm {0}")]
     BadForm(usize),
     /// A needed attribute is missing.

@@ -14,8 +14,8 @@ use std::alloc::Global;
 /// A text has at most 4 MiB.
 const TEXT_LIMIT: usize = 4_194_304;
 
-/// The entity that a text spells, or its first refusal of B1, B2 and B9 (a text above 4 MiB, whatever it holds). Want of
-/// memory is B10; nothing is said of when it comes.
+/// The entity that a text spells, or its first refusal of B1, B2 and B9 (a text above 4 MiB, whatever it holds). Want
+/// of memory is B10; nothing is said of when it comes.
 pub fn outline_of(alloc: Global, text: &[u8]) -> Result<Outline<'_>, BsdlFault>
     ensures { TellsForm result (text_form text.now) }
 {

@@ -21,8 +21,8 @@ use bsdl_twice::again::given_again;
 use bsdl_twice::reset_opcode::resets_to_idcode;
 use std::alloc::Global;
 
-/// The first refusal of B4 to B9 of a description that is well formed, if there is one. Want of memory is B10; nothing is
-/// said of when it comes.
+/// The first refusal of B4 to B9 of a description that is well formed, if there is one. Want of memory is B10; nothing
+/// is said of when it comes.
 pub fn judge(
     alloc: Global,
     outline: &Outline<'_>,
@@ -43,7 +43,8 @@ fn judge_names(
     outline: &Outline<'_>,
     described: &Description<'_>,
 ) -> Result<(), BsdlFault>
-    ensures { Judges result (spec.twice_in (description outline.now described.now) (first_given_again (description outline.now described.now))) }
+    ensures { Judges result (spec.twice_in (description outline.now described.now)
+        (first_given_again (description outline.now described.now))) }
 {
     match given_again(alloc, outline, described) {
         Ok(Some(again)) => Err(BsdlFault::Twice(again.name)),
@@ -86,7 +87,9 @@ fn judge_lengths(
 
 /// B6 and B7: what captures and codes end in.
 fn judge_ends(outline: &Outline<'_>, described: &Description<'_>) -> Result<(), BsdlFault>
-    ensures { Judges result (spec.or_else (spec.unless (lengths.captures_one (description outline.now described.now).capture) bad_capture) (spec.unless (lengths.ends_in_one (description outline.now described.now).idcodes) bad_id)) }
+    ensures { Judges result (spec.or_else (spec.unless
+        (lengths.captures_one (description outline.now described.now).capture) bad_capture)
+        (spec.unless (lengths.ends_in_one (description outline.now described.now).idcodes) bad_id)) }
 {
     if !captures_one(&described.capture) {
         return Err(BsdlFault::BadCapture);

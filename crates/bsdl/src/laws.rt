@@ -1,8 +1,15 @@
 //! What holds of all texts.
-ghost use Rattle.bsdl.specs.Laws.{EveryDeviceIsSound};
+ghost use Rattle.bsdl.specs.Laws.{EveryDeviceIsLimited, EveryDeviceIsSound};
 
 /// Every device that a text says is sound: each register that an instruction can select has a bit, and so has what it
 /// captures.
 pub fn every_device_is_sound()
     ensures { EveryDeviceIsSound }
+{}
+
+/// Every device that a text says keeps the limits, whatever numbers the text names: at most 8,192 port bits, 256
+/// instructions of 64 bits, 4,096 cells, and 64 registers of its own with 4,096 bits; each opcode and what the
+/// instruction register captures are as long as that register, and codes have 32 bits.
+pub fn every_device_is_limited()
+    ensures { EveryDeviceIsLimited }
 {}

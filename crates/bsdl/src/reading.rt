@@ -39,7 +39,8 @@ fn read_description(
     entity: &Outline<'_>,
     described: &Description<'_>,
 ) -> Result<Device, BsdlFault>
-    ensures { Tells result (judged (fault (description entity.now described.now)) (description entity.now described.now)) }
+    ensures { Tells result (judged (fault (description entity.now described.now))
+        (description entity.now described.now)) }
 {
     match judge(alloc, entity, described) {
         Ok(()) => match device_of(alloc, entity, described) {

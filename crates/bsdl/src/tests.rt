@@ -1,24 +1,655 @@
-use crate::{BsdlFault, outline_of};
-use std::alloc::Global;
-use std::process::Abort;
+use crate::{BsdlFault, read};
+use bsdl_device::{Access, Cell, Device, Opcode, Pattern};
+use jt_bits::Bits;
+use std::alloc::{AllocError, Global};
+use std::test::Fail;
 
-const K: &[u8] =
-    b"entity K is\n  generic (PHYSICAL_PIN_MAP : string := \"DIP\");\n  port (TDI, TMS, TCK : in bit; TDO : out bit;\n        Q : out bit; D : in bit);\n  use STD_1149_1_2001.all;\n  attribute TAP_SCAN_IN of TDI : signal is true;\n  attribute TAP_SCAN_MODE of TMS : signal is true;\n  attribute TAP_SCAN_OUT of TDO : signal is true;\n  attribute TAP_SCAN_CLOCK of TCK : signal is (10.0e6, BOTH);\n  attribute INSTRUCTION_LENGTH of K : entity is 2;\n  attribute INSTRUCTION_OPCODE of K : entity is\n    \"BYPASS (11), EXTEST (00),\" & \"SAMPLE (01), IDCODE (10)\";\n  attribute INSTRUCTION_CAPTURE of K : entity is \"01\";\n  attribute IDCODE_REGISTER of K : entity is\n    \"0000\" & \"0001001000110100\" & \"01010110011\" & \"1\";\n  attribute BOUNDARY_LENGTH of K : entity is 3;\n  attribute BOUNDARY_REGISTER of K : entity is\n    \"0 (BC_1, Q, output3, X, 1, 0, Z),\" &\n    \"1 (BC_1, *, control, 0),\" &\n    \"2 (BC_1, D, input, X)\";\nend K;";
+/// A device of one output with its control and one input.
+const K: &str = "entity K is
+  generic (PHYSICAL_PIN_MAP : string := \"DIP\");
+  port (TDI, TMS, TCK : in bit; TDO : out bit;
+        Q : out bit; D : in bit);
+  use STD_1149_1_2001.all;
+  attribute TAP_SCAN_IN of TDI : signal is true;
+  attribute TAP_SCAN_MODE of TMS : signal is true;
+  attribute TAP_SCAN_OUT of TDO : signal is true;
+  attribute TAP_SCAN_CLOCK of TCK : signal is (10.0e6, BOTH);
+  attribute INSTRUCTION_LENGTH of K : entity is 2;
+  attribute INSTRUCTION_OPCODE of K : entity is
+    \"BYPASS (11), EXTEST (00),\" & \"SAMPLE (01), IDCODE (10)\";
+  attribute INSTRUCTION_CAPTURE of K : entity is \"01\";
+  attribute IDCODE_REGISTER of K : entity is
+    \"0000\" & \"0001001000110100\" & \"01010110011\" & \"1\";
+  attribute BOUNDARY_LENGTH of K : entity is 3;
+  attribute BOUNDARY_REGISTER of K : entity is
+    \"0 (BC_1, Q, output3, X, 1, 0, Z),\" &
+    \"1 (BC_1, *, control, 0),\" &
+    \"2 (BC_1, D, input, X)\";
+end K;";
 
-/// Asserts that a text is refused for its form, at a place within it or at its end.
-fn assert_misfit(rt: &impl Abort, alloc: Global, text: &[u8]) {
-    match outline_of(alloc, text) {
-        Err(BsdlFault::BadToken(place) | BsdlFault::BadForm(place)) => {
-            assert!(rt; place <= text.len());
+/// The bare device: the TAP alone, and one cell.
+const P: &str = "entity P is port (TDI, TMS, TCK : in bit; TDO : out bit);
+  attribute TAP_SCAN_IN of TDI : signal is true; attribute TAP_SCAN_MODE of TMS : signal is true;
+  attribute TAP_SCAN_OUT of TDO : signal is true; attribute TAP_SCAN_CLOCK of TCK : signal is (1.0e6, BOTH);
+  attribute INSTRUCTION_LENGTH of P : entity is 2;
+  attribute INSTRUCTION_OPCODE of P : entity is \"BYPASS (11), EXTEST (00)\";
+  attribute INSTRUCTION_CAPTURE of P : entity is \"01\";
+  attribute BOUNDARY_LENGTH of P : entity is 1;
+  attribute BOUNDARY_REGISTER of P : entity is \"0 (BC_1, *, internal, X)\";
+end;";
+
+// ---- what is told of a text
+
+/// Bits, the highest first.
+fn show_bits(shown: &mut String, bits: &Bits) -> Result<(), AllocError> {
+    for i in 0..bits.len() {
+        shown.push_str(if bits.get(bits.len() - 1 - i) {
+            "1"
+        } else {
+            "0"
+        })?;
+    }
+    Ok(())
+}
+
+fn show_code(shown: &mut String, word: &str, code: Option<&Bits>) -> Result<(), AllocError> {
+    if let Some(bits) = code {
+        shown.push_str(word)?;
+        show_bits(shown, bits)?;
+    }
+    Ok(())
+}
+
+/// A pattern, the highest digit first.
+fn show_pattern(shown: &mut String, pattern: &Pattern) -> Result<(), AllocError> {
+    for bit in pattern.bits().iter().rev() {
+        shown.push_str(match bit {
+            Some(true) => "1",
+            Some(false) => "0",
+            None => "X",
+        })?;
+    }
+    Ok(())
+}
+
+fn show_ports(alloc: Global, shown: &mut String, device: &Device) -> Result<(), AllocError> {
+    for number in 0..device.port_count() {
+        let bit = device.port(number);
+        let (name, mode) = (bit.name, bit.mode);
+        shown.push_str(format!(in alloc; " {name}:{mode:?}")?.as_str())?;
+        if let Some(index) = bit.index {
+            shown.push_str(format!(in alloc; "({index})")?.as_str())?;
         }
-        _ => assert!(rt; false, "not refused for its form"),
+        shown.push_str(if bit.is_tap { "+" } else { "" })?;
+    }
+    Ok(())
+}
+
+fn show_opcodes(shown: &mut String, opcodes: &[Opcode]) -> Result<(), AllocError> {
+    for opcode in opcodes {
+        shown.push_str(" ")?;
+        shown.push_str(opcode.name())?;
+        for pattern in opcode.patterns() {
+            shown.push_str(":")?;
+            show_pattern(shown, pattern)?;
+        }
+    }
+    Ok(())
+}
+
+fn show_cells(alloc: Global, shown: &mut String, cells: &[Cell]) -> Result<(), AllocError> {
+    for cell in cells {
+        let function = cell.function;
+        shown.push_str(format!(in alloc; " {function:?}")?.as_str())?;
+        if let Some(port) = cell.port {
+            shown.push_str(format!(in alloc; ":{port}")?.as_str())?;
+        }
+        if let Some(control) = cell.control {
+            let (cell, disabling, leaves) = (control.cell, control.disabling, control.leaves);
+            shown.push_str(format!(in alloc; "/{cell}={disabling}>{leaves:?}")?.as_str())?;
+        }
+    }
+    Ok(())
+}
+
+fn show_accesses(alloc: Global, shown: &mut String, accesses: &[Access]) -> Result<(), AllocError> {
+    for access in accesses {
+        let (name, place) = (access.instruction(), access.place());
+        shown.push_str(format!(in alloc; " {name}>{place:?}")?.as_str())?;
+        show_code(shown, "=", access.captures())?;
+    }
+    Ok(())
+}
+
+/// All parts of a device.
+fn shown_device(alloc: Global, device: &Device) -> Result<String, AllocError> {
+    let mut shown = String::new(alloc);
+    shown.push_str("ports")?;
+    show_ports(alloc, &mut shown, device)?;
+    let length = device.instruction_length();
+    shown.push_str(format!(in alloc; " instructions {length}")?.as_str())?;
+    show_opcodes(&mut shown, device.opcodes())?;
+    show_code(&mut shown, " capture ", Some(device.capture()))?;
+    show_code(&mut shown, " id ", device.idcode())?;
+    show_code(&mut shown, " user ", device.usercode())?;
+    shown.push_str(" cells")?;
+    show_cells(alloc, &mut shown, device.cells())?;
+    show_accesses(alloc, &mut shown, device.accesses())?;
+    for length in device.users() {
+        shown.push_str(format!(in alloc; " register {length}")?.as_str())?;
+    }
+    shown.push_str(if device.has_trst() { " trst" } else { "" })?;
+    Ok(shown)
+}
+
+/// The refusal as its line, and the attribute that is missing.
+fn shown_fault(alloc: Global, fault: &BsdlFault) -> Result<String, AllocError> {
+    match fault {
+        BsdlFault::Missing(attribute) => format!(in alloc; "{fault} {attribute:?}"),
+        _ => format!(in alloc; "{fault}"),
     }
 }
 
-/// A text that is cut anywhere is refused for its form.
+/// What is read of a text.
+fn told(alloc: Global, text: &str) -> Result<String, AllocError> {
+    match read(alloc, text.as_bytes()) {
+        Ok(device) => shown_device(alloc, &device),
+        Err(fault) => shown_fault(alloc, &fault),
+    }
+}
+
+/// Whether a text is read, or its refusal.
+fn outcome(alloc: Global, text: &str) -> Result<String, AllocError> {
+    match read(alloc, text.as_bytes()) {
+        Ok(_) => String::from_str(alloc, "read"),
+        Err(fault) => shown_fault(alloc, &fault),
+    }
+}
+
+/// The outcome of K with one piece of its text replaced.
+fn changed(alloc: Global, from: &str, to: &str) -> Result<String, AllocError> {
+    outcome(alloc, K.replace(alloc, from, to)?.as_str())
+}
+
+// ---- sample devices
+
+const K_TOLD: &str =
+    "ports TDI:In+ TMS:In+ TCK:In+ TDO:Out+ Q:Out D:In instructions 2 BYPASS:11 EXTEST:00 SAMPLE:01 \
+    IDCODE:10 capture 01 id 00000001001000110100010101100111 cells Output3:4/1=false>Z Control Input:5";
+
+/// The sample devices, each part of them.
+#[test]
+fn sample_devices(rt: HostRuntime) -> Result<(), Fail> {
+    let alloc = rt.alloc();
+    assert_eq!(&rt; told(alloc, K)?.as_str(), K_TOLD);
+    assert_eq!(&rt;
+        told(alloc, P)?.as_str(),
+        "ports TDI:In+ TMS:In+ TCK:In+ TDO:Out+ instructions 2 BYPASS:11 EXTEST:00 capture 01 cells Internal"
+    );
+    let with_port = K.replace(alloc, "D : in bit)", "D, TRST : in bit)")?;
+    let reset = "attribute TAP_SCAN_RESET of TRST : signal is true;\nend";
+    let kt = with_port.as_str().replace(alloc, "end", reset)?;
+    let kt_told = K_TOLD.replace(alloc, "D:In instr", "D:In TRST:In+ instr")?;
+    let kt_told = kt_told.as_str().replace(alloc, "Input:5", "Input:5 trst")?;
+    assert_eq!(&rt; told(alloc, kt.as_str())?.as_str(), kt_told.as_str());
+    Ok(())
+}
+
+/// Ranges both ways, codes, own registers, and every kind of cell.
+const WHOLE: &str = "-- all parts
+entity W is
+  port (TDI, TMS, TCK, TRST : in bit; TDO : out bit; -- TAP
+    A : inout bit_vector (5 downto 4); B : buffer bit_vector (0 to 1); VCC : linkage bit;);
+  constant C : S := \"end; use\"; use S.all;
+  attribute TAP_SCAN_IN of TDI : signal is true; attribute TAP_SCAN_MODE of TMS : signal is TRUE;
+  attribute TAP_SCAN_OUT of TDO : signal is true; attribute TAP_SCAN_CLOCK of TCK : signal is ((1), (2));
+  attribute TAP_SCAN_RESET of TRST : signal is false;
+  attribute INSTRUCTION_LENGTH of W : entity is 003;
+  attribute INSTRUCTION_OPCODE of W : entity is \"BYPASS (111, 1X 1), EXTEST (000), IDCODE (0\" & \"01),\" &
+    \"LOAD (010), Look (011), Twin (100),\";
+  attribute INSTRUCTION_CAPTURE of W : entity is \"x01\";
+  attribute INSTRUCTION_PRIVATE of W : entity is \"Look\";
+  attribute IDCODE_REGISTER of W : entity is \"XXXX\" & \"0000000000000000 00000000 0001,\" &
+    \"00000000000000000000000000000011\";
+  attribute USERCODE_REGISTER of W : entity is \"11111111111111111111111111111111\";
+  attribute REGISTER_ACCESS of W : entity is \"DATA[4] (LOAD CAPTURES 10x1, LOOK), BOUNDARY (EXTEST), BYPASS (twin)\";
+  attribute OTHER of W : entity is anything (;
+  attribute BOUNDARY_LENGTH of W : entity is 6;
+  attribute BOUNDARY_REGISTER of W : entity is \"5 (BC_1, *, controlr, 1), 0 (BC_7, A(4), bidir, X, 5, 1, WEAK1),\" &
+    \"1 (BC_1, a(5), observe_only, X), 2 (BC_1, B(1), output2, 0), 3 (BC_1, B(0), output3, 0, 5, 0, Keeper),\" &
+    \"4 (BC_4, VCC, clock, X)\";
+END W W;
+";
+
+const WHOLE_TOLD: &str =
+    "ports TDI:In+ TMS:In+ TCK:In+ TRST:In TDO:Out+ A:InOut(4) A:InOut(5) B:Buffer(0) B:Buffer(1) \
+    VCC:Linkage instructions 3 BYPASS:111:1X1 EXTEST:000 IDCODE:001 LOAD:010 LOOK:011 TWIN:100 capture 001 \
+    id 00000000000000000000000000000001 user 11111111111111111111111111111111 cells Bidir:5/5=true>Weak1 \
+    ObserveOnly:6 Output2:8 Output3:7/5=false>Keeper Clock:9 ControlR LOAD>AtUser(0)=1001 TWIN>AtBypass register 4";
+
+#[test]
+fn each_part(rt: HostRuntime) -> Result<(), Fail> {
+    assert_eq!(&rt; told(rt.alloc(), WHOLE)?.as_str(), WHOLE_TOLD);
+    Ok(())
+}
+
+/// Every other letter of a text in upper case, the others in lower case.
+fn mixed(alloc: Global, text: &str) -> Result<String, AllocError> {
+    let mut mixed = String::new(alloc);
+    for (i, c) in text.chars().enumerate() {
+        mixed.push(if i % 2 == 0 {
+            c.to_ascii_uppercase()
+        } else {
+            c.to_ascii_lowercase()
+        })?;
+    }
+    Ok(mixed)
+}
+
+/// A text in upper, lower or mixed case says the same device.
+#[test]
+fn any_case(rt: HostRuntime) -> Result<(), Fail> {
+    let alloc = rt.alloc();
+    for (text, device) in [(K, K_TOLD), (WHOLE, WHOLE_TOLD)] {
+        assert_eq!(&rt;
+            told(alloc, text.to_ascii_uppercase(alloc)?.as_str())?.as_str(),
+            device
+        );
+        assert_eq!(&rt;
+            told(alloc, text.to_ascii_lowercase(alloc)?.as_str())?.as_str(),
+            device
+        );
+        assert_eq!(&rt; told(alloc, mixed(alloc, text)?.as_str())?.as_str(), device);
+    }
+    Ok(())
+}
+
+// ---- refusals
+
+/// What K with one piece replaced is told to be.
+const CHANGES: [(&str, &str, &str); 32] = [
+    ("end K;", "end K; -- behind", "read"),
+    ("PHYSICAL", "#", "B1 BadToken 23"),
+    ("\"DIP\"", "\"DIP", "B1 BadToken 52"),
+    ("entity K", "entity", "B2 BadForm 12"),
+    ("end K;", "end K; end", "B2 BadForm 902"),
+    ("end K;", "end K", "B2 BadForm 900"),
+    ("\"SAMPLE", "\"? SAMPLE", "B2 BadForm 483"),
+    ("\"0000\"", "\"2\"", "B2 BadForm 645"),
+    ("D : in bit", "D : in bit_vector (1 to 0)", "B2 BadForm 152"),
+    ("MODE of TMS", "MODE of TMX", "B2 BadForm 246"),
+    (
+        "attribute TAP_SCAN_IN of TDI : signal is true;",
+        "",
+        "B3 Missing TapScanIn",
+    ),
+    (
+        "TAP_SCAN_CLOCK",
+        "TAP_SCAN_CLOCKS",
+        "B3 Missing TapScanClock",
+    ),
+    (
+        "of TDO : signal is true",
+        "of TDO : signal is false",
+        "B3 Missing TapScanOut",
+    ),
+    ("BYPASS (11)", "BYPASS (11), Bypass (01)", "B4 Twice Bypass"),
+    ("Q : out", "Q, q : out", "B4 Twice q"),
+    (
+        "end K;",
+        "attribute boundary_length of K : entity is 3; end;",
+        "B4 Twice boundary_length",
+    ),
+    ("IDCODE (10)", "IDCODE (11)", "B4 Twice IDCODE"),
+    ("SAMPLE (01)", "SAMPLE (1X)", "B4 Twice IDCODE"),
+    ("entity is 2", "entity is 3", "B5 BadLength"),
+    ("& \"1\"", "& \"11\"", "B5 BadLength"),
+    ("is \"01\"", "is \"X1\"", "B6 BadCapture"),
+    ("is \"01\"", "is \"10\"", "B6 BadCapture"),
+    ("& \"1\"", "& \"0\"", "B7 BadId"),
+    ("entity is 3", "entity is 4", "B8 BadCell 3"),
+    ("entity is 3", "entity is 2", "B8 BadCell 2"),
+    ("D, input", "TMS, input", "B8 BadCell 2"),
+    ("D, input", "R, input", "B8 BadCell 2"),
+    ("D, input", "D(0), input", "B8 BadCell 2"),
+    ("*, control", "D, control", "B8 BadCell 1"),
+    ("X, 1, 0, Z", "X, 2, 0, Z", "B8 BadCell 0"),
+    (", X, 1, 0, Z", ", X", "B8 BadCell 0"),
+    ("D, input, X)", "Q, output2, X)", "B8 BadCell 2"),
+];
+
+/// The tables of refusals: the least number that applies, with its place, name or cell.
+#[test]
+fn changes(rt: HostRuntime) -> Result<(), Fail> {
+    for (from, to, wanted) in CHANGES {
+        assert_eq!(&rt; changed(rt.alloc(), from, to)?.as_str(), wanted);
+    }
+    Ok(())
+}
+
+/// K cut before any byte of it is refused for its form, at a place within it or at its end.
 #[test]
 fn cut_at_each_byte(rt: HostRuntime) {
     for len in 0..K.len() {
-        assert_misfit(&rt, rt.alloc(), &K[..len]);
+        match read(rt.alloc(), &K.as_bytes()[..len]) {
+            Err(BsdlFault::BadToken(place) | BsdlFault::BadForm(place)) => {
+                assert!(&rt; place <= len);
+            }
+            _ => assert!(&rt; false, "not refused for its form"),
+        }
     }
+}
+
+// ---- limits, each at its edge and one past it
+
+fn with_rows(alloc: Global, count: usize) -> Result<String, AllocError> {
+    let mut rows = String::from_str(alloc, "is \"BYPASS (11)")?;
+    for i in 4..count {
+        rows.push_str(format!(in alloc; ", I{i} (01)")?.as_str())?;
+    }
+    rows.push_str(", EXTEST (00),")?;
+    K.replace(alloc, "is\n    \"BYPASS (11), EXTEST (00),", rows.as_str())
+}
+
+/// K with instructions of so many bits.
+fn with_instruction_bits(alloc: Global, count: usize) -> Result<String, AllocError> {
+    let text = K.replace(
+        alloc,
+        "entity is 2",
+        format!(in alloc; "entity is {count}")?.as_str(),
+    )?;
+    let zeros = "0".repeat(alloc, count.saturating_sub(2))?;
+    let ones = "1".repeat(alloc, count)?;
+    let text = text
+        .as_str()
+        .replace(alloc, "(00)", format!(in alloc; "({zeros}00)")?.as_str())?;
+    let text = text
+        .as_str()
+        .replace(alloc, "(01)", format!(in alloc; "({zeros}01)")?.as_str())?;
+    let text = text
+        .as_str()
+        .replace(alloc, "(10)", format!(in alloc; "({zeros}10)")?.as_str())?;
+    let text = text.as_str().replace(
+        alloc,
+        "\"01\"",
+        format!(in alloc; "\"{zeros}01\"")?.as_str(),
+    )?;
+    text.as_str()
+        .replace(alloc, "(11)", format!(in alloc; "({ones})")?.as_str())
+}
+
+/// K with so many cells.
+fn with_cells(alloc: Global, count: usize) -> Result<String, AllocError> {
+    let text = K.replace(
+        alloc,
+        "entity is 3",
+        format!(in alloc; "entity is {count}")?.as_str(),
+    )?;
+    let mut rows = String::from_str(alloc, "D, input, X)\"")?;
+    for i in 3..count {
+        rows.push_str(format!(in alloc; "& \", {i} (BC_1, *, internal, X)\"")?.as_str())?;
+    }
+    text.as_str()
+        .replace(alloc, "D, input, X)\"", rows.as_str())
+}
+
+/// K with so many registers of its own, each of this length.
+fn with_users(alloc: Global, count: usize, length: usize) -> Result<String, AllocError> {
+    let text = K.replace(alloc, "SAMPLE", "LOAD0")?;
+    let mut rows = String::from_str(alloc, "attribute REGISTER_ACCESS of K : entity is \"")?;
+    let mut opcodes = String::from_str(alloc, "BYPASS (11)")?;
+    for i in 0..count {
+        rows.push_str(format!(in alloc; "DATA{i}[{length}] (LOAD{i}),")?.as_str())?;
+        if i > 0 {
+            opcodes.push_str(format!(in alloc; ", LOAD{i} (01)")?.as_str())?;
+        }
+    }
+    rows.push_str("\"; end")?;
+    let text = text
+        .as_str()
+        .replace(alloc, "BYPASS (11)", opcodes.as_str())?;
+    text.as_str().replace(alloc, "end", rows.as_str())
+}
+
+#[test]
+fn limits(rt: HostRuntime) -> Result<(), Fail> {
+    let alloc = rt.alloc();
+    for (count, wanted) in [(2, "read"), (64, "read"), (65, "B9 TooLarge")] {
+        assert_eq!(&rt;
+            outcome(alloc, with_instruction_bits(alloc, count)?.as_str())?.as_str(),
+            wanted
+        );
+    }
+    for (count, wanted) in [(256, "read"), (257, "B9 TooLarge")] {
+        assert_eq!(&rt;
+            outcome(alloc, with_rows(alloc, count)?.as_str())?.as_str(),
+            wanted
+        );
+    }
+    for (count, wanted) in [(4_096, "read"), (4_097, "B9 TooLarge")] {
+        assert_eq!(&rt;
+            outcome(alloc, with_cells(alloc, count)?.as_str())?.as_str(),
+            wanted
+        );
+    }
+    for (count, length, wanted) in [
+        (64, 1, "read"),
+        (65, 1, "B9 TooLarge"),
+        (1, 4_096, "read"),
+        (1, 4_097, "B9 TooLarge"),
+        (1, 0, "B5 BadLength"),
+    ] {
+        assert_eq!(&rt;
+            outcome(alloc, with_users(alloc, count, length)?.as_str())?.as_str(),
+            wanted
+        );
+    }
+    Ok(())
+}
+
+const EDGES: [(&str, &str, &str); 12] = [
+    (
+        "Q : out bit;",
+        "Q : out bit; A : in bit_vector (0 to 8185);",
+        "read",
+    ),
+    (
+        "Q : out bit;",
+        "Q : out bit; A : in bit_vector (0 to 8186);",
+        "B9 TooLarge",
+    ),
+    (
+        "Q : out bit;",
+        "Q : out bit; A : in bit_vector (65535 downto 65535);",
+        "read",
+    ),
+    (
+        "Q : out bit;",
+        "Q : out bit; A : in bit_vector (65536 downto 65536);",
+        "B9 TooLarge",
+    ),
+    ("entity is 2", "entity is 1", "B5 BadLength"),
+    ("entity is 3", "entity is 0", "B5 BadLength"),
+    (
+        "0 (BC_1, Q",
+        "65535 (BC_1, *, internal, 0), 0 (BC_1, Q",
+        "B8 BadCell 65535",
+    ),
+    (
+        "0 (BC_1, Q",
+        "65536 (BC_1, *, internal, 0), 0 (BC_1, Q",
+        "B9 TooLarge",
+    ),
+    ("X, 1, 0, Z", "X, 65537, 0, Z", "B8 BadCell 0"),
+    ("X, 1, 0, Z", "X, 1, 2, Z", "B2 BadForm 795"),
+    ("D, input", "D(65536), input", "B8 BadCell 2"),
+    ("(11)", "()", "B2 BadForm 483"),
+];
+
+#[test]
+fn edges(rt: HostRuntime) -> Result<(), Fail> {
+    for (from, to, wanted) in EDGES {
+        assert_eq!(&rt; changed(rt.alloc(), from, to)?.as_str(), wanted);
+    }
+    Ok(())
+}
+
+/// 4 MiB are read, and a byte more is not, whatever it holds.
+#[test]
+fn size_of_the_text(rt: HostRuntime) -> Result<(), Fail> {
+    let alloc = rt.alloc();
+    let mut text = String::from_str(alloc, K)?;
+    text.push_str(" ".repeat(alloc, 4_194_304 - K.len())?.as_str())?;
+    assert_eq!(&rt; outcome(alloc, text.as_str())?.as_str(), "read");
+    text.push('#')?;
+    assert_eq!(&rt; outcome(alloc, text.as_str())?.as_str(), "B9 TooLarge");
+    Ok(())
+}
+
+// ---- much of one thing
+
+/// Numbers of a thousand digits.
+#[test]
+fn long_numbers(rt: HostRuntime) -> Result<(), Fail> {
+    let alloc = rt.alloc();
+    let zeros = "0".repeat(alloc, 1_000)?;
+    let nines = "9".repeat(alloc, 1_000)?;
+    let rows = [
+        (
+            "entity is 2",
+            format!(in alloc; "entity is {zeros}2")?,
+            "read",
+        ),
+        (
+            "entity is 2",
+            format!(in alloc; "entity is {nines}")?,
+            "B5 BadLength",
+        ),
+        (
+            "entity is 3",
+            format!(in alloc; "entity is {zeros}3")?,
+            "read",
+        ),
+        (
+            "entity is 3",
+            format!(in alloc; "entity is {nines}")?,
+            "B8 BadCell 3",
+        ),
+        ("2 (BC", format!(in alloc; "{zeros}2 (BC")?, "read"),
+        ("2 (BC", format!(in alloc; "{nines} (BC")?, "B8 BadCell 2"),
+        (
+            "1, 0, Z",
+            format!(in alloc; "{zeros}1, {zeros}, Z")?,
+            "B2 BadForm 795",
+        ),
+        (
+            "1, 0, Z",
+            format!(in alloc; "{nines}, 0, Z")?,
+            "B8 BadCell 0",
+        ),
+        (
+            "D, input",
+            format!(in alloc; "D({nines}), input")?,
+            "B8 BadCell 2",
+        ),
+        (
+            "Q : out bit",
+            format!(in alloc; "Q, A : out bit_vector ({zeros}8 to {nines})")?,
+            "B8 BadCell 0",
+        ),
+        (
+            "D : in bit",
+            format!(in alloc; "D : in bit; A : out bit_vector ({zeros}8 to {nines})")?,
+            "B9 TooLarge",
+        ),
+        (
+            "D : in bit",
+            format!(in alloc; "D : in bit; A : out bit_vector ({nines} to {nines}0)")?,
+            "B9 TooLarge",
+        ),
+        (
+            "D : in bit",
+            format!(in alloc; "D : in bit; A : out bit_vector ({nines}0 to {nines})")?,
+            "B2 BadForm 1165",
+        ),
+    ];
+    for (from, to, wanted) in &rows {
+        assert_eq!(&rt; changed(alloc, from, to.as_str())?.as_str(), *wanted);
+    }
+    Ok(())
+}
+
+/// A generic whose brackets never close is refused where the text ends.
+#[test]
+fn brackets_without_end(rt: HostRuntime) -> Result<(), Fail> {
+    let alloc = rt.alloc();
+    let opening = "(".repeat(alloc, 1_000_000)?;
+    let text = K.replace(
+        alloc,
+        "generic (",
+        format!(in alloc; "generic ({opening}")?.as_str(),
+    )?;
+    let wanted = format!(in alloc; "B2 BadForm {}", K.len() + 1_000_000)?;
+    assert_eq!(&rt; outcome(alloc, text.as_str())?.as_str(), wanted.as_str());
+    Ok(())
+}
+
+/// A text that is joined from 100,000 pieces is one text; one that is bad is refused at its first quote.
+#[test]
+fn many_pieces(rt: HostRuntime) -> Result<(), Fail> {
+    let alloc = rt.alloc();
+    let pieces = "\"\" & ".repeat(alloc, 100_000)?;
+    assert_eq!(&rt;
+        changed(
+            alloc,
+            "is \"01\"",
+            format!(in alloc; "is {pieces}\"01\"")?.as_str()
+        )?
+        .as_str(),
+        "read"
+    );
+    assert_eq!(&rt;
+        changed(
+            alloc,
+            "is \"01\"",
+            format!(in alloc; "is \"0\" & {pieces}\"2\"")?.as_str()
+        )?
+        .as_str(),
+        "B2 BadForm 590"
+    );
+    assert_eq!(&rt;
+        changed(
+            alloc,
+            "is \"01\"",
+            format!(in alloc; "is \"01\" & {pieces};")?.as_str()
+        )?
+        .as_str(),
+        "B2 BadForm 500597"
+    );
+    Ok(())
+}
+
+/// 8,192 port bits, and 4,096 cells that each name one; a cell that drives what a lower one drives is refused.
+#[test]
+fn many_bits(rt: HostRuntime) -> Result<(), Fail> {
+    let alloc = rt.alloc();
+    let ports = "Q : out bit; A : out bit_vector (0 to 8185);";
+    let text = K.replace(alloc, "Q : out bit;", ports)?;
+    let text = text
+        .as_str()
+        .replace(alloc, "entity is 3", "entity is 4096")?;
+    let mut rows = String::from_str(alloc, "D, input, X)\"")?;
+    for i in 3..4_096 {
+        let bit = 8_188_usize.saturating_sub(i);
+        rows.push_str(format!(in alloc; "& \", {i} (BC_1, a({bit}), output2, X)\"")?.as_str())?;
+    }
+    let text = text
+        .as_str()
+        .replace(alloc, "D, input, X)\"", rows.as_str())?;
+    assert_eq!(&rt; outcome(alloc, text.as_str())?.as_str(), "read");
+    let again = text
+        .as_str()
+        .replace(alloc, "4095 (BC_1, a(4093)", "4095 (BC_1, a(4094)")?;
+    assert_eq!(&rt; outcome(alloc, again.as_str())?.as_str(), "B8 BadCell 4095");
+    Ok(())
 }

@@ -1,5 +1,6 @@
 -- The device that a description says.
-use Rattle.std.specs.Prelude.{ℕ, ◌+◌, ◌-◌, ◌==◌, Bool, filter, option_and_then, is_some, if◌then◌else◌, List, map, Option, Some, None, option_map, unwrap_or, bytes_eq, codes, slice_get}
+use Rattle.std.specs.Prelude.{ℕ, ◌+◌, ◌-◌, ◌==◌, Bool, filter, option_and_then, is_some, if◌then◌else◌, List, map}
+use Rattle.std.specs.Prelude.{Option, Some, None, option_map, unwrap_or, bytes_eq, codes, slice_get}
 use Rattle.std.specs.List.{range_with_len, flat_map}
 use Rattle.bsdl_text.specs.Words.{upper}
 use Rattle.bsdl_device.specs.Device.{Name, PortBit, Access, Device}
@@ -18,11 +19,15 @@ use Rattle.bsdl_described.specs.Describing.{Description, is_among}
 
 -- the bits of a port, by rising index
 abbrev pub port_bits : List Name → Port → List PortBit
-port_bits taps p = bits_of (upper p.name.text) p.mode (is_among taps (upper p.name.text)) (option_map (λ r. (r.low, r.high - r.low + 1)) p.range)
+port_bits taps p =
+    bits_of (upper p.name.text) p.mode (is_among taps (upper p.name.text))
+    (option_map (λ r. (r.low, r.high - r.low + 1)) p.range)
 
 -- the control counts at the cells that drive
 abbrev pub cell : List Port → CellRow → Cell
-cell ps r = record { function = r.function; port = option_and_then (bit_number 0 ps) r.port; control = if drives r.function then r.control else None }
+cell ps r =
+    record { function = r.function; port = option_and_then (bit_number 0 ps) r.port; control = if drives r.function
+    then r.control else None }
 
 -- cells stand by their numbers
 abbrev pub cells_of : List Port → List CellRow → ℕ → List Cell
@@ -30,7 +35,9 @@ cells_of ps rows len = flat_map (λ k. map (cell ps) (filter (λ r. r.number == 
 
 -- a register that is not the device's own
 abbrev pub public_place : Name → Place
-public_place name = if bytes_eq name (codes "BOUNDARY") then AtBoundary else if bytes_eq name (codes "BYPASS") then AtBypass else AtDeviceId
+public_place name =
+    if bytes_eq name (codes "BOUNDARY") then AtBoundary else if bytes_eq name (codes "BYPASS") then AtBypass
+    else AtDeviceId
 
 abbrev pub place_of : List (Name × ℕ) → AccessRow → Option ℕ → Place
 place_of users r (Some n) = AtUser (unwrap_or (user_number users r.register) 0)
@@ -38,7 +45,9 @@ place_of users r None = public_place r.register
 
 -- a pattern behind CAPTURES counts for a register of the device's own
 abbrev pub access : Place → Bool → Instr → Access
-access place is_own i = record { instruction = upper i.name.text; place = place; captures = if is_own then option_map bits i.captures else None }
+access place is_own i =
+    record { instruction = upper i.name.text; place = place; captures = if is_own then option_map bits i.captures
+    else None }
 
 abbrev pub accesses_of_row : List (Name × ℕ) → AccessRow → List Access
 accesses_of_row users r = map (access (place_of users r r.len) (is_some r.len)) r.instrs

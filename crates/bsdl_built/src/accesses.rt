@@ -1,5 +1,6 @@
 //! The registers that a device's own instructions select.
-ghost use Rattle.std.specs.Prelude.{◌≡◌, ◌++◌, ℕ, List, Bool, map, option_map, unwrap_or, if◌then◌else◌, None, IfOk, OnOk};
+ghost use Rattle.std.specs.Prelude.{◌≡◌, ◌++◌, ℕ, List, Bool, map, option_map, unwrap_or, if◌then◌else◌, None, IfOk};
+ghost use Rattle.std.specs.Prelude.{OnOk};
 ghost use Rattle.std.specs.List.{flat_map};
 ghost use Rattle.bsdl_device.specs.Device as device;
 ghost use Rattle.bsdl_text.specs.Words.{upper};
@@ -25,7 +26,8 @@ pub fn accesses_of(
     users: &Users<'_>,
     rows: &[AccessRow<'_>],
 ) -> Result<Vec<Access>, AllocError>
-    ensures { IfOk result (λ v. (us : List (List ℕ × ℕ)) → Lists users.now us → v.items ≡ flat_map (spec.accesses_of_row us) (map rows_view.access_row rows.now)) }
+    ensures { IfOk result (λ v. (us : List (List ℕ × ℕ)) → Lists users.now us → v.items
+        ≡ flat_map (spec.accesses_of_row us) (map rows_view.access_row rows.now)) }
 {
     let mut accesses = Vec::new(alloc);
     for row in rows {
@@ -40,7 +42,8 @@ fn add_row(
     users: &Users<'_>,
     row: &AccessRow<'_>,
 ) -> Result<(), AllocError>
-    ensures { OnOk result ((us : List (List ℕ × ℕ)) → Lists users.now us → accesses.new.items ≡ accesses.old.items ++ spec.accesses_of_row us (rows_view.access_row row.now)) }
+    ensures { OnOk result ((us : List (List ℕ × ℕ)) → Lists users.now us → accesses.new.items ≡ accesses.old.items
+        ++ spec.accesses_of_row us (rows_view.access_row row.now)) }
 {
     let place = place_of(alloc, users, row)?;
     let is_own = row.len.is_some();
@@ -70,7 +73,8 @@ fn captures_of(
     is_own: bool,
     captures: &Option<WrittenPattern>,
 ) -> Result<Option<Bits>, AllocError>
-    ensures { IfOk result (λ o. o ≡ (if is_own then option_map bits_of_pattern (option_map rows_view.pattern captures.now) else None)) }
+    ensures { IfOk result (λ o. o ≡ (if is_own then option_map bits_of_pattern
+        (option_map rows_view.pattern captures.now) else None)) }
 {
     if !is_own {
         return Ok(None);
@@ -83,7 +87,8 @@ fn captures_of(
 
 /// The register of a row.
 fn place_of(alloc: Global, users: &Users<'_>, row: &AccessRow<'_>) -> Result<Place, AllocError>
-    ensures { IfOk result (λ p. (us : List (List ℕ × ℕ)) → Lists users.now us → p ≡ spec.place_of us (rows_view.access_row row.now) (rows_view.access_row row.now).len) }
+    ensures { IfOk result (λ p. (us : List (List ℕ × ℕ)) → Lists users.now us → p
+        ≡ spec.place_of us (rows_view.access_row row.now) (rows_view.access_row row.now).len) }
 {
     match row.len {
         Some(_len) => {

@@ -1,5 +1,6 @@
 //! The numbers of port bits.
-ghost use Rattle.std.specs.Prelude.{◌≡◌, ◌+◌, ◌++◌, ◌∷◌, [], List, Some, option_map, option_and_then, unwrap_or, slice_get, IfOk, OnOk};
+ghost use Rattle.std.specs.Prelude.{◌≡◌, ◌+◌, ◌++◌, ◌∷◌, [], List, Some, option_map, option_and_then, unwrap_or};
+ghost use Rattle.std.specs.Prelude.{slice_get, IfOk, OnOk};
 ghost use Rattle.bsdl_text.specs.View.{value};
 ghost use Rattle.bsdl_cells.specs.View.{port_name};
 ghost use Rattle.bsdl_entity.specs.Entity as entity;
@@ -37,7 +38,8 @@ pub fn firsts_of(alloc: Global, groups: &[Group<'_>]) -> Result<Firsts, AllocErr
 }
 
 fn add_group(all: &mut Firsts, group: &Group<'_>) -> Result<(), AllocError>
-    ensures { OnOk result ((more : List entity.Port) → all.new.bits.items ++ firsts all.new.next more ≡ all.old.bits.items ++ firsts all.old.next (entity_view.group group.now ++ more)) }
+    ensures { OnOk result ((more : List entity.Port) → all.new.bits.items ++ firsts all.new.next more
+        ≡ all.old.bits.items ++ firsts all.old.next (entity_view.group group.now ++ more)) }
 {
     let width = width_of(group.range)?;
     for _name in &group.names {
@@ -76,7 +78,8 @@ pub fn bit_of_port(
     bits: &[usize],
     port: PortName<'_>,
 ) -> Result<Option<usize>, AllocError>
-    ensures { IfOk result (λ o. (ps : List entity.Port) → AreAt places.now ps → bits.now ≡ firsts 0 ps → o ≡ bit_number 0 ps (port_name port.entry)) }
+    ensures { IfOk result (λ o. (ps : List entity.Port) → AreAt places.now ps → bits.now ≡ firsts 0 ps → o
+        ≡ bit_number 0 ps (port_name port.entry)) }
 {
     let key = port.name.upper_name(alloc)?;
     let found = bit_named(places, bits, key.as_str(), port.index)?;
@@ -89,7 +92,9 @@ fn bit_named(
     name: &str,
     index: Option<Digits<'_>>,
 ) -> Result<Option<usize>, AllocError>
-    ensures { IfOk result (λ o. o ≡ option_and_then (λ x. option_map (λ k. unwrap_or (slice_get bits.now x.0) 0 + k) (bit_at x.1 (option_map value index.entry))) (found places.now name.now)) }
+    ensures { IfOk result (λ o. o ≡ option_and_then
+        (λ x. option_map (λ k. unwrap_or (slice_get bits.now x.0) 0 + k) (bit_at x.1 (option_map value index.entry)))
+        (found places.now name.now)) }
 {
     match places.by_name.get(name) {
         Some(place) => bit_in(*place, bits, index),
@@ -102,7 +107,8 @@ fn bit_in(
     bits: &[usize],
     index: Option<Digits<'_>>,
 ) -> Result<Option<usize>, AllocError>
-    ensures { IfOk result (λ o. o ≡ option_map (λ k. unwrap_or (slice_get bits.now (place_view place.entry).0) 0 + k) (bit_at (place_view place.entry).1 (option_map value index.entry))) }
+    ensures { IfOk result (λ o. o ≡ option_map (λ k. unwrap_or (slice_get bits.now (place_view place.entry).0) 0 + k)
+        (bit_at (place_view place.entry).1 (option_map value index.entry))) }
 {
     let first = first_bit(bits, place.number);
     match offset(place.range, index)? {

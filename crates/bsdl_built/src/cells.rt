@@ -1,5 +1,6 @@
 //! The boundary cells of a device.
-ghost use Rattle.std.specs.Prelude.{◌≡◌, ◌<◌, ◌==◌, ◌++◌, ℕ, List, map, filter, length, option_map, option_and_then, option_to_list, if◌then◌else◌, Some, None, IfOk, OnOk};
+ghost use Rattle.std.specs.Prelude.{◌≡◌, ◌<◌, ◌==◌, ◌++◌, ℕ, List, map, filter, length, option_map, option_and_then};
+ghost use Rattle.std.specs.Prelude.{option_to_list, if◌then◌else◌, Some, None, IfOk, OnOk};
 ghost use Rattle.std.specs.BTreeMap.{get};
 ghost use Rattle.std.specs.List.{flat_map, range_with_len};
 ghost use Rattle.std.specs.Ordering.{nat_cmp};
@@ -29,7 +30,9 @@ pub fn cells_of(
     rows: &[CellRow<'_>],
     len: usize,
 ) -> Result<Vec<Cell>, AllocError>
-    ensures { IfOk result (λ v. (ps : List entity.Port) → AreAt places.now ps → bits.now ≡ firsts 0 ps → ((k : ℕ) → k < len → length (filter (λ r. r.number == k) (map cells_view.cell_row rows.now)) ≡ 1) → v.items ≡ spec.cells_of ps (map cells_view.cell_row rows.now) len) }
+    ensures { IfOk result (λ v. (ps : List entity.Port) → AreAt places.now ps → bits.now ≡ firsts 0 ps
+        → ((k : ℕ) → k < len → length (filter (λ r. r.number == k) (map cells_view.cell_row rows.now)) ≡ 1) → v.items
+        ≡ spec.cells_of ps (map cells_view.cell_row rows.now) len) }
 {
     let table = table_of(alloc, places, bits, rows)?;
     let cells = listed(alloc, &table, len)?;
@@ -43,7 +46,9 @@ fn table_of(
     bits: &[usize],
     rows: &[CellRow<'_>],
 ) -> Result<BTreeMap<usize, Cell>, AllocError>
-    ensures { IfOk result (λ t. (ps : List entity.Port) → AreAt places.now ps → bits.now ≡ firsts 0 ps → (n : ℕ) → get nat_cmp t n ≡ last_of (map (spec.cell ps) (filter (λ r. r.number == n) (map cells_view.cell_row rows.now)))) }
+    ensures { IfOk result (λ t. (ps : List entity.Port) → AreAt places.now ps → bits.now ≡ firsts 0 ps → (n : ℕ)
+        → get nat_cmp t n ≡ last_of (map (spec.cell ps)
+        (filter (λ r. r.number == n) (map cells_view.cell_row rows.now)))) }
 {
     let mut table = BTreeMap::new(alloc);
     for row in rows {
@@ -59,7 +64,9 @@ fn add_row(
     bits: &[usize],
     row: &CellRow<'_>,
 ) -> Result<(), AllocError>
-    ensures { OnOk result ((ps : List entity.Port) → AreAt places.now ps → bits.now ≡ firsts 0 ps → (n : ℕ) → get nat_cmp table.new n ≡ (if value row.now.number == n then Some (spec.cell ps (cells_view.cell_row row.now)) else get nat_cmp table.old n)) }
+    ensures { OnOk result ((ps : List entity.Port) → AreAt places.now ps → bits.now ≡ firsts 0 ps → (n : ℕ)
+        → get nat_cmp table.new n ≡ (if value row.now.number == n
+        then Some (spec.cell ps (cells_view.cell_row row.now)) else get nat_cmp table.old n)) }
 {
     let number = size_of(row.number)?;
     let cell = cell_of(alloc, places, bits, row)?;
@@ -74,7 +81,8 @@ fn cell_of(
     bits: &[usize],
     row: &CellRow<'_>,
 ) -> Result<Cell, AllocError>
-    ensures { IfOk result (λ c. (ps : List entity.Port) → AreAt places.now ps → bits.now ≡ firsts 0 ps → c ≡ spec.cell ps (cells_view.cell_row row.now)) }
+    ensures { IfOk result (λ c. (ps : List entity.Port) → AreAt places.now ps → bits.now ≡ firsts 0 ps → c
+        ≡ spec.cell ps (cells_view.cell_row row.now)) }
 {
     let port = port_of(alloc, places, bits, row.port)?;
     let control = control_of(row.function, row.control)?;
@@ -92,7 +100,8 @@ fn port_of(
     bits: &[usize],
     port: Option<PortName<'_>>,
 ) -> Result<Option<usize>, AllocError>
-    ensures { IfOk result (λ o. (ps : List entity.Port) → AreAt places.now ps → bits.now ≡ firsts 0 ps → o ≡ option_and_then (bit_number 0 ps) (option_map cells_view.port_name port.entry)) }
+    ensures { IfOk result (λ o. (ps : List entity.Port) → AreAt places.now ps → bits.now ≡ firsts 0 ps → o
+        ≡ option_and_then (bit_number 0 ps) (option_map cells_view.port_name port.entry)) }
 {
     match port {
         Some(port) => bit_of_port(alloc, places, bits, port),
@@ -104,7 +113,8 @@ fn control_of(
     function: Function,
     control: Option<Controlling<'_>>,
 ) -> Result<Option<Control3>, AllocError>
-    ensures { IfOk result (λ o. o ≡ (if is_driver function then option_map cells_view.control control.entry else None)) }
+    ensures { IfOk result (λ o. o ≡ (if is_driver function then option_map cells_view.control control.entry
+        else None)) }
 {
     if !drives(function) {
         return Ok(None);
@@ -124,7 +134,8 @@ fn control_of(
 
 /// The cells of a table below a length.
 fn listed(alloc: Global, table: &BTreeMap<usize, Cell>, len: usize) -> Result<Vec<Cell>, AllocError>
-    ensures { IfOk result (λ v. v.items ≡ flat_map (λ k. option_to_list (get nat_cmp table.now k)) (range_with_len 0 len)) }
+    ensures { IfOk result (λ v. v.items ≡ flat_map (λ k. option_to_list (get nat_cmp table.now k))
+        (range_with_len 0 len)) }
 {
     let mut cells = Vec::new(alloc);
     for number in 0..len {

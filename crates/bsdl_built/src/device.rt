@@ -23,7 +23,9 @@ pub fn device_of(
     outline: &Outline<'_>,
     described: &Description<'_>,
 ) -> Result<Device, AllocError>
-    ensures { IfOk result (λ v. ((k : ℕ) → k < (description outline.now described.now).boundary_length → length (filter (λ r. r.number == k) (description outline.now described.now).cells) ≡ 1) → v ≡ spec.device (description outline.now described.now)) }
+    ensures { IfOk result (λ v. ((k : ℕ) → k < (description outline.now described.now).boundary_length
+        → length (filter (λ r. r.number == k) (description outline.now described.now).cells) ≡ 1) → v
+        ≡ spec.device (description outline.now described.now)) }
 {
     let ports = ports_of(alloc, &described.taps, &outline.groups)?;
     let instruction_length = size_of(described.instruction_length)?;
@@ -58,7 +60,10 @@ fn boundary_of(
     outline: &Outline<'_>,
     described: &Description<'_>,
 ) -> Result<Vec<Cell>, AllocError>
-    ensures { IfOk result (λ v. ((k : ℕ) → k < (description outline.now described.now).boundary_length → length (filter (λ r. r.number == k) (description outline.now described.now).cells) ≡ 1) → v.items ≡ spec.cells_of (description outline.now described.now).ports (description outline.now described.now).cells (description outline.now described.now).boundary_length) }
+    ensures { IfOk result (λ v. ((k : ℕ) → k < (description outline.now described.now).boundary_length
+        → length (filter (λ r. r.number == k) (description outline.now described.now).cells) ≡ 1) → v.items
+        ≡ spec.cells_of (description outline.now described.now).ports (description outline.now described.now).cells
+        (description outline.now described.now).boundary_length) }
 {
     let places = places_of(alloc, &outline.groups)?;
     let firsts = firsts_of(alloc, &outline.groups)?;

@@ -35,7 +35,8 @@ fn with_group(
     taps: &Taps<'_>,
     group: &Group<'_>,
 ) -> Result<Ports, AllocError>
-    ensures { IfOk result (λ p. p ≡ ports ++ flat_map (spec.port_bits (taps_view taps.now)) (entity_view.group group.now)) }
+    ensures { IfOk result (λ p. p ≡ ports ++ flat_map (spec.port_bits (taps_view taps.now))
+        (entity_view.group group.now)) }
 {
     let indices = indices_of(group.range)?;
     let mut ports = ports;
@@ -54,7 +55,8 @@ fn with_port(
     indices: Option<Indices>,
 ) -> Result<Ports, AllocError>
     requires { IfSome indices (λ i. i.low + i.len < 2 ^ 64) }
-    ensures { IfOk result (λ p. p ≡ ports ++ bits_of (upper name.entry.text.now) mode (is_among (taps_view taps.now) (upper name.entry.text.now)) (option_map pair indices)) }
+    ensures { IfOk result (λ p. p ≡ ports ++ bits_of (upper name.entry.text.now) mode
+        (is_among (taps_view taps.now) (upper name.entry.text.now)) (option_map pair indices)) }
 {
     let is_tap = names_tap(taps, name.text);
     let name = name.upper_name(alloc)?;
@@ -64,7 +66,8 @@ fn with_port(
 /// The indices of a port. Numbers from 2^64 on, which no port that is judged has, count as want of memory.
 fn indices_of(range: Option<Range<'_>>) -> Result<Option<Indices>, AllocError>
     ensures fits { IfOk result (λ o. IfSome o (λ i. i.low + i.len < 2 ^ 64)) }
-    ensures indices { IfOk result (λ o. option_map pair o ≡ option_map (λ r. (r.low, r.high - r.low + 1)) (option_map entity_view.range range.entry)) }
+    ensures indices { IfOk result (λ o. option_map pair o
+        ≡ option_map (λ r. (r.low, r.high - r.low + 1)) (option_map entity_view.range range.entry)) }
 {
     let Some(range) = range else {
         return Ok(None);

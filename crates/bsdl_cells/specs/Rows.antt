@@ -23,7 +23,9 @@ pub record CellRow : Type 0 where
 
 -- `(index)`, if it stands there
 abbrev pub port_index : List Lexeme → Read (Option ℕ)
-port_index ts = if stands opening ts then (mark opening ts >>= λ m a. number a >>= λ n b. mark closing b >>= λ k c. fits (Some n) c) else fits None ts
+port_index ts =
+    if stands opening ts then (mark opening ts >>= λ m a. number a >>= λ n b. mark closing b >>=
+    λ k c. fits (Some n) c) else fits None ts
 
 abbrev pub named_port : List Lexeme → Read (Option PortName)
 named_port ts = word ts >>= λ p a. port_index a >>= λ i b. fits (Some (record { name = upper p.text; index = i })) b
@@ -34,14 +36,18 @@ cell_port ts = if stands 42 ts then (mark 42 ts >>= λ m a. fits None a) else na
 
 abbrev pub control : List Lexeme → Read Control3
 control ts =
-    number ts >>= λ n a. mark comma a >>= λ m b. keyword bit_of b >>= λ d c. mark comma c >>= λ k e. keyword disabled_of e >>= λ z f.
+    number ts >>= λ n a. mark comma a >>= λ m b. keyword bit_of b >>= λ d c. mark comma c >>=
+        λ k e. keyword disabled_of e >>= λ z f.
     fits (record { cell = n; disabling = d; leaves = z }) f
 
 abbrev pub cell_control : List Lexeme → Read (Option Control3)
-cell_control ts = if stands comma ts then (mark comma ts >>= λ m a. control a >>= λ c b. fits (Some c) b) else fits None ts
+cell_control ts =
+    if stands comma ts then (mark comma ts >>= λ m a. control a >>= λ c b. fits (Some c) b) else fits None ts
 
 abbrev pub cell_row : List Lexeme → Read CellRow
 cell_row ts =
-    number ts >>= λ n a. mark opening a >>= λ m b. word b >>= λ type c. mark comma c >>= λ k d. cell_port d >>= λ p e. mark comma e >>= λ j f.
-    keyword function_of f >>= λ u g. mark comma g >>= λ i h. keyword safe_of h >>= λ s o. cell_control o >>= λ t q. mark closing q >>= λ z r.
+    number ts >>= λ n a. mark opening a >>= λ m b. word b >>= λ type c. mark comma c >>= λ k d. cell_port d >>=
+        λ p e. mark comma e >>= λ j f.
+    keyword function_of f >>= λ u g. mark comma g >>= λ i h. keyword safe_of h >>= λ s o. cell_control o >>=
+        λ t q. mark closing q >>= λ z r.
     fits (record { number = n; port = p; function = u; control = t }) r

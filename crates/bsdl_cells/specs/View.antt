@@ -15,4 +15,9 @@ abbrev pub control : declared_control.Controlling → Control3
 control c = record { cell = value c.cell; disabling = c.disabling; leaves = c.leaves }
 
 abbrev pub cell_row : declared_row.CellRow → CellRow
-cell_row r = record { number = value r.number; port = option_map port_name r.port; function = r.function; control = option_map control r.control }
+cell_row r = record {
+  number = value r.number;
+  port = option_map port_name r.port;
+  function = r.function;
+  control = option_map control r.control;
+}

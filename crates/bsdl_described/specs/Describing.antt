@@ -1,14 +1,20 @@
 -- What a description gives as a whole: each attribute's value is that of its first giving.
-use Rattle.std.specs.Prelude.{ℕ, ◌==◌, Bool, true, false, is_some, if◌then◌else◌, List, [], ◌∷◌, ◌++◌, map, filter, Option, Some, None, Result, Ok, Err, bytes_eq, codes}
+use Rattle.std.specs.Prelude.{ℕ, ◌==◌, Bool, true, false, is_some, if◌then◌else◌, List, [], ◌∷◌, ◌++◌, map, filter}
+use Rattle.std.specs.Prelude.{Option, Some, None, Result, Ok, Err, bytes_eq, codes}
 use Rattle.std.specs.List.{list_any, find}
 use Rattle.bsdl_lex.specs.Cutting.{Lexeme}
 use Rattle.bsdl_text.specs.Words.{upper, same_name}
 use Rattle.bsdl_entity.specs.declared.Attribute.{Attribute}
-use Rattle.bsdl_entity.specs.declared.Attribute.TheVariants.{TapScanIn, TapScanOut, TapScanMode, TapScanClock, TapScanReset, InstructionLength, BoundaryLength, InstructionOpcode, InstructionCapture, BoundaryRegister, IdcodeRegister, UsercodeRegister, InstructionPrivate, RegisterAccess}
+use Rattle.bsdl_entity.specs.declared.Attribute.TheVariants.{TapScanIn, TapScanOut, TapScanMode, TapScanClock}
+use Rattle.bsdl_entity.specs.declared.Attribute.TheVariants.{TapScanReset, InstructionLength, BoundaryLength}
+use Rattle.bsdl_entity.specs.declared.Attribute.TheVariants.{InstructionOpcode, InstructionCapture, BoundaryRegister}
+use Rattle.bsdl_entity.specs.declared.Attribute.TheVariants.{IdcodeRegister, UsercodeRegister, InstructionPrivate}
+use Rattle.bsdl_entity.specs.declared.Attribute.TheVariants.{RegisterAccess}
 use Rattle.bsdl_device.specs.Device.{Name, Pattern}
 use Rattle.bsdl_instructions.specs.Values.{OpcodeRow, Instr, AccessRow}
 use Rattle.bsdl_cells.specs.Rows.{CellRow}
-use Rattle.bsdl_entity.specs.Entity.{File, Port, Given, Value, port, count, pattern_value, codes_value, names_value, opcodes_value, accesses_value, cells_value}
+use Rattle.bsdl_entity.specs.Entity.{File, Port, Given, Value, port, count, pattern_value, codes_value, names_value}
+use Rattle.bsdl_entity.specs.Entity.{opcodes_value, accesses_value, cells_value}
 use Rattle.bsdl_entity.specs.Attributes.{attribute_word}
 
 -- why a description is refused; a place is counted in bytes from 0
@@ -97,8 +103,8 @@ need a (Some x) = Ok x
 -- the standard's instructions
 abbrev pub standard_names : List Name
 standard_names =
-    codes "BYPASS" ∷ codes "EXTEST" ∷ codes "SAMPLE" ∷ codes "PRELOAD" ∷ codes "IDCODE" ∷ codes "USERCODE" ∷ codes "CLAMP" ∷ codes "HIGHZ" ∷ codes "INTEST"
-    ∷ codes "RUNBIST" ∷ []
+    codes "BYPASS" ∷ codes "EXTEST" ∷ codes "SAMPLE" ∷ codes "PRELOAD" ∷ codes "IDCODE" ∷ codes "USERCODE"
+    ∷ codes "CLAMP" ∷ codes "HIGHZ" ∷ codes "INTEST" ∷ codes "RUNBIST" ∷ []
 
 abbrev pub is_among : List Name → Name → Bool
 is_among names name = list_any (bytes_eq name) names
@@ -108,7 +114,9 @@ has_opcode rows name = list_any (λ r. same_name r.name.text name) rows
 
 -- an instruction of the device's own: it has an opcode, and is neither the standard's nor private
 abbrev pub is_own : List OpcodeRow → List Name → Instr → Bool
-is_own rows private i = if has_opcode rows i.name.text then (if is_among standard_names (upper i.name.text) then false else if is_among private (upper i.name.text) then false else true) else false
+is_own rows private i =
+    if has_opcode rows i.name.text then (if is_among standard_names (upper i.name.text) then false
+    else if is_among private (upper i.name.text) then false else true) else false
 
 -- the own instructions of each row; a row without any is left out
 abbrev pub with_own : AccessRow → List Instr → List AccessRow → List AccessRow
@@ -130,10 +138,15 @@ described f =
     let accesses = as_accesses (v RegisterAccess) in
     let private = as_names (v InstructionPrivate) in
     let trst = as_port (v TapScanReset) in
-    need TapScanIn (as_port (v TapScanIn)) >>? λ tdi. need TapScanOut (as_port (v TapScanOut)) >>? λ tdo. need TapScanMode (as_port (v TapScanMode)) >>? λ tms.
-    need TapScanClock (as_port (v TapScanClock)) >>? λ tck. need InstructionLength (as_count (v InstructionLength)) >>? λ len.
-    need BoundaryLength (as_count (v BoundaryLength)) >>? λ cells_len. need InstructionOpcode (as_opcodes (v InstructionOpcode)) >>? λ opcodes.
-    need InstructionCapture (as_pattern (v InstructionCapture)) >>? λ capture. need BoundaryRegister (as_cells (v BoundaryRegister)) >>? λ cells.
+    need TapScanIn (as_port (v TapScanIn)) >>? λ tdi.
+    need TapScanOut (as_port (v TapScanOut)) >>? λ tdo.
+    need TapScanMode (as_port (v TapScanMode)) >>? λ tms.
+    need TapScanClock (as_port (v TapScanClock)) >>? λ tck.
+    need InstructionLength (as_count (v InstructionLength)) >>? λ len.
+    need BoundaryLength (as_count (v BoundaryLength)) >>? λ cells_len.
+    need InstructionOpcode (as_opcodes (v InstructionOpcode)) >>? λ opcodes.
+    need InstructionCapture (as_pattern (v InstructionCapture)) >>? λ capture.
+    need BoundaryRegister (as_cells (v BoundaryRegister)) >>? λ cells.
     Ok (record {
       ports = f.ports;
       given = f.given;

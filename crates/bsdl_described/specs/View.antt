@@ -14,7 +14,8 @@ use Rattle.bsdl_described.specs.declared.description.Description as declared_des
 use Rattle.bsdl_described.specs.Describing.{Refusal, missing, Description, and_reset}
 
 abbrev pub taps : Taps → List Name
-taps t = upper t.input.text.now ∷ upper t.output.text.now ∷ upper t.mode.text.now ∷ and_reset (upper t.clock.text.now) (option_map (λ w. upper w.text.now) t.reset)
+taps t = upper t.input.text.now ∷ upper t.output.text.now ∷ upper t.mode.text.now ∷ and_reset (upper t.clock.text.now)
+    (option_map (λ w. upper w.text.now) t.reset)
 
 abbrev pub description : Outline → declared_description.Description → Description
 description o d = record {
@@ -36,6 +37,7 @@ description o d = record {
 }
 
 -- what was found of an entity is what is described of it
-abbrev pub Describes : Outline → Result declared_description.Description Attribute → Result Description Refusal → Type 0
+abbrev pub Describes : Outline → Result declared_description.Description Attribute → Result Description Refusal
+    → Type 0
 Describes o (Ok d) says = says ≡ Ok (description o d)
 Describes o (Err a) says = says ≡ Err (missing a)

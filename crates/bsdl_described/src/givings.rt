@@ -54,7 +54,8 @@ fn is_attribute(one: Attribute, other: Attribute) -> bool
 
 /// What the first giving of an attribute says.
 pub fn value_given<'o, 't>(given: &'o [Given<'t>], attribute: Attribute) -> Option<&'o Value<'t>>
-    ensures { option_map {U = entity.Value} (λ v. value_view v.now) result ≡ spec.value_given attribute (map given_view given.now) }
+    ensures { option_map {U = entity.Value} (λ v. value_view v.now) result
+        ≡ spec.value_given attribute (map given_view given.now) }
 {
     for giving in given {
         if is_attribute(attribute, giving.attribute) {
@@ -66,7 +67,8 @@ pub fn value_given<'o, 't>(given: &'o [Given<'t>], attribute: Attribute) -> Opti
 
 /// The port of the TAP that an attribute names.
 pub fn port_given<'t>(given: &[Given<'t>], attribute: Attribute) -> Option<Word<'t>>
-    ensures { option_map (λ w. upper w.text.now) result ≡ spec.as_port (spec.value_given attribute (map given_view given.now)) }
+    ensures { option_map (λ w. upper w.text.now) result
+        ≡ spec.as_port (spec.value_given attribute (map given_view given.now)) }
 {
     match value_given(given, attribute) {
         Some(Value::Port(name)) => Some(*name),
@@ -99,7 +101,9 @@ pub fn opcodes_given<'a>(
     alloc: Global,
     given: &'a [Given<'_>],
 ) -> Result<Option<(usize, Vec<OpcodeRow<'a>>)>, AllocError>
-    ensures { IfOk result (λ o. option_map {U = ℕ × List rows.OpcodeRow} (λ p. (p.0, map rows_view.opcode_row p.1.items)) o ≡ spec.as_opcodes (spec.value_given Attribute.InstructionOpcode (map given_view given.now))) }
+    ensures { IfOk result (λ o. option_map {U = ℕ × List rows.OpcodeRow}
+        (λ p. (p.0, map rows_view.opcode_row p.1.items)) o
+        ≡ spec.as_opcodes (spec.value_given Attribute.InstructionOpcode (map given_view given.now))) }
 {
     match value_given(given, Attribute::InstructionOpcode) {
         Some(Value::Text(quoted)) => match quoted.language {
@@ -118,7 +122,8 @@ pub fn cells_given<'a>(
     alloc: Global,
     given: &'a [Given<'_>],
 ) -> Result<Option<Vec<CellRow<'a>>>, AllocError>
-    ensures { IfOk result (λ o. option_map {U = List cell_rows.CellRow} (λ v. map cells_view.cell_row v.items) o ≡ spec.as_cells (spec.value_given Attribute.BoundaryRegister (map given_view given.now))) }
+    ensures { IfOk result (λ o. option_map {U = List cell_rows.CellRow} (λ v. map cells_view.cell_row v.items) o
+        ≡ spec.as_cells (spec.value_given Attribute.BoundaryRegister (map given_view given.now))) }
 {
     match value_given(given, Attribute::BoundaryRegister) {
         Some(Value::Text(quoted)) => match quoted.language {
@@ -135,7 +140,8 @@ pub fn codes_given(
     given: &[Given<'_>],
     attribute: Attribute,
 ) -> Result<Vec<WrittenPattern>, AllocError>
-    ensures { IfOk result (λ v. map rows_view.pattern v.items ≡ spec.as_codes (spec.value_given attribute (map given_view given.now))) }
+    ensures { IfOk result (λ v. map rows_view.pattern v.items
+        ≡ spec.as_codes (spec.value_given attribute (map given_view given.now))) }
 {
     match value_given(given, attribute) {
         Some(Value::Text(quoted)) => match quoted.language {
@@ -151,7 +157,8 @@ pub fn private_names_given<'a>(
     alloc: Global,
     given: &'a [Given<'_>],
 ) -> Result<Vec<PrivateName<'a>>, AllocError>
-    ensures { IfOk result (λ v. map rows_view.private_name v.items ≡ spec.as_names (spec.value_given Attribute.InstructionPrivate (map given_view given.now))) }
+    ensures { IfOk result (λ v. map rows_view.private_name v.items
+        ≡ spec.as_names (spec.value_given Attribute.InstructionPrivate (map given_view given.now))) }
 {
     match value_given(given, Attribute::InstructionPrivate) {
         Some(Value::Text(quoted)) => match quoted.language {
@@ -167,7 +174,8 @@ pub fn accesses_given<'a>(
     alloc: Global,
     given: &'a [Given<'_>],
 ) -> Result<(usize, Vec<AccessRow<'a>>), AllocError>
-    ensures { IfOk result (λ p. (p.0, map rows_view.access_row p.1.items) ≡ spec.as_accesses (spec.value_given Attribute.RegisterAccess (map given_view given.now))) }
+    ensures { IfOk result (λ p. (p.0, map rows_view.access_row p.1.items)
+        ≡ spec.as_accesses (spec.value_given Attribute.RegisterAccess (map given_view given.now))) }
 {
     match value_given(given, Attribute::RegisterAccess) {
         Some(Value::Text(quoted)) => match quoted.language {
@@ -186,7 +194,8 @@ pub fn capture_given(
     alloc: Global,
     given: &[Given<'_>],
 ) -> Result<Option<WrittenPattern>, AllocError>
-    ensures { IfOk result (λ o. option_map rows_view.pattern o ≡ spec.as_pattern (spec.value_given Attribute.InstructionCapture (map given_view given.now))) }
+    ensures { IfOk result (λ o. option_map rows_view.pattern o
+        ≡ spec.as_pattern (spec.value_given Attribute.InstructionCapture (map given_view given.now))) }
 {
     match value_given(given, Attribute::InstructionCapture) {
         Some(Value::Text(quoted)) => match quoted.language {

@@ -29,7 +29,8 @@ const STANDARD: [(&[u8], bool); 10] = [
 
 /// The names of the instructions that have an opcode, in upper case.
 fn opcode_names(alloc: Global, rows: &[OpcodeRow<'_>]) -> Result<BTreeSet<String>, AllocError>
-    ensures { IfOk result (λ s. (q : List ℕ) → contains_text s q ≡ opcode_named (map rows_view.opcode_row rows.now) q) }
+    ensures { IfOk result (λ s. (q : List ℕ) → contains_text s q
+        ≡ opcode_named (map rows_view.opcode_row rows.now) q) }
 {
     let mut names = BTreeSet::new(alloc);
     for row in rows {
@@ -40,7 +41,8 @@ fn opcode_names(alloc: Global, rows: &[OpcodeRow<'_>]) -> Result<BTreeSet<String
 
 /// The names of the private instructions, in upper case.
 fn private_names(alloc: Global, names: &[PrivateName<'_>]) -> Result<BTreeSet<String>, AllocError>
-    ensures { IfOk result (λ s. (q : List ℕ) → contains_text s q ≡ private_named (map rows_view.private_name names.now) q) }
+    ensures { IfOk result (λ s. (q : List ℕ) → contains_text s q
+        ≡ private_named (map rows_view.private_name names.now) q) }
 {
     let mut private = BTreeSet::new(alloc);
     for found in names {
@@ -50,7 +52,8 @@ fn private_names(alloc: Global, names: &[PrivateName<'_>]) -> Result<BTreeSet<St
 }
 
 fn add_name(alloc: Global, names: &mut BTreeSet<String>, name: Word<'_>) -> Result<(), AllocError>
-    ensures { OnOk result ((q : List ℕ) → contains_text names.new q ≡ contains_or (contains_text names.old q) (is_equal (upper name.entry.text.now) q)) }
+    ensures { OnOk result ((q : List ℕ) → contains_text names.new q
+        ≡ contains_or (contains_text names.old q) (is_equal (upper name.entry.text.now) q)) }
 {
     let key = name.upper_name(alloc)?;
     names.insert(key)?;
@@ -96,7 +99,8 @@ fn own_instrs<'a>(
     private: &BTreeSet<String>,
     instrs: Vec<Instr<'a>>,
 ) -> Result<Vec<Instr<'a>>, AllocError>
-    ensures { IfOk result (λ v. map rows_view.instr v.items ≡ filter (λ i. is_own_by with_opcode.now private.now i.name.text) (map rows_view.instr instrs.entry.items)) }
+    ensures { IfOk result (λ v. map rows_view.instr v.items
+        ≡ filter (λ i. is_own_by with_opcode.now private.now i.name.text) (map rows_view.instr instrs.entry.items)) }
 {
     let mut own = Vec::new(alloc);
     for instr in instrs {
@@ -114,7 +118,9 @@ pub fn own_accesses<'a>(
     private: &[PrivateName<'a>],
     rows: Vec<AccessRow<'a>>,
 ) -> Result<Vec<AccessRow<'a>>, AllocError>
-    ensures { IfOk result (λ v. map rows_view.access_row v.items ≡ spec.own_accesses (spec.is_own (map rows_view.opcode_row opcodes.now) (map rows_view.private_name private.now)) (map rows_view.access_row rows.entry.items)) }
+    ensures { IfOk result (λ v. map rows_view.access_row v.items
+        ≡ spec.own_accesses (spec.is_own (map rows_view.opcode_row opcodes.now)
+        (map rows_view.private_name private.now)) (map rows_view.access_row rows.entry.items)) }
 {
     let with_opcode = opcode_names(alloc, opcodes)?;
     let private = private_names(alloc, private)?;
@@ -127,7 +133,9 @@ fn own_rows<'a>(
     private: &BTreeSet<String>,
     rows: Vec<AccessRow<'a>>,
 ) -> Result<Vec<AccessRow<'a>>, AllocError>
-    ensures { IfOk result (λ v. map rows_view.access_row v.items ≡ spec.own_accesses (λ i. is_own_by with_opcode.now private.now i.name.text) (map rows_view.access_row rows.entry.items)) }
+    ensures { IfOk result (λ v. map rows_view.access_row v.items
+        ≡ spec.own_accesses (λ i. is_own_by with_opcode.now private.now i.name.text)
+        (map rows_view.access_row rows.entry.items)) }
 {
     let mut own = Vec::new(alloc);
     for row in rows {

@@ -1,5 +1,5 @@
--- Every register that an instruction can select has at least one bit, and so has what it captures (IEEE Std 1149.1-2001,
--- clauses 7 to 12, ask for that and more of every component).
+-- Every register that an instruction can select has at least one bit, and so has what it captures (IEEE Std
+-- 1149.1-2001, clauses 7 to 12, ask for that and more of every component).
 use Rattle.std.specs.Prelude.{Bool, ℕ, zero, suc, ◌<◌, List, [], ◌∷◌, length, Option, Some, None}
 use Rattle.std.specs.List.{AllByRecursion}
 use Rattle.bsdl_device.specs.declared.Place.{Place}
@@ -27,8 +27,8 @@ IsSoundAt users AtDeviceId captures = Unit {0}
 abbrev pub IsSoundAccess : List ℕ → Access → Type 0
 IsSoundAccess users a = IsSoundAt users a.place a.captures
 
--- A description in which every register and every capture has at least one bit. IEEE Std 1149.1-2001 asks for more: two
--- bits of instruction (clause 7) and codes of 32 (clause 12).
+-- A description in which every register and every capture has at least one bit. IEEE Std 1149.1-2001 asks for more:
+-- two bits of instruction (clause 7) and codes of 32 (clause 12).
 pub record IsSoundDevice (d : Device) : Type 0 where
   pub instruction : 0 < d.instruction_length
   pub capture : 0 < length d.capture

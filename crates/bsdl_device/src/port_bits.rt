@@ -1,5 +1,6 @@
 //! The ports of a device, bit by bit.
-ghost use Rattle.std.specs.Prelude.{◌≡◌, ◌+◌, ◌++◌, ◌<◌, ◌^◌, [], length, map, option_map, slice_get, string_bytes, IfOk, IfSome, OnOk};
+ghost use Rattle.std.specs.Prelude.{◌≡◌, ◌+◌, ◌++◌, ◌<◌, ◌^◌, [], length, map, option_map, slice_get, string_bytes};
+ghost use Rattle.std.specs.Prelude.{IfOk, IfSome, OnOk};
 ghost use Rattle.std.specs.List.{AllByRecursion};
 ghost use Rattle.std.specs.Str.{str_eq_ignore_ascii_case};
 ghost use Rattle.bsdl_device.specs.Ports.{bits_of, bit_number, is_bit, same_index};
@@ -76,7 +77,8 @@ impl Ports {
     /// These ports and another behind them: one bit, or one for each of its indices.
     pub fn with(mut self, port: Port, indices: Option<Indices>) -> Result<Ports, AllocError>
         requires { IfSome indices (λ i. i.low + i.len < 2 ^ 64) }
-        ensures { IfOk result (λ p. p ≡ self ++ bits_of (string_bytes port.name) port.mode port.is_tap (option_map pair indices)) }
+        ensures { IfOk result (λ p. p ≡ self ++ bits_of (string_bytes port.name) port.mode port.is_tap
+            (option_map pair indices)) }
     {
         let place = self.ports.len();
         self.ports.push(port)?;

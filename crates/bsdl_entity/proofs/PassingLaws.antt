@@ -1,8 +1,8 @@
 -- Tokens that are passed over, one token more.
-use Rattle.std.proofs.Common.{◌≡◌, ℕ, ◌+◌, ◌-◌, ◌≢◌, zero, suc, pred, Bool, true, false, List, [], ◌∷◌, refl, sym, ap, ◌∙◌, None, arith}
+use Rattle.std.proofs.Common.{◌≡◌, ℕ, ◌+◌, ◌-◌, ◌≢◌, zero, suc, true, false, List, [], ◌∷◌, refl, sym, ap, ◌∙◌, None, arith}
 use Rattle.std.proofs.lemmas.Bool.Decides.{nat_tests}
 use Rattle.bsdl_lex.specs.Cutting.{Lexeme}
-use Rattle.bsdl_text.specs.Reading.{Read, fits, misfit, stands}
+use Rattle.bsdl_text.specs.Reading.{fits, misfit, stands}
 use Rattle.bsdl_entity.specs.Entity.{past_closing, past_semi}
 
 pub semi_here : (ts : List Lexeme) (t : Lexeme) (rest : List Lexeme) → ts ≡ t ∷ rest → stands 59 ts ≡ true → past_semi ts ≡ fits true rest

@@ -5,14 +5,13 @@ use Rattle.std.proofs.lemmas.Slice.Eq.{bytes_eq-Decides}
 use Rattle.std.proofs.Common.{String, Global}
 use Rattle.std.specs.BTreeMap.{BTreeMap, get_by_text}
 use Rattle.std.proofs.Math.Path.{fun_ext}
-use Rattle.bsdl_lex.specs.Cutting.{Lexeme}
 use Rattle.bsdl_text.specs.Words.{upper}
 use Rattle.bsdl_text.specs.WordView.{word_lexeme}
 use Rattle.bsdl_text.specs.declared.names.Word.{Word}
 use Rattle.bsdl_device.specs.declared.PortMode.{PortMode}
 use Rattle.bsdl_entity.specs.declared.ports.Range as declared_range
 use Rattle.bsdl_entity.specs.declared.ports.Group.{Group}
-use Rattle.bsdl_entity.specs.Entity.{Port, Range, concat, is_single, is_scalar}
+use Rattle.bsdl_entity.specs.Entity.{Port, Range, is_single, is_scalar}
 use Rattle.bsdl_entity.specs.Scalars.{first_scalar, is_true, or_first, scalar_at, tells}
 use Rattle.bsdl_entity.specs.View as view
 

@@ -2,7 +2,11 @@
 use Rattle.std.specs.Prelude.{ℕ, List, [], ◌∷◌, codes, map, Option}
 use Rattle.bsdl_text.specs.Words.{stands_for}
 use Rattle.bsdl_entity.specs.declared.Attribute.{Attribute}
-use Rattle.bsdl_entity.specs.declared.Attribute.TheVariants.{TapScanIn, TapScanOut, TapScanMode, TapScanClock, TapScanReset, InstructionLength, BoundaryLength, InstructionOpcode, InstructionCapture, BoundaryRegister, IdcodeRegister, UsercodeRegister, InstructionPrivate, RegisterAccess}
+use Rattle.bsdl_entity.specs.declared.Attribute.TheVariants.{TapScanIn, TapScanOut, TapScanMode, TapScanClock}
+use Rattle.bsdl_entity.specs.declared.Attribute.TheVariants.{TapScanReset, InstructionLength, BoundaryLength}
+use Rattle.bsdl_entity.specs.declared.Attribute.TheVariants.{InstructionOpcode, InstructionCapture, BoundaryRegister}
+use Rattle.bsdl_entity.specs.declared.Attribute.TheVariants.{IdcodeRegister, UsercodeRegister, InstructionPrivate}
+use Rattle.bsdl_entity.specs.declared.Attribute.TheVariants.{RegisterAccess}
 
 abbrev pub attribute_word : Attribute → List ℕ
 attribute_word TapScanIn = codes "TAP_SCAN_IN"
@@ -22,8 +26,9 @@ attribute_word RegisterAccess = codes "REGISTER_ACCESS"
 
 abbrev pub attributes : List Attribute
 attributes =
-    TapScanIn ∷ TapScanOut ∷ TapScanMode ∷ TapScanClock ∷ TapScanReset ∷ InstructionLength ∷ BoundaryLength ∷ InstructionOpcode ∷ InstructionCapture
-    ∷ BoundaryRegister ∷ IdcodeRegister ∷ UsercodeRegister ∷ InstructionPrivate ∷ RegisterAccess ∷ []
+    TapScanIn ∷ TapScanOut ∷ TapScanMode ∷ TapScanClock ∷ TapScanReset ∷ InstructionLength ∷ BoundaryLength
+    ∷ InstructionOpcode ∷ InstructionCapture ∷ BoundaryRegister ∷ IdcodeRegister ∷ UsercodeRegister
+    ∷ InstructionPrivate ∷ RegisterAccess ∷ []
 
 -- the attribute that a word names, in any case
 unfoldable pub attribute_of : List ℕ → Option Attribute

@@ -1,19 +1,28 @@
--- The outer form of a description: the entity's ports and attributes in order (IEEE Std 1149.1-2001, Annex B.8.1 to B.8.8).
-use Rattle.std.specs.Prelude.{ℕ, zero, suc, pred, nat_le, ◌==◌, Bool, true, false, ◌&&◌, not, is_none, min, max, if◌then◌else◌, List, [], ◌∷◌, ◌++◌, map, length, drop, codes, Option, Some, None}
+-- The outer form of a description: the entity's ports and attributes in order (IEEE Std 1149.1-2001, Annex B.8.1 to
+-- B.8.8).
+use Rattle.std.specs.Prelude.{ℕ, zero, suc, pred, nat_le, ◌==◌, Bool, true, false, ◌&&◌, not, min, max}
+use Rattle.std.specs.Prelude.{if◌then◌else◌, List, [], ◌∷◌, ◌++◌, map, length, drop, codes, Option, Some, None}
 use Rattle.std.specs.List.{find}
 use Rattle.bsdl_lex.specs.Cutting.{Lexeme}
 use Rattle.bsdl_text.specs.Words.{upper, same_name}
-use Rattle.bsdl_text.specs.Reading.{Read, fits, misfit, ◌>>=◌, refused_at, meant, word, joined_text, mark, is_mark_of, stands, is_over, keyword, number, joined_by, listed, quoted_value}
+use Rattle.bsdl_text.specs.Reading.{Read, fits, misfit, ◌>>=◌, refused_at, meant, word, joined_text, mark, is_mark_of}
+use Rattle.bsdl_text.specs.Reading.{stands, keyword, number, joined_by, listed, quoted_value}
 use Rattle.bsdl_entity.specs.declared.values.Language.{Language}
-use Rattle.bsdl_entity.specs.declared.values.Language.TheVariants.{Opcodes, Capture, Cells, Codes, PrivateNames, Accesses}
+use Rattle.bsdl_entity.specs.declared.values.Language.TheVariants.{Opcodes, Capture, Cells, Codes, PrivateNames}
+use Rattle.bsdl_entity.specs.declared.values.Language.TheVariants.{Accesses}
 use Rattle.bsdl_entity.specs.declared.Attribute.{Attribute}
-use Rattle.bsdl_entity.specs.declared.Attribute.TheVariants.{TapScanIn, TapScanOut, TapScanMode, TapScanClock, TapScanReset, InstructionLength, BoundaryLength, InstructionOpcode, InstructionCapture, BoundaryRegister, IdcodeRegister, UsercodeRegister, InstructionPrivate, RegisterAccess}
+use Rattle.bsdl_entity.specs.declared.Attribute.TheVariants.{TapScanIn, TapScanOut, TapScanMode, TapScanClock}
+use Rattle.bsdl_entity.specs.declared.Attribute.TheVariants.{TapScanReset, InstructionLength, BoundaryLength}
+use Rattle.bsdl_entity.specs.declared.Attribute.TheVariants.{InstructionOpcode, InstructionCapture, BoundaryRegister}
+use Rattle.bsdl_entity.specs.declared.Attribute.TheVariants.{IdcodeRegister, UsercodeRegister, InstructionPrivate}
+use Rattle.bsdl_entity.specs.declared.Attribute.TheVariants.{RegisterAccess}
 use Rattle.bsdl_device.specs.declared.PortMode.{PortMode}
 use Rattle.bsdl_device.specs.Device.{Name, Pattern}
 use Rattle.bsdl_entity.specs.Attributes.{attribute_of}
 use Rattle.bsdl_entity.specs.Keywords.{is_word, mode_of, is_vector, is_rising, truth_of}
 use Rattle.bsdl_text.specs.Marks.{comma, opening, closing, semi, colon}
-use Rattle.bsdl_instructions.specs.Values.{begins, rows, pattern, OpcodeRow, opcode_row, private_name, AccessRow, access_row}
+use Rattle.bsdl_instructions.specs.Values.{begins, rows, pattern, OpcodeRow, opcode_row, private_name, AccessRow}
+use Rattle.bsdl_instructions.specs.Values.{access_row}
 use Rattle.bsdl_cells.specs.Rows.{CellRow, cell_row}
 
 abbrev pub this_word : List ℕ → List Lexeme → Read Bool
@@ -33,7 +42,8 @@ pub record Port : Type 0 where
 -- two numbers as a range, where they run this way
 abbrev pub in_order : ℕ → ℕ → Bool → Option Range
 in_order first second rising =
-    if (if rising then nat_le first second else nat_le second first) then Some (record { low = min first second; high = max first second }) else None
+    if (if rising then nat_le first second else nat_le second first)
+    then Some (record { low = min first second; high = max first second }) else None
 
 abbrev pub ordered : Option Range → List Lexeme → List Lexeme → Read Range
 ordered None ts rest = refused_at ts
@@ -46,7 +56,8 @@ upto first rising ts = number ts >>= λ second rest. ordered (in_order first sec
 -- `( int to int )`, `( int downto int )`
 abbrev pub range : List Lexeme → Read (Option Range)
 range ts =
-    mark opening ts >>= λ m a. number a >>= λ first b. keyword is_rising b >>= λ rising c. upto first rising c >>= λ r d. mark closing d >>= λ k e. fits (Some r) e
+    mark opening ts >>= λ m a. number a >>= λ first b. keyword is_rising b >>= λ rising c. upto first rising c >>=
+    λ r d. mark closing d >>= λ k e. fits (Some r) e
 
 -- `bit`, or `bit_vector` and its range
 abbrev pub kind_of_port : List Lexeme → Read (Option Range)
@@ -55,7 +66,8 @@ kind_of_port ts = keyword is_vector ts >>= λ vector a. if vector then range a e
 -- name {, name} : mode kind
 abbrev pub port_group : List Lexeme → Read (List Port)
 port_group ts =
-    joined_by word comma ts >>= λ names a. mark colon a >>= λ m b. keyword mode_of b >>= λ mode c. kind_of_port c >>= λ r d.
+    joined_by word comma ts >>= λ names a. mark colon a >>= λ m b. keyword mode_of b >>= λ mode c. kind_of_port c >>=
+    λ r d.
     fits (map (λ n. record { name = n; mode = mode; range = r }) names) d
 
 abbrev pub concat : {A : Type 0} → List (List A) → List A
@@ -65,7 +77,8 @@ concat (xs ∷ xss) = xs ++ concat xss
 -- port ( group {; group} [;] ) ;
 abbrev pub ports : List Lexeme → Read (List Port)
 ports ts =
-    this_word (codes "PORT") ts >>= λ p a. mark opening a >>= λ m b. listed port_group semi (stands closing) b >>= λ groups c. mark closing c >>= λ k d.
+    this_word (codes "PORT") ts >>= λ p a. mark opening a >>= λ m b. listed port_group semi (stands closing) b >>=
+    λ groups c. mark closing c >>= λ k d.
     mark semi d >>= λ s e. fits (concat groups) e
 
 -- a declared port that is a single bit
@@ -186,7 +199,8 @@ value_behind a name ts = this_word (codes "IS") ts >>= λ i f. value_of a name f
 abbrev pub attribute_form : (List ℕ → Bool) → Lexeme → Attribute → List Lexeme → Read (Option Given)
 attribute_form is_port name a ts =
     this_word (codes "OF") ts >>= λ k b. owner is_port a b >>= λ n c. mark colon c >>= λ m d. word d >>= λ class e.
-    value_behind a (upper n.text) e >>= λ v g. mark semi g >>= λ s h. fits (said (record { name = name; attribute = a; value = v }) v) h
+    value_behind a (upper n.text) e >>= λ v g. mark semi g >>=
+    λ s h. fits (said (record { name = name; attribute = a; value = v }) v) h
 
 abbrev pub nothing : Read Bool → Read (Option Given)
 nothing r = r >>= λ b rest. fits None rest
@@ -201,7 +215,8 @@ abbrev pub item : (List ℕ → Bool) → List Lexeme → Read (Option Given)
 item is_port ts =
     if begins (codes "USE") ts then nothing (past_semi (drop 1 ts))
     else if begins (codes "CONSTANT") ts then nothing (past_semi (drop 1 ts))
-    else this_word (codes "ATTRIBUTE") ts >>= λ k a. word a >>= λ name b. attribute is_port name (attribute_of name.text) b
+    else this_word (codes "ATTRIBUTE") ts >>= λ k a. word a >>=
+    λ name b. attribute is_port name (attribute_of name.text) b
 
 -- what says something
 abbrev pub and_given : Option Given → List Given → List Given
@@ -222,7 +237,9 @@ pub record File : Type 0 where
   pub given : List Given
 
 abbrev pub generic : List Lexeme → Read Bool
-generic ts = if begins (codes "GENERIC") ts then (brackets (drop 1 ts) >>= λ b a. mark semi a >>= λ s c. fits true c) else fits true ts
+generic ts =
+    if begins (codes "GENERIC") ts then (brackets (drop 1 ts) >>= λ b a. mark semi a >>= λ s c. fits true c)
+    else fits true ts
 
 -- a word, if one stands there
 abbrev pub any_word : List Lexeme → Read Bool
@@ -236,10 +253,13 @@ end_of_text [] = fits true []
 end_of_text (t ∷ ts) = misfit (Some t.start)
 
 abbrev pub ending : List Lexeme → Read Bool
-ending ts = this_word (codes "END") ts >>= λ k a. any_word a >>= λ v b. any_word b >>= λ w c. mark semi c >>= λ s d. end_of_text d
+ending ts =
+    this_word (codes "END") ts >>= λ k a. any_word a >>= λ v b. any_word b >>= λ w c. mark semi c >>=
+    λ s d. end_of_text d
 
 -- entity name is [generic] port {item} end [word] [word] ;
 abbrev pub file : List Lexeme → Read File
 file ts =
-    this_word (codes "ENTITY") ts >>= λ k a. word a >>= λ name b. this_word (codes "IS") b >>= λ i c. generic c >>= λ g d. ports d >>= λ ps e.
+    this_word (codes "ENTITY") ts >>= λ k a. word a >>= λ name b. this_word (codes "IS") b >>= λ i c. generic c >>=
+    λ g d. ports d >>= λ ps e.
     items (is_scalar ps) (length e) e >>= λ gs f. ending f >>= λ o h. fits (record { ports = ps; given = gs }) h

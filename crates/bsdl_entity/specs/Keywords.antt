@@ -9,7 +9,9 @@ abbrev pub is_word : List ℕ → List ℕ → Option Bool
 is_word word text = stands_for ((word, true) ∷ []) text
 
 abbrev pub mode_of : List ℕ → Option PortMode
-mode_of text = stands_for ((codes "IN", In) ∷ (codes "OUT", Out) ∷ (codes "INOUT", InOut) ∷ (codes "BUFFER", Buffer) ∷ (codes "LINKAGE", Linkage) ∷ []) text
+mode_of text =
+    stands_for ((codes "IN", In) ∷ (codes "OUT", Out) ∷ (codes "INOUT", InOut) ∷ (codes "BUFFER", Buffer) ∷
+    (codes "LINKAGE", Linkage) ∷ []) text
 
 -- whether a port is one of several bits
 abbrev pub is_vector : List ℕ → Option Bool

@@ -1,5 +1,5 @@
 -- What the parts of an entity of the code stand for.
-use Rattle.std.specs.Prelude.{ℕ, Bool, List, [], map, Option, option_map, unwrap_or, is_some}
+use Rattle.std.specs.Prelude.{ℕ, Bool, List, [], map, option_map, unwrap_or, is_some}
 use Rattle.bsdl_text.specs.Reading.{quoted_value}
 use Rattle.bsdl_text.specs.Words.{upper}
 use Rattle.bsdl_text.specs.View.{value as number_value}
@@ -9,18 +9,21 @@ use Rattle.bsdl_cells.specs.Rows.{cell_row}
 use Rattle.bsdl_entity.specs.declared.ports.Range as declared_range
 use Rattle.bsdl_entity.specs.declared.ports.Group as declared_group
 use Rattle.bsdl_entity.specs.declared.values.Language.{Language}
-use Rattle.bsdl_entity.specs.declared.values.Language.TheVariants.{Opcodes, Capture, Cells, Codes, PrivateNames, Accesses}
+use Rattle.bsdl_entity.specs.declared.values.Language.TheVariants.{Opcodes, Capture, Cells, Codes, PrivateNames}
+use Rattle.bsdl_entity.specs.declared.values.Language.TheVariants.{Accesses}
 use Rattle.bsdl_entity.specs.declared.values.Quoted as declared_quoted
 use Rattle.bsdl_entity.specs.declared.values.Value as declared_value
 use Rattle.bsdl_entity.specs.declared.values.Value.TheVariants as said
-use Rattle.bsdl_entity.specs.Entity.{Range, Port, concat, Value, port, absent, count, pattern_value, codes_value, names_value, opcodes_value, accesses_value, cells_value}
+use Rattle.bsdl_entity.specs.Entity.{Range, Port, concat, Value, port, absent, count, pattern_value, codes_value}
+use Rattle.bsdl_entity.specs.Entity.{names_value, opcodes_value, accesses_value, cells_value}
 
 abbrev pub range : declared_range.Range → Range
 range r = record { low = number_value r.low; high = number_value r.high }
 
 -- each name of a group is a port
 abbrev pub group : declared_group.Group → List Port
-group g = map (λ n. record { name = n; mode = g.mode; range = option_map range g.range }) (map word_lexeme g.names.items)
+group g = map (λ n. record { name = n; mode = g.mode; range = option_map range g.range })
+    (map word_lexeme g.names.items)
 
 abbrev pub ports : List declared_group.Group → List Port
 ports groups = concat (map group groups)

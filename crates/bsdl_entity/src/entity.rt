@@ -92,7 +92,8 @@ fn attributes<'a>(
     groups: &[Group<'a>],
     lexer: Lexer<'a>,
 ) -> Result<(Vec<Given<'a>>, Lexer<'a>), Stop>
-    ensures gives { Gives (λ v. map given v.items) result (spec.items (spec.is_scalar (ports groups.now)) (length (left lexer.entry)) (left lexer.entry)) }
+    ensures gives { Gives (λ v. map given v.items) result
+        (spec.items (spec.is_scalar (ports groups.now)) (length (left lexer.entry)) (left lexer.entry)) }
 {
     match scalars_of(alloc, groups) {
         Ok(scalars) => items(alloc, &scalars, lexer),

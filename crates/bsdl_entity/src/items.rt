@@ -73,7 +73,8 @@ fn attribute_form<'a>(
     attribute: Attribute,
     lexer: Lexer<'a>,
 ) -> Result<(Option<Given<'a>>, Lexer<'a>), Stop>
-    ensures gives { Gives (option_map given_view.given) result (spec.attribute_form (tells scalars.now) (word_lexeme name.entry) attribute (left lexer.entry)) }
+    ensures gives { Gives (option_map given_view.given) result
+        (spec.attribute_form (tells scalars.now) (word_lexeme name.entry) attribute (left lexer.entry)) }
     ensures shorter { IfOk result (λ p. length (left p.1) < length (left lexer.entry)) }
 {
     let (_of, rest) = keyword(lexer, &OF)?;
@@ -92,7 +93,8 @@ fn value_behind<'a>(
     owner: Word<'a>,
     lexer: Lexer<'a>,
 ) -> Result<(Value<'a>, Lexer<'a>), Stop>
-    ensures gives { Gives value_view result (spec.value_behind attribute (upper owner.entry.text.now) (left lexer.entry)) }
+    ensures gives { Gives value_view result (spec.value_behind attribute (upper owner.entry.text.now)
+        (left lexer.entry)) }
     ensures shorter { IfOk result (λ p. length (left p.1) < length (left lexer.entry)) }
 {
     let (_is, rest) = keyword(lexer, &IS)?;
@@ -101,7 +103,9 @@ fn value_behind<'a>(
 
 /// An attribute that says something.
 fn said<'a>(name: Word<'a>, attribute: Attribute, value: Value<'a>) -> Option<Given<'a>>
-    ensures { option_map given_view.given result ≡ spec.said (given_view.given (record { name = name.entry; attribute = attribute; value = value.entry })) (value_view value.entry) }
+    ensures { option_map given_view.given result ≡ spec.said
+        (given_view.given (record { name = name.entry; attribute = attribute; value = value.entry }))
+        (value_view value.entry) }
 {
     match value {
         Value::Absent => None,
@@ -120,7 +124,9 @@ fn attribute<'a>(
     name: Word<'a>,
     lexer: Lexer<'a>,
 ) -> Result<(Option<Given<'a>>, Lexer<'a>), Stop>
-    ensures gives { Gives (option_map given_view.given) result (spec.attribute (tells scalars.now) (word_lexeme name.entry) (attribute_of name.entry.text.now) (left lexer.entry)) }
+    ensures gives { Gives (option_map given_view.given) result
+        (spec.attribute (tells scalars.now) (word_lexeme name.entry) (attribute_of name.entry.text.now)
+        (left lexer.entry)) }
     ensures shorter { IfOk result (λ p. length (left p.1) < length (left lexer.entry)) }
 {
     match named(name.text) {
@@ -179,7 +185,8 @@ pub(crate) fn items<'a>(
     scalars: &BTreeMap<String, bool>,
     lexer: Lexer<'a>,
 ) -> Result<(Vec<Given<'a>>, Lexer<'a>), Stop>
-    ensures gives { Gives (λ v. map given_view.given v.items) result (spec.items (tells scalars.now) (length (left lexer.entry)) (left lexer.entry)) }
+    ensures gives { Gives (λ v. map given_view.given v.items) result
+        (spec.items (tells scalars.now) (length (left lexer.entry)) (left lexer.entry)) }
     ensures no_longer { IfOk result (λ p. length (left p.1) ≤ length (left lexer.entry)) }
 {
     let mut all = Vec::new(alloc);

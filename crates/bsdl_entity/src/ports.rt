@@ -11,7 +11,7 @@ ghost use Rattle.bsdl_entity.specs.View as view;
 use crate::keywords::{DIRECTIONS, KINDS, MODES, PORT};
 use bsdl_device::PortMode;
 use bsdl_lex::Lexer;
-use bsdl_text::lists::{Entry, listed};
+use bsdl_text::lists::{Entry, listed, room_for_one};
 use bsdl_text::names::Word;
 use bsdl_text::numbers::Digits;
 use bsdl_text::reading::{Stop, keyword, mark, number, stands, word};
@@ -69,10 +69,11 @@ pub(crate) fn read_ports<'a>(
 
 /// Names with commas between them.
 fn names<'a>(alloc: Global, lexer: Lexer<'a>) -> Result<(Vec<Word<'a>>, Lexer<'a>), Stop>
-    ensures gives { Gives (λ v. map word_lexeme v.items) result (reading.joined_by reading.word 44 (left lexer.entry)) }
+    ensures gives { Gives (λ v. map word_lexeme v.items) result
+        (reading.joined_by reading.word 44 (left lexer.entry)) }
     ensures shorter { IfOk result (λ p. length (left p.1) < length (left lexer.entry)) }
 {
-    let mut all = Vec::new(alloc);
+    let mut all = room_for_one(alloc)?;
     let (first, behind) = match word(lexer) {
         Ok(read) => read,
         Err(stop) => return Err(stop),
@@ -145,7 +146,8 @@ fn up_to<'a>(
 
 /// The range of two numbers, where they run this way.
 fn in_order<'a>(first: Digits<'a>, second: Digits<'a>, is_rising: bool) -> Option<Range<'a>>
-    ensures { option_map view.range result ≡ spec.in_order (text_view.value first.entry) (text_view.value second.entry) is_rising }
+    ensures { option_map view.range result ≡ spec.in_order (text_view.value first.entry)
+        (text_view.value second.entry) is_rising }
 {
     match (first.compare(second), is_rising) {
         (Ordering::Less, false) | (Ordering::Greater, true) => None,

@@ -30,7 +30,8 @@ fn add_group(
     scalars: &mut BTreeMap<String, bool>,
     group: &Group<'_>,
 ) -> Result<(), AllocError>
-    ensures { OnOk result ((q : List ℕ) → get_by_text scalars.new q ≡ or_first (get_by_text scalars.old q) (first_scalar (view.group group.now) q)) }
+    ensures { OnOk result ((q : List ℕ) → get_by_text scalars.new q
+        ≡ or_first (get_by_text scalars.old q) (first_scalar (view.group group.now) q)) }
 {
     let is_scalar = group.range.is_none();
     for name in &group.names {
@@ -45,7 +46,8 @@ fn add_name(
     name: Word<'_>,
     is_scalar: bool,
 ) -> Result<(), AllocError>
-    ensures { OnOk result ((q : List ℕ) → get_by_text scalars.new q ≡ or_first (get_by_text scalars.old q) (scalar_at (upper name.entry.text.now) is_scalar q)) }
+    ensures { OnOk result ((q : List ℕ) → get_by_text scalars.new q
+        ≡ or_first (get_by_text scalars.old q) (scalar_at (upper name.entry.text.now) is_scalar q)) }
 {
     let key = name.upper_name(alloc)?;
     if scalars.contains_key(key.as_str()) {

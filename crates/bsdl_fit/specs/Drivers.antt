@@ -13,7 +13,8 @@ use Rattle.bsdl_fit.specs.View.{seat}
 
 -- what is kept of a port bit
 abbrev pub driver_at : declared_drivers.Drivers → Seat → Option ℕ
-driver_at d s = get (λ x y. ordering_then (nat_cmp x.0 y.0) (slice_cmp nat_cmp x.1.now y.1.now)) d.lowest (s.port, s.index.digits)
+driver_at d s =
+    get (λ x y. ordering_then (nat_cmp x.0 y.0) (slice_cmp nat_cmp x.1.now y.1.now)) d.lowest (s.port, s.index.digits)
 
 abbrev pub is_below : Option ℕ → ℕ → Bool
 is_below None n = false
@@ -24,4 +25,5 @@ same_place a b = a.port == b.port && bytes_eq a.index.digits.now b.index.digits.
 
 -- a row drives this port bit below a cell
 abbrev pub drives_below : List Port → Seat → ℕ → CellRow → Bool
-drives_below ps s n r = nat_lt r.number n && (drives r.function && same_seat (option_and_then (seat_of ps) r.port) (Some (seat s)))
+drives_below ps s n r =
+    nat_lt r.number n && (drives r.function && same_seat (option_and_then (seat_of ps) r.port) (Some (seat s)))

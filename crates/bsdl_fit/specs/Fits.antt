@@ -1,5 +1,6 @@
 -- Which boundary cells fit (IEEE Std 1149.1-2001, Annex B.8.14).
-use Rattle.std.specs.Prelude.{ℕ, suc, nat_lt, nat_le, ◌==◌, min, max, Bool, true, false, not, ◌&&◌, ◌||◌, is_some, is_none, if◌then◌else◌, List, filter, length, Option, Some, None, option_and_then}
+use Rattle.std.specs.Prelude.{ℕ, suc, nat_lt, nat_le, ◌==◌, min, max, Bool, true, false, not, ◌&&◌, ◌||◌, is_some}
+use Rattle.std.specs.Prelude.{is_none, if◌then◌else◌, List, filter, length, Option, Some, None, option_and_then}
 use Rattle.std.specs.List.{list_any, list_all, find, range_with_len, fold}
 use Rattle.bsdl_device.specs.declared.Function.{Function}
 use Rattle.bsdl_device.specs.declared.Function.TheVariants.{Bidir, Output2, Output3, Control, ControlR, Internal}
@@ -36,7 +37,8 @@ same_bit _ _ = false
 
 -- a cell of a lower number drives the port bit too
 abbrev pub is_driven_below : Description → CellRow → Bool
-is_driven_below d r = list_any (λ s. nat_lt s.number r.number && (drives s.function && same_bit (port_bit d s) (port_bit d r))) d.cells
+is_driven_below d r =
+    list_any (λ s. nat_lt s.number r.number && (drives s.function && same_bit (port_bit d s) (port_bit d r))) d.cells
 
 abbrev pub names_tap : Description → Option PortName → Bool
 names_tap d None = false
@@ -68,7 +70,9 @@ listed d k = filter (λ r. r.number == k) d.cells
 
 -- Cell k is fit: below the length it has one row, which fits; from the length on it has none.
 abbrev pub is_fit : Description → ℕ → Bool
-is_fit d k = if nat_lt k d.boundary_length then length (listed d k) == 1 && list_all (row_fits d) (listed d k) else length (listed d k) == 0
+is_fit d k =
+    if nat_lt k d.boundary_length then length (listed d k) == 1 && list_all (row_fits d) (listed d k)
+    else length (listed d k) == 0
 
 -- no cell from here on is below the length or listed
 abbrev pub cells_end : Description → ℕ

@@ -13,6 +13,7 @@ use Rattle.bsdl_fit.specs.View.{AreAt}
 
 pub record Holds (k : declared_known.Known) (d : Description) : Type 0 where
   pub places : AreAt k.places d.ports
-  pub drivers : (s : Seat) (n : ℕ) → n ≤ 65536 → is_below (driver_at k.drivers s) n ≡ list_any (drives_below d.ports s n) d.cells
+  pub drivers : (s : Seat) (n : ℕ) → n ≤ 65536 → is_below (driver_at k.drivers s) n
+      ≡ list_any (drives_below d.ports s n) d.cells
   pub controls : (n : ℕ) → n ≤ 65535 → contains_by (nat_cmp n) k.controls ≡ list_any (controls_as n) d.cells
   pub taps_are : taps k.taps ≡ d.taps

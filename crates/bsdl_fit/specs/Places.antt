@@ -1,5 +1,6 @@
 -- Ports by their names, and a port bit by its port and its index.
-use Rattle.std.specs.Prelude.{ℕ, suc, ◌==◌, Bool, false, ◌&&◌, if◌then◌else◌, List, [], ◌∷◌, Option, Some, None, option_map, option_and_then, unwrap_or, bytes_eq}
+use Rattle.std.specs.Prelude.{ℕ, suc, ◌==◌, Bool, false, ◌&&◌, if◌then◌else◌, List, [], ◌∷◌, Option, Some, None}
+use Rattle.std.specs.Prelude.{option_map, option_and_then, unwrap_or, bytes_eq}
 use Rattle.bsdl_text.specs.Words.{upper}
 use Rattle.bsdl_cells.specs.Rows.{PortName}
 use Rattle.bsdl_entity.specs.Entity.{Range, Port}

@@ -14,7 +14,8 @@ use std::collections::BTreeSet;
 
 /// The numbers of the cells that control others; numbers above 65,536 count as 65,536.
 pub fn controls_of(alloc: Global, rows: &[CellRow<'_>]) -> Result<BTreeSet<usize>, AllocError>
-    ensures { IfOk result (λ s. (n : ℕ) → n ≤ 65535 → contains_by (nat_cmp n) s ≡ list_any (controls_as n) (map cell_row rows.now)) }
+    ensures { IfOk result (λ s. (n : ℕ) → n ≤ 65535 → contains_by (nat_cmp n) s
+        ≡ list_any (controls_as n) (map cell_row rows.now)) }
 {
     let mut controls = BTreeSet::new(alloc);
     for row in rows {
@@ -24,7 +25,8 @@ pub fn controls_of(alloc: Global, rows: &[CellRow<'_>]) -> Result<BTreeSet<usize
 }
 
 fn add_row(controls: &mut BTreeSet<usize>, row: &CellRow<'_>) -> Result<(), AllocError>
-    ensures { OnOk result ((n : ℕ) → n ≤ 65535 → contains_by (nat_cmp n) controls.new ≡ contains_by (nat_cmp n) controls.old || controls_as n (cell_row row.now)) }
+    ensures { OnOk result ((n : ℕ) → n ≤ 65535 → contains_by (nat_cmp n) controls.new
+        ≡ contains_by (nat_cmp n) controls.old || controls_as n (cell_row row.now)) }
 {
     if is_control(row.function) {
         controls.insert(row.number.up_to(65_536))?;

@@ -40,7 +40,8 @@ pub fn drivers_of<'a>(
     places: &Places<'_>,
     rows: &[CellRow<'a>],
 ) -> Result<Drivers<'a>, AllocError>
-    ensures { IfOk result (λ d. (ps : List entity.Port) → AreAt places.now ps → (s : declared_seat.Seat) (n : ℕ) → n ≤ 65536 → is_below (driver_at d s) n ≡ list_any (drives_below ps s n) (map cell_row rows.now)) }
+    ensures { IfOk result (λ d. (ps : List entity.Port) → AreAt places.now ps → (s : declared_seat.Seat) (n : ℕ)
+        → n ≤ 65536 → is_below (driver_at d s) n ≡ list_any (drives_below ps s n) (map cell_row rows.now)) }
 {
     let mut drivers = Drivers {
         lowest: BTreeMap::new(alloc),
@@ -57,7 +58,9 @@ fn add_row<'a>(
     places: &Places<'_>,
     row: &CellRow<'a>,
 ) -> Result<(), AllocError>
-    ensures { OnOk result ((ps : List entity.Port) → AreAt places.now ps → (s : declared_seat.Seat) (n : ℕ) → n ≤ 65536 → is_below (driver_at drivers.new s) n ≡ is_below (driver_at drivers.old s) n || drives_below ps s n (cell_row row.now)) }
+    ensures { OnOk result ((ps : List entity.Port) → AreAt places.now ps → (s : declared_seat.Seat) (n : ℕ) → n ≤ 65536
+        → is_below (driver_at drivers.new s) n ≡ is_below (driver_at drivers.old s) n
+        || drives_below ps s n (cell_row row.now)) }
 {
     if !drives(row.function) {
         return Ok(());
@@ -79,7 +82,8 @@ fn add_driver<'a>(
     seat: Seat<'a>,
     number: usize,
 ) -> Result<(), AllocError>
-    ensures { OnOk result ((s : declared_seat.Seat) (n : ℕ) → is_below (driver_at drivers.new s) n ≡ is_below (driver_at drivers.old s) n || (same_place seat.entry s && nat_lt number n)) }
+    ensures { OnOk result ((s : declared_seat.Seat) (n : ℕ) → is_below (driver_at drivers.new s) n
+        ≡ is_below (driver_at drivers.old s) n || (same_place seat.entry s && nat_lt number n)) }
 {
     let lowest = drivers.lowest_with(seat, number);
     drivers

@@ -54,7 +54,8 @@ fn add_group<'a>(
     group: &Group<'a>,
 ) -> Result<(), AllocError>
     ensures next { OnOk result (places.new.next ≡ places.old.next + length (entity_view.group group.now)) }
-    ensures found { OnOk result ((q : List ℕ) → found places.new q ≡ spec.or_first (found places.old q) (spec.find_port places.old.next (entity_view.group group.now) q)) }
+    ensures found { OnOk result ((q : List ℕ) → found places.new q
+        ≡ spec.or_first (found places.old q) (spec.find_port places.old.next (entity_view.group group.now) q)) }
 {
     let range = trimmed(group.range);
     for name in &group.names {
@@ -83,7 +84,9 @@ fn add_name<'a>(
     range: Option<Range<'a>>,
 ) -> Result<(), AllocError>
     ensures next { OnOk result (places.new.next ≡ places.old.next + 1) }
-    ensures found { OnOk result ((q : List ℕ) → found places.new q ≡ spec.or_first (found places.old q) (spec.at_name (upper name.entry.text.now) (places.old.next, option_map entity_view.range range.entry) q)) }
+    ensures found { OnOk result ((q : List ℕ) → found places.new q
+        ≡ spec.or_first (found places.old q) (spec.at_name (upper name.entry.text.now)
+        (places.old.next, option_map entity_view.range range.entry) q)) }
 {
     let key = name.upper_name(alloc)?;
     let number = places.next;
@@ -100,14 +103,16 @@ pub fn seat_of<'a>(
     places: &Places<'_>,
     port: PortName<'a>,
 ) -> Result<Option<Seat<'a>>, AllocError>
-    ensures { IfOk result (λ o. (ps : List entity.Port) → AreAt places.now ps → option_map seat o ≡ spec.seat_of ps (port_name port.entry)) }
+    ensures { IfOk result (λ o. (ps : List entity.Port) → AreAt places.now ps → option_map seat o
+        ≡ spec.seat_of ps (port_name port.entry)) }
 {
     let key = port.name.upper_name(alloc)?;
     Ok(seat_named(places, key.as_str(), port.index))
 }
 
 fn seat_named<'a>(places: &Places<'_>, name: &str, index: Option<Digits<'a>>) -> Option<Seat<'a>>
-    ensures { option_map seat result ≡ option_and_then (spec.seat_at (option_map value index.entry)) (found places.now name.now) }
+    ensures { option_map seat result ≡ option_and_then (spec.seat_at (option_map value index.entry))
+        (found places.now name.now) }
 {
     match places.by_name.get(name) {
         Some(place) => seat_at(*place, index),
@@ -130,7 +135,8 @@ fn seat_at<'a>(place: Place<'_>, index: Option<Digits<'a>>) -> Option<Seat<'a>>
 
 fn seat_within<'a>(number: usize, range: Range<'_>, index: Digits<'a>) -> Option<Seat<'a>>
     requires { significant index.digits.now ≡ index.digits.now }
-    ensures { option_map seat result ≡ spec.seat_at (Some (value index.entry)) (number, Some (entity_view.range range.entry)) }
+    ensures { option_map seat result ≡ spec.seat_at (Some (value index.entry))
+        (number, Some (entity_view.range range.entry)) }
 {
     if range.low.compare(index) == Ordering::Greater {
         return None;

@@ -30,7 +30,8 @@ pub fn row_fits<'a>(
     number: usize,
 ) -> Result<bool, AllocError>
     requires { number ≤ 65535 }
-    ensures { IfOk result (λ b. (d : described.Description) → Holds known.now d → number ≡ value row.now.number → b ≡ spec.row_fits d (cells_view.cell_row row.now)) }
+    ensures { IfOk result (λ b. (d : described.Description) → Holds known.now d → number ≡ value row.now.number → b
+        ≡ spec.row_fits d (cells_view.cell_row row.now)) }
 {
     let port = port_fits(alloc, known, row, number)?;
     let control = control_fits(known, row.function, row.control, number);
@@ -45,7 +46,8 @@ fn port_fits<'a>(
     number: usize,
 ) -> Result<bool, AllocError>
     requires { number ≤ 65535 }
-    ensures { IfOk result (λ b. (d : described.Description) → Holds known.now d → number ≡ value row.now.number → b ≡ spec.port_fits d (cells_view.cell_row row.now)) }
+    ensures { IfOk result (λ b. (d : described.Description) → Holds known.now d → number ≡ value row.now.number → b
+        ≡ spec.port_fits d (cells_view.cell_row row.now)) }
 {
     if is_internal(row.function) {
         return Ok(row.port.is_none());
@@ -76,7 +78,8 @@ fn seat_fits<'a>(
     seat: Seat<'a>,
     number: usize,
 ) -> bool
-    ensures { result ≡ (not (described.is_among (taps_view known.now.taps) (upper port.entry.name.text.now)) && not (spec.drives function && is_below (driver_at known.now.drivers seat.entry) number)) }
+    ensures { result ≡ (not (described.is_among (taps_view known.now.taps) (upper port.entry.name.text.now))
+        && not (spec.drives function && is_below (driver_at known.now.drivers seat.entry) number)) }
 {
     !names_tap(&known.taps, port.name.text) && !drives_again(known, function, seat, number)
 }
@@ -104,7 +107,8 @@ pub fn names_tap(taps: &Taps<'_>, name: &[u8]) -> bool
 }
 
 fn names_reset(reset: Option<Word<'_>>, name: &[u8]) -> bool
-    ensures { result ≡ list_any (bytes_eq (upper name.now)) (option_to_list (option_map {U = List ℕ} (λ w. upper w.text.now) reset.entry)) }
+    ensures { result ≡ list_any (bytes_eq (upper name.now))
+        (option_to_list (option_map {U = List ℕ} (λ w. upper w.text.now) reset.entry)) }
 {
     match reset {
         Some(port) => same_name(name, port.text),
@@ -112,8 +116,8 @@ fn names_reset(reset: Option<Word<'_>>, name: &[u8]) -> bool
     }
 }
 
-/// Whether the control of a cell is there, where the function needs one, and is a control cell or, for output2, the cell
-/// itself.
+/// Whether the control of a cell is there, where the function needs one, and is a control cell or, for output2, the
+/// cell itself.
 fn control_fits(
     known: &Known<'_, '_>,
     function: Function,
@@ -121,7 +125,8 @@ fn control_fits(
     number: usize,
 ) -> bool
     requires { number ≤ 65535 }
-    ensures { (d : described.Description) → Holds known.now d → result ≡ spec.control_fits d number function (option_map cells_view.control control.entry) }
+    ensures { (d : described.Description) → Holds known.now d → result
+        ≡ spec.control_fits d number function (option_map cells_view.control control.entry) }
 {
     match function {
         Function::Output3 | Function::Bidir => match control {

@@ -24,7 +24,9 @@ impl Table {
 
     /// A row of this number more.
     pub fn put(&mut self, number: usize, fits: bool) -> Result<(), AllocError>
-        ensures { OnOk result ((n : ℕ) → get nat_cmp self.new.cells n ≡ (if number == n then spec.with_row (get nat_cmp self.old.cells n) fits else get nat_cmp self.old.cells n)) }
+        ensures { OnOk result ((n : ℕ) → get nat_cmp self.new.cells n
+            ≡ (if number == n then spec.with_row (get nat_cmp self.old.cells n) fits
+            else get nat_cmp self.old.cells n)) }
     {
         let alone = self.cells.get(&number).is_none();
         self.cells.insert(number, alone && fits)?;

@@ -19,8 +19,8 @@ use bsdl_described::description::Description;
 use bsdl_entity::entity::Outline;
 use std::alloc::{AllocError, Global};
 
-/// The least cell, of those up to 65,535, that is listed twice, missing or not below the length, or whose port, function or
-/// control does not fit.
+/// The least cell, of those up to 65,535, that is listed twice, missing or not below the length, or whose port,
+/// function or control does not fit.
 pub fn unfit_cell(
     alloc: Global,
     outline: &Outline<'_>,
@@ -41,7 +41,8 @@ fn table_of<'a>(
     known: &Known<'_, 'a>,
     rows: &[CellRow<'a>],
 ) -> Result<Table, AllocError>
-    ensures { IfOk result (λ t. (d : described.Description) → Holds known.now d → (n : ℕ) → n ≤ 65535 → get nat_cmp t.cells n ≡ cells.kept (spec.row_fits d) (map cell_row rows.now) n) }
+    ensures { IfOk result (λ t. (d : described.Description) → Holds known.now d → (n : ℕ) → n ≤ 65535
+        → get nat_cmp t.cells n ≡ cells.kept (spec.row_fits d) (map cell_row rows.now) n) }
 {
     let mut table = Table::new(alloc);
     for row in rows {
@@ -56,7 +57,10 @@ fn add_row<'a>(
     known: &Known<'_, 'a>,
     row: &CellRow<'a>,
 ) -> Result<(), AllocError>
-    ensures { OnOk result ((d : described.Description) → Holds known.now d → (n : ℕ) → n ≤ 65535 → get nat_cmp table.new.cells n ≡ (if value row.now.number == n then cells.with_row (get nat_cmp table.old.cells n) (spec.row_fits d (cell_row row.now)) else get nat_cmp table.old.cells n)) }
+    ensures { OnOk result ((d : described.Description) → Holds known.now d → (n : ℕ) → n ≤ 65535
+        → get nat_cmp table.new.cells n ≡ (if value row.now.number == n
+        then cells.with_row (get nat_cmp table.old.cells n) (spec.row_fits d (cell_row row.now))
+        else get nat_cmp table.old.cells n)) }
 {
     let number = row.number.up_to(65_536);
     if number > 65_535 {
@@ -80,7 +84,8 @@ fn cells_end(length: usize, rows: &[CellRow<'_>]) -> usize
 }
 
 fn first_unfit(table: &Table, length: usize, end: usize) -> Option<usize>
-    ensures { result ≡ find (λ n. not (cells.is_fit (nat_lt n length) (get nat_cmp table.now.cells n))) (range_with_len 0 end) }
+    ensures { result ≡ find (λ n. not (cells.is_fit (nat_lt n length) (get nat_cmp table.now.cells n)))
+        (range_with_len 0 end) }
 {
     for number in 0..end {
         if !table.is_fit(number, length) {

@@ -1,5 +1,6 @@
 -- What stands within the quotes of the attributes of instructions (IEEE Std 1149.1-2001, Annex B.8.9 to B.8.13).
-use Rattle.std.specs.Prelude.{ℕ, ◌==◌, Bool, true, false, ◌||◌, if◌then◌else◌, List, [], ◌∷◌, ◌++◌, map, reverse, drop, codes, Option, Some, None}
+use Rattle.std.specs.Prelude.{ℕ, ◌==◌, Bool, true, false, ◌||◌, if◌then◌else◌, List, [], ◌∷◌, ◌++◌, map, reverse, drop}
+use Rattle.std.specs.Prelude.{codes, Option, Some, None}
 use Rattle.std.specs.List.{list_all}
 use Rattle.bsdl_lex.specs.Cutting.{Lexeme}
 use Rattle.bsdl_text.specs.Words.{upper, same_name}
@@ -12,7 +13,8 @@ abbrev pub rows : {A : Type 0} → (List Lexeme → Read A) → List Lexeme → 
 rows item ts = listed item comma is_over ts
 
 abbrev pub bracketed : {A : Type 0} → (List Lexeme → Read A) → List Lexeme → Read (List A)
-bracketed item ts = mark opening ts >>= λ m a. listed item comma (stands closing) a >>= λ xs b. mark closing b >>= λ n c. fits xs c
+bracketed item ts =
+    mark opening ts >>= λ m a. listed item comma (stands closing) a >>= λ xs b. mark closing b >>= λ n c. fits xs c
 
 -- ---- patterns
 
@@ -77,7 +79,8 @@ instr ts =
 
 -- a register that is no register of the device's own
 abbrev pub is_public : List ℕ → Bool
-is_public name = same_name name (codes "BOUNDARY") || (same_name name (codes "BYPASS") || same_name name (codes "DEVICE_ID"))
+is_public name =
+    same_name name (codes "BOUNDARY") || (same_name name (codes "BYPASS") || same_name name (codes "DEVICE_ID"))
 
 -- `[n]`, which only a public register goes without
 abbrev pub register_len : Lexeme → List Lexeme → Read (Option ℕ)
@@ -88,4 +91,5 @@ register_len name ts =
 
 abbrev pub access_row : List Lexeme → Read AccessRow
 access_row ts =
-    word ts >>= λ r a. register_len r a >>= λ n b. bracketed instr b >>= λ is c. fits (record { register = upper r.text; len = n; instrs = is }) c
+    word ts >>= λ r a. register_len r a >>= λ n b. bracketed instr b >>=
+        λ is c. fits (record { register = upper r.text; len = n; instrs = is }) c

@@ -24,4 +24,5 @@ abbrev pub instr : declared_instr.Instr → Instr
 instr i = record { name = word_lexeme i.name; captures = option_map pattern i.captures }
 
 abbrev pub access_row : declared_access.AccessRow → AccessRow
-access_row r = record { register = upper r.register.text.now; len = option_map value r.len; instrs = map instr r.instrs.items }
+access_row r =
+    record { register = upper r.register.text.now; len = option_map value r.len; instrs = map instr r.instrs.items }

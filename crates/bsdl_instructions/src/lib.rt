@@ -1,5 +1,5 @@
-//! What stands within the quotes of the attributes of instructions (BSDL: IEEE Std 1149.1-2001, Annex B.8.9 to B.8.13):
-//! opcodes, patterns, names and registers.
+//! What stands within the quotes of the attributes of instructions (BSDL: IEEE Std 1149.1-2001, Annex B.8.9 to
+//! B.8.13): opcodes, patterns, names and registers.
 #![tactic(auto)]
 
 pub mod names;

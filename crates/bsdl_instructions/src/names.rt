@@ -122,7 +122,8 @@ fn register_len<'a>(
     name: Word<'a>,
     lexer: Lexer<'a>,
 ) -> Result<(Option<Digits<'a>>, Lexer<'a>), Stop>
-    ensures gives { Gives (option_map text_view.value) result (spec.register_len (word_lexeme name.entry) (left lexer.entry)) }
+    ensures gives { Gives (option_map text_view.value) result
+        (spec.register_len (word_lexeme name.entry) (left lexer.entry)) }
     ensures no_longer { IfOk result (λ p. length (left p.1) ≤ length (left lexer.entry)) }
 {
     if stands(lexer, b'[') {

@@ -1,5 +1,6 @@
 -- The lengths that are known of registers.
-use Rattle.std.specs.Prelude.{ℕ, ◌==◌, Bool, true, false, ◌&&◌, is_some, if◌then◌else◌, List, Option, Some, None, unwrap_or, bytes_eq}
+use Rattle.std.specs.Prelude.{ℕ, ◌==◌, Bool, true, false, ◌&&◌, is_some, if◌then◌else◌, List, Option, Some, None}
+use Rattle.std.specs.Prelude.{unwrap_or, bytes_eq}
 use Rattle.bsdl_instructions.specs.Values.{AccessRow}
 
 -- a row gives this register this length

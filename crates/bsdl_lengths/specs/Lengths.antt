@@ -1,5 +1,6 @@
 -- Lengths of registers and of patterns, and what captures end in (IEEE Std 1149.1-2001, Annex B.8.7 to B.8.13).
-use Rattle.std.specs.Prelude.{ℕ, nat_le, ◌==◌, Bool, true, false, not, ◌&&◌, is_some, if◌then◌else◌, List, [], ◌∷◌, length, Option, Some, None, unwrap_or, bytes_eq, codes}
+use Rattle.std.specs.Prelude.{ℕ, nat_le, ◌==◌, Bool, true, false, not, ◌&&◌, is_some, if◌then◌else◌, List, [], ◌∷◌}
+use Rattle.std.specs.Prelude.{length, Option, Some, None, unwrap_or, bytes_eq, codes}
 use Rattle.std.specs.List.{list_any, list_all}
 use Rattle.bsdl_device.specs.Device.{Pattern}
 use Rattle.bsdl_instructions.specs.Values.{Instr, AccessRow}
@@ -10,7 +11,9 @@ has_len n p = length p == n
 
 -- the length of the register of a row: its own, or the public register's, where the boundary register has this one
 abbrev pub row_len : ℕ → AccessRow → ℕ
-row_len boundary r = unwrap_or r.len (if bytes_eq r.register (codes "BOUNDARY") then boundary else if bytes_eq r.register (codes "BYPASS") then 1 else 32)
+row_len boundary r =
+    unwrap_or r.len (if bytes_eq r.register (codes "BOUNDARY") then boundary
+    else if bytes_eq r.register (codes "BYPASS") then 1 else 32)
 
 abbrev pub captured : Option Pattern → List Pattern
 captured None = []
@@ -28,7 +31,9 @@ access_fits boundary r = not (is_empty r) && list_all (captures_fit (row_len bou
 
 -- two rows give one register of the device's own two lengths
 abbrev pub differ : AccessRow → AccessRow → Bool
-differ a b = is_some a.len && (is_some b.len && (bytes_eq a.register b.register && not (unwrap_or a.len 0 == unwrap_or b.len 0)))
+differ a b =
+    is_some a.len && (is_some b.len && (bytes_eq a.register b.register
+    && not (unwrap_or a.len 0 == unwrap_or b.len 0)))
 
 abbrev pub agree : List AccessRow → Bool
 agree rows = list_all (λ r. not (list_any (differ r) rows)) rows
@@ -39,14 +44,18 @@ has_bits d = nat_le 2 d.instruction_length && nat_le 1 d.boundary_length
 
 -- opcodes and what is captured are as long as instructions
 abbrev pub instructions_fit : Description → Bool
-instructions_fit d = list_all (λ r. list_all (has_len d.instruction_length) r.patterns) d.opcodes && has_len d.instruction_length d.capture
+instructions_fit d =
+    list_all (λ r. list_all (has_len d.instruction_length) r.patterns) d.opcodes
+    && has_len d.instruction_length d.capture
 
 -- codes have 32 bits
 abbrev pub codes_fit : Description → Bool
 codes_fit d = list_all (has_len 32) d.idcodes && list_all (has_len 32) d.usercodes
 
 abbrev pub lengths_fit : Description → Bool
-lengths_fit d = has_bits d && (instructions_fit d && (codes_fit d && (list_all (access_fits d.boundary_length) d.accesses && agree d.accesses)))
+lengths_fit d =
+    has_bits d && (instructions_fit d && (codes_fit d
+    && (list_all (access_fits d.boundary_length) d.accesses && agree d.accesses)))
 
 -- ---- captures and codes, as written
 

@@ -33,8 +33,10 @@ fn put_row<'a>(
     lengths: &mut BTreeMap<String, Digits<'a>>,
     row: &AccessRow<'a>,
 ) -> Result<bool, AllocError>
-    ensures known { IfOk result (λ b. b ≡ is_new_row (λ q. option_map value (get_by_text lengths.old q)) (rows_view.access_row row.now)) }
-    ensures noted { OnOk result ((q : List ℕ) → option_map value (get_by_text lengths.new q) ≡ noted (λ p. option_map value (get_by_text lengths.old p)) (rows_view.access_row row.now) q) }
+    ensures known { IfOk result (λ b. b ≡ is_new_row (λ q. option_map value (get_by_text lengths.old q))
+        (rows_view.access_row row.now)) }
+    ensures noted { OnOk result ((q : List ℕ) → option_map value (get_by_text lengths.new q)
+        ≡ noted (λ p. option_map value (get_by_text lengths.old p)) (rows_view.access_row row.now) q) }
 {
     match row.len {
         Some(len) => put_len(alloc, lengths, row.register, len),
@@ -49,8 +51,10 @@ fn put_len<'a>(
     register: Word<'_>,
     len: Digits<'a>,
 ) -> Result<bool, AllocError>
-    ensures known { IfOk result (λ b. b ≡ is_new (option_map value (get_by_text lengths.old (upper register.entry.text.now))) (value len.entry)) }
-    ensures noted { OnOk result ((q : List ℕ) → get_by_text lengths.new q ≡ cond (bytes_eq (upper register.entry.text.now) q) (Some len.entry) (get_by_text lengths.old q)) }
+    ensures known { IfOk result (λ b. b ≡ is_new (option_map value
+        (get_by_text lengths.old (upper register.entry.text.now))) (value len.entry)) }
+    ensures noted { OnOk result ((q : List ℕ) → get_by_text lengths.new q
+        ≡ cond (bytes_eq (upper register.entry.text.now) q) (Some len.entry) (get_by_text lengths.old q)) }
 {
     let key = register.upper_name(alloc)?;
     match lengths.insert(key, len)? {

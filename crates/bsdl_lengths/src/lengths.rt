@@ -16,8 +16,8 @@ use bsdl_text::numbers::Digits;
 use bsdl_text::reading::same_name;
 use std::alloc::{AllocError, Global};
 
-/// Whether every length fits: instructions have two bits at least, the boundary register one, codes 32; patterns are as
-/// long as their registers, and a register of the device's own has one length.
+/// Whether every length fits: instructions have two bits at least, the boundary register one, codes 32; patterns are
+/// as long as their registers, and a register of the device's own has one length.
 pub fn lengths_fit(alloc: Global, described: &Description<'_>) -> Result<bool, AllocError>
     ensures { IfOk result (λ b. (o : Outline) → b ≡ spec.lengths_fit (description o described.now)) }
 {
@@ -91,7 +91,8 @@ fn opcodes_fit(rows: &[OpcodeRow<'_>], size: Option<usize>) -> bool
 }
 
 fn accesses_fit(rows: &[AccessRow<'_>], boundary: Option<usize>) -> bool
-    ensures { (n : ℕ) → IsSize boundary n → result ≡ list_all (spec.access_fits n) (map rows_view.access_row rows.now) }
+    ensures { (n : ℕ) → IsSize boundary n → result ≡ list_all (spec.access_fits n)
+        (map rows_view.access_row rows.now) }
 {
     for row in rows {
         if !access_fits(row, boundary) {

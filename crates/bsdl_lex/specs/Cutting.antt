@@ -1,12 +1,14 @@
--- A whole text, cut into tokens and gaps: a description (`quoted` is false), or what stands within quotes (true), where
--- `--` and `"` begin nothing of their own.
-use Rattle.std.specs.Prelude.{ℕ, zero, suc, ◌+◌, Bool, ◌==◌, if◌then◌else◌, List, [], ◌∷◌, take, slice_index, Option, Some, None}
+-- A whole text, cut into tokens and gaps: a description (`quoted` is false), or what stands within quotes (true),
+-- where `--` and `"` begin nothing of their own.
+use Rattle.std.specs.Prelude.{ℕ, zero, suc, ◌+◌, Bool, ◌==◌, if◌then◌else◌, List, [], ◌∷◌, take, slice_index, Option}
+use Rattle.std.specs.Prelude.{Some, None}
 use Rattle.std.specs.List.{prefix_len, position_or_len}
 use Rattle.bsdl_lex.specs.declared.Kind.{Kind}
 use Rattle.bsdl_lex.specs.declared.Kind.TheVariants as kind
 use Rattle.bsdl_lex.specs.declared.scan.Front.{Front}
 use Rattle.bsdl_lex.specs.declared.scan.Front.TheVariants.{Gap, Token, Bad}
-use Rattle.bsdl_lex.specs.Bytes.{is_white, is_line_end, begins_word, is_word, begins_number, is_number, is_mark, begins_comment, begins_string, is_within}
+use Rattle.bsdl_lex.specs.Bytes.{is_white, is_line_end, begins_word, is_word, begins_number, is_number, is_mark}
+use Rattle.bsdl_lex.specs.Bytes.{begins_comment, begins_string, is_within}
 
 -- a token: its kind, its bytes, and where they start in the text
 pub record Lexeme : Type 0 where
@@ -51,7 +53,8 @@ with_front Bad at c cs cuts = bad at ∷ []
 unfoldable pub cut : Bool → ℕ → ℕ → List ℕ → List Cut
 cut quoted skip at [] = []
 cut quoted (suc k) at (c ∷ cs) = cut quoted k (at + 1) cs
-cut quoted zero at (c ∷ cs) = with_front (front quoted c cs) at c cs (cut quoted (behind (front quoted c cs)) (at + 1) cs)
+cut quoted zero at (c ∷ cs) =
+    with_front (front quoted c cs) at c cs (cut quoted (behind (front quoted c cs)) (at + 1) cs)
 
 -- the tokens of a whole text
 abbrev pub cuts_of : Bool → List ℕ → List Cut

@@ -1,7 +1,7 @@
 //! The tokens of a device description (BSDL: IEEE Std 1149.1-2001, Annex B, whose lexical elements are VHDL's).
 //!
-//! A text is words, numbers, strings and marks, and gaps between them: white space, and comments from `--` to the line's
-//! end. What stands within the quotes of strings is cut in the same way, without comments and strings.
+//! A text is words, numbers, strings and marks, and gaps between them: white space, and comments from `--` to the
+//! line's end. What stands within the quotes of strings is cut in the same way, without comments and strings.
 #![tactic(auto)]
 
 ghost use Rattle.std.specs.Prelude.{◌≡◌, ◌≤◌, ◌<◌, ◌^◌, ◌∷◌, [], length, MatchOption, false, true};

@@ -45,8 +45,8 @@ pub(crate) fn first_token<'a>(
     None
 }
 
-/// The place of the first byte of a text that begins no token and no gap, as `#`, or as the quote of a string that is not
-/// closed on its line.
+/// The place of the first byte of a text that begins no token and no gap, as `#`, or as the quote of a string that is
+/// not closed on its line.
 pub fn bad_byte(source: &[u8], quoted: bool) -> Option<usize>
     ensures { result ≡ bad_place (cuts_of quoted source.now) }
 {

@@ -16,11 +16,14 @@ abbrev pub cells_within : Description → Bool
 cells_within d = nat_le d.boundary_length 4096 && list_all (λ r. nat_le r.number subscript_limit) d.cells
 
 abbrev pub ports_within : Description → Bool
-ports_within d = list_all (λ p. nat_le (highest p.range) subscript_limit) d.ports && nat_le (sum_by (λ p. width p.range) d.ports) 8192
+ports_within d =
+    list_all (λ p. nat_le (highest p.range) subscript_limit) d.ports
+    && nat_le (sum_by (λ p. width p.range) d.ports) 8192
 
 abbrev pub users_within : Description → Bool
 users_within d = nat_le (length (users_of d.accesses)) 64 && list_all (λ u. nat_le u.1 4096) (users_of d.accesses)
 
--- Instructions of 64 bits, 256 of them; 4,096 cells; 8,192 port bits; 64 registers of the device's own with 4,096 bits.
+-- Instructions of 64 bits, 256 of them; 4,096 cells; 8,192 port bits; 64 registers of the device's own with 4,096
+-- bits.
 abbrev pub is_within_limits : Description → Bool
 is_within_limits d = instructions_within d && (cells_within d && (ports_within d && users_within d))

@@ -1,5 +1,6 @@
 -- The bits of declared ports, by number (IEEE Std 1149.1-2001, Annex B.8.3).
-use Rattle.std.specs.Prelude.{ℕ, ◌+◌, ◌-◌, nat_le, ◌&&◌, if◌then◌else◌, List, [], ◌∷◌, Option, Some, None, option_map, bytes_eq}
+use Rattle.std.specs.Prelude.{ℕ, ◌+◌, ◌-◌, nat_le, ◌&&◌, if◌then◌else◌, List, [], ◌∷◌, Option, Some, None, option_map}
+use Rattle.std.specs.Prelude.{bytes_eq}
 use Rattle.bsdl_text.specs.Words.{upper}
 use Rattle.bsdl_cells.specs.Rows.{PortName}
 use Rattle.bsdl_entity.specs.Entity.{Range, Port}

@@ -1,5 +1,6 @@
 -- The registers of the device's own (IEEE Std 1149.1-2001, Annex B.8.13).
-use Rattle.std.specs.Prelude.{ℕ, suc, Bool, not, if◌then◌else◌, List, [], ◌∷◌, ◌++◌, filter, Option, Some, None, option_map, bytes_eq}
+use Rattle.std.specs.Prelude.{ℕ, suc, Bool, not, if◌then◌else◌, List, [], ◌∷◌, ◌++◌, filter, Option, Some, None}
+use Rattle.std.specs.Prelude.{option_map, bytes_eq}
 use Rattle.std.specs.List.{list_any}
 use Rattle.bsdl_device.specs.Device.{Name}
 use Rattle.bsdl_instructions.specs.Values.{AccessRow}

@@ -12,4 +12,5 @@ capped_width (Some r) = min r.high 65536 - min r.low 65536 + 1
 
 -- ports keep their limits
 abbrev pub ports_fit : List Port → Bool
-ports_fit ps = list_all (λ p. nat_le (highest p.range) subscript_limit) ps && nat_le (sum_by (λ p. width p.range) ps) 8192
+ports_fit ps =
+    list_all (λ p. nat_le (highest p.range) subscript_limit) ps && nat_le (sum_by (λ p. width p.range) ps) 8192

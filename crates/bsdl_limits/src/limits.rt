@@ -71,7 +71,8 @@ fn ports_within(groups: &[Group<'_>]) -> bool
 }
 
 fn few_bits(groups: &[Group<'_>]) -> bool
-    ensures { result ≡ (list_all (λ p. nat_le (highest p.range) spec.subscript_limit) (entity_view.ports groups.now) && nat_le (sum_by (λ p. capped_width p.range) (entity_view.ports groups.now)) 8192) }
+    ensures { result ≡ (list_all (λ p. nat_le (highest p.range) spec.subscript_limit) (entity_view.ports groups.now)
+        && nat_le (sum_by (λ p. capped_width p.range) (entity_view.ports groups.now)) 8192) }
 {
     highs_within(groups) && bit_count(groups) <= 8192
 }

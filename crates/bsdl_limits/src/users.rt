@@ -35,7 +35,8 @@ pub fn users_of<'a>(alloc: Global, rows: &[AccessRow<'a>]) -> Result<Users<'a>, 
 }
 
 fn add_row<'a>(alloc: Global, users: &mut Users<'a>, row: &AccessRow<'a>) -> Result<(), AllocError>
-    ensures { OnOk result ((us : List (Name × ℕ)) → Lists users.old us → Lists users.new (spec.with_row us (rows_view.access_row row.now))) }
+    ensures { OnOk result ((us : List (Name × ℕ)) → Lists users.old us
+        → Lists users.new (spec.with_row us (rows_view.access_row row.now))) }
 {
     match row.len {
         Some(len) => add_user(alloc, users, row.register, len),
@@ -49,7 +50,9 @@ fn add_user<'a>(
     register: Word<'a>,
     len: Digits<'a>,
 ) -> Result<(), AllocError>
-    ensures { OnOk result ((us : List (Name × ℕ)) → Lists users.old us → Lists users.new (if spec.is_user us (upper register.entry.text.now) then us else us ++ (upper register.entry.text.now, value len.entry) ∷ [])) }
+    ensures { OnOk result ((us : List (Name × ℕ)) → Lists users.old us
+        → Lists users.new (if spec.is_user us (upper register.entry.text.now) then us else us
+        ++ (upper register.entry.text.now, value len.entry) ∷ [])) }
 {
     let key = register.upper_name(alloc)?;
     if users.numbers.contains_key(key.as_str()) {

@@ -2,21 +2,36 @@
 use Rattle.std.specs.Prelude.{ℕ, true, false, List, [], ◌∷◌, codes, Some, None, Result, Ok, Err}
 use Rattle.bsdl_entity.specs.declared.Attribute.TheVariants.{TapScanClock}
 use Rattle.bsdl_device.specs.declared.PortMode.TheVariants.{In, Out, InOut, Buffer, Linkage}
-use Rattle.bsdl_device.specs.declared.Function.TheVariants.{Input, Clock, ObserveOnly, Bidir, Output2, Output3, Control, ControlR, Internal}
+use Rattle.bsdl_device.specs.declared.Function.TheVariants.{Input, Clock, ObserveOnly, Bidir, Output2, Output3}
+use Rattle.bsdl_device.specs.declared.Function.TheVariants.{Control, ControlR, Internal}
 use Rattle.bsdl_device.specs.declared.Disabled.TheVariants.{Z, Keeper, Weak0, Weak1, Pull0, Pull1}
 use Rattle.bsdl_device.specs.Device.{Device}
 use Rattle.bsdl_device.specs.declared.Place.TheVariants.{AtUser, AtBypass, AtBoundary, AtDeviceId}
-use Rattle.bsdl_described.specs.Describing.{Refusal, bad_token, bad_form, missing, twice, bad_length, bad_capture, bad_id, bad_cell, too_large}
+use Rattle.bsdl_described.specs.Describing.{Refusal, bad_token, bad_form, missing, twice, bad_length, bad_capture}
+use Rattle.bsdl_described.specs.Describing.{bad_id, bad_cell, too_large}
 
 abbrev pub k : Result Device Refusal
 k = Ok (record {
-  ports = (record { name = codes "TDI"; index = None; mode = In; is_tap = true } ∷ record { name = codes "TMS"; index = None; mode = In; is_tap = true } ∷ record { name = codes "TCK"; index = None; mode = In; is_tap = true } ∷ record { name = codes "TDO"; index = None; mode = Out; is_tap = true } ∷ record { name = codes "Q"; index = None; mode = Out; is_tap = false } ∷ record { name = codes "D"; index = None; mode = In; is_tap = false } ∷ []);
+  ports = (record { name = codes "TDI"; index = None; mode = In; is_tap = true }
+      ∷ record { name = codes "TMS"; index = None; mode = In; is_tap = true }
+      ∷ record { name = codes "TCK"; index = None; mode = In; is_tap = true }
+      ∷ record { name = codes "TDO"; index = None; mode = Out; is_tap = true }
+      ∷ record { name = codes "Q"; index = None; mode = Out; is_tap = false }
+      ∷ record { name = codes "D"; index = None; mode = In; is_tap = false } ∷ []);
   instruction_length = 2;
-  opcodes = (record { name = codes "BYPASS"; patterns = ((Some true ∷ Some true ∷ []) ∷ []) } ∷ record { name = codes "EXTEST"; patterns = ((Some false ∷ Some false ∷ []) ∷ []) } ∷ record { name = codes "SAMPLE"; patterns = ((Some true ∷ Some false ∷ []) ∷ []) } ∷ record { name = codes "IDCODE"; patterns = ((Some false ∷ Some true ∷ []) ∷ []) } ∷ []);
+  opcodes = (record { name = codes "BYPASS"; patterns = ((Some true ∷ Some true ∷ []) ∷ []) }
+      ∷ record { name = codes "EXTEST"; patterns = ((Some false ∷ Some false ∷ []) ∷ []) }
+      ∷ record { name = codes "SAMPLE"; patterns = ((Some true ∷ Some false ∷ []) ∷ []) }
+      ∷ record { name = codes "IDCODE"; patterns = ((Some false ∷ Some true ∷ []) ∷ []) } ∷ []);
   capture = (true ∷ false ∷ []);
-  idcode = (Some (true ∷ true ∷ true ∷ false ∷ false ∷ true ∷ true ∷ false ∷ true ∷ false ∷ true ∷ false ∷ false ∷ false ∷ true ∷ false ∷ true ∷ true ∷ false ∷ false ∷ false ∷ true ∷ false ∷ false ∷ true ∷ false ∷ false ∷ false ∷ false ∷ false ∷ false ∷ false ∷ []));
+  idcode = (Some (true ∷ true ∷ true ∷ false ∷ false ∷ true ∷ true ∷ false ∷ true ∷ false ∷ true ∷ false ∷ false
+      ∷ false ∷ true ∷ false ∷ true ∷ true ∷ false ∷ false ∷ false ∷ true ∷ false ∷ false ∷ true ∷ false ∷ false
+      ∷ false ∷ false ∷ false ∷ false ∷ false ∷ []));
   usercode = None;
-  cells = (record { function = Output3; port = (Some 4); control = (Some (record { cell = 1; disabling = false; leaves = Z })) } ∷ record { function = Control; port = None; control = None } ∷ record { function = Input; port = (Some 5); control = None } ∷ []);
+  cells = (record { function = Output3; port = (Some 4);
+        control = (Some (record { cell = 1; disabling = false; leaves = Z })) }
+      ∷ record { function = Control; port = None; control = None }
+      ∷ record { function = Input; port = (Some 5); control = None } ∷ []);
   private_names = ([]);
   accesses = ([]);
   users = ([]);
@@ -25,13 +40,26 @@ k = Ok (record {
 
 abbrev pub k_lower : Result Device Refusal
 k_lower = Ok (record {
-  ports = (record { name = codes "TDI"; index = None; mode = In; is_tap = true } ∷ record { name = codes "TMS"; index = None; mode = In; is_tap = true } ∷ record { name = codes "TCK"; index = None; mode = In; is_tap = true } ∷ record { name = codes "TDO"; index = None; mode = Out; is_tap = true } ∷ record { name = codes "Q"; index = None; mode = Out; is_tap = false } ∷ record { name = codes "D"; index = None; mode = In; is_tap = false } ∷ []);
+  ports = (record { name = codes "TDI"; index = None; mode = In; is_tap = true }
+      ∷ record { name = codes "TMS"; index = None; mode = In; is_tap = true }
+      ∷ record { name = codes "TCK"; index = None; mode = In; is_tap = true }
+      ∷ record { name = codes "TDO"; index = None; mode = Out; is_tap = true }
+      ∷ record { name = codes "Q"; index = None; mode = Out; is_tap = false }
+      ∷ record { name = codes "D"; index = None; mode = In; is_tap = false } ∷ []);
   instruction_length = 2;
-  opcodes = (record { name = codes "BYPASS"; patterns = ((Some true ∷ Some true ∷ []) ∷ []) } ∷ record { name = codes "EXTEST"; patterns = ((Some false ∷ Some false ∷ []) ∷ []) } ∷ record { name = codes "SAMPLE"; patterns = ((Some true ∷ Some false ∷ []) ∷ []) } ∷ record { name = codes "IDCODE"; patterns = ((Some false ∷ Some true ∷ []) ∷ []) } ∷ []);
+  opcodes = (record { name = codes "BYPASS"; patterns = ((Some true ∷ Some true ∷ []) ∷ []) }
+      ∷ record { name = codes "EXTEST"; patterns = ((Some false ∷ Some false ∷ []) ∷ []) }
+      ∷ record { name = codes "SAMPLE"; patterns = ((Some true ∷ Some false ∷ []) ∷ []) }
+      ∷ record { name = codes "IDCODE"; patterns = ((Some false ∷ Some true ∷ []) ∷ []) } ∷ []);
   capture = (true ∷ false ∷ []);
-  idcode = (Some (true ∷ true ∷ true ∷ false ∷ false ∷ true ∷ true ∷ false ∷ true ∷ false ∷ true ∷ false ∷ false ∷ false ∷ true ∷ false ∷ true ∷ true ∷ false ∷ false ∷ false ∷ true ∷ false ∷ false ∷ true ∷ false ∷ false ∷ false ∷ false ∷ false ∷ false ∷ false ∷ []));
+  idcode = (Some (true ∷ true ∷ true ∷ false ∷ false ∷ true ∷ true ∷ false ∷ true ∷ false ∷ true ∷ false ∷ false
+      ∷ false ∷ true ∷ false ∷ true ∷ true ∷ false ∷ false ∷ false ∷ true ∷ false ∷ false ∷ true ∷ false ∷ false
+      ∷ false ∷ false ∷ false ∷ false ∷ false ∷ []));
   usercode = None;
-  cells = (record { function = Output3; port = (Some 4); control = (Some (record { cell = 1; disabling = false; leaves = Z })) } ∷ record { function = Control; port = None; control = None } ∷ record { function = Input; port = (Some 5); control = None } ∷ []);
+  cells = (record { function = Output3; port = (Some 4);
+        control = (Some (record { cell = 1; disabling = false; leaves = Z })) }
+      ∷ record { function = Control; port = None; control = None }
+      ∷ record { function = Input; port = (Some 5); control = None } ∷ []);
   private_names = ([]);
   accesses = ([]);
   users = ([]);
@@ -40,13 +68,27 @@ k_lower = Ok (record {
 
 abbrev pub kt : Result Device Refusal
 kt = Ok (record {
-  ports = (record { name = codes "TDI"; index = None; mode = In; is_tap = true } ∷ record { name = codes "TMS"; index = None; mode = In; is_tap = true } ∷ record { name = codes "TCK"; index = None; mode = In; is_tap = true } ∷ record { name = codes "TDO"; index = None; mode = Out; is_tap = true } ∷ record { name = codes "Q"; index = None; mode = Out; is_tap = false } ∷ record { name = codes "D"; index = None; mode = In; is_tap = false } ∷ record { name = codes "TRST"; index = None; mode = In; is_tap = true } ∷ []);
+  ports = (record { name = codes "TDI"; index = None; mode = In; is_tap = true }
+      ∷ record { name = codes "TMS"; index = None; mode = In; is_tap = true }
+      ∷ record { name = codes "TCK"; index = None; mode = In; is_tap = true }
+      ∷ record { name = codes "TDO"; index = None; mode = Out; is_tap = true }
+      ∷ record { name = codes "Q"; index = None; mode = Out; is_tap = false }
+      ∷ record { name = codes "D"; index = None; mode = In; is_tap = false }
+      ∷ record { name = codes "TRST"; index = None; mode = In; is_tap = true } ∷ []);
   instruction_length = 2;
-  opcodes = (record { name = codes "BYPASS"; patterns = ((Some true ∷ Some true ∷ []) ∷ []) } ∷ record { name = codes "EXTEST"; patterns = ((Some false ∷ Some false ∷ []) ∷ []) } ∷ record { name = codes "SAMPLE"; patterns = ((Some true ∷ Some false ∷ []) ∷ []) } ∷ record { name = codes "IDCODE"; patterns = ((Some false ∷ Some true ∷ []) ∷ []) } ∷ []);
+  opcodes = (record { name = codes "BYPASS"; patterns = ((Some true ∷ Some true ∷ []) ∷ []) }
+      ∷ record { name = codes "EXTEST"; patterns = ((Some false ∷ Some false ∷ []) ∷ []) }
+      ∷ record { name = codes "SAMPLE"; patterns = ((Some true ∷ Some false ∷ []) ∷ []) }
+      ∷ record { name = codes "IDCODE"; patterns = ((Some false ∷ Some true ∷ []) ∷ []) } ∷ []);
   capture = (true ∷ false ∷ []);
-  idcode = (Some (true ∷ true ∷ true ∷ false ∷ false ∷ true ∷ true ∷ false ∷ true ∷ false ∷ true ∷ false ∷ false ∷ false ∷ true ∷ false ∷ true ∷ true ∷ false ∷ false ∷ false ∷ true ∷ false ∷ false ∷ true ∷ false ∷ false ∷ false ∷ false ∷ false ∷ false ∷ false ∷ []));
+  idcode = (Some (true ∷ true ∷ true ∷ false ∷ false ∷ true ∷ true ∷ false ∷ true ∷ false ∷ true ∷ false ∷ false
+      ∷ false ∷ true ∷ false ∷ true ∷ true ∷ false ∷ false ∷ false ∷ true ∷ false ∷ false ∷ true ∷ false ∷ false
+      ∷ false ∷ false ∷ false ∷ false ∷ false ∷ []));
   usercode = None;
-  cells = (record { function = Output3; port = (Some 4); control = (Some (record { cell = 1; disabling = false; leaves = Z })) } ∷ record { function = Control; port = None; control = None } ∷ record { function = Input; port = (Some 5); control = None } ∷ []);
+  cells = (record { function = Output3; port = (Some 4);
+        control = (Some (record { cell = 1; disabling = false; leaves = Z })) }
+      ∷ record { function = Control; port = None; control = None }
+      ∷ record { function = Input; port = (Some 5); control = None } ∷ []);
   private_names = ([]);
   accesses = ([]);
   users = ([]);
@@ -55,9 +97,13 @@ kt = Ok (record {
 
 abbrev pub p : Result Device Refusal
 p = Ok (record {
-  ports = (record { name = codes "TDI"; index = None; mode = In; is_tap = true } ∷ record { name = codes "TMS"; index = None; mode = In; is_tap = true } ∷ record { name = codes "TCK"; index = None; mode = In; is_tap = true } ∷ record { name = codes "TDO"; index = None; mode = Out; is_tap = true } ∷ []);
+  ports = (record { name = codes "TDI"; index = None; mode = In; is_tap = true }
+      ∷ record { name = codes "TMS"; index = None; mode = In; is_tap = true }
+      ∷ record { name = codes "TCK"; index = None; mode = In; is_tap = true }
+      ∷ record { name = codes "TDO"; index = None; mode = Out; is_tap = true } ∷ []);
   instruction_length = 2;
-  opcodes = (record { name = codes "BYPASS"; patterns = ((Some true ∷ Some true ∷ []) ∷ []) } ∷ record { name = codes "EXTEST"; patterns = ((Some false ∷ Some false ∷ []) ∷ []) } ∷ []);
+  opcodes = (record { name = codes "BYPASS"; patterns = ((Some true ∷ Some true ∷ []) ∷ []) }
+      ∷ record { name = codes "EXTEST"; patterns = ((Some false ∷ Some false ∷ []) ∷ []) } ∷ []);
   capture = (true ∷ false ∷ []);
   idcode = None;
   usercode = None;
@@ -70,13 +116,26 @@ p = Ok (record {
 
 abbrev pub ku : Result Device Refusal
 ku = Ok (record {
-  ports = (record { name = codes "TDI"; index = None; mode = In; is_tap = true } ∷ record { name = codes "TMS"; index = None; mode = In; is_tap = true } ∷ record { name = codes "TCK"; index = None; mode = In; is_tap = true } ∷ record { name = codes "TDO"; index = None; mode = Out; is_tap = true } ∷ record { name = codes "Q"; index = None; mode = Out; is_tap = false } ∷ record { name = codes "D"; index = None; mode = In; is_tap = false } ∷ []);
+  ports = (record { name = codes "TDI"; index = None; mode = In; is_tap = true }
+      ∷ record { name = codes "TMS"; index = None; mode = In; is_tap = true }
+      ∷ record { name = codes "TCK"; index = None; mode = In; is_tap = true }
+      ∷ record { name = codes "TDO"; index = None; mode = Out; is_tap = true }
+      ∷ record { name = codes "Q"; index = None; mode = Out; is_tap = false }
+      ∷ record { name = codes "D"; index = None; mode = In; is_tap = false } ∷ []);
   instruction_length = 2;
-  opcodes = (record { name = codes "BYPASS"; patterns = ((Some true ∷ Some true ∷ []) ∷ []) } ∷ record { name = codes "EXTEST"; patterns = ((Some false ∷ Some false ∷ []) ∷ []) } ∷ record { name = codes "LOAD"; patterns = ((Some true ∷ Some false ∷ []) ∷ []) } ∷ record { name = codes "IDCODE"; patterns = ((Some false ∷ Some true ∷ []) ∷ []) } ∷ []);
+  opcodes = (record { name = codes "BYPASS"; patterns = ((Some true ∷ Some true ∷ []) ∷ []) }
+      ∷ record { name = codes "EXTEST"; patterns = ((Some false ∷ Some false ∷ []) ∷ []) }
+      ∷ record { name = codes "LOAD"; patterns = ((Some true ∷ Some false ∷ []) ∷ []) }
+      ∷ record { name = codes "IDCODE"; patterns = ((Some false ∷ Some true ∷ []) ∷ []) } ∷ []);
   capture = (true ∷ false ∷ []);
-  idcode = (Some (true ∷ true ∷ true ∷ false ∷ false ∷ true ∷ true ∷ false ∷ true ∷ false ∷ true ∷ false ∷ false ∷ false ∷ true ∷ false ∷ true ∷ true ∷ false ∷ false ∷ false ∷ true ∷ false ∷ false ∷ true ∷ false ∷ false ∷ false ∷ false ∷ false ∷ false ∷ false ∷ []));
+  idcode = (Some (true ∷ true ∷ true ∷ false ∷ false ∷ true ∷ true ∷ false ∷ true ∷ false ∷ true ∷ false ∷ false
+      ∷ false ∷ true ∷ false ∷ true ∷ true ∷ false ∷ false ∷ false ∷ true ∷ false ∷ false ∷ true ∷ false ∷ false
+      ∷ false ∷ false ∷ false ∷ false ∷ false ∷ []));
   usercode = None;
-  cells = (record { function = Output3; port = (Some 4); control = (Some (record { cell = 1; disabling = false; leaves = Z })) } ∷ record { function = Control; port = None; control = None } ∷ record { function = Input; port = (Some 5); control = None } ∷ []);
+  cells = (record { function = Output3; port = (Some 4);
+        control = (Some (record { cell = 1; disabling = false; leaves = Z })) }
+      ∷ record { function = Control; port = None; control = None }
+      ∷ record { function = Input; port = (Some 5); control = None } ∷ []);
   private_names = ([]);
   accesses = (record { instruction = codes "LOAD"; place = AtUser 0; captures = None } ∷ []);
   users = (4 ∷ []);
@@ -85,15 +144,29 @@ ku = Ok (record {
 
 abbrev pub kuc : Result Device Refusal
 kuc = Ok (record {
-  ports = (record { name = codes "TDI"; index = None; mode = In; is_tap = true } ∷ record { name = codes "TMS"; index = None; mode = In; is_tap = true } ∷ record { name = codes "TCK"; index = None; mode = In; is_tap = true } ∷ record { name = codes "TDO"; index = None; mode = Out; is_tap = true } ∷ record { name = codes "Q"; index = None; mode = Out; is_tap = false } ∷ record { name = codes "D"; index = None; mode = In; is_tap = false } ∷ []);
+  ports = (record { name = codes "TDI"; index = None; mode = In; is_tap = true }
+      ∷ record { name = codes "TMS"; index = None; mode = In; is_tap = true }
+      ∷ record { name = codes "TCK"; index = None; mode = In; is_tap = true }
+      ∷ record { name = codes "TDO"; index = None; mode = Out; is_tap = true }
+      ∷ record { name = codes "Q"; index = None; mode = Out; is_tap = false }
+      ∷ record { name = codes "D"; index = None; mode = In; is_tap = false } ∷ []);
   instruction_length = 2;
-  opcodes = (record { name = codes "BYPASS"; patterns = ((Some true ∷ Some true ∷ []) ∷ []) } ∷ record { name = codes "EXTEST"; patterns = ((Some false ∷ Some false ∷ []) ∷ []) } ∷ record { name = codes "LOAD"; patterns = ((Some true ∷ Some false ∷ []) ∷ []) } ∷ record { name = codes "IDCODE"; patterns = ((Some false ∷ Some true ∷ []) ∷ []) } ∷ []);
+  opcodes = (record { name = codes "BYPASS"; patterns = ((Some true ∷ Some true ∷ []) ∷ []) }
+      ∷ record { name = codes "EXTEST"; patterns = ((Some false ∷ Some false ∷ []) ∷ []) }
+      ∷ record { name = codes "LOAD"; patterns = ((Some true ∷ Some false ∷ []) ∷ []) }
+      ∷ record { name = codes "IDCODE"; patterns = ((Some false ∷ Some true ∷ []) ∷ []) } ∷ []);
   capture = (true ∷ false ∷ []);
-  idcode = (Some (true ∷ true ∷ true ∷ false ∷ false ∷ true ∷ true ∷ false ∷ true ∷ false ∷ true ∷ false ∷ false ∷ false ∷ true ∷ false ∷ true ∷ true ∷ false ∷ false ∷ false ∷ true ∷ false ∷ false ∷ true ∷ false ∷ false ∷ false ∷ false ∷ false ∷ false ∷ false ∷ []));
+  idcode = (Some (true ∷ true ∷ true ∷ false ∷ false ∷ true ∷ true ∷ false ∷ true ∷ false ∷ true ∷ false ∷ false
+      ∷ false ∷ true ∷ false ∷ true ∷ true ∷ false ∷ false ∷ false ∷ true ∷ false ∷ false ∷ true ∷ false ∷ false
+      ∷ false ∷ false ∷ false ∷ false ∷ false ∷ []));
   usercode = None;
-  cells = (record { function = Output3; port = (Some 4); control = (Some (record { cell = 1; disabling = false; leaves = Z })) } ∷ record { function = Control; port = None; control = None } ∷ record { function = Input; port = (Some 5); control = None } ∷ []);
+  cells = (record { function = Output3; port = (Some 4);
+        control = (Some (record { cell = 1; disabling = false; leaves = Z })) }
+      ∷ record { function = Control; port = None; control = None }
+      ∷ record { function = Input; port = (Some 5); control = None } ∷ []);
   private_names = ([]);
-  accesses = (record { instruction = codes "LOAD"; place = AtUser 0; captures = (Some (true ∷ false ∷ true ∷ false ∷ [])) } ∷ []);
+  accesses = (record { instruction = codes "LOAD"; place = AtUser 0; captures =
+      (Some (true ∷ false ∷ true ∷ false ∷ [])) } ∷ []);
   users = (4 ∷ []);
   has_trst = false;
 })

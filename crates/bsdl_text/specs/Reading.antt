@@ -1,5 +1,6 @@
 -- Reading tokens from left to right: what fits, and the first token that does not.
-use Rattle.std.specs.Prelude.{ℕ, zero, suc, Bool, true, false, if◌then◌else◌, List, [], ◌∷◌, length, Option, Some, None, bytes_eq}
+use Rattle.std.specs.Prelude.{ℕ, zero, suc, Bool, true, false, if◌then◌else◌, List, [], ◌∷◌, length, Option, Some}
+use Rattle.std.specs.Prelude.{None, bytes_eq}
 use Rattle.std.specs.List.{list_all}
 use Rattle.std.specs.Char.{is_ascii_digit}
 use Rattle.std.specs.Str.Parse.{digits_value}
@@ -8,8 +9,8 @@ use Rattle.bsdl_lex.specs.declared.Kind.TheVariants as kind
 use Rattle.bsdl_lex.specs.Cutting.{Lexeme, tokens, bad_place, cuts_of}
 use Rattle.bsdl_text.specs.Words.{joined}
 
--- what is read at the front of tokens, and the tokens behind it; or where the first token that does not fit stands, which
--- is None at the end
+-- what is read at the front of tokens, and the tokens behind it; or where the first token that does not fit stands,
+-- which is None at the end
 pub data Read (A : Type 0) : Type 0 where
   fits : A → List Lexeme → Read A
   misfit : Option ℕ → Read A
@@ -87,15 +88,18 @@ unfoldable pub chain : {A : Type 0} → (List Lexeme → Read A) → (separator 
 chain item separator zero ts = fits [] ts
 chain item separator (suc n) ts =
     if stands separator ts
-    then (mark separator ts >>= λ m rest. item rest >>= λ x more. chain item separator n more >>= λ xs after. fits (x ∷ xs) after)
+    then (mark separator ts >>= λ m rest. item rest >>= λ x more. chain item separator n more >>=
+    λ xs after. fits (x ∷ xs) after)
     else fits [] ts
 
 -- `one {separator one}`
 abbrev pub joined_by : {A : Type 0} → (List Lexeme → Read A) → (separator : ℕ) → List Lexeme → Read (List A)
-joined_by item separator ts = item ts >>= λ x rest. chain item separator (length rest) rest >>= λ xs after. fits (x ∷ xs) after
+joined_by item separator ts =
+    item ts >>= λ x rest. chain item separator (length rest) rest >>= λ xs after. fits (x ∷ xs) after
 
 -- `{separator one} [separator]`, up to where the list closes
-unfoldable pub further : {A : Type 0} → (List Lexeme → Read A) → (separator : ℕ) → (closes : List Lexeme → Bool) → ℕ → List Lexeme → Read (List A)
+unfoldable pub further : {A : Type 0} → (List Lexeme → Read A) → (separator : ℕ) → (closes : List Lexeme → Bool) → ℕ
+    → List Lexeme → Read (List A)
 further item separator closes zero ts = if closes ts then fits [] ts else refused_at ts
 further item separator closes (suc n) ts =
     if closes ts then fits [] ts
@@ -104,8 +108,10 @@ further item separator closes (suc n) ts =
     else item rest >>= λ x more. further item separator closes n more >>= λ xs after. fits (x ∷ xs) after
 
 -- `one {separator one} [separator]`, up to where the list closes
-abbrev pub listed : {A : Type 0} → (List Lexeme → Read A) → (separator : ℕ) → (closes : List Lexeme → Bool) → List Lexeme → Read (List A)
-listed item separator closes ts = item ts >>= λ x rest. further item separator closes (length rest) rest >>= λ xs after. fits (x ∷ xs) after
+abbrev pub listed : {A : Type 0} → (List Lexeme → Read A) → (separator : ℕ) → (closes : List Lexeme → Bool)
+    → List Lexeme → Read (List A)
+listed item separator closes ts =
+    item ts >>= λ x rest. further item separator closes (length rest) rest >>= λ xs after. fits (x ∷ xs) after
 
 -- the text of a string, or of several joined by `&`
 abbrev pub joined_text : List Lexeme → Read (List ℕ)

@@ -1,5 +1,6 @@
 -- Words, in any case.
-use Rattle.std.specs.Prelude.{ℕ, Bool, List, [], ◌∷◌, map, length, take, drop, ◌-◌, Option, Some, None, if◌then◌else◌, bytes_eq}
+use Rattle.std.specs.Prelude.{ℕ, Bool, List, [], ◌∷◌, map, length, take, drop, ◌-◌, Option, Some, None, if◌then◌else◌}
+use Rattle.std.specs.Prelude.{bytes_eq}
 use Rattle.std.specs.List.{flat_map}
 use Rattle.std.specs.Char.{to_ascii_uppercase}
 use Rattle.bsdl_lex.specs.Cutting.{Lexeme}

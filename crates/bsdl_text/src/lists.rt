@@ -1,5 +1,5 @@
 //! Lists of entries with separators between them.
-ghost use Rattle.std.specs.Prelude.{◌≡◌, ◌<◌, List, length, map, IfOk};
+ghost use Rattle.std.specs.Prelude.{◌≡◌, ◌<◌, [], List, length, map, IfErr, IfOk};
 ghost use Rattle.bsdl_lex.specs.Cutting.{Lexeme};
 ghost use Rattle.bsdl_lex.specs.Left.{left};
 ghost use Rattle.bsdl_text.specs.Reading as spec;
@@ -25,6 +25,17 @@ pub trait Entry<'a>: Drop {
         ensures shorter { IfOk result (λ p. length (left p.1) < length (left lexer.entry)) };
 }
 
+/// An empty list with room for one: most lists within a list have one entry.
+pub fn room_for_one<T: Drop>(alloc: Global) -> Result<Vec<T>, Stop>
+    ensures stops { IfErr result (λ e. e ≡ Stop.Memory) }
+    ensures empty { IfOk result (λ v. v.items ≡ []) }
+{
+    match Vec::with_capacity(alloc, 1) {
+        Ok(all) => Ok(all),
+        Err(_) => Err(Stop::Memory),
+    }
+}
+
 /// Entries with a separator between them, which may stand behind the last one too, up to where the list closes.
 pub fn listed<'a, E: Entry<'a>>(
     alloc: Global,
@@ -32,10 +43,11 @@ pub fn listed<'a, E: Entry<'a>>(
     separator: u8,
     close: Option<u8>,
 ) -> Result<(Vec<E>, Lexer<'a>), Stop>
-    ensures gives { Gives (λ v. map E.seen v.items) result (spec.listed E.says separator (view.closes close) (left lexer.entry)) }
+    ensures gives { Gives (λ v. map E.seen v.items) result
+        (spec.listed E.says separator (view.closes close) (left lexer.entry)) }
     ensures shorter { IfOk result (λ p. length (left p.1) < length (left lexer.entry)) }
 {
-    let mut all = Vec::new(alloc);
+    let mut all = room_for_one(alloc)?;
     let (first, behind) = match E::read(alloc, lexer) {
         Ok(read) => read,
         Err(stop) => return Err(stop),

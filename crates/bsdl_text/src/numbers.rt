@@ -43,7 +43,8 @@ impl<'a> Digits<'a> {
 
     /// The number, where it is below 2^64.
     pub fn size(self) -> Option<usize>
-        ensures { SomeIff result (digits_value 10 self.entry.digits.now < 2 ^ 64) (digits_value 10 self.entry.digits.now) }
+        ensures { SomeIff result (digits_value 10 self.entry.digits.now < 2 ^ 64)
+            (digits_value 10 self.entry.digits.now) }
     {
         let value = up_to(self.digits, 1 << 64);
         if value < 1 << 64 {
@@ -119,7 +120,8 @@ fn compare_places(one: &[u8], other: &[u8]) -> Ordering
 fn digit_at(digits: &[u8], place: usize) -> u8
     requires { list_all is_ascii_digit digits.now ≡ true }
     ensures small { result ≤ 9 }
-    ensures value { digits_value 10 (take (length digits.now - place) digits.now) ≡ digits_value 10 (take (length digits.now - (place + 1)) digits.now) * 10 + result }
+    ensures value { digits_value 10 (take (length digits.now - place) digits.now)
+        ≡ digits_value 10 (take (length digits.now - (place + 1)) digits.now) * 10 + result }
 {
     if place < digits.len() {
         digit_of(digits, digits.len() - 1 - place)

@@ -128,7 +128,8 @@ fn are_digits(text: &[u8]) -> bool
 
 /// What the next token stands for in a table of words, in any case, and the lexer behind it.
 pub fn keyword<'a, A: Copy>(lexer: Lexer<'a>, table: &[(&[u8], A)]) -> Result<(A, Lexer<'a>), Stop>
-    ensures gives { Gives (λ a. a) result (spec.keyword (words.stands_for (map {A = Bor (List ℕ) × A} (λ row. (row.0.now, row.1)) table.now)) (left lexer.entry)) }
+    ensures gives { Gives (λ a. a) result (spec.keyword
+        (words.stands_for (map {A = Bor (List ℕ) × A} (λ row. (row.0.now, row.1)) table.now)) (left lexer.entry)) }
     ensures shorter { IfOk result (λ p. length (left p.1) < length (left lexer.entry)) }
 {
     match lexer.next() {

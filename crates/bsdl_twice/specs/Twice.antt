@@ -1,5 +1,6 @@
 -- Names that a description gives twice.
-use Rattle.std.specs.Prelude.{ℕ, ◌==◌, nat_lt, Bool, ◌&&◌, ◌||◌, if◌then◌else◌, List, [], ◌∷◌, ◌++◌, map, filter, Option, Some, None}
+use Rattle.std.specs.Prelude.{ℕ, ◌==◌, nat_lt, Bool, ◌&&◌, ◌||◌, if◌then◌else◌, List, [], ◌∷◌, ◌++◌, map, filter}
+use Rattle.std.specs.Prelude.{Option, Some, None}
 use Rattle.std.specs.List.{list_any, flat_map}
 use Rattle.bsdl_lex.specs.Cutting.{Lexeme}
 use Rattle.bsdl_text.specs.Words.{same_name}
@@ -53,4 +54,6 @@ own_names d = map (λ i. inside d.access_start i.name) (flat_map (λ r. r.instrs
 
 -- the first name that is given again
 abbrev pub given_again : Description → Option Naming
-given_again d = earliest (repeated (port_names d) ++ (repeated (attribute_names d) ++ (repeated (opcode_names d) ++ repeated (own_names d))))
+given_again d =
+    earliest (repeated (port_names d) ++ (repeated (attribute_names d)
+    ++ (repeated (opcode_names d) ++ repeated (own_names d))))

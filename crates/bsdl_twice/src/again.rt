@@ -56,7 +56,8 @@ fn port_names<'a>(alloc: Global, groups: &[Group<'a>]) -> Result<Vec<Naming<'a>>
 }
 
 fn add_group<'a>(names: &mut Vec<Naming<'a>>, group: &Group<'a>) -> Result<(), AllocError>
-    ensures { OnOk result (map naming names.new.items ≡ map naming names.old.items ++ map (λ p. spec.outside p.name) (entity_view.group group.now)) }
+    ensures { OnOk result (map naming names.new.items ≡ map naming names.old.items
+        ++ map (λ p. spec.outside p.name) (entity_view.group group.now)) }
 {
     for name in &group.names {
         names.push(outside(*name))?;
@@ -79,7 +80,8 @@ fn opcode_names<'a>(
     start: usize,
     rows: &[OpcodeRow<'a>],
 ) -> Result<Vec<Naming<'a>>, AllocError>
-    ensures { IfOk result (λ v. map naming v.items ≡ map (λ r. spec.inside start r.name) (map rows_view.opcode_row rows.now)) }
+    ensures { IfOk result (λ v. map naming v.items ≡ map (λ r. spec.inside start r.name)
+        (map rows_view.opcode_row rows.now)) }
 {
     let mut names = Vec::new(alloc);
     for row in rows {
@@ -93,7 +95,8 @@ fn own_names<'a>(
     start: usize,
     rows: &[AccessRow<'a>],
 ) -> Result<Vec<Naming<'a>>, AllocError>
-    ensures { IfOk result (λ v. map naming v.items ≡ map (λ i. spec.inside start i.name) (flat_map (λ r. r.instrs) (map rows_view.access_row rows.now))) }
+    ensures { IfOk result (λ v. map naming v.items ≡ map (λ i. spec.inside start i.name)
+        (flat_map (λ r. r.instrs) (map rows_view.access_row rows.now))) }
 {
     let mut names = Vec::new(alloc);
     for row in rows {
@@ -107,7 +110,8 @@ fn add_instrs<'a>(
     start: usize,
     instrs: &[Instr<'a>],
 ) -> Result<(), AllocError>
-    ensures { OnOk result (map naming names.new.items ≡ map naming names.old.items ++ map (λ i. spec.inside start i.name) (map rows_view.instr instrs.now)) }
+    ensures { OnOk result (map naming names.new.items ≡ map naming names.old.items
+        ++ map (λ i. spec.inside start i.name) (map rows_view.instr instrs.now)) }
 {
     for instr in instrs {
         names.push(inside(start, instr.name))?;
@@ -116,14 +120,16 @@ fn add_instrs<'a>(
 }
 
 fn port_again(alloc: Global, groups: &[Group<'_>]) -> Result<Option<Again>, AllocError>
-    ensures { IfOk result (λ o. option_map again o ≡ spec.earliest (spec.repeated (map (λ p. spec.outside p.name) (entity_view.ports groups.now)))) }
+    ensures { IfOk result (λ o. option_map again o ≡ spec.earliest
+        (spec.repeated (map (λ p. spec.outside p.name) (entity_view.ports groups.now)))) }
 {
     let names = port_names(alloc, groups)?;
     first_again(alloc, &names)
 }
 
 fn attribute_again<'a>(alloc: Global, given: &[Given<'a>]) -> Result<Option<Again>, AllocError>
-    ensures { IfOk result (λ o. option_map again o ≡ spec.earliest (spec.repeated (map (λ g. spec.outside g.name) (map given_view given.now)))) }
+    ensures { IfOk result (λ o. option_map again o ≡ spec.earliest
+        (spec.repeated (map (λ g. spec.outside g.name) (map given_view given.now)))) }
 {
     let names = attribute_names(alloc, given)?;
     first_again(alloc, &names)
@@ -134,7 +140,8 @@ fn opcode_again(
     start: usize,
     rows: &[OpcodeRow<'_>],
 ) -> Result<Option<Again>, AllocError>
-    ensures { IfOk result (λ o. option_map again o ≡ spec.earliest (spec.repeated (map (λ r. spec.inside start r.name) (map rows_view.opcode_row rows.now)))) }
+    ensures { IfOk result (λ o. option_map again o ≡ spec.earliest
+        (spec.repeated (map (λ r. spec.inside start r.name) (map rows_view.opcode_row rows.now)))) }
 {
     let names = opcode_names(alloc, start, rows)?;
     first_again(alloc, &names)
@@ -145,7 +152,9 @@ fn own_again(
     start: usize,
     rows: &[AccessRow<'_>],
 ) -> Result<Option<Again>, AllocError>
-    ensures { IfOk result (λ o. option_map again o ≡ spec.earliest (spec.repeated (map (λ i. spec.inside start i.name) (flat_map (λ r. r.instrs) (map rows_view.access_row rows.now))))) }
+    ensures { IfOk result (λ o. option_map again o ≡ spec.earliest
+        (spec.repeated (map (λ i. spec.inside start i.name)
+        (flat_map (λ r. r.instrs) (map rows_view.access_row rows.now))))) }
 {
     let names = own_names(alloc, start, rows)?;
     first_again(alloc, &names)

@@ -1,4 +1,5 @@
-//! Names that a device description gives twice, and the opcode that a reset loads (BSDL: IEEE Std 1149.1-2001, Annex B.8).
+//! Names that a device description gives twice, and the opcode that a reset loads (BSDL: IEEE Std 1149.1-2001, Annex
+//! B.8).
 #![tactic(auto)]
 
 pub mod again;

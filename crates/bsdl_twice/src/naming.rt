@@ -98,7 +98,8 @@ pub fn first_again(alloc: Global, names: &[Naming<'_>]) -> Result<Option<Again>,
 
 /// The first place of each name, in upper case.
 fn first_spots(alloc: Global, names: &[Naming<'_>]) -> Result<BTreeMap<String, Spot>, AllocError>
-    ensures { IfOk result (λ m. (q : List ℕ) (s : Spot) → begins_before (get_by_text m q) s ≡ is_named_before (map naming names.now) q s) }
+    ensures { IfOk result (λ m. (q : List ℕ) (s : Spot) → begins_before (get_by_text m q) s
+        ≡ is_named_before (map naming names.now) q s) }
 {
     let mut spots = BTreeMap::new(alloc);
     for found in names {
@@ -112,7 +113,8 @@ fn add_spot(
     spots: &mut BTreeMap<String, Spot>,
     found: Naming<'_>,
 ) -> Result<(), AllocError>
-    ensures { OnOk result ((q : List ℕ) (s : Spot) → begins_before (get_by_text spots.new q) s ≡ begins_before (get_by_text spots.old q) s || is_naming (naming found.entry) q s) }
+    ensures { OnOk result ((q : List ℕ) (s : Spot) → begins_before (get_by_text spots.new q) s
+        ≡ begins_before (get_by_text spots.old q) s || is_naming (naming found.entry) q s) }
 {
     let key = found.name.upper_name(alloc)?;
     let first = first_of(spots, key.as_str(), found.spot);
@@ -122,7 +124,8 @@ fn add_spot(
 
 /// The first place of a name, where it stands at this one too.
 fn first_of(spots: &BTreeMap<String, Spot>, key: &str, spot: Spot) -> Spot
-    ensures { (s : Spot) → spec.before result s ≡ begins_before (get_by_text spots.now key.now) s || spec.before spot s }
+    ensures { (s : Spot) → spec.before result s ≡ begins_before (get_by_text spots.now key.now) s
+        || spec.before spot s }
 {
     match spots.get(key) {
         Some(known) => known.or_before(spot),
@@ -136,7 +139,8 @@ fn is_repeated(
     spots: &BTreeMap<String, Spot>,
     found: Naming<'_>,
 ) -> Result<bool, AllocError>
-    ensures { IfOk result (λ b. b ≡ begins_before (get_by_text spots.now (upper found.entry.name.text.now)) found.entry.spot) }
+    ensures { IfOk result (λ b. b ≡ begins_before (get_by_text spots.now
+        (upper found.entry.name.text.now)) found.entry.spot) }
 {
     let key = found.name.upper_name(alloc)?;
     Ok(stands_before(spots, key.as_str(), found.spot))

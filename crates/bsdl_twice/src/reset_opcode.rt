@@ -1,5 +1,6 @@
 //! The instruction that a reset loads.
-ghost use Rattle.std.specs.Prelude.{◌≡◌, ◌==◌, List, map, reverse, option_map, option_and_then, unwrap_or, [], bytes_eq, codes, slice_get, false};
+ghost use Rattle.std.specs.Prelude.{◌≡◌, ◌==◌, List, map, reverse, option_map, option_and_then, unwrap_or, []};
+ghost use Rattle.std.specs.Prelude.{bytes_eq, codes, slice_get, false};
 ghost use Rattle.std.specs.List.{list_all, find};
 ghost use Rattle.bsdl_device.specs.Device as device;
 ghost use Rattle.bsdl_instructions.specs.Values.{bit};
@@ -22,7 +23,9 @@ pub fn resets_to_idcode(rows: &[OpcodeRow<'_>]) -> bool
 
 /// The first opcode of IDCODE.
 fn reset_pattern<'r>(rows: &'r [OpcodeRow<'_>]) -> Option<&'r WrittenPattern>
-    ensures { option_map {U = device.Pattern} (λ p. rows_view.pattern p.now) result ≡ option_and_then (λ o. slice_get o.patterns 0) (find (λ o. bytes_eq (codes "IDCODE") o.name) (map spec.opcode (map rows_view.opcode_row rows.now))) }
+    ensures { option_map {U = device.Pattern} (λ p. rows_view.pattern p.now) result
+        ≡ option_and_then (λ o. slice_get o.patterns 0)
+        (find (λ o. bytes_eq (codes "IDCODE") o.name) (map spec.opcode (map rows_view.opcode_row rows.now))) }
 {
     for row in rows {
         if same_name(b"IDCODE", row.name.text) {
@@ -34,7 +37,8 @@ fn reset_pattern<'r>(rows: &'r [OpcodeRow<'_>]) -> Option<&'r WrittenPattern>
 
 /// Whether an opcode, by its digits with X as 0, names IDCODE.
 fn names_idcode(rows: &[OpcodeRow<'_>], latch: &[u8]) -> bool
-    ensures { result ≡ bytes_eq (unwrap_or (spec.instruction (map spec.opcode (map rows_view.opcode_row rows.now)) (spec.bits (reverse (map bit latch.now)))) []) (codes "IDCODE") }
+    ensures { result ≡ bytes_eq (unwrap_or (spec.instruction (map spec.opcode (map rows_view.opcode_row rows.now))
+        (spec.bits (reverse (map bit latch.now)))) []) (codes "IDCODE") }
 {
     if are_ones(latch) {
         return false;
@@ -62,7 +66,8 @@ fn are_all_ones(latch: &[u8]) -> bool
 
 /// Whether a row has a pattern that matches an opcode.
 fn is_named(row: &OpcodeRow<'_>, latch: &[u8]) -> bool
-    ensures { result ≡ spec.names_it (spec.bits (reverse (map bit latch.now))) (spec.opcode (rows_view.opcode_row row.now)) }
+    ensures { result ≡ spec.names_it (spec.bits (reverse (map bit latch.now)))
+        (spec.opcode (rows_view.opcode_row row.now)) }
 {
     for pattern in &row.patterns {
         if is_match(&pattern.digits, latch) {

@@ -1,4 +1,4 @@
-use Rattle.std.proofs.Common.{◌≡◌, ap, sym, ◌∙◌}
+use Rattle.std.proofs.Common.{ap, sym, ◌∙◌}
 use Rattle.bsdl.specs.Judging.{unless}
 use Rattle.bsdl_described.specs.Describing.{bad_length}
 use Rattle.bsdl.proofs.judge.judge_lengths.Goals as goal

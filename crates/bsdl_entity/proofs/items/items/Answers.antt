@@ -1,14 +1,14 @@
-use Rattle.std.proofs.Common.{◌≡◌, ◌<◌, ◌≤◌, true, false, List, length, map, sym, ap, ◌∙◌, Some, None, arith}
+use Rattle.std.proofs.Common.{◌≡◌, true, false, length, map, sym, ap, ◌∙◌, Some, None, arith}
 use Rattle.std.specs.Prelude.{codes, option_map}
 use Rattle.std.proofs.lemmas.List.{map-append, append-nil}
 use Rattle.bsdl_lex.specs.Left.{left}
 use Rattle.bsdl_text.specs.Reading.{fits}
 use Rattle.bsdl_text.proofs.ListLaws.{stops_where, prepend}
 use Rattle.bsdl_instructions.specs.Values.{begins}
-use Rattle.bsdl_entity.specs.Entity.{Given, item, items}
+use Rattle.bsdl_entity.specs.Entity.{item, items}
 use Rattle.bsdl_entity.specs.GivenView.{given}
 use Rattle.bsdl_entity.specs.Scalars.{tells}
-use Rattle.bsdl_entity.proofs.ItemLaws.{all_items, no_item, one_item, first_items}
+use Rattle.bsdl_entity.proofs.ItemLaws.{all_items, no_item, one_item}
 use Rattle.bsdl_entity.proofs.items.items.Goals as goal
 
 pub returns-then-is_some-clause-gives : goal.returns-then-is_some-clause-gives

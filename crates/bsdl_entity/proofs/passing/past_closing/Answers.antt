@@ -1,4 +1,4 @@
-use Rattle.std.proofs.Common.{◌≡◌, ◌≢◌, ◌∷◌, length, true, false, sym, ap, ◌∙◌, subst, arith}
+use Rattle.std.proofs.Common.{◌≡◌, ◌≢◌, ◌∷◌, length, true, sym, ap, ◌∙◌, arith}
 use Rattle.bsdl_lex.specs.Left.{left, lexeme}
 use Rattle.bsdl_lex.proofs.Few.{few}
 use Rattle.bsdl_entity.specs.Entity.{past_closing}

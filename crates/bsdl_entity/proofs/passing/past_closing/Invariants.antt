@@ -1,4 +1,4 @@
-use Rattle.std.proofs.Common.{◌≡◌, ◌≤◌, ◌+◌, ◌^◌, ◌<◌, length}
+use Rattle.std.proofs.Common.{◌≡◌, ◌≤◌, ◌+◌, length}
 use Rattle.bsdl_lex.specs.Left.{left}
 use Rattle.bsdl_entity.specs.Entity.{past_closing}
 use Rattle.bsdl_entity.proofs.passing.past_closing.Given as goal

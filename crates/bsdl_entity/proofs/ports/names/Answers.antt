@@ -1,10 +1,10 @@
-use Rattle.std.proofs.Common.{◌≡◌, ◌<◌, ◌≤◌, true, false, length, map, sym, ap, ◌∙◌, arith}
+use Rattle.std.proofs.Common.{◌≡◌, ◌<◌, true, false, length, map, sym, ◌∙◌, arith}
 use Rattle.std.proofs.lemmas.List.{map-append}
 use Rattle.bsdl_lex.specs.Left.{left}
-use Rattle.bsdl_text.specs.Reading.{mark, word, stands, joined_by}
+use Rattle.bsdl_text.specs.Reading.{word, stands, joined_by}
 use Rattle.bsdl_text.specs.WordView.{word_lexeme}
 use Rattle.bsdl_text.proofs.ListLaws.{stops_where}
-use Rattle.bsdl_entity.proofs.ChainLaws.{all_chained, chained_no_mark, chained_no_entry, one_chained, first_chained, none_chained}
+use Rattle.bsdl_entity.proofs.ChainLaws.{all_chained, chained_no_entry, one_chained, first_chained}
 use Rattle.bsdl_entity.proofs.ports.names.Goals as goal
 
 pub names-init : goal.names-init
@@ -12,7 +12,7 @@ names-init c = (
   length (left c.in-Ok.read.1),
   omega arith,
   c.in-Ok.ensures.shorter,
-  rw (c.in-Ok-push.ensures.items, c.new-all.ensures.items) (first_chained word 44 (left c.args.lexer) (word_lexeme c.in-Ok.read.0) (left c.in-Ok.read.1) c.in-Ok.ensures.gives),
+  rw (c.in-Ok-push.ensures.items, c.in_ok-all.ensures.empty) (first_chained word 44 (left c.args.lexer) (word_lexeme c.in-Ok.read.0) (left c.in-Ok.read.1) c.in-Ok.ensures.gives),
 )
 
 pub returns-then-not-stands-clause-gives : goal.returns-then-not-stands-clause-gives

@@ -1,9 +1,6 @@
-use Rattle.std.proofs.Common.{◌≡◌, ℕ, List, take, map}
+use Rattle.std.proofs.Common.{◌≡◌, ℕ, List, take}
 use Rattle.std.specs.BTreeMap.{get_by_text}
-use Rattle.std.specs.Prelude.{is_none, option_map}
-use Rattle.bsdl_text.specs.WordView.{word_lexeme}
-use Rattle.bsdl_entity.specs.Scalars.{first_scalar, or_first}
-use Rattle.bsdl_entity.specs.View.{range}
+use Rattle.bsdl_entity.specs.Scalars.{or_first}
 use Rattle.bsdl_entity.proofs.ScalarLaws.{scalar_names}
 use Rattle.bsdl_entity.proofs.scalars.add_group.Given as goal
 

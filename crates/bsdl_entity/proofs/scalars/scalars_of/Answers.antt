@@ -1,4 +1,4 @@
-use Rattle.std.proofs.Common.{◌≡◌, ap, sym, ◌∙◌, take, arith}
+use Rattle.std.proofs.Common.{ap, sym, ◌∙◌, take}
 use Rattle.bsdl_entity.specs.Scalars.{or_first, first_scalar}
 use Rattle.bsdl_entity.specs.View as view
 use Rattle.bsdl_entity.specs.declared.ports.Group.{Group}

@@ -1,0 +1,147 @@
+-- Every device that a text says keeps the limits.
+use Rattle.std.proofs.Common.{◌≡◌, ◌<◌, ◌≤◌, ℕ, zero, suc, ◌+◌, ◌-◌, true, false, List, [], ◌∷◌, length, map, refl, sym, ◌∙◌, arith}
+use Rattle.std.specs.Prelude.{Option, Some, None, Result, Ok, Err, option_map, unwrap_or, nat_le, slice_get}
+use Rattle.std.specs.List.{AllByRecursion, flat_map, list_all, range_with_len, sum_by}
+use Rattle.std.proofs.lemmas.Bool.Decides.{nat_tests}
+use Rattle.std.proofs.lemmas.List.{length-append, length-map}
+use Rattle.std.proofs.lemmas.List.FromFn.{length-map-range_with_len}
+use Rattle.std.proofs.lemmas.List.Sums.{sum_by-cons}
+use Rattle.bsdl_device.specs.Device.{Device, Name, Pattern}
+use Rattle.bsdl_instructions.specs.Values.{OpcodeRow}
+use Rattle.bsdl_entity.specs.Entity.{File, Port, Range}
+use Rattle.bsdl_described.specs.Describing.{Description, Refusal, bad_capture, bad_cell, bad_id, bad_length, described, too_large, ◌>>?◌}
+use Rattle.bsdl_fit.specs.Fits.{listed, unfit_cell}
+use Rattle.bsdl_lengths.specs.Lengths.{captures_one, codes_fit, ends_in_one, has_bits, has_len, instructions_fit, lengths_fit}
+use Rattle.bsdl_limits.specs.Limits.{cells_within, instructions_within, is_within_limits, ports_within, subscript_limit, users_within}
+use Rattle.bsdl_limits.specs.PortBits.{highest, width}
+use Rattle.bsdl_limits.specs.Users.{users_of}
+use Rattle.bsdl_twice.specs.ResetOpcode.{bits, opcode}
+use Rattle.bsdl_twice.specs.Twice.{given_again}
+use Rattle.bsdl_built.specs.Built.{cell, device, port_bits}
+use Rattle.bsdl.specs.Form.{text_form}
+use Rattle.bsdl.specs.Judging.{fault, file_says, judged, or_else, text_says, twice_in, unless}
+use Rattle.bsdl.specs.Limited.{HasLengthIfGiven, HasPatternsOf, IsLimitedDevice}
+use Rattle.bsdl.proofs.OnceLaws.{both, each_cell_once, holds, neither}
+
+-- ---- ports
+
+port_len : (taps : List Name) (p : Port) → length (port_bits taps p) ≡ width p.range
+port_len taps p = by_range p.range refl
+  where
+    by_range : (r : Option Range) → p.range ≡ r → length (port_bits taps p) ≡ width p.range
+    by_range None is = rw is refl
+    by_range (Some r) is = rw is (length-map-range_with_len _ r.low (r.high - r.low + 1))
+
+ports_len : (taps : List Name) (ps : List Port) → length (flat_map (port_bits taps) ps) ≡ sum_by (λ p. width p.range) ps
+ports_len taps [] = refl
+ports_len taps (p ∷ ps) =
+    let rest = ports_len taps ps in
+    let here = port_len taps p in
+    omega (arith, length-append (port_bits taps p) (flat_map (port_bits taps) ps), sum_by-cons (λ (q : Port). width q.range) p ps, here, rest)
+
+-- ---- cells
+
+cells_len : (d : Description) (a n : ℕ) → ((k : ℕ) → a ≤ k → k < a + n → length (listed d k) ≡ 1)
+    → length (flat_map (λ k. map (cell d.ports) (listed d k)) (range_with_len a n)) ≡ n
+cells_len d a zero once = refl
+cells_len d a (suc n) once =
+    let rest = cells_len d (a + 1) n (λ k low high. once k (omega arith) (omega arith)) in
+    let here = once a (omega arith) (omega arith) in
+    omega (arith, length-append (map (cell d.ports) (listed d a)) (flat_map (λ k. map (cell d.ports) (listed d k)) (range_with_len (a + 1) n)), length-map (listed d a) (cell d.ports), here, rest)
+
+-- ---- patterns
+
+bits_len : (p : Pattern) → length (bits p) ≡ length p
+bits_len p = length-map p (λ b. unwrap_or b false)
+
+is_long : (n : ℕ) (p : Pattern) → has_len n p ≡ true → length p ≡ n
+is_long n p fits = grind (arith, nat_tests)
+
+are_long : (n : ℕ) (ps : List Pattern) → list_all (has_len n) ps ≡ true → AllByRecursion (λ p. length p ≡ n) ps
+are_long n [] fits = tt
+are_long n (p ∷ ps) fits =
+    let parts = both (has_len n p) (list_all (has_len n) ps) fits in
+    (is_long n p parts.0, are_long n ps parts.1)
+
+rows_long : (n : ℕ) (rows : List OpcodeRow) → list_all (λ r. list_all (has_len n) r.patterns) rows ≡ true → AllByRecursion (λ o. HasPatternsOf n o) (map opcode rows)
+rows_long n [] fits = tt
+rows_long n (r ∷ rows) fits =
+    let parts = both (list_all (has_len n) r.patterns) (list_all (λ s. list_all (has_len n) s.patterns) rows) fits in
+    (are_long n r.patterns parts.0, rows_long n rows parts.1)
+
+code_long : (ps : List Pattern) → list_all (has_len 32) ps ≡ true → HasLengthIfGiven 32 (option_map bits (slice_get ps 0))
+code_long [] fits = tt
+code_long (p ∷ ps) fits = bits_len p ∙ is_long 32 p (both (has_len 32 p) (list_all (has_len 32) ps) fits).0
+
+-- ---- registers of the device's own
+
+users_long : (us : List (Name × ℕ)) → list_all (λ u. nat_le u.1 4096) us ≡ true → AllByRecursion (λ n. n ≤ 4096) (map (λ u. u.1) us)
+users_long [] fits = tt
+users_long (u ∷ us) fits =
+    let parts = both (nat_le u.1 4096) (list_all (λ v. nat_le v.1 4096) us) fits in
+    let here : u.1 ≤ 4096 = grind (arith, nat_tests, parts.0) in
+    (here, users_long us parts.1)
+
+-- ---- the whole
+
+limits : (d : Description) → fault d ≡ None → is_within_limits d ≡ true
+limits d e =
+    let names = neither (twice_in d (given_again d)) _ e in
+    let lengths = neither (unless (lengths_fit d) bad_length) _ names.second in
+    let ends = neither (or_else (unless (captures_one d.capture) bad_capture) (unless (ends_in_one d.idcodes) bad_id)) _ lengths.second in
+    let cells = neither (option_map bad_cell (unfit_cell d)) (unless (is_within_limits d) too_large) ends.second in
+    holds (is_within_limits d) too_large cells.second
+
+lengths : (d : Description) → fault d ≡ None → lengths_fit d ≡ true
+lengths d e =
+    let names = neither (twice_in d (given_again d)) _ e in
+    holds (lengths_fit d) bad_length (neither (unless (lengths_fit d) bad_length) _ names.second).first
+
+at_most : (n m : ℕ) → nat_le n m ≡ true → n ≤ m
+at_most n m h = grind (arith, nat_tests)
+
+limited : (d : Description) → fault d ≡ None → IsLimitedDevice (device d)
+limited d e =
+    let one = both (instructions_within d) _ (limits d e) in
+    let two = both (cells_within d) _ one.1 in
+    let three = both (ports_within d) (users_within d) two.1 in
+    let instructions = both (nat_le d.instruction_length 64) (nat_le (length d.opcodes) 256) one.0 in
+    let cells = both (nat_le d.boundary_length 4096) _ two.0 in
+    let ports = both (list_all (λ p. nat_le (highest p.range) subscript_limit) d.ports) (nat_le (sum_by (λ p. width p.range) d.ports) 8192) three.0 in
+    let users = both (nat_le (length (users_of d.accesses)) 64) _ three.1 in
+    let fits = both (has_bits d) _ (lengths d e) in
+    let patterns = both (instructions_fit d) _ fits.1 in
+    let codes = both (codes_fit d) _ patterns.1 in
+    let written = both (list_all (λ r. list_all (has_len d.instruction_length) r.patterns) d.opcodes) (has_len d.instruction_length d.capture) patterns.0 in
+    let code_fits = both (list_all (has_len 32) d.idcodes) (list_all (has_len 32) d.usercodes) codes.0 in
+    let bit_count = at_most (sum_by (λ p. width p.range) d.ports) 8192 ports.1 in
+    let cell_count = at_most d.boundary_length 4096 cells.0 in
+    record {
+      ports = omega (arith, ports_len d.taps d.ports, bit_count);
+      instruction = at_most d.instruction_length 64 instructions.0;
+      opcodes = omega (arith, length-map d.opcodes opcode, at_most (length d.opcodes) 256 instructions.1);
+      patterns = rows_long d.instruction_length d.opcodes written.0;
+      capture = bits_len d.capture ∙ is_long d.instruction_length d.capture written.1;
+      idcode = code_long d.idcodes code_fits.0;
+      usercode = code_long d.usercodes code_fits.1;
+      cells = omega (arith, cells_len d 0 d.boundary_length (λ k low high. each_cell_once d e k (omega arith)), cell_count);
+      users = omega (arith, length-map (users_of d.accesses) (λ u. u.1), at_most (length (users_of d.accesses)) 64 users.0);
+      user_lengths = users_long (users_of d.accesses) users.1;
+    }
+
+judged_limited : (d : Description) (v : Device) (o : Option Refusal) → fault d ≡ o → judged o d ≡ Ok v → IsLimitedDevice v
+judged_limited d v (Some r) is e = absurd cc
+judged_limited d v None is e =
+    let same : device d ≡ v = cc in
+    rw (sym same) (limited d is)
+
+described_limited : (x : Result Description Refusal) (v : Device) → (x >>? λ d. judged (fault d) d) ≡ Ok v → IsLimitedDevice v
+described_limited (Err r) v e = absurd cc
+described_limited (Ok d) v e = judged_limited d v (fault d) refl e
+
+spelt_limited : (x : Result File Refusal) (v : Device) → (x >>? file_says) ≡ Ok v → IsLimitedDevice v
+spelt_limited (Err r) v e = absurd cc
+spelt_limited (Ok f) v e = described_limited (described f) v e
+
+pub every_device : (text : List ℕ) (v : Device) → text_says text ≡ Ok v → IsLimitedDevice v
+every_device text v e = spelt_limited (text_form text) v e

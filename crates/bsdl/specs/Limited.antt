@@ -1,0 +1,26 @@
+-- What no text can pass, whatever numbers it names. All else in a device stands in the text: names, how many patterns
+-- a row has, and what own instructions capture.
+use Rattle.std.specs.Prelude.{◌≡◌, ℕ, ◌≤◌, Bool, List, length, Option, Some, None}
+use Rattle.std.specs.List.{AllByRecursion}
+use Rattle.bsdl_device.specs.Device.{Device, Opcode}
+
+-- a list of bits that is not left out has this length
+abbrev pub HasLengthIfGiven : ℕ → Option (List Bool) → Type 0
+HasLengthIfGiven n None = Unit {0}
+HasLengthIfGiven n (Some bits) = length bits ≡ n
+
+-- each pattern of an instruction is as long as the instruction register
+abbrev pub HasPatternsOf : ℕ → Opcode → Type 0
+HasPatternsOf n o = AllByRecursion (λ p. length p ≡ n) o.patterns
+
+pub record IsLimitedDevice (d : Device) : Type 0 where
+  pub ports : length d.ports ≤ 8192
+  pub instruction : d.instruction_length ≤ 64
+  pub opcodes : length d.opcodes ≤ 256
+  pub patterns : AllByRecursion (λ o. HasPatternsOf d.instruction_length o) d.opcodes
+  pub capture : length d.capture ≡ d.instruction_length
+  pub idcode : HasLengthIfGiven 32 d.idcode
+  pub usercode : HasLengthIfGiven 32 d.usercode
+  pub cells : length d.cells ≤ 4096
+  pub users : length d.users ≤ 64
+  pub user_lengths : AllByRecursion (λ n. n ≤ 4096) d.users
