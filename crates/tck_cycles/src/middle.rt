@@ -22,7 +22,7 @@ pub(crate) enum Middle<'a> {
 
 impl<'a> Middle<'a> {
     ghost use Rattle.std.specs.Prelude.{◌≡◌, ◌<◌, length, slice_get, Some, count_by, drop};
-    ghost use Rattle.tck_cycles.specs.Middles.{middle_cycles};
+    ghost use Rattle.tck_cycles.specs.Middles.{middle_cycles, stayed};
 
     /// How many cycles there are.
     pub(crate) fn len(&self) -> u64
@@ -43,6 +43,16 @@ impl<'a> Middle<'a> {
             Middle::Path(path) => path_cycle(path, at),
             Middle::Vector(vector) => bit_cycle(vector, at as usize),
             Middle::Stay(state, cycles) => stay_cycle(*state, *cycles, at),
+        }
+    }
+
+    /// The cycle that stays, where there is one.
+    pub(crate) fn stayed(&self) -> Cycle
+        ensures { result ≡ stayed self.now }
+    {
+        match self {
+            Middle::Stay(state, _) => walk(*state),
+            _ => Cycle::default(),
         }
     }
 
