@@ -2,7 +2,7 @@
 use Rattle.std.proofs.Common.{◌≡◌, ℕ, zero, suc, ◌+◌, ◌*◌, ◌-◌, ◌<◌, ◌≤◌, Bool, true, false, List, [], ◌∷◌, ◌++◌, length, map, take, drop, set, replicate, refl, sym, ap, subst, ◌∙◌, append_assoc, arith, length-append, length-drop, Option, Some, None}
 use Rattle.std.specs.Prelude.{count_by, flat_map, slice_get}
 use Rattle.std.proofs.Math.Seq.{drop-append_seam, drop-append-add, take-length}
-use Rattle.std.proofs.lemmas.List.{append-nil, drop-drop, length-replicate, map-append, replicate-append-replicate}
+use Rattle.std.proofs.lemmas.List.{append-nil, drop-drop, take-append-drop, length-replicate, map-append, replicate-append-replicate}
 use Rattle.std.proofs.lemmas.List.Sums.{count_by-le-length}
 use borrow.Rule.Slice.PartMut.{mid_of, post_of, put_mid}
 use Rattle.bitbang_table.specs.declared.Cycle.{Cycle}
@@ -62,6 +62,30 @@ filled-more n m all buffer old ys some room filled piece =
     ∙ (λ i. take n all ++ append-nil (take m (drop n all) ++ drop m (whole i)) i)
     ∙ sym (append_assoc (take n all) (take m (drop n all)) (drop m (drop n old)))
     ∙ (λ i. take-more n m all i ++ drop-drop m n old i)
+
+seam : (m w : ℕ) (l : List ℕ) → m ≤ w → drop m (take w l) ++ drop w l ≡ drop m l
+seam zero w l h = take-append-drop w l
+seam (suc m) zero l h = absurd (omega (arith, h))
+seam (suc m) (suc w) [] h = refl
+seam (suc m) (suc w) (x ∷ l) h = seam m w l (omega (arith, h))
+
+-- a piece that is given to a part of the rest
+pub filled-part : (n m w : ℕ) (all buffer old ys : List ℕ) → n ≤ length all → m ≤ w → buffer ≡ take n all ++ drop n old
+    → ys ≡ take m (drop n all) ++ drop m (take w (drop n buffer)) → put_mid n w buffer ys ≡ take (n + m) all ++ drop (n + m) old
+filled-part n m w all buffer old ys some fits filled piece =
+    let front : take n buffer ≡ take n all = ap (take n) filled ∙ filled_front all (drop n old) n some in
+    let long : length (take n all) ≡ n = length-take n all some in
+    let behind : drop n buffer ≡ drop n old =
+    ap (drop n) filled ∙ ap (λ k. drop k (take n all ++ drop n old)) (sym long) ∙ drop-append_seam (take n all) (drop n old) in
+    (λ i. front i ++ (piece i ++ drop w (drop n buffer)))
+    ∙ ap (λ l. take n all ++ l) (append_assoc (take m (drop n all)) (drop m (take w (drop n buffer))) (drop w (drop n buffer)))
+    ∙ ap (λ l. take n all ++ (take m (drop n all) ++ l)) (seam m w (drop n buffer) fits ∙ ap (drop m) behind ∙ drop-drop m n old)
+    ∙ sym (append_assoc (take n all) (take m (drop n all)) (drop (n + m) old))
+    ∙ ap (λ l. l ++ drop (n + m) old) (take-more n m all)
+
+-- the front of a filled buffer
+pub filled-first : (n : ℕ) (all buffer old : List ℕ) → n ≤ length all → buffer ≡ take n all ++ drop n old → take n buffer ≡ take n all
+filled-first n all buffer old some filled = ap (take n) filled ∙ filled_front all (drop n old) n some
 
 -- the front of what was left was put to the front
 pub fills-front : (before buffer after now front : List ℕ) (count : ℕ) → before ≡ front ++ now → count ≡ length front → count ≤ length buffer
