@@ -75,8 +75,11 @@ impl Pipes {
         ensures world { self.new ≡ record self.old { world = put_bytes side self.old.down_room self.old.up_room (min n 64) self.old.world } }
     {
         let room = self.down.capacity() - self.down.len();
-        let mut piece = [0; PIECE];
         let ask = n.min(PIECE).min(room);
+        if ask == 0 {
+            return 0;
+        }
+        let mut piece = [0; PIECE];
         let count = self.player.next_bytes(&mut piece[..ask]);
         self.down.fill_from_slice(&piece[..count])
     }

@@ -12,7 +12,24 @@ use svf_settings::Program;
 
 /// Fills the buffer from its front with bytes that wait. Answers where the player stands then, and how many they are: none only
 /// where none waits or there is no room.
+///
+/// Within a step its bytes are tried first, so that a small buffer does not look twice at what is left of it.
 pub(crate) fn piece(program: &Program, p: Progress, buffer: &mut [u8]) -> (Progress, usize)
+    requires stands { Stands program.now.steps p }
+    requires good { p.bad ≡ None }
+    ensures { Gives (program_of program.now) p buffer.old buffer.new result.0 result.1 }
+{
+    if let Phase::Within(spot) = p.phase {
+        let (next, count) = step_piece(program, p, spot, buffer);
+        if count > 0 {
+            return (next, count);
+        }
+    }
+    settled_piece(program, p, buffer)
+}
+
+/// The same, of the turn that is next at work.
+fn settled_piece(program: &Program, p: Progress, buffer: &mut [u8]) -> (Progress, usize)
     requires stands { Stands program.now.steps p }
     requires good { p.bad ≡ None }
     ensures { Gives (program_of program.now) p buffer.old buffer.new result.0 result.1 }
@@ -64,13 +81,14 @@ fn opening_piece(program: &Program, p: Progress, n: usize, buffer: &mut [u8]) ->
     (Progress { phase, ..p }, 1)
 }
 
-/// The next bytes of a step.
+/// The next bytes of a step; none where none is left, as many answers are owed as may be, or there is no room.
 fn step_piece(program: &Program, p: Progress, spot: Spot, buffer: &mut [u8]) -> (Progress, usize)
     requires stands { Stands program.now.steps p }
     requires is { p.phase ≡ Phase.Within spot }
-    requires ready { IsReady (drop p.at program.now.steps) p (Phase.Within spot) }
     requires good { p.bad ≡ None }
-    ensures { Gives (program_of program.now) p buffer.old buffer.new result.0 result.1 }
+    ensures gives { (result.1 ≡ 0 → IsReady (drop p.at program.now.steps) p (Phase.Within spot))
+        → Gives (program_of program.now) p buffer.old buffer.new result.0 result.1 }
+    ensures none { result.1 ≡ 0 → buffer.new ≡ buffer.old }
 {
     let step = program.step(p.at);
     let mut bytes = StepBytes::resume(p.place, &step, spot);
