@@ -1,5 +1,6 @@
 -- The bytes of a step that are left, some of them being out.
-use Rattle.std.specs.Prelude.{◌≡◌, ◌≤◌, ◌<◌, true, false, ℕ, Bool, List, [], ◌∷◌, ◌++◌, length, map, take, drop, flat_map, Option, option_to_list}
+use Rattle.std.specs.Prelude.{◌≡◌, ◌≤◌, ◌<◌, true, false, ℕ, Bool, List, [], ◌∷◌, ◌++◌, length, map, take, drop}
+use Rattle.std.specs.Prelude.{flat_map, Option, option_to_list}
 use Rattle.bitbang_table.specs.declared.Message.TheVariants.{Write}
 use Rattle.bitbang_table.specs.declared.Cycle.{Cycle}
 use Rattle.bitbang_table.specs.Protocol.{cycle_messages, encode}
@@ -40,7 +41,8 @@ whole s = source.whole s.source
 abbrev pub behind : Spot → List Cycle → List ℕ
 behind spot cs = bytes_left spot.line spot.begun (source.behind spot.source cs) spot.closes
 
--- Bytes were put to the front of a buffer: so many of those that were left, none only where none was left or there was no room.
+-- Bytes were put to the front of a buffer: so many of those that were left, none only where none was left or there was
+-- no room.
 pub record Fills (before buffer after now : List ℕ) (count : ℕ) : Type 0 where
   pub room : count ≤ length buffer
   pub some : count ≤ length before

@@ -105,7 +105,8 @@ impl<'a> StepBytes<'a> {
         fitted(cycles + u128::from(others))
     }
 
-    /// The next byte, which is out then, as `next` gives it. It tells too that the bytes are still those of the same step.
+    /// The next byte, which is out then, as `next` gives it. It tells too that the bytes are still those of the same
+    /// step.
     pub fn next_byte(&mut self) -> Option<u8>
         ensures gives { YieldsFirst left self.old result self.new }
         ensures whole { whole self.new ≡ whole self.old }
@@ -131,7 +132,8 @@ impl<'a> StepBytes<'a> {
         }
     }
 
-    /// Fills the buffer from its front with the next bytes, as many as fit; they are out then. Answers how many they are.
+    /// Fills the buffer from its front with the next bytes, as many as fit; they are out then. Answers how many they
+    /// are.
     pub fn fill(&mut self, buffer: &mut [u8]) -> usize
         ensures count { result ≡ min (length buffer.old) (length (left self.old)) }
         ensures filled { buffer.new ≡ take result (left self.old) ++ drop result buffer.old }

@@ -1,6 +1,7 @@
 //! Giving out the bytes of a step.
 
-ghost use Rattle.std.specs.Prelude.{◌≡◌, [], false, IsTrue, ◌≤◌, ◌<◌, ◌==◌, ◌+◌, ◌-◌, ◌++◌, ◌∷◌, ℕ, List, Some, drop, length, min, slice_get, take, if◌then◌else◌};
+ghost use Rattle.std.specs.Prelude.{◌≡◌, [], false, IsTrue, ◌≤◌, ◌<◌, ◌==◌, ◌+◌, ◌-◌, ◌++◌, ◌∷◌, ℕ, List, Some, drop};
+ghost use Rattle.std.specs.Prelude.{length, min, slice_get, take, if◌then◌else◌};
 ghost use Rattle.bitbang.specs.Left.{left, whole};
 ghost use Rattle.stream_player.specs.Standing.{reads, up_to_reads};
 
@@ -9,8 +10,8 @@ use bitbang::StepBytes;
 /// How many answers may be owed.
 pub(crate) const WINDOW: usize = 256;
 
-/// Fills the buffer from its front with the next bytes of a step, as many as fit and as the window of owed answers lets through.
-/// Answers how many they are, and how many answers are owed then.
+/// Fills the buffer from its front with the next bytes of a step, as many as fit and as the window of owed answers
+/// lets through. Answers how many they are, and how many answers are owed then.
 pub(crate) fn give(bytes: &mut StepBytes<'_>, owed: usize, buffer: &mut [u8]) -> (usize, usize)
     requires { owed ≤ 256 }
     ensures count { result.0 ≡ min (length buffer.old) (length (up_to_reads (left bytes.old) (256 - owed))) }
@@ -46,8 +47,8 @@ fn most_at_once(owed: usize) -> usize
     if owed == WINDOW { 1 } else { WINDOW - owed }
 }
 
-/// Fills the buffer from its front with the next bytes of a step, as many as fit, which the window lets through. Answers how many they
-/// are, and how many answers are owed then.
+/// Fills the buffer from its front with the next bytes of a step, as many as fit, which the window lets through.
+/// Answers how many they are, and how many answers are owed then.
 fn give_some(bytes: &mut StepBytes<'_>, owed: usize, buffer: &mut [u8]) -> (usize, usize)
     requires { owed ≤ 256 }
     ensures count { result.0 ≡ min (length buffer.old) (length (left bytes.old)) }
@@ -83,7 +84,8 @@ fn asked_by(byte: u8) -> usize
 fn is_held(bytes: &StepBytes<'_>, owed: usize) -> bool
     requires { owed ≤ 256 }
     ensures held { IsTrue result → up_to_reads (left bytes.now) (256 - owed) ≡ [] }
-    ensures free { result ≡ false → owed ≡ 256 → (b : ℕ) (rest : List ℕ) → left bytes.now ≡ b ∷ rest → (b == 82) ≡ false }
+    ensures free { result ≡ false → owed ≡ 256 → (b : ℕ) (rest : List ℕ) → left bytes.now ≡ b ∷ rest
+        → (b == 82) ≡ false }
 {
     owed == WINDOW && asks_next(bytes)
 }

@@ -10,8 +10,8 @@ use crate::progress::{OPENING, Phase, Progress, settled};
 use bitbang::{Spot, StepBytes};
 use svf_settings::Program;
 
-/// Fills the buffer from its front with bytes that wait. Answers where the player stands then, and how many they are: none only
-/// where none waits or there is no room.
+/// Fills the buffer from its front with bytes that wait. Answers where the player stands then, and how many they are:
+/// none only where none waits or there is no room.
 ///
 /// Within a step its bytes are tried first, so that a small buffer does not look twice at what is left of it.
 pub(crate) fn piece(program: &Program, p: Progress, buffer: &mut [u8]) -> (Progress, usize)
@@ -42,15 +42,19 @@ fn settled_piece(program: &Program, p: Progress, buffer: &mut [u8]) -> (Progress
     }
 }
 
-/// Fills the buffer with the bytes that wait, as many as fit. Answers where the player stands then, and how many they are.
+/// Fills the buffer with the bytes that wait, as many as fit. Answers where the player stands then, and how many they
+/// are.
 pub(crate) fn fill(program: &Program, p: Progress, buffer: &mut [u8]) -> (Progress, usize)
     requires stands { Stands program.now.steps p }
     requires good { p.bad ≡ None }
     ensures stands { Stands program.now.steps result.0 }
     ensures state { state_of (program_of program.now) result.0
-        ≡ record (state_of (program_of program.now) p) { given = (state_of (program_of program.now) p).given + result.1 } }
+        ≡ record (state_of (program_of program.now) p) {
+          given = (state_of (program_of program.now) p).given + result.1
+        } }
     ensures count { result.1 ≡ min (length buffer.old) (length (waiting 256 (state_of (program_of program.now) p))) }
-    ensures bytes { buffer.new ≡ take result.1 (waiting 256 (state_of (program_of program.now) p)) ++ drop result.1 buffer.old }
+    ensures bytes { buffer.new
+        ≡ take result.1 (waiting 256 (state_of (program_of program.now) p)) ++ drop result.1 buffer.old }
 {
     let mut p = p;
     let mut count = 0;

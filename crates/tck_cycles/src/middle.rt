@@ -1,6 +1,7 @@
 //! The cycles of a step between its paths.
 
-ghost use Rattle.std.specs.Prelude.{◌≡◌, ◌<◌, ◌-◌, ◌==◌, length, map, replicate, slice_get, Some, Bool, count_by, drop, option_map};
+ghost use Rattle.std.specs.Prelude.{◌≡◌, ◌<◌, ◌-◌, ◌==◌, length, map, replicate, slice_get, Some, Bool, count_by};
+ghost use Rattle.std.specs.Prelude.{drop, option_map};
 ghost use Rattle.scan_vectors.specs.Held.{bits};
 ghost use Rattle.tck_cycles.specs.Cycles as spec;
 
@@ -122,7 +123,8 @@ fn wanted_from(vector: &Vector, at: usize) -> usize
 /// Whether a bit of a vector is wanted.
 fn reads_at(vector: &Vector, place: usize) -> bool
     requires { place < length (bits vector.now) }
-    ensures { option_map {U = Bool} (λ c. c.read) (slice_get (spec.scan_cycles (bits vector.now)) place) ≡ Some result }
+    ensures { option_map {U = Bool} (λ c. c.read) (slice_get (spec.scan_cycles (bits vector.now)) place)
+        ≡ Some result }
 {
     vector.bit(place).1.is_some()
 }
