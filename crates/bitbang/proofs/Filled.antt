@@ -1,12 +1,11 @@
 -- A buffer that is filled by pieces.
-use Rattle.std.proofs.Common.{◌≡◌, ℕ, zero, suc, ◌+◌, ◌*◌, ◌-◌, ◌<◌, ◌≤◌, Bool, true, false, List, [], ◌∷◌, ◌++◌, length, map, take, drop, set, replicate, refl, sym, ap, subst, ◌∙◌, append_assoc, arith, length-append, length-drop, Option, Some, None}
-use Rattle.std.specs.Prelude.{count_by, flat_map, slice_get}
+use Rattle.std.proofs.Common.{◌≡◌, ℕ, zero, suc, ◌+◌, ◌*◌, ◌-◌, ◌<◌, ◌≤◌, Bool, List, [], ◌∷◌, ◌++◌, length, take, drop, replicate, refl, sym, ap, ◌∙◌, append_assoc, arith, length-append, length-drop, Option, None}
+use Rattle.std.specs.Prelude.{slice_get}
 use Rattle.std.proofs.Math.Seq.{drop-append_seam, drop-append-add, take-length}
-use Rattle.std.proofs.lemmas.List.{append-nil, drop-drop, take-append-drop, length-replicate, map-append, replicate-append-replicate}
+use Rattle.std.proofs.lemmas.List.{append-nil, drop-drop, take-append-drop, length-replicate, replicate-append-replicate}
 use Rattle.std.proofs.lemmas.List.Sums.{count_by-le-length}
-use borrow.Rule.Slice.PartMut.{mid_of, post_of, put_mid}
+use borrow.Rule.Slice.PartMut.{put_mid}
 use Rattle.bitbang_table.specs.declared.Cycle.{Cycle}
-use Rattle.bitbang_table.specs.Protocol.{cycle_messages, encode}
 use Rattle.bitbang.specs.declared.begun.Begun.{Begun}
 use Rattle.bitbang.specs.Left.{Fills, bytes_left, bytes_of, bytes_of_cycle, closing, rest}
 use Rattle.bitbang.proofs.Left.{bytes_more, later_left, length-bytes}

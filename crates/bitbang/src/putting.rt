@@ -25,8 +25,16 @@ fn put_cycle(cycle: Cycle, buffer: &mut [u8], at: usize) -> usize
     ensures filled { buffer.new ≡ take at buffer.old ++ bytes_of_cycle cycle ++ drop result buffer.old }
 {
     let Cycle { tms, tdi, read } = cycle;
-    let low = encode(Message::Write { tck: false, tms, tdi });
-    let high = encode(Message::Write { tck: true, tms, tdi });
+    let low = encode(Message::Write {
+        tck: false,
+        tms,
+        tdi,
+    });
+    let high = encode(Message::Write {
+        tck: true,
+        tms,
+        tdi,
+    });
     if read {
         buffer[at] = low;
         buffer[at + 1] = encode(Message::Ask);
