@@ -75,7 +75,7 @@ impl Joined {
         ensures moved { result.moved
             ≡ moving side self.old.down_room self.old.up_room (map event_of events.now) self.old.world }
         ensures world { self.new ≡ record self.old {
-            world = run side self.old.down_room self.old.up_room (map event_of events.now) self.old.world
+          world = run side self.old.down_room self.old.up_room (map event_of events.now) self.old.world;
         } }
     {
         let moved = self.pipes.run(events);

@@ -76,7 +76,7 @@ impl Pipes {
     fn put_piece(&mut self, n: usize) -> usize
         ensures moved { result ≡ length self.new.world.down - length self.old.world.down }
         ensures world { self.new ≡ record self.old {
-            world = put_bytes side self.old.down_room self.old.up_room (min n 64) self.old.world
+          world = put_bytes side self.old.down_room self.old.up_room (min n 64) self.old.world;
         } }
     {
         let room = self.down.capacity() - self.down.len();
@@ -93,7 +93,7 @@ impl Pipes {
     fn take_answer(&mut self) -> bool
         ensures taken { result ≡ nat_lt 0 (length self.old.world.up) }
         ensures world { self.new ≡ record self.old {
-            world = take_answers side self.old.down_room self.old.up_room 1 self.old.world
+          world = take_answers side self.old.down_room self.old.up_room 1 self.old.world;
         } }
     {
         match self.up.pop_front() {
@@ -109,7 +109,7 @@ impl Pipes {
     fn take(&mut self, n: usize) -> usize
         ensures moved { result ≡ length self.old.world.up - length self.new.world.up }
         ensures world { self.new ≡ record self.old {
-            world = take_answers side self.old.down_room self.old.up_room n self.old.world
+          world = take_answers side self.old.down_room self.old.up_room n self.old.world;
         } }
     {
         let mut count = 0;
@@ -123,7 +123,7 @@ impl Pipes {
     fn serve(&mut self, n: usize) -> usize
         ensures moved { result ≡ length self.old.world.down - length self.new.world.down }
         ensures world { self.new ≡ record self.old {
-            world = served self.old.up_room n self.old.world.down self.old.world
+          world = served self.old.up_room n self.old.world.down self.old.world;
         } }
     {
         let mut count = 0;
@@ -137,7 +137,7 @@ impl Pipes {
     fn put(&mut self, n: usize) -> usize
         ensures moved { result ≡ length self.new.world.down - length self.old.world.down }
         ensures world { self.new ≡ record self.old {
-            world = put_bytes side self.old.down_room self.old.up_room n self.old.world
+          world = put_bytes side self.old.down_room self.old.up_room n self.old.world;
         } }
     {
         let mut count = 0;
@@ -165,7 +165,7 @@ impl Pipes {
     fn serve_byte(&mut self) -> bool
         ensures taken { result ≡ is_some (serve_one self.old.up_room self.old.world) }
         ensures world { self.new ≡ record self.old {
-            world = unwrap_or (serve_one self.old.up_room self.old.world) self.old.world
+          world = unwrap_or (serve_one self.old.up_room self.old.world) self.old.world;
         } }
     {
         let Some(byte) = self.down.front() else {
@@ -191,7 +191,7 @@ impl Pipes {
         ensures moved { result
             ≡ nat_lt 0 (moved side self.old.down_room self.old.up_room (event_of event) self.old.world) }
         ensures world { self.new ≡ record self.old {
-            world = happens side self.old.down_room self.old.up_room (event_of event) self.old.world
+          world = happens side self.old.down_room self.old.up_room (event_of event) self.old.world;
         } }
     {
         if self.quit || self.lost {
@@ -213,7 +213,7 @@ impl Pipes {
         ensures moved { result
             ≡ moving side self.old.down_room self.old.up_room (map event_of events.now) self.old.world }
         ensures world { self.new ≡ record self.old {
-            world = run side self.old.down_room self.old.up_room (map event_of events.now) self.old.world
+          world = run side self.old.down_room self.old.up_room (map event_of events.now) self.old.world;
         } }
     {
         let mut moved = 0;

@@ -50,7 +50,7 @@ pub(crate) fn fill(program: &Program, p: Progress, buffer: &mut [u8]) -> (Progre
     ensures stands { Stands program.now.steps result.0 }
     ensures state { state_of (program_of program.now) result.0
         ≡ record (state_of (program_of program.now) p) {
-          given = (state_of (program_of program.now) p).given + result.1
+          given = (state_of (program_of program.now) p).given + result.1;
         } }
     ensures count { result.1 ≡ min (length buffer.old) (length (waiting 256 (state_of (program_of program.now) p))) }
     ensures bytes { buffer.new

@@ -107,7 +107,7 @@ pub(crate) fn entered(program: &Program, at: usize, place: State) -> Progress
     ensures stands { Stands program.now.steps result }
     ensures same { state_of (program_of program.now) result
         ≡ state_at (program_of program.now)
-          (record { over = suc at; gone = 0; heard = 0; failed = None; bad = None }) }
+        (record { over = suc at; gone = 0; heard = 0; failed = None; bad = None }) }
     ensures fewer { ahead program.now.steps result ≤ length (drop at program.now.steps) + 1 }
 {
     if at < program.len() {
