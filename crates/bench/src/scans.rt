@@ -137,18 +137,6 @@ fn judged(vector: &Vector, out: &Bits) -> Row {
     }
 }
 
-/// Takes the bytes into the buffer. Answers how many there are.
-fn fill(buffer: &mut [u8], bytes: StepBytes) -> usize {
-    let mut count = 0;
-    for byte in bytes {
-        if count < buffer.len() {
-            buffer[count] = byte;
-            count += 1;
-        }
-    }
-    count
-}
-
 /// A number of all bytes in their order.
 pub(crate) fn digest(bytes: &[u8]) -> u64 {
     let mut digest: u64 = 0;
@@ -170,7 +158,7 @@ fn scan_bytes(vector: Vector, buffer: &mut [u8]) -> Row {
         };
         let step = Step { number: 1, what };
         for _ in 0..TIMES {
-            count = fill(buffer, StepBytes::of(State::Idle, &step));
+            count = StepBytes::of(State::Idle, &step).fill(buffer);
         }
     }
     row_of(buffer, count)
@@ -186,7 +174,7 @@ fn run_bytes(buffer: &mut [u8]) -> Row {
     let step = Step { number: 1, what };
     let mut count = 0;
     for _ in 0..TIMES {
-        count = fill(buffer, StepBytes::of(State::Idle, &step));
+        count = StepBytes::of(State::Idle, &step).fill(buffer);
     }
     row_of(buffer, count)
 }

@@ -1,5 +1,6 @@
 -- The bytes of a step that are left, some of them being out.
-use Rattle.std.specs.Prelude.{true, false, ℕ, Bool, List, [], ◌∷◌, ◌++◌, map, drop, flat_map, Option, option_to_list}
+use Rattle.std.specs.Prelude.{◌≡◌, ◌≤◌, ◌<◌, true, false, ℕ, Bool, List, [], ◌∷◌, ◌++◌, length, map, take, drop}
+use Rattle.std.specs.Prelude.{flat_map, Option, option_to_list}
 use Rattle.bitbang_table.specs.declared.Message.TheVariants.{Write}
 use Rattle.bitbang_table.specs.declared.Cycle.{Cycle}
 use Rattle.bitbang_table.specs.Protocol.{cycle_messages, encode}
@@ -11,6 +12,10 @@ use Rattle.bitbang.specs.declared.step_bytes.StepBytes.{StepBytes}
 -- the bytes of cycles
 abbrev pub bytes_of : List Cycle → List ℕ
 bytes_of cs = map encode (flat_map cycle_messages cs)
+
+-- those of one cycle
+abbrev pub bytes_of_cycle : Cycle → List ℕ
+bytes_of_cycle c = map encode (cycle_messages c)
 
 -- those of a cycle that are not out
 abbrev pub rest : Begun → List ℕ
@@ -35,3 +40,12 @@ whole s = source.whole s.source
 -- what is left behind a spot of a step with these cycles
 abbrev pub behind : Spot → List Cycle → List ℕ
 behind spot cs = bytes_left spot.line spot.begun (source.behind spot.source cs) spot.closes
+
+-- Bytes were put to the front of a buffer: so many of those that were left, none only where none was left or there was
+-- no room.
+pub record Fills (before buffer after now : List ℕ) (count : ℕ) : Type 0 where
+  pub room : count ≤ length buffer
+  pub some : count ≤ length before
+  pub filled : after ≡ take count before ++ drop count buffer
+  pub left : now ≡ drop count before
+  pub none : 0 < length buffer → count ≡ 0 → before ≡ []

@@ -2,6 +2,7 @@
 #![tactic(auto)]
 
 mod begun;
+mod putting;
 mod step_bytes;
 
 pub use bitbang_table::{

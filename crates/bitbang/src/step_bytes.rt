@@ -8,6 +8,7 @@ ghost use Rattle.bitbang.specs.StepMessages.{line_message};
 ghost use Rattle.svf_settings.specs.Seen as seen;
 
 use crate::begun::Begun;
+use crate::putting::put_cycles;
 use bitbang_table::Message;
 use jt_tap::State;
 use svf_parse::TrstWord;
@@ -38,14 +39,14 @@ pub struct StepBytes<'a> {
 }
 
 impl<'a> StepBytes<'a> {
-    ghost use Rattle.std.specs.Prelude.{◌≡◌, ◌-◌, ◌^◌, true, length, min, slice_get};
+    ghost use Rattle.std.specs.Prelude.{◌≡◌, ◌-◌, ◌^◌, ◌++◌, true, false, drop, length, min, slice_get, take, None};
     ghost use Rattle.jt_tap.specs.Controller.{is_stable};
     ghost use Rattle.svf_settings.specs.Legal.{IsFormed};
     ghost use Rattle.svf_settings.specs.Laws.{IsWithin};
     ghost use Rattle.svf_settings.specs.Seen as seen;
     ghost use Rattle.tck_cycles.specs.Cycles.{cycles};
     ghost use Rattle.bitbang.specs.StepMessages.{step_bytes};
-    ghost use Rattle.bitbang.specs.Left.{behind, left, whole};
+    ghost use Rattle.bitbang.specs.Left.{Fills, behind, left, rest, whole};
     ghost use Rattle.std.specs.Iterator.{YieldsFirst};
 
     /// The bytes of a step from a resting place. Takes no memory.
@@ -104,7 +105,8 @@ impl<'a> StepBytes<'a> {
         fitted(cycles + u128::from(others))
     }
 
-    /// The next byte, which is out then, as `next` gives it. It tells too that the bytes are still those of the same step.
+    /// The next byte, which is out then, as `next` gives it. It tells too that the bytes are still those of the same
+    /// step.
     pub fn next_byte(&mut self) -> Option<u8>
         ensures gives { YieldsFirst left self.old result self.new }
         ensures whole { whole self.new ≡ whole self.old }
@@ -128,6 +130,65 @@ impl<'a> StepBytes<'a> {
             }
             None => None,
         }
+    }
+
+    /// Fills the buffer from its front with the next bytes, as many as fit; they are out then. Answers how many they
+    /// are.
+    pub fn fill(&mut self, buffer: &mut [u8]) -> usize
+        ensures count { result ≡ min (length buffer.old) (length (left self.old)) }
+        ensures filled { buffer.new ≡ take result (left self.old) ++ drop result buffer.old }
+        ensures left { left self.new ≡ drop result (left self.old) }
+        ensures whole { whole self.new ≡ whole self.old }
+    {
+        let mut count = 0;
+        while count < buffer.len() {
+            let more = self.fill_some(&mut buffer[count..]);
+            if more == 0 {
+                return count;
+            }
+            count += more;
+        }
+        count
+    }
+
+    /// Puts some of the next bytes to the front of the buffer, none only where none is left or there is no room.
+    fn fill_some(&mut self, buffer: &mut [u8]) -> usize
+        ensures fills { Fills (left self.old) buffer.old buffer.new (left self.new) result }
+        ensures whole { whole self.new ≡ whole self.old }
+    {
+        if self.is_within() || buffer.len() < 3 {
+            return self.fill_one(buffer);
+        }
+        let most = buffer.len() as u64 / 3;
+        let (cycle, times) = self.source.next_alike(most);
+        if times == 0 {
+            return self.fill_one(buffer);
+        }
+        put_cycles(cycle, times as usize, buffer)
+    }
+
+    /// Puts the next byte to the front of the buffer, if there is one, and room for it.
+    fn fill_one(&mut self, buffer: &mut [u8]) -> usize
+        ensures fills { Fills (left self.old) buffer.old buffer.new (left self.new) result }
+        ensures whole { whole self.new ≡ whole self.old }
+    {
+        if buffer.is_empty() {
+            return 0;
+        }
+        match self.next_byte() {
+            Some(byte) => {
+                buffer[0] = byte;
+                1
+            }
+            None => 0,
+        }
+    }
+
+    /// Whether the next byte is that of the line TRST, or one of a cycle that is begun.
+    fn is_within(&self) -> bool
+        ensures between { result ≡ false → (self.now.line ≡ None) × (slice_get (rest self.now.begun) 0 ≡ None) }
+    {
+        self.line.is_some() || self.begun.peek().is_some()
     }
 
     /// The next byte, which stays the next one.

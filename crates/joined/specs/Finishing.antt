@@ -1,5 +1,6 @@
 -- Playing on until the end: why it comes.
-use Rattle.std.specs.Prelude.{◌≡◌, Bool, true, ◌||◌, ℕ, ◌+◌, ◌*◌, ◌-◌, ◌^◌, ◌<◌, List, [], ◌∷◌, length, min, Option, Some, None, if◌then◌else◌}
+use Rattle.std.specs.Prelude.{◌≡◌, Bool, true, ◌||◌, ℕ, ◌+◌, ◌*◌, ◌-◌, ◌^◌, ◌<◌, List, [], ◌∷◌, length, min, Option}
+use Rattle.std.specs.Prelude.{Some, None, if◌then◌else◌}
 use Rattle.plays.specs.declared.ending.Ending.{Ending}
 use Rattle.plays.specs.declared.ending.Ending.TheVariants.{Lost}
 use Rattle.plays.specs.Streams as stream
@@ -45,4 +46,6 @@ pub record IsFinished (before after : JoinedState) : Type 0 where
 
 -- How a play stands: lost at the command in work, or once the board took `Q` with what the player tells of its end.
 abbrev pub ended_of : World StreamState → Option Ending
-ended_of w = if w.lost then Some (Lost (min (stream.working w.player) (2 ^ 64 - 1))) else if w.quit then stream.ended 256 w.player else None
+ended_of w =
+    if w.lost then Some (Lost (min (stream.working w.player) (2 ^ 64 - 1)))
+    else if w.quit then stream.ended 256 w.player else None

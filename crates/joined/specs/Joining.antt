@@ -1,5 +1,6 @@
 -- Player and board joined by two bounded pipes, as the program holds them.
-use Rattle.std.specs.Prelude.{◌≡◌, Bool, not, ◌||◌, ℕ, ◌+◌, ◌==◌, List, [], ◌∷◌, ◌++◌, map, Option, Some, None, if◌then◌else◌}
+use Rattle.std.specs.Prelude.{◌≡◌, Bool, not, ◌||◌, ℕ, ◌+◌, ◌==◌, List, [], ◌∷◌, ◌++◌, map, Option, Some, None}
+use Rattle.std.specs.Prelude.{if◌then◌else◌}
 use Rattle.bitbang_table.specs.Protocol.{answer, decode}
 use Rattle.circular_buffer.specs.Buffer.{Buffer}
 use Rattle.board_meaning.specs.Chain.{BoardState}
@@ -39,7 +40,8 @@ serve_one capacity w = one w.down
   where
     one : List ℕ → Option (World StreamState)
     one [] = None
-    one (b ∷ bytes) = if w.quit || not (has_room capacity w (decode b)) then None else Some (taken_byte bytes (decode b) w)
+    one (b ∷ bytes) =
+        if w.quit || not (has_room capacity w (decode b)) then None else Some (taken_byte bytes (decode b) w)
 
 abbrev pub event_of : declared.Event → Event
 event_of (happening.Put n) = Put n

@@ -25,19 +25,23 @@ pub record EndsAsTheFullPlay (program : Program) (b : BoardState) (w : World Str
 
 abbrev pub WhatIsJoinedEndsAsTheFullPlay : Type 0
 WhatIsJoinedEndsAsTheFullPlay = (program : Program) (b : BoardState) (down_room up_room : ℕ) (es : List Event)
-    → (joined_after program b down_room up_room es).quit ≡ true → EndsAsTheFullPlay program b (joined_after program b down_room up_room es)
+    → (joined_after program b down_room up_room es).quit ≡ true
+    → EndsAsTheFullPlay program b (joined_after program b down_room up_room es)
 
--- For every legal program, every sound board that has a device, every room of the two pipes and every order of events: a play that
--- ends unlost has the verdict of the program's meaning over whole registers from the state after the opening, and leaves the board at
--- rest where this meaning does.
+-- For every legal program, every sound board that has a device, every room of the two pipes and every order of events:
+-- a play that ends unlost has the verdict of the program's meaning over whole registers from the state after the
+-- opening, and leaves the board at rest where this meaning does.
 abbrev pub WhatIsJoinedMeansTheProgram : Type 0
-WhatIsJoinedMeansTheProgram = (program : Program) (b : BoardState) (down_room up_room : ℕ) (es : List Event) (ending : Ending)
-    → IsLegalProgram program.steps → IsSoundBoard b → HasDevice b → let w = joined_after program b down_room up_room es in
+WhatIsJoinedMeansTheProgram = (program : Program) (b : BoardState) (down_room up_room : ℕ) (es : List Event)
+    → (ending : Ending) → IsLegalProgram program.steps → IsSoundBoard b → HasDevice b
+    → let w = joined_after program b down_room up_room es in
     w.lost ≡ false → ended_of w ≡ Some ending → MeansFromOpening program b ending w.board
 
--- What more events make of a joined play: if the play came from this program and this board, and ends unlost, it means the program.
+-- What more events make of a joined play: if the play came from this program and this board, and ends unlost, it means
+-- the program.
 abbrev pub MeansAfter : JoinedState → World StreamState → Type 0
 MeansAfter before after = (program : Program) (start : BoardState) (es : List Event)
     → before.world ≡ joined_after program start before.down_room before.up_room es
     → IsLegalProgram program.steps → IsSoundBoard start → HasDevice start
-    → (ending : Ending) → after.lost ≡ false → ended_of after ≡ Some ending → MeansFromOpening program start ending after.board
+    → (ending : Ending) → after.lost ≡ false → ended_of after ≡ Some ending
+    → MeansFromOpening program start ending after.board

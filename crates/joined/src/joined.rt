@@ -52,7 +52,8 @@ impl Joined {
         requires fresh { player ≡ fresh Stops player.program }
         requires down { 0 < down }
         requires up { 0 < up }
-        ensures { MatchResult result (λ j. j ≡ record { world = empty_pipes player board; down_room = down; up_room = up })
+        ensures { MatchResult result
+            (λ j. j ≡ record { world = empty_pipes player board; down_room = down; up_room = up })
             (λ back. (back.player ≡ player) × (back.board ≡ board)) }
     {
         match Pipes::new(alloc, player, board, down, up) {
@@ -61,18 +62,21 @@ impl Joined {
         }
     }
 
-    /// What a list of events does: how many of them moved something, and how the play stands then. After an end or a loss nothing
-    /// changes.
+    /// What a list of events does: how many of them moved something, and how the play stands then. After an end or a
+    /// loss nothing changes.
     ///
-    /// For every accepted program, every board of sound devices, every room of the pipes and every order of events: a play that ends
-    /// unlost gives exactly the verdict, and leaves exactly the registers and pin levels, of the register-level meaning from the state
-    /// after the opening.
+    /// For every accepted program, every board of sound devices, every room of the pipes and every order of events: a
+    /// play that ends unlost gives exactly the verdict, and leaves exactly the registers and pin levels, of the
+    /// register-level meaning from the state after the opening.
     pub fn run(&mut self, events: &[Event]) -> Standing
         ensures ended { result.ended ≡ ended_of self.new.world }
         ensures lost { result.lost ≡ self.new.world.lost }
         ensures means { MeansAfter self.old self.new.world }
-        ensures moved { result.moved ≡ moving side self.old.down_room self.old.up_room (map event_of events.now) self.old.world }
-        ensures world { self.new ≡ record self.old { world = run side self.old.down_room self.old.up_room (map event_of events.now) self.old.world } }
+        ensures moved { result.moved
+            ≡ moving side self.old.down_room self.old.up_room (map event_of events.now) self.old.world }
+        ensures world { self.new ≡ record self.old {
+          world = run side self.old.down_room self.old.up_room (map event_of events.now) self.old.world;
+        } }
     {
         let moved = self.pipes.run(events);
         Standing {

@@ -1,8 +1,10 @@
 //! The two pipes, and what each event does to them.
 
-ghost use Rattle.std.specs.Prelude.{◌≡◌, ◌≤◌, ◌<◌, ◌+◌, ◌-◌, ℕ, Bool, [], min, length, take, map, is_some, nat_lt, false, unwrap_or, Some, MatchResult};
+ghost use Rattle.std.specs.Prelude.{◌≡◌, ◌≤◌, ◌<◌, ◌+◌, ◌-◌, ℕ, Bool, [], min, length, take, map, is_some, nat_lt};
+ghost use Rattle.std.specs.Prelude.{false, unwrap_or, Some, MatchResult};
 ghost use Rattle.bitbang_table.specs.Protocol.{decode};
-ghost use Rattle.plays.specs.Events.{empty_pipes, happens, has_room, moved, moving, put_bytes, run, served, take_answers};
+ghost use Rattle.plays.specs.Events.{empty_pipes, happens, has_room, moved, moving, put_bytes, run, served};
+ghost use Rattle.plays.specs.Events.{take_answers};
 ghost use Rattle.joined.specs.Finishing.{IsFinished, IsReached, ended_of, is_over};
 ghost use Rattle.joined.specs.Joining.{event_of, serve_one, side};
 
@@ -49,7 +51,8 @@ impl Pipes {
         down: usize,
         up: usize,
     ) -> Result<Pipes, Unjoined>
-        ensures { MatchResult result (λ j. j ≡ record { world = empty_pipes player board; down_room = down; up_room = up })
+        ensures { MatchResult result
+            (λ j. j ≡ record { world = empty_pipes player board; down_room = down; up_room = up })
             (λ back. (back.player ≡ player) × (back.board ≡ board)) }
     {
         let Ok(down) = HeapCircularBuffer::with_capacity(alloc, down) else {
@@ -68,15 +71,20 @@ impl Pipes {
         })
     }
 
-    /// Puts some of the player's next bytes into the down pipe: as many as wait, have room, and are asked for, and a piece
-    /// at most.
+    /// Puts some of the player's next bytes into the down pipe: as many as wait, have room, and are asked for, and a
+    /// piece at most.
     fn put_piece(&mut self, n: usize) -> usize
         ensures moved { result ≡ length self.new.world.down - length self.old.world.down }
-        ensures world { self.new ≡ record self.old { world = put_bytes side self.old.down_room self.old.up_room (min n 64) self.old.world } }
+        ensures world { self.new ≡ record self.old {
+          world = put_bytes side self.old.down_room self.old.up_room (min n 64) self.old.world;
+        } }
     {
         let room = self.down.capacity() - self.down.len();
-        let mut piece = [0; PIECE];
         let ask = n.min(PIECE).min(room);
+        if ask == 0 {
+            return 0;
+        }
+        let mut piece = [0; PIECE];
         let count = self.player.next_bytes(&mut piece[..ask]);
         self.down.fill_from_slice(&piece[..count])
     }
@@ -84,7 +92,9 @@ impl Pipes {
     /// The player takes one answer, if there is one.
     fn take_answer(&mut self) -> bool
         ensures taken { result ≡ nat_lt 0 (length self.old.world.up) }
-        ensures world { self.new ≡ record self.old { world = take_answers side self.old.down_room self.old.up_room 1 self.old.world } }
+        ensures world { self.new ≡ record self.old {
+          world = take_answers side self.old.down_room self.old.up_room 1 self.old.world;
+        } }
     {
         match self.up.pop_front() {
             Some(answer) => {
@@ -98,7 +108,9 @@ impl Pipes {
     /// The player takes up to n answers.
     fn take(&mut self, n: usize) -> usize
         ensures moved { result ≡ length self.old.world.up - length self.new.world.up }
-        ensures world { self.new ≡ record self.old { world = take_answers side self.old.down_room self.old.up_room n self.old.world } }
+        ensures world { self.new ≡ record self.old {
+          world = take_answers side self.old.down_room self.old.up_room n self.old.world;
+        } }
     {
         let mut count = 0;
         while count < n && self.take_answer() {
@@ -110,7 +122,9 @@ impl Pipes {
     /// The board takes up to n bytes.
     fn serve(&mut self, n: usize) -> usize
         ensures moved { result ≡ length self.old.world.down - length self.new.world.down }
-        ensures world { self.new ≡ record self.old { world = served self.old.up_room n self.old.world.down self.old.world } }
+        ensures world { self.new ≡ record self.old {
+          world = served self.old.up_room n self.old.world.down self.old.world;
+        } }
     {
         let mut count = 0;
         while count < n && self.serve_byte() {
@@ -122,7 +136,9 @@ impl Pipes {
     /// The player puts up to n bytes into the down pipe.
     fn put(&mut self, n: usize) -> usize
         ensures moved { result ≡ length self.new.world.down - length self.old.world.down }
-        ensures world { self.new ≡ record self.old { world = put_bytes side self.old.down_room self.old.up_room n self.old.world } }
+        ensures world { self.new ≡ record self.old {
+          world = put_bytes side self.old.down_room self.old.up_room n self.old.world;
+        } }
     {
         let mut count = 0;
         while count < n {
@@ -148,7 +164,9 @@ impl Pipes {
     /// Lets the board take one byte, unless it is an `R` whose answer has no room. Answers whether it took one.
     fn serve_byte(&mut self) -> bool
         ensures taken { result ≡ is_some (serve_one self.old.up_room self.old.world) }
-        ensures world { self.new ≡ record self.old { world = unwrap_or (serve_one self.old.up_room self.old.world) self.old.world } }
+        ensures world { self.new ≡ record self.old {
+          world = unwrap_or (serve_one self.old.up_room self.old.world) self.old.world;
+        } }
     {
         let Some(byte) = self.down.front() else {
             return false;
@@ -170,8 +188,11 @@ impl Pipes {
 
     /// What an event does. Answers whether it moved something.
     pub(crate) fn happen(&mut self, event: Event) -> bool
-        ensures moved { result ≡ nat_lt 0 (moved side self.old.down_room self.old.up_room (event_of event) self.old.world) }
-        ensures world { self.new ≡ record self.old { world = happens side self.old.down_room self.old.up_room (event_of event) self.old.world } }
+        ensures moved { result
+            ≡ nat_lt 0 (moved side self.old.down_room self.old.up_room (event_of event) self.old.world) }
+        ensures world { self.new ≡ record self.old {
+          world = happens side self.old.down_room self.old.up_room (event_of event) self.old.world;
+        } }
     {
         if self.quit || self.lost {
             return false;
@@ -189,8 +210,11 @@ impl Pipes {
 
     /// A whole schedule. Answers how many of its events moved something.
     pub(crate) fn run(&mut self, events: &[Event]) -> u64
-        ensures moved { result ≡ moving side self.old.down_room self.old.up_room (map event_of events.now) self.old.world }
-        ensures world { self.new ≡ record self.old { world = run side self.old.down_room self.old.up_room (map event_of events.now) self.old.world } }
+        ensures moved { result
+            ≡ moving side self.old.down_room self.old.up_room (map event_of events.now) self.old.world }
+        ensures world { self.new ≡ record self.old {
+          world = run side self.old.down_room self.old.up_room (map event_of events.now) self.old.world;
+        } }
     {
         let mut moved = 0;
         for i in 0..events.len() {

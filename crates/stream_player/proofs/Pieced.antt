@@ -240,7 +240,7 @@ module _ (program : Program) (p : Progress) (spot : Spot) (is : p.phase ≡ With
             let more : 0 < p.owed = ready empty in absurd (omega (arith, e))
         by (suc o) e = w.waits ∙ (λ k. no-elements (up_to_reads left (256 - p.owed)) none k ++ w.none (omega (arith, e)) k)
 
-    pub gives-step : IsReady rest p (Within spot) → Gives program p buffer after next count
+    pub gives-step : (count ≡ 0 → IsReady rest p (Within spot)) → Gives program p buffer after next count
     gives-step ready =
         let w = in-bytes-left in
         let through = up_to_reads left (256 - p.owed) in
@@ -254,7 +254,7 @@ module _ (program : Program) (p : Progress) (spot : Spot) (is : p.phase ≡ With
           some = omega (arith, fits, ap length w.waits, length-append through w.tail);
           room = omega (arith, counted);
           bytes = filled ∙ ap (λ (l : List ℕ). l ++ drop count buffer) (sym front);
-          none = λ room zero-count. nothing w (omega (arith, counted, zero-count, room)) ready;
+          none = λ room zero-count. nothing w (omega (arith, counted, zero-count, room)) (ready zero-count);
         }
 
 pub none-of : (failed : Option declared.Mismatch) → is_some failed ≡ false → failed ≡ None

@@ -1,5 +1,6 @@
 -- What the fields of a player say of where it stands in its play.
-use Rattle.std.specs.Prelude.{◌≡◌, ◌≤◌, ◌<◌, ◌+◌, ◌-◌, ℕ, suc, Bool, true, false, List, [], ◌∷◌, ◌++◌, length, take, drop, filter, is_some, option_map, Option, Some, None}
+use Rattle.std.specs.Prelude.{◌≡◌, ◌≤◌, ◌<◌, ◌+◌, ◌-◌, ℕ, suc, Bool, true, false, List, [], ◌∷◌, ◌++◌, length, take}
+use Rattle.std.specs.Prelude.{drop, filter, is_some, option_map, Option, Some, None}
 use Rattle.jt_tap.specs.Controller.{is_stable}
 use Rattle.jt_tap.specs.declared.State.{State}
 use Rattle.jt_tap.specs.declared.State.TheVariants.{Reset}
@@ -96,7 +97,8 @@ pub record InStep (spot : Spot) (rest : List Numbered) (p : Progress) : Type 0 w
   pub some : length (rest_of p.place rest spot) ≤ present p.place rest
   pub asked : reads (take (gone rest p) (step_bytes p.place step.what)) ≡ p.heard + p.owed
   pub allowed : p.owed ≤ 256
-  pub judged : p.failed ≡ None → filter (λ v. is_some v.wanted) (drop p.judged (vector_bits step.what)) ≡ drop p.heard (wants_of step.what)
+  pub judged : p.failed ≡ None
+      → filter (λ v. is_some v.wanted) (drop p.judged (vector_bits step.what)) ≡ drop p.heard (wants_of step.what)
   pub fair : is_some p.failed ≡ true → 0 < p.heard
   pub bad : is_some p.bad ≡ true → 0 < p.owed
 
@@ -104,12 +106,17 @@ pub record InStep (spot : Spot) (rest : List Numbered) (p : Progress) : Type 0 w
 pub record IsOver (rest : List Numbered) (p : Progress) : Type 0 where
   pub passed : p.failed ≡ None → (rest ≡ []) × (p.heard ≡ 0)
   pub stopped : is_some p.failed ≡ true
-      → (step : Numbered) × (later : List Numbered) × (rest ≡ step ∷ later) × (p.heard ≡ length (wants_of step.what)) × (0 < p.heard)
+      → (step : Numbered) × (later : List Numbered) × (rest ≡ step ∷ later) × (p.heard ≡ length (wants_of step.what))
+      × (0 < p.heard)
   pub owed : p.owed ≡ 0
   pub bad : p.bad ≡ None
 
 abbrev pub InPhase : List Numbered → Progress → Phase → Type 0
-InPhase rest p phase = elim phase [ Opening n ↦ InOpening n p | Within spot ↦ InStep spot rest p | Over out ↦ IsOver rest p ]
+InPhase rest p phase = elim phase [
+  | Opening n ↦ InOpening n p
+  | Within spot ↦ InStep spot rest p
+  | Over out ↦ IsOver rest p
+]
 
 -- the fields of a player of these steps
 pub record Stands (steps : List Numbered) (p : Progress) : Type 0 where
@@ -128,9 +135,10 @@ IsReady rest p phase = elim phase [
 abbrev pub ahead : List Numbered → Progress → ℕ
 ahead steps p = elim p.phase [ Opening n ↦ length steps + 2 | Within spot ↦ length steps - p.at + 1 | Over out ↦ 0 ]
 
--- Bytes were given out to the front of a buffer: the next that wait, as many as were counted; none only where there is no room or
--- nothing waits.
-pub record Gives (program : Program) (p : Progress) (buffer after : List ℕ) (next : Progress) (count : ℕ) : Type 0 where
+-- Bytes were given out to the front of a buffer: the next that wait, as many as were counted; none only where there is
+-- no room or nothing waits.
+pub record Gives (program : Program) (p : Progress) (buffer after : List ℕ) (next : Progress)
+    (count : ℕ) : Type 0 where
   pub stands : Stands program.steps next
   pub good : next.bad ≡ None
   pub state : state_of program next ≡ record (state_of program p) { given = (state_of program p).given + count }

@@ -1,5 +1,6 @@
 -- Where a player that stops at the first failing step stands in its play.
-use Rattle.std.specs.Prelude.{ℕ, Bool, zero, suc, ◌+◌, ◌==◌, List, [], ◌∷◌, ◌++◌, length, take, Option, Some, None, if◌then◌else◌}
+use Rattle.std.specs.Prelude.{ℕ, Bool, zero, suc, ◌+◌, ◌==◌, List, [], ◌∷◌, ◌++◌, length, take, Option, Some, None}
+use Rattle.std.specs.Prelude.{if◌then◌else◌}
 use Rattle.bitbang_table.specs.declared.Message.{Message}
 use Rattle.scan_vectors.specs.Vector.{VectorBit, differs}
 use Rattle.svf_settings.specs.Steps.{Program}
@@ -7,8 +8,8 @@ use Rattle.plays.specs.Play.{Turn, turns}
 use Rattle.plays.specs.PlayingOn.{Mismatch, Stops}
 use Rattle.plays.specs.Streams.{Found, StreamState}
 
--- how many turns are over, how many messages of the present one are out and how many of its answers are there, what differed,
--- and the byte that was no answer, if one came
+-- how many turns are over, how many messages of the present one are out and how many of its answers are there, what
+-- differed, and the byte that was no answer, if one came
 pub record Standing : Type 0 where
   pub over : ℕ
   pub gone : ℕ
@@ -55,7 +56,8 @@ reads (b ∷ bytes) = if b == 82 then suc (reads bytes) else reads bytes
 
 -- what differs of an answer to a wanted bit of a command
 abbrev pub differing_bit : ℕ → VectorBit → Bool → Option Mismatch
-differing_bit command w bit = if differs w.wanted bit then Some (record { command = command; part = w.part; place = w.place }) else None
+differing_bit command w bit =
+    if differs w.wanted bit then Some (record { command = command; part = w.part; place = w.place }) else None
 
 -- the first that differs is kept
 abbrev pub first_of : Option Mismatch → Option Mismatch → Option Mismatch

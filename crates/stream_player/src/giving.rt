@@ -1,6 +1,7 @@
 //! Giving out the bytes of a step.
 
-ghost use Rattle.std.specs.Prelude.{◌≡◌, [], false, IsTrue, ◌≤◌, ◌==◌, ◌+◌, ◌-◌, ◌++◌, ◌∷◌, ℕ, List, Some, drop, length, min, slice_get, take, if◌then◌else◌};
+ghost use Rattle.std.specs.Prelude.{◌≡◌, [], false, IsTrue, ◌≤◌, ◌<◌, ◌==◌, ◌+◌, ◌-◌, ◌++◌, ◌∷◌, ℕ, List, Some, drop};
+ghost use Rattle.std.specs.Prelude.{length, min, slice_get, take, if◌then◌else◌};
 ghost use Rattle.bitbang.specs.Left.{left, whole};
 ghost use Rattle.stream_player.specs.Standing.{reads, up_to_reads};
 
@@ -9,8 +10,8 @@ use bitbang::StepBytes;
 /// How many answers may be owed.
 pub(crate) const WINDOW: usize = 256;
 
-/// Fills the buffer from its front with the next bytes of a step, as many as fit and as the window of owed answers lets through.
-/// Answers how many they are, and how many answers are owed then.
+/// Fills the buffer from its front with the next bytes of a step, as many as fit and as the window of owed answers
+/// lets through. Answers how many they are, and how many answers are owed then.
 pub(crate) fn give(bytes: &mut StepBytes<'_>, owed: usize, buffer: &mut [u8]) -> (usize, usize)
     requires { owed ≤ 256 }
     ensures count { result.0 ≡ min (length buffer.old) (length (up_to_reads (left bytes.old) (256 - owed))) }
@@ -26,21 +27,65 @@ pub(crate) fn give(bytes: &mut StepBytes<'_>, owed: usize, buffer: &mut [u8]) ->
         if is_held(bytes, owed) {
             return (count, owed);
         }
-        let Some(byte) = bytes.next_byte() else {
+        let most = most_at_once(owed).min(buffer.len() - count);
+        let (more, after) = give_some(bytes, owed, &mut buffer[count..count + most]);
+        if more == 0 {
             return (count, owed);
-        };
-        owed = owed_after(owed, byte);
-        buffer[count] = byte;
-        count += 1;
+        }
+        owed = after;
+        count += more;
     }
     (count, owed)
+}
+
+/// How many bytes the window lets through, whatever they are, where it lets the next one through.
+fn most_at_once(owed: usize) -> usize
+    requires { owed ≤ 256 }
+    ensures some { 0 < result }
+    ensures most { result ≤ 256 - owed + (if owed == 256 then 1 else 0) }
+{
+    if owed == WINDOW { 1 } else { WINDOW - owed }
+}
+
+/// Fills the buffer from its front with the next bytes of a step, as many as fit, which the window lets through.
+/// Answers how many they are, and how many answers are owed then.
+fn give_some(bytes: &mut StepBytes<'_>, owed: usize, buffer: &mut [u8]) -> (usize, usize)
+    requires { owed ≤ 256 }
+    ensures count { result.0 ≡ min (length buffer.old) (length (left bytes.old)) }
+    ensures filled { buffer.new ≡ take result.0 (left bytes.old) ++ drop result.0 buffer.old }
+    ensures left { left bytes.new ≡ drop result.0 (left bytes.old) }
+    ensures whole { whole bytes.new ≡ whole bytes.old }
+    ensures owed { result.1 ≡ owed + reads (take result.0 (left bytes.old)) }
+{
+    let count = bytes.fill(buffer);
+    (count, owed + reads_in(&buffer[..count]))
+}
+
+/// How many of these bytes ask for TDO.
+fn reads_in(bytes: &[u8]) -> usize
+    ensures value { result ≡ reads bytes.now }
+    ensures most { result ≤ length bytes.now }
+{
+    let mut asked = 0;
+    for i in 0..bytes.len() {
+        asked += asked_by(bytes[i]);
+    }
+    asked
+}
+
+/// How many answers a byte asks for.
+fn asked_by(byte: u8) -> usize
+    ensures { result ≡ (if byte == 82 then 1 else 0) }
+{
+    if byte == b'R' { 1 } else { 0 }
 }
 
 /// Whether the next byte is held back: it asks for TDO, and as many answers are owed as may be.
 fn is_held(bytes: &StepBytes<'_>, owed: usize) -> bool
     requires { owed ≤ 256 }
     ensures held { IsTrue result → up_to_reads (left bytes.now) (256 - owed) ≡ [] }
-    ensures free { result ≡ false → owed ≡ 256 → (b : ℕ) (rest : List ℕ) → left bytes.now ≡ b ∷ rest → (b == 82) ≡ false }
+    ensures free { result ≡ false → owed ≡ 256 → (b : ℕ) (rest : List ℕ) → left bytes.now ≡ b ∷ rest
+        → (b == 82) ≡ false }
 {
     owed == WINDOW && asks_next(bytes)
 }
@@ -54,12 +99,4 @@ fn asks_next(bytes: &StepBytes<'_>) -> bool
         Some(byte) => byte == b'R',
         None => false,
     }
-}
-
-/// How many answers are owed once a byte is out.
-fn owed_after(owed: usize, byte: u8) -> usize
-    requires { owed ≤ 256 }
-    ensures { result ≡ owed + (if byte == 82 then 1 else 0) }
-{
-    if byte == b'R' { owed + 1 } else { owed }
 }

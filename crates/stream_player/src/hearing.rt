@@ -1,6 +1,7 @@
 //! Taking the answers.
 
-ghost use Rattle.std.specs.Prelude.{◌≡◌, ◌<◌, ◌+◌, ◌∷◌, false, true, List, [], MatchOption, None, Some, drop, is_some, length, option_map, slice_get};
+ghost use Rattle.std.specs.Prelude.{◌≡◌, ◌<◌, ◌+◌, ◌∷◌, false, true, List, [], MatchOption, None, Some, drop, is_some};
+ghost use Rattle.std.specs.Prelude.{length, option_map, slice_get};
 ghost use Rattle.scan_vectors.specs.Held.{bits};
 ghost use Rattle.scan_vectors.specs.Vector.{VectorBit};
 ghost use Rattle.direct_play.specs.Judging.{wanted};
@@ -19,8 +20,8 @@ use direct_play::{difference, next_wanted};
 use scan_vectors::Vector;
 use svf_settings::{Action, Program, Step};
 
-/// Takes as many answers as are owed, up to and with the first that is none. Answers where the player stands then, and how many were
-/// taken.
+/// Takes as many answers as are owed, up to and with the first that is none. Answers where the player stands then, and
+/// how many were taken.
 pub(crate) fn hear(program: &Program, p: Progress, bytes: &[u8]) -> (Progress, usize)
     requires { Stands program.now.steps p }
     ensures stands { Stands program.now.steps result.0 }
@@ -55,7 +56,8 @@ pub(crate) fn hear(program: &Program, p: Progress, bytes: &[u8]) -> (Progress, u
 
 /// The vector that a step scans, if it does.
 fn vector_of<'a>(what: &Action<'a>) -> Option<Vector<'a>>
-    ensures { MatchOption result (vector_bits (seen.step what.now) ≡ []) (λ v. vector_bits (seen.step what.now) ≡ bits v) }
+    ensures { MatchOption result (vector_bits (seen.step what.now) ≡ [])
+        (λ v. vector_bits (seen.step what.now) ≡ bits v) }
 {
     match what {
         Action::Scan { vector, .. } => Some(*vector),
@@ -100,8 +102,10 @@ fn hear_one(
 fn judged(command: usize, vector: &Vector<'_>, p: Progress, bit: bool) -> Progress
     ensures kept { is_some p.failed ≡ true → result ≡ p }
     ensures rest { result ≡ record p { judged = result.judged; failed = result.failed } }
-    ensures judged { p.failed ≡ None → (w : VectorBit) (ws : List VectorBit) → wanted (drop p.judged (bits vector.now)) ≡ w ∷ ws
-        → (wanted (drop result.judged (bits vector.now)) ≡ ws) × (option_map mismatch result.failed ≡ differing_bit command w bit) }
+    ensures judged { p.failed ≡ None → (w : VectorBit) (ws : List VectorBit)
+        → wanted (drop p.judged (bits vector.now)) ≡ w ∷ ws
+        → (wanted (drop result.judged (bits vector.now)) ≡ ws)
+        × (option_map mismatch result.failed ≡ differing_bit command w bit) }
 {
     if p.failed.is_some() {
         return p;

@@ -10,9 +10,26 @@ use crate::progress::{OPENING, Phase, Progress, settled};
 use bitbang::{Spot, StepBytes};
 use svf_settings::Program;
 
-/// Fills the buffer from its front with bytes that wait. Answers where the player stands then, and how many they are: none only
-/// where none waits or there is no room.
+/// Fills the buffer from its front with bytes that wait. Answers where the player stands then, and how many they are:
+/// none only where none waits or there is no room.
+///
+/// Within a step its bytes are tried first, so that a small buffer does not look twice at what is left of it.
 pub(crate) fn piece(program: &Program, p: Progress, buffer: &mut [u8]) -> (Progress, usize)
+    requires stands { Stands program.now.steps p }
+    requires good { p.bad ≡ None }
+    ensures { Gives (program_of program.now) p buffer.old buffer.new result.0 result.1 }
+{
+    if let Phase::Within(spot) = p.phase {
+        let (next, count) = step_piece(program, p, spot, buffer);
+        if count > 0 {
+            return (next, count);
+        }
+    }
+    settled_piece(program, p, buffer)
+}
+
+/// The same, of the turn that is next at work.
+fn settled_piece(program: &Program, p: Progress, buffer: &mut [u8]) -> (Progress, usize)
     requires stands { Stands program.now.steps p }
     requires good { p.bad ≡ None }
     ensures { Gives (program_of program.now) p buffer.old buffer.new result.0 result.1 }
@@ -25,15 +42,19 @@ pub(crate) fn piece(program: &Program, p: Progress, buffer: &mut [u8]) -> (Progr
     }
 }
 
-/// Fills the buffer with the bytes that wait, as many as fit. Answers where the player stands then, and how many they are.
+/// Fills the buffer with the bytes that wait, as many as fit. Answers where the player stands then, and how many they
+/// are.
 pub(crate) fn fill(program: &Program, p: Progress, buffer: &mut [u8]) -> (Progress, usize)
     requires stands { Stands program.now.steps p }
     requires good { p.bad ≡ None }
     ensures stands { Stands program.now.steps result.0 }
     ensures state { state_of (program_of program.now) result.0
-        ≡ record (state_of (program_of program.now) p) { given = (state_of (program_of program.now) p).given + result.1 } }
+        ≡ record (state_of (program_of program.now) p) {
+          given = (state_of (program_of program.now) p).given + result.1;
+        } }
     ensures count { result.1 ≡ min (length buffer.old) (length (waiting 256 (state_of (program_of program.now) p))) }
-    ensures bytes { buffer.new ≡ take result.1 (waiting 256 (state_of (program_of program.now) p)) ++ drop result.1 buffer.old }
+    ensures bytes { buffer.new
+        ≡ take result.1 (waiting 256 (state_of (program_of program.now) p)) ++ drop result.1 buffer.old }
 {
     let mut p = p;
     let mut count = 0;
@@ -64,13 +85,14 @@ fn opening_piece(program: &Program, p: Progress, n: usize, buffer: &mut [u8]) ->
     (Progress { phase, ..p }, 1)
 }
 
-/// The next bytes of a step.
+/// The next bytes of a step; none where none is left, as many answers are owed as may be, or there is no room.
 fn step_piece(program: &Program, p: Progress, spot: Spot, buffer: &mut [u8]) -> (Progress, usize)
     requires stands { Stands program.now.steps p }
     requires is { p.phase ≡ Phase.Within spot }
-    requires ready { IsReady (drop p.at program.now.steps) p (Phase.Within spot) }
     requires good { p.bad ≡ None }
-    ensures { Gives (program_of program.now) p buffer.old buffer.new result.0 result.1 }
+    ensures gives { (result.1 ≡ 0 → IsReady (drop p.at program.now.steps) p (Phase.Within spot))
+        → Gives (program_of program.now) p buffer.old buffer.new result.0 result.1 }
+    ensures none { result.1 ≡ 0 → buffer.new ≡ buffer.old }
 {
     let step = program.step(p.at);
     let mut bytes = StepBytes::resume(p.place, &step, spot);

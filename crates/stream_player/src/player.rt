@@ -15,12 +15,12 @@ use std::alloc::Global;
 use std::marker::Model;
 use svf_settings::Program;
 
-/// The player of one program: a pure machine that gives out the bytes of the play and takes the answers to them. It judges each
-/// answer as it comes and keeps none; up to 256 may be owed within one step.
+/// The player of one program: a pure machine that gives out the bytes of the play and takes the answers to them. It
+/// judges each answer as it comes and keeps none; up to 256 may be owed within one step.
 ///
-/// Contracts see it as the program, how many bytes were given out, how many answers were taken, the first wanted bit that
-/// differed, and the byte that was no answer, if one came (`StreamState`); these determine what it may send next, how many answers
-/// are owed, and how the play has ended. No call takes memory.
+/// Contracts see it as the program, how many bytes were given out, how many answers were taken, the first wanted bit
+/// that differed, and the byte that was no answer, if one came (`StreamState`); these determine what it may send next,
+/// how many answers are owed, and how the play has ended. No call takes memory.
 #[derive(Debug, Drop)]
 pub struct Player {
     program: Program,
@@ -53,8 +53,8 @@ impl Player {
         })
     }
 
-    /// Fills the buffer with the next bytes that may be sent: as many as fit and as the owed answers allow. Answers how
-    /// many they are.
+    /// Fills the buffer with the next bytes that may be sent: as many as fit and as the owed answers allow. Answers
+    /// how many they are.
     pub fn next_bytes(&mut self, buffer: &mut [u8]) -> usize
         ensures count { result ≡ min (length buffer.old) (length (waiting 256 self.old)) }
         ensures bytes { buffer.new ≡ take result (waiting 256 self.old) ++ drop result buffer.old }
@@ -68,8 +68,8 @@ impl Player {
         count
     }
 
-    /// Takes answers, the bytes that came back for the `R`s that were given out: as many as are owed, up to and with the
-    /// first that is neither `0` nor `1`, which ends the play. Answers how many were taken.
+    /// Takes answers, the bytes that came back for the `R`s that were given out: as many as are owed, up to and with
+    /// the first that is neither `0` nor `1`, which ends the play. Answers how many were taken.
     pub fn answers(&mut self, bytes: &[u8]) -> usize
         ensures count { result ≡ length (taken 256 self.old bytes.now) }
         ensures player { self.new ≡ hear_all (taken 256 self.old bytes.now) self.old }
@@ -86,8 +86,9 @@ impl Player {
         telling::ended(&self.program, self.progress)
     }
 
-    /// The command in work: 0 during the opening, then the statement of the first step not yet sent and answered, and afterwards the
-    /// count of statements plus 1 (or the largest number, where that is more). A step that sends nothing is never in work.
+    /// The command in work: 0 during the opening, then the statement of the first step not yet sent and answered, and
+    /// afterwards the count of statements plus 1 (or the largest number, where that is more). A step that sends
+    /// nothing is never in work.
     pub fn working(&self) -> usize
         ensures { result ≡ min (stream.working self.now) (2 ^ 64 - 1) }
     {

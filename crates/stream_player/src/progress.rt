@@ -14,8 +14,8 @@ use tck_cycles::place_after;
 /// How many bytes open a play.
 pub(crate) const OPENING: &[u8; 12] = b"r26262626260";
 
-/// A wanted bit that did not come out: the statement of its step, counted from 1, its part of the vector and its place there,
-/// counted from 0.
+/// A wanted bit that did not come out: the statement of its step, counted from 1, its part of the vector and its place
+/// there, counted from 0.
 #[derive(Debug, Clone, Copy, PartialEq, Eq)]
 pub struct Mismatch {
     pub command: usize,
@@ -77,7 +77,16 @@ impl Progress {
 
     /// A turn of which nothing is out.
     fn before(phase: Phase, at: usize, place: State) -> Progress
-        ensures { result ≡ record { phase = phase; at = at; place = place; heard = 0; owed = 0; judged = 0; failed = None; bad = None } }
+        ensures { result ≡ record {
+          phase = phase;
+          at = at;
+          place = place;
+          heard = 0;
+          owed = 0;
+          judged = 0;
+          failed = None;
+          bad = None;
+        } }
     {
         Progress {
             phase,
@@ -97,7 +106,8 @@ pub(crate) fn entered(program: &Program, at: usize, place: State) -> Progress
     requires rests { Rests program.now.steps at place }
     ensures stands { Stands program.now.steps result }
     ensures same { state_of (program_of program.now) result
-        ≡ state_at (program_of program.now) (record { over = suc at; gone = 0; heard = 0; failed = None; bad = None }) }
+        ≡ state_at (program_of program.now)
+        (record { over = suc at; gone = 0; heard = 0; failed = None; bad = None }) }
     ensures fewer { ahead program.now.steps result ≤ length (drop at program.now.steps) + 1 }
 {
     if at < program.len() {
@@ -109,7 +119,8 @@ pub(crate) fn entered(program: &Program, at: usize, place: State) -> Progress
     }
 }
 
-/// The next turn, where nothing of the present one is left to be done: all its bytes are out, and all its answers are there.
+/// The next turn, where nothing of the present one is left to be done: all its bytes are out, and all its answers are
+/// there.
 pub(crate) fn advanced(program: &Program, p: Progress) -> Option<Progress>
     requires stands { Stands program.now.steps p }
     ensures { MatchOption result (IsReady (drop p.at program.now.steps) p p.phase)

@@ -1,11 +1,12 @@
 -- The cycles of a step, place by place.
-use Rattle.std.proofs.Common.{◌≡◌, ℕ, zero, suc, ◌+◌, ◌-◌, ◌<◌, ◌≤◌, Bool, true, false, List, [], ◌∷◌, ◌++◌, map, drop, length, replicate, get_or, nat_eq, refl, sym, ap, ◌∙◌, arith, Option, Some, None, is_some, length-append, add-one, lit≤, if◌then◌else◌, cond, zero-add}
+use Rattle.std.proofs.Common.{◌≡◌, ℕ, zero, suc, ◌+◌, ◌-◌, ◌<◌, ◌≤◌, Bool, true, false, List, [], ◌∷◌, ◌++◌, map, drop, length, replicate, get_or, nat_eq, refl, sym, ap, ◌∙◌, arith, Option, Some, None, is_some, length-append, append_assoc, add-one, lit≤, if◌then◌else◌, cond, zero-add}
 use Rattle.std.specs.Prelude.{slice_get, option_map, count_by}
 use Rattle.std.specs.Int.{from_bool}
 use Rattle.std.proofs.lemmas.List.Sums.{sum_by-append, sum_by-cons, count_by-le-length}
 use Rattle.std.proofs.Math.ListN.{drop_of_length-le}
 use Rattle.std.proofs.lemmas.Bool.Decides.{nat_tests}
-use Rattle.std.proofs.lemmas.List.{length-replicate, length-map, length-drop}
+use Rattle.std.proofs.Math.Seq.{drop-append-add, drop-append_seam}
+use Rattle.std.proofs.lemmas.List.{drop-append-le, drop-drop, drop-replicate, length-drop, length-map, length-replicate, replicate-append-replicate}
 use Rattle.std.proofs.lemmas.Option.{slice_get_read, slice_get_past}
 use Rattle.scan_vectors.specs.Vector.{VectorBit}
 use Rattle.scan_vectors.proofs.Places.{get-left, get-right}
@@ -161,6 +162,39 @@ first_left [] zero = refl
 first_left [] (suc i) = refl
 first_left (x ∷ xs) zero = refl
 first_left (x ∷ xs) (suc i) = first_left xs i
+
+-- ---- cycles that are alike
+
+-- within the cycles of a stay
+pub alike_stayed : {A : Type 0} (l t : List A) (n k i : ℕ) (w : A) → i ≡ length l + k → k ≤ n
+    → drop i (l ++ replicate n w ++ t) ≡ replicate (n - k) w ++ drop (i + (n - k)) (l ++ replicate n w ++ t)
+alike_stayed l t n k i w e h =
+    let stay = replicate n w in
+    let size = length-replicate n w in
+    let fits : k ≤ length stay = omega (arith, size, h) in
+    let end : i + (n - k) ≡ length (l ++ stay) = omega (arith, e, h, size, length-append l stay) in
+    ap (λ xs. drop i xs) (append_assoc l stay t)
+    ∙ ap (λ j. drop j (l ++ (stay ++ t))) e
+    ∙ drop-append-add l (stay ++ t) k
+    ∙ drop-append-le k stay t fits
+    ∙ ap (λ xs. xs ++ t) (drop-replicate k n w)
+    ∙ ap (λ xs. replicate (n - k) w ++ xs) (sym (ap (λ j. drop j (l ++ stay ++ t)) end ∙ drop-append_seam (l ++ stay) t))
+
+-- fewer of them
+pub alike_fewer : {A : Type 0} (xs : List A) (i n m : ℕ) (w : A) → m ≤ n → drop i xs ≡ replicate n w ++ drop (i + n) xs
+    → drop i xs ≡ replicate m w ++ drop (i + m) xs
+alike_fewer xs i n m w h e =
+    let rest = drop (i + n) xs in
+    let size = length-replicate n w in
+    let fits : m ≤ length (replicate n w) = omega (arith, size, h) in
+    let all : m + (n - m) ≡ n = omega (arith, h) in
+    let later : drop (i + m) xs ≡ replicate (n - m) w ++ rest =
+    sym (drop-drop m i xs) ∙ ap (drop m) e ∙ drop-append-le m (replicate n w) rest fits ∙ ap (λ ys. ys ++ rest) (drop-replicate m n w) in
+    e
+    ∙ ap (λ j. replicate j w ++ rest) (sym all)
+    ∙ ap (λ ys. ys ++ rest) (sym (replicate-append-replicate m (n - m) w))
+    ∙ append_assoc (replicate m w) (replicate (n - m) w) rest
+    ∙ ap (λ ys. replicate m w ++ ys) (sym later)
 
 -- ---- cycles that read
 

@@ -20,7 +20,8 @@ go_unless_there from to = if is_at from to then [] else go from to
 
 -- The cycles of a step from a resting place.
 abbrev pub cycles : State → Step → List Cycle
-cycles place (Scan column v end) = map walk (to_shift place column) ++ scan_cycles v ++ map walk (from_exit1 column end)
+cycles place (Scan column v end) =
+    map walk (to_shift place column) ++ scan_cycles v ++ map walk (from_exit1 column end)
 cycles place (Go s) = map walk (go place s)
 cycles place (Path path) = map walk path
 cycles place (Run run n end) =

@@ -1,5 +1,5 @@
 -- The cycles of a step between its paths.
-use Rattle.std.specs.Prelude.{List, map, replicate}
+use Rattle.std.specs.Prelude.{false, List, map, replicate}
 use Rattle.scan_vectors.specs.Held.{bits}
 use Rattle.bitbang_table.specs.declared.Cycle.{Cycle}
 use Rattle.tck_cycles.specs.declared.middle.Middle.{Middle}
@@ -10,3 +10,8 @@ abbrev pub middle_cycles : Middle → List Cycle
 middle_cycles (middle.Path path) = map walk path.now
 middle_cycles (middle.Vector v) = scan_cycles (bits v)
 middle_cycles (middle.Stay s n) = replicate n (walk s)
+
+-- the cycle that stays in a state, where there is one
+abbrev pub stayed : Middle → Cycle
+stayed (middle.Stay s n) = walk s
+stayed _ = record { tms = false; tdi = false; read = false }

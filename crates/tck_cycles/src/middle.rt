@@ -1,6 +1,7 @@
 //! The cycles of a step between its paths.
 
-ghost use Rattle.std.specs.Prelude.{◌≡◌, ◌<◌, ◌-◌, ◌==◌, length, map, replicate, slice_get, Some, Bool, count_by, drop, option_map};
+ghost use Rattle.std.specs.Prelude.{◌≡◌, ◌<◌, ◌-◌, ◌==◌, length, map, replicate, slice_get, Some, Bool, count_by};
+ghost use Rattle.std.specs.Prelude.{drop, option_map};
 ghost use Rattle.scan_vectors.specs.Held.{bits};
 ghost use Rattle.tck_cycles.specs.Cycles as spec;
 
@@ -22,7 +23,7 @@ pub(crate) enum Middle<'a> {
 
 impl<'a> Middle<'a> {
     ghost use Rattle.std.specs.Prelude.{◌≡◌, ◌<◌, length, slice_get, Some, count_by, drop};
-    ghost use Rattle.tck_cycles.specs.Middles.{middle_cycles};
+    ghost use Rattle.tck_cycles.specs.Middles.{middle_cycles, stayed};
 
     /// How many cycles there are.
     pub(crate) fn len(&self) -> u64
@@ -43,6 +44,16 @@ impl<'a> Middle<'a> {
             Middle::Path(path) => path_cycle(path, at),
             Middle::Vector(vector) => bit_cycle(vector, at as usize),
             Middle::Stay(state, cycles) => stay_cycle(*state, *cycles, at),
+        }
+    }
+
+    /// The cycle that stays, where there is one.
+    pub(crate) fn stayed(&self) -> Cycle
+        ensures { result ≡ stayed self.now }
+    {
+        match self {
+            Middle::Stay(state, _) => walk(*state),
+            _ => Cycle::default(),
         }
     }
 
@@ -112,7 +123,8 @@ fn wanted_from(vector: &Vector, at: usize) -> usize
 /// Whether a bit of a vector is wanted.
 fn reads_at(vector: &Vector, place: usize) -> bool
     requires { place < length (bits vector.now) }
-    ensures { option_map {U = Bool} (λ c. c.read) (slice_get (spec.scan_cycles (bits vector.now)) place) ≡ Some result }
+    ensures { option_map {U = Bool} (λ c. c.read) (slice_get (spec.scan_cycles (bits vector.now)) place)
+        ≡ Some result }
 {
     vector.bit(place).1.is_some()
 }

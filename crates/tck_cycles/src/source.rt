@@ -33,9 +33,10 @@ pub struct Source<'a> {
 }
 
 impl<'a> Source<'a> {
-    ghost use Rattle.std.specs.Prelude.{◌≡◌, ◌≤◌, ◌<◌, ◌+◌, ◌^◌, ◌++◌, map, true, length, slice_get, count_by};
+    ghost use Rattle.std.specs.Prelude.{[], ◌≡◌, ◌≤◌, ◌<◌, ◌+◌, ◌^◌, ◌++◌, map, true, length, slice_get, count_by};
+    ghost use Rattle.std.specs.Prelude.{drop, replicate};
     ghost use Rattle.arrayvec.specs.ArrayVec.{array_vec_len};
-    ghost use Rattle.tck_cycles.specs.Middles.{middle_cycles};
+    ghost use Rattle.tck_cycles.specs.Middles.{middle_cycles, stayed};
     ghost use Rattle.jt_tap.specs.Controller.{is_stable};
     ghost use Rattle.svf_settings.specs.Legal.{IsFormed};
     ghost use Rattle.svf_settings.specs.Laws.{IsWithin};
@@ -143,7 +144,8 @@ impl<'a> Source<'a> {
         self.present()
     }
 
-    /// The next cycle, which is behind then, as `next` gives it. It tells too that the source is still one of the same cycles.
+    /// The next cycle, which is behind then, as `next` gives it. It tells too that the source is still one of the same
+    /// cycles.
     pub fn next_cycle(&mut self) -> Option<Cycle>
         ensures gives { YieldsFirst left self.old result self.new }
         ensures whole { whole self.new ≡ whole self.old }
@@ -154,6 +156,51 @@ impl<'a> Source<'a> {
                 self.at += 1;
                 Some(cycle)
             }
+        }
+    }
+
+    /// The next cycle, and how often it comes at once, as far as it is known and at most as often as is asked for.
+    /// They are behind then. It comes 0 times where none is left.
+    pub fn next_alike(&mut self, most: u64) -> (Cycle, u64)
+        requires { 0 < most }
+        ensures gives { left self.old ≡ replicate result.1 result.0 ++ left self.new }
+        ensures most { result.1 ≤ most }
+        ensures none { result.1 ≡ 0 → left self.old ≡ [] }
+        ensures whole { whole self.new ≡ whole self.old }
+    {
+        let (cycle, times) = self.alike();
+        let times = times.min(most);
+        self.at += times;
+        (cycle, times)
+    }
+
+    /// The cycle at which the source stands, and how often it comes from there at once, as far as it is known.
+    fn alike(&self) -> (Cycle, u64)
+        ensures gives { left self.now ≡ replicate result.1 result.0 ++ drop (self.now.at + result.1) (whole self.now) }
+        ensures none { result.1 ≡ 0 → left self.now ≡ [] }
+        ensures fits { 0 < result.1 → self.now.at + result.1 < 2 ^ 64 }
+    {
+        let stays = self.stays();
+        if stays > 0 {
+            return (self.middle.stayed(), stays);
+        }
+        match self.present() {
+            Some(cycle) => (cycle, 1),
+            None => (Cycle::default(), 0),
+        }
+    }
+
+    /// How many of the cycles from where the source stands stay in one state, as far as it is known.
+    fn stays(&self) -> u64
+        ensures gives { 0 < result
+            → left self.now
+            ≡ replicate result (stayed self.now.middle) ++ drop (self.now.at + result) (whole self.now) }
+        ensures fits { 0 < result → self.now.at + result < 2 ^ 64 }
+    {
+        let lead = self.lead.len() as u64;
+        match self.middle {
+            Middle::Stay(_, cycles) if lead <= self.at => cycles.saturating_sub(self.at - lead),
+            _ => 0,
         }
     }
 

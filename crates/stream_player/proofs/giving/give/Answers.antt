@@ -1,9 +1,10 @@
-use Rattle.std.proofs.Common.{◌≡◌, ◌≤◌, ◌+◌, ◌-◌, ℕ, Bool, true, false, List, [], ◌∷◌, drop, length, refl, sym, ap, subst, ◌∙◌, arith}
-use Rattle.std.specs.Prelude.{◌==◌}
+use Rattle.std.proofs.Common.{◌≡◌, ◌≤◌, ◌+◌, ◌-◌, ◌++◌, ℕ, List, [], take, drop, length, sym, ap, ◌∙◌, arith, length-drop}
+use Rattle.std.proofs.lemmas.List.{drop-drop}
 use Rattle.bitbang.specs.Left.{left}
-use Rattle.direct_play.proofs.Buffers.{filled}
+use Rattle.bitbang.proofs.Filled.{filled-part}
 use Rattle.stream_player.specs.Standing.{reads, up_to_reads}
-use Rattle.stream_player.proofs.GivenOut.{all-given, held, lets, one-less, reads-more}
+use Rattle.stream_player.proofs.GivenOut.{all-given, few-reads, past, reach}
+use Rattle.stream_player.proofs.Pieced.{reads-append}
 use Rattle.stream_player.proofs.giving.give.Goals as goal
 
 pub returns-then-is_held-clause-count : goal.returns-then-is_held-clause-count
@@ -12,34 +13,33 @@ returns-then-is_held-clause-count c =
     all-given c.loop-count.count (length c.args.buffer.now) (up_to_reads (left c.args.bytes.now) (256 - c.args.owed)) i.room i.through
     (i.ahead ∙ c.is_held.ensures.held c.if-is_held.true)
 
-pub returns-in_default-clause-count : goal.returns-in_default-clause-count
-returns-in_default-clause-count c =
-    let i = c.loop-count.invariant in
-    let none : left c.loop-count.bytes ≡ [] = c.in_default.ensures.gives.0 in
-    all-given c.loop-count.count (length c.args.buffer.now) (up_to_reads (left c.args.bytes.now) (256 - c.args.owed)) i.room i.through
-    (i.ahead ∙ ap (λ (l : List ℕ). up_to_reads l (256 - c.loop-count.owed)) none)
-
 pub loop-count-preserved : goal.loop-count-preserved
 loop-count-preserved c =
     let i = c.loop-count.invariant in
+    let e = c.give_some-more.ensures in
     let all = left c.args.bytes.now in
-    let rest = left c.next_byte.new.self in
-    let b = c.in-Some.byte in
-    let first : left c.loop-count.bytes ≡ b ∷ rest = c.in-Some.ensures.gives in
-    let let-through = lets b rest c.loop-count.owed c.owed_after-owed.result i.allowed (λ full. c.is_held.ensures.free c.if-is_held.false full b rest first)
-    c.owed_after-owed.ensures in
-    let less = one-less c.loop-count.count (up_to_reads all (256 - c.args.owed)) (up_to_reads rest (256 - c.owed_after-owed.result)) b
-    (i.ahead ∙ ap (λ (l : List ℕ). up_to_reads l (256 - c.loop-count.owed)) first ∙ let-through.is) in
-    let more = filled all c.loop-count.buffer c.args.buffer.now c.loop-count.count b rest (left c.loop-count.bytes)
-    i.filled i.rest first (omega (arith, c.loop-count-test.true, c.loop-count.auto.buffer)) in
+    let now = left c.loop-count.bytes in
+    let n = c.loop-count.count in
+    let m = c.give_some-more.result.0 in
+    let w = n + c.min-most.result - n in
+    let wide : w ≡ c.min-most.result = omega arith in
+    let free = 256 - c.loop-count.owed in
+    let through = up_to_reads all (256 - c.args.owed) in
+    let short : m ≤ w = omega (arith, wide, e.count) in
+    let few = few-reads m c.loop-count.owed now i.allowed (omega (arith, short, wide, c.min-most.ensures, c.most_at_once.ensures.most))
+    (c.is_held.ensures.free c.if-is_held.false) in
+    let fits : m ≤ length now = omega (arith, e.count) in
+    let reaches = reach m now free fits few in
+    let later : free - reads (take m now) ≡ 256 - c.give_some-more.result.1 = omega (arith, e.owed) in
+    let piece = e.filled ∙ ap (λ (l : List ℕ). take m l ++ drop m (take w (drop n c.loop-count.buffer))) i.rest in
     record {
-      room = omega (arith, c.loop-count-test.true, c.loop-count.auto.buffer);
-      some = more.some;
-      through = less.0;
-      ahead = less.1;
-      filled = more.bytes;
-      rest = more.rest;
-      whole = c.in-Some.ensures.whole ∙ i.whole;
-      owed = omega (arith, c.owed_after-owed.ensures, i.owed, reads-more c.loop-count.count all b rest (sym i.rest ∙ first));
-      allowed = let-through.allowed;
+      room = omega (arith, short, wide, c.min-most.ensures, c.loop-count.auto.buffer, c.loop-count-test.true);
+      some = omega (arith, fits, ap length i.rest, length-drop n all, i.some);
+      through = omega (arith, reaches, ap length i.ahead, length-drop n through, i.through);
+      ahead = sym (drop-drop m n through) ∙ ap (drop m) i.ahead ∙ past m now free few ∙ (λ j. up_to_reads (sym e.left j) (later j));
+      filled = filled-part n m w all c.loop-count.buffer c.args.buffer.now c.give_some-more.new.buffer i.some short i.filled piece;
+      rest = e.left ∙ ap (drop m) i.rest ∙ drop-drop m n all;
+      whole = e.whole ∙ i.whole;
+      owed = omega (arith, e.owed, i.owed, reads-append m n all, ap (λ (l : List ℕ). reads (take m l)) i.rest);
+      allowed = omega (arith, e.owed, few, i.allowed);
     }

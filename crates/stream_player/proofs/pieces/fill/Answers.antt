@@ -2,7 +2,8 @@ use Rattle.std.proofs.Common.{◌≡◌, ◌+◌, ◌-◌, ◌≤◌, ◌++◌, 
 use Rattle.svf_settings.specs.Sizes.{program_of}
 use Rattle.plays.specs.Streams.{StreamState, waiting}
 use Rattle.stream_player.specs.Progress.{state_of}
-use Rattle.stream_player.proofs.Filled.{filled-more, waiting-more}
+use Rattle.bitbang.proofs.Filled.{filled-more}
+use Rattle.stream_player.proofs.Filled.{waiting-more}
 use Rattle.stream_player.proofs.pieces.fill.Goals as goal
 
 pub loop-count-preserved : goal.loop-count-preserved

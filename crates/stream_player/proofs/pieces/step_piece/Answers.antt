@@ -22,8 +22,8 @@ resume-bytes-requires-clause-within c =
     let s = numbered c.step-step.result in
     (first steps c.args.p.at c.args.p.place c.requires.stands.rests s (drop (suc c.args.p.at) steps) (cut steps c.args.p.at s c.step-step.ensures)).within
 
-pub returns : goal.returns
-returns c =
+pub returns-clause-gives : goal.returns-clause-gives
+returns-clause-gives c = λ ready.
     let steps = c.args.program.now.steps in
     let p = c.args.p in
     let s = numbered c.step-step.result in
@@ -41,4 +41,4 @@ returns c =
     (c.give-count.ensures.filled ∙ ap (λ (l : List ℕ). take c.give-count.result.0 l ++ drop c.give-count.result.0 c.args.buffer.now) (sym is))
     now
     (c.give-count.ensures.owed ∙ ap (λ (l : List ℕ). p.owed + reads (take c.give-count.result.0 l)) (sym is))
-    c.give-count.ensures.allowed c.requires.ready
+    c.give-count.ensures.allowed ready

@@ -1,0 +1,18 @@
+use Rattle.std.proofs.Common.{arith}
+use Rattle.tck_cycles.specs.Sources as source
+use Rattle.bitbang.specs.Left.{left}
+use Rattle.bitbang.proofs.Filled.{cycles-first, fills-front, most-bytes, some-bytes}
+use Rattle.bitbang.proofs.step_bytes.StepBytes.fill_some.Goals as goal
+
+pub returns-clause-fills : goal.returns-clause-fills
+returns-clause-fills c =
+    let s = c.args.self.now in
+    let between = c.is_within.ensures.between c.if-is_within.false in
+    let n = c.next_alike-times.result.1 in
+    let cycle = c.next_alike-times.result.0 in
+    fills-front (left s) c.args.buffer.now _ _ _ _
+    (cycles-first s.line s.begun (source.left s.source) _ s.closes n cycle between.0 between.1 c.next_alike-times.ensures.gives)
+    c.put_cycles.ensures.count
+    (omega (arith, c.put_cycles.ensures.count, most-bytes n cycle, c.next_alike-times.ensures.most))
+    c.put_cycles.ensures.filled
+    (omega (arith, c.put_cycles.ensures.count, some-bytes n cycle (omega (arith, c.if-times-eq0.false))))

@@ -1,0 +1,19 @@
+use Rattle.std.proofs.Common.{◌≡◌, drop, subst, sym}
+use Rattle.svf_settings.specs.Sizes.{program_of}
+use Rattle.stream_player.specs.declared.progress.Phase.{Phase}
+use Rattle.stream_player.specs.Progress.{IsReady}
+use Rattle.stream_player.proofs.Pieced.{gives-same}
+use Rattle.stream_player.proofs.pieces.settled_piece.Goals as goal
+
+pub returns-in-Opening : goal.returns-in-Opening
+returns-in-Opening c = gives-same (program_of c.args.program.now) c.args.p c.settled-p.result c.args.buffer.now _ _ _ c.settled-p.ensures.same c.opening_piece.ensures
+
+pub returns-in-Within : goal.returns-in-Within
+returns-in-Within c =
+    let now = c.settled-p.result in
+    let rest = drop now.at c.args.program.now.steps in
+    gives-same (program_of c.args.program.now) c.args.p now c.args.buffer.now _ _ _ c.settled-p.ensures.same
+    (c.step_piece.ensures.gives (λ _. subst (λ (phase : Phase). IsReady rest now phase) c.in-Within.is c.settled-p.ensures.ready))
+
+pub returns-in-Over : goal.returns-in-Over
+returns-in-Over c = gives-same (program_of c.args.program.now) c.args.p c.settled-p.result c.args.buffer.now _ _ _ c.settled-p.ensures.same c.quit_piece.ensures
