@@ -15,7 +15,7 @@ ghost use Rattle.scan_registers.specs.Registers.{captured, put, chosen, updated,
 use crate::decode::{Decoded, decode, fixed_bits, instruction_of};
 use crate::start::{code_length, has_code, new_users, reset_latch};
 use crate::users::{self, UserRegister};
-use crate::{Mode, Register, Selected, SharedDevice};
+use crate::{Link, Mode, Register, Selected, SharedDevice};
 use jt_bits::Bits;
 use jt_tap::{Column, State, Work};
 use std::alloc::{AllocError, Global};
@@ -388,6 +388,32 @@ impl<B: Register> Chip<B> {
             _ => None,
         }
     }
+}
+
+impl<B: Register> Link for Chip<B> {
+    ghost use Rattle.scan_registers.specs.Chips.{IsPut, registers};
+    ghost use Rattle.scan_registers.specs.Registers as meant;
+    ghost use Rattle.scan_registers.specs.Puts.{put_nothing, put_both};
+
+    ghost register = { λ c column. meant.chosen c.device column (registers B.stage B.update_part c) };
+
+    ghost is_put = { λ c column bits d. IsPut B.stage B.update_part B.with_parts column bits c d };
+
+    fn register_len(&self, column: Column) -> usize {
+        self.chosen_len(column)
+    }
+
+    fn register_word(&self, column: Column, i: usize) -> u64 {
+        self.chosen_word(column, i)
+    }
+
+    fn put_register(&mut self, column: Column, at: usize, bits: u64, n: usize) {
+        self.put_chosen(column, at, bits, n);
+    }
+
+    ghost put_none = { λ c column. put_nothing B.stage B.update_part B.with_parts B.parts_same c column };
+
+    ghost put_twice = { λ a b c column s t h k. put_both B.stage B.update_part B.with_parts B.parts_twice a b c column s t h k };
 }
 
 /// A register takes the bits, if there are some.
