@@ -24,6 +24,13 @@ no_tdo n i j tdi (Some bits) mask none = absurd (cc)
 pub nothing_wanted : (f : Fields) (i j : ℕ) → f.tdo ≡ None → wanted_of (has_bit 0 j) (has_bit 0 j) ≡ wanted_bit f i
 nothing_wanted f i j none = no_tdo f.len i j f.tdi f.tdo f.mask none
 
+no_tdo_bit : (n i : ℕ) (tdi tdo mask : Option (List Bool)) → tdo ≡ None → wanted_bit (record { len = n; tdi = tdi; tdo = tdo; mask = mask }) i ≡ None
+no_tdo_bit n i tdi None mask none = refl
+no_tdo_bit n i tdi (Some bits) mask none = absurd (cc)
+
+pub unwanted_bit : (f : Fields) (i : ℕ) → f.tdo ≡ None → wanted_bit f i ≡ None
+unwanted_bit f i none = no_tdo_bit f.len i f.tdi f.tdo f.mask none
+
 pub get-tdi : (vs : List VectorBit) (i : ℕ) → slice_get (tdis vs) i ≡ option_map {U = Bool} (λ (b : VectorBit). b.tdi) (slice_get vs i)
 get-tdi [] i = refl
 get-tdi (v ∷ vs) zero = refl
@@ -48,6 +55,23 @@ wanted_run : (vs : List VectorBit) (p : Part) (f : Fields) (i k care word len : 
     → ((j : ℕ) → j < len → wanted_of (has_bit care j) (has_bit word j) ≡ wanted_bit f (k + j)) → Wanted vs i care word len
 wanted_run vs p f i k care word len stands is j h =
     ap (option_map {U = Option Bool} (λ (b : VectorBit). b.wanted)) (stands j h) ∙ ap Some (sym (is j h))
+
+abbrev Unwanted : List VectorBit → ℕ → ℕ → Type 0
+Unwanted vs i len = (j : ℕ) → j < len → wanted_at vs (i + j) ≡ Some None
+
+unwanted_run : (vs : List VectorBit) (p : Part) (f : Fields) (i k len : ℕ) → ((j : ℕ) → j < len → slice_get vs (i + j) ≡ Some (part_bit p f (k + j)))
+    → ((j : ℕ) → j < len → wanted_bit f (k + j) ≡ None) → Unwanted vs i len
+unwanted_run vs p f i k len stands is j h =
+    ap (option_map {U = Option Bool} (λ (b : VectorBit). b.wanted)) (stands j h) ∙ ap Some (is j h)
+
+pub header_unwanted : (h b t : Fields) (i len : ℕ) → i + len ≤ h.len → ((j : ℕ) → j < len → wanted_bit h (i + j) ≡ None) → Unwanted (vector_of h b t) i len
+header_unwanted h b t i len in_ is = unwanted_run (vector_of h b t) _ h i i len (λ j s. in_header h b t (i + j) (omega arith)) is
+
+pub body_unwanted : (h b t : Fields) (i k len : ℕ) → i ≡ h.len + k → k + len ≤ b.len → ((j : ℕ) → j < len → wanted_bit b (k + j) ≡ None) → Unwanted (vector_of h b t) i len
+body_unwanted h b t i k len at in_ is = unwanted_run (vector_of h b t) _ b i k len (λ j s. in_body h b t (i + j) (k + j) (omega arith) (omega arith)) is
+
+pub trailer_unwanted : (h b t : Fields) (i k len : ℕ) → i ≡ h.len + b.len + k → k + len ≤ t.len → ((j : ℕ) → j < len → wanted_bit t (k + j) ≡ None) → Unwanted (vector_of h b t) i len
+trailer_unwanted h b t i k len at in_ is = unwanted_run (vector_of h b t) _ t i k len (λ j s. in_trailer h b t (i + j) (k + j) (omega arith) (omega arith)) is
 
 module _ (h b t : Fields) (i k word care len : ℕ) (few : len ≤ 64) where
   pub header_tdi : i + len ≤ h.len → ((j : ℕ) → j < 64 → has_bit word j ≡ field_bit false h.tdi (i + j)) → Tdi (vector_of h b t) i word len

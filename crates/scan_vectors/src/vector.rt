@@ -14,7 +14,7 @@ pub struct Vector<'a> {
 }
 
 impl<'a> Vector<'a> {
-    ghost use Rattle.std.specs.Prelude.{◌≡◌, ◌+◌, ◌<◌, ◌≤◌, ◌^◌, Bool, Option, Some, ℕ, length, slice_get, option_map};
+    ghost use Rattle.std.specs.Prelude.{◌≡◌, ◌+◌, ◌<◌, ◌≤◌, ◌^◌, Bool, Option, Some, None, ℕ, length, slice_get, option_map};
     ghost use Rattle.jt_bits.specs.Packed.{has_bit};
     ghost use Rattle.scan_vectors.specs.declared.part.Part as declared;
     ghost use Rattle.scan_vectors.specs.Fields.{vector_of};
@@ -86,6 +86,22 @@ impl<'a> Vector<'a> {
             self.body.wanted_run(i - self.header.len)
         } else {
             self.trailer.wanted_run(i - self.header.len - self.body.len)
+        }
+    }
+
+    /// How many bits from bit `i` on are not wanted because their part has no TDO: up to the end of the part, or none.
+    pub fn unwanted(&self, i: usize) -> usize
+        requires { i < length (bits self.now) }
+        ensures inside { i + result ≤ length (bits self.now) }
+        ensures bits { (j : ℕ) → j < result → option_map {U = Option Bool} (λ b. b.wanted) (slice_get (bits self.now) (i + j))
+            ≡ Some None }
+    {
+        if i < self.header.len {
+            self.header.unwanted(i)
+        } else if i - self.header.len < self.body.len {
+            self.body.unwanted(i - self.header.len)
+        } else {
+            self.trailer.unwanted(i - self.header.len - self.body.len)
         }
     }
 

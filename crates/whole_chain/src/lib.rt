@@ -41,6 +41,11 @@ fn judge_link<L: Link>(link: &L, column: Column, vector: &Vector, at: usize) -> 
     let end = (vector.len() - at).min(link.register_len(column));
     let mut done = 0;
     while done < end {
+        let free = vector.unwanted(at + done).min(end - done);
+        if free > 0 {
+            done += free;
+            continue;
+        }
         let few = (end - done).min(64);
         match judge_word(vector, at + done, link.register_word(column, done), few) {
             Ok(count) => done += count,

@@ -146,6 +146,14 @@ word_found vs out at care want word n k len p few less w o bad t stands =
     run_found (drop at vs) out k (has_bit care) (has_bit want) (has_bit word) p (from_here vs at care want n (suc k) few w) (λ j h. o j (omega arith)) t bad
     (ap (option_map {U = Part × ℕ} (λ (b : VectorBit). (b.part, b.place))) (get-further vs at k) ∙ stands)
 
+-- bits of which none is wanted
+pub free_passed : (vs : List VectorBit) (out : List Bool) (at n : ℕ) → n ≤ length out → ((j : ℕ) → j < n → wanted_at vs (at + j) ≡ Some None)
+    → judge (drop at vs) out ≡ judge (drop n (drop at vs)) (drop n out)
+free_passed vs out at n inside none =
+    run_passed (drop at vs) out n (λ j. false) (λ j. false) (bit_of out)
+    (λ j h. ap (option_map {U = Option Bool} (λ (b : VectorBit). b.wanted)) (get-further vs at j) ∙ none j h)
+    (λ j h. get-there out j (omega arith)) (λ j h. refl)
+
 -- a piece more is judged
 pub judged_more : (vs : List VectorBit) (out : List Bool) (at done n : ℕ) (all : Option (Part × ℕ)) → all ≡ judge (drop (at + done) vs) (drop done out)
     → judge (drop (at + done) vs) (drop done out) ≡ judge (drop n (drop (at + done) vs)) (drop n (drop done out)) → all ≡ judge (drop (at + (done + n)) vs) (drop (done + n) out)

@@ -35,6 +35,11 @@ pub fn judge_register(vector: &Vector, at: usize, register: &Bits) -> Option<(Pa
     let end = (vector.len() - at).min(register.len());
     let mut done = 0;
     while done < end {
+        let free = vector.unwanted(at + done).min(end - done);
+        if free > 0 {
+            done += free;
+            continue;
+        }
         let few = (end - done).min(64);
         match judge_word(vector, at + done, register.word_at(done), few) {
             Ok(count) => done += count,
@@ -53,6 +58,11 @@ pub fn judge_behind(vector: &Vector, at: usize) -> Option<(Part, usize)>
     let end = vector.len() - at;
     let mut done = 0;
     while done < end {
+        let free = vector.unwanted(at + done).min(end - done);
+        if free > 0 {
+            done += free;
+            continue;
+        }
         let run = vector.tdi_run(done);
         let few = (end - done).min(run.len);
         match judge_word(vector, at + done, run.bits, few) {
