@@ -1,5 +1,5 @@
 -- A chain that is shifted in place, run by run in rising order.
-use Rattle.std.proofs.Common.{◌≡◌, ℕ, zero, suc, ◌+◌, ◌-◌, ◌<◌, ◌≤◌, ⊎_elim, Bool, false, List, [], ◌∷◌, ◌++◌, length, take, drop, set, get_or, map, refl, sym, ap, subst, ◌∙◌, arith, length-append, Option, Some, None}
+use Rattle.std.proofs.Common.{◌≡◌, ℕ, zero, suc, ◌+◌, ◌-◌, ◌<◌, ◌≤◌, ⊎_elim, Bool, false, List, [], ◌∷◌, length, take, drop, set, get_or, map, refl, sym, ap, subst, ◌∙◌, arith, length-append, Option, Some, None}
 use Rattle.std.specs.Prelude.{slice_get, unwrap_or}
 use Rattle.std.proofs.lemmas.Bool.{cases_lt}
 use Rattle.std.proofs.lemmas.List.{length-drop, length-map, length-set, map-set, get_or-map}
@@ -8,7 +8,7 @@ use Rattle.jt_bits.specs.Runs.{RunSet}
 use Rattle.jt_bits.specs.Words.{bit_of}
 use Rattle.scan_vectors.specs.Vector.{VectorBit, tdis}
 use Rattle.whole_chain.specs.Rows.{joined, passing, left, before, IsCutBack}
-use Rattle.whole_chain.proofs.Rows.{before_all, bit-left, bit-right, bit-drop, same_bits, joined-bit, joined-run, lengths, lengths-set, same_before, same_count, same_len, cut_back, is_cut_back, inside}
+use Rattle.whole_chain.proofs.Rows.{before_all, bit-left, bit-right, bit-drop, same_bits, joined-bit, joined-run, lengths, lengths-set, same_before, same_count, same_len, cut_back, is_cut_back}
 
 -- The first d bits of the joined list are what stays in, the others as they were; the next is read at bit q of register s.
 pub record Moved (olds now : List (List Bool)) (v : List VectorBit) (d s q : ℕ) : Type 0 where

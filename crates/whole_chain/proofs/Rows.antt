@@ -2,7 +2,6 @@
 use Rattle.std.proofs.Common.{◌≡◌, ℕ, zero, suc, ◌+◌, ◌-◌, ◌<◌, ◌≤◌, ⊎_elim, Bool, List, [], ◌∷◌, ◌++◌, length, take, drop, set, get_or, map, refl, sym, ap, subst, ◌∙◌, arith, length-append}
 use Rattle.std.proofs.lemmas.Bool.{cases_lt}
 use Rattle.std.proofs.lemmas.List.{get_or-map}
-use Rattle.jt_bits.specs.Packed.{has_bit}
 use Rattle.jt_bits.specs.Runs.{RunSet}
 use Rattle.jt_bits.specs.Words.{bit_of}
 use Rattle.whole_chain.specs.Rows.{joined, before}
@@ -201,4 +200,3 @@ inside (r ∷ rows) (suc k) j h i =
     let a = length-append r (joined (take k rows)) in
     let b = length-append r (joined rows) in
     omega (arith, e, a, b)
-

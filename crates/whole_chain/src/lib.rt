@@ -34,7 +34,12 @@ pub fn judge_chain<L: Link>(chain: &[L], column: Column, vector: &Vector) -> Opt
 }
 
 /// The least bit of a vector, from bit `at` on, whose wanted value differs from the link's register that comes out there.
-fn judge_link<L: Link>(link: &L, column: Column, vector: &Vector, at: usize) -> Option<(Part, usize)>
+fn judge_link<L: Link>(
+    link: &L,
+    column: Column,
+    vector: &Vector,
+    at: usize,
+) -> Option<(Part, usize)>
     requires { at ≤ length (bits vector.now) }
     ensures { result ≡ judge (drop at (bits vector.now)) (L.register link.now column) }
 {

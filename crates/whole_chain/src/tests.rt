@@ -78,7 +78,14 @@ fn a_scan_of_three_bits_through_two_bypass_bits(rt: HostRuntime) -> Result<(), F
     let wrong = field(alloc, b"6")?;
     let vector = join(nothing, of(&tdi, &right), nothing);
     assert_eq!(rt; judge_chain(&chain, Column::Dr, &vector), None);
-    assert_eq!(rt; judge_chain(&chain, Column::Dr, &join(nothing, of(&tdi, &wrong), nothing)), Some((Part::Data, 1)));
+    assert_eq!(rt;
+        judge_chain(
+            &chain,
+            Column::Dr,
+            &join(nothing, of(&tdi, &wrong), nothing)
+        ),
+        Some((Part::Data, 1))
+    );
     shift_chain(&mut chain, Column::Dr, &vector);
     let mut bypass = Vec::with_capacity(alloc, 2)?;
     for chip in &chain {

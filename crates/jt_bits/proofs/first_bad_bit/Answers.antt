@@ -1,5 +1,5 @@
-use Rattle.std.proofs.Common.{◌≡◌, ℕ, ◌^◌, ◌<◌, refl, arith}
-use Rattle.std.specs.Int.Bits.{bit_and, bit_xor}
+use Rattle.std.proofs.Common.{refl, arith}
+use Rattle.std.specs.Int.Bits.{bit_xor}
 use Rattle.std.proofs.lemmas.Nat.{and_le_r}
 use Rattle.jt_bits.proofs.Lists.{none_differs, first_differs}
 use Rattle.jt_bits.proofs.first_bad_bit.Goals as goal

@@ -1,4 +1,4 @@
-use Rattle.std.proofs.Common.{◌+◌, ◌++◌, map, arith}
+use Rattle.std.proofs.Common.{◌++◌, map, arith}
 use Rattle.std.proofs.lemmas.List.{length-drop}
 use Rattle.scan_vectors.specs.Vector.{tdis}
 use Rattle.scan_vectors.specs.Held.{bits}

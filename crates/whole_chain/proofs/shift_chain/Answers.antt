@@ -1,8 +1,8 @@
-use Rattle.std.proofs.Common.{◌≡◌, ◌+◌, ◌<◌, ◌≤◌, Bool, List, [], length, map, get_or, set, refl, sym, ap, ◌∙◌, arith}
+use Rattle.std.proofs.Common.{◌+◌, ◌<◌, Bool, List, [], length, map, refl, sym, ap, ◌∙◌, arith}
 use Rattle.std.proofs.lemmas.List.{length-map, length-set, get_or-map}
 use Rattle.scan_vectors.specs.Held.{bits}
 use Rattle.whole_chain.specs.Rows.{before, left}
-use Rattle.whole_chain.proofs.Rows.{before_more, before_all, same_len, same_count, inside}
+use Rattle.whole_chain.proofs.Rows.{before_more, before_all, same_len, inside}
 use Rattle.whole_chain.proofs.Moving.{moved_none, moved_next, moved_at, moved_all, next_bits, in_vector, all_none, all_more, all_put}
 use Rattle.whole_chain.proofs.shift_chain.Goals as goal
 

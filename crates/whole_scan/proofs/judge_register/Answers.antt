@@ -1,4 +1,4 @@
-use Rattle.std.proofs.Common.{◌≡◌, ◌+◌, ◌<◌, ◌≤◌, length, drop, ⊎_elim, sym, ◌∙◌, arith}
+use Rattle.std.proofs.Common.{◌+◌, ◌<◌, ◌≤◌, length, drop, ⊎_elim, sym, ◌∙◌, arith}
 use Rattle.std.proofs.lemmas.Bool.{cases_lt}
 use Rattle.std.proofs.lemmas.List.{length-drop}
 use Rattle.scan_vectors.specs.Vector.{judge}
@@ -23,8 +23,7 @@ loop-done-preserved-then-free-gt0 c =
     let done = c.loop-done.done in
     let out = c.args.register.now in
     let long = length-drop done out in
-    let bound : c.min-end.result ≤ length out = omega (arith, c.min-end.ensures, c.len-2.ensures) in
-    (
+    let bound : c.min-end.result ≤ length out = omega (arith, c.min-end.ensures, c.len-2.ensures) in (
       omega (arith, c.min-free.ensures, c.loop-done-test.true),
       judged_more vs out c.args.at done c.min-free.result (judge (drop c.args.at vs) out) c.loop-done.invariant.1
           (free_passed vs (drop done out) (c.args.at + done) c.min-free.result (omega (arith, long, bound, c.min-free.ensures, c.loop-done-test.true))
@@ -36,8 +35,7 @@ loop-done-preserved c =
     let vs = bits c.args.vector.now in
     let done = c.loop-done.done in
     let out = c.args.register.now in
-    let bound : c.min-end.result ≤ length out = omega (arith, c.min-end.ensures, c.len-2.ensures) in
-    (
+    let bound : c.min-end.result ≤ length out = omega (arith, c.min-end.ensures, c.len-2.ensures) in (
       omega (arith, c.in-Ok.ensures.some, c.min-few.ensures, c.loop-done-test.true),
       judged_more vs out c.args.at done c.in-Ok.count (judge (drop c.args.at vs) out) c.loop-done.invariant.1
           (c.in-Ok.ensures.judged (drop done out) (word_begins out done c.word_at.result c.min-few.result (omega (arith, c.min-few.ensures)) (omega (arith, c.min-few.ensures, bound, c.loop-done-test.true)) c.word_at.ensures.bits)),

@@ -1,5 +1,5 @@
 use Rattle.std.proofs.Common.{◌≡◌, ◌+◌, ◌-◌, ◌≤◌, drop}
-use Rattle.scan_vectors.specs.Vector.{judge, tdis}
+use Rattle.scan_vectors.specs.Vector.{judge}
 use Rattle.scan_vectors.specs.Held.{bits}
 use Rattle.whole_scan.proofs.judge_register.Given as goal
 

@@ -1,4 +1,4 @@
-use Rattle.std.proofs.Common.{◌≡◌, Bool, List, length, get_or, sym, ap, ◌∙◌}
+use Rattle.std.proofs.Common.{◌≡◌, length, get_or, sym, ap, ◌∙◌}
 use Rattle.scan_registers.specs.declared.users.UserRegister.{UserRegister}
 use Rattle.scan_registers.specs.Registers.{user_stage}
 use Rattle.scan_registers.proofs.UserLaws.{stage_at}
