@@ -281,8 +281,8 @@ impl<B: Register> Chip<B> {
         }
     }
 
-    /// The latch takes the instruction stage, or a selected register's update part takes its stage, as on a falling edge in
-    /// the column's Update state.
+    /// The latch takes the instruction stage, or a selected register's update part takes its stage, as on a falling edge
+    /// in the column's Update state.
     pub fn update(&mut self, column: Column)
         ensures chip { one_chip B.stage B.update_part self.new
             ≡ with_registers (updated self.old.device column (registers B.stage B.update_part self.old)) (one_chip B.stage B.update_part self.old) }
@@ -312,7 +312,8 @@ impl<B: Register> Chip<B> {
         self.boundary.reset();
     }
 
-    /// The controller stands in this state, and TDO is not driven, as after a falling edge in a state that does not shift.
+    /// The controller stands in this state, and TDO is not driven, as after a falling edge in a state that does not
+    /// shift.
     pub fn rest(&mut self, state: State)
         ensures { self.new ≡ record self.old { state = state; tdo = None } }
     {
@@ -359,7 +360,10 @@ impl<B: Register> Chip<B> {
         ensures run { RunSet (chosen self.old.device column (registers B.stage B.update_part self.old))
             (chosen self.new.device column (registers B.stage B.update_part self.new)) at bits n }
         ensures chip { one_chip B.stage B.update_part self.new
-            ≡ with_registers (put self.old.device column (chosen self.new.device column (registers B.stage B.update_part self.new)) (registers B.stage B.update_part self.old)) (one_chip B.stage B.update_part self.old) }
+            ≡ with_registers
+            (put self.old.device column (chosen self.new.device column (registers B.stage B.update_part self.new))
+            (registers B.stage B.update_part self.old))
+            (one_chip B.stage B.update_part self.old) }
         ensures boundary { self.new.boundary ≡ B.with_parts self.old.boundary (B.stage self.new.boundary) (B.update_part self.new.boundary) }
     {
         match column {

@@ -33,5 +33,6 @@ pub trait Link {
 
     ghost put_none: { (c : Self) (column : TheColumn) → is_put c column (register c column) c };
 
-    ghost put_twice: { (a b c : Self) (column : TheColumn) (s t : List Bool) → is_put a column s b → is_put b column t c → is_put a column t c };
+    ghost put_twice: { (a b c : Self) (column : TheColumn) (s t : List Bool)
+        → is_put a column s b → is_put b column t c → is_put a column t c };
 }

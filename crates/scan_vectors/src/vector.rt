@@ -60,7 +60,8 @@ impl<'a> Vector<'a> {
         ensures some { 0 < result.len }
         ensures few { result.len ≤ 64 }
         ensures inside { i + result.len ≤ length (bits self.now) }
-        ensures bits { (j : ℕ) → j < result.len → slice_get (tdis (bits self.now)) (i + j) ≡ Some (has_bit result.bits j) }
+        ensures bits { (j : ℕ) → j < result.len
+            → slice_get (tdis (bits self.now)) (i + j) ≡ Some (has_bit result.bits j) }
     {
         if i < self.header.len {
             self.header.tdi_run(i)
@@ -77,7 +78,8 @@ impl<'a> Vector<'a> {
         ensures some { 0 < result.len }
         ensures few { result.len ≤ 64 }
         ensures inside { i + result.len ≤ length (bits self.now) }
-        ensures bits { (j : ℕ) → j < result.len → option_map {U = Option Bool} (λ b. b.wanted) (slice_get (bits self.now) (i + j))
+        ensures bits { (j : ℕ) → j < result.len
+            → option_map {U = Option Bool} (λ b. b.wanted) (slice_get (bits self.now) (i + j))
             ≡ Some (wanted_of (has_bit result.care j) (has_bit result.bits j)) }
     {
         if i < self.header.len {
@@ -93,8 +95,8 @@ impl<'a> Vector<'a> {
     pub fn unwanted(&self, i: usize) -> usize
         requires { i < length (bits self.now) }
         ensures inside { i + result ≤ length (bits self.now) }
-        ensures bits { (j : ℕ) → j < result → option_map {U = Option Bool} (λ b. b.wanted) (slice_get (bits self.now) (i + j))
-            ≡ Some None }
+        ensures bits { (j : ℕ) → j < result
+            → option_map {U = Option Bool} (λ b. b.wanted) (slice_get (bits self.now) (i + j)) ≡ Some None }
     {
         if i < self.header.len {
             self.header.unwanted(i)

@@ -20,7 +20,8 @@ abbrev pub left : List VectorBit → List (List Bool) → List Bool
 left v rows = drop (length v) (passing v rows)
 
 -- The new links are the old ones, of which each register has its part of a joined list, cut back by the same lengths.
-abbrev pub IsCutBack : {A : Type 0} → (register : A → List Bool) → (is_put : A → List Bool → A → Type 0) → List Bool → (old new : List A) → Type 0
+abbrev pub IsCutBack : {A : Type 0} → (register : A → List Bool) → (is_put : A → List Bool → A → Type 0)
+    → List Bool → (old new : List A) → Type 0
 IsCutBack register is_put bits [] [] = Unit {0}
 IsCutBack register is_put bits (c ∷ old) (d ∷ new) =
     is_put c (take (length (register c)) bits) d × IsCutBack register is_put (drop (length (register c)) bits) old new

@@ -1,5 +1,5 @@
-//! A scan through a whole chain at once, without TCK and without memory: what comes out is judged, and the registers take what
-//! stays in (IEEE Std 1149.1-2001, clause 9).
+//! A scan through a whole chain at once, without TCK and without memory: what comes out is judged, and the registers take
+//! what stays in (IEEE Std 1149.1-2001, clause 9).
 #![tactic(auto)]
 
 ghost use Rattle.std.specs.Prelude.{◌≡◌, ◌+◌, ◌<◌, ◌≤◌, ◌^◌, ℕ, [], Bool, List, length, drop, map, slice_get, slice_index_or, Some};
@@ -17,7 +17,8 @@ use whole_scan::{judge_behind, judge_word};
 /// The least bit of a vector whose wanted value differs from what comes out of the chain, of which the first link is the
 /// nearest to TDO: first the registers that the column selects, and behind them the vector's own TDI.
 pub fn judge_chain<L: Link>(chain: &[L], column: Column, vector: &Vector) -> Option<(Part, usize)>
-    ensures { result ≡ judge (bits vector.now) (out (bits vector.now) (map (λ c. L.register c column) chain.now)) }
+    ensures { result
+        ≡ judge (bits vector.now) (out (bits vector.now) (map (λ c. L.register c column) chain.now)) }
 {
     let mut at = 0;
     for link in chain {
@@ -74,8 +75,8 @@ struct Run {
     len: usize,
 }
 
-/// Shifts a whole vector through the chain, of which the first link is the nearest to TDO: each register takes its part of
-/// what stays in.
+/// Shifts a whole vector through the chain, of which the first link is the nearest to TDO: each register takes its part
+/// of what stays in.
 pub fn shift_chain<L: Link>(chain: &mut [L], column: Column, vector: &Vector)
     ensures { IsCutBack (λ c. L.register c column) (λ c stage d. L.is_put c column stage d)
         (left (bits vector.now) (map (λ c. L.register c column) chain.old)) chain.old chain.new }

@@ -10,8 +10,8 @@ ghost use Rattle.whole_scan.specs.Pieces.{Begins, AsJudged};
 use jt_bits::{Bits, first_bad_bit};
 use scan_vectors::{Part, Vector};
 
-/// Judges a word that comes out as the bits of a vector from `at` on, its lowest first: `Ok` with how many of its `len` bits
-/// it judged, of which none fails, or else the part and the place of the least bit that fails.
+/// Judges a word that comes out as the bits of a vector from `at` on, its lowest first: `Ok` with how many of its `len`
+/// bits it judged, of which none fails, or else the part and the place of the least bit that fails.
 pub fn judge_word(vector: &Vector, at: usize, word: u64, len: usize) -> Result<usize, (Part, usize)>
     requires some { 0 < len }
     requires few { len ≤ 64 }
@@ -49,8 +49,8 @@ pub fn judge_register(vector: &Vector, at: usize, register: &Bits) -> Option<(Pa
     None
 }
 
-/// The least bit of a vector, from bit `at` on, whose wanted value differs from the vector's own TDI, which comes out there
-/// behind the registers.
+/// The least bit of a vector, from bit `at` on, whose wanted value differs from the vector's own TDI, which comes out
+/// there behind the registers.
 pub fn judge_behind(vector: &Vector, at: usize) -> Option<(Part, usize)>
     requires { at ≤ length (bits vector.now) }
     ensures { result ≡ judge (drop at (bits vector.now)) (tdis (bits vector.now)) }
