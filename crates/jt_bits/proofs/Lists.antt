@@ -15,7 +15,7 @@ use Rattle.std.proofs.lemmas.Option.{slice_get-get_or, unwrap_or-slice_get}
 use Rattle.jt_bits.specs.Lengths.{resized}
 use Rattle.jt_bits.specs.Packed.{has_bit, packed_bit, listed}
 use Rattle.jt_bits.specs.Shifting.{shifted}
-use Rattle.jt_bits.specs.Words.{bit_of, number, word_of, differ, is_bad_at, IsFirst}
+use Rattle.jt_bits.specs.Words.{bit_of, number, word_of, word_from, differ, is_bad_at, is_bad_bit, IsFirst}
 use Rattle.jt_bits.proofs.Rings.{ring, ring_below, ring_apart, ring_distinct, ring_next, ring_add, listed-length, listed-get, is_listed, packed_at, and_bit}
 
 -- one value everywhere
@@ -152,42 +152,63 @@ has_bit-word bits k j h =
     let part = take 64 (drop (64 * k) bits) in
     ap (λ (n : ℕ). n == 1) (number_bit part j) ∙ test_one (get_or part j false) ∙ get_or-part bits (64 * k) j h
 
-pub word_is : (bits : List Bool) (k x : ℕ) → x < 2 ^ 64 → ((j : ℕ) → j < 64 → has_bit x j ≡ get_or bits (64 * k + j) false) → x ≡ word_of bits k
-unfolding has_bit word_of
-word_is bits k x fits each =
-    let part = take 64 (drop (64 * k) bits) in
-    let short : length part ≤ 64 = omega (arith, length-take 64 (drop (64 * k) bits)) in
+pub word_is_at : (bits : List Bool) (i x : ℕ) → x < 2 ^ 64 → ((j : ℕ) → j < 64 → has_bit x j ≡ get_or bits (i + j) false) → x ≡ word_from bits i
+unfolding has_bit word_from
+word_is_at bits i x fits each =
+    let part = take 64 (drop i bits) in
+    let short : length part ≤ 64 = omega (arith, length-take 64 (drop i bits)) in
     let below : number part < 2 ^ 64 = omega (arith, number_below part, pow_mono {i = length part} {j = 64} short) in
     same_from_bits_below 64 x (number part) fits below
     (λ j h.
-    by_test (bit_at x j) (get_or bits (64 * k + j) false) (bit_at-lt x j) (each j h)
-    ∙ ap one_or_zero (sym (get_or-part bits (64 * k) j h)) ∙ sym (number_bit part j))
+    by_test (bit_at x j) (get_or bits (i + j) false) (bit_at-lt x j) (each j h)
+    ∙ ap one_or_zero (sym (get_or-part bits i j h)) ∙ sym (number_bit part j))
+
+word_of-from : (bits : List Bool) (k : ℕ) → word_from bits (64 * k) ≡ word_of bits k
+unfolding word_from word_of
+word_of-from bits k = refl
+
+pub word_is : (bits : List Bool) (k x : ℕ) → x < 2 ^ 64 → ((j : ℕ) → j < 64 → has_bit x j ≡ get_or bits (64 * k + j) false) → x ≡ word_of bits k
+word_is bits k x fits each = word_is_at bits (64 * k) x fits each ∙ word_of-from bits k
 
 pub no_word : (bits : List Bool) (k : ℕ) → length bits ≤ 64 * k → 0 ≡ word_of bits k
 no_word bits k past =
     word_is bits k 0 (omega arith) (λ j h. nothing j ∙ sym (get_or_past bits (64 * k + j) false (omega arith)))
 
-pub word_from : (words : List ℕ) (start len k from whole low : ℕ) → len ≤ 64 * length words → start < 64 * length words → k < length words → 64 * k ≤ len
+pub nothing_past : (bits : List Bool) (i : ℕ) → length bits ≤ i → (j : ℕ) → j < 64 → has_bit 0 j ≡ bit_of bits (i + j)
+nothing_past bits i past j h = nothing j ∙ sym (unwrap_or-slice_get bits (i + j) false ∙ get_or_past bits (i + j) false (omega arith))
+
+pub no_word_at : (bits : List Bool) (i : ℕ) → length bits ≤ i → 0 ≡ word_from bits i
+no_word_at bits i past =
+    word_is_at bits i 0 (omega arith) (λ j h. nothing j ∙ sym (get_or_past bits (i + j) false (omega arith)))
+
+-- the lowest bits of a window, as many as there are from a place of the list on
+pub bits_from : (words : List ℕ) (start len i from whole low : ℕ) → len ≤ 64 * length words → start < 64 * length words → i ≤ len
+    → from ≡ (start + i) % (64 * length words)
+    → ((j : ℕ) → j < 64 → has_bit whole j ≡ packed_bit words ((from + j) % (64 * length words)))
+    → ((j : ℕ) → j < 64 → has_bit low j ≡ if nat_lt j (len - i) then has_bit whole j else false)
+    → (j : ℕ) → j < 64 → has_bit low j ≡ get_or (listed words start len) (i + j) false
+bits_from words start len i from whole low in_ s some at window lowest j h =
+    let room = 64 * length words in
+    let bits = listed words start len in
+    let is_long : length bits ≡ len = listed-length words start len in
+    ⊎_elim
+    (λ (less : j < len - i).
+    let t : nat_lt j (len - i) ≡ true = grind (arith, nat_tests) in
+    lowest j h ∙ rw t (window j h) ∙ ap (λ (p : ℕ). packed_bit words ((p + j) % room)) at
+    ∙ ap (packed_bit words) (ring_add room start i j s (omega arith))
+    ∙ sym (listed-get words start len (i + j) false (omega arith)))
+    (λ (past : len - i ≤ j).
+    let t : nat_lt j (len - i) ≡ false = grind (arith, nat_tests) in
+    lowest j h ∙ rw t refl ∙ sym (get_or_past bits (i + j) false (omega arith)))
+    (cases_lt j (len - i))
+
+pub word_from_packed : (words : List ℕ) (start len k from whole low : ℕ) → len ≤ 64 * length words → start < 64 * length words → k < length words → 64 * k ≤ len
     → from ≡ (start + 64 * k) % (64 * length words) → low < 2 ^ 64
     → ((j : ℕ) → j < 64 → has_bit whole j ≡ packed_bit words ((from + j) % (64 * length words)))
     → ((j : ℕ) → j < 64 → has_bit low j ≡ if nat_lt j (len - 64 * k) then has_bit whole j else false)
     → low ≡ word_of (listed words start len) k
-word_from words start len k from whole low in_ s inside some at fits window lowest =
-    let room = 64 * length words in
-    let bits = listed words start len in
-    let is_long : length bits ≡ len = listed-length words start len in
-    word_is bits k low fits
-    (λ j h.
-    ⊎_elim
-    (λ (less : j < len - 64 * k).
-    let t : nat_lt j (len - 64 * k) ≡ true = grind (arith, nat_tests) in
-    lowest j h ∙ rw t (window j h) ∙ ap (λ (p : ℕ). packed_bit words ((p + j) % room)) at
-    ∙ ap (packed_bit words) (ring_add room start (64 * k) j s (omega arith))
-    ∙ sym (listed-get words start len (64 * k + j) false (omega arith)))
-    (λ (past : len - 64 * k ≤ j).
-    let t : nat_lt j (len - 64 * k) ≡ false = grind (arith, nat_tests) in
-    lowest j h ∙ rw t refl ∙ sym (get_or_past bits (64 * k + j) false (omega arith)))
-    (cases_lt j (len - 64 * k)))
+word_from_packed words start len k from whole low in_ s inside some at fits window lowest =
+    word_is (listed words start len) k low fits (bits_from words start len (64 * k) from whole low in_ s some at window lowest)
 
 -- words put one behind the other
 pub words_listed : (bits : List Bool) (words : List ℕ) (count len : ℕ) → words ≡ map (word_of bits) (range_with_len 0 count) → len ≤ 64 * count
@@ -260,9 +281,19 @@ pub word_there : (words lent : List ℕ) (start len k from whole low n : ℕ) (b
     → ((j : ℕ) → j < 64 → has_bit low j ≡ if nat_lt j (len - 64 * k) then has_bit whole j else false)
     → low ≡ word_of bits k
 word_there words lent start len k from whole low n bits view in_ s inside some at many same fits window lowest =
-    word_from words start len k from whole low in_ s inside some (same_place start (64 * k) from n (length words) at many) fits
+    word_from_packed words start len k from whole low in_ s inside some (same_place start (64 * k) from n (length words) at many) fits
     (λ j h. window j h ∙ ap (λ (ws : List ℕ). packed_bit ws ((from + j) % (64 * length ws))) same) lowest
     ∙ ap (λ (b : List Bool). word_of b k) view
+
+pub bits_there : (words lent : List ℕ) (start len i from whole low n : ℕ) (bits : List Bool) → listed words start len ≡ bits → len ≤ 64 * length words → start < 64 * length words → i ≤ len
+    → from ≡ (start + i) % (64 * n) → n ≡ length words → lent ≡ words
+    → ((j : ℕ) → j < 64 → has_bit whole j ≡ packed_bit lent ((from + j) % (64 * length lent)))
+    → ((j : ℕ) → j < 64 → has_bit low j ≡ if nat_lt j (len - i) then has_bit whole j else false)
+    → (j : ℕ) → j < 64 → has_bit low j ≡ get_or bits (i + j) false
+bits_there words lent start len i from whole low n bits view in_ s some at many same window lowest j h =
+    bits_from words start len i from whole low in_ s some (same_place start i from n (length words) at many)
+    (λ k small. window k small ∙ ap (λ (ws : List ℕ). packed_bit ws ((from + k) % (64 * length ws))) same) lowest j h
+    ∙ ap (λ (b : List Bool). get_or b (i + j) false) view
 
 -- ---- where two lists differ
 
@@ -349,3 +380,24 @@ first_found got want mask k g w m j same a b d some fits is before =
 
     no_one : (x j : ℕ) → bit_at x j ≡ 0 → has_bit x j ≡ false
     no_one x j e = ap (λ (n : ℕ). n == 1) e
+
+-- ---- where two words differ
+
+pub bad_word_bit : (got want mask j : ℕ) → has_bit (bit_and (bit_xor got want) mask) j ≡ is_bad_bit got want mask j
+bad_word_bit got want mask j =
+    and_bit (bit_xor got want) mask j ∙ ap (λ (x : Bool). x && has_bit mask j) (xor_bit got want j)
+    ∙ swap_and (differ (has_bit got j) (has_bit want j)) (has_bit mask j)
+
+pub none_differs : (got want mask : ℕ) → bit_and (bit_xor got want) mask ≡ 0 → (j : ℕ) → j < 64 → is_bad_bit got want mask j ≡ false
+none_differs got want mask none j h = sym (bad_word_bit got want mask j) ∙ ap (λ (x : ℕ). has_bit x j) none ∙ nothing j
+
+pub first_differs : (got want mask k : ℕ) → bit_and (bit_xor got want) mask ≢ 0 → bit_and (bit_xor got want) mask < 2 ^ 64 → k ≡ trailing_zeros w64 (bit_and (bit_xor got want) mask)
+    → IsFirst (is_bad_bit got want mask) 64 (Some k)
+unfolding has_bit
+first_differs got want mask k some fits is =
+    let x = bit_and (bit_xor got want) mask in
+    let low = bit_at-trailing_zeros w64 x (omega (arith, some)) fits in (
+      omega (arith, is, low.0),
+      sym (bad_word_bit got want mask k) ∙ ap (λ (n : ℕ). n == 1) (ap (bit_at x) is ∙ low.1),
+      λ j h. sym (bad_word_bit got want mask j) ∙ ap (λ (n : ℕ). n == 1) (low.2 j (omega (arith, is))),
+    )

@@ -6,7 +6,7 @@ ghost use Rattle.jt_bits.specs.Lengths.{resized};
 ghost use Rattle.jt_bits.specs.Packed.{has_bit, packed_bit, listed, FewWords};
 ghost use Rattle.jt_bits.specs.Runs.{RunSet, copied};
 ghost use Rattle.jt_bits.specs.Shifting.{shifted};
-ghost use Rattle.jt_bits.specs.Words.{bit_of, word_of, is_bad_at, IsFirst};
+ghost use Rattle.jt_bits.specs.Words.{bit_of, word_of, word_from, is_bad_at, is_bad_bit, IsFirst};
 
 pub use digits::{HexFault, has_one_beyond};
 use std::alloc::{AllocError, Global};
@@ -165,8 +165,8 @@ impl Bits {
         words::window(&self.words, place)
     }
 
-    /// Makes the `n` bits from `at` on those of `bits`, its lowest first.
-    fn put_run(&mut self, at: usize, bits: u64, n: usize)
+    /// Makes the `n` bits from `at` on those of `bits`, its lowest first, and keeps all others.
+    pub fn put_run(&mut self, at: usize, bits: u64, n: usize)
         requires some { 0 < n }
         requires few { n ≤ 64 }
         requires inside { at + n ≤ length self.old }
@@ -194,6 +194,18 @@ impl Bits {
         }
         let place = words::place(self.words.len(), self.start, 64 * k);
         words::lowest_bits(words::window(&self.words, place), self.len - 64 * k)
+    }
+
+    /// The bits from place `i` on as a number, 64 of them, bit `i` lowest; missing ones are 0.
+    pub fn word_at(&self, i: usize) -> u64
+        ensures value { result ≡ word_from self.now i }
+        ensures bits { (j : ℕ) → j < 64 → has_bit result j ≡ bit_of self.now (i + j) }
+    {
+        if i >= self.len {
+            return 0;
+        }
+        let place = words::place(self.words.len(), self.start, i);
+        words::lowest_bits(words::window(&self.words, place), self.len - i)
     }
 
     /// The words that the bits stand in, and where bit 0 stands in them.
@@ -237,6 +249,17 @@ pub fn first_bad(got: &Bits, want: &Bits, mask: &Bits) -> Option<usize>
         }
     }
     None
+}
+
+/// The least bit at which two words differ and the mask is 1.
+pub fn first_bad_bit(got: u64, want: u64, mask: u64) -> Option<usize>
+    ensures { IsFirst (is_bad_bit got want mask) 64 result }
+{
+    let bad = (got ^ want) & mask;
+    if bad == 0 {
+        return None;
+    }
+    Some(bad.trailing_zeros() as usize)
 }
 
 #[cfg(test)]

@@ -1,7 +1,12 @@
 -- What a decoded instruction gives a chip.
-use Rattle.std.proofs.Common.{◌≡◌, ◌<◌, ◌≤◌, ℕ, List, [], ◌∷◌, Bool, false, length, get_or, map, Option, Some, None, unwrap_or, refl, sym, ap, subst, ◌∙◌, arith}
+use Rattle.std.proofs.Common.{◌≡◌, ◌≢◌, ◌+◌, ◌-◌, ◌%◌, ◌==◌, ◌<◌, ◌≤◌, ℕ, zero, suc, true, List, [], ◌∷◌, Bool, false, length, get_or, map, Option, Some, None, unwrap_or, refl, sym, ap, subst, ◌∙◌, arith}
 use Rattle.std.proofs.lemmas.List.{length-replicate, length-map, get_or-map}
 use Rattle.std.proofs.lemmas.List.FromFn.{fill_by_all}
+use Rattle.std.specs.Int.{bit_at}
+use Rattle.std.proofs.lemmas.Nat.Bits.{bit_at-zero, bit_at_lowest, bit_at-suc}
+use Rattle.jt_bits.specs.Packed.{has_bit}
+use Rattle.jt_bits.specs.Runs.{RunSet}
+use Rattle.jt_bits.specs.Words.{bit_of}
 use Rattle.bsdl_device.specs.Device.{Device, Pattern}
 use Rattle.scan_registers.specs.declared.Selected.{Selected}
 use Rattle.scan_registers.specs.declared.Selected.TheVariants.{User}
@@ -53,6 +58,55 @@ shifted_users d m k us lent new after tdi fits is users same shifted stored =
     let long : length (moved tdi stage) ≡ f.0 = moved-length tdi stage (omega (arith, was, f.2)) ∙ was in
     let is_new : after ≡ with_user_stage k (moved tdi stage) us = stored ∙ shifted ∙ ap (λ (xs : List UserRegister). with_user_stage k (moved tdi (user_stage k xs)) xs) same in
     subst (λ (xs : List UserRegister). UsersFit d.users xs) (sym is_new) (with_stage_fits d.users us k f.0 (moved tdi stage) users f.1 long)
+
+pub put_users : (d : Device) (m : Decoded) (k : ℕ) (us lent new after : List UserRegister) (at word n : ℕ) → Fits d m → m.selected ≡ User k → UsersFit d.users us → lent ≡ us
+    → new ≡ with_user_stage k (user_stage k new) lent → RunSet (user_stage k lent) (user_stage k new) at word n → after ≡ new → UsersFit d.users after
+put_users d m k us lent new after at word n fits is users same put run stored =
+    let f = user_fits d m k fits is in
+    let stage = user_stage k new in
+    let long : length stage ≡ f.0 = run.long ∙ ap (λ (xs : List UserRegister). length (user_stage k xs)) same ∙ stage_length d.users us k f.0 users f.1 in
+    let is_new : after ≡ with_user_stage k stage us = stored ∙ put ∙ ap (with_user_stage k stage) same in
+    subst (λ (xs : List UserRegister). UsersFit d.users xs) (sym is_new) (with_stage_fits d.users us k f.0 stage users f.1 long)
+
+-- ---- the one bit of bypass, as a word
+
+zero_bits : (j : ℕ) → has_bit 0 j ≡ false
+unfolding has_bit
+zero_bits j = ap (λ (n : ℕ). n == 1) (bit_at-zero j)
+
+one_bit : (j : ℕ) → has_bit 1 j ≡ bit_of (true ∷ []) j
+unfolding has_bit
+one_bit zero = ap (λ (n : ℕ). n == 1) (bit_at_lowest 1)
+one_bit (suc j) = ap (λ (n : ℕ). n == 1) (bit_at-suc 1 j ∙ bit_at-zero j)
+
+pub bypass_one : (bypass : Bool) (i j : ℕ) → i ≡ 0 → bypass ≡ true → has_bit 1 j ≡ bit_of (bypass ∷ []) (i + j)
+bypass_one bypass i j first is =
+    let e : i + j ≡ j = omega arith in
+    one_bit j ∙ ap (λ (b : Bool). bit_of (b ∷ []) j) (sym is) ∙ ap (bit_of (bypass ∷ [])) (sym e)
+
+pub bypass_past : (bypass : Bool) (i j : ℕ) → i ≢ 0 → has_bit 0 j ≡ bit_of (bypass ∷ []) (i + j)
+bypass_past bypass i j later =
+    let e : suc (i + j - 1) ≡ i + j = omega arith in
+    zero_bits j ∙ ap (bit_of (bypass ∷ [])) e
+
+pub bypass_zero : (bypass : Bool) (i j : ℕ) → bypass ≡ false → has_bit 0 j ≡ bit_of (bypass ∷ []) (i + j)
+bypass_zero bypass i j is = zero_bits j ∙ sym (none (i + j)) ∙ ap (λ (b : Bool). bit_of (b ∷ []) (i + j)) (sym is)
+  where
+    none : (m : ℕ) → bit_of (false ∷ []) m ≡ false
+    none zero = refl
+    none (suc m) = refl
+
+pub bypass_put : (old new : Bool) (at bits n : ℕ) → 0 < n → at + n ≤ 1 → new ≡ (bits % 2 == 1) → RunSet (old ∷ []) (new ∷ []) at bits n
+unfolding has_bit
+bypass_put old new at bits n some inside is = record {
+  long = refl;
+  here = λ j h.
+      let place : at + j ≡ 0 = omega arith in
+      let first : 0 ≡ j = omega arith in
+      ap (bit_of (new ∷ [])) place ∙ is ∙ ap (λ (k : ℕ). k == 1) (sym (bit_at_lowest bits) ∙ ap (bit_at bits) first);
+  below = λ i h. absurd (omega arith);
+  above = λ i h low. absurd (omega arith);
+}
 
 pub updated_users : (d : Device) (k : ℕ) (us lent new after : List UserRegister) → UsersFit d.users us → lent ≡ us → new ≡ user_updated k lent → after ≡ new → UsersFit d.users after
 updated_users d k us lent new after users same updated stored =

@@ -1,11 +1,12 @@
 -- A chip round any boundary register, as its parts and as one device.
-use Rattle.std.specs.Prelude.{Bool, false, ℕ, List, [], ◌∷◌, map, replicate, Option, None, if◌then◌else◌}
+use Rattle.std.specs.Prelude.{◌≡◌, Bool, false, ℕ, List, [], ◌∷◌, map, replicate, Option, None, if◌then◌else◌}
+use Rattle.jt_tap.specs.declared.Column.{Column}
 use Rattle.jt_tap.specs.declared.State.{State}
 use Rattle.jt_tap.specs.declared.State.TheVariants.{Reset}
 use Rattle.bsdl_device.specs.Device.{Device}
 use Rattle.scan_registers.specs.declared.Mode.{Mode}
 use Rattle.scan_registers.specs.declared.users.UserRegister.{UserRegister}
-use Rattle.scan_registers.specs.Registers.{Registers, Surroundings}
+use Rattle.scan_registers.specs.Registers.{Registers, Surroundings, put}
 use Rattle.scan_registers.specs.Edges.{OneChip}
 use Rattle.scan_registers.specs.Fitting.{has_code}
 use Rattle.scan_registers.specs.Instruction.{reset_latch}
@@ -71,3 +72,8 @@ powered d boundary = record {
   boundary = boundary;
   users = map new_user d.users;
 }
+
+-- the second chip is the first with these bits in the column's register
+pub record IsPut {B : Type 0} (stage update : B → List Bool) (with_parts : B → List Bool → List Bool → B) (column : Column) (bits : List Bool) (old new : ChipValue B) : Type 0 where
+  pub chip : one_chip stage update new ≡ with_registers (put old.device column bits (registers stage update old)) (one_chip stage update old)
+  pub boundary : new.boundary ≡ with_parts old.boundary (stage new.boundary) (update new.boundary)

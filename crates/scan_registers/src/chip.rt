@@ -1,6 +1,9 @@
 //! One device, edge by edge.
 
-ghost use Rattle.std.specs.Prelude.{◌≡◌, ◌<◌, ℕ, [], ◌∷◌, true, Bool, List, None, Some, length, option_map, slice_get, unwrap_or, if◌then◌else◌, IfOk};
+ghost use Rattle.std.specs.Prelude.{◌≡◌, ◌+◌, ◌<◌, ◌≤◌, ℕ, [], ◌∷◌, true, Bool, List, None, Some, length, option_map, slice_get, unwrap_or, if◌then◌else◌, IfOk};
+ghost use Rattle.jt_bits.specs.Packed.{has_bit};
+ghost use Rattle.jt_bits.specs.Runs.{RunSet};
+ghost use Rattle.jt_bits.specs.Words.{bit_of};
 ghost use Rattle.jt_tap.specs.Controller.{work};
 ghost use Rattle.scan_registers.specs.declared.Mode.{Mode as TheMode};
 ghost use Rattle.scan_registers.specs.Chips.{ChipValue, one_chip, around, powered, registers, with_registers};
@@ -12,7 +15,7 @@ ghost use Rattle.scan_registers.specs.Registers.{captured, put, chosen, updated,
 use crate::decode::{Decoded, decode, fixed_bits, instruction_of};
 use crate::start::{code_length, has_code, new_users, reset_latch};
 use crate::users::{self, UserRegister};
-use crate::{Mode, Register, Selected, SharedDevice};
+use crate::{Link, Mode, Register, Selected, SharedDevice};
 use bsdl_device::Device;
 use jt_bits::Bits;
 use jt_tap::{Column, State, Work};
@@ -131,7 +134,7 @@ impl<B: Register> Chip<B> {
         ensures boundary { self.new.boundary ≡ B.with_parts self.old.boundary (B.stage self.new.boundary) (B.update_part self.new.boundary) }
     {
         match self.state.work() {
-            Work::Updates(column) => self.load(column),
+            Work::Updates(column) => self.update(column),
             Work::Resets => self.reset(),
             _ => {}
         }
@@ -244,8 +247,8 @@ impl<B: Register> Chip<B> {
         instruction_of(self.device.get(), &self.latch)
     }
 
-    /// The column's register captures.
-    fn capture(&mut self, column: Column)
+    /// The column's register captures, as on a rising edge in the column's Capture state.
+    pub fn capture(&mut self, column: Column)
         ensures chip { one_chip B.stage B.update_part self.new
             ≡ with_registers (captured self.old.device column (around B.captured B.at_reset self.old) (registers B.stage B.update_part self.old)) (one_chip B.stage B.update_part self.old) }
         ensures boundary { self.new.boundary ≡ B.with_parts self.old.boundary (B.stage self.new.boundary) (B.update_part self.new.boundary) }
@@ -293,8 +296,9 @@ impl<B: Register> Chip<B> {
         }
     }
 
-    /// The latch takes the instruction stage, or a selected register's update part takes its stage.
-    fn load(&mut self, column: Column)
+    /// The latch takes the instruction stage, or a selected register's update part takes its stage, as on a falling edge
+    /// in the column's Update state.
+    pub fn update(&mut self, column: Column)
         ensures chip { one_chip B.stage B.update_part self.new
             ≡ with_registers (updated self.old.device column (registers B.stage B.update_part self.old)) (one_chip B.stage B.update_part self.old) }
         ensures boundary { self.new.boundary ≡ B.with_parts self.old.boundary (B.stage self.new.boundary) (B.update_part self.new.boundary) }
@@ -312,8 +316,8 @@ impl<B: Register> Chip<B> {
         }
     }
 
-    /// The latch takes its reset instruction, and the boundary register is reset.
-    fn reset(&mut self)
+    /// The latch takes its reset instruction, and the boundary register is reset, as on a falling edge in RESET.
+    pub fn reset(&mut self)
         ensures chip { one_chip B.stage B.update_part self.new
             ≡ with_registers (reset self.old.device (around B.captured B.at_reset self.old) (registers B.stage B.update_part self.old)) (one_chip B.stage B.update_part self.old) }
         ensures boundary { self.new.boundary ≡ B.with_parts self.old.boundary (B.stage self.new.boundary) (B.update_part self.new.boundary) }
@@ -321,6 +325,71 @@ impl<B: Register> Chip<B> {
         self.latch.copy_from(&self.reset_latch);
         self.decoded = self.reset_decoded;
         self.boundary.reset();
+    }
+
+    /// The controller stands in this state, and TDO is not driven, as after a falling edge in a state that does not
+    /// shift.
+    pub fn rest(&mut self, state: State)
+        ensures { self.new ≡ record self.old { state = state; tdo = None } }
+    {
+        self.state = state;
+        self.tdo = None;
+    }
+
+    /// How many bits the column's register has.
+    pub fn chosen_len(&self, column: Column) -> usize
+        ensures { result ≡ length (chosen self.now.device column (registers B.stage B.update_part self.now)) }
+    {
+        match column {
+            Column::Ir => self.stage.len(),
+            Column::Dr => match self.decoded.selected {
+                Selected::Bypass => 1,
+                Selected::Identification => self.identification.len(),
+                Selected::Boundary => self.boundary.len(),
+                Selected::User(k) => users::len(&self.users, k),
+            },
+        }
+    }
+
+    /// The bits of the column's register from place `i` on as a number, 64 of them, bit `i` lowest; missing ones are 0.
+    pub fn chosen_word(&self, column: Column, i: usize) -> u64
+        ensures { (j : ℕ) → j < 64 → has_bit result j
+            ≡ bit_of (chosen self.now.device column (registers B.stage B.update_part self.now)) (i + j) }
+    {
+        match column {
+            Column::Ir => self.stage.word_at(i),
+            Column::Dr => match self.decoded.selected {
+                Selected::Bypass => bypass_word(self.bypass, i),
+                Selected::Identification => self.identification.word_at(i),
+                Selected::Boundary => self.boundary.word_at(i),
+                Selected::User(k) => users::word_at(&self.users, k, i),
+            },
+        }
+    }
+
+    /// Makes the `n` bits of the column's register from `at` on those of `bits`, its lowest first, and keeps all else.
+    pub fn put_chosen(&mut self, column: Column, at: usize, bits: u64, n: usize)
+        requires some { 0 < n }
+        requires few { n ≤ 64 }
+        requires inside { at + n ≤ length (chosen self.old.device column (registers B.stage B.update_part self.old)) }
+        ensures run { RunSet (chosen self.old.device column (registers B.stage B.update_part self.old))
+            (chosen self.new.device column (registers B.stage B.update_part self.new)) at bits n }
+        ensures chip { one_chip B.stage B.update_part self.new
+            ≡ with_registers
+            (put self.old.device column (chosen self.new.device column (registers B.stage B.update_part self.new))
+            (registers B.stage B.update_part self.old))
+            (one_chip B.stage B.update_part self.old) }
+        ensures boundary { self.new.boundary ≡ B.with_parts self.old.boundary (B.stage self.new.boundary) (B.update_part self.new.boundary) }
+    {
+        match column {
+            Column::Ir => self.stage.put_run(at, bits, n),
+            Column::Dr => match self.decoded.selected {
+                Selected::Bypass => put_bypass(&mut self.bypass, at, bits, n),
+                Selected::Identification => self.identification.put_run(at, bits, n),
+                Selected::Boundary => self.boundary.put_run(at, bits, n),
+                Selected::User(k) => users::put_run(&mut self.users, k, at, bits, n),
+            },
+        }
     }
 
     /// What TDO shows from a falling edge on: bit 0 of the selected register in a Shift state.
@@ -340,6 +409,32 @@ impl<B: Register> Chip<B> {
     }
 }
 
+impl<B: Register> Link for Chip<B> {
+    ghost use Rattle.scan_registers.specs.Chips.{IsPut, registers};
+    ghost use Rattle.scan_registers.specs.Registers as meant;
+    ghost use Rattle.scan_registers.specs.Puts.{put_nothing, put_both};
+
+    ghost register = { λ c column. meant.chosen c.device column (registers B.stage B.update_part c) };
+
+    ghost is_put = { λ c column bits d. IsPut B.stage B.update_part B.with_parts column bits c d };
+
+    fn register_len(&self, column: Column) -> usize {
+        self.chosen_len(column)
+    }
+
+    fn register_word(&self, column: Column, i: usize) -> u64 {
+        self.chosen_word(column, i)
+    }
+
+    fn put_register(&mut self, column: Column, at: usize, bits: u64, n: usize) {
+        self.put_chosen(column, at, bits, n);
+    }
+
+    ghost put_none = { λ c column. put_nothing B.stage B.update_part B.with_parts B.parts_same c column };
+
+    ghost put_twice = { λ a b c column s t h k. put_both B.stage B.update_part B.with_parts B.parts_twice a b c column s t h k };
+}
+
 /// A register takes the bits, if there are some.
 fn copy_fixed(register: &mut Bits, bits: Option<&Bits>)
     requires { (b : List Bool) → option_map {U = List Bool} (λ x. x.now) bits ≡ Some b → length b ≡ length register.old }
@@ -348,4 +443,20 @@ fn copy_fixed(register: &mut Bits, bits: Option<&Bits>)
     if let Some(other) = bits {
         register.copy_from(other);
     }
+}
+
+/// The one bit of a bypass register from place `i` on.
+fn bypass_word(bypass: bool, i: usize) -> u64
+    ensures { (j : ℕ) → j < 64 → has_bit result j ≡ bit_of (bypass ∷ []) (i + j) }
+{
+    if i == 0 && bypass { 1 } else { 0 }
+}
+
+/// Makes the one bit of a bypass register the lowest of `bits`.
+fn put_bypass(bypass: &mut bool, at: usize, bits: u64, n: usize)
+    requires some { 0 < n }
+    requires inside { at + n ≤ 1 }
+    ensures { RunSet (bypass.old ∷ []) (bypass.new ∷ []) at bits n }
+{
+    *bypass = bits % 2 == 1;
 }

@@ -4,6 +4,7 @@
 mod chip;
 mod decode;
 mod formed;
+mod link;
 mod plain;
 mod register;
 mod shared;
@@ -12,6 +13,7 @@ mod users;
 
 pub use chip::Chip;
 pub use formed::is_formed;
+pub use link::Link;
 pub use plain::Plain;
 pub use register::Register;
 pub use shared::SharedDevice;

@@ -74,6 +74,14 @@ impl Register for Plain {
         self.stage.shift_in(bit)
     }
 
+    fn word_at(&self, i: usize) -> u64 {
+        self.stage.word_at(i)
+    }
+
+    fn put_run(&mut self, at: usize, bits: u64, n: usize) {
+        self.stage.put_run(at, bits, n);
+    }
+
     fn update(&mut self) {
         self.update.copy_from(&self.stage);
     }

@@ -1,7 +1,10 @@
 //! A boundary register, as a chip needs it.
 
-ghost use Rattle.std.specs.Prelude.{◌≡◌, ◌≢◌, ◌<◌, ◌⊎◌, ℕ, Bool, List, length, slice_get};
+ghost use Rattle.std.specs.Prelude.{◌≡◌, ◌≢◌, ◌+◌, ◌<◌, ◌≤◌, ◌⊎◌, ℕ, Bool, List, length, slice_get};
+ghost use Rattle.jt_bits.specs.Packed.{has_bit};
+ghost use Rattle.jt_bits.specs.Runs.{RunSet};
 ghost use Rattle.jt_bits.specs.Shifting.{shifted};
+ghost use Rattle.jt_bits.specs.Words.{bit_of};
 ghost use Rattle.scan_registers.specs.declared.Mode.{Mode as TheMode};
 
 use crate::Mode;
@@ -48,6 +51,18 @@ pub trait Register: Drop {
         requires { 0 < length (stage self.old) }
         ensures out { slice_get (stage self.old) 0 ≡ Some result }
         ensures stage { self.new ≡ with_parts self.old (shifted (stage self.old) bit) (update_part self.old) };
+
+    /// The stage's bits from place `i` on as a number, 64 of them, bit `i` lowest; missing ones are 0.
+    fn word_at(&self, i: usize) -> u64
+        ensures { (j : ℕ) → j < 64 → has_bit result j ≡ bit_of (stage self.now) (i + j) };
+
+    /// Makes the stage's `n` bits from `at` on those of `bits`, its lowest first, and keeps all others.
+    fn put_run(&mut self, at: usize, bits: u64, n: usize)
+        requires some { 0 < n }
+        requires few { n ≤ 64 }
+        requires inside { at + n ≤ length (stage self.old) }
+        ensures run { RunSet (stage self.old) (stage self.new) at bits n }
+        ensures stage { self.new ≡ with_parts self.old (stage self.new) (update_part self.old) };
 
     fn update(&mut self)
         ensures { self.new ≡ with_parts self.old (stage self.old) (stage self.old) };

@@ -10,7 +10,7 @@ ghost use Rattle.scan_vectors.specs.Fields.{vector_of};
 ghost use Rattle.scan_vectors.specs.Held.{bits, fields};
 
 use jt_bits::Bits;
-pub use part::{Part, Part3};
+pub use part::{Part, Part3, TdiRun, WantedRun};
 pub use vector::Vector;
 
 mod part;

@@ -2,7 +2,7 @@
 
 ghost use Rattle.std.specs.Prelude.{◌+◌, ◌<◌, ◌^◌};
 
-use crate::part::{Part, Part3};
+use crate::part::{Part, Part3, TdiRun, WantedRun};
 
 /// The whole vector of a scan.
 #[derive(Debug, Clone, Copy)]
@@ -14,10 +14,12 @@ pub struct Vector<'a> {
 }
 
 impl<'a> Vector<'a> {
-    ghost use Rattle.std.specs.Prelude.{◌≡◌, ◌+◌, ◌<◌, ◌^◌, Bool, Option, Some, ℕ, length, slice_get, option_map};
+    ghost use Rattle.std.specs.Prelude.{◌≡◌, ◌+◌, ◌<◌, ◌≤◌, ◌^◌, Bool, Option, Some, None, ℕ, length, slice_get, option_map};
+    ghost use Rattle.jt_bits.specs.Packed.{has_bit};
     ghost use Rattle.scan_vectors.specs.declared.part.Part as declared;
     ghost use Rattle.scan_vectors.specs.Fields.{vector_of};
-    ghost use Rattle.scan_vectors.specs.Held.{bits, fields};
+    ghost use Rattle.scan_vectors.specs.Held.{bits, fields, wanted_of};
+    ghost use Rattle.scan_vectors.specs.Vector.{tdis};
 
     pub(crate) fn of(header: Part3<'a>, body: Part3<'a>, trailer: Part3<'a>) -> Vector<'a>
         requires { header.len + body.len + trailer.len < 2 ^ 64 }
@@ -49,6 +51,59 @@ impl<'a> Vector<'a> {
             self.body.bit(i - self.header.len)
         } else {
             self.trailer.bit(i - self.header.len - self.body.len)
+        }
+    }
+
+    /// What is shifted in as bit `i` and as the bits behind it, up to the end of the part or 64 bits.
+    pub fn tdi_run(&self, i: usize) -> TdiRun
+        requires { i < length (bits self.now) }
+        ensures some { 0 < result.len }
+        ensures few { result.len ≤ 64 }
+        ensures inside { i + result.len ≤ length (bits self.now) }
+        ensures bits { (j : ℕ) → j < result.len
+            → slice_get (tdis (bits self.now)) (i + j) ≡ Some (has_bit result.bits j) }
+    {
+        if i < self.header.len {
+            self.header.tdi_run(i)
+        } else if i - self.header.len < self.body.len {
+            self.body.tdi_run(i - self.header.len)
+        } else {
+            self.trailer.tdi_run(i - self.header.len - self.body.len)
+        }
+    }
+
+    /// What is wanted out as bit `i` and as the bits behind it, up to the end of the part or 64 bits.
+    pub fn wanted_run(&self, i: usize) -> WantedRun
+        requires { i < length (bits self.now) }
+        ensures some { 0 < result.len }
+        ensures few { result.len ≤ 64 }
+        ensures inside { i + result.len ≤ length (bits self.now) }
+        ensures bits { (j : ℕ) → j < result.len
+            → option_map {U = Option Bool} (λ b. b.wanted) (slice_get (bits self.now) (i + j))
+            ≡ Some (wanted_of (has_bit result.care j) (has_bit result.bits j)) }
+    {
+        if i < self.header.len {
+            self.header.wanted_run(i)
+        } else if i - self.header.len < self.body.len {
+            self.body.wanted_run(i - self.header.len)
+        } else {
+            self.trailer.wanted_run(i - self.header.len - self.body.len)
+        }
+    }
+
+    /// How many bits from bit `i` on are not wanted because their part has no TDO: up to the end of the part, or none.
+    pub fn unwanted(&self, i: usize) -> usize
+        requires { i < length (bits self.now) }
+        ensures inside { i + result ≤ length (bits self.now) }
+        ensures bits { (j : ℕ) → j < result
+            → option_map {U = Option Bool} (λ b. b.wanted) (slice_get (bits self.now) (i + j)) ≡ Some None }
+    {
+        if i < self.header.len {
+            self.header.unwanted(i)
+        } else if i - self.header.len < self.body.len {
+            self.body.unwanted(i - self.header.len)
+        } else {
+            self.trailer.unwanted(i - self.header.len - self.body.len)
         }
     }
 

@@ -1,7 +1,7 @@
 use Rattle.std.proofs.Common.{◌≡◌, length, sym, ap, ◌∙◌}
 use Rattle.std.proofs.lemmas.List.{with_items_is}
 use Rattle.scan_registers.proofs.ChipLaws.{selected_there, updated_users}
-use Rattle.scan_registers.proofs.chip.Chip.load.Goals as goal
+use Rattle.scan_registers.proofs.chip.Chip.update.Goals as goal
 
 pub update-requires-in-User : goal.update-requires-in-User
 update-requires-in-User g c = selected_there c.self.inside.device c.self.inside.decoded c.in-User.k c.self.inside.users.items c.deref_mut.result.now c.self.invariant.fits c.in-User.is c.self.invariant.users c.deref_mut.ensures.value

@@ -1,0 +1,96 @@
+ghost use Rattle.std.specs.Prelude.{◌≡◌};
+
+use super::*;
+use bsdl_device::{Cell, Device, Function, Parts, Ports};
+use jt_bits::{Bits, HexFault};
+use scan_registers::{Chip, Plain, SharedDevice, is_formed};
+use scan_vectors::{Part, Part3, join};
+use std::alloc::{AllocError, Global};
+use std::test::Fail;
+
+/// A device without a code, so that its reset instruction selects bypass.
+fn device(alloc: Global) -> Result<Device, AllocError> {
+    let mut cells = Vec::with_capacity(alloc, 1)?;
+    cells.push(Cell {
+        function: Function::Internal,
+        port: None,
+        control: None,
+    })?;
+    Ok(Device::new(Parts {
+        ports: Ports::new(alloc),
+        instruction_length: 2,
+        opcodes: Vec::new(alloc),
+        capture: Bits::zeros(alloc, 2)?,
+        idcode: None,
+        usercode: None,
+        cells,
+        private_names: Vec::new(alloc),
+        accesses: Vec::new(alloc),
+        users: Vec::new(alloc),
+        has_trst: false,
+    }))
+}
+
+/// Two chips whose bypass bits are 0.
+fn chain(alloc: Global) -> Result<Vec<Chip<Plain>>, Fail> {
+    let mut chain = Vec::with_capacity(alloc, 2)?;
+    for _ in 0..2u8 {
+        let device = device(alloc)?;
+        if !is_formed(&device) {
+            return Err(Fail::from("not formed"));
+        }
+        let shared = SharedDevice::new(alloc, device)?;
+        let boundary = Plain::new(alloc, shared.get().cells().len())?;
+        chain.push(Chip::new(alloc, &shared, boundary)?)?;
+    }
+    Ok(chain)
+}
+
+/// The hexadecimal digits of a field of three bits.
+fn field(alloc: Global, digits: &[u8]) -> Result<Bits, Fail> {
+    Bits::from_hex(alloc, digits, 3).map_err(|_| Fail::from("no value"))
+}
+
+fn of<'a>(tdi: &'a Bits, tdo: &'a Bits) -> Part3<'a>
+    ensures { result.len ≡ 3 }
+{
+    Part3 {
+        len: 3,
+        tdi: Some(tdi),
+        tdo: Some(tdo),
+        mask: None,
+    }
+}
+
+#[test]
+fn a_scan_of_three_bits_through_two_bypass_bits(rt: HostRuntime) -> Result<(), Fail> {
+    let alloc = rt.alloc();
+    let mut chain = chain(alloc)?;
+    let nothing = Part3 {
+        len: 0,
+        tdi: None,
+        tdo: None,
+        mask: None,
+    };
+    // 1, 1, 0 go in; 0, 0 and the first 1 come out, and 1, 0 stay
+    let tdi = field(alloc, b"3")?;
+    let right = field(alloc, b"4")?;
+    let wrong = field(alloc, b"6")?;
+    let vector = join(nothing, of(&tdi, &right), nothing);
+    assert_eq!(rt; judge_chain(&chain, Column::Dr, &vector), None);
+    assert_eq!(rt;
+        judge_chain(
+            &chain,
+            Column::Dr,
+            &join(nothing, of(&tdi, &wrong), nothing)
+        ),
+        Some((Part::Data, 1))
+    );
+    shift_chain(&mut chain, Column::Dr, &vector);
+    let mut bypass = Vec::with_capacity(alloc, 2)?;
+    for chip in &chain {
+        bypass.push(chip.bypass())?;
+    }
+    assert_eq!(rt; bypass.as_slice(), [true, false].as_slice());
+    Ok(())
+}
