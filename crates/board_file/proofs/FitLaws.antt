@@ -20,7 +20,7 @@ use Rattle.board_file.specs.Wiring.{Member, Wiring, Fault, TooLarge, core_of, me
 use Rattle.board_file.specs.declared.fault.BoardFault.{BoardFault}
 use Rattle.board_file.specs.declared.plan.Plan.{Plan}
 use Rattle.board_file.specs.View.{TellsBoard, wiring}
-use Rattle.board_file.specs.Fits.{HasCore, IsPinOf, AreApart, all_pins, FitsTogether}
+use Rattle.board_file.specs.Fits.{AreApart, AreSaid, FitsTogether, HasCore, IsPinOf, IsSaid, all_pins}
 use Rattle.board_file.proofs.DescribedLaws.{Has, Named, named_from}
 
 neither : {A : Type 0} (a b : Option A) → or_else a b ≡ None → (a ≡ None) × (b ≡ None)
@@ -340,3 +340,34 @@ module _ (says : List ℕ → Option Device) (files : List File) (t : Members) w
 pub told_fits : {F : Type 0} (refuses : List ℕ → F → Type 0) (says : List ℕ → Option Device) (files : List File) (t : Members) (r : Result Plan (BoardFault F)) → TellsBoard refuses r (makes says files t) → IfOk r (λ p. FitsTogether (wiring p))
 told_fits refuses says files t (Ok p) h = board_fits says files t (wiring p) h
 told_fits refuses says files t (Err f) h = tt
+
+-- ---- each device is one that a text says
+
+module _ (says : List ℕ → Option Device) (files : List File) where
+  said-text : (o : Option (List ℕ)) (d : Device) → option_and_then says o ≡ Some d → IsSaid says d
+  said-text None d e = absurd (some_none d (sym e))
+  said-text (Some text) d e = (text, e)
+
+  said-name : (o : Option (List ℕ)) (d : Device) → option_and_then (described says files) o ≡ Some d → IsSaid says d
+  said-name None d e = absurd (some_none d (sym e))
+  said-name (Some name) d e = said-text (text_of files name) d e
+
+  said-members : (ts : List Members) → AllByRecursion (λ (m : Member). IsSaid says m.device) (filter_map (member_at says files) ts)
+  said-members [] = tt
+  said-members (t ∷ ts) = by (said-members ts) (device_at says files t) refl
+    where
+      by : AllByRecursion (λ (m : Member). IsSaid says m.device) (filter_map (member_at says files) ts) → (o : Option Device) → device_at says files t ≡ o
+          → AllByRecursion (λ (m : Member). IsSaid says m.device) (filter_map (member_at says files) (t ∷ ts))
+      by rest None e = rw e rest
+      by rest (Some d) e = rw e (said-name (text_at (codes "bsdl") t) d e, rest)
+
+  board_said : (t : Members) (w : Wiring) → makes says files t ≡ Ok w → AreSaid says w
+  board_said t w h = by (fault_of says files t) refl h
+    where
+      by : (o : Option Fault) → fault_of says files t ≡ o → answer o (wiring_of says files t) ≡ Ok w → AreSaid says w
+      by None e is = subst (AreSaid says) (ap (made_or w) is) (said-members (tables_at (codes "device") t))
+      by (Some f) e is = absurd (refusal f w is)
+
+pub told_said : {F : Type 0} (refuses : List ℕ → F → Type 0) (says : List ℕ → Option Device) (files : List File) (t : Members) (r : Result Plan (BoardFault F)) → TellsBoard refuses r (makes says files t) → IfOk r (λ p. AreSaid says (wiring p))
+told_said refuses says files t (Ok p) h = board_said says files t (wiring p) h
+told_said refuses says files t (Err f) h = tt

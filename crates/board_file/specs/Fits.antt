@@ -1,6 +1,7 @@
 -- What holds of every board that a board file makes.
-use Rattle.std.specs.Prelude.{◌≡◌, ◌<◌, ◌≤◌, false, List, [], ◌∷◌, ◌++◌, length, slice_get, Some}
+use Rattle.std.specs.Prelude.{◌≡◌, ◌<◌, ◌≤◌, false, ℕ, Option, List, [], ◌∷◌, ◌++◌, length, slice_get, Some}
 use Rattle.std.specs.List.{list_any, flat_map, AllByRecursion}
+use Rattle.bsdl_device.specs.Device.{Device}
 use Rattle.pin_nets.specs.declared.Pin.{Pin}
 use Rattle.board_file.specs.Pins.{same_pin}
 use Rattle.pin_nets.specs.Wired.{Net}
@@ -31,3 +32,11 @@ pub record FitsTogether (w : Wiring) : Type 0 where
   pub cores : AllByRecursion HasCore w.members
   pub pins : AllByRecursion (IsPinOf w.members) (all_pins w.nets)
   pub apart : AreApart [] (all_pins w.nets)
+
+-- a text says that this is its device
+abbrev pub IsSaid : (List ℕ → Option Device) → Device → Type 0
+IsSaid says d = (text : List ℕ) × (says text ≡ Some d)
+
+-- the devices are those that texts say
+abbrev pub AreSaid : (List ℕ → Option Device) → Wiring → Type 0
+AreSaid says w = AllByRecursion (λ (m : Member). IsSaid says m.device) w.members

@@ -8,7 +8,7 @@ ghost use Rattle.board_tables.specs.View.{texts_of};
 ghost use Rattle.board_file.specs.Files.{Reads, IsBadToml};
 ghost use Rattle.board_file.specs.Wiring.{makes};
 ghost use Rattle.board_file.specs.View.{IsMiswired, IsUnknownFile, JudgesKeys, PlansBoard, TellsBadToml, TellsBoard, cells_in, files_of, wiring};
-ghost use Rattle.board_file.specs.Fits.{FitsTogether};
+ghost use Rattle.board_file.specs.Fits.{AreSaid, FitsTogether};
 
 use crate::fault::{BoardFault, told};
 use crate::files::{distinct_files, read_table};
@@ -34,6 +34,8 @@ pub fn plan_of_text<'f, R: Describe>(
     ensures bad_toml { IsBadToml toml_text.now → TellsBadToml result }
     // A board has 1 to 32 devices with whole cores and at most 4,096 nets; each pin is a port bit of a device, none twice.
     ensures fits { IfOk result (λ p. FitsTogether (wiring p)) }
+    // Each device is one that a text says.
+    ensures said { IfOk result (λ p. AreSaid R.says (wiring p)) }
 {
     let table = read_table(alloc, toml_text)?;
     plan_in(alloc, reader, files, &table)
@@ -47,6 +49,7 @@ fn plan_in<'f, R: Describe>(
 ) -> Result<Plan, BoardFault<R::Fault>>
     ensures told { TellsBoard R.refuses result (makes R.says (files_of files.now) (table_view table.now)) }
     ensures fits { IfOk result (λ p. FitsTogether (wiring p)) }
+    ensures said { IfOk result (λ p. AreSaid R.says (wiring p)) }
 {
     let Ok(names) = distinct_files(alloc, items_at(table, "device")) else {
         return Err(BoardFault::NoMemory);

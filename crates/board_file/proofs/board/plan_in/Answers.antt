@@ -5,7 +5,7 @@ use Rattle.board_tables.specs.View.{texts_of}
 use Rattle.board_file.specs.Files.{file_at, distinct, described, missing_in, refused_in}
 use Rattle.board_file.specs.View.{files_of, IsFirstRefusal, PlansBoard}
 use Rattle.board_file.proofs.BoardLaws.{keys_fault, missing_fault, refused_fault, planned}
-use Rattle.board_file.proofs.FitLaws.{told_fits}
+use Rattle.board_file.proofs.FitLaws.{told_fits, told_said}
 use Rattle.board_file.proofs.board.plan_in.Goals as goal
 
 -- src/board.rt:59:9
@@ -69,3 +69,6 @@ returns-clause-told g c =
 
 pub returns-clause-fits : goal.returns-clause-fits
 returns-clause-fits g c = told_fits g.R.Describe.refuses g.R.Describe.says (files_of c.args.files.now) (table_view c.args.table.now) c.plan_described.result (returns-clause-told g c)
+
+pub returns-clause-said : goal.returns-clause-said
+returns-clause-said g c = told_said g.R.Describe.refuses g.R.Describe.says (files_of c.args.files.now) (table_view c.args.table.now) c.plan_described.result (returns-clause-told g c)
