@@ -26,8 +26,12 @@ port_bits taps p =
 -- the control counts at the cells that drive
 abbrev pub cell : List Port → CellRow → Cell
 cell ps r =
-    record { function = r.function; port = option_and_then (bit_number 0 ps) r.port; control = if drives r.function
-    then r.control else None }
+    record {
+      function = r.function;
+      port = option_and_then (bit_number 0 ps) r.port;
+      control = if drives r.function
+          then r.control else None;
+    }
 
 -- cells stand by their numbers
 abbrev pub cells_of : List Port → List CellRow → ℕ → List Cell
@@ -46,8 +50,12 @@ place_of users r None = public_place r.register
 -- a pattern behind CAPTURES counts for a register of the device's own
 abbrev pub access : Place → Bool → Instr → Access
 access place is_own i =
-    record { instruction = upper i.name.text; place = place; captures = if is_own then option_map bits i.captures
-    else None }
+    record {
+      instruction = upper i.name.text;
+      place = place;
+      captures = if is_own then option_map bits i.captures
+          else None;
+    }
 
 abbrev pub accesses_of_row : List (Name × ℕ) → AccessRow → List Access
 accesses_of_row users r = map (access (place_of users r r.len) (is_some r.len)) r.instrs

@@ -19,7 +19,7 @@ function_of text =
 abbrev pub disabled_of : List ℕ → Option Disabled
 disabled_of text =
     stands_for ((codes "Z", Z) ∷ (codes "WEAK0", Weak0) ∷ (codes "WEAK1", Weak1) ∷ (codes "PULL0", Pull0) ∷
-        (codes "PULL1", Pull1) ∷ (codes "KEEPER", Keeper) ∷ []) text
+    (codes "PULL1", Pull1) ∷ (codes "KEEPER", Keeper) ∷ []) text
 
 -- a cell's safe value, which has no meaning here
 abbrev pub safe_of : List ℕ → Option Bool

@@ -37,7 +37,7 @@ cell_port ts = if stands 42 ts then (mark 42 ts >>= λ m a. fits None a) else na
 abbrev pub control : List Lexeme → Read Control3
 control ts =
     number ts >>= λ n a. mark comma a >>= λ m b. keyword bit_of b >>= λ d c. mark comma c >>=
-        λ k e. keyword disabled_of e >>= λ z f.
+    λ k e. keyword disabled_of e >>= λ z f.
     fits (record { cell = n; disabling = d; leaves = z }) f
 
 abbrev pub cell_control : List Lexeme → Read (Option Control3)
@@ -47,7 +47,7 @@ cell_control ts =
 abbrev pub cell_row : List Lexeme → Read CellRow
 cell_row ts =
     number ts >>= λ n a. mark opening a >>= λ m b. word b >>= λ type c. mark comma c >>= λ k d. cell_port d >>=
-        λ p e. mark comma e >>= λ j f.
+    λ p e. mark comma e >>= λ j f.
     keyword function_of f >>= λ u g. mark comma g >>= λ i h. keyword safe_of h >>= λ s o. cell_control o >>=
-        λ t q. mark closing q >>= λ z r.
+    λ t q. mark closing q >>= λ z r.
     fits (record { number = n; port = p; function = u; control = t }) r

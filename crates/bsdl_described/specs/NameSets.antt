@@ -26,4 +26,4 @@ private_named names q = list_any (λ n. is_equal n q) names
 abbrev pub is_own_by : BTreeSet (String Global) → BTreeSet (String Global) → List ℕ → Bool
 is_own_by with_opcode private name =
     if contains_text with_opcode (upper name) then (if is_among standard_names (upper name) then false
-        else not (contains_text private (upper name))) else false
+    else not (contains_text private (upper name))) else false

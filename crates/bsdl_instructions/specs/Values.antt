@@ -92,4 +92,4 @@ register_len name ts =
 abbrev pub access_row : List Lexeme → Read AccessRow
 access_row ts =
     word ts >>= λ r a. register_len r a >>= λ n b. bracketed instr b >>=
-        λ is c. fits (record { register = upper r.text; len = n; instrs = is }) c
+    λ is c. fits (record { register = upper r.text; len = n; instrs = is }) c

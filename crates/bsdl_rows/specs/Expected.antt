@@ -28,8 +28,11 @@ k = Ok (record {
       ∷ false ∷ true ∷ false ∷ true ∷ true ∷ false ∷ false ∷ false ∷ true ∷ false ∷ false ∷ true ∷ false ∷ false
       ∷ false ∷ false ∷ false ∷ false ∷ false ∷ []));
   usercode = None;
-  cells = (record { function = Output3; port = (Some 4);
-        control = (Some (record { cell = 1; disabling = false; leaves = Z })) }
+  cells = (record {
+    function = Output3;
+    port = (Some 4);
+    control = (Some (record { cell = 1; disabling = false; leaves = Z }));
+  }
       ∷ record { function = Control; port = None; control = None }
       ∷ record { function = Input; port = (Some 5); control = None } ∷ []);
   private_names = ([]);
@@ -56,8 +59,11 @@ k_lower = Ok (record {
       ∷ false ∷ true ∷ false ∷ true ∷ true ∷ false ∷ false ∷ false ∷ true ∷ false ∷ false ∷ true ∷ false ∷ false
       ∷ false ∷ false ∷ false ∷ false ∷ false ∷ []));
   usercode = None;
-  cells = (record { function = Output3; port = (Some 4);
-        control = (Some (record { cell = 1; disabling = false; leaves = Z })) }
+  cells = (record {
+    function = Output3;
+    port = (Some 4);
+    control = (Some (record { cell = 1; disabling = false; leaves = Z }));
+  }
       ∷ record { function = Control; port = None; control = None }
       ∷ record { function = Input; port = (Some 5); control = None } ∷ []);
   private_names = ([]);
@@ -85,8 +91,11 @@ kt = Ok (record {
       ∷ false ∷ true ∷ false ∷ true ∷ true ∷ false ∷ false ∷ false ∷ true ∷ false ∷ false ∷ true ∷ false ∷ false
       ∷ false ∷ false ∷ false ∷ false ∷ false ∷ []));
   usercode = None;
-  cells = (record { function = Output3; port = (Some 4);
-        control = (Some (record { cell = 1; disabling = false; leaves = Z })) }
+  cells = (record {
+    function = Output3;
+    port = (Some 4);
+    control = (Some (record { cell = 1; disabling = false; leaves = Z }));
+  }
       ∷ record { function = Control; port = None; control = None }
       ∷ record { function = Input; port = (Some 5); control = None } ∷ []);
   private_names = ([]);
@@ -132,8 +141,11 @@ ku = Ok (record {
       ∷ false ∷ true ∷ false ∷ true ∷ true ∷ false ∷ false ∷ false ∷ true ∷ false ∷ false ∷ true ∷ false ∷ false
       ∷ false ∷ false ∷ false ∷ false ∷ false ∷ []));
   usercode = None;
-  cells = (record { function = Output3; port = (Some 4);
-        control = (Some (record { cell = 1; disabling = false; leaves = Z })) }
+  cells = (record {
+    function = Output3;
+    port = (Some 4);
+    control = (Some (record { cell = 1; disabling = false; leaves = Z }));
+  }
       ∷ record { function = Control; port = None; control = None }
       ∷ record { function = Input; port = (Some 5); control = None } ∷ []);
   private_names = ([]);
@@ -160,13 +172,20 @@ kuc = Ok (record {
       ∷ false ∷ true ∷ false ∷ true ∷ true ∷ false ∷ false ∷ false ∷ true ∷ false ∷ false ∷ true ∷ false ∷ false
       ∷ false ∷ false ∷ false ∷ false ∷ false ∷ []));
   usercode = None;
-  cells = (record { function = Output3; port = (Some 4);
-        control = (Some (record { cell = 1; disabling = false; leaves = Z })) }
+  cells = (record {
+    function = Output3;
+    port = (Some 4);
+    control = (Some (record { cell = 1; disabling = false; leaves = Z }));
+  }
       ∷ record { function = Control; port = None; control = None }
       ∷ record { function = Input; port = (Some 5); control = None } ∷ []);
   private_names = ([]);
-  accesses = (record { instruction = codes "LOAD"; place = AtUser 0; captures =
-      (Some (true ∷ false ∷ true ∷ false ∷ [])) } ∷ []);
+  accesses = (record {
+    instruction = codes "LOAD";
+    place = AtUser 0;
+    captures =
+        (Some (true ∷ false ∷ true ∷ false ∷ []));
+  } ∷ []);
   users = (4 ∷ []);
   has_trst = false;
 })
