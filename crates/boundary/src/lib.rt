@@ -317,11 +317,7 @@ pub fn a_driving_cell_drives_its_port()
 {}
 
 /// For each of the first `ports` port bits the cell that drives it: the lowest that may.
-pub fn drivers(
-    alloc: Global,
-    list: &[Cell],
-    ports: usize,
-) -> Result<Vec<Option<usize>>, AllocError>
+pub fn drivers(alloc: Global, list: &[Cell], ports: usize) -> Result<Vec<Option<usize>>, AllocError>
     ensures long { IfOk result (λ v. length v.items ≡ ports) }
     ensures drivers { IfOk result (λ v. AreDrivers list.now v.items) }
 {

@@ -273,7 +273,7 @@ pub seat_push : (nets : List Net) (ms : List planned.Member) (i : ℕ) (m : plan
 seat_push nets ms i m seats new s cells d at are described wired is e =
     let place : i ≡ 0 + i = omega arith in
     let cells-are : cells ≡ map (cell_net nets (0 + i)) m.device.cells =
-        wired ∙ ap (λ (x : Device). map (cell_net nets i) x.cells) described ∙ ap (λ (k : ℕ). map (cell_net nets k) m.device.cells) place in
+    wired ∙ ap (λ (x : Device). map (cell_net nets i) x.cells) described ∙ ap (λ (k : ℕ). map (cell_net nets k) m.device.cells) place in
     e ∙ ap (λ (l : List SeatValue). l ++ s ∷ []) are
     ∙ ap (λ (x : SeatValue). take i (seats_of nets 0 ms) ++ x ∷ []) (is ∙ ap (λ (cs : List (Option ℕ)). seat_of cs m) cells-are)
     ∙ sym (seat_more nets 0 i ms m at)
@@ -285,7 +285,7 @@ pub number_net : (old : List Pin) (all : List PlannedNet) (i : ℕ) (x : Planned
 number_net old all i x pins pins' specs specs' s numbers own h is nums are its range more value pushed =
     let before = map planned_net (take i all) in
     let grown : map planned_net (take (i + 1) all) ≡ before ++ planned_net x ∷ [] =
-        ap (map planned_net) (take_more all i x h) ∙ map-append planned_net (take i all) (get_or all i x ∷ []) ∙ ap (λ (y : PlannedNet). before ++ planned_net y ∷ []) (sym is) in
+    ap (map planned_net) (take_more all i x h) ∙ map-append planned_net (take i all) (get_or all i x ∷ []) ∙ ap (λ (y : PlannedNet). before ++ planned_net y ∷ []) (sym is) in
     let at : length pins ≡ length old + length (all_pins before) = ap length are ∙ length-append old (all_pins before) in
     let pins-are : numbers ≡ range_with_len (length pins) (length x.pins.items) = range ∙ ap (λ (l : List Pin). range_with_len (length pins) (length l)) its in
     record {

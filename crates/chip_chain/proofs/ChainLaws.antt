@@ -71,7 +71,7 @@ module _ (R : ℕ → SeatValue → SeatValue → Type 0) where
   drives-at : ((i : ℕ) (s t : SeatValue) → R i s t → (p : ℕ) → drive (member_of t) p ≡ drive (member_of s) p)
       → (place : ℕ) (old new : List SeatValue) → EachFrom R place old new → (n p : ℕ)
       → unwrap_or (option_map (λ (m : Member). drive m p) (slice_get (map member_of new) n)) Nothing
-          ≡ unwrap_or (option_map (λ (m : Member). drive m p) (slice_get (map member_of old) n)) Nothing
+      ≡ unwrap_or (option_map (λ (m : Member). drive m p) (slice_get (map member_of old) n)) Nothing
   drives-at same place [] [] each n p = refl
   drives-at same place [] (t ∷ new) each n p = absurd each
   drives-at same place (s ∷ old) [] each n p = absurd each
@@ -122,9 +122,10 @@ module _ (w : WiringValue) (tms tdi : Bool) (all : List SeatValue) (wired : IsWi
   placed place (s ∷ old) (t ∷ new) at cells each =
       let same : place + 0 ≡ place = omega arith in
       let there : slice_get all place ≡ Some s = sym (ap (slice_get all) same) ∙ at 0 in
-      let here : slice_get before place ≡ Some (member_of s) = slice_get-map member_of all place ∙ ap (option_map member_of) there in
-      (record { it = each.0; chip = each.0.chip before (record { here = here; drives = wired.drives; nets = cells.0 }) },
-       placed (suc place) old new (λ j. let next : suc place + j ≡ place + suc j = omega arith in ap (slice_get all) next ∙ at (suc j)) cells.1 each.1)
+      let here : slice_get before place ≡ Some (member_of s) = slice_get-map member_of all place ∙ ap (option_map member_of) there in (
+        record { it = each.0; chip = each.0.chip before (record { here = here; drives = wired.drives; nets = cells.0 }) },
+        placed (suc place) old new (λ j. let next : suc place + j ≡ place + suc j = omega arith in ap (slice_get all) next ∙ at (suc j)) cells.1 each.1,
+      )
 
   all-placed : (new : List SeatValue) → EachFrom (Rises w tms tdi all) 0 all new → EachFrom Risen 0 all new
   all-placed new each = placed 0 all new (λ j. let same : 0 + j ≡ j = omega arith in ap (slice_get all) same) wired.cells each
@@ -139,9 +140,9 @@ module _ (w : WiringValue) (tms tdi : Bool) (all : List SeatValue) (wired : IsWi
       let rest : drop (suc place) (map chip_state all) ≡ map chip_state old = drop-tail place (map chip_state all) (chip_state s) (map chip_state old) behind in
       let tdi-is = ap (λ (n : ℕ). tdi_before tdi (drop n (map chip_state all))) next ∙ ap (tdi_before tdi) rest in
       let chip-is : chip_state t ≡ chain.rise trst tms (tdi_before tdi (map chip_state old)) (sees w.nets before place) (chip_state s) =
-          each.0.chip
-          ∙ ap (λ (b : Bool). chain.rise s.chip.trst tms b (sees w.nets before place) (chip_state s)) tdi-is
-          ∙ ap (λ (b : Bool). chain.rise b tms (tdi_before tdi (map chip_state old)) (sees w.nets before place) (chip_state s)) told.0 in
+      each.0.chip
+      ∙ ap (λ (b : Bool). chain.rise s.chip.trst tms b (sees w.nets before place) (chip_state s)) tdi-is
+      ∙ ap (λ (b : Bool). chain.rise b tms (tdi_before tdi (map chip_state old)) (sees w.nets before place) (chip_state s)) told.0 in
       λ i. chip-is i ∷ chips-from trst (suc place) old new rest told.1 each.1 i
     where
       drop-tail : (k : ℕ) (l : List ChipState) (x : ChipState) (xs : List ChipState) → drop k l ≡ x ∷ xs → drop (suc k) l ≡ xs
@@ -152,9 +153,9 @@ module _ (w : WiringValue) (tms tdi : Bool) (all : List SeatValue) (wired : IsWi
   pub rises_wired : (new : List SeatValue) → EachFrom (Rises w tms tdi all) 0 all new → IsWired new w
   rises_wired new each = record {
     drives = wired.drives ∙ sym (same_drives Risen
-      (λ i s t r p. ap (λ (c : ChipState). drive c.member p) r.chip
+        (λ i s t r p. ap (λ (c : ChipState). drive c.member p) r.chip
         ∙ rise_drives s.chip.trst tms (tdi_before tdi (drop (i + 1) (map chip_state all))) (sees w.nets before i) (chip_state s) p)
-      0 all new (all-placed new each) (all_pins w.nets));
+        0 all new (all-placed new each) (all_pins w.nets));
     cells = kept_cells (Rises w tms tdi all) (λ i s t r. r.kept) w.nets 0 all new each wired.cells;
     pins = subst (λ (n : ℕ). AreSeated n (all_pins w.nets)) (sym (each_long (Rises w tms tdi all) 0 all new each)) wired.pins;
   }

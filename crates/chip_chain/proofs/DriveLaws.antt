@@ -18,7 +18,7 @@ drives_port s table port driver mode b d cells drivers found at same is =
     let own = s.chip.boundary in
     let m = (meaning s.chip.device s.chip.latch).mode in
     let driver-is : driver ≡ driver_from port 0 s.chip.device.cells =
-        sym (get_or_from_slice_get table port driver None found) ∙ drivers.each port (slice_get_within table port driver found) in
+    sym (get_or_from_slice_get table port driver None found) ∙ drivers.each port (slice_get_within table port driver found) in
     is
     ∙ ap (λ (x : Mode). driven_in x b.cells b.update b.core driver) at
     ∙ ap (λ (x : BoundaryValue). driven_in m x.cells x.update x.core driver) same

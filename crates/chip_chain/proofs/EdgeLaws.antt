@@ -52,7 +52,7 @@ risen-alike Waits d a b tdi r same = refl
 
 rise-alike : (name : List ℕ) (core : List Bool) (extest : Bool) (o : OneChip) (a : Surroundings) (sees : ℕ → Bool) (tms tdi : Bool)
     → risen (work o.state) o.device a tdi o.registers
-        ≡ risen (work o.state) o.device (surroundings sees (state_of name core extest o).member) tdi o.registers
+    ≡ risen (work o.state) o.device (surroundings sees (state_of name core extest o).member) tdi o.registers
     → state_of name core extest (rise tms tdi a o) ≡ chain.rise o.trst tms tdi sees (state_of name core extest o)
 rise-alike name core extest o a sees tms tdi same = by (is_held o) refl
   where
@@ -87,8 +87,8 @@ module _ (s : SeatValue) (cells : s.chip.boundary.cells ≡ s.chip.device.cells)
       ∙ ap (λ (c : List Bool). state_of s.name c t.chip.boundary.extest_update (rise tms tdi (around captured at_reset s.chip) now)) core
       ∙ ap (λ (e : Bool). state_of s.name s.chip.boundary.core e (rise tms tdi (around captured at_reset s.chip) now)) extest
       ∙ rise-alike s.name s.chip.boundary.core s.chip.boundary.extest_update now (around captured at_reset s.chip) sees tms tdi
-        (risen-alike (work s.chip.state) s.chip.device (around captured at_reset s.chip) (surroundings sees (member_of s)) tdi now.registers
-          (λ yes. let w = sighted yes in captures-alike sees (meaning s.chip.device s.chip.latch).mode w.0 w.1))
+      (risen-alike (work s.chip.state) s.chip.device (around captured at_reset s.chip) (surroundings sees (member_of s)) tdi now.registers
+      (λ yes. let w = sighted yes in captures-alike sees (meaning s.chip.device s.chip.latch).mode w.0 w.1))
 
 -- ---- what an edge changes of what is driven
 

@@ -27,11 +27,11 @@ ranged drives k (x ∷ xs) rest e =
     let long : 0 < length (drop k drives) = omega (arith, ap length e) in
     let below : k < length drives = omega (arith, long, length-drop k drives) in
     let here : get_or drives k Nothing ≡ x =
-        let same : k + 0 ≡ k = omega arith in
-        sym (ap (λ (i : ℕ). get_or drives i Nothing) same) ∙ sym (get_or-drop k drives 0 Nothing) ∙ ap (λ (l : List Drive). get_or l 0 Nothing) e in
+    let same : k + 0 ≡ k = omega arith in
+    sym (ap (λ (i : ℕ). get_or drives i Nothing) same) ∙ sym (get_or-drop k drives 0 Nothing) ∙ ap (λ (l : List Drive). get_or l 0 Nothing) e in
     let on : drop (k + 1) drives ≡ xs ++ rest =
-        let next : k + 1 ≡ suc k = omega arith in
-        ap (λ (i : ℕ). drop i drives) next ∙ sym (ap (drop 1) (drop-cons drives k Nothing below)) ∙ ap (drop 1) e in
+    let next : k + 1 ≡ suc k = omega arith in
+    ap (λ (i : ℕ). drop i drives) next ∙ sym (ap (drop 1) (drop-cons drives k Nothing below)) ∙ ap (drop 1) e in
     λ i. (unwrap_or-slice_get drives k Nothing ∙ here) i ∷ ranged drives (k + 1) xs rest on i
 
 abbrev shown : (f : Pin → Drive) → Net → Level
@@ -43,8 +43,8 @@ numbered-level f drives k [] net e = refl
 numbered-level f drives k (n ∷ ns) zero e =
     let long : length (map f n.pins) ≡ length n.pins = length-map n.pins f in
     let pins : map (drive_at drives) (range_with_len k (length n.pins)) ≡ map f n.pins =
-        sym (ap (λ (m : ℕ). map (drive_at drives) (range_with_len k m)) long)
-        ∙ ranged drives k (map f n.pins) (map f (all_pins ns)) (e ∙ map-append f n.pins (all_pins ns)) in
+    sym (ap (λ (m : ℕ). map (drive_at drives) (range_with_len k m)) long)
+    ∙ ranged drives k (map f n.pins) (map f (all_pins ns)) (e ∙ map-append f n.pins (all_pins ns)) in
     ap (λ (ds : List Drive). Some (level_of (pull_drive n.pull ∷ ds))) pins
 numbered-level f drives k (n ∷ ns) (suc net) e = numbered-level f drives (k + length n.pins) ns net (past (map f n.pins) (map f (all_pins ns)) k (length-map n.pins f) (e ∙ map-append f n.pins (all_pins ns)))
   where

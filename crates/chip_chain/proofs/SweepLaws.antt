@@ -46,9 +46,9 @@ swept_more R i old now s y w here one = record {
     by : (j : ℕ) (a b : SeatValue) → j < i + 1 → slice_get old j ≡ Some a → slice_get (set now i y) j ≡ Some b → (j ≡ i) ⊎ (j ≢ i) → R j a b
     by j a b below at was split = ⊎_elim
         (λ e.
-          let old-is : s ≡ a = same_Some _ _ (sym here ∙ w.rest i (omega arith) ∙ sym (ap (slice_get old) e) ∙ at) in
-          let new-is : y ≡ b = same_Some _ _ (sym (set-here now i y within) ∙ sym (ap (slice_get (set now i y)) e) ∙ was) in
-          subst (λ (k : ℕ). R k a b) (sym e) (subst (λ (x : SeatValue). R i a x) new-is (subst (λ (x : SeatValue). R i x y) old-is one)))
+        let old-is : s ≡ a = same_Some _ _ (sym here ∙ w.rest i (omega arith) ∙ sym (ap (slice_get old) e) ∙ at) in
+        let new-is : y ≡ b = same_Some _ _ (sym (set-here now i y within) ∙ sym (ap (slice_get (set now i y)) e) ∙ was) in
+        subst (λ (k : ℕ). R k a b) (sym e) (subst (λ (x : SeatValue). R i a x) new-is (subst (λ (x : SeatValue). R i x y) old-is one)))
         (λ n. w.done j a b (omega (arith, below, n)) at (sym (set-there now i j y n) ∙ was))
         split
 
@@ -58,16 +58,17 @@ each-get R k [] [] long each = tt
 each-get R k [] (t ∷ now) long each = absurd (omega (arith, long))
 each-get R k (s ∷ old) [] long each = absurd (omega (arith, long))
 each-get R k (s ∷ old) (t ∷ now) long each =
-    let same : k + 0 ≡ k = omega arith in
-    (subst (λ (i : ℕ). R i s t) same (each 0 s t refl refl),
-     each-get R (suc k) old now (omega (arith, long)) (λ j a b at was.
-       let next : k + suc j ≡ suc k + j = omega arith in subst (λ (i : ℕ). R i a b) next (each (suc j) a b at was)))
+    let same : k + 0 ≡ k = omega arith in (
+      subst (λ (i : ℕ). R i s t) same (each 0 s t refl refl),
+      each-get R (suc k) old now (omega (arith, long)) (λ j a b at was.
+          let next : k + suc j ≡ suc k + j = omega arith in subst (λ (i : ℕ). R i a b) next (each (suc j) a b at was)),
+    )
 
 pub swept_all : (R : ℕ → SeatValue → SeatValue → Type 0) (i : ℕ) (old now : List SeatValue) → Swept R i old now → length old ≤ i → EachFrom R 0 old now
 swept_all R i old now w h =
     each-get R 0 old now w.long (λ j s t at was.
-      let same : j ≡ 0 + j = omega arith in
-      subst (λ (k : ℕ). R k s t) same (w.done j s t (omega (arith, h, slice_get_within old j s at)) at was))
+    let same : j ≡ 0 + j = omega arith in
+    subst (λ (k : ℕ). R k s t) same (w.done j s t (omega (arith, h, slice_get_within old j s at)) at was))
 
 -- two lists that are alike from a place on
 pub drop_alike : (i : ℕ) (old now : List SeatValue) → length now ≡ length old → ((j : ℕ) → i ≤ j → slice_get now j ≡ slice_get old j) → drop i now ≡ drop i old

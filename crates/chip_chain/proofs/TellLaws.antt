@@ -79,7 +79,7 @@ pub seen_alone : (w : WiringValue) (place port : ℕ) (ms : List Member) (m : Me
     → slice_get ms place ≡ Some m → d ≡ drive m port → first_net place port 0 w.nets ≡ None → reads (level_of (Nothing ∷ d ∷ [])) ≡ sees w.nets ms place port
 seen_alone w place port ms m d at is first =
     let own : pin_drive ms (record { device = place; port = port }) ≡ d =
-        ap (λ (o : Option Member). unwrap_or (option_map (λ (x : Member). drive x port) o) Nothing) at ∙ sym is in
+    ap (λ (o : Option Member). unwrap_or (option_map (λ (x : Member). drive x port) o) Nothing) at ∙ sym is in
     sym (ap (λ (x : Drive). reads (level_of (Nothing ∷ x ∷ []))) own)
     ∙ sym (ap (λ (o : Option Net). reads (level ms (unwrap_or o (lone_net place port)))) (none-found place port 0 w.nets first))
 

@@ -34,7 +34,11 @@ impl Chain {
 }
 
 /// The devices, each with the nets of its cells.
-fn all_seats(alloc: Global, devices: &[PlannedDevice], nets: &[PlannedNet]) -> Result<Vec<Seat>, AllocError>
+fn all_seats(
+    alloc: Global,
+    devices: &[PlannedDevice],
+    nets: &[PlannedNet],
+) -> Result<Vec<Seat>, AllocError>
     requires { IsReady (record { members = map planned_member devices.now; nets = map planned_net nets.now }) }
     ensures { IfOk result (λ v. v.items ≡ seats_of (map planned_net nets.now) 0 (map planned_member devices.now)) }
 {

@@ -56,8 +56,10 @@ impl Chain {
     /// A rising edge of all devices at once, each from its own state, the levels before the edge, and as TDI the TDO of
     /// the next device, 1 while undriven; the last takes `tdi`.
     pub fn rise(&mut self, tms: bool, tdi: bool)
-        ensures { self.new ≡ record self.old { chips =
-            meant.rise_all self.old.trst tms tdi (nets.sees self.old.nets (meant.members self.old.chips)) 0 self.old.chips } }
+        ensures { self.new ≡ record self.old {
+          chips =
+              meant.rise_all self.old.trst tms tdi (nets.sees self.old.nets (meant.members self.old.chips)) 0 self.old.chips;
+        } }
     {
         rise_all(&mut self.seats, &self.wiring, tms, tdi);
     }

@@ -179,7 +179,8 @@ impl Seat {
     fn captures_boundary(&self) -> bool
         ensures { result ≡ captures_boundary (work self.now.chip.state) (meaning self.now.chip.device self.now.chip.latch).selected }
     {
-        self.chip.state().work() == Work::Captures(Column::Dr) && self.chip.selected() == Selected::Boundary
+        self.chip.state().work() == Work::Captures(Column::Dr)
+            && self.chip.selected() == Selected::Boundary
     }
 
     /// How many boundary cells the device has.

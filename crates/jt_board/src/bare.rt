@@ -27,7 +27,11 @@ pub(crate) fn bare_plan(alloc: Global, n: usize) -> Result<Plan, AllocError>
 }
 
 /// So many devices of this description, named U1, U2 and so on.
-fn bare_devices(alloc: Global, device: &SharedDevice, n: usize) -> Result<Vec<PlannedDevice>, AllocError>
+fn bare_devices(
+    alloc: Global,
+    device: &SharedDevice,
+    n: usize,
+) -> Result<Vec<PlannedDevice>, AllocError>
     requires small { n ≤ 32 }
     requires bare { device.now ≡ bare }
     ensures { IfOk result (λ v. map member v.items ≡ bare_planned 1 n) }
@@ -40,7 +44,11 @@ fn bare_devices(alloc: Global, device: &SharedDevice, n: usize) -> Result<Vec<Pl
 }
 
 /// The device U and this number, of this description.
-fn planned_device(alloc: Global, device: &SharedDevice, number: usize) -> Result<PlannedDevice, AllocError>
+fn planned_device(
+    alloc: Global,
+    device: &SharedDevice,
+    number: usize,
+) -> Result<PlannedDevice, AllocError>
     requires { device.now ≡ bare }
     ensures { IfOk result (λ d. member d ≡ bare_at number) }
 {

@@ -9,8 +9,8 @@ ghost use Rattle.chip_chain.specs.Seats.{chip_state};
 ghost use Rattle.scan_registers.specs.Instruction.{instruction};
 
 use crate::board::Board;
-use chip_chain::{Chain, Seat};
 use byte_ends::{Broken, Counted, Sink, put_all};
+use chip_chain::{Chain, Seat};
 use jt_bits::Bits;
 use pin_nets::Level;
 

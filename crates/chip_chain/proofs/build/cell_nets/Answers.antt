@@ -17,5 +17,5 @@ loop-cell-preserved c =
     let nothing : Cell = record { function = Input; port = None; control = None } in
     mapped_push (cell_net nets c.args.place) cells at nothing c.loop-cell.all.items c.push.new.self.items c.net_in.result c.loop-cell-test.true c.loop-cell.invariant
     (c.net_in.ensures ∙ ap (λ (t : List (Option ℕ)). net_by t (get_or cells at nothing).port) c.deref.ensures.value
-      ∙ cell_by_table nets c.args.place (length c.args.device.now.ports) table (get_or cells at nothing) (c.in_ok-table.ensures.long ∙ c.port_count.ensures) c.requires c.in_ok-table.ensures.nets)
+    ∙ cell_by_table nets c.args.place (length c.args.device.now.ports) table (get_or cells at nothing) (c.in_ok-table.ensures.long ∙ c.port_count.ensures) c.requires c.in_ok-table.ensures.nets)
     c.in_ok-push.ensures.items

@@ -22,8 +22,8 @@ loop-net-preserved c =
     let is : net ≡ get_or nets n net = ap planned_net c.index-nets-net.is ∙ sym (get_or-map planned_net c.args.nets.now n c.index-nets-net.result net below) in
     let pins : c.deref.result.now ≡ net.pins = c.deref.ensures.value ∙ sym (ap (λ (x : Net). x.pins) (ap planned_net c.index-nets-net.is)) in
     let put : EntersNet c.args.place n net.pins old new =
-        subst (λ (t : List (Option ℕ)). EntersNet c.args.place n net.pins t new) c.deref_mut.ensures.value
-        (subst (λ (l : List Pin). EntersNet c.args.place n l c.deref_mut.result.now new) pins c.enter_net.ensures) in
+    subst (λ (t : List (Option ℕ)). EntersNet c.args.place n net.pins t new) c.deref_mut.ensures.value
+    (subst (λ (l : List Pin). EntersNet c.args.place n l c.deref_mut.result.now new) pins c.enter_net.ensures) in
     let items = with_items_is c.loop-net.table new (put.long ∙ sym c.loop-net.table.ok.0) in
     let next : c.loop-net.net ≡ suc n = omega (arith, c.loop-net-test.true) in
     record {
@@ -31,5 +31,5 @@ loop-net-preserved c =
       long = ap length items ∙ put.long ∙ c.loop-net.invariant.long;
       each = subst (λ (t : List (Option ℕ)). (p : ℕ) → p < length t → slice_index_or t p None ≡ first_net c.args.place p n (drop n nets)) (sym items)
           (entered nets c.args.place n net old new inside is put
-            (subst (λ (m : ℕ). (p : ℕ) → p < length old → slice_index_or old p None ≡ first_net c.args.place p m (drop m nets)) next c.loop-net.invariant.each));
+          (subst (λ (m : ℕ). (p : ℕ) → p < length old → slice_index_or old p None ≡ first_net c.args.place p m (drop m nets)) next c.loop-net.invariant.each));
     }

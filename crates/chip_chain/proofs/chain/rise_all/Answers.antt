@@ -23,8 +23,8 @@ loop-i-preserved c =
     let s = get_or now at c.index-seats-i.result in
     let here : slice_get now at ≡ Some s = slice_get-get_or now at c.index-seats-i.result (omega (arith, c.loop-i-test.true, c.loop-i.invariant.long)) in
     let behind : drop (at + 1) (map chip_state now) ≡ drop (at + 1) (map chip_state old) =
-        map_drop chip_state (at + 1) now ∙ ap (map chip_state) (drop_alike (at + 1) old now c.loop-i.invariant.long (λ j h. c.loop-i.invariant.rest j (omega (arith, h))))
-        ∙ sym (map_drop chip_state (at + 1) old) in
+    map_drop chip_state (at + 1) now ∙ ap (map chip_state) (drop_alike (at + 1) old now c.loop-i.invariant.long (λ j h. c.loop-i.invariant.rest j (omega (arith, h))))
+    ∙ sym (map_drop chip_state (at + 1) old) in
     let before = c.tdi_of-before.ensures ∙ ap (chain.tdi_before c.args.tdi) behind in
     swept_more (Rises c.args.wiring.now c.args.tms c.args.tdi old) at old now s c.rise.new.seat c.loop-i.invariant here
     (record {

@@ -9,4 +9,4 @@ returns-in-Some c =
     let seats = c.args.seats.now in
     c.unwrap_or.ensures ∙ ap (λ o. unwrap_or o true) c.tdo.ensures
     ∙ sym (tdo_there c.args.tdi seats c.args.i c.in-Some.seat.now
-      (slice_get_read seats (length seats) c.args.i c.in-Some.seat.now refl (ltb-true c.args.i (length seats) (sym c.in-Some.ensures.lookup.0)) c.in-Some.ensures.lookup.1))
+    (slice_get_read seats (length seats) c.args.i c.in-Some.seat.now refl (ltb-true c.args.i (length seats) (sym c.in-Some.ensures.lookup.0)) c.in-Some.ensures.lookup.1))

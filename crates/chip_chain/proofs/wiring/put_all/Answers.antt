@@ -14,13 +14,13 @@ loop-k-preserved c =
     let pin = get_or c.args.pins.now c.loop-k.k nowhere in
     let seated : pin.device < length c.args.seats.now = seat_of (length c.args.seats.now) c.args.pins.now c.loop-k.k nowhere c.requires.seated c.loop-k-test.true in
     let there : slice_get c.args.seats.now pin.device ≡ Some c.index-seats-pin.result =
-        slice_get_read c.args.seats.now (length c.args.seats.now) pin.device c.index-seats-pin.result refl seated c.index-seats-pin.is in
+    slice_get_read c.args.seats.now (length c.args.seats.now) pin.device c.index-seats-pin.result refl seated c.index-seats-pin.is in
     record {
       nets = ap (λ (v : NetsValue). v.nets) c.put.ensures.drives ∙ c.loop-k.invariant.nets;
       drives =
           ap (λ (v : NetsValue). v.drives) c.put.ensures.drives
           ∙ put_more f c.args.pins.now c.args.levels.now.drives c.loop-k.levels.drives c.loop-k.k c.drive.result nowhere c.requires.long c.loop-k.invariant.drives c.loop-k-test.true
-            (pin_by_seat c.args.seats.now pin c.index-seats-pin.result c.drive.result there c.drive.ensures);
+          (pin_by_seat c.args.seats.now pin c.index-seats-pin.result c.drive.result there c.drive.ensures);
     }
 
 pub returns : goal.returns

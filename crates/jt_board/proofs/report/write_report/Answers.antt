@@ -22,6 +22,6 @@ returns g c =
     let nets = c.chain-2.result.now.nets in
     WritesAll-is
     (ap (λ (l : List ChipState). flat_map device_line l ++ net_lines c.chain-2.result.now.chips nets) c.chain.ensures.chips
-      ∙ ap (λ (l : List ChipState). flat_map device_line b.chips ++ net_lines l nets) c.chain-2.ensures.chips
-      ∙ ap (λ (l : List Net). flat_map device_line b.chips ++ net_lines b.chips l) c.chain-2.ensures.nets)
+    ∙ ap (λ (l : List ChipState). flat_map device_line b.chips ++ net_lines l nets) c.chain-2.ensures.chips
+    ∙ ap (λ (l : List Net). flat_map device_line b.chips ++ net_lines b.chips l) c.chain-2.ensures.nets)
     (WritesAll-then c.in_ok-write_devices.ensures refl c.write_nets.ensures)

@@ -14,4 +14,4 @@ returns c =
     let s = c.self.inside in
     subst (λ (v : ChainValue). option_map (nets.level (members v.chips)) (slice_get v.nets c.args.net) ≡ Some c.level.result) c.self.view_is
     (ap (λ (ms : List Member). option_map (nets.level ms) (slice_get s.wiring.nets c.args.net)) (seats_members s.seats.items)
-      ∙ c.level.ensures (pin_drive (map member_of s.seats.items)) c.self.invariant.wired.drives)
+    ∙ c.level.ensures (pin_drive (map member_of s.seats.items)) c.self.invariant.wired.drives)

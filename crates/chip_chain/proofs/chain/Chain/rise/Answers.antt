@@ -20,7 +20,7 @@ invariant_of-self c =
     let new = c.rise_all.new.seats in
     let R = Rises s.wiring c.args.tms c.args.tdi s.seats.items in
     let each : EachFrom R 0 s.seats.items new =
-        subst (λ (l : List SeatValue). EachFrom (Rises s.wiring c.args.tms c.args.tdi l) 0 l new) c.deref_mut.ensures.value c.rise_all.ensures in
+    subst (λ (l : List SeatValue). EachFrom (Rises s.wiring c.args.tms c.args.tdi l) 0 l new) c.deref_mut.ensures.value c.rise_all.ensures in
     let is = with_items_is s.seats new (each_long R 0 s.seats.items new each ∙ sym s.seats.ok.0) in
     record {
       told = subst (AllTold s.trst) (sym is) (rises_told s.wiring c.args.tms c.args.tdi s.seats.items c.self.invariant.wired s.trst new each c.self.invariant.told);
@@ -33,7 +33,7 @@ returns c =
     let new = c.rise_all.new.seats in
     let R = Rises s.wiring c.args.tms c.args.tdi s.seats.items in
     let each : EachFrom R 0 s.seats.items new =
-        subst (λ (l : List SeatValue). EachFrom (Rises s.wiring c.args.tms c.args.tdi l) 0 l new) c.deref_mut.ensures.value c.rise_all.ensures in
+    subst (λ (l : List SeatValue). EachFrom (Rises s.wiring c.args.tms c.args.tdi l) 0 l new) c.deref_mut.ensures.value c.rise_all.ensures in
     let is = with_items_is s.seats new (each_long R 0 s.seats.items new each ∙ sym s.seats.ok.0) in
     let chips-are = ap (map chip_state) is ∙ rises_chips s.wiring c.args.tms c.args.tdi s.seats.items c.self.invariant.wired s.trst new each c.self.invariant.told in
     let now = the_view (record s { seats = with_items s.seats new }) in

@@ -14,4 +14,4 @@ returns-in-Some c =
     let found : slice_get s.drivers.items c.args.port ≡ Some c.in-Some.driver.now = ap (λ (l : List (Option ℕ)). slice_get l c.args.port) (sym c.deref.ensures.value) ∙ got in
     subst (λ (v : SeatValue). c.driven.result ≡ meant.drive (member_of v) c.args.port) c.self.view_is
     (drives_port (the_view s) s.drivers.items c.args.port c.in-Some.driver.now c.mode-mode.result c.boundary.result.now c.driven.result
-      c.self.invariant.cells c.self.invariant.drivers found c.mode-mode.ensures c.boundary.ensures c.driven.ensures)
+    c.self.invariant.cells c.self.invariant.drivers found c.mode-mode.ensures c.boundary.ensures c.driven.ensures)

@@ -12,4 +12,4 @@ returns-clause-chip c =
     subst (λ (s : SeatValue). (sees : ℕ → Bool) → IsSighted sees s → chip_state new ≡ chain.rise s.chip.trst c.args.tms c.args.tdi sees (chip_state s))
     c.self.view_is
     (λ sees sighted. rises (the_view c.self.inside) c.self.invariant.cells new sees c.args.tms c.args.tdi c.rise.ensures.chip refl
-      (ap (λ (b : BoundaryValue). b.core) c.rise.ensures.boundary) (ap (λ (b : BoundaryValue). b.extest_update) c.rise.ensures.boundary) sighted)
+    (ap (λ (b : BoundaryValue). b.core) c.rise.ensures.boundary) (ap (λ (b : BoundaryValue). b.extest_update) c.rise.ensures.boundary) sighted)

@@ -19,7 +19,7 @@ returns c =
     let v = the_view c.self.inside in
     let there : c.args.net < length v.nets = subst (λ (w : WiringValue). c.args.net < length w.nets) (sym c.self.view_is) c.requires in
     subst (λ (w : WiringValue). (f : Pin → Drive) → w.drives ≡ map f (all_pins w.nets)
-      → option_map (λ n. level_of (pull_drive n.pull ∷ map f n.pins)) (slice_get w.nets c.args.net) ≡ Some c.level.result)
+    → option_map (λ n. level_of (pull_drive n.pull ∷ map f n.pins)) (slice_get w.nets c.args.net) ≡ Some c.level.result)
     c.self.view_is
     (λ f e. net_level f v.drives v.nets c.args.net c.level.result there e
-      (sym (ap (λ (l : List NetValue). option_map (level v.drives) (slice_get l c.args.net)) c.self.invariant.levels) ∙ c.level.ensures))
+    (sym (ap (λ (l : List NetValue). option_map (level v.drives) (slice_get l c.args.net)) c.self.invariant.levels) ∙ c.level.ensures))
