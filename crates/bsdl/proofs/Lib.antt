@@ -1,3 +1,4 @@
+pub mod ExactLaws
 pub mod FormLaws
 pub mod LimitedLaws
 pub mod OnceLaws

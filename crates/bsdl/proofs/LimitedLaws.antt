@@ -51,10 +51,10 @@ cells_len d a (suc n) once =
 
 -- ---- patterns
 
-bits_len : (p : Pattern) → length (bits p) ≡ length p
+pub bits_len : (p : Pattern) → length (bits p) ≡ length p
 bits_len p = length-map p (λ b. unwrap_or b false)
 
-is_long : (n : ℕ) (p : Pattern) → has_len n p ≡ true → length p ≡ n
+pub is_long : (n : ℕ) (p : Pattern) → has_len n p ≡ true → length p ≡ n
 is_long n p fits = grind (arith, nat_tests)
 
 are_long : (n : ℕ) (ps : List Pattern) → list_all (has_len n) ps ≡ true → AllByRecursion (λ p. length p ≡ n) ps
@@ -92,7 +92,7 @@ limits d e =
     let cells = neither (option_map bad_cell (unfit_cell d)) (unless (is_within_limits d) too_large) ends.second in
     holds (is_within_limits d) too_large cells.second
 
-lengths : (d : Description) → fault d ≡ None → lengths_fit d ≡ true
+pub lengths : (d : Description) → fault d ≡ None → lengths_fit d ≡ true
 lengths d e =
     let names = neither (twice_in d (given_again d)) _ e in
     holds (lengths_fit d) bad_length (neither (unless (lengths_fit d) bad_length) _ names.second).first
@@ -100,7 +100,7 @@ lengths d e =
 at_most : (n m : ℕ) → nat_le n m ≡ true → n ≤ m
 at_most n m h = grind (arith, nat_tests)
 
-limited : (d : Description) → fault d ≡ None → IsLimitedDevice (device d)
+pub limited : (d : Description) → fault d ≡ None → IsLimitedDevice (device d)
 limited d e =
     let one = both (instructions_within d) _ (limits d e) in
     let two = both (cells_within d) _ one.1 in

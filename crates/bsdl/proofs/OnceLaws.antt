@@ -62,7 +62,7 @@ one_listed d k h fit =
     let one = (both (nat_eq (length (listed d k)) 1) (list_all (row_fits d) (listed d k)) here).0 in
     grind (arith, nat_tests, one)
 
-not_false : (b : Bool) → not b ≡ false → b ≡ true
+pub not_false : (b : Bool) → not b ≡ false → b ≡ true
 not_false true e = refl
 not_false false e = absurd cc
 

@@ -46,7 +46,7 @@ kept_some name (u ∷ us) all = by_test (is_other name u) (kept_some name us all
     by_test true rest = (all.0, rest)
     by_test false rest = rest
 
-not_empty : (r : AccessRow) (n : ℕ) (b : ℕ) → r.len ≡ Some n → access_fits b r ≡ true → 0 < n
+pub not_empty : (r : AccessRow) (n : ℕ) (b : ℕ) → r.len ≡ Some n → access_fits b r ≡ true → 0 < n
 not_empty r n b is fits =
     let some : not (is_empty r) ≡ true = (both (not (is_empty r)) (list_all (captures_fit (row_len b r)) r.instrs) fits).0 in
     let here : not (nat_eq n 0) ≡ true = rw is at some in
@@ -149,7 +149,7 @@ row_sound us b r some all fits = by_len r.len refl
         let captures : list_all (captures_fit n) r.instrs ≡ true = ap (λ (k : ℕ). list_all (captures_fit k) r.instrs) (sym len) ∙ (both (not (is_empty r)) (list_all (captures_fit (row_len b r)) r.instrs) fits).1 in
         rw is (own_row (map (λ u. u.1) us) (unwrap_or (user_number us r.register) 0) n r.instrs (not_empty r n b is fits) there captures)
 
-or_true : (b : Bool) → (b || true) ≡ true
+pub or_true : (b : Bool) → (b || true) ≡ true
 or_true true = refl
 or_true false = refl
 

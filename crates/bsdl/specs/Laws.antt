@@ -3,6 +3,7 @@ use Rattle.std.specs.Prelude.{◌≡◌, ℕ, List, Ok}
 use Rattle.bsdl_device.specs.Device.{Device}
 use Rattle.bsdl_device.specs.Sound.{IsSoundDevice}
 use Rattle.bsdl.specs.Judging.{text_says}
+use Rattle.bsdl.specs.Exact.{IsExactDevice}
 use Rattle.bsdl.specs.Limited.{IsLimitedDevice}
 
 -- every device that a text says is sound
@@ -12,3 +13,7 @@ EveryDeviceIsSound = (text : List ℕ) (d : Device) → text_says text ≡ Ok d 
 -- every device that a text says keeps the limits
 abbrev pub EveryDeviceIsLimited : Type 0
 EveryDeviceIsLimited = (text : List ℕ) (d : Device) → text_says text ≡ Ok d → IsLimitedDevice d
+
+-- in every device that a text says, what a register takes is as long as it
+abbrev pub EveryDeviceIsExact : Type 0
+EveryDeviceIsExact = (text : List ℕ) (d : Device) → text_says text ≡ Ok d → IsExactDevice d

@@ -1,3 +1,4 @@
+pub mod Exact
 pub mod Form
 pub mod Judging
 pub mod Laws

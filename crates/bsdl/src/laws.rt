@@ -1,5 +1,5 @@
 //! What holds of all texts.
-ghost use Rattle.bsdl.specs.Laws.{EveryDeviceIsLimited, EveryDeviceIsSound};
+ghost use Rattle.bsdl.specs.Laws.{EveryDeviceIsExact, EveryDeviceIsLimited, EveryDeviceIsSound};
 
 /// Every device that a text says is sound: each register that an instruction can select has a bit, and so has what it
 /// captures.
@@ -12,4 +12,11 @@ pub fn every_device_is_sound()
 /// instruction register captures are as long as that register, and codes have 32 bits.
 pub fn every_device_is_limited()
     ensures { EveryDeviceIsLimited }
+{}
+
+/// In every device that a text says, what a register takes is as long as it. The limits say this of opcodes, of what
+/// the instruction register captures, and of codes. Each own instruction of a user register names one that the device
+/// has, of at least one bit, and captures as many bits there, where a pattern fixes what it captures.
+pub fn every_device_is_exact()
+    ensures { EveryDeviceIsExact }
 {}

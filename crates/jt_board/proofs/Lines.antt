@@ -1,7 +1,12 @@
 -- A report that grows line by line, and bits that are written from the highest down.
-use Rattle.std.proofs.Common.{◌≡◌, Bool, ℕ, zero, suc, ◌+◌, List, [], ◌∷◌, ◌++◌, take, drop, map, reverse, sym, ap, ◌∙◌, arith, refl, get_or, option_map, Option, None, Some}
+use Rattle.std.proofs.Common.{◌≡◌, ◌≤◌, length, Bool, ℕ, zero, suc, ◌+◌, List, [], ◌∷◌, ◌++◌, take, drop, map, reverse, sym, ap, ◌∙◌, arith, refl, get_or, option_map, Option, None, Some}
 use Rattle.std.specs.Prelude.{slice_get}
 use Rattle.std.proofs.lemmas.Option.{get_or_from_slice_get, none-some, same_Some}
+use Rattle.std.specs.List.{filter}
+use Rattle.std.proofs.lemmas.List.{length-map}
+use Rattle.std.proofs.lemmas.List.Sums.{count_by-le-length, length-filter}
+use Rattle.bsdl_device.specs.Device.{Device, Opcode}
+use Rattle.board_file.specs.LeftOut.{is_left_out, left_out}
 use Rattle.pin_nets.specs.declared.Level.{Level}
 use Rattle.pin_nets.specs.declared.Pull.TheVariants.{Free}
 use Rattle.pin_nets.specs.Wired.{Net}
@@ -43,3 +48,18 @@ net_said ms nets k name l named is = by (slice_get nets k) refl
         let name-is : n.name ≡ name = same_Some _ _ (sym (ap (option_map (λ (n : Net). n.name)) at) ∙ named) in
         let level-is : level ms n ≡ l = same_Some _ _ (sym (ap (option_map (level ms)) at) ∙ is) in
         sym (ap (λ (x : List ℕ). level_line x l) name-is) ∙ sym (ap (level_line n.name) level-is) ∙ sym (ap (net_line ms) (get_or_from_slice_get nets k n nowhere at))
+
+-- ---- instructions that are left out
+
+pub found_left_out : (d e : Device) (k : ℕ) (o : Option (List ℕ)) (name : List ℕ) → e ≡ d → o ≡ slice_get (left_out e) k → o ≡ Some name → slice_get (left_out d) k ≡ Some name
+found_left_out d e k o name same is some = sym (ap (λ (x : Device). slice_get (left_out x) k) same) ∙ sym is ∙ some
+
+-- there are no more of them than opcode rows
+pub few_left_out : (d e : Device) (rows : List Opcode) (k : ℕ) → e ≡ d → rows ≡ e.opcodes → length rows ≤ k → length (left_out d) ≤ k
+few_left_out d e rows k same are h =
+    let many : length (left_out d) ≤ length (map (λ (o : Opcode). o.name) d.opcodes) = few (is_left_out d) (map (λ (o : Opcode). o.name) d.opcodes) in
+    let long : length rows ≡ length d.opcodes = ap length are ∙ ap (λ (x : Device). length x.opcodes) same in
+    omega (arith, many, long, h, length-map d.opcodes (λ (o : Opcode). o.name))
+  where
+    few : (test : List ℕ → Bool) (names : List (List ℕ)) → length (filter test names) ≤ length names
+    few test names = let counted = length-filter test names in omega (arith, counted, count_by-le-length test names)

@@ -1,7 +1,9 @@
 //! The board: a chain of devices with its nets, one byte at a time.
 
-ghost use Rattle.std.specs.Prelude.{◌≡◌, ◌<◌, ◌≤◌, ◌⊎◌, length, IfOk, MatchResult};
+ghost use Rattle.std.specs.Prelude.{◌≡◌, ◌<◌, ◌≤◌, ◌⊎◌, ℕ, List, Some, length, option_map, slice_get, IfOk, MatchResult};
+ghost use Rattle.board_file.specs.LeftOut as spec;
 ghost use Rattle.board_file.specs.View.{wiring};
+ghost use Rattle.board_file.specs.declared.fault.BoardFault.TheVariants as fault;
 ghost use Rattle.board_meaning.specs.Bare.{bare_board};
 ghost use Rattle.board_meaning.specs.Chain as chain;
 ghost use Rattle.board_meaning.specs.Sound.{IsSoundBoard};
@@ -13,21 +15,13 @@ use crate::snapshot::Snapshot;
 use bitbang_table::Message;
 use board_file::Plan;
 use board_meaning::Reply;
+use bsdl::BsdlFault;
 use chip_chain::Chain;
 use std::alloc::{AllocError, Global};
 use std::marker::Model;
-use thiserror::Error;
 
-/// Why a board was not made.
-#[derive(Debug, Clone, Copy, PartialEq, Eq, Drop, Error)]
-pub enum BoardFault {
-    /// More devices or nets than a board may have, or no device.
-    #[error("C7 TooLarge")]
-    TooLarge,
-    /// A growth was refused.
-    #[error("C8 NoMemory")]
-    NoMemory,
-}
+/// Why a board was not made: C1 to C8. Of these a board of bare devices has C7 and C8 alone.
+pub type BoardFault = board_file::BoardFault<BsdlFault>;
 
 /// The most devices of a board.
 const MOST_DEVICES: usize = 32;
@@ -59,8 +53,8 @@ impl Board {
     ///
     /// `n` outside 1 to 32 is C7, want of memory C8. No other call on a board takes memory.
     pub fn bare(alloc: Global, n: usize) -> Result<Board, BoardFault>
-        ensures made { 0 < n → n ≤ 32 → MatchResult result (λ b. b ≡ bare_board n) (λ fault. fault ≡ BoardFault.NoMemory) }
-        ensures too_large { (n ≡ 0) ⊎ (32 < n) → result ≡ Err BoardFault.TooLarge }
+        ensures made { 0 < n → n ≤ 32 → MatchResult result (λ b. b ≡ bare_board n) (λ f. f ≡ fault.NoMemory) }
+        ensures too_large { (n ≡ 0) ⊎ (32 < n) → result ≡ Err fault.TooLarge }
     {
         if n == 0 || n > MOST_DEVICES {
             return Err(BoardFault::TooLarge);
@@ -72,7 +66,7 @@ impl Board {
     }
 
     /// A planned board as it powers up.
-    fn powered_up(alloc: Global, plan: Plan) -> Result<Board, AllocError>
+    pub(crate) fn powered_up(alloc: Global, plan: Plan) -> Result<Board, AllocError>
         requires ready { IsReady (wiring plan) }
         requires sound { IsSoundWiring (wiring plan) }
         ensures { IfOk result (λ b. b ≡ board_of (wiring plan)) }
@@ -91,6 +85,16 @@ impl Board {
         ensures sound { IsSoundBoard self.now }
     {
         self.chain.devices()
+    }
+
+    /// The k-th instruction of device `i` that has an opcode but no meaning of its own here, and so stands for BYPASS, in
+    /// the order of the opcode rows; `None` past the last.
+    pub fn left_out(&self, i: usize, k: usize) -> Option<&str>
+        requires { i < length self.now.chips }
+        ensures { option_map (λ c. slice_get (spec.left_out c.member.device) k) (slice_get self.now.chips i)
+            ≡ Some (option_map {U = List ℕ} (λ s. s.now) result) }
+    {
+        board_file::left_out(self.chain.seat(i).device(), k)
     }
 
     /// What every part of the board shows now.

@@ -3,14 +3,17 @@
 
 mod bare;
 mod board;
+mod from_text;
 mod report;
 mod snapshot;
 
 pub use board::{Board, BoardFault};
+pub use board_file::bsdl_names;
 pub use board_meaning::Reply;
+pub use bsdl::BsdlFault;
 pub use byte_ends::{Broken, Counted};
 pub use pin_nets::Level;
-pub use report::write_report;
+pub use report::{write_left_out, write_report};
 pub use snapshot::Snapshot;
 
 #[cfg(test)]

@@ -3,12 +3,14 @@
 ghost use Rattle.std.specs.Prelude.{◌≡◌, ◌++◌, flat_map};
 ghost use Rattle.byte_ends.specs.Writes.{WritesAll};
 ghost use Rattle.jt_board.specs.Report.{device_line, digit, digits, instruction_part, level_line, net_line, report, shown};
+ghost use Rattle.jt_board.specs.LeftOut.{device_lines, left_out_line, left_out_lines};
 ghost use Rattle.jt_board.specs.Report.{level_word as said_level};
 ghost use Rattle.board_meaning.specs.Chain.{members};
 ghost use Rattle.chip_chain.specs.Seats.{chip_state};
 ghost use Rattle.scan_registers.specs.Instruction.{instruction};
 
 use crate::board::Board;
+use board_file::left_out;
 use byte_ends::{Broken, Counted, Sink, put_all};
 use chip_chain::{Chain, Seat};
 use jt_bits::Bits;
@@ -24,6 +26,56 @@ pub fn write_report<W: Sink>(board: &Board, out: &mut Counted<W>) -> Result<(), 
 {
     write_devices(board.chain(), out)?;
     write_nets(board.chain(), out)
+}
+
+/// Writes a line for each instruction of a device that has an opcode but no meaning of its own here, and so stands for
+/// BYPASS: by devices, from the one nearest TDO on, and in the order of the opcode rows.
+///
+/// `Broken` comes exactly where the writer's first failure came in this call.
+pub fn write_left_out<W: Sink>(board: &Board, out: &mut Counted<W>) -> Result<(), Broken>
+    requires { out.old.failures ≡ 0 }
+    ensures { WritesAll W.contents out.old out.new (left_out_lines board.now) result }
+{
+    write_all_left_out(board.chain(), out)
+}
+
+/// Writes the lines of all devices.
+fn write_all_left_out<W: Sink>(chain: &Chain, out: &mut Counted<W>) -> Result<(), Broken>
+    requires { out.old.failures ≡ 0 }
+    ensures { WritesAll W.contents out.old out.new (flat_map device_lines chain.now.chips) result }
+{
+    for i in 0..chain.devices() {
+        write_instructions(chain.seat(i), out)?;
+    }
+    Ok(())
+}
+
+/// Writes the lines of a device.
+fn write_instructions<W: Sink>(seat: &Seat, out: &mut Counted<W>) -> Result<(), Broken>
+    requires { out.old.failures ≡ 0 }
+    ensures { WritesAll W.contents out.old out.new (device_lines (chip_state seat.now)) result }
+{
+    for k in 0..seat.device().opcodes().len() {
+        let Some(name) = left_out(seat.device(), k) else {
+            return Ok(());
+        };
+        write_instruction_line(seat.name(), name, out)?;
+    }
+    Ok(())
+}
+
+/// Writes the line of an instruction.
+#[tactic(auto, using(byte_ends::proofs::Fronts::fronts))]
+fn write_instruction_line<W: Sink>(
+    device: &str,
+    name: &str,
+    out: &mut Counted<W>,
+) -> Result<(), Broken>
+    requires { out.old.failures ≡ 0 }
+    ensures { WritesAll W.contents out.old out.new (left_out_line device.now name.now) result }
+{
+    write_field(device.as_bytes(), b" treats ", out)?;
+    write_field(name.as_bytes(), b" as BYPASS\n", out)
 }
 
 /// Writes a line for each device.

@@ -119,10 +119,7 @@ fn boards_of_every_size(rt: HostRuntime) -> Result<(), Fail> {
         assert_eq!(rt; fresh.as_slice(), opened.as_slice());
     }
     for n in [0, 33, usize::MAX] {
-        assert_eq!(rt;
-            Board::bare(rt.alloc(), n).err(),
-            Some(BoardFault::TooLarge)
-        );
+        assert!(rt; matches!(Board::bare(rt.alloc(), n), Err(BoardFault::TooLarge)));
     }
     Ok(())
 }
@@ -179,5 +176,89 @@ fn faults_shown(rt: HostRuntime) -> Result<(), Fail> {
     assert_eq!(rt; format!(in rt.alloc(); "{fault}")?.as_str(), "C7 TooLarge");
     let fault = BoardFault::NoMemory;
     assert_eq!(rt; format!(in rt.alloc(); "{fault}")?.as_str(), "C8 NoMemory");
+    Ok(())
+}
+
+/// A device of one output with its control and one input.
+const K: &str = "entity K is
+  port (TDI, TMS, TCK : in bit; TDO : out bit; Q : out bit; D : in bit);
+  attribute TAP_SCAN_IN of TDI : signal is true; attribute TAP_SCAN_MODE of TMS : signal is true;
+  attribute TAP_SCAN_OUT of TDO : signal is true; attribute TAP_SCAN_CLOCK of TCK : signal is (10.0e6, BOTH);
+  attribute INSTRUCTION_LENGTH of K : entity is 2;
+  attribute INSTRUCTION_OPCODE of K : entity is \"BYPASS (11), EXTEST (00), SAMPLE (01), IDCODE (10)\";
+  attribute INSTRUCTION_CAPTURE of K : entity is \"01\";
+  attribute IDCODE_REGISTER of K : entity is \"00000001001000110100010101100111\";
+  attribute BOUNDARY_LENGTH of K : entity is 3;
+  attribute BOUNDARY_REGISTER of K : entity is
+    \"0 (BC_1, Q, output3, X, 1, 0, Z), 1 (BC_1, *, control, 0), 2 (BC_1, D, input, X)\";
+end K;";
+
+/// The report of a fresh board of devices K, or its refusal with what it holds.
+fn made(alloc: Global, toml: &str) -> Result<Vec<u8>, AllocError> {
+    let mut shown = Counted::new(Vec::new(alloc));
+    match Board::from_text(alloc, toml.as_bytes(), &[("k", K.as_bytes())]) {
+        Ok(board) => {
+            let _ = write_report(&board, &mut shown);
+        }
+        Err(fault) => {
+            let text = match &fault {
+                BoardFault::BadField(text)
+                | BoardFault::UnknownFile(text)
+                | BoardFault::UnknownPin(text)
+                | BoardFault::PinTwice(text) => text.as_str(),
+                _ => "",
+            };
+            return format!(in alloc; "{fault} {text}").map(String::into_bytes);
+        }
+    }
+    Ok(shown.into_inner())
+}
+
+#[test]
+fn boards_of_board_files(rt: HostRuntime) -> Result<(), Fail> {
+    let rows = [
+        (
+            "[[device]]\nname='U1'\nbsdl='k'\ncore='011'\n[[net]]\nname='N'\npins=['U1.Q']\n",
+            "U1 RESET 10 IDCODE\nN One\n",
+        ),
+        (
+            "[[device]]\nname='U1'\nbsdl='k'\ncore='001'\n[[net]]\nname='N'\npins=['U1.Q']\n",
+            "U1 RESET 10 IDCODE\nN Float\n",
+        ),
+        (
+            "[[device]]\nname='U1'\nbsdl='k'\ncore='01'\n",
+            "C2 BadField core",
+        ),
+        ("[[device]]\nname='U1'\nbsdl='q'\n", "C3 UnknownFile q"),
+        (
+            "[[device]]\nname='U1'\nbsdl='k'\n[[net]]\nname='N'\npins=['U1.TDI']\n",
+            "C5 UnknownPin U1.TDI",
+        ),
+        (
+            "[[device]]\nname='U1'\nbsdl='k'\n[[net]]\nname='N'\npins=['U1.Q', 'u1.q']\n",
+            "C5 UnknownPin u1.q",
+        ),
+        (
+            "[[device]]\nname='U1'\nbsdl='k'\n[[net]]\nname='N'\npins=['U1.Q', 'U1.q']\n",
+            "C6 PinTwice U1.q",
+        ),
+        (
+            "[[device]]\nname='U1'\nbsdl='k'\n[[net]]\nname='N'\npull='UP'\npins=[]\n",
+            "C2 BadField pull",
+        ),
+        ("", "C2 BadField device"),
+        ("[[device", "C1 BadToml "),
+    ];
+    for (toml, wanted) in rows {
+        assert_eq!(rt; made(rt.alloc(), toml)?.as_slice(), wanted.as_bytes());
+    }
+    let mut many = String::new(rt.alloc());
+    for i in 0..33 {
+        many.push_str(format!(in rt.alloc(); "[[device]]\nname='U{i}'\nbsdl='k'\n")?.as_str())?;
+    }
+    assert_eq!(rt;
+        made(rt.alloc(), many.as_str())?.as_slice(),
+        b"C7 TooLarge ".as_slice()
+    );
     Ok(())
 }

@@ -7,6 +7,7 @@ use Rattle.byte_ends.specs.declared.counting.Broken.{Broken}
 use Rattle.svf_parse.specs.declared.fault.SvfFault.{SvfFault}
 use Rattle.svf_settings.specs.Steps.{Program}
 use Rattle.board_meaning.specs.Chain.{BoardState}
+use Rattle.jt_board.specs.LeftOut.{left_out_lines}
 use Rattle.jt_board.specs.Report.{report}
 use Rattle.plays.specs.DirectPlay.{MeansFromOpening, full_bytes}
 use Rattle.plays.specs.Endings.{status_of, verdict_line}
@@ -51,9 +52,10 @@ pub data IsRunOf (text : List ℕ) (bytes : Bool) (before : BoardState) : Run �
   refused : (fault : SvfFault) → Refuses text fault → IsRunOf text bytes before (refused_run fault before)
   no_memory : IsRunOf text bytes before (memory_run before)
 
--- A text was checked, and is accepted as a program.
+-- A text was checked, and is accepted as a program: it is told of, and each instruction of the board that stands for BYPASS.
 abbrev pub accepted_run : Program → BoardState → Run
-accepted_run program before = record { out = accepted_line program; err = []; status = 0; board = before }
+accepted_run program before =
+    record { out = accepted_line program ++ left_out_lines before; err = []; status = 0; board = before }
 
 -- The checks of a text: its program, which is told of and not played; its refusal; or want of memory.
 pub data IsCheckOf (text : List ℕ) (before : BoardState) : Run → Type 0 where

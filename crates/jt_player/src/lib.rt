@@ -7,7 +7,9 @@ mod showing;
 
 pub use direct_play::accept;
 pub use joined::{Event, Joined, Standing, Unjoined};
-pub use jt_board::{Board, BoardFault, Broken, Counted, Reply, Snapshot, write_report};
+pub use jt_board::{
+    Board, BoardFault, Broken, BsdlFault, Counted, Level, Reply, Snapshot, bsdl_names, write_report,
+};
 pub use play::{play_board, play_noted};
 pub use plays::Ending;
 pub use run::{run_check, run_play};

@@ -1,7 +1,8 @@
 //! A whole run: a text is accepted or refused, played or only checked, and told of.
 
-ghost use Rattle.std.specs.Prelude.{◌≡◌, ◌≢◌, ◌⊎◌, IfOk, OnOk, codes};
+ghost use Rattle.std.specs.Prelude.{◌≡◌, ◌≢◌, ◌⊎◌, ◌++◌, IfOk, OnOk, codes};
 ghost use Rattle.byte_ends.specs.Writes.{WritesAll};
+ghost use Rattle.jt_board.specs.LeftOut.{left_out_lines};
 ghost use Rattle.plays.specs.Play.{play};
 ghost use Rattle.svf_settings.specs.Sizes.{program_of};
 ghost use Rattle.jt_player.specs.Running.{Happens, IsCheckOf, IsRunOf, Run, Tells, note, played_run};
@@ -10,7 +11,7 @@ ghost use Rattle.jt_player.specs.Showing.{accepted_line, refusal_line};
 use crate::showing::{write_accepted, write_refusal, write_verdict};
 use byte_ends::{Broken, Counted, Sink, put_all};
 use direct_play::{accept, play_program, play_program_noted};
-use jt_board::{Board, write_report};
+use jt_board::{Board, write_left_out, write_report};
 use plays::Ending;
 use std::alloc::Global;
 use svf_parse::{Code, SvfFault};
@@ -46,8 +47,8 @@ pub fn run_play<W: Sink, E: Sink>(
     }
 }
 
-/// Checks a text and tells of it: to `out` a line of how many statements it has and how many steps they make; to `err` the
-/// line of a refusal or of want of memory. Nothing is played: the board is the one that the text is meant for. Answers the exit status: 0
+/// Checks a text and tells of it: to `out` a line of how many statements it has and how many steps they make, and one for
+/// each instruction of the board that stands for BYPASS; to `err` the line of a refusal or of want of memory. Nothing is played. Answers the exit status: 0
 /// accepted, 2 a refused text, 4 want of memory.
 ///
 /// `Broken` comes exactly where the first failure of one of the two writers came in this call. Then each was told a front
@@ -64,19 +65,23 @@ pub fn run_check<W: Sink, E: Sink>(
     ensures { (run : Run) × IsCheckOf svf.now board.now run
         × Happens W.contents E.contents run board.now board.now out.old out.new err.old err.new result }
 {
-    let _ = board;
     match accept(alloc, svf) {
-        Ok(program) => tell_accepted(&program, out),
+        Ok(program) => tell_accepted(&program, board, out),
         Err(fault) => refuse(fault, err),
     }
 }
 
-/// Writes that a text is accepted. Answers the exit status.
-fn tell_accepted<W: Sink>(program: &Program, out: &mut Counted<W>) -> Result<u8, Broken>
+/// Writes that a text is accepted, and which instructions of the board stand for BYPASS. Answers the exit status.
+fn tell_accepted<W: Sink>(
+    program: &Program,
+    board: &Board,
+    out: &mut Counted<W>,
+) -> Result<u8, Broken>
     requires { out.old.failures ≡ 0 }
-    ensures { Tells W.contents out.old out.new (accepted_line (program_of program.now)) 0 result }
+    ensures { Tells W.contents out.old out.new (accepted_line (program_of program.now) ++ left_out_lines board.now) 0 result }
 {
     write_accepted(program, out)?;
+    write_left_out(board, out)?;
     Ok(0)
 }
 

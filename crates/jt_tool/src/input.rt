@@ -25,6 +25,19 @@ impl From<io::Error> for InputFault {
     }
 }
 
+/// Reads a board file; one of more than 16 MiB counts as unreadable.
+pub(crate) fn read_board_file<R: Files + Input + AllocGlobal>(
+    rt: &R,
+    alloc: Global,
+    name: &str,
+) -> Result<Vec<u8>, InputFault> {
+    let text = read_text(rt, alloc, Some(name))?;
+    if text.len() as u64 == MOST_BYTES {
+        return Err(InputFault::Unreadable);
+    }
+    Ok(text)
+}
+
 /// Reads the named file, or standard input where none is named.
 pub(crate) fn read_text<R: Files + Input + AllocGlobal>(
     rt: &R,

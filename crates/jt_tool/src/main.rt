@@ -1,16 +1,18 @@
 //! The command line of the player and its simulated board.
 #![tactic(auto)]
 
+mod described;
 mod input;
 mod request;
 mod words;
 
+use crate::described::{Unmade, make_board};
 use crate::input::{InputFault, read_text};
 use crate::request::{Request, Task, parse};
 use crate::words::command_words;
 use byte_ends::{Counted, Plain};
 use clap::error::ErrorKind as WordsFault;
-use jt_player::{Board, BoardFault, run_check, run_play};
+use jt_player::{BoardFault, run_check, run_play};
 use std::alloc::Global;
 use std::io::ErrorKind;
 use std::process::ExitCode;
@@ -66,8 +68,12 @@ fn refuse_words<R: Print + Eprint>(rt: &R, fault: &clap::Error) -> u8 {
     }
 }
 
-/// Plays or checks a text, on a board of one bare device.
+/// Plays or checks a text on the board that is asked for, which is made before the text is read.
 fn run_text(rt: &HostRuntime, alloc: Global, request: &Request<'_>) -> u8 {
+    let mut board = match make_board(rt, alloc, request.board) {
+        Ok(board) => board,
+        Err(fault) => return refuse_board(rt, &fault),
+    };
     let text = match read_text(rt, alloc, request.svf) {
         Ok(text) => text,
         Err(InputFault::Unreadable) => {
@@ -76,11 +82,6 @@ fn run_text(rt: &HostRuntime, alloc: Global, request: &Request<'_>) -> u8 {
         }
         Err(InputFault::NoMemory) => return told(rt, "memory", MEMORY),
     };
-    let mut board = match Board::bare(alloc, 1) {
-        Ok(board) => board,
-        Err(BoardFault::NoMemory) => return told(rt, "memory", MEMORY),
-        Err(fault) => return told(rt, format_args!("board {fault}"), REFUSED),
-    };
     let mut out = Counted::new(Plain(io::writer(rt)));
     let mut err = Counted::new(Plain(rt.stderr()));
     let told = match request.task {
@@ -88,6 +89,16 @@ fn run_text(rt: &HostRuntime, alloc: Global, request: &Request<'_>) -> u8 {
         Task::Check => run_check(alloc, &text, &board, &mut out, &mut err),
     };
     told.unwrap_or(BROKEN)
+}
+
+/// Tells why no board was made. Answers the exit status.
+fn refuse_board(rt: &HostRuntime, fault: &Unmade) -> u8 {
+    match fault {
+        Unmade::Unreadable(name) => told(rt, format_args!("file {name}"), REFUSED),
+        Unmade::Refused(BoardFault::NoMemory) => told(rt, "memory", MEMORY),
+        Unmade::Refused(BoardFault::Bsdl(fault)) => told(rt, format_args!("bsdl {fault}"), REFUSED),
+        Unmade::Refused(fault) => told(rt, format_args!("board {fault}"), REFUSED),
+    }
 }
 
 /// Writes a line to standard error. Answers this status, or that the line was lost.

@@ -17,6 +17,8 @@ pub(crate) enum Task {
 pub(crate) struct Request<'a> {
     /// The file of the text, `None` for standard input.
     pub svf: Option<&'a str>,
+    /// The board file, `None` for one bare device.
+    pub board: Option<&'a str>,
     /// What is done with it.
     pub task: Task,
 }
@@ -32,16 +34,19 @@ fn request_of<'a>(matches: &ArgMatches<'a>) -> Request<'a> {
     match matches.subcommand() {
         Some(("check", check)) => Request {
             svf: check.get_str("svf"),
+            board: check.get_str("board"),
             task: Task::Check,
         },
         Some((_, play)) => Request {
             svf: play.get_str("svf"),
+            board: play.get_str("board"),
             task: Task::Play {
                 bytes: play.get_flag("bytes"),
             },
         },
         None => Request {
             svf: None,
+            board: None,
             task: Task::Play { bytes: true },
         },
     }
@@ -62,13 +67,24 @@ fn play_command<'a>(alloc: Global) -> Result<Command<'a>, AllocError> {
     Command::new(alloc, "play")
         .about("Plays a program in process, and prints the verdict and the board's report")
         .arg(svf_arg(alloc))?
+        .arg(board_arg(alloc))?
         .arg(bytes)
 }
 
 fn check_command<'a>(alloc: Global) -> Result<Command<'a>, AllocError> {
     Command::new(alloc, "check")
-        .about("Tells whether a program is accepted, and how many statements and steps it has")
-        .arg(svf_arg(alloc))
+        .about(
+            "Tells whether a program is accepted, how many statements and steps it has, and which instructions stand for BYPASS",
+        )
+        .arg(svf_arg(alloc))?
+        .arg(board_arg(alloc))
+}
+
+fn board_arg<'a>(alloc: Global) -> Arg<'a> {
+    Arg::new(alloc, "board")
+        .long("board")
+        .action(ArgAction::Set)
+        .help("The board file; one bare device where none is named")
 }
 
 fn svf_arg<'a>(alloc: Global) -> Arg<'a> {

@@ -1,0 +1,26 @@
+-- Boards that a board file and the descriptions it names make.
+use Rattle.std.specs.Prelude.{◌≡◌, ℕ, List, Option, Some, None, Result, Ok, Err}
+use Rattle.bsdl_device.specs.Device.{Device}
+use Rattle.bsdl.specs.Judging.{text_says}
+use Rattle.bsdl.specs.View as reading
+use Rattle.bsdl.specs.declared.fault.BsdlFault.{BsdlFault}
+use Rattle.board_file.specs.View.{TellsFault}
+use Rattle.board_file.specs.Wiring as planned
+use Rattle.board_file.specs.declared.fault.BoardFault.{BoardFault}
+use Rattle.board_meaning.specs.Chain.{BoardState}
+use Rattle.jt_board.specs.Made.{board_of}
+
+-- the device that a text in BSDL says, none where it is refused
+abbrev pub said_device : List ℕ → Option Device
+said_device text = elim (text_says text) [ Ok d ↦ Some d | Err r ↦ None ]
+
+-- this is why a text is refused
+abbrev pub is_why : List ℕ → BsdlFault → Type 0
+is_why text fault = reading.Refuses fault (text_says text)
+
+-- The board as it powers up, or the fault that the refusal names, unless memory runs out.
+abbrev pub TellsMade : Result BoardState (BoardFault BsdlFault) → Result planned.Wiring planned.Fault → Type 0
+TellsMade (Ok b) (Ok w) = b ≡ board_of w
+TellsMade (Ok b) (Err e) = ⊥
+TellsMade (Err f) (Ok w) = TellsFault is_why f None
+TellsMade (Err f) (Err e) = TellsFault is_why f (Some e)

@@ -1,0 +1,15 @@
+-- What `check` tells of a board: a line for each instruction that stands for BYPASS.
+use Rattle.std.specs.Prelude.{ℕ, List, ◌++◌, flat_map, codes}
+use Rattle.board_file.specs.LeftOut.{left_out}
+use Rattle.board_meaning.specs.Chain.{BoardState, ChipState}
+
+abbrev pub left_out_line : List ℕ → List ℕ → List ℕ
+left_out_line device instruction = (device ++ codes " treats ") ++ (instruction ++ codes " as BYPASS\n")
+
+-- of a device, in the order of its opcode rows
+abbrev pub device_lines : ChipState → List ℕ
+device_lines c = flat_map (left_out_line c.member.name) (left_out c.member.device)
+
+-- of all devices, the one nearest TDO first
+abbrev pub left_out_lines : BoardState → List ℕ
+left_out_lines b = flat_map device_lines b.chips

@@ -1,0 +1,59 @@
+//! Boards by their board file and the descriptions that it names.
+
+ghost use Rattle.toml.specs.Data.{Members};
+ghost use Rattle.board_file.specs.Files.{IsBadToml, Reads};
+ghost use Rattle.board_file.specs.View.{TellsBadToml, files_of};
+ghost use Rattle.board_file.specs.Wiring.{makes};
+ghost use Rattle.jt_board.specs.FromText.{TellsMade, said_device};
+
+use crate::board::{Board, BoardFault};
+use board_file::{Describe, Unread, plan_of_text};
+use bsdl::{BsdlFault, read};
+use bsdl_device::Device;
+use std::alloc::Global;
+
+/// The reader of descriptions in BSDL.
+struct Bsdl;
+
+impl Describe for Bsdl {
+    type Fault = BsdlFault;
+
+    ghost use Rattle.jt_board.specs.FromText as text;
+
+    ghost says = { text.said_device };
+
+    ghost refuses = { text.is_why };
+
+    fn read(&self, alloc: Global, text: &[u8]) -> Result<Device, Unread<BsdlFault>> {
+        match read(alloc, text) {
+            Ok(device) => Ok(device),
+            Err(BsdlFault::NoMemory) => Err(Unread::Memory),
+            Err(fault) => Err(Unread::Refused(fault)),
+        }
+    }
+}
+
+impl Board {
+    /// The board that a board file and the descriptions in these files make, as it powers up, each file given by its name
+    /// and its text; or the first refusal. Of two files of one name the first counts; files that no device names are not
+    /// read.
+    pub fn from_text<'f>(
+        alloc: Global,
+        toml_text: &[u8],
+        files: &[(&'f str, &'f [u8])],
+    ) -> Result<Board, BoardFault>
+        // The board that the table and the files make, or their fault, unless memory runs out.
+        ensures told { (t : Members) → Reads toml_text.now t → TellsMade result (makes said_device (files_of files.now) t) }
+        // What is no TOML is refused as that, unless memory runs out.
+        ensures bad_toml { IsBadToml toml_text.now → TellsBadToml result }
+    {
+        let plan = match plan_of_text(alloc, &Bsdl, toml_text, files) {
+            Ok(plan) => plan,
+            Err(fault) => return Err(fault),
+        };
+        match Board::powered_up(alloc, plan) {
+            Ok(board) => Ok(board),
+            Err(_) => Err(BoardFault::NoMemory),
+        }
+    }
+}
