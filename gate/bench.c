@@ -424,6 +424,130 @@ static uint64_t run_next_bytes(void) {
 	return digest(count);
 }
 
+// ---- boards of devices in a ring, the eight outputs of each on the inputs of the next
+
+enum { BUS = 8, INPUTS = 0, CONTROL = 8, OUTPUTS = 9, RING_CELLS = 17, RING_SHIFTS = 100000, RING_UPDATES = 10000 };
+enum Drive { NOTHING, STRONG_0, STRONG_1, WEAK_0, WEAK_1 };
+typedef struct { int from, to; } Net; // the pins of the net by number
+static Chip ring[32];
+static int ring_count, ring_tck;
+static Net nets[32 * BUS];
+static enum Drive drives[64 * BUS]; // of each pin: 2 n is an output, 2 n + 1 an input
+static uint64_t ring_bytes, ring_check;
+
+static int drive_bit(const Chip *c, size_t cell) { return c->latch == 0 ? get(&c->update, cell) : get(&c->core, cell); }
+
+static void put_drives(void) {
+	for (int i = 0; i < ring_count; i++)
+		for (int k = 0; k < BUS; k++)
+			drives[2 * (i * BUS + k)] = !drive_bit(&ring[i], CONTROL) ? NOTHING : drive_bit(&ring[i], OUTPUTS + k) ? STRONG_1 : STRONG_0;
+}
+
+static int net_reads(const Net *n) {
+	int drivers[5] = { 0 };
+	drivers[drives[n->from]]++;
+	drivers[drives[n->to]]++;
+	if (drivers[STRONG_0] || drivers[STRONG_1]) return !drivers[STRONG_0];
+	return !drivers[WEAK_0];
+}
+
+static void ring_rise(int tms, int tdi) {
+	int tdos[33];
+	for (int i = 0; i < ring_count; i++) tdos[i] = ring[i].tdo != 0;
+	tdos[ring_count] = tdi;
+	for (int i = 0; i < ring_count; i++) {
+		Chip *c = &ring[i];
+		if (c->state == DR_CAPTURE && c->selects_boundary)
+			for (int k = 0; k < BUS; k++) {
+				size_t p = place(&c->core, INPUTS + k);
+				uint64_t bit = net_reads(&nets[((i + ring_count - 1) % ring_count) * BUS + k]);
+				c->core.words[p / 64] = (c->core.words[p / 64] & ~(1ull << p % 64)) | bit << p % 64;
+			}
+		rise(c, tms, tdos[i + 1]);
+	}
+}
+
+static void ring_fall(void) {
+	int anew = 0;
+	for (int i = 0; i < ring_count; i++) {
+		int state = ring[i].state;
+		anew |= state == DR_UPDATE || state == IR_UPDATE || state == RESET;
+		fall(&ring[i]);
+	}
+	if (anew) put_drives();
+}
+
+static void ring_byte(int byte) {
+	ring_bytes++;
+	if (byte == 'R') {
+		if (ring[0].tdo != 0) ring_check += ring_bytes;
+		return;
+	}
+	int tck = byte >> 2 & 1;
+	if (tck && !ring_tck) ring_rise(byte >> 1 & 1, byte & 1);
+	else if (!tck && ring_tck) ring_fall();
+	ring_tck = tck;
+}
+
+static void ring_walk(const char *path) {
+	for (; *path; path++) {
+		ring_byte('0' + 2 * (*path - '0'));
+		ring_byte('4' + 2 * (*path - '0'));
+	}
+}
+
+static void ring_asked(int tms, int tdi) {
+	ring_byte('0' + 2 * tms + tdi);
+	ring_byte('R');
+	ring_byte('4' + 2 * tms + tdi);
+}
+
+static void make_ring(int devices) {
+	ring_count = devices;
+	ring_tck = 0;
+	for (int i = 0; i < devices; i++) {
+		ring[i] = (Chip){ .tdo = -1, .latch = 3, .core = zeros(RING_CELLS), .boundary = zeros(RING_CELLS), .update = zeros(RING_CELLS) };
+		for (int k = 0; k < BUS; k++) {
+			int net = i * BUS + k;
+			nets[net] = (Net){ 2 * net, 2 * net + 1 };
+			drives[2 * net] = drives[2 * net + 1] = NOTHING;
+		}
+	}
+}
+
+static void under_extest(int devices) {
+	if (ring_count != devices) make_ring(devices);
+	ring_bytes = ring_check = 0;
+	ring_walk("1111101100");
+	for (int i = 1; i < devices; i++) ring_walk("00");
+	ring_walk("0111");
+}
+
+static uint64_t run_shift(int devices) {
+	under_extest(devices);
+	ring_walk("00");
+	for (int i = 0; i < RING_SHIFTS; i++) ring_asked(0, i % 3 == 0);
+	count = ring_bytes;
+	return ring_check;
+}
+
+static uint64_t run_update(int devices) {
+	under_extest(devices);
+	for (int i = 0; i < RING_UPDATES; i++) {
+		ring_walk("00");
+		ring_asked(1, i % 3 == 0);
+		ring_walk("11");
+	}
+	count = ring_bytes;
+	return ring_check;
+}
+static uint64_t run_shift_1(void) { return run_shift(1); }
+static uint64_t run_shift_8(void) { return run_shift(8); }
+static uint64_t run_shift_32(void) { return run_shift(32); }
+static uint64_t run_update_1(void) { return run_update(1); }
+static uint64_t run_update_8(void) { return run_update(8); }
+static uint64_t run_update_32(void) { return run_update(32); }
+
 static void row(const char *name, const char *unit, uint64_t (*round)(void)) {
 	uint64_t least = UINT64_MAX, check = 0;
 	for (int r = 0; r < ROUNDS; r++) {
@@ -467,5 +591,11 @@ int main(void) {
 	row("finish_1", "byte", run_play_1); // by edges, without pipes
 	row("finish_64", "byte", run_play_1);
 	row("finish_65536", "byte", run_play_1);
+	row("shift_1", "byte", run_shift_1);
+	row("update_1", "byte", run_update_1);
+	row("shift_8", "byte", run_shift_8);
+	row("update_8", "byte", run_update_8);
+	row("shift_32", "byte", run_shift_32);
+	row("update_32", "byte", run_update_32);
 	return 0;
 }

@@ -2,6 +2,7 @@
 #![tactic(auto)]
 
 mod bits;
+mod boards;
 mod chips;
 mod programs;
 mod scans;
@@ -66,7 +67,8 @@ fn measure(rt: &HostRuntime) -> io::Result<()> {
     bits::rows(rt)?;
     scans::rows(rt)?;
     chips::rows(rt)?;
-    whole_plays::rows(rt)
+    whole_plays::rows(rt)?;
+    boards::rows(rt)
 }
 
 /// Prints a row's name and unit, which C's row has too, its least time of a round in nanoseconds, its count and its
