@@ -48,8 +48,8 @@ pub fn run_play<W: Sink, E: Sink>(
 }
 
 /// Checks a text and tells of it: to `out` a line of how many statements it has and how many steps they make, and one for
-/// each instruction of the board that stands for BYPASS; to `err` the line of a refusal or of want of memory. Nothing is played. Answers the exit status: 0
-/// accepted, 2 a refused text, 4 want of memory.
+/// each instruction of the board that stands for BYPASS; to `err` the line of a refusal or of want of memory. Nothing is
+/// played. Answers the exit status: 0 accepted, 2 a refused text, 4 want of memory.
 ///
 /// `Broken` comes exactly where the first failure of one of the two writers came in this call. Then each was told a front
 /// part of what it was owed.
@@ -80,9 +80,21 @@ fn tell_accepted<W: Sink>(
     requires { out.old.failures ≡ 0 }
     ensures { Tells W.contents out.old out.new (accepted_line (program_of program.now) ++ left_out_lines board.now) 0 result }
 {
-    write_accepted(program, out)?;
-    write_left_out(board, out)?;
+    write_check(program, board, out)?;
     Ok(0)
+}
+
+/// Writes the line of an accepted text, and one for each instruction of the board that stands for BYPASS.
+fn write_check<W: Sink>(
+    program: &Program,
+    board: &Board,
+    out: &mut Counted<W>,
+) -> Result<(), Broken>
+    requires { out.old.failures ≡ 0 }
+    ensures { WritesAll W.contents out.old out.new (accepted_line (program_of program.now) ++ left_out_lines board.now) result }
+{
+    write_accepted(program, out)?;
+    write_left_out(board, out)
 }
 
 /// Plays and writes the bytes, the verdict and the report. Answers the exit status of the ending.
