@@ -142,10 +142,15 @@ fn shown_device(alloc: Global, device: &Device) -> Result<String, AllocError> {
     Ok(shown)
 }
 
-/// The refusal as its line, and the attribute that is missing.
+/// The refusal as its line, and what it holds.
 fn shown_fault(alloc: Global, fault: &BsdlFault) -> Result<String, AllocError> {
     match fault {
+        BsdlFault::BadToken(place) | BsdlFault::BadForm(place) => format!(in alloc;
+            "{fault} {place}"
+        ),
         BsdlFault::Missing(attribute) => format!(in alloc; "{fault} {attribute:?}"),
+        BsdlFault::Twice(name) => format!(in alloc; "{fault} {name}"),
+        BsdlFault::BadCell(cell) => format!(in alloc; "{fault} {cell}"),
         _ => format!(in alloc; "{fault}"),
     }
 }
