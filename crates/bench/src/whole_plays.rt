@@ -11,8 +11,8 @@ use std::alloc::{AllocError, Global};
 use std::io;
 use stream_player::Player;
 
-/// A scan of 65,536 bits, each of which is wanted, and the bytes of its play: the opening, the way to the scan, three a bit, the way
-/// back, and `Q`.
+/// A scan of 65,536 bits, each of which is wanted, and the bytes of its play: the opening, the way to the scan, three a
+/// bit, the way back, and `Q`.
 const WANTED: &[u8] = b"SDR 65536 TDI (0) TDO (0);";
 
 const WANTED_BYTES: usize = 12 + 8 + 3 * 65536 + 5 + 1;

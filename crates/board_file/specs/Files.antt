@@ -1,6 +1,8 @@
 -- Which descriptions a board file names, and what they say. A description stands in a file; `says` is the device that a
 -- text describes, None where the text is refused.
-use Rattle.std.specs.Prelude.{◌≡◌, ℕ, List, [], ◌∷◌, length, map, fold, filter_map, codes, bytes_eq, is_none, option_map, option_and_then, Option, Some, None, unwrap_or, Result, Ok, Err, IsUtf8, if◌then◌else◌}
+use Rattle.std.specs.Prelude.{◌≡◌, ℕ, List, [], ◌∷◌, length, map, fold, filter_map, codes, bytes_eq, is_none}
+use Rattle.std.specs.Prelude.{option_map, option_and_then, Option, Some, None, unwrap_or, Result, Ok, Err, IsUtf8}
+use Rattle.std.specs.Prelude.{if◌then◌else◌}
 use Rattle.std.specs.List.{find}
 use Rattle.toml.specs.Data.{Members}
 use Rattle.toml.specs.Parse.{parse_document}

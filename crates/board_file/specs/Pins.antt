@@ -1,5 +1,6 @@
 -- Which port bits the pins of the nets are. A pin is a port bit of a device; the TAP's ports are none.
-use Rattle.std.specs.Prelude.{ℕ, Bool, ◌&&◌, ◌==◌, nat_lt, List, [], ◌∷◌, ◌++◌, filter_map, codes, bytes_eq, option_map, option_and_then, Option, Some, None, position, slice_get, if◌then◌else◌}
+use Rattle.std.specs.Prelude.{ℕ, Bool, ◌&&◌, ◌==◌, nat_lt, List, [], ◌∷◌, ◌++◌, filter_map, codes, bytes_eq, option_map}
+use Rattle.std.specs.Prelude.{option_and_then, Option, Some, None, position, slice_get, if◌then◌else◌}
 use Rattle.std.specs.List.{list_any}
 use Rattle.std.specs.Str.Parse.{digits_value}
 use Rattle.toml.specs.Data.{Members}
@@ -29,7 +30,8 @@ pin_bit d port index = option_and_then (no_tap d) (bit_of d port index)
 -- the port bit of the device at this place on the board
 abbrev pub bit_at : List Device → PinText → ℕ → Option Pin
 bit_at ds p place =
-    option_and_then (λ d. option_map (λ bit. record { device = place; port = bit }) (pin_bit d p.port p.index)) (slice_get ds place)
+    option_and_then (λ d. option_map (λ bit. record { device = place; port = bit }) (pin_bit d p.port p.index))
+    (slice_get ds place)
 
 -- The pin that a text names, given the names of all devices and what is described of each.
 unfoldable pub pin_at : List (List ℕ) → List Device → List ℕ → Option Pin

@@ -1,5 +1,6 @@
 -- What the code's values stand for.
-use Rattle.std.specs.Prelude.{◌≡◌, ℕ, List, map, length, slice_get, position, bytes_eq, codes, string_bytes, Option, Some, None, option_map, option_and_then, Result, Ok, Err}
+use Rattle.std.specs.Prelude.{◌≡◌, ℕ, List, map, length, slice_get, position, bytes_eq, codes, string_bytes, Option}
+use Rattle.std.specs.Prelude.{Some, None, option_map, option_and_then, Result, Ok, Err}
 use Rattle.std.specs.Prelude.{Vec, String}
 use Rattle.std.specs.declared.alloc.Global.{Global}
 use Rattle.std.specs.BTreeMap.{BTreeMap}
@@ -25,7 +26,8 @@ use Rattle.toml.specs.Data.{Members}
 use Rattle.std.specs.List.{filter_map}
 use Rattle.pin_nets.specs.Wired.{Net}
 use Rattle.board_tables.specs.Fields.{text_at, name_at}
-use Rattle.board_file.specs.Wiring.{Member, member_of, net_of, wire_fault, Wiring, Fault, BadField, UnknownFile, Bsdl, UnknownPin, PinTwice, TooLarge}
+use Rattle.board_file.specs.Wiring.{Member, member_of, net_of, wire_fault, Wiring, Fault, BadField, UnknownFile, Bsdl}
+use Rattle.board_file.specs.Wiring.{UnknownPin, PinTwice, TooLarge}
 
 -- the files handed in
 abbrev pub file_of : Bor (List ℕ) × Bor (List ℕ) → File
@@ -44,7 +46,8 @@ ReadsToml text (Err fault.NoMemory) = Unit {0}
 ReadsToml text (Err _) = ⊥
 
 -- The names where no key is at fault, and else the key that is, unless memory runs out.
-abbrev pub TellsNames : {F : Type 0} → Result (Vec (String Global) Global) (BoardFault F) → Result (List (List ℕ)) (List ℕ) → Type 0
+abbrev pub TellsNames : {F : Type 0} → Result (Vec (String Global) Global) (BoardFault F)
+    → Result (List (List ℕ)) (List ℕ) → Type 0
 TellsNames (Ok v) said = said ≡ Ok (map string_bytes v.items)
 TellsNames (Err (fault.BadField k)) said = said ≡ Err (string_bytes k)
 TellsNames (Err fault.NoMemory) said = Unit {0}
@@ -66,19 +69,22 @@ IsTold _ _ = ⊥
 -- ---- descriptions: `says` is the device that a text describes, and `refuses` why a text is refused
 
 -- what reading a description gives
-abbrev pub Describes : {F : Type 0} → (List ℕ → Option described.Device) → (List ℕ → F → Type 0) → List ℕ → Result described.Device (Unread F) → Type 0
+abbrev pub Describes : {F : Type 0} → (List ℕ → Option described.Device) → (List ℕ → F → Type 0) → List ℕ
+    → Result described.Device (Unread F) → Type 0
 Describes says refuses text (Ok d) = says text ≡ Some d
 Describes says refuses text (Err (unread.Refused f)) = (says text ≡ None) × refuses text f
 Describes says refuses text (Err unread.Memory) = Unit {0}
 
 -- what stands in a text
-abbrev pub IsRead : {F : Type 0} → (List ℕ → Option described.Device) → (List ℕ → F → Type 0) → List ℕ → Reading F → Type 0
+abbrev pub IsRead : {F : Type 0} → (List ℕ → Option described.Device) → (List ℕ → F → Type 0) → List ℕ → Reading F
+    → Type 0
 IsRead says refuses text reading.Missing = ⊥
 IsRead says refuses text (reading.Refused f) = (says text ≡ None) × refuses text f
 IsRead says refuses text (reading.Described d) = says text ≡ Some d
 
 -- what stands in the file of a name
-abbrev pub IsReading : {F : Type 0} → (List ℕ → Option described.Device) → (List ℕ → F → Type 0) → List File → List ℕ → Reading F → Type 0
+abbrev pub IsReading : {F : Type 0} → (List ℕ → Option described.Device) → (List ℕ → F → Type 0) → List File → List ℕ
+    → Reading F → Type 0
 IsReading says refuses files name reading.Missing = text_of files name ≡ None
 IsReading says refuses files name r = (text : List ℕ) × (text_of files name ≡ Some text) × IsRead says refuses text r
 
@@ -107,7 +113,9 @@ IsFirstRefusal refuses None left whole = left ≡ whole
 -- what is described of a device, given all names of files and what is described in each
 abbrev pub stands_at : List (List ℕ) → List (Option described.Device) → Members → Option described.Device
 stands_at names ds t =
-    option_and_then (λ d. d) (option_and_then (slice_get ds) (option_and_then (λ name. position (bytes_eq name) names) (text_at (codes "bsdl") t)))
+    option_and_then (λ d. d)
+    (option_and_then (slice_get ds)
+    (option_and_then (λ name. position (bytes_eq name) names) (text_at (codes "bsdl") t)))
 
 abbrev pub cells_in : List (List ℕ) → List (Option described.Device) → Members → Option ℕ
 cells_in names ds t = option_map (λ (d : described.Device). length d.cells) (stands_at names ds t)
@@ -174,13 +182,17 @@ TellsBoard refuses (Err f) (Err e) = TellsFault refuses f (Some e)
 
 -- The board of these devices and nets, or the fault of their pins, unless memory runs out; given all names of files and
 -- what is described in each.
-abbrev pub PlansBoard : {F : Type 0} → Result Plan (BoardFault F) → List (List ℕ) → List (Option described.Device) → List Members → List Members → Type 0
+abbrev pub PlansBoard : {F : Type 0} → Result Plan (BoardFault F) → List (List ℕ) → List (Option described.Device)
+    → List Members → List Members → Type 0
 PlansBoard {F} r files ds devices nets = by r (map name_at devices) (filter_map (stands_at files ds) devices)
   where
     by : Result Plan (BoardFault F) → List (List ℕ) → List described.Device → Type 0
     by (Ok p) names found =
         (wire_fault names found nets ≡ None)
-        × (wiring p ≡ record { members = filter_map (member_in files ds) devices; nets = map (net_of names found) nets })
+        × (wiring p ≡ record {
+          members = filter_map (member_in files ds) devices;
+          nets = map (net_of names found) nets;
+        })
     by (Err (fault.UnknownPin s)) names found = wire_fault names found nets ≡ Some (UnknownPin (string_bytes s))
     by (Err (fault.PinTwice s)) names found = wire_fault names found nets ≡ Some (PinTwice (string_bytes s))
     by (Err fault.TooLarge) names found = wire_fault names found nets ≡ Some TooLarge

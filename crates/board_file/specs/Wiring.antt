@@ -1,5 +1,6 @@
 -- What a board file says, given the files that it names: the board's devices and nets, or why it is refused.
-use Rattle.std.specs.Prelude.{ℕ, Bool, false, ◌||◌, ◌==◌, nat_lt, List, [], map, length, filter_map, replicate, reverse, codes, bytes_eq, option_map, Option, Some, None, Result, Ok, Err, if◌then◌else◌}
+use Rattle.std.specs.Prelude.{ℕ, Bool, false, ◌||◌, ◌==◌, nat_lt, List, [], map, length, filter_map, replicate, reverse}
+use Rattle.std.specs.Prelude.{codes, bytes_eq, option_map, Option, Some, None, Result, Ok, Err, if◌then◌else◌}
 use Rattle.toml.specs.Data.{Members}
 use Rattle.bsdl_device.specs.Device.{Device}
 use Rattle.pin_nets.specs.declared.Pull.{Pull}

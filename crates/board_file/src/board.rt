@@ -7,7 +7,8 @@ ghost use Rattle.board_tables.specs.Faults.{unfit};
 ghost use Rattle.board_tables.specs.View.{texts_of};
 ghost use Rattle.board_file.specs.Files.{Reads, IsBadToml};
 ghost use Rattle.board_file.specs.Wiring.{makes};
-ghost use Rattle.board_file.specs.View.{IsMiswired, IsUnknownFile, JudgesKeys, PlansBoard, TellsBadToml, TellsBoard, cells_in, files_of, wiring};
+ghost use Rattle.board_file.specs.View.{IsMiswired, IsUnknownFile, JudgesKeys, PlansBoard, TellsBadToml, TellsBoard};
+ghost use Rattle.board_file.specs.View.{cells_in, files_of, wiring};
 ghost use Rattle.board_file.specs.Fits.{AreSaid, FitsTogether};
 
 use crate::fault::{BoardFault, told};
@@ -20,8 +21,8 @@ use scan_registers::SharedDevice;
 use std::alloc::{AllocError, Global};
 use toml::{Table, Value};
 
-/// The board that a board file and the descriptions in these files make, each file given by its name and its text; or the
-/// first refusal. Of two files of one name the first counts; files that no device names are not read, others once.
+/// The board that a board file and the descriptions in these files make, each file given by its name and its text; or
+/// the first refusal. Of two files of one name the first counts; files that no device names are not read, others once.
 pub fn plan_of_text<'f, R: Describe>(
     alloc: Global,
     reader: &R,
@@ -29,10 +30,12 @@ pub fn plan_of_text<'f, R: Describe>(
     files: &[(&'f str, &'f [u8])],
 ) -> Result<Plan, BoardFault<R::Fault>>
     // The board that the table and the files make, or their fault, unless memory runs out.
-    ensures told { (t : Members) → Reads toml_text.now t → TellsBoard R.refuses result (makes R.says (files_of files.now) t) }
+    ensures told { (t : Members) → Reads toml_text.now t
+        → TellsBoard R.refuses result (makes R.says (files_of files.now) t) }
     // What is no TOML is refused as that, unless memory runs out.
     ensures bad_toml { IsBadToml toml_text.now → TellsBadToml result }
-    // A board has 1 to 32 devices with whole cores and at most 4,096 nets; each pin is a port bit of a device, none twice.
+    // A board has 1 to 32 devices with whole cores and at most 4,096 nets; each pin is a port bit of a device, none
+    // twice.
     ensures fits { IfOk result (λ p. FitsTogether (wiring p)) }
     // Each device is one that a text says.
     ensures said { IfOk result (λ p. AreSaid R.says (wiring p)) }
@@ -92,7 +95,9 @@ fn check_keys<F>(
     names: &Places<&str>,
     described: &[Option<SharedDevice>],
 ) -> Result<(), BoardFault<F>>
-    ensures { JudgesKeys result (unfit (map (cells_in (texts_of names.now) described.now) (tables_at (codes "device") (table_view table.now))) (table_view table.now)) }
+    ensures { JudgesKeys result
+        (unfit (map (cells_in (texts_of names.now) described.now) (tables_at (codes "device") (table_view table.now)))
+        (table_view table.now)) }
 {
     let cells = match cells_of(alloc, names, described, items_at(table, "device")) {
         Ok(cells) => cells,
@@ -122,7 +127,8 @@ fn plan_described<F>(
     names: &Places<&str>,
     described: &[Option<SharedDevice>],
 ) -> Result<Plan, BoardFault<F>>
-    ensures { PlansBoard result (texts_of names.now) described.now (tables_at (codes "device") (table_view table.now)) (tables_at (codes "net") (table_view table.now)) }
+    ensures { PlansBoard result (texts_of names.now) described.now (tables_at (codes "device") (table_view table.now))
+        (tables_at (codes "net") (table_view table.now)) }
 {
     let entries = items_at(table, "device");
     let nets = items_at(table, "net");

@@ -13,8 +13,8 @@ use board_tables::{Places, check_fields, items_at, text_at};
 use std::alloc::{AllocError, Global};
 use toml::{Table, Value};
 
-/// The names of the descriptions that a board file asks for, in order, each once; or why it is refused, as far as that can
-/// be told without them: it is no TOML (C1), or a key is at fault (C2). Want of memory is C8.
+/// The names of the descriptions that a board file asks for, in order, each once; or why it is refused, as far as that
+/// can be told without them: it is no TOML (C1), or a key is at fault (C2). Want of memory is C8.
 pub fn bsdl_names<F>(alloc: Global, toml_text: &[u8]) -> Result<Vec<String>, BoardFault<F>>
     // The names that the table gives, or the first key at fault, unless memory runs out.
     ensures told { (t : Members) → Reads toml_text.now t → TellsNames result (names_of t) }

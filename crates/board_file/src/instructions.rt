@@ -4,8 +4,8 @@ ghost use Rattle.board_file.specs.LeftOut as spec;
 
 use bsdl_device::Device;
 
-/// The name of the k-th instruction, counted from 0, that has an opcode and no meaning of its own here, so that it stands
-/// for BYPASS: the standard's INTEST and RUNBIST, and the private ones, in the order of the opcode rows.
+/// The name of the k-th instruction, counted from 0, that has an opcode and no meaning of its own here, so that it
+/// stands for BYPASS: the standard's INTEST and RUNBIST, and the private ones, in the order of the opcode rows.
 pub fn left_out(device: &Device, k: usize) -> Option<&str>
     ensures { option_map (λ s. s.now) result ≡ slice_get (spec.left_out device.now) k }
 {

@@ -6,7 +6,8 @@ ghost use Rattle.board_tables.specs.View.{texts_of};
 ghost use Rattle.bsdl_device.specs.Device as described;
 ghost use Rattle.board_file.specs.Files as spec;
 ghost use Rattle.std.specs.List.{filter_map};
-ghost use Rattle.board_file.specs.View.{Describes, IsRead, IsReading, IsFirstRefusal, device_in, missing_with, refused_with, files_of, stands_at, cells_in};
+ghost use Rattle.board_file.specs.View.{Describes, IsRead, IsReading, IsFirstRefusal, device_in, missing_with};
+ghost use Rattle.board_file.specs.View.{refused_with, files_of, stands_at, cells_in};
 
 use board_tables::{Places, text_at};
 use bsdl_device::Device;
@@ -69,9 +70,13 @@ pub(crate) fn read_files<'t, 'f, R: Describe>(
     files: &[(&'f str, &'f [u8])],
     names: &[&'t str],
 ) -> Result<Library<'t, R::Fault>, AllocError>
-    ensures devices { IfOk result (λ l. l.devices.items ≡ map (spec.described R.says (files_of files.now)) (texts_of names.now)) }
-    ensures missing { IfOk result (λ l. option_map (λ n. n.now) l.missing ≡ spec.missing_in (files_of files.now) (texts_of names.now)) }
-    ensures refused { IfOk result (λ l. IsFirstRefusal R.refuses l.refused None (spec.refused_in R.says (files_of files.now) (texts_of names.now))) }
+    ensures devices { IfOk result
+        (λ l. l.devices.items ≡ map (spec.described R.says (files_of files.now)) (texts_of names.now)) }
+    ensures missing { IfOk result
+        (λ l. option_map (λ n. n.now) l.missing ≡ spec.missing_in (files_of files.now) (texts_of names.now)) }
+    ensures refused { IfOk result
+        (λ l. IsFirstRefusal R.refuses l.refused None
+        (spec.refused_in R.says (files_of files.now) (texts_of names.now))) }
 {
     let places = file_places(alloc, files)?;
     let mut library = Library {
@@ -186,7 +191,8 @@ pub(crate) fn cells_of(
     described: &[Option<SharedDevice>],
     devices: &[Value],
 ) -> Result<Vec<Option<usize>>, AllocError>
-    ensures { IfOk result (λ v. v.items ≡ map (cells_in (texts_of names.now) described.now) (tables_in (items_view devices.now))) }
+    ensures { IfOk result (λ v. v.items
+        ≡ map (cells_in (texts_of names.now) described.now) (tables_in (items_view devices.now))) }
 {
     let mut cells = Vec::new(alloc);
     for device in devices {
@@ -213,7 +219,8 @@ pub(crate) fn devices_of(
     described: &[Option<SharedDevice>],
     devices: &[Value],
 ) -> Result<Vec<SharedDevice>, AllocError>
-    ensures { IfOk result (λ v. v.items ≡ filter_map (stands_at (texts_of names.now) described.now) (tables_in (items_view devices.now))) }
+    ensures { IfOk result (λ v. v.items
+        ≡ filter_map (stands_at (texts_of names.now) described.now) (tables_in (items_view devices.now))) }
 {
     let mut shared = Vec::new(alloc);
     for device in devices {

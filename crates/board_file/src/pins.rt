@@ -22,7 +22,12 @@ pub(crate) fn find_pin(names: &Places<&str>, devices: &[SharedDevice], text: &st
 /// The port bit of the device at a place on the board.
 fn bit_at(devices: &[SharedDevice], pin: &PinText<'_>, place: usize) -> Option<Pin>
     requires { IfSome pin.now.index (λ d. texts.is_number d.now ≡ true) }
-    ensures { result ≡ spec.bit_at devices.now (record { device = pin.now.device.now; port = pin.now.port.now; index = option_map (λ d. d.now) pin.now.index }) place }
+    ensures { result ≡ spec.bit_at devices.now
+        (record {
+          device = pin.now.device.now;
+          port = pin.now.port.now;
+          index = option_map (λ d. d.now) pin.now.index;
+        }) place }
 {
     match devices.get(place) {
         Some(device) => match port_bit(device.get(), pin.port, pin.index) {

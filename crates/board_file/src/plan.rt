@@ -49,7 +49,8 @@ pub(crate) fn plan_devices(
     described: &[Option<SharedDevice>],
     devices: &[Value],
 ) -> Result<Vec<PlannedDevice>, AllocError>
-    ensures { IfOk result (λ v. map view.member v.items ≡ filter_map (view.member_in (texts_of names.now) described.now) (tables_in (items_view devices.now))) }
+    ensures { IfOk result (λ v. map view.member v.items
+        ≡ filter_map (view.member_in (texts_of names.now) described.now) (tables_in (items_view devices.now))) }
 {
     let mut planned = Vec::new(alloc);
     for device in devices {
@@ -125,7 +126,8 @@ pub(crate) fn plan_nets(
     devices: &[SharedDevice],
     nets: &[Value],
 ) -> Result<Vec<PlannedNet>, AllocError>
-    ensures { IfOk result (λ v. map view.net v.items ≡ map (spec.net_of (texts_of names.now) devices.now) (tables_in (items_view nets.now))) }
+    ensures { IfOk result (λ v. map view.net v.items
+        ≡ map (spec.net_of (texts_of names.now) devices.now) (tables_in (items_view nets.now))) }
 {
     let mut planned = Vec::new(alloc);
     for net in nets {
@@ -158,7 +160,8 @@ fn pins_of(
     devices: &[SharedDevice],
     pins: &[Value],
 ) -> Result<Vec<Pin>, AllocError>
-    ensures { IfOk result (λ v. v.items ≡ filter_map (pin_at (texts_of names.now) devices.now) (texts_in (items_view pins.now))) }
+    ensures { IfOk result (λ v. v.items
+        ≡ filter_map (pin_at (texts_of names.now) devices.now) (texts_in (items_view pins.now))) }
 {
     let mut found = Vec::new(alloc);
     for pin in pins {

@@ -21,7 +21,8 @@ pub(crate) fn first_unknown<'t>(
     devices: &[SharedDevice],
     nets: &'t [Value],
 ) -> Option<&'t str>
-    ensures { option_map (λ s. s.now) result ≡ spec.unknown_in_nets (texts_of names.now) devices.now (tables_in (items_view nets.now)) }
+    ensures { option_map (λ s. s.now) result
+        ≡ spec.unknown_in_nets (texts_of names.now) devices.now (tables_in (items_view nets.now)) }
 {
     for net in nets {
         if let Some(table) = net.as_table() {
@@ -38,7 +39,8 @@ fn unknown_in<'t>(
     devices: &[SharedDevice],
     pins: &'t [Value],
 ) -> Option<&'t str>
-    ensures { option_map (λ s. s.now) result ≡ spec.unknown_pin (texts_of names.now) devices.now (texts_in (items_view pins.now)) }
+    ensures { option_map (λ s. s.now) result
+        ≡ spec.unknown_pin (texts_of names.now) devices.now (texts_in (items_view pins.now)) }
 {
     for pin in pins {
         if let Some(text) = pin.as_str() {
@@ -57,7 +59,8 @@ pub(crate) fn first_twice<'t>(
     devices: &[SharedDevice],
     nets: &'t [Value],
 ) -> Result<Option<&'t str>, AllocError>
-    ensures { IfOk result (λ r. option_map (λ s. s.now) r ≡ spec.twice_in_nets (texts_of names.now) devices.now [] (tables_in (items_view nets.now))) }
+    ensures { IfOk result (λ r. option_map (λ s. s.now) r
+        ≡ spec.twice_in_nets (texts_of names.now) devices.now [] (tables_in (items_view nets.now))) }
 {
     let mut used = Places::new(alloc);
     for net in nets {
@@ -77,8 +80,12 @@ fn add_pins<'t>(
     devices: &[SharedDevice],
     pins: &'t [Value],
 ) -> Result<Option<&'t str>, AllocError>
-    ensures judged { IfOk result (λ r. option_map (λ s. s.now) r ≡ spec.twice (texts_of names.now) devices.now used.old (texts_in (items_view pins.now))) }
-    ensures added { IfOk result (λ r. r ≡ None → used.new ≡ used.old ++ filter_map (spec.pin_at (texts_of names.now) devices.now) (texts_in (items_view pins.now))) }
+    ensures judged { IfOk result
+        (λ r. option_map (λ s. s.now) r
+        ≡ spec.twice (texts_of names.now) devices.now used.old (texts_in (items_view pins.now))) }
+    ensures added { IfOk result
+        (λ r. r ≡ None → used.new
+        ≡ used.old ++ filter_map (spec.pin_at (texts_of names.now) devices.now) (texts_in (items_view pins.now))) }
 {
     for pin in pins {
         if let Some(text) = pin.as_str() {

@@ -5,7 +5,8 @@ use Rattle.pin_nets.specs.declared.Pull.TheVariants.{Up, Down, Free}
 use Rattle.board_file.specs.Files.{names_of}
 use Rattle.board_file.specs.Wiring.{Fault, BadField, UnknownFile, Bsdl, UnknownPin, PinTwice, TooLarge, large}
 use Rattle.board_file.specs.LeftOut.{left_out}
-use Rattle.board_file_rows.specs.Samples.{Shown, k, ki, shows, pin, tables, file, device, cored, net, pulled, one_net, with_pins, text_member}
+use Rattle.board_file_rows.specs.Samples.{Shown, k, ki, shows, pin, tables, file, device, cored, net, pulled, one_net}
+use Rattle.board_file_rows.specs.Samples.{with_pins, text_member}
 
 abbrev u1 : List ℕ → Members
 u1 f = device (codes "U1") f
@@ -24,9 +25,12 @@ BoardRows =
     × (shows (one_net (cored (codes "U1") (codes "k") (codes "001"))) ≡ one (true ∷ false ∷ false ∷ []))
     × (shows (one_net (u1 (codes "kh"))) ≡ one idle)
     -- pulls, and a board without nets
-    × (shows (file (u1 (codes "k") ∷ []) (pulled (codes "N") (codes "U1.Q" ∷ []) (codes "down") ∷ [])) ≡ Ok (record { cores = idle ∷ []; nets = (Down, pin 0 4 ∷ []) ∷ [] }))
-    × (shows (file (u1 (codes "k") ∷ []) (pulled (codes "N") [] (codes "up") ∷ [])) ≡ Ok (record { cores = idle ∷ []; nets = (Up, []) ∷ [] }))
-    × (shows (member (codes "device") (tables (u1 (codes "k") ∷ [])) no_members) ≡ Ok (record { cores = idle ∷ []; nets = [] }))
+    × (shows (file (u1 (codes "k") ∷ []) (pulled (codes "N") (codes "U1.Q" ∷ []) (codes "down") ∷ []))
+    ≡ Ok (record { cores = idle ∷ []; nets = (Down, pin 0 4 ∷ []) ∷ [] }))
+    × (shows (file (u1 (codes "k") ∷ []) (pulled (codes "N") [] (codes "up") ∷ []))
+    ≡ Ok (record { cores = idle ∷ []; nets = (Up, []) ∷ [] }))
+    × (shows (member (codes "device") (tables (u1 (codes "k") ∷ [])) no_members)
+    ≡ Ok (record { cores = idle ∷ []; nets = [] }))
     -- keys
     × (shows (one_net (cored (codes "U1") (codes "k") (codes "01"))) ≡ Err (BadField (codes "core")))
     × (shows (file (u1 (codes "k") ∷ []) (pulled (codes "N") [] (codes "UP") ∷ [])) ≡ Err (BadField (codes "pull")))
@@ -34,28 +38,37 @@ BoardRows =
     × (shows (file [] []) ≡ Err (BadField (codes "device")))
     × (shows (member (codes "devices") (boolean true) no_members) ≡ Err (BadField (codes "device")))
     × (shows (member (codes "a") (boolean true) no_members) ≡ Err (BadField (codes "a")))
-    × (shows (file (text_member (codes "core") (codes "2") (text_member (codes "name") (codes "U1") no_members) ∷ []) []) ≡ Err (BadField (codes "bsdl")))
+    × (shows (file (text_member (codes "core") (codes "2") (text_member (codes "name") (codes "U1") no_members)
+    ∷ []) []) ≡ Err (BadField (codes "bsdl")))
     × (shows (file (u1 (codes "k") ∷ u1 (codes "k") ∷ []) []) ≡ Err (BadField (codes "name")))
-    -- descriptions: a core is judged for 0s and 1s alone where they are refused or missing; of two files the first counts
-    × (shows (file (cored (codes "U1") (codes "none") (codes "0") ∷ device (codes "U2") (codes "bad") ∷ []) []) ≡ Err (UnknownFile (codes "none")))
+    -- descriptions: a core is judged for 0s and 1s alone where they are refused or missing; of two files the first
+    -- counts
+    × (shows (file (cored (codes "U1") (codes "none") (codes "0") ∷ device (codes "U2") (codes "bad") ∷ []) [])
+    ≡ Err (UnknownFile (codes "none")))
     × (shows (file (cored (codes "U1") (codes "bad") (codes "2") ∷ []) []) ≡ Err (BadField (codes "core")))
-    × (shows (file (device (codes "U1") (codes "bad") ∷ device (codes "U2") (codes "none") ∷ []) []) ≡ Err (UnknownFile (codes "none")))
+    × (shows (file (device (codes "U1") (codes "bad") ∷ device (codes "U2") (codes "none") ∷ []) [])
+    ≡ Err (UnknownFile (codes "none")))
     × (shows (file (u1 (codes "bad") ∷ []) (net (codes "N") (codes "x" ∷ []) ∷ [])) ≡ Err (Bsdl (codes "X")))
     -- pins
     × (shows (with_pins (codes "U1.TDI" ∷ [])) ≡ Err (UnknownPin (codes "U1.TDI")))
     × (shows (with_pins (codes "U1.Q" ∷ codes "u1.q" ∷ [])) ≡ Err (UnknownPin (codes "u1.q")))
     × (shows (with_pins (codes "U1.Q" ∷ codes "U1.q" ∷ [])) ≡ Err (PinTwice (codes "U1.q")))
     × (shows (with_pins (codes "U1.Q" ∷ codes "U1.q" ∷ codes "U1.Q(0)" ∷ [])) ≡ Err (UnknownPin (codes "U1.Q(0)")))
-    × (shows (with_pins (codes "U1.a(03)" ∷ codes "U1.vcc" ∷ [])) ≡ Ok (record { cores = idle ∷ []; nets = (Free, pin 0 7 ∷ pin 0 8 ∷ []) ∷ [] }))
+    × (shows (with_pins (codes "U1.a(03)" ∷ codes "U1.vcc" ∷ []))
+    ≡ Ok (record { cores = idle ∷ []; nets = (Free, pin 0 7 ∷ pin 0 8 ∷ []) ∷ [] }))
     × (shows (with_pins (codes "U1.A(4)" ∷ [])) ≡ Err (UnknownPin (codes "U1.A(4)")))
-    × (shows (file (u1 (codes "k") ∷ []) (net (codes "N") (codes "U1.Q" ∷ []) ∷ net (codes "M") (codes "U1.D" ∷ codes "U1.Q" ∷ []) ∷ [])) ≡ Err (PinTwice (codes "U1.Q")))
+    × (shows (file (u1 (codes "k") ∷ [])
+    (net (codes "N") (codes "U1.Q" ∷ []) ∷ net (codes "M") (codes "U1.D" ∷ codes "U1.Q" ∷ []) ∷ []))
+    ≡ Err (PinTwice (codes "U1.Q")))
     -- limits
     × (large 32 4096 ≡ None)
     × (large 33 0 ≡ Some TooLarge)
     × (large 1 4097 ≡ Some TooLarge)
     -- names of descriptions
-    × (names_of (file (u1 (codes "k") ∷ device (codes "U2") (codes "p") ∷ device (codes "U3") (codes "k") ∷ []) []) ≡ Ok (codes "k" ∷ codes "p" ∷ []))
+    × (names_of (file (u1 (codes "k") ∷ device (codes "U2") (codes "p") ∷ device (codes "U3") (codes "k") ∷ []) [])
+    ≡ Ok (codes "k" ∷ codes "p" ∷ []))
     -- instructions that are left out
     × (left_out ki ≡ codes "INTEST" ∷ [])
     × (left_out k ≡ [])
-    × (left_out (record k { private_names = codes "SAMPLE" ∷ codes "NOROW" ∷ codes "BYPASS" ∷ [] }) ≡ codes "BYPASS" ∷ codes "SAMPLE" ∷ [])
+    × (left_out (record k { private_names = codes "SAMPLE" ∷ codes "NOROW" ∷ codes "BYPASS" ∷ [] })
+    ≡ codes "BYPASS" ∷ codes "SAMPLE" ∷ [])

@@ -1,5 +1,6 @@
 -- Board files of the worked rows, as TOML tables, over three devices written out as a reader of texts would give them.
-use Rattle.std.specs.Prelude.{ℕ, Bool, true, false, List, [], ◌∷◌, map, replicate, Option, Some, None, codes, bytes_eq, if◌then◌else◌, Result, Ok, Err}
+use Rattle.std.specs.Prelude.{ℕ, Bool, true, false, List, [], ◌∷◌, map, replicate, Option, Some, None, codes, bytes_eq}
+use Rattle.std.specs.Prelude.{if◌then◌else◌, Result, Ok, Err}
 use Rattle.toml.specs.Data.{Data, string, array, table, Items, no_items, item, Members, no_members, member}
 use Rattle.bsdl_device.specs.Device.{PortBit, Opcode, Device}
 use Rattle.bsdl_device.specs.declared.PortMode.{PortMode}
@@ -26,7 +27,11 @@ abbrev opcode : List ℕ → Bool → Bool → Opcode
 opcode name low high = record { name = name; patterns = (Some low ∷ Some high ∷ []) ∷ [] }
 
 abbrev q_cell : Function → Bool → Cell
-q_cell f true = record { function = f; port = Some 4; control = Some (record { cell = 1; disabling = false; leaves = Z }) }
+q_cell f true = record {
+  function = f;
+  port = Some 4;
+  control = Some (record { cell = 1; disabling = false; leaves = Z });
+}
 q_cell f false = record { function = f; port = Some 4; control = None }
 
 -- Two instruction bits, an output Q, an input D, a bus A of indices 2 and 3, a power pin VCC, and a code.
@@ -37,11 +42,13 @@ device_with third q = record {
       ∷ bit_of (codes "Q") None Out ∷ bit_of (codes "D") None In
       ∷ bit_of (codes "A") (Some 2) In ∷ bit_of (codes "A") (Some 3) In ∷ bit_of (codes "VCC") None Linkage ∷ [];
   instruction_length = 2;
-  opcodes = opcode (codes "BYPASS") true true ∷ opcode (codes "EXTEST") false false ∷ opcode third true false ∷ opcode (codes "IDCODE") false true ∷ [];
+  opcodes = opcode (codes "BYPASS") true true ∷ opcode (codes "EXTEST") false false ∷ opcode third true false
+      ∷ opcode (codes "IDCODE") false true ∷ [];
   capture = true ∷ false ∷ [];
   idcode = Some (true ∷ replicate 31 false);
   usercode = None;
-  cells = q ∷ record { function = Control; port = None; control = None } ∷ record { function = Input; port = Some 5; control = None } ∷ [];
+  cells = q ∷ record { function = Control; port = None; control = None }
+      ∷ record { function = Input; port = Some 5; control = None } ∷ [];
   private_names = [];
   accesses = [];
   users = [];
@@ -62,10 +69,12 @@ ki = device_with (codes "INTEST") (q_cell Output3 true)
 -- what the texts say; any other text is refused
 abbrev pub says : List ℕ → Option Device
 says text =
-    if bytes_eq text (codes "K") then Some k else if bytes_eq text (codes "KH") then Some kh else if bytes_eq text (codes "KI") then Some ki else None
+    if bytes_eq text (codes "K") then Some k else if bytes_eq text (codes "KH") then Some kh
+    else if bytes_eq text (codes "KI") then Some ki else None
 
 abbrev pub files : List File
-files = (codes "k", codes "K") ∷ (codes "kh", codes "KH") ∷ (codes "ki", codes "KI") ∷ (codes "bad", codes "X") ∷ (codes "k", codes "Y") ∷ []
+files = (codes "k", codes "K") ∷ (codes "kh", codes "KH") ∷ (codes "ki", codes "KI") ∷ (codes "bad", codes "X")
+    ∷ (codes "k", codes "Y") ∷ []
 
 -- ---- tables
 
@@ -91,13 +100,15 @@ abbrev pub device : List ℕ → List ℕ → Members
 device name file = text_member (codes "bsdl") file (text_member (codes "name") name no_members)
 
 abbrev pub cored : List ℕ → List ℕ → List ℕ → Members
-cored name file core = text_member (codes "bsdl") file (text_member (codes "core") core (text_member (codes "name") name no_members))
+cored name file core = text_member (codes "bsdl") file
+    (text_member (codes "core") core (text_member (codes "name") name no_members))
 
 abbrev pub net : List ℕ → List (List ℕ) → Members
 net name pins = text_member (codes "name") name (member (codes "pins") (texts pins) no_members)
 
 abbrev pub pulled : List ℕ → List (List ℕ) → List ℕ → Members
-pulled name pins pull = text_member (codes "name") name (member (codes "pins") (texts pins) (text_member (codes "pull") pull no_members))
+pulled name pins pull = text_member (codes "name") name
+    (member (codes "pins") (texts pins) (text_member (codes "pull") pull no_members))
 
 abbrev pub file : List Members → List Members → Members
 file devices nets = member (codes "device") (tables devices) (member (codes "net") (tables nets) no_members)

@@ -15,7 +15,8 @@ tap_port name mode = record { name = name; index = None; mode = mode; is_tap = t
 -- Two instruction bits, BYPASS 11 and EXTEST 00, capture 01, no code, one internal cell, and the TAP's four ports.
 abbrev pub bare : Device
 bare = record {
-  ports = tap_port (codes "TDI") In ∷ tap_port (codes "TMS") In ∷ tap_port (codes "TCK") In ∷ tap_port (codes "TDO") Out ∷ [];
+  ports = tap_port (codes "TDI") In ∷ tap_port (codes "TMS") In ∷ tap_port (codes "TCK") In
+      ∷ tap_port (codes "TDO") Out ∷ [];
   instruction_length = 2;
   opcodes =
       record { name = codes "BYPASS"; patterns = (Some true ∷ Some true ∷ []) ∷ [] }

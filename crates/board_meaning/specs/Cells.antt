@@ -20,7 +20,8 @@ pub record Member : Type 0 where
 -- what the device knows of its boundary, where each of its ports sees this
 abbrev pub surroundings : (ℕ → Bool) → Member → Surroundings
 surroundings sees m = record {
-  captures = λ mode. capture_by_sight sees (takes_update m.extest_update mode) m.registers.update m.core 0 m.device.cells;
+  captures = λ mode. capture_by_sight sees (takes_update m.extest_update mode) m.registers.update m.core 0
+      m.device.cells;
   at_reset = reset_from m.device.cells 0 m.device.cells m.registers.update;
 }
 

@@ -1,6 +1,7 @@
--- The edge meaning: the chain byte by byte (IEEE Std 1149.1-2001, clauses 4, 5 and 6; bytes of OpenOCD's remote_bitbang). All
--- devices move at once, each from the TDO and the levels of before the edge.
-use Rattle.std.specs.Prelude.{Bool, true, false, ◌&&◌, ℕ, suc, List, [], ◌∷◌, ◌++◌, map, Option, Some, None, unwrap_or, if◌then◌else◌}
+-- The edge meaning: the chain byte by byte (IEEE Std 1149.1-2001, clauses 4, 5 and 6; bytes of OpenOCD's
+-- remote_bitbang). All devices move at once, each from the TDO and the levels of before the edge.
+use Rattle.std.specs.Prelude.{Bool, true, false, ◌&&◌, ℕ, suc, List, [], ◌∷◌, ◌++◌, map, Option, Some, None, unwrap_or}
+use Rattle.std.specs.Prelude.{if◌then◌else◌}
 use Rattle.jt_tap.specs.declared.State.{State}
 use Rattle.jt_tap.specs.declared.State.TheVariants.{Reset}
 use Rattle.jt_tap.specs.Controller.{next, work}
@@ -40,7 +41,10 @@ is_held trst m = trst && m.device.has_trst
 abbrev pub rise : (trst tms tdi : Bool) → (ℕ → Bool) → ChipState → ChipState
 rise trst tms tdi sight c =
     if is_held trst c.member then c else record {
-      member = record c.member { registers = risen (work c.state) c.member.device (surroundings sight c.member) tdi c.member.registers };
+      member = record c.member {
+        registers = risen (work c.state) c.member.device (surroundings sight c.member) tdi
+            c.member.registers;
+      };
       state = next c.state tms;
       tdo = c.tdo;
     }
@@ -49,13 +53,20 @@ rise trst tms tdi sight c =
 abbrev pub fall : ChipState → ChipState
 fall c =
     let r = fallen (work c.state) c.member.device (surroundings (λ p. true) c.member) c.member.registers in
-    record { member = record c.member { registers = r }; state = c.state; tdo = tdo_after (work c.state) c.member.device r }
+    record {
+      member = record c.member { registers = r };
+      state = c.state;
+      tdo = tdo_after (work c.state) c.member.device r;
+    }
 
 -- TRST asserted: a device with a TRST port is in RESET at once, its TDO undriven.
 abbrev pub assert_trst : ChipState → ChipState
 assert_trst c =
     if c.member.device.has_trst then record {
-      member = record c.member { registers = reset c.member.device (surroundings (λ p. true) c.member) c.member.registers };
+      member = record c.member {
+        registers = reset c.member.device (surroundings (λ p. true) c.member)
+            c.member.registers;
+      };
       state = Reset;
       tdo = None;
     } else c

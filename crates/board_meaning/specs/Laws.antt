@@ -19,7 +19,8 @@ use Rattle.board_meaning.specs.Resting.{resting}
 abbrev pub quietly_at : AtRest → Heard
 quietly_at m = record { answers = []; board = resting m }
 
--- in RESET, where nothing is left to reset: every latch is its reset instruction, every controlr cell its disabling value
+-- in RESET, where nothing is left to reset: every latch is its reset instruction, every controlr cell its disabling
+-- value
 pub record IsReset (m : AtRest) : Type 0 where
   pub place : m.place ≡ Reset
   pub registers : map reset_member m.members ≡ m.members

@@ -1,5 +1,5 @@
--- Every register that an instruction can select has at least one bit, and so has what it captures (IEEE Std 1149.1-2001,
--- clauses 7 to 12, ask for that and more of every component).
+-- Every register that an instruction can select has at least one bit, and so has what it captures (IEEE Std
+-- 1149.1-2001, clauses 7 to 12, ask for that and more of every component).
 use Rattle.std.specs.Prelude.{◌≡◌, Bool, ℕ, ◌<◌, ◌≤◌, List, [], length, Option, unwrap_or}
 use Rattle.std.specs.List.{AllByRecursion}
 use Rattle.bsdl_device.specs.Device.{Device}
@@ -20,7 +20,8 @@ abbrev pub IsThere : Selected → Option (List Bool) → Registers → Type 0
 IsThere Bypass fixed r = Unit {0}
 IsThere Boundary fixed r = Unit {0}
 IsThere Identification fixed r = HasBit r.identification × HasBit (unwrap_or fixed [])
-IsThere (User k) fixed r = HasBit (user_stage k r.users) × HasBit (user_latch k r.users) × ((other : List Bool) → HasBit other → HasBit (unwrap_or fixed other))
+IsThere (User k) fixed r = HasBit (user_stage k r.users) × HasBit (user_latch k r.users)
+    × ((other : List Bool) → HasBit other → HasBit (unwrap_or fixed other))
 
 -- of one device, in a state of its registers: whatever the latch names
 pub record IsSoundFor (d : Device) (r : Registers) : Type 0 where

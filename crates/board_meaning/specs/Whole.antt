@@ -1,5 +1,5 @@
--- The register meaning: a board at rest, and capture, shift, update and reset of all devices at once (IEEE Std 1149.1-2001,
--- clauses 6, 7 and 9, without TCK, TDO or states other than the resting place).
+-- The register meaning: a board at rest, and capture, shift, update and reset of all devices at once (IEEE Std
+-- 1149.1-2001, clauses 6, 7 and 9, without TCK, TDO or states other than the resting place).
 use Rattle.std.specs.Prelude.{Bool, true, false, ℕ, suc, List, [], ◌∷◌, ◌++◌, map, length, take, drop, if◌then◌else◌}
 use Rattle.jt_tap.specs.declared.Column.{Column}
 use Rattle.jt_tap.specs.declared.Column.TheVariants.{Dr, Ir}
@@ -96,14 +96,19 @@ along (s ∷ path) m = along path (record (pass (work s) m) { place = s })
 
 -- a device's pending update, if there is one at this place, is made
 abbrev pub settled_member : State → Member → Member
-settled_member place m = if is_at place (pause Dr) then update_member Dr m else if is_at place (pause Ir) then update_member Ir m else m
+settled_member place m = if is_at place (pause Dr) then update_member Dr m else if is_at place (pause Ir)
+    then update_member Ir m else m
 
 -- Asserting TRST resets a device with a TRST port without settling it; any other is settled, then reset.
 abbrev pub trst_member : (settled : Member → Member) → Member → Member
 trst_member settled m = reset_member (if m.device.has_trst then m else settled m)
 
 abbrev pub trst_asserted : AtRest → AtRest
-trst_asserted m = record m { place = Reset; trst = true; members = map (trst_member (settled_member m.place)) m.members }
+trst_asserted m = record m {
+  place = Reset;
+  trst = true;
+  members = map (trst_member (settled_member m.place)) m.members;
+}
 
 -- what the opening makes of a board at rest
 abbrev pub opened : AtRest → AtRest

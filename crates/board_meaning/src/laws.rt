@@ -1,6 +1,7 @@
 //! Laws over the definitions that the board's contracts cite: what they say of every chain, proved once.
 
-ghost use Rattle.board_meaning.specs.Laws.{BareBoardsAreSound, BytesKeepRegistersSound, DefaultPathsSettleAndArrive, FiveOnesRest, OpeningRests, OpeningSettles, SoundDescriptionsPowerUpSound};
+ghost use Rattle.board_meaning.specs.Laws.{BareBoardsAreSound, BytesKeepRegistersSound, DefaultPathsSettleAndArrive};
+ghost use Rattle.board_meaning.specs.Laws.{FiveOnesRest, OpeningRests, OpeningSettles, SoundDescriptionsPowerUpSound};
 
 /// Five cycles of TCK with TMS 1 and TRST released bring every board to rest in RESET in all devices, whatever bytes it
 /// took before (IEEE Std 1149.1-2001, 6.1.1).
@@ -24,8 +25,8 @@ pub fn default_paths_settle_and_arrive()
     ensures { DefaultPathsSettleAndArrive }
 {}
 
-/// Whatever bytes a board takes, each register that can stand between TDI and TDO keeps at least one bit, the edges of a
-/// scan that broke off in the middle and the assertion of TRST included (IEEE Std 1149.1-2001, clauses 7 to 12).
+/// Whatever bytes a board takes, each register that can stand between TDI and TDO keeps at least one bit, the edges of
+/// a scan that broke off in the middle and the assertion of TRST included (IEEE Std 1149.1-2001, clauses 7 to 12).
 pub fn bytes_keep_registers_sound()
     ensures { BytesKeepRegistersSound }
 {}

@@ -1,5 +1,5 @@
-//! What a board of boundary-scan devices means: its edges (IEEE Std 1149.1-2001, clauses 4 to 12), and the whole registers of
-//! a board at rest, with the laws that hold of every chain.
+//! What a board of boundary-scan devices means: its edges (IEEE Std 1149.1-2001, clauses 4 to 12), and the whole
+//! registers of a board at rest, with the laws that hold of every chain.
 #![tactic(auto)]
 
 mod laws;

@@ -1,5 +1,6 @@
 -- What stands in a table of the board file, as TOML data.
-use Rattle.std.specs.Prelude.{ℕ, Bool, true, false, ◌&&◌, List, [], ◌∷◌, ◌++◌, codes, if◌then◌else◌, bytes_eq, Option, Some, None, unwrap_or, option_and_then, is_some}
+use Rattle.std.specs.Prelude.{ℕ, Bool, true, false, ◌&&◌, List, [], ◌∷◌, ◌++◌, codes, if◌then◌else◌, bytes_eq, Option}
+use Rattle.std.specs.Prelude.{Some, None, unwrap_or, option_and_then, is_some}
 use Rattle.std.specs.List.{list_any}
 use Rattle.toml.specs.Data.{Data, string, table, Items, no_items, item, Members, get_member, as_str, as_array, as_table}
 

@@ -1,5 +1,6 @@
 -- The keys of the board file's tables, and the first one in byte order that is missing, unknown or does not fit.
-use Rattle.std.specs.Prelude.{ℕ, Bool, true, false, not, ◌&&◌, ◌||◌, ◌==◌, List, [], ◌∷◌, ◌++◌, length, filter, fold, map, codes, bytes_eq, Option, Some, None, is_some, if◌then◌else◌}
+use Rattle.std.specs.Prelude.{ℕ, Bool, true, false, not, ◌&&◌, ◌||◌, ◌==◌, List, [], ◌∷◌, ◌++◌, length, filter, fold}
+use Rattle.std.specs.Prelude.{map, codes, bytes_eq, Option, Some, None, is_some, if◌then◌else◌}
 use Rattle.std.specs.List.{list_any, list_all}
 use Rattle.std.specs.Ordering.{nat_cmp, is_lt}
 use Rattle.std.specs.Cmp.Lexicographic.{slice_cmp}
@@ -51,7 +52,11 @@ abbrev pub net_keys : List (List ℕ) → List Key
 net_keys names =
     record { name = codes "name"; is_needed = true; fits = is_new_name names }
     ∷ record { name = codes "pins"; is_needed = true; fits = is_array_of is_text }
-    ∷ record { name = codes "pull"; is_needed = false; fits = is_one_of (codes "up" ∷ codes "down" ∷ codes "none" ∷ []) }
+    ∷ record {
+      name = codes "pull";
+      is_needed = false;
+      fits = is_one_of (codes "up" ∷ codes "down" ∷ codes "none" ∷ []);
+    }
     ∷ []
 
 -- ---- which key is at fault

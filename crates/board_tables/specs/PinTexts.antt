@@ -1,5 +1,6 @@
 -- A pin as the board file writes it: `U1.Q`, or `U1.A(3)`.
-use Rattle.std.specs.Prelude.{◌≡◌, ◌↔◌, ℕ, Bool, true, ◌&&◌, ◌==◌, nat_lt, List, [], ◌∷◌, ◌++◌, length, Option, Some, None, option_map, option_and_then, if◌then◌else◌}
+use Rattle.std.specs.Prelude.{◌≡◌, ◌↔◌, ℕ, Bool, true, ◌&&◌, ◌==◌, nat_lt, List, [], ◌∷◌, ◌++◌, length, Option, Some}
+use Rattle.std.specs.Prelude.{None, option_map, option_and_then, if◌then◌else◌}
 use Rattle.std.specs.List.{list_all, position_or_len, before_first, after_first}
 use Rattle.std.specs.Char.{is_ascii_digit}
 use Rattle.board_tables.specs.Names.{is_name}
@@ -49,7 +50,8 @@ index_of text = option_and_then (λ p. if is_number p.0 && length p.1 == 0 then 
 
 abbrev pub indexed : List ℕ → List ℕ → List ℕ → Option PinText
 indexed device port text =
-    if is_name port then option_map (λ ds. record { device = device; port = port; index = Some ds }) (index_of text) else None
+    if is_name port then option_map (λ ds. record { device = device; port = port; index = Some ds }) (index_of text)
+    else None
 
 abbrev pub scalar : List ℕ → List ℕ → Option PinText
 scalar device port = if is_name port then Some (record { device = device; port = port; index = None }) else None

@@ -22,8 +22,8 @@ pub enum Unfit<'t> {
     Memory,
 }
 
-/// Judges the keys of the file, then those of each device, then those of each net. The numbers of the devices' cells are
-/// given as far as they are known.
+/// Judges the keys of the file, then those of each device, then those of each net. The numbers of the devices' cells
+/// are given as far as they are known.
 pub fn check_fields<'t>(
     alloc: Global,
     table: &'t Table,
@@ -76,8 +76,10 @@ fn check_device<'t>(
     cells: Option<usize>,
     table: &'t Table,
 ) -> Result<(), Unfit<'t>>
-    ensures judged { Checks result (keys.unfit_key (keys.device_keys (texts_of names.old) cells) (table_view table.now)) }
-    ensures named { OnOk result (texts_of names.new ≡ texts_of names.old ++ fields.name_at (table_view table.now) ∷ []) }
+    ensures judged { Checks result
+        (keys.unfit_key (keys.device_keys (texts_of names.old) cells) (table_view table.now)) }
+    ensures named { OnOk result
+        (texts_of names.new ≡ texts_of names.old ++ fields.name_at (table_view table.now) ∷ []) }
 {
     if let Some(key) = unfit_key(Keys::Device(names, cells), table) {
         return Err(Unfit::Field(key));
@@ -91,7 +93,8 @@ fn check_device<'t>(
 #[tactic(auto, using(crate::proofs::KeyLaws::new_net))]
 fn check_net<'t>(names: &mut Places<&'t str>, table: &'t Table) -> Result<(), Unfit<'t>>
     ensures judged { Checks result (keys.unfit_key (keys.net_keys (texts_of names.old)) (table_view table.now)) }
-    ensures named { OnOk result (texts_of names.new ≡ texts_of names.old ++ fields.name_at (table_view table.now) ∷ []) }
+    ensures named { OnOk result
+        (texts_of names.new ≡ texts_of names.old ++ fields.name_at (table_view table.now) ∷ []) }
 {
     if let Some(key) = unfit_key(Keys::Net(names), table) {
         return Err(Unfit::Field(key));

@@ -53,7 +53,8 @@ pub(crate) fn unfit_key<'t>(keys: Keys<'_, '_>, table: &'t Table) -> Option<&'t 
 }
 
 fn first_misfit<'t>(keys: Keys<'_, '_>, table: &'t Table) -> Option<&'t str>
-    ensures { option_map (λ k. k.now) result ≡ spec.earliest (spec.misfits (spec.fits_one (keys_of keys.entry)) (table_view table.now)) }
+    ensures { option_map (λ k. k.now) result
+        ≡ spec.earliest (spec.misfits (spec.fits_one (keys_of keys.entry)) (table_view table.now)) }
 {
     let mut first = None;
     for (key, value) in table.iter() {
@@ -69,7 +70,9 @@ fn first_missing<'t>(
     table: &'t Table,
     before: Option<&'t str>,
 ) -> Option<&'t str>
-    ensures { option_map (λ k. k.now) result ≡ fold spec.earlier (option_map (λ k. k.now) before.entry) (spec.missing (map (λ k. k.now) needed.now) (table_view table.now)) }
+    ensures { option_map (λ k. k.now) result
+        ≡ fold spec.earlier (option_map (λ k. k.now) before.entry)
+        (spec.missing (map (λ k. k.now) needed.now) (table_view table.now)) }
 {
     let mut first = before;
     for key in needed {

@@ -17,7 +17,9 @@ pub struct PinText<'a> {
 /// The pin that a text spells.
 #[tactic(auto, unfolding(crate::specs::PinTexts::pin_of))]
 pub fn pin_of(text: &str) -> Option<PinText<'_>>
-    ensures pin { option_map {U = spec.PinText} (λ p. record { device = p.device.now; port = p.port.now; index = option_map (λ d. d.now) p.index }) result ≡ spec.pin_of text.now }
+    ensures pin { option_map {U = spec.PinText}
+        (λ p. record { device = p.device.now; port = p.port.now; index = option_map (λ d. d.now) p.index }) result
+        ≡ spec.pin_of text.now }
     ensures digits { IfSome result (λ p. IfSome p.index (λ d. spec.is_number d.now ≡ true)) }
 {
     let (device, rest) = split_at_byte(text, '.')?;
@@ -30,7 +32,9 @@ pub fn pin_of(text: &str) -> Option<PinText<'_>>
 /// The pin of this device whose port the text spells.
 #[tactic(auto, unfolding(crate::specs::PinTexts::port_of))]
 fn port_of<'a>(device: &'a str, text: &'a str) -> Option<PinText<'a>>
-    ensures pin { option_map {U = spec.PinText} (λ p. record { device = p.device.now; port = p.port.now; index = option_map (λ d. d.now) p.index }) result ≡ spec.port_of device.now text.now }
+    ensures pin { option_map {U = spec.PinText}
+        (λ p. record { device = p.device.now; port = p.port.now; index = option_map (λ d. d.now) p.index }) result
+        ≡ spec.port_of device.now text.now }
     ensures digits { IfSome result (λ p. IfSome p.index (λ d. spec.is_number d.now ≡ true)) }
 {
     let (port, index) = match split_at_byte(text, '(') {

@@ -11,8 +11,8 @@ use std::marker::Model;
 
 /// Keys in the order in which they came. Contracts see it as that list.
 ///
-/// A tree has the first place of each key, so that a look-up takes as many comparisons as a sorted list needs: no choice of
-/// names makes it slow.
+/// A tree has the first place of each key, so that a look-up takes as many comparisons as a sorted list needs: no
+/// choice of names makes it slow.
 #[derive(Drop)]
 pub struct Places<K: Ord + Copy> {
     keys: Vec<K>,

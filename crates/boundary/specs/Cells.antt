@@ -1,12 +1,14 @@
 -- The boundary cells of a device on the board: what they capture, what a reset gives them, what the pins drive
 -- (IEEE Std 1149.1-2001, clauses 8 and 11, and Annex B for the cell table).
-use Rattle.std.specs.Prelude.{◌≡◌, ◌<◌, Bool, true, false, ◌&&◌, ℕ, suc, ◌==◌, List, [], ◌∷◌, length, replicate, slice_get, slice_index_or, Option, Some, None, unwrap_or, if◌then◌else◌}
+use Rattle.std.specs.Prelude.{◌≡◌, ◌<◌, Bool, true, false, ◌&&◌, ℕ, suc, ◌==◌, List, [], ◌∷◌, length, replicate}
+use Rattle.std.specs.Prelude.{slice_get, slice_index_or, Option, Some, None, unwrap_or, if◌then◌else◌}
 use Rattle.bsdl_device.specs.declared.Cell.{Cell}
 use Rattle.bsdl_device.specs.declared.Control3.{Control3}
 use Rattle.bsdl_device.specs.declared.Disabled.{Disabled}
 use Rattle.bsdl_device.specs.declared.Disabled.TheVariants.{Z, Keeper, Weak0, Weak1, Pull0, Pull1}
 use Rattle.bsdl_device.specs.declared.Function.{Function}
-use Rattle.bsdl_device.specs.declared.Function.TheVariants.{Input, Clock, ObserveOnly, Bidir, Output2, Output3, ControlR, Internal}
+use Rattle.bsdl_device.specs.declared.Function.TheVariants.{Input, Clock, ObserveOnly, Bidir, Output2, Output3}
+use Rattle.bsdl_device.specs.declared.Function.TheVariants.{ControlR, Internal}
 use Rattle.scan_registers.specs.declared.Mode.{Mode}
 use Rattle.scan_registers.specs.declared.Mode.TheVariants.{Extest, Clamp, HighZ}
 use Rattle.pin_nets.specs.declared.Drive.{Drive}
@@ -129,7 +131,8 @@ pub record AreDrivers (cells : List Cell) (table : List (Option ℕ)) : Type 0 w
 pub record Entered (old new : List (Option ℕ)) (k : ℕ) (c : Cell) : Type 0 where
   pub long : length new ≡ length old
   pub each : (p : ℕ) → p < length old
-      → slice_index_or new p None ≡ (if drives c.function && is_port p c.port then Some k else slice_index_or old p None)
+      → slice_index_or new p None
+      ≡ (if drives c.function && is_port p c.port then Some k else slice_index_or old p None)
 
 -- what a port bit drives whose driving cell is this one
 abbrev pub driven : List Bool → Option ℕ → List Cell → Drive

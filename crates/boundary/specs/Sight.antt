@@ -18,7 +18,8 @@ cell_by_sight sees from_update u c port _ = if from_update then u else c
 abbrev pub capture_by_sight : (ℕ → Bool) → Bool → (update core : List Bool) → ℕ → List Cell → List Bool
 capture_by_sight sees from_update update core k [] = []
 capture_by_sight sees from_update update core k (c ∷ cs) =
-    cell_by_sight sees from_update (bit update k) (bit core k) c.port c.function ∷ capture_by_sight sees from_update update core (suc k) cs
+    cell_by_sight sees from_update (bit update k) (bit core k) c.port c.function
+    ∷ capture_by_sight sees from_update update core (suc k) cs
 
 -- each cell with a port was told what its port sees
 abbrev pub Told : (ℕ → Bool) → List Cell → List Bool → Type 0
@@ -27,5 +28,7 @@ Told sees _ _ = Unit {0}
 
 -- the law: with every cell told, and all lists of the cells' number
 abbrev pub CapturesBySight : Type 0
-CapturesBySight = (sees : ℕ → Bool) (b : BoundaryValue) (mode : Mode) → length b.seen ≡ length b.cells → length b.update ≡ length b.cells → length b.core ≡ length b.cells
-    → Told sees b.cells b.seen → captured b mode ≡ capture_by_sight sees (takes_update b.extest_update mode) b.update b.core 0 b.cells
+CapturesBySight = (sees : ℕ → Bool) (b : BoundaryValue) (mode : Mode) → length b.seen ≡ length b.cells
+    → length b.update ≡ length b.cells → length b.core ≡ length b.cells
+    → Told sees b.cells b.seen
+    → captured b mode ≡ capture_by_sight sees (takes_update b.extest_update mode) b.update b.core 0 b.cells

@@ -125,7 +125,8 @@ impl Register for Boundary {
 
     ghost sees_update = { λ r cell bit. refl };
 
-    ghost sees_alone = { λ r cell bit mode i apart. seen_alone r.cells r.seen r.update r.core (cells.takes_update r.extest_update mode) cell bit i apart };
+    ghost sees_alone = { λ r cell bit mode i apart. seen_alone r.cells r.seen r.update r.core
+        (cells.takes_update r.extest_update mode) cell bit i apart };
 
     ghost sees_reset = { λ r cell bit. refl };
 
@@ -222,9 +223,9 @@ fn disabling_value(list: &[Cell], k: usize) -> bool
 }
 
 impl Boundary {
-    /// The boundary register of a device at power-up: every bit 0, but for the controlr cells of the update stage, which
-    /// have their disabling values. `core` has a bit for each cell; with `extest_update` a capture under EXTEST takes the
-    /// update stage in place of the core's bits.
+    /// The boundary register of a device at power-up: every bit 0, but for the controlr cells of the update stage,
+    /// which have their disabling values. `core` has a bit for each cell; with `extest_update` a capture under EXTEST
+    /// takes the update stage in place of the core's bits.
     pub fn new(
         alloc: Global,
         device: &SharedDevice,

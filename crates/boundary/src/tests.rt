@@ -1,5 +1,5 @@
-//! A register of five cells: output3 on port 0, its control, input on port 1, a controlr cell, and output2 on port 2 that
-//! the controlr cell disables by 1, with a pull to 1.
+//! A register of five cells: output3 on port 0, its control, input on port 1, a controlr cell, and output2 on port 2
+//! that the controlr cell disables by 1, with a pull to 1.
 use super::*;
 use bsdl_device::{Device, Parts, Ports};
 use std::process::Abort;

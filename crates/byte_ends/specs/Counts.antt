@@ -1,7 +1,9 @@
 -- What a counted reader or writer remembers of its calls, and what a list of calls of one writer hands it.
-use Rattle.std.specs.Prelude.{ℕ, zero, suc, Bool, true, false, List, [], ◌∷◌, Result, Ok, Err, if◌then◌else◌, ◌&&◌, ◌||◌, ◌==◌}
+use Rattle.std.specs.Prelude.{ℕ, zero, suc, Bool, true, false, List, [], ◌∷◌, Result, Ok, Err, if◌then◌else◌, ◌&&◌}
+use Rattle.std.specs.Prelude.{◌||◌, ◌==◌}
 
--- a reader, a writer or an end, the number of its calls that lost the connection, 0 or 1, and whether that call met the end of input
+-- a reader, a writer or an end, the number of its calls that lost the connection, 0 or 1, and whether that call met the
+-- end of input
 pub record CountedView (T : Type 0) : Type 0 where
   pub inner : T
   pub failures : ℕ

@@ -1,5 +1,6 @@
 -- Writing all of a piece, by as many calls as its writer wants.
-use Rattle.std.specs.Prelude.{◌≡◌, ◌↔◌, ℕ, suc, Bool, true, false, List, [], ◌++◌, drop, Option, Result, Ok, Err, IsOk, IsErr, OnOk}
+use Rattle.std.specs.Prelude.{◌≡◌, ◌↔◌, ℕ, suc, Bool, true, false, List, [], ◌++◌, drop, Option, Result, Ok, Err, IsOk}
+use Rattle.std.specs.Prelude.{IsErr, OnOk}
 use Rattle.std.specs.Io.KnownBytes.{Appends}
 use Rattle.byte_ends.specs.Counts.{CountedView, is_lost}
 
@@ -10,9 +11,10 @@ pub record AppendsFront (old new : Option (List ℕ)) (bytes : List ℕ) : Type 
   pub split : bytes ≡ sent ++ rest
   pub appends : Appends old new sent
 
--- A call that writes `bytes` to a counted writer: it answers Ok exactly where no call of the writer was lost, and Err exactly
--- where one was. On Ok all of the bytes went out; in any case a front part of them did, and nothing else.
-pub record WritesAll {W A E : Type 0} (contents : W → Option (List ℕ)) (old new : CountedView W) (bytes : List ℕ) (result : Result A E) : Type 0 where
+-- A call that writes `bytes` to a counted writer: it answers Ok exactly where no call of the writer was lost, and Err
+-- exactly where one was. On Ok all of the bytes went out; in any case a front part of them did, and nothing else.
+pub record WritesAll {W A E : Type 0} (contents : W → Option (List ℕ)) (old new : CountedView W) (bytes : List ℕ)
+    (result : Result A E) : Type 0 where
   pub ok : IsOk result ↔ (new.failures ≡ 0)
   pub broken : IsErr result ↔ (new.failures ≡ 1)
   pub whole : OnOk result (Appends (contents old.inner) (contents new.inner) bytes)
@@ -28,6 +30,7 @@ flagged false = Err tt
 -- call was lost; no call follows a lost one.
 pub data PutsAll {S E : Type 0} (puts : S → List ℕ → Result ℕ E → S → Type 0) : S → List ℕ → Bool → S → Type 0 where
   none_left : (s : S) → PutsAll puts s [] true s
-  call_lost : (s : S) (piece : List ℕ) (r : Result ℕ E) (t : S) → puts s piece r t → is_lost r piece ≡ true → PutsAll puts s piece false t
+  call_lost : (s : S) (piece : List ℕ) (r : Result ℕ E) (t : S) → puts s piece r t → is_lost r piece ≡ true
+      → PutsAll puts s piece false t
   some_put : (s : S) (piece : List ℕ) (n : ℕ) (t : S) (whole : Bool) (u : S) → puts s piece (Ok (suc n)) t
       → PutsAll puts t (drop (suc n) piece) whole u → PutsAll puts s piece whole u

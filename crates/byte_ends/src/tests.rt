@@ -214,7 +214,8 @@ fn plain_hands_on_what_std_reads_and_writes(rt: HostRuntime) -> Result<(), Fail>
     Ok(())
 }
 
-/// `Plain` promises nothing of a call's relation, so its calls are counted: each write and each flush is one of the writer within.
+/// `Plain` promises nothing of a call's relation, so its calls are counted: each write and each flush is one of the
+/// writer within.
 #[test]
 fn plain_makes_one_call_of_each(rt: HostRuntime) {
     let one = Call::Moves(1);

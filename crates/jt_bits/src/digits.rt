@@ -27,8 +27,9 @@ pub enum HexFault {
 }
 
 impl Bits {
-    /// The value of hexadecimal digits in `n` bits, as a field of the Serial Vector Format gives it: bit 0 is the lowest
-    /// bit of the last digit. White space is skipped, missing leading digits are 0, and no digits are the value 0.
+    /// The value of hexadecimal digits in `n` bits, as a field of the Serial Vector Format gives it: bit 0 is the
+    /// lowest bit of the last digit. White space is skipped, missing leading digits are 0, and no digits are the value
+    /// 0.
     ///
     /// Refused where a byte is no digit (the first of them is told), else where a 1 stands beyond the `n` bits.
     pub fn from_hex(alloc: Global, digits: &[u8], n: usize) -> Result<Bits, HexFault>
@@ -66,7 +67,8 @@ impl Bits {
     }
 }
 
-/// Whether hexadecimal text has a 1 beyond its `n` lowest binary digits. Takes no memory, so that any length can be asked.
+/// Whether hexadecimal text has a 1 beyond its `n` lowest binary digits. Takes no memory, so that any length can be
+/// asked.
 pub fn has_one_beyond(digits: &[u8], n: usize) -> bool
     ensures { result ≡ spec.has_one_beyond n digits.now }
 {

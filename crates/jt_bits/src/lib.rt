@@ -1,7 +1,8 @@
 //! Lists of bits: the registers and vectors of a scan chain.
 #![tactic(auto)]
 
-ghost use Rattle.std.specs.Prelude.{◌≡◌, ◌+◌, ◌*◌, ◌%◌, ◌<◌, ◌≤◌, ℕ, true, false, length, replicate, slice_get, slice_set, IfOk};
+ghost use Rattle.std.specs.Prelude.{◌≡◌, ◌+◌, ◌*◌, ◌%◌, ◌<◌, ◌≤◌, ℕ, true, false, length, replicate, slice_get};
+ghost use Rattle.std.specs.Prelude.{slice_set, IfOk};
 ghost use Rattle.jt_bits.specs.Lengths.{resized};
 ghost use Rattle.jt_bits.specs.Packed.{has_bit, packed_bit, listed, FewWords};
 ghost use Rattle.jt_bits.specs.Runs.{RunSet, copied};
@@ -155,8 +156,8 @@ impl Bits {
         }
     }
 
-    /// The bits from `at` on as a number, as many as 64 of them, bit `at` lowest. What stands above the last of the list
-    /// has no meaning.
+    /// The bits from `at` on as a number, as many as 64 of them, bit `at` lowest. What stands above the last of the
+    /// list has no meaning.
     fn run(&self, at: usize) -> u64
         requires { at < length self.now }
         ensures { (j : ℕ) → j < 64 → at + j < length self.now → has_bit result j ≡ bit_of self.now (at + j) }

@@ -1,6 +1,7 @@
 //! Words of 64 bits as a ring of bits, the lowest bit of the first word first.
 
-ghost use Rattle.std.specs.Prelude.{◌≡◌, ◌+◌, ◌*◌, ◌/◌, ◌%◌, ◌^◌, ◌<◌, ◌≤◌, ◌-◌, ◌==◌, ◌&&◌, nat_lt, ℕ, false, length, if◌then◌else◌};
+ghost use Rattle.std.specs.Prelude.{◌≡◌, ◌+◌, ◌*◌, ◌/◌, ◌%◌, ◌^◌, ◌<◌, ◌≤◌, ◌-◌, ◌==◌, ◌&&◌, nat_lt, ℕ, false, length};
+ghost use Rattle.std.specs.Prelude.{if◌then◌else◌};
 ghost use Rattle.jt_bits.specs.Packed.{has_bit, packed_bit, RunPut};
 
 /// How many words have room for `len` bits.
@@ -44,14 +45,17 @@ pub(crate) fn put(words: &mut [u64], place: usize, bit: bool)
     words[place / 64] = if bit { word | one } else { word & !one };
 }
 
-/// Shifts the `len` bits from `start` on: puts `bit` behind them, moves the start on by one, and answers the bit that left.
+/// Shifts the `len` bits from `start` on: puts `bit` behind them, moves the start on by one, and answers the bit that
+/// left.
 pub(crate) fn shift(words: &mut [u64], start: &mut usize, len: usize, bit: bool) -> bool
     requires room { 64 * length words.old ≤ 2 ^ 64 }
     requires start_in { start.old < 64 * length words.old }
     requires len_in { len ≤ 64 * length words.old }
     ensures out { result ≡ packed_bit words.old start.old }
     ensures start { start.new ≡ (start.old + 1) % (64 * length words.old) }
-    ensures one_bit { (q : ℕ) → packed_bit words.new q ≡ (if q == (start.old + len) % (64 * length words.old) then bit else packed_bit words.old q) }
+    ensures one_bit { (q : ℕ)
+        → packed_bit words.new q
+        ≡ (if q == (start.old + len) % (64 * length words.old) then bit else packed_bit words.old q) }
 {
     let out = read(words, *start);
     let end = place(words.len(), *start, len);
@@ -63,7 +67,8 @@ pub(crate) fn shift(words: &mut [u64], start: &mut usize, len: usize, bit: bool)
 /// Makes the bits of word `k` that the mask has those of `bits`.
 fn put_masked(words: &mut [u64], k: usize, bits: u64, mask: u64)
     requires { k < length words.old }
-    ensures { (q : ℕ) → packed_bit words.new q ≡ (if q / 64 == k && has_bit mask (q % 64) then has_bit bits (q % 64) else packed_bit words.old q) }
+    ensures { (q : ℕ) → packed_bit words.new q
+        ≡ (if q / 64 == k && has_bit mask (q % 64) then has_bit bits (q % 64) else packed_bit words.old q) }
 {
     words[k] = words[k] & !mask | bits & mask;
 }

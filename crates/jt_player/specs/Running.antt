@@ -1,5 +1,6 @@
 -- A run of the player over a text: what it tells, its exit status, and the board that it leaves.
-use Rattle.std.specs.Prelude.{◌≡◌, ◌↔◌, ◌⊎◌, Bool, true, false, ℕ, List, [], ◌++◌, codes, Option, Result, IsErr, IfOk, OnOk}
+use Rattle.std.specs.Prelude.{◌≡◌, ◌↔◌, ◌⊎◌, Bool, true, false, ℕ, List, [], ◌++◌, codes, Option, Result, IsErr, IfOk}
+use Rattle.std.specs.Prelude.{OnOk}
 use Rattle.std.specs.Io.KnownBytes.{Appends}
 use Rattle.byte_ends.specs.Counts.{CountedView}
 use Rattle.byte_ends.specs.Writes.{AppendsFront, WritesAll}
@@ -52,7 +53,8 @@ pub data IsRunOf (text : List ℕ) (bytes : Bool) (before : BoardState) : Run �
   refused : (fault : SvfFault) → Refuses text fault → IsRunOf text bytes before (refused_run fault before)
   no_memory : IsRunOf text bytes before (memory_run before)
 
--- A text was checked, and is accepted as a program: it is told of, and each instruction of the board that stands for BYPASS.
+-- A text was checked, and is accepted as a program: it is told of, and each instruction of the board that stands for
+-- BYPASS.
 abbrev pub accepted_run : Program → BoardState → Run
 accepted_run program before =
     record { out = accepted_line program ++ left_out_lines before; err = []; status = 0; board = before }
@@ -64,13 +66,16 @@ pub data IsCheckOf (text : List ℕ) (before : BoardState) : Run → Type 0 wher
   no_memory_check : IsCheckOf text before (memory_run before)
 
 -- A writer was told these bytes, and the answer is this status.
-pub record Tells {E : Type 0} (errors : E → Option (List ℕ)) (err err_after : CountedView E) (bytes : List ℕ) (status : ℕ) (result : Result ℕ Broken) : Type 0 where
+pub record Tells {E : Type 0} (errors : E → Option (List ℕ)) (err err_after : CountedView E) (bytes : List ℕ)
+    (status : ℕ) (result : Result ℕ Broken) : Type 0 where
   pub writes : WritesAll errors err err_after bytes result
   pub is_status : IfOk result (λ s. s ≡ status)
 
--- What became of a run, over two counted writers: on Ok each was told all that it is owed, with the run's status and board; on
--- Err, exactly where one of them was lost, each was told a front part of it, and the board is as it was or as the run leaves it.
-pub record Happens {W E : Type 0} (contents : W → Option (List ℕ)) (errors : E → Option (List ℕ)) (run : Run) (before after : BoardState)
+-- What became of a run, over two counted writers: on Ok each was told all that it is owed, with the run's status and
+-- board; on Err, exactly where one of them was lost, each was told a front part of it, and the board is as it was or as
+-- the run leaves it.
+pub record Happens {W E : Type 0} (contents : W → Option (List ℕ)) (errors : E → Option (List ℕ)) (run : Run)
+    (before after : BoardState)
     (out out_after : CountedView W) (err err_after : CountedView E) (result : Result ℕ Broken) : Type 0 where
   pub status : IfOk result (λ s. s ≡ run.status)
   pub broken : IsErr result ↔ (out_after.failures ≡ 1) ⊎ (err_after.failures ≡ 1)

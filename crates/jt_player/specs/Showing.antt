@@ -32,4 +32,5 @@ refusal_line f = texts (codes "svf " ∷ code_words f.code ∷ codes " statement
 -- the line of a text that is accepted as a program: how many statements it has, and how many steps they make
 abbrev pub accepted_line : Program → List ℕ
 accepted_line p =
-    texts (codes "accepted " ∷ decimal p.statements ∷ codes " statements " ∷ decimal (length p.steps) ∷ codes " steps\n" ∷ [])
+    texts (codes "accepted " ∷ decimal p.statements ∷ codes " statements " ∷ decimal (length p.steps)
+    ∷ codes " steps\n" ∷ [])

@@ -13,10 +13,11 @@ use jt_board::Board;
 use plays::Ending;
 use stream_player::Player;
 
-/// Plays a program on a board: each byte is taken by the board as soon as it is made, and each answer judged as it comes.
+/// Plays a program on a board: each byte is taken by the board as soon as it is made, and each answer judged as it
+/// comes.
 ///
-/// Whatever state the board is in, the ending is that of the program's meaning over whole registers, from the state after
-/// the opening, and the board is at rest in its last state. Takes no memory.
+/// Whatever state the board is in, the ending is that of the program's meaning over whole registers, from the state
+/// after the opening, and the board is at rest in its last state. Takes no memory.
 pub fn play_board(player: Player, board: &mut Board) -> Ending
     requires { player ≡ fresh Stops player.program }
     ensures ending { result ≡ (play player.program board.old).ending }
@@ -26,9 +27,9 @@ pub fn play_board(player: Player, board: &mut Board) -> Ending
     play_program(player.program(), board)
 }
 
-/// Plays a program on a board as `play_board` does, and writes the bytes that the player sends. The flag tells that all of
-/// them were written; it is false exactly where the writer's first loss came in this call, and the play goes on all the
-/// same.
+/// Plays a program on a board as `play_board` does, and writes the bytes that the player sends. The flag tells that all
+/// of them were written; it is false exactly where the writer's first loss came in this call, and the play goes on all
+/// the same.
 pub fn play_noted<W: Sink>(
     player: Player,
     board: &mut Board,

@@ -17,12 +17,12 @@ use std::alloc::Global;
 use svf_parse::{Code, SvfFault};
 use svf_settings::Program;
 
-/// Plays a text on a board and tells of it: to `out` a line of the bytes sent where `bytes` asks for it, the verdict and
-/// the board's report; to `err` the line of a refusal or of want of memory. Answers the exit status: 0 pass, 1 fail, 2 a
-/// refused text, 4 want of memory.
+/// Plays a text on a board and tells of it: to `out` a line of the bytes sent where `bytes` asks for it, the verdict
+/// and the board's report; to `err` the line of a refusal or of want of memory. Answers the exit status: 0 pass, 1
+/// fail, 2 a refused text, 4 want of memory.
 ///
-/// `Broken` comes exactly where the first failure of one of the two writers came in this call. Then each was told a front
-/// part of what it was owed, and the board is as it was or as the whole play leaves it.
+/// `Broken` comes exactly where the first failure of one of the two writers came in this call. Then each was told a
+/// front part of what it was owed, and the board is as it was or as the whole play leaves it.
 pub fn run_play<W: Sink, E: Sink>(
     alloc: Global,
     svf: &[u8],
@@ -47,12 +47,12 @@ pub fn run_play<W: Sink, E: Sink>(
     }
 }
 
-/// Checks a text and tells of it: to `out` a line of how many statements it has and how many steps they make, and one for
-/// each instruction of the board that stands for BYPASS; to `err` the line of a refusal or of want of memory. Nothing is
-/// played. Answers the exit status: 0 accepted, 2 a refused text, 4 want of memory.
+/// Checks a text and tells of it: to `out` a line of how many statements it has and how many steps they make, and one
+/// for each instruction of the board that stands for BYPASS; to `err` the line of a refusal or of want of memory.
+/// Nothing is played. Answers the exit status: 0 accepted, 2 a refused text, 4 want of memory.
 ///
-/// `Broken` comes exactly where the first failure of one of the two writers came in this call. Then each was told a front
-/// part of what it was owed.
+/// `Broken` comes exactly where the first failure of one of the two writers came in this call. Then each was told a
+/// front part of what it was owed.
 pub fn run_check<W: Sink, E: Sink>(
     alloc: Global,
     svf: &[u8],
@@ -78,7 +78,8 @@ fn tell_accepted<W: Sink>(
     out: &mut Counted<W>,
 ) -> Result<u8, Broken>
     requires { out.old.failures ≡ 0 }
-    ensures { Tells W.contents out.old out.new (accepted_line (program_of program.now) ++ left_out_lines board.now) 0 result }
+    ensures { Tells W.contents out.old out.new (accepted_line (program_of program.now) ++ left_out_lines board.now) 0
+        result }
 {
     write_check(program, board, out)?;
     Ok(0)
@@ -91,7 +92,8 @@ fn write_check<W: Sink>(
     out: &mut Counted<W>,
 ) -> Result<(), Broken>
     requires { out.old.failures ≡ 0 }
-    ensures { WritesAll W.contents out.old out.new (accepted_line (program_of program.now) ++ left_out_lines board.now) result }
+    ensures { WritesAll W.contents out.old out.new (accepted_line (program_of program.now) ++ left_out_lines board.now)
+        result }
 {
     write_accepted(program, out)?;
     write_left_out(board, out)
@@ -105,7 +107,8 @@ fn play_and_tell<W: Sink>(
     out: &mut Counted<W>,
 ) -> Result<u8, Broken>
     requires none_lost { out.old.failures ≡ 0 }
-    ensures writes { WritesAll W.contents out.old out.new (played_run bytes (program_of program.now) board.old).out result }
+    ensures writes { WritesAll W.contents out.old out.new (played_run bytes (program_of program.now) board.old).out
+        result }
     ensures status { IfOk result (λ status. status ≡ (played_run bytes (program_of program.now) board.old).status) }
     ensures left { OnOk result (board.new ≡ (play (program_of program.now) board.old).board) }
     ensures board { (board.new ≡ board.old) ⊎ (board.new ≡ (play (program_of program.now) board.old).board) }

@@ -71,7 +71,8 @@ fn runs_of_the_table(rt: HostRuntime) -> Result<(), Fail> {
         (
             b"SIR 4 TDI (F); HDR 1 TDI (0) TDO (1); SDR 1 TDI (1) TDO (1);",
             2,
-            b"bytes r26262626260042626040415151537260402604040R43R726040Q\nfail command 3 header bit 0\nU1 IDLE 11 BYPASS\nU2 IDLE 11 BYPASS\n",
+            b"bytes r26262626260042626040415151537260402604040R43R726040Q\nfail command 3 header bit 0\n\
+            U1 IDLE 11 BYPASS\nU2 IDLE 11 BYPASS\n",
             b"",
             1,
         ),

@@ -2,7 +2,8 @@
 #![tactic(auto)]
 
 ghost use Rattle.std.specs.Prelude.{◌≡◌, find, IfSome};
-ghost use Rattle.jt_tap.specs.Controller.{Arrow, ArrowsAreTheFunction, EnteredByOne, FiveOnesReset, entered_by, next, is_stable, work};
+ghost use Rattle.jt_tap.specs.Controller.{Arrow, ArrowsAreTheFunction, EnteredByOne, FiveOnesReset, entered_by, next};
+ghost use Rattle.jt_tap.specs.Controller.{is_stable, work};
 ghost use Rattle.jt_tap.specs.Words as spec;
 ghost use Rattle.jt_tap.specs.Words.{IsWordOf, reads, word};
 

@@ -74,7 +74,7 @@ fn play_command<'a>(alloc: Global) -> Result<Command<'a>, AllocError> {
 fn check_command<'a>(alloc: Global) -> Result<Command<'a>, AllocError> {
     Command::new(alloc, "check")
         .about(
-            "Tells whether a program is accepted, how many statements and steps it has, and which instructions stand for BYPASS",
+            "Tells whether a program is accepted, its statements and steps, and which instructions stand for BYPASS",
         )
         .arg(svf_arg(alloc))?
         .arg(board_arg(alloc))

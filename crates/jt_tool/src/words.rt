@@ -7,7 +7,8 @@ use std::{env, io};
 /// What the program calls itself, whatever it was called by.
 const NAME: &[u8] = b"jt_tool";
 
-/// An environment in which the program has its own name: the name and the folder that it was called by may hold any bytes.
+/// An environment in which the program has its own name: the name and the folder that it was called by may hold any
+/// bytes.
 #[derive(Drop)]
 struct OwnName<'a, R>(&'a R);
 
@@ -32,8 +33,8 @@ impl<'a, R: Env> Env for OwnName<'a, R> {
     }
 }
 
-/// The words of the command line, the program's name first. A word that is not UTF-8 is an error of kind `InvalidData`, want
-/// of memory one of kind `OutOfMemory`.
+/// The words of the command line, the program's name first. A word that is not UTF-8 is an error of kind `InvalidData`,
+/// want of memory one of kind `OutOfMemory`.
 pub(crate) fn command_words<R: Env>(rt: &R, alloc: Global) -> io::Result<Vec<String>> {
     let mut words = Vec::new(alloc);
     for word in env::args(&(OwnName(rt), alloc))? {

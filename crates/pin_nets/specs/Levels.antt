@@ -1,5 +1,6 @@
 -- Nets: a level by counting the drivers. This simulation's own model of the board's wiring.
-use Rattle.std.specs.Prelude.{◌≡◌, ◌≤◌, ◌^◌, Bool, true, false, ℕ, zero, suc, ◌+◌, List, [], ◌∷◌, map, slice_get, unwrap_or, count_by, if◌then◌else◌}
+use Rattle.std.specs.Prelude.{◌≡◌, ◌≤◌, ◌^◌, Bool, true, false, ℕ, zero, suc, ◌+◌, List, [], ◌∷◌, map, slice_get}
+use Rattle.std.specs.Prelude.{unwrap_or, count_by, if◌then◌else◌}
 use Rattle.pin_nets.specs.declared.Drive.{Drive}
 use Rattle.pin_nets.specs.declared.Drive.TheVariants.{Strong, Weak, Nothing}
 use Rattle.pin_nets.specs.declared.Counts.{Counts}

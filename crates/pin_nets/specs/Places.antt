@@ -1,5 +1,6 @@
 -- Which net a pin is on.
-use Rattle.std.specs.Prelude.{◌≡◌, ◌≢◌, ◌<◌, ◌≤◌, ◌^◌, ◌==◌, ℕ, Bool, List, [], ◌∷◌, ◌++◌, length, map, filter, slice_get, slice_index_or, Option, Some, None, is_none, position, count_by, if◌then◌else◌}
+use Rattle.std.specs.Prelude.{◌≡◌, ◌≢◌, ◌<◌, ◌≤◌, ◌^◌, ◌==◌, ℕ, Bool, List, [], ◌∷◌, ◌++◌, length, map, filter}
+use Rattle.std.specs.Prelude.{slice_get, slice_index_or, Option, Some, None, is_none, position, count_by, if◌then◌else◌}
 use Rattle.std.specs.List.{list_any, range_with_len}
 use Rattle.pin_nets.specs.declared.Pull.TheVariants.{Free}
 use Rattle.pin_nets.specs.Levels.{NetValue}
@@ -14,7 +15,8 @@ times p n = count_by (λ q. q == p) n.pins
 -- no net has a pin twice, and no two nets have one pin
 pub record IsOnce (nets : List NetValue) : Type 0 where
   pub alone : (p n : ℕ) (x : NetValue) → slice_get nets n ≡ Some x → times p x ≤ 1
-  pub apart : (p n m : ℕ) (x y : NetValue) → n ≢ m → slice_get nets n ≡ Some x → slice_get nets m ≡ Some y → 0 < times p x → times p y ≡ 0
+  pub apart : (p n m : ℕ) (x y : NetValue) → n ≢ m → slice_get nets n ≡ Some x → slice_get nets m ≡ Some y
+      → 0 < times p x → times p y ≡ 0
 
 -- each pin with the net that it is on, if there is one
 pub record Placed (net_of : List (Option ℕ)) (nets : List NetValue) : Type 0 where
@@ -42,7 +44,8 @@ pub record AllNone (net_of : List (Option ℕ)) : Type 0 where
 -- these pins, and no others, have come to this net
 pub record Joined (old new : List (Option ℕ)) (net : ℕ) (pins : List ℕ) : Type 0 where
   pub long : length new ≡ length old
-  pub each : (p : ℕ) → p < length old → slice_index_or new p None ≡ (if list_any (λ q. q == p) pins then Some net else slice_index_or old p None)
+  pub each : (p : ℕ) → p < length old
+      → slice_index_or new p None ≡ (if list_any (λ q. q == p) pins then Some net else slice_index_or old p None)
 
 -- the nets of the first n pins stand behind the others, each pin entered
 pub record Lone (old : List NetValue) (n : ℕ) (net_of : List (Option ℕ)) (new : List NetValue) : Type 0 where

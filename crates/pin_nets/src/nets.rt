@@ -81,7 +81,8 @@ impl Nets {
     /// What the ports on a net see: Contend reads 0, Float reads 1.
     pub fn seen(&self, net: usize) -> bool
         requires { net < length self.now.nets }
-        ensures { option_map (λ x. levels.reads (levels.level self.now.drives x)) (slice_get self.now.nets net) ≡ Some result }
+        ensures { option_map (λ x. levels.reads (levels.level self.now.drives x)) (slice_get self.now.nets net)
+            ≡ Some result }
     {
         reads(self.level(net))
     }
@@ -89,7 +90,8 @@ impl Nets {
     /// How many drivers a net has, its pull among them: to 0 and to 1, and weak ones to 0 and to 1.
     pub fn counts(&self, net: usize) -> &[usize; 4]
         requires { net < length self.now.nets }
-        ensures { option_map (λ x. four (net_counts self.now.drives x)) (slice_get self.now.nets net) ≡ Some result.now }
+        ensures { option_map (λ x. four (net_counts self.now.drives x)) (slice_get self.now.nets net)
+            ≡ Some result.now }
     {
         &self.counts[net]
     }

@@ -11,13 +11,13 @@ use Rattle.svf_settings.specs.Steps.{Program}
 use Rattle.plays.specs.Meaning.{outcome}
 use Rattle.plays.specs.Play.{play}
 
--- Where the opening of a play leaves a board: in RESET with TRST released, in the registers that its edges left. That the board
--- is at rest there is a law.
+-- Where the opening of a play leaves a board: in RESET with TRST released, in the registers that its edges left. That
+-- the board is at rest there is a law.
 abbrev pub opened_state : BoardState → AtRest
 opened_state b = record { place = Reset; trst = false; nets = b.nets; members = members (hear opening b).board.chips }
 
--- The opening leaves the board at rest, and from there the ending and the last state are those of the program's meaning over
--- whole registers, and the board is at rest in that state.
+-- The opening leaves the board at rest, and from there the ending and the last state are those of the program's meaning
+-- over whole registers, and the board is at rest in that state.
 abbrev pub MeansFromOpening : Program → (before : BoardState) → Ending → (after : BoardState) → Type 0
 MeansFromOpening program before ending after =
     let meant = outcome program.steps (opened_state before) in

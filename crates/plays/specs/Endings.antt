@@ -29,6 +29,8 @@ texts pieces = flat_map (λ p. p) pieces
 abbrev pub verdict_line : Ending → List ℕ
 verdict_line Pass = codes "pass\n"
 verdict_line (Fail command part bit) =
-    texts (codes "fail command " ∷ decimal command ∷ codes " " ∷ part_word part ∷ codes " bit " ∷ decimal bit ∷ codes "\n" ∷ [])
+    texts (codes "fail command " ∷ decimal command ∷ codes " " ∷ part_word part ∷ codes " bit " ∷ decimal bit
+    ∷ codes "\n" ∷ [])
 verdict_line (Lost command) = texts (codes "lost command " ∷ decimal command ∷ codes "\n" ∷ [])
-verdict_line (BadAnswer command byte) = texts (codes "bad answer " ∷ hex_byte byte ∷ codes " command " ∷ decimal command ∷ codes "\n" ∷ [])
+verdict_line (BadAnswer command byte) = texts
+    (codes "bad answer " ∷ hex_byte byte ∷ codes " command " ∷ decimal command ∷ codes "\n" ∷ [])

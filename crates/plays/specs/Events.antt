@@ -1,5 +1,6 @@
 -- Player and board with two bounded pipes between them, event by event.
-use Rattle.std.specs.Prelude.{Bool, true, false, not, ◌||◌, ℕ, zero, suc, ◌+◌, ◌-◌, min, nat_lt, List, [], ◌∷◌, ◌++◌, length, take, drop, Option, Some, None, if◌then◌else◌}
+use Rattle.std.specs.Prelude.{Bool, true, false, not, ◌||◌, ℕ, zero, suc, ◌+◌, ◌-◌, min, nat_lt, List, [], ◌∷◌, ◌++◌}
+use Rattle.std.specs.Prelude.{length, take, drop, Option, Some, None, if◌then◌else◌}
 use Rattle.bitbang_table.specs.declared.Message.{Message}
 use Rattle.bitbang_table.specs.declared.Message.TheVariants.{Ask, Quit}
 use Rattle.bitbang_table.specs.Protocol.{decode}
@@ -8,8 +9,9 @@ use Rattle.plays.specs.declared.ending.Ending.{Ending}
 use Rattle.plays.specs.declared.ending.Ending.TheVariants.{Lost}
 use Rattle.plays.specs.Play.{Turn, verdict, in_work}
 
--- Put: the player puts some next bytes into the down pipe. Serve: the board takes some of them, and puts their answers into
--- the up pipe. Take: the player takes some answers. Lose: the connection is lost. A number is the most that is moved.
+-- Put: the player puts some next bytes into the down pipe. Serve: the board takes some of them, and puts their answers
+-- into the up pipe. Take: the player takes some answers. Lose: the connection is lost. A number is the most that is
+-- moved.
 pub data Event : Type 0 where
   Put : ℕ → Event
   Serve : ℕ → Event
@@ -27,7 +29,8 @@ abbrev pub hear_all : {P : Type 0} → Side P → List Bool → P → P
 hear_all side [] p = p
 hear_all side (bit ∷ bits) p = hear_all side bits (side.hear bit p)
 
--- The down pipe holds bytes for the board, the up pipe answers for the player. The board took `Q`, or the play was lost.
+-- The down pipe holds bytes for the board, the up pipe answers for the player. The board took `Q`, or the play was
+-- lost.
 pub record World (P : Type 0) : Type 0 where
   pub player : P
   pub down : List ℕ
@@ -122,4 +125,5 @@ fresh b = empty_pipes (record { given = 0; got = [] }) b
 -- How it ended: by the board's Quit with the player's verdict, or lost at the command in work.
 abbrev pub ended : (statements : ℕ) → List Turn → World Known → Option Ending
 ended n ts w =
-    if w.lost then Some (Lost (in_work n ts w.player.given w.player.got)) else if w.quit then Some (verdict ts w.player.got) else None
+    if w.lost then Some (Lost (in_work n ts w.player.given w.player.got)) else if w.quit
+    then Some (verdict ts w.player.got) else None

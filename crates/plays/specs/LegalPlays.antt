@@ -1,4 +1,5 @@
--- The laws of direct play: what the bytes of a legal step and of a legal program do, edge by edge, is what whole registers say.
+-- The laws of direct play: what the bytes of a legal step and of a legal program do, edge by edge, is what whole
+-- registers say.
 use Rattle.std.specs.Prelude.{◌≡◌, ◌↔◌, Bool, true, false, ℕ, ◌<◌, List, length}
 use Rattle.std.specs.List.{AllByRecursion}
 use Rattle.jt_tap.specs.declared.State.TheVariants.{Reset}
@@ -44,17 +45,19 @@ pub record IsOpened (b : BoardState) (m : AtRest) : Type 0 where
   pub released : m.trst ≡ false
   pub sound : AllSound m.members
 
--- The ending of the full play is that of the steps' meaning, and the board is at rest where this meaning leaves it. There
--- the player's bytes leave it too, sent for the play's answers with any window of owed ones.
+-- The ending of the full play is that of the steps' meaning, and the board is at rest where this meaning leaves it.
+-- There the player's bytes leave it too, sent for the play's answers with any window of owed ones.
 pub record PlaysAsItMeans (steps : List Numbered) (b : BoardState) (m : AtRest) : Type 0 where
   pub ending : (full_play (turns steps) b).ending ≡ (outcome steps m).ending
   pub board : IsAtRest (full_play (turns steps) b).board (outcome steps m).after
-  pub bytes : (window : ℕ) → IsAtRest (after_all (player window (turns steps) (full_play (turns steps) b).answers) b) (outcome steps m).after
+  pub bytes : (window : ℕ)
+      → IsAtRest (after_all (player window (turns steps) (full_play (turns steps) b).answers) b) (outcome steps m).after
 
 -- From the state after the opening every legal program plays as it means, on every sound board that has a device.
 abbrev pub EveryLegalProgramPlaysAsItMeans : Type 0
 EveryLegalProgramPlaysAsItMeans = (b : BoardState) → IsSoundBoard b → HasDevice b
-    → IsOpened b (opened_state b) × ((steps : List Numbered) → AllLegal steps (opened_state b) → PlaysAsItMeans steps b (opened_state b))
+    → IsOpened b (opened_state b)
+    × ((steps : List Numbered) → AllLegal steps (opened_state b) → PlaysAsItMeans steps b (opened_state b))
 
 -- Which programs are legal is a matter of the program alone, of the place and of the TRST line where it begins.
 abbrev pub LegalityIsOfTheProgram : Type 0
@@ -69,15 +72,18 @@ TheStateAtRestIsOne = (b : BoardState) (m n : AtRest) → HasDevice b → IsAtRe
 abbrev pub met_again : List Net → List Member → List ℕ → BoardState
 met_again nets ms bytes = after_all bytes (resting (power_up nets ms))
 
--- On every board of at least one device, all of sound descriptions, after any bytes, every legal program plays as it means.
+-- On every board of at least one device, all of sound descriptions, after any bytes, every legal program plays as it
+-- means.
 abbrev pub EveryDescribedBoardPlaysLegalPrograms : Type 0
 EveryDescribedBoardPlaysLegalPrograms = (nets : List Net) (ms : List Member) (bytes : List ℕ)
     → AllByRecursion (λ d. IsPoweredUp d) ms → 0 < length ms
     → let b = met_again nets ms bytes in
-    IsOpened b (opened_state b) × ((steps : List Numbered) → IsLegalProgram steps → PlaysAsItMeans steps b (opened_state b))
+    IsOpened b (opened_state b)
+    × ((steps : List Numbered) → IsLegalProgram steps → PlaysAsItMeans steps b (opened_state b))
 
--- The clause that the contracts of direct play have holds for every legal program and sound board, with the play's ending
--- and board.
+-- The clause that the contracts of direct play have holds for every legal program and sound board, with the play's
+-- ending and board.
 abbrev pub EveryLegalProgramMeansFromOpening : Type 0
-EveryLegalProgramMeansFromOpening = (program : Program) (b : BoardState) → IsSoundBoard b → HasDevice b → IsLegalProgram program.steps
+EveryLegalProgramMeansFromOpening = (program : Program) (b : BoardState) → IsSoundBoard b → HasDevice b
+    → IsLegalProgram program.steps
     → MeansFromOpening program b (play program b).ending (play program b).board

@@ -1,5 +1,5 @@
--- One program of every kind of step, and one device with every kind of register: the premises of the laws can be met. And
--- two plays where one of them fails: the laws need them.
+-- One program of every kind of step, and one device with every kind of register: the premises of the laws can be met.
+-- And two plays where one of them fails: the laws need them.
 use Rattle.std.specs.Prelude.{◌≡◌, true, false, List, [], ◌∷◌, map, replicate, Some, None, codes}
 use Rattle.std.specs.List.{AllByRecursion}
 use Rattle.jt_tap.specs.declared.Column.TheVariants.{Dr, Ir}
@@ -67,8 +67,8 @@ board_of ms = resting (power_up [] ms)
 abbrev pub opened_of : List Member → AtRest
 opened_of ms = opened (power_up [] ms)
 
--- Without a device, or with a capture of no bit, a scan reads 1, where whole registers of no bit give back the 0 that went
--- in. And under TRST the held device stays in RESET, where a move to IDLE means IDLE.
+-- Without a device, or with a capture of no bit, a scan reads 1, where whole registers of no bit give back the 0 that
+-- went in. And under TRST the held device stays in RESET, where a move to IDLE means IDLE.
 abbrev pub lone_scan : List Numbered
 lone_scan = step (Scan Ir (zero_bit ∷ []) Idle) ∷ []
 

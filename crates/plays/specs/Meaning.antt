@@ -1,4 +1,5 @@
--- What the steps of a program do to whole registers, and a program: a fold of its steps (Serial Vector Format, revision E).
+-- What the steps of a program do to whole registers, and a program: a fold of its steps (Serial Vector Format, revision
+-- E).
 use Rattle.std.specs.Prelude.{true, false, List, [], ◌∷◌, map, Option, Some, None, ℕ, if◌then◌else◌}
 use Rattle.jt_tap.specs.declared.Column.{Column}
 use Rattle.jt_tap.specs.declared.State.{State}

@@ -15,15 +15,17 @@ abbrev pub PlayerGrows : Type 0
 PlayerGrows = (window : ℕ) (steps : List Numbered) (got more : List Bool)
     → (rest : List ℕ) × (player window (turns steps) (got ++ more) ≡ player window (turns steps) got ++ rest)
 
--- For the full play's answers the player sends the full play's messages, whatever may be owed; and the board answers these
--- messages by these answers, and ends where the full play ends.
+-- For the full play's answers the player sends the full play's messages, whatever may be owed; and the board answers
+-- these messages by these answers, and ends where the full play ends.
 abbrev pub FullPlayIsBothEnds : Type 0
 FullPlayIsBothEnds = (window : ℕ) (steps : List Numbered) (b : BoardState) → let p = full_play (turns steps) b in
-    (sent window (turns steps) p.answers ≡ p.messages) × (hear p.messages b ≡ record { answers = p.answers; board = p.board })
+    (sent window (turns steps) p.answers ≡ p.messages)
+    × (hear p.messages b ≡ record { answers = p.answers; board = p.board })
 
 -- The answers that the bytes of a step ask for are as many as the bits that it wants.
 abbrev pub StepsAskForTheirBits : Type 0
-StepsAskForTheirBits = (place : State) (step : Step) (b : BoardState) → length (hear (step_messages place step) b).answers ≡ length (wants_of step)
+StepsAskForTheirBits = (place : State) (step : Step) (b : BoardState)
+    → length (hear (step_messages place step) b).answers ≡ length (wants_of step)
 
 -- The empty program leaves every board at rest in RESET, where nothing is left to reset, and passes.
 abbrev pub EmptyProgramRests : Type 0

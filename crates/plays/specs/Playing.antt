@@ -1,5 +1,6 @@
 -- The player between two calls: what it gave out and what it got determine what it may send, what is owed, and its end.
-use Rattle.std.specs.Prelude.{Bool, ◌||◌, ℕ, ◌-◌, ◌==◌, List, [], ◌∷◌, map, length, take, drop, count_by, Option, None, if◌then◌else◌}
+use Rattle.std.specs.Prelude.{Bool, ◌||◌, ℕ, ◌-◌, ◌==◌, List, [], ◌∷◌, map, length, take, drop, count_by, Option, None}
+use Rattle.std.specs.Prelude.{if◌then◌else◌}
 use Rattle.std.specs.List.{list_any}
 use Rattle.plays.specs.declared.ending.Ending.{Ending}
 use Rattle.svf_settings.specs.Steps.{Program}

@@ -1,5 +1,6 @@
 -- The player that keeps no answers: it judges each as it comes, and keeps how many they were and what differed.
-use Rattle.std.specs.Prelude.{Bool, true, false, ◌&&◌, ◌||◌, ℕ, suc, ◌+◌, ◌-◌, ◌==◌, min, nat_le, nat_lt, List, [], ◌∷◌, ◌++◌, map, length, take, drop, count_by, is_some, Option, Some, None, if◌then◌else◌}
+use Rattle.std.specs.Prelude.{Bool, true, false, ◌&&◌, ◌||◌, ℕ, suc, ◌+◌, ◌-◌, ◌==◌, min, nat_le, nat_lt, List, [], ◌∷◌}
+use Rattle.std.specs.Prelude.{◌++◌, map, length, take, drop, count_by, is_some, Option, Some, None, if◌then◌else◌}
 use Rattle.std.specs.List.{list_any}
 use Rattle.bitbang_table.specs.declared.Message.{Message}
 use Rattle.bitbang_table.specs.declared.Message.TheVariants.{Quit}
@@ -13,7 +14,8 @@ use Rattle.plays.specs.Playing.{up_to_bad}
 use Rattle.svf_settings.specs.Steps.{Program}
 use Rattle.plays.specs.PlayingOn.{Kind, Stops, PlaysOn, Mismatch, ending_of}
 
--- Of the bits that differed, the first ones, and how many they were; a player that stops counts no further than to the first.
+-- Of the bits that differed, the first ones, and how many they were; a player that stops counts no further than to the
+-- first.
 pub record Found : Type 0 where
   pub list : List Mismatch
   pub total : ℕ
@@ -33,8 +35,8 @@ found_of kind all = record { list = take (kept kind) all; total = counted kind (
 abbrev pub noted : Kind → List Mismatch → Found → Found
 noted kind more f = record { list = take (kept kind) (f.list ++ more); total = counted kind (f.total + length more) }
 
--- the program, how many bytes were given out, how many answers `0` and `1` were taken, what differed, and the other byte, if
--- one came
+-- the program, how many bytes were given out, how many answers `0` and `1` were taken, what differed, and the other
+-- byte, if one came
 pub record StreamState : Type 0 where
   pub program : Program
   pub kind : Kind
@@ -44,7 +46,14 @@ pub record StreamState : Type 0 where
   pub bad : Option ℕ
 
 abbrev pub fresh : Kind → Program → StreamState
-fresh kind program = record { program = program; kind = kind; given = 0; answered = 0; found = record { list = []; total = 0 }; bad = None }
+fresh kind program = record {
+  program = program;
+  kind = kind;
+  given = 0;
+  answered = 0;
+  found = record { list = []; total = 0 };
+  bad = None;
+}
 
 abbrev pub turns_of : StreamState → List Turn
 turns_of s = turns s.program.steps
@@ -62,7 +71,8 @@ wanted (t ∷ ts) = map (λ v. record { command = t.command; bit = v }) t.wants 
 -- what the next answer adds to that
 abbrev pub judged : List Wanted → Bool → List Mismatch
 judged [] b = []
-judged (w ∷ ws) b = if differs w.bit.wanted b then record { command = w.command; part = w.bit.part; place = w.bit.place } ∷ [] else []
+judged (w ∷ ws) b = if differs w.bit.wanted b
+    then record { command = w.command; part = w.bit.part; place = w.bit.place } ∷ [] else []
 
 -- the command that an answer belongs to, by its place among all answers
 abbrev pub command_at : List Turn → ℕ → ℕ
@@ -96,8 +106,8 @@ stops_for PlaysOn found = false
 abbrev pub stops : StreamState → Bool
 stops s = stops_for s.kind s.found.list
 
--- What may be sent, when so many answers were taken: turns of which all answers are there, then the present one up to the
--- window. A player that stops does so after the turn of the last answer.
+-- What may be sent, when so many answers were taken: turns of which all answers are there, then the present one up to
+-- the window. A player that stops does so after the turn of the last answer.
 abbrev pub sends : (window : ℕ) → List Turn → (answered : ℕ) → (stops : Bool) → List Message
 sends window [] n stops = Quit ∷ []
 sends window (t ∷ ts) n stops =
@@ -111,7 +121,8 @@ works statements [] given n stops = suc statements
 works statements (t ∷ ts) given n stops =
     let wants = length t.wants in
     if nat_lt given (length t.messages) || nat_lt n wants then t.command else
-    if stops && nat_le n wants then suc statements else works statements ts (given - length t.messages) (n - wants) stops
+    if stops && nat_le n wants then suc statements
+    else works statements ts (given - length t.messages) (n - wants) stops
 
 abbrev pub working : StreamState → ℕ
 working s = works s.program.statements (turns_of s) s.given s.answered (stops s)

@@ -1,6 +1,8 @@
 //! Direct play of every legal program on every chain of sound devices: laws over the definitions that the contracts of
 //! the board and of the player cite.
-ghost use Rattle.plays.specs.LegalPlays.{EachLegalStepPlaysAsItMeans, EveryDescribedBoardPlaysLegalPrograms, EveryLegalProgramMeansFromOpening, EveryLegalProgramPlaysAsItMeans, LegalityIsOfTheProgram, TheStateAtRestIsOne};
+ghost use Rattle.plays.specs.LegalPlays.{EachLegalStepPlaysAsItMeans, EveryDescribedBoardPlaysLegalPrograms};
+ghost use Rattle.plays.specs.LegalPlays.{EveryLegalProgramMeansFromOpening, EveryLegalProgramPlaysAsItMeans};
+ghost use Rattle.plays.specs.LegalPlays.{LegalityIsOfTheProgram, TheStateAtRestIsOne};
 ghost use Rattle.plays.specs.LegalSamples.{PremisesAreNeeded, PremisesCanBeMet};
 
 /// From rest, the bytes of a legal step leave a chain of sound devices at rest where whole registers say, in registers
@@ -22,8 +24,8 @@ pub fn every_legal_program_means_from_the_opening()
     ensures { EveryLegalProgramMeansFromOpening }
 {}
 
-/// Whether a program is legal is read off its steps: off the place where each begins and whether TRST is asserted there.
-/// No register and no pin has a say in it.
+/// Whether a program is legal is read off its steps: off the place where each begins and whether TRST is asserted
+/// there. No register and no pin has a say in it.
 pub fn legality_is_of_the_program_alone()
     ensures { LegalityIsOfTheProgram }
 {}
@@ -33,9 +35,9 @@ pub fn the_state_at_rest_is_one()
     ensures { TheStateAtRestIsOne }
 {}
 
-/// The law of direct play for boards as they are described. A board of at least one device, all of sound descriptions, as
-/// it powers up or after any bytes, mid-scan too, plays every legal program as it means: the same ending, and at rest in
-/// the registers that the meaning gives.
+/// The law of direct play for boards as they are described. A board of at least one device, all of sound descriptions,
+/// as it powers up or after any bytes, mid-scan too, plays every legal program as it means: the same ending, and at
+/// rest in the registers that the meaning gives.
 pub fn every_described_board_plays_legal_programs()
     ensures { EveryDescribedBoardPlaysLegalPrograms }
 {}

@@ -1,5 +1,5 @@
-//! Plays: what a program means over a board's whole registers, what the player sends for the answers that it gets, the full
-//! play of both ends, and the laws that join them. Definitions and laws; the code that plays stands above.
+//! Plays: what a program means over a board's whole registers, what the player sends for the answers that it gets, the
+//! full play of both ends, and the laws that join them. Definitions and laws; the code that plays stands above.
 #![tactic(auto)]
 
 mod ending;

@@ -42,7 +42,8 @@ one_chip stage update c = record {
 }
 
 -- what its boundary register knows
-abbrev pub around : {B : Type 0} → (captured : B → Mode → List Bool) → (at_reset : B → List Bool) → ChipValue B → Surroundings
+abbrev pub around : {B : Type 0} → (captured : B → Mode → List Bool) → (at_reset : B → List Bool) → ChipValue B
+    → Surroundings
 around captured at_reset c = record { captures = captured c.boundary; at_reset = at_reset c.boundary }
 
 abbrev pub registers : {B : Type 0} → (stage update : B → List Bool) → ChipValue B → Registers
@@ -74,6 +75,8 @@ powered d boundary = record {
 }
 
 -- the second chip is the first with these bits in the column's register
-pub record IsPut {B : Type 0} (stage update : B → List Bool) (with_parts : B → List Bool → List Bool → B) (column : Column) (bits : List Bool) (old new : ChipValue B) : Type 0 where
-  pub chip : one_chip stage update new ≡ with_registers (put old.device column bits (registers stage update old)) (one_chip stage update old)
+pub record IsPut {B : Type 0} (stage update : B → List Bool) (with_parts : B → List Bool → List Bool → B)
+    (column : Column) (bits : List Bool) (old new : ChipValue B) : Type 0 where
+  pub chip : one_chip stage update new
+      ≡ with_registers (put old.device column bits (registers stage update old)) (one_chip stage update old)
   pub boundary : new.boundary ≡ with_parts old.boundary (stage new.boundary) (update new.boundary)

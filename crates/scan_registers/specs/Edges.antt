@@ -1,5 +1,5 @@
--- One device, edge by edge (IEEE Std 1149.1-2001, clauses 4 and 6). A rising edge captures or shifts and moves; a falling
--- edge updates, resets and sets TDO.
+-- One device, edge by edge (IEEE Std 1149.1-2001, clauses 4 and 6). A rising edge captures or shifts and moves; a
+-- falling edge updates, resets and sets TDO.
 use Rattle.std.specs.Prelude.{Bool, ◌&&◌, List, [], ◌∷◌, ◌++◌, drop, slice_get, Option, None, if◌then◌else◌}
 use Rattle.jt_tap.specs.declared.State.{State}
 use Rattle.jt_tap.specs.declared.State.TheVariants.{Reset}
@@ -45,7 +45,10 @@ is_held c = c.trst && c.device.has_trst
 -- One rising edge, given TDI and what the boundary knows.
 abbrev pub rise : (tms tdi : Bool) → Surroundings → OneChip → OneChip
 rise tms tdi around c =
-    if is_held c then c else record c { registers = risen (work c.state) c.device around tdi c.registers; state = next c.state tms }
+    if is_held c then c else record c {
+      registers = risen (work c.state) c.device around tdi c.registers;
+      state = next c.state tms;
+    }
 
 -- One falling edge: the update or reset of the state, then TDO.
 abbrev pub fall : Surroundings → OneChip → OneChip

@@ -1,5 +1,6 @@
 -- What of a description a chip rests on: every list that a register takes has that register's length.
-use Rattle.std.specs.Prelude.{◌≡◌, ◌<◌, ◌||◌, true, ℕ, Bool, List, [], ◌∷◌, length, Option, Some, None, is_some, slice_get, option_and_then}
+use Rattle.std.specs.Prelude.{◌≡◌, ◌<◌, ◌||◌, true, ℕ, Bool, List, [], ◌∷◌, length, Option, Some, None, is_some}
+use Rattle.std.specs.Prelude.{slice_get, option_and_then}
 use Rattle.bsdl_device.specs.Device.{Access, Device}
 use Rattle.bsdl_device.specs.declared.Place.TheVariants.{AtUser}
 use Rattle.scan_registers.specs.declared.Selected.{Selected}
@@ -32,14 +33,17 @@ abbrev pub FitsAt : Device → Selected → Option (List Bool) → Type 0
 FitsAt d Bypass fixed = Unit {0}
 FitsAt d Boundary fixed = Unit {0}
 FitsAt d Identification fixed = (code : List Bool) × (fixed ≡ Some code) × (length code ≡ 32) × (has_code d ≡ true)
-FitsAt d (User k) fixed = (n : ℕ) × (slice_get d.users k ≡ Some n) × (0 < n) × ((bits : List Bool) → fixed ≡ Some bits → length bits ≡ n)
+FitsAt d (User k) fixed = (n : ℕ) × (slice_get d.users k ≡ Some n) × (0 < n)
+    × ((bits : List Bool) → fixed ≡ Some bits → length bits ≡ n)
 
 pub record Fits (d : Device) (m : Decoded) : Type 0 where
   pub it : FitsAt d m.selected (fixed_of d m.fixed)
 
 -- an access to a user register names one that is there, and captures as many bits
 abbrev pub AccessFits : Device → Access → Type 0
-AccessFits d a = (u : ℕ) → a.place ≡ AtUser u → (n : ℕ) × (slice_get d.users u ≡ Some n) × (0 < n) × ((bits : List Bool) → a.captures ≡ Some bits → length bits ≡ n)
+AccessFits d a = (u : ℕ) → a.place ≡ AtUser u
+    → (n : ℕ) × (slice_get d.users u ≡ Some n) × (0 < n)
+    × ((bits : List Bool) → a.captures ≡ Some bits → length bits ≡ n)
 
 -- every access does
 abbrev pub AllFit : Device → Type 0

@@ -1,5 +1,6 @@
 -- What the instruction in a device's latch names, selects and drives (IEEE Std 1149.1-2001, clauses 7 and 8).
-use Rattle.std.specs.Prelude.{Bool, true, false, not, ◌&&◌, List, [], ◌∷◌, ◌++◌, map, replicate, Option, Some, None, unwrap_or, codes, bytes_eq, slice_get, option_and_then, if◌then◌else◌}
+use Rattle.std.specs.Prelude.{Bool, true, false, not, ◌&&◌, List, [], ◌∷◌, ◌++◌, map, replicate, Option, Some, None}
+use Rattle.std.specs.Prelude.{unwrap_or, codes, bytes_eq, slice_get, option_and_then, if◌then◌else◌}
 use Rattle.std.specs.List.{list_any, list_all, find}
 use Rattle.bsdl_device.specs.Device.{Name, Pattern, Opcode, Access, Device}
 use Rattle.bsdl_device.specs.declared.Place.{Place}
@@ -32,7 +33,8 @@ name_of None = None
 
 -- All ones is BYPASS; else the first row with a matching opcode names the instruction.
 abbrev pub instruction : Device → List Bool → Option Name
-instruction d latch = if list_all (λ b. b) latch then Some (codes "BYPASS") else name_of (find (names_it latch) d.opcodes)
+instruction d latch = if list_all (λ b. b) latch then Some (codes "BYPASS")
+    else name_of (find (names_it latch) d.opcodes)
 
 abbrev pub selects : Mode → Selected → Meaning
 selects mode selected = record { mode = mode; selected = selected; fixed = None }

@@ -1,5 +1,5 @@
--- The registers of one device, and what capture, update and reset do to them (IEEE Std 1149.1-2001, clauses 7, 9, 10, 11
--- and 12). A register is a list, bit 0 nearest TDO.
+-- The registers of one device, and what capture, update and reset do to them (IEEE Std 1149.1-2001, clauses 7, 9, 10,
+-- 11 and 12). A register is a list, bit 0 nearest TDO.
 use Rattle.std.specs.Prelude.{Bool, false, ℕ, zero, suc, List, [], ◌∷◌, Option, unwrap_or}
 use Rattle.jt_tap.specs.declared.Column.{Column}
 use Rattle.jt_tap.specs.declared.Column.TheVariants.{Dr, Ir}

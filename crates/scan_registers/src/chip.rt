@@ -1,6 +1,7 @@
 //! One device, edge by edge.
 
-ghost use Rattle.std.specs.Prelude.{◌≡◌, ◌+◌, ◌<◌, ◌≤◌, ℕ, [], ◌∷◌, true, Bool, List, None, Some, length, option_map, slice_get, unwrap_or, if◌then◌else◌, IfOk};
+ghost use Rattle.std.specs.Prelude.{◌≡◌, ◌+◌, ◌<◌, ◌≤◌, ℕ, [], ◌∷◌, true, Bool, List, None, Some, length, option_map};
+ghost use Rattle.std.specs.Prelude.{slice_get, unwrap_or, if◌then◌else◌, IfOk};
 ghost use Rattle.jt_bits.specs.Packed.{has_bit};
 ghost use Rattle.jt_bits.specs.Runs.{RunSet};
 ghost use Rattle.jt_bits.specs.Words.{bit_of};
@@ -114,8 +115,10 @@ impl<B: Register> Chip<B> {
 
     /// A rising edge of TCK: the state's capture or shift, and then the move to the next state.
     pub fn rise(&mut self, tms: bool, tdi: bool)
-        ensures chip { one_chip B.stage B.update_part self.new ≡ rise tms tdi (around B.captured B.at_reset self.old) (one_chip B.stage B.update_part self.old) }
-        ensures boundary { self.new.boundary ≡ B.with_parts self.old.boundary (B.stage self.new.boundary) (B.update_part self.new.boundary) }
+        ensures chip { one_chip B.stage B.update_part self.new
+            ≡ rise tms tdi (around B.captured B.at_reset self.old) (one_chip B.stage B.update_part self.old) }
+        ensures boundary { self.new.boundary
+            ≡ B.with_parts self.old.boundary (B.stage self.new.boundary) (B.update_part self.new.boundary) }
     {
         if self.trst && self.device.get().has_trst() {
             return;
@@ -130,8 +133,10 @@ impl<B: Register> Chip<B> {
 
     /// A falling edge of TCK: the state's update or reset, and then TDO.
     pub fn fall(&mut self)
-        ensures chip { one_chip B.stage B.update_part self.new ≡ fall (around B.captured B.at_reset self.old) (one_chip B.stage B.update_part self.old) }
-        ensures boundary { self.new.boundary ≡ B.with_parts self.old.boundary (B.stage self.new.boundary) (B.update_part self.new.boundary) }
+        ensures chip { one_chip B.stage B.update_part self.new
+            ≡ fall (around B.captured B.at_reset self.old) (one_chip B.stage B.update_part self.old) }
+        ensures boundary { self.new.boundary
+            ≡ B.with_parts self.old.boundary (B.stage self.new.boundary) (B.update_part self.new.boundary) }
     {
         match self.state.work() {
             Work::Updates(column) => self.update(column),
@@ -143,8 +148,10 @@ impl<B: Register> Chip<B> {
 
     /// TRST is asserted or released.
     pub fn trst(&mut self, trst: bool)
-        ensures chip { one_chip B.stage B.update_part self.new ≡ told_trst trst (around B.captured B.at_reset self.old) (one_chip B.stage B.update_part self.old) }
-        ensures boundary { self.new.boundary ≡ B.with_parts self.old.boundary (B.stage self.new.boundary) (B.update_part self.new.boundary) }
+        ensures chip { one_chip B.stage B.update_part self.new
+            ≡ told_trst trst (around B.captured B.at_reset self.old) (one_chip B.stage B.update_part self.old) }
+        ensures boundary { self.new.boundary
+            ≡ B.with_parts self.old.boundary (B.stage self.new.boundary) (B.update_part self.new.boundary) }
     {
         if trst && self.device.get().has_trst() {
             self.reset();
@@ -221,7 +228,8 @@ impl<B: Register> Chip<B> {
 
     /// The stage of the identification register, where the device has one.
     pub fn id(&self) -> Option<&Bits>
-        ensures { option_map {U = List Bool} (λ b. b.now) result ≡ (if is_coded self.now.device then Some self.now.identification else None) }
+        ensures { option_map {U = List Bool} (λ b. b.now) result
+            ≡ (if is_coded self.now.device then Some self.now.identification else None) }
     {
         if has_code(self.device.get()) {
             Some(&self.identification)
@@ -232,7 +240,8 @@ impl<B: Register> Chip<B> {
 
     /// The stage and the latch of user register `k`, counted in the order in which the description first names them.
     pub fn user(&self, k: usize) -> Option<(&Bits, &Bits)>
-        ensures { option_map {U = List Bool × List Bool} (λ p. (p.0.now, p.1.now)) result ≡ option_map (λ u. (u.stage, u.latch)) (slice_get self.now.users k) }
+        ensures { option_map {U = List Bool × List Bool} (λ p. (p.0.now, p.1.now)) result
+            ≡ option_map (λ u. (u.stage, u.latch)) (slice_get self.now.users k) }
     {
         match self.users.get(k) {
             Some(user) => Some((&user.stage, &user.latch)),
@@ -250,8 +259,10 @@ impl<B: Register> Chip<B> {
     /// The column's register captures, as on a rising edge in the column's Capture state.
     pub fn capture(&mut self, column: Column)
         ensures chip { one_chip B.stage B.update_part self.new
-            ≡ with_registers (captured self.old.device column (around B.captured B.at_reset self.old) (registers B.stage B.update_part self.old)) (one_chip B.stage B.update_part self.old) }
-        ensures boundary { self.new.boundary ≡ B.with_parts self.old.boundary (B.stage self.new.boundary) (B.update_part self.new.boundary) }
+            ≡ with_registers (captured self.old.device column (around B.captured B.at_reset self.old)
+            (registers B.stage B.update_part self.old)) (one_chip B.stage B.update_part self.old) }
+        ensures boundary { self.new.boundary
+            ≡ B.with_parts self.old.boundary (B.stage self.new.boundary) (B.update_part self.new.boundary) }
     {
         match column {
             Column::Ir => self.stage.copy_from(self.device.get().capture()),
@@ -276,8 +287,11 @@ impl<B: Register> Chip<B> {
     /// The column's register moves one place towards TDO.
     fn shift(&mut self, column: Column, tdi: bool)
         ensures chip { one_chip B.stage B.update_part self.new
-            ≡ with_registers (put self.old.device column (moved tdi (chosen self.old.device column (registers B.stage B.update_part self.old))) (registers B.stage B.update_part self.old)) (one_chip B.stage B.update_part self.old) }
-        ensures boundary { self.new.boundary ≡ B.with_parts self.old.boundary (B.stage self.new.boundary) (B.update_part self.new.boundary) }
+            ≡ with_registers (put self.old.device column
+            (moved tdi (chosen self.old.device column (registers B.stage B.update_part self.old)))
+            (registers B.stage B.update_part self.old)) (one_chip B.stage B.update_part self.old) }
+        ensures boundary { self.new.boundary
+            ≡ B.with_parts self.old.boundary (B.stage self.new.boundary) (B.update_part self.new.boundary) }
     {
         match column {
             Column::Ir => {
@@ -296,12 +310,14 @@ impl<B: Register> Chip<B> {
         }
     }
 
-    /// The latch takes the instruction stage, or a selected register's update part takes its stage, as on a falling edge
-    /// in the column's Update state.
+    /// The latch takes the instruction stage, or a selected register's update part takes its stage, as on a falling
+    /// edge in the column's Update state.
     pub fn update(&mut self, column: Column)
         ensures chip { one_chip B.stage B.update_part self.new
-            ≡ with_registers (updated self.old.device column (registers B.stage B.update_part self.old)) (one_chip B.stage B.update_part self.old) }
-        ensures boundary { self.new.boundary ≡ B.with_parts self.old.boundary (B.stage self.new.boundary) (B.update_part self.new.boundary) }
+            ≡ with_registers (updated self.old.device column (registers B.stage B.update_part self.old))
+            (one_chip B.stage B.update_part self.old) }
+        ensures boundary { self.new.boundary
+            ≡ B.with_parts self.old.boundary (B.stage self.new.boundary) (B.update_part self.new.boundary) }
     {
         match column {
             Column::Ir => {
@@ -319,8 +335,10 @@ impl<B: Register> Chip<B> {
     /// The latch takes its reset instruction, and the boundary register is reset, as on a falling edge in RESET.
     pub fn reset(&mut self)
         ensures chip { one_chip B.stage B.update_part self.new
-            ≡ with_registers (reset self.old.device (around B.captured B.at_reset self.old) (registers B.stage B.update_part self.old)) (one_chip B.stage B.update_part self.old) }
-        ensures boundary { self.new.boundary ≡ B.with_parts self.old.boundary (B.stage self.new.boundary) (B.update_part self.new.boundary) }
+            ≡ with_registers (reset self.old.device (around B.captured B.at_reset self.old)
+            (registers B.stage B.update_part self.old)) (one_chip B.stage B.update_part self.old) }
+        ensures boundary { self.new.boundary
+            ≡ B.with_parts self.old.boundary (B.stage self.new.boundary) (B.update_part self.new.boundary) }
     {
         self.latch.copy_from(&self.reset_latch);
         self.decoded = self.reset_decoded;
@@ -379,7 +397,8 @@ impl<B: Register> Chip<B> {
             (put self.old.device column (chosen self.new.device column (registers B.stage B.update_part self.new))
             (registers B.stage B.update_part self.old))
             (one_chip B.stage B.update_part self.old) }
-        ensures boundary { self.new.boundary ≡ B.with_parts self.old.boundary (B.stage self.new.boundary) (B.update_part self.new.boundary) }
+        ensures boundary { self.new.boundary
+            ≡ B.with_parts self.old.boundary (B.stage self.new.boundary) (B.update_part self.new.boundary) }
     {
         match column {
             Column::Ir => self.stage.put_run(at, bits, n),
@@ -432,12 +451,14 @@ impl<B: Register> Link for Chip<B> {
 
     ghost put_none = { λ c column. put_nothing B.stage B.update_part B.with_parts B.parts_same c column };
 
-    ghost put_twice = { λ a b c column s t h k. put_both B.stage B.update_part B.with_parts B.parts_twice a b c column s t h k };
+    ghost put_twice = { λ a b c column s t h k. put_both B.stage B.update_part B.with_parts B.parts_twice a b c column
+        s t h k };
 }
 
 /// A register takes the bits, if there are some.
 fn copy_fixed(register: &mut Bits, bits: Option<&Bits>)
-    requires { (b : List Bool) → option_map {U = List Bool} (λ x. x.now) bits ≡ Some b → length b ≡ length register.old }
+    requires { (b : List Bool) → option_map {U = List Bool} (λ x. x.now) bits ≡ Some b
+        → length b ≡ length register.old }
     ensures { register.new ≡ unwrap_or (option_map {U = List Bool} (λ x. x.now) bits.entry) register.old }
 {
     if let Some(other) = bits {

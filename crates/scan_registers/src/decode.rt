@@ -3,7 +3,8 @@
 ghost use Rattle.std.specs.Prelude.{◌≡◌, ℕ, List, Bool, Some, option_map, slice_get, map};
 ghost use Rattle.std.specs.List.{list_all};
 ghost use Rattle.scan_registers.specs.Fitting.{Fits, IsFormed, fixed_of, meaning_by};
-ghost use Rattle.scan_registers.specs.Instruction.{bypassed, identified, instruction, matches, meaning, meaning_of, names_it, look_up, standard, access_meaning};
+ghost use Rattle.scan_registers.specs.Instruction.{bypassed, identified, instruction, matches, meaning, meaning_of};
+ghost use Rattle.scan_registers.specs.Instruction.{names_it, look_up, standard, access_meaning};
 ghost use Rattle.std.specs.List.{find};
 
 use crate::{Mode, Selected};
@@ -142,7 +143,8 @@ fn usercode(device: &Device) -> Decoded
 /// What an own instruction of the device does.
 fn own(device: &Device, name: &str) -> Decoded
     requires { IsFormed device.now }
-    ensures meaning { meaning_by device.now result ≡ look_up name.now (map (access_meaning device.now) device.now.accesses) }
+    ensures meaning { meaning_by device.now result
+        ≡ look_up name.now (map (access_meaning device.now) device.now.accesses) }
     ensures fits { Fits device.now result }
 {
     let accesses = device.accesses();
@@ -159,7 +161,8 @@ fn own(device: &Device, name: &str) -> Decoded
 fn at_place(device: &Device, k: usize, place: Place) -> Decoded
     requires formed { IsFormed device.now }
     requires place { option_map (λ a. a.place) (slice_get device.now.accesses k) ≡ Some place }
-    ensures meaning { option_map (λ a. (access_meaning device.now a).1) (slice_get device.now.accesses k) ≡ Some (meaning_by device.now result) }
+    ensures meaning { option_map (λ a. (access_meaning device.now a).1) (slice_get device.now.accesses k)
+        ≡ Some (meaning_by device.now result) }
     ensures fits { Fits device.now result }
 {
     match place {

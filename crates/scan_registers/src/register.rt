@@ -78,7 +78,8 @@ pub trait Register: Drop {
 
     ghost parts_same: { (r : Self) → with_parts r (stage r) (update_part r) ≡ r };
 
-    ghost captured_by_update: { (r : Self) (s : List Bool) (mode : TheMode) → captured (with_parts r s (update_part r)) mode ≡ captured r mode };
+    ghost captured_by_update: { (r : Self) (s : List Bool) (mode : TheMode)
+        → captured (with_parts r s (update_part r)) mode ≡ captured r mode };
 
     ghost reset_by_update: { (r : Self) (s : List Bool) → at_reset (with_parts r s (update_part r)) ≡ at_reset r };
 
@@ -87,14 +88,18 @@ pub trait Register: Drop {
     ghost sees_update: { (r : Self) (cell : ℕ) (bit : Bool) → update_part (saw r cell bit) ≡ update_part r };
 
     /// What a cell sees changes only what that cell captures.
-    ghost sees_alone: { (r : Self) (cell : ℕ) (bit : Bool) (mode : TheMode) (i : ℕ) → i ≢ cell → slice_get (captured (saw r cell bit) mode) i ≡ slice_get (captured r mode) i };
+    ghost sees_alone: { (r : Self) (cell : ℕ) (bit : Bool) (mode : TheMode) (i : ℕ) → i ≢ cell
+        → slice_get (captured (saw r cell bit) mode) i ≡ slice_get (captured r mode) i };
 
     ghost sees_reset: { (r : Self) (cell : ℕ) (bit : Bool) → at_reset (saw r cell bit) ≡ at_reset r };
 
-    ghost sees_parts: { (r : Self) (cell : ℕ) (bit : Bool) (s u : List Bool) → with_parts (saw r cell bit) s u ≡ saw (with_parts r s u) cell bit };
+    ghost sees_parts: { (r : Self) (cell : ℕ) (bit : Bool) (s u : List Bool)
+        → with_parts (saw r cell bit) s u ≡ saw (with_parts r s u) cell bit };
 
     /// Of what a capture would give, a new update part changes only what is taken from it.
     ghost captured_part: { (r : Self) (mode : TheMode) (i : ℕ)
-        → ((s u : List Bool) → length u ≡ length (update_part r) → slice_get (captured (with_parts r s u) mode) i ≡ slice_get (captured r mode) i)
-        ⊎ ((s u : List Bool) → length u ≡ length (update_part r) → slice_get (captured (with_parts r s u) mode) i ≡ slice_get u i) };
+        → ((s u : List Bool) → length u ≡ length (update_part r)
+        → slice_get (captured (with_parts r s u) mode) i ≡ slice_get (captured r mode) i)
+        ⊎ ((s u : List Bool) → length u ≡ length (update_part r)
+        → slice_get (captured (with_parts r s u) mode) i ≡ slice_get u i) };
 }

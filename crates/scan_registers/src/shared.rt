@@ -7,7 +7,8 @@ use std::alloc::{AllocError, Global};
 use std::marker::Model;
 use std::rc::Rc;
 
-/// A device's description, kept once for all its chips and their boundary registers. Contracts see it as the description.
+/// A device's description, kept once for all its chips and their boundary registers. Contracts see it as the
+/// description.
 #[derive(Drop)]
 pub struct SharedDevice {
     device: Rc<Device>,

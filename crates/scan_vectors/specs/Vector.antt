@@ -1,6 +1,7 @@
 -- The whole vector of a scan, and the judgement of what came out (Serial Vector Format, revision E, SDR, SIR and
 -- their headers and trailers).
-use Rattle.std.specs.Prelude.{Bool, true, false, not, ℕ, suc, List, [], ◌∷◌, ◌++◌, map, Option, Some, None, if◌then◌else◌}
+use Rattle.std.specs.Prelude.{Bool, true, false, not, ℕ, suc, List, [], ◌∷◌, ◌++◌, map, Option, Some, None}
+use Rattle.std.specs.Prelude.{if◌then◌else◌}
 use Rattle.scan_vectors.specs.declared.part.Part.{Part}
 use Rattle.scan_vectors.specs.declared.part.Part.TheVariants.{Header, Data, Trailer}
 
@@ -25,7 +26,8 @@ bits_from part k _ _ _ = []
 -- The whole vector: header, then body, then trailer.
 abbrev pub join : (header body trailer : Part3) → List VectorBit
 join h b t =
-    bits_from Header 0 h.tdi h.want h.care ++ bits_from Data 0 b.tdi b.want b.care ++ bits_from Trailer 0 t.tdi t.want t.care
+    bits_from Header 0 h.tdi h.want h.care ++ bits_from Data 0 b.tdi b.want b.care
+    ++ bits_from Trailer 0 t.tdi t.want t.care
 
 abbrev pub tdis : List VectorBit → List Bool
 tdis v = map (λ b. b.tdi) v

@@ -14,7 +14,8 @@ pub struct Vector<'a> {
 }
 
 impl<'a> Vector<'a> {
-    ghost use Rattle.std.specs.Prelude.{◌≡◌, ◌+◌, ◌<◌, ◌≤◌, ◌^◌, Bool, Option, Some, None, ℕ, length, slice_get, option_map};
+    ghost use Rattle.std.specs.Prelude.{◌≡◌, ◌+◌, ◌<◌, ◌≤◌, ◌^◌, Bool, Option, Some, None, ℕ, length, slice_get};
+    ghost use Rattle.std.specs.Prelude.{option_map};
     ghost use Rattle.jt_bits.specs.Packed.{has_bit};
     ghost use Rattle.scan_vectors.specs.declared.part.Part as declared;
     ghost use Rattle.scan_vectors.specs.Fields.{vector_of};

@@ -1,5 +1,6 @@
 -- The player that is known by all answers it took, for any window, whether it stops after a failing step or plays on.
-use Rattle.std.specs.Prelude.{◌≤◌, Bool, ◌||◌, ℕ, ◌+◌, ◌-◌, ◌==◌, List, [], ◌∷◌, ◌++◌, map, length, take, drop, count_by, Option, Some, None, if◌then◌else◌}
+use Rattle.std.specs.Prelude.{◌≤◌, Bool, ◌||◌, ℕ, ◌+◌, ◌-◌, ◌==◌, List, [], ◌∷◌, ◌++◌, map, length, take, drop}
+use Rattle.std.specs.Prelude.{count_by, Option, Some, None, if◌then◌else◌}
 use Rattle.std.specs.List.{list_any}
 use Rattle.bitbang_table.specs.Protocol.{answer}
 use Rattle.plays.specs.declared.ending.Ending.{Ending}
@@ -40,7 +41,11 @@ module _ (kind : Kind) (window : ℕ) where
   verdict_of p other = other
 
   abbrev pub verdict : PlayerState → Option Ending
-  verdict p = elim kind [ Stops ↦ ending_for (turns_in p) p.got | PlaysOn ↦ verdict_of p (ending_for (turns_in p) p.got) ]
+  verdict p = elim kind [
+    | Stops ↦ ending_for (turns_in p) p.got
+    | PlaysOn ↦ verdict_of p
+        (ending_for (turns_in p) p.got)
+  ]
 
   abbrev pub ended : PlayerState → Option Ending
   ended p = if has_ended p then verdict p else None

@@ -1,5 +1,6 @@
 -- The player that keeps no answers goes as the one that is known by them.
-use Rattle.std.specs.Prelude.{Bool, Some, true, ◌≡◌, false, ℕ, ◌+◌, ◌≤◌, List, [], ◌∷◌, ◌++◌, map, length, find, if◌then◌else◌}
+use Rattle.std.specs.Prelude.{Bool, Some, true, ◌≡◌, false, ℕ, ◌+◌, ◌≤◌, List, [], ◌∷◌, ◌++◌, map, length, find}
+use Rattle.std.specs.Prelude.{if◌then◌else◌}
 use Rattle.bitbang_table.specs.Protocol.{answer}
 use Rattle.board_meaning.specs.Chain.{BoardState, after_all}
 use Rattle.plays.specs.Events.{Event, Known, World, by_answers, empty_pipes, fresh as fresh_world, run}
@@ -53,7 +54,8 @@ StreamsAgree = (kind : Kind) (window : ℕ) (p : PlayerState) → WasAsked kind 
 
 -- Calls go alike: bytes are given out, and answers taken, as many at once as come.
 pub record GoesAlike (kind : Kind) (window : ℕ) (p : PlayerState) : Type 0 where
-  pub give : (n : ℕ) → record (stream_of kind p) { given = p.given + n } ≡ stream_of kind (record p { given = p.given + n })
+  pub give : (n : ℕ) → record (stream_of kind p) { given = p.given + n }
+      ≡ stream_of kind (record p { given = p.given + n })
   pub answers : (bytes : List ℕ) → hear_all (stream.taken window (stream_of kind p) bytes) (stream_of kind p)
       ≡ stream_of kind (record p { got = p.got ++ history.taken kind window p bytes })
 
@@ -63,7 +65,8 @@ CallsGoAlike = (kind : Kind) (window : ℕ) (p : PlayerState) → WasAsked kind 
 -- The histories that calls lead to.
 pub record StaysAsked (kind : Kind) (window : ℕ) : Type 0 where
   pub fresh : (program : Program) → WasAsked kind window (playing.fresh program)
-  pub give : (p : PlayerState) (n : ℕ) → WasAsked kind window p → WasAsked kind window (record p { given = p.given + n })
+  pub give : (p : PlayerState) (n : ℕ) → WasAsked kind window p
+      → WasAsked kind window (record p { given = p.given + n })
   pub answer : (p : PlayerState) (bytes : List ℕ) → WasAsked kind window p
       → WasAsked kind window (record p { got = p.got ++ history.taken kind window p bytes })
 
@@ -88,17 +91,25 @@ abbrev pub history_of : Program → Known → PlayerState
 history_of program p = record { program = program; given = p.given; got = map answer p.got }
 
 abbrev pub with_player : {P Q : Type 0} → (P → Q) → World P → World Q
-with_player f w = record { player = f w.player; down = w.down; up = w.up; board = w.board; quit = w.quit; lost = w.lost }
+with_player f w = record {
+  player = f w.player;
+  down = w.down;
+  up = w.up;
+  board = w.board;
+  quit = w.quit;
+  lost = w.lost;
+}
 
 -- Over two pipes of any room, whatever events happen, it goes as the player of the laws of every schedule.
 abbrev pub SchedulesCarryOver : Type 0
-SchedulesCarryOver = (kind : Kind) (window : ℕ) (program : Program) (b : BoardState) (down_room up_room : ℕ) (es : List Event)
+SchedulesCarryOver = (kind : Kind) (window : ℕ) (program : Program) (b : BoardState) (down_room up_room : ℕ)
+    (es : List Event)
     → run (stream.side window) down_room up_room es (empty_pipes (stream.fresh kind program) b)
     ≡ with_player (λ p. stream_of kind (history_of program p))
     (run (by_answers (player window (turns_for kind program.steps))) down_room up_room es (fresh_world b))
 
--- Over a link that hands on bytes and answers as they are, a player that stops and has ended has the full play's verdict, and all
--- its bytes lead a board to the full play's, whatever the window.
+-- Over a link that hands on bytes and answers as they are, a player that stops and has ended has the full play's
+-- verdict, and all its bytes lead a board to the full play's, whatever the window.
 pub record IsFullPlay (window : ℕ) (p : PlayerState) (b : BoardState) : Type 0 where
   pub ending : history.ended Stops window p ≡ Some (full Stops p.program.steps b).ending
   pub bytes : history.given_out Stops window p ≡ full_bytes Stops p.program.steps b
@@ -106,4 +117,5 @@ pub record IsFullPlay (window : ℕ) (p : PlayerState) (b : BoardState) : Type 0
 
 abbrev pub AnHonestVerdictForAnyWindow : Type 0
 AnHonestVerdictForAnyWindow = (window : ℕ) (p : PlayerState) (b : BoardState) (got : List Bool) → p.got ≡ map answer got
-    → IsFront got (answered_all (history.given_out Stops window p) b) → history.has_ended Stops window p ≡ true → IsFullPlay window p b
+    → IsFront got (answered_all (history.given_out Stops window p) b) → history.has_ended Stops window p ≡ true
+    → IsFullPlay window p b

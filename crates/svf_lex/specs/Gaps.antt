@@ -1,5 +1,5 @@
--- What the tokens of a text are, said of the whole text: it is a row of parts, each a byte of white space, a comment or a
--- token, and every byte belongs to one of them. Nothing here reads from left to right.
+-- What the tokens of a text are, said of the whole text: it is a row of parts, each a byte of white space, a comment or
+-- a token, and every byte belongs to one of them. Nothing here reads from left to right.
 use Rattle.std.specs.Prelude.{◌≡◌, ℕ, ◌+◌, ◌<◌, ◌⊎◌, true, false, ⊤, List, [], ◌∷◌, ◌++◌, length, codes}
 use Rattle.std.specs.List.{flat_map, AllByRecursion}
 use Rattle.svf_lex.specs.declared.Kind.{Kind}
@@ -35,7 +35,8 @@ IsRunByte c = is_run c ≡ true
 
 -- `!` or `//`, and then bytes of one line
 abbrev pub IsComment : List ℕ → Type 0
-IsComment bytes = (body : List ℕ) × ((bytes ≡ codes "!" ++ body) ⊎ (bytes ≡ codes "//" ++ body)) × AllByRecursion IsInLine body
+IsComment bytes = (body : List ℕ) × ((bytes ≡ codes "!" ++ body) ⊎ (bytes ≡ codes "//" ++ body))
+    × AllByRecursion IsInLine body
 
 -- A part that stands before this rest of the text. A comment goes on to its line's end, and a run as far as bytes of a
 -- run go: it is the longest, and between two runs stands a gap.
@@ -50,14 +51,16 @@ IsPart (token kind.Semi bytes) rest = bytes ≡ codes ";"
 -- a text is these parts in order, and then this rest
 abbrev pub Divides : List Part → List ℕ → List ℕ → Type 0
 Divides [] text rest = text ≡ rest
-Divides (p ∷ parts) text rest = (after : List ℕ) × (text ≡ bytes_of p ++ after) × IsPart p after × Divides parts after rest
+Divides (p ∷ parts) text rest = (after : List ℕ) × (text ≡ bytes_of p ++ after) × IsPart p after
+    × Divides parts after rest
 
 -- the tokens among parts, the first of which starts at place `at`
 abbrev pub tokens_at : ℕ → List Part → List Lexeme
 tokens_at at [] = []
 tokens_at at (white c ∷ parts) = tokens_at (at + 1) parts
 tokens_at at (comment bytes ∷ parts) = tokens_at (at + length bytes) parts
-tokens_at at (token k bytes ∷ parts) = record { kind = k; text = bytes; start = at } ∷ tokens_at (at + length bytes) parts
+tokens_at at (token k bytes ∷ parts) = record { kind = k; text = bytes; start = at }
+    ∷ tokens_at (at + length bytes) parts
 
 -- a text that is tokens and gaps to its end, and its tokens
 pub record TokensOf (text : List ℕ) (tokens : List Lexeme) : Type 0 where

@@ -13,33 +13,42 @@ TokensAreCut = (text : List ℕ) (tokens : List Lexeme) → TokensOf text tokens
 
 -- and so they are where a byte begins nothing
 abbrev pub BadByteIsCut : Type 0
-BadByteIsCut = (text : List ℕ) (tokens : List Lexeme) (place : ℕ) → BadAfter text tokens place ↔ (cuts_of text ≡ map piece tokens ++ bad place ∷ [])
+BadByteIsCut = (text : List ℕ) (tokens : List Lexeme) (place : ℕ)
+    → BadAfter text tokens place ↔ (cuts_of text ≡ map piece tokens ++ bad place ∷ [])
 
 -- each text is tokens and gaps, to its end or to a byte that begins nothing
 abbrev pub EachIsCut : Type 0
-EachIsCut = (text : List ℕ) → ((tokens : List Lexeme) × TokensOf text tokens) ⊎ ((tokens : List Lexeme) × (place : ℕ) × BadAfter text tokens place)
+EachIsCut = (text : List ℕ)
+    → ((tokens : List Lexeme) × TokensOf text tokens)
+    ⊎ ((tokens : List Lexeme) × (place : ℕ) × BadAfter text tokens place)
 
 -- it has one row of parts
 abbrev pub PartsAreOne : Type 0
-PartsAreOne = (text : List ℕ) (parts others : List Part) → Divides parts text [] → Divides others text [] → parts ≡ others
+PartsAreOne = (text : List ℕ) (parts others : List Part) → Divides parts text [] → Divides others text []
+    → parts ≡ others
 
 abbrev pub TokensAreOne : Type 0
-TokensAreOne = (text : List ℕ) (tokens others : List Lexeme) → TokensOf text tokens → TokensOf text others → tokens ≡ others
+TokensAreOne = (text : List ℕ) (tokens others : List Lexeme) → TokensOf text tokens → TokensOf text others
+    → tokens ≡ others
 
 abbrev pub BadByteIsOne : Type 0
-BadByteIsOne = (text : List ℕ) (tokens others : List Lexeme) (place other : ℕ) → BadAfter text tokens place → BadAfter text others other → (tokens ≡ others) × (place ≡ other)
+BadByteIsOne = (text : List ℕ) (tokens others : List Lexeme) (place other : ℕ) → BadAfter text tokens place
+    → BadAfter text others other → (tokens ≡ others) × (place ≡ other)
 
 -- no text is both
 abbrev pub NeverBoth : Type 0
-NeverBoth = (text : List ℕ) (tokens others : List Lexeme) (place : ℕ) → TokensOf text tokens → ¬ BadAfter text others place
+NeverBoth = (text : List ℕ) (tokens others : List Lexeme) (place : ℕ) → TokensOf text tokens
+    → ¬ BadAfter text others place
 
 -- the bytes of all parts in order are the text
 abbrev pub PartsJoin : Type 0
-PartsJoin = (text : List ℕ) (tokens : List Lexeme) → TokensOf text tokens → (parts : List Part) × (flat_map bytes_of parts ≡ text) × (tokens_at 0 parts ≡ tokens)
+PartsJoin = (text : List ℕ) (tokens : List Lexeme) → TokensOf text tokens
+    → (parts : List Part) × (flat_map bytes_of parts ≡ text) × (tokens_at 0 parts ≡ tokens)
 
 -- no run stands right behind another
 abbrev pub RunsStandApart : Type 0
-RunsStandApart = (before after : List Part) (first second text rest : List ℕ) → ¬ Divides (before ++ token kind.Run first ∷ token kind.Run second ∷ after) text rest
+RunsStandApart = (before after : List Part) (first second text rest : List ℕ)
+    → ¬ Divides (before ++ token kind.Run first ∷ token kind.Run second ∷ after) text rest
 
 -- what a lexer gives for a text is what the whole text says
 abbrev pub LexerGives : Type 0

@@ -1,5 +1,6 @@
 //! What holds of the tokens of every text.
-ghost use Rattle.svf_lex.specs.Laws.{TokensAreCut, BadByteIsCut, EachIsCut, PartsAreOne, TokensAreOne, BadByteIsOne, NeverBoth, PartsJoin, RunsStandApart, LexerGives, SlicesInOrder, ItemsAreFew};
+ghost use Rattle.svf_lex.specs.Laws.{TokensAreCut, BadByteIsCut, EachIsCut, PartsAreOne, TokensAreOne, BadByteIsOne};
+ghost use Rattle.svf_lex.specs.Laws.{NeverBoth, PartsJoin, RunsStandApart, LexerGives, SlicesInOrder, ItemsAreFew};
 
 /// The tokens of a text, with gaps between them, are those that are cut from it byte by byte.
 pub fn tokens_with_gaps_are_the_cut()

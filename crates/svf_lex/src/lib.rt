@@ -47,8 +47,8 @@ pub enum LexFault {
     Unclosed(usize),
 }
 
-/// The tokens of a text that are left, in order, and then the text's fault if it has one. Behind a fault and at the end it
-/// gives nothing more.
+/// The tokens of a text that are left, in order, and then the text's fault if it has one. Behind a fault and at the end
+/// it gives nothing more.
 ///
 /// A copy is a bookmark: it goes on from its place.
 #[derive(Debug, Clone, Copy)]

@@ -57,7 +57,8 @@ hertz (n ∷ u ∷ x ∷ ws) = None
 -- length {field}
 unfoldable pub scan_of : Which → List Word → Option Form
 scan_of which [] = None
-scan_of which (n ∷ ws) = if is_number n then option_map (scan_form which n) (fields_say no_fields (cut_at_close ws)) else None
+scan_of which (n ∷ ws) = if is_number n then option_map (scan_form which n) (fields_say no_fields (cut_at_close ws))
+    else None
 
 -- the form of the words after a command
 abbrev pub form_of : Command → List Word → Option Form

@@ -1,5 +1,6 @@
 -- What a statement says that is written in a form, or the refusal with the lowest number among those that it has.
-use Rattle.std.specs.Prelude.{ℕ, Bool, false, not, nat_le, if◌then◌else◌, List, take, Option, Some, None, option_map, Result, Ok, Err}
+use Rattle.std.specs.Prelude.{ℕ, Bool, false, not, nat_le, if◌then◌else◌, List, take, Option, Some, None, option_map}
+use Rattle.std.specs.Prelude.{Result, Ok, Err}
 use Rattle.std.specs.List.{list_all}
 use Rattle.std.specs.Char.{is_ascii_hexdigit}
 use Rattle.jt_tap.specs.declared.State.{State}
@@ -14,7 +15,8 @@ use Rattle.svf_parse.specs.Words.{Word}
 use Rattle.svf_parse.specs.Fields.{Fields}
 use Rattle.svf_parse.specs.RunTests.{Run}
 use Rattle.svf_parse.specs.Numbers.{period_says, time_says, count_says, len_says, len_value}
-use Rattle.svf_parse.specs.Forms.{Form, end_dr_form, end_ir_form, frequency_form, scan_form, run_form, states_form, trst_form, port_form}
+use Rattle.svf_parse.specs.Forms.{Form, end_dr_form, end_ir_form, frequency_form, scan_form, run_form, states_form}
+use Rattle.svf_parse.specs.Forms.{trst_form, port_form}
 
 -- a statement, without where it lies in memory
 pub data Said : Type 0 where
@@ -90,7 +92,9 @@ field_fault n (Some h) = if is_misspelt h then Some code.BadNumber else if is_wi
 unfoldable pub scan_says : Word → Fields → Result ℕ Code
 scan_says w fs =
     let n = len_value w in
-    checked (field_fault n fs.tdi) (checked (field_fault n fs.tdo) (checked (field_fault n fs.mask) (checked (field_fault n fs.smask) (len_says w))))
+    checked (field_fault n fs.tdi)
+    (checked (field_fault n fs.tdo)
+    (checked (field_fault n fs.mask) (checked (field_fault n fs.smask) (len_says w))))
 
 -- the binary digits that a field of n bits writes, lowest first: those above them are 0, and are not kept
 abbrev pub written : ℕ → List ℕ → List Bool
@@ -117,7 +121,8 @@ abbrev pub run_with : Run → Option ℕ × (Option ℕ × Option ℕ) → Said
 run_with r p = run_test r.run p.0 p.1.0 p.1.1 r.end
 
 unfoldable pub run_says : Run → Result Said Code
-run_says r = both (given cycles_say r.count) (both (given time_says r.min) (given time_says r.max)) >>= λ p. Ok (run_with r p)
+run_says r = both (given cycles_say r.count) (both (given time_says r.min) (given time_says r.max)) >>= λ p. Ok
+    (run_with r p)
 
 -- ---- each form
 

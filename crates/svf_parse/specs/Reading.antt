@@ -57,4 +57,5 @@ parts_say n (group (w ∷ ws) parts) =
 -- what a text says
 unfoldable pub text_says : List ℕ → Result (List Said) SvfFault
 text_says text =
-    if nat_lt text_limit (length text) then Err (record { statement = 0; code = code.TooLarge }) else parts_say 1 (parts_of (items_of text))
+    if nat_lt text_limit (length text) then Err (record { statement = 0; code = code.TooLarge })
+    else parts_say 1 (parts_of (items_of text))

@@ -45,7 +45,8 @@ maximum_or None rest all = (None, all)
 -- [MAXIMUM number SEC]
 unfoldable pub take_maximum : List Word → Option Word × List Word
 take_maximum [] = (None, [])
-take_maximum (k ∷ ws) = if reads k (codes "MAXIMUM") then maximum_or (take_time ws).0 (take_time ws).1 (k ∷ ws) else (None, k ∷ ws)
+take_maximum (k ∷ ws) = if reads k (codes "MAXIMUM") then maximum_or (take_time ws).0 (take_time ws).1 (k ∷ ws)
+    else (None, k ∷ ws)
 
 -- [ENDSTATE state]
 unfoldable pub take_end : List Word → Option State × List Word
@@ -54,7 +55,8 @@ take_end (k ∷ []) = (None, k ∷ [])
 take_end (k ∷ w ∷ ws) = if reads k (codes "ENDSTATE") then state_or (state_of w) ws (k ∷ w ∷ ws) else (None, k ∷ w ∷ ws)
 
 -- a RUNTEST gives a count or a time, a maximum only behind a time, and nothing is left
-abbrev pub whole_run : Option State → Option (Word × Clock) → Option Word → Option Word → Option State → List Word → Option Run
+abbrev pub whole_run : Option State → Option (Word × Clock) → Option Word → Option Word → Option State → List Word
+    → Option Run
 whole_run run count min max end (w ∷ ws) = None
 whole_run run None None max end [] = None
 whole_run run (Some c) None max end [] = Some (record { run = run; count = Some c; min = None; max = max; end = end })

@@ -6,7 +6,8 @@ use Rattle.svf_parse.specs.Judging.{Said, scan, states, field_fault, written}
 
 -- the bits that a field writes, with 0s above them up to the length, are the value of its digits
 abbrev pub ValuesAreWritten : Type 0
-ValuesAreWritten = (n : ℕ) (h : List ℕ) → field_fault (Some n) (Some h) ≡ None → hex_value h n ≡ Ok (resized n (written n h))
+ValuesAreWritten = (n : ℕ) (h : List ℕ) → field_fault (Some n) (Some h) ≡ None
+    → hex_value h n ≡ Ok (resized n (written n h))
 
 abbrev pub bits_in : Option (List Bool) → ℕ
 bits_in None = 0

@@ -20,7 +20,8 @@ use Rattle.svf_parse.specs.declared.text.Group.TheVariants.{Over, Broken, Empty,
 use Rattle.svf_parse.specs.Words.{Word, Parts, last, group, parts_of}
 use Rattle.svf_parse.specs.Fields.{Fields}
 use Rattle.svf_parse.specs.RunTests.{Run}
-use Rattle.svf_parse.specs.Forms.{Form, end_dr_form, end_ir_form, frequency_form, scan_form, run_form, states_form, trst_form, port_form}
+use Rattle.svf_parse.specs.Forms.{Form, end_dr_form, end_ir_form, frequency_form, scan_form, run_form, states_form}
+use Rattle.svf_parse.specs.Forms.{trst_form, port_form}
 use Rattle.svf_parse.specs.Judging.{Said, end_dr, end_ir, frequency, scan, states, trst}
 use Rattle.svf_parse.specs.Judging as judging
 

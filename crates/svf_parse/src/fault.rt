@@ -7,8 +7,8 @@ use thiserror::Error;
 
 /// The refusals of SVF text, each by its number. A place is counted in bytes of the text from 0.
 ///
-/// [`parse`](crate::parse) gives S1 to S6, S13, S15 and S16. The others are of a text whose statements stand well each for
-/// itself.
+/// [`parse`](crate::parse) gives S1 to S6, S13, S15 and S16. The others are of a text whose statements stand well each
+/// for itself.
 #[derive(Debug, Drop, Clone, Copy, PartialEq, Eq, Error)]
 pub enum Code {
     /// A byte at this place begins no token, no white space and no comment.

@@ -1,5 +1,6 @@
 //! The fields of a scan.
-ghost use Rattle.std.specs.Prelude.{◌≡◌, ◌<◌, ◌++◌, List, ℕ, length, IfOk, IfSome, MatchBool, Some, None, option_map, if◌then◌else◌};
+ghost use Rattle.std.specs.Prelude.{◌≡◌, ◌<◌, ◌++◌, List, ℕ, length, IfOk, IfSome, MatchBool, Some, None, option_map};
+ghost use Rattle.std.specs.Prelude.{if◌then◌else◌};
 ghost use Rattle.svf_parse.specs.Words.{words_left};
 ghost use Rattle.svf_parse.specs.Fields as spec;
 ghost use Rattle.svf_parse.specs.Fields.{Closed, cut_at_close, no_fields, fields_say};
@@ -58,7 +59,8 @@ fn put(all: &mut Fields, name: FieldName, digits: Vec<u8>) -> bool
 }
 
 fn put_once(place: &mut Option<Vec<u8>>, digits: Vec<u8>) -> bool
-    ensures { MatchBool result ((bytes_of place.old ≡ None) × (bytes_of place.new ≡ Some digits.items)) ((old : List ℕ) × (bytes_of place.old ≡ Some old)) }
+    ensures { MatchBool result ((bytes_of place.old ≡ None) × (bytes_of place.new ≡ Some digits.items))
+        ((old : List ℕ) × (bytes_of place.old ≡ Some old)) }
 {
     if place.is_some() {
         return false;
@@ -69,7 +71,8 @@ fn put_once(place: &mut Option<Vec<u8>>, digits: Vec<u8>) -> bool
 
 /// The digits between brackets, and the lexer behind them.
 fn bracket<'a>(alloc: Global, words: Lexer<'a>) -> Result<Option<(Vec<u8>, Lexer<'a>)>, AllocError>
-    ensures found { IfOk result (λ o. option_map {U = List ℕ × Closed} (λ p. (p.0.items, cut_at_close (words_left p.1))) o
+    ensures found { IfOk result
+        (λ o. option_map {U = List ℕ × Closed} (λ p. (p.0.items, cut_at_close (words_left p.1))) o
         ≡ spec.bracket (cut_at_close (words_left words.entry))) }
     ensures shorter { IfOk result (λ o. IfSome o (λ p. length (words_left p.1) < length (words_left words.entry))) }
 {
@@ -81,7 +84,8 @@ fn bracket<'a>(alloc: Global, words: Lexer<'a>) -> Result<Option<(Vec<u8>, Lexer
 
 /// The runs up to `)`, joined, and the lexer behind it.
 fn runs<'a>(alloc: Global, words: Lexer<'a>) -> Result<Option<(Vec<u8>, Lexer<'a>)>, AllocError>
-    ensures found { IfOk result (λ o. option_map {U = List ℕ × Closed} (λ p. (p.0.items, cut_at_close (words_left p.1))) o
+    ensures found { IfOk result
+        (λ o. option_map {U = List ℕ × Closed} (λ p. (p.0.items, cut_at_close (words_left p.1))) o
         ≡ spec.runs (cut_at_close (words_left words.entry))) }
     ensures shorter { IfOk result (λ o. IfSome o (λ p. length (words_left p.1) < length (words_left words.entry))) }
 {

@@ -93,7 +93,8 @@ fn one_trst(words: Lexer<'_>) -> Option<TrstWord>
 
 /// States, at least one.
 fn some_states(alloc: Global, words: Lexer<'_>) -> Result<Option<Vec<State>>, AllocError>
-    ensures { IfOk result (λ o. option_map {U = List declared_state.State} (λ v. v.items) o ≡ spec.some_states (words_left words.entry)) }
+    ensures { IfOk result (λ o. option_map {U = List declared_state.State} (λ v. v.items) o
+        ≡ spec.some_states (words_left words.entry)) }
 {
     let mut all = Vec::new(alloc);
     let mut rest = words;
@@ -114,7 +115,8 @@ fn some_states(alloc: Global, words: Lexer<'_>) -> Result<Option<Vec<State>>, Al
 /// `[number HZ]`.
 #[tactic(auto, unfolding(crate::specs::Forms::hertz))]
 fn hertz<'a>(words: Lexer<'a>) -> Option<Option<&'a [u8]>>
-    ensures { option_map {U = Option Word} (λ o. option_map {U = Word} (λ w. w.now) o) result ≡ spec.hertz (words_left words.entry) }
+    ensures { option_map {U = Option Word} (λ o. option_map {U = Word} (λ w. w.now) o) result
+        ≡ spec.hertz (words_left words.entry) }
 {
     let Some((number, after)) = next_word(words) else {
         return Some(None);

@@ -182,7 +182,8 @@ fn given_time(word: Option<&[u8]>) -> Result<Option<u64>, Code>
 }
 
 fn given_cycles(count: Option<(&[u8], Clock)>) -> Result<Option<u32>, Code>
-    ensures { result ≡ spec.given spec.cycles_say (option_map {U = Word × declared_clock.Clock} (λ c. (c.0.now, c.1)) count.entry) }
+    ensures { result ≡ spec.given spec.cycles_say
+        (option_map {U = Word × declared_clock.Clock} (λ c. (c.0.now, c.1)) count.entry) }
 {
     match count {
         None => Ok(None),

@@ -1,5 +1,6 @@
 //! Numbers with a point and an exponent, exactly.
-ghost use Rattle.std.specs.Prelude.{◌≡◌, ◌≢◌, ◌+◌, ◌*◌, ◌^◌, ◌%◌, ◌<◌, ◌≤◌, List, ℕ, Bool, true, length, min, Ok, Err, MatchResult, MatchOption, IfSome, IfOk, option_map, ⊤};
+ghost use Rattle.std.specs.Prelude.{◌≡◌, ◌≢◌, ◌+◌, ◌*◌, ◌^◌, ◌%◌, ◌<◌, ◌≤◌, List, ℕ, Bool, true, length, min, Ok, Err};
+ghost use Rattle.std.specs.Prelude.{MatchResult, MatchOption, IfSome, IfOk, option_map, ⊤};
 ghost use Rattle.std.specs.List.{list_all, prefix_len};
 ghost use Rattle.std.specs.Int.{div_ceil};
 ghost use Rattle.std.specs.Char.{is_ascii_digit};
@@ -155,7 +156,8 @@ pub(crate) fn length_value(word: &[u8]) -> Option<usize>
 /// The value of a number, in units of 10^-36.
 #[tactic(auto, unfolding(crate::specs::Numbers::number_value))]
 fn number_value(word: &[u8]) -> Result<Scaled, Code>
-    ensures value { MatchResult result (λ s. spec.number_value word.now ≡ Ok (s.mantissa * 10 ^ s.zeros)) (λ c. spec.number_value word.now ≡ Err c) }
+    ensures value { MatchResult result (λ s. spec.number_value word.now ≡ Ok (s.mantissa * 10 ^ s.zeros))
+        (λ c. spec.number_value word.now ≡ Err c) }
     ensures small { MatchResult result (λ s. (s.mantissa < 10 ^ 18) × (s.zeros ≤ 54)) (λ c. ⊤) }
 {
     let Some(spelt) = numeral_of(word) else {
@@ -182,8 +184,16 @@ fn number_value(word: &[u8]) -> Result<Scaled, Code>
 /// The parts of a number, if the word spells one.
 #[tactic(auto, unfolding(crate::specs::Numbers::numeral_of))]
 fn numeral_of(word: &[u8]) -> Option<Spelt<'_>>
-    ensures value { option_map {U = Numeral} (λ n. record { whole = n.whole.now; fraction = n.fraction.now; negative = n.negative; exponent = n.exponent.now }) result ≡ spec.numeral_of word.now }
-    ensures digits { IfSome result (λ n. (list_all is_ascii_digit n.whole.now ≡ true) × (list_all is_ascii_digit n.fraction.now ≡ true) × (list_all is_ascii_digit n.exponent.now ≡ true)) }
+    ensures value { option_map {U = Numeral}
+        (λ n. record {
+          whole = n.whole.now;
+          fraction = n.fraction.now;
+          negative = n.negative;
+          exponent = n.exponent.now;
+        }) result ≡ spec.numeral_of word.now }
+    ensures digits { IfSome result
+        (λ n. (list_all is_ascii_digit n.whole.now ≡ true) × (list_all is_ascii_digit n.fraction.now ≡ true)
+        × (list_all is_ascii_digit n.exponent.now ≡ true)) }
 {
     let (whole, behind) = split_digits(word);
     let (fraction, rest) = split_fraction(behind);
@@ -243,7 +253,8 @@ fn exponent_of(text: &[u8]) -> Option<(bool, &[u8])>
 }
 
 fn exponent_digits(negative: bool, digits: &[u8]) -> Option<(bool, &[u8])>
-    ensures value { option_map {U = Bool × List ℕ} (λ e. (e.0, e.1.now)) result ≡ spec.exponent_digits negative digits.now }
+    ensures value { option_map {U = Bool × List ℕ} (λ e. (e.0, e.1.now)) result
+        ≡ spec.exponent_digits negative digits.now }
     ensures digits { IfSome result (λ e. list_all is_ascii_digit e.1.now ≡ true) }
 {
     if !digits.is_empty() && are_digits(digits) {

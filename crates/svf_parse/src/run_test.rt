@@ -20,8 +20,8 @@ pub(crate) struct Run<'a> {
     pub(crate) end: Option<State>,
 }
 
-/// The RUNTEST that the words are: `[state] [number TCK or SCK] [number SEC [MAXIMUM number SEC]] [ENDSTATE state]`, with
-/// at least one of the count and the first time.
+/// The RUNTEST that the words are: `[state] [number TCK or SCK] [number SEC [MAXIMUM number SEC]] [ENDSTATE state]`,
+/// with at least one of the count and the first time.
 #[tactic(auto, unfolding(crate::specs::RunTests::run_of))]
 pub(crate) fn run_of(words: Lexer<'_>) -> Option<Run<'_>>
     ensures { option_map view.run result ≡ spec.run_of (words_left words.entry) }
@@ -61,7 +61,8 @@ fn take_state<'a>(words: Lexer<'a>) -> (Option<State>, Lexer<'a>)
 /// `[number TCK or SCK]`, and the lexer behind it.
 #[tactic(auto, unfolding(crate::specs::RunTests::take_count))]
 fn take_count<'a>(words: Lexer<'a>) -> (Option<(&'a [u8], Clock)>, Lexer<'a>)
-    ensures value { option_map {U = Word × declared_clock.Clock} (λ c. (c.0.now, c.1)) result.0 ≡ (spec.take_count (words_left words.entry)).0 }
+    ensures value { option_map {U = Word × declared_clock.Clock} (λ c. (c.0.now, c.1)) result.0
+        ≡ (spec.take_count (words_left words.entry)).0 }
     ensures rest { words_left result.1 ≡ (spec.take_count (words_left words.entry)).1 }
 {
     let Some((number, after)) = next_word(words) else {

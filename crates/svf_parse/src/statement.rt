@@ -41,9 +41,9 @@ pub enum Statement {
     EndIr(State),
     /// `FREQUENCY`: the period of TCK in picoseconds, rounded up and at least 1, or none where no frequency is given.
     Frequency(Option<u64>),
-    /// `HDR`, `HIR`, `TDR`, `TIR`, `SDR` or `SIR`, of `len` bits. A field that is given has the bits that its digits write,
-    /// bit 0 first: four for each digit, and none beyond `len`. Those above them, up to `len`, are 0: [`Bits::resized`]
-    /// makes all of them. A field that is absent is `None`.
+    /// `HDR`, `HIR`, `TDR`, `TIR`, `SDR` or `SIR`, of `len` bits. A field that is given has the bits that its digits
+    /// write, bit 0 first: four for each digit, and none beyond `len`. Those above them, up to `len`, are 0:
+    /// [`Bits::resized`] makes all of them. A field that is absent is `None`.
     Scan {
         which: Which,
         len: usize,
@@ -52,8 +52,8 @@ pub enum Statement {
         mask: Option<Bits>,
         smask: Option<Bits>,
     },
-    /// `RUNTEST`: the state to run in, the cycles of TCK, the least and the longest time in picoseconds, each rounded up,
-    /// and the state to end in. A count or a least time is given.
+    /// `RUNTEST`: the state to run in, the cycles of TCK, the least and the longest time in picoseconds, each rounded
+    /// up, and the state to end in. A count or a least time is given.
     RunTest {
         run: Option<State>,
         count: Option<u32>,

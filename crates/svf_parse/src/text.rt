@@ -33,13 +33,13 @@ enum Group<'a> {
     Words(Lexer<'a>),
 }
 
-/// The statements of a text in order, or its first refusal: that of the first faulty statement, and of its own refusals the
-/// one with the lowest number. An empty statement says nothing and does not count.
+/// The statements of a text in order, or its first refusal: that of the first faulty statement, and of its own refusals
+/// the one with the lowest number. An empty statement says nothing and does not count.
 ///
-/// A text above 16 MiB is refused as a whole (S15, statement 0). Want of memory is S16 with statement 0; nothing is said of
-/// when it comes. The time is linear in the text's length. The answer has at most four bits for each byte of the text, since
-/// a field has those that its digits write; beside text and answer, memory is taken only for the digits of one statement's
-/// fields.
+/// A text above 16 MiB is refused as a whole (S15, statement 0). Want of memory is S16 with statement 0; nothing is
+/// said of when it comes. The time is linear in the text's length. The answer has at most four bits for each byte of
+/// the text, since a field has those that its digits write; beside text and answer, memory is taken only for the digits
+/// of one statement's fields.
 pub fn parse(alloc: Global, text: &[u8]) -> Result<Vec<Statement>, SvfFault>
     // What is read is spelled so.
     ensures found { IfOk result (λ v. TextSpells text.now (map said v.items)) }
@@ -105,7 +105,8 @@ fn statements(alloc: Global, text: Lexer<'_>) -> Result<Vec<Statement>, Stop>
 
 /// The statement with this number, or its refusal.
 fn numbered(alloc: Global, number: usize, words: Lexer<'_>) -> Result<Statement, Stop>
-    ensures says { Tells said result (at_statement number (within_limit number (statement_says (words_left words.entry)))) }
+    ensures says { Tells said result
+        (at_statement number (within_limit number (statement_says (words_left words.entry)))) }
     ensures within { IfOk result (λ _. number ≤ 200000) }
 {
     match statement(alloc, words) {

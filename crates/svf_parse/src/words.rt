@@ -8,7 +8,8 @@ use svf_lex::{Kind, Lexer};
 /// The next word of the statement, and the lexer after it.
 #[tactic(auto, unfolding(crate::specs::Words::words_left))]
 pub(crate) fn next_word<'a>(lexer: Lexer<'a>) -> Option<(&'a [u8], Lexer<'a>)>
-    ensures { MatchOption result (words_left lexer.entry ≡ []) (λ p. words_left lexer.entry ≡ p.0.now ∷ words_left p.1) }
+    ensures { MatchOption result (words_left lexer.entry ≡ [])
+        (λ p. words_left lexer.entry ≡ p.0.now ∷ words_left p.1) }
 {
     let mut after = lexer;
     match after.next() {

@@ -57,7 +57,8 @@ path_of (Some s) = states_of s
 
 abbrev pub step_in : List Said → Kept → Step
 step_in all (kept.Scan column h b t end) =
-    let whole = vector_of (unwrap_or (parts_in all h) no_fields) (part_in all b) (unwrap_or (parts_in all t) no_fields) in
+    let whole = vector_of (unwrap_or (parts_in all h) no_fields) (part_in all b)
+    (unwrap_or (parts_in all t) no_fields) in
     Scan column whole end
 step_in all (kept.Go s) = Go s
 step_in all (kept.Path i) = Path (path_of (slice_get all i))

@@ -1,6 +1,7 @@
 -- What holds at a statement of the Serial Vector Format (revision E), by looking back at the statements before it.
 -- `before` has these, the nearest first: each definition looks at the nearest one, and else further back.
-use Rattle.std.specs.Prelude.{ℕ, ◌==◌, Bool, true, false, max, List, [], ◌∷◌, Option, Some, None, unwrap_or, if◌then◌else◌}
+use Rattle.std.specs.Prelude.{ℕ, ◌==◌, Bool, true, false, max, List, [], ◌∷◌, Option, Some, None, unwrap_or}
+use Rattle.std.specs.Prelude.{if◌then◌else◌}
 use Rattle.std.specs.Int.{div_ceil}
 use Rattle.jt_tap.specs.declared.Column.{Column}
 use Rattle.jt_tap.specs.declared.Column.TheVariants.{Dr, Ir}

@@ -1,5 +1,6 @@
 -- Why a statement is refused, by the settings at it and the place where the program rests before it.
-use Rattle.std.specs.Prelude.{◌≡◌, ℕ, ◌+◌, ◌*◌, ◌≤◌, Bool, true, false, not, ◌&&◌, ◌==◌, nat_lt, List, [], ◌∷◌, Option, Some, None, is_some, if◌then◌else◌}
+use Rattle.std.specs.Prelude.{◌≡◌, ℕ, ◌+◌, ◌*◌, ◌≤◌, Bool, true, false, not, ◌&&◌, ◌==◌, nat_lt, List, [], ◌∷◌, Option}
+use Rattle.std.specs.Prelude.{Some, None, is_some, if◌then◌else◌}
 use Rattle.jt_tap.specs.Controller.{is_stable}
 use Rattle.jt_tap.specs.declared.State.{State}
 use Rattle.tap_paths.specs.Paths.{last_of}
@@ -14,7 +15,8 @@ use Rattle.svf_parse.specs.Judging as said
 use Rattle.scan_vectors.specs.Fields.{Fields}
 use Rattle.svf_settings.specs.Steps.{Step, Trst}
 use Rattle.svf_settings.specs.Legal.{leaves_reset}
-use Rattle.svf_settings.specs.LookBack.{Settings, settings, cycles, field_or, last_of_command, runs_in, ends_in, step, place}
+use Rattle.svf_settings.specs.LookBack.{Settings, settings, cycles, field_or, last_of_command, runs_in, ends_in, step}
+use Rattle.svf_settings.specs.LookBack.{place}
 
 -- a whole vector has at most 65,536 bits, and a run at most 4,294,967,295 cycles
 abbrev pub vector_limit : ℕ

@@ -1,6 +1,7 @@
 //! Statements read from the first to the last, each with what those before it set.
 
-ghost use Rattle.std.specs.Prelude.{◌≡◌, ◌++◌, ◌+◌, ◌<◌, ◌^◌, List, [], Some, Option, IfOk, IfSome, map, length, slice_get};
+ghost use Rattle.std.specs.Prelude.{◌≡◌, ◌++◌, ◌+◌, ◌<◌, ◌^◌, List, [], Some, Option, IfOk, IfSome, map, length};
+ghost use Rattle.std.specs.Prelude.{slice_get};
 ghost use Rattle.svf_parse.specs.View.{memory_fault, said};
 ghost use Rattle.svf_parse.specs.Judging.{Said};
 ghost use Rattle.svf_settings.specs.Reading.{IsBehind, Keeps, Takes, kept_as};

@@ -1,6 +1,7 @@
 //! Why a statement is refused at the settings there.
 
-ghost use Rattle.std.specs.Prelude.{◌≡◌, ◌+◌, ◌*◌, ◌==◌, ◌&&◌, Bool, List, Option, Some, None, [], map, not, nat_lt, option_map, if◌then◌else◌, unwrap_or, is_some};
+ghost use Rattle.std.specs.Prelude.{◌≡◌, ◌+◌, ◌*◌, ◌==◌, ◌&&◌, Bool, List, Option, Some, None, [], map, not, nat_lt};
+ghost use Rattle.std.specs.Prelude.{option_map, if◌then◌else◌, unwrap_or, is_some};
 ghost use Rattle.std.specs.Int.{div_ceil};
 ghost use Rattle.std.specs.List.{list_all};
 ghost use Rattle.svf_parse.specs.View.{said};
@@ -73,7 +74,8 @@ impl Running {
     ) -> Option<Code>
         ensures { (place : State) (tdo mask smask : Option (List Bool))
             → result
-            ≡ spec.told (settings_in (map said statements.now) self.now) place (says.scan which len tdi.now tdo mask smask) }
+            ≡ spec.told (settings_in (map said statements.now) self.now) place
+            (says.scan which len tdi.now tdo mask smask) }
     {
         if self.misses_tdi(statements, which, len, tdi) {
             return Some(Code::MissingTdi);
@@ -95,7 +97,8 @@ impl Running {
     ) -> bool
         ensures { (tdo mask smask : Option (List Bool))
             → result
-            ≡ spec.misses_tdi (settings_in (map said statements.now) self.now) (says.scan which len tdi.now tdo mask smask) }
+            ≡ spec.misses_tdi (settings_in (map said statements.now) self.now)
+            (says.scan which len tdi.now tdo mask smask) }
     {
         len != 0 && tdi.is_none() && self.tdi_before(statements, which, len).is_none()
     }

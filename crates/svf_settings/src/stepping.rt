@@ -1,6 +1,7 @@
 //! What a statement makes and sets at the settings there.
 
-ghost use Rattle.std.specs.Prelude.{◌≡◌, ℕ, Bool, List, Option, Some, None, if◌then◌else◌, is_some, map, option_and_then, option_map, slice_get, unwrap_or};
+ghost use Rattle.std.specs.Prelude.{◌≡◌, ℕ, Bool, List, Option, Some, None, if◌then◌else◌, is_some, map};
+ghost use Rattle.std.specs.Prelude.{option_and_then, option_map, slice_get, unwrap_or};
 ghost use Rattle.svf_parse.specs.View.{said};
 ghost use Rattle.svf_parse.specs.Judging.{Said};
 ghost use Rattle.svf_parse.specs.Judging as says;

@@ -141,7 +141,8 @@ fn headers_and_trailers(rt: HostRuntime) -> Result<(), Fail> {
         &[
             (
                 b"HDR 1 TDI (1) TDO (1); TDR 2 TDI (1) TDO (2) MASK (2); SDR 1 TDI (0); SDR 1 TDO (1);",
-                "4; 3 Dr Header0 Data0 Trailer0 Trailer1 1010 1xx1 IDLE; 4 Dr Header0 Data0 Trailer0 Trailer1 1010 11x1 IDLE",
+                "4; 3 Dr Header0 Data0 Trailer0 Trailer1 1010 1xx1 IDLE; \
+                4 Dr Header0 Data0 Trailer0 Trailer1 1010 11x1 IDLE",
             ),
             // a header of the other column does not count, and one of length 0 takes it away
             (

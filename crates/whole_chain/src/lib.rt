@@ -1,8 +1,9 @@
-//! A scan through a whole chain at once, without TCK and without memory: what comes out is judged, and the registers take
-//! what stays in (IEEE Std 1149.1-2001, clause 9).
+//! A scan through a whole chain at once, without TCK and without memory: what comes out is judged, and the registers
+//! take what stays in (IEEE Std 1149.1-2001, clause 9).
 #![tactic(auto)]
 
-ghost use Rattle.std.specs.Prelude.{◌≡◌, ◌+◌, ◌<◌, ◌≤◌, ◌^◌, ℕ, [], Bool, List, length, drop, map, slice_get, slice_index_or, Some};
+ghost use Rattle.std.specs.Prelude.{◌≡◌, ◌+◌, ◌<◌, ◌≤◌, ◌^◌, ℕ, [], Bool, List, length, drop, map, slice_get};
+ghost use Rattle.std.specs.Prelude.{slice_index_or, Some};
 ghost use Rattle.jt_bits.specs.Packed.{has_bit};
 ghost use Rattle.jt_bits.specs.Words.{bit_of};
 ghost use Rattle.scan_vectors.specs.Vector.{judge, tdis};
@@ -14,8 +15,8 @@ use scan_registers::Link;
 use scan_vectors::{Part, Vector};
 use whole_scan::{judge_behind, judge_word};
 
-/// The least bit of a vector whose wanted value differs from what comes out of the chain, of which the first link is the
-/// nearest to TDO: first the registers that the column selects, and behind them the vector's own TDI.
+/// The least bit of a vector whose wanted value differs from what comes out of the chain, of which the first link is
+/// the nearest to TDO: first the registers that the column selects, and behind them the vector's own TDI.
 pub fn judge_chain<L: Link>(chain: &[L], column: Column, vector: &Vector) -> Option<(Part, usize)>
     ensures { result
         ≡ judge (bits vector.now) (out (bits vector.now) (map (λ c. L.register c column) chain.now)) }
@@ -34,7 +35,8 @@ pub fn judge_chain<L: Link>(chain: &[L], column: Column, vector: &Vector) -> Opt
     judge_behind(vector, at)
 }
 
-/// The least bit of a vector, from bit `at` on, whose wanted value differs from the link's register that comes out there.
+/// The least bit of a vector, from bit `at` on, whose wanted value differs from the link's register that comes out
+/// there.
 fn judge_link<L: Link>(
     link: &L,
     column: Column,
@@ -141,7 +143,8 @@ fn run_at<L: Link>(chain: &[L], column: Column, vector: &Vector, spot: Spot) -> 
     ensures inside { spot.link < length chain.now
         → spot.bit + result.len ≤ length (slice_index_or (map (λ c. L.register c column) chain.now) spot.link []) }
     ensures register { spot.link < length chain.now → (j : ℕ) → j < result.len
-        → has_bit result.bits j ≡ bit_of (slice_index_or (map (λ c. L.register c column) chain.now) spot.link []) (spot.bit + j) }
+        → has_bit result.bits j ≡ bit_of (slice_index_or (map (λ c. L.register c column) chain.now) spot.link [])
+        (spot.bit + j) }
     ensures vector { length chain.now ≤ spot.link → (j : ℕ) → j < result.len
         → slice_get (tdis (bits vector.now)) (spot.bit + j) ≡ Some (has_bit result.bits j) }
 {

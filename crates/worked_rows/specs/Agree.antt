@@ -33,7 +33,8 @@ flat_users (u ∷ us) = flat u.stage ++ flat u.latch ++ flat_users us
 
 abbrev pub flat_registers : Registers → List ℕ
 flat_registers r =
-    flat r.latch ++ flat r.stage ++ flat r.bypass ++ flat r.identification ++ flat r.boundary ++ flat r.update ++ flat_users r.users
+    flat r.latch ++ flat r.stage ++ flat r.bypass ++ flat r.identification ++ flat r.boundary ++ flat r.update
+    ++ flat_users r.users
 
 abbrev pub place : State → ℕ
 place Reset = 0

@@ -1,7 +1,8 @@
 -- Worked rows, computed: the play by edges, the outcome by whole registers, and that they agree.
 use Rattle.std.proofs.Common.{◌≡◌, Bool, true, false, ℕ, List, [], ◌∷◌, map, codes, length}
 use Rattle.std.specs.Prelude.{Some, None}
-use Rattle.jt_tap.specs.declared.State.TheVariants.{Idle, DrSelect, DrCapture, DrShift, DrExit1, DrUpdate, DrPause, IrPause, Reset}
+use Rattle.jt_tap.specs.declared.State.TheVariants.{Idle, DrSelect, DrCapture, DrShift, DrExit1, DrUpdate, DrPause}
+use Rattle.jt_tap.specs.declared.State.TheVariants.{IrPause, Reset}
 use Rattle.bsdl_device.specs.Device.{Device}
 use Rattle.pin_nets.specs.declared.Pull.{Pull}
 use Rattle.board_meaning.specs.Nets.{level}
@@ -18,7 +19,8 @@ use Rattle.plays.specs.declared.ending.Ending.TheVariants.{Pass, Fail}
 use Rattle.svf_settings.specs.Steps.{Go, Path, Run, Trst, Numbered}
 use Rattle.svf_parse.specs.declared.statement.TrstWord.TheVariants.{On}
 use Rattle.plays.specs.Play.{player, turns}
-use Rattle.worked_rows.specs.Samples.{bits, k, kt, kh, ki, ku, kuc, p, plain, with_core, q, d, net, tdi, tdo, mask, sir, sdr, sdr_to, hdr_sdr, step}
+use Rattle.worked_rows.specs.Samples.{bits, k, kt, kh, ki, ku, kuc, p, plain, with_core, q, d, net, tdi, tdo, mask, sir}
+use Rattle.worked_rows.specs.Samples.{sdr, sdr_to, hdr_sdr, step}
 use Rattle.worked_rows.specs.Agree.{Row, played}
 
 abbrev pub pulled_down : AtRest
@@ -63,31 +65,40 @@ pub record PlayRows : Type 0 where
       (codes "r2626262626004262604041537260402604041R50R41R50R43R726040Q") Pass
   pub pause_holds_the_update : Row pulled_down (sir 1 (tdi 2 0) ∷ sdr_to 3 (tdi 3 3) DrPause ∷ [])
       (codes "r262626262600426260404042626040260404151526040Q") Pass
-  pub pause_level : net_levels (played pulled_down (sir 1 (tdi 2 0) ∷ sdr_to 3 (tdi 3 3) DrPause ∷ [])).board ≡ Zero ∷ []
+  pub pause_level : net_levels (played pulled_down (sir 1 (tdi 2 0) ∷ sdr_to 3 (tdi 3 3) DrPause ∷ [])).board
+      ≡ Zero ∷ []
   pub left_pause_updates : Row pulled_down (sir 1 (tdi 2 0) ∷ sdr_to 3 (tdi 3 3) DrPause ∷ step 4 (Go Idle) ∷ [])
       (codes "r2626262626004262604040426260402604041515260402626040Q") Pass
-  pub left_pause_level : net_levels (played pulled_down (sir 1 (tdi 2 0) ∷ sdr_to 3 (tdi 3 3) DrPause ∷ step 4 (Go Idle) ∷ [])).board ≡ One ∷ []
-  pub ir_pause_captures : Row (plain (k ∷ [])) (step 1 (Go IrPause) ∷ step 2 (Go Idle) ∷ []) (codes "r2626262626004262604260402626040Q") Pass
-  pub ir_pause_latch : latches (played (plain (k ∷ [])) (step 1 (Go IrPause) ∷ step 2 (Go Idle) ∷ [])).board ≡ bits 2 1 ∷ []
+  pub left_pause_level : net_levels
+      (played pulled_down (sir 1 (tdi 2 0) ∷ sdr_to 3 (tdi 3 3) DrPause ∷ step 4 (Go Idle) ∷ [])).board ≡ One ∷ []
+  pub ir_pause_captures : Row (plain (k ∷ [])) (step 1 (Go IrPause) ∷ step 2 (Go Idle) ∷ [])
+      (codes "r2626262626004262604260402626040Q") Pass
+  pub ir_pause_latch : latches (played (plain (k ∷ [])) (step 1 (Go IrPause) ∷ step 2 (Go Idle) ∷ [])).board
+      ≡ bits 2 1 ∷ []
   pub ir_pause_instruction : instruction k (bits 2 1) ≡ Some (codes "SAMPLE")
   pub stated_path_shifts_zeros : Row (plain (k ∷ []))
       (sir 1 (tdi 2 3) ∷ step 2 (Path (DrSelect ∷ DrCapture ∷ DrShift ∷ DrShift ∷ DrExit1 ∷ DrUpdate ∷ Idle ∷ [])) ∷ [])
       (codes "r262626262600426260404153726040260404042626040Q") Pass
   pub trst_resets_without_settling : Row (plain (kt ∷ k ∷ [])) trst_after_a_pause
       (codes "r2626262626004262604040404042626040260404151504151526040t26262626260Q") Pass
-  pub trst_keeps_update_stages : map (λ r. r.update) (registers_of (played (plain (kt ∷ k ∷ [])) trst_after_a_pause).board) ≡ bits 3 0 ∷ bits 3 3 ∷ []
+  pub trst_keeps_update_stages : map (λ r. r.update)
+      (registers_of (played (plain (kt ∷ k ∷ [])) trst_after_a_pause).board) ≡ bits 3 0 ∷ bits 3 3 ∷ []
   pub trst_resets_latches : latches (played (plain (kt ∷ k ∷ [])) trst_after_a_pause).board ≡ bits 2 2 ∷ bits 2 2 ∷ []
   -- three cycles in IDLE
   pub runtest_cycles : Row (plain (k ∷ [])) (step 2 (Run Idle 3 Idle) ∷ []) (codes "r26262626260040404040Q") Pass
   pub contention : Row (opposed_drivers Free) (sir 1 (tdi 4 0) ∷ sdr 2 (tdi 6 0x13) ∷ sdr 3 (tdo 6 0x13 0x20) ∷ [])
       (codes "r2626262626004262604040404042626040260404151504041526260402604041R51R50R40R41R52R626040Q") Pass
-  pub contention_level : net_levels (played (opposed_drivers Free) (sir 1 (tdi 4 0) ∷ sdr 2 (tdi 6 0x13) ∷ sdr 3 (tdo 6 0x13 0x20) ∷ [])).board ≡ Contend ∷ []
+  pub contention_level : net_levels
+      (played (opposed_drivers Free) (sir 1 (tdi 4 0) ∷ sdr 2 (tdi 6 0x13) ∷ sdr 3 (tdo 6 0x13 0x20) ∷ [])).board
+      ≡ Contend ∷ []
   pub pulled_up : Row (opposed_drivers Up) (sir 1 (tdi 4 0) ∷ sdr 2 (tdo 6 0 0x24) ∷ [])
       (codes "r26262626260042626040404040426260402604040R40R40R40R40R42R626040Q") Pass
-  pub pulled_up_level : net_levels (played (opposed_drivers Up) (sir 1 (tdi 4 0) ∷ sdr 2 (tdo 6 0 0x24) ∷ [])).board ≡ One ∷ []
+  pub pulled_up_level : net_levels (played (opposed_drivers Up) (sir 1 (tdi 4 0) ∷ sdr 2 (tdo 6 0 0x24) ∷ [])).board
+      ≡ One ∷ []
   pub floating : Row (opposed_drivers Free) (sir 1 (tdi 4 0) ∷ sdr 2 (tdo 6 0 0x24) ∷ [])
       (codes "r26262626260042626040404040426260402604040R40R40R40R40R42R626040Q") Pass
-  pub floating_level : net_levels (played (opposed_drivers Free) (sir 1 (tdi 4 0) ∷ sdr 2 (tdo 6 0 0x24) ∷ [])).board ≡ Float ∷ []
+  pub floating_level : net_levels (played (opposed_drivers Free) (sir 1 (tdi 4 0) ∷ sdr 2 (tdo 6 0 0x24) ∷ [])).board
+      ≡ Float ∷ []
   pub pins_on : net_levels (resting (with_q k 3)) ≡ One ∷ []
   pub pins_off : net_levels (resting (with_q k 1)) ≡ Float ∷ []
   pub pins_plain : net_levels (resting (with_q kh 1)) ≡ One ∷ []
@@ -99,21 +110,26 @@ pub record PlayRows : Type 0 where
       (codes "r26262626260042626040415151526260402604040R40R40R42R626040Q") Pass
   pub user : Row (plain (ku ∷ [])) (sir 1 (tdi 2 1) ∷ sdr 2 (tdo 4 9 0) ∷ sdr 3 (tdo 4 0 9) ∷ [])
       (codes "r2626262626004262604041526260402604041R50R40R43R7260402604040R40R40R42R626040Q") Pass
-  pub user_latch : map (λ r. r.users) (registers_of (played (plain (ku ∷ [])) (sir 1 (tdi 2 1) ∷ sdr 2 (tdo 4 9 0) ∷ sdr 3 (tdo 4 0 9) ∷ [])).board)
+  pub user_latch : map (λ r. r.users)
+      (registers_of (played (plain (ku ∷ [])) (sir 1 (tdi 2 1) ∷ sdr 2 (tdo 4 9 0) ∷ sdr 3 (tdo 4 0 9) ∷ [])).board)
       ≡ (record { stage = bits 4 0; latch = bits 4 0 } ∷ []) ∷ []
   pub user_fixed : Row (plain (kuc ∷ [])) (sir 1 (tdi 2 1) ∷ sdr 2 (tdo 4 9 5) ∷ sdr 3 (tdo 4 9 5) ∷ [])
       (codes "r2626262626004262604041526260402604041R50R40R43R7260402604041R50R40R43R726040Q") Pass
   -- the bare device
-  pub bare_ir : Row (plain (p ∷ [])) (step 1 (Go IrPause) ∷ step 2 (Go Idle) ∷ []) (codes "r2626262626004262604260402626040Q") Pass
+  pub bare_ir : Row (plain (p ∷ [])) (step 1 (Go IrPause) ∷ step 2 (Go Idle) ∷ [])
+      (codes "r2626262626004262604260402626040Q") Pass
   pub bare_latch : latches (played (plain (p ∷ [])) (step 1 (Go IrPause) ∷ step 2 (Go Idle) ∷ [])).board ≡ bits 2 1 ∷ []
   pub bare_name : instruction p (bits 2 1) ≡ None
   pub bare_dr : Row (plain (p ∷ p ∷ [])) (step 1 (Go DrPause) ∷ []) (codes "r2626262626004260426040Q") Pass
   pub run_test : Row (plain (k ∷ []))
-      (step 1 (Run DrPause 2 Idle) ∷ step 2 (Run Reset 2 Reset) ∷ step 3 (Run Reset 0 Reset) ∷ step 4 (Run Reset 0 Reset) ∷ [])
+      (step 1 (Run DrPause 2 Idle) ∷ step 2 (Run Reset 2 Reset) ∷ step 3 (Run Reset 0 Reset)
+      ∷ step 4 (Run Reset 0 Reset) ∷ [])
       (codes "r2626262626004260426040404262604026262626260Q") Pass
   -- what the player may send: a window of 1, and of 256
   pub window_one : player 1 (turns (sir 1 (tdo 2 3 1) ∷ [])) [] ≡ codes "r2626262626004262604041R53"
-  pub window_one_next : player 1 (turns (sir 1 (tdo 2 3 1) ∷ [])) (true ∷ []) ≡ codes "r2626262626004262604041R53R726040"
-  pub window_one_end : player 1 (turns (sir 1 (tdo 2 3 1) ∷ [])) (true ∷ false ∷ []) ≡ codes "r2626262626004262604041R53R726040Q"
+  pub window_one_next : player 1 (turns (sir 1 (tdo 2 3 1) ∷ [])) (true ∷ [])
+      ≡ codes "r2626262626004262604041R53R726040"
+  pub window_one_end : player 1 (turns (sir 1 (tdo 2 3 1) ∷ [])) (true ∷ false ∷ [])
+      ≡ codes "r2626262626004262604041R53R726040Q"
   pub window_wide : length (player 256 (turns (sir 1 (tdo 2 3 1) ∷ [])) []) ≡ 33
   pub window_full : length (player 256 (turns (sdr 1 (tdo 300 0 0) ∷ [])) []) ≡ 789

@@ -1,5 +1,6 @@
 -- The devices of the worked rows, written out as a reader of their texts would give them.
-use Rattle.std.specs.Prelude.{Bool, true, false, ℕ, zero, suc, ◌/◌, ◌%◌, ◌==◌, List, [], ◌∷◌, map, replicate, length, Some, None, codes}
+use Rattle.std.specs.Prelude.{Bool, true, false, ℕ, zero, suc, ◌/◌, ◌%◌, ◌==◌, List, [], ◌∷◌, map, replicate, length}
+use Rattle.std.specs.Prelude.{Some, None, codes}
 use Rattle.jt_tap.specs.declared.Column.TheVariants.{Dr, Ir}
 use Rattle.jt_tap.specs.declared.State.{State}
 use Rattle.jt_tap.specs.declared.State.TheVariants.{Idle}
@@ -34,11 +35,16 @@ abbrev pub opcode : List ℕ → ℕ → Opcode
 opcode name v = record { name = name; patterns = pattern 2 v ∷ [] }
 
 abbrev pub q_cell : Cell
-q_cell = record { function = Output3; port = Some 4; control = Some (record { cell = 1; disabling = false; leaves = Z }) }
+q_cell = record {
+  function = Output3;
+  port = Some 4;
+  control = Some (record { cell = 1; disabling = false; leaves = Z });
+}
 
 abbrev pub device_with : List Opcode → Cell → List Access → List ℕ → Bool → Device
 device_with rows q accesses users trst = record {
-  ports = port true (codes "TDI") ∷ port true (codes "TMS") ∷ port true (codes "TCK") ∷ port true (codes "TDO") ∷ port false (codes "Q") ∷ port false (codes "D") ∷ [];
+  ports = port true (codes "TDI") ∷ port true (codes "TMS") ∷ port true (codes "TCK") ∷ port true (codes "TDO")
+      ∷ port false (codes "Q") ∷ port false (codes "D") ∷ [];
   instruction_length = 2;
   opcodes = rows;
   capture = bits 2 1;
@@ -55,7 +61,8 @@ device_with rows q accesses users trst = record {
 }
 
 abbrev pub rows_with : List ℕ → List Opcode
-rows_with third = opcode (codes "BYPASS") 3 ∷ opcode (codes "EXTEST") 0 ∷ opcode third 1 ∷ opcode (codes "IDCODE") 2 ∷ []
+rows_with third = opcode (codes "BYPASS") 3 ∷ opcode (codes "EXTEST") 0 ∷ opcode third 1 ∷ opcode (codes "IDCODE") 2
+    ∷ []
 
 abbrev pub k : Device
 k = device_with (rows_with (codes "SAMPLE")) q_cell [] [] false
@@ -70,10 +77,12 @@ abbrev pub ki : Device
 ki = device_with (rows_with (codes "INTEST")) q_cell [] [] false
 
 abbrev pub ku : Device
-ku = device_with (rows_with (codes "LOAD")) q_cell (record { instruction = codes "LOAD"; place = AtUser 0; captures = None } ∷ []) (4 ∷ []) false
+ku = device_with (rows_with (codes "LOAD")) q_cell
+    (record { instruction = codes "LOAD"; place = AtUser 0; captures = None } ∷ []) (4 ∷ []) false
 
 abbrev pub kuc : Device
-kuc = device_with (rows_with (codes "LOAD")) q_cell (record { instruction = codes "LOAD"; place = AtUser 0; captures = Some (bits 4 5) } ∷ []) (4 ∷ []) false
+kuc = device_with (rows_with (codes "LOAD")) q_cell
+    (record { instruction = codes "LOAD"; place = AtUser 0; captures = Some (bits 4 5) } ∷ []) (4 ∷ []) false
 
 -- the bare device
 abbrev pub p : Device

@@ -74,14 +74,24 @@ pub record EdgeRows : Type 0 where
   -- a byte off the table
   pub refused : reply 0x5a (resting (plain (p ∷ []))) ≡ Refused 0x5a
   pub refused_board : after 0x5a (resting (plain (p ∷ []))) ≡ resting (plain (p ∷ []))
-  pub byte_by_byte : ended 1 (turns ir_scan) (run (by_answers (player 1 (turns ir_scan))) 1 1 (one_by_one 34) start) ≡ Some Pass
-  pub byte_by_byte_wide : ended 1 (turns ir_scan) (run (by_answers (player 256 (turns ir_scan))) 1 1 (one_by_one 34) start) ≡ Some Pass
-  pub byte_by_byte_not_yet : ended 1 (turns ir_scan) (run (by_answers (player 256 (turns ir_scan))) 1 1 (one_by_one 33) start) ≡ None
-  pub byte_by_byte_board : bytes_eq (flat_board (run (by_answers (player 256 (turns ir_scan))) 1 1 (one_by_one 34) start).board) (flat_board (resting (meant (plain (k ∷ [])) ir_scan).after)) ≡ true
-  pub lost_after_an_answer : ended 1 (turns ir_scan) (run (by_answers (player 1 (turns ir_scan))) 1 1 (one_by_one 26 ++ Lose ∷ []) start) ≡ Some (Lost 1)
-  pub lost_before_quit : ended 0 (turns []) (run (by_answers (player 256 (turns []))) 64 64 (Put 12 ∷ Serve 12 ∷ Put 1 ∷ Lose ∷ []) start) ≡ Some (Lost 1)
-  pub lost_at_once : ended 1 (turns ir_scan) (run (by_answers (player 256 (turns ir_scan))) 1 1 (Lose ∷ Put 5 ∷ []) start) ≡ Some (Lost 0)
-  pub lost_last : ended 1 (turns ir_scan) (run (by_answers (player 256 (turns ir_scan))) 64 64 (Put 64 ∷ Serve 64 ∷ Take 1 ∷ Take 1 ∷ Lose ∷ []) start) ≡ Some (Lost 2)
+  pub byte_by_byte : ended 1 (turns ir_scan) (run (by_answers (player 1 (turns ir_scan))) 1 1 (one_by_one 34) start)
+      ≡ Some Pass
+  pub byte_by_byte_wide : ended 1 (turns ir_scan)
+      (run (by_answers (player 256 (turns ir_scan))) 1 1 (one_by_one 34) start) ≡ Some Pass
+  pub byte_by_byte_not_yet : ended 1 (turns ir_scan)
+      (run (by_answers (player 256 (turns ir_scan))) 1 1 (one_by_one 33) start) ≡ None
+  pub byte_by_byte_board : bytes_eq
+      (flat_board (run (by_answers (player 256 (turns ir_scan))) 1 1 (one_by_one 34) start).board)
+      (flat_board (resting (meant (plain (k ∷ [])) ir_scan).after)) ≡ true
+  pub lost_after_an_answer : ended 1 (turns ir_scan)
+      (run (by_answers (player 1 (turns ir_scan))) 1 1 (one_by_one 26 ++ Lose ∷ []) start) ≡ Some (Lost 1)
+  pub lost_before_quit : ended 0 (turns [])
+      (run (by_answers (player 256 (turns []))) 64 64 (Put 12 ∷ Serve 12 ∷ Put 1 ∷ Lose ∷ []) start) ≡ Some (Lost 1)
+  pub lost_at_once : ended 1 (turns ir_scan)
+      (run (by_answers (player 256 (turns ir_scan))) 1 1 (Lose ∷ Put 5 ∷ []) start) ≡ Some (Lost 0)
+  pub lost_last : ended 1 (turns ir_scan)
+      (run (by_answers (player 256 (turns ir_scan))) 64 64 (Put 64 ∷ Serve 64 ∷ Take 1 ∷ Take 1 ∷ Lose ∷ []) start)
+      ≡ Some (Lost 2)
   -- 34 bytes each way and 2 answers
   pub byte_by_byte_moves : moving (by_answers (player 1 (turns ir_scan))) 1 1 (one_by_one 34) start ≡ 70
   pub lost_first_moves : moving (by_answers (player 256 (turns ir_scan))) 64 64 (Lose ∷ Put 5 ∷ []) start ≡ 0

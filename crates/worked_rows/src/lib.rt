@@ -4,8 +4,8 @@
 ghost use Rattle.worked_rows.specs.Plays.{PlayRows};
 ghost use Rattle.worked_rows.specs.Single.{EdgeRows};
 
-/// Plays of small programs on small boards: the bytes sent, the ending by edges and by whole registers, and the registers
-/// and net levels left, each computed from the definitions.
+/// Plays of small programs on small boards: the bytes sent, the ending by edges and by whole registers, and the
+/// registers and net levels left, each computed from the definitions.
 pub fn plays_compute()
     ensures { PlayRows }
 {}
