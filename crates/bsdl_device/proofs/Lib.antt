@@ -1,1 +1,2 @@
+mod FoundLaws
 mod PortLaws

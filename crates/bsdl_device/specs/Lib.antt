@@ -1,4 +1,6 @@
 pub mod Device
+pub mod Found
+pub mod Kept
 pub mod Ports
 pub mod Sound
 pub mod View

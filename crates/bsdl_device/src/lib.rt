@@ -5,6 +5,7 @@ pub use port_bits::{Indices, Port, PortBit, Ports};
 pub use rows::{Access, Opcode, Pattern};
 pub use whole::{Device, Parts};
 
+mod numbers;
 mod port_bits;
 mod rows;
 mod whole;
