@@ -65,7 +65,8 @@ fn ring(alloc: Global, devices: usize) -> Result<Option<Board>, AllocError> {
         let next = if i + 1 < devices { i + 1 } else { 0 };
         for k in 0..BUS {
             let net = format!(in alloc;
-                "[[net]]\nname = \"N{i}_{k}\"\npins = [\"U{i}.Q({k})\", \"U{next}.D({k})\"]\n")?;
+                "[[net]]\nname = \"N{i}_{k}\"\npins = [\"U{i}.Q({k})\", \"U{next}.D({k})\"]\n"
+            )?;
             text.push_str(net.as_str())?;
         }
     }

@@ -100,7 +100,7 @@ number_is q j ports bits = position_map (is_bit q j) (placed ports) bits ∙ pos
 named_by : (q : List ℕ) (ports : List Port) (p : Port) (i : Option ℕ) → is_named q (ports ++ p ∷ []) (record { port = length ports; index = i }) ≡ str_eq_ignore_ascii_case q (string_bytes p.name)
 named_by q ports p i = ap (λ o. str_eq_ignore_ascii_case q (bit_of o i).name) (get_seam ports p)
 
-turned : (a b : List ℕ) (h : Bool) → bytes_eq a b ≡ h → bytes_eq b a ≡ h
+pub turned : (a b : List ℕ) (h : Bool) → bytes_eq a b ≡ h → bytes_eq b a ≡ h
 turned a b true is = (bytes_eq-Decides b a).1 (sym ((bytes_eq-Decides a b).0 is))
 turned a b false is = by_test (bytes_eq b a) refl
   where

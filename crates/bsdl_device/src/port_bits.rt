@@ -200,11 +200,7 @@ fn add_bits(
     Ok(())
 }
 
-fn add_bit(
-    bits: &mut Vec<BitPlace>,
-    numbers: &mut Numbers,
-    bit: BitPlace,
-) -> Result<(), AllocError>
+fn add_bit(bits: &mut Vec<BitPlace>, numbers: &mut Numbers, bit: BitPlace) -> Result<(), AllocError>
     ensures places { OnOk result (bits.new.items ≡ bits.old.items ++ bit ∷ []) }
     ensures numbers { OnOk result ((passes : declared_place.BitPlace → Bool) → passes bit ≡ true
         → AreFirst passes numbers.old bits.old.items → AreFirst passes numbers.new bits.new.items) }
