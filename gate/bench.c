@@ -1,9 +1,12 @@
 // The work of the program `bench` as plain loops in C: 64 bits to a word, with a moving start. Each row does what the row of
 // that name does there, prints its unit, its least time of a round in nanoseconds, its count and a check, and must have the
 // same count and check.
+#include <ctype.h>
 #include <stdint.h>
 #include <stdio.h>
 #include <stdlib.h>
+#include <string.h>
+#include <strings.h>
 #include <time.h>
 
 enum { ROUNDS = 7, REGISTER = 4096, VECTOR = 65536, SHIFTS = 1000000, TIMES = 100, COUNT = VECTOR - 100 };
@@ -548,6 +551,122 @@ static uint64_t run_update_1(void) { return run_update(1); }
 static uint64_t run_update_8(void) { return run_update(8); }
 static uint64_t run_update_32(void) { return run_update(32); }
 
+// ---- descriptions of devices: a text is cut into words, names are sorted in upper case, and cells look their ports up
+
+enum { TEXT_LIMIT = 4 * 1024 * 1024, FIRST_PORT = 1000, PORTS = 8000, SEEN = 4096, LONG = 490 };
+
+static size_t write_description(char *text, const char *start, int cells) {
+	static const char constant[] = "  constant Limit : integer := 12;\n";
+	char *at = text;
+	at += sprintf(at, "entity W is\n  port (TDI, TMS, TCK : in bit; TDO : out bit");
+	for (int i = 0; i < PORTS; i++)
+		at += sprintf(at, "; %s%d : in bit", start, FIRST_PORT + i);
+	at += sprintf(at, ");\n"
+		"  attribute TAP_SCAN_IN of TDI : signal is true;\n"
+		"  attribute TAP_SCAN_MODE of TMS : signal is true;\n"
+		"  attribute TAP_SCAN_OUT of TDO : signal is true;\n"
+		"  attribute TAP_SCAN_CLOCK of TCK : signal is (10.0e6, BOTH);\n"
+		"  attribute INSTRUCTION_LENGTH of W : entity is 2;\n"
+		"  attribute INSTRUCTION_OPCODE of W : entity is \"BYPASS (11), EXTEST (00), SAMPLE (01)\";\n"
+		"  attribute INSTRUCTION_CAPTURE of W : entity is \"01\";\n");
+	at += sprintf(at, "  attribute BOUNDARY_LENGTH of W : entity is %d;\n  attribute BOUNDARY_REGISTER of W : entity is\n    \"\"", cells);
+	for (int i = 0; i < cells; i++)
+		at += sprintf(at, " &\n    \"%d (BC_4, %s%d, input, X),\"", i, start, FIRST_PORT + i);
+	at += sprintf(at, ";\n");
+	while ((size_t)(at - text) + 2 * strlen(constant) <= TEXT_LIMIT)
+		at += sprintf(at, "%s", constant);
+	at += sprintf(at, "end W;\n");
+	return at - text;
+}
+
+typedef struct { const char *at, *end; } Lexer;
+typedef struct { const char *text; size_t len; } Word; // none at the end
+
+static int in_word(int c) { return isalnum(c) || c == '_' || c == '.'; }
+
+static Word next_word(Lexer *l) {
+	for (;;) {
+		while (l->at < l->end && isspace((unsigned char)*l->at)) l->at++;
+		if (l->end - l->at < 2 || l->at[0] != '-' || l->at[1] != '-') break;
+		while (l->at < l->end && *l->at != '\n' && *l->at != '\r') l->at++;
+	}
+	const char *start = l->at;
+	if (start == l->end) return (Word){ start, 0 };
+	if (*start == '"') {
+		do l->at++; while (l->at < l->end && *l->at != '"');
+		l->at++;
+	} else if (isalnum((unsigned char)*start)) {
+		while (l->at < l->end && in_word((unsigned char)*l->at)) l->at++;
+	} else {
+		l->at++;
+	}
+	return (Word){ start, l->at - start };
+}
+
+static int is(Word w, const char *text) { return w.len == strlen(text) && !strncasecmp(w.text, text, w.len); }
+
+typedef struct { Word name; size_t bit; } PortName;
+
+static int by_name(const void *a, const void *b) {
+	const PortName *x = a, *y = b;
+	size_t len = x->name.len < y->name.len ? x->name.len : y->name.len;
+	int order = strncasecmp(x->name.text, y->name.text, len);
+	return order ? order : (x->name.len > y->name.len) - (x->name.len < y->name.len);
+}
+
+// The rows of the boundary register: a number and a port each.
+static uint64_t check_cells(Lexer l, const PortName *ports, size_t port_count) {
+	uint64_t check = port_count;
+	for (;;) {
+		Word number = next_word(&l);
+		if (!number.len) return check;
+		uint64_t cell = strtoull(number.text, 0, 10);
+		for (int i = 0; i < 3; i++) next_word(&l); // ( name ,
+		PortName port = { next_word(&l), 0 };
+		const PortName *found = bsearch(&port, ports, port_count, sizeof port, by_name);
+		if (found) check += (cell + 1) * (found->bit + 1);
+		for (int i = 0; i < 5; i++) next_word(&l); // , function , value )
+		next_word(&l);
+	}
+}
+
+static uint64_t read_description(const char *text, size_t len) {
+	static PortName ports[PORTS + 4];
+	static char cells[TEXT_LIMIT];
+	size_t port_count = 0, cells_len = 0;
+	Lexer l = { text, text + len };
+	Word w = next_word(&l);
+	while (!is(w, "port")) w = next_word(&l);
+	next_word(&l);
+	for (w = next_word(&l); *w.text != ')'; w = next_word(&l)) { // name {, name} : mode kind ;
+		if (*w.text == ':') {
+			next_word(&l);
+			next_word(&l);
+		} else if (*w.text != ',' && *w.text != ';') {
+			ports[port_count] = (PortName){ w, port_count };
+			port_count++;
+		}
+	}
+	qsort(ports, port_count, sizeof *ports, by_name);
+	for (size_t i = 1; i < port_count; i++)
+		if (!by_name(&ports[i - 1], &ports[i])) return 0;
+	for (w = next_word(&l); !is(w, "end"); w = next_word(&l)) {
+		int is_cells = is(w, "attribute") && is(next_word(&l), "BOUNDARY_REGISTER");
+		for (w = next_word(&l); *w.text != ';'; w = next_word(&l)) {
+			if (is_cells && *w.text == '"') {
+				memcpy(cells + cells_len, w.text + 1, w.len - 2);
+				cells_len += w.len - 2;
+			}
+		}
+	}
+	return check_cells((Lexer){ cells, cells + cells_len }, ports, port_count);
+}
+
+static char many[TEXT_LIMIT + 1], alike[TEXT_LIMIT + 1];
+static size_t many_len, alike_len;
+static uint64_t run_bsdl_read(void) { count = many_len; return read_description(many, many_len); }
+static uint64_t run_bsdl_alike(void) { count = alike_len; return read_description(alike, alike_len); }
+
 static void row(const char *name, const char *unit, uint64_t (*round)(void)) {
 	uint64_t least = UINT64_MAX, check = 0;
 	for (int r = 0; r < ROUNDS; r++) {
@@ -597,5 +716,11 @@ int main(void) {
 	row("update_8", "byte", run_update_8);
 	row("shift_32", "byte", run_shift_32);
 	row("update_32", "byte", run_update_32);
+	char start[LONG + 1] = { 0 };
+	memset(start, 'N', LONG);
+	many_len = write_description(many, "P", SEEN);
+	alike_len = write_description(alike, start, 1);
+	row("bsdl_read", "byte", run_bsdl_read);
+	row("bsdl_alike", "byte", run_bsdl_alike);
 	return 0;
 }

@@ -1,7 +1,7 @@
 //! One device, edge by edge.
 use crate::{Row, Unit, print_row};
 use boundary::Boundary;
-use bsdl_device::{Cell, Device, Function, Opcode, Parts, Pattern, Ports};
+use bsdl_device::{Cell, Device, Function, Names, Opcode, Parts, Pattern, Ports};
 use jt_bits::Bits;
 use scan_registers::{Chip, SharedDevice, is_formed};
 use std::alloc::{AllocError, Global};
@@ -51,7 +51,7 @@ fn device(alloc: Global) -> Result<Device, AllocError> {
         idcode: None,
         usercode: None,
         cells,
-        private_names: Vec::new(alloc),
+        private_names: Names::new(alloc),
         accesses: Vec::new(alloc),
         users: Vec::new(alloc),
         has_trst: true,

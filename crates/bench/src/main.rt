@@ -4,6 +4,7 @@
 mod bits;
 mod boards;
 mod chips;
+mod descriptions;
 mod programs;
 mod scans;
 mod whole_plays;
@@ -35,7 +36,10 @@ fn main(rt: HostRuntime) -> ExitCode {
         Some(word) if word.as_str() == "run" => measure(&rt),
         Some(word) if word.as_str() == "parse" => programs::tell_statements(&rt),
         Some(word) if word.as_str() == "accept" => programs::tell_program(&rt),
-        _ => rt.println("usage: bench run | bench parse <text | bench accept <text"),
+        Some(word) if word.as_str() == "describe" => descriptions::tell_device(&rt),
+        _ => rt.println(
+            "usage: bench run | bench parse <text | bench accept <text | bench describe <text",
+        ),
     };
     if told.is_ok() {
         ExitCode::SUCCESS
@@ -68,7 +72,8 @@ fn measure(rt: &HostRuntime) -> io::Result<()> {
     scans::rows(rt)?;
     chips::rows(rt)?;
     whole_plays::rows(rt)?;
-    boards::rows(rt)
+    boards::rows(rt)?;
+    descriptions::rows(rt)
 }
 
 /// Prints a row's name and unit, which C's row has too, its least time of a round in nanoseconds, its count and its

@@ -3,7 +3,9 @@ ghost use Rattle.std.specs.Prelude.{◌≡◌, [], ◌∷◌, IfOk, string_bytes
 ghost use Rattle.board_file_rows.specs.Small.{small_cell, small_device, small_ports};
 
 use board_file::{BoardFault, Describe, Pin, Plan, Unread, bsdl_names, plan_of_text};
-use bsdl_device::{Cell as BoundaryCell, Device, Function, Indices, Parts, Port, PortMode, Ports};
+use bsdl_device::{
+    Cell as BoundaryCell, Device, Function, Indices, Names, Parts, Port, PortMode, Ports,
+};
 use jt_bits::Bits;
 use pin_nets::Pull;
 use std::alloc::{AllocError, Global};
@@ -61,7 +63,7 @@ fn device(alloc: Global) -> Result<Device, AllocError>
         idcode: None,
         usercode: None,
         cells: cells(alloc)?,
-        private_names: Vec::new(alloc),
+        private_names: Names::new(alloc),
         accesses: Vec::new(alloc),
         users: Vec::new(alloc),
         has_trst: false,

@@ -1,7 +1,7 @@
 //! A register of five cells: output3 on port 0, its control, input on port 1, a controlr cell, and output2 on port 2
 //! that the controlr cell disables by 1, with a pull to 1.
 use super::*;
-use bsdl_device::{Device, Parts, Ports};
+use bsdl_device::{Device, Names, Parts, Ports};
 use std::process::Abort;
 use std::test::Fail;
 
@@ -36,7 +36,7 @@ fn device(alloc: Global) -> Result<Device, AllocError> {
         idcode: None,
         usercode: None,
         cells,
-        private_names: Vec::new(alloc),
+        private_names: Names::new(alloc),
         accesses: Vec::new(alloc),
         users: Vec::new(alloc),
         has_trst: false,

@@ -1,10 +1,10 @@
 //! Patterns and opcodes of a device.
-ghost use Rattle.std.specs.Prelude.{◌≡◌, map, option_map, slice_get, string_bytes, IfOk};
+ghost use Rattle.std.specs.Prelude.{◌≡◌, map, option_map, slice_get, IfOk};
 ghost use Rattle.bsdl_instructions.specs.Values.{bit};
 ghost use Rattle.bsdl_instructions.specs.View as rows_view;
 ghost use Rattle.bsdl_twice.specs.ResetOpcode.{bits as bits_of_pattern, opcode};
 
-use bsdl_device::{Opcode, Pattern};
+use bsdl_device::{Names, Opcode, Pattern};
 use bsdl_instructions::names::{OpcodeRow, PrivateName};
 use bsdl_instructions::patterns::WrittenPattern;
 use jt_bits::Bits;
@@ -86,13 +86,13 @@ fn bit_of(digit: u8) -> Option<bool>
 }
 
 /// The names of the private instructions, in upper case.
-pub fn private_names_of(alloc: Global, names: &[PrivateName<'_>]) -> Result<Vec<String>, AllocError>
-    ensures { IfOk result (λ v. map string_bytes v.items ≡ map rows_view.private_name names.now) }
+pub fn private_names_of(alloc: Global, names: &[PrivateName<'_>]) -> Result<Names, AllocError>
+    ensures { IfOk result (λ n. n ≡ map rows_view.private_name names.now) }
 {
-    let mut all = Vec::new(alloc);
+    let mut all = Names::new(alloc);
     for private in names {
         let name = private.name.upper_name(alloc)?;
-        all.push(name)?;
+        all = all.with(name)?;
     }
     Ok(all)
 }

@@ -1,1 +1,3 @@
+mod FoundLaws
+mod NameLaws
 mod PortLaws

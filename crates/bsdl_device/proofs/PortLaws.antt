@@ -19,12 +19,12 @@ get_front [] ys i h = absurd (omega arith)
 get_front (x ∷ xs) ys zero h = refl
 get_front (x ∷ xs) ys (suc i) h = get_front xs ys i (omega arith)
 
-get_seam : {A : Type 0} (xs : List A) (y : A) → slice_get (xs ++ y ∷ []) (length xs) ≡ Some y
+pub get_seam : {A : Type 0} (xs : List A) (y : A) → slice_get (xs ++ y ∷ []) (length xs) ≡ Some y
 get_seam [] y = refl
 get_seam (x ∷ xs) y = get_seam xs y
 
 -- bits of the ports so far stay
-placed_front : (ports : List Port) (p : Port) (bits : List BitPlace) → AllByRecursion (IsPlaced ports) bits → map (placed (ports ++ p ∷ [])) bits ≡ map (placed ports) bits
+pub placed_front : (ports : List Port) (p : Port) (bits : List BitPlace) → AllByRecursion (IsPlaced ports) bits → map (placed (ports ++ p ∷ [])) bits ≡ map (placed ports) bits
 placed_front ports p [] all = refl
 placed_front ports p (b ∷ bits) all =
     rw (get_front ports (p ∷ []) b.port all.0, placed_front ports p bits all.1) refl
@@ -56,7 +56,7 @@ new_placed : (ports : List Port) (p : Port) (i : Option Indices) → AllByRecurs
 new_placed ports p None = (simp length-append (omega arith), tt)
 new_placed ports p (Some i) = indexed_placed ports p (range_with_len i.low i.len)
 
-map_both : {A B : Type 0} (f : A → B) (xs ys : List A) → map f (xs ++ ys) ≡ map f xs ++ map f ys
+pub map_both : {A B : Type 0} (f : A → B) (xs ys : List A) → map f (xs ++ ys) ≡ map f xs ++ map f ys
 map_both f [] ys = refl
 map_both f (x ∷ xs) ys = ap (λ zs. f x ∷ zs) (map_both f xs ys)
 
@@ -93,7 +93,7 @@ prefix_len_map : {A B : Type 0} (test : B → Bool) (f : A → B) (xs : List A) 
 prefix_len_map test f [] = refl
 prefix_len_map test f (x ∷ xs) = ap (λ k. cond (test (f x)) (1 + k) 0) (prefix_len_map test f xs)
 
-position_more : {A : Type 0} (p : A → Bool) (x : A) (xs : List A) → p x ≡ false → position p (x ∷ xs) ≡ option_map (λ k. suc k) (position p xs)
+pub position_more : {A : Type 0} (p : A → Bool) (x : A) (xs : List A) → p x ≡ false → position p (x ∷ xs) ≡ option_map (λ k. suc k) (position p xs)
 position_more p x xs fails = rw fails (grind (arith, nat_tests))
 
 pub first_at : {A : Type 0} (p : A → Bool) (xs : List A) (i : ℕ) (x : A) → list_any p (take i xs) ≡ false → slice_get xs i ≡ Some x → p x ≡ true → position p xs ≡ Some i

@@ -1,10 +1,13 @@
 //! What a device description says of a device (IEEE Std 1149.1-2001, Annex B). Data alone; bits stand lowest first.
 #![tactic(auto)]
 
+pub use names::Names;
 pub use port_bits::{Indices, Port, PortBit, Ports};
 pub use rows::{Access, Opcode, Pattern};
 pub use whole::{Device, Parts};
 
+mod names;
+mod numbers;
 mod port_bits;
 mod rows;
 mod whole;

@@ -1,13 +1,19 @@
 //! The ports of a device, bit by bit.
-ghost use Rattle.std.specs.Prelude.{◌≡◌, ◌+◌, ◌++◌, ◌<◌, ◌^◌, [], length, map, option_map, slice_get, string_bytes};
+ghost use Rattle.std.specs.Prelude.{◌≡◌, ◌+◌, ◌++◌, ◌∷◌, ◌<◌, ◌^◌, [], ℕ, Bool, List, Option, Some, true, false};
+ghost use Rattle.std.specs.Prelude.{bytes_eq, cond, length, map, option_and_then, option_map, slice_get, string_bytes};
 ghost use Rattle.std.specs.Prelude.{IfOk, IfSome, OnOk};
+ghost use Rattle.std.specs.BTreeMap.{get_by_text};
 ghost use Rattle.std.specs.List.{AllByRecursion};
-ghost use Rattle.std.specs.Str.{str_eq_ignore_ascii_case};
+ghost use Rattle.std.specs.Str.{str_eq_ignore_ascii_case, str_to_ascii_lowercase};
+ghost use Rattle.bsdl_device.specs.declared.port_bits.BitPlace as declared_place;
+ghost use Rattle.bsdl_device.specs.Found.{AreFirst, number_at, number_named};
 ghost use Rattle.bsdl_device.specs.Ports.{bits_of, bit_number, is_bit, same_index};
 ghost use Rattle.bsdl_device.specs.View.{IsPlaced, pair, placed, places, port_bit};
 
 use crate::PortMode;
+use crate::numbers::Numbers;
 use std::alloc::{AllocError, Global};
+use std::collections::BTreeMap;
 use std::marker::Model;
 
 /// A port as it is declared, with its name in upper case.
@@ -42,25 +48,27 @@ struct BitPlace {
     index: Option<usize>,
 }
 
-/// The ports of a device. Contracts see them as the list of their bits.
+/// The ports of a device, with the numbers of their bits by name in lower case. Contracts see them as the list of their
+/// bits.
 #[derive(Debug, Drop)]
 pub struct Ports {
+    alloc: Global,
     ports: Vec<Port>,
     bits: Vec<BitPlace>,
+    by_name: BTreeMap<String, Numbers>,
 }
 
 impl Model for Ports {
     ghost use Rattle.std.specs.Prelude.{List, map};
-    ghost use Rattle.std.specs.List.{AllByRecursion};
-    ghost use Rattle.std.specs.Str.{str_eq_ignore_ascii_case};
     ghost use Rattle.bsdl_device.specs.Device as described;
+    ghost use Rattle.bsdl_device.specs.Kept as kept;
     ghost use Rattle.bsdl_device.specs.View as view_of;
 
     ghost Value = { List described.PortBit };
 
     ghost view = { λ p. map (view_of.placed p.ports.items) p.bits.items };
 
-    ghost invariant = { λ p. AllByRecursion (view_of.IsPlaced p.ports.items) p.bits.items };
+    ghost invariant = { λ p. kept.AreKept p.ports.items p.bits.items p.by_name };
 }
 
 impl Ports {
@@ -69,8 +77,10 @@ impl Ports {
         ensures { result ≡ [] }
     {
         Ports {
+            alloc,
             ports: Vec::new(alloc),
             bits: Vec::new(alloc),
+            by_name: BTreeMap::new(alloc),
         }
     }
 
@@ -80,9 +90,12 @@ impl Ports {
         ensures { IfOk result (λ p. p ≡ self ++ bits_of (string_bytes port.name) port.mode port.is_tap
             (option_map pair indices)) }
     {
+        let key = lower_name(self.alloc, port.name.as_str())?;
+        let mut numbers = take_numbers(self.alloc, &mut self.by_name, key.as_str());
         let place = self.ports.len();
         self.ports.push(port)?;
-        add_bits(&mut self.bits, place, indices)?;
+        add_bits(&mut self.bits, &mut numbers, place, indices)?;
+        put_numbers(&mut self.by_name, key, numbers)?;
         Ok(self)
     }
 
@@ -109,34 +122,95 @@ impl Ports {
     pub(crate) fn find(&self, name: &str, index: Option<usize>) -> Option<usize>
         ensures { result ≡ bit_number name.now index self.now }
     {
-        find_place(&self.ports, &self.bits, name, index)
+        match lower_name(self.alloc, name) {
+            Ok(key) => find_number(&self.by_name, key.as_str(), index),
+            Err(_) => find_place(&self.ports, &self.bits, name, index),
+        }
     }
 }
 
-/// Adds the places of a port's bits.
+/// A name in lower case.
+fn lower_name(alloc: Global, name: &str) -> Result<String, AllocError>
+    ensures { IfOk result (λ key. string_bytes key ≡ str_to_ascii_lowercase name.now) }
+{
+    let mut key = String::from_str(alloc, name)?;
+    key.make_ascii_lowercase();
+    Ok(key)
+}
+
+fn find_number(
+    by_name: &BTreeMap<String, Numbers>,
+    key: &str,
+    index: Option<usize>,
+) -> Option<usize>
+    ensures { result ≡ option_and_then (λ n. number_at n index) (get_by_text by_name.now key.now) }
+{
+    match by_name.get(key) {
+        Some(numbers) => numbers.get(index),
+        None => None,
+    }
+}
+
+/// Takes the numbers of a name out; none where there are none yet.
+fn take_numbers(alloc: Global, by_name: &mut BTreeMap<String, Numbers>, key: &str) -> Numbers
+    ensures numbers { (i : Option ℕ) → number_at result i
+        ≡ option_and_then (λ n. number_at n i) (get_by_text by_name.old key.now) }
+    ensures others { (q : List ℕ) → bytes_eq key.now q ≡ false → get_by_text by_name.new q ≡ get_by_text by_name.old q }
+{
+    match by_name.remove(key) {
+        Some(numbers) => numbers,
+        None => Numbers::new(alloc),
+    }
+}
+
+fn put_numbers(
+    by_name: &mut BTreeMap<String, Numbers>,
+    key: String,
+    numbers: Numbers,
+) -> Result<(), AllocError>
+    ensures { OnOk result ((q : List ℕ) → get_by_text by_name.new q
+        ≡ cond (bytes_eq (string_bytes key) q) (Some numbers) (get_by_text by_name.old q)) }
+{
+    by_name.insert(key, numbers)?;
+    Ok(())
+}
+
+/// Adds the places of a port's bits, and their numbers.
 fn add_bits(
     bits: &mut Vec<BitPlace>,
+    numbers: &mut Numbers,
     port: usize,
     indices: Option<Indices>,
 ) -> Result<(), AllocError>
     requires { IfSome indices (λ i. i.low + i.len < 2 ^ 64) }
-    ensures { OnOk result (bits.new.items ≡ bits.old.items ++ places port indices) }
+    ensures places { OnOk result (bits.new.items ≡ bits.old.items ++ places port indices) }
+    ensures numbers { OnOk result ((passes : declared_place.BitPlace → Bool)
+        → ((i : Option ℕ) → passes (record { port = port; index = i }) ≡ true)
+        → AreFirst passes numbers.old bits.old.items → AreFirst passes numbers.new bits.new.items) }
 {
     match indices {
-        None => bits.push(BitPlace { port, index: None })?,
+        None => add_bit(bits, numbers, BitPlace { port, index: None })?,
         Some(found) => {
             for index in found.low..found.low + found.len {
-                bits.push(BitPlace {
-                    port,
-                    index: Some(index),
-                })?;
+                let index = Some(index);
+                add_bit(bits, numbers, BitPlace { port, index })?;
             }
         }
     }
     Ok(())
 }
 
-/// The number of the bit of this name, in any case, and index.
+fn add_bit(bits: &mut Vec<BitPlace>, numbers: &mut Numbers, bit: BitPlace) -> Result<(), AllocError>
+    ensures places { OnOk result (bits.new.items ≡ bits.old.items ++ bit ∷ []) }
+    ensures numbers { OnOk result ((passes : declared_place.BitPlace → Bool) → passes bit ≡ true
+        → AreFirst passes numbers.old bits.old.items → AreFirst passes numbers.new bits.new.items) }
+{
+    numbers.add(bit.index, bits.len())?;
+    bits.push(bit)?;
+    Ok(())
+}
+
+/// The number of the bit of this name, in any case, and index, bit by bit: for want of memory to look it up.
 fn find_place(ports: &[Port], bits: &[BitPlace], name: &str, index: Option<usize>) -> Option<usize>
     requires { AllByRecursion (IsPlaced ports.now) bits.now }
     ensures { result ≡ bit_number name.now index (map (placed ports.now) bits.now) }

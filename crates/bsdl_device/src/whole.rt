@@ -1,10 +1,10 @@
 //! A whole description.
-ghost use Rattle.std.specs.Prelude.{◌≡◌, ◌<◌, List, Bool, map, length, option_map, bytes_eq, string_bytes, slice_get};
+ghost use Rattle.std.specs.Prelude.{◌≡◌, ◌<◌, List, Bool, length, option_map, bytes_eq, slice_get};
 ghost use Rattle.std.specs.List.{list_any};
 ghost use Rattle.bsdl_device.specs.Ports.{bit_number};
 ghost use Rattle.bsdl_device.specs.View.{port_bit};
 
-use crate::{Access, Cell, Opcode, PortBit, Ports};
+use crate::{Access, Cell, Names, Opcode, PortBit, Ports};
 use jt_bits::Bits;
 use std::marker::Model;
 
@@ -18,7 +18,7 @@ pub struct Parts {
     pub idcode: Option<Bits>,
     pub usercode: Option<Bits>,
     pub cells: Vec<Cell>,
-    pub private_names: Vec<String>,
+    pub private_names: Names,
     pub accesses: Vec<Access>,
     pub users: Vec<usize>,
     pub has_trst: bool,
@@ -31,7 +31,6 @@ pub struct Device {
 }
 
 impl Model for Device {
-    ghost use Rattle.std.specs.Prelude.{map, string_bytes};
     ghost use Rattle.bsdl_device.specs.Device as described;
 
     ghost Value = { described.Device };
@@ -44,7 +43,7 @@ impl Model for Device {
       idcode = d.parts.idcode;
       usercode = d.parts.usercode;
       cells = d.parts.cells.items;
-      private_names = map string_bytes d.parts.private_names.items;
+      private_names = d.parts.private_names;
       accesses = d.parts.accesses.items;
       users = d.parts.users.items;
       has_trst = d.parts.has_trst;
@@ -62,7 +61,7 @@ impl Device {
           idcode = parts.idcode;
           usercode = parts.usercode;
           cells = parts.cells.items;
-          private_names = map string_bytes parts.private_names.items;
+          private_names = parts.private_names;
           accesses = parts.accesses.items;
           users = parts.users.items;
           has_trst = parts.has_trst;
@@ -139,7 +138,7 @@ impl Device {
     pub fn is_private(&self, name: &str) -> bool
         ensures { result ≡ list_any (bytes_eq name.now) self.now.private_names }
     {
-        contains_name(&self.parts.private_names, name)
+        self.parts.private_names.contains(name)
     }
 
     /// The device's own instructions with the registers that they select.
@@ -162,16 +161,4 @@ impl Device {
     {
         self.parts.has_trst
     }
-}
-
-/// Whether a name is among these.
-fn contains_name(names: &[String], name: &str) -> bool
-    ensures { result ≡ list_any (bytes_eq name.now) (map string_bytes names.now) }
-{
-    for known in names {
-        if name == known.as_str() {
-            return true;
-        }
-    }
-    false
 }

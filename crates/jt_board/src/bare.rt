@@ -8,7 +8,7 @@ ghost use Rattle.board_meaning.specs.Bare.{bare};
 ghost use Rattle.jt_board.specs.Made.{bare_at, bare_planned, bare_wiring, two_bits};
 
 use board_file::{Plan, PlannedDevice};
-use bsdl_device::{Cell, Device, Function, Opcode, Parts, Pattern, Port, PortMode, Ports};
+use bsdl_device::{Cell, Device, Function, Names, Opcode, Parts, Pattern, Port, PortMode, Ports};
 use jt_bits::Bits;
 use scan_registers::SharedDevice;
 use std::alloc::{AllocError, Global};
@@ -83,7 +83,7 @@ fn bare_device(alloc: Global) -> Result<Device, AllocError>
         idcode: None,
         usercode: None,
         cells,
-        private_names: Vec::new(alloc),
+        private_names: Names::new(alloc),
         accesses: Vec::new(alloc),
         users: Vec::new(alloc),
         has_trst: false,

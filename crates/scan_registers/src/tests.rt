@@ -2,7 +2,7 @@
 //! EXTEST 00, IDCODE 10 and SAMPLE or LOAD 01, of which LOAD selects a user register of four bits.
 use super::*;
 use bsdl_device::{
-    Access, Cell, Control3, Device, Disabled, Function, Opcode, Parts, Pattern, Place, Ports,
+    Access, Cell, Control3, Device, Disabled, Function, Names, Opcode, Parts, Pattern, Place, Ports,
 };
 use jt_bits::Bits;
 use jt_tap::State;
@@ -70,7 +70,7 @@ fn device(alloc: Global, has_trst: bool, has_user: bool) -> Result<Device, Fail>
         idcode: Some(idcode),
         usercode: None,
         cells,
-        private_names: Vec::new(alloc),
+        private_names: Names::new(alloc),
         accesses,
         users,
         has_trst,

@@ -1,7 +1,7 @@
 ghost use Rattle.std.specs.Prelude.{◌≡◌};
 
 use super::*;
-use bsdl_device::{Cell, Device, Function, Parts, Ports};
+use bsdl_device::{Cell, Device, Function, Names, Parts, Ports};
 use jt_bits::{Bits, HexFault};
 use scan_registers::{Chip, Plain, SharedDevice, is_formed};
 use scan_vectors::{Part, Part3, join};
@@ -24,7 +24,7 @@ fn device(alloc: Global) -> Result<Device, AllocError> {
         idcode: None,
         usercode: None,
         cells,
-        private_names: Vec::new(alloc),
+        private_names: Names::new(alloc),
         accesses: Vec::new(alloc),
         users: Vec::new(alloc),
         has_trst: false,

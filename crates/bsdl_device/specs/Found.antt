@@ -1,0 +1,31 @@
+-- How the number of a port bit is kept by its port's name and its index.
+use Rattle.std.specs.Prelude.{◌≡◌, ◌&&◌, ℕ, Bool, List, Option, Some, None, if◌then◌else◌, option_and_then, position}
+use Rattle.std.specs.Ordering.{nat_cmp}
+use Rattle.std.specs.BTreeMap.{BTreeMap, get, get_by_text}
+use Rattle.std.specs.Str.{str_to_ascii_lowercase}
+use Rattle.std.proofs.Common.{String, Global}
+use Rattle.bsdl_device.specs.declared.numbers.Numbers.{Numbers}
+use Rattle.bsdl_device.specs.declared.port_bits.BitPlace.{BitPlace}
+use Rattle.bsdl_device.specs.Ports.{same_index}
+
+-- the first of two, where it is there
+abbrev pub first_of : Option ℕ → Option ℕ → Option ℕ
+first_of None next = next
+first_of (Some n) next = Some n
+
+-- this number, where the index is that one
+abbrev pub number_if : Option ℕ → Option ℕ → ℕ → Option ℕ
+number_if i index number = if same_index i index then Some number else None
+
+-- the number for an index
+abbrev pub number_at : Numbers → Option ℕ → Option ℕ
+number_at n None = n.whole
+number_at n (Some i) = get nat_cmp n.by_index i
+
+-- the number for a name, in any case, and an index
+abbrev pub number_named : BTreeMap (String Global) Numbers → List ℕ → Option ℕ → Option ℕ
+number_named names q i = option_and_then (λ n. number_at n i) (get_by_text names (str_to_ascii_lowercase q))
+
+-- each number is that of the first bit with its index among those that pass
+abbrev pub AreFirst : (BitPlace → Bool) → Numbers → List BitPlace → Type 0
+AreFirst passes n bits = (i : Option ℕ) → number_at n i ≡ position (λ b. passes b && same_index i b.index) bits
