@@ -1,6 +1,6 @@
 -- Worked rows, computed: the play by edges, the outcome by whole registers, and that they agree.
 use Rattle.std.proofs.Common.{◌≡◌, Bool, true, false, ℕ, List, [], ◌∷◌, map, codes, length}
-use Rattle.std.specs.Prelude.{Some, None}
+use Rattle.std.specs.Prelude.{◌++◌, Some, None}
 use Rattle.jt_tap.specs.declared.State.TheVariants.{Idle, DrSelect, DrCapture, DrShift, DrExit1, DrUpdate, DrPause}
 use Rattle.jt_tap.specs.declared.State.TheVariants.{IrPause, Reset}
 use Rattle.bsdl_device.specs.Device.{Device}
@@ -51,7 +51,9 @@ pub record PlayRows : Type 0 where
   pub ir_scan : Row (plain (k ∷ [])) (sir 1 (tdo 2 3 1) ∷ []) (codes "r2626262626004262604041R53R726040Q") Pass
   pub ir_scan_answers : (played (plain (k ∷ [])) (sir 1 (tdo 2 3 1) ∷ [])).answers ≡ true ∷ false ∷ []
   pub identification_twice : Row (plain (k ∷ [])) (sdr 1 (tdo 32 0 0x01234567) ∷ sdr 2 (tdo 32 0 0x01234566) ∷ [])
-      (codes "r26262626260042604040R40R40R40R40R40R40R40R40R40R40R40R40R40R40R40R40R40R40R40R40R40R40R40R40R40R40R40R40R40R40R42R6260402604040R40R40R40R40R40R40R40R40R40R40R40R40R40R40R40R40R40R40R40R40R40R40R40R40R40R40R40R40R40R40R42R626040Q")
+      (codes "r26262626260042604040R40R40R40R40R40R40R40R40R40R40R40R40R40R40R40R40R40R40R40R40R40R40R40"
+      ++ codes "R40R40R40R40R40R40R40R42R6260402604040R40R40R40R40R40R40R40R40R40R40R40R40R40R40R40R40R40R"
+      ++ codes "40R40R40R40R40R40R40R40R40R40R40R40R40R42R626040Q")
       (Fail 2 Data 0)
   pub bypass_chain : Row (plain (k ∷ k ∷ [])) (sir 1 (tdi 4 15) ∷ sdr 2 (tdo 3 5 4) ∷ [])
       (codes "r26262626260042626040415151537260402604041R50R43R726040Q") Pass
@@ -59,7 +61,8 @@ pub record PlayRows : Type 0 where
       (codes "r26262626260042626040415151537260402604040R43R726040Q") (Fail 3 Header 0)
   pub mask_not_kept_past_a_length : Row (plain (k ∷ []))
       (sir 1 (tdi 2 3) ∷ sdr 2 (mask 8 0 0xF0 0x0F) ∷ sdr 3 (tdo 4 0 0) ∷ sdr 4 (tdo 8 0 0xF0) ∷ [])
-      (codes "r2626262626004262604041537260402604040R40R40R40R404040426260402604040R40R40R42R6260402604040R40R40R40R40R40R40R42R626040Q")
+      (codes "r2626262626004262604041537260402604040R40R40R40R404040426260402604040R40R40R42R62604026040"
+      ++ codes "40R40R40R40R40R40R40R42R626040Q")
       (Fail 4 Data 4)
   pub bypass_delays_a_bit : Row (plain (k ∷ [])) (sir 1 (tdi 2 3) ∷ sdr 2 (tdo 5 0x15 0x0A) ∷ [])
       (codes "r2626262626004262604041537260402604041R50R41R50R43R726040Q") Pass
