@@ -1,9 +1,9 @@
 -- What is done to all devices at once changes, and what it leaves wired.
-use Rattle.std.proofs.Common.{◌≡◌, ℕ, suc, ◌+◌, Bool, false, List, [], ◌∷◌, ◌++◌, length, map, take, drop, slice_get, Some, None, option_map, refl, sym, ap, subst, ◌∙◌, arith}
+use Rattle.std.proofs.Common.{◌≡◌, ℕ, suc, ◌+◌, Bool, true, false, List, [], ◌∷◌, ◌++◌, length, map, take, drop, slice_get, Some, None, option_map, refl, sym, ap, subst, ◌∙◌, arith}
 use Rattle.std.proofs.lemmas.List.{length-map}
 use Rattle.std.proofs.lemmas.Option.{slice_get-map}
 use Rattle.jt_tap.specs.declared.State.{State}
-use Rattle.jt_tap.specs.declared.State.TheVariants.{DrCapture, IrCapture}
+use Rattle.jt_tap.specs.declared.State.TheVariants.{DrCapture, IrCapture, Reset}
 use Rattle.jt_tap.specs.declared.Column.{Column}
 use Rattle.jt_tap.specs.declared.Column.TheVariants.{Dr, Ir}
 use Rattle.scan_registers.specs.Edges.{OneChip}
@@ -18,8 +18,8 @@ use Rattle.board_meaning.specs.Cells.{Member, drive}
 use Rattle.board_meaning.specs.Chain.{ChipState, members}
 use Rattle.board_meaning.specs.Nets.{sees}
 use Rattle.board_meaning.specs.Resting.{standing}
-use Rattle.board_meaning.specs.Whole.{capture_all, chosen_of, cut_back, joined}
-use Rattle.chip_chain.specs.AtRest.{CapturesAt, Changes, IsPutInto, Stands, as_member, as_members, capture_member, out, shifted}
+use Rattle.board_meaning.specs.Whole.{capture_all, chosen_of, cut_back, joined, settled_member, trst_member}
+use Rattle.chip_chain.specs.AtRest.{AssertsTrst, CapturesAt, Changes, IsPutInto, Stands, as_member, as_members, capture_member, out, shifted}
 use Rattle.chip_chain.specs.Seats.{AllTold, IsKept, SeatValue, chip_state, member_of}
 use Rattle.chip_chain.specs.Sweeping.{EachFrom}
 use Rattle.chip_chain.specs.Wires.{AreSeated, AreWired, IsWired, WiringValue}
@@ -62,6 +62,26 @@ stood_chips state old new each =
 pub stood_wired : (state : State) (old new : List SeatValue) (w : WiringValue) → IsWired old w → EachFrom (Stands state) 0 old new → IsWired new w
 stood_wired state old new w wired each =
     quiet_wired (Stands state) (λ i s t r. r.kept) (λ i s t r p. ap (λ (c : ChipState). drive c.member p) r.chip) old new w wired each
+
+-- ---- TRST
+
+asserted-map : (rests : State) (cs : List ChipState)
+    → map (λ (c : ChipState). standing Reset (trst_member (settled_member rests) c.member)) cs
+    ≡ map (standing Reset) (map (trst_member (settled_member rests)) (members cs))
+asserted-map rests [] = refl
+asserted-map rests (c ∷ cs) = ap (λ (r : List ChipState). standing Reset (trst_member (settled_member rests) c.member) ∷ r) (asserted-map rests cs)
+
+pub asserted_chips : (rests : State) (old new : List SeatValue) → EachFrom (AssertsTrst rests) 0 old new
+    → map chip_state new ≡ map (standing Reset) (map (trst_member (settled_member rests)) (members (map chip_state old)))
+asserted_chips rests old new each =
+    all_chips (AssertsTrst rests) (λ c. standing Reset (trst_member (settled_member rests) c.member)) (λ i s t r. r.chip) 0 old new each
+    ∙ asserted-map rests (map chip_state old)
+
+pub asserted_told : (rests : State) (place : ℕ) (old new : List SeatValue) → EachFrom (AssertsTrst rests) place old new → AllTold true new
+asserted_told rests place [] [] each = tt
+asserted_told rests place [] (t ∷ new) each = absurd each
+asserted_told rests place (s ∷ old) [] each = absurd each
+asserted_told rests place (s ∷ old) (t ∷ new) each = (each.0.told, asserted_told rests (suc place) old new each.1)
 
 -- ---- a capture
 

@@ -3,6 +3,7 @@ use Rattle.std.specs.Prelude.{◌≡◌, ◌++◌, Bool, true, ℕ, List, [], �
 use Rattle.std.proofs.Common.{◌∙◌}
 use Rattle.jt_tap.specs.declared.Column.{Column}
 use Rattle.jt_tap.specs.declared.State.{State}
+use Rattle.jt_tap.specs.declared.State.TheVariants.{Reset}
 use Rattle.jt_tap.specs.declared.Work.TheVariants.{Captures}
 use Rattle.scan_registers.specs.Chips.{IsPut}
 use Rattle.scan_registers.specs.Instruction.{meaning}
@@ -13,7 +14,7 @@ use Rattle.boundary.specs.Sight.{Told}
 use Rattle.board_meaning.specs.Cells.{Member, surroundings}
 use Rattle.board_meaning.specs.Chain.{ChipState}
 use Rattle.board_meaning.specs.Resting.{standing}
-use Rattle.board_meaning.specs.Whole.{chosen_of, cut_back, joined}
+use Rattle.board_meaning.specs.Whole.{chosen_of, cut_back, joined, settled_member, trst_member}
 use Rattle.chip_chain.specs.Chains.{ChainValue}
 use Rattle.chip_chain.specs.Seats.{IsKept, SeatValue, captures_boundary, chip_state, member_of}
 use Rattle.chip_chain.specs.Telling.{IsAt, sight}
@@ -57,6 +58,12 @@ pub record Stands (state : State) (place : ℕ) (s t : SeatValue) : Type 0 where
   pub kept : IsKept s t
   pub trst : t.chip.trst ≡ s.chip.trst
   pub chip : chip_state t ≡ standing state (member_of s)
+
+-- TRST is asserted to it, where the chain rests in a state
+pub record AssertsTrst (rests : State) (place : ℕ) (s t : SeatValue) : Type 0 where
+  pub kept : IsKept s t
+  pub told : t.chip.trst ≡ true
+  pub chip : chip_state t ≡ standing Reset (trst_member (settled_member rests) (member_of s))
 
 -- the column's register captures what the device's place sees
 pub record CapturesAt (w : WiringValue) (column : Column) (place : ℕ) (s t : SeatValue) : Type 0 where

@@ -1,14 +1,15 @@
 //! All devices of a chain at once, without TCK: capture, the judgement of what comes out, shift, update and reset (IEEE
 //! Std 1149.1-2001, clauses 6, 7 and 9).
 
-ghost use Rattle.std.specs.Prelude.{◌≡◌, map};
+ghost use Rattle.std.specs.Prelude.{◌≡◌, true, map};
 ghost use Rattle.board_meaning.specs.Chain.{members};
 ghost use Rattle.board_meaning.specs.Nets.{sees};
 ghost use Rattle.board_meaning.specs.Resting.{standing};
 ghost use Rattle.board_meaning.specs.Whole as whole;
-ghost use Rattle.chip_chain.specs.AtRest.{CapturesAt, Changes, Stands, chain_as, out, shifted};
+ghost use Rattle.chip_chain.specs.AtRest.{AssertsTrst, CapturesAt, Changes, Stands, chain_as, out, shifted};
 ghost use Rattle.chip_chain.specs.Sweeping.{EachFrom};
 ghost use Rattle.chip_chain.specs.Wires.{IsWired};
+ghost use Rattle.jt_tap.specs.declared.State.TheVariants.{Reset};
 ghost use Rattle.scan_vectors.specs.Held.{bits};
 ghost use Rattle.scan_vectors.specs.Vector.{judge, tdis};
 
@@ -64,6 +65,18 @@ impl Chain {
     {
         stand_all(&mut self.seats, state);
     }
+
+    /// TRST is asserted to a chain that rests in a state: a device without the port settles, and every device is reset
+    /// and stands in RESET.
+    pub fn assert_trst(&mut self, rests: State)
+        ensures { self.new ≡ record self.old {
+          trst = true;
+          chips = map (standing Reset) (map (whole.trst_member (whole.settled_member rests)) (members self.old.chips));
+        } }
+    {
+        assert_trst_wired(&mut self.seats, &mut self.wiring, rests);
+        self.trst = true;
+    }
 }
 
 /// A capture of all devices. It changes nothing that is driven, so each sees the levels of before.
@@ -96,6 +109,26 @@ fn reset_wired(seats: &mut [Seat], wiring: &mut Wiring)
 {
     reset_all(seats);
     wiring.refresh(seats);
+}
+
+/// TRST is asserted to all devices at rest in a state, and what they drive from then on is put to the nets.
+fn assert_trst_wired(seats: &mut [Seat], wiring: &mut Wiring, rests: State)
+    requires { IsWired seats.old wiring.old }
+    ensures devices { EachFrom (AssertsTrst rests) 0 seats.old seats.new }
+    ensures wired { IsWired seats.new wiring.new }
+    ensures nets { wiring.new.nets ≡ wiring.old.nets }
+{
+    assert_trst_all(seats, rests);
+    wiring.refresh(seats);
+}
+
+/// TRST is asserted to all devices at rest in a state.
+fn assert_trst_all(seats: &mut [Seat], rests: State)
+    ensures { EachFrom (AssertsTrst rests) 0 seats.old seats.new }
+{
+    for seat in seats.iter_mut() {
+        seat.assert_trst(rests);
+    }
 }
 
 /// An update of all devices.

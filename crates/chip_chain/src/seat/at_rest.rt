@@ -1,12 +1,13 @@
 //! A device as a link of the chain, and what is done to its registers without TCK.
 
-ghost use Rattle.std.specs.Prelude.{◌≡◌, ℕ, Bool, List, length};
+ghost use Rattle.std.specs.Prelude.{◌≡◌, ℕ, Bool, true, List, length};
 ghost use Rattle.board_meaning.specs.Cells.{Member};
 ghost use Rattle.board_meaning.specs.Resting.{standing};
-ghost use Rattle.board_meaning.specs.Whole.{reset_member, update_member};
+ghost use Rattle.board_meaning.specs.Whole.{reset_member, settled_member, trst_member, update_member};
 ghost use Rattle.chip_chain.specs.AtRest.{IsSightedFor, as_member, capture_member};
 ghost use Rattle.chip_chain.specs.Seats.{AreBelow, IsKept, captures_boundary, chip_state, member_of};
 ghost use Rattle.chip_chain.specs.Telling.{IsAt, sight};
+ghost use Rattle.jt_tap.specs.declared.State.TheVariants.{Reset};
 ghost use Rattle.jt_tap.specs.declared.Work.TheVariants.{Captures};
 ghost use Rattle.scan_registers.specs.Instruction.{meaning};
 
@@ -84,6 +85,33 @@ impl Seat {
         ensures chip { chip_state self.new ≡ standing state (member_of self.old) }
     {
         self.chip.rest(state);
+    }
+
+    /// A device that rests in a pause makes the update that is pending.
+    fn settle(&mut self, rests: State)
+        ensures kept { IsKept self.old self.new }
+        ensures trst { self.new.chip.trst ≡ self.old.chip.trst }
+        ensures chip { chip_state self.new ≡ as_member (settled_member rests (member_of self.old)) (chip_state self.old) }
+    {
+        match rests {
+            State::DrPause => self.update(Column::Dr),
+            State::IrPause => self.update(Column::Ir),
+            _ => {}
+        }
+    }
+
+    /// TRST is asserted to a device that rests in a state: one without the port settles, and is reset by TCK.
+    pub(crate) fn assert_trst(&mut self, rests: State)
+        ensures kept { IsKept self.old self.new }
+        ensures trst { self.new.chip.trst ≡ true }
+        ensures chip { chip_state self.new ≡ standing Reset (trst_member (settled_member rests) (member_of self.old)) }
+    {
+        if !self.device().has_trst() {
+            self.settle(rests);
+            self.reset();
+        }
+        self.tell_trst(true);
+        self.stand(State::Reset);
     }
 }
 
