@@ -1,8 +1,10 @@
 -- A board at rest stays one when its registers are taken whole.
-use Rattle.std.proofs.Common.{◌≡◌, ◌≢◌, ◌<◌, ◌≤◌, ℕ, zero, suc, Bool, false, List, [], ◌∷◌, ◌++◌, length, map, drop, slice_get, Some, refl, sym, ap, subst, ◌∙◌, arith}
+use Rattle.std.proofs.Common.{◌≡◌, ◌≢◌, ◌<◌, ◌≤◌, ℕ, zero, suc, Bool, true, false, List, [], ◌∷◌, ◌++◌, length, map, drop, slice_get, Some, refl, sym, ap, subst, ◌∙◌, arith}
+use Rattle.std.specs.Prelude.{if◌then◌else◌}
 use Rattle.std.proofs.lemmas.List.{length-append, length-drop, length-map}
 use Rattle.jt_tap.specs.declared.Column.{Column}
 use Rattle.jt_tap.specs.declared.Column.TheVariants.{Dr, Ir}
+use Rattle.jt_tap.specs.Controller.{is_at}
 use Rattle.jt_tap.specs.declared.State.{State}
 use Rattle.jt_tap.specs.declared.State.TheVariants.{DrPause, IrPause, Reset}
 use Rattle.pin_nets.specs.Wired.{Net}
@@ -10,9 +12,9 @@ use Rattle.board_meaning.specs.Cells.{Member}
 use Rattle.board_meaning.specs.Chain.{BoardState, ChipState, members}
 use Rattle.board_meaning.specs.Nets.{sees}
 use Rattle.board_meaning.specs.Resting.{IsAtRest, resting, standing}
-use Rattle.board_meaning.specs.Sound.{AllSound, IsChain}
-use Rattle.board_meaning.specs.Whole.{AtRest, arrive, capture, capture_all, chosen_of, cut_back, joined, reset_all, reset_member, settle, shift, update, update_member}
-use Rattle.board_meaning.proofs.Sound.{Sound-capture_all, Sound-cut_back, Sound-reset, Sound-update}
+use Rattle.board_meaning.specs.Sound.{AllSound, IsChain, IsSound}
+use Rattle.board_meaning.specs.Whole.{AtRest, arrive, capture, capture_all, chosen_of, cut_back, joined, reset_all, reset_member, settle, settled_member, shift, trst_asserted, trst_member, update, update_member}
+use Rattle.board_meaning.proofs.Sound.{Sound-capture_all, Sound-cut_back, Sound-reset, Sound-update, sound-other, sound-updated}
 use Rattle.chip_chain.specs.AtRest.{as_members, chain_as, shifted}
 use Rattle.chip_chain.specs.Chains.{ChainValue}
 use Rattle.jt_board.specs.Made.{board_at}
@@ -159,6 +161,51 @@ rests_place b m k c is at = by m.members k (sym (ap (λ (x : BoardState). slice_
     by [] k at = absurd (cc)
     by (x ∷ ms) zero at = let same : standing m.place x ≡ c = cc in sym (ap (λ (y : ChipState). y.state) same)
     by (x ∷ ms) (suc k) at = by ms k at
+
+-- ---- TRST
+
+sound-either : (which : Bool) (m n : Member) → IsSound m → IsSound n → IsSound (if which then m else n)
+sound-either true m n first second = first
+sound-either false m n first second = second
+
+sound-settled : (place : State) (m : Member) → IsSound m → IsSound (settled_member place m)
+sound-settled place m sound =
+    let updated : (column : Column) → IsSound (update_member column m) = λ column. record { it = sound-updated m.device column m.registers sound.it } in
+    sound-either (is_at place DrPause) (update_member Dr m) _ (updated Dr) (sound-either (is_at place IrPause) (update_member Ir m) m (updated Ir) sound)
+
+sound-asserted : (place : State) (ms : List Member) → AllSound ms → AllSound (map (trst_member (settled_member place)) ms)
+sound-asserted place [] sound = tt
+sound-asserted place (m ∷ ms) sound =
+    let before = sound-either m.device.has_trst m (settled_member place m) sound.0 (sound-settled place m sound.0) in
+    let one = if m.device.has_trst then m else settled_member place m in
+    (record { it = sound-other one.device _ one.registers.stage _ one.registers before.it.stage before.it }, sound-asserted place ms sound.1)
+
+pub chain-asserted : (place : State) (cs : List ChipState) → IsChain cs
+    → IsChain (map (standing Reset) (map (trst_member (settled_member place)) (members cs)))
+chain-asserted place cs is =
+    let ms = map (trst_member (settled_member place)) (members cs) in
+    let long : length (map (standing Reset) ms) ≡ length cs =
+    length-map ms (standing Reset) ∙ length-map (members cs) (trst_member (settled_member place)) ∙ count-members cs in
+    record {
+      some = subst (λ (n : ℕ). 0 < n) (sym long) is.some;
+      most = subst (λ (n : ℕ). n ≤ 32) (sym long) is.most;
+      sound = subst AllSound (sym (standing-members Reset ms)) (sound-asserted place (members cs) is.sound);
+    }
+
+pub rests_asserted : (place : State) (tck : Bool) (c : ChainValue) (m : AtRest) → IsAtRest (board_at tck c) m → place ≡ m.place
+    → IsAtRest (board_at tck (record c { trst = true; chips = map (standing Reset) (map (trst_member (settled_member place)) (members c.chips)) })) (trst_asserted m)
+rests_asserted place tck c m is at =
+    let same : members c.chips ≡ m.members = ap (λ (b : BoardState). members b.chips) is ∙ standing-members m.place m.members in
+    λ i. record {
+      tck = (is i).tck;
+      trst = true;
+      nets = (is i).nets;
+      chips = map (standing Reset) (map (trst_member (settled_member (at i))) (same i));
+    }
+
+pub rests_released : (tck : Bool) (c : ChainValue) (m : AtRest) → IsAtRest (board_at tck c) m
+    → IsAtRest (board_at tck (record c { trst = false })) (record m { trst = false })
+rests_released tck c m is = ap (λ (b : BoardState). record b { trst = false }) is
 
 -- ---- what is pending
 

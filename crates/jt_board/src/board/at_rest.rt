@@ -1,5 +1,5 @@
-//! A board at rest, its registers taken whole: what the edges of TCK would do, done at once (IEEE Std 1149.1-2001, clauses 6, 7
-//! and 9).
+//! A board at rest, its registers taken whole: what the edges of TCK would do, done at once (IEEE Std 1149.1-2001, clauses
+//! 6, 7 and 9).
 
 ghost use Rattle.std.specs.Prelude.{◌≡◌, false, [], ◌∷◌, None};
 ghost use Rattle.board_meaning.specs.Resting.{IsAtRest};
@@ -13,11 +13,18 @@ use jt_tap::{Column, State, Work};
 use scan_vectors::{Part, Part3, Vector, join};
 
 impl Board {
+    /// The state in which the controllers of a board at rest stand.
+    pub fn place(&self) -> State
+        ensures { (m : AtRest) → IsAtRest self.now m → result ≡ m.place }
+    {
+        self.chain.seat(0).state()
+    }
+
     /// Of a board at rest in a pause the update that is pending is made.
     pub fn settle(&mut self)
         ensures { (m : AtRest) → IsAtRest self.old m → IsAtRest self.new (whole.settle m) }
     {
-        match self.chain.seat(0).state() {
+        match self.place() {
             State::DrPause => self.update(Column::Dr),
             State::IrPause => self.update(Column::Ir),
             _ => {}
@@ -79,6 +86,21 @@ impl Board {
             _ => {}
         }
         self.stand(state);
+    }
+
+    /// TRST is asserted on a board at rest: a device without the port settles, and every device is reset and stands in RESET.
+    pub fn assert_trst(&mut self)
+        ensures { (m : AtRest) → IsAtRest self.old m → IsAtRest self.new (whole.trst_asserted m) }
+    {
+        let place = self.place();
+        self.chain.assert_trst(place);
+    }
+
+    /// TRST is released on a board at rest.
+    pub fn release_trst(&mut self)
+        ensures { (m : AtRest) → IsAtRest self.old m → IsAtRest self.new (record m { trst = false }) }
+    {
+        self.chain.tell_trst(false);
     }
 
     /// A board at rest goes along a path, and does in each of its states what the state does; what it shifts in is 0.
