@@ -5,7 +5,7 @@ use Rattle.bsdl_device.specs.declared.Cell.{Cell}
 use Rattle.scan_registers.specs.declared.Mode.{Mode}
 use Rattle.scan_registers.specs.Instruction.{meaning}
 use Rattle.pin_nets.specs.declared.Drive.{Drive}
-use Rattle.boundary.specs.Cells.{AreDrivers, BoundaryValue, drive_in, driven_in, driver_from}
+use Rattle.boundary.specs.Cells.{AreDrivers, BoundaryValue, driven_in, driver_from}
 use Rattle.boundary.proofs.DriverLaws.{driven_by_cell}
 use Rattle.board_meaning.specs.Cells.{drive}
 use Rattle.chip_chain.specs.Seats.{SeatValue, member_of}

@@ -1,6 +1,6 @@
 -- One device of the chain, edge by edge: the chip's edges are the meaning's.
-use Rattle.std.proofs.Common.{◌≡◌, ℕ, Bool, true, false, true≢false, List, [], length, Option, refl, sym, ap, ◌∙◌, ◌&&◌}
-use Rattle.jt_tap.specs.declared.State.{State}
+use Rattle.std.proofs.Common.{◌≡◌, ℕ, Bool, true, false, true≢false, List, Option, refl, ap, ◌∙◌}
+use Rattle.jt_tap.specs.declared.Column.{Column}
 use Rattle.jt_tap.specs.declared.Column.TheVariants.{Dr, Ir}
 use Rattle.jt_tap.specs.declared.Work.{Work}
 use Rattle.jt_tap.specs.declared.Work.TheVariants.{Resets, Captures, Shifts, Updates, Waits}
@@ -10,16 +10,18 @@ use Rattle.bsdl_device.specs.declared.Cell.{Cell}
 use Rattle.scan_registers.specs.declared.Mode.{Mode}
 use Rattle.scan_registers.specs.declared.Selected.{Selected}
 use Rattle.scan_registers.specs.declared.Selected.TheVariants.{Bypass, Identification, Boundary, User}
-use Rattle.scan_registers.specs.Chips.{ChipValue, around, one_chip}
-use Rattle.scan_registers.specs.Edges.{OneChip, fall, fallen, is_held, rise, risen, told_trst}
+use Rattle.scan_registers.specs.Chips.{around, one_chip, with_registers}
+use Rattle.scan_registers.specs.Edges.{OneChip, fallen, is_held, rise, risen}
 use Rattle.scan_registers.specs.Instruction.{meaning}
-use Rattle.scan_registers.specs.Registers.{Registers, Surroundings, capture_of, with_stage}
+use Rattle.scan_registers.specs.Registers.{Registers, Surroundings, capture_of, put, with_stage}
+use Rattle.scan_registers.specs.Registers as chip_registers
 use Rattle.boundary.specs.Cells.{BoundaryValue, IsWhole, at_reset, captured, drive_in, takes_update}
 use Rattle.boundary.specs.Sight.{Told, capture_by_sight}
 use Rattle.boundary.proofs.SightLaws.{captured_by_sight}
 use Rattle.board_meaning.specs.Cells.{Member, drive, surroundings}
 use Rattle.board_meaning.specs.Chain as chain
 use Rattle.board_meaning.specs.Chain.{ChipState}
+use Rattle.chip_chain.specs.AtRest.{IsSightedFor, as_member, capture_member}
 use Rattle.chip_chain.specs.Seats.{IsSighted, SeatValue, captures_boundary, changes_drives, chip_state, member_of}
 
 -- a device of the meaning, by the device alone
@@ -90,6 +92,17 @@ module _ (s : SeatValue) (cells : s.chip.boundary.cells ≡ s.chip.device.cells)
       (risen-alike (work s.chip.state) s.chip.device (around captured at_reset s.chip) (surroundings sees (member_of s)) tdi now.registers
       (λ yes. let w = sighted yes in captures-alike sees (meaning s.chip.device s.chip.latch).mode w.0 w.1))
 
+  pub captures : (t : SeatValue) (sees : ℕ → Bool) (column : Column)
+      → one_chip stage update t.chip ≡ with_registers (chip_registers.captured s.chip.device column (around captured at_reset s.chip) now.registers) now
+      → t.name ≡ s.name → t.chip.boundary.core ≡ s.chip.boundary.core → t.chip.boundary.extest_update ≡ s.chip.boundary.extest_update
+      → IsSightedFor column sees s → chip_state t ≡ as_member (capture_member column sees (member_of s)) (chip_state s)
+  captures t sees column is name core extest sighted =
+      let mode = (meaning s.chip.device s.chip.latch).mode in
+      (λ i. state_of (name i) (core i) (extest i) (is i))
+      ∙ ap (λ (r : Registers). state_of s.name s.chip.boundary.core s.chip.boundary.extest_update (with_registers r now))
+      (risen-alike (Captures column) s.chip.device (around captured at_reset s.chip) (surroundings sees (member_of s)) false now.registers
+      (λ yes. let w = sighted yes in captures-alike sees mode w.0 w.1))
+
 -- ---- what an edge changes of what is driven
 
 with-stage-latch : (selected : Selected) (bits : List Bool) (r : Registers) → (with_stage selected bits r).latch ≡ r.latch
@@ -121,6 +134,14 @@ risen-update (Shifts Ir) d a tdi r = refl
 risen-update (Updates column) d a tdi r = refl
 risen-update Resets d a tdi r = refl
 risen-update Waits d a tdi r = refl
+
+pub put-latch : (column : Column) (d : Device) (bits : List Bool) (r : Registers) → (put d column bits r).latch ≡ r.latch
+put-latch Dr d bits r = with-stage-latch (meaning d r.latch).selected bits r
+put-latch Ir d bits r = refl
+
+pub put-update : (column : Column) (d : Device) (bits : List Bool) (r : Registers) → (put d column bits r).update ≡ r.update
+put-update Dr d bits r = with-stage-update (meaning d r.latch).selected bits r
+put-update Ir d bits r = refl
 
 -- A rising edge changes nothing that is driven.
 pub rise_drives : (trst tms tdi : Bool) (sees : ℕ → Bool) (c : ChipState) (p : ℕ) → drive (chain.rise trst tms tdi sees c).member p ≡ drive c.member p

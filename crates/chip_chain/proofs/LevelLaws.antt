@@ -1,14 +1,14 @@
 -- Levels of numbered nets are those of the nets; pins put one after another.
-use Rattle.std.proofs.Common.{◌≡◌, ◌<◌, ◌≤◌, ℕ, zero, suc, ◌+◌, Bool, true, false, List, [], ◌∷◌, ◌++◌, length, map, take, drop, set, get_or, slice_get, Option, Some, None, option_map, unwrap_or, refl, sym, ap, ◌∙◌, arith, append_assoc}
-use Rattle.std.specs.List.{AllByRecursion, range_with_len}
+use Rattle.std.proofs.Common.{◌≡◌, ◌<◌, ◌≤◌, ℕ, zero, suc, ◌+◌, List, [], ◌∷◌, ◌++◌, length, map, take, drop, set, get_or, slice_get, Option, Some, option_map, unwrap_or, refl, sym, ap, ◌∙◌, arith}
+use Rattle.std.specs.List.{range_with_len}
 use Rattle.std.proofs.Math.Seq.{drop-cons}
 use Rattle.std.proofs.lemmas.List.{get_or-drop, length-drop, length-append, length-map, map-append}
-use Rattle.std.proofs.lemmas.Option.{slice_get-get_or, slice_get-map, slice_get_within, unwrap_or-slice_get}
+use Rattle.std.proofs.lemmas.Option.{slice_get-map, unwrap_or-slice_get}
 use Rattle.pin_nets.specs.declared.Drive.{Drive}
 use Rattle.pin_nets.specs.declared.Drive.TheVariants.{Nothing}
 use Rattle.pin_nets.specs.declared.Level.{Level}
 use Rattle.pin_nets.specs.declared.Pin.{Pin}
-use Rattle.pin_nets.specs.Levels.{NetValue, drive_at, level, level_of, pull_drive}
+use Rattle.pin_nets.specs.Levels.{drive_at, level, level_of, pull_drive}
 use Rattle.pin_nets.specs.Wired.{Net}
 use Rattle.board_file.specs.Fits.{all_pins}
 use Rattle.board_meaning.specs.Cells.{Member, drive}

@@ -5,3 +5,4 @@ pub mod TellLaws
 pub mod SweepLaws
 pub mod ChainLaws
 pub mod BuildLaws
+pub mod RestLaws

@@ -1,5 +1,5 @@
 -- What the cells of a device are told is what their ports see.
-use Rattle.std.proofs.Common.{◌≡◌, ◌<◌, ℕ, zero, suc, ◌+◌, Bool, true, false, List, [], ◌∷◌, map, slice_get, Option, Some, None, option_map, unwrap_or, refl, sym, ap, subst, get_or, length, ◌∙◌, arith}
+use Rattle.std.proofs.Common.{◌≡◌, ◌<◌, ℕ, suc, ◌+◌, Bool, true, false, List, [], ◌∷◌, map, slice_get, Option, Some, None, option_map, unwrap_or, refl, sym, ap, subst, get_or, length, ◌∙◌, arith}
 use Rattle.std.specs.List.{find}
 use Rattle.std.proofs.lemmas.Option.{none-some, slice_get_read}
 use Rattle.bsdl_device.specs.declared.Cell.{Cell}
@@ -11,9 +11,8 @@ use Rattle.pin_nets.specs.Levels.{level_of, pull_drive, reads}
 use Rattle.pin_nets.specs.Wired.{Net}
 use Rattle.boundary.specs.Sight.{Told}
 use Rattle.board_meaning.specs.Cells.{Member, drive}
-use Rattle.board_meaning.specs.Nets.{joins, level, lone_net, net_of, pin_drive, sees}
-use Rattle.chip_chain.specs.Seats.{SeatValue, first_net, member_of}
-use Rattle.chip_chain.specs.Telling.{IsAt}
+use Rattle.board_meaning.specs.Nets.{joins, level, lone_net, pin_drive, sees}
+use Rattle.chip_chain.specs.Seats.{SeatValue, first_net}
 use Rattle.chip_chain.specs.Wires.{WiringValue}
 
 -- ---- the first net is the one that is found

@@ -1,7 +1,6 @@
 -- How a planned chain is made.
 use Rattle.std.specs.Prelude.{◌≡◌, ◌<◌, ◌≤◌, ◌&&◌, ◌==◌, ℕ, suc, Bool, List, [], ◌∷◌, length, map, slice_index_or, Option, Some, None, if◌then◌else◌}
 use Rattle.std.specs.List.{AllByRecursion, list_any}
-use Rattle.bsdl_device.specs.Device.{Device}
 use Rattle.scan_registers.specs.Chips.{powered}
 use Rattle.scan_registers.specs.Fitting.{IsFormed}
 use Rattle.pin_nets.specs.declared.Pin.{Pin}

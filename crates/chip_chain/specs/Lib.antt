@@ -4,3 +4,4 @@ pub mod Telling
 pub mod Sweeping
 pub mod Chains
 pub mod Building
+pub mod AtRest

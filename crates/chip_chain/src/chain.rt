@@ -8,6 +8,8 @@ ghost use Rattle.chip_chain.specs.Seats.{AllTold, chip_state, may_drive_anew};
 ghost use Rattle.chip_chain.specs.Sweeping.{EachFrom, Falls, Rises, TakesTrst};
 ghost use Rattle.chip_chain.specs.Wires.{IsWired};
 
+mod at_rest;
+
 use crate::seat::{Seat, rise};
 use crate::wiring::Wiring;
 use jt_tap::Work;

@@ -15,6 +15,8 @@ ghost use Rattle.chip_chain.specs.Building.{seat_of};
 ghost use Rattle.chip_chain.specs.Seats.{AreBelow, IsKept, IsSighted, captures_boundary, chip_state, first_net, member_of, with_seen};
 ghost use Rattle.chip_chain.specs.Telling.{IsAt, TellsAll, TellsCell, sight};
 
+pub(crate) mod at_rest;
+
 use crate::wiring::Wiring;
 use board_file::PlannedDevice;
 use boundary::{Boundary, Drive, drivers};

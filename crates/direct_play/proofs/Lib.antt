@@ -1,5 +1,5 @@
 pub mod Wants
-pub mod Replies
+pub mod WholePlay
 pub mod Turns
 pub mod NotedPieces
 pub mod Buffers

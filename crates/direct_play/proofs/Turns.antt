@@ -1,5 +1,5 @@
 -- The full play, one step after another.
-use Rattle.std.proofs.Common.{◌≡◌, Bool, true, false, ℕ, ◌<◌, List, [], ◌∷◌, ◌++◌, refl, sym, ap, ◌∙◌, subst, map, Some, None}
+use Rattle.std.proofs.Common.{◌≡◌, true, ℕ, List, [], ◌∷◌, ◌++◌, refl, ap, ◌∙◌, map, Some, None}
 use Rattle.std.specs.Prelude.{Option}
 use Rattle.jt_tap.specs.Controller.{is_stable}
 use Rattle.jt_tap.specs.declared.State.{State}
@@ -12,23 +12,15 @@ use Rattle.bitbang.specs.StepMessages.{step_bytes, step_messages}
 use Rattle.scan_vectors.specs.declared.part.Part.{Part}
 use Rattle.scan_vectors.specs.Vector.{judge}
 use Rattle.svf_parse.specs.declared.statement.TrstWord.TheVariants.{On, Off, Z, Absent}
-use Rattle.svf_settings.specs.Legal.{IsFormed, IsLegalProgram, IsPath}
+use Rattle.svf_settings.specs.Legal.{IsFormed, IsPath}
 use Rattle.svf_settings.specs.Steps.{Step, Scan, Go, Path, Run, Trst, Numbered, Program, place_after}
 use Rattle.tap_paths.specs.Paths.{last_of}
 use Rattle.board_meaning.specs.Chain.{BoardState, Heard, hear}
-use Rattle.board_meaning.specs.Sound.{HasDevice, IsSoundBoard}
-use Rattle.plays.specs.declared.ending.Ending.{Ending}
 use Rattle.plays.specs.declared.ending.Ending.TheVariants.{Fail}
-use Rattle.plays.specs.DirectPlay.{MeansFromOpening, full_bytes}
-use Rattle.plays.specs.Play.{Played, Turn, full_play, play, step_turns, wants_of}
-use Rattle.plays.proofs.Described.{means_from_opening}
+use Rattle.plays.specs.DirectPlay.{full_bytes}
+use Rattle.plays.specs.Play.{Played, full_play, step_turns, wants_of}
 
--- a play ends so, with this board
-pub record EndsSo (p : Played) (ending : Ending) (board : BoardState) : Type 0 where
-  pub ending_is : p.ending ≡ ending
-  pub board_is : p.board ≡ board
-
-abbrev heard-of : State → Numbered → BoardState → Heard
+abbrev pub heard-of : State → Numbered → BoardState → Heard
 heard-of place s b = hear (step_messages place s.what) b
 
 abbrev decided : State → Numbered → List Numbered → BoardState → Option (Part × ℕ) → Played
@@ -40,24 +32,6 @@ decided place s ss b found =
       | None ↦ record { messages = messages ++ rest.messages; answers = heard.answers ++ rest.answers; ending = rest.ending; board = rest.board }
       | Some f ↦ record { messages = messages ++ Quit ∷ []; answers = heard.answers; ending = Fail s.number f.0 f.1; board = heard.board }
     ]
-
-module _ (place : State) (s : Numbered) (ss : List Numbered) (b : BoardState) where
-  -- a step that passes is followed by the others
-  pub passed : judge (wants_of s.what) (heard-of place s b).answers ≡ None
-      → EndsSo (full_play (step_turns place (s ∷ ss)) b) (full_play (step_turns (place_after place s.what) ss) (heard-of place s b).board).ending
-      (full_play (step_turns (place_after place s.what) ss) (heard-of place s b).board).board
-  passed none = record {
-    ending_is = ap (λ (o : Option (Part × ℕ)). (decided place s ss b o).ending) none;
-    board_is = ap (λ (o : Option (Part × ℕ)). (decided place s ss b o).board) none;
-  }
-
-  -- a step that fails is the last one
-  pub failed : (f : Part × ℕ) → judge (wants_of s.what) (heard-of place s b).answers ≡ Some f
-      → EndsSo (full_play (step_turns place (s ∷ ss)) b) (Fail s.number f.0 f.1) (heard-of place s b).board
-  failed f some = record {
-    ending_is = ap (λ (o : Option (Part × ℕ)). (decided place s ss b o).ending) some;
-    board_is = ap (λ (o : Option (Part × ℕ)). (decided place s ss b o).board) some;
-  }
 
 path-stable : (place : State) (path : List State) → IsPath place path → is_stable (last_of place path) ≡ true
 path-stable place [] is = is
@@ -73,13 +47,6 @@ stable-after place (Trst On) here formed = refl
 stable-after place (Trst Off) here formed = here
 stable-after place (Trst Z) here formed = here
 stable-after place (Trst Absent) here formed = here
-
--- what is played so means what the program means
-pub means-so : (program : Program) (b : BoardState) → IsSoundBoard b → HasDevice b → IsLegalProgram program.steps → (ending : Ending) (after : BoardState)
-    → ending ≡ (play program b).ending → after ≡ (play program b).board → MeansFromOpening program b ending after
-means-so program b sound some legal ending after same-ending same-board =
-    subst (λ (e : Ending). MeansFromOpening program b e after) (sym same-ending)
-    (subst (λ (a : BoardState). MeansFromOpening program b (play program b).ending a) (sym same-board) (means_from_opening program b sound some legal))
 
 map-append : (xs ys : List Message) → map encode (xs ++ ys) ≡ map encode xs ++ map encode ys
 map-append [] ys = refl

@@ -1,7 +1,7 @@
 -- The wanted bits of a vector, from a place on.
 use Rattle.std.proofs.Common.{◌≡◌, Bool, true, false, ℕ, zero, suc, ◌+◌, ◌≤◌, List, [], ◌∷◌, drop, length, refl, sym, ap, ◌∙◌, arith, Some, None}
 use Rattle.std.specs.Prelude.{Option, option_map, slice_get, is_some, if◌then◌else◌}
-use Rattle.scan_vectors.specs.Vector.{VectorBit, differs}
+use Rattle.scan_vectors.specs.Vector.{VectorBit}
 use Rattle.direct_play.specs.Judging.{wanted}
 
 -- what stands at a place, and what stands behind it

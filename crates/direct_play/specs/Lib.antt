@@ -1,4 +1,3 @@
 pub mod Accepting
 pub mod Judging
-pub mod Hearing
 pub mod Noting

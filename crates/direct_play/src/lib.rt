@@ -1,5 +1,5 @@
-//! Every accepted program, played directly on a board: each byte is taken by the board as soon as it is made, and each answer
-//! judged as it comes.
+//! Every accepted program, played directly on a board: the opening edge by edge, and from then on each step on whole
+//! registers, which leads where the bytes of the step lead.
 #![tactic(auto)]
 
 mod accepting;

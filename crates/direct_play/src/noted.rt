@@ -11,10 +11,8 @@ use crate::noting::{note, note_step};
 use crate::stepping::{OPENING, play_opening, play_step};
 use byte_ends::{Counted, Sink};
 use jt_board::Board;
-use jt_tap::State;
 use plays::Ending;
 use svf_settings::Program;
-use tck_cycles::place_after;
 
 /// Plays a program on a board as `play_program` does, and writes the bytes of the play: `Q` is the last. The flag tells that all
 /// of them were written; it is false exactly where the writer's first loss came in this call, and the play goes on all the same.
@@ -46,14 +44,15 @@ fn play_and_note<W: Sink>(program: &Program, board: &mut Board, out: &mut Counte
     ensures board { board.new ≡ (play (program_of program.now) board.old).board }
     ensures notes { Notes W.contents out.old out.new (full_bytes (program_of program.now) board.old) }
 {
-    // For the proof alone: what the type keeps of a program's steps.
+    // For the proof alone: what the types keep of a program's steps and of a board's devices.
     let _ = program.len();
+    let _ = board.devices();
     note(out, OPENING);
     play_opening(board);
-    let mut place = State::Reset;
     for step in program.steps() {
+        let place = board.place();
         note_step(place, &step, out);
-        if let Some((part, bit)) = play_step(place, &step, board) {
+        if let Some((part, bit)) = play_step(&step, board) {
             note(out, b"Q");
             return Ending::Fail {
                 command: step.number,
@@ -61,7 +60,6 @@ fn play_and_note<W: Sink>(program: &Program, board: &mut Board, out: &mut Counte
                 bit,
             };
         }
-        place = place_after(place, &step);
     }
     note(out, b"Q");
     Ending::Pass

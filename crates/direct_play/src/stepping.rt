@@ -1,27 +1,29 @@
-//! One step, played.
+//! One step, played on whole registers: what the bytes of the step would do edge by edge, done at once.
 
-ghost use Rattle.std.specs.Prelude.{◌≡◌, true};
-ghost use Rattle.jt_tap.specs.Controller.{is_stable};
+ghost use Rattle.std.specs.Prelude.{◌≡◌};
+ghost use Rattle.jt_tap.specs.Controller as controller;
 ghost use Rattle.bitbang_table.specs.Cycles.{opening};
-ghost use Rattle.bitbang.specs.StepMessages.{step_messages};
-ghost use Rattle.scan_vectors.specs.Vector.{judge};
-ghost use Rattle.svf_settings.specs.Legal.{IsFormed};
-ghost use Rattle.svf_settings.specs.Laws.{IsWithin};
+ghost use Rattle.scan_vectors.specs.Held.{bits};
+ghost use Rattle.scan_vectors.specs.Vector.{judge, tdis};
 ghost use Rattle.svf_settings.specs.Seen as seen;
+ghost use Rattle.svf_settings.specs.Steps as steps;
 ghost use Rattle.board_meaning.specs.Chain.{after_all, hear};
-ghost use Rattle.plays.specs.Play.{wants_of};
+ghost use Rattle.board_meaning.specs.Resting.{IsAtRest};
+ghost use Rattle.board_meaning.specs.Whole as whole;
+ghost use Rattle.board_meaning.specs.Whole.{AtRest};
+ghost use Rattle.plays.specs.Meaning as meaning;
 
-use crate::judging::Judge;
-use bitbang::StepBytes;
 use jt_board::Board;
-use jt_tap::State;
-use scan_vectors::Part;
-use svf_settings::Step;
+use jt_tap::{Column, State};
+use scan_vectors::{Part, Vector};
+use svf_parse::TrstWord;
+use svf_settings::{Action, Step};
 
 /// The bytes that open a play: TRST is released, five cycles with TMS 1 follow, and TCK, TMS and TDI are low again.
 pub(crate) const OPENING: &[u8] = b"r26262626260";
 
-/// Opens a play: TRST is released, and five cycles with TMS 1 follow.
+/// Opens a play, edge by edge, for a board may stand in the middle of a scan: TRST is released, and five cycles with TMS 1
+/// follow.
 pub(crate) fn play_opening(board: &mut Board)
     ensures { board.new ≡ (hear opening board.old).board }
 {
@@ -37,18 +39,98 @@ fn take_all(board: &mut Board, bytes: &[u8])
     }
 }
 
-/// Plays a step from a resting place. Answers the first wanted bit that came out otherwise, by its part and its place there.
-pub(crate) fn play_step(place: State, step: &Step<'_>, board: &mut Board) -> Option<(Part, usize)>
-    requires rests { is_stable place ≡ true }
-    requires formed { IsFormed place (seen.step step.now.what) }
-    requires within { IsWithin (seen.step step.now.what) }
-    ensures board { board.new ≡ (hear (step_messages place (seen.step step.now.what)) board.old).board }
-    ensures judged { result ≡ judge (wants_of (seen.step step.now.what)) (hear (step_messages place (seen.step step.now.what)) board.old).answers }
+/// Plays a step on a board at rest. Answers the first wanted bit that came out otherwise, by its part and its place there.
+pub(crate) fn play_step(step: &Step<'_>, board: &mut Board) -> Option<(Part, usize)>
+    ensures board { (m : AtRest) → IsAtRest board.old m → IsAtRest board.new (meaning.command (seen.step step.now.what) m) }
+    ensures judged { (m : AtRest) → IsAtRest board.old m → result ≡ meaning.failure (seen.step step.now.what) m }
 {
-    let mut judge = Judge::of(&step.what);
-    let mut bytes = StepBytes::of(place, step);
-    while let Some(byte) = bytes.next() {
-        judge.hear_reply(board.byte(byte));
+    match step.what {
+        Action::Scan {
+            column,
+            vector,
+            end,
+        } => return scan(column, &vector, end, board),
+        Action::Go(state) => move_to(state, board),
+        Action::Path(path) => board.along(path),
+        Action::Run { run, end, .. } => {
+            move_unless_there(run, board);
+            move_unless_there(end, board);
+        }
+        Action::Trst(word) => set_trst(word, board),
     }
-    judge.failed
+    None
+}
+
+/// Scans a whole vector, from rest to rest: what is pending is made, the registers capture, what comes out is judged, and the
+/// registers take what stays in.
+fn scan(column: Column, vector: &Vector, end: State, board: &mut Board) -> Option<(Part, usize)>
+    ensures board { (m : AtRest) → IsAtRest board.old m
+        → IsAtRest board.new (meaning.scan_end column end (whole.shift column (tdis (bits vector.now)) (whole.capture column (whole.settle m)))) }
+    ensures judged { (m : AtRest) → IsAtRest board.old m
+        → result ≡ judge (bits vector.now) (whole.out column (tdis (bits vector.now)) (whole.capture column (whole.settle m))) }
+{
+    board.settle();
+    board.capture(column);
+    let failed = board.judge(column, vector);
+    board.shift(column, vector);
+    end_scan(column, end, board);
+    failed
+}
+
+/// A scan ends: one that ends in its own pause rests there with the update pending.
+fn end_scan(column: Column, end: State, board: &mut Board)
+    ensures { (m : AtRest) → IsAtRest board.old m → IsAtRest board.new (meaning.scan_end column end m) }
+{
+    if is_at(end, pause(column)) {
+        board.stand(end);
+    } else {
+        board.update(column);
+        board.arrive(end);
+    }
+}
+
+/// Goes to a stable state by the default path.
+fn move_to(state: State, board: &mut Board)
+    ensures { (m : AtRest) → IsAtRest board.old m → IsAtRest board.new (meaning.move_to state m) }
+{
+    board.settle();
+    board.arrive(state);
+}
+
+/// Goes to a stable state, unless the board rests there.
+fn move_unless_there(state: State, board: &mut Board)
+    ensures { (m : AtRest) → IsAtRest board.old m → IsAtRest board.new (meaning.move_unless_there state m) }
+{
+    if is_at(board.place(), state) {
+        return;
+    }
+    move_to(state, board);
+}
+
+/// Drives the line TRST.
+fn set_trst(word: TrstWord, board: &mut Board)
+    ensures { (m : AtRest) → IsAtRest board.old m → IsAtRest board.new (meaning.command (steps.Trst word) m) }
+{
+    match word {
+        TrstWord::On => board.assert_trst(),
+        TrstWord::Off | TrstWord::Z => board.release_trst(),
+        TrstWord::Absent => {}
+    }
+}
+
+/// The pause of a column.
+fn pause(column: Column) -> State
+    ensures { result ≡ controller.pause column }
+{
+    match column {
+        Column::Dr => State::DrPause,
+        Column::Ir => State::IrPause,
+    }
+}
+
+/// Whether a stable state is this one.
+fn is_at(here: State, state: State) -> bool
+    ensures { result ≡ controller.is_at here state }
+{
+    here == state && here.is_stable()
 }

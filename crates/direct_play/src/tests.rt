@@ -23,7 +23,7 @@ fn fails(command: usize, part: Part, bit: usize) -> Ending {
 
 #[test]
 fn scans_end_as_they_mean(rt: HostRuntime) -> Result<(), Fail> {
-    let rows: [(&[u8], usize, Ending); 8] = [
+    let rows: [(&[u8], usize, Ending); 9] = [
         (b"", 1, Ending::Pass),
         (b"SIR 2 TDI (3) TDO (1);", 1, Ending::Pass),
         (b"SIR 4 TDI (F); SDR 3 TDI (5) TDO (4);", 2, Ending::Pass),
@@ -43,6 +43,7 @@ fn scans_end_as_they_mean(rt: HostRuntime) -> Result<(), Fail> {
             1,
             Ending::Pass,
         ),
+        (b"RUNTEST 4294967295 TCK;", 32, Ending::Pass),
         (
             b"TRST ON; TRST OFF; STATE IDLE; FREQUENCY 3E6 HZ; RUNTEST 1E-6 SEC;",
             1,

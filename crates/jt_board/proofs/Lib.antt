@@ -1,3 +1,4 @@
 pub mod Lines
 pub mod Bares
 pub mod TextLaws
+pub mod RestLaws

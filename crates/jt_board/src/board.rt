@@ -10,6 +10,8 @@ ghost use Rattle.board_meaning.specs.Sound.{IsSoundBoard};
 ghost use Rattle.chip_chain.specs.Building.{IsReady};
 ghost use Rattle.jt_board.specs.Made.{IsSoundWiring, board_at, board_of};
 
+mod at_rest;
+
 use crate::bare::bare_plan;
 use crate::snapshot::Snapshot;
 use bitbang_table::Message;

@@ -1,12 +1,10 @@
-use Rattle.std.proofs.Common.{◌≡◌, ◌<◌, ℕ, List, Some, Option, length, map, slice_get, get_or, refl, sym, ap, subst, ◌∙◌, arith}
+use Rattle.std.proofs.Common.{length, map, sym, subst, arith}
 use Rattle.std.proofs.lemmas.List.{length-map}
-use Rattle.std.proofs.lemmas.Option.{slice_get-map, slice_get_read}
 use Rattle.scan_registers.specs.Fitting.{IsFormed}
 use Rattle.bsdl_device.specs.Device.{Device}
 use Rattle.board_file.specs.Fits.{HasCore}
 use Rattle.board_file.specs.View.{member as planned_member, net as planned_net}
 use Rattle.board_file.specs.Wiring as planned
-use Rattle.board_file.specs.declared.plan.PlannedDevice.{PlannedDevice}
 use Rattle.chip_chain.specs.Building.{PortsFit}
 use Rattle.chip_chain.proofs.BuildLaws.{all_at, planned_at, ports_fit, seat_push, seats_end}
 use Rattle.chip_chain.proofs.build.all_seats.Goals as goal

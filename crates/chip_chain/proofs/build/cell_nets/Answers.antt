@@ -1,5 +1,4 @@
-use Rattle.std.proofs.Common.{◌≡◌, List, Option, None, ℕ, get_or, length, map, sym, ap, subst, ◌∙◌}
-use Rattle.bsdl_device.specs.Device.{Device}
+use Rattle.std.proofs.Common.{List, Option, None, ℕ, get_or, length, map, ap, ◌∙◌}
 use Rattle.bsdl_device.specs.declared.Cell.{Cell}
 use Rattle.bsdl_device.specs.declared.Function.TheVariants.{Input}
 use Rattle.board_file.specs.View.{net as planned_net}

@@ -1,4 +1,4 @@
-use Rattle.std.proofs.Common.{Bool, sym, subst}
+use Rattle.std.proofs.Common.{Bool, subst}
 use Rattle.chip_chain.specs.Sweeping.{EachFrom, TakesTrst}
 use Rattle.chip_chain.proofs.ChainLaws.{anew_wired, released_wired}
 use Rattle.chip_chain.proofs.chain.tell_trst_wired.Goals as goal

@@ -1,4 +1,4 @@
-use Rattle.std.proofs.Common.{◌≡◌, ◌≢◌, List, map, Result, Ok, Err, inl, subst, ⊎_elim}
+use Rattle.std.proofs.Common.{◌≡◌, List, map, Err, inl, subst, ⊎_elim}
 use Rattle.svf_parse.specs.Judging.{Said}
 use Rattle.svf_parse.specs.View.{said}
 use Rattle.svf_settings.specs.Programs.{Refuses, Resolves}

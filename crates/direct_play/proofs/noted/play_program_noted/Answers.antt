@@ -3,12 +3,12 @@ use Rattle.std.specs.Prelude.{◌==◌}
 use Rattle.svf_settings.specs.Sizes.{program_of}
 use Rattle.plays.specs.DirectPlay.{full_bytes}
 use Rattle.direct_play.proofs.NotedPieces.{noted-writes}
-use Rattle.direct_play.proofs.Turns.{means-so}
+use Rattle.direct_play.proofs.WholePlay.{played_so}
 use Rattle.direct_play.proofs.noted.play_program_noted.Goals as goal
 
 pub returns-clause-meaning : goal.returns-clause-meaning
 returns-clause-meaning g c =
-    means-so (program_of c.args.program.now) c.args.board.now c.devices.ensures.sound
+    played_so (program_of c.args.program.now) c.args.board.now c.devices.ensures.sound
     (subst (λ (n : ℕ). 0 < n) c.devices.ensures.count c.devices.ensures.some) c.len.ensures.sound.legal
     c.play_and_note-ending.result c.play_and_note-ending.new.board c.play_and_note-ending.ensures.ending c.play_and_note-ending.ensures.board
 

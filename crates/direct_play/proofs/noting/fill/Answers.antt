@@ -1,4 +1,4 @@
-use Rattle.std.proofs.Common.{◌≡◌, ◌+◌, [], ◌∷◌, length, arith}
+use Rattle.std.proofs.Common.{length, arith}
 use Rattle.bitbang.specs.Left.{left}
 use Rattle.direct_play.proofs.Buffers.{filled, none_left}
 use Rattle.direct_play.proofs.noting.fill.Goals as goal

@@ -1,67 +1,97 @@
-use Rattle.std.proofs.Common.{◌≡◌, ◌<◌, ℕ, true, List, [], ◌∷◌, Some, None, refl, sym, ap, subst, ◌∙◌}
-use Rattle.jt_tap.specs.Controller.{is_stable}
-use Rattle.jt_tap.specs.declared.State.{State}
-use Rattle.svf_settings.specs.Laws.{AllWithin}
+use Rattle.std.proofs.Common.{◌<◌, ℕ, List, refl, sym, ap, subst, ◌∙◌}
 use Rattle.svf_settings.specs.Left.{left}
-use Rattle.svf_settings.specs.Legal.{AllLegalFrom}
 use Rattle.svf_settings.specs.Seen.{numbered}
 use Rattle.svf_settings.specs.Sizes.{program_of}
-use Rattle.svf_settings.specs.Steps.{Numbered, line_after}
+use Rattle.svf_settings.specs.Steps.{Numbered}
+use Rattle.board_meaning.specs.Chain.{BoardState}
+use Rattle.board_meaning.specs.Resting.{IsAtRest}
 use Rattle.plays.specs.declared.ending.Ending.TheVariants.{Fail, Pass}
-use Rattle.plays.specs.Play.{full_play, play, step_turns}
-use Rattle.direct_play.proofs.Turns.{EndsSo, failed, means-so, passed, stable-after}
+use Rattle.plays.specs.DirectPlay.{opened_state}
+use Rattle.plays.specs.Meaning.{command, outcome}
+use Rattle.direct_play.proofs.WholePlay.{means_from_opening, opened, outcome_failed, outcome_passed, same_board, same_ending}
 use Rattle.direct_play.proofs.playing.play_program.Goals as goal
+
+pub loop-step-init : goal.loop-step-init
+loop-step-init c =
+    let b = c.args.board.now in
+    let some = subst (λ (n : ℕ). 0 < n) c.devices.ensures.count c.devices.ensures.some in
+    record {
+      m = opened_state b;
+      rests = subst (λ (x : BoardState). IsAtRest x (opened_state b)) (sym c.play_opening.ensures) (opened b c.devices.ensures.sound some).board;
+      ends = ap (λ (ss : List Numbered). outcome ss (opened_state b)) (sym c.steps-step-items.ensures ∙ ap left (sym c.into_iter-step-iterator.ensures.into_iter_gives));
+    }
 
 pub loop-step-preserved : goal.loop-step-preserved
 loop-step-preserved c =
     let i = c.loop-step.invariant in
-    let b = c.loop-step.board in
-    let place = c.loop-step.place in
-    let whole = play (program_of c.args.program.now) c.args.board.now in
     let s : Numbered = numbered c.in-Some.step in
     let ss : List Numbered = left c.next.new.self in
-    let cut : left c.loop-step.step-iterator ≡ s ∷ ss = c.in-Some.ensures.steps in
-    let legal : AllLegalFrom place i.line (s ∷ ss) = subst (AllLegalFrom place i.line) cut i.legal in
-    let within : AllWithin (s ∷ ss) = subst AllWithin cut i.within in
-    let rest : EndsSo (full_play (step_turns place (s ∷ ss)) b) whole.ending whole.board =
-    subst (λ (l : List Numbered). EndsSo (full_play (step_turns place l) b) whole.ending whole.board) cut i.rest in
-    let on = passed place s ss b (sym c.play_step.ensures.judged ∙ c.in_default.is) in
     record {
-      stable = subst (λ (x : State). is_stable x ≡ true) (sym c.place_after-place.ensures) (stable-after place s.what i.stable legal.0.formed);
-      line = line_after i.line s.what;
-      legal = subst (λ (x : State). AllLegalFrom x (line_after i.line s.what) ss) (sym c.place_after-place.ensures) legal.1;
-      within = within.1;
-      rest = record {
-        ending_is = (λ k. (full_play (step_turns (c.place_after-place.ensures k) ss) (c.play_step.ensures.board k)).ending)
-            ∙ sym on.ending_is ∙ rest.ending_is;
-        board_is = (λ k. (full_play (step_turns (c.place_after-place.ensures k) ss) (c.play_step.ensures.board k)).board)
-            ∙ sym on.board_is ∙ rest.board_is;
-      };
+      m = command s.what i.m;
+      rests = c.play_step.ensures.board i.m i.rests;
+      ends = i.ends ∙ ap (λ (l : List Numbered). outcome l i.m) c.in-Some.ensures.steps
+          ∙ outcome_passed s ss i.m (sym (c.play_step.ensures.judged i.m i.rests) ∙ c.in_default.is);
     }
+
+pub returns-in-Some-play_step-clause-ending : goal.returns-in-Some-play_step-clause-ending
+returns-in-Some-play_step-clause-ending c =
+    let i = c.loop-step.invariant in
+    let s : Numbered = numbered c.in-Some.step in
+    let ss : List Numbered = left c.next.new.self in
+    let some = sym (c.play_step.ensures.judged i.m i.rests) ∙ c.in-Some-play_step.is in
+    same_ending (program_of c.args.program.now) c.args.board.now c.devices.ensures.sound
+    (subst (λ (n : ℕ). 0 < n) c.devices.ensures.count c.devices.ensures.some) c.len.ensures.sound.legal
+    (Fail s.number c.in-Some-play_step.part c.in-Some-play_step.bit) c.play_step.new.board _
+    (i.ends ∙ ap (λ (l : List Numbered). outcome l i.m) c.in-Some.ensures.steps
+    ∙ outcome_failed s ss i.m (c.in-Some-play_step.part, c.in-Some-play_step.bit) some)
+    refl (c.play_step.ensures.board i.m i.rests)
+
+pub returns-in-Some-play_step-clause-board : goal.returns-in-Some-play_step-clause-board
+returns-in-Some-play_step-clause-board c =
+    let i = c.loop-step.invariant in
+    let s : Numbered = numbered c.in-Some.step in
+    let ss : List Numbered = left c.next.new.self in
+    let some = sym (c.play_step.ensures.judged i.m i.rests) ∙ c.in-Some-play_step.is in
+    same_board (program_of c.args.program.now) c.args.board.now c.devices.ensures.sound
+    (subst (λ (n : ℕ). 0 < n) c.devices.ensures.count c.devices.ensures.some) c.len.ensures.sound.legal
+    (Fail s.number c.in-Some-play_step.part c.in-Some-play_step.bit) c.play_step.new.board _
+    (i.ends ∙ ap (λ (l : List Numbered). outcome l i.m) c.in-Some.ensures.steps
+    ∙ outcome_failed s ss i.m (c.in-Some-play_step.part, c.in-Some-play_step.bit) some)
+    refl (c.play_step.ensures.board i.m i.rests)
 
 pub returns-in-Some-play_step-clause-meaning : goal.returns-in-Some-play_step-clause-meaning
 returns-in-Some-play_step-clause-meaning c =
     let i = c.loop-step.invariant in
-    let b = c.loop-step.board in
-    let place = c.loop-step.place in
-    let program = program_of c.args.program.now in
-    let whole = play program c.args.board.now in
     let s : Numbered = numbered c.in-Some.step in
     let ss : List Numbered = left c.next.new.self in
-    let rest : EndsSo (full_play (step_turns place (s ∷ ss)) b) whole.ending whole.board =
-    subst (λ (l : List Numbered). EndsSo (full_play (step_turns place l) b) whole.ending whole.board) c.in-Some.ensures.steps i.rest in
-    let off = failed place s ss b (c.in-Some-play_step.part, c.in-Some-play_step.bit) (sym c.play_step.ensures.judged ∙ c.in-Some-play_step.is) in
-    means-so program c.args.board.now c.devices.ensures.sound (subst (λ (n : ℕ). 0 < n) c.devices.ensures.count c.devices.ensures.some)
-    c.len.ensures.sound.legal (Fail s.number c.in-Some-play_step.part c.in-Some-play_step.bit) c.play_step.new.board
-    (sym off.ending_is ∙ rest.ending_is) (c.play_step.ensures.board ∙ sym off.board_is ∙ rest.board_is)
+    let some = sym (c.play_step.ensures.judged i.m i.rests) ∙ c.in-Some-play_step.is in
+    means_from_opening (program_of c.args.program.now) c.args.board.now c.devices.ensures.sound
+    (subst (λ (n : ℕ). 0 < n) c.devices.ensures.count c.devices.ensures.some) c.len.ensures.sound.legal
+    (Fail s.number c.in-Some-play_step.part c.in-Some-play_step.bit) c.play_step.new.board _
+    (i.ends ∙ ap (λ (l : List Numbered). outcome l i.m) c.in-Some.ensures.steps
+    ∙ outcome_failed s ss i.m (c.in-Some-play_step.part, c.in-Some-play_step.bit) some)
+    refl (c.play_step.ensures.board i.m i.rests)
+
+pub returns-clause-ending : goal.returns-clause-ending
+returns-clause-ending c =
+    let i = c.loop-step.invariant in
+    same_ending (program_of c.args.program.now) c.args.board.now c.devices.ensures.sound
+    (subst (λ (n : ℕ). 0 < n) c.devices.ensures.count c.devices.ensures.some) c.len.ensures.sound.legal
+    Pass c.loop-step.board _
+    (i.ends ∙ ap (λ (l : List Numbered). outcome l i.m) c.in-None.ensures.steps.0) refl i.rests
+
+pub returns-clause-board : goal.returns-clause-board
+returns-clause-board c =
+    let i = c.loop-step.invariant in
+    same_board (program_of c.args.program.now) c.args.board.now c.devices.ensures.sound
+    (subst (λ (n : ℕ). 0 < n) c.devices.ensures.count c.devices.ensures.some) c.len.ensures.sound.legal
+    Pass c.loop-step.board _
+    (i.ends ∙ ap (λ (l : List Numbered). outcome l i.m) c.in-None.ensures.steps.0) refl i.rests
 
 pub returns-clause-meaning : goal.returns-clause-meaning
 returns-clause-meaning c =
     let i = c.loop-step.invariant in
-    let b = c.loop-step.board in
-    let program = program_of c.args.program.now in
-    let whole = play program c.args.board.now in
-    let rest : EndsSo (full_play (step_turns c.loop-step.place []) b) whole.ending whole.board =
-    subst (λ (l : List Numbered). EndsSo (full_play (step_turns c.loop-step.place l) b) whole.ending whole.board) c.in-None.ensures.steps.0 i.rest in
-    means-so program c.args.board.now c.devices.ensures.sound (subst (λ (n : ℕ). 0 < n) c.devices.ensures.count c.devices.ensures.some)
-    c.len.ensures.sound.legal Pass b rest.ending_is rest.board_is
+    means_from_opening (program_of c.args.program.now) c.args.board.now c.devices.ensures.sound
+    (subst (λ (n : ℕ). 0 < n) c.devices.ensures.count c.devices.ensures.some) c.len.ensures.sound.legal
+    Pass c.loop-step.board _
+    (i.ends ∙ ap (λ (l : List Numbered). outcome l i.m) c.in-None.ensures.steps.0) refl i.rests

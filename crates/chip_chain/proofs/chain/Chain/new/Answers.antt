@@ -1,16 +1,14 @@
-use Rattle.std.proofs.Common.{◌≡◌, ◌∙◌, false, List, length, map, sym, ap, subst}
+use Rattle.std.proofs.Common.{◌≡◌, ◌∙◌, false, List, map, sym, ap, subst}
 use Rattle.pin_nets.specs.Wired.{Net}
 use Rattle.board_file.specs.Fits.{all_pins}
 use Rattle.board_file.specs.View.{member as planned_member, net as planned_net, wiring}
-use Rattle.board_file.specs.Wiring as planned
 use Rattle.board_file.specs.declared.plan.PlannedDevice.{PlannedDevice}
 use Rattle.board_file.specs.declared.plan.PlannedNet.{PlannedNet}
 use Rattle.board_meaning.specs.Chain.{ChipState}
 use Rattle.board_meaning.specs.Nets.{pin_drive}
 use Rattle.chip_chain.specs.Building.{seats_of}
-use Rattle.chip_chain.specs.Chains.{ChainValue}
 use Rattle.chip_chain.specs.Seats.{AllTold, SeatValue, chip_state, member_of}
-use Rattle.chip_chain.specs.Wires.{AreSeated, IsWired, WiringValue}
+use Rattle.chip_chain.specs.Wires.{IsWired, WiringValue}
 use Rattle.chip_chain.proofs.BuildLaws.{seats_stand, seats_told, start_seated, start_wired}
 use Rattle.chip_chain.proofs.chain.Chain.new.Goals as goal
 

@@ -1,17 +1,15 @@
-use Rattle.std.proofs.Common.{◌≡◌, ◌∙◌, Bool, List, length, map, sym, ap, subst, if◌then◌else◌}
+use Rattle.std.proofs.Common.{◌≡◌, ◌∙◌, List, map, sym, ap, subst, if◌then◌else◌}
 use Rattle.std.proofs.lemmas.List.{with_items_is}
 use Rattle.std.specs.Vec.{with_items}
 use Rattle.board_meaning.specs.Chain as meant
 use Rattle.board_meaning.specs.Chain.{ChipState, members, rise_all}
-use Rattle.board_meaning.specs.Nets.{sees}
-use Rattle.pin_nets.specs.Wired.{Net}
 use Rattle.chip_chain.specs.Chains.{ChainValue}
 use Rattle.chip_chain.specs.Seats.{AllTold, SeatValue, chip_state}
-use Rattle.chip_chain.specs.Sweeping.{EachFrom, Falls, Rises, TakesTrst}
+use Rattle.chip_chain.specs.Sweeping.{EachFrom, TakesTrst}
 use Rattle.chip_chain.specs.Wires.{IsWired}
 use Rattle.chip_chain.specs.contracts.chain.Chain.{the_view}
 use Rattle.chip_chain.proofs.SweepLaws.{each_long}
-use Rattle.chip_chain.proofs.ChainLaws.{all_chips, all_told, rises_chips, rises_told, rises_wired, trst_chips, trst_told}
+use Rattle.chip_chain.proofs.ChainLaws.{trst_chips, trst_told}
 use Rattle.chip_chain.proofs.chain.Chain.tell_trst.Goals as goal
 
 pub invariant_of-self : goal.invariant_of-self

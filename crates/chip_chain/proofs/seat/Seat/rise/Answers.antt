@@ -1,4 +1,4 @@
-use Rattle.std.proofs.Common.{◌≡◌, ℕ, Bool, List, refl, ap, subst}
+use Rattle.std.proofs.Common.{◌≡◌, ℕ, Bool, refl, ap, subst}
 use Rattle.boundary.specs.Cells.{BoundaryValue}
 use Rattle.board_meaning.specs.Chain as chain
 use Rattle.chip_chain.specs.Seats.{IsSighted, SeatValue, chip_state}

@@ -1,4 +1,4 @@
-use Rattle.std.proofs.Common.{ℕ, Some, None, sym, ap, ◌∙◌, unwrap_or}
+use Rattle.std.proofs.Common.{Some, None, sym, ap, ◌∙◌, unwrap_or}
 use Rattle.chip_chain.specs.contracts.seat.Seat.{the_view}
 use Rattle.chip_chain.proofs.TellLaws.{net_found, seen_alone, seen_on_net}
 use Rattle.chip_chain.proofs.seat.Seat.sight.Goals as goal

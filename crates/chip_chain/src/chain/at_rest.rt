@@ -1,0 +1,159 @@
+//! All devices of a chain at once, without TCK: capture, the judgement of what comes out, shift, update and reset (IEEE
+//! Std 1149.1-2001, clauses 6, 7 and 9).
+
+ghost use Rattle.std.specs.Prelude.{◌≡◌, true, map};
+ghost use Rattle.board_meaning.specs.Chain.{members};
+ghost use Rattle.board_meaning.specs.Nets.{sees};
+ghost use Rattle.board_meaning.specs.Resting.{standing};
+ghost use Rattle.board_meaning.specs.Whole as whole;
+ghost use Rattle.chip_chain.specs.AtRest.{AssertsTrst, CapturesAt, Changes, Stands, chain_as, out, shifted};
+ghost use Rattle.chip_chain.specs.Sweeping.{EachFrom};
+ghost use Rattle.chip_chain.specs.Wires.{IsWired};
+ghost use Rattle.jt_tap.specs.declared.State.TheVariants.{Reset};
+ghost use Rattle.scan_vectors.specs.Held.{bits};
+ghost use Rattle.scan_vectors.specs.Vector.{judge, tdis};
+
+use super::Chain;
+use crate::seat::Seat;
+use crate::seat::at_rest::capture;
+use crate::wiring::Wiring;
+use jt_tap::{Column, State};
+use scan_vectors::{Part, Vector};
+use whole_chain::{judge_chain, shift_chain};
+
+impl Chain {
+    /// The column's register of every device captures, each from the levels before.
+    pub fn capture(&mut self, column: Column)
+        ensures { self.new
+            ≡ chain_as (whole.capture_all column (sees self.old.nets (members self.old.chips)) 0 (members self.old.chips)) self.old }
+    {
+        capture_all(&mut self.seats, &self.wiring, column);
+    }
+
+    /// The least bit of a vector whose wanted value differs from what comes out of the column's registers, joined from
+    /// TDO to TDI, when the vector is shifted in.
+    pub fn judge(&self, column: Column, vector: &Vector) -> Option<(Part, usize)>
+        ensures { result ≡ judge (bits vector.now) (out column (tdis (bits vector.now)) (members self.now.chips)) }
+    {
+        judge_chain(&self.seats, column, vector)
+    }
+
+    /// A whole vector is shifted through the column's registers, joined from TDO to TDI.
+    pub fn shift(&mut self, column: Column, vector: &Vector)
+        ensures { self.new ≡ chain_as (shifted column (tdis (bits vector.now)) (members self.old.chips)) self.old }
+    {
+        shift_chain(&mut self.seats, column, vector);
+    }
+
+    /// The column's register of every device updates.
+    pub fn update(&mut self, column: Column)
+        ensures { self.new ≡ chain_as (map (whole.update_member column) (members self.old.chips)) self.old }
+    {
+        update_wired(&mut self.seats, &mut self.wiring, column);
+    }
+
+    /// Every device is reset, as in RESET.
+    pub fn reset(&mut self)
+        ensures { self.new ≡ chain_as (map whole.reset_member (members self.old.chips)) self.old }
+    {
+        reset_wired(&mut self.seats, &mut self.wiring);
+    }
+
+    /// Every controller stands in this state, and no TDO is driven.
+    pub fn stand(&mut self, state: State)
+        ensures { self.new ≡ record self.old { chips = map (standing state) (members self.old.chips) } }
+    {
+        stand_all(&mut self.seats, state);
+    }
+
+    /// TRST is asserted to a chain that rests in a state: a device without the port settles, and every device is reset
+    /// and stands in RESET.
+    pub fn assert_trst(&mut self, rests: State)
+        ensures { self.new ≡ record self.old {
+          trst = true;
+          chips = map (standing Reset) (map (whole.trst_member (whole.settled_member rests)) (members self.old.chips));
+        } }
+    {
+        assert_trst_wired(&mut self.seats, &mut self.wiring, rests);
+        self.trst = true;
+    }
+}
+
+/// A capture of all devices. It changes nothing that is driven, so each sees the levels of before.
+fn capture_all(seats: &mut [Seat], wiring: &Wiring, column: Column)
+    requires { IsWired seats.old wiring.now }
+    ensures { EachFrom (CapturesAt wiring.now column) 0 seats.old seats.new }
+{
+    for seat in seats.iter_mut() {
+        capture(seat, wiring, column);
+    }
+}
+
+/// An update of all devices, and what they drive from then on is put to the nets.
+fn update_wired(seats: &mut [Seat], wiring: &mut Wiring, column: Column)
+    requires { IsWired seats.old wiring.old }
+    ensures devices { EachFrom (Changes (whole.update_member column)) 0 seats.old seats.new }
+    ensures wired { IsWired seats.new wiring.new }
+    ensures nets { wiring.new.nets ≡ wiring.old.nets }
+{
+    update_all(seats, column);
+    wiring.refresh(seats);
+}
+
+/// A reset of all devices, and what they drive from then on is put to the nets.
+fn reset_wired(seats: &mut [Seat], wiring: &mut Wiring)
+    requires { IsWired seats.old wiring.old }
+    ensures devices { EachFrom (Changes whole.reset_member) 0 seats.old seats.new }
+    ensures wired { IsWired seats.new wiring.new }
+    ensures nets { wiring.new.nets ≡ wiring.old.nets }
+{
+    reset_all(seats);
+    wiring.refresh(seats);
+}
+
+/// TRST is asserted to all devices at rest in a state, and what they drive from then on is put to the nets.
+fn assert_trst_wired(seats: &mut [Seat], wiring: &mut Wiring, rests: State)
+    requires { IsWired seats.old wiring.old }
+    ensures devices { EachFrom (AssertsTrst rests) 0 seats.old seats.new }
+    ensures wired { IsWired seats.new wiring.new }
+    ensures nets { wiring.new.nets ≡ wiring.old.nets }
+{
+    assert_trst_all(seats, rests);
+    wiring.refresh(seats);
+}
+
+/// TRST is asserted to all devices at rest in a state.
+fn assert_trst_all(seats: &mut [Seat], rests: State)
+    ensures { EachFrom (AssertsTrst rests) 0 seats.old seats.new }
+{
+    for seat in seats.iter_mut() {
+        seat.assert_trst(rests);
+    }
+}
+
+/// An update of all devices.
+fn update_all(seats: &mut [Seat], column: Column)
+    ensures { EachFrom (Changes (whole.update_member column)) 0 seats.old seats.new }
+{
+    for seat in seats.iter_mut() {
+        seat.update(column);
+    }
+}
+
+/// A reset of all devices.
+fn reset_all(seats: &mut [Seat])
+    ensures { EachFrom (Changes whole.reset_member) 0 seats.old seats.new }
+{
+    for seat in seats.iter_mut() {
+        seat.reset();
+    }
+}
+
+/// Every controller stands in this state.
+fn stand_all(seats: &mut [Seat], state: State)
+    ensures { EachFrom (Stands state) 0 seats.old seats.new }
+{
+    for seat in seats.iter_mut() {
+        seat.stand(state);
+    }
+}
