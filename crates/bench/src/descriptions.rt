@@ -55,8 +55,10 @@ fn text_of_names(alloc: Global, start: &str, cells: usize) -> Result<String, All
     }
     text.push_str(ATTRIBUTES)?;
     text.push_str(format!(in alloc;
-        "  attribute BOUNDARY_LENGTH of W : entity is {cells};\n  attribute BOUNDARY_REGISTER of W : entity is\n    \"\""
-    )?.as_str())?;
+        "  attribute BOUNDARY_LENGTH of W : entity is {cells};\n  \
+        attribute BOUNDARY_REGISTER of W : entity is\n    \"\""
+    )?
+    .as_str())?;
     for cell in 0..cells {
         let port = FIRST_PORT + cell;
         text.push_str(format!(in alloc;

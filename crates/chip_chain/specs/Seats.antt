@@ -1,5 +1,7 @@
--- A device at its place in the chain, as the code keeps it: its chip round a boundary register, and the net of each cell.
-use Rattle.std.specs.Prelude.{◌≡◌, ◌<◌, ℕ, suc, Bool, true, false, List, [], ◌∷◌, slice_get, option_and_then, Option, Some, None, if◌then◌else◌}
+-- A device at its place in the chain, as the code keeps it: its chip round a boundary register, and the net of each
+-- cell.
+use Rattle.std.specs.Prelude.{◌≡◌, ◌<◌, ℕ, suc, Bool, true, false, List, [], ◌∷◌, slice_get, option_and_then, Option}
+use Rattle.std.specs.Prelude.{Some, None, if◌then◌else◌}
 use Rattle.std.specs.List.{AllByRecursion}
 use Rattle.jt_tap.specs.declared.Column.TheVariants.{Dr}
 use Rattle.jt_tap.specs.declared.Work.{Work}

@@ -29,4 +29,5 @@ pub record Rises (w : WiringValue) (tms tdi : Bool) (all : List SeatValue) (plac
   pub kept : IsKept s t
   pub trst : t.chip.trst ≡ s.chip.trst
   pub chip : (ms : List Member) → IsAt w place ms s
-      → chip_state t ≡ chain.rise s.chip.trst tms (chain.tdi_before tdi (drop (place + 1) (map chip_state all))) (sight w ms place) (chip_state s)
+      → chip_state t ≡ chain.rise s.chip.trst tms (chain.tdi_before tdi (drop (place + 1) (map chip_state all)))
+      (sight w ms place) (chip_state s)

@@ -8,8 +8,8 @@ use Rattle.board_meaning.specs.Nets.{pin_drive, sees}
 use Rattle.chip_chain.specs.Seats.{SeatValue, cell_net, member_of}
 use Rattle.chip_chain.specs.Wires.{WiringValue}
 
--- Of these devices this one stands at this place, wired to these nets, and what was put to the nets last is what each pin
--- drives.
+-- Of these devices this one stands at this place, wired to these nets, and what was put to the nets last is what each
+-- pin drives.
 pub record IsAt (w : WiringValue) (place : ℕ) (ms : List Member) (s : SeatValue) : Type 0 where
   pub here : slice_get ms place ≡ Some (member_of s)
   pub drives : w.drives ≡ map (pin_drive ms) (all_pins w.nets)

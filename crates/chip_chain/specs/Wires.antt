@@ -18,7 +18,8 @@ pub record WiringValue : Type 0 where
 -- the nets by the numbers of their pins, from number k on
 abbrev pub numbered : ℕ → List Net → List NetValue
 numbered k [] = []
-numbered k (n ∷ ns) = record { pull = n.pull; pins = range_with_len k (length n.pins) } ∷ numbered (k + length n.pins) ns
+numbered k (n ∷ ns) = record { pull = n.pull; pins = range_with_len k (length n.pins) }
+    ∷ numbered (k + length n.pins) ns
 
 -- with each pin that would be on none of them as a net by itself
 abbrev pub all_nets : List Net → List NetValue

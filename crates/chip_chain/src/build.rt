@@ -19,8 +19,8 @@ use pin_nets::{NetSpec, Pin};
 use std::alloc::{AllocError, Global};
 
 impl Chain {
-    /// A planned chain as it powers up: TRST released, each device in RESET with its reset instruction, all else 0 but the
-    /// `controlr` cells.
+    /// A planned chain as it powers up: TRST released, each device in RESET with its reset instruction, all else 0 but
+    /// the `controlr` cells.
     pub fn new(alloc: Global, plan: Plan) -> Result<Chain, AllocError>
         requires { IsReady (wiring plan) }
         ensures { IfOk result (λ c. c ≡ chain_of (wiring plan)) }
@@ -115,7 +115,8 @@ pub(crate) fn number_nets(
     nets: &[PlannedNet],
     pins: &mut Vec<Pin>,
 ) -> Result<Vec<NetSpec>, AllocError>
-    ensures nets { IfOk result (λ v. map net_value v.items ≡ numbered (length pins.old.items) (map planned_net nets.now)) }
+    ensures nets { IfOk result
+        (λ v. map net_value v.items ≡ numbered (length pins.old.items) (map planned_net nets.now)) }
     ensures pins { OnOk result (pins.new.items ≡ pins.old.items ++ all_pins (map planned_net nets.now)) }
 {
     let mut specs = Vec::with_capacity(alloc, nets.len())?;

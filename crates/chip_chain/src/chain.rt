@@ -1,6 +1,7 @@
 //! The chain of devices with its nets.
 
-ghost use Rattle.std.specs.Prelude.{◌≡◌, ◌<◌, true, false, drop, length, map, option_map, slice_get, Some, if◌then◌else◌};
+ghost use Rattle.std.specs.Prelude.{◌≡◌, ◌<◌, true, false, drop, length, map, option_map, slice_get, Some};
+ghost use Rattle.std.specs.Prelude.{if◌then◌else◌};
 ghost use Rattle.std.specs.List.{list_any};
 ghost use Rattle.board_meaning.specs.Chain as meant;
 ghost use Rattle.board_meaning.specs.Nets as nets;
@@ -60,7 +61,8 @@ impl Chain {
     pub fn rise(&mut self, tms: bool, tdi: bool)
         ensures { self.new ≡ record self.old {
           chips =
-              meant.rise_all self.old.trst tms tdi (nets.sees self.old.nets (meant.members self.old.chips)) 0 self.old.chips;
+              meant.rise_all self.old.trst tms tdi (nets.sees self.old.nets (meant.members self.old.chips)) 0
+              self.old.chips;
         } }
     {
         rise_all(&mut self.seats, &self.wiring, tms, tdi);
@@ -75,7 +77,10 @@ impl Chain {
 
     /// TRST is asserted or released.
     pub fn tell_trst(&mut self, trst: bool)
-        ensures { self.new ≡ record self.old { trst = trst; chips = if trst then map meant.assert_trst self.old.chips else self.old.chips } }
+        ensures { self.new ≡ record self.old {
+          trst = trst;
+          chips = if trst then map meant.assert_trst self.old.chips else self.old.chips;
+        } }
     {
         tell_trst_wired(&mut self.seats, &mut self.wiring, trst);
         self.trst = trst;
@@ -134,8 +139,8 @@ impl Chain {
     }
 }
 
-/// The TDI of what stands before device `i`: its TDO, which reads 1 while it is not driven, or the given level where there
-/// is no such device.
+/// The TDI of what stands before device `i`: its TDO, which reads 1 while it is not driven, or the given level where
+/// there is no such device.
 fn tdi_of(seats: &[Seat], i: usize, tdi: bool) -> bool
     ensures { result ≡ meant.tdi_before tdi (drop i (map chip_state seats.now)) }
 {

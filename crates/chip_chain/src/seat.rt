@@ -1,6 +1,7 @@
 //! One device at its place in the chain.
 
-ghost use Rattle.std.specs.Prelude.{◌≡◌, ◌≢◌, ◌<◌, ℕ, Bool, List, [], ◌∷◌, length, slice_get, Some, None, option_map, if◌then◌else◌, IfOk};
+ghost use Rattle.std.specs.Prelude.{◌≡◌, ◌≢◌, ◌<◌, ℕ, Bool, List, [], ◌∷◌, length, slice_get, Some, None, option_map};
+ghost use Rattle.std.specs.Prelude.{if◌then◌else◌, IfOk};
 ghost use Rattle.jt_tap.specs.Controller.{work};
 ghost use Rattle.scan_registers.specs.Fitting.{IsFormed, has_code};
 ghost use Rattle.scan_registers.specs.Instruction.{instruction, meaning};
@@ -12,7 +13,8 @@ ghost use Rattle.board_meaning.specs.Cells.{Member};
 ghost use Rattle.board_meaning.specs.Cells as meant;
 ghost use Rattle.board_meaning.specs.Chain as chain;
 ghost use Rattle.chip_chain.specs.Building.{seat_of};
-ghost use Rattle.chip_chain.specs.Seats.{AreBelow, IsKept, IsSighted, captures_boundary, chip_state, first_net, member_of, with_seen};
+ghost use Rattle.chip_chain.specs.Seats.{AreBelow, IsKept, IsSighted, captures_boundary, chip_state, first_net};
+ghost use Rattle.chip_chain.specs.Seats.{member_of, with_seen};
 ghost use Rattle.chip_chain.specs.Telling.{IsAt, TellsAll, TellsCell, sight};
 
 pub(crate) mod at_rest;
@@ -151,7 +153,8 @@ impl Seat {
         self.chip.boundary().update_stage()
     }
 
-    /// The stage and the latch of its user register `k`, counted in the order in which the description first names them.
+    /// The stage and the latch of its user register `k`, counted in the order in which the description first names
+    /// them.
     pub fn user(&self, k: usize) -> Option<(&Bits, &Bits)>
         ensures { option_map {U = List Bool × List Bool} (λ p. (p.0.now, p.1.now)) result
             ≡ option_map (λ u. (u.stage, u.latch)) (slice_get self.now.chip.users k) }
@@ -179,7 +182,8 @@ impl Seat {
 
     /// Whether the rising edge that comes captures the boundary register.
     fn captures_boundary(&self) -> bool
-        ensures { result ≡ captures_boundary (work self.now.chip.state) (meaning self.now.chip.device self.now.chip.latch).selected }
+        ensures { result ≡ captures_boundary (work self.now.chip.state)
+            (meaning self.now.chip.device self.now.chip.latch).selected }
     {
         self.chip.state().work() == Work::Captures(Column::Dr)
             && self.chip.selected() == Selected::Boundary
@@ -201,7 +205,8 @@ impl Seat {
         requires below { AreBelow (length wiring.now.nets) self.old.nets }
         ensures same { self.new ≡ with_seen self.new.chip.boundary.seen self.old }
         ensures long { length self.new.chip.boundary.seen ≡ length self.old.chip.boundary.seen }
-        ensures others { (j : ℕ) → j ≢ k → slice_get self.new.chip.boundary.seen j ≡ slice_get self.old.chip.boundary.seen j }
+        ensures others { (j : ℕ) → j ≢ k
+            → slice_get self.new.chip.boundary.seen j ≡ slice_get self.old.chip.boundary.seen j }
         ensures told { TellsCell wiring.now k self.old self.new }
     {
         let cell = self.chip.boundary().cells()[k];
@@ -216,7 +221,8 @@ impl Seat {
         requires cell { k < length self.now.chip.device.cells }
         requires below { AreBelow (length wiring.now.nets) self.now.nets }
         ensures { (place : ℕ) (ms : List Member) → IsAt wiring.now place ms self.now
-            → slice_get self.now.nets k ≡ Some (first_net place port 0 wiring.now.nets) → result ≡ sight wiring.now ms place port }
+            → slice_get self.now.nets k ≡ Some (first_net place port 0 wiring.now.nets)
+            → result ≡ sight wiring.now ms place port }
     {
         match self.nets[k] {
             Some(net) => reads(wiring.level(net)),
@@ -247,7 +253,8 @@ impl Seat {
     pub(crate) fn tell_trst(&mut self, trst: bool)
         ensures kept { IsKept self.old self.new }
         ensures trst { self.new.chip.trst ≡ trst }
-        ensures chip { chip_state self.new ≡ (if trst then chain.assert_trst (chip_state self.old) else chip_state self.old) }
+        ensures chip { chip_state self.new
+            ≡ (if trst then chain.assert_trst (chip_state self.old) else chip_state self.old) }
     {
         self.chip.trst(trst);
     }
@@ -259,7 +266,8 @@ pub(crate) fn rise(seat: &mut Seat, wiring: &Wiring, tms: bool, tdi: bool)
     ensures kept { IsKept seat.old seat.new }
     ensures trst { seat.new.chip.trst ≡ seat.old.chip.trst }
     ensures chip { (place : ℕ) (ms : List Member) → IsAt wiring.now place ms seat.old
-        → chip_state seat.new ≡ chain.rise seat.old.chip.trst tms tdi (sight wiring.now ms place) (chip_state seat.old) }
+        → chip_state seat.new ≡ chain.rise seat.old.chip.trst tms tdi (sight wiring.now ms place)
+        (chip_state seat.old) }
 {
     if seat.captures_boundary() {
         tell(seat, wiring);

@@ -77,7 +77,8 @@ impl Wiring {
     pub(crate) fn level(&self, net: usize) -> Level
         requires { net < length self.now.nets }
         ensures { (f : ThePin → TheDrive) → self.now.drives ≡ map f (all_pins self.now.nets)
-            → option_map (λ n. levels.level_of (levels.pull_drive n.pull ∷ map f n.pins)) (slice_get self.now.nets net) ≡ Some result }
+            → option_map (λ n. levels.level_of (levels.pull_drive n.pull ∷ map f n.pins)) (slice_get self.now.nets net)
+            ≡ Some result }
     {
         self.levels.level(net)
     }
@@ -85,7 +86,10 @@ impl Wiring {
     /// What each pin drives is put to its net.
     pub(crate) fn refresh(&mut self, seats: &[Seat])
         requires { AreSeated (length seats.now) (all_pins self.old.nets) }
-        ensures { self.new ≡ record self.old { drives = map (pin_drive (map member_of seats.now)) (all_pins self.old.nets) } }
+        ensures { self.new ≡ record self.old {
+          drives = map (pin_drive (map member_of seats.now))
+              (all_pins self.old.nets);
+        } }
     {
         put_all(&mut self.levels, &self.pins, seats);
     }

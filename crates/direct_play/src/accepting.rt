@@ -11,9 +11,9 @@ use std::alloc::Global;
 use svf_parse::{SvfFault, parse};
 use svf_settings::{Program, resolve};
 
-/// The program of a text, or its first refusal: that of its first faulty statement by form (S1 to S6, S13, S15), or where no
-/// statement has one, that of the first statement which lacks something from those before it (S7 to S12, S14, S15). Of the
-/// refusals of a statement the one with the lowest number is told. Want of memory is S16 with statement 0.
+/// The program of a text, or its first refusal: that of its first faulty statement by form (S1 to S6, S13, S15), or
+/// where no statement has one, that of the first statement which lacks something from those before it (S7 to S12, S14,
+/// S15). Of the refusals of a statement the one with the lowest number is told. Want of memory is S16 with statement 0.
 pub fn accept(alloc: Global, text: &[u8]) -> Result<Program, SvfFault>
     // What is accepted is the text's program.
     ensures found { IfOk result (λ p. Accepts text.now (program_of p)) }

@@ -1,6 +1,7 @@
 //! The wanted bits of a vector, one by one, for a player that judges each answer as it comes.
 
-ghost use Rattle.std.specs.Prelude.{◌≡◌, ◌+◌, ◌<◌, ◌^◌, [], ◌∷◌, Option, Some, None, MatchOption, drop, length, slice_get, if◌then◌else◌};
+ghost use Rattle.std.specs.Prelude.{◌≡◌, ◌+◌, ◌<◌, ◌^◌, [], ◌∷◌, Option, Some, None, MatchOption, drop, length};
+ghost use Rattle.std.specs.Prelude.{slice_get, if◌then◌else◌};
 ghost use Rattle.scan_vectors.specs.Held.{bits};
 ghost use Rattle.scan_vectors.specs.Vector.{VectorBit, differs};
 ghost use Rattle.direct_play.specs.Judging.{wanted};

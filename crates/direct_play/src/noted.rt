@@ -14,8 +14,9 @@ use jt_board::Board;
 use plays::Ending;
 use svf_settings::Program;
 
-/// Plays a program on a board as `play_program` does, and writes the bytes of the play: `Q` is the last. The flag tells that all
-/// of them were written; it is false exactly where the writer's first loss came in this call, and the play goes on all the same.
+/// Plays a program on a board as `play_program` does, and writes the bytes of the play: `Q` is the last. The flag tells
+/// that all of them were written; it is false exactly where the writer's first loss came in this call, and the play
+/// goes on all the same.
 pub fn play_program_noted<W: Sink>(
     program: &Program,
     board: &mut Board,
@@ -29,7 +30,8 @@ pub fn play_program_noted<W: Sink>(
     ensures meaning { MeansFromOpening (program_of program.now) board.old result.0 board.new }
 
     // What was written of it.
-    ensures writes { WritesAll W.contents out.old out.new (full_bytes (program_of program.now) board.old) (flagged result.1) }
+    ensures writes { WritesAll W.contents out.old out.new (full_bytes (program_of program.now) board.old)
+        (flagged result.1) }
 {
     // For the proof alone: what the types keep of a program's steps and of a board's devices.
     let _ = program.len();

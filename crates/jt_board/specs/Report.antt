@@ -25,7 +25,8 @@ shown None = codes "-"
 -- an instruction: its bits and its name
 abbrev pub instruction_part : ChipState → List ℕ
 instruction_part c =
-    digits c.member.registers.latch ++ codes " " ++ (shown (instruction c.member.device c.member.registers.latch) ++ codes "\n")
+    digits c.member.registers.latch ++ codes " "
+    ++ (shown (instruction c.member.device c.member.registers.latch) ++ codes "\n")
 
 -- a device: its name, the word of its controller's state, and its instruction
 abbrev pub device_line : ChipState → List ℕ

@@ -1,6 +1,7 @@
 //! The board: a chain of devices with its nets, one byte at a time.
 
-ghost use Rattle.std.specs.Prelude.{◌≡◌, ◌<◌, ◌≤◌, ◌⊎◌, ℕ, List, Some, length, option_map, slice_get, IfOk, MatchResult};
+ghost use Rattle.std.specs.Prelude.{◌≡◌, ◌<◌, ◌≤◌, ◌⊎◌, ℕ, List, Some, length, option_map, slice_get, IfOk};
+ghost use Rattle.std.specs.Prelude.{MatchResult};
 ghost use Rattle.board_file.specs.LeftOut as spec;
 ghost use Rattle.board_file.specs.View.{wiring};
 ghost use Rattle.board_file.specs.declared.fault.BoardFault.TheVariants as fault;
@@ -89,8 +90,8 @@ impl Board {
         self.chain.devices()
     }
 
-    /// The k-th instruction of device `i` that has an opcode but no meaning of its own here, and so stands for BYPASS, in
-    /// the order of the opcode rows; `None` past the last.
+    /// The k-th instruction of device `i` that has an opcode but no meaning of its own here, and so stands for BYPASS,
+    /// in the order of the opcode rows; `None` past the last.
     pub fn left_out(&self, i: usize, k: usize) -> Option<&str>
         requires { i < length self.now.chips }
         ensures { option_map (λ c. slice_get (spec.left_out c.member.device) k) (slice_get self.now.chips i)

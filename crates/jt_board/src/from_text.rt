@@ -34,16 +34,17 @@ impl Describe for Bsdl {
 }
 
 impl Board {
-    /// The board that a board file and the descriptions in these files make, as it powers up, each file given by its name
-    /// and its text; or the first refusal. Of two files of one name the first counts; files that no device names are not
-    /// read.
+    /// The board that a board file and the descriptions in these files make, as it powers up, each file given by its
+    /// name and its text; or the first refusal. Of two files of one name the first counts; files that no device names
+    /// are not read.
     pub fn from_text<'f>(
         alloc: Global,
         toml_text: &[u8],
         files: &[(&'f str, &'f [u8])],
     ) -> Result<Board, BoardFault>
         // The board that the table and the files make, or their fault, unless memory runs out.
-        ensures told { (t : Members) → Reads toml_text.now t → TellsMade result (makes said_device (files_of files.now) t) }
+        ensures told { (t : Members) → Reads toml_text.now t
+            → TellsMade result (makes said_device (files_of files.now) t) }
         // What is no TOML is refused as that, unless memory runs out.
         ensures bad_toml { IsBadToml toml_text.now → TellsBadToml result }
     {

@@ -2,7 +2,8 @@
 
 ghost use Rattle.std.specs.Prelude.{◌≡◌, ◌++◌, flat_map};
 ghost use Rattle.byte_ends.specs.Writes.{WritesAll};
-ghost use Rattle.jt_board.specs.Report.{device_line, digit, digits, instruction_part, level_line, net_line, report, shown};
+ghost use Rattle.jt_board.specs.Report.{device_line, digit, digits, instruction_part, level_line, net_line, report};
+ghost use Rattle.jt_board.specs.Report.{shown};
 ghost use Rattle.jt_board.specs.LeftOut.{device_lines, left_out_line, left_out_lines};
 ghost use Rattle.jt_board.specs.Report.{level_word as said_level};
 ghost use Rattle.board_meaning.specs.Chain.{members};
@@ -92,7 +93,8 @@ fn write_devices<W: Sink>(chain: &Chain, out: &mut Counted<W>) -> Result<(), Bro
 /// Writes a line for each net.
 fn write_nets<W: Sink>(chain: &Chain, out: &mut Counted<W>) -> Result<(), Broken>
     requires { out.old.failures ≡ 0 }
-    ensures { WritesAll W.contents out.old out.new (flat_map (net_line (members chain.now.chips)) chain.now.nets) result }
+    ensures { WritesAll W.contents out.old out.new (flat_map (net_line (members chain.now.chips)) chain.now.nets)
+        result }
 {
     for k in 0..chain.nets() {
         write_level(chain.net_name(k), chain.level(k), out)?;

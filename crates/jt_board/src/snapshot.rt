@@ -12,8 +12,8 @@ use jt_tap::State;
 use pin_nets::Level;
 use std::marker::Model;
 
-/// The levels of a board between two bytes and, of each device, counted from the one nearest TDO, its controller and its
-/// registers. Contracts see it as the board's own state.
+/// The levels of a board between two bytes and, of each device, counted from the one nearest TDO, its controller and
+/// its registers. Contracts see it as the board's own state.
 #[derive(Drop)]
 pub struct Snapshot<'a> {
     tck: bool,
@@ -27,7 +27,12 @@ impl<'a> Model for Snapshot<'a> {
 
     ghost use Rattle.board_meaning.specs.Sound.{IsChain};
 
-    ghost view = { λ s. record { tck = s.tck; trst = s.chain.now.trst; nets = s.chain.now.nets; chips = s.chain.now.chips } };
+    ghost view = { λ s. record {
+      tck = s.tck;
+      trst = s.chain.now.trst;
+      nets = s.chain.now.nets;
+      chips = s.chain.now.chips;
+    } };
 
     ghost invariant = { λ s. IsChain s.chain.now.chips };
 }
@@ -79,8 +84,8 @@ impl<'a> Snapshot<'a> {
         self.chain.seat(i).state()
     }
 
-    /// Its present instruction: what the instruction stage held at the last update, or the instruction of a reset. Bit 0
-    /// is the one nearest TDO.
+    /// Its present instruction: what the instruction stage held at the last update, or the instruction of a reset. Bit
+    /// 0 is the one nearest TDO.
     pub fn latch(&self, i: usize) -> &'a Bits
         requires { i < length self.now.chips }
         ensures { option_map (λ c. c.member.registers.latch) (slice_get self.now.chips i) ≡ Some result.now }
@@ -132,12 +137,14 @@ impl<'a> Snapshot<'a> {
     /// Its identification register; `None` where its description has no code.
     pub fn id(&self, i: usize) -> Option<&'a Bits>
         requires { i < length self.now.chips }
-        ensures { option_map (λ c. id_of c.member) (slice_get self.now.chips i) ≡ Some (option_map {U = List Bool} (λ b. b.now) result) }
+        ensures { option_map (λ c. id_of c.member) (slice_get self.now.chips i)
+            ≡ Some (option_map {U = List Bool} (λ b. b.now) result) }
     {
         self.chain.seat(i).id()
     }
 
-    /// The stage and the latch of its user register `k`, counted in the order in which its description first names them;
+    /// The stage and the latch of its user register `k`, counted in the order in which its description first names
+    /// them;
     /// `None` past the last.
     pub fn user(&self, i: usize, k: usize) -> Option<(&'a Bits, &'a Bits)>
         requires { i < length self.now.chips }
@@ -157,7 +164,8 @@ impl<'a> Snapshot<'a> {
     /// The name of net `k`, and its level.
     pub fn net(&self, k: usize) -> (&'a str, Level)
         requires { k < length self.now.nets }
-        ensures { option_map (shown_net (members self.now.chips)) (slice_get self.now.nets k) ≡ Some (result.0.now, result.1) }
+        ensures { option_map (shown_net (members self.now.chips)) (slice_get self.now.nets k)
+            ≡ Some (result.0.now, result.1) }
     {
         (self.chain.net_name(k), self.chain.level(k))
     }
