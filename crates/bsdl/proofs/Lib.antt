@@ -1,6 +1,10 @@
+pub mod EntityWeights
 pub mod ExactLaws
 pub mod FormLaws
 pub mod LimitedLaws
 pub mod OnceLaws
 pub mod ReadLaws
+pub mod RowWeights
 pub mod SoundLaws
+pub mod SmallLaws
+pub mod Weights

@@ -3,4 +3,5 @@ pub mod Form
 pub mod Judging
 pub mod Laws
 pub mod Limited
+pub mod Small
 pub mod View

@@ -1,5 +1,5 @@
 //! What holds of all texts.
-ghost use Rattle.bsdl.specs.Laws.{EveryDeviceIsExact, EveryDeviceIsLimited, EveryDeviceIsSound};
+ghost use Rattle.bsdl.specs.Laws.{EveryDeviceIsExact, EveryDeviceIsLimited, EveryDeviceIsSmall, EveryDeviceIsSound};
 
 /// Every device that a text says is sound: each register that an instruction can select has a bit, and so has what it
 /// captures.
@@ -19,4 +19,11 @@ pub fn every_device_is_limited()
 /// has, of at least one bit, and captures as many bits there, where a pattern fixes what it captures.
 pub fn every_device_is_exact()
     ensures { EveryDeviceIsExact }
+{}
+
+/// What no limit bounds in a device stands in its text: there are at most as many private names, patterns of
+/// instructions, and own instructions as the text has bytes, and so it is with the bytes of their names and the bits of
+/// the patterns and of what is captured.
+pub fn every_device_is_small()
+    ensures { EveryDeviceIsSmall }
 {}
