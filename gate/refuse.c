@@ -1,4 +1,5 @@
-// Refuses one allocation: the call that FAIL_AT counts to, from 1. It tells that it did by making the file FAIL_MARK.
+// Refuses one allocation: the call that FAIL_AT counts to, from 1; with FAIL_ON every later one too. It tells that it did by making
+// the file FAIL_MARK.
 // Loaded before the C library (LD_PRELOAD), it stands outside every crate and is no part of the program.
 #define _GNU_SOURCE
 #include <dlfcn.h>
@@ -10,7 +11,7 @@ static long calls;
 
 static int refused(void) {
     const char *at = getenv("FAIL_AT");
-    if (!at || ++calls != atol(at)) return 0;
+    if (!at || ++calls < atol(at) || (calls > atol(at) && !getenv("FAIL_ON"))) return 0;
     const char *mark = getenv("FAIL_MARK");
     if (mark) close(open(mark, O_CREAT | O_WRONLY, 0600));
     return 1;
