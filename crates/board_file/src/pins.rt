@@ -1,5 +1,5 @@
 //! Which port bits the pins of the nets are.
-ghost use Rattle.std.specs.Prelude.{◌≡◌, true, option_map, IfSome};
+ghost use Rattle.std.specs.Prelude.{◌≡◌, true, option_map, IfOk, IfSome};
 ghost use Rattle.board_tables.specs.PinTexts as texts;
 ghost use Rattle.board_tables.specs.View.{texts_of};
 ghost use Rattle.board_file.specs.Pins as spec;
@@ -8,59 +8,84 @@ use board_tables::{PinText, Places, pin_of};
 use bsdl_device::Device;
 use pin_nets::Pin;
 use scan_registers::SharedDevice;
+use std::alloc::{AllocError, Global};
 
 /// The pin that a text names, given the names of all devices, and the devices.
 #[tactic(auto, unfolding(crate::specs::Pins::pin_at))]
-pub(crate) fn find_pin(names: &Places<&str>, devices: &[SharedDevice], text: &str) -> Option<Pin>
-    ensures { result ≡ spec.pin_at (texts_of names.now) devices.now text.now }
+pub(crate) fn find_pin(
+    alloc: Global,
+    names: &Places<&str>,
+    devices: &[SharedDevice],
+    text: &str,
+) -> Result<Option<Pin>, AllocError>
+    ensures { IfOk result (λ pin. pin ≡ spec.pin_at (texts_of names.now) devices.now text.now) }
 {
-    let pin = pin_of(text)?;
-    let place = names.place_of(pin.device)?;
-    bit_at(devices, &pin, place)
+    match pin_of(text) {
+        Some(pin) => match names.place_of(pin.device) {
+            Some(place) => bit_at(alloc, devices, &pin, place),
+            None => Ok(None),
+        },
+        None => Ok(None),
+    }
 }
 
 /// The port bit of the device at a place on the board.
-fn bit_at(devices: &[SharedDevice], pin: &PinText<'_>, place: usize) -> Option<Pin>
+fn bit_at(
+    alloc: Global,
+    devices: &[SharedDevice],
+    pin: &PinText<'_>,
+    place: usize,
+) -> Result<Option<Pin>, AllocError>
     requires { IfSome pin.now.index (λ d. texts.is_number d.now ≡ true) }
-    ensures { result ≡ spec.bit_at devices.now
+    ensures { IfOk result (λ found. found ≡ spec.bit_at devices.now
         (record {
           device = pin.now.device.now;
           port = pin.now.port.now;
           index = option_map (λ d. d.now) pin.now.index;
-        }) place }
+        }) place) }
 {
-    match devices.get(place) {
-        Some(device) => match port_bit(device.get(), pin.port, pin.index) {
-            Some(port) => Some(Pin {
-                device: place,
-                port,
-            }),
-            None => None,
-        },
-        None => None,
+    let Some(device) = devices.get(place) else {
+        return Ok(None);
+    };
+    match port_bit(alloc, device.get(), pin.port, pin.index)? {
+        Some(port) => Ok(Some(Pin {
+            device: place,
+            port,
+        })),
+        None => Ok(None),
     }
 }
 
 /// The port bit of this name, in any case, and index, unless it is the TAP's.
-fn port_bit(device: &Device, port: &str, index: Option<&str>) -> Option<usize>
+fn port_bit(
+    alloc: Global,
+    device: &Device,
+    port: &str,
+    index: Option<&str>,
+) -> Result<Option<usize>, AllocError>
     requires { IfSome index (λ d. texts.is_number d.now ≡ true) }
-    ensures { result ≡ spec.pin_bit device.now port.now (option_map (λ d. d.now) index.entry) }
+    ensures { IfOk result (λ bit. bit ≡ spec.pin_bit device.now port.now (option_map (λ d. d.now) index.entry)) }
 {
-    match bit_of(device, port, index) {
-        Some(number) => no_tap(device, number),
-        None => None,
+    match bit_of(alloc, device, port, index)? {
+        Some(number) => Ok(no_tap(device, number)),
+        None => Ok(None),
     }
 }
 
-fn bit_of(device: &Device, port: &str, index: Option<&str>) -> Option<usize>
+fn bit_of(
+    alloc: Global,
+    device: &Device,
+    port: &str,
+    index: Option<&str>,
+) -> Result<Option<usize>, AllocError>
     requires { IfSome index (λ d. texts.is_number d.now ≡ true) }
-    ensures { result ≡ spec.bit_of device.now port.now (option_map (λ d. d.now) index.entry) }
+    ensures { IfOk result (λ bit. bit ≡ spec.bit_of device.now port.now (option_map (λ d. d.now) index.entry)) }
 {
     match index {
-        None => device.find_port(port, None),
+        None => device.find_port(alloc, port, None),
         Some(digits) => match index_of(digits) {
-            Some(index) => device.find_port(port, Some(index)),
-            None => None,
+            Some(index) => device.find_port(alloc, port, Some(index)),
+            None => Ok(None),
         },
     }
 }

@@ -166,7 +166,7 @@ fn pins_of(
     let mut found = Vec::new(alloc);
     for pin in pins {
         if let Some(text) = pin.as_str() {
-            if let Some(pin) = find_pin(names, devices, text) {
+            if let Some(pin) = find_pin(alloc, names, devices, text)? {
                 found.push(pin)?;
             }
         }

@@ -17,39 +17,41 @@ use toml::Value;
 
 /// The first text among the pins of all nets that names no pin.
 pub(crate) fn first_unknown<'t>(
+    alloc: Global,
     names: &Places<&str>,
     devices: &[SharedDevice],
     nets: &'t [Value],
-) -> Option<&'t str>
-    ensures { option_map (λ s. s.now) result
-        ≡ spec.unknown_in_nets (texts_of names.now) devices.now (tables_in (items_view nets.now)) }
+) -> Result<Option<&'t str>, AllocError>
+    ensures { IfOk result (λ r. option_map (λ s. s.now) r
+        ≡ spec.unknown_in_nets (texts_of names.now) devices.now (tables_in (items_view nets.now))) }
 {
     for net in nets {
         if let Some(table) = net.as_table() {
-            if let Some(text) = unknown_in(names, devices, items_at(table, "pins")) {
-                return Some(text);
+            if let Some(text) = unknown_in(alloc, names, devices, items_at(table, "pins"))? {
+                return Ok(Some(text));
             }
         }
     }
-    None
+    Ok(None)
 }
 
 fn unknown_in<'t>(
+    alloc: Global,
     names: &Places<&str>,
     devices: &[SharedDevice],
     pins: &'t [Value],
-) -> Option<&'t str>
-    ensures { option_map (λ s. s.now) result
-        ≡ spec.unknown_pin (texts_of names.now) devices.now (texts_in (items_view pins.now)) }
+) -> Result<Option<&'t str>, AllocError>
+    ensures { IfOk result (λ r. option_map (λ s. s.now) r
+        ≡ spec.unknown_pin (texts_of names.now) devices.now (texts_in (items_view pins.now))) }
 {
     for pin in pins {
         if let Some(text) = pin.as_str() {
-            if find_pin(names, devices, text).is_none() {
-                return Some(text);
+            if find_pin(alloc, names, devices, text)?.is_none() {
+                return Ok(Some(text));
             }
         }
     }
-    None
+    Ok(None)
 }
 
 /// The first text among the pins of all nets whose pin stands before it.
@@ -65,7 +67,13 @@ pub(crate) fn first_twice<'t>(
     let mut used = Places::new(alloc);
     for net in nets {
         if let Some(table) = net.as_table() {
-            if let Some(text) = add_pins(&mut used, names, devices, items_at(table, "pins"))? {
+            if let Some(text) = add_pins(
+                alloc,
+                &mut used,
+                names,
+                devices,
+                items_at(table, "pins"),
+            )? {
                 return Ok(Some(text));
             }
         }
@@ -75,6 +83,7 @@ pub(crate) fn first_twice<'t>(
 
 /// Adds the pins of a net, up to the first that is there.
 fn add_pins<'t>(
+    alloc: Global,
     used: &mut Places<Pin>,
     names: &Places<&str>,
     devices: &[SharedDevice],
@@ -89,7 +98,7 @@ fn add_pins<'t>(
 {
     for pin in pins {
         if let Some(text) = pin.as_str() {
-            if let Some(pin) = find_pin(names, devices, text) {
+            if let Some(pin) = find_pin(alloc, names, devices, text)? {
                 if !add_pin(used, pin)? {
                     return Ok(Some(text));
                 }
@@ -143,8 +152,10 @@ pub(crate) fn check_pins<'t>(
 ) -> Result<(), Miswired<'t>>
     ensures { ChecksPins result (wire_fault (texts_of names.now) devices.now (tables_in (items_view nets.now))) }
 {
-    if let Some(text) = first_unknown(names, devices, nets) {
-        return Err(Miswired::UnknownPin(text));
+    match first_unknown(alloc, names, devices, nets) {
+        Ok(None) => {}
+        Ok(Some(text)) => return Err(Miswired::UnknownPin(text)),
+        Err(_) => return Err(Miswired::Memory),
     }
     match first_twice(alloc, names, devices, nets) {
         Ok(None) => {}

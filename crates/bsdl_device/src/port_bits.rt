@@ -119,13 +119,16 @@ impl Ports {
         }
     }
 
-    pub(crate) fn find(&self, name: &str, index: Option<usize>) -> Option<usize>
-        ensures { result ≡ bit_number name.now index self.now }
+    pub(crate) fn find(
+        &self,
+        alloc: Global,
+        name: &str,
+        index: Option<usize>,
+    ) -> Result<Option<usize>, AllocError>
+        ensures { IfOk result (λ number. number ≡ bit_number name.now index self.now) }
     {
-        match lower_name(self.alloc, name) {
-            Ok(key) => find_number(&self.by_name, key.as_str(), index),
-            Err(_) => find_place(&self.ports, &self.bits, name, index),
-        }
+        let key = lower_name(alloc, name)?;
+        Ok(find_number(&self.by_name, key.as_str(), index))
     }
 }
 
@@ -208,41 +211,4 @@ fn add_bit(bits: &mut Vec<BitPlace>, numbers: &mut Numbers, bit: BitPlace) -> Re
     numbers.add(bit.index, bits.len())?;
     bits.push(bit)?;
     Ok(())
-}
-
-/// The number of the bit of this name, in any case, and index, bit by bit: for want of memory to look it up.
-fn find_place(ports: &[Port], bits: &[BitPlace], name: &str, index: Option<usize>) -> Option<usize>
-    requires { AllByRecursion (IsPlaced ports.now) bits.now }
-    ensures { result ≡ bit_number name.now index (map (placed ports.now) bits.now) }
-{
-    for (number, bit) in bits.iter().enumerate() {
-        if is_at(ports, bit, name, index) {
-            return Some(number);
-        }
-    }
-    None
-}
-
-fn is_at(ports: &[Port], bit: &BitPlace, name: &str, index: Option<usize>) -> bool
-    requires { IsPlaced ports.now bit.now }
-    ensures { result ≡ is_bit name.now index (placed ports.now bit.now) }
-{
-    is_name(&ports[bit.port], name) && are_same(index, bit.index)
-}
-
-/// Whether a port has this name, in any case.
-fn is_name(port: &Port, name: &str) -> bool
-    ensures { result ≡ str_eq_ignore_ascii_case name.now (string_bytes port.now.name) }
-{
-    name.eq_ignore_ascii_case(port.name.as_str())
-}
-
-fn are_same(one: Option<usize>, other: Option<usize>) -> bool
-    ensures { result ≡ same_index one other }
-{
-    match (one, other) {
-        (None, None) => true,
-        (Some(index), Some(other_index)) => index == other_index,
-        _ => false,
-    }
 }

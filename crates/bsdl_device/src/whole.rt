@@ -1,11 +1,12 @@
 //! A whole description.
-ghost use Rattle.std.specs.Prelude.{◌≡◌, ◌<◌, List, Bool, length, option_map, bytes_eq, slice_get};
+ghost use Rattle.std.specs.Prelude.{◌≡◌, ◌<◌, List, Bool, length, option_map, bytes_eq, slice_get, IfOk};
 ghost use Rattle.std.specs.List.{list_any};
 ghost use Rattle.bsdl_device.specs.Ports.{bit_number};
 ghost use Rattle.bsdl_device.specs.View.{port_bit};
 
 use crate::{Access, Cell, Names, Opcode, PortBit, Ports};
 use jt_bits::Bits;
+use std::alloc::{AllocError, Global};
 use std::marker::Model;
 
 /// The parts that a description is made of, each as [`Device`] has it.
@@ -85,11 +86,17 @@ impl Device {
         self.parts.ports.get(number)
     }
 
-    /// The number of the port bit of this name, in any case, and index.
-    pub fn find_port(&self, name: &str, index: Option<usize>) -> Option<usize>
-        ensures { result ≡ bit_number name.now index self.now.ports }
+    /// The number of the port bit of this name, in any case, and index. It takes memory for the name in lower case, by
+    /// which the ports are kept.
+    pub fn find_port(
+        &self,
+        alloc: Global,
+        name: &str,
+        index: Option<usize>,
+    ) -> Result<Option<usize>, AllocError>
+        ensures { IfOk result (λ number. number ≡ bit_number name.now index self.now.ports) }
     {
-        self.parts.ports.find(name, index)
+        self.parts.ports.find(alloc, name, index)
     }
 
     /// The length of the instruction register.
