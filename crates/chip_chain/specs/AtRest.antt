@@ -96,7 +96,8 @@ puts_nothing s column = record {
 }
 
 -- of two puts the second holds
-pub puts_both : (a b c : SeatValue) (column : Column) (s t : List Bool) → IsPutInto column s a b → IsPutInto column t b c → IsPutInto column t a c
+pub puts_both : (a b c : SeatValue) (column : Column) (s t : List Bool) → IsPutInto column s a b
+    → IsPutInto column t b c → IsPutInto column t a c
 puts_both a b c column s t first second = record {
   chip = put_both (λ (b : BoundaryValue). b.stage) (λ (b : BoundaryValue). b.update)
       (λ (b : BoundaryValue) stage update. record b { stage = stage; update = update }) (λ b s u t v. refl)

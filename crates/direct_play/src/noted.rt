@@ -14,8 +14,9 @@ use jt_board::Board;
 use plays::Ending;
 use svf_settings::Program;
 
-/// Plays a program on a board as `play_program` does, and writes the bytes of the play: `Q` is the last. The flag tells that all
-/// of them were written; it is false exactly where the writer's first loss came in this call, and the play goes on all the same.
+/// Plays a program on a board as `play_program` does, and writes the bytes of the play: `Q` is the last. The flag tells
+/// that all of them were written; it is false exactly where the writer's first loss came in this call, and the play
+/// goes on all the same.
 pub fn play_program_noted<W: Sink>(
     program: &Program,
     board: &mut Board,

@@ -10,12 +10,12 @@ use jt_board::Board;
 use plays::Ending;
 use svf_settings::Program;
 
-/// Plays an accepted program on a board, whatever state any bytes left it in: the opening edge by edge, and from then on
-/// each step on whole registers.
+/// Plays an accepted program on a board, whatever state any bytes left it in: the opening edge by edge, and from then
+/// on each step on whole registers.
 ///
-/// The ending is that of the program's meaning over whole registers from the state after the opening: a pass, or the first
-/// statement of which a wanted bit did not come out, with the part and place of the least such bit. The board is at rest in the
-/// last state of that meaning, where all bytes of the play would leave it. Takes no memory.
+/// The ending is that of the program's meaning over whole registers from the state after the opening: a pass, or the
+/// first statement of which a wanted bit did not come out, with the part and place of the least such bit. The board is
+/// at rest in the last state of that meaning, where all bytes of the play would leave it. Takes no memory.
 pub fn play_program(program: &Program, board: &mut Board) -> Ending
     ensures ending { result ≡ (play (program_of program.now) board.old).ending }
     ensures board { board.new ≡ (play (program_of program.now) board.old).board }

@@ -22,8 +22,8 @@ use svf_settings::{Action, Step};
 /// The bytes that open a play: TRST is released, five cycles with TMS 1 follow, and TCK, TMS and TDI are low again.
 pub(crate) const OPENING: &[u8] = b"r26262626260";
 
-/// Opens a play, edge by edge, for a board may stand in the middle of a scan: TRST is released, and five cycles with TMS 1
-/// follow.
+/// Opens a play, edge by edge, for a board may stand in the middle of a scan: TRST is released, and five cycles with
+/// TMS 1 follow.
 pub(crate) fn play_opening(board: &mut Board)
     ensures { board.new ≡ (hear opening board.old).board }
 {
@@ -39,9 +39,11 @@ fn take_all(board: &mut Board, bytes: &[u8])
     }
 }
 
-/// Plays a step on a board at rest. Answers the first wanted bit that came out otherwise, by its part and its place there.
+/// Plays a step on a board at rest. Answers the first wanted bit that came out otherwise, by its part and its place
+/// there.
 pub(crate) fn play_step(step: &Step<'_>, board: &mut Board) -> Option<(Part, usize)>
-    ensures board { (m : AtRest) → IsAtRest board.old m → IsAtRest board.new (meaning.command (seen.step step.now.what) m) }
+    ensures board { (m : AtRest) → IsAtRest board.old m
+        → IsAtRest board.new (meaning.command (seen.step step.now.what) m) }
     ensures judged { (m : AtRest) → IsAtRest board.old m → result ≡ meaning.failure (seen.step step.now.what) m }
 {
     match step.what {
@@ -61,13 +63,15 @@ pub(crate) fn play_step(step: &Step<'_>, board: &mut Board) -> Option<(Part, usi
     None
 }
 
-/// Scans a whole vector, from rest to rest: what is pending is made, the registers capture, what comes out is judged, and the
-/// registers take what stays in.
+/// Scans a whole vector, from rest to rest: what is pending is made, the registers capture, what comes out is judged,
+/// and the registers take what stays in.
 fn scan(column: Column, vector: &Vector, end: State, board: &mut Board) -> Option<(Part, usize)>
     ensures board { (m : AtRest) → IsAtRest board.old m
-        → IsAtRest board.new (meaning.scan_end column end (whole.shift column (tdis (bits vector.now)) (whole.capture column (whole.settle m)))) }
+        → IsAtRest board.new
+        (meaning.scan_end column end (whole.shift column (tdis (bits vector.now)) (whole.capture column (whole.settle m)))) }
     ensures judged { (m : AtRest) → IsAtRest board.old m
-        → result ≡ judge (bits vector.now) (whole.out column (tdis (bits vector.now)) (whole.capture column (whole.settle m))) }
+        → result
+        ≡ judge (bits vector.now) (whole.out column (tdis (bits vector.now)) (whole.capture column (whole.settle m))) }
 {
     board.settle();
     board.capture(column);

@@ -25,7 +25,8 @@ impl Chain {
     /// The column's register of every device captures, each from the levels before.
     pub fn capture(&mut self, column: Column)
         ensures { self.new
-            ≡ chain_as (whole.capture_all column (sees self.old.nets (members self.old.chips)) 0 (members self.old.chips)) self.old }
+            ≡ chain_as (whole.capture_all column (sees self.old.nets (members self.old.chips)) 0 (members self.old.chips))
+            self.old }
     {
         capture_all(&mut self.seats, &self.wiring, column);
     }

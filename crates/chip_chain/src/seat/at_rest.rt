@@ -45,7 +45,8 @@ impl Link for Seat {
 impl Seat {
     /// Whether a capture of the column is one of the boundary register.
     fn captures_boundary_of(&self, column: Column) -> bool
-        ensures { result ≡ captures_boundary (Captures column) (meaning self.now.chip.device self.now.chip.latch).selected }
+        ensures { result
+            ≡ captures_boundary (Captures column) (meaning self.now.chip.device self.now.chip.latch).selected }
     {
         column == Column::Dr && self.chip.selected() == Selected::Boundary
     }
@@ -64,7 +65,8 @@ impl Seat {
     pub(crate) fn update(&mut self, column: Column)
         ensures kept { IsKept self.old self.new }
         ensures trst { self.new.chip.trst ≡ self.old.chip.trst }
-        ensures chip { chip_state self.new ≡ as_member (update_member column (member_of self.old)) (chip_state self.old) }
+        ensures chip { chip_state self.new
+            ≡ as_member (update_member column (member_of self.old)) (chip_state self.old) }
     {
         self.chip.update(column);
     }
@@ -91,7 +93,8 @@ impl Seat {
     fn settle(&mut self, rests: State)
         ensures kept { IsKept self.old self.new }
         ensures trst { self.new.chip.trst ≡ self.old.chip.trst }
-        ensures chip { chip_state self.new ≡ as_member (settled_member rests (member_of self.old)) (chip_state self.old) }
+        ensures chip { chip_state self.new
+            ≡ as_member (settled_member rests (member_of self.old)) (chip_state self.old) }
     {
         match rests {
             State::DrPause => self.update(Column::Dr),
@@ -121,7 +124,8 @@ pub(crate) fn capture(seat: &mut Seat, wiring: &Wiring, column: Column)
     ensures kept { IsKept seat.old seat.new }
     ensures trst { seat.new.chip.trst ≡ seat.old.chip.trst }
     ensures chip { (place : ℕ) (ms : List Member) → IsAt wiring.now place ms seat.old
-        → chip_state seat.new ≡ as_member (capture_member column (sight wiring.now ms place) (member_of seat.old)) (chip_state seat.old) }
+        → chip_state seat.new
+        ≡ as_member (capture_member column (sight wiring.now ms place) (member_of seat.old)) (chip_state seat.old) }
 {
     if seat.captures_boundary_of(column) {
         tell(seat, wiring);

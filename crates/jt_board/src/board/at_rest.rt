@@ -1,5 +1,5 @@
-//! A board at rest, its registers taken whole: what the edges of TCK would do, done at once (IEEE Std 1149.1-2001, clauses
-//! 6, 7 and 9).
+//! A board at rest, its registers taken whole: what the edges of TCK would do, done at once (IEEE Std 1149.1-2001,
+//! clauses 6, 7 and 9).
 
 ghost use Rattle.std.specs.Prelude.{◌≡◌, false, [], ◌∷◌, None};
 ghost use Rattle.board_meaning.specs.Resting.{IsAtRest};
@@ -49,7 +49,8 @@ impl Board {
 
     /// A whole vector is shifted through the column's registers of a board at rest.
     pub fn shift(&mut self, column: Column, vector: &Vector)
-        ensures { (m : AtRest) → IsAtRest self.old m → IsAtRest self.new (whole.shift column (tdis (bits vector.now)) m) }
+        ensures { (m : AtRest) → IsAtRest self.old m
+            → IsAtRest self.new (whole.shift column (tdis (bits vector.now)) m) }
     {
         self.chain.shift(column, vector);
     }
@@ -88,7 +89,8 @@ impl Board {
         self.stand(state);
     }
 
-    /// TRST is asserted on a board at rest: a device without the port settles, and every device is reset and stands in RESET.
+    /// TRST is asserted on a board at rest: a device without the port settles, and every device is reset and stands in
+    /// RESET.
     pub fn assert_trst(&mut self)
         ensures { (m : AtRest) → IsAtRest self.old m → IsAtRest self.new (whole.trst_asserted m) }
     {
