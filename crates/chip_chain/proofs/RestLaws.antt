@@ -1,5 +1,6 @@
 -- What is done to all devices at once changes, and what it leaves wired.
-use Rattle.std.proofs.Common.{◌≡◌, ℕ, suc, ◌+◌, Bool, true, false, List, [], ◌∷◌, ◌++◌, length, map, take, drop, slice_get, Some, None, option_map, refl, sym, ap, subst, ◌∙◌, arith}
+use Rattle.std.proofs.Common.{◌≡◌, ℕ, suc, ◌+◌, Bool, true, false, List, [], ◌∷◌, ◌++◌, length, map, take, drop}
+use Rattle.std.proofs.Common.{slice_get, Some, None, option_map, refl, sym, ap, subst, ◌∙◌, arith}
 use Rattle.std.proofs.lemmas.List.{length-map}
 use Rattle.std.proofs.lemmas.Option.{slice_get-map}
 use Rattle.jt_tap.specs.declared.State.{State}
@@ -19,7 +20,8 @@ use Rattle.board_meaning.specs.Chain.{ChipState, members}
 use Rattle.board_meaning.specs.Nets.{sees}
 use Rattle.board_meaning.specs.Resting.{standing}
 use Rattle.board_meaning.specs.Whole.{capture_all, chosen_of, cut_back, joined, settled_member, trst_member}
-use Rattle.chip_chain.specs.AtRest.{AssertsTrst, CapturesAt, Changes, IsPutInto, Stands, as_member, as_members, capture_member, out, shifted}
+use Rattle.chip_chain.specs.AtRest.{AssertsTrst, CapturesAt, Changes, IsPutInto, Stands, as_member, as_members}
+use Rattle.chip_chain.specs.AtRest.{capture_member, out, shifted}
 use Rattle.chip_chain.specs.Seats.{AllTold, IsKept, SeatValue, chip_state, member_of}
 use Rattle.chip_chain.specs.Sweeping.{EachFrom}
 use Rattle.chip_chain.specs.Wires.{AreSeated, AreWired, IsWired, WiringValue}
@@ -41,27 +43,33 @@ quiet_wired R kept same old new w wired each = record {
 -- ---- each device changed by itself
 
 -- device by device, or list by list
-as-map : (f : Member → Member) (cs : List ChipState) → map (λ (c : ChipState). as_member (f c.member) c) cs ≡ as_members (map f (members cs)) cs
+as-map : (f : Member → Member) (cs : List ChipState)
+    → map (λ (c : ChipState). as_member (f c.member) c) cs ≡ as_members (map f (members cs)) cs
 as-map f [] = refl
 as-map f (c ∷ cs) = ap (λ (r : List ChipState). as_member (f c.member) c ∷ r) (as-map f cs)
 
 pub changed_chips : (f : Member → Member) (old new : List SeatValue) → EachFrom (Changes f) 0 old new
     → map chip_state new ≡ as_members (map f (members (map chip_state old))) (map chip_state old)
 changed_chips f old new each =
-    all_chips (Changes f) (λ c. as_member (f c.member) c) (λ i s t r. r.chip) 0 old new each ∙ as-map f (map chip_state old)
+    all_chips (Changes f) (λ c. as_member (f c.member) c) (λ i s t r. r.chip) 0 old new each
+    ∙ as-map f (map chip_state old)
 
-stand-map : (state : State) (cs : List ChipState) → map (λ (c : ChipState). standing state c.member) cs ≡ map (standing state) (members cs)
+stand-map : (state : State) (cs : List ChipState)
+    → map (λ (c : ChipState). standing state c.member) cs ≡ map (standing state) (members cs)
 stand-map state [] = refl
 stand-map state (c ∷ cs) = ap (λ (r : List ChipState). standing state c.member ∷ r) (stand-map state cs)
 
 pub stood_chips : (state : State) (old new : List SeatValue) → EachFrom (Stands state) 0 old new
     → map chip_state new ≡ map (standing state) (members (map chip_state old))
 stood_chips state old new each =
-    all_chips (Stands state) (λ c. standing state c.member) (λ i s t r. r.chip) 0 old new each ∙ stand-map state (map chip_state old)
+    all_chips (Stands state) (λ c. standing state c.member) (λ i s t r. r.chip) 0 old new each
+    ∙ stand-map state (map chip_state old)
 
-pub stood_wired : (state : State) (old new : List SeatValue) (w : WiringValue) → IsWired old w → EachFrom (Stands state) 0 old new → IsWired new w
+pub stood_wired : (state : State) (old new : List SeatValue) (w : WiringValue) → IsWired old w
+    → EachFrom (Stands state) 0 old new → IsWired new w
 stood_wired state old new w wired each =
-    quiet_wired (Stands state) (λ i s t r. r.kept) (λ i s t r p. ap (λ (c : ChipState). drive c.member p) r.chip) old new w wired each
+    quiet_wired (Stands state) (λ i s t r. r.kept)
+    (λ i s t r p. ap (λ (c : ChipState). drive c.member p) r.chip) old new w wired each
 
 -- ---- TRST
 
@@ -69,15 +77,20 @@ asserted-map : (rests : State) (cs : List ChipState)
     → map (λ (c : ChipState). standing Reset (trst_member (settled_member rests) c.member)) cs
     ≡ map (standing Reset) (map (trst_member (settled_member rests)) (members cs))
 asserted-map rests [] = refl
-asserted-map rests (c ∷ cs) = ap (λ (r : List ChipState). standing Reset (trst_member (settled_member rests) c.member) ∷ r) (asserted-map rests cs)
+asserted-map rests (c ∷ cs) =
+    ap (λ (r : List ChipState). standing Reset (trst_member (settled_member rests) c.member) ∷ r)
+    (asserted-map rests cs)
 
 pub asserted_chips : (rests : State) (old new : List SeatValue) → EachFrom (AssertsTrst rests) 0 old new
-    → map chip_state new ≡ map (standing Reset) (map (trst_member (settled_member rests)) (members (map chip_state old)))
+    → map chip_state new
+    ≡ map (standing Reset) (map (trst_member (settled_member rests)) (members (map chip_state old)))
 asserted_chips rests old new each =
-    all_chips (AssertsTrst rests) (λ c. standing Reset (trst_member (settled_member rests) c.member)) (λ i s t r. r.chip) 0 old new each
+    all_chips (AssertsTrst rests) (λ c. standing Reset (trst_member (settled_member rests) c.member))
+    (λ i s t r. r.chip) 0 old new each
     ∙ asserted-map rests (map chip_state old)
 
-pub asserted_told : (rests : State) (place : ℕ) (old new : List SeatValue) → EachFrom (AssertsTrst rests) place old new → AllTold true new
+pub asserted_told : (rests : State) (place : ℕ) (old new : List SeatValue)
+    → EachFrom (AssertsTrst rests) place old new → AllTold true new
 asserted_told rests place [] [] each = tt
 asserted_told rests place [] (t ∷ new) each = absurd each
 asserted_told rests place (s ∷ old) [] each = absurd each
@@ -86,9 +99,12 @@ asserted_told rests place (s ∷ old) (t ∷ new) each = (each.0.told, asserted_
 -- ---- a capture
 
 -- a capture changes nothing that is driven
-capture-drives : (column : Column) (sees : ℕ → Bool) (m : Member) (p : ℕ) → drive (capture_member column sees m) p ≡ drive m p
-capture-drives Dr sees m p = rise_drives false false false sees (record { member = m; state = DrCapture; tdo = None }) p
-capture-drives Ir sees m p = rise_drives false false false sees (record { member = m; state = IrCapture; tdo = None }) p
+capture-drives : (column : Column) (sees : ℕ → Bool) (m : Member) (p : ℕ)
+    → drive (capture_member column sees m) p ≡ drive m p
+capture-drives Dr sees m p =
+    rise_drives false false false sees (record { member = m; state = DrCapture; tdo = None }) p
+capture-drives Ir sees m p =
+    rise_drives false false false sees (record { member = m; state = IrCapture; tdo = None }) p
 
 module _ (w : WiringValue) (column : Column) (all : List SeatValue) (wired : IsWired all w) where
   abbrev before : List Member
@@ -99,7 +115,8 @@ module _ (w : WiringValue) (column : Column) (all : List SeatValue) (wired : IsW
     it : CapturesAt w column place s t
     chip : chip_state t ≡ as_member (capture_member column (sees w.nets before place) (member_of s)) (chip_state s)
 
-  placed : (place : ℕ) (old new : List SeatValue) → ((j : ℕ) → slice_get all (place + j) ≡ slice_get old j) → AreWired w.nets place old
+  placed : (place : ℕ) (old new : List SeatValue) → ((j : ℕ) → slice_get all (place + j) ≡ slice_get old j)
+      → AreWired w.nets place old
       → EachFrom (CapturesAt w column) place old new → EachFrom Captured place old new
   placed place [] [] at cells each = tt
   placed place [] (t ∷ new) at cells each = absurd each
@@ -107,16 +124,25 @@ module _ (w : WiringValue) (column : Column) (all : List SeatValue) (wired : IsW
   placed place (s ∷ old) (t ∷ new) at cells each =
       let same : place + 0 ≡ place = omega arith in
       let there : slice_get all place ≡ Some s = sym (ap (slice_get all) same) ∙ at 0 in
-      let here : slice_get before place ≡ Some (member_of s) = slice_get-map member_of all place ∙ ap (option_map member_of) there in (
-        record { it = each.0; chip = each.0.chip before (record { here = here; drives = wired.drives; nets = cells.0 }) },
-        placed (suc place) old new (λ j. let next : suc place + j ≡ place + suc j = omega arith in ap (slice_get all) next ∙ at (suc j)) cells.1 each.1,
+      let here : slice_get before place ≡ Some (member_of s) = slice_get-map member_of all place
+      ∙ ap (option_map member_of) there in (
+        record {
+          it = each.0;
+          chip =
+              each.0.chip before (record { here = here; drives = wired.drives; nets = cells.0 });
+        },
+        placed (suc place) old new
+            (λ j. let next : suc place + j ≡ place + suc j = omega arith in ap (slice_get all) next
+            ∙ at (suc j)) cells.1 each.1,
       )
 
   all-placed : (new : List SeatValue) → EachFrom (CapturesAt w column) 0 all new → EachFrom Captured 0 all new
-  all-placed new each = placed 0 all new (λ j. let same : 0 + j ≡ j = omega arith in ap (slice_get all) same) wired.cells each
+  all-placed new each =
+      placed 0 all new (λ j. let same : 0 + j ≡ j = omega arith in ap (slice_get all) same) wired.cells each
 
   chips-from : (place : ℕ) (old new : List SeatValue) → EachFrom Captured place old new
-      → map chip_state new ≡ as_members (capture_all column (sees w.nets before) place (map member_of old)) (map chip_state old)
+      → map chip_state new
+      ≡ as_members (capture_all column (sees w.nets before) place (map member_of old)) (map chip_state old)
   chips-from place [] [] each = refl
   chips-from place [] (t ∷ new) each = absurd each
   chips-from place (s ∷ old) [] each = absurd each
@@ -124,15 +150,18 @@ module _ (w : WiringValue) (column : Column) (all : List SeatValue) (wired : IsW
 
   pub captured_chips : (new : List SeatValue) → EachFrom (CapturesAt w column) 0 all new
       → map chip_state new
-      ≡ as_members (capture_all column (sees w.nets (members (map chip_state all))) 0 (members (map chip_state all))) (map chip_state all)
+      ≡ as_members (capture_all column (sees w.nets (members (map chip_state all))) 0 (members (map chip_state all)))
+      (map chip_state all)
   captured_chips new each =
       chips-from 0 all new (all-placed new each)
-      ∙ sym (ap (λ (ms : List Member). as_members (capture_all column (sees w.nets ms) 0 ms) (map chip_state all)) (seats_members all))
+      ∙ sym (ap (λ (ms : List Member). as_members (capture_all column (sees w.nets ms) 0 ms) (map chip_state all))
+      (seats_members all))
 
   pub captured_wired : (new : List SeatValue) → EachFrom (CapturesAt w column) 0 all new → IsWired new w
   captured_wired new each =
       quiet_wired Captured (λ i s t r. r.it.kept)
-      (λ i s t r p. ap (λ (c : ChipState). drive c.member p) r.chip ∙ capture-drives column (sees w.nets before i) (member_of s) p)
+      (λ i s t r p. ap (λ (c : ChipState). drive c.member p) r.chip
+      ∙ capture-drives column (sees w.nets before i) (member_of s) p)
       all new w wired (all-placed new each)
 
 -- ---- a shift
@@ -141,11 +170,20 @@ module _ (w : WiringValue) (column : Column) (all : List SeatValue) (wired : IsW
 pub record Put (column : Column) (bits : List Bool) (s t : SeatValue) : Type 0 where
   pub kept : IsKept s t
   pub trst : t.chip.trst ≡ s.chip.trst
-  pub chip : chip_state t ≡ as_member (record (member_of s) { registers = put s.chip.device column bits (member_of s).registers }) (chip_state s)
+  pub chip : chip_state t
+      ≡ as_member (record (member_of s) { registers = put s.chip.device column bits (member_of s).registers })
+      (chip_state s)
 
 abbrev chip-of : List ℕ → List Bool → Bool → OneChip → ChipState
 chip-of name core extest_update o = record {
-  member = record { name = name; device = o.device; core = core; extest_update = extest_update; registers = o.registers };
+  member = record {
+    name = name;
+    device = o.device;
+    core = core;
+    extest_update = extest_update;
+    registers =
+        o.registers;
+  };
   state = o.state;
   tdo = o.tdo;
 }
@@ -167,8 +205,10 @@ put-drives : (column : Column) (bits : List Bool) (m : Member) (p : ℕ)
     → drive (record m { registers = put m.device column bits m.registers }) p ≡ drive m p
 put-drives column bits m p =
     let after = put m.device column bits m.registers in
-    ap (λ (l : List Bool). drive_in (meaning m.device l).mode m.device.cells after.update m.core p) (put-latch column m.device bits m.registers)
-    ∙ ap (λ (u : List Bool). drive_in (meaning m.device m.registers.latch).mode m.device.cells u m.core p) (put-update column m.device bits m.registers)
+    ap (λ (l : List Bool). drive_in (meaning m.device l).mode m.device.cells after.update m.core p)
+    (put-latch column m.device bits m.registers)
+    ∙ ap (λ (u : List Bool). drive_in (meaning m.device m.registers.latch).mode m.device.cells u m.core p)
+    (put-update column m.device bits m.registers)
 
 -- with whatever bits
 pub record PutSome (column : Column) (place : ℕ) (s t : SeatValue) : Type 0 where
@@ -180,14 +220,20 @@ register column s = chosen_of column (member_of s)
 
 module _ (column : Column) where
   abbrev pub Cut : List Bool → List SeatValue → List SeatValue → Type 0
-  Cut bits old new = IsCutBack (λ (s : SeatValue). chosen_of column (member_of s)) (λ s stage t. IsPutInto column stage s t) bits old new
+  Cut bits old new =
+      IsCutBack (λ (s : SeatValue). chosen_of column (member_of s))
+      (λ s stage t. IsPutInto column stage s t) bits old new
 
-  pub cut_each : (place : ℕ) (bits : List Bool) (old new : List SeatValue) → Cut bits old new → EachFrom (PutSome column) place old new
+  pub cut_each : (place : ℕ) (bits : List Bool) (old new : List SeatValue) → Cut bits old new
+      → EachFrom (PutSome column) place old new
   cut_each place bits [] [] cut = tt
   cut_each place bits [] (t ∷ new) cut = absurd cut
   cut_each place bits (s ∷ old) [] cut = absurd cut
-  cut_each place bits (s ∷ old) (t ∷ new) cut =
-      (record { bits = _; is = put-of column _ s t cut.0 }, cut_each (suc place) (drop (length (register column s)) bits) old new cut.1)
+  cut_each place bits (s ∷ old) (t ∷ new) cut = (
+    record { bits = _; is = put-of column _ s t cut.0 },
+    cut_each (suc place)
+        (drop (length (register column s)) bits) old new cut.1,
+  )
 
   cut-chips : (bits : List Bool) (old new : List SeatValue) → Cut bits old new
       → map chip_state new ≡ as_members (cut_back column bits (map member_of old)) (map chip_state old)
@@ -198,16 +244,20 @@ module _ (column : Column) where
       let one = put-of column (take (length (register column s)) bits) s t cut.0 in
       λ i. one.chip i ∷ cut-chips (drop (length (register column s)) bits) old new cut.1 i
 
-  pub same_joined : (seats : List SeatValue) → rows.joined (map (λ (s : SeatValue). chosen_of column (member_of s)) seats) ≡ joined column (members (map chip_state seats))
+  pub same_joined : (seats : List SeatValue)
+      → rows.joined (map (λ (s : SeatValue). chosen_of column (member_of s)) seats)
+      ≡ joined column (members (map chip_state seats))
   same_joined [] = refl
   same_joined (s ∷ seats) = ap (λ (r : List Bool). register column s ++ r) (same_joined seats)
 
   -- what comes out
   pub same_out : (v : List VectorBit) (seats : List SeatValue)
-      → rows.out v (map (λ (s : SeatValue). chosen_of column (member_of s)) seats) ≡ out column (tdis v) (members (map chip_state seats))
+      → rows.out v (map (λ (s : SeatValue). chosen_of column (member_of s)) seats)
+      ≡ out column (tdis v) (members (map chip_state seats))
   same_out v seats =
       ap (λ (l : List Bool). take (length v) (l ++ tdis v)) (same_joined seats)
-      ∙ ap (λ (n : ℕ). take n (joined column (members (map chip_state seats)) ++ tdis v)) (sym (length-map v (λ (b : VectorBit). b.tdi)))
+      ∙ ap (λ (n : ℕ). take n (joined column (members (map chip_state seats)) ++ tdis v))
+      (sym (length-map v (λ (b : VectorBit). b.tdi)))
 
   -- what stays in, by the length of what is shifted in
   pub shifted_chips : (v : List VectorBit) (old new : List SeatValue)
@@ -215,19 +265,28 @@ module _ (column : Column) where
       → map chip_state new ≡ as_members (shifted column (tdis v) (members (map chip_state old))) (map chip_state old)
   shifted_chips v old new cut =
       cut-chips (rows.left v (map (λ (s : SeatValue). chosen_of column (member_of s)) old)) old new cut
-      ∙ ap (λ (l : List Bool). as_members (cut_back column (drop (length v) (l ++ tdis v)) (map member_of old)) (map chip_state old)) (same_joined old)
-      ∙ ap (λ (n : ℕ). as_members (cut_back column (drop n (joined column (members (map chip_state old)) ++ tdis v)) (map member_of old)) (map chip_state old))
+      ∙ ap (λ (l : List Bool). as_members (cut_back column (drop (length v) (l ++ tdis v)) (map member_of old))
+      (map chip_state old)) (same_joined old)
+      ∙ ap (λ (n : ℕ). as_members
+      (cut_back column (drop n (joined column (members (map chip_state old)) ++ tdis v)) (map member_of old))
+      (map chip_state old))
       (sym (length-map v (λ (b : VectorBit). b.tdi)))
-      ∙ sym (ap (λ (ms : List Member). as_members (cut_back column (drop (length (tdis v)) (joined column (members (map chip_state old)) ++ tdis v)) ms) (map chip_state old)) (seats_members old))
+      ∙ sym (ap
+      (λ (ms : List Member). as_members
+      (cut_back column (drop (length (tdis v)) (joined column (members (map chip_state old)) ++ tdis v)) ms)
+      (map chip_state old)) (seats_members old))
 
-  pub shifted_wired : (bits : List Bool) (old new : List SeatValue) (w : WiringValue) → IsWired old w → Cut bits old new → IsWired new w
+  pub shifted_wired : (bits : List Bool) (old new : List SeatValue) (w : WiringValue) → IsWired old w
+      → Cut bits old new → IsWired new w
   shifted_wired bits old new w wired cut =
       quiet_wired (PutSome column) (λ i s t r. r.is.kept)
       (λ i s t r p. ap (λ (c : ChipState). drive c.member p) r.is.chip ∙ put-drives column r.bits (member_of s) p)
       old new w wired (cut_each 0 bits old new cut)
 
-  pub shifted_told : (trst : Bool) (bits : List Bool) (old new : List SeatValue) → Cut bits old new → AllTold trst old → AllTold trst new
-  shifted_told trst bits old new cut told = all_told (PutSome column) (λ i s t r. r.is.trst) trst 0 old new (cut_each 0 bits old new cut) told
+  pub shifted_told : (trst : Bool) (bits : List Bool) (old new : List SeatValue) → Cut bits old new → AllTold trst old
+      → AllTold trst new
+  shifted_told trst bits old new cut told =
+      all_told (PutSome column) (λ i s t r. r.is.trst) trst 0 old new (cut_each 0 bits old new cut) told
 
   pub shifted_long : (bits : List Bool) (old new : List SeatValue) → Cut bits old new → length new ≡ length old
   shifted_long bits old new cut = each_long (PutSome column) 0 old new (cut_each 0 bits old new cut)

@@ -42,7 +42,8 @@ module _ (s : Numbered) (ss : List Numbered) (m : AtRest) where
   pub outcome_passed : failure s.what m ≡ None → outcome (s ∷ ss) m ≡ outcome ss (command s.what m)
   outcome_passed none = ap (decided s ss m) none
 
-  pub outcome_failed : (f : Part × ℕ) → failure s.what m ≡ Some f → outcome (s ∷ ss) m ≡ record { ending = Fail s.number f.0 f.1; after = command s.what m }
+  pub outcome_failed : (f : Part × ℕ) → failure s.what m ≡ Some f
+      → outcome (s ∷ ss) m ≡ record { ending = Fail s.number f.0 f.1; after = command s.what m }
   outcome_failed f some = ap (decided s ss m) some
 
 -- ---- where the opening leaves a board
@@ -55,7 +56,8 @@ all_legal b steps legal = legal-from steps (opened_state b) refl legal
 
 -- ---- what ends as the program means is the full play's end
 
-module _ (program : Program) (b : BoardState) (sound : IsSoundBoard b) (some : HasDevice b) (legal : IsLegalProgram program.steps)
+module _ (program : Program) (b : BoardState) (sound : IsSoundBoard b) (some : HasDevice b)
+    (legal : IsLegalProgram program.steps)
     (ending : Ending) (after : BoardState) (meant : Outcome) (is : outcome program.steps (opened_state b) ≡ meant)
     (ends : ending ≡ meant.ending) (rests : IsAtRest after meant.after) where
   law : PlaysAsItMeans program.steps b (opened_state b)
@@ -75,11 +77,13 @@ module _ (program : Program) (b : BoardState) (sound : IsSoundBoard b) (some : H
   )
 
 -- what ends as the full play does means what the program means
-pub played_so : (program : Program) (b : BoardState) → IsSoundBoard b → HasDevice b → IsLegalProgram program.steps → (ending : Ending) (after : BoardState)
+pub played_so : (program : Program) (b : BoardState) → IsSoundBoard b → HasDevice b → IsLegalProgram program.steps
+    → (ending : Ending) (after : BoardState)
     → ending ≡ (play program b).ending → after ≡ (play program b).board → MeansFromOpening program b ending after
 played_so program b sound some legal ending after same-ending same-board =
     subst (λ (e : Ending). MeansFromOpening program b e after) (sym same-ending)
-    (subst (λ (a : BoardState). MeansFromOpening program b (play program b).ending a) (sym same-board) (Described.means_from_opening program b sound some legal))
+    (subst (λ (a : BoardState). MeansFromOpening program b (play program b).ending a) (sym same-board)
+    (Described.means_from_opening program b sound some legal))
 
 -- ---- the bytes of a step, from where the board rests
 
@@ -90,13 +94,15 @@ pub record CanPlay (ss : List Numbered) (m : AtRest) : Type 0 where
   pub some : 0 < length m.members
   pub legal : AllLegal ss m
 
-pub can_open : (b : BoardState) (steps : List Numbered) → IsSoundBoard b → HasDevice b → IsLegalProgram steps → CanPlay steps (opened_state b)
+pub can_open : (b : BoardState) (steps : List Numbered) → IsSoundBoard b → HasDevice b → IsLegalProgram steps
+    → CanPlay steps (opened_state b)
 can_open b steps sound some legal =
     let is = opened b sound some in
     record {
       rest = is.rest;
       sound = is.sound;
-      some = subst (λ (m : AtRest). 0 < length m.members) (opened-is-reset b) (subst (λ (n : ℕ). 0 < n) (sym (opened-count b)) some);
+      some = subst (λ (m : AtRest). 0 < length m.members) (opened-is-reset b)
+          (subst (λ (n : ℕ). 0 < n) (sym (opened-count b)) some);
       legal = all_legal b steps legal;
     }
 
@@ -119,10 +125,12 @@ module _ (s : Numbered) (ss : List Numbered) (m : AtRest) (can : CanPlay (s ∷ 
   judged-is = ap (λ h. judge (wants_of s.what) h.answers) played.heard ∙ judged-of s.what m done.answers played.said
 
   pub bytes_passed : failure s.what m ≡ None → bytes-of (full_play (step_turns m.place (s ∷ ss)) (resting m))
-      ≡ step_bytes m.place s.what ++ bytes-of (full_play (step_turns (command s.what m).place ss) (resting (command s.what m)))
+      ≡ step_bytes m.place s.what ++ bytes-of
+      (full_play (step_turns (command s.what m).place ss) (resting (command s.what m)))
   bytes_passed none =
       passed-bytes m.place s ss (resting m) (judged-is ∙ none)
-      ∙ (λ i. step_bytes m.place s.what ++ bytes-of (full_play (step_turns (sym played.place i) ss) (played.heard i).board))
+      ∙ (λ i. step_bytes m.place s.what ++ bytes-of
+      (full_play (step_turns (sym played.place i) ss) (played.heard i).board))
 
   pub bytes_failed : (f : Part × ℕ) → failure s.what m ≡ Some f
       → bytes-of (full_play (step_turns m.place (s ∷ ss)) (resting m)) ≡ step_bytes m.place s.what ++ 81 ∷ []
@@ -133,6 +141,8 @@ opening_bytes = map encode opening
 
 -- all bytes, from behind the opening on
 pub opening_first : (program : Program) (b : BoardState) → IsAtRest (hear opening b).board (opened_state b)
-    → full_bytes program b ≡ opening_bytes ++ bytes-of (full_play (step_turns Reset program.steps) (resting (opened_state b)))
+    → full_bytes program b
+    ≡ opening_bytes ++ bytes-of (full_play (step_turns Reset program.steps) (resting (opened_state b)))
 opening_first program b is =
-    opening-first program b ∙ ap (λ (x : BoardState). opening_bytes ++ bytes-of (full_play (step_turns Reset program.steps) x)) is
+    opening-first program b
+    ∙ ap (λ (x : BoardState). opening_bytes ++ bytes-of (full_play (step_turns Reset program.steps) x)) is

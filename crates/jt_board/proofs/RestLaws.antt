@@ -1,5 +1,6 @@
 -- A board at rest stays one when its registers are taken whole.
-use Rattle.std.proofs.Common.{◌≡◌, ◌≢◌, ◌<◌, ◌≤◌, ℕ, zero, suc, Bool, true, false, List, [], ◌∷◌, ◌++◌, length, map, drop, slice_get, Some, refl, sym, ap, subst, ◌∙◌, arith}
+use Rattle.std.proofs.Common.{◌≡◌, ◌≢◌, ◌<◌, ◌≤◌, ℕ, zero, suc, Bool, true, false, List, [], ◌∷◌, ◌++◌, length, map}
+use Rattle.std.proofs.Common.{drop, slice_get, Some, refl, sym, ap, subst, ◌∙◌, arith}
 use Rattle.std.specs.Prelude.{if◌then◌else◌}
 use Rattle.std.proofs.lemmas.List.{length-append, length-drop, length-map}
 use Rattle.jt_tap.specs.declared.Column.{Column}
@@ -13,8 +14,11 @@ use Rattle.board_meaning.specs.Chain.{BoardState, ChipState, members}
 use Rattle.board_meaning.specs.Nets.{sees}
 use Rattle.board_meaning.specs.Resting.{IsAtRest, resting, standing}
 use Rattle.board_meaning.specs.Sound.{AllSound, IsChain, IsSound}
-use Rattle.board_meaning.specs.Whole.{AtRest, arrive, capture, capture_all, chosen_of, cut_back, joined, reset_all, reset_member, settle, settled_member, shift, trst_asserted, trst_member, update, update_member}
-use Rattle.board_meaning.proofs.Sound.{Sound-capture_all, Sound-cut_back, Sound-reset, Sound-update, sound-other, sound-updated}
+use Rattle.board_meaning.specs.Whole.{AtRest, arrive, capture, capture_all, chosen_of, cut_back, joined, reset_all}
+use Rattle.board_meaning.specs.Whole.{reset_member, settle, settled_member, shift, trst_asserted, trst_member, update}
+use Rattle.board_meaning.specs.Whole.{update_member}
+use Rattle.board_meaning.proofs.Sound.{Sound-capture_all, Sound-cut_back, Sound-reset, Sound-update, sound-other}
+use Rattle.board_meaning.proofs.Sound.{sound-updated}
 use Rattle.chip_chain.specs.AtRest.{as_members, chain_as, shifted}
 use Rattle.chip_chain.specs.Chains.{ChainValue}
 use Rattle.jt_board.specs.Made.{board_at}
@@ -37,7 +41,8 @@ count-as (m ∷ ms) [] long = absurd (omega (arith, long))
 count-as (m ∷ ms) (c ∷ cs) long = ap (λ (n : ℕ). suc n) (count-as ms cs (omega (arith, long)))
 
 -- a chain in other sound registers is one
-pub chain-as : (ms : List Member) (cs : List ChipState) → length ms ≡ length (members cs) → AllSound ms → IsChain cs → IsChain (as_members ms cs)
+pub chain-as : (ms : List Member) (cs : List ChipState) → length ms ≡ length (members cs) → AllSound ms → IsChain cs
+    → IsChain (as_members ms cs)
 chain-as ms cs long sound is =
     let same : length ms ≡ length cs = long ∙ count-members cs in
     record {
@@ -53,7 +58,8 @@ standing-members state (m ∷ ms) = ap (λ (r : List Member). m ∷ r) (standing
 -- a chain whose controllers all stand is one
 pub chain-stands : (state : State) (cs : List ChipState) → IsChain cs → IsChain (map (standing state) (members cs))
 chain-stands state cs is =
-    let long : length (map (standing state) (members cs)) ≡ length cs = length-map (members cs) (standing state) ∙ count-members cs in
+    let long : length (map (standing state) (members cs)) ≡ length cs = length-map (members cs) (standing state)
+    ∙ count-members cs in
     record {
       some = subst (λ (n : ℕ). 0 < n) (sym long) is.some;
       most = subst (λ (n : ℕ). n ≤ 32) (sym long) is.most;
@@ -62,7 +68,8 @@ chain-stands state cs is =
 
 -- ---- each action keeps a chain
 
-count-captured : (column : Column) (sight : ℕ → ℕ → Bool) (k : ℕ) (ms : List Member) → length (capture_all column sight k ms) ≡ length ms
+count-captured : (column : Column) (sight : ℕ → ℕ → Bool) (k : ℕ) (ms : List Member)
+    → length (capture_all column sight k ms) ≡ length ms
 count-captured column sight k [] = refl
 count-captured column sight k (m ∷ ms) = ap (λ (n : ℕ). suc n) (count-captured column sight (suc k) ms)
 
@@ -74,38 +81,55 @@ pub chain-captured : (column : Column) (nets : List Net) (cs : List ChipState) �
     → IsChain (as_members (capture_all column (sees nets (members cs)) 0 (members cs)) cs)
 chain-captured column nets cs is =
     let sight = sees nets (members cs) in
-    chain-as (capture_all column sight 0 (members cs)) cs (count-captured column sight 0 (members cs)) (Sound-capture_all column sight 0 (members cs) is.sound) is
+    chain-as (capture_all column sight 0 (members cs)) cs (count-captured column sight 0 (members cs))
+    (Sound-capture_all column sight 0 (members cs) is.sound) is
 
-pub chain-updated : (column : Column) (cs : List ChipState) → IsChain cs → IsChain (as_members (map (update_member column) (members cs)) cs)
+pub chain-updated : (column : Column) (cs : List ChipState) → IsChain cs
+    → IsChain (as_members (map (update_member column) (members cs)) cs)
 chain-updated column cs is =
-    chain-as (map (update_member column) (members cs)) cs (length-map (members cs) (update_member column)) (Sound-update column (members cs) is.sound) is
+    chain-as (map (update_member column) (members cs)) cs (length-map (members cs) (update_member column))
+    (Sound-update column (members cs) is.sound) is
 
 pub chain-reset : (cs : List ChipState) → IsChain cs → IsChain (as_members (map reset_member (members cs)) cs)
-chain-reset cs is = chain-as (map reset_member (members cs)) cs (length-map (members cs) reset_member) (Sound-reset (members cs) is.sound) is
+chain-reset cs is =
+    chain-as (map reset_member (members cs)) cs (length-map (members cs) reset_member)
+    (Sound-reset (members cs) is.sound) is
 
-pub chain-shifted : (column : Column) (t : List Bool) (cs : List ChipState) → IsChain cs → IsChain (as_members (shifted column t (members cs)) cs)
+pub chain-shifted : (column : Column) (t : List Bool) (cs : List ChipState) → IsChain cs
+    → IsChain (as_members (shifted column t (members cs)) cs)
 chain-shifted column t cs is =
     let left = drop (length t) (joined column (members cs) ++ t) in
     let long : length left ≡ length (joined column (members cs)) =
-    omega (arith, length-drop (length t) (joined column (members cs) ++ t), length-append (joined column (members cs)) t) in
-    chain-as (shifted column t (members cs)) cs (count-cut column left (members cs)) (Sound-cut_back column left (members cs) is.sound long) is
+    omega (
+      arith,
+      length-drop (length t) (joined column (members cs) ++ t),
+      length-append
+          (joined column (members cs)) t,
+    ) in
+    chain-as (shifted column t (members cs)) cs (count-cut column left (members cs))
+    (Sound-cut_back column left (members cs) is.sound long) is
 
 -- ---- each action on a board at rest
 
-as-standing : (state : State) (ms ns : List Member) → length ns ≡ length ms → as_members ns (map (standing state) ms) ≡ map (standing state) ns
+as-standing : (state : State) (ms ns : List Member) → length ns ≡ length ms
+    → as_members ns (map (standing state) ms) ≡ map (standing state) ns
 as-standing state [] [] long = refl
 as-standing state [] (n ∷ ns) long = absurd (omega (arith, long))
 as-standing state (m ∷ ms) [] long = absurd (omega (arith, long))
-as-standing state (m ∷ ms) (n ∷ ns) long = ap (λ (r : List ChipState). standing state n ∷ r) (as-standing state ms ns (omega (arith, long)))
+as-standing state (m ∷ ms) (n ∷ ns) long =
+    ap (λ (r : List ChipState). standing state n ∷ r) (as-standing state ms ns (omega (arith, long)))
 
 -- what the chain became, by its members
 abbrev pub became : Bool → (List Net → List Member → List Member) → ChainValue → BoardState
 became tck f c = board_at tck (chain_as (f c.nets (members c.chips)) c)
 
-pub rests_as : (f : List Net → List Member → List Member) → ((nets : List Net) (ms : List Member) → length (f nets ms) ≡ length ms)
-    → (tck : Bool) (c : ChainValue) (m : AtRest) → IsAtRest (board_at tck c) m → IsAtRest (became tck f c) (record m { members = f m.nets m.members })
+pub rests_as : (f : List Net → List Member → List Member)
+    → ((nets : List Net) (ms : List Member) → length (f nets ms) ≡ length ms)
+    → (tck : Bool) (c : ChainValue) (m : AtRest) → IsAtRest (board_at tck c) m
+    → IsAtRest (became tck f c) (record m { members = f m.nets m.members })
 rests_as f long tck c m is =
-    let same : members c.chips ≡ m.members = ap (λ (b : BoardState). members b.chips) is ∙ standing-members m.place m.members in
+    let same : members c.chips ≡ m.members = ap (λ (b : BoardState). members b.chips) is
+    ∙ standing-members m.place m.members in
     (λ i. record {
       tck = (is i).tck;
       trst = (is i).trst;
@@ -120,9 +144,11 @@ rests_as f long tck c m is =
     })
 
 pub rests_standing : (state : State) (tck : Bool) (c : ChainValue) (m : AtRest) → IsAtRest (board_at tck c) m
-    → IsAtRest (board_at tck (record c { chips = map (standing state) (members c.chips) })) (record m { place = state })
+    → IsAtRest (board_at tck (record c { chips = map (standing state) (members c.chips) }))
+    (record m { place = state })
 rests_standing state tck c m is =
-    let same : members c.chips ≡ m.members = ap (λ (b : BoardState). members b.chips) is ∙ standing-members m.place m.members in
+    let same : members c.chips ≡ m.members = ap (λ (b : BoardState). members b.chips) is
+    ∙ standing-members m.place m.members in
     λ i. record {
       tck = (is i).tck;
       trst = (is i).trst;
@@ -131,9 +157,11 @@ rests_standing state tck c m is =
     }
 
 pub rests_captured : (column : Column) (tck : Bool) (c : ChainValue) (m : AtRest) → IsAtRest (board_at tck c) m
-    → IsAtRest (board_at tck (chain_as (capture_all column (sees c.nets (members c.chips)) 0 (members c.chips)) c)) (capture column m)
+    → IsAtRest (board_at tck (chain_as (capture_all column (sees c.nets (members c.chips)) 0 (members c.chips)) c))
+    (capture column m)
 rests_captured column tck c m is =
-    rests_as (λ nets ms. capture_all column (sees nets ms) 0 ms) (λ nets ms. count-captured column (sees nets ms) 0 ms) tck c m is
+    rests_as (λ nets ms. capture_all column (sees nets ms) 0 ms)
+    (λ nets ms. count-captured column (sees nets ms) 0 ms) tck c m is
 
 pub rests_updated : (column : Column) (tck : Bool) (c : ChainValue) (m : AtRest) → IsAtRest (board_at tck c) m
     → IsAtRest (board_at tck (chain_as (map (update_member column) (members c.chips)) c)) (update column m)
@@ -144,17 +172,20 @@ pub rests_reset : (tck : Bool) (c : ChainValue) (m : AtRest) → IsAtRest (board
     → IsAtRest (board_at tck (chain_as (map reset_member (members c.chips)) c)) (reset_all m)
 rests_reset tck c m is = rests_as (λ nets ms. map reset_member ms) (λ nets ms. length-map ms reset_member) tck c m is
 
-pub rests_shifted : (column : Column) (t : List Bool) (tck : Bool) (c : ChainValue) (m : AtRest) → IsAtRest (board_at tck c) m
+pub rests_shifted : (column : Column) (t : List Bool) (tck : Bool) (c : ChainValue) (m : AtRest)
+    → IsAtRest (board_at tck c) m
     → IsAtRest (board_at tck (chain_as (shifted column t (members c.chips)) c)) (shift column t m)
 rests_shifted column t tck c m is =
-    rests_as (λ nets ms. shifted column t ms) (λ nets ms. count-cut column (drop (length t) (joined column ms ++ t)) ms) tck c m is
+    rests_as (λ nets ms. shifted column t ms)
+    (λ nets ms. count-cut column (drop (length t) (joined column ms ++ t)) ms) tck c m is
 
 -- the members of a board at rest
 pub rests_members : (b : BoardState) (m : AtRest) → IsAtRest b m → members b.chips ≡ m.members
 rests_members b m is = ap (λ (x : BoardState). members x.chips) is ∙ standing-members m.place m.members
 
 -- the state in which any of its controllers stands
-pub rests_place : (b : BoardState) (m : AtRest) (k : ℕ) (c : ChipState) → IsAtRest b m → slice_get b.chips k ≡ Some c → c.state ≡ m.place
+pub rests_place : (b : BoardState) (m : AtRest) (k : ℕ) (c : ChipState) → IsAtRest b m → slice_get b.chips k ≡ Some c
+    → c.state ≡ m.place
 rests_place b m k c is at = by m.members k (sym (ap (λ (x : BoardState). slice_get x.chips k) is) ∙ at)
   where
     by : (ms : List Member) (k : ℕ) → slice_get (map (standing m.place) ms) k ≡ Some c → c.state ≡ m.place
@@ -170,32 +201,49 @@ sound-either false m n first second = second
 
 sound-settled : (place : State) (m : Member) → IsSound m → IsSound (settled_member place m)
 sound-settled place m sound =
-    let updated : (column : Column) → IsSound (update_member column m) = λ column. record { it = sound-updated m.device column m.registers sound.it } in
-    sound-either (is_at place DrPause) (update_member Dr m) _ (updated Dr) (sound-either (is_at place IrPause) (update_member Ir m) m (updated Ir) sound)
+    let updated : (column : Column) → IsSound (update_member column m) =
+    λ column. record { it = sound-updated m.device column m.registers sound.it } in
+    sound-either (is_at place DrPause) (update_member Dr m) _ (updated Dr)
+    (sound-either (is_at place IrPause) (update_member Ir m) m (updated Ir) sound)
 
-sound-asserted : (place : State) (ms : List Member) → AllSound ms → AllSound (map (trst_member (settled_member place)) ms)
+sound-asserted : (place : State) (ms : List Member) → AllSound ms
+    → AllSound (map (trst_member (settled_member place)) ms)
 sound-asserted place [] sound = tt
 sound-asserted place (m ∷ ms) sound =
     let before = sound-either m.device.has_trst m (settled_member place m) sound.0 (sound-settled place m sound.0) in
-    let one = if m.device.has_trst then m else settled_member place m in
-    (record { it = sound-other one.device _ one.registers.stage _ one.registers before.it.stage before.it }, sound-asserted place ms sound.1)
+    let one = if m.device.has_trst then m else settled_member place m in (
+      record {
+        it =
+            sound-other one.device _ one.registers.stage _ one.registers before.it.stage before.it;
+      },
+      sound-asserted place ms sound.1,
+    )
 
 pub chain-asserted : (place : State) (cs : List ChipState) → IsChain cs
     → IsChain (map (standing Reset) (map (trst_member (settled_member place)) (members cs)))
 chain-asserted place cs is =
     let ms = map (trst_member (settled_member place)) (members cs) in
     let long : length (map (standing Reset) ms) ≡ length cs =
-    length-map ms (standing Reset) ∙ length-map (members cs) (trst_member (settled_member place)) ∙ count-members cs in
+    length-map ms (standing Reset) ∙ length-map (members cs) (trst_member (settled_member place))
+    ∙ count-members cs in
     record {
       some = subst (λ (n : ℕ). 0 < n) (sym long) is.some;
       most = subst (λ (n : ℕ). n ≤ 32) (sym long) is.most;
       sound = subst AllSound (sym (standing-members Reset ms)) (sound-asserted place (members cs) is.sound);
     }
 
-pub rests_asserted : (place : State) (tck : Bool) (c : ChainValue) (m : AtRest) → IsAtRest (board_at tck c) m → place ≡ m.place
-    → IsAtRest (board_at tck (record c { trst = true; chips = map (standing Reset) (map (trst_member (settled_member place)) (members c.chips)) })) (trst_asserted m)
+pub rests_asserted : (place : State) (tck : Bool) (c : ChainValue) (m : AtRest) → IsAtRest (board_at tck c) m
+    → place ≡ m.place
+    → IsAtRest
+    (board_at tck
+    (record c {
+      trst = true;
+      chips =
+          map (standing Reset) (map (trst_member (settled_member place)) (members c.chips));
+    })) (trst_asserted m)
 rests_asserted place tck c m is at =
-    let same : members c.chips ≡ m.members = ap (λ (b : BoardState). members b.chips) is ∙ standing-members m.place m.members in
+    let same : members c.chips ≡ m.members = ap (λ (b : BoardState). members b.chips) is
+    ∙ standing-members m.place m.members in
     λ i. record {
       tck = (is i).tck;
       trst = true;
@@ -213,15 +261,18 @@ module _ (place : State) (trst : Bool) (nets : List Net) (ms : List Member) wher
   abbrev here : AtRest
   here = record { place = place; trst = trst; nets = nets; members = ms }
 
-settles-dr : (place : State) (trst : Bool) (nets : List Net) (ms : List Member) → place ≡ DrPause → settle (here place trst nets ms) ≡ update Dr (here place trst nets ms)
+settles-dr : (place : State) (trst : Bool) (nets : List Net) (ms : List Member) → place ≡ DrPause
+    → settle (here place trst nets ms) ≡ update Dr (here place trst nets ms)
 settles-dr DrPause trst nets ms is = refl
 settles-dr _ trst nets ms is = absurd (cc)
 
-settles-ir : (place : State) (trst : Bool) (nets : List Net) (ms : List Member) → place ≡ IrPause → settle (here place trst nets ms) ≡ update Ir (here place trst nets ms)
+settles-ir : (place : State) (trst : Bool) (nets : List Net) (ms : List Member) → place ≡ IrPause
+    → settle (here place trst nets ms) ≡ update Ir (here place trst nets ms)
 settles-ir IrPause trst nets ms is = refl
 settles-ir _ trst nets ms is = absurd (cc)
 
-settles-none : (place : State) (trst : Bool) (nets : List Net) (ms : List Member) → place ≢ DrPause → place ≢ IrPause → settle (here place trst nets ms) ≡ here place trst nets ms
+settles-none : (place : State) (trst : Bool) (nets : List Net) (ms : List Member) → place ≢ DrPause → place ≢ IrPause
+    → settle (here place trst nets ms) ≡ here place trst nets ms
 settles-none DrPause trst nets ms not_dr not_ir = absurd (not_dr refl)
 settles-none IrPause trst nets ms not_dr not_ir = absurd (not_ir refl)
 settles-none _ trst nets ms not_dr not_ir = refl
@@ -249,7 +300,8 @@ pub arrive_in_ir : (s : State) (m : AtRest) → s ≡ IrPause → arrive s m ≡
 arrive_in_ir IrPause m is = refl
 arrive_in_ir _ m is = absurd (cc)
 
-pub arrive_else : (s : State) (m : AtRest) → s ≢ Reset → s ≢ DrPause → s ≢ IrPause → arrive s m ≡ record m { place = s }
+pub arrive_else : (s : State) (m : AtRest) → s ≢ Reset → s ≢ DrPause → s ≢ IrPause
+    → arrive s m ≡ record m { place = s }
 arrive_else Reset m not_reset not_dr not_ir = absurd (not_reset refl)
 arrive_else DrPause m not_reset not_dr not_ir = absurd (not_dr refl)
 arrive_else IrPause m not_reset not_dr not_ir = absurd (not_ir refl)

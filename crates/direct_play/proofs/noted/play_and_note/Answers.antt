@@ -17,7 +17,9 @@ use Rattle.plays.specs.Meaning.{command, outcome}
 use Rattle.plays.specs.Play.{full_play, step_turns}
 use Rattle.direct_play.proofs.NotedPieces.{Notes-is, Notes-then}
 use Rattle.direct_play.proofs.Turns.{bytes-of}
-use Rattle.direct_play.proofs.WholePlay.{CanPlay, bytes_failed, bytes_passed, can_open, can_play_on, opened, opening_bytes, opening_first, outcome_failed, outcome_passed, same_board, same_ending}
+use Rattle.direct_play.proofs.WholePlay.{CanPlay, bytes_failed, bytes_passed, can_open, can_play_on, opened}
+use Rattle.direct_play.proofs.WholePlay.{opening_bytes, opening_first, outcome_failed, outcome_passed, same_board}
+use Rattle.direct_play.proofs.WholePlay.{same_ending}
 use Rattle.direct_play.proofs.noted.play_and_note.Goals as goal
 
 pub loop-step-init : goal.loop-step-init
@@ -26,16 +28,19 @@ loop-step-init g c =
     let program = program_of c.args.program.now in
     let some = subst (λ (n : ℕ). 0 < n) c.devices.ensures.count c.devices.ensures.some in
     let rests = (opened b c.devices.ensures.sound some).board in
-    let steps-are : program.steps ≡ left c.into_iter-step-iterator.result = sym c.steps-step-items.ensures ∙ ap left (sym c.into_iter-step-iterator.ensures.into_iter_gives) in
+    let steps-are : program.steps ≡ left c.into_iter-step-iterator.result = sym c.steps-step-items.ensures
+    ∙ ap left (sym c.into_iter-step-iterator.ensures.into_iter_gives) in
     record {
       m = opened_state b;
       rests = subst (λ (x : BoardState). IsAtRest x (opened_state b)) (sym c.play_opening.ensures) rests;
-      can = subst (λ (l : List Numbered). CanPlay l (opened_state b)) steps-are (can_open b program.steps c.devices.ensures.sound some c.len.ensures.sound.legal);
+      can = subst (λ (l : List Numbered). CanPlay l (opened_state b)) steps-are
+          (can_open b program.steps c.devices.ensures.sound some c.len.ensures.sound.legal);
       within = subst AllWithin steps-are c.len.ensures.sound.within;
       ends = ap (λ (l : List Numbered). outcome l (opened_state b)) steps-are;
       sent = opening_bytes;
       split = opening_first program b rests
-          ∙ ap (λ (l : List Numbered). opening_bytes ++ bytes-of (full_play (step_turns Reset l) (resting (opened_state b)))) steps-are;
+          ∙ ap (λ (l : List Numbered). opening_bytes ++ bytes-of
+          (full_play (step_turns Reset l) (resting (opened_state b)))) steps-are;
       notes = c.note.ensures;
     }
 
@@ -48,7 +53,8 @@ pub note_step-requires-clause-formed : goal.note_step-requires-clause-formed
 note_step-requires-clause-formed g c =
     let i = c.loop-step.invariant in
     let s : Numbered = numbered c.in-Some.step in
-    let can : CanPlay (s ∷ left c.next.new.self) i.m = subst (λ (l : List Numbered). CanPlay l i.m) c.in-Some.ensures.steps i.can in
+    let can : CanPlay (s ∷ left c.next.new.self) i.m =
+    subst (λ (l : List Numbered). CanPlay l i.m) c.in-Some.ensures.steps i.can in
     subst (λ (p : State). IsFormed p s.what) (sym (c.place-place.ensures i.m i.rests)) can.legal.0.formed
 
 pub note_step-requires-clause-within : goal.note_step-requires-clause-within
@@ -68,13 +74,17 @@ loop-step-preserved g c =
       rests = c.play_step.ensures.board i.m i.rests;
       can = can_play_on s ss i.m can;
       within = (subst AllWithin c.in-Some.ensures.steps i.within).1;
-      ends = i.ends ∙ ap (λ (l : List Numbered). outcome l i.m) c.in-Some.ensures.steps ∙ outcome_passed s ss i.m none;
+      ends = i.ends ∙ ap (λ (l : List Numbered). outcome l i.m) c.in-Some.ensures.steps
+          ∙ outcome_passed s ss i.m none;
       sent = i.sent ++ bytes;
-      split = i.split ∙ ap (λ (l : List Numbered). i.sent ++ bytes-of (full_play (step_turns i.m.place l) (resting i.m))) c.in-Some.ensures.steps
+      split = i.split
+          ∙ ap (λ (l : List Numbered). i.sent ++ bytes-of
+          (full_play (step_turns i.m.place l) (resting i.m))) c.in-Some.ensures.steps
           ∙ ap (λ (l : List ℕ). i.sent ++ l) (bytes_passed s ss i.m can none)
           ∙ sym (append_assoc i.sent bytes rest);
       notes = Notes-then i.notes
-          (Notes-is (ap (λ (p : State). step_bytes p s.what) (c.place-place.ensures i.m i.rests)) c.note_step.ensures);
+          (Notes-is
+          (ap (λ (p : State). step_bytes p s.what) (c.place-place.ensures i.m i.rests)) c.note_step.ensures);
     }
 
 pub returns-in-Some-play_step-clause-notes : goal.returns-in-Some-play_step-clause-notes
@@ -86,19 +96,25 @@ returns-in-Some-play_step-clause-notes g c =
     let some = sym (c.play_step.ensures.judged i.m i.rests) ∙ c.in-Some-play_step.is in
     let bytes = step_bytes i.m.place s.what in
     let all : full_bytes (program_of c.args.program.now) c.args.board.now ≡ (i.sent ++ bytes) ++ 81 ∷ [] =
-    i.split ∙ ap (λ (l : List Numbered). i.sent ++ bytes-of (full_play (step_turns i.m.place l) (resting i.m))) c.in-Some.ensures.steps
-    ∙ ap (λ (l : List ℕ). i.sent ++ l) (bytes_failed s ss i.m can (c.in-Some-play_step.part, c.in-Some-play_step.bit) some)
+    i.split ∙ ap
+    (λ (l : List Numbered). i.sent ++ bytes-of
+    (full_play (step_turns i.m.place l) (resting i.m))) c.in-Some.ensures.steps
+    ∙ ap (λ (l : List ℕ). i.sent ++ l)
+    (bytes_failed s ss i.m can (c.in-Some-play_step.part, c.in-Some-play_step.bit) some)
     ∙ sym (append_assoc i.sent bytes (81 ∷ [])) in
     Notes-is (sym all)
     (Notes-then
-    (Notes-then i.notes (Notes-is (ap (λ (p : State). step_bytes p s.what) (c.place-place.ensures i.m i.rests)) c.note_step.ensures))
+    (Notes-then i.notes
+    (Notes-is (ap (λ (p : State). step_bytes p s.what) (c.place-place.ensures i.m i.rests)) c.note_step.ensures))
     c.note-in-Some-play_step.ensures)
 
 pub returns-clause-notes : goal.returns-clause-notes
 returns-clause-notes g c =
     let i = c.loop-step.invariant in
     let all : full_bytes (program_of c.args.program.now) c.args.board.now ≡ i.sent ++ 81 ∷ [] =
-    i.split ∙ ap (λ (l : List Numbered). i.sent ++ bytes-of (full_play (step_turns i.m.place l) (resting i.m))) c.in-None.ensures.steps.0 in
+    i.split ∙ ap
+    (λ (l : List Numbered). i.sent ++ bytes-of
+    (full_play (step_turns i.m.place l) (resting i.m))) c.in-None.ensures.steps.0 in
     Notes-is (sym all) (Notes-then i.notes c.note-2.ensures)
 
 pub returns-in-Some-play_step-clause-ending : goal.returns-in-Some-play_step-clause-ending

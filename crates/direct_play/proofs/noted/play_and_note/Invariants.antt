@@ -12,8 +12,8 @@ use Rattle.direct_play.proofs.Turns.{bytes-of}
 use Rattle.direct_play.proofs.WholePlay.{CanPlay}
 use Rattle.direct_play.proofs.noted.play_and_note.Given as goal
 
--- The board is at rest, from there the steps that are left may be played and end as the program does, and what was noted is
--- the front of the program's bytes before theirs.
+-- The board is at rest, from there the steps that are left may be played and end as the program does, and what was
+-- noted is the front of the program's bytes before theirs.
 abbrev pub invariant-loop-step : goal.invariant-loop-step
 invariant-loop-step g l = record {
   m : AtRest;
@@ -22,6 +22,7 @@ invariant-loop-step g l = record {
   within : AllWithin (left l.step-iterator);
   ends : outcome (program_of l.program).steps (opened_state l.fn.board) ≡ outcome (left l.step-iterator) m;
   sent : List ℕ;
-  split : full_bytes (program_of l.program) l.fn.board ≡ sent ++ bytes-of (full_play (step_turns m.place (left l.step-iterator)) (resting m));
+  split : full_bytes (program_of l.program) l.fn.board
+      ≡ sent ++ bytes-of (full_play (step_turns m.place (left l.step-iterator)) (resting m));
   notes : Notes g.W.Write.contents l.fn.out l.out sent;
 }

@@ -10,9 +10,12 @@ pub returns-clause-meaning : goal.returns-clause-meaning
 returns-clause-meaning g c =
     played_so (program_of c.args.program.now) c.args.board.now c.devices.ensures.sound
     (subst (λ (n : ℕ). 0 < n) c.devices.ensures.count c.devices.ensures.some) c.len.ensures.sound.legal
-    c.play_and_note-ending.result c.play_and_note-ending.new.board c.play_and_note-ending.ensures.ending c.play_and_note-ending.ensures.board
+    c.play_and_note-ending.result c.play_and_note-ending.new.board
+    c.play_and_note-ending.ensures.ending c.play_and_note-ending.ensures.board
 
 pub returns-clause-writes : goal.returns-clause-writes
 returns-clause-writes g c =
-    noted-writes g.W.Write.contents c.args.out.now c.play_and_note-ending.new.out (full_bytes (program_of c.args.program.now) c.args.board.now)
-    (c.failures.result == 0) (ap (λ n. n == 0) c.failures.ensures.value) c.requires.none_lost c.play_and_note-ending.ensures.notes
+    noted-writes g.W.Write.contents c.args.out.now c.play_and_note-ending.new.out
+    (full_bytes (program_of c.args.program.now) c.args.board.now)
+    (c.failures.result == 0)
+    (ap (λ n. n == 0) c.failures.ensures.value) c.requires.none_lost c.play_and_note-ending.ensures.notes

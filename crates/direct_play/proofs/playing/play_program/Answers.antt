@@ -8,7 +8,8 @@ use Rattle.board_meaning.specs.Resting.{IsAtRest}
 use Rattle.plays.specs.declared.ending.Ending.TheVariants.{Fail, Pass}
 use Rattle.plays.specs.DirectPlay.{opened_state}
 use Rattle.plays.specs.Meaning.{command, outcome}
-use Rattle.direct_play.proofs.WholePlay.{means_from_opening, opened, outcome_failed, outcome_passed, same_board, same_ending}
+use Rattle.direct_play.proofs.WholePlay.{means_from_opening, opened, outcome_failed, outcome_passed, same_board}
+use Rattle.direct_play.proofs.WholePlay.{same_ending}
 use Rattle.direct_play.proofs.playing.play_program.Goals as goal
 
 pub loop-step-init : goal.loop-step-init
@@ -17,8 +18,10 @@ loop-step-init c =
     let some = subst (λ (n : ℕ). 0 < n) c.devices.ensures.count c.devices.ensures.some in
     record {
       m = opened_state b;
-      rests = subst (λ (x : BoardState). IsAtRest x (opened_state b)) (sym c.play_opening.ensures) (opened b c.devices.ensures.sound some).board;
-      ends = ap (λ (ss : List Numbered). outcome ss (opened_state b)) (sym c.steps-step-items.ensures ∙ ap left (sym c.into_iter-step-iterator.ensures.into_iter_gives));
+      rests = subst (λ (x : BoardState). IsAtRest x (opened_state b)) (sym c.play_opening.ensures)
+          (opened b c.devices.ensures.sound some).board;
+      ends = ap (λ (ss : List Numbered). outcome ss (opened_state b))
+          (sym c.steps-step-items.ensures ∙ ap left (sym c.into_iter-step-iterator.ensures.into_iter_gives));
     }
 
 pub loop-step-preserved : goal.loop-step-preserved

@@ -7,7 +7,8 @@ use Rattle.plays.specs.DirectPlay.{opened_state}
 use Rattle.plays.specs.Meaning.{outcome}
 use Rattle.direct_play.proofs.playing.play_program.Given as goal
 
--- The board is at rest, and from there the steps that are left end as the program does from the state after the opening.
+-- The board is at rest, and from there the steps that are left end as the program does from the state after the
+-- opening.
 abbrev pub invariant-loop-step : goal.invariant-loop-step
 invariant-loop-step l = record {
   m : AtRest;

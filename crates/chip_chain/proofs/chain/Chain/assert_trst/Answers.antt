@@ -21,11 +21,13 @@ invariant_of-self c =
     let rests = c.args.rests in
     let new = c.assert_trst_wired.new.seats in
     let each : EachFrom (AssertsTrst rests) 0 s.seats.items new =
-    subst (λ (l : List SeatValue). EachFrom (AssertsTrst rests) 0 l new) c.deref_mut.ensures.value c.assert_trst_wired.ensures.devices in
+    subst (λ (l : List SeatValue). EachFrom
+    (AssertsTrst rests) 0 l new) c.deref_mut.ensures.value c.assert_trst_wired.ensures.devices in
     let is = with_items_is s.seats new (each_long (AssertsTrst rests) 0 s.seats.items new each ∙ sym s.seats.ok.0) in
     record {
       told = subst (AllTold true) (sym is) (asserted_told rests 0 s.seats.items new each);
-      wired = subst (λ (l : List SeatValue). IsWired l c.assert_trst_wired.new.wiring) (sym is) c.assert_trst_wired.ensures.wired;
+      wired = subst (λ (l : List SeatValue). IsWired l c.assert_trst_wired.new.wiring)
+          (sym is) c.assert_trst_wired.ensures.wired;
     }
 
 pub returns : goal.returns
@@ -34,10 +36,22 @@ returns c =
     let rests = c.args.rests in
     let new = c.assert_trst_wired.new.seats in
     let each : EachFrom (AssertsTrst rests) 0 s.seats.items new =
-    subst (λ (l : List SeatValue). EachFrom (AssertsTrst rests) 0 l new) c.deref_mut.ensures.value c.assert_trst_wired.ensures.devices in
+    subst (λ (l : List SeatValue). EachFrom
+    (AssertsTrst rests) 0 l new) c.deref_mut.ensures.value c.assert_trst_wired.ensures.devices in
     let is = with_items_is s.seats new (each_long (AssertsTrst rests) 0 s.seats.items new each ∙ sym s.seats.ok.0) in
     let chips-are = ap (map chip_state) is ∙ asserted_chips rests s.seats.items new each in
-    let now = the_view (record s { trst = true; seats = with_items s.seats new; wiring = c.assert_trst_wired.new.wiring }) in
-    subst (λ (v : ChainValue). now ≡ record v { trst = true; chips = map (standing Reset) (map (trst_member (settled_member rests)) (members v.chips)) })
+    let now =
+    the_view (record s {
+      trst = true;
+      seats = with_items s.seats new;
+      wiring =
+          c.assert_trst_wired.new.wiring;
+    }) in
+    subst (λ (v : ChainValue). now
+    ≡ record v {
+      trst = true;
+      chips =
+          map (standing Reset) (map (trst_member (settled_member rests)) (members v.chips));
+    })
     c.self.view_is
     (λ i. record { trst = true; nets = c.assert_trst_wired.ensures.nets i; chips = chips-are i })

@@ -20,11 +20,16 @@ invariant_of-self c =
     let s = c.self.inside in
     let new = c.capture_all.new.seats in
     let each : EachFrom (CapturesAt s.wiring c.args.column) 0 s.seats.items new =
-    subst (λ (l : List SeatValue). EachFrom (CapturesAt s.wiring c.args.column) 0 l new) c.deref_mut.ensures.value c.capture_all.ensures in
-    let is = with_items_is s.seats new (each_long (CapturesAt s.wiring c.args.column) 0 s.seats.items new each ∙ sym s.seats.ok.0) in
+    subst (λ (l : List SeatValue). EachFrom
+    (CapturesAt s.wiring c.args.column) 0 l new) c.deref_mut.ensures.value c.capture_all.ensures in
+    let is = with_items_is s.seats new
+    (each_long (CapturesAt s.wiring c.args.column) 0 s.seats.items new each ∙ sym s.seats.ok.0) in
     record {
-      told = subst (AllTold s.trst) (sym is) (all_told (CapturesAt s.wiring c.args.column) (λ i s t r. r.trst) s.trst 0 s.seats.items new each c.self.invariant.told);
-      wired = subst (λ (l : List SeatValue). IsWired l s.wiring) (sym is) (captured_wired s.wiring c.args.column s.seats.items c.self.invariant.wired new each);
+      told = subst (AllTold s.trst) (sym is)
+          (all_told (CapturesAt s.wiring c.args.column)
+          (λ i s t r. r.trst) s.trst 0 s.seats.items new each c.self.invariant.told);
+      wired = subst (λ (l : List SeatValue). IsWired l s.wiring) (sym is)
+          (captured_wired s.wiring c.args.column s.seats.items c.self.invariant.wired new each);
     }
 
 pub returns : goal.returns
@@ -32,9 +37,13 @@ returns c =
     let s = c.self.inside in
     let new = c.capture_all.new.seats in
     let each : EachFrom (CapturesAt s.wiring c.args.column) 0 s.seats.items new =
-    subst (λ (l : List SeatValue). EachFrom (CapturesAt s.wiring c.args.column) 0 l new) c.deref_mut.ensures.value c.capture_all.ensures in
-    let is = with_items_is s.seats new (each_long (CapturesAt s.wiring c.args.column) 0 s.seats.items new each ∙ sym s.seats.ok.0) in
-    let chips-are = ap (map chip_state) is ∙ captured_chips s.wiring c.args.column s.seats.items c.self.invariant.wired new each in
+    subst (λ (l : List SeatValue). EachFrom
+    (CapturesAt s.wiring c.args.column) 0 l new) c.deref_mut.ensures.value c.capture_all.ensures in
+    let is = with_items_is s.seats new
+    (each_long (CapturesAt s.wiring c.args.column) 0 s.seats.items new each ∙ sym s.seats.ok.0) in
+    let chips-are = ap (map chip_state) is
+    ∙ captured_chips s.wiring c.args.column s.seats.items c.self.invariant.wired new each in
     let now = the_view (record s { seats = with_items s.seats new }) in
-    subst (λ (v : ChainValue). now ≡ chain_as (capture_all c.args.column (sees v.nets (members v.chips)) 0 (members v.chips)) v) c.self.view_is
+    subst (λ (v : ChainValue). now
+    ≡ chain_as (capture_all c.args.column (sees v.nets (members v.chips)) 0 (members v.chips)) v) c.self.view_is
     (λ i. record { trst = s.trst; nets = s.wiring.nets; chips = chips-are i })

@@ -16,5 +16,6 @@ returns c =
     let column = c.args.column in
     subst (λ (x : ChainValue). c.judge_chain.result ≡ judge v (out column (tdis v) (members x.chips))) c.self.view_is
     (c.judge_chain.ensures
-    ∙ ap (λ (l : List SeatValue). judge v (rows.out v (map (λ (s : SeatValue). chosen_of column (member_of s)) l))) c.deref.ensures.value
+    ∙ ap (λ (l : List SeatValue). judge v
+    (rows.out v (map (λ (s : SeatValue). chosen_of column (member_of s)) l))) c.deref.ensures.value
     ∙ ap (judge v) (same_out column v c.self.inside.seats.items))

@@ -19,10 +19,13 @@ invariant_of-self c =
     let s = c.self.inside in
     let new = c.reset_wired.new.seats in
     let each : EachFrom (Changes reset_member) 0 s.seats.items new =
-    subst (λ (l : List SeatValue). EachFrom (Changes reset_member) 0 l new) c.deref_mut.ensures.value c.reset_wired.ensures.devices in
-    let is = with_items_is s.seats new (each_long (Changes reset_member) 0 s.seats.items new each ∙ sym s.seats.ok.0) in
+    subst (λ (l : List SeatValue). EachFrom
+    (Changes reset_member) 0 l new) c.deref_mut.ensures.value c.reset_wired.ensures.devices in
+    let is = with_items_is s.seats new
+    (each_long (Changes reset_member) 0 s.seats.items new each ∙ sym s.seats.ok.0) in
     record {
-      told = subst (AllTold s.trst) (sym is) (all_told (Changes reset_member) (λ i s t r. r.trst) s.trst 0 s.seats.items new each c.self.invariant.told);
+      told = subst (AllTold s.trst) (sym is)
+          (all_told (Changes reset_member) (λ i s t r. r.trst) s.trst 0 s.seats.items new each c.self.invariant.told);
       wired = subst (λ (l : List SeatValue). IsWired l c.reset_wired.new.wiring) (sym is) c.reset_wired.ensures.wired;
     }
 
@@ -31,8 +34,10 @@ returns c =
     let s = c.self.inside in
     let new = c.reset_wired.new.seats in
     let each : EachFrom (Changes reset_member) 0 s.seats.items new =
-    subst (λ (l : List SeatValue). EachFrom (Changes reset_member) 0 l new) c.deref_mut.ensures.value c.reset_wired.ensures.devices in
-    let is = with_items_is s.seats new (each_long (Changes reset_member) 0 s.seats.items new each ∙ sym s.seats.ok.0) in
+    subst (λ (l : List SeatValue). EachFrom
+    (Changes reset_member) 0 l new) c.deref_mut.ensures.value c.reset_wired.ensures.devices in
+    let is = with_items_is s.seats new
+    (each_long (Changes reset_member) 0 s.seats.items new each ∙ sym s.seats.ok.0) in
     let chips-are = ap (map chip_state) is ∙ changed_chips (reset_member) s.seats.items new each in
     let now = the_view (record s { seats = with_items s.seats new; wiring = c.reset_wired.new.wiring }) in
     subst (λ (v : ChainValue). now ≡ chain_as (map (reset_member) (members v.chips)) v) c.self.view_is

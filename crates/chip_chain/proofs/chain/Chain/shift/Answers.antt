@@ -19,12 +19,15 @@ invariant_of-self c =
     let s = c.self.inside in
     let column = c.args.column in
     let new = c.shift_chain.new.chain in
-    let stays : List SeatValue → List Bool = λ l. left (bits c.args.vector.now) (map (λ (x : SeatValue). chosen_of column (member_of x)) l) in
+    let stays : List SeatValue → List Bool =
+    λ l. left (bits c.args.vector.now) (map (λ (x : SeatValue). chosen_of column (member_of x)) l) in
     let cut : Cut column (stays s.seats.items) s.seats.items new =
     subst (λ (l : List SeatValue). Cut column (stays l) l new) c.deref_mut.ensures.value c.shift_chain.ensures in
-    let is = with_items_is s.seats new (shifted_long column (stays s.seats.items) s.seats.items new cut ∙ sym s.seats.ok.0) in
+    let is = with_items_is s.seats new
+    (shifted_long column (stays s.seats.items) s.seats.items new cut ∙ sym s.seats.ok.0) in
     record {
-      told = subst (AllTold s.trst) (sym is) (shifted_told column s.trst (stays s.seats.items) s.seats.items new cut c.self.invariant.told);
+      told = subst (AllTold s.trst) (sym is)
+          (shifted_told column s.trst (stays s.seats.items) s.seats.items new cut c.self.invariant.told);
       wired = subst (λ (l : List SeatValue). IsWired l s.wiring) (sym is)
           (shifted_wired column (stays s.seats.items) s.seats.items new s.wiring c.self.invariant.wired cut);
     }
@@ -35,10 +38,12 @@ returns c =
     let column = c.args.column in
     let v = bits c.args.vector.now in
     let new = c.shift_chain.new.chain in
-    let stays : List SeatValue → List Bool = λ l. left v (map (λ (x : SeatValue). chosen_of column (member_of x)) l) in
+    let stays : List SeatValue → List Bool =
+    λ l. left v (map (λ (x : SeatValue). chosen_of column (member_of x)) l) in
     let cut : Cut column (stays s.seats.items) s.seats.items new =
     subst (λ (l : List SeatValue). Cut column (stays l) l new) c.deref_mut.ensures.value c.shift_chain.ensures in
-    let is = with_items_is s.seats new (shifted_long column (stays s.seats.items) s.seats.items new cut ∙ sym s.seats.ok.0) in
+    let is = with_items_is s.seats new
+    (shifted_long column (stays s.seats.items) s.seats.items new cut ∙ sym s.seats.ok.0) in
     let chips-are = ap (map chip_state) is ∙ shifted_chips column v s.seats.items new cut in
     let now = the_view (record s { seats = with_items s.seats new }) in
     subst (λ (x : ChainValue). now ≡ chain_as (shifted column (tdis v) (members x.chips)) x) c.self.view_is

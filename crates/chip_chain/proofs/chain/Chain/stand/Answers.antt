@@ -19,11 +19,15 @@ invariant_of-self c =
     let s = c.self.inside in
     let new = c.stand_all.new.seats in
     let each : EachFrom (Stands c.args.state) 0 s.seats.items new =
-    subst (λ (l : List SeatValue). EachFrom (Stands c.args.state) 0 l new) c.deref_mut.ensures.value c.stand_all.ensures in
-    let is = with_items_is s.seats new (each_long (Stands c.args.state) 0 s.seats.items new each ∙ sym s.seats.ok.0) in
+    subst (λ (l : List SeatValue). EachFrom
+    (Stands c.args.state) 0 l new) c.deref_mut.ensures.value c.stand_all.ensures in
+    let is = with_items_is s.seats new
+    (each_long (Stands c.args.state) 0 s.seats.items new each ∙ sym s.seats.ok.0) in
     record {
-      told = subst (AllTold s.trst) (sym is) (all_told (Stands c.args.state) (λ i s t r. r.trst) s.trst 0 s.seats.items new each c.self.invariant.told);
-      wired = subst (λ (l : List SeatValue). IsWired l s.wiring) (sym is) (stood_wired c.args.state s.seats.items new s.wiring c.self.invariant.wired each);
+      told = subst (AllTold s.trst) (sym is)
+          (all_told (Stands c.args.state) (λ i s t r. r.trst) s.trst 0 s.seats.items new each c.self.invariant.told);
+      wired = subst (λ (l : List SeatValue). IsWired l s.wiring) (sym is)
+          (stood_wired c.args.state s.seats.items new s.wiring c.self.invariant.wired each);
     }
 
 pub returns : goal.returns
@@ -31,9 +35,12 @@ returns c =
     let s = c.self.inside in
     let new = c.stand_all.new.seats in
     let each : EachFrom (Stands c.args.state) 0 s.seats.items new =
-    subst (λ (l : List SeatValue). EachFrom (Stands c.args.state) 0 l new) c.deref_mut.ensures.value c.stand_all.ensures in
-    let is = with_items_is s.seats new (each_long (Stands c.args.state) 0 s.seats.items new each ∙ sym s.seats.ok.0) in
+    subst (λ (l : List SeatValue). EachFrom
+    (Stands c.args.state) 0 l new) c.deref_mut.ensures.value c.stand_all.ensures in
+    let is = with_items_is s.seats new
+    (each_long (Stands c.args.state) 0 s.seats.items new each ∙ sym s.seats.ok.0) in
     let chips-are = ap (map chip_state) is ∙ stood_chips c.args.state s.seats.items new each in
     let now = the_view (record s { seats = with_items s.seats new }) in
-    subst (λ (v : ChainValue). now ≡ record v { chips = map (standing c.args.state) (members v.chips) }) c.self.view_is
+    subst (λ (v : ChainValue). now
+    ≡ record v { chips = map (standing c.args.state) (members v.chips) }) c.self.view_is
     (λ i. record { trst = s.trst; nets = s.wiring.nets; chips = chips-are i })

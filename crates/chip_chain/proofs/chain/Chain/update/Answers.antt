@@ -19,11 +19,16 @@ invariant_of-self c =
     let s = c.self.inside in
     let new = c.update_wired.new.seats in
     let each : EachFrom (Changes (update_member c.args.column)) 0 s.seats.items new =
-    subst (λ (l : List SeatValue). EachFrom (Changes (update_member c.args.column)) 0 l new) c.deref_mut.ensures.value c.update_wired.ensures.devices in
-    let is = with_items_is s.seats new (each_long (Changes (update_member c.args.column)) 0 s.seats.items new each ∙ sym s.seats.ok.0) in
+    subst (λ (l : List SeatValue). EachFrom
+    (Changes (update_member c.args.column)) 0 l new) c.deref_mut.ensures.value c.update_wired.ensures.devices in
+    let is = with_items_is s.seats new
+    (each_long (Changes (update_member c.args.column)) 0 s.seats.items new each ∙ sym s.seats.ok.0) in
     record {
-      told = subst (AllTold s.trst) (sym is) (all_told (Changes (update_member c.args.column)) (λ i s t r. r.trst) s.trst 0 s.seats.items new each c.self.invariant.told);
-      wired = subst (λ (l : List SeatValue). IsWired l c.update_wired.new.wiring) (sym is) c.update_wired.ensures.wired;
+      told = subst (AllTold s.trst) (sym is)
+          (all_told (Changes (update_member c.args.column))
+          (λ i s t r. r.trst) s.trst 0 s.seats.items new each c.self.invariant.told);
+      wired = subst (λ (l : List SeatValue). IsWired l c.update_wired.new.wiring)
+          (sym is) c.update_wired.ensures.wired;
     }
 
 pub returns : goal.returns
@@ -31,8 +36,10 @@ returns c =
     let s = c.self.inside in
     let new = c.update_wired.new.seats in
     let each : EachFrom (Changes (update_member c.args.column)) 0 s.seats.items new =
-    subst (λ (l : List SeatValue). EachFrom (Changes (update_member c.args.column)) 0 l new) c.deref_mut.ensures.value c.update_wired.ensures.devices in
-    let is = with_items_is s.seats new (each_long (Changes (update_member c.args.column)) 0 s.seats.items new each ∙ sym s.seats.ok.0) in
+    subst (λ (l : List SeatValue). EachFrom
+    (Changes (update_member c.args.column)) 0 l new) c.deref_mut.ensures.value c.update_wired.ensures.devices in
+    let is = with_items_is s.seats new
+    (each_long (Changes (update_member c.args.column)) 0 s.seats.items new each ∙ sym s.seats.ok.0) in
     let chips-are = ap (map chip_state) is ∙ changed_chips (update_member c.args.column) s.seats.items new each in
     let now = the_view (record s { seats = with_items s.seats new; wiring = c.update_wired.new.wiring }) in
     subst (λ (v : ChainValue). now ≡ chain_as (map (update_member c.args.column) (members v.chips)) v) c.self.view_is

@@ -12,6 +12,7 @@ returns-clause-chip c =
     subst (λ (s : SeatValue). (sees : ℕ → Bool) → IsSightedFor c.args.column sees s
     → chip_state new ≡ as_member (capture_member c.args.column sees (member_of s)) (chip_state s))
     c.self.view_is
-    (λ sees sighted. captures (the_view c.self.inside) c.self.invariant.cells new sees c.args.column c.capture.ensures.chip refl
+    (λ sees sighted. captures
+    (the_view c.self.inside) c.self.invariant.cells new sees c.args.column c.capture.ensures.chip refl
     (ap (λ (b : BoundaryValue). b.core) c.capture.ensures.boundary)
     (ap (λ (b : BoundaryValue). b.extest_update) c.capture.ensures.boundary) sighted)

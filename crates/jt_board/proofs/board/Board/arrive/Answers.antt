@@ -9,13 +9,17 @@ use Rattle.jt_board.proofs.board.Board.arrive.Goals.{in-Reset, in-DrPause, in-Ir
 pub returns : goal.returns
 returns c = λ m is.
     let end = c.args.state in
-    let stood : (n : AtRest) → IsAtRest c.match-state.self n → arrive end m ≡ record n { place = end } → IsAtRest c.stand.new.self (arrive end m) =
+    let stood : (n : AtRest) → IsAtRest c.match-state.self n → arrive end m ≡ record n { place = end }
+    → IsAtRest c.stand.new.self (arrive end m) =
     λ n there same. subst (λ (x : AtRest). IsAtRest c.stand.new.self x) (sym same) (c.stand.ensures n there) in
     elim c.match-state.branch [
-      | in-Reset w ↦ stood _ (subst (λ (b : BoardState). IsAtRest b _) (sym w.self-is) (w.reset.ensures m is)) (arrive_in_reset end m w.in-Reset.is)
-      | in-DrPause w ↦ stood _ (subst (λ (b : BoardState). IsAtRest b _) (sym w.self-is) (w.capture.ensures m is)) (arrive_in_dr end m w.in-DrPause.is)
+      | in-Reset w ↦ stood _ (subst (λ (b : BoardState). IsAtRest b _) (sym w.self-is) (w.reset.ensures m is))
+          (arrive_in_reset end m w.in-Reset.is)
+      | in-DrPause w ↦ stood _ (subst (λ (b : BoardState). IsAtRest b _) (sym w.self-is) (w.capture.ensures m is))
+          (arrive_in_dr end m w.in-DrPause.is)
       | in-IrPause w ↦
-          stood _ (subst (λ (b : BoardState). IsAtRest b _) (sym w.self-is) (w.capture-in-IrPause.ensures m is)) (arrive_in_ir end m w.in-IrPause.is)
+          stood _ (subst (λ (b : BoardState). IsAtRest b _) (sym w.self-is) (w.capture-in-IrPause.ensures m is))
+          (arrive_in_ir end m w.in-IrPause.is)
       | in_default w ↦ stood m (subst (λ (b : BoardState). IsAtRest b m) (sym w.self-is) is)
           (arrive_else end m w.in_default.not-Reset w.in_default.not-DrPause w.in_default.not-IrPause)
     ]

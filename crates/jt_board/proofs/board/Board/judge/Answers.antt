@@ -15,5 +15,7 @@ pub returns : goal.returns
 returns c =
     let v = bits c.args.vector.now in
     let column = c.args.column in
-    subst (λ (b : BoardState). (m : AtRest) → IsAtRest b m → c.judge.result ≡ judge v (whole.out column (tdis v) m)) c.self.view_is
-    (λ m is. c.judge.ensures ∙ ap (λ (ms : List Member). judge v (out column (tdis v) ms)) (rests_members (the_view c.self.inside) m is))
+    subst (λ (b : BoardState). (m : AtRest) → IsAtRest b m
+    → c.judge.result ≡ judge v (whole.out column (tdis v) m)) c.self.view_is
+    (λ m is. c.judge.ensures
+    ∙ ap (λ (ms : List Member). judge v (out column (tdis v) ms)) (rests_members (the_view c.self.inside) m is))

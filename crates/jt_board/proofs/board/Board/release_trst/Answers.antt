@@ -15,7 +15,9 @@ invariant_of-self c = subst IsChain (sym (ap (λ (v : ChainValue). v.chips) c.te
 pub returns : goal.returns
 returns c =
     let s = c.self.inside in
-    subst (λ (b : BoardState). (m : AtRest) → IsAtRest b m → IsAtRest (the_view (record s { chain = c.tell_trst.new.self })) (record m { trst = false }))
+    subst (λ (b : BoardState). (m : AtRest) → IsAtRest b m
+    → IsAtRest (the_view (record s { chain = c.tell_trst.new.self })) (record m { trst = false }))
     c.self.view_is
-    (λ m is. subst (λ (v : ChainValue). IsAtRest (board_at s.tck v) (record m { trst = false })) (sym c.tell_trst.ensures)
+    (λ m is. subst (λ (v : ChainValue). IsAtRest (board_at s.tck v) (record m { trst = false }))
+    (sym c.tell_trst.ensures)
     (rests_released s.tck s.chain m is))

@@ -19,6 +19,8 @@ pub returns : goal.returns
 returns c =
     let s = c.self.inside in
     let chain = s.chain in
-    subst (λ (b : BoardState). (m : AtRest) → IsAtRest b m → IsAtRest (the_view (record s { chain = c.reset.new.self })) (whole.reset_all m))
+    subst (λ (b : BoardState). (m : AtRest) → IsAtRest b m
+    → IsAtRest (the_view (record s { chain = c.reset.new.self })) (whole.reset_all m))
     c.self.view_is
-    (λ m is. subst (λ (v : ChainValue). IsAtRest (board_at s.tck v) (whole.reset_all m)) (sym c.reset.ensures) (rests_reset s.tck chain m is))
+    (λ m is. subst (λ (v : ChainValue). IsAtRest (board_at s.tck v) (whole.reset_all m)) (sym c.reset.ensures)
+    (rests_reset s.tck chain m is))

@@ -6,11 +6,13 @@ use Rattle.jt_board.proofs.board.Board.settle.Goals as goal
 
 pub returns-in-DrPause : goal.returns-in-DrPause
 returns-in-DrPause c = λ m is.
-    subst (λ (n : AtRest). IsAtRest c.update.new.self n) (sym (settle_in_dr m (sym (c.place.ensures m is) ∙ c.in-DrPause.is))) (c.update.ensures m is)
+    subst (λ (n : AtRest). IsAtRest c.update.new.self n)
+    (sym (settle_in_dr m (sym (c.place.ensures m is) ∙ c.in-DrPause.is))) (c.update.ensures m is)
 
 pub returns-in-IrPause : goal.returns-in-IrPause
 returns-in-IrPause c = λ m is.
-    subst (λ (n : AtRest). IsAtRest c.update-in-IrPause.new.self n) (sym (settle_in_ir m (sym (c.place.ensures m is) ∙ c.in-IrPause.is)))
+    subst (λ (n : AtRest). IsAtRest c.update-in-IrPause.new.self n)
+    (sym (settle_in_ir m (sym (c.place.ensures m is) ∙ c.in-IrPause.is)))
     (c.update-in-IrPause.ensures m is)
 
 pub returns-in_default : goal.returns-in_default
