@@ -74,6 +74,7 @@ fn ring(alloc: Global, devices: usize) -> Result<Option<Board>, AllocError> {
 }
 
 /// The board, with what came out of it as a number.
+#[derive(Drop)]
 struct Probe<'a> {
     board: &'a mut Board,
     bytes: usize,
