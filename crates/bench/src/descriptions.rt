@@ -51,26 +51,54 @@ fn text_of_names(alloc: Global, start: &str, cells: usize) -> Result<String, All
     let mut text = String::with_capacity(alloc, TEXT_LIMIT)?;
     text.push_str(HEAD)?;
     for number in FIRST_PORT..FIRST_PORT + PORTS {
-        text.push_str(format!(in alloc; "; {start}{number} : in bit")?.as_str())?;
+        add_port(alloc, &mut text, start, number)?;
     }
     text.push_str(ATTRIBUTES)?;
-    text.push_str(format!(in alloc;
-        "  attribute BOUNDARY_LENGTH of W : entity is {cells};\n  \
-        attribute BOUNDARY_REGISTER of W : entity is\n    \"\""
-    )?
-    .as_str())?;
-    for cell in 0..cells {
-        let port = FIRST_PORT + cell;
-        text.push_str(format!(in alloc;
-            " &\n    \"{cell} (BC_4, {start}{port}, input, X),\""
-        )?.as_str())?;
-    }
-    text.push_str(";\n")?;
-    while text.len() + 2 * CONSTANT.len() <= TEXT_LIMIT {
-        text.push_str(CONSTANT)?;
-    }
+    add_cells(alloc, &mut text, start, cells)?;
+    fill_up(&mut text)?;
     text.push_str("end W;\n")?;
     Ok(text)
+}
+
+fn add_port(
+    alloc: Global,
+    text: &mut String,
+    start: &str,
+    number: usize,
+) -> Result<(), AllocError> {
+    let port = format!(in alloc; "; {start}{number} : in bit")?;
+    text.push_str(port.as_str())
+}
+
+fn add_cells(
+    alloc: Global,
+    text: &mut String,
+    start: &str,
+    cells: usize,
+) -> Result<(), AllocError> {
+    let len = format!(in alloc; "  attribute BOUNDARY_LENGTH of W : entity is {cells};\n")?;
+    text.push_str(len.as_str())?;
+    text.push_str("  attribute BOUNDARY_REGISTER of W : entity is\n    \"\"")?;
+    for cell in 0..cells {
+        add_cell(alloc, text, start, cell)?;
+    }
+    text.push_str(";\n")
+}
+
+fn add_cell(alloc: Global, text: &mut String, start: &str, cell: usize) -> Result<(), AllocError> {
+    let port = FIRST_PORT.saturating_add(cell);
+    let row = format!(in alloc; " &\n    \"{cell} (BC_4, {start}{port}, input, X),\"")?;
+    text.push_str(row.as_str())
+}
+
+/// Adds what is passed over, and leaves room for the end.
+fn fill_up(text: &mut String) -> Result<(), AllocError> {
+    let room = TEXT_LIMIT.saturating_sub(text.len());
+    let times = room.checked_div(CONSTANT.len()).unwrap_or(0);
+    for _ in 1..times {
+        text.push_str(CONSTANT)?;
+    }
+    Ok(())
 }
 
 /// The device of a text: its port bits and which of them its cells see.
