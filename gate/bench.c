@@ -415,7 +415,17 @@ static uint64_t run_play(int devices) {
 	return passed;
 }
 static uint64_t run_play_1(void) { return run_play(1); }
-static uint64_t run_play_32(void) { return run_play(32); }
+
+// The same play a hundred times.
+enum { PLAYS = 100 };
+static uint64_t run_plays(int devices) {
+	uint64_t passed = 0;
+	for (int i = 0; i < PLAYS; i++) passed += run_play(devices);
+	count *= PLAYS;
+	return passed;
+}
+static uint64_t run_plays_1(void) { return run_plays(1); }
+static uint64_t run_plays_32(void) { return run_plays(32); }
 
 static uint64_t run_next_bytes(void) {
 	uint8_t *b = buffer;
@@ -705,11 +715,13 @@ int main(void) {
 	make_chip();
 	row("chip_shift", "edge", run_chip_shift);
 	row("next_bytes", "byte", run_next_bytes);
-	row("play_1", "byte", run_play_1);
-	row("play_32", "byte", run_play_32);
 	row("finish_1", "byte", run_play_1); // by edges, without pipes
 	row("finish_64", "byte", run_play_1);
 	row("finish_65536", "byte", run_play_1);
+	row("play_1", "byte", run_plays_1); // by edges
+	row("edges_1", "byte", run_plays_1);
+	row("play_32", "byte", run_plays_32); // by edges
+	row("edges_32", "byte", run_plays_32);
 	row("shift_1", "byte", run_shift_1);
 	row("update_1", "byte", run_update_1);
 	row("shift_8", "byte", run_shift_8);

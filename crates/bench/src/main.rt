@@ -5,6 +5,7 @@ mod bits;
 mod boards;
 mod chips;
 mod descriptions;
+mod long_plays;
 mod programs;
 mod scans;
 mod whole_plays;
@@ -37,9 +38,8 @@ fn main(rt: HostRuntime) -> ExitCode {
         Some(word) if word.as_str() == "parse" => programs::tell_statements(&rt),
         Some(word) if word.as_str() == "accept" => programs::tell_program(&rt),
         Some(word) if word.as_str() == "describe" => descriptions::tell_device(&rt),
-        _ => rt.println(
-            "usage: bench run | bench parse <text | bench accept <text | bench describe <text",
-        ),
+        Some(word) if word.as_str() == "long" => long_plays::tell(&rt),
+        _ => rt.println("usage: bench run | bench long | bench (parse | accept | describe) <text"),
     };
     if told.is_ok() {
         ExitCode::SUCCESS
@@ -72,6 +72,7 @@ fn measure(rt: &HostRuntime) -> io::Result<()> {
     scans::rows(rt)?;
     chips::rows(rt)?;
     whole_plays::rows(rt)?;
+    long_plays::rows(rt)?;
     boards::rows(rt)?;
     descriptions::rows(rt)
 }

@@ -1,9 +1,9 @@
-//! Whole plays: the bytes of a player, and the edges of a board of bare devices.
+//! Whole plays over pipes: the bytes of a player, and the edges of a board of a bare device.
 ghost use Rattle.std.specs.Prelude.{◌≡◌, ◌<◌};
 
 use crate::scans::digest;
 use crate::{Row, Unit, print_row};
-use direct_play::{accept, play_program};
+use direct_play::accept;
 use joined::Joined;
 use jt_board::Board;
 use plays::Ending;
@@ -31,8 +31,6 @@ pub fn rows(rt: &HostRuntime) -> io::Result<()> {
         Unit::Byte,
         || Ok(next_bytes(alloc, &mut buffer)),
     )?;
-    print_row(rt, "play_1", Unit::Byte, || Ok(played(alloc, 1)))?;
-    print_row(rt, "play_32", Unit::Byte, || Ok(played(alloc, 32)))?;
     print_row(rt, "finish_1", Unit::Byte, || Ok(finished(alloc, 1)))?;
     print_row(rt, "finish_64", Unit::Byte, || Ok(finished(alloc, 64)))?;
     print_row(
@@ -60,21 +58,7 @@ fn next_bytes(alloc: Global, buffer: &mut [u8]) -> Row {
     }
 }
 
-/// A play on so many devices, each byte an edge through all of them.
-fn played(alloc: Global, devices: usize) -> Row {
-    let mut check = 0;
-    if let Ok(program) = accept(alloc, WANTED) {
-        if let Ok(mut board) = Board::bare(alloc, devices) {
-            check = u64::from(play_program(&program, &mut board) == Ending::Pass);
-        }
-    }
-    Row {
-        count: WANTED_BYTES,
-        check,
-    }
-}
-
-/// The same over two pipes of this room, on one device.
+/// A play over two pipes of this room, on one device.
 fn finished(alloc: Global, room: usize) -> Row {
     let mut check = 0;
     if let Some(player) = player_of(alloc, WANTED) {
