@@ -2,12 +2,12 @@
 use Rattle.std.proofs.Common.{◌≡◌, false, refl, List, [], ◌∷◌, map}
 use Rattle.board_meaning.specs.Cells.{Member}
 use Rattle.board_meaning.specs.Whole.{reset_member}
-use Rattle.board_meaning.specs.Chain.{told}
+use Rattle.board_meaning.specs.Chain.{after_message}
 use Rattle.bitbang_table.specs.declared.Message.TheVariants.{Lines}
 use Rattle.board_meaning.specs.Laws.{FiveOnesRest, OpeningRests, OpeningSettles, DefaultPathsSettleAndArrive}
-use Rattle.board_meaning.proofs.Ones.{five-ones, opening-rests, reset_from_here}
+use Rattle.board_meaning.proofs.FiveOnes.{five-ones, opening-rests, reset_from_here}
 use Rattle.board_meaning.proofs.Resets.{opening-law, reset-twice}
-use Rattle.board_meaning.proofs.Moves.{go-law}
+use Rattle.board_meaning.proofs.Walks.{go-law}
 
 pub resets-kept : (ms : List Member) → map reset_member (map reset_member ms) ≡ map reset_member ms
 resets-kept [] = refl
@@ -17,7 +17,7 @@ pub five_ones_rest : FiveOnesRest
 five_ones_rest b released = (reset_from_here b, five-ones b released, record { place = refl; registers = resets-kept _ })
 
 pub opening_rests : OpeningRests
-opening_rests b = (reset_from_here (told (Lines false false) b), opening-rests b, record { place = refl; registers = resets-kept _ }, refl)
+opening_rests b = (reset_from_here (after_message (Lines false false) b), opening-rests b, record { place = refl; registers = resets-kept _ }, refl)
 
 pub opening_settles : OpeningSettles
 opening_settles m stable = opening-law m.place m.trst m.nets m.members stable

@@ -1,9 +1,9 @@
-pub mod Low
-pub mod Moves
+pub mod OneCycle
+pub mod Walks
 pub mod Resets
-pub mod Ones
+pub mod FiveOnes
 pub mod BoardLaws
-pub mod Told
+pub mod BytesAndMessages
 pub mod Shift
 pub mod Sound
 pub mod SoundEdges

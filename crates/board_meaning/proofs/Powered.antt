@@ -12,7 +12,7 @@ use Rattle.scan_registers.specs.Registers.{Registers, user_stage, user_latch}
 use Rattle.scan_registers.specs.declared.users.UserRegister.{UserRegister}
 use Rattle.board_meaning.specs.Cells.{powered}
 use Rattle.board_meaning.specs.Chain.{members}
-use Rattle.board_meaning.specs.Resting.{standing}
+use Rattle.board_meaning.specs.Resting.{chip_at_rest}
 use Rattle.board_meaning.specs.Bare.{bare, bare_from, bare_name}
 use Rattle.board_meaning.specs.Sound.{HasBit, IsChain, IsThere, IsSoundFor, AllSound}
 use Rattle.bsdl_device.specs.Sound.{HasBitIfGiven, IsSoundAccess, IsSoundDevice, user_length}
@@ -121,19 +121,19 @@ powered_sound name d core extest_update sound = record { it = powered-sound d so
 bare-sound : IsSoundDevice bare
 bare-sound = record { instruction = omega arith; capture = omega arith; cells = omega arith; idcode = tt; usercode = tt; accesses = tt }
 
-bares-sound : (k n : ℕ) → AllSound (members (map (standing Reset) (bare_from k n)))
+bares-sound : (k n : ℕ) → AllSound (members (map (chip_at_rest Reset) (bare_from k n)))
 bares-sound k zero = tt
 bares-sound k (suc n) = (powered_sound (bare_name k) bare (false ∷ []) false bare-sound, bares-sound (suc k) n)
 
 pub bare_sound : BareBoardsAreSound
 bare_sound n = bares-sound 1 n
 
-bares-count : (k n : ℕ) → length (map (standing Reset) (bare_from k n)) ≡ n
+bares-count : (k n : ℕ) → length (map (chip_at_rest Reset) (bare_from k n)) ≡ n
 bares-count k zero = refl
 bares-count k (suc n) = ap (λ m. suc m) (bares-count (suc k) n)
 
 -- a board of 1 to 32 bare devices
-pub bare_chain : (n : ℕ) → (n ≡ 0 → ⊥) → n ≤ 32 → IsChain (map (standing Reset) (bare_from 1 n))
+pub bare_chain : (n : ℕ) → (n ≡ 0 → ⊥) → n ≤ 32 → IsChain (map (chip_at_rest Reset) (bare_from 1 n))
 bare_chain n some most =
     let count = bares-count 1 n in
     record { some = subst (λ (k : ℕ). 0 < k) (sym count) (above n some); most = subst (λ (k : ℕ). k ≤ 32) (sym count) most; sound = bares-sound 1 n }

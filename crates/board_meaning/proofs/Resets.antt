@@ -12,17 +12,17 @@ use Rattle.bsdl_device.specs.declared.Cell.{Cell}
 use Rattle.bsdl_device.specs.declared.Function.{Function}
 use Rattle.bsdl_device.specs.declared.Function.TheVariants.{ControlR, Input}
 use Rattle.scan_registers.specs.Registers.{Registers, Surroundings}
-use Rattle.scan_registers.specs.Edges.{risen}
+use Rattle.scan_registers.specs.Edges.{after_rise}
 use Rattle.board_meaning.specs.Cells.{Member, surroundings}
 use Rattle.boundary.specs.Cells.{reset_cell, reset_from}
 use Rattle.pin_nets.specs.Wired.{Net}
 use Rattle.board_meaning.specs.Nets.{sees}
 use Rattle.bitbang_table.specs.declared.Message.TheVariants.{Lines, Write}
-use Rattle.board_meaning.specs.Chain.{ChipState, BoardState, is_held, assert_trst, rise, fall, rise_all, tdi_before, members, told, hear}
-use Rattle.board_meaning.specs.Whole.{reset_member, opened, settled_member, trst_asserted, trst_member}
+use Rattle.board_meaning.specs.Chain.{ChipState, BoardState, is_held, assert_trst, rise, fall, rise_all, tdi_before, members, after_message, hear}
+use Rattle.board_meaning.specs.Whole.{reset_member, after_opening, settled_member, trst_asserted, trst_member}
 use Rattle.bitbang_table.specs.Cycles.{resets_held, closed, opening}
-use Rattle.board_meaning.specs.Resting.{standing, resting}
-use Rattle.board_meaning.proofs.Moves.{at_rest}
+use Rattle.board_meaning.specs.Resting.{chip_at_rest, board_at_rest}
+use Rattle.board_meaning.proofs.Walks.{at_rest}
 
 reset_cell-twice : (all : List Cell) (k : ℕ) (f : Function) (u : Bool) → reset_cell all k f (reset_cell all k f u) ≡ reset_cell all k f u
 reset_cell-twice all k ControlR u = refl
@@ -49,7 +49,7 @@ is_quiet _ = true
 abbrev pub AllQuiet : List ChipState → Type 0
 AllQuiet cs = AllByRecursion (λ c. is_quiet (work c.state) ≡ true) cs
 
-risen-quiet : (w : Work) (d : Device) (around : Surroundings) (tdi : Bool) (r : Registers) → is_quiet w ≡ true → risen w d around tdi r ≡ r
+risen-quiet : (w : Work) (d : Device) (around : Surroundings) (tdi : Bool) (r : Registers) → is_quiet w ≡ true → after_rise w d around tdi r ≡ r
 risen-quiet Resets d around tdi r quiet = refl
 risen-quiet (Captures column) d around tdi r quiet = absurd (cc)
 risen-quiet (Shifts column) d around tdi r quiet = absurd (cc)
@@ -109,7 +109,7 @@ abbrev pub board : (tck trst : Bool) → List Net → List ChipState → BoardSt
 board tck trst nets cs = record { tck = tck; trst = trst; nets = nets; chips = cs }
 
 abbrev pub one : BoardState → BoardState
-one b = told (Write true true false) (told (Write false true false) b)
+one b = after_message (Write true true false) (after_message (Write false true false) b)
 
 pub one-low : (trst : Bool) (nets : List Net) (cs : List ChipState) → AllQuiet cs → one (board false trst nets cs) ≡ board true trst nets (map (up trst) cs)
 one-low trst nets cs quiet = λ i. board true trst nets (rise_all-up trst false (sees nets (members cs)) 0 cs quiet i)
@@ -151,7 +151,7 @@ ones-through trst nets cs quiet =
     ∙ ap (λ b. one (one b)) (one-high trst nets c2 q2)
     ∙ ap (λ b. one b) (one-high trst nets c3 q3)
     ∙ one-high trst nets c4 q4 in
-    (λ i. record { answers = []; board = told (Write false false false) (five i) })
+    (λ i. record { answers = []; board = after_message (Write false false false) (five i) })
     ∙ (λ i. record { answers = []; board = board false trst nets (chain-map trst cs i) })
 
 abbrev R : Member → Member
@@ -173,24 +173,24 @@ with_trst b m = record m { device = record m.device { has_trst = b } }
 
 -- no TRST asserted: settled, then reset
 released-one : (place : State) (m : Member) → is_stable place ≡ true
-    → through false (standing place m) ≡ standing Reset (R (settled_member place m))
-released-one Reset m stable = ap (standing Reset) (five-times m)
-released-one Idle m stable = ap (standing Reset) (thrice m)
+    → through false (chip_at_rest place m) ≡ chip_at_rest Reset (R (settled_member place m))
+released-one Reset m stable = ap (chip_at_rest Reset) (five-times m)
+released-one Idle m stable = ap (chip_at_rest Reset) (thrice m)
 released-one DrPause m stable = refl
 released-one IrPause m stable = refl
 released-one _ m stable = absurd (cc)
 
 asserted-one : (b : Bool) (place : State) (m : Member) → is_stable place ≡ true
-    → through true (assert_trst (standing place (with_trst b m))) ≡ standing Reset (trst_member (settled_member place) (with_trst b m))
-asserted-one true place m stable = ap (standing Reset) (six-times (with_trst true m))
-asserted-one false Reset m stable = ap (standing Reset) (five-times (with_trst false m))
-asserted-one false Idle m stable = ap (standing Reset) (thrice (with_trst false m))
+    → through true (assert_trst (chip_at_rest place (with_trst b m))) ≡ chip_at_rest Reset (trst_member (settled_member place) (with_trst b m))
+asserted-one true place m stable = ap (chip_at_rest Reset) (six-times (with_trst true m))
+asserted-one false Reset m stable = ap (chip_at_rest Reset) (five-times (with_trst false m))
+asserted-one false Idle m stable = ap (chip_at_rest Reset) (thrice (with_trst false m))
 asserted-one false DrPause m stable = refl
 asserted-one false IrPause m stable = refl
 asserted-one false _ m stable = absurd (cc)
 
 asserted-all : (place : State) (ms : List Member) → is_stable place ≡ true
-    → map (through true) (map assert_trst (map (standing place) ms)) ≡ map (standing Reset) (map (trst_member (settled_member place)) ms)
+    → map (through true) (map assert_trst (map (chip_at_rest place) ms)) ≡ map (chip_at_rest Reset) (map (trst_member (settled_member place)) ms)
 asserted-all place [] stable = refl
 asserted-all place (m ∷ ms) stable = λ i. asserted-one m.device.has_trst place m stable i ∷ asserted-all place ms stable i
 
@@ -201,33 +201,33 @@ stable-is-quiet DrPause stable = refl
 stable-is-quiet IrPause stable = refl
 stable-is-quiet _ stable = absurd (cc)
 
-asserted-quiet-one : (b : Bool) (place : State) (m : Member) → is_stable place ≡ true → is_quiet (work (assert_trst (standing place (with_trst b m))).state) ≡ true
+asserted-quiet-one : (b : Bool) (place : State) (m : Member) → is_stable place ≡ true → is_quiet (work (assert_trst (chip_at_rest place (with_trst b m))).state) ≡ true
 asserted-quiet-one true place m stable = refl
 asserted-quiet-one false place m stable = stable-is-quiet place stable
 
-asserted-quiet : (place : State) (ms : List Member) → is_stable place ≡ true → AllQuiet (map assert_trst (map (standing place) ms))
+asserted-quiet : (place : State) (ms : List Member) → is_stable place ≡ true → AllQuiet (map assert_trst (map (chip_at_rest place) ms))
 asserted-quiet place [] stable = tt
 asserted-quiet place (m ∷ ms) stable = (asserted-quiet-one m.device.has_trst place m stable, asserted-quiet place ms stable)
 
 -- From rest, the bytes of TRST ON reset a device with a TRST port at once, and settle and reset any other.
 pub trst-on-law : (place : State) (trst : Bool) (nets : List Net) (ms : List Member) → is_stable place ≡ true
-    → hear (Lines true false ∷ closed resets_held) (resting (at_rest place trst nets ms))
-    ≡ record { answers = []; board = resting (trst_asserted (at_rest place trst nets ms)) }
+    → hear (Lines true false ∷ closed resets_held) (board_at_rest (at_rest place trst nets ms))
+    ≡ record { answers = []; board = board_at_rest (trst_asserted (at_rest place trst nets ms)) }
 trst-on-law place trst nets ms stable =
-    ones-through true nets (map assert_trst (map (standing place) ms)) (asserted-quiet place ms stable)
+    ones-through true nets (map assert_trst (map (chip_at_rest place) ms)) (asserted-quiet place ms stable)
     ∙ (λ i. record { answers = []; board = board false true nets (asserted-all place ms stable i) })
 
-pub standing-quiet : (place : State) (ms : List Member) → is_stable place ≡ true → AllQuiet (map (standing place) ms)
+pub standing-quiet : (place : State) (ms : List Member) → is_stable place ≡ true → AllQuiet (map (chip_at_rest place) ms)
 standing-quiet place [] stable = tt
 standing-quiet place (m ∷ ms) stable = (stable-is-quiet place stable, standing-quiet place ms stable)
 
 released-all : (place : State) (ms : List Member) → is_stable place ≡ true
-    → map (through false) (map (standing place) ms) ≡ map (standing Reset) (map (λ m. R (settled_member place m)) ms)
+    → map (through false) (map (chip_at_rest place) ms) ≡ map (chip_at_rest Reset) (map (λ m. R (settled_member place m)) ms)
 released-all place [] stable = refl
 released-all place (m ∷ ms) stable = λ i. released-one place m stable i ∷ released-all place ms stable i
 
 opened-members : (place : State) (trst : Bool) (nets : List Net) (ms : List Member) → is_stable place ≡ true
-    → at_rest Reset false nets (map (λ m. R (settled_member place m)) ms) ≡ opened (at_rest place trst nets ms)
+    → at_rest Reset false nets (map (λ m. R (settled_member place m)) ms) ≡ after_opening (at_rest place trst nets ms)
 opened-members Reset trst nets ms stable = refl
 opened-members Idle trst nets ms stable = refl
 opened-members DrPause trst nets ms stable = ap (at_rest Reset false nets) (go ms)
@@ -244,8 +244,8 @@ opened-members _ trst nets ms stable = absurd (cc)
 
 -- From rest in M the opening gives M with TRST released, settled and reset.
 pub opening-law : (place : State) (trst : Bool) (nets : List Net) (ms : List Member) → is_stable place ≡ true
-    → hear opening (resting (at_rest place trst nets ms)) ≡ record { answers = []; board = resting (opened (at_rest place trst nets ms)) }
+    → hear opening (board_at_rest (at_rest place trst nets ms)) ≡ record { answers = []; board = board_at_rest (after_opening (at_rest place trst nets ms)) }
 opening-law place trst nets ms stable =
-    ones-through false nets (map (standing place) ms) (standing-quiet place ms stable)
+    ones-through false nets (map (chip_at_rest place) ms) (standing-quiet place ms stable)
     ∙ (λ i. record { answers = []; board = board false false nets (released-all place ms stable i) })
-    ∙ (λ i. record { answers = []; board = resting (opened-members place trst nets ms stable i) })
+    ∙ (λ i. record { answers = []; board = board_at_rest (opened-members place trst nets ms stable i) })

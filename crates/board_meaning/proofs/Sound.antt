@@ -8,12 +8,12 @@ use Rattle.bsdl_device.specs.declared.Cell.{Cell}
 use Rattle.scan_registers.specs.declared.Selected.{Selected}
 use Rattle.scan_registers.specs.declared.Selected.TheVariants.{Bypass, Identification, Boundary, User}
 use Rattle.scan_registers.specs.Instruction.{meaning}
-use Rattle.scan_registers.specs.Registers.{Registers, chosen, put, captured, updated, stage_of, with_stage, user_stage, user_latch, with_user_stage, user_updated, capture_of, update_selected}
+use Rattle.scan_registers.specs.Registers.{Registers, selected_bits, put, after_capture, after_update, stage_of, with_stage, user_stage, user_latch, with_user_stage, user_updated, capture_of, update_selected}
 use Rattle.scan_registers.specs.declared.users.UserRegister.{UserRegister}
 use Rattle.board_meaning.specs.Cells.{Member, surroundings}
 use Rattle.boundary.specs.Sight.{capture_by_sight}
 use Rattle.boundary.specs.Cells.{takes_update}
-use Rattle.board_meaning.specs.Whole.{chosen_of, joined, cut_back, capture_all, update_member, reset_member}
+use Rattle.board_meaning.specs.Whole.{selected_bits_of, joined_bits, cut_back, capture_all, update_member, reset_member}
 use Rattle.board_meaning.specs.Sound.{HasBit, IsThere, IsSoundFor, AllSound}
 use Rattle.board_meaning.proofs.Shift.{Full, left-part, right-part}
 
@@ -23,7 +23,7 @@ stage-bit Identification fixed r by bo there = there.0
 stage-bit Boundary fixed r by bo there = bo
 stage-bit (User k) fixed r by bo there = there.0
 
-pub chosen-bit : (d : Device) (column : Column) (r : Registers) → IsSoundFor d r → HasBit (chosen d column r)
+pub chosen-bit : (d : Device) (column : Column) (r : Registers) → IsSoundFor d r → HasBit (selected_bits d column r)
 chosen-bit d Ir r sound = sound.stage
 chosen-bit d Dr r sound = stage-bit (meaning d r.latch).selected (meaning d r.latch).fixed r sound.bypass sound.boundary (sound.selects r.latch)
 
@@ -130,7 +130,7 @@ capture-has-bit sees from_update update core k [] some = absurd (omega arith)
 capture-has-bit sees from_update update core k (c ∷ cs) some = omega arith
 
 pub sound-captured : (column : Column) (sees : ℕ → Bool) (m : Member) → IsSoundFor m.device m.registers
-    → IsSoundFor m.device (captured m.device column (surroundings sees m) m.registers)
+    → IsSoundFor m.device (after_capture m.device column (surroundings sees m) m.registers)
 sound-captured Ir sees m sound = sound-other m.device m.registers.latch m.device.capture m.registers.update m.registers sound.capture sound
 sound-captured Dr sees m sound =
     let me = meaning m.device m.registers.latch in
@@ -143,10 +143,10 @@ Sound-capture_all column sight k [] sound = tt
 Sound-capture_all column sight k (m ∷ ms) sound =
     (record { it = sound-captured column (sight k) m sound.0.it }, Sound-capture_all column sight (suc k) ms sound.1)
 
-pub Sound-cut_back : (column : Column) (X : List Bool) (ms : List Member) → AllSound ms → length X ≡ length (joined column ms) → AllSound (cut_back column X ms)
+pub Sound-cut_back : (column : Column) (X : List Bool) (ms : List Member) → AllSound ms → length X ≡ length (joined_bits column ms) → AllSound (cut_back column X ms)
 Sound-cut_back column X [] sound e = tt
 Sound-cut_back column X (m ∷ ms) sound e =
-    let n = length (chosen_of column m) in
+    let n = length (selected_bits_of column m) in
     let some : HasBit (take n X) = subst (λ (l : ℕ). 0 < l) (sym (left-part column m ms X e)) (chosen-bit m.device column m.registers sound.0.it) in (
       record { it = sound-put m.device column (take n X) m.registers some sound.0.it },
       Sound-cut_back column (drop n X) ms sound.1 (right-part column m ms X e),
@@ -186,7 +186,7 @@ sound-update_selected d (User k) r sound = record {
 sound-update_selected d Bypass r sound = sound
 sound-update_selected d Identification r sound = sound
 
-pub sound-updated : (d : Device) (column : Column) (r : Registers) → IsSoundFor d r → IsSoundFor d (updated d column r)
+pub sound-updated : (d : Device) (column : Column) (r : Registers) → IsSoundFor d r → IsSoundFor d (after_update d column r)
 sound-updated d Ir r sound = sound-other d r.stage r.stage r.update r sound.stage sound
 sound-updated d Dr r sound = sound-update_selected d (meaning d r.latch).selected r sound
 

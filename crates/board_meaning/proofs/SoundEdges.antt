@@ -7,27 +7,27 @@ use Rattle.jt_tap.specs.Controller.{work}
 use Rattle.bitbang_table.specs.declared.Message.{Message}
 use Rattle.bitbang_table.specs.declared.Message.TheVariants.{Write, Lines}
 use Rattle.bitbang_table.specs.Protocol.{decode}
-use Rattle.scan_registers.specs.Registers.{chosen}
-use Rattle.scan_registers.specs.Edges.{risen, fallen, moved}
+use Rattle.scan_registers.specs.Registers.{selected_bits}
+use Rattle.scan_registers.specs.Edges.{after_rise, after_fall, after_shift}
 use Rattle.board_meaning.specs.Cells.{Member, surroundings}
 use Rattle.board_meaning.specs.Nets.{sees}
-use Rattle.board_meaning.specs.Chain.{ChipState, BoardState, is_held, rise, fall, assert_trst, tdi_before, rise_all, members, written, told, after, after_all}
+use Rattle.board_meaning.specs.Chain.{ChipState, BoardState, is_held, rise, fall, assert_trst, tdi_before, rise_all, members, after_levels, after_message, after_byte, after_bytes}
 use Rattle.board_meaning.specs.Sound.{HasBit, IsChain, IsSound, IsSoundFor, AllSound, IsSoundBoard}
 use Rattle.board_meaning.proofs.Sound.{sound-captured, sound-put, sound-updated, sound-other}
 
-moved-bit : (tdi : Bool) (bits : List Bool) → HasBit (moved tdi bits)
+moved-bit : (tdi : Bool) (bits : List Bool) → HasBit (after_shift tdi bits)
 moved-bit tdi bits = omega (arith, length-append (drop 1 bits) (tdi ∷ []))
 
 sound-risen : (w : Work) (sight : ℕ → Bool) (m : Member) (tdi : Bool) → IsSoundFor m.device m.registers
-    → IsSoundFor m.device (risen w m.device (surroundings sight m) tdi m.registers)
+    → IsSoundFor m.device (after_rise w m.device (surroundings sight m) tdi m.registers)
 sound-risen Resets sight m tdi sound = sound
 sound-risen (Captures column) sight m tdi sound = sound-captured column sight m sound
-sound-risen (Shifts column) sight m tdi sound = sound-put m.device column _ m.registers (moved-bit tdi (chosen m.device column m.registers)) sound
+sound-risen (Shifts column) sight m tdi sound = sound-put m.device column _ m.registers (moved-bit tdi (selected_bits m.device column m.registers)) sound
 sound-risen (Updates column) sight m tdi sound = sound
 sound-risen Waits sight m tdi sound = sound
 
 sound-fallen : (w : Work) (m : Member) → IsSoundFor m.device m.registers
-    → IsSoundFor m.device (fallen w m.device (surroundings (λ p. true) m) m.registers)
+    → IsSoundFor m.device (after_fall w m.device (surroundings (λ p. true) m) m.registers)
 sound-fallen Resets m sound = sound-other m.device _ m.registers.stage _ m.registers sound.stage sound
 sound-fallen (Captures column) m sound = sound
 sound-fallen (Shifts column) m sound = sound
@@ -60,27 +60,27 @@ sound-assert : (cs : List ChipState) → AllSound (members cs) → AllSound (mem
 sound-assert [] sound = tt
 sound-assert (c ∷ cs) sound = (sound-asserted c sound.0, sound-assert cs sound.1)
 
-sound-written : (was tck tms tdi : Bool) (b : BoardState) → IsSoundBoard b → AllSound (members (written was tck tms tdi b))
+sound-written : (was tck tms tdi : Bool) (b : BoardState) → IsSoundBoard b → AllSound (members (after_levels was tck tms tdi b))
 sound-written false true tms tdi b sound = sound-rise_all b.trst tms tdi (sees b.nets (members b.chips)) 0 b.chips sound
 sound-written true false tms tdi b sound = sound-falls b.chips sound
 sound-written false false tms tdi b sound = sound
 sound-written true true tms tdi b sound = sound
 
 -- One message keeps the registers sound.
-pub sound-told : (message : Message) (b : BoardState) → IsSoundBoard b → IsSoundBoard (told message b)
+pub sound-told : (message : Message) (b : BoardState) → IsSoundBoard b → IsSoundBoard (after_message message b)
 sound-told (Write tck tms tdi) b sound = sound-written b.tck tck tms tdi b sound
 sound-told (Lines true srst) b sound = sound-assert b.chips sound
 sound-told (Lines false srst) b sound = sound
 sound-told _ b sound = sound
 
-sound-heard : (said : Option Message) (b : BoardState) → IsSoundBoard b → IsSoundBoard (elim said [ Some m ↦ told m b | None ↦ b ])
+sound-heard : (said : Option Message) (b : BoardState) → IsSoundBoard b → IsSoundBoard (elim said [ Some m ↦ after_message m b | None ↦ b ])
 sound-heard (Some m) b sound = sound-told m b sound
 sound-heard None b sound = sound
 
 -- So does every list of bytes.
-pub sound-bytes : (bytes : List ℕ) (b : BoardState) → IsSoundBoard b → IsSoundBoard (after_all bytes b)
+pub sound-bytes : (bytes : List ℕ) (b : BoardState) → IsSoundBoard b → IsSoundBoard (after_bytes bytes b)
 sound-bytes [] b sound = sound
-sound-bytes (byte ∷ bytes) b sound = sound-bytes bytes (after byte b) (sound-heard (decode byte) b sound)
+sound-bytes (byte ∷ bytes) b sound = sound-bytes bytes (after_byte byte b) (sound-heard (decode byte) b sound)
 
 count-rise_all : (trst tms tdi : Bool) (sight : ℕ → ℕ → Bool) (k : ℕ) (cs : List ChipState) → length (rise_all trst tms tdi sight k cs) ≡ length cs
 count-rise_all trst tms tdi sight k [] = refl
@@ -90,14 +90,14 @@ count-map : (f : ChipState → ChipState) (cs : List ChipState) → length (map 
 count-map f [] = refl
 count-map f (c ∷ cs) = ap (λ n. suc n) (count-map f cs)
 
-count-written : (was tck tms tdi : Bool) (b : BoardState) → length (written was tck tms tdi b) ≡ length b.chips
+count-written : (was tck tms tdi : Bool) (b : BoardState) → length (after_levels was tck tms tdi b) ≡ length b.chips
 count-written false true tms tdi b = count-rise_all b.trst tms tdi (sees b.nets (members b.chips)) 0 b.chips
 count-written true false tms tdi b = count-map fall b.chips
 count-written false false tms tdi b = refl
 count-written true true tms tdi b = refl
 
 -- One message adds and removes no device.
-pub count-told : (message : Message) (b : BoardState) → length (told message b).chips ≡ length b.chips
+pub count-told : (message : Message) (b : BoardState) → length (after_message message b).chips ≡ length b.chips
 count-told (Write tck tms tdi) b = count-written b.tck tck tms tdi b
 count-told (Lines true srst) b = count-map assert_trst b.chips
 count-told (Lines false srst) b = refl
@@ -105,19 +105,19 @@ count-told _ b = refl
 
 -- the board after what a byte spells
 abbrev heard_as : Option Message → BoardState → BoardState
-heard_as said b = elim said [ Some m ↦ told m b | None ↦ b ]
+heard_as said b = elim said [ Some m ↦ after_message m b | None ↦ b ]
 
 count-heard : (said : Option Message) (b : BoardState) → length (heard_as said b).chips ≡ length b.chips
 count-heard (Some m) b = count-told m b
 count-heard None b = refl
 
 -- Neither does a list of bytes.
-pub count-bytes : (bytes : List ℕ) (b : BoardState) → length (after_all bytes b).chips ≡ length b.chips
+pub count-bytes : (bytes : List ℕ) (b : BoardState) → length (after_bytes bytes b).chips ≡ length b.chips
 count-bytes [] b = refl
-count-bytes (byte ∷ bytes) b = count-bytes bytes (after byte b) ∙ count-heard (decode byte) b
+count-bytes (byte ∷ bytes) b = count-bytes bytes (after_byte byte b) ∙ count-heard (decode byte) b
 
 -- a chain stays one
-pub IsChain-told : (m : Message) (b : BoardState) → IsChain b.chips → IsChain (told m b).chips
+pub IsChain-told : (m : Message) (b : BoardState) → IsChain b.chips → IsChain (after_message m b).chips
 IsChain-told m b is = record {
   some = subst (λ (n : ℕ). 0 < n) (sym (count-told m b)) is.some;
   most = subst (λ (n : ℕ). n ≤ 32) (sym (count-told m b)) is.most;

@@ -7,7 +7,7 @@ use Rattle.bsdl_device.specs.declared.PortMode.TheVariants.{In, Out}
 use Rattle.bsdl_device.specs.declared.Function.TheVariants.{Internal}
 use Rattle.board_meaning.specs.Cells.{Member, powered}
 use Rattle.board_meaning.specs.Chain.{BoardState}
-use Rattle.board_meaning.specs.Resting.{power_up, resting}
+use Rattle.board_meaning.specs.Resting.{power_up, board_at_rest}
 
 abbrev tap_port : Name → PortMode → PortBit
 tap_port name mode = record { name = name; index = None; mode = mode; is_tap = true }
@@ -46,4 +46,4 @@ bare_from k (suc n) = bare_member (bare_name k) ∷ bare_from (suc k) n
 
 -- n bare devices, U1 nearest TDO, as they power up
 abbrev pub bare_board : ℕ → BoardState
-bare_board n = resting (power_up [] (bare_from 1 n))
+bare_board n = board_at_rest (power_up [] (bare_from 1 n))

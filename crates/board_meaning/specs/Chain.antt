@@ -5,8 +5,8 @@ use Rattle.std.specs.Prelude.{if◌then◌else◌}
 use Rattle.jt_tap.specs.declared.State.{State}
 use Rattle.jt_tap.specs.declared.State.TheVariants.{Reset}
 use Rattle.jt_tap.specs.Controller.{next, work}
-use Rattle.scan_registers.specs.Registers.{Registers, reset}
-use Rattle.scan_registers.specs.Edges.{risen, fallen, tdo_after}
+use Rattle.scan_registers.specs.Registers.{Registers, after_reset}
+use Rattle.scan_registers.specs.Edges.{after_rise, after_fall, tdo_after}
 use Rattle.board_meaning.specs.Cells.{Member, surroundings}
 use Rattle.pin_nets.specs.Wired.{Net}
 use Rattle.board_meaning.specs.Nets.{sees}
@@ -42,7 +42,7 @@ abbrev pub rise : (trst tms tdi : Bool) → (ℕ → Bool) → ChipState → Chi
 rise trst tms tdi sight c =
     if is_held trst c.member then c else record {
       member = record c.member {
-        registers = risen (work c.state) c.member.device (surroundings sight c.member) tdi
+        registers = after_rise (work c.state) c.member.device (surroundings sight c.member) tdi
             c.member.registers;
       };
       state = next c.state tms;
@@ -52,7 +52,7 @@ rise trst tms tdi sight c =
 -- One falling edge: the update or reset of the state, then TDO.
 abbrev pub fall : ChipState → ChipState
 fall c =
-    let r = fallen (work c.state) c.member.device (surroundings (λ p. true) c.member) c.member.registers in
+    let r = after_fall (work c.state) c.member.device (surroundings (λ p. true) c.member) c.member.registers in
     record {
       member = record c.member { registers = r };
       state = c.state;
@@ -64,7 +64,7 @@ abbrev pub assert_trst : ChipState → ChipState
 assert_trst c =
     if c.member.device.has_trst then record {
       member = record c.member {
-        registers = reset c.member.device (surroundings (λ p. true) c.member)
+        registers = after_reset c.member.device (surroundings (λ p. true) c.member)
             c.member.registers;
       };
       state = Reset;
@@ -86,16 +86,16 @@ abbrev pub members : List ChipState → List Member
 members cs = map (λ c. c.member) cs
 
 -- Only a written byte that changes TCK is an edge.
-abbrev pub written : (was tck tms tdi : Bool) → BoardState → List ChipState
-written false true tms tdi b = rise_all b.trst tms tdi (sees b.nets (members b.chips)) 0 b.chips
-written true false tms tdi b = map fall b.chips
-written _ _ tms tdi b = b.chips
+abbrev pub after_levels : (was tck tms tdi : Bool) → BoardState → List ChipState
+after_levels false true tms tdi b = rise_all b.trst tms tdi (sees b.nets (members b.chips)) 0 b.chips
+after_levels true false tms tdi b = map fall b.chips
+after_levels _ _ tms tdi b = b.chips
 
 -- The board after one message.
-abbrev pub told : Message → BoardState → BoardState
-told (Write tck tms tdi) b = record b { tck = tck; chips = written b.tck tck tms tdi b }
-told (Lines trst srst) b = record b { trst = trst; chips = if trst then map assert_trst b.chips else b.chips }
-told _ b = b
+abbrev pub after_message : Message → BoardState → BoardState
+after_message (Write tck tms tdi) b = record b { tck = tck; chips = after_levels b.tck tck tms tdi b }
+after_message (Lines trst srst) b = record b { trst = trst; chips = if trst then map assert_trst b.chips else b.chips }
+after_message _ b = b
 
 -- `R` asks the first device's TDO, which reads 1 while undriven; nothing else is answered.
 abbrev pub answers : Message → BoardState → List Bool
@@ -111,8 +111,8 @@ reply_of _ b = said.Nothing
 abbrev pub reply : ℕ → BoardState → Reply
 reply byte b = elim (decode byte) [ Some m ↦ reply_of m b | None ↦ said.Refused byte ]
 
-abbrev pub after : ℕ → BoardState → BoardState
-after byte b = elim (decode byte) [ Some m ↦ told m b | None ↦ b ]
+abbrev pub after_byte : ℕ → BoardState → BoardState
+after_byte byte b = elim (decode byte) [ Some m ↦ after_message m b | None ↦ b ]
 
 -- what a board has answered, and where it stands
 pub record Heard : Type 0 where
@@ -122,9 +122,10 @@ pub record Heard : Type 0 where
 -- The board side: the fold over messages.
 abbrev pub hear : List Message → BoardState → Heard
 hear [] b = record { answers = []; board = b }
-hear (m ∷ ms) b = let rest = hear ms (told m b) in record { answers = answers m b ++ rest.answers; board = rest.board }
+hear (m ∷ ms) b = let rest = hear ms
+    (after_message m b) in record { answers = answers m b ++ rest.answers; board = rest.board }
 
 -- The same over bytes: the board after them, one after another.
-abbrev pub after_all : List ℕ → BoardState → BoardState
-after_all [] b = b
-after_all (byte ∷ bytes) b = after_all bytes (after byte b)
+abbrev pub after_bytes : List ℕ → BoardState → BoardState
+after_bytes [] b = b
+after_bytes (byte ∷ bytes) b = after_bytes bytes (after_byte byte b)

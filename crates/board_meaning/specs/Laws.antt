@@ -6,18 +6,18 @@ use Rattle.jt_tap.specs.declared.State.TheVariants.{Reset}
 use Rattle.jt_tap.specs.Controller.{is_stable}
 use Rattle.board_meaning.specs.Bare.{bare_board}
 use Rattle.board_meaning.specs.Cells.{powered}
-use Rattle.board_meaning.specs.Chain.{BoardState, Heard, after_all, hear, is_held}
+use Rattle.board_meaning.specs.Chain.{BoardState, Heard, after_bytes, hear, is_held}
 use Rattle.bsdl_device.specs.Device.{Device, Name}
 use Rattle.board_meaning.specs.Sound.{IsSound, IsSoundBoard}
 use Rattle.bsdl_device.specs.Sound.{IsSoundDevice}
-use Rattle.board_meaning.specs.Whole.{AtRest, arrive, opened, reset_member, settle}
+use Rattle.board_meaning.specs.Whole.{AtRest, arrive, after_opening, reset_member, settle}
 use Rattle.tap_paths.specs.Paths.{go}
 use Rattle.bitbang_table.specs.Cycles.{closed, opening, resets_held, walk}
-use Rattle.board_meaning.specs.Resting.{resting}
+use Rattle.board_meaning.specs.Resting.{board_at_rest}
 
 -- nothing was answered, and the board is at rest in m
 abbrev pub quietly_at : AtRest → Heard
-quietly_at m = record { answers = []; board = resting m }
+quietly_at m = record { answers = []; board = board_at_rest m }
 
 -- in RESET, where nothing is left to reset: every latch is its reset instruction, every controlr cell its disabling
 -- value
@@ -39,7 +39,7 @@ OpeningRests = (b : BoardState) → (m : AtRest) × (hear opening b ≡ quietly_
 
 -- From rest in m the opening gives m with TRST released, settled and reset.
 abbrev pub OpeningSettles : Type 0
-OpeningSettles = (m : AtRest) → is_stable m.place ≡ true → hear opening (resting m) ≡ quietly_at (opened m)
+OpeningSettles = (m : AtRest) → is_stable m.place ≡ true → hear opening (board_at_rest m) ≡ quietly_at (after_opening m)
 
 -- no device is held in RESET by TRST
 abbrev pub IsFree : AtRest → Type 0
@@ -48,11 +48,11 @@ IsFree m = AllByRecursion (λ d. is_held m.trst d ≡ false) m.members
 -- From rest in m, the bytes of a default path end at rest in m settled and arrived.
 abbrev pub DefaultPathsSettleAndArrive : Type 0
 DefaultPathsSettleAndArrive = (m : AtRest) (to : State) → is_stable m.place ≡ true → is_stable to ≡ true → IsFree m
-    → hear (closed (map walk (go m.place to))) (resting m) ≡ quietly_at (arrive to (settle m))
+    → hear (closed (map walk (go m.place to))) (board_at_rest m) ≡ quietly_at (arrive to (settle m))
 
 -- Whatever bytes a board takes, its registers stay sound.
 abbrev pub BytesKeepRegistersSound : Type 0
-BytesKeepRegistersSound = (bytes : List ℕ) (b : BoardState) → IsSoundBoard b → IsSoundBoard (after_all bytes b)
+BytesKeepRegistersSound = (bytes : List ℕ) (b : BoardState) → IsSoundBoard b → IsSoundBoard (after_bytes bytes b)
 
 -- A device powers up sound if its description is.
 abbrev pub SoundDescriptionsPowerUpSound : Type 0

@@ -10,11 +10,11 @@ use Rattle.board_meaning.specs.Chain.{ChipState, BoardState, is_held}
 use Rattle.board_meaning.specs.Whole.{AtRest, reset_member}
 
 -- a device whose controller stands in a state, its TDO undriven
-abbrev pub standing : State → Member → ChipState
-standing s m = record { member = m; state = s; tdo = None }
+abbrev pub chip_at_rest : State → Member → ChipState
+chip_at_rest s m = record { member = m; state = s; tdo = None }
 
-abbrev pub resting : AtRest → BoardState
-resting m = record { tck = false; trst = m.trst; nets = m.nets; chips = map (standing m.place) m.members }
+abbrev pub board_at_rest : AtRest → BoardState
+board_at_rest m = record { tck = false; trst = m.trst; nets = m.nets; chips = map (chip_at_rest m.place) m.members }
 
 -- a board as it powers up
 abbrev pub power_up : List Net → List Member → AtRest
@@ -22,7 +22,7 @@ power_up nets ms = record { place = Reset; trst = false; nets = nets; members = 
 
 -- TCK is low, every controller stands in the place, registers and TRST line are the same.
 abbrev pub IsAtRest : BoardState → AtRest → Type 0
-IsAtRest b m = b ≡ resting m
+IsAtRest b m = b ≡ board_at_rest m
 
 -- The place is stable; in RESET nothing is left to reset; a device held in RESET by TRST is there.
 pub record IsRest (m : AtRest) : Type 0 where

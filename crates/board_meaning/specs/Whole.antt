@@ -8,7 +8,7 @@ use Rattle.jt_tap.specs.declared.State.TheVariants.{Reset, DrPause, IrPause}
 use Rattle.jt_tap.specs.declared.Work.{Work}
 use Rattle.jt_tap.specs.declared.Work.TheVariants.{Resets, Captures, Shifts, Updates, Waits}
 use Rattle.jt_tap.specs.Controller.{is_at, pause, work}
-use Rattle.scan_registers.specs.Registers.{chosen, put, captured, updated, reset}
+use Rattle.scan_registers.specs.Registers.{selected_bits, put, after_capture, after_update, after_reset}
 use Rattle.board_meaning.specs.Cells.{Member, surroundings}
 use Rattle.pin_nets.specs.Wired.{Net}
 use Rattle.board_meaning.specs.Nets.{sees}
@@ -20,33 +20,33 @@ pub record AtRest : Type 0 where
   pub nets : List Net
   pub members : List Member
 
-abbrev pub chosen_of : Column → Member → List Bool
-chosen_of column m = chosen m.device column m.registers
+abbrev pub selected_bits_of : Column → Member → List Bool
+selected_bits_of column m = selected_bits m.device column m.registers
 
 -- The selected registers joined, from TDO to TDI.
-abbrev pub joined : Column → List Member → List Bool
-joined column [] = []
-joined column (m ∷ ms) = chosen_of column m ++ joined column ms
+abbrev pub joined_bits : Column → List Member → List Bool
+joined_bits column [] = []
+joined_bits column (m ∷ ms) = selected_bits_of column m ++ joined_bits column ms
 
 -- a joined list, cut back by the same lengths
 abbrev pub cut_back : Column → List Bool → List Member → List Member
 cut_back column bits [] = []
 cut_back column bits (m ∷ ms) =
-    record m { registers = put m.device column (take (length (chosen_of column m)) bits) m.registers }
-    ∷ cut_back column (drop (length (chosen_of column m)) bits) ms
+    record m { registers = put m.device column (take (length (selected_bits_of column m)) bits) m.registers }
+    ∷ cut_back column (drop (length (selected_bits_of column m)) bits) ms
 
 -- Every selected register gets its captured list, from device k on.
 abbrev pub capture_all : Column → (ℕ → ℕ → Bool) → ℕ → List Member → List Member
 capture_all column sight k [] = []
 capture_all column sight k (m ∷ ms) =
-    record m { registers = captured m.device column (surroundings (sight k) m) m.registers }
+    record m { registers = after_capture m.device column (surroundings (sight k) m) m.registers }
     ∷ capture_all column sight (suc k) ms
 
 abbrev pub update_member : Column → Member → Member
-update_member column m = record m { registers = updated m.device column m.registers }
+update_member column m = record m { registers = after_update m.device column m.registers }
 
 abbrev pub reset_member : Member → Member
-reset_member m = record m { registers = reset m.device (surroundings (λ p. true) m) m.registers }
+reset_member m = record m { registers = after_reset m.device (surroundings (λ p. true) m) m.registers }
 
 -- capture: all from the levels before
 abbrev pub capture : Column → AtRest → AtRest
@@ -54,11 +54,11 @@ capture column m = record m { members = capture_all column (sees m.nets m.member
 
 -- shift: the out is the first of the joined list followed by t, the new registers what comes after
 abbrev pub out : Column → List Bool → AtRest → List Bool
-out column t m = take (length t) (joined column m.members ++ t)
+out column t m = take (length t) (joined_bits column m.members ++ t)
 
 abbrev pub shift : Column → List Bool → AtRest → AtRest
 shift column t m =
-    record m { members = cut_back column (drop (length t) (joined column m.members ++ t)) m.members }
+    record m { members = cut_back column (drop (length t) (joined_bits column m.members ++ t)) m.members }
 
 abbrev pub update : Column → AtRest → AtRest
 update column m = record m { members = map (update_member column) m.members }
@@ -111,5 +111,5 @@ trst_asserted m = record m {
 }
 
 -- what the opening makes of a board at rest
-abbrev pub opened : AtRest → AtRest
-opened m = record (reset_all (settle m)) { place = Reset; trst = false }
+abbrev pub after_opening : AtRest → AtRest
+after_opening m = record (reset_all (settle m)) { place = Reset; trst = false }

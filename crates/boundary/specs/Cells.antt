@@ -46,8 +46,8 @@ capture_from (cell ∷ cells) (s ∷ seen) from_update (u ∷ update) (c ∷ cor
     cell_captures s from_update u c cell.port cell.function ∷ capture_from cells seen from_update update core
 capture_from _ _ _ _ _ = []
 
-abbrev pub captured : BoundaryValue → Mode → List Bool
-captured b mode = capture_from b.cells b.seen (takes_update b.extest_update mode) b.update b.core
+abbrev pub captured_bits : BoundaryValue → Mode → List Bool
+captured_bits b mode = capture_from b.cells b.seen (takes_update b.extest_update mode) b.update b.core
 
 -- The disabling value of control cell k: that of the lowest cell that names it, 0 if none does.
 abbrev pub disabling_of : ℕ → Option Control3 → Bool → Bool

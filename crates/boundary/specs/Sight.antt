@@ -4,7 +4,7 @@ use Rattle.bsdl_device.specs.declared.Cell.{Cell}
 use Rattle.bsdl_device.specs.declared.Function.{Function}
 use Rattle.bsdl_device.specs.declared.Function.TheVariants.{Input, Clock, ObserveOnly, Bidir, Internal}
 use Rattle.scan_registers.specs.declared.Mode.{Mode}
-use Rattle.boundary.specs.Cells.{BoundaryValue, bit, captured, takes_update}
+use Rattle.boundary.specs.Cells.{BoundaryValue, bit, captured_bits, takes_update}
 
 abbrev pub cell_by_sight : (ℕ → Bool) → (from_update : Bool) (update core : Bool) → Option ℕ → Function → Bool
 cell_by_sight sees from_update u c (Some p) Input = sees p
@@ -31,4 +31,4 @@ abbrev pub CapturesBySight : Type 0
 CapturesBySight = (sees : ℕ → Bool) (b : BoundaryValue) (mode : Mode) → length b.seen ≡ length b.cells
     → length b.update ≡ length b.cells → length b.core ≡ length b.cells
     → Told sees b.cells b.seen
-    → captured b mode ≡ capture_by_sight sees (takes_update b.extest_update mode) b.update b.core 0 b.cells
+    → captured_bits b mode ≡ capture_by_sight sees (takes_update b.extest_update mode) b.update b.core 0 b.cells

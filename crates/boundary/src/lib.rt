@@ -59,7 +59,7 @@ impl Register for Boundary {
 
     ghost with_parts = { λ b s u. record b { stage = s; update = u } };
 
-    ghost captured = { cells.captured };
+    ghost captured = { cells.captured_bits };
 
     ghost at_reset = { cells.at_reset };
 

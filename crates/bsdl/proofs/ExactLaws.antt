@@ -9,7 +9,7 @@ use Rattle.bsdl_device.specs.declared.Place.TheVariants.{AtUser}
 use Rattle.bsdl_instructions.specs.Values.{AccessRow, Instr}
 use Rattle.bsdl_entity.specs.Entity.{File}
 use Rattle.bsdl_described.specs.Describing.{Description, Refusal, described, ◌>>?◌}
-use Rattle.bsdl_lengths.specs.Lengths.{access_fits, agree, captured, captures_fit, codes_fit, differ, has_bits, has_len, instructions_fit, is_empty, row_len}
+use Rattle.bsdl_lengths.specs.Lengths.{access_fits, agree, patterns_captured, captures_fit, codes_fit, differ, has_bits, has_len, instructions_fit, is_empty, row_len}
 use Rattle.bsdl_limits.specs.Users.{is_other, is_user, user_number, users_of}
 use Rattle.bsdl_twice.specs.ResetOpcode.{bits}
 use Rattle.bsdl_built.specs.Built.{access, accesses_of_row, device, public_place}
@@ -166,7 +166,7 @@ public_row : (lens : List ℕ) (q : Name) (is : List Instr) → AllExact lens (m
 public_row lens q [] = tt
 public_row lens q (i ∷ is) = (public_exact lens q None, public_row lens q is)
 
-captures_long : (n : ℕ) (o : Option Pattern) → list_all (has_len n) (captured o) ≡ true → HasLengthIfGiven n (option_map bits o)
+captures_long : (n : ℕ) (o : Option Pattern) → list_all (has_len n) (patterns_captured o) ≡ true → HasLengthIfGiven n (option_map bits o)
 captures_long n None fits = tt
 captures_long n (Some p) fits = bits_len p ∙ is_long n p (both (has_len n p) true fits).0
 

@@ -11,7 +11,7 @@ use Rattle.bsdl_instructions.specs.Values.{AccessRow, Instr}
 use Rattle.bsdl_entity.specs.Entity.{File}
 use Rattle.bsdl_described.specs.Describing.{Description, Refusal, bad_length, described, ◌>>?◌}
 use Rattle.bsdl_fit.specs.Fits.{listed}
-use Rattle.bsdl_lengths.specs.Lengths.{access_fits, agree, captured, captures_fit, codes_fit, has_bits, has_len, instructions_fit, is_empty, lengths_fit, row_len}
+use Rattle.bsdl_lengths.specs.Lengths.{access_fits, agree, patterns_captured, captures_fit, codes_fit, has_bits, has_len, instructions_fit, is_empty, lengths_fit, row_len}
 use Rattle.bsdl_limits.specs.Users.{is_other, user_number, users_of}
 use Rattle.bsdl_twice.specs.ResetOpcode.{bits}
 use Rattle.bsdl_twice.specs.Twice.{given_again}
@@ -127,7 +127,7 @@ public_row : (lens : List ℕ) (q : Name) (is : List Instr) → AllSound lens (m
 public_row lens q [] = tt
 public_row lens q (i ∷ is) = (public_sound lens q None, public_row lens q is)
 
-captures_sound : (n : ℕ) (o : Option Pattern) → 0 < n → list_all (has_len n) (captured o) ≡ true → HasBitIfGiven (option_map bits o)
+captures_sound : (n : ℕ) (o : Option Pattern) → 0 < n → list_all (has_len n) (patterns_captured o) ≡ true → HasBitIfGiven (option_map bits o)
 captures_sound n None some fits = tt
 captures_sound n (Some p) some fits = has_bit n p some (both (has_len n p) true fits).0
 

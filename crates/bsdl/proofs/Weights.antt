@@ -5,7 +5,7 @@ use Rattle.std.specs.List.{flat_map}
 use Rattle.std.proofs.lemmas.List.{length-append, length-map, length-reverse, length-drop, length-take-le}
 use Rattle.bsdl_lex.specs.Cutting.{Lexeme, bad_place, cuts_of, tokens}
 pub use Rattle.bsdl_lex.proofs.Heft.{heft, size, tokens_weigh}
-use Rattle.bsdl_text.specs.Words.{inner, joined, upper}
+use Rattle.bsdl_text.specs.Words.{inner, text_within, upper}
 use Rattle.bsdl_text.specs.Reading.{Read, fits, misfit, ◌>>=◌, chain, complete, further, joined_by, joined_text, keyword, listed, mark, meant, one, quoted_value, refused_at, stands, string, is_text_kind}
 use Rattle.bsdl.specs.Small.{total}
 
@@ -94,9 +94,9 @@ joined_weighs w item separator each ts =
 inner_len : (t : Lexeme) → length (inner t) ≤ heft t.text
 inner_len t = omega (arith, length-take-le (length t.text - 2) (drop 1 t.text), length-drop 1 t.text)
 
-joined_len : (strings : List Lexeme) → length (joined strings) ≤ total (λ t. heft t.text) strings
+joined_len : (strings : List Lexeme) → length (text_within strings) ≤ total (λ t. heft t.text) strings
 joined_len [] = omega arith
-joined_len (t ∷ ts) = omega (arith, length-append (inner t) (joined ts), inner_len t, joined_len ts)
+joined_len (t ∷ ts) = omega (arith, length-append (inner t) (text_within ts), inner_len t, joined_len ts)
 
 pub joined_text_weighs : (ts : List Lexeme) → Weighs length (size ts) (joined_text ts)
 joined_text_weighs ts =

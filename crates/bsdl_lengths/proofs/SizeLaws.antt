@@ -7,7 +7,7 @@ use Rattle.std.proofs.lemmas.List.{length-map, length-reverse}
 use Rattle.bsdl_instructions.specs.declared.patterns.WrittenPattern.{WrittenPattern}
 use Rattle.bsdl_instructions.specs.declared.names.Instr.{Instr}
 use Rattle.bsdl_instructions.specs.View as view
-use Rattle.bsdl_lengths.specs.Lengths.{access_fits, captured, captures_fit, has_len, is_empty, row_len}
+use Rattle.bsdl_lengths.specs.Lengths.{access_fits, patterns_captured, captures_fit, has_len, is_empty, row_len}
 use Rattle.bsdl_instructions.specs.Values.{AccessRow}
 use Rattle.bsdl_lengths.specs.Sizes.{IsSize, captures_are, is_len}
 
@@ -31,7 +31,7 @@ all_sized (p ∷ ps) s n is = rw (sized p s n is, all_sized ps s n is) refl
 pub instr_sized : (i : Instr) (s : Option ℕ) (n : ℕ) → IsSize s n → captures_are s (view.instr i) ≡ captures_fit n (view.instr i)
 instr_sized i s n is = by_captures i.captures
   where
-    by_captures : (c : Option WrittenPattern) → list_all (is_len s) (captured (option_map view.pattern c)) ≡ list_all (has_len n) (captured (option_map view.pattern c))
+    by_captures : (c : Option WrittenPattern) → list_all (is_len s) (patterns_captured (option_map view.pattern c)) ≡ list_all (has_len n) (patterns_captured (option_map view.pattern c))
     by_captures None = refl
     by_captures (Some p) = ap (λ b. b && true) (sized p s n is)
 

@@ -15,12 +15,12 @@ row_len boundary r =
     unwrap_or r.len (if bytes_eq r.register (codes "BOUNDARY") then boundary
     else if bytes_eq r.register (codes "BYPASS") then 1 else 32)
 
-abbrev pub captured : Option Pattern → List Pattern
-captured None = []
-captured (Some p) = p ∷ []
+abbrev pub patterns_captured : Option Pattern → List Pattern
+patterns_captured None = []
+patterns_captured (Some p) = p ∷ []
 
 abbrev pub captures_fit : ℕ → Instr → Bool
-captures_fit n i = list_all (has_len n) (captured i.captures)
+captures_fit n i = list_all (has_len n) (patterns_captured i.captures)
 
 abbrev pub is_empty : AccessRow → Bool
 is_empty r = is_some r.len && unwrap_or r.len 0 == 0

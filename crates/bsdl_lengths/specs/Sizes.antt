@@ -3,7 +3,7 @@ use Rattle.std.specs.Prelude.{ℕ, ◌<◌, ◌^◌, ◌==◌, Bool, true, false
 use Rattle.std.specs.List.{list_all}
 use Rattle.bsdl_device.specs.Device.{Pattern}
 use Rattle.bsdl_instructions.specs.Values.{Instr}
-use Rattle.bsdl_lengths.specs.Lengths.{captured}
+use Rattle.bsdl_lengths.specs.Lengths.{patterns_captured}
 
 -- n, if it is a size
 abbrev pub IsSize : Option ℕ → ℕ → Type 0
@@ -14,7 +14,7 @@ is_len None p = false
 is_len (Some n) p = length p == n
 
 abbrev pub captures_are : Option ℕ → Instr → Bool
-captures_are s i = list_all (is_len s) (captured i.captures)
+captures_are s i = list_all (is_len s) (patterns_captured i.captures)
 
 -- a bit of a pattern is there, and is this one
 abbrev pub is_bit : Option (Option Bool) → Bool → Bool

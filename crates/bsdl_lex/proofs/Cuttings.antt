@@ -8,7 +8,7 @@ use Rattle.bsdl_lex.specs.Gaps.{bytes_of, Divides, tokens_at, TokensOf, BadAfter
 use Rattle.bsdl_lex.specs.Laws.{TokensAreCut, BadByteIsCut, EachIsCut, TokensAreOne, BadByteIsOne, NeverBoth}
 use Rattle.bsdl_lex.proofs.Steps.{cut-nil, cut-cons}
 use Rattle.bsdl_lex.proofs.Parts.{nothing_stands}
-use Rattle.bsdl_lex.proofs.Divided.{divides_cut, Found, found}
+use Rattle.bsdl_lex.proofs.RowsOfParts.{divides_cut, Found, found}
 
 pub tokens_cut : (quoted : Bool) (text : List ℕ) (ts : List Lexeme) → TokensOf quoted text ts → cuts_of quoted text ≡ map piece ts
 tokens_cut quoted text ts t =

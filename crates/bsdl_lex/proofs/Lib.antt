@@ -1,7 +1,7 @@
 pub mod AsciiLaws
 pub mod Cuttings
-pub mod Divided
-pub mod Few
+pub mod RowsOfParts
+pub mod TokenCounts
 pub mod Heft
 pub mod Lines
 pub mod Parts

@@ -2,7 +2,7 @@
 use Rattle.std.proofs.Common.{◌≡◌, ℕ, zero, suc, ◌≤◌, ◌<◌, Bool, true, false, not, List, [], ◌∷◌, ◌++◌, length, refl, sym, ap, ◌∙◌, Option, arith}
 use Rattle.std.proofs.lemmas.List.{append-nil, append_assoc}
 use Rattle.bsdl_lex.specs.Cutting.{Lexeme}
-use Rattle.bsdl_text.specs.Words.{inner, joined}
+use Rattle.bsdl_text.specs.Words.{inner, text_within}
 use Rattle.bsdl_text.specs.Reading.{Read, fits, misfit, ◌>>=◌, string, mark, stands, chain, joined_by}
 use Rattle.bsdl_text.proofs.ListLaws.{prepend, prepend-prepend}
 
@@ -41,16 +41,16 @@ unfolding chain
 at_no_string zero ts t rest at short here marked none = absurd (none_stands ts short here)
 at_no_string (suc n) ts t rest at short here marked none = rw (here, marked, none) refl
 
-joined-one : (strings : List Lexeme) (x : Lexeme) → joined (strings ++ x ∷ []) ≡ joined strings ++ inner x
+joined-one : (strings : List Lexeme) (x : Lexeme) → text_within (strings ++ x ∷ []) ≡ text_within strings ++ inner x
 joined-one [] x = append-nil (inner x)
-joined-one (s ∷ strings) x = ap (λ us. inner s ++ us) (joined-one strings x) ∙ sym (append_assoc (inner s) (joined strings) (inner x))
+joined-one (s ∷ strings) x = ap (λ us. inner s ++ us) (joined-one strings x) ∙ sym (append_assoc (inner s) (text_within strings) (inner x))
 
 -- the text so far is that of these strings, and what is read behind them makes the whole
 pub record Joining (whole : Read (List Lexeme)) (text : List ℕ) (ts : List Lexeme) : Type 0 where
   pub strings : List Lexeme
   pub rounds : ℕ
   pub enough : length ts ≤ rounds
-  pub text_is : text ≡ joined strings
+  pub text_is : text ≡ text_within strings
   pub whole_is : whole ≡ prepend strings (more rounds ts)
 
 pub first_joined : (ts : List Lexeme) (x : Lexeme) (rest : List Lexeme) → string ts ≡ fits x rest → Joining (joined_by string ampersand ts) (inner x) rest
@@ -58,12 +58,12 @@ first_joined ts x rest first =
     record { strings = x ∷ []; rounds = length rest; enough = omega arith; text_is = sym (append-nil (inner x)); whole_is = rw first (is_prepended x (more (length rest) rest)) }
 
 abbrev text_of : Read (List Lexeme) → Read (List ℕ)
-text_of r = r >>= λ strings rest. fits (joined strings) rest
+text_of r = r >>= λ strings rest. fits (text_within strings) rest
 
 module _ (whole : Read (List Lexeme)) (text : List ℕ) (ts : List Lexeme) (j : Joining whole text ts) where
   pub all_joined : stands ampersand ts ≡ false → text_of whole ≡ fits text ts
   all_joined none =
-      ap text_of (j.whole_is ∙ ap (prepend j.strings) (at_last j.rounds ts none)) ∙ ap (λ ss. fits (joined ss) ts) (append-nil j.strings) ∙ ap (λ t. fits t ts) (sym j.text_is)
+      ap text_of (j.whole_is ∙ ap (prepend j.strings) (at_last j.rounds ts none)) ∙ ap (λ ss. fits (text_within ss) ts) (append-nil j.strings) ∙ ap (λ t. fits t ts) (sym j.text_is)
 
   pub joined_no_mark : (at : Option ℕ) → stands ampersand ts ≡ true → mark ampersand ts ≡ misfit at → text_of whole ≡ misfit at
   joined_no_mark at here no_mark = ap text_of (j.whole_is ∙ ap (prepend j.strings) (at_no_mark j.rounds ts at j.enough here no_mark))

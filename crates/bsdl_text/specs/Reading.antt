@@ -7,7 +7,7 @@ use Rattle.std.specs.Str.Parse.{digits_value}
 use Rattle.bsdl_lex.specs.declared.Kind.{Kind}
 use Rattle.bsdl_lex.specs.declared.Kind.TheVariants as kind
 use Rattle.bsdl_lex.specs.Cutting.{Lexeme, tokens, bad_place, cuts_of}
-use Rattle.bsdl_text.specs.Words.{joined}
+use Rattle.bsdl_text.specs.Words.{text_within}
 
 -- what is read at the front of tokens, and the tokens behind it; or where the first token that does not fit stands,
 -- which is None at the end
@@ -115,7 +115,7 @@ listed item separator closes ts =
 
 -- the text of a string, or of several joined by `&`
 abbrev pub joined_text : List Lexeme → Read (List ℕ)
-joined_text ts = joined_by string 38 ts >>= λ strings rest. fits (joined strings) rest
+joined_text ts = joined_by string 38 ts >>= λ strings rest. fits (text_within strings) rest
 
 -- what the text within quotes says as a whole
 abbrev pub complete : {A : Type 0} → Option ℕ → Read A → Option A

@@ -23,5 +23,5 @@ abbrev pub inner : Lexeme → List ℕ
 inner t = take (length t.text - 2) (drop 1 t.text)
 
 -- the text of strings that `&` joins
-abbrev pub joined : List Lexeme → List ℕ
-joined strings = flat_map inner strings
+abbrev pub text_within : List Lexeme → List ℕ
+text_within strings = flat_map inner strings

@@ -24,7 +24,7 @@ use Rattle.board_file.specs.declared.plan.PlannedNet.{PlannedNet}
 use Rattle.board_file.specs.declared.plan.PlannedDevice.{PlannedDevice}
 use Rattle.board_meaning.specs.Chain.{ChipState}
 use Rattle.board_meaning.specs.Nets.{pin_drive}
-use Rattle.board_meaning.specs.Resting.{standing}
+use Rattle.board_meaning.specs.Resting.{chip_at_rest}
 use Rattle.chip_chain.specs.Building.{EntersNet, HasNets, PortsFit, has_pin, net_by, seat_of, seats_of}
 use Rattle.chip_chain.specs.Chains.{powered_up}
 use Rattle.chip_chain.specs.Seats.{AllTold, SeatValue, cell_net, chip_state, first_net, member_of}
@@ -140,9 +140,9 @@ pub seats_told : (nets : List Net) (k : ℕ) (ms : List planned.Member) → AllT
 seats_told nets k [] = tt
 seats_told nets k (m ∷ ms) = (refl, seats_told nets (suc k) ms)
 
-pub seats_stand : (nets : List Net) (k : ℕ) (ms : List planned.Member) → map chip_state (seats_of nets k ms) ≡ map (standing Reset) (map powered_up ms)
+pub seats_stand : (nets : List Net) (k : ℕ) (ms : List planned.Member) → map chip_state (seats_of nets k ms) ≡ map (chip_at_rest Reset) (map powered_up ms)
 seats_stand nets k [] = refl
-seats_stand nets k (m ∷ ms) = ap (λ (r : List ChipState). standing Reset (powered_up m) ∷ r) (seats_stand nets (suc k) ms)
+seats_stand nets k (m ∷ ms) = ap (λ (r : List ChipState). chip_at_rest Reset (powered_up m) ∷ r) (seats_stand nets (suc k) ms)
 
 pub all_at : {A : Type 0} (P : A → Type 0) (l : List A) (i : ℕ) (x : A) → AllByRecursion P l → slice_get l i ≡ Some x → P x
 all_at P [] i x all at = absurd (none-some x at)

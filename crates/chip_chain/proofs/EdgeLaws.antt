@@ -11,11 +11,11 @@ use Rattle.scan_registers.specs.declared.Mode.{Mode}
 use Rattle.scan_registers.specs.declared.Selected.{Selected}
 use Rattle.scan_registers.specs.declared.Selected.TheVariants.{Bypass, Identification, Boundary, User}
 use Rattle.scan_registers.specs.Chips.{around, one_chip, with_registers}
-use Rattle.scan_registers.specs.Edges.{OneChip, fallen, is_held, rise, risen}
+use Rattle.scan_registers.specs.Edges.{OneChip, after_fall, is_held, rise, after_rise}
 use Rattle.scan_registers.specs.Instruction.{meaning}
 use Rattle.scan_registers.specs.Registers.{Registers, Surroundings, capture_of, put, with_stage}
 use Rattle.scan_registers.specs.Registers as chip_registers
-use Rattle.boundary.specs.Cells.{BoundaryValue, IsWhole, at_reset, captured, drive_in, takes_update}
+use Rattle.boundary.specs.Cells.{BoundaryValue, IsWhole, at_reset, captured_bits, drive_in, takes_update}
 use Rattle.boundary.specs.Sight.{Told, capture_by_sight}
 use Rattle.boundary.proofs.SightLaws.{captured_by_sight}
 use Rattle.board_meaning.specs.Cells.{Member, drive, surroundings}
@@ -43,7 +43,7 @@ selected-captures (User k) fixed a b r same = refl
 
 risen-alike : (w : Work) (d : Device) (a b : Surroundings) (tdi : Bool) (r : Registers)
     → (captures_boundary w (meaning d r.latch).selected ≡ true → a.captures (meaning d r.latch).mode ≡ b.captures (meaning d r.latch).mode)
-    → risen w d a tdi r ≡ risen w d b tdi r
+    → after_rise w d a tdi r ≡ after_rise w d b tdi r
 risen-alike (Captures Dr) d a b tdi r same =
     let m = meaning d r.latch in selected-captures m.selected m.fixed (a.captures m.mode) (b.captures m.mode) r same
 risen-alike (Captures Ir) d a b tdi r same = refl
@@ -53,8 +53,8 @@ risen-alike Resets d a b tdi r same = refl
 risen-alike Waits d a b tdi r same = refl
 
 rise-alike : (name : List ℕ) (core : List Bool) (extest : Bool) (o : OneChip) (a : Surroundings) (sees : ℕ → Bool) (tms tdi : Bool)
-    → risen (work o.state) o.device a tdi o.registers
-    ≡ risen (work o.state) o.device (surroundings sees (state_of name core extest o).member) tdi o.registers
+    → after_rise (work o.state) o.device a tdi o.registers
+    ≡ after_rise (work o.state) o.device (surroundings sees (state_of name core extest o).member) tdi o.registers
     → state_of name core extest (rise tms tdi a o) ≡ chain.rise o.trst tms tdi sees (state_of name core extest o)
 rise-alike name core extest o a sees tms tdi same = by (is_held o) refl
   where
@@ -73,34 +73,34 @@ module _ (s : SeatValue) (cells : s.chip.boundary.cells ≡ s.chip.device.cells)
   now = one_chip stage update s.chip
 
   captures-alike : (sees : ℕ → Bool) (mode : Mode) → IsWhole s.chip.boundary → Told sees s.chip.device.cells s.chip.boundary.seen
-      → captured s.chip.boundary mode ≡ (surroundings sees (member_of s)).captures mode
+      → captured_bits s.chip.boundary mode ≡ (surroundings sees (member_of s)).captures mode
   captures-alike sees mode whole told =
       let b = s.chip.boundary in
       captured_by_sight sees (takes_update b.extest_update mode) b.update b.core 0 b.cells b.seen whole.seen whole.update whole.core (rw cells told)
       ∙ ap (λ (cs : List Cell). capture_by_sight sees (takes_update s.chip.boundary.extest_update mode) s.chip.boundary.update s.chip.boundary.core 0 cs) cells
 
   pub rises : (t : SeatValue) (sees : ℕ → Bool) (tms tdi : Bool)
-      → one_chip stage update t.chip ≡ rise tms tdi (around captured at_reset s.chip) now
+      → one_chip stage update t.chip ≡ rise tms tdi (around captured_bits at_reset s.chip) now
       → t.name ≡ s.name → t.chip.boundary.core ≡ s.chip.boundary.core → t.chip.boundary.extest_update ≡ s.chip.boundary.extest_update
       → IsSighted sees s → chip_state t ≡ chain.rise s.chip.trst tms tdi sees (chip_state s)
   rises t sees tms tdi is name core extest sighted =
       ap (λ (o : OneChip). state_of t.name t.chip.boundary.core t.chip.boundary.extest_update o) is
-      ∙ ap (λ (n : List ℕ). state_of n t.chip.boundary.core t.chip.boundary.extest_update (rise tms tdi (around captured at_reset s.chip) now)) name
-      ∙ ap (λ (c : List Bool). state_of s.name c t.chip.boundary.extest_update (rise tms tdi (around captured at_reset s.chip) now)) core
-      ∙ ap (λ (e : Bool). state_of s.name s.chip.boundary.core e (rise tms tdi (around captured at_reset s.chip) now)) extest
-      ∙ rise-alike s.name s.chip.boundary.core s.chip.boundary.extest_update now (around captured at_reset s.chip) sees tms tdi
-      (risen-alike (work s.chip.state) s.chip.device (around captured at_reset s.chip) (surroundings sees (member_of s)) tdi now.registers
+      ∙ ap (λ (n : List ℕ). state_of n t.chip.boundary.core t.chip.boundary.extest_update (rise tms tdi (around captured_bits at_reset s.chip) now)) name
+      ∙ ap (λ (c : List Bool). state_of s.name c t.chip.boundary.extest_update (rise tms tdi (around captured_bits at_reset s.chip) now)) core
+      ∙ ap (λ (e : Bool). state_of s.name s.chip.boundary.core e (rise tms tdi (around captured_bits at_reset s.chip) now)) extest
+      ∙ rise-alike s.name s.chip.boundary.core s.chip.boundary.extest_update now (around captured_bits at_reset s.chip) sees tms tdi
+      (risen-alike (work s.chip.state) s.chip.device (around captured_bits at_reset s.chip) (surroundings sees (member_of s)) tdi now.registers
       (λ yes. let w = sighted yes in captures-alike sees (meaning s.chip.device s.chip.latch).mode w.0 w.1))
 
   pub captures : (t : SeatValue) (sees : ℕ → Bool) (column : Column)
-      → one_chip stage update t.chip ≡ with_registers (chip_registers.captured s.chip.device column (around captured at_reset s.chip) now.registers) now
+      → one_chip stage update t.chip ≡ with_registers (chip_registers.after_capture s.chip.device column (around captured_bits at_reset s.chip) now.registers) now
       → t.name ≡ s.name → t.chip.boundary.core ≡ s.chip.boundary.core → t.chip.boundary.extest_update ≡ s.chip.boundary.extest_update
       → IsSightedFor column sees s → chip_state t ≡ as_member (capture_member column sees (member_of s)) (chip_state s)
   captures t sees column is name core extest sighted =
       let mode = (meaning s.chip.device s.chip.latch).mode in
       (λ i. state_of (name i) (core i) (extest i) (is i))
       ∙ ap (λ (r : Registers). state_of s.name s.chip.boundary.core s.chip.boundary.extest_update (with_registers r now))
-      (risen-alike (Captures column) s.chip.device (around captured at_reset s.chip) (surroundings sees (member_of s)) false now.registers
+      (risen-alike (Captures column) s.chip.device (around captured_bits at_reset s.chip) (surroundings sees (member_of s)) false now.registers
       (λ yes. let w = sighted yes in captures-alike sees mode w.0 w.1))
 
 -- ---- what an edge changes of what is driven
@@ -117,7 +117,7 @@ with-stage-update Identification bits r = refl
 with-stage-update Boundary bits r = refl
 with-stage-update (User k) bits r = refl
 
-risen-latch : (w : Work) (d : Device) (a : Surroundings) (tdi : Bool) (r : Registers) → (risen w d a tdi r).latch ≡ r.latch
+risen-latch : (w : Work) (d : Device) (a : Surroundings) (tdi : Bool) (r : Registers) → (after_rise w d a tdi r).latch ≡ r.latch
 risen-latch (Captures Dr) d a tdi r = with-stage-latch (meaning d r.latch).selected _ r
 risen-latch (Captures Ir) d a tdi r = refl
 risen-latch (Shifts Dr) d a tdi r = with-stage-latch (meaning d r.latch).selected _ r
@@ -126,7 +126,7 @@ risen-latch (Updates column) d a tdi r = refl
 risen-latch Resets d a tdi r = refl
 risen-latch Waits d a tdi r = refl
 
-risen-update : (w : Work) (d : Device) (a : Surroundings) (tdi : Bool) (r : Registers) → (risen w d a tdi r).update ≡ r.update
+risen-update : (w : Work) (d : Device) (a : Surroundings) (tdi : Bool) (r : Registers) → (after_rise w d a tdi r).update ≡ r.update
 risen-update (Captures Dr) d a tdi r = with-stage-update (meaning d r.latch).selected _ r
 risen-update (Captures Ir) d a tdi r = refl
 risen-update (Shifts Dr) d a tdi r = with-stage-update (meaning d r.latch).selected _ r
@@ -151,7 +151,7 @@ rise_drives trst tms tdi sees c p = by (chain.is_held trst c.member) refl
     m = c.member
 
     after : Registers
-    after = risen (work c.state) m.device (surroundings sees m) tdi m.registers
+    after = after_rise (work c.state) m.device (surroundings sees m) tdi m.registers
 
     by : (b : Bool) → chain.is_held trst c.member ≡ b → drive (chain.rise trst tms tdi sees c).member p ≡ drive c.member p
     by true held = rw held refl
@@ -163,7 +163,7 @@ rise_drives trst tms tdi sees c p = by (chain.is_held trst c.member) refl
 pub fall_drives : (c : ChipState) → changes_drives (work c.state) ≡ false → (chain.fall c).member ≡ c.member
 fall_drives c quiet = ap (λ (r : Registers). record c.member { registers = r }) (kept (work c.state) quiet)
   where
-    kept : (w : Work) → changes_drives w ≡ false → fallen w c.member.device (surroundings (λ p. true) c.member) c.member.registers ≡ c.member.registers
+    kept : (w : Work) → changes_drives w ≡ false → after_fall w c.member.device (surroundings (λ p. true) c.member) c.member.registers ≡ c.member.registers
     kept (Captures column) quiet = refl
     kept (Shifts column) quiet = refl
     kept (Updates column) quiet = absurd (true≢false quiet)

@@ -18,8 +18,8 @@ use Rattle.board_file.specs.Fits.{all_pins}
 use Rattle.board_meaning.specs.Cells.{Member, drive}
 use Rattle.board_meaning.specs.Chain.{ChipState, members}
 use Rattle.board_meaning.specs.Nets.{sees}
-use Rattle.board_meaning.specs.Resting.{standing}
-use Rattle.board_meaning.specs.Whole.{capture_all, chosen_of, cut_back, joined, settled_member, trst_member}
+use Rattle.board_meaning.specs.Resting.{chip_at_rest}
+use Rattle.board_meaning.specs.Whole.{capture_all, selected_bits_of, cut_back, joined_bits, settled_member, trst_member}
 use Rattle.chip_chain.specs.AtRest.{AssertsTrst, CapturesAt, Changes, IsPutInto, Stands, as_member, as_members}
 use Rattle.chip_chain.specs.AtRest.{capture_member, out, shifted}
 use Rattle.chip_chain.specs.Seats.{AllTold, IsKept, SeatValue, chip_state, member_of}
@@ -55,14 +55,14 @@ changed_chips f old new each =
     ∙ as-map f (map chip_state old)
 
 stand-map : (state : State) (cs : List ChipState)
-    → map (λ (c : ChipState). standing state c.member) cs ≡ map (standing state) (members cs)
+    → map (λ (c : ChipState). chip_at_rest state c.member) cs ≡ map (chip_at_rest state) (members cs)
 stand-map state [] = refl
-stand-map state (c ∷ cs) = ap (λ (r : List ChipState). standing state c.member ∷ r) (stand-map state cs)
+stand-map state (c ∷ cs) = ap (λ (r : List ChipState). chip_at_rest state c.member ∷ r) (stand-map state cs)
 
 pub stood_chips : (state : State) (old new : List SeatValue) → EachFrom (Stands state) 0 old new
-    → map chip_state new ≡ map (standing state) (members (map chip_state old))
+    → map chip_state new ≡ map (chip_at_rest state) (members (map chip_state old))
 stood_chips state old new each =
-    all_chips (Stands state) (λ c. standing state c.member) (λ i s t r. r.chip) 0 old new each
+    all_chips (Stands state) (λ c. chip_at_rest state c.member) (λ i s t r. r.chip) 0 old new each
     ∙ stand-map state (map chip_state old)
 
 pub stood_wired : (state : State) (old new : List SeatValue) (w : WiringValue) → IsWired old w
@@ -74,18 +74,18 @@ stood_wired state old new w wired each =
 -- ---- TRST
 
 asserted-map : (rests : State) (cs : List ChipState)
-    → map (λ (c : ChipState). standing Reset (trst_member (settled_member rests) c.member)) cs
-    ≡ map (standing Reset) (map (trst_member (settled_member rests)) (members cs))
+    → map (λ (c : ChipState). chip_at_rest Reset (trst_member (settled_member rests) c.member)) cs
+    ≡ map (chip_at_rest Reset) (map (trst_member (settled_member rests)) (members cs))
 asserted-map rests [] = refl
 asserted-map rests (c ∷ cs) =
-    ap (λ (r : List ChipState). standing Reset (trst_member (settled_member rests) c.member) ∷ r)
+    ap (λ (r : List ChipState). chip_at_rest Reset (trst_member (settled_member rests) c.member) ∷ r)
     (asserted-map rests cs)
 
 pub asserted_chips : (rests : State) (old new : List SeatValue) → EachFrom (AssertsTrst rests) 0 old new
     → map chip_state new
-    ≡ map (standing Reset) (map (trst_member (settled_member rests)) (members (map chip_state old)))
+    ≡ map (chip_at_rest Reset) (map (trst_member (settled_member rests)) (members (map chip_state old)))
 asserted_chips rests old new each =
-    all_chips (AssertsTrst rests) (λ c. standing Reset (trst_member (settled_member rests) c.member))
+    all_chips (AssertsTrst rests) (λ c. chip_at_rest Reset (trst_member (settled_member rests) c.member))
     (λ i s t r. r.chip) 0 old new each
     ∙ asserted-map rests (map chip_state old)
 
@@ -216,12 +216,12 @@ pub record PutSome (column : Column) (place : ℕ) (s t : SeatValue) : Type 0 wh
   pub is : Put column bits s t
 
 abbrev register : Column → SeatValue → List Bool
-register column s = chosen_of column (member_of s)
+register column s = selected_bits_of column (member_of s)
 
 module _ (column : Column) where
   abbrev pub Cut : List Bool → List SeatValue → List SeatValue → Type 0
   Cut bits old new =
-      IsCutBack (λ (s : SeatValue). chosen_of column (member_of s))
+      IsCutBack (λ (s : SeatValue). selected_bits_of column (member_of s))
       (λ s stage t. IsPutInto column stage s t) bits old new
 
   pub cut_each : (place : ℕ) (bits : List Bool) (old new : List SeatValue) → Cut bits old new
@@ -245,35 +245,35 @@ module _ (column : Column) where
       λ i. one.chip i ∷ cut-chips (drop (length (register column s)) bits) old new cut.1 i
 
   pub same_joined : (seats : List SeatValue)
-      → rows.joined (map (λ (s : SeatValue). chosen_of column (member_of s)) seats)
-      ≡ joined column (members (map chip_state seats))
+      → rows.joined_registers (map (λ (s : SeatValue). selected_bits_of column (member_of s)) seats)
+      ≡ joined_bits column (members (map chip_state seats))
   same_joined [] = refl
   same_joined (s ∷ seats) = ap (λ (r : List Bool). register column s ++ r) (same_joined seats)
 
   -- what comes out
   pub same_out : (v : List VectorBit) (seats : List SeatValue)
-      → rows.out v (map (λ (s : SeatValue). chosen_of column (member_of s)) seats)
+      → rows.out v (map (λ (s : SeatValue). selected_bits_of column (member_of s)) seats)
       ≡ out column (tdis v) (members (map chip_state seats))
   same_out v seats =
       ap (λ (l : List Bool). take (length v) (l ++ tdis v)) (same_joined seats)
-      ∙ ap (λ (n : ℕ). take n (joined column (members (map chip_state seats)) ++ tdis v))
+      ∙ ap (λ (n : ℕ). take n (joined_bits column (members (map chip_state seats)) ++ tdis v))
       (sym (length-map v (λ (b : VectorBit). b.tdi)))
 
   -- what stays in, by the length of what is shifted in
   pub shifted_chips : (v : List VectorBit) (old new : List SeatValue)
-      → Cut (rows.left v (map (λ (s : SeatValue). chosen_of column (member_of s)) old)) old new
+      → Cut (rows.left v (map (λ (s : SeatValue). selected_bits_of column (member_of s)) old)) old new
       → map chip_state new ≡ as_members (shifted column (tdis v) (members (map chip_state old))) (map chip_state old)
   shifted_chips v old new cut =
-      cut-chips (rows.left v (map (λ (s : SeatValue). chosen_of column (member_of s)) old)) old new cut
+      cut-chips (rows.left v (map (λ (s : SeatValue). selected_bits_of column (member_of s)) old)) old new cut
       ∙ ap (λ (l : List Bool). as_members (cut_back column (drop (length v) (l ++ tdis v)) (map member_of old))
       (map chip_state old)) (same_joined old)
       ∙ ap (λ (n : ℕ). as_members
-      (cut_back column (drop n (joined column (members (map chip_state old)) ++ tdis v)) (map member_of old))
+      (cut_back column (drop n (joined_bits column (members (map chip_state old)) ++ tdis v)) (map member_of old))
       (map chip_state old))
       (sym (length-map v (λ (b : VectorBit). b.tdi)))
       ∙ sym (ap
       (λ (ms : List Member). as_members
-      (cut_back column (drop (length (tdis v)) (joined column (members (map chip_state old)) ++ tdis v)) ms)
+      (cut_back column (drop (length (tdis v)) (joined_bits column (members (map chip_state old)) ++ tdis v)) ms)
       (map chip_state old)) (seats_members old))
 
   pub shifted_wired : (bits : List Bool) (old new : List SeatValue) (w : WiringValue) → IsWired old w

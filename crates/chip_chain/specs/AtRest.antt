@@ -8,13 +8,13 @@ use Rattle.jt_tap.specs.declared.Work.TheVariants.{Captures}
 use Rattle.scan_registers.specs.Chips.{IsPut}
 use Rattle.scan_registers.specs.Instruction.{meaning}
 use Rattle.scan_registers.specs.Puts.{put_both, put_nothing}
-use Rattle.scan_registers.specs.Registers.{captured}
+use Rattle.scan_registers.specs.Registers.{after_capture}
 use Rattle.boundary.specs.Cells.{BoundaryValue, IsWhole}
 use Rattle.boundary.specs.Sight.{Told}
 use Rattle.board_meaning.specs.Cells.{Member, surroundings}
 use Rattle.board_meaning.specs.Chain.{ChipState}
-use Rattle.board_meaning.specs.Resting.{standing}
-use Rattle.board_meaning.specs.Whole.{chosen_of, cut_back, joined, settled_member, trst_member}
+use Rattle.board_meaning.specs.Resting.{chip_at_rest}
+use Rattle.board_meaning.specs.Whole.{selected_bits_of, cut_back, joined_bits, settled_member, trst_member}
 use Rattle.chip_chain.specs.Chains.{ChainValue}
 use Rattle.chip_chain.specs.Seats.{IsKept, SeatValue, captures_boundary, chip_state, member_of}
 use Rattle.chip_chain.specs.Telling.{IsAt, sight}
@@ -35,15 +35,15 @@ chain_as ms c = record c { chips = as_members ms c.chips }
 
 -- what a capture gives a device whose ports see this
 abbrev pub capture_member : Column → (ℕ → Bool) → Member → Member
-capture_member column sees m = record m { registers = captured m.device column (surroundings sees m) m.registers }
+capture_member column sees m = record m { registers = after_capture m.device column (surroundings sees m) m.registers }
 
 -- what comes out of the joined registers
 abbrev pub out : Column → List Bool → List Member → List Bool
-out column t ms = take (length t) (joined column ms ++ t)
+out column t ms = take (length t) (joined_bits column ms ++ t)
 
 -- the devices, each with its part of what stays in
 abbrev pub shifted : Column → List Bool → List Member → List Member
-shifted column t ms = cut_back column (drop (length t) (joined column ms ++ t)) ms
+shifted column t ms = cut_back column (drop (length t) (joined_bits column ms ++ t)) ms
 
 -- ---- one device, in the code's terms
 
@@ -57,13 +57,13 @@ pub record Changes (f : Member → Member) (place : ℕ) (s t : SeatValue) : Typ
 pub record Stands (state : State) (place : ℕ) (s t : SeatValue) : Type 0 where
   pub kept : IsKept s t
   pub trst : t.chip.trst ≡ s.chip.trst
-  pub chip : chip_state t ≡ standing state (member_of s)
+  pub chip : chip_state t ≡ chip_at_rest state (member_of s)
 
 -- TRST is asserted to it, where the chain rests in a state
 pub record AssertsTrst (rests : State) (place : ℕ) (s t : SeatValue) : Type 0 where
   pub kept : IsKept s t
   pub told : t.chip.trst ≡ true
-  pub chip : chip_state t ≡ standing Reset (trst_member (settled_member rests) (member_of s))
+  pub chip : chip_state t ≡ chip_at_rest Reset (trst_member (settled_member rests) (member_of s))
 
 -- the column's register captures what the device's place sees
 pub record CapturesAt (w : WiringValue) (column : Column) (place : ℕ) (s t : SeatValue) : Type 0 where
@@ -87,7 +87,7 @@ pub record IsPutInto (column : Column) (bits : List Bool) (s t : SeatValue) : Ty
   pub nets : t.nets ≡ s.nets
 
 -- what a device has already changes nothing
-pub puts_nothing : (s : SeatValue) (column : Column) → IsPutInto column (chosen_of column (member_of s)) s s
+pub puts_nothing : (s : SeatValue) (column : Column) → IsPutInto column (selected_bits_of column (member_of s)) s s
 puts_nothing s column = record {
   chip = put_nothing (λ (b : BoundaryValue). b.stage) (λ (b : BoundaryValue). b.update)
       (λ (b : BoundaryValue) stage update. record b { stage = stage; update = update }) (λ b. refl) s.chip column;

@@ -5,7 +5,7 @@ use Rattle.pin_nets.specs.Wired.{Net}
 use Rattle.board_file.specs.Wiring as planned
 use Rattle.board_meaning.specs.Cells.{Member, powered}
 use Rattle.board_meaning.specs.Chain.{ChipState}
-use Rattle.board_meaning.specs.Resting.{standing}
+use Rattle.board_meaning.specs.Resting.{chip_at_rest}
 
 -- the level of TRST, the nets, and the devices, the first nearest TDO
 pub record ChainValue : Type 0 where
@@ -19,4 +19,4 @@ powered_up m = powered m.name m.device m.core m.extest_update
 
 -- a planned chain as it powers up
 abbrev pub chain_of : planned.Wiring → ChainValue
-chain_of w = record { trst = false; nets = w.nets; chips = map (standing Reset) (map powered_up w.members) }
+chain_of w = record { trst = false; nets = w.nets; chips = map (chip_at_rest Reset) (map powered_up w.members) }

@@ -1,4 +1,4 @@
-pub mod Wants
+pub mod WantedBits
 pub mod WholePlay
 pub mod Turns
 pub mod NotedPieces

@@ -10,7 +10,7 @@ use Rattle.scan_vectors.specs.Vector.{judge}
 use Rattle.svf_settings.specs.Legal.{IsLegalProgram}
 use Rattle.svf_settings.specs.Steps.{Numbered, Program}
 use Rattle.board_meaning.specs.Chain.{BoardState, hear}
-use Rattle.board_meaning.specs.Resting.{IsAtRest, IsRest, resting}
+use Rattle.board_meaning.specs.Resting.{IsAtRest, IsRest, board_at_rest}
 use Rattle.board_meaning.specs.Sound.{AllSound, HasDevice, IsSoundBoard}
 use Rattle.board_meaning.specs.Whole.{AtRest}
 use Rattle.plays.specs.declared.ending.Ending.{Ending}
@@ -23,7 +23,7 @@ use Rattle.plays.specs.Play.{full_play, play, step_turns, wants_of}
 use Rattle.plays.proofs.Described as Described
 use Rattle.plays.proofs.Direct.{IsPlayed, judged-of}
 use Rattle.plays.proofs.Legality.{legal-from}
-use Rattle.plays.proofs.Opened.{opened-is-reset}
+use Rattle.plays.proofs.AfterOpening.{opened-is-reset}
 use Rattle.plays.proofs.Programs.{opened-count, program_means}
 use Rattle.plays.proofs.StepLaws.{IsDone, step-done}
 use Rattle.direct_play.proofs.Turns.{bytes-of, failed-bytes, heard-of, opening-first, passed-bytes}
@@ -67,13 +67,13 @@ module _ (program : Program) (b : BoardState) (sound : IsSoundBoard b) (some : H
   same_ending = ends ∙ sym (ap (λ (o : Outcome). o.ending) is) ∙ sym law.ending
 
   pub same_board : after ≡ (play program b).board
-  same_board = rests ∙ sym (ap (λ (o : Outcome). resting o.after) is) ∙ sym law.board
+  same_board = rests ∙ sym (ap (λ (o : Outcome). board_at_rest o.after) is) ∙ sym law.board
 
   pub means_from_opening : MeansFromOpening program b ending after
   means_from_opening = (
     (opened b sound some).board,
     ends ∙ sym (ap (λ (o : Outcome). o.ending) is),
-    rests ∙ sym (ap (λ (o : Outcome). resting o.after) is),
+    rests ∙ sym (ap (λ (o : Outcome). board_at_rest o.after) is),
   )
 
 -- what ends as the full play does means what the program means
@@ -121,20 +121,20 @@ module _ (s : Numbered) (ss : List Numbered) (m : AtRest) (can : CanPlay (s ∷ 
     legal = can.legal.1;
   }
 
-  judged-is : judge (wants_of s.what) (heard-of m.place s (resting m)).answers ≡ failure s.what m
+  judged-is : judge (wants_of s.what) (heard-of m.place s (board_at_rest m)).answers ≡ failure s.what m
   judged-is = ap (λ h. judge (wants_of s.what) h.answers) played.heard ∙ judged-of s.what m done.answers played.said
 
-  pub bytes_passed : failure s.what m ≡ None → bytes-of (full_play (step_turns m.place (s ∷ ss)) (resting m))
+  pub bytes_passed : failure s.what m ≡ None → bytes-of (full_play (step_turns m.place (s ∷ ss)) (board_at_rest m))
       ≡ step_bytes m.place s.what ++ bytes-of
-      (full_play (step_turns (command s.what m).place ss) (resting (command s.what m)))
+      (full_play (step_turns (command s.what m).place ss) (board_at_rest (command s.what m)))
   bytes_passed none =
-      passed-bytes m.place s ss (resting m) (judged-is ∙ none)
+      passed-bytes m.place s ss (board_at_rest m) (judged-is ∙ none)
       ∙ (λ i. step_bytes m.place s.what ++ bytes-of
       (full_play (step_turns (sym played.place i) ss) (played.heard i).board))
 
   pub bytes_failed : (f : Part × ℕ) → failure s.what m ≡ Some f
-      → bytes-of (full_play (step_turns m.place (s ∷ ss)) (resting m)) ≡ step_bytes m.place s.what ++ 81 ∷ []
-  bytes_failed f some = failed-bytes m.place s ss (resting m) f (judged-is ∙ some)
+      → bytes-of (full_play (step_turns m.place (s ∷ ss)) (board_at_rest m)) ≡ step_bytes m.place s.what ++ 81 ∷ []
+  bytes_failed f some = failed-bytes m.place s ss (board_at_rest m) f (judged-is ∙ some)
 
 abbrev pub opening_bytes : List ℕ
 opening_bytes = map encode opening
@@ -142,7 +142,7 @@ opening_bytes = map encode opening
 -- all bytes, from behind the opening on
 pub opening_first : (program : Program) (b : BoardState) → IsAtRest (hear opening b).board (opened_state b)
     → full_bytes program b
-    ≡ opening_bytes ++ bytes-of (full_play (step_turns Reset program.steps) (resting (opened_state b)))
+    ≡ opening_bytes ++ bytes-of (full_play (step_turns Reset program.steps) (board_at_rest (opened_state b)))
 opening_first program b is =
     opening-first program b
     ∙ ap (λ (x : BoardState). opening_bytes ++ bytes-of (full_play (step_turns Reset program.steps) x)) is

@@ -7,7 +7,7 @@ ghost use Rattle.scan_vectors.specs.Held.{bits};
 ghost use Rattle.scan_vectors.specs.Vector.{judge, tdis};
 ghost use Rattle.svf_settings.specs.Seen as seen;
 ghost use Rattle.svf_settings.specs.Steps as steps;
-ghost use Rattle.board_meaning.specs.Chain.{after_all, hear};
+ghost use Rattle.board_meaning.specs.Chain.{after_bytes, hear};
 ghost use Rattle.board_meaning.specs.Resting.{IsAtRest};
 ghost use Rattle.board_meaning.specs.Whole as whole;
 ghost use Rattle.board_meaning.specs.Whole.{AtRest};
@@ -32,7 +32,7 @@ pub(crate) fn play_opening(board: &mut Board)
 
 /// The board takes bytes, one after another.
 fn take_all(board: &mut Board, bytes: &[u8])
-    ensures { board.new ≡ after_all bytes.now board.old }
+    ensures { board.new ≡ after_bytes bytes.now board.old }
 {
     for byte in bytes {
         let _ = board.byte(*byte);

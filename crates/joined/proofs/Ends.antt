@@ -12,19 +12,19 @@ use Rattle.board_meaning.specs.Sound.{HasDevice, IsSoundBoard}
 use Rattle.plays.specs.declared.ending.Ending.{Ending}
 use Rattle.plays.specs.declared.ending.Ending.TheVariants.{Lost}
 use Rattle.plays.specs.DirectPlay.{MeansFromOpening}
-use Rattle.plays.specs.Events.{Event, Known, World, by_answers, empty_pipes, fresh as fresh_world, run}
+use Rattle.plays.specs.Events.{Event, Known, World, by_answers, empty_pipes, before_events as fresh_world, run}
 use Rattle.plays.specs.Play.{Played, ending_for, play, player, sent, turns}
 use Rattle.plays.specs.Playing.{PlayerState, has_bad_answer}
 use Rattle.plays.specs.PlayingOn.{Stops}
 use Rattle.plays.specs.Streams as stream
-use Rattle.plays.specs.Streams.{StreamState, fresh}
+use Rattle.plays.specs.Streams.{StreamState, new_stream}
 use Rattle.plays.proofs.Asks.{asks, hear-asks, hear-full, sent-full, turns-ask}
 use Rattle.plays.proofs.Described.{means_from_opening}
 use Rattle.every_schedule.specs.Laws.{IsInside, IsWhole, taken_in}
-use Rattle.every_schedule.proofs.Honest.{ending-full, none-bad-any, told-bits}
+use Rattle.every_schedule.proofs.HonestLinks.{ending-full, none-bad-any, told-bits}
 use Rattle.every_schedule.proofs.Quits.{full-quits, turns-no-quit}
 use Rattle.every_schedule.proofs.Runs.{run-append}
-use Rattle.every_schedule.proofs.Whole.{every_schedule_inside, whole_at_end}
+use Rattle.every_schedule.proofs.SafetyLaws.{every_schedule_inside, whole_at_end}
 use Rattle.streaming.specs.Histories as history
 use Rattle.streaming.specs.Histories.{WasAsked}
 use Rattle.streaming.specs.Laws.{history_of, stream_of}
@@ -32,7 +32,7 @@ use Rattle.streaming.proofs.Agree.{agree, ask-count, counts, quit-byte}
 use Rattle.joined.specs.Finishing.{IsReached, ended_of, is_over}
 use Rattle.joined.specs.Joining.{JoinedState, side}
 use Rattle.joined.specs.Laws.{EndsAsTheFullPlay, MeansAfter, WhatIsJoinedEndsAsTheFullPlay, WhatIsJoinedMeansTheProgram, joined_after}
-use Rattle.joined.proofs.Finished.{carries, link, world_of}
+use Rattle.joined.proofs.RoundsEnd.{carries, link, world_of}
 
 -- A history that has all of the full play: its ending is the full play's.
 module _ (program : Program) (b : BoardState) where
@@ -67,7 +67,7 @@ module _ (program : Program) (b : BoardState) where
   over = (λ k. none-bad-any full.answers k || list_any (λ b. b == 81) (all-out k))
       ∙ quit-byte full.messages ∙ full-quits (turns program.steps) b (turns-no-quit program.steps)
 
-  pub tells : stream.ended 256 (stream_of Stops all) ≡ Some full.ending
+  pub tells : stream.ending_of_stream 256 (stream_of Stops all) ≡ Some full.ending
   tells = (agree Stops 256 all asked).ended
       ∙ ap (λ (e : Bool). if e then ending_for (turns program.steps) all.got else None) over
       ∙ ending-full (turns program.steps) b (turns-ask program.steps)
@@ -88,7 +88,7 @@ ends program b down_room up_room es quit =
     record {
       unlost = unlost;
       ending = (λ i. if unlost i then Some (Lost (min (stream.working (joined_after program b down_room up_room es).player) (2 ^ 64 - 1)))
-          else if quit i then stream.ended 256 (player_is i) else None) ∙ tells program b;
+          else if quit i then stream.ending_of_stream 256 (player_is i) else None) ∙ tells program b;
       board = ap (λ w. w.board) same ∙ whole.board;
     }
 
@@ -100,7 +100,7 @@ quit-first w ending unlost e = by w.quit refl
     by true is = is
     by false is =
         let none : ended_of w ≡ None =
-        (λ i. if unlost i then Some (Lost (min (stream.working w.player) (2 ^ 64 - 1))) else if is i then stream.ended 256 w.player else None) in
+        (λ i. if unlost i then Some (Lost (min (stream.working w.player) (2 ^ 64 - 1))) else if is i then stream.ending_of_stream 256 w.player else None) in
         let clash : None ≡ Some ending = sym none ∙ e in absurd (cc)
 
 pub means : WhatIsJoinedMeansTheProgram
@@ -129,7 +129,7 @@ tells-some s r done none = by s.world.lost refl
     by : (l : Bool) → s.world.lost ≡ l → ⊥
     by true lost =
         let some : ended_of s.world ≡ Some (Lost (min (stream.working s.world.player) (2 ^ 64 - 1))) =
-        (λ i. if lost i then Some (Lost (min (stream.working s.world.player) (2 ^ 64 - 1))) else if s.world.quit then stream.ended 256 s.world.player else None) in
+        (λ i. if lost i then Some (Lost (min (stream.working s.world.player) (2 ^ 64 - 1))) else if s.world.quit then stream.ending_of_stream 256 s.world.player else None) in
         let clash : Some (Lost (min (stream.working s.world.player) (2 ^ 64 - 1))) ≡ None = sym some ∙ none in cc
     by false unlost =
         let quit : s.world.quit ≡ true = quit-of s.world.quit s.world.lost done unlost in
@@ -141,7 +141,7 @@ pub means-after : (s : JoinedState) (more : List Event) (after : World StreamSta
 means-after s more after e program start es from legal sound some ending unlost ended =
     let there : after ≡ joined_after program start s.down_room s.up_room (es ++ more) =
     e ∙ ap (run side s.down_room s.up_room more) from
-    ∙ sym (run-append side s.down_room s.up_room es more (empty_pipes (fresh Stops program) start)) in
+    ∙ sym (run-append side s.down_room s.up_room es more (empty_pipes (new_stream Stops program) start)) in
     subst (λ (w : World StreamState). MeansFromOpening program start ending w.board) (sym there)
     (means program start s.down_room s.up_room (es ++ more) ending legal sound some (ap (λ (w : World StreamState). w.lost) (sym there) ∙ unlost)
     (ap ended_of (sym there) ∙ ended))

@@ -1,3 +1,3 @@
 pub mod Steps
-pub mod Finished
+pub mod RoundsEnd
 pub mod Ends

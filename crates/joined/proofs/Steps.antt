@@ -6,9 +6,9 @@ use Rattle.std.specs.Option.{unwrap_or}
 use Rattle.bitbang_table.specs.declared.Message.{Message}
 use Rattle.bitbang_table.specs.declared.Message.TheVariants.{Write, Ask, Quit, Light, Lines}
 use Rattle.bitbang_table.specs.Protocol.{decode}
-use Rattle.plays.specs.Events.{World, has_room, put_bytes, served, take_answers, taken}
+use Rattle.plays.specs.Events.{World, has_room, put_bytes, served, take_answers, after_byte_taken}
 use Rattle.plays.specs.Streams.{StreamState}
-use Rattle.stream_player.proofs.Filled.{waiting-more}
+use Rattle.stream_player.proofs.BufferFills.{waiting-more}
 use Rattle.joined.specs.Joining.{serve_one, side}
 
 abbrev Pipes : Type 0
@@ -36,7 +36,7 @@ module _ (down_room up_room : ℕ) where
   pub take-count : (w : Pipes) → 0 < length w.up → 1 + length (take_answers side down_room up_room 1 w).up ≡ length w.up
   take-count w some = omega (arith, length-drop 1 w.up)
 
-taken-down : (bytes : List ℕ) (o : Option Message) (w : World StreamState) → (taken bytes o w).down ≡ bytes
+taken-down : (bytes : List ℕ) (o : Option Message) (w : World StreamState) → (after_byte_taken bytes o w).down ≡ bytes
 taken-down bytes None w = refl
 taken-down bytes (Some Ask) w = refl
 taken-down bytes (Some Quit) w = refl
@@ -49,7 +49,7 @@ stop_of room w b = w.quit || not (has_room room w (decode b))
 
 abbrev one_of : ℕ → World StreamState → List ℕ → Option (World StreamState)
 one_of room w [] = None
-one_of room w (b ∷ bytes) = if stop_of room w b then None else Some (taken bytes (decode b) w)
+one_of room w (b ∷ bytes) = if stop_of room w b then None else Some (after_byte_taken bytes (decode b) w)
 
 one-is : (room : ℕ) (w : World StreamState) → serve_one room w ≡ one_of room w w.down
 one-is room w = go w.down
@@ -72,12 +72,12 @@ serve-step room m w some =
     one [] e some = absurd (cc)
     one (b ∷ bytes) e some = two (stop_of room w b) refl some
       where
-        two : (stop : Bool) → stop_of room w b ≡ stop → is_some (if stop then None else Some (taken bytes (decode b) w)) ≡ true
-            → IsStep room m w (unwrap_or (if stop then None else Some (taken bytes (decode b) w)) w)
+        two : (stop : Bool) → stop_of room w b ≡ stop → is_some (if stop then None else Some (after_byte_taken bytes (decode b) w)) ≡ true
+            → IsStep room m w (unwrap_or (if stop then None else Some (after_byte_taken bytes (decode b) w)) w)
         two true s some = absurd (cc)
         two false s some = record {
-          rest = ap (λ d. served room m d (taken bytes (decode b) w)) (taken-down bytes (decode b) w)
-              ∙ sym (ap (λ (q : Bool). if q then w else served room m bytes (taken bytes (decode b) w)) s)
+          rest = ap (λ d. served room m d (after_byte_taken bytes (decode b) w)) (taken-down bytes (decode b) w)
+              ∙ sym (ap (λ (q : Bool). if q then w else served room m bytes (after_byte_taken bytes (decode b) w)) s)
               ∙ ap (λ d. served room (suc m) d w) (sym e);
           count = omega (arith, ap length (taken-down bytes (decode b) w), ap length e);
         }
@@ -101,10 +101,10 @@ serve-none room m w none =
       where
         stopped : (m : ℕ) → stop_of room w b ≡ true → served room m (b ∷ bytes) w ≡ w
         stopped zero s = refl
-        stopped (suc m) s = ap (λ (q : Bool). if q then w else served room m bytes (taken bytes (decode b) w)) s
+        stopped (suc m) s = ap (λ (q : Bool). if q then w else served room m bytes (after_byte_taken bytes (decode b) w)) s
 
-        two : (stop : Bool) → stop_of room w b ≡ stop → is_some (if stop then None else Some (taken bytes (decode b) w)) ≡ false
-            → IsStill room m w (unwrap_or (if stop then None else Some (taken bytes (decode b) w)) w)
+        two : (stop : Bool) → stop_of room w b ≡ stop → is_some (if stop then None else Some (after_byte_taken bytes (decode b) w)) ≡ false
+            → IsStill room m w (unwrap_or (if stop then None else Some (after_byte_taken bytes (decode b) w)) w)
         two true s none = record { same = refl; rest = ap (λ d. served room m d w) e ∙ stopped m s }
         two false s none = absurd (cc)
 

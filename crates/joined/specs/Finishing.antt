@@ -8,7 +8,7 @@ use Rattle.board_meaning.specs.Chain.{BoardState}
 use Rattle.plays.specs.Events.{Event, Put, Serve, Take, World, empty_pipes, run}
 use Rattle.plays.specs.Play.{turns}
 use Rattle.plays.specs.PlayingOn.{Stops}
-use Rattle.plays.specs.Streams.{StreamState, fresh}
+use Rattle.plays.specs.Streams.{StreamState, new_stream}
 use Rattle.svf_settings.specs.Steps.{Program}
 use Rattle.every_schedule.specs.Fair.{HasNoLose}
 use Rattle.every_schedule.specs.InWork.{answers_in, bytes_in}
@@ -20,7 +20,8 @@ pub record IsReached (s : JoinedState) : Type 0 where
   pub events : List Event
   pub down_room : 0 < s.down_room
   pub up_room : 0 < s.up_room
-  pub world : s.world ≡ run side s.down_room s.up_room events (empty_pipes (fresh Stops s.world.player.program) start)
+  pub world : s.world ≡ run side s.down_room s.up_room events
+      (empty_pipes (new_stream Stops s.world.player.program) start)
 
 abbrev pub is_over : World StreamState → Bool
 is_over w = w.quit || w.lost
@@ -48,4 +49,4 @@ pub record IsFinished (before after : JoinedState) : Type 0 where
 abbrev pub ended_of : World StreamState → Option Ending
 ended_of w =
     if w.lost then Some (Lost (min (stream.working w.player) (2 ^ 64 - 1)))
-    else if w.quit then stream.ended 256 w.player else None
+    else if w.quit then stream.ending_of_stream 256 w.player else None

@@ -6,7 +6,7 @@ use Rattle.circular_buffer.specs.Buffer.{Buffer}
 use Rattle.board_meaning.specs.Chain.{BoardState}
 use Rattle.joined.specs.declared.event.Event as declared
 use Rattle.joined.specs.declared.event.Event.TheVariants as happening
-use Rattle.plays.specs.Events.{Event, Put, Serve, Take, Lose, Side, World, has_room, taken as taken_byte}
+use Rattle.plays.specs.Events.{Event, Put, Serve, Take, Lose, Side, World, has_room, after_byte_taken as taken_byte}
 use Rattle.plays.specs.Streams as stream
 use Rattle.plays.specs.Streams.{StreamState}
 
@@ -23,8 +23,8 @@ pub record JoinedState : Type 0 where
 abbrev pub bits : List ℕ → List Bool
 bits bytes = map (λ b. b == 49) bytes
 
-abbrev pub joined : StreamState → BoardState → Buffer ℕ → Buffer ℕ → (quit lost : Bool) → JoinedState
-joined player board down up quit lost = record {
+abbrev pub world_between : StreamState → BoardState → Buffer ℕ → Buffer ℕ → (quit lost : Bool) → JoinedState
+world_between player board down up quit lost = record {
   world = record { player = player; down = down.items; up = bits up.items; board = board; quit = quit; lost = lost };
   down_room = down.capacity;
   up_room = up.capacity;

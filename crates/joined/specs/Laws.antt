@@ -9,13 +9,13 @@ use Rattle.plays.specs.DirectPlay.{MeansFromOpening}
 use Rattle.plays.specs.Events.{Event, World, empty_pipes, run}
 use Rattle.plays.specs.Play.{play}
 use Rattle.plays.specs.PlayingOn.{Stops}
-use Rattle.plays.specs.Streams.{StreamState, fresh}
+use Rattle.plays.specs.Streams.{StreamState, new_stream}
 use Rattle.joined.specs.Finishing.{ended_of}
 use Rattle.joined.specs.Joining.{JoinedState, side}
 
 -- the world that events lead to, from a fresh player and a board with empty pipes
 abbrev pub joined_after : Program → BoardState → (down_room up_room : ℕ) → List Event → World StreamState
-joined_after program b down_room up_room es = run side down_room up_room es (empty_pipes (fresh Stops program) b)
+joined_after program b down_room up_room es = run side down_room up_room es (empty_pipes (new_stream Stops program) b)
 
 -- Once the board took `Q` the play was not lost, and its ending and its board are those of the full play.
 pub record EndsAsTheFullPlay (program : Program) (b : BoardState) (w : World StreamState) : Type 0 where

@@ -3,7 +3,7 @@
 ghost use Rattle.std.specs.Prelude.{◌≡◌, ◌≤◌, ◌<◌, ℕ, Some, map, MatchResult};
 ghost use Rattle.plays.specs.Events.{empty_pipes, moving, run};
 ghost use Rattle.plays.specs.PlayingOn.{Stops};
-ghost use Rattle.plays.specs.Streams.{fresh};
+ghost use Rattle.plays.specs.Streams.{new_stream};
 ghost use Rattle.joined.specs.Finishing.{IsFinished, ended_of};
 ghost use Rattle.joined.specs.Joining.{event_of, side};
 ghost use Rattle.joined.specs.Laws.{MeansAfter};
@@ -49,7 +49,7 @@ impl Joined {
         down: usize,
         up: usize,
     ) -> Result<Joined, Unjoined>
-        requires fresh { player ≡ fresh Stops player.program }
+        requires fresh { player ≡ new_stream Stops player.program }
         requires down { 0 < down }
         requires up { 0 < up }
         ensures { MatchResult result

@@ -3,7 +3,7 @@
 ghost use Rattle.std.specs.Prelude.{◌≡◌, ◌≤◌, ◌<◌, ◌+◌, ◌-◌, ℕ, Bool, [], min, length, take, map, is_some, nat_lt};
 ghost use Rattle.std.specs.Prelude.{false, unwrap_or, Some, MatchResult};
 ghost use Rattle.bitbang_table.specs.Protocol.{decode};
-ghost use Rattle.plays.specs.Events.{empty_pipes, happens, has_room, moved, moving, put_bytes, run, served};
+ghost use Rattle.plays.specs.Events.{empty_pipes, happens, has_room, bytes_moved, moving, put_bytes, run, served};
 ghost use Rattle.plays.specs.Events.{take_answers};
 ghost use Rattle.joined.specs.Finishing.{IsFinished, IsReached, ended_of, is_over};
 ghost use Rattle.joined.specs.Joining.{event_of, serve_one, side};
@@ -30,11 +30,11 @@ pub(crate) struct Pipes {
 }
 
 impl Model for Pipes {
-    ghost use Rattle.joined.specs.Joining.{AreAnswers, JoinedState, joined};
+    ghost use Rattle.joined.specs.Joining.{AreAnswers, JoinedState, world_between};
 
     ghost Value = { JoinedState };
 
-    ghost view = { λ j. joined j.player j.board j.down j.up j.quit j.lost };
+    ghost view = { λ j. world_between j.player j.board j.down j.up j.quit j.lost };
 
     ghost invariant = { λ j. AreAnswers j.up.items };
 }
@@ -189,7 +189,7 @@ impl Pipes {
     /// What an event does. Answers whether it moved something.
     pub(crate) fn happen(&mut self, event: Event) -> bool
         ensures moved { result
-            ≡ nat_lt 0 (moved side self.old.down_room self.old.up_room (event_of event) self.old.world) }
+            ≡ nat_lt 0 (bytes_moved side self.old.down_room self.old.up_room (event_of event) self.old.world) }
         ensures world { self.new ≡ record self.old {
           world = happens side self.old.down_room self.old.up_room (event_of event) self.old.world;
         } }

@@ -1,6 +1,6 @@
 pub mod HexLaws
 pub mod LengthLaws
 pub mod Pieces
-pub mod Rings
+pub mod PackedWords
 pub mod Lists
 pub mod Runs

@@ -16,7 +16,7 @@ use Rattle.jt_bits.specs.Lengths.{resized}
 use Rattle.jt_bits.specs.Packed.{has_bit, packed_bit, listed}
 use Rattle.jt_bits.specs.Shifting.{shifted}
 use Rattle.jt_bits.specs.Words.{bit_of, number, word_of, word_from, differ, is_bad_at, is_bad_bit, IsFirst}
-use Rattle.jt_bits.proofs.Rings.{ring, ring_below, ring_apart, ring_distinct, ring_next, ring_add, listed-length, listed-get, is_listed, packed_at, and_bit}
+use Rattle.jt_bits.proofs.PackedWords.{ring, ring_below, ring_apart, ring_distinct, ring_next, ring_add, listed-length, listed-get, is_listed, packed_at, and_bit}
 
 -- one value everywhere
 pub same_everywhere : (words : List ℕ) (len : ℕ) (bit : Bool) → len ≤ 64 * length words → ((p : ℕ) → p < 64 * length words → packed_bit words p ≡ bit)

@@ -13,7 +13,7 @@ use Rattle.jt_bits.specs.Packed.{has_bit, packed_bit, listed, RunPut}
 use Rattle.jt_bits.specs.Runs.{RunSet, copied}
 use Rattle.jt_bits.specs.Words.{bit_of}
 use Rattle.jt_bits.proofs.Lists.{bit_of-get_or}
-use Rattle.jt_bits.proofs.Rings.{ring_distinct, ring_add, listed-length, listed-get, or_bit, and_bit, shl_low, shl_high, shr_bit, above, eq_true, eq_false}
+use Rattle.jt_bits.proofs.PackedWords.{ring_distinct, ring_add, listed-length, listed-get, or_bit, and_bit, shl_low, shl_high, shr_bit, above, eq_true, eq_false}
 
 -- ---- one word
 

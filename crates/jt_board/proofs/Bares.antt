@@ -11,7 +11,7 @@ use Rattle.board_file.specs.Wiring as planned
 use Rattle.board_meaning.specs.Bare.{bare, bare_board, bare_from, bare_name}
 use Rattle.board_meaning.specs.Cells.{Member}
 use Rattle.board_meaning.specs.Chain.{members}
-use Rattle.board_meaning.specs.Resting.{power_up, resting, standing}
+use Rattle.board_meaning.specs.Resting.{power_up, board_at_rest, chip_at_rest}
 use Rattle.board_meaning.specs.Sound.{AllSound, IsChain}
 use Rattle.board_meaning.proofs.Powered.{powered_sound}
 use Rattle.chip_chain.specs.Building.{IsReady}
@@ -20,13 +20,13 @@ use Rattle.jt_board.specs.Made.{IsSoundWiring, bare_at, bare_planned, bare_wirin
 
 -- ---- sound devices
 
-all-sound : (ms : List planned.Member) → AllByRecursion (λ (m : planned.Member). IsSoundDevice m.device) ms → AllSound (members (map (standing Reset) (map powered_up ms)))
+all-sound : (ms : List planned.Member) → AllByRecursion (λ (m : planned.Member). IsSoundDevice m.device) ms → AllSound (members (map (chip_at_rest Reset) (map powered_up ms)))
 all-sound [] all = tt
 all-sound (m ∷ ms) all = (powered_sound m.name m.device m.core m.extest_update all.0, all-sound ms all.1)
 
-pub sound_chain : (w : planned.Wiring) → IsSoundWiring w → IsChain (map (standing Reset) (map powered_up w.members))
+pub sound_chain : (w : planned.Wiring) → IsSoundWiring w → IsChain (map (chip_at_rest Reset) (map powered_up w.members))
 sound_chain w is =
-    let long : length (map (standing Reset) (map powered_up w.members)) ≡ length w.members = length-map (map powered_up w.members) (standing Reset) ∙ length-map w.members powered_up in
+    let long : length (map (chip_at_rest Reset) (map powered_up w.members)) ≡ length w.members = length-map (map powered_up w.members) (chip_at_rest Reset) ∙ length-map w.members powered_up in
     record {
       some = subst (λ (n : ℕ). 0 < n) (sym long) is.some;
       most = subst (λ (n : ℕ). n ≤ 32) (sym long) is.most;
@@ -87,7 +87,7 @@ powered-bares k zero = refl
 powered-bares k (suc n) = ap (λ (r : List Member). powered_up (bare_at k) ∷ r) (powered-bares (suc k) n)
 
 pub bare_is : (n : ℕ) → board_of (bare_wiring n) ≡ bare_board n
-bare_is n = ap (λ (ms : List Member). resting (power_up [] ms)) (powered-bares 1 n)
+bare_is n = ap (λ (ms : List Member). board_at_rest (power_up [] ms)) (powered-bares 1 n)
 
 pub bare_push : (n j : ℕ) (devices new : List planned.Member) (d : planned.Member) → j ≡ n + 1 → devices ≡ bare_planned 1 n → d ≡ bare_at j → new ≡ devices ++ d ∷ []
     → new ≡ bare_planned 1 (n + 1)

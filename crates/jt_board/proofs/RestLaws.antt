@@ -12,9 +12,9 @@ use Rattle.pin_nets.specs.Wired.{Net}
 use Rattle.board_meaning.specs.Cells.{Member}
 use Rattle.board_meaning.specs.Chain.{BoardState, ChipState, members}
 use Rattle.board_meaning.specs.Nets.{sees}
-use Rattle.board_meaning.specs.Resting.{IsAtRest, resting, standing}
+use Rattle.board_meaning.specs.Resting.{IsAtRest, board_at_rest, chip_at_rest}
 use Rattle.board_meaning.specs.Sound.{AllSound, IsChain, IsSound}
-use Rattle.board_meaning.specs.Whole.{AtRest, arrive, capture, capture_all, chosen_of, cut_back, joined, reset_all}
+use Rattle.board_meaning.specs.Whole.{AtRest, arrive, capture, capture_all, selected_bits_of, cut_back, joined_bits, reset_all}
 use Rattle.board_meaning.specs.Whole.{reset_member, settle, settled_member, shift, trst_asserted, trst_member, update}
 use Rattle.board_meaning.specs.Whole.{update_member}
 use Rattle.board_meaning.proofs.Sound.{Sound-capture_all, Sound-cut_back, Sound-reset, Sound-update, sound-other}
@@ -51,14 +51,14 @@ chain-as ms cs long sound is =
       sound = subst AllSound (sym (members-as ms cs same)) sound;
     }
 
-standing-members : (state : State) (ms : List Member) → members (map (standing state) ms) ≡ ms
+standing-members : (state : State) (ms : List Member) → members (map (chip_at_rest state) ms) ≡ ms
 standing-members state [] = refl
 standing-members state (m ∷ ms) = ap (λ (r : List Member). m ∷ r) (standing-members state ms)
 
 -- a chain whose controllers all stand is one
-pub chain-stands : (state : State) (cs : List ChipState) → IsChain cs → IsChain (map (standing state) (members cs))
+pub chain-stands : (state : State) (cs : List ChipState) → IsChain cs → IsChain (map (chip_at_rest state) (members cs))
 chain-stands state cs is =
-    let long : length (map (standing state) (members cs)) ≡ length cs = length-map (members cs) (standing state)
+    let long : length (map (chip_at_rest state) (members cs)) ≡ length cs = length-map (members cs) (chip_at_rest state)
     ∙ count-members cs in
     record {
       some = subst (λ (n : ℕ). 0 < n) (sym long) is.some;
@@ -75,7 +75,7 @@ count-captured column sight k (m ∷ ms) = ap (λ (n : ℕ). suc n) (count-captu
 
 count-cut : (column : Column) (bits : List Bool) (ms : List Member) → length (cut_back column bits ms) ≡ length ms
 count-cut column bits [] = refl
-count-cut column bits (m ∷ ms) = ap (λ (n : ℕ). suc n) (count-cut column (drop (length (chosen_of column m)) bits) ms)
+count-cut column bits (m ∷ ms) = ap (λ (n : ℕ). suc n) (count-cut column (drop (length (selected_bits_of column m)) bits) ms)
 
 pub chain-captured : (column : Column) (nets : List Net) (cs : List ChipState) → IsChain cs
     → IsChain (as_members (capture_all column (sees nets (members cs)) 0 (members cs)) cs)
@@ -98,13 +98,13 @@ chain-reset cs is =
 pub chain-shifted : (column : Column) (t : List Bool) (cs : List ChipState) → IsChain cs
     → IsChain (as_members (shifted column t (members cs)) cs)
 chain-shifted column t cs is =
-    let left = drop (length t) (joined column (members cs) ++ t) in
-    let long : length left ≡ length (joined column (members cs)) =
+    let left = drop (length t) (joined_bits column (members cs) ++ t) in
+    let long : length left ≡ length (joined_bits column (members cs)) =
     omega (
       arith,
-      length-drop (length t) (joined column (members cs) ++ t),
+      length-drop (length t) (joined_bits column (members cs) ++ t),
       length-append
-          (joined column (members cs)) t,
+          (joined_bits column (members cs)) t,
     ) in
     chain-as (shifted column t (members cs)) cs (count-cut column left (members cs))
     (Sound-cut_back column left (members cs) is.sound long) is
@@ -112,12 +112,12 @@ chain-shifted column t cs is =
 -- ---- each action on a board at rest
 
 as-standing : (state : State) (ms ns : List Member) → length ns ≡ length ms
-    → as_members ns (map (standing state) ms) ≡ map (standing state) ns
+    → as_members ns (map (chip_at_rest state) ms) ≡ map (chip_at_rest state) ns
 as-standing state [] [] long = refl
 as-standing state [] (n ∷ ns) long = absurd (omega (arith, long))
 as-standing state (m ∷ ms) [] long = absurd (omega (arith, long))
 as-standing state (m ∷ ms) (n ∷ ns) long =
-    ap (λ (r : List ChipState). standing state n ∷ r) (as-standing state ms ns (omega (arith, long)))
+    ap (λ (r : List ChipState). chip_at_rest state n ∷ r) (as-standing state ms ns (omega (arith, long)))
 
 -- what the chain became, by its members
 abbrev pub became : Bool → (List Net → List Member → List Member) → ChainValue → BoardState
@@ -144,7 +144,7 @@ rests_as f long tck c m is =
     })
 
 pub rests_standing : (state : State) (tck : Bool) (c : ChainValue) (m : AtRest) → IsAtRest (board_at tck c) m
-    → IsAtRest (board_at tck (record c { chips = map (standing state) (members c.chips) }))
+    → IsAtRest (board_at tck (record c { chips = map (chip_at_rest state) (members c.chips) }))
     (record m { place = state })
 rests_standing state tck c m is =
     let same : members c.chips ≡ m.members = ap (λ (b : BoardState). members b.chips) is
@@ -153,7 +153,7 @@ rests_standing state tck c m is =
       tck = (is i).tck;
       trst = (is i).trst;
       nets = (is i).nets;
-      chips = map (standing state) (same i);
+      chips = map (chip_at_rest state) (same i);
     }
 
 pub rests_captured : (column : Column) (tck : Bool) (c : ChainValue) (m : AtRest) → IsAtRest (board_at tck c) m
@@ -177,7 +177,7 @@ pub rests_shifted : (column : Column) (t : List Bool) (tck : Bool) (c : ChainVal
     → IsAtRest (board_at tck (chain_as (shifted column t (members c.chips)) c)) (shift column t m)
 rests_shifted column t tck c m is =
     rests_as (λ nets ms. shifted column t ms)
-    (λ nets ms. count-cut column (drop (length t) (joined column ms ++ t)) ms) tck c m is
+    (λ nets ms. count-cut column (drop (length t) (joined_bits column ms ++ t)) ms) tck c m is
 
 -- the members of a board at rest
 pub rests_members : (b : BoardState) (m : AtRest) → IsAtRest b m → members b.chips ≡ m.members
@@ -188,9 +188,9 @@ pub rests_place : (b : BoardState) (m : AtRest) (k : ℕ) (c : ChipState) → Is
     → c.state ≡ m.place
 rests_place b m k c is at = by m.members k (sym (ap (λ (x : BoardState). slice_get x.chips k) is) ∙ at)
   where
-    by : (ms : List Member) (k : ℕ) → slice_get (map (standing m.place) ms) k ≡ Some c → c.state ≡ m.place
+    by : (ms : List Member) (k : ℕ) → slice_get (map (chip_at_rest m.place) ms) k ≡ Some c → c.state ≡ m.place
     by [] k at = absurd (cc)
-    by (x ∷ ms) zero at = let same : standing m.place x ≡ c = cc in sym (ap (λ (y : ChipState). y.state) same)
+    by (x ∷ ms) zero at = let same : chip_at_rest m.place x ≡ c = cc in sym (ap (λ (y : ChipState). y.state) same)
     by (x ∷ ms) (suc k) at = by ms k at
 
 -- ---- TRST
@@ -220,11 +220,11 @@ sound-asserted place (m ∷ ms) sound =
     )
 
 pub chain-asserted : (place : State) (cs : List ChipState) → IsChain cs
-    → IsChain (map (standing Reset) (map (trst_member (settled_member place)) (members cs)))
+    → IsChain (map (chip_at_rest Reset) (map (trst_member (settled_member place)) (members cs)))
 chain-asserted place cs is =
     let ms = map (trst_member (settled_member place)) (members cs) in
-    let long : length (map (standing Reset) ms) ≡ length cs =
-    length-map ms (standing Reset) ∙ length-map (members cs) (trst_member (settled_member place))
+    let long : length (map (chip_at_rest Reset) ms) ≡ length cs =
+    length-map ms (chip_at_rest Reset) ∙ length-map (members cs) (trst_member (settled_member place))
     ∙ count-members cs in
     record {
       some = subst (λ (n : ℕ). 0 < n) (sym long) is.some;
@@ -239,7 +239,7 @@ pub rests_asserted : (place : State) (tck : Bool) (c : ChainValue) (m : AtRest) 
     (record c {
       trst = true;
       chips =
-          map (standing Reset) (map (trst_member (settled_member place)) (members c.chips));
+          map (chip_at_rest Reset) (map (trst_member (settled_member place)) (members c.chips));
     })) (trst_asserted m)
 rests_asserted place tck c m is at =
     let same : members c.chips ≡ m.members = ap (λ (b : BoardState). members b.chips) is
@@ -248,7 +248,7 @@ rests_asserted place tck c m is at =
       tck = (is i).tck;
       trst = true;
       nets = (is i).nets;
-      chips = map (standing Reset) (map (trst_member (settled_member (at i))) (same i));
+      chips = map (chip_at_rest Reset) (map (trst_member (settled_member (at i))) (same i));
     }
 
 pub rests_released : (tck : Bool) (c : ChainValue) (m : AtRest) → IsAtRest (board_at tck c) m

@@ -6,7 +6,7 @@ use Rattle.bsdl_device.specs.Sound.{IsSoundDevice}
 use Rattle.board_file.specs.Wiring as planned
 use Rattle.board_meaning.specs.Bare.{bare, bare_name}
 use Rattle.board_meaning.specs.Chain.{BoardState}
-use Rattle.board_meaning.specs.Resting.{power_up, resting}
+use Rattle.board_meaning.specs.Resting.{power_up, board_at_rest}
 use Rattle.chip_chain.specs.Chains.{ChainValue, powered_up}
 
 -- a board of this chain, at this level of TCK
@@ -15,7 +15,7 @@ board_at tck c = record { tck = tck; trst = c.trst; nets = c.nets; chips = c.chi
 
 -- a planned board as it powers up
 abbrev pub board_of : planned.Wiring → BoardState
-board_of w = resting (power_up w.nets (map powered_up w.members))
+board_of w = board_at_rest (power_up w.nets (map powered_up w.members))
 
 -- 1 to 32 devices whose descriptions are sound
 pub record IsSoundWiring (w : planned.Wiring) : Type 0 where

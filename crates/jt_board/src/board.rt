@@ -120,7 +120,7 @@ impl Board {
     /// A byte outside the protocol is refused and changes nothing. No memory is taken.
     pub fn byte(&mut self, byte: u8) -> Reply
         ensures reply { result ≡ chain.reply byte self.old }
-        ensures board { self.new ≡ chain.after byte self.old }
+        ensures board { self.new ≡ chain.after_byte byte self.old }
     {
         match bitbang_table::decode(byte) {
             None => Reply::Refused(byte),
@@ -145,7 +145,7 @@ impl Board {
 
     /// What a message does to the board.
     fn hear(&mut self, message: Message)
-        ensures { self.new ≡ chain.told message self.old }
+        ensures { self.new ≡ chain.after_message message self.old }
     {
         match message {
             Message::Write { tck, tms, tdi } => {
@@ -160,7 +160,10 @@ impl Board {
 
 /// Written levels of TCK, TMS and TDI: a change of TCK is an edge.
 fn write(devices: &mut Chain, was: bool, tck: bool, tms: bool, tdi: bool)
-    ensures { devices.new ≡ record devices.old { chips = chain.written was tck tms tdi (board_at was devices.old) } }
+    ensures { devices.new ≡ record devices.old {
+      chips = chain.after_levels was tck tms tdi
+          (board_at was devices.old);
+    } }
 {
     match (was, tck) {
         (false, true) => devices.rise(tms, tdi),

@@ -5,7 +5,7 @@ ghost use Rattle.byte_ends.specs.Writes.{WritesAll, flagged};
 ghost use Rattle.plays.specs.DirectPlay.{MeansFromOpening, full_bytes};
 ghost use Rattle.plays.specs.Play.{play};
 ghost use Rattle.plays.specs.PlayingOn.{Stops};
-ghost use Rattle.plays.specs.Streams.{fresh};
+ghost use Rattle.plays.specs.Streams.{new_stream};
 
 use byte_ends::{Counted, Sink};
 use direct_play::{play_program, play_program_noted};
@@ -19,7 +19,7 @@ use stream_player::Player;
 /// Whatever state the board is in, the ending is that of the program's meaning over whole registers, from the state
 /// after the opening, and the board is at rest in its last state. Takes no memory.
 pub fn play_board(player: Player, board: &mut Board) -> Ending
-    requires { player ≡ fresh Stops player.program }
+    requires { player ≡ new_stream Stops player.program }
     ensures ending { result ≡ (play player.program board.old).ending }
     ensures board { board.new ≡ (play player.program board.old).board }
     ensures meaning { MeansFromOpening player.program board.old result board.new }
@@ -35,7 +35,7 @@ pub fn play_noted<W: Sink>(
     board: &mut Board,
     out: &mut Counted<W>,
 ) -> (Ending, bool)
-    requires fresh { player ≡ fresh Stops player.program }
+    requires fresh { player ≡ new_stream Stops player.program }
     requires none_lost { out.old.failures ≡ 0 }
 
     // The play.

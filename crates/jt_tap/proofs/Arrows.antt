@@ -2,7 +2,7 @@
 use Rattle.std.proofs.Common.{◌≡◌, ◌≢◌, ◌<◌, ℕ, zero, suc, Bool, true, false, refl, sym, subst, arith, replicate}
 use Rattle.jt_tap.specs.declared.State.{State}
 use Rattle.jt_tap.specs.declared.State.TheVariants.{Reset, Idle, DrSelect, DrCapture, DrShift, DrExit1, DrPause, DrExit2, DrUpdate, IrSelect, IrCapture, IrShift, IrExit1, IrPause, IrExit2, IrUpdate}
-use Rattle.jt_tap.specs.Controller.{Arrow, reset_0, reset_1, idle_0, idle_1, dr_select_0, dr_select_1, dr_capture_0, dr_capture_1, dr_shift_0, dr_shift_1, dr_exit1_0, dr_exit1_1, dr_pause_0, dr_pause_1, dr_exit2_0, dr_exit2_1, dr_update_0, dr_update_1, ir_select_0, ir_select_1, ir_capture_0, ir_capture_1, ir_shift_0, ir_shift_1, ir_exit1_0, ir_exit1_1, ir_pause_0, ir_pause_1, ir_exit2_0, ir_exit2_1, ir_update_0, ir_update_1, next, after, entered_by, FiveOnesReset, ArrowsAreTheFunction, EnteredByOne}
+use Rattle.jt_tap.specs.Controller.{Arrow, reset_0, reset_1, idle_0, idle_1, dr_select_0, dr_select_1, dr_capture_0, dr_capture_1, dr_shift_0, dr_shift_1, dr_exit1_0, dr_exit1_1, dr_pause_0, dr_pause_1, dr_exit2_0, dr_exit2_1, dr_update_0, dr_update_1, ir_select_0, ir_select_1, ir_capture_0, ir_capture_1, ir_shift_0, ir_shift_1, ir_exit1_0, ir_exit1_1, ir_pause_0, ir_pause_1, ir_exit2_0, ir_exit2_1, ir_update_0, ir_update_1, next, after_cycles, entered_by, FiveOnesReset, ArrowsAreTheFunction, EnteredByOne}
 
 pub ruleset arrows = (reset_0, reset_1, idle_0, idle_1, dr_select_0, dr_select_1, dr_capture_0, dr_capture_1, dr_shift_0, dr_shift_1, dr_exit1_0, dr_exit1_1, dr_pause_0, dr_pause_1, dr_exit2_0, dr_exit2_1, dr_update_0, dr_update_1, ir_select_0, ir_select_1, ir_capture_0, ir_capture_1, ir_shift_0, ir_shift_1, ir_exit1_0, ir_exit1_1, ir_pause_0, ir_pause_1, ir_exit2_0, ir_exit2_1, ir_update_0, ir_update_1)
 
@@ -115,7 +115,7 @@ arrows_are_the_function s tms t = (next-arrow s tms t, λ e. subst (Arrow s tms)
 pub entered_by_one : EnteredByOne
 entered_by_one s tms t a = rw (← next-arrow s tms t a) (sym (entered_by-next s tms))
 
-five_ones : (s : State) → after s (replicate 5 true) ≡ Reset
+five_ones : (s : State) → after_cycles s (replicate 5 true) ≡ Reset
 five_ones Reset = refl
 five_ones Idle = refl
 five_ones DrSelect = refl
@@ -133,7 +133,7 @@ five_ones IrPause = refl
 five_ones IrExit2 = refl
 five_ones IrUpdate = refl
 
-fewer : (n : ℕ) → n < 5 → after DrShift (replicate n true) ≢ Reset
+fewer : (n : ℕ) → n < 5 → after_cycles DrShift (replicate n true) ≢ Reset
 fewer zero h = λ e. cc
 fewer (suc zero) h = λ e. cc
 fewer (suc (suc zero)) h = λ e. cc

@@ -85,15 +85,15 @@ abbrev pub ArrowsAreTheFunction : Type 0
 ArrowsAreTheFunction = (s : State) (tms : Bool) (t : State) → Arrow s tms t ↔ (next s tms ≡ t)
 
 -- The state after a list of rising edges, by their TMS.
-abbrev pub after : State → List Bool → State
-after s [] = s
-after s (tms ∷ rest) = after (next s tms) rest
+abbrev pub after_cycles : State → List Bool → State
+after_cycles s [] = s
+after_cycles s (tms ∷ rest) = after_cycles (next s tms) rest
 
 -- Five rising edges with TMS 1 lead from every state to RESET, and no smaller number does from every state.
 abbrev pub FiveOnesReset : Type 0
 FiveOnesReset =
-    ((s : State) → after s (replicate 5 true) ≡ Reset)
-    × ((n : ℕ) → n < 5 → (s : State) × (after s (replicate n true) ≢ Reset))
+    ((s : State) → after_cycles s (replicate 5 true) ≡ Reset)
+    × ((n : ℕ) → n < 5 → (s : State) × (after_cycles s (replicate n true) ≢ Reset))
 
 -- What a device does in a state (6.1.1): it captures and shifts on the rising edge that ends a cycle there, and updates
 -- and resets on the falling edge in it.

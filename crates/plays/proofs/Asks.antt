@@ -8,7 +8,7 @@ use Rattle.jt_tap.specs.declared.State.{State}
 use Rattle.jt_tap.specs.declared.State.TheVariants.{Reset}
 use Rattle.bitbang_table.specs.declared.Message.{Message}
 use Rattle.bitbang_table.specs.declared.Message.TheVariants.{Write, Ask, Quit, Light, Lines}
-use Rattle.board_meaning.specs.Chain.{BoardState, Heard, hear, told}
+use Rattle.board_meaning.specs.Chain.{BoardState, Heard, hear, after_message}
 use Rattle.scan_vectors.specs.declared.part.Part.{Part}
 use Rattle.scan_vectors.specs.Vector.{VectorBit, judge}
 use Rattle.svf_settings.specs.Steps.{Step, Scan, Go, Path, Run, Trst, Numbered, place_after}
@@ -21,7 +21,7 @@ use Rattle.tck_cycles.specs.Cycles.{scan_cycles, go_unless_there, cycles}
 use Rattle.bitbang.specs.StepMessages.{line_message, step_messages}
 use Rattle.bitbang_table.specs.Protocol.{cycle_messages}
 use Rattle.plays.specs.Play.{Turn, Played, wants_of, step_turns, turns, up_to_asks, sent, full_play}
-use Rattle.plays.proofs.Grow.{judge-more, hear-append}
+use Rattle.plays.proofs.GrowthByPrefix.{judge-more, hear-append}
 
 -- how many questions a list of messages has
 abbrev pub asks : List Message → ℕ
@@ -31,11 +31,11 @@ asks (m ∷ ms) = asks ms
 
 pub hear-asks : (ms : List Message) (b : BoardState) → length (hear ms b).answers ≡ asks ms
 hear-asks [] b = refl
-hear-asks (Ask ∷ ms) b = ap (λ n. suc n) (hear-asks ms (told Ask b))
-hear-asks (Write tck tms tdi ∷ ms) b = hear-asks ms (told (Write tck tms tdi) b)
-hear-asks (Quit ∷ ms) b = hear-asks ms (told Quit b)
-hear-asks (Light l ∷ ms) b = hear-asks ms (told (Light l) b)
-hear-asks (Lines t s ∷ ms) b = hear-asks ms (told (Lines t s) b)
+hear-asks (Ask ∷ ms) b = ap (λ n. suc n) (hear-asks ms (after_message Ask b))
+hear-asks (Write tck tms tdi ∷ ms) b = hear-asks ms (after_message (Write tck tms tdi) b)
+hear-asks (Quit ∷ ms) b = hear-asks ms (after_message Quit b)
+hear-asks (Light l ∷ ms) b = hear-asks ms (after_message (Light l) b)
+hear-asks (Lines t s ∷ ms) b = hear-asks ms (after_message (Lines t s) b)
 
 asks-append : (xs ys : List Message) → asks (xs ++ ys) ≡ asks xs + asks ys
 asks-append [] ys = omega arith

@@ -6,7 +6,7 @@ use Rattle.jt_tap.specs.declared.State.TheVariants.{Reset}
 use Rattle.board_meaning.specs.Cells.{Member}
 use Rattle.board_meaning.specs.Chain.{BoardState, ChipState, hear, members}
 use Rattle.board_meaning.specs.Whole.{AtRest}
-use Rattle.board_meaning.specs.Resting.{IsAtRest, power_up, resting, standing}
+use Rattle.board_meaning.specs.Resting.{IsAtRest, power_up, board_at_rest, chip_at_rest}
 use Rattle.board_meaning.specs.Sound.{AllSound, IsSound, HasDevice, IsPoweredUp, IsSoundBoard}
 use Rattle.plays.specs.LegalPlays.{EveryDescribedBoardPlaysLegalPrograms, EveryLegalProgramMeansFromOpening, IsOpened, PlaysAsItMeans, TheStateAtRestIsOne, met_again}
 use Rattle.plays.specs.declared.ending.Ending.{Ending}
@@ -18,7 +18,7 @@ use Rattle.svf_settings.specs.Steps.{Numbered, Program}
 use Rattle.bitbang_table.specs.Cycles.{opening}
 use Rattle.board_meaning.proofs.SoundEdges.{count-bytes, sound-bytes}
 use Rattle.plays.proofs.Legality.{legal-from}
-use Rattle.plays.proofs.Opened.{opened-is-reset, standing-members}
+use Rattle.plays.proofs.AfterOpening.{opened-is-reset, standing-members}
 use Rattle.board_meaning.proofs.Powered.{powered_sound}
 use Rattle.plays.proofs.Programs.{opened-is, opened_to, program-plays}
 
@@ -26,12 +26,12 @@ first_state : List ChipState → State
 first_state [] = Reset
 first_state (c ∷ cs) = c.state
 
-standing-state : (p : State) (ms : List Member) → 0 < length (map (standing p) ms) → first_state (map (standing p) ms) ≡ p
+standing-state : (p : State) (ms : List Member) → 0 < length (map (chip_at_rest p) ms) → first_state (map (chip_at_rest p) ms) ≡ p
 unfolding first_state
 standing-state p [] some = absurd (omega arith)
 standing-state p (m ∷ ms) some = refl
 
-same-rest : (m n : AtRest) → HasDevice (resting m) → HasDevice (resting n) → resting m ≡ resting n → m ≡ n
+same-rest : (m n : AtRest) → HasDevice (board_at_rest m) → HasDevice (board_at_rest n) → board_at_rest m ≡ board_at_rest n → m ≡ n
 same-rest m n here there same =
     let place : m.place ≡ n.place = sym (standing-state m.place m.members here) ∙ ap (λ b. first_state b.chips) same ∙ standing-state n.place n.members there in
     let chain : m.members ≡ n.members = sym (standing-members m.place m.members) ∙ ap (λ b. members b.chips) same ∙ standing-members n.place n.members in
@@ -41,21 +41,21 @@ pub one_state : TheStateAtRestIsOne
 one_state b m n some is also =
     same-rest m n (subst (λ (c : BoardState). HasDevice c) is some) (subst (λ (c : BoardState). HasDevice c) also some) (sym is ∙ also)
 
-described-sound : (ms : List Member) → AllByRecursion (λ d. IsPoweredUp d) ms → AllSound (members (map (standing Reset) ms))
+described-sound : (ms : List Member) → AllByRecursion (λ d. IsPoweredUp d) ms → AllSound (members (map (chip_at_rest Reset) ms))
 described-sound [] all = tt
 described-sound (m ∷ ms) all = (
   subst (λ (d : Member). IsSound d) (sym all.0.registers) (powered_sound m.name m.device m.core m.extest_update all.0.description),
   described-sound ms all.1,
 )
 
-count-standing : (p : State) (ms : List Member) → length (map (standing p) ms) ≡ length ms
+count-standing : (p : State) (ms : List Member) → length (map (chip_at_rest p) ms) ≡ length ms
 count-standing p [] = refl
 count-standing p (m ∷ ms) = ap (λ n. suc n) (count-standing p ms)
 
 pub described : EveryDescribedBoardPlaysLegalPrograms
 described nets ms bytes all some =
     let b = met_again nets ms bytes in
-    let start = resting (power_up nets ms) in
+    let start = board_at_rest (power_up nets ms) in
     let sound : IsSoundBoard b = sound-bytes bytes start (described-sound ms all) in
     let devices : HasDevice b = subst (λ (n : ℕ). 0 < n) (sym (count-bytes bytes start ∙ count-standing Reset ms)) some in
     subst (λ (m : AtRest). IsOpened b m × ((steps : List Numbered) → IsLegalProgram steps → PlaysAsItMeans steps b m)) (opened-is-reset b)

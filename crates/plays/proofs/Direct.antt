@@ -4,7 +4,7 @@ use Rattle.std.specs.Prelude.{Option, Some, None, if◌then◌else◌, is_some, 
 use Rattle.jt_tap.specs.declared.State.{State}
 use Rattle.jt_tap.specs.declared.State.TheVariants.{Reset}
 use Rattle.bitbang_table.specs.declared.Message.TheVariants.{Quit, Lines}
-use Rattle.board_meaning.specs.Chain.{BoardState, Heard, hear, told}
+use Rattle.board_meaning.specs.Chain.{BoardState, Heard, hear, after_message}
 use Rattle.board_meaning.specs.Whole.{AtRest, capture, out, settle}
 use Rattle.scan_vectors.specs.declared.part.Part.{Part}
 use Rattle.scan_vectors.specs.Vector.{VectorBit, judge, differs, tdis}
@@ -13,9 +13,9 @@ use Rattle.plays.specs.Meaning.{command, failure, outcome, Outcome}
 use Rattle.plays.specs.declared.ending.Ending.TheVariants.{Fail}
 use Rattle.bitbang.specs.StepMessages.{step_messages}
 use Rattle.plays.specs.Play.{Turn, Played, wants_of, step_turns, turns, full_play}
-use Rattle.board_meaning.specs.Resting.{resting}
+use Rattle.board_meaning.specs.Resting.{board_at_rest}
 use Rattle.plays.proofs.Vectors.{picked}
-use Rattle.board_meaning.proofs.Ones.{opening-rests, reset_from_here}
+use Rattle.board_meaning.proofs.FiveOnes.{opening-rests, reset_from_here}
 
 -- the first wanted bit that differs is the same, found in the whole out or among the answers
 pub judge-picked : (v : List VectorBit) (bits : List Bool) → judge (filter (λ b. is_some b.wanted) v) (picked v bits) ≡ judge v bits
@@ -41,7 +41,7 @@ asked_of _ m = []
 
 -- what one step's law says: the answers, the board at rest, and the place
 pub record IsPlayed (step : Step) (m : AtRest) (answers : List Bool) : Type 0 where
-  pub heard : hear (step_messages m.place step) (resting m) ≡ record { answers = answers; board = resting (command step m) }
+  pub heard : hear (step_messages m.place step) (board_at_rest m) ≡ record { answers = answers; board = board_at_rest (command step m) }
   pub said : answers ≡ asked_of step m
   pub place : (command step m).place ≡ place_after m.place step
 
@@ -60,7 +60,7 @@ AllPlayed (s ∷ ss) m = (answers : List Bool) × IsPlayed s.what m answers × A
 
 pub record Same (p : Played) (o : Outcome) : Type 0 where
   pub ending : p.ending ≡ o.ending
-  pub board : p.board ≡ resting o.after
+  pub board : p.board ≡ board_at_rest o.after
 
 abbrev after_step : Turn → List Turn → Heard → Option (Part × ℕ) → Played
 after_step t ts heard found =
@@ -79,30 +79,30 @@ decided s ss m found =
     ]
 
 combine : (t : Turn) (ts : List Turn) (s : Numbered) (ss : List Numbered) (m : AtRest) (answers : List Bool)
-    → Same (full_play ts (resting (command s.what m))) (outcome ss (command s.what m)) → (found : Option (Part × ℕ)) → t.command ≡ s.number
-    → Same (after_step t ts (record { answers = answers; board = resting (command s.what m) }) found) (decided s ss m found)
+    → Same (full_play ts (board_at_rest (command s.what m))) (outcome ss (command s.what m)) → (found : Option (Part × ℕ)) → t.command ≡ s.number
+    → Same (after_step t ts (record { answers = answers; board = board_at_rest (command s.what m) }) found) (decided s ss m found)
 combine t ts s ss m answers rest None number = record { ending = rest.ending; board = rest.board }
 combine t ts s ss m answers rest (Some f) number = record { ending = λ i. Fail (number i) f.0 f.1; board = refl }
 
-steps-law : (ss : List Numbered) (m : AtRest) → AllPlayed ss m → Same (full_play (step_turns m.place ss) (resting m)) (outcome ss m)
+steps-law : (ss : List Numbered) (m : AtRest) → AllPlayed ss m → Same (full_play (step_turns m.place ss) (board_at_rest m)) (outcome ss m)
 steps-law [] m legal = record { ending = refl; board = refl }
 steps-law (s ∷ ss) m (answers, p, legal) =
     let t : Turn = record { command = s.number; messages = step_messages m.place s.what; wants = wants_of s.what } in
     let ts = step_turns (place_after m.place s.what) ss in
     let after = command s.what m in
-    let heard : Heard = record { answers = answers; board = resting after } in
-    let rest : Same (full_play ts (resting after)) (outcome ss after) =
-    subst (λ (place : State). Same (full_play (step_turns place ss) (resting after)) (outcome ss after)) p.place (steps-law ss after legal) in
-    let path : full_play (t ∷ ts) (resting m) ≡ after_step t ts heard (failure s.what m) =
+    let heard : Heard = record { answers = answers; board = board_at_rest after } in
+    let rest : Same (full_play ts (board_at_rest after)) (outcome ss after) =
+    subst (λ (place : State). Same (full_play (step_turns place ss) (board_at_rest after)) (outcome ss after)) p.place (steps-law ss after legal) in
+    let path : full_play (t ∷ ts) (board_at_rest m) ≡ after_step t ts heard (failure s.what m) =
     (λ i. after_step t ts (p.heard i) (judge t.wants (p.heard i).answers)) ∙ (λ i. after_step t ts heard (judged-of s.what m answers p.said i)) in
     subst (λ (q : Played). Same q (outcome (s ∷ ss) m)) (sym path) (combine t ts s ss m answers rest (failure s.what m) refl)
 
 -- Direct play: from every board, whatever bytes it took before, the full play ends as the register meaning says, from
 -- the state after the opening.
-pub program-law : (ss : List Numbered) (b : BoardState) → AllPlayed ss (reset_from_here (told (Lines false false) b))
-    → Same (full_play (turns ss) b) (outcome ss (reset_from_here (told (Lines false false) b)))
+pub program-law : (ss : List Numbered) (b : BoardState) → AllPlayed ss (reset_from_here (after_message (Lines false false) b))
+    → Same (full_play (turns ss) b) (outcome ss (reset_from_here (after_message (Lines false false) b)))
 program-law ss b legal =
-    let m = reset_from_here (told (Lines false false) b) in
+    let m = reset_from_here (after_message (Lines false false) b) in
     let rest = steps-law ss m legal in
     let ts = step_turns Reset ss in
     record {

@@ -17,7 +17,7 @@ use Rattle.svf_parse.specs.declared.statement.TrstWord.TheVariants.{On, Off, Z, 
 use Rattle.plays.specs.Meaning.{command, move_to, move_unless_there, scan_end}
 use Rattle.tap_paths.specs.Paths.{last_of}
 use Rattle.svf_settings.specs.Legal.{IsFormed, AllLegalFrom}
-use Rattle.board_meaning.proofs.Moves.{at_rest}
+use Rattle.board_meaning.proofs.Walks.{at_rest}
 use Rattle.plays.specs.Legal.{AllLegal}
 use Rattle.plays.specs.LegalPlays.{LegalityIsOfTheProgram}
 use Rattle.plays.proofs.StepLaws.{path-stable}

@@ -7,12 +7,12 @@ use Rattle.board_meaning.specs.Laws.{IsReset}
 use Rattle.board_meaning.specs.Resting.{IsAtRest}
 use Rattle.board_meaning.specs.Whole.{AtRest}
 use Rattle.board_meaning.proofs.BoardLaws.{resets-kept}
-use Rattle.board_meaning.proofs.Ones.{opening-rests}
+use Rattle.board_meaning.proofs.FiveOnes.{opening-rests}
 use Rattle.plays.specs.declared.ending.Ending.TheVariants.{Pass}
-use Rattle.plays.proofs.Opened.{opened-is-reset}
+use Rattle.plays.proofs.AfterOpening.{opened-is-reset}
 use Rattle.plays.specs.Play.{full_play, sent, turns}
 use Rattle.plays.specs.PlayLaws.{PlayerGrows, FullPlayIsBothEnds, StepsAskForTheirBits, EmptyProgramRests}
-use Rattle.plays.proofs.Grow.{sent-grows}
+use Rattle.plays.proofs.GrowthByPrefix.{sent-grows}
 use Rattle.plays.proofs.Asks.{asks-step, hear-asks, hear-full, sent-full, turns-ask}
 
 pub player_grows : PlayerGrows

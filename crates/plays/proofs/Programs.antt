@@ -5,15 +5,15 @@ use Rattle.jt_tap.specs.declared.State.TheVariants.{Reset}
 use Rattle.bitbang_table.specs.declared.Message.TheVariants.{Write, Lines}
 use Rattle.board_meaning.specs.Cells.{Member}
 use Rattle.bitbang_table.specs.Protocol.{encode}
-use Rattle.board_meaning.specs.Chain.{ChipState, BoardState, after_all, is_held, members, told}
+use Rattle.board_meaning.specs.Chain.{ChipState, BoardState, after_bytes, is_held, members, after_message}
 use Rattle.board_meaning.specs.Whole.{AtRest, reset_member}
 use Rattle.plays.specs.Meaning.{command}
 use Rattle.board_meaning.specs.Resting.{IsRest}
-use Rattle.board_meaning.proofs.Ones.{opening-rests, reset_from_here}
+use Rattle.board_meaning.proofs.FiveOnes.{opening-rests, reset_from_here}
 use Rattle.board_meaning.specs.Sound.{AllSound, HasDevice, IsSoundBoard}
 use Rattle.board_meaning.proofs.Sound.{Sound-reset}
-use Rattle.board_meaning.proofs.Told.{after_all-encoded}
-use Rattle.plays.proofs.Trips.{reset-all-twice}
+use Rattle.board_meaning.proofs.BytesAndMessages.{after_all-encoded}
+use Rattle.plays.proofs.PathsAndRuns.{reset-all-twice}
 use Rattle.svf_settings.specs.Steps.{Numbered}
 use Rattle.plays.specs.Play.{full_play, player, turns}
 use Rattle.plays.proofs.Direct.{AllPlayed, program-law}
@@ -21,8 +21,8 @@ use Rattle.plays.proofs.PlayLaws.{full_play_is_both_ends}
 use Rattle.plays.specs.Legal.{AllLegal}
 use Rattle.plays.specs.LegalPlays.{IsOpened, PlaysAsItMeans, EveryLegalProgramPlaysAsItMeans}
 use Rattle.board_meaning.proofs.SoundEdges.{sound-told, count-told}
-use Rattle.plays.proofs.Ready.{count-map}
-use Rattle.plays.proofs.Opened.{opened-is-reset}
+use Rattle.plays.proofs.KeptByActions.{count-map}
+use Rattle.plays.proofs.AfterOpening.{opened-is-reset}
 use Rattle.plays.proofs.StepLaws.{step-done}
 
 -- every step's law, and so every program's
@@ -35,13 +35,13 @@ all-played (s ∷ ss) m rest sound some legal =
 
 -- one cycle with TMS 1
 abbrev one : BoardState → BoardState
-one b = told (Write true true false) (told (Write false true false) b)
+one b = after_message (Write true true false) (after_message (Write false true false) b)
 
 sound-one : (b : BoardState) → IsSoundBoard b → IsSoundBoard (one b)
-sound-one b sound = sound-told (Write true true false) (told (Write false true false) b) (sound-told (Write false true false) b sound)
+sound-one b sound = sound-told (Write true true false) (after_message (Write false true false) b) (sound-told (Write false true false) b sound)
 
 count-one : (b : BoardState) → length (one b).chips ≡ length b.chips
-count-one b = count-told (Write true true false) (told (Write false true false) b) ∙ count-told (Write false true false) b
+count-one b = count-told (Write true true false) (after_message (Write false true false) b) ∙ count-told (Write false true false) b
 
 abbrev high : BoardState → BoardState
 high b = one (one (one (one (one b))))
@@ -59,7 +59,7 @@ count-members (c ∷ cs) = ap (λ n. suc n) (count-members cs)
 
 -- the board as TRST is released, and the state at rest that the opening brings it to
 abbrev pub unasserted : BoardState → BoardState
-unasserted b = told (Lines false false) b
+unasserted b = after_message (Lines false false) b
 
 abbrev pub opened_to : BoardState → AtRest
 opened_to b = reset_from_here (unasserted b)
@@ -88,11 +88,11 @@ opened-is b sound = record {
 
 -- the player's bytes for the play's answers leave the play's board
 by-bytes : (window : ℕ) (steps : List Numbered) (b : BoardState)
-    → after_all (player window (turns steps) (full_play (turns steps) b).answers) b ≡ (full_play (turns steps) b).board
+    → after_bytes (player window (turns steps) (full_play (turns steps) b).answers) b ≡ (full_play (turns steps) b).board
 by-bytes window steps b =
     let p = full_play (turns steps) b in
     let both = full_play_is_both_ends window steps b in
-    ap (λ ms. after_all (map encode ms) b) both.0 ∙ after_all-encoded p.messages b ∙ ap (λ h. h.board) both.1
+    ap (λ ms. after_bytes (map encode ms) b) both.0 ∙ after_all-encoded p.messages b ∙ ap (λ h. h.board) both.1
 
 plays : (steps : List Numbered) (b : BoardState) → IsOpened b (opened_to b) → HasDevice b → AllLegal steps (opened_to b)
     → PlaysAsItMeans steps b (opened_to b)

@@ -8,7 +8,7 @@ use Rattle.jt_tap.specs.Controller.{next, is_stable}
 use Rattle.board_meaning.specs.Cells.{Member}
 use Rattle.pin_nets.specs.Wired.{Net}
 use Rattle.board_meaning.specs.Chain.{hear}
-use Rattle.board_meaning.specs.Whole.{AtRest, joined, cut_back, capture, settle, out, shift}
+use Rattle.board_meaning.specs.Whole.{AtRest, joined_bits, cut_back, capture, settle, out, shift}
 use Rattle.scan_vectors.specs.Vector.{VectorBit, tdis}
 use Rattle.svf_settings.specs.Steps.{Scan}
 use Rattle.plays.specs.Meaning.{command, scan_end}
@@ -17,11 +17,11 @@ use Rattle.bitbang_table.specs.declared.Cycle.{Cycle}
 use Rattle.bitbang_table.specs.Cycles.{walk, closed}
 use Rattle.bitbang.specs.StepMessages.{step_messages}
 use Rattle.tck_cycles.specs.Cycles.{scan_cycles}
-use Rattle.board_meaning.specs.Resting.{resting}
-use Rattle.board_meaning.proofs.Low.{low, Free, Ran, ran, heard_of, tail, hear-tail, asked, cycled}
+use Rattle.board_meaning.specs.Resting.{board_at_rest}
+use Rattle.board_meaning.proofs.OneCycle.{low, Free, Ran, ran, heard_of, tail, hear-tail, asked, cycled}
 use Rattle.board_meaning.proofs.Shift.{shift_state, Full}
 use Rattle.plays.proofs.Vectors.{vector, shifted, picked}
-use Rattle.board_meaning.proofs.Moves.{IsWalk, walked, ran-walk, ends_at, at_rest, low-resting, stable-quiet}
+use Rattle.board_meaning.proofs.Walks.{IsWalk, walked, ran-walk, ends_at, at_rest, low-resting, stable-quiet}
 
 -- one run after another
 abbrev and_then : Ran → Ran → Ran
@@ -77,7 +77,7 @@ finish-path Ir IrPause se = record { legal = (refl, refl, tt); ends = refl; effe
 finish-path Ir _ se = absurd (cc)
 
 vector-nonempty : (column : Column) (nets : List Net) (v : VectorBit) (vs : List VectorBit) (ms : List Member) → 0 < length ms → Full column ms
-    → ran nets (scan_cycles (v ∷ vs)) (shift_state column) ms ≡ shifted column (v ∷ vs) (joined column ms ++ tdis (v ∷ vs)) ms
+    → ran nets (scan_cycles (v ∷ vs)) (shift_state column) ms ≡ shifted column (v ∷ vs) (joined_bits column ms ++ tdis (v ∷ vs)) ms
 vector-nonempty column nets v vs [] some full = absurd (omega arith)
 vector-nonempty column nets v vs (m ∷ ms) some full = vector column nets v vs m ms full
 
@@ -98,10 +98,10 @@ ready column place trst nets ms = capture column (settle (at_rest place trst net
 pub scan-law : (column : Column) (v : VectorBit) (vs : List VectorBit) (place end : State) (trst : Bool) (nets : List Net) (ms : List Member)
     → is_stable place ≡ true → is_stable end ≡ true → Free trst ms
     → 0 < length (ready column place trst nets ms).members → Full column (ready column place trst nets ms).members
-    → hear (step_messages place (Scan column (v ∷ vs) end)) (resting (at_rest place trst nets ms))
+    → hear (step_messages place (Scan column (v ∷ vs) end)) (board_at_rest (at_rest place trst nets ms))
     ≡ record {
       answers = picked (v ∷ vs) (out column (tdis (v ∷ vs)) (ready column place trst nets ms));
-      board = resting (command (Scan column (v ∷ vs) end) (at_rest place trst nets ms));
+      board = board_at_rest (command (Scan column (v ∷ vs) end) (at_rest place trst nets ms));
     }
 scan-law column v vs place end trst nets ms sp se free some full =
     let start = start-path place column sp in
@@ -116,7 +116,7 @@ scan-law column v vs place end trst nets ms sp se free some full =
     let some_here : 0 < length C = subst (λ (m : AtRest). 0 < length m.members) (sym same) some in
     let full_here : Full column C = subst (λ (m : AtRest). Full column m.members) (sym same) full in
     let ts = tdis (v ∷ vs) in
-    let line = joined column C ++ ts in
+    let line = joined_bits column C ++ ts in
     let A = picked (v ∷ vs) (take (length (v ∷ vs)) line) in
     let D = cut_back column (drop (length (v ∷ vs)) line) C in
     let after = walked nets E (from_exit1 column end) D in
@@ -139,12 +139,12 @@ scan-law column v vs place end trst nets ms sp se free some full =
     ∙ hear-tail trst nets (first ++ body ++ last) place ms free
     ∙ ap (heard_of trst nets) whole
     ∙ (λ i. record { answers = A; board = low-resting end trst nets after (stable-quiet end se) i })
-    ∙ (λ i. record { answers = A; board = resting (finish.effect place trst nets D i) })
+    ∙ (λ i. record { answers = A; board = board_at_rest (finish.effect place trst nets D i) })
     ∙ (λ i. record {
       answers = picked (v ∷ vs) (take (length-tdis (v ∷ vs) i) line);
-      board = resting (scan_end column end (at_rest place trst nets (cut_back column (drop (length-tdis (v ∷ vs) i) line) C)));
+      board = board_at_rest (scan_end column end (at_rest place trst nets (cut_back column (drop (length-tdis (v ∷ vs) i) line) C)));
     })
     ∙ (λ i. record {
       answers = picked (v ∷ vs) (out column ts (same i));
-      board = resting (scan_end column end (shift column ts (same i)));
+      board = board_at_rest (scan_end column end (shift column ts (same i)));
     })

@@ -19,22 +19,22 @@ use Rattle.plays.specs.Meaning.{command, move_unless_there}
 use Rattle.bitbang_table.specs.Cycles.{walk, closed}
 use Rattle.bitbang.specs.StepMessages.{step_messages}
 use Rattle.tap_paths.specs.Paths.{last_of}
-use Rattle.board_meaning.specs.Resting.{resting, IsRest}
+use Rattle.board_meaning.specs.Resting.{board_at_rest, IsRest}
 use Rattle.svf_settings.specs.Legal.{IsPath, IsFormed, is_reset, leaves_reset}
 use Rattle.plays.specs.Legal.{IsLegal}
-use Rattle.board_meaning.proofs.Low.{Free}
-use Rattle.board_meaning.proofs.Moves.{at_rest, go-law}
+use Rattle.board_meaning.proofs.OneCycle.{Free}
+use Rattle.board_meaning.proofs.Walks.{at_rest, go-law}
 use Rattle.plays.proofs.Scan.{scan-law}
-use Rattle.plays.proofs.Trips.{IsTrip, StaysReset, path-law, run-law}
+use Rattle.plays.proofs.PathsAndRuns.{IsTrip, StaysReset, path-law, run-law}
 use Rattle.board_meaning.proofs.Resets.{reset-twice, trst-on-law}
-use Rattle.plays.proofs.Held.{held-law}
+use Rattle.plays.proofs.HeldInReset.{held-law}
 use Rattle.board_meaning.specs.Sound.{AllSound, IsSound}
 use Rattle.board_meaning.proofs.Sound.{Sound-Full, Sound-reset, Sound-update}
 use Rattle.plays.proofs.Vectors.{picked}
 use Rattle.plays.specs.Play.{wants_of}
 use Rattle.plays.proofs.Direct.{IsPlayed, asked_of, judged-of}
 use Rattle.plays.specs.LegalPlays.{EachLegalStepPlaysAsItMeans}
-use Rattle.plays.proofs.Ready.{IsReady, Ready, IsEnd, end-is-rest, move-end, maybe-end, scan-rests, along-rests, ready-to-shift, count-map}
+use Rattle.plays.proofs.KeptByActions.{IsReady, Ready, IsEnd, end-is-rest, move-end, maybe-end, scan-rests, along-rests, ready-to-shift, count-map}
 
 -- what one step's law says, and what it keeps
 pub record IsDone (step : Step) (m : AtRest) : Type 0 where
@@ -46,7 +46,7 @@ pub record IsDone (step : Step) (m : AtRest) : Type 0 where
 
 -- a step that ends in a state
 done-at : (step : Step) (m : AtRest) (answers : List Bool) (to : State) → is_stable to ≡ true → place_after m.place step ≡ to
-    → hear (step_messages m.place step) (resting m) ≡ record { answers = answers; board = resting (command step m) }
+    → hear (step_messages m.place step) (board_at_rest m) ≡ record { answers = answers; board = board_at_rest (command step m) }
     → answers ≡ asked_of step m → IsEnd to (length m.members) (command step m) → IsDone step m
 done-at step m answers to stable after heard said end = record {
   answers = answers;
@@ -116,12 +116,12 @@ free-done (Run run n end) place trst nets ms leaves here kept some formed ready 
 free-done (Trst word) place trst nets ms leaves here kept some formed ready = absurd (cc)
 
 -- A step that changes nothing.
-done-same : (step : Step) (m : AtRest) → command step m ≡ m → hear (step_messages m.place step) (resting m) ≡ record { answers = []; board = resting m }
+done-same : (step : Step) (m : AtRest) → command step m ≡ m → hear (step_messages m.place step) (board_at_rest m) ≡ record { answers = []; board = board_at_rest m }
     → [] ≡ asked_of step m → place_after m.place step ≡ m.place → IsRest m → AllSound m.members → IsDone step m
 done-same step m same heard said after rest sound = record {
   answers = [];
   played = record {
-    heard = heard ∙ (λ i. record { answers = []; board = resting (sym same i) });
+    heard = heard ∙ (λ i. record { answers = []; board = board_at_rest (sym same i) });
     said = said;
     place = ap (λ (n : AtRest). n.place) same ∙ sym after;
   };
@@ -166,8 +166,8 @@ path-stays path trst nets ms all rest sound =
     let same : path ≡ replicate n Reset = all-resets path all in
     done-same (Path path) (at_rest Reset trst nets ms)
     ((λ i. along (same i) (at_rest Reset trst nets ms)) ∙ along-resets n trst nets ms (rest.at_reset refl))
-    ((λ i. hear (closed (map walk (same i))) (resting (at_rest Reset trst nets ms)))
-    ∙ (λ i. hear (closed (walk-resets n i)) (resting (at_rest Reset trst nets ms)))
+    ((λ i. hear (closed (map walk (same i))) (board_at_rest (at_rest Reset trst nets ms)))
+    ∙ (λ i. hear (closed (walk-resets n i)) (board_at_rest (at_rest Reset trst nets ms)))
     ∙ held-law n trst nets ms (rest.at_reset refl))
     refl ((λ i. last_of Reset (same i)) ∙ last-resets n) rest sound
 
@@ -176,7 +176,7 @@ run-stays : (n : ℕ) (trst : Bool) (nets : List Net) (ms : List Member)
     → IsRest (at_rest Reset trst nets ms) → AllSound ms → IsDone (Run Reset n Reset) (at_rest Reset trst nets ms)
 run-stays n trst nets ms rest sound =
     done-same (Run Reset n Reset) (at_rest Reset trst nets ms) refl
-    ((λ i. hear (closed (append-nil (replicate n (walk Reset)) i)) (resting (at_rest Reset trst nets ms)))
+    ((λ i. hear (closed (append-nil (replicate n (walk Reset)) i)) (board_at_rest (at_rest Reset trst nets ms)))
     ∙ held-law n trst nets ms (rest.at_reset refl))
     refl refl rest sound
 

@@ -9,15 +9,15 @@ use Rattle.bsdl_device.specs.Device.{Device}
 use Rattle.scan_registers.specs.declared.Selected.{Selected}
 use Rattle.scan_registers.specs.declared.Selected.TheVariants.{Bypass, Identification, Boundary, User}
 use Rattle.scan_registers.specs.Instruction.{meaning}
-use Rattle.scan_registers.specs.Registers.{Registers, chosen, put, stage_of, with_stage, user_stage, with_user_stage}
+use Rattle.scan_registers.specs.Registers.{Registers, selected_bits, put, stage_of, with_stage, user_stage, with_user_stage}
 use Rattle.scan_registers.specs.declared.users.UserRegister.{UserRegister}
 use Rattle.board_meaning.specs.Cells.{Member}
 use Rattle.pin_nets.specs.Wired.{Net}
 use Rattle.board_meaning.specs.Nets.{sees}
-use Rattle.board_meaning.specs.Whole.{chosen_of, joined, cut_back}
+use Rattle.board_meaning.specs.Whole.{selected_bits_of, joined_bits, cut_back}
 use Rattle.scan_vectors.specs.Vector.{VectorBit, tdis}
 use Rattle.tck_cycles.specs.Cycles.{scan_cycles}
-use Rattle.board_meaning.proofs.Low.{given, cycled, fallen_one, ran, Ran, asked}
+use Rattle.board_meaning.proofs.OneCycle.{given, cycled, fallen_one, ran, Ran, asked}
 use Rattle.board_meaning.proofs.Shift.{shift_state, Full, given-joined, left-part, right-part, shift-one}
 
 user-put : (k : ℕ) (bits : List Bool) (us : List UserRegister) → 0 < length (user_stage k us) → user_stage k (with_user_stage k bits us) ≡ bits
@@ -48,7 +48,7 @@ with_stage-twice Identification a b r = refl
 with_stage-twice Boundary a b r = refl
 with_stage-twice (User k) a b r = λ i. record r { users = user-put-put k a b r.users i }
 
-pub chosen-put : (d : Device) (column : Column) (bits : List Bool) (r : Registers) → 0 < length (chosen d column r) → chosen d column (put d column bits r) ≡ bits
+pub chosen-put : (d : Device) (column : Column) (bits : List Bool) (r : Registers) → 0 < length (selected_bits d column r) → selected_bits d column (put d column bits r) ≡ bits
 chosen-put d Ir bits r full = refl
 chosen-put d Dr bits r full =
     let s = (meaning d r.latch).selected in
@@ -64,33 +64,33 @@ no-length : (X : List Bool) → length X ≡ 0 → X ≡ []
 no-length [] e = refl
 no-length (x ∷ xs) e = absurd (omega arith)
 
-pub joined-cut_back : (column : Column) (X : List Bool) (ms : List Member) → Full column ms → length X ≡ length (joined column ms)
-    → joined column (cut_back column X ms) ≡ X
+pub joined-cut_back : (column : Column) (X : List Bool) (ms : List Member) → Full column ms → length X ≡ length (joined_bits column ms)
+    → joined_bits column (cut_back column X ms) ≡ X
 joined-cut_back column X [] full e = sym (no-length X e)
 joined-cut_back column X (m ∷ ms) full e =
-    let n = length (chosen_of column m) in
+    let n = length (selected_bits_of column m) in
     (λ i. chosen-put m.device column (take n X) m.registers full.0 i
     ++ joined-cut_back column (drop n X) ms full.1 (right-part column m ms X e) i)
     ∙ take-append-drop n X
 
-pub cut_back-cut_back : (column : Column) (X Y : List Bool) (ms : List Member) → Full column ms → length X ≡ length (joined column ms)
+pub cut_back-cut_back : (column : Column) (X Y : List Bool) (ms : List Member) → Full column ms → length X ≡ length (joined_bits column ms)
     → cut_back column Y (cut_back column X ms) ≡ cut_back column Y ms
 cut_back-cut_back column X Y [] full e = refl
 cut_back-cut_back column X Y (m ∷ ms) full e =
-    let n = length (chosen_of column m) in
-    let same : length (chosen m.device column (put m.device column (take n X) m.registers)) ≡ n =
+    let n = length (selected_bits_of column m) in
+    let same : length (selected_bits m.device column (put m.device column (take n X) m.registers)) ≡ n =
     ap length (chosen-put m.device column (take n X) m.registers full.0) ∙ left-part column m ms X e in
     (λ i. record m { registers = put m.device column (take (same i) Y) (put m.device column (take n X) m.registers) }
     ∷ cut_back column (drop (same i) Y) (cut_back column (drop n X) ms))
     ∙ (λ i. record m { registers = put-put m.device column (take n X) (take n Y) m.registers i }
     ∷ cut_back-cut_back column (drop n X) (drop n Y) ms full.1 (right-part column m ms X e) i)
 
-pub Full-cut_back : (column : Column) (X : List Bool) (ms : List Member) → Full column ms → length X ≡ length (joined column ms)
+pub Full-cut_back : (column : Column) (X : List Bool) (ms : List Member) → Full column ms → length X ≡ length (joined_bits column ms)
     → Full column (cut_back column X ms)
 Full-cut_back column X [] full e = tt
 Full-cut_back column X (m ∷ ms) full e =
-    let n = length (chosen_of column m) in
-    let same : length (chosen m.device column (put m.device column (take n X) m.registers)) ≡ n =
+    let n = length (selected_bits_of column m) in
+    let same : length (selected_bits m.device column (put m.device column (take n X) m.registers)) ≡ n =
     ap length (chosen-put m.device column (take n X) m.registers full.0) ∙ left-part column m ms X e in
     (subst (λ (l : ℕ). 0 < l) (sym same) full.0, Full-cut_back column (drop n X) ms full.1 (right-part column m ms X e))
 
@@ -111,7 +111,7 @@ stays Ir = refl
 
 -- The shift cycle: with every device in Shift and each TDO latched, one low and high byte move the joined list by one.
 pub cycled-shift : (column : Column) (tms tdi : Bool) (nets : List Net) (ms : List Member) → Full column ms
-    → cycled (shift_state column) tms tdi nets ms ≡ cut_back column (drop 1 (joined column ms ++ tdi ∷ [])) ms
+    → cycled (shift_state column) tms tdi nets ms ≡ cut_back column (drop 1 (joined_bits column ms ++ tdi ∷ [])) ms
 cycled-shift column tms tdi nets ms full = fallen-quiet column tms _ ∙ shift-one column tdi (sees nets ms) 0 ms full
 
 -- the bits at the places where one is wanted
@@ -133,25 +133,25 @@ shifted column v line ms = record {
 
 -- one place on: what is left of the joined list and the bit shifted in
 abbrev moved_line : Column → Bool → List Member → List Bool
-moved_line column tdi ms = drop 1 (joined column ms ++ tdi ∷ [])
+moved_line column tdi ms = drop 1 (joined_bits column ms ++ tdi ∷ [])
 
-length-moved_line : (column : Column) (tdi : Bool) (ms : List Member) → length (moved_line column tdi ms) ≡ length (joined column ms)
+length-moved_line : (column : Column) (tdi : Bool) (ms : List Member) → length (moved_line column tdi ms) ≡ length (joined_bits column ms)
 length-moved_line column tdi ms =
-    let J = joined column ms in
+    let J = joined_bits column ms in
     omega (arith, length-drop 1 (J ++ tdi ∷ []), length-append J (tdi ∷ []))
 
 given-any : (column : Column) (tdi : Bool) (m : Member) (ms : List Member) → given (shift_state column) true (m ∷ ms) ≡ given (shift_state column) tdi (m ∷ ms)
 given-any column tdi m ms = refl
 
 begins : (column : Column) (t : Bool) (ts : List Bool) (m : Member) (ms : List Member) → Full column (m ∷ ms)
-    → given (shift_state column) true (m ∷ ms) ∷ (moved_line column t (m ∷ ms) ++ ts) ≡ joined column (m ∷ ms) ++ t ∷ ts
+    → given (shift_state column) true (m ∷ ms) ∷ (moved_line column t (m ∷ ms) ++ ts) ≡ joined_bits column (m ∷ ms) ++ t ∷ ts
 begins column t ts m ms full =
-    ap (λ r. r ++ ts) (given-joined column t (m ∷ ms) full) ∙ append_assoc (joined column (m ∷ ms)) (t ∷ []) ts
+    ap (λ r. r ++ ts) (given-joined column t (m ∷ ms) full) ∙ append_assoc (joined_bits column (m ∷ ms)) (t ∷ []) ts
 
 -- A whole vector: out are the first bits of the joined list followed by it; the new joined list is what comes after.
 pub vector : (column : Column) (nets : List Net) (v : VectorBit) (vs : List VectorBit) (m : Member) (ms : List Member) → Full column (m ∷ ms)
     → ran nets (scan_cycles (v ∷ vs)) (shift_state column) (m ∷ ms)
-    ≡ shifted column (v ∷ vs) (joined column (m ∷ ms) ++ tdis (v ∷ vs)) (m ∷ ms)
+    ≡ shifted column (v ∷ vs) (joined_bits column (m ∷ ms) ++ tdis (v ∷ vs)) (m ∷ ms)
 vector column nets v [] m ms full =
     let g = given (shift_state column) true (m ∷ ms) in
     (λ i. record {
@@ -171,13 +171,13 @@ vector column nets v (w ∷ vs) m ms full =
     let cs = scan_cycles (w ∷ vs) in
     let ts = tdis (w ∷ vs) in
     let n = length (w ∷ vs) in
-    let long : length X ≡ length (joined column (m ∷ ms)) = length-moved_line column v.tdi (m ∷ ms) in
+    let long : length X ≡ length (joined_bits column (m ∷ ms)) = length-moved_line column v.tdi (m ∷ ms) in
     let D : List Member = cut_back column X (m ∷ ms) in
     let first : ran nets cs (next S false) (cycled S false v.tdi nets (m ∷ ms)) ≡ ran nets cs S D =
     (λ i. ran nets cs (stays column i) (cycled-shift column false v.tdi nets (m ∷ ms) full i)) in
-    let rest : ran nets cs S D ≡ shifted column (w ∷ vs) (joined column D ++ ts) D =
+    let rest : ran nets cs S D ≡ shifted column (w ∷ vs) (joined_bits column D ++ ts) D =
     vector column nets w vs _ _ (Full-cut_back column X (m ∷ ms) full long) in
-    let line : shifted column (w ∷ vs) (joined column D ++ ts) D ≡ shifted column (w ∷ vs) (X ++ ts) D =
+    let line : shifted column (w ∷ vs) (joined_bits column D ++ ts) D ≡ shifted column (w ∷ vs) (X ++ ts) D =
     (λ i. shifted column (w ∷ vs) (joined-cut_back column X (m ∷ ms) full long i ++ ts) D) in
     let e = first ∙ rest ∙ line in
     (λ i. record { answers = asked (is_some v.wanted) S (m ∷ ms) ++ (e i).answers; state = (e i).state; members = (e i).members })

@@ -4,7 +4,7 @@ use Rattle.std.specs.Prelude.{length, take, drop, Option, Some, None, if◌then�
 use Rattle.bitbang_table.specs.declared.Message.{Message}
 use Rattle.bitbang_table.specs.declared.Message.TheVariants.{Ask, Quit}
 use Rattle.bitbang_table.specs.Protocol.{decode}
-use Rattle.board_meaning.specs.Chain.{BoardState, told, answers}
+use Rattle.board_meaning.specs.Chain.{BoardState, after_message, answers}
 use Rattle.plays.specs.declared.ending.Ending.{Ending}
 use Rattle.plays.specs.declared.ending.Ending.TheVariants.{Lost}
 use Rattle.plays.specs.Play.{Turn, verdict, in_work}
@@ -49,17 +49,19 @@ module _ {P : Type 0} where
   has_room capacity w _ = true
 
   -- the world after the board took one byte
-  abbrev pub taken : List ℕ → Option Message → World P → World P
-  taken rest (Some Quit) w = record w { down = rest; quit = true }
-  taken rest (Some m) w = record w { down = rest; up = w.up ++ answers m w.board; board = told m w.board }
-  taken rest None w = record w { down = rest }
+  abbrev pub after_byte_taken : List ℕ → Option Message → World P → World P
+  after_byte_taken rest (Some Quit) w = record w { down = rest; quit = true }
+  after_byte_taken rest (Some m)
+      w = record w { down = rest; up = w.up ++ answers m w.board; board = after_message m w.board }
+  after_byte_taken rest None w = record w { down = rest }
 
   -- the board takes up to n bytes, stopping before an `R` without room and after Quit
   abbrev pub served : (capacity n : ℕ) → List ℕ → World P → World P
   served capacity zero bytes w = w
   served capacity (suc n) [] w = w
   served capacity (suc n) (b ∷ bytes) w =
-      if w.quit || not (has_room capacity w (decode b)) then w else served capacity n bytes (taken bytes (decode b) w)
+      if w.quit || not (has_room capacity w (decode b)) then w
+      else served capacity n bytes (after_byte_taken bytes (decode b) w)
 
   module _ (side : Side P) (down_room up_room : ℕ) where
     -- up to n bytes go into the down pipe, as many as wait and as it has room for
@@ -85,20 +87,20 @@ module _ {P : Type 0} where
     run (e ∷ es) w = run es (happens e w)
 
     -- how many bytes or answers an event moves
-    abbrev pub moved : Event → World P → ℕ
-    moved (Put n) w = length (happens (Put n) w).down - length w.down
-    moved (Serve n) w = length w.down - length (happens (Serve n) w).down
-    moved (Take n) w = length w.up - length (happens (Take n) w).up
-    moved Lose w = 0
+    abbrev pub bytes_moved : Event → World P → ℕ
+    bytes_moved (Put n) w = length (happens (Put n) w).down - length w.down
+    bytes_moved (Serve n) w = length w.down - length (happens (Serve n) w).down
+    bytes_moved (Take n) w = length w.up - length (happens (Take n) w).up
+    bytes_moved Lose w = 0
 
     -- how many events of a schedule move something
     abbrev pub moving : List Event → World P → ℕ
     moving [] w = 0
-    moving (e ∷ es) w = (if nat_lt 0 (moved e w) then 1 else 0) + moving es (happens e w)
+    moving (e ∷ es) w = (if nat_lt 0 (bytes_moved e w) then 1 else 0) + moving es (happens e w)
 
     -- the bytes that the board takes at an event, and over a schedule
     abbrev pub taken_at : Event → World P → List ℕ
-    taken_at (Serve n) w = take (moved (Serve n) w) w.down
+    taken_at (Serve n) w = take (bytes_moved (Serve n) w) w.down
     taken_at _ w = []
 
     abbrev pub taken_over : List Event → World P → List ℕ
@@ -119,11 +121,11 @@ by_answers sends = record {
 }
 
 -- nothing given out, empty pipes
-abbrev pub fresh : BoardState → World Known
-fresh b = empty_pipes (record { given = 0; got = [] }) b
+abbrev pub before_events : BoardState → World Known
+before_events b = empty_pipes (record { given = 0; got = [] }) b
 
 -- How it ended: by the board's Quit with the player's verdict, or lost at the command in work.
-abbrev pub ended : (statements : ℕ) → List Turn → World Known → Option Ending
-ended n ts w =
+abbrev pub ending_of_world : (statements : ℕ) → List Turn → World Known → Option Ending
+ending_of_world n ts w =
     if w.lost then Some (Lost (in_work n ts w.player.given w.player.got)) else if w.quit
     then Some (verdict ts w.player.got) else None

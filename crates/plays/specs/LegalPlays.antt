@@ -7,9 +7,9 @@ use Rattle.jt_tap.specs.Controller.{is_stable}
 use Rattle.board_meaning.specs.Bare.{bare_board}
 use Rattle.board_meaning.specs.Cells.{Member, powered}
 use Rattle.pin_nets.specs.Wired.{Net}
-use Rattle.board_meaning.specs.Chain.{BoardState, after_all, hear}
+use Rattle.board_meaning.specs.Chain.{BoardState, after_bytes, hear}
 use Rattle.bsdl_device.specs.Device.{Device, Name}
-use Rattle.board_meaning.specs.Resting.{IsAtRest, IsRest, power_up, resting}
+use Rattle.board_meaning.specs.Resting.{IsAtRest, IsRest, power_up, board_at_rest}
 use Rattle.plays.specs.Legal.{IsLegal, AllLegal}
 use Rattle.board_meaning.specs.Sound.{HasDevice, IsPoweredUp, IsSoundBoard, AllSound, IsSound}
 use Rattle.bsdl_device.specs.Sound.{IsSoundDevice}
@@ -26,8 +26,8 @@ use Rattle.svf_settings.specs.Legal.{AllLegalFrom, IsLegalProgram}
 -- What a step's bytes do from rest: the board at rest that whole registers give, the same first bit that differs, at
 -- rest again and sound again.
 pub record StepPlaysAsItMeans (step : Step) (m : AtRest) : Type 0 where
-  pub board : IsAtRest (hear (step_messages m.place step) (resting m)).board (command step m)
-  pub judged : judge (wants_of step) (hear (step_messages m.place step) (resting m)).answers ≡ failure step m
+  pub board : IsAtRest (hear (step_messages m.place step) (board_at_rest m)).board (command step m)
+  pub judged : judge (wants_of step) (hear (step_messages m.place step) (board_at_rest m)).answers ≡ failure step m
   pub rest : IsRest (command step m)
   pub sound : AllSound (command step m).members
   pub devices : length (command step m).members ≡ length m.members
@@ -51,7 +51,8 @@ pub record PlaysAsItMeans (steps : List Numbered) (b : BoardState) (m : AtRest) 
   pub ending : (full_play (turns steps) b).ending ≡ (outcome steps m).ending
   pub board : IsAtRest (full_play (turns steps) b).board (outcome steps m).after
   pub bytes : (window : ℕ)
-      → IsAtRest (after_all (player window (turns steps) (full_play (turns steps) b).answers) b) (outcome steps m).after
+      → IsAtRest (after_bytes (player window (turns steps) (full_play (turns steps) b).answers) b)
+      (outcome steps m).after
 
 -- From the state after the opening every legal program plays as it means, on every sound board that has a device.
 abbrev pub EveryLegalProgramPlaysAsItMeans : Type 0
@@ -70,7 +71,7 @@ TheStateAtRestIsOne = (b : BoardState) (m n : AtRest) → HasDevice b → IsAtRe
 
 -- a board as it powers up, after some bytes
 abbrev pub met_again : List Net → List Member → List ℕ → BoardState
-met_again nets ms bytes = after_all bytes (resting (power_up nets ms))
+met_again nets ms bytes = after_bytes bytes (board_at_rest (power_up nets ms))
 
 -- On every board of at least one device, all of sound descriptions, after any bytes, every legal program plays as it
 -- means.

@@ -10,11 +10,11 @@ use Rattle.board_meaning.specs.Cells.{Member, powered}
 use Rattle.board_meaning.specs.Chain.{BoardState}
 use Rattle.bsdl_device.specs.declared.Place.TheVariants.{AtUser}
 use Rattle.bsdl_device.specs.Device.{Device}
-use Rattle.board_meaning.specs.Resting.{power_up, resting}
+use Rattle.board_meaning.specs.Resting.{power_up, board_at_rest}
 use Rattle.svf_settings.specs.Steps.{Step, Scan, Go, Path, Run, Trst, Numbered}
 use Rattle.svf_parse.specs.declared.statement.TrstWord.TheVariants.{On, Off, Z, Absent}
 use Rattle.scan_vectors.specs.Vector.{VectorBit}
-use Rattle.board_meaning.specs.Whole.{AtRest, opened}
+use Rattle.board_meaning.specs.Whole.{AtRest, after_opening}
 use Rattle.scan_vectors.specs.declared.part.Part.TheVariants.{Data}
 use Rattle.plays.specs.declared.ending.Ending.TheVariants.{Fail, Pass}
 use Rattle.plays.specs.Play.{full_play, turns}
@@ -62,10 +62,10 @@ pub record PremisesCanBeMet : Type 0 where
 
 -- the board of these members, and the state at rest to which an opening brings it
 abbrev pub board_of : List Member → BoardState
-board_of ms = resting (power_up [] ms)
+board_of ms = board_at_rest (power_up [] ms)
 
 abbrev pub opened_of : List Member → AtRest
-opened_of ms = opened (power_up [] ms)
+opened_of ms = after_opening (power_up [] ms)
 
 -- Without a device, or with a capture of no bit, a scan reads 1, where whole registers of no bit give back the 0 that
 -- went in. And under TRST the held device stays in RESET, where a move to IDLE means IDLE.

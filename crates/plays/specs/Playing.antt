@@ -16,8 +16,8 @@ pub record PlayerState : Type 0 where
   pub given : ℕ
   pub got : List ℕ
 
-abbrev pub fresh : Program → PlayerState
-fresh program = record { program = program; given = 0; got = [] }
+abbrev pub new_player : Program → PlayerState
+new_player program = record { program = program; given = 0; got = [] }
 
 abbrev pub turns_of : PlayerState → List Turn
 turns_of p = turns p.program.steps
@@ -31,8 +31,8 @@ abbrev pub bytes_of : PlayerState → List ℕ
 bytes_of p = player window (turns_of p) (map (λ b. b == 49) p.got)
 
 -- those that were not given out yet: none after a bad answer
-abbrev pub waiting : PlayerState → List ℕ
-waiting p = if has_bad_answer p then [] else drop p.given (bytes_of p)
+abbrev pub bytes_to_send : PlayerState → List ℕ
+bytes_to_send p = if has_bad_answer p then [] else drop p.given (bytes_of p)
 
 abbrev pub given_out : PlayerState → List ℕ
 given_out p = take p.given (bytes_of p)
@@ -47,12 +47,12 @@ up_to_bad [] = []
 up_to_bad (b ∷ bs) = b ∷ (if is_bad b then [] else up_to_bad bs)
 
 -- which of these answers are taken
-abbrev pub taken : PlayerState → List ℕ → List ℕ
-taken p bytes = up_to_bad (take (owed p) bytes)
+abbrev pub answers_taken : PlayerState → List ℕ → List ℕ
+answers_taken p bytes = up_to_bad (take (owed p) bytes)
 
 -- The play has ended once `Q` was given out, or a bad answer was taken.
 abbrev pub has_ended : PlayerState → Bool
 has_ended p = has_bad_answer p || list_any (λ b. b == 81) (given_out p)
 
-abbrev pub ended : PlayerState → Option Ending
-ended p = if has_ended p then ending_for (turns_of p) p.got else None
+abbrev pub ending_of_player : PlayerState → Option Ending
+ending_of_player p = if has_ended p then ending_for (turns_of p) p.got else None

@@ -45,8 +45,8 @@ pub record StreamState : Type 0 where
   pub found : Found
   pub bad : Option ℕ
 
-abbrev pub fresh : Kind → Program → StreamState
-fresh kind program = record {
+abbrev pub new_stream : Kind → Program → StreamState
+new_stream kind program = record {
   program = program;
   kind = kind;
   given = 0;
@@ -131,8 +131,8 @@ module _ (window : ℕ) where
   abbrev pub bytes_of : StreamState → List ℕ
   bytes_of s = map encode (sends window (turns_of s) s.answered (stops s))
 
-  abbrev pub waiting : StreamState → List ℕ
-  waiting s = if is_some s.bad then [] else drop s.given (bytes_of s)
+  abbrev pub bytes_to_send : StreamState → List ℕ
+  bytes_to_send s = if is_some s.bad then [] else drop s.given (bytes_of s)
 
   abbrev pub given_out : StreamState → List ℕ
   given_out s = take s.given (bytes_of s)
@@ -140,11 +140,11 @@ module _ (window : ℕ) where
   abbrev pub owed : StreamState → ℕ
   owed s = if is_some s.bad then 0 else count_by (λ b. b == 82) (given_out s) - s.answered
 
-  abbrev pub taken : StreamState → List ℕ → List ℕ
-  taken s bytes = up_to_bad (take (owed s) bytes)
+  abbrev pub answers_taken : StreamState → List ℕ → List ℕ
+  answers_taken s bytes = up_to_bad (take (owed s) bytes)
 
-  abbrev pub ended : StreamState → Option Ending
-  ended s = elim s.bad [
+  abbrev pub ending_of_stream : StreamState → Option Ending
+  ending_of_stream s = elim s.bad [
     | Some byte ↦ Some (BadAnswer (command_at (turns_of s) s.answered) byte)
     | None ↦ if list_any (λ b. b == 81) (given_out s) then Some (ending_of s.found.list) else None
   ]
@@ -152,7 +152,7 @@ module _ (window : ℕ) where
   -- as events see it
   abbrev pub side : Side StreamState
   side = record {
-    waiting = waiting;
+    waiting = bytes_to_send;
     give = λ n s. record s { given = s.given + n };
-    hear = λ bit s. hear_all (taken s (answer bit ∷ [])) s;
+    hear = λ bit s. hear_all (answers_taken s (answer bit ∷ [])) s;
   }

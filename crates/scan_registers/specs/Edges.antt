@@ -7,27 +7,28 @@ use Rattle.jt_tap.specs.Controller.{next, work}
 use Rattle.jt_tap.specs.declared.Work.{Work}
 use Rattle.jt_tap.specs.declared.Work.TheVariants.{Resets, Captures, Shifts, Updates}
 use Rattle.bsdl_device.specs.Device.{Device}
-use Rattle.scan_registers.specs.Registers.{Registers, Surroundings, chosen, put, captured, updated, reset}
+use Rattle.scan_registers.specs.Registers.{Registers, Surroundings, selected_bits, put, after_capture, after_update}
+use Rattle.scan_registers.specs.Registers.{after_reset}
 
 -- one place towards TDO, taking TDI at the far end
-abbrev pub moved : Bool → List Bool → List Bool
-moved tdi bits = drop 1 bits ++ tdi ∷ []
+abbrev pub after_shift : Bool → List Bool → List Bool
+after_shift tdi bits = drop 1 bits ++ tdi ∷ []
 
 -- The registers after a rising edge on which the controller stands in a state of this work.
-abbrev pub risen : Work → Device → Surroundings → Bool → Registers → Registers
-risen (Captures column) d around tdi r = captured d column around r
-risen (Shifts column) d around tdi r = put d column (moved tdi (chosen d column r)) r
-risen _ d around tdi r = r
+abbrev pub after_rise : Work → Device → Surroundings → Bool → Registers → Registers
+after_rise (Captures column) d around tdi r = after_capture d column around r
+after_rise (Shifts column) d around tdi r = put d column (after_shift tdi (selected_bits d column r)) r
+after_rise _ d around tdi r = r
 
 -- The registers after a falling edge in such a state.
-abbrev pub fallen : Work → Device → Surroundings → Registers → Registers
-fallen (Updates column) d around r = updated d column r
-fallen Resets d around r = reset d around r
-fallen _ d around r = r
+abbrev pub after_fall : Work → Device → Surroundings → Registers → Registers
+after_fall (Updates column) d around r = after_update d column r
+after_fall Resets d around r = after_reset d around r
+after_fall _ d around r = r
 
 -- TDO from a falling edge on: bit 0 of the selected register in a Shift state, else undriven.
 abbrev pub tdo_after : Work → Device → Registers → Option Bool
-tdo_after (Shifts column) d r = slice_get (chosen d column r) 0
+tdo_after (Shifts column) d r = slice_get (selected_bits d column r) 0
 tdo_after _ d r = None
 
 -- a device with its controller, its TDO (None while undriven), and the TRST line as it was last told
@@ -46,19 +47,19 @@ is_held c = c.trst && c.device.has_trst
 abbrev pub rise : (tms tdi : Bool) → Surroundings → OneChip → OneChip
 rise tms tdi around c =
     if is_held c then c else record c {
-      registers = risen (work c.state) c.device around tdi c.registers;
+      registers = after_rise (work c.state) c.device around tdi c.registers;
       state = next c.state tms;
     }
 
 -- One falling edge: the update or reset of the state, then TDO.
 abbrev pub fall : Surroundings → OneChip → OneChip
 fall around c =
-    let r = fallen (work c.state) c.device around c.registers in
+    let r = after_fall (work c.state) c.device around c.registers in
     record c { registers = r; tdo = tdo_after (work c.state) c.device r }
 
 -- TRST asserted or released: asserted, a device with a TRST port is in RESET at once, its TDO undriven.
-abbrev pub told_trst : Bool → Surroundings → OneChip → OneChip
-told_trst trst around c =
+abbrev pub after_trst : Bool → Surroundings → OneChip → OneChip
+after_trst trst around c =
     if trst && c.device.has_trst
-    then record c { registers = reset c.device around c.registers; state = Reset; tdo = None; trst = trst }
+    then record c { registers = after_reset c.device around c.registers; state = Reset; tdo = None; trst = trst }
     else record c { trst = trst }

@@ -8,7 +8,8 @@ use Rattle.scan_registers.specs.declared.Selected.{Selected}
 use Rattle.scan_registers.specs.declared.Selected.TheVariants.{Bypass, Identification, Boundary, User}
 use Rattle.scan_registers.specs.declared.users.UserRegister.{UserRegister}
 use Rattle.scan_registers.specs.Instruction.{meaning}
-use Rattle.scan_registers.specs.Registers.{Registers, chosen, put, stage_of, with_stage, user_stage, with_user_stage}
+use Rattle.scan_registers.specs.Registers.{Registers, selected_bits, put, stage_of, with_stage, user_stage}
+use Rattle.scan_registers.specs.Registers.{with_user_stage}
 use Rattle.scan_registers.specs.Edges.{OneChip}
 use Rattle.scan_registers.specs.Chips.{ChipValue, IsPut, one_chip, registers, with_registers}
 
@@ -42,7 +43,7 @@ latch_kept Identification s r = refl
 latch_kept Boundary s r = refl
 latch_kept (User k) s r = refl
 
-pub put_same : (d : Device) (column : Column) (r : Registers) → put d column (chosen d column r) r ≡ r
+pub put_same : (d : Device) (column : Column) (r : Registers) → put d column (selected_bits d column r) r ≡ r
 put_same d Ir r = refl
 put_same d Dr r = stage_same (meaning d r.latch).selected r
 
@@ -58,7 +59,7 @@ put_again d Dr s t r =
 pub put_nothing : {B : Type 0} (stage update : B → List Bool) (with_parts : B → List Bool → List Bool → B)
     → ((b : B) → with_parts b (stage b) (update b) ≡ b)
     → (c : ChipValue B) (column : Column)
-    → IsPut stage update with_parts column (chosen c.device column (registers stage update c)) c c
+    → IsPut stage update with_parts column (selected_bits c.device column (registers stage update c)) c c
 put_nothing stage update with_parts same c column = record {
   chip = ap (λ (r : Registers). with_registers r (one_chip stage update c))
       (sym (put_same c.device column (registers stage update c)));

@@ -60,9 +60,9 @@ with_stage Boundary bits r = record r { boundary = bits }
 with_stage (User k) bits r = record r { users = with_user_stage k bits r.users }
 
 -- The register between TDI and TDO: the instruction stage in the IR column, else what the latch selects.
-abbrev pub chosen : Device → Column → Registers → List Bool
-chosen d Ir r = r.stage
-chosen d Dr r = stage_of (meaning d r.latch).selected r
+abbrev pub selected_bits : Device → Column → Registers → List Bool
+selected_bits d Ir r = r.stage
+selected_bits d Dr r = stage_of (meaning d r.latch).selected r
 
 abbrev pub put : Device → Column → List Bool → Registers → Registers
 put d Ir bits r = record r { stage = bits }
@@ -76,9 +76,9 @@ capture_of Identification fixed seen r = unwrap_or fixed []
 capture_of Boundary fixed seen r = seen
 capture_of (User k) fixed seen r = unwrap_or fixed (user_latch k r.users)
 
-abbrev pub captured : Device → Column → Surroundings → Registers → Registers
-captured d Ir around r = record r { stage = d.capture }
-captured d Dr around r =
+abbrev pub after_capture : Device → Column → Surroundings → Registers → Registers
+after_capture d Ir around r = record r { stage = d.capture }
+after_capture d Dr around r =
     let m = meaning d r.latch in with_stage m.selected (capture_of m.selected m.fixed (around.captures m.mode) r) r
 
 -- The latch takes the instruction stage; a selected boundary's update stage or user register's latch takes its stage.
@@ -87,10 +87,10 @@ update_selected Boundary r = record r { update = r.boundary }
 update_selected (User k) r = record r { users = user_updated k r.users }
 update_selected _ r = r
 
-abbrev pub updated : Device → Column → Registers → Registers
-updated d Ir r = record r { latch = r.stage }
-updated d Dr r = update_selected (meaning d r.latch).selected r
+abbrev pub after_update : Device → Column → Registers → Registers
+after_update d Ir r = record r { latch = r.stage }
+after_update d Dr r = update_selected (meaning d r.latch).selected r
 
 -- The latch takes its reset instruction, each controlr update cell its disabling value. All else is kept.
-abbrev pub reset : Device → Surroundings → Registers → Registers
-reset d around r = record r { latch = reset_latch d; update = around.at_reset }
+abbrev pub after_reset : Device → Surroundings → Registers → Registers
+after_reset d around r = record r { latch = reset_latch d; update = around.at_reset }

@@ -8,10 +8,11 @@ ghost use Rattle.jt_bits.specs.Words.{bit_of};
 ghost use Rattle.jt_tap.specs.Controller.{work};
 ghost use Rattle.scan_registers.specs.declared.Mode.{Mode as TheMode};
 ghost use Rattle.scan_registers.specs.Chips.{ChipValue, one_chip, around, powered, registers, with_registers};
-ghost use Rattle.scan_registers.specs.Edges.{OneChip, rise, fall, told_trst, risen, fallen, moved, tdo_after};
+ghost use Rattle.scan_registers.specs.Edges.{OneChip, rise, fall, after_trst, after_rise, after_fall, after_shift};
+ghost use Rattle.scan_registers.specs.Edges.{tdo_after};
 ghost use Rattle.scan_registers.specs.Fitting.{IsFormed, meaning_by, has_code as is_coded};
 ghost use Rattle.scan_registers.specs.Instruction.{instruction, meaning};
-ghost use Rattle.scan_registers.specs.Registers.{captured, put, chosen, updated, reset};
+ghost use Rattle.scan_registers.specs.Registers.{after_capture, put, selected_bits, after_update, after_reset};
 
 use crate::decode::{Decoded, decode, fixed_bits, instruction_of};
 use crate::start::{code_length, has_code, new_users, reset_latch};
@@ -149,7 +150,7 @@ impl<B: Register> Chip<B> {
     /// TRST is asserted or released.
     pub fn trst(&mut self, trst: bool)
         ensures chip { one_chip B.stage B.update_part self.new
-            ≡ told_trst trst (around B.captured B.at_reset self.old) (one_chip B.stage B.update_part self.old) }
+            ≡ after_trst trst (around B.captured B.at_reset self.old) (one_chip B.stage B.update_part self.old) }
         ensures boundary { self.new.boundary
             ≡ B.with_parts self.old.boundary (B.stage self.new.boundary) (B.update_part self.new.boundary) }
     {
@@ -259,7 +260,7 @@ impl<B: Register> Chip<B> {
     /// The column's register captures, as on a rising edge in the column's Capture state.
     pub fn capture(&mut self, column: Column)
         ensures chip { one_chip B.stage B.update_part self.new
-            ≡ with_registers (captured self.old.device column (around B.captured B.at_reset self.old)
+            ≡ with_registers (after_capture self.old.device column (around B.captured B.at_reset self.old)
             (registers B.stage B.update_part self.old)) (one_chip B.stage B.update_part self.old) }
         ensures boundary { self.new.boundary
             ≡ B.with_parts self.old.boundary (B.stage self.new.boundary) (B.update_part self.new.boundary) }
@@ -288,7 +289,7 @@ impl<B: Register> Chip<B> {
     fn shift(&mut self, column: Column, tdi: bool)
         ensures chip { one_chip B.stage B.update_part self.new
             ≡ with_registers (put self.old.device column
-            (moved tdi (chosen self.old.device column (registers B.stage B.update_part self.old)))
+            (after_shift tdi (selected_bits self.old.device column (registers B.stage B.update_part self.old)))
             (registers B.stage B.update_part self.old)) (one_chip B.stage B.update_part self.old) }
         ensures boundary { self.new.boundary
             ≡ B.with_parts self.old.boundary (B.stage self.new.boundary) (B.update_part self.new.boundary) }
@@ -314,7 +315,7 @@ impl<B: Register> Chip<B> {
     /// edge in the column's Update state.
     pub fn update(&mut self, column: Column)
         ensures chip { one_chip B.stage B.update_part self.new
-            ≡ with_registers (updated self.old.device column (registers B.stage B.update_part self.old))
+            ≡ with_registers (after_update self.old.device column (registers B.stage B.update_part self.old))
             (one_chip B.stage B.update_part self.old) }
         ensures boundary { self.new.boundary
             ≡ B.with_parts self.old.boundary (B.stage self.new.boundary) (B.update_part self.new.boundary) }
@@ -335,7 +336,7 @@ impl<B: Register> Chip<B> {
     /// The latch takes its reset instruction, and the boundary register is reset, as on a falling edge in RESET.
     pub fn reset(&mut self)
         ensures chip { one_chip B.stage B.update_part self.new
-            ≡ with_registers (reset self.old.device (around B.captured B.at_reset self.old)
+            ≡ with_registers (after_reset self.old.device (around B.captured B.at_reset self.old)
             (registers B.stage B.update_part self.old)) (one_chip B.stage B.update_part self.old) }
         ensures boundary { self.new.boundary
             ≡ B.with_parts self.old.boundary (B.stage self.new.boundary) (B.update_part self.new.boundary) }
@@ -356,7 +357,7 @@ impl<B: Register> Chip<B> {
 
     /// How many bits the column's register has.
     pub fn chosen_len(&self, column: Column) -> usize
-        ensures { result ≡ length (chosen self.now.device column (registers B.stage B.update_part self.now)) }
+        ensures { result ≡ length (selected_bits self.now.device column (registers B.stage B.update_part self.now)) }
     {
         match column {
             Column::Ir => self.stage.len(),
@@ -372,7 +373,7 @@ impl<B: Register> Chip<B> {
     /// The bits of the column's register from place `i` on as a number, 64 of them, bit `i` lowest; missing ones are 0.
     pub fn chosen_word(&self, column: Column, i: usize) -> u64
         ensures { (j : ℕ) → j < 64 → has_bit result j
-            ≡ bit_of (chosen self.now.device column (registers B.stage B.update_part self.now)) (i + j) }
+            ≡ bit_of (selected_bits self.now.device column (registers B.stage B.update_part self.now)) (i + j) }
     {
         match column {
             Column::Ir => self.stage.word_at(i),
@@ -389,12 +390,14 @@ impl<B: Register> Chip<B> {
     pub fn put_chosen(&mut self, column: Column, at: usize, bits: u64, n: usize)
         requires some { 0 < n }
         requires few { n ≤ 64 }
-        requires inside { at + n ≤ length (chosen self.old.device column (registers B.stage B.update_part self.old)) }
-        ensures run { RunSet (chosen self.old.device column (registers B.stage B.update_part self.old))
-            (chosen self.new.device column (registers B.stage B.update_part self.new)) at bits n }
+        requires inside { at + n
+            ≤ length (selected_bits self.old.device column (registers B.stage B.update_part self.old)) }
+        ensures run { RunSet (selected_bits self.old.device column (registers B.stage B.update_part self.old))
+            (selected_bits self.new.device column (registers B.stage B.update_part self.new)) at bits n }
         ensures chip { one_chip B.stage B.update_part self.new
             ≡ with_registers
-            (put self.old.device column (chosen self.new.device column (registers B.stage B.update_part self.new))
+            (put self.old.device column
+            (selected_bits self.new.device column (registers B.stage B.update_part self.new))
             (registers B.stage B.update_part self.old))
             (one_chip B.stage B.update_part self.old) }
         ensures boundary { self.new.boundary
@@ -433,7 +436,7 @@ impl<B: Register> Link for Chip<B> {
     ghost use Rattle.scan_registers.specs.Registers as meant;
     ghost use Rattle.scan_registers.specs.Puts.{put_nothing, put_both};
 
-    ghost register = { λ c column. meant.chosen c.device column (registers B.stage B.update_part c) };
+    ghost register = { λ c column. meant.selected_bits c.device column (registers B.stage B.update_part c) };
 
     ghost is_put = { λ c column bits d. IsPut B.stage B.update_part B.with_parts column bits c d };
 

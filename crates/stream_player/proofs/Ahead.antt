@@ -107,7 +107,7 @@ module _ (program : Program) (s : Standing) (fair : stops_at s ≡ true → 0 < 
   bytes : stream.bytes_of 256 (state_at program s) ≡ map encode (before ++ ahead)
   bytes = ap (map encode) (sends-past 256 s.over ts s.heard (stops_at s) fair)
 
-  pub waits : s.bad ≡ None → stream.waiting 256 (state_at program s) ≡ map encode (drop s.gone ahead)
+  pub waits : s.bad ≡ None → stream.bytes_to_send 256 (state_at program s) ≡ map encode (drop s.gone ahead)
   waits none =
       (λ i. if is_some (none i) then [] else drop (length before + s.gone) (bytes i))
       ∙ drop-map encode (length before + s.gone) (before ++ ahead)

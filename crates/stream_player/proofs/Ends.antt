@@ -20,7 +20,7 @@ use Rattle.plays.proofs.Asks.{asks}
 use Rattle.every_schedule.proofs.Quits.{has_quit, quit-append}
 use Rattle.stream_player.specs.Standing.{Standing, differing_bit, first_of, found, messages_in, state_at, wanted_in}
 use Rattle.stream_player.proofs.Ahead.{ahead, is-out, owes, sends-last, stops_at, waits}
-use Rattle.stream_player.proofs.Here.{IsIn, fits, no-quit, reached}
+use Rattle.stream_player.proofs.TurnPlaces.{IsIn, fits, no-quit, reached}
 
 -- a wanted bit of a turn
 abbrev of-turn : Turn → VectorBit → Wanted
@@ -199,7 +199,7 @@ module _ (program : Program) (s : Standing) (fair : stops_at s ≡ true → 0 < 
   abbrev ending-by : Bool → Option Ending
   ending-by out = if out then Some (ending_of (found s.failed).list) else None
 
-  pub ends : s.bad ≡ None → stream.ended 256 (state_at program s) ≡ ending-by (has_quit (take s.gone (ahead program s fair)))
+  pub ends : s.bad ≡ None → stream.ending_of_stream 256 (state_at program s) ≡ ending-by (has_quit (take s.gone (ahead program s fair)))
   ends none = (λ i. elim (none i) [
     | Some byte ↦ Some (BadAnswer (command_at (turns program.steps) (state_at program s).answered) byte)
     | None ↦ ending-by (is-out program s fair i)

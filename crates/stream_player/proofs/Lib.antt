@@ -1,11 +1,11 @@
 pub mod Ahead
 pub mod Window
-pub mod Here
+pub mod TurnPlaces
 pub mod Ends
 pub mod Steps
-pub mod Within
-pub mod GivenOut
+pub mod PlayerPlaces
+pub mod BytesGivenOut
 pub mod Pieced
-pub mod Filled
-pub mod Heard
-pub mod Ended
+pub mod BufferFills
+pub mod AnswersTaken
+pub mod EndingLaws

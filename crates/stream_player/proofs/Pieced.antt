@@ -13,19 +13,19 @@ use Rattle.bitbang.specs.StepMessages.{step_bytes, step_messages}
 use Rattle.bitbang.specs.declared.step_bytes.Spot.{Spot}
 use Rattle.svf_settings.specs.Steps.{Numbered, Program, place_after}
 use Rattle.plays.specs.Play.{Turn, step_turns, turns, wants_of}
-use Rattle.plays.specs.Streams.{StreamState, some_differ, waiting}
+use Rattle.plays.specs.Streams.{StreamState, some_differ, bytes_to_send}
 use Rattle.plays.proofs.Asks.{asks}
 use Rattle.stream_player.specs.declared.progress.Mismatch as declared
 use Rattle.stream_player.specs.declared.progress.Phase.{Phase}
 use Rattle.stream_player.specs.declared.progress.Phase.TheVariants.{Opening, Within, Over}
 use Rattle.stream_player.specs.declared.progress.Progress.{Progress}
-use Rattle.stream_player.specs.Progress.{Gives, InOpening, InPhase, InStep, IsOver, IsReady, Stands, gone, mismatch, one, over, present, rest_of, standing, state_of}
+use Rattle.stream_player.specs.Progress.{Gives, InOpening, InPhase, InStep, IsOver, IsReady, Stands, gone, mismatch, one, over, present, rest_of, standing_at, state_of}
 use Rattle.stream_player.specs.Standing.{Standing, found, messages_in, reads, state_at, up_to_reads}
 use Rattle.stream_player.proofs.Ahead.{ahead, stops_at, waits}
 use Rattle.stream_player.proofs.Ends.{quits, quits-behind}
-use Rattle.stream_player.proofs.Here.{IsIn, Waits, waits-so}
+use Rattle.stream_player.proofs.TurnPlaces.{IsIn, Waits, waits-so}
 use Rattle.stream_player.proofs.Window.{asks-split, in-bytes, up-to-all}
-use Rattle.stream_player.proofs.Within.{gone-is, gone-so, map-some, no-elements, stops-some, in-opening, in-step, is-in, left-is, opens, over-is, turn, later, within}
+use Rattle.stream_player.proofs.PlayerPlaces.{gone-is, gone-so, map-some, no-elements, stops-some, in-opening, in-step, is-in, left-is, opens, over-is, turn, later, within}
 
 -- of what the window lets through
 pub through-front : (n : ℕ) (l : List ℕ) (k : ℕ) → n ≤ length (up_to_reads l k) → take n (up_to_reads l k) ≡ take n l
@@ -87,7 +87,7 @@ given-more program s n =
 
 -- nothing is given out
 pub gives-none : (program : Program) (p : Progress) (buffer : List ℕ) → Stands program.steps p → p.bad ≡ None
-    → (0 < length buffer → waiting 256 (state_of program p) ≡ []) → Gives program p buffer buffer p 0
+    → (0 < length buffer → bytes_to_send 256 (state_of program p) ≡ []) → Gives program p buffer buffer p 0
 gives-none program p buffer stands good none = record {
   stands = stands;
   good = good;
@@ -101,7 +101,7 @@ gives-none program p buffer stands good none = record {
 -- one byte is given out
 pub gives-one : (program : Program) (p next : Progress) (buffer after : List ℕ) (b : ℕ) (more : List ℕ) → Stands program.steps next → next.bad ≡ None
     → state_of program next ≡ record (state_of program p) { given = (state_of program p).given + 1 }
-    → waiting 256 (state_of program p) ≡ b ∷ more → 0 < length buffer → after ≡ set buffer 0 b → Gives program p buffer after next 1
+    → bytes_to_send 256 (state_of program p) ≡ b ∷ more → 0 < length buffer → after ≡ set buffer 0 b → Gives program p buffer after next 1
 gives-one program p next [] after b more stands good state waits room is = absurd (omega (arith, room))
 gives-one program p next (x ∷ xs) after b more stands good state waits room is = record {
   stands = stands;
@@ -133,12 +133,12 @@ module _ (program : Program) (p : Progress) (n : ℕ) (is : p.phase ≡ Opening 
     fair = λ e. absurd (cc);
   }
 
-  pub opening-waits : (tail : List ℕ) × (waiting 256 (state_of program p) ≡ drop n (map encode opening) ++ tail)
+  pub opening-waits : (tail : List ℕ) × (bytes_to_send 256 (state_of program p) ≡ drop n (map encode opening) ++ tail)
   opening-waits =
       let w = waits-so program start first (step_turns Reset program.steps) 0 opened refl in
       let free : asks (drop n opening) ≤ 256 - 0 = omega (arith, asks-split n opening) in (
         w.tail,
-        ap (waiting 256) (opens program p n is stands) ∙ w.is
+        ap (bytes_to_send 256) (opens program p n is stands) ∙ w.is
             ∙ ap (λ (l : List ℕ). l ++ w.tail) (in-bytes (drop n opening) (256 - 0) ∙ ap (map encode) (up-to-all (drop n opening) (256 - 0) free)
             ∙ sym (drop-map encode n opening)),
       )
@@ -164,12 +164,12 @@ module _ (program : Program) (p : Progress) (spot : Spot) (is : p.phase ≡ With
   abbrev left : List ℕ
   left = rest_of p.place (drop p.at program.steps) spot
 
-  step-waits : Waits (waiting 256 (state_of program p)) (map encode (drop (gone rest p) (turn program p spot is stands).messages)) p.owed
-  step-waits = waits-so program (standing program.steps p) (turn program p spot is stands) (later program p spot is stands) p.owed (is-in program p spot is stands) good
+  step-waits : Waits (bytes_to_send 256 (state_of program p)) (map encode (drop (gone rest p) (turn program p spot is stands).messages)) p.owed
+  step-waits = waits-so program (standing_at program.steps p) (turn program p spot is stands) (later program p spot is stands) p.owed (is-in program p spot is stands) good
 
   record StepWaits : Type 0 where
     tail : List ℕ
-    waits : waiting 256 (state_of program p) ≡ up_to_reads left (256 - p.owed) ++ tail
+    waits : bytes_to_send 256 (state_of program p) ≡ up_to_reads left (256 - p.owed) ++ tail
     none : 0 < p.owed → tail ≡ []
 
   in-bytes-left : StepWaits
@@ -226,15 +226,15 @@ module _ (program : Program) (p : Progress) (spot : Spot) (is : p.phase ≡ With
 
     step-state : state_of program next ≡ record (state_of program p) { given = (state_of program p).given + count }
     step-state =
-        (λ k. state_at program (record (standing program.steps p) { over = suc p.at; gone = gone-then k }))
-        ∙ given-more program (record (standing program.steps p) { over = suc p.at }) count
-        ∙ (λ k. let s = state_at program (record (standing program.steps p) { over = sym (over-is program p spot is stands) k }) in
+        (λ k. state_at program (record (standing_at program.steps p) { over = suc p.at; gone = gone-then k }))
+        ∙ given-more program (record (standing_at program.steps p) { over = suc p.at }) count
+        ∙ (λ k. let s = state_at program (record (standing_at program.steps p) { over = sym (over-is program p spot is stands) k }) in
         record s { given = s.given + count })
 
-    nothing : (w : StepWaits) → length (up_to_reads left (256 - p.owed)) ≡ 0 → IsReady rest p (Within spot) → waiting 256 (state_of program p) ≡ []
+    nothing : (w : StepWaits) → length (up_to_reads left (256 - p.owed)) ≡ 0 → IsReady rest p (Within spot) → bytes_to_send 256 (state_of program p) ≡ []
     nothing w none ready = by p.owed refl
       where
-        by : (o : ℕ) → p.owed ≡ o → waiting 256 (state_of program p) ≡ []
+        by : (o : ℕ) → p.owed ≡ o → bytes_to_send 256 (state_of program p) ≡ []
         by zero e =
             let empty : left ≡ [] = through-some left (256 - p.owed) (omega (arith, e)) none in
             let more : 0 < p.owed = ready empty in absurd (omega (arith, e))
@@ -245,7 +245,7 @@ module _ (program : Program) (p : Progress) (spot : Spot) (is : p.phase ≡ With
         let w = in-bytes-left in
         let through = up_to_reads left (256 - p.owed) in
         let fits : count ≤ length through = omega (arith, counted) in
-        let front : take count (waiting 256 (state_of program p)) ≡ take count left =
+        let front : take count (bytes_to_send 256 (state_of program p)) ≡ take count left =
         ap (take count) w.waits ∙ take-append-le count through w.tail fits ∙ through-front count left (256 - p.owed) fits in
         record {
           stands = step-on;
@@ -275,27 +275,27 @@ module _ (program : Program) (p : Progress) (out : Bool) (is : p.phase ≡ Over 
   pub turns-end : drop (over p) (turns program.steps) ≡ step_turns p.place (drop p.at program.steps)
   turns-end = ap (λ (n : ℕ). drop n (turns program.steps)) over-end ∙ stands.rests.turns_are
 
-  pub stops-is : (b : Bool) → is_some p.failed ≡ b → stops_at (standing program.steps p) ≡ b
+  pub stops-is : (b : Bool) → is_some p.failed ≡ b → stops_at (standing_at program.steps p) ≡ b
   stops-is b e = by p.failed b e
     where
       by : (failed : Option declared.Mismatch) (b : Bool) → is_some failed ≡ b → some_differ (found (option_map mismatch failed)).list ≡ b
       by None b e = e
       by (Some m) b e = e
 
-  pub fair-end : stops_at (standing program.steps p) ≡ true → 0 < p.heard
+  pub fair-end : stops_at (standing_at program.steps p) ≡ true → 0 < p.heard
   fair-end stops = (is-over.stopped (sym (map-some p.failed) ∙ stops-some (option_map mismatch p.failed) true stops)).4
 
   -- what is ahead, behind what is out
-  pub ahead-end : drop (gone (drop p.at program.steps) p) (ahead program (standing program.steps p) fair-end) ≡ drop (one out) (Quit ∷ [])
+  pub ahead-end : drop (gone (drop p.at program.steps) p) (ahead program (standing_at program.steps p) fair-end) ≡ drop (one out) (Quit ∷ [])
   ahead-end = by (is_some p.failed) refl
     where
       by : (b : Bool) → is_some p.failed ≡ b
-          → drop (gone (drop p.at program.steps) p) (ahead program (standing program.steps p) fair-end) ≡ drop (one out) (Quit ∷ [])
+          → drop (gone (drop p.at program.steps) p) (ahead program (standing_at program.steps p) fair-end) ≡ drop (one out) (Quit ∷ [])
       by false e =
           let none = is-over.passed (none-of p.failed e) in
           let nothing : drop (over p) (turns program.steps) ≡ [] = turns-end ∙ ap (step_turns p.place) none.0 in
           let g : gone (drop p.at program.steps) p ≡ one out = gone-end ∙ ap (λ (l : List Numbered). present p.place l + one out) none.0 ∙ omega arith in
-          (λ k. drop (g k) (quits program (standing program.steps p) fair-end nothing k))
+          (λ k. drop (g k) (quits program (standing_at program.steps p) fair-end nothing k))
       by true e =
           let some = is-over.stopped e in
           let ms = step_messages p.place some.0.what in
@@ -303,11 +303,11 @@ module _ (program : Program) (p : Progress) (out : Bool) (is : p.phase ≡ Over 
           let here : drop (over p) (turns program.steps) ≡ t ∷ step_turns (place_after p.place some.0.what) some.1 =
           turns-end ∙ ap (step_turns p.place) some.2 in
           let g : gone (drop p.at program.steps) p ≡ length ms + one out = gone-end ∙ ap (λ (l : List Numbered). present p.place l + one out) some.2 in
-          (λ k. drop (g k) (quits-behind program (standing program.steps p) fair-end t _ here some.3 (stops-is true e) k))
+          (λ k. drop (g k) (quits-behind program (standing_at program.steps p) fair-end t _ here some.3 (stops-is true e) k))
           ∙ drop-append-add ms (Quit ∷ []) (one out)
 
-  pub quit-waits : waiting 256 (state_of program p) ≡ map encode (drop (one out) (Quit ∷ []))
-  quit-waits = waits program (standing program.steps p) fair-end is-over.bad ∙ ap (map encode) ahead-end
+  pub quit-waits : bytes_to_send 256 (state_of program p) ≡ map encode (drop (one out) (Quit ∷ []))
+  quit-waits = waits program (standing_at program.steps p) fair-end is-over.bad ∙ ap (map encode) ahead-end
 
   -- `Q` is given out
   pub quit-on : Stands program.steps (record p { phase = Over true })
@@ -320,9 +320,9 @@ module _ (program : Program) (p : Progress) (out : Bool) (is : p.phase ≡ Over 
   quit-state none =
       let P = present p.place (drop p.at program.steps) in
       let g : P + one true ≡ gone (drop p.at program.steps) p + 1 = omega (arith, gone-end, ap one none) in
-      (λ k. state_at program (record (standing program.steps p) { over = suc p.at; gone = g k }))
-      ∙ given-more program (record (standing program.steps p) { over = suc p.at }) 1
-      ∙ (λ k. let s = state_at program (record (standing program.steps p) { over = sym over-end k }) in record s { given = s.given + 1 })
+      (λ k. state_at program (record (standing_at program.steps p) { over = suc p.at; gone = g k }))
+      ∙ given-more program (record (standing_at program.steps p) { over = suc p.at }) 1
+      ∙ (λ k. let s = state_at program (record (standing_at program.steps p) { over = sym over-end k }) in record s { given = s.given + 1 })
 
 -- the first of what is left
 pub drop-index : (n : ℕ) (l : List ℕ) → n < length l → drop n l ≡ slice_index_or l n 0 ∷ drop (suc n) l
@@ -337,8 +337,8 @@ gives-same program p q buffer after now count same g = record {
   stands = g.stands;
   good = g.good;
   state = g.state ∙ ap (λ (s : StreamState). record s { given = s.given + count }) same;
-  some = subst (λ (s : StreamState). count ≤ length (waiting 256 s)) same g.some;
+  some = subst (λ (s : StreamState). count ≤ length (bytes_to_send 256 s)) same g.some;
   room = g.room;
-  bytes = subst (λ (s : StreamState). after ≡ take count (waiting 256 s) ++ drop count buffer) same g.bytes;
-  none = subst (λ (s : StreamState). 0 < length buffer → count ≡ 0 → waiting 256 s ≡ []) same g.none;
+  bytes = subst (λ (s : StreamState). after ≡ take count (bytes_to_send 256 s) ++ drop count buffer) same g.bytes;
+  none = subst (λ (s : StreamState). 0 < length buffer → count ≡ 0 → bytes_to_send 256 s ≡ []) same g.none;
 }

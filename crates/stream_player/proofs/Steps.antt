@@ -18,7 +18,7 @@ use Rattle.plays.specs.Streams.{StreamState}
 use Rattle.direct_play.proofs.Turns.{stable-after}
 use Rattle.stream_player.specs.declared.progress.Phase.TheVariants.{Opening, Within, Over}
 use Rattle.stream_player.specs.declared.progress.Progress.{Progress}
-use Rattle.stream_player.specs.Progress.{InStep, Rests, Stands, gone, present, rest_of, standing, state_of, vector_bits}
+use Rattle.stream_player.specs.Progress.{InStep, Rests, Stands, gone, present, rest_of, standing_at, state_of, vector_bits}
 use Rattle.stream_player.specs.Standing.{Standing, reads, state_at}
 
 -- the step at a place stands first of those from there on

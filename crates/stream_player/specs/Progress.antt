@@ -16,7 +16,7 @@ use Rattle.svf_settings.specs.Steps.{Step, Scan, Numbered, Program}
 use Rattle.tck_cycles.specs.Cycles.{cycles}
 use Rattle.plays.specs.Play.{step_turns, turns, wants_of}
 use Rattle.plays.specs.PlayingOn as playing_on
-use Rattle.plays.specs.Streams.{StreamState, waiting}
+use Rattle.plays.specs.Streams.{StreamState, bytes_to_send}
 use Rattle.stream_player.specs.declared.progress.Mismatch as declared
 use Rattle.stream_player.specs.declared.progress.Phase.{Phase}
 use Rattle.stream_player.specs.declared.progress.Phase.TheVariants.{Opening, Within, Over}
@@ -52,8 +52,8 @@ gone rest p = elim p.phase [
   | Over out ↦ present p.place rest + one out
 ]
 
-abbrev pub standing : List Numbered → Progress → Standing
-standing steps p = record {
+abbrev pub standing_at : List Numbered → Progress → Standing
+standing_at steps p = record {
   over = over p;
   gone = gone (drop p.at steps) p;
   heard = p.heard;
@@ -63,7 +63,7 @@ standing steps p = record {
 
 -- the player that its fields say
 abbrev pub state_of : Program → Progress → StreamState
-state_of program p = state_at program (standing program.steps p)
+state_of program p = state_at program (standing_at program.steps p)
 
 -- the bits of the vector of a step
 abbrev pub vector_bits : Step → List VectorBit
@@ -142,10 +142,10 @@ pub record Gives (program : Program) (p : Progress) (buffer after : List ℕ) (n
   pub stands : Stands program.steps next
   pub good : next.bad ≡ None
   pub state : state_of program next ≡ record (state_of program p) { given = (state_of program p).given + count }
-  pub some : count ≤ length (waiting 256 (state_of program p))
+  pub some : count ≤ length (bytes_to_send 256 (state_of program p))
   pub room : count ≤ length buffer
-  pub bytes : after ≡ take count (waiting 256 (state_of program p)) ++ drop count buffer
-  pub none : 0 < length buffer → count ≡ 0 → waiting 256 (state_of program p) ≡ []
+  pub bytes : after ≡ take count (bytes_to_send 256 (state_of program p)) ++ drop count buffer
+  pub none : 0 < length buffer → count ≡ 0 → bytes_to_send 256 (state_of program p) ≡ []
 
 -- `Q` is out
 abbrev pub is_out : Phase → Bool

@@ -9,7 +9,7 @@ ghost use Rattle.svf_settings.specs.Sizes.{program_of};
 ghost use Rattle.svf_settings.specs.Seen as seen;
 ghost use Rattle.svf_settings.specs.Seen.{numbered};
 ghost use Rattle.plays.specs.Play.{is_bad};
-ghost use Rattle.plays.specs.Streams.{hear_all, taken};
+ghost use Rattle.plays.specs.Streams.{hear_all, answers_taken};
 ghost use Rattle.plays.specs.Streams as stream;
 ghost use Rattle.stream_player.specs.Progress.{Stands, mismatch, state_of, vector_bits};
 ghost use Rattle.stream_player.specs.Standing.{differing_bit};
@@ -25,9 +25,10 @@ use svf_settings::{Action, Program, Step};
 pub(crate) fn hear(program: &Program, p: Progress, bytes: &[u8]) -> (Progress, usize)
     requires { Stands program.now.steps p }
     ensures stands { Stands program.now.steps result.0 }
-    ensures count { result.1 ≡ length (taken 256 (state_of (program_of program.now) p) bytes.now) }
+    ensures count { result.1 ≡ length (answers_taken 256 (state_of (program_of program.now) p) bytes.now) }
     ensures state { state_of (program_of program.now) result.0
-        ≡ hear_all (taken 256 (state_of (program_of program.now) p) bytes.now) (state_of (program_of program.now) p) }
+        ≡ hear_all (answers_taken 256 (state_of (program_of program.now) p) bytes.now)
+        (state_of (program_of program.now) p) }
 {
     if p.bad.is_some() {
         return (p, 0);

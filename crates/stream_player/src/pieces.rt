@@ -3,7 +3,7 @@
 ghost use Rattle.std.specs.Prelude.{◌≡◌, ◌<◌, ◌+◌, ◌++◌, None, drop, length, min, take};
 ghost use Rattle.svf_settings.specs.Sizes.{program_of};
 ghost use Rattle.stream_player.specs.Progress.{Gives, IsReady, Stands, state_of};
-ghost use Rattle.plays.specs.Streams.{waiting};
+ghost use Rattle.plays.specs.Streams.{bytes_to_send};
 
 use crate::giving::give;
 use crate::progress::{OPENING, Phase, Progress, settled};
@@ -52,9 +52,10 @@ pub(crate) fn fill(program: &Program, p: Progress, buffer: &mut [u8]) -> (Progre
         ≡ record (state_of (program_of program.now) p) {
           given = (state_of (program_of program.now) p).given + result.1;
         } }
-    ensures count { result.1 ≡ min (length buffer.old) (length (waiting 256 (state_of (program_of program.now) p))) }
+    ensures count { result.1
+        ≡ min (length buffer.old) (length (bytes_to_send 256 (state_of (program_of program.now) p))) }
     ensures bytes { buffer.new
-        ≡ take result.1 (waiting 256 (state_of (program_of program.now) p)) ++ drop result.1 buffer.old }
+        ≡ take result.1 (bytes_to_send 256 (state_of (program_of program.now) p)) ++ drop result.1 buffer.old }
 {
     let mut p = p;
     let mut count = 0;

@@ -4,7 +4,7 @@ ghost use Rattle.std.specs.Prelude.{◌≡◌, ◌+◌, ◌-◌, ◌^◌, ◌↔
 ghost use Rattle.svf_settings.specs.Sizes.{program_of};
 ghost use Rattle.plays.specs.PlayingOn.{Stops};
 ghost use Rattle.plays.specs.Streams as stream;
-ghost use Rattle.plays.specs.Streams.{fresh, hear_all, taken, waiting};
+ghost use Rattle.plays.specs.Streams.{new_stream, hear_all, answers_taken, bytes_to_send};
 
 use crate::hearing::hear;
 use crate::pieces::fill;
@@ -43,7 +43,8 @@ impl Model for Player {
 impl Player {
     /// A fresh player of a program. It takes no memory, and always answers `Ok`.
     pub fn new(_alloc: Global, program: Program) -> Result<Player, Program>
-        ensures { MatchResult result (λ player. player ≡ fresh Stops (program_of program)) (λ back. back ≡ program) }
+        ensures { MatchResult result (λ player. player ≡ new_stream Stops (program_of program))
+            (λ back. back ≡ program) }
     {
         // For the proof alone: what the program's type keeps of its steps.
         let _ = program.len();
@@ -56,8 +57,8 @@ impl Player {
     /// Fills the buffer with the next bytes that may be sent: as many as fit and as the owed answers allow. Answers
     /// how many they are.
     pub fn next_bytes(&mut self, buffer: &mut [u8]) -> usize
-        ensures count { result ≡ min (length buffer.old) (length (waiting 256 self.old)) }
-        ensures bytes { buffer.new ≡ take result (waiting 256 self.old) ++ drop result buffer.old }
+        ensures count { result ≡ min (length buffer.old) (length (bytes_to_send 256 self.old)) }
+        ensures bytes { buffer.new ≡ take result (bytes_to_send 256 self.old) ++ drop result buffer.old }
         ensures player { self.new ≡ record self.old { given = self.old.given + result } }
     {
         if self.progress.bad.is_some() {
@@ -71,8 +72,8 @@ impl Player {
     /// Takes answers, the bytes that came back for the `R`s that were given out: as many as are owed, up to and with
     /// the first that is neither `0` nor `1`, which ends the play. Answers how many were taken.
     pub fn answers(&mut self, bytes: &[u8]) -> usize
-        ensures count { result ≡ length (taken 256 self.old bytes.now) }
-        ensures player { self.new ≡ hear_all (taken 256 self.old bytes.now) self.old }
+        ensures count { result ≡ length (answers_taken 256 self.old bytes.now) }
+        ensures player { self.new ≡ hear_all (answers_taken 256 self.old bytes.now) self.old }
     {
         let (progress, count) = hear(&self.program, self.progress, bytes);
         self.progress = progress;
@@ -81,7 +82,7 @@ impl Player {
 
     /// How the play ended: set once `Q` was given out, or after a bad answer.
     pub fn ended(&self) -> Option<Ending>
-        ensures { result ≡ stream.ended 256 self.now }
+        ensures { result ≡ stream.ending_of_stream 256 self.now }
     {
         telling::ended(&self.program, self.progress)
     }
@@ -97,7 +98,7 @@ impl Player {
 
     /// Whether no byte was given out and no answer taken yet.
     pub fn is_fresh(&self) -> bool
-        ensures { IsTrue result ↔ (self.now ≡ fresh Stops self.now.program) }
+        ensures { IsTrue result ↔ (self.now ≡ new_stream Stops self.now.program) }
     {
         matches!(self.progress.phase, Phase::Opening(0))
     }

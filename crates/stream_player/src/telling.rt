@@ -14,7 +14,7 @@ use svf_settings::Program;
 /// How the play ended, if it did.
 pub(crate) fn ended(program: &Program, p: Progress) -> Option<Ending>
     requires { Stands program.now.steps p }
-    ensures { result ≡ stream.ended 256 (state_of (program_of program.now) p) }
+    ensures { result ≡ stream.ending_of_stream 256 (state_of (program_of program.now) p) }
 {
     if let Some(byte) = p.bad {
         let command = program.step(p.at).number;

@@ -12,7 +12,7 @@ use Rattle.plays.specs.declared.ending.Ending.TheVariants.{BadAnswer}
 use Rattle.plays.specs.Play.{Turn, in_work, is_bad, sent, turns}
 use Rattle.plays.specs.Playing.{PlayerState, has_bad_answer, up_to_bad}
 use Rattle.plays.proofs.Asks.{asks}
-use Rattle.plays.proofs.Grow.{sent-grows}
+use Rattle.plays.proofs.GrowthByPrefix.{sent-grows}
 use Rattle.plays.specs.PlayingOn.{Kind, Stops, PlaysOn, Mismatch, ending_of, failures, turns_for, unjudged}
 use Rattle.every_schedule.proofs.BothPlayers.{ask-for, no-quit-for}
 use Rattle.every_schedule.proofs.Quits.{asks-append, has_quit}
@@ -21,7 +21,7 @@ use Rattle.streaming.specs.Histories.{WasAsked, bits}
 use Rattle.streaming.specs.Laws.{AnsweringStaysAsked, IsSame, StreamsAgree, TheStopperIsThePlayer, good, stream_of}
 use Rattle.plays.specs.Streams as stream
 use Rattle.plays.specs.Streams.{command_at, kept, sends, some_differ, stops_for, works}
-use Rattle.streaming.proofs.Same.{ends-bad, ends-good, sends-same, unjudged-command, unjudged-failures, unjudged-sends, unjudged-works, works-same}
+use Rattle.streaming.proofs.SameByCount.{ends-bad, ends-good, sends-same, unjudged-command, unjudged-failures, unjudged-sends, unjudged-works, works-same}
 
 -- how many `R` are among bytes
 abbrev pub reads : List ℕ → ℕ
@@ -272,7 +272,7 @@ take-less (suc n) [] = omega arith
 take-less (suc n) (b ∷ bytes) = omega (arith, take-less n bytes)
 
 more-asked : (kind : Kind) (window : ℕ) (p : PlayerState) (bytes : List ℕ) → WasAsked kind window p
-    → WasAsked kind window (record p { got = p.got ++ history.taken kind window p bytes })
+    → WasAsked kind window (record p { got = p.got ++ history.answers_taken kind window p bytes })
 more-asked kind window p bytes asked =
     omega (
       arith,
@@ -291,7 +291,7 @@ more-asked kind window p bytes asked =
     ts = turns_for kind p.program.steps
 
     T : List ℕ
-    T = history.taken kind window p bytes
+    T = history.answers_taken kind window p bytes
 
     S : List Message
     S = sent window ts (bits p.got)

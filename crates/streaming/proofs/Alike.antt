@@ -4,7 +4,7 @@ use Rattle.std.specs.Prelude.{if◌then◌else◌}
 use Rattle.bitbang_table.specs.declared.Message.{Message}
 use Rattle.bitbang_table.specs.declared.Message.TheVariants.{Write, Ask, Quit, Light, Lines}
 use Rattle.bitbang_table.specs.Protocol.{decode}
-use Rattle.plays.specs.Events.{Event, Put, Serve, Take, Lose, Side, World, happens, has_room, hear_all, put_bytes, run, served, take_answers, taken}
+use Rattle.plays.specs.Events.{Event, Put, Serve, Take, Lose, Side, World, happens, has_room, hear_all, put_bytes, run, served, take_answers, after_byte_taken}
 use Rattle.streaming.specs.Laws.{with_player}
 
 module _ {P Q : Type 0} (f : P → Q) where
@@ -16,7 +16,7 @@ module _ {P Q : Type 0} (f : P → Q) where
   room-same capacity w (Some (Light l)) = refl
   room-same capacity w (Some (Lines t s)) = refl
 
-  taken-same : (bytes : List ℕ) (w : World P) (o : Option Message) → taken bytes o (with_player f w) ≡ with_player f (taken bytes o w)
+  taken-same : (bytes : List ℕ) (w : World P) (o : Option Message) → after_byte_taken bytes o (with_player f w) ≡ with_player f (after_byte_taken bytes o w)
   taken-same bytes w None = refl
   taken-same bytes w (Some Ask) = refl
   taken-same bytes w (Some Quit) = refl
@@ -29,16 +29,16 @@ module _ {P Q : Type 0} (f : P → Q) where
   served-same capacity (suc n) [] w = refl
   served-same capacity (suc n) (b ∷ bytes) w =
       (λ i. if w.quit || not (room-same capacity w (decode b) i) then with_player f w else served capacity n bytes (taken-same bytes w (decode b) i))
-      ∙ one (w.quit || not (has_room capacity w (decode b))) (served-same capacity n bytes (taken bytes (decode b) w))
+      ∙ one (w.quit || not (has_room capacity w (decode b))) (served-same capacity n bytes (after_byte_taken bytes (decode b) w))
     where
-      one : (stop : Bool) → served capacity n bytes (with_player f (taken bytes (decode b) w)) ≡ with_player f (served capacity n bytes (taken bytes (decode b) w))
-          → (if stop then with_player f w else served capacity n bytes (with_player f (taken bytes (decode b) w)))
-          ≡ with_player f (if stop then w else served capacity n bytes (taken bytes (decode b) w))
+      one : (stop : Bool) → served capacity n bytes (with_player f (after_byte_taken bytes (decode b) w)) ≡ with_player f (served capacity n bytes (after_byte_taken bytes (decode b) w))
+          → (if stop then with_player f w else served capacity n bytes (with_player f (after_byte_taken bytes (decode b) w)))
+          ≡ with_player f (if stop then w else served capacity n bytes (after_byte_taken bytes (decode b) w))
       one true rest = refl
       one false rest = rest
 
   -- a board's byte leaves the player
-  taken-player : (bytes : List ℕ) (w : World P) (o : Option Message) → (taken bytes o w).player ≡ w.player
+  taken-player : (bytes : List ℕ) (w : World P) (o : Option Message) → (after_byte_taken bytes o w).player ≡ w.player
   taken-player bytes w None = refl
   taken-player bytes w (Some Ask) = refl
   taken-player bytes w (Some Quit) = refl
@@ -50,10 +50,10 @@ module _ {P Q : Type 0} (f : P → Q) where
   served-player capacity zero bytes w = refl
   served-player capacity (suc n) [] w = refl
   served-player capacity (suc n) (b ∷ bytes) w =
-      one (w.quit || not (has_room capacity w (decode b))) (served-player capacity n bytes (taken bytes (decode b) w) ∙ taken-player bytes w (decode b))
+      one (w.quit || not (has_room capacity w (decode b))) (served-player capacity n bytes (after_byte_taken bytes (decode b) w) ∙ taken-player bytes w (decode b))
     where
-      one : (stop : Bool) → (served capacity n bytes (taken bytes (decode b) w)).player ≡ w.player
-          → (if stop then w else served capacity n bytes (taken bytes (decode b) w)).player ≡ w.player
+      one : (stop : Bool) → (served capacity n bytes (after_byte_taken bytes (decode b) w)).player ≡ w.player
+          → (if stop then w else served capacity n bytes (after_byte_taken bytes (decode b) w)).player ≡ w.player
       one true rest = refl
       one false rest = rest
 

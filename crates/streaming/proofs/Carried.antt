@@ -7,7 +7,7 @@ use Rattle.bitbang_table.specs.declared.Message.{Message}
 use Rattle.bitbang_table.specs.declared.Message.TheVariants.{Write, Ask, Quit, Light, Lines}
 use Rattle.bitbang_table.specs.Protocol.{answer, decode, encode}
 use Rattle.board_meaning.specs.Chain.{BoardState}
-use Rattle.plays.specs.Events.{Event, Put, Serve, Take, Lose, Known, World, by_answers, fresh as fresh_world, happens, has_room, hear_all, put_bytes, run, served, take_answers, taken}
+use Rattle.plays.specs.Events.{Event, Put, Serve, Take, Lose, Known, World, by_answers, before_events as fresh_world, happens, has_room, hear_all, put_bytes, run, served, take_answers, after_byte_taken}
 use Rattle.plays.specs.Play.{player, sent}
 use Rattle.plays.specs.Playing.{PlayerState, up_to_bad}
 use Rattle.svf_settings.specs.Steps.{Numbered, Program}
@@ -16,12 +16,12 @@ use Rattle.every_schedule.specs.Fronts.{IsFront}
 use Rattle.every_schedule.specs.Laws.{Link, full}
 use Rattle.plays.specs.PlayingOn.{Kind, turns_for}
 use Rattle.every_schedule.proofs.Fronts.{front-trans}
-use Rattle.every_schedule.proofs.Honest.{none-bad-any, told-bits}
-use Rattle.every_schedule.proofs.Inside.{inside-happens, length-encoded}
-use Rattle.every_schedule.proofs.Moves.{heard-is}
+use Rattle.every_schedule.proofs.HonestLinks.{none-bad-any, told-bits}
+use Rattle.every_schedule.proofs.InsideFullPlay.{inside-happens, length-encoded}
+use Rattle.every_schedule.proofs.MovingEvents.{heard-is}
 use Rattle.every_schedule.proofs.Quits.{asks-append}
-use Rattle.every_schedule.proofs.Whole.{In, from-fresh, is-play}
-use Rattle.streaming.specs.Histories.{bytes_of, given_out, owed, side, waiting}
+use Rattle.every_schedule.proofs.SafetyLaws.{In, from-fresh, is-play}
+use Rattle.streaming.specs.Histories.{bytes_of, given_out, owed, side, bytes_to_send}
 use Rattle.streaming.specs.Laws.{history_of, with_player}
 
 abbrev pub world_of : Program → World Known → World PlayerState
@@ -36,7 +36,7 @@ room-same program capacity w (Some (Write tck tms tdi)) = refl
 room-same program capacity w (Some (Light l)) = refl
 room-same program capacity w (Some (Lines t s)) = refl
 
-taken-same : (program : Program) (bytes : List ℕ) (w : World Known) (o : Option Message) → taken bytes o (world_of program w) ≡ world_of program (taken bytes o w)
+taken-same : (program : Program) (bytes : List ℕ) (w : World Known) (o : Option Message) → after_byte_taken bytes o (world_of program w) ≡ world_of program (after_byte_taken bytes o w)
 taken-same program bytes w None = refl
 taken-same program bytes w (Some Ask) = refl
 taken-same program bytes w (Some Quit) = refl
@@ -49,17 +49,17 @@ served-same program capacity zero bytes w = refl
 served-same program capacity (suc n) [] w = refl
 served-same program capacity (suc n) (b ∷ bytes) w =
     (λ i. if w.quit || not (room-same program capacity w (decode b) i) then world_of program w else served capacity n bytes (taken-same program bytes w (decode b) i))
-    ∙ one (w.quit || not (has_room capacity w (decode b))) (served-same program capacity n bytes (taken bytes (decode b) w))
+    ∙ one (w.quit || not (has_room capacity w (decode b))) (served-same program capacity n bytes (after_byte_taken bytes (decode b) w))
   where
-    one : (stop : Bool) → served capacity n bytes (world_of program (taken bytes (decode b) w)) ≡ world_of program (served capacity n bytes (taken bytes (decode b) w))
-        → (if stop then world_of program w else served capacity n bytes (world_of program (taken bytes (decode b) w)))
-        ≡ world_of program (if stop then w else served capacity n bytes (taken bytes (decode b) w))
+    one : (stop : Bool) → served capacity n bytes (world_of program (after_byte_taken bytes (decode b) w)) ≡ world_of program (served capacity n bytes (after_byte_taken bytes (decode b) w))
+        → (if stop then world_of program w else served capacity n bytes (world_of program (after_byte_taken bytes (decode b) w)))
+        ≡ world_of program (if stop then w else served capacity n bytes (after_byte_taken bytes (decode b) w))
     one true rest = refl
     one false rest = rest
 
 -- what waits is the same
 waiting-same : (kind : Kind) (window : ℕ) (program : Program) (p : Known)
-    → waiting kind window (history_of program p) ≡ drop p.given (player window (turns_for kind program.steps) p.got)
+    → bytes_to_send kind window (history_of program p) ≡ drop p.given (player window (turns_for kind program.steps) p.got)
 waiting-same kind window program p =
     (λ i. if none-bad-any p.got i then [] else drop p.given (bytes_of kind window (history_of program p)))
     ∙ (λ i. drop p.given (player window (turns_for kind program.steps) (told-bits p.got i)))

@@ -4,8 +4,8 @@ use Rattle.std.specs.Prelude.{if◌then◌else◌}
 use Rattle.std.specs.List.{list_any}
 use Rattle.bitbang_table.specs.declared.Message.{Message}
 use Rattle.bitbang_table.specs.Protocol.{answer, encode}
-use Rattle.board_meaning.specs.Chain.{after_all, hear}
-use Rattle.board_meaning.proofs.Told.{after_all-encoded}
+use Rattle.board_meaning.specs.Chain.{after_bytes, hear}
+use Rattle.board_meaning.proofs.BytesAndMessages.{after_all-encoded}
 use Rattle.plays.specs.Play.{ending_for, is_bad, sent, turns}
 use Rattle.plays.specs.Playing.{has_bad_answer}
 use Rattle.svf_settings.specs.Steps.{Numbered}
@@ -15,10 +15,10 @@ use Rattle.every_schedule.specs.Laws.{full}
 use Rattle.plays.specs.PlayingOn.{Stops}
 use Rattle.every_schedule.specs.Sides.{answered_all}
 use Rattle.every_schedule.proofs.Fronts.{front-take, front-trans}
-use Rattle.every_schedule.proofs.Honest.{ending-full, honest, none-bad-any, told-bits}
-use Rattle.every_schedule.proofs.Inside.{hear-front}
+use Rattle.every_schedule.proofs.HonestLinks.{ending-full, honest, none-bad-any, told-bits}
+use Rattle.every_schedule.proofs.InsideFullPlay.{hear-front}
 use Rattle.every_schedule.proofs.Quits.{full-last, has_quit, quit-append, sent-whole, turns-no-quit}
-use Rattle.every_schedule.proofs.Whole.{answered-encoded}
+use Rattle.every_schedule.proofs.SafetyLaws.{answered-encoded}
 use Rattle.streaming.specs.Histories.{given_out}
 use Rattle.streaming.specs.Laws.{AnHonestVerdictForAnyWindow}
 use Rattle.streaming.proofs.Agree.{quit-byte}
@@ -35,7 +35,7 @@ honest_verdict window p b got same front over =
           ∙ ap (ending_for (turns p.program.steps)) (same ∙ ap (map answer) got_all)
           ∙ ending-full (turns p.program.steps) b (turns-ask steps);
       bytes = out_is ∙ ap (map encode) out_all;
-      board = ap (λ l. after_all l b) (out_is ∙ ap (map encode) out_all) ∙ after_all-encoded (full Stops steps b).messages b
+      board = ap (λ l. after_bytes l b) (out_is ∙ ap (map encode) out_all) ∙ after_all-encoded (full Stops steps b).messages b
           ∙ ap (λ h. h.board) (hear-full (turns steps) b);
     }
   where

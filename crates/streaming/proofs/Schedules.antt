@@ -20,7 +20,7 @@ alike kind window = record {
   waiting = λ p ok. (agree kind window p ok).waiting;
   give = λ n p ok. refl;
   hear = λ bit p ok. ap (λ l. hear_all l (stream_of kind p)) ((agree kind window p ok).taken (answer bit ∷ []))
-      ∙ hearing kind p (history.taken kind window p (answer bit ∷ []));
+      ∙ hearing kind p (history.answers_taken kind window p (answer bit ∷ []));
   gave = λ n p ok. (stays_asked kind window).give p n ok;
   heard = λ bit p ok. (stays_asked kind window).answer p (answer bit ∷ []) ok;
 }
@@ -29,12 +29,12 @@ pub carry_over : SchedulesCarryOver
 carry_over kind window program b down_room up_room es =
     (λ i. run (stream.side window) down_room up_room es (empty_pipes (sym (fresh_agrees kind program) i) b))
     ∙ run-alike (history.side kind window) (stream.side window) (stream_of kind) (WasAsked kind window) (alike kind window) down_room up_room es
-    (empty_pipes (playing.fresh program) b) ((stays_asked kind window).fresh program)
+    (empty_pipes (playing.new_player program) b) ((stays_asked kind window).fresh program)
     ∙ ap (with_player (stream_of kind)) (carried kind window program b down_room up_room es)
 
 pub calls_alike : CallsGoAlike
 calls_alike kind window p asked = record {
   give = λ n. refl;
   answers = λ bytes. ap (λ l. hear_all l (stream_of kind p)) ((agree kind window p asked).taken bytes)
-      ∙ hearing kind p (history.taken kind window p bytes);
+      ∙ hearing kind p (history.answers_taken kind window p bytes);
 }

@@ -20,8 +20,8 @@ module _ (kind : Kind) (window : ℕ) where
   abbrev pub bytes_of : PlayerState → List ℕ
   bytes_of p = player window (turns_in p) (bits p.got)
 
-  abbrev pub waiting : PlayerState → List ℕ
-  waiting p = if has_bad_answer p then [] else drop p.given (bytes_of p)
+  abbrev pub bytes_to_send : PlayerState → List ℕ
+  bytes_to_send p = if has_bad_answer p then [] else drop p.given (bytes_of p)
 
   abbrev pub given_out : PlayerState → List ℕ
   given_out p = take p.given (bytes_of p)
@@ -29,8 +29,8 @@ module _ (kind : Kind) (window : ℕ) where
   abbrev pub owed : PlayerState → ℕ
   owed p = if has_bad_answer p then 0 else count_by (λ b. b == 82) (given_out p) - length p.got
 
-  abbrev pub taken : PlayerState → List ℕ → List ℕ
-  taken p bytes = up_to_bad (take (owed p) bytes)
+  abbrev pub answers_taken : PlayerState → List ℕ → List ℕ
+  answers_taken p bytes = up_to_bad (take (owed p) bytes)
 
   abbrev pub has_ended : PlayerState → Bool
   has_ended p = has_bad_answer p || list_any (λ b. b == 81) (given_out p)
@@ -47,8 +47,8 @@ module _ (kind : Kind) (window : ℕ) where
         (ending_for (turns_in p) p.got)
   ]
 
-  abbrev pub ended : PlayerState → Option Ending
-  ended p = if has_ended p then verdict p else None
+  abbrev pub ending_of_history : PlayerState → Option Ending
+  ending_of_history p = if has_ended p then verdict p else None
 
   abbrev pub working : PlayerState → ℕ
   working p = in_work p.program.statements (turns_in p) p.given (bits p.got)
@@ -60,7 +60,7 @@ module _ (kind : Kind) (window : ℕ) where
   -- as events see it
   abbrev pub side : Side PlayerState
   side = record {
-    waiting = waiting;
+    waiting = bytes_to_send;
     give = λ n p. record p { given = p.given + n };
-    hear = λ bit p. record p { got = p.got ++ taken p (answer bit ∷ []) };
+    hear = λ bit p. record p { got = p.got ++ answers_taken p (answer bit ∷ []) };
   }

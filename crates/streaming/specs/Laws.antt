@@ -2,8 +2,8 @@
 use Rattle.std.specs.Prelude.{Bool, Some, true, ◌≡◌, false, ℕ, ◌+◌, ◌≤◌, List, [], ◌∷◌, ◌++◌, map, length, find}
 use Rattle.std.specs.Prelude.{if◌then◌else◌}
 use Rattle.bitbang_table.specs.Protocol.{answer}
-use Rattle.board_meaning.specs.Chain.{BoardState, after_all}
-use Rattle.plays.specs.Events.{Event, Known, World, by_answers, empty_pipes, fresh as fresh_world, run}
+use Rattle.board_meaning.specs.Chain.{BoardState, after_bytes}
+use Rattle.plays.specs.Events.{Event, Known, World, by_answers, empty_pipes, before_events as fresh_world, run}
 use Rattle.plays.specs.Play.{is_bad, player, turns}
 use Rattle.plays.specs.Playing as playing
 use Rattle.plays.specs.Playing.{PlayerState, has_bad_answer}
@@ -39,14 +39,16 @@ HearingIsTheHistory = (kind : Kind) (p : PlayerState) (bytes : List ℕ)
     → hear_all bytes (stream_of kind p) ≡ stream_of kind (record p { got = p.got ++ bytes })
 
 abbrev pub FreshAgrees : Type 0
-FreshAgrees = (kind : Kind) (program : Program) → stream_of kind (playing.fresh program) ≡ stream.fresh kind program
+FreshAgrees = (kind : Kind) (program : Program)
+    → stream_of kind (playing.new_player program) ≡ stream.new_stream kind program
 
 -- What callers see is the same.
 pub record IsSame (kind : Kind) (window : ℕ) (p : PlayerState) : Type 0 where
-  pub waiting : stream.waiting window (stream_of kind p) ≡ history.waiting kind window p
+  pub waiting : stream.bytes_to_send window (stream_of kind p) ≡ history.bytes_to_send kind window p
   pub owed : stream.owed window (stream_of kind p) ≡ history.owed kind window p
-  pub taken : (bytes : List ℕ) → stream.taken window (stream_of kind p) bytes ≡ history.taken kind window p bytes
-  pub ended : stream.ended window (stream_of kind p) ≡ history.ended kind window p
+  pub taken : (bytes : List ℕ)
+      → stream.answers_taken window (stream_of kind p) bytes ≡ history.answers_taken kind window p bytes
+  pub ended : stream.ending_of_stream window (stream_of kind p) ≡ history.ending_of_history kind window p
   pub working : has_bad_answer p ≡ false → stream.working (stream_of kind p) ≡ history.working kind window p
 
 abbrev pub StreamsAgree : Type 0
@@ -56,28 +58,28 @@ StreamsAgree = (kind : Kind) (window : ℕ) (p : PlayerState) → WasAsked kind 
 pub record GoesAlike (kind : Kind) (window : ℕ) (p : PlayerState) : Type 0 where
   pub give : (n : ℕ) → record (stream_of kind p) { given = p.given + n }
       ≡ stream_of kind (record p { given = p.given + n })
-  pub answers : (bytes : List ℕ) → hear_all (stream.taken window (stream_of kind p) bytes) (stream_of kind p)
-      ≡ stream_of kind (record p { got = p.got ++ history.taken kind window p bytes })
+  pub answers : (bytes : List ℕ) → hear_all (stream.answers_taken window (stream_of kind p) bytes) (stream_of kind p)
+      ≡ stream_of kind (record p { got = p.got ++ history.answers_taken kind window p bytes })
 
 abbrev pub CallsGoAlike : Type 0
 CallsGoAlike = (kind : Kind) (window : ℕ) (p : PlayerState) → WasAsked kind window p → GoesAlike kind window p
 
 -- The histories that calls lead to.
 pub record StaysAsked (kind : Kind) (window : ℕ) : Type 0 where
-  pub fresh : (program : Program) → WasAsked kind window (playing.fresh program)
+  pub fresh : (program : Program) → WasAsked kind window (playing.new_player program)
   pub give : (p : PlayerState) (n : ℕ) → WasAsked kind window p
       → WasAsked kind window (record p { given = p.given + n })
   pub answer : (p : PlayerState) (bytes : List ℕ) → WasAsked kind window p
-      → WasAsked kind window (record p { got = p.got ++ history.taken kind window p bytes })
+      → WasAsked kind window (record p { got = p.got ++ history.answers_taken kind window p bytes })
 
 abbrev pub AnsweringStaysAsked : Type 0
 AnsweringStaysAsked = (kind : Kind) (window : ℕ) → StaysAsked kind window
 
 pub record IsThePlayer (p : PlayerState) : Type 0 where
-  pub waiting : history.waiting Stops 1 p ≡ playing.waiting p
+  pub waiting : history.bytes_to_send Stops 1 p ≡ playing.bytes_to_send p
   pub owed : history.owed Stops 1 p ≡ playing.owed p
-  pub taken : (bytes : List ℕ) → history.taken Stops 1 p bytes ≡ playing.taken p bytes
-  pub ended : history.ended Stops 1 p ≡ playing.ended p
+  pub taken : (bytes : List ℕ) → history.answers_taken Stops 1 p bytes ≡ playing.answers_taken p bytes
+  pub ended : history.ending_of_history Stops 1 p ≡ playing.ending_of_player p
 
 abbrev pub TheStopperIsThePlayer : Type 0
 TheStopperIsThePlayer = (p : PlayerState) → IsThePlayer p
@@ -104,16 +106,16 @@ with_player f w = record {
 abbrev pub SchedulesCarryOver : Type 0
 SchedulesCarryOver = (kind : Kind) (window : ℕ) (program : Program) (b : BoardState) (down_room up_room : ℕ)
     (es : List Event)
-    → run (stream.side window) down_room up_room es (empty_pipes (stream.fresh kind program) b)
+    → run (stream.side window) down_room up_room es (empty_pipes (stream.new_stream kind program) b)
     ≡ with_player (λ p. stream_of kind (history_of program p))
     (run (by_answers (player window (turns_for kind program.steps))) down_room up_room es (fresh_world b))
 
 -- Over a link that hands on bytes and answers as they are, a player that stops and has ended has the full play's
 -- verdict, and all its bytes lead a board to the full play's, whatever the window.
 pub record IsFullPlay (window : ℕ) (p : PlayerState) (b : BoardState) : Type 0 where
-  pub ending : history.ended Stops window p ≡ Some (full Stops p.program.steps b).ending
+  pub ending : history.ending_of_history Stops window p ≡ Some (full Stops p.program.steps b).ending
   pub bytes : history.given_out Stops window p ≡ full_bytes Stops p.program.steps b
-  pub board : after_all (history.given_out Stops window p) b ≡ (full Stops p.program.steps b).board
+  pub board : after_bytes (history.given_out Stops window p) b ≡ (full Stops p.program.steps b).board
 
 abbrev pub AnHonestVerdictForAnyWindow : Type 0
 AnHonestVerdictForAnyWindow = (window : ℕ) (p : PlayerState) (b : BoardState) (got : List Bool) → p.got ≡ map answer got

@@ -7,29 +7,30 @@ use Rattle.svf_settings.specs.Steps.{Program}
 use Rattle.every_schedule.specs.Fair.{one_each}
 use Rattle.plays.specs.PlayingOn.{Kind, Stops, PlaysOn}
 use Rattle.every_schedule.specs.Samples.{sample, two_scans}
-use Rattle.plays.specs.Streams.{StreamState, ended, fresh, hear_all, owed, side, taken, waiting, working}
+use Rattle.plays.specs.Streams.{StreamState, ending_of_stream, new_stream, hear_all, owed, side, answers_taken}
+use Rattle.plays.specs.Streams.{bytes_to_send, working}
 
 abbrev pub program : Program
 program = record { steps = two_scans; statements = 2 }
 
 abbrev pub after : Kind → (window : ℕ) → World StreamState
-after kind window = run (side window) 3 1 (one_each 90) (empty_pipes (fresh kind program) sample)
+after kind window = run (side window) 3 1 (one_each 90) (empty_pipes (new_stream kind program) sample)
 
 -- all that may be sent before the first answer was given out
 abbrev pub asked : StreamState
-asked = record (fresh Stops program) { given = length (waiting 256 (fresh Stops program)) }
+asked = record (new_stream Stops program) { given = length (bytes_to_send 256 (new_stream Stops program)) }
 
 pub record SamplesCompute : Type 0 where
   pub quit : (after PlaysOn 256).quit ≡ true
   pub both : (after PlaysOn 256).player.found.total ≡ 2
   pub answered : (after PlaysOn 256).player.answered ≡ 2
-  pub first : ended 256 (after PlaysOn 256).player ≡ Some (Fail 1 Data 0)
+  pub first : ending_of_stream 256 (after PlaysOn 256).player ≡ Some (Fail 1 Data 0)
   pub stopped : (after Stops 256).quit ≡ true
   pub one : (after Stops 256).player.answered ≡ 1
-  pub verdict : ended 256 (after Stops 256).player ≡ Some (Fail 1 Data 0)
+  pub verdict : ending_of_stream 256 (after Stops 256).player ≡ Some (Fail 1 Data 0)
   pub narrow : (after Stops 1).player.answered ≡ 1
   -- one answer is owed; a further one is not taken, and a byte that is no answer ends it
   pub owes : owed 256 asked ≡ 1
-  pub takes : taken 256 asked (49 ∷ 49 ∷ []) ≡ 49 ∷ []
+  pub takes : answers_taken 256 asked (49 ∷ 49 ∷ []) ≡ 49 ∷ []
   pub works : working asked ≡ 1
-  pub bad : ended 256 (hear_all (taken 256 asked (50 ∷ [])) asked) ≡ Some (BadAnswer 1 50)
+  pub bad : ending_of_stream 256 (hear_all (answers_taken 256 asked (50 ∷ [])) asked) ≡ Some (BadAnswer 1 50)

@@ -9,7 +9,7 @@ use Rattle.svf_lex.specs.Cutting.{Lexeme, Cut, piece, bad, cuts_of, front}
 use Rattle.svf_lex.specs.Gaps.{bytes_of, Divides, tokens_at, TokensOf, BadAfter, BeginsNothing}
 use Rattle.svf_lex.specs.Laws.{TokensAreCut, BadByteIsCut, EachIsCut, TokensAreOne, BadByteIsOne, NeverBoth}
 use Rattle.svf_lex.proofs.Steps.{cut-nil, cut-cons}
-use Rattle.svf_lex.proofs.Divided.{divides_cut, Found, found}
+use Rattle.svf_lex.proofs.RowsOfParts.{divides_cut, Found, found}
 
 pub tokens_cut : (text : List ℕ) (ts : List Lexeme) → TokensOf text ts → cuts_of text ≡ map piece ts
 tokens_cut text ts t =

@@ -1,5 +1,5 @@
 pub mod Cuttings
-pub mod Divided
+pub mod RowsOfParts
 pub mod Endings
 pub mod Lines
 pub mod Order

@@ -5,7 +5,7 @@ use Rattle.std.proofs.lemmas.Bool.Decides.{nat_tests}
 use Rattle.svf_parse.specs.declared.keywords.FieldName.{FieldName}
 use Rattle.svf_parse.specs.Words.{Word, is_open, is_close}
 use Rattle.svf_parse.specs.Keywords.{field_of}
-use Rattle.svf_parse.specs.Fields.{◌>>?◌, Fields, Closed, over, closing, before_close, cut_at_close, joined, runs, bracket, put, fields_say}
+use Rattle.svf_parse.specs.Fields.{◌>>?◌, Fields, Closed, over, closing, before_close, cut_at_close, joined_digits, runs, bracket, put, fields_say}
 
 -- digits that were read, before those that are read next
 abbrev pub with_digits : List ℕ → Option (List ℕ × Closed) → Option (List ℕ × Closed)
@@ -21,7 +21,7 @@ more_joined front w (Some h) rest = ap (λ (x : List ℕ). Some (x, rest)) (sym 
 
 more_runs : (front : List ℕ) (w : Word) (c : Closed) → is_open w ≡ false → with_digits front (runs (before_close w c)) ≡ with_digits (front ++ w) (runs c)
 more_runs front w (over ws) shut = refl
-more_runs front w (closing ws rest) shut = ap (λ (b : Bool). with_digits front (cond b None (joined ws >>? λ h. Some (w ++ h)) >>? λ h. Some (h, rest))) shut ∙ more_joined front w (joined ws) rest
+more_runs front w (closing ws rest) shut = ap (λ (b : Bool). with_digits front (cond b None (joined_digits ws >>? λ h. Some (w ++ h)) >>? λ h. Some (h, rest))) shut ∙ more_joined front w (joined_digits ws) rest
 
 pub next_run : (front : List ℕ) (w : Word) (ws all : List Word) (total : Option (List ℕ × Closed)) → all ≡ w ∷ ws → is_close w ≡ false → is_open w ≡ false
     → with_digits front (runs (cut_at_close all)) ≡ total → with_digits (front ++ w) (runs (cut_at_close ws)) ≡ total
@@ -37,7 +37,7 @@ ended_runs front w ws all total split shut so_far =
 
 opened_runs : (front : List ℕ) (w : Word) (c : Closed) → is_open w ≡ true → with_digits front (runs (before_close w c)) ≡ None
 opened_runs front w (over ws) opens = refl
-opened_runs front w (closing ws rest) opens = ap (λ (b : Bool). with_digits front (cond b None (joined ws >>? λ h. Some (w ++ h)) >>? λ h. Some (h, rest))) opens
+opened_runs front w (closing ws rest) opens = ap (λ (b : Bool). with_digits front (cond b None (joined_digits ws >>? λ h. Some (w ++ h)) >>? λ h. Some (h, rest))) opens
 
 pub broken_runs : (front : List ℕ) (w : Word) (ws all : List Word) (total : Option (List ℕ × Closed)) → all ≡ w ∷ ws → is_close w ≡ false → is_open w ≡ true
     → with_digits front (runs (cut_at_close all)) ≡ total → None ≡ total
@@ -97,7 +97,7 @@ after_name : (fs : Fields) (w : Word) (c : Closed) (f : FieldName) → field_of 
 unfolding fields_say
 after_name fs w (over ws) f name = refl
 after_name fs w (closing [] rest) f name = refl
-after_name fs w (closing (x ∷ ws) rest) f name = rw name (named fs f (is_open x) (joined ws) rest)
+after_name fs w (closing (x ∷ ws) rest) f name = rw name (named fs f (is_open x) (joined_digits ws) rest)
 
 no_name : (fs : Fields) (w : Word) (c : Closed) → field_of w ≡ None → fields_say fs (before_close w c) ≡ None
 unfolding fields_say

@@ -11,7 +11,7 @@ use Rattle.jt_bits.proofs.LengthLaws.{resized-take}
 use Rattle.svf_parse.specs.declared.fault.Code.TheVariants as code
 use Rattle.jt_bits.specs.declared.digits.HexFault.TheVariants.{TooWide}
 use Rattle.svf_parse.specs.Sizes.{ValuesAreWritten}
-use Rattle.svf_parse.specs.Judging.{bits, written, field_fault}
+use Rattle.svf_parse.specs.Judging.{bits, bits_written, field_fault}
 use Rattle.svf_parse.proofs.Digits.{and_true}
 
 digit_is_no_white : (c : ℕ) → is_ascii_hexdigit c ≡ true → is_white c ≡ false
@@ -48,7 +48,7 @@ missing_none w bits le =
     ap (λ (k : ℕ). take w bits ++ replicate k false) none ∙ append-nil (take w bits)
 
 -- as many bits as the digits write, but none beyond the length, are those that are written
-pub lowest_written : (n w : ℕ) (h : List ℕ) → field_fault (Some n) (Some h) ≡ None → w ≡ min (4 * length h) n → lowest w h ≡ written n h
+pub lowest_written : (n w : ℕ) (h : List ℕ) → field_fault (Some n) (Some h) ≡ None → w ≡ min (4 * length h) n → lowest w h ≡ bits_written n h
 lowest_written n w h sound is =
     let all = all_spelt n h sound in
     let long : length (binary h) ≡ 4 * length h = four_each h all.0 in

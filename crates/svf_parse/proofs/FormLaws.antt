@@ -12,7 +12,7 @@ use Rattle.svf_parse.specs.declared.keywords.Command.TheVariants as command
 use Rattle.svf_parse.specs.declared.keywords.FieldName.{FieldName}
 use Rattle.svf_parse.specs.Words.{Word, reads, is_open, is_close, is_number}
 use Rattle.svf_parse.specs.Keywords.{command_word, scan_word, trst_word, command_of, field_of, state_of}
-use Rattle.svf_parse.specs.Fields.{◌>>?◌, Fields, no_fields, put, Closed, over, closing, before_close, cut_at_close, joined, runs, bracket, fields_say}
+use Rattle.svf_parse.specs.Fields.{◌>>?◌, Fields, no_fields, put, Closed, over, closing, before_close, cut_at_close, joined_digits, runs, bracket, fields_say}
 use Rattle.svf_parse.specs.RunTests.{run_of}
 use Rattle.svf_parse.specs.Forms.{Form, end_dr_form, end_ir_form, frequency_form, scan_form, run_form, states_form, trst_form, port_form, form_of, one_state, one_trst, each_state, with_state, some_states, hertz, scan_of}
 use Rattle.svf_parse.specs.Spelling.{Reads, IsNumber, IsRun, AreFields, AreStates, IsForm}
@@ -136,11 +136,11 @@ no_words [] e = refl
 no_words (w ∷ ws) e = absurd (not_over w (is_close w) (cut_at_close ws) e)
 
 -- runs that were joined are none of them `(`
-runs_found : (rs : List Word) (h : List ℕ) → joined rs ≡ Some h → AllByRecursion NoClose rs → AllByRecursion IsRun rs × (h ≡ flat_map (λ w. w) rs)
+runs_found : (rs : List Word) (h : List ℕ) → joined_digits rs ≡ Some h → AllByRecursion NoClose rs → AllByRecursion IsRun rs × (h ≡ flat_map (λ w. w) rs)
 runs_found [] h e each = (tt, sym (some_is [] h e))
 runs_found (r ∷ rs) h e each =
-    let u = unless_some (is_open r) (joined rs >>? λ g. Some (r ++ g)) h e in
-    let j = and_then (joined rs) (λ g. Some (r ++ g)) h u.1 in
+    let u = unless_some (is_open r) (joined_digits rs >>? λ g. Some (r ++ g)) h e in
+    let j = and_then (joined_digits rs) (λ g. Some (r ++ g)) h u.1 in
     let more = runs_found rs j.0 j.1 each.1 in
     (((u.0, each.0), more.0), sym (some_is (r ++ j.0) h j.2) ∙ ap (λ (x : List ℕ). r ++ x) more.1 ∙ sym (flat_map-cons (λ w. w) r rs))
 
@@ -152,9 +152,9 @@ fields_found ws (closing [] rest) old new cut e = absurd cc
 fields_found ws (closing (w ∷ []) rest) old new cut e = absurd cc
 fields_found ws (closing (w ∷ x ∷ xs) rest) old new cut e =
     let a = around ws (w ∷ x ∷ xs) rest cut in
-    let n = and_then (field_of w) (λ f. (cond (is_open x) (joined xs) None) >>? λ h. put f h old >>? λ gs. fields_say gs rest) new e in
-    let j = and_then (cond (is_open x) (joined xs) None) (λ h. put n.0 h old >>? λ gs. fields_say gs rest) new n.2 in
-    let o = if_some (is_open x) (joined xs) j.0 j.1 in
+    let n = and_then (field_of w) (λ f. (cond (is_open x) (joined_digits xs) None) >>? λ h. put f h old >>? λ gs. fields_say gs rest) new e in
+    let j = and_then (cond (is_open x) (joined_digits xs) None) (λ h. put n.0 h old >>? λ gs. fields_say gs rest) new n.2 in
+    let o = if_some (is_open x) (joined_digits xs) j.0 j.1 in
     let p = and_then (put n.0 j.0 old) (λ gs. fields_say gs rest) new j.2 in
     let r = runs_found xs j.0 o.1 a.each.1.1 in
     let more = fields_found a.tail rest p.0 new a.after p.2 in

@@ -28,7 +28,7 @@ use Rattle.svf_parse.specs.Words.{Word, Parts, last, group, with_word, with_toke
 use Rattle.svf_parse.specs.Fields.{Fields, no_fields, if_none, put}
 use Rattle.svf_parse.specs.Keywords.{scan_word}
 use Rattle.svf_parse.specs.Forms.{Form, end_dr_form, end_ir_form, frequency_form, scan_form, run_form, states_form, trst_form, port_form}
-use Rattle.svf_parse.specs.Judging.{◌>>=◌, Said, end_dr, end_ir, frequency, states, trst, cycles_say, both, form_says, scan_says, scan_with, run_says, run_with, written, bits, given}
+use Rattle.svf_parse.specs.Judging.{◌>>=◌, Said, end_dr, end_ir, frequency, states, trst, cycles_say, both, form_says, scan_says, scan_with, run_says, run_with, bits_written, bits, given}
 use Rattle.svf_parse.specs.Numbers.{period_says, time_says}
 use Rattle.svf_parse.specs.Spelling.{Reads, AreStates, IsField, AreFields, IsForm, EachSpells, closed_by, TextSpells}
 use Rattle.svf_parse.specs.Sizes.{bits_in, size}
@@ -111,7 +111,7 @@ few_written : (n : ℕ) (o : Option (List ℕ)) → bits_in (bits n o) ≤ 4 * d
 few_written n None = omega arith
 few_written n (Some h) =
     let most = few_digits h in
-    let cut : length (written n h) ≡ min n (length (binary h)) = length-take n (binary h) in
+    let cut : length (bits_written n h) ≡ min n (length (binary h)) = length-take n (binary h) in
     omega (arith, most, cut)
 
 abbrev field_total : Fields → ℕ

@@ -44,14 +44,14 @@ cut_at_close [] = over []
 cut_at_close (w ∷ ws) = if is_close w then closing [] (cut_at_close ws) else before_close w (cut_at_close ws)
 
 -- runs, joined
-abbrev pub joined : List Word → Option (List ℕ)
-joined [] = Some []
-joined (w ∷ ws) = if is_open w then None else joined ws >>? λ h. Some (w ++ h)
+abbrev pub joined_digits : List Word → Option (List ℕ)
+joined_digits [] = Some []
+joined_digits (w ∷ ws) = if is_open w then None else joined_digits ws >>? λ h. Some (w ++ h)
 
 -- the runs up to `)`, joined, and what stands after it
 abbrev pub runs : Closed → Option (List ℕ × Closed)
 runs (over ws) = None
-runs (closing ws rest) = joined ws >>? λ h. Some (h, rest)
+runs (closing ws rest) = joined_digits ws >>? λ h. Some (h, rest)
 
 -- the same behind `(`
 abbrev pub bracket : Closed → Option (List ℕ × Closed)
@@ -66,4 +66,4 @@ fields_say fs (over (w ∷ ws)) = None
 fields_say fs (closing [] rest) = None
 fields_say fs (closing (w ∷ []) rest) = None
 fields_say fs (closing (w ∷ x ∷ ws) rest) =
-    field_of w >>? λ f. (if is_open x then joined ws else None) >>? λ h. put f h fs >>? λ gs. fields_say gs rest
+    field_of w >>? λ f. (if is_open x then joined_digits ws else None) >>? λ h. put f h fs >>? λ gs. fields_say gs rest

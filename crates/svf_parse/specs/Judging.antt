@@ -97,12 +97,12 @@ scan_says w fs =
     (checked (field_fault n fs.mask) (checked (field_fault n fs.smask) (len_says w))))
 
 -- the binary digits that a field of n bits writes, lowest first: those above them are 0, and are not kept
-abbrev pub written : ℕ → List ℕ → List Bool
-written n h = take n (binary h)
+abbrev pub bits_written : ℕ → List ℕ → List Bool
+bits_written n h = take n (binary h)
 
 -- the bits of a field
 abbrev pub bits : ℕ → Option (List ℕ) → Option (List Bool)
-bits n h = option_map (written n) h
+bits n h = option_map (bits_written n) h
 
 abbrev pub scan_with : Which → Fields → ℕ → Said
 scan_with which fs n = scan which n (bits n fs.tdi) (bits n fs.tdo) (bits n fs.mask) (bits n fs.smask)

@@ -9,7 +9,7 @@ use Rattle.jt_tap.specs.declared.State.{State}
 use Rattle.jt_tap.specs.declared.State.TheVariants.{Reset}
 use Rattle.jt_tap.specs.Controller.{is_stable}
 use Rattle.tap_paths.specs.Stated.{IsWalk}
-use Rattle.tap_paths.proofs.Stated.{walks}
+use Rattle.tap_paths.proofs.StatedPaths.{walks}
 use Rattle.svf_parse.specs.declared.fault.Code.{Code}
 use Rattle.svf_parse.specs.declared.fault.Code.TheVariants as code
 use Rattle.svf_parse.specs.declared.fault.SvfFault.{SvfFault}
@@ -23,7 +23,7 @@ use Rattle.tap_paths.specs.Paths.{last_of}
 use Rattle.svf_settings.specs.Steps.{Step, Scan, Go, Path, Run, Trst, Numbered, place_after, line_after}
 use Rattle.svf_settings.specs.Legal.{IsPath, IsFormed, IsLegalAt, AllLegalFrom, IsLegalProgram}
 use Rattle.svf_settings.specs.LookBack.{Settings, settings, step, place, in_force, cycles, runs_in, ends_in, trst_word, dr_end, ir_end}
-use Rattle.svf_settings.specs.Refusals.{told, refusal, misses_tdi, is_unstable, is_broken, is_stopped, uses_absent, is_empty, is_too_slow, is_too_large, is_held, needs_release, len_of, vector_limit}
+use Rattle.svf_settings.specs.Refusals.{refusal_at, refusal, misses_tdi, is_unstable, is_broken, is_stopped, uses_absent, is_empty, is_too_slow, is_too_large, is_held, needs_release, len_of, vector_limit}
 use Rattle.svf_settings.specs.Programs.{steps, first_refusal, or_refused}
 use Rattle.svf_settings.specs.Laws.{IsWithin, AllWithin, IsSound}
 
@@ -55,7 +55,7 @@ none_of false false false false false false true b8 e = absurd (cc)
 none_of false false false false false false false true e = absurd (cc)
 none_of false false false false false false false false e = (refl, refl, refl, refl, refl)
 
-clear : (st : Settings) (at : State) (s : Said) → told st at s ≡ None → Clear st at s
+clear : (st : Settings) (at : State) (s : Said) → refusal_at st at s ≡ None → Clear st at s
 clear st at s e =
     let n = none_of (misses_tdi st s) (is_unstable st at s) (is_broken at s) (is_stopped st s) (uses_absent st s) (is_empty s) (is_too_slow st s) (is_too_large st s) e in
     record { stable = n.0; joined = n.1; free = n.2; some = n.3; small = n.4 }

@@ -110,8 +110,8 @@ Has st place s code.TooLarge = is_too_large st s ≡ true
 Has st place s _ = ⊥
 
 -- The refusal of a statement: the one with the lowest number among those that it has.
-abbrev pub told : Settings → State → Said → Option Code
-told st place s =
+abbrev pub refusal_at : Settings → State → Said → Option Code
+refusal_at st place s =
     if misses_tdi st s then Some code.MissingTdi
     else if is_unstable st place s then Some code.BadState
     else if is_broken place s then Some code.BadPath
@@ -124,13 +124,14 @@ told st place s =
 
 -- The refusal of a statement behind those before it, the nearest first.
 abbrev pub refusal : List Said → Said → Option Code
-refusal before s = told (settings before) (place before) s
+refusal before s = refusal_at (settings before) (place before) s
 
 -- a statement that is refused has that refusal, and none of its refusals has a lower number
 abbrev pub LeastIsTold : Type 0
-LeastIsTold = (st : Settings) (place : State) (s : Said) (c : Code) → told st place s ≡ Some c
+LeastIsTold = (st : Settings) (place : State) (s : Said) (c : Code) → refusal_at st place s ≡ Some c
     → Has st place s c × ((d : Code) → Has st place s d → number c ≤ number d)
 
 -- a statement that is not refused has no refusal
 abbrev pub AcceptedHasNone : Type 0
-AcceptedHasNone = (st : Settings) (place : State) (s : Said) (d : Code) → told st place s ≡ None → ¬ Has st place s d
+AcceptedHasNone = (st : Settings) (place : State) (s : Said) (d : Code) → refusal_at st place s ≡ None
+    → ¬ Has st place s d

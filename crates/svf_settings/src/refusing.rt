@@ -34,7 +34,7 @@ impl Running {
         statements: &[Statement],
         statement: &Statement,
     ) -> Option<Code>
-        ensures { result ≡ spec.told (settings_in (map said statements.now) self.now) place (said statement.now) }
+        ensures { result ≡ spec.refusal_at (settings_in (map said statements.now) self.now) place (said statement.now) }
     {
         match statement {
             Statement::EndDr(state) => end_refusal(*state),
@@ -74,7 +74,7 @@ impl Running {
     ) -> Option<Code>
         ensures { (place : State) (tdo mask smask : Option (List Bool))
             → result
-            ≡ spec.told (settings_in (map said statements.now) self.now) place
+            ≡ spec.refusal_at (settings_in (map said statements.now) self.now) place
             (says.scan which len tdi.now tdo mask smask) }
     {
         if self.misses_tdi(statements, which, len, tdi) {
@@ -156,7 +156,7 @@ impl Running {
         end: Option<State>,
     ) -> Option<Code>
         ensures { (all : List Said) (place : State)
-            → result ≡ spec.told (settings_in all self.now) place (says.run_test run count min_ps max_ps end) }
+            → result ≡ spec.refusal_at (settings_in all self.now) place (says.run_test run count min_ps max_ps end) }
     {
         let run_state = self.runs_in(run);
         let run_end = self.ends_in(run, end);
@@ -197,7 +197,7 @@ impl Running {
     }
 
     fn path_refusal(&self, place: State, path: &[State]) -> Option<Code>
-        ensures { (all : List Said) → result ≡ spec.told (settings_in all self.now) place (says.states path.now) }
+        ensures { (all : List Said) → result ≡ spec.refusal_at (settings_in all self.now) place (says.states path.now) }
     {
         if !last_of(place, path).is_stable() {
             Some(Code::BadState)
@@ -212,7 +212,7 @@ impl Running {
 
     fn trst_refusal(&self, word: TrstWord) -> Option<Code>
         ensures { (all : List Said) (place : State)
-            → result ≡ spec.told (settings_in all self.now) place (says.trst word) }
+            → result ≡ spec.refusal_at (settings_in all self.now) place (says.trst word) }
     {
         match (self.trst, word) {
             (Some(TrstWord::On), TrstWord::Absent) => Some(Code::TrstHeld),
@@ -226,8 +226,8 @@ impl Running {
 
 /// The refusal of an end state.
 fn end_refusal(state: State) -> Option<Code>
-    ensures dr { (st : look.Settings) (place : State) → result ≡ spec.told st place (says.end_dr state) }
-    ensures ir { (st : look.Settings) (place : State) → result ≡ spec.told st place (says.end_ir state) }
+    ensures dr { (st : look.Settings) (place : State) → result ≡ spec.refusal_at st place (says.end_dr state) }
+    ensures ir { (st : look.Settings) (place : State) → result ≡ spec.refusal_at st place (says.end_ir state) }
 {
     if state.is_stable() {
         None

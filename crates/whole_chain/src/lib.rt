@@ -8,7 +8,7 @@ ghost use Rattle.jt_bits.specs.Packed.{has_bit};
 ghost use Rattle.jt_bits.specs.Words.{bit_of};
 ghost use Rattle.scan_vectors.specs.Vector.{judge, tdis};
 ghost use Rattle.scan_vectors.specs.Held.{bits};
-ghost use Rattle.whole_chain.specs.Rows.{before, joined, left, out, IsCutBack};
+ghost use Rattle.whole_chain.specs.Rows.{before, joined_registers, left, out, IsCutBack};
 
 use jt_tap::Column;
 use scan_registers::Link;

@@ -6,18 +6,18 @@ use Rattle.scan_registers.specs.Registers.{Registers}
 use Rattle.scan_registers.specs.declared.users.UserRegister.{UserRegister}
 use Rattle.bitbang_table.specs.Protocol.{encode}
 use Rattle.board_meaning.specs.Chain.{BoardState, ChipState}
-use Rattle.board_meaning.specs.Whole.{AtRest, opened}
-use Rattle.board_meaning.specs.Resting.{resting}
+use Rattle.board_meaning.specs.Whole.{AtRest, after_opening}
+use Rattle.board_meaning.specs.Resting.{board_at_rest}
 use Rattle.svf_settings.specs.Steps.{Numbered}
 use Rattle.plays.specs.Meaning.{Outcome, outcome}
 use Rattle.plays.specs.declared.ending.Ending.{Ending}
 use Rattle.plays.specs.Play.{Played, full_play, turns}
 
 abbrev pub played : AtRest → List Numbered → Played
-played m steps = full_play (turns steps) (resting m)
+played m steps = full_play (turns steps) (board_at_rest m)
 
 abbrev pub meant : AtRest → List Numbered → Outcome
-meant m steps = outcome steps (opened m)
+meant m steps = outcome steps (after_opening m)
 
 abbrev pub number : Bool → ℕ
 number true = 1
@@ -60,4 +60,4 @@ Row m steps bytes ending =
     (map encode (played m steps).messages ≡ bytes)
     × ((played m steps).ending ≡ ending)
     × ((meant m steps).ending ≡ ending)
-    × (bytes_eq (flat_board (played m steps).board) (flat_board (resting (meant m steps).after)) ≡ true)
+    × (bytes_eq (flat_board (played m steps).board) (flat_board (board_at_rest (meant m steps).after)) ≡ true)

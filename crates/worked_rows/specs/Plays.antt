@@ -13,7 +13,7 @@ use Rattle.board_meaning.specs.Chain.{BoardState, members}
 use Rattle.scan_registers.specs.Instruction.{instruction}
 use Rattle.scan_registers.specs.Registers.{Registers}
 use Rattle.board_meaning.specs.Whole.{AtRest}
-use Rattle.board_meaning.specs.Resting.{power_up, resting}
+use Rattle.board_meaning.specs.Resting.{power_up, board_at_rest}
 use Rattle.scan_vectors.specs.declared.part.Part.TheVariants.{Header, Data}
 use Rattle.plays.specs.declared.ending.Ending.TheVariants.{Pass, Fail}
 use Rattle.svf_settings.specs.Steps.{Go, Path, Run, Trst, Numbered}
@@ -102,9 +102,9 @@ pub record PlayRows : Type 0 where
       (codes "r26262626260042626040404040426260402604040R40R40R40R40R42R626040Q") Pass
   pub floating_level : net_levels (played (opposed_drivers Free) (sir 1 (tdi 4 0) ∷ sdr 2 (tdo 6 0 0x24) ∷ [])).board
       ≡ Float ∷ []
-  pub pins_on : net_levels (resting (with_q k 3)) ≡ One ∷ []
-  pub pins_off : net_levels (resting (with_q k 1)) ≡ Float ∷ []
-  pub pins_plain : net_levels (resting (with_q kh 1)) ≡ One ∷ []
+  pub pins_on : net_levels (board_at_rest (with_q k 3)) ≡ One ∷ []
+  pub pins_off : net_levels (board_at_rest (with_q k 1)) ≡ Float ∷ []
+  pub pins_plain : net_levels (board_at_rest (with_q kh 1)) ≡ One ∷ []
   pub highz : Row (with_q kh 1) (sir 1 (tdi 2 1) ∷ []) (codes "r262626262600426260404152626040Q") Pass
   pub highz_level : net_levels (played (with_q kh 1) (sir 1 (tdi 2 1) ∷ [])).board ≡ Float ∷ []
   pub intest : instruction ki (bits 2 1) ≡ Some (codes "INTEST")

@@ -4,14 +4,15 @@ use Rattle.std.specs.Prelude.{Option, Some, None, bytes_eq}
 use Rattle.jt_tap.specs.declared.State.TheVariants.{Reset, Idle, DrShift, IrPause, IrUpdate}
 use Rattle.bitbang_table.specs.declared.Message.{Message}
 use Rattle.bitbang_table.specs.declared.Message.TheVariants.{Write}
-use Rattle.board_meaning.specs.Chain.{ChipState, BoardState, rise, fall, assert_trst, hear, reply, after}
+use Rattle.board_meaning.specs.Chain.{ChipState, BoardState, rise, fall, assert_trst, hear, reply, after_byte}
 use Rattle.board_meaning.specs.declared.Reply.TheVariants.{Refused}
-use Rattle.board_meaning.specs.Resting.{standing, resting}
+use Rattle.board_meaning.specs.Resting.{chip_at_rest, board_at_rest}
 use Rattle.scan_vectors.specs.declared.part.Part.TheVariants.{Data}
 use Rattle.plays.specs.declared.ending.Ending.TheVariants.{Pass, Fail, Lost, BadAnswer}
 use Rattle.svf_settings.specs.Steps.{Numbered}
 use Rattle.plays.specs.Play.{turns, full_play, player, ending_for}
-use Rattle.plays.specs.Events.{World, Known, Event, Put, Serve, Take, Lose, by_answers, fresh, run, moving, ended}
+use Rattle.plays.specs.Events.{World, Known, Event, Put, Serve, Take, Lose, by_answers, before_events, run, moving}
+use Rattle.plays.specs.Events.{ending_of_world}
 use Rattle.worked_rows.specs.Samples.{bits, k, kt, p, plain, with_core, tdo, sir}
 use Rattle.worked_rows.specs.Agree.{meant, flat_board}
 
@@ -24,24 +25,24 @@ cycled [] c = c
 cycled (tms ∷ more) c = cycled more (fall (up tms c))
 
 abbrev pub shifting : ChipState
-shifting = up false (cycled (false ∷ true ∷ false ∷ []) (standing Reset (with_core k 0)))
+shifting = up false (cycled (false ∷ true ∷ false ∷ []) (chip_at_rest Reset (with_core k 0)))
 
 abbrev pub tdos : ℕ → ChipState → List (Option Bool)
 tdos zero c = c.tdo ∷ []
 tdos (suc n) c = c.tdo ∷ tdos n (fall (up false c))
 
 abbrev pub reset_now : ChipState
-reset_now = assert_trst (fall (up false (cycled (false ∷ true ∷ false ∷ []) (standing Reset (with_core kt 0)))))
+reset_now = assert_trst (fall (up false (cycled (false ∷ true ∷ false ∷ []) (chip_at_rest Reset (with_core kt 0)))))
 
 abbrev pub paused : ChipState
-paused = cycled (false ∷ true ∷ true ∷ false ∷ true ∷ false ∷ []) (standing Reset (with_core k 0))
+paused = cycled (false ∷ true ∷ true ∷ false ∷ true ∷ false ∷ []) (chip_at_rest Reset (with_core k 0))
 
 -- a scan of the instruction register under schedules
 abbrev pub ir_scan : List Numbered
 ir_scan = sir 1 (tdo 2 3 1) ∷ []
 
 abbrev pub start : World Known
-start = fresh (resting (plain (k ∷ [])))
+start = before_events (board_at_rest (plain (k ∷ [])))
 
 abbrev pub one_by_one : ℕ → List Event
 one_by_one zero = []
@@ -49,7 +50,7 @@ one_by_one (suc n) = Put 1 ∷ Serve 1 ∷ Take 1 ∷ one_by_one n
 
 -- from mid-scan, TCK high, after the bytes of the opening on a broken-off play
 abbrev pub broken_off : BoardState
-broken_off = (hear (turns_messages ++ Write true false true ∷ []) (resting (plain (kt ∷ k ∷ [])))).board
+broken_off = (hear (turns_messages ++ Write true false true ∷ []) (board_at_rest (plain (kt ∷ k ∷ [])))).board
   where
     turns_messages : List Message
     turns_messages = Write true false false ∷ Write false false false ∷ Write true true false ∷ Write false true false
@@ -72,24 +73,25 @@ pub record EdgeRows : Type 0 where
   pub third_rise_latch : (up true (cycled (true ∷ true ∷ true ∷ true ∷ []) paused)).member.registers.latch ≡ bits 2 1
   pub third_fall_latch : (cycled (true ∷ true ∷ true ∷ true ∷ true ∷ []) paused).member.registers.latch ≡ bits 2 2
   -- a byte off the table
-  pub refused : reply 0x5a (resting (plain (p ∷ []))) ≡ Refused 0x5a
-  pub refused_board : after 0x5a (resting (plain (p ∷ []))) ≡ resting (plain (p ∷ []))
-  pub byte_by_byte : ended 1 (turns ir_scan) (run (by_answers (player 1 (turns ir_scan))) 1 1 (one_by_one 34) start)
+  pub refused : reply 0x5a (board_at_rest (plain (p ∷ []))) ≡ Refused 0x5a
+  pub refused_board : after_byte 0x5a (board_at_rest (plain (p ∷ []))) ≡ board_at_rest (plain (p ∷ []))
+  pub byte_by_byte : ending_of_world 1 (turns ir_scan)
+      (run (by_answers (player 1 (turns ir_scan))) 1 1 (one_by_one 34) start)
       ≡ Some Pass
-  pub byte_by_byte_wide : ended 1 (turns ir_scan)
+  pub byte_by_byte_wide : ending_of_world 1 (turns ir_scan)
       (run (by_answers (player 256 (turns ir_scan))) 1 1 (one_by_one 34) start) ≡ Some Pass
-  pub byte_by_byte_not_yet : ended 1 (turns ir_scan)
+  pub byte_by_byte_not_yet : ending_of_world 1 (turns ir_scan)
       (run (by_answers (player 256 (turns ir_scan))) 1 1 (one_by_one 33) start) ≡ None
   pub byte_by_byte_board : bytes_eq
       (flat_board (run (by_answers (player 256 (turns ir_scan))) 1 1 (one_by_one 34) start).board)
-      (flat_board (resting (meant (plain (k ∷ [])) ir_scan).after)) ≡ true
-  pub lost_after_an_answer : ended 1 (turns ir_scan)
+      (flat_board (board_at_rest (meant (plain (k ∷ [])) ir_scan).after)) ≡ true
+  pub lost_after_an_answer : ending_of_world 1 (turns ir_scan)
       (run (by_answers (player 1 (turns ir_scan))) 1 1 (one_by_one 26 ++ Lose ∷ []) start) ≡ Some (Lost 1)
-  pub lost_before_quit : ended 0 (turns [])
+  pub lost_before_quit : ending_of_world 0 (turns [])
       (run (by_answers (player 256 (turns []))) 64 64 (Put 12 ∷ Serve 12 ∷ Put 1 ∷ Lose ∷ []) start) ≡ Some (Lost 1)
-  pub lost_at_once : ended 1 (turns ir_scan)
+  pub lost_at_once : ending_of_world 1 (turns ir_scan)
       (run (by_answers (player 256 (turns ir_scan))) 1 1 (Lose ∷ Put 5 ∷ []) start) ≡ Some (Lost 0)
-  pub lost_last : ended 1 (turns ir_scan)
+  pub lost_last : ending_of_world 1 (turns ir_scan)
       (run (by_answers (player 256 (turns ir_scan))) 64 64 (Put 64 ∷ Serve 64 ∷ Take 1 ∷ Take 1 ∷ Lose ∷ []) start)
       ≡ Some (Lost 2)
   -- 34 bytes each way and 2 answers

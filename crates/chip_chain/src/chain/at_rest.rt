@@ -4,7 +4,7 @@
 ghost use Rattle.std.specs.Prelude.{◌≡◌, true, map};
 ghost use Rattle.board_meaning.specs.Chain.{members};
 ghost use Rattle.board_meaning.specs.Nets.{sees};
-ghost use Rattle.board_meaning.specs.Resting.{standing};
+ghost use Rattle.board_meaning.specs.Resting.{chip_at_rest};
 ghost use Rattle.board_meaning.specs.Whole as whole;
 ghost use Rattle.chip_chain.specs.AtRest.{AssertsTrst, CapturesAt, Changes, Stands, chain_as, out, shifted};
 ghost use Rattle.chip_chain.specs.Sweeping.{EachFrom};
@@ -62,7 +62,7 @@ impl Chain {
 
     /// Every controller stands in this state, and no TDO is driven.
     pub fn stand(&mut self, state: State)
-        ensures { self.new ≡ record self.old { chips = map (standing state) (members self.old.chips) } }
+        ensures { self.new ≡ record self.old { chips = map (chip_at_rest state) (members self.old.chips) } }
     {
         stand_all(&mut self.seats, state);
     }
@@ -72,7 +72,8 @@ impl Chain {
     pub fn assert_trst(&mut self, rests: State)
         ensures { self.new ≡ record self.old {
           trst = true;
-          chips = map (standing Reset) (map (whole.trst_member (whole.settled_member rests)) (members self.old.chips));
+          chips = map (chip_at_rest Reset)
+              (map (whole.trst_member (whole.settled_member rests)) (members self.old.chips));
         } }
     {
         assert_trst_wired(&mut self.seats, &mut self.wiring, rests);

@@ -2,7 +2,7 @@
 
 ghost use Rattle.std.specs.Prelude.{◌≡◌, ℕ, Bool, true, List, length};
 ghost use Rattle.board_meaning.specs.Cells.{Member};
-ghost use Rattle.board_meaning.specs.Resting.{standing};
+ghost use Rattle.board_meaning.specs.Resting.{chip_at_rest};
 ghost use Rattle.board_meaning.specs.Whole.{reset_member, settled_member, trst_member, update_member};
 ghost use Rattle.chip_chain.specs.AtRest.{IsSightedFor, as_member, capture_member};
 ghost use Rattle.chip_chain.specs.Seats.{AreBelow, IsKept, captures_boundary, chip_state, member_of};
@@ -17,11 +17,11 @@ use jt_tap::{Column, State};
 use scan_registers::{Link, Selected};
 
 impl Link for Seat {
-    ghost use Rattle.board_meaning.specs.Whole.{chosen_of};
+    ghost use Rattle.board_meaning.specs.Whole.{selected_bits_of};
     ghost use Rattle.chip_chain.specs.AtRest.{IsPutInto, puts_both, puts_nothing};
     ghost use Rattle.chip_chain.specs.Seats.{member_of};
 
-    ghost register = { λ s column. chosen_of column (member_of s) };
+    ghost register = { λ s column. selected_bits_of column (member_of s) };
 
     ghost is_put = { λ s column bits t. IsPutInto column bits s t };
 
@@ -84,7 +84,7 @@ impl Seat {
     pub(crate) fn stand(&mut self, state: State)
         ensures kept { IsKept self.old self.new }
         ensures trst { self.new.chip.trst ≡ self.old.chip.trst }
-        ensures chip { chip_state self.new ≡ standing state (member_of self.old) }
+        ensures chip { chip_state self.new ≡ chip_at_rest state (member_of self.old) }
     {
         self.chip.rest(state);
     }
@@ -107,7 +107,8 @@ impl Seat {
     pub(crate) fn assert_trst(&mut self, rests: State)
         ensures kept { IsKept self.old self.new }
         ensures trst { self.new.chip.trst ≡ true }
-        ensures chip { chip_state self.new ≡ standing Reset (trst_member (settled_member rests) (member_of self.old)) }
+        ensures chip { chip_state self.new
+            ≡ chip_at_rest Reset (trst_member (settled_member rests) (member_of self.old)) }
     {
         if !self.device().has_trst() {
             self.settle(rests);

@@ -3,7 +3,7 @@ use Rattle.std.proofs.lemmas.List.{length-map, length-set, get_or-map}
 use Rattle.scan_vectors.specs.Held.{bits}
 use Rattle.whole_chain.specs.Rows.{before, left}
 use Rattle.whole_chain.proofs.Rows.{before_more, before_all, same_len, inside}
-use Rattle.whole_chain.proofs.Moving.{moved_none, moved_next, moved_at, moved_all, next_bits, in_vector, all_none, all_more, all_put}
+use Rattle.whole_chain.proofs.ShiftInPlace.{moved_none, moved_next, moved_at, moved_all, next_bits, in_vector, all_none, all_more, all_put}
 use Rattle.whole_chain.proofs.shift_chain.Goals as goal
 
 pub loop-i-init : goal.loop-i-init

@@ -1,6 +1,6 @@
 use Rattle.std.proofs.Common.{ℕ, List, ◌++◌, drop, length, replicate, ap, ◌∙◌, sym, arith, length-append}
 use Rattle.bitbang.specs.Left.{bytes_of, bytes_of_cycle}
-use Rattle.bitbang.proofs.Filled.{most-bytes, once-more, put-more}
+use Rattle.bitbang.proofs.BufferFills.{most-bytes, once-more, put-more}
 use Rattle.bitbang.proofs.putting.put_cycles.Goals as goal
 
 pub put_cycle-count-requires : goal.put_cycle-count-requires

@@ -1,6 +1,6 @@
 use Rattle.std.proofs.Common.{sym, ◌∙◌, arith}
 use Rattle.scan_vectors.specs.Held.{bits}
-use Rattle.direct_play.proofs.Wants.{next-one, none-past, passed-over}
+use Rattle.direct_play.proofs.WantedBits.{next-one, none-past, passed-over}
 use Rattle.direct_play.proofs.judging.next_wanted.Goals as goal
 
 pub returns-then-is_some-clause-next : goal.returns-then-is_some-clause-next

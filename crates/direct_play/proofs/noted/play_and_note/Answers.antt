@@ -10,7 +10,7 @@ use Rattle.svf_settings.specs.Seen.{numbered}
 use Rattle.svf_settings.specs.Sizes.{program_of}
 use Rattle.svf_settings.specs.Steps.{Numbered}
 use Rattle.board_meaning.specs.Chain.{BoardState}
-use Rattle.board_meaning.specs.Resting.{IsAtRest, resting}
+use Rattle.board_meaning.specs.Resting.{IsAtRest, board_at_rest}
 use Rattle.plays.specs.declared.ending.Ending.TheVariants.{Fail, Pass}
 use Rattle.plays.specs.DirectPlay.{full_bytes, opened_state}
 use Rattle.plays.specs.Meaning.{command, outcome}
@@ -40,7 +40,7 @@ loop-step-init g c =
       sent = opening_bytes;
       split = opening_first program b rests
           ∙ ap (λ (l : List Numbered). opening_bytes ++ bytes-of
-          (full_play (step_turns Reset l) (resting (opened_state b)))) steps-are;
+          (full_play (step_turns Reset l) (board_at_rest (opened_state b)))) steps-are;
       notes = c.note.ensures;
     }
 
@@ -68,7 +68,7 @@ loop-step-preserved g c =
     let can : CanPlay (s ∷ ss) i.m = subst (λ (l : List Numbered). CanPlay l i.m) c.in-Some.ensures.steps i.can in
     let none = sym (c.play_step.ensures.judged i.m i.rests) ∙ c.in_default.is in
     let bytes = step_bytes i.m.place s.what in
-    let rest = bytes-of (full_play (step_turns (command s.what i.m).place ss) (resting (command s.what i.m))) in
+    let rest = bytes-of (full_play (step_turns (command s.what i.m).place ss) (board_at_rest (command s.what i.m))) in
     record {
       m = command s.what i.m;
       rests = c.play_step.ensures.board i.m i.rests;
@@ -79,7 +79,7 @@ loop-step-preserved g c =
       sent = i.sent ++ bytes;
       split = i.split
           ∙ ap (λ (l : List Numbered). i.sent ++ bytes-of
-          (full_play (step_turns i.m.place l) (resting i.m))) c.in-Some.ensures.steps
+          (full_play (step_turns i.m.place l) (board_at_rest i.m))) c.in-Some.ensures.steps
           ∙ ap (λ (l : List ℕ). i.sent ++ l) (bytes_passed s ss i.m can none)
           ∙ sym (append_assoc i.sent bytes rest);
       notes = Notes-then i.notes
@@ -98,7 +98,7 @@ returns-in-Some-play_step-clause-notes g c =
     let all : full_bytes (program_of c.args.program.now) c.args.board.now ≡ (i.sent ++ bytes) ++ 81 ∷ [] =
     i.split ∙ ap
     (λ (l : List Numbered). i.sent ++ bytes-of
-    (full_play (step_turns i.m.place l) (resting i.m))) c.in-Some.ensures.steps
+    (full_play (step_turns i.m.place l) (board_at_rest i.m))) c.in-Some.ensures.steps
     ∙ ap (λ (l : List ℕ). i.sent ++ l)
     (bytes_failed s ss i.m can (c.in-Some-play_step.part, c.in-Some-play_step.bit) some)
     ∙ sym (append_assoc i.sent bytes (81 ∷ [])) in
@@ -114,7 +114,7 @@ returns-clause-notes g c =
     let all : full_bytes (program_of c.args.program.now) c.args.board.now ≡ i.sent ++ 81 ∷ [] =
     i.split ∙ ap
     (λ (l : List Numbered). i.sent ++ bytes-of
-    (full_play (step_turns i.m.place l) (resting i.m))) c.in-None.ensures.steps.0 in
+    (full_play (step_turns i.m.place l) (board_at_rest i.m))) c.in-None.ensures.steps.0 in
     Notes-is (sym all) (Notes-then i.notes c.note-2.ensures)
 
 pub returns-in-Some-play_step-clause-ending : goal.returns-in-Some-play_step-clause-ending

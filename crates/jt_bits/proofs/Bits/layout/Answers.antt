@@ -1,6 +1,6 @@
 use Rattle.std.proofs.Common.{◌≡◌, ℕ, List, sym, ap, length, ◌∙◌, arith}
 use Rattle.jt_bits.specs.Packed.{listed}
-use Rattle.jt_bits.proofs.Rings.{listed-length}
+use Rattle.jt_bits.proofs.PackedWords.{listed-length}
 use Rattle.jt_bits.proofs.Bits.layout.Goals as goal
 
 pub returns-clause-bits : goal.returns-clause-bits

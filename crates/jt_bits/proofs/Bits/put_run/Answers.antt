@@ -1,6 +1,6 @@
 use Rattle.std.proofs.Common.{◌≡◌, ◌<◌, ◌*◌, ◌%◌, ◌+◌, ℕ, sym, ap, length, ◌∙◌, arith}
 use Rattle.std.proofs.lemmas.List.{with_items_is}
-use Rattle.jt_bits.proofs.Rings.{listed-length, ring_below}
+use Rattle.jt_bits.proofs.PackedWords.{listed-length, ring_below}
 use Rattle.jt_bits.proofs.Runs.{run_put_there}
 use Rattle.jt_bits.proofs.Bits.put_run.Goals as goal
 

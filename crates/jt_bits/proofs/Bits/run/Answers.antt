@@ -1,5 +1,5 @@
 use Rattle.std.proofs.Common.{◌≡◌, ◌<◌, ◌*◌, ◌%◌, ◌+◌, ℕ, sym, ap, length, ◌∙◌, arith}
-use Rattle.jt_bits.proofs.Rings.{listed-length, ring_below}
+use Rattle.jt_bits.proofs.PackedWords.{listed-length, ring_below}
 use Rattle.jt_bits.proofs.Runs.{run_there}
 use Rattle.jt_bits.proofs.Bits.run.Goals as goal
 

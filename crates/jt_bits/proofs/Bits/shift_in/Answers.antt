@@ -1,6 +1,6 @@
 use Rattle.std.proofs.Common.{◌≡◌, ◌<◌, ◌*◌, ◌%◌, ◌+◌, refl, sym, ap, length, ◌∙◌, arith}
 use Rattle.std.proofs.lemmas.List.{with_items_is}
-use Rattle.jt_bits.proofs.Rings.{listed-length}
+use Rattle.jt_bits.proofs.PackedWords.{listed-length}
 use Rattle.jt_bits.proofs.Lists.{got_there, at_start, shifted_there}
 use Rattle.jt_bits.proofs.Bits.shift_in.Goals as goal
 

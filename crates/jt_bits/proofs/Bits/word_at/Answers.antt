@@ -1,5 +1,5 @@
 use Rattle.std.proofs.Common.{◌≡◌, ◌<◌, ◌≤◌, ◌*◌, ◌+◌, ℕ, sym, ap, length, get_or, false, ◌∙◌, arith}
-use Rattle.jt_bits.proofs.Rings.{listed-length}
+use Rattle.jt_bits.proofs.PackedWords.{listed-length}
 use Rattle.jt_bits.proofs.Lists.{no_word_at, nothing_past, word_is_at, bits_there, bit_of-get_or}
 use Rattle.jt_bits.specs.Packed.{has_bit}
 use Rattle.jt_bits.proofs.Bits.word_at.Goals as goal

@@ -6,7 +6,7 @@ use Rattle.byte_ends.proofs.Fronts.{WritesAll-is, WritesAll-then, WritesAll-stop
 use Rattle.svf_settings.specs.Sizes.{program_of}
 use Rattle.plays.specs.DirectPlay.{full_bytes}
 use Rattle.jt_player.specs.Running.{note}
-use Rattle.jt_player.proofs.Told.{WritesAll-like, not-ok}
+use Rattle.jt_player.proofs.RunLaws.{WritesAll-like, not-ok}
 use Rattle.jt_player.proofs.run.play_and_note.Goals as goal
 
 pub returns-then-not-bytes-clause-writes : goal.returns-then-not-bytes-clause-writes

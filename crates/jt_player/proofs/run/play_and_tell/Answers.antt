@@ -4,7 +4,7 @@ use Rattle.jt_board.specs.Report.{report}
 use Rattle.plays.specs.Endings.{verdict_line}
 use Rattle.svf_settings.specs.Sizes.{program_of}
 use Rattle.plays.specs.Play.{play}
-use Rattle.jt_player.proofs.Told.{WritesAll-like, not-ok}
+use Rattle.jt_player.proofs.RunLaws.{WritesAll-like, not-ok}
 use Rattle.jt_player.proofs.run.play_and_tell.Goals as goal
 
 pub returns-in_err-ending-clause-writes : goal.returns-in_err-ending-clause-writes

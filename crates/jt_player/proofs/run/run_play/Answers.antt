@@ -4,7 +4,7 @@ use Rattle.plays.specs.DirectPlay.{MeansFromOpening}
 use Rattle.plays.specs.Play.{play}
 use Rattle.plays.proofs.Described.{means_from_opening}
 use Rattle.jt_player.specs.Running.{IsRunOf, no_memory, played, played_run, refused}
-use Rattle.jt_player.proofs.Told.{happens-out, refused-or-memory}
+use Rattle.jt_player.proofs.RunLaws.{happens-out, refused-or-memory}
 use Rattle.jt_player.proofs.run.run_play.Goals as goal
 
 pub returns-in-Ok : goal.returns-in-Ok

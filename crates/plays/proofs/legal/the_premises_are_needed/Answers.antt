@@ -1,4 +1,4 @@
-use Rattle.plays.proofs.Sampled.{needed}
+use Rattle.plays.proofs.SampleLaws.{needed}
 use Rattle.plays.proofs.legal.the_premises_are_needed.Goals as goal
 
 pub returns : goal.returns

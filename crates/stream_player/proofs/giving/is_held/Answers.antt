@@ -1,7 +1,7 @@
 use Rattle.std.proofs.Common.{◌≡◌, Bool, true, false, ℕ, List, [], ◌∷◌, refl, sym, ap, ◌∙◌}
 use Rattle.std.specs.Prelude.{◌&&◌, ◌==◌}
 use Rattle.bitbang.specs.Left.{left}
-use Rattle.stream_player.proofs.GivenOut.{held}
+use Rattle.stream_player.proofs.BytesGivenOut.{held}
 use Rattle.stream_player.proofs.giving.is_held.Goals as goal
 
 pub returns-then-owed-eq-WINDOW-clause-held : goal.returns-then-owed-eq-WINDOW-clause-held

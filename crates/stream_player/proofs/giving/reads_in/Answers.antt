@@ -1,5 +1,5 @@
 use Rattle.std.proofs.Common.{suc, drop, slice_index_or, arith}
-use Rattle.stream_player.proofs.GivenOut.{one-read, reads-more}
+use Rattle.stream_player.proofs.BytesGivenOut.{one-read, reads-more}
 use Rattle.stream_player.proofs.Pieced.{drop-index}
 use Rattle.stream_player.proofs.giving.reads_in.Goals as goal
 

@@ -2,9 +2,9 @@ use Rattle.std.proofs.Common.{◌≡◌, ◌≢◌, ◌<◌, ◌≤◌, ◌+◌,
 use Rattle.std.specs.Prelude.{is_some}
 use Rattle.svf_settings.specs.Seen.{numbered}
 use Rattle.svf_settings.specs.Sizes.{program_of}
-use Rattle.plays.specs.Streams.{StreamState, hear_all, taken}
+use Rattle.plays.specs.Streams.{StreamState, hear_all, answers_taken}
 use Rattle.stream_player.specs.Progress.{state_of}
-use Rattle.stream_player.proofs.Heard.{asks-nothing, is-none, takes-bad, takes-nothing, takes-on}
+use Rattle.stream_player.proofs.AnswersTaken.{asks-nothing, is-none, takes-bad, takes-nothing, takes-on}
 use Rattle.stream_player.proofs.Pieced.{drop-index}
 use Rattle.stream_player.proofs.hearing.hear.Goals as goal
 
@@ -56,8 +56,8 @@ loop-byte-preserved c =
     let next : suc n ≡ n + 1 = omega arith in
     let cut : drop n bytes ≡ byte ∷ drop (n + 1) bytes = drop-index n bytes (omega (arith, c.loop-byte-test.true, c.loop-byte.auto.byte-index-end))
     ∙ ap (λ k. byte ∷ drop k bytes) next in
-    let one : taken 256 (state_of program p) (drop n bytes) ≡ byte ∷ taken 256 (state_of program q) (drop (n + 1) bytes) =
-    ap (taken 256 (state_of program p)) cut
+    let one : answers_taken 256 (state_of program p) (drop n bytes) ≡ byte ∷ answers_taken 256 (state_of program q) (drop (n + 1) bytes) =
+    ap (answers_taken 256 (state_of program p)) cut
     ∙ takes-on program p q byte (drop (n + 1) bytes) i.stands (is-none p.bad (sym c.is_some-in-loop-byte.ensures ∙ c.if-is_some-2.false))
     (omega (arith, c.if-p-eq0-2.false)) c.hear_one-p.ensures.stands c.hear_one-p.ensures.taken c.hear_one-p.ensures.bad in
     record {
@@ -65,6 +65,6 @@ loop-byte-preserved c =
       index = omega (arith, i.index);
       at = c.hear_one-p.ensures.at ∙ i.at;
       count = omega (arith, i.count, ap length one);
-      state = ap (hear_all (taken 256 (state_of program q) (drop (n + 1) bytes))) c.hear_one-p.ensures.state
+      state = ap (hear_all (answers_taken 256 (state_of program q) (drop (n + 1) bytes))) c.hear_one-p.ensures.state
           ∙ ap (λ (l : List ℕ). hear_all l (state_of program p)) (sym one) ∙ i.state;
     }

@@ -2,7 +2,7 @@ use Rattle.std.proofs.Common.{◌≡◌, ◌<◌, sym, ap, ◌∙◌, arith}
 use Rattle.scan_vectors.specs.Held.{bits}
 use Rattle.svf_settings.specs.Seen.{numbered}
 use Rattle.svf_settings.specs.Sizes.{program_of}
-use Rattle.stream_player.proofs.Heard.{counts-below, counts-on, counts-same}
+use Rattle.stream_player.proofs.AnswersTaken.{counts-below, counts-on, counts-same}
 use Rattle.stream_player.proofs.hearing.hear_one.Goals as goal
 
 pub overflow_add-result : goal.overflow_add-result

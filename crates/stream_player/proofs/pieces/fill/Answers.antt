@@ -1,9 +1,9 @@
 use Rattle.std.proofs.Common.{◌≡◌, ◌+◌, ◌-◌, ◌≤◌, ◌++◌, ℕ, List, length, take, drop, refl, sym, ap, ◌∙◌, arith, length-drop}
 use Rattle.svf_settings.specs.Sizes.{program_of}
-use Rattle.plays.specs.Streams.{StreamState, waiting}
+use Rattle.plays.specs.Streams.{StreamState, bytes_to_send}
 use Rattle.stream_player.specs.Progress.{state_of}
-use Rattle.bitbang.proofs.Filled.{filled-more}
-use Rattle.stream_player.proofs.Filled.{waiting-more}
+use Rattle.bitbang.proofs.BufferFills.{filled-more}
+use Rattle.stream_player.proofs.BufferFills.{waiting-more}
 use Rattle.stream_player.proofs.pieces.fill.Goals as goal
 
 pub loop-count-preserved : goal.loop-count-preserved
@@ -11,11 +11,11 @@ loop-count-preserved c =
     let i = c.loop-count.invariant in
     let program = program_of c.args.program.now in
     let start = state_of program c.args.p in
-    let all = waiting 256 start in
+    let all = bytes_to_send 256 start in
     let n = c.loop-count.count in
     let m = c.piece-more.result.1 in
     let e = c.piece-more.ensures in
-    let rest : waiting 256 (state_of program c.loop-count.p) ≡ drop n all = ap (waiting 256) i.state ∙ waiting-more start n in
+    let rest : bytes_to_send 256 (state_of program c.loop-count.p) ≡ drop n all = ap (bytes_to_send 256) i.state ∙ waiting-more start n in
     let given : start.given + n + m ≡ start.given + (n + m) = omega arith in
     let piece = e.bytes ∙ ap (λ (l : List ℕ). take m l ++ drop m (take (length c.loop-count.buffer - n) (drop n c.loop-count.buffer))) rest in
     record {

@@ -1,6 +1,6 @@
 use Rattle.std.proofs.Common.{◌≡◌, ◌+◌, ◌-◌, ◌≤◌, ◌++◌, length, take, drop, None}
 use Rattle.svf_settings.specs.Sizes.{program_of}
-use Rattle.plays.specs.Streams.{waiting}
+use Rattle.plays.specs.Streams.{bytes_to_send}
 use Rattle.stream_player.specs.Progress.{Stands, state_of}
 use Rattle.stream_player.proofs.pieces.fill.Given as goal
 
@@ -11,8 +11,8 @@ invariant-loop-count l = record {
   state : state_of (program_of l.program) l.p
       ≡ record (state_of (program_of l.program) l.initial.p) { given = (state_of (program_of l.program) l.initial.p).given + l.count };
   room : l.count ≤ length l.initial.buffer;
-  some : l.count ≤ length (waiting 256 (state_of (program_of l.program) l.initial.p));
-  filled : l.buffer ≡ take l.count (waiting 256 (state_of (program_of l.program) l.initial.p)) ++ drop l.count l.initial.buffer;
+  some : l.count ≤ length (bytes_to_send 256 (state_of (program_of l.program) l.initial.p));
+  filled : l.buffer ≡ take l.count (bytes_to_send 256 (state_of (program_of l.program) l.initial.p)) ++ drop l.count l.initial.buffer;
 }
 
 abbrev pub decreases-loop-count : goal.decreases-loop-count

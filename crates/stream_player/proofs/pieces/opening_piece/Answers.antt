@@ -3,7 +3,7 @@ use Rattle.bitbang_table.specs.Cycles.{opening}
 use Rattle.bitbang_table.specs.Protocol.{encode}
 use Rattle.svf_settings.specs.Sizes.{program_of}
 use Rattle.stream_player.proofs.Pieced.{drop-index, gives-one, opening-on, opening-state, opening-waits}
-use Rattle.stream_player.proofs.Within.{in-opening}
+use Rattle.stream_player.proofs.PlayerPlaces.{in-opening}
 use Rattle.stream_player.proofs.pieces.opening_piece.Goals as goal
 
 pub returns : goal.returns

@@ -11,7 +11,7 @@ use Rattle.stream_player.specs.declared.progress.Phase.TheVariants.{Opening, Wit
 use Rattle.stream_player.specs.Progress.{IsReady, Rests, Stands, ahead, rest_of, state_of}
 use Rattle.stream_player.specs.Standing.{state_at}
 use Rattle.stream_player.proofs.Steps.{below, cut, first, length-below, next-rests, none-first, some-first}
-use Rattle.stream_player.proofs.Within.{passes-same, stops-here, stops-same}
+use Rattle.stream_player.proofs.PlayerPlaces.{passes-same, stops-here, stops-same}
 use Rattle.stream_player.proofs.progress.after_step.Goals as goal
 
 pub resume-requires-clause-formed : goal.resume-requires-clause-formed

@@ -6,7 +6,7 @@ use Rattle.stream_player.specs.Progress.{mismatch}
 use Rattle.stream_player.specs.Standing.{found}
 use Rattle.svf_settings.specs.Seen.{numbered}
 use Rattle.svf_settings.specs.Sizes.{program_of}
-use Rattle.stream_player.proofs.Ended.{ended-bad, ended-good}
+use Rattle.stream_player.proofs.EndingLaws.{ended-bad, ended-good}
 use Rattle.stream_player.proofs.telling.ended.Goals as goal
 
 pub returns-in-Some : goal.returns-in-Some

@@ -4,7 +4,7 @@ use Rattle.svf_settings.specs.Sizes.{program_of}
 use Rattle.plays.specs.Streams as stream
 use Rattle.stream_player.specs.declared.progress.Phase.{Phase}
 use Rattle.stream_player.specs.Progress.{IsReady}
-use Rattle.stream_player.proofs.Ended.{works-over, works-within}
+use Rattle.stream_player.proofs.EndingLaws.{works-over, works-within}
 use Rattle.stream_player.proofs.telling.working.Goals as goal
 
 pub returns-in-Within : goal.returns-in-Within

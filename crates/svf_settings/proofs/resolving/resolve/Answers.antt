@@ -1,6 +1,6 @@
 use Rattle.std.proofs.Common.{map}
 use Rattle.svf_parse.specs.View.{said}
-use Rattle.svf_settings.proofs.Resolved.{answers_found, answers_only, answers_refused, answers_first, answers_sound, answers_small}
+use Rattle.svf_settings.proofs.KeptPrograms.{answers_found, answers_only, answers_refused, answers_first, answers_sound, answers_small}
 use Rattle.svf_settings.proofs.resolving.resolve.Goals as goal
 
 pub returns-clause-found : goal.returns-clause-found

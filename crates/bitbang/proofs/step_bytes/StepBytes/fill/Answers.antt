@@ -1,7 +1,7 @@
 use Rattle.std.proofs.Common.{◌-◌, ◌++◌, ℕ, List, take, drop, length, ap, ◌∙◌, arith, length-drop}
 use Rattle.std.proofs.lemmas.List.{drop-drop}
 use Rattle.bitbang.specs.Left.{left}
-use Rattle.bitbang.proofs.Filled.{filled-more}
+use Rattle.bitbang.proofs.BufferFills.{filled-more}
 use Rattle.bitbang.proofs.step_bytes.StepBytes.fill.Goals as goal
 
 pub loop-count-preserved : goal.loop-count-preserved

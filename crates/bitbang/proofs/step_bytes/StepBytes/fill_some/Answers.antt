@@ -1,7 +1,7 @@
 use Rattle.std.proofs.Common.{arith}
 use Rattle.tck_cycles.specs.Sources as source
 use Rattle.bitbang.specs.Left.{left}
-use Rattle.bitbang.proofs.Filled.{cycles-first, fills-front, most-bytes, some-bytes}
+use Rattle.bitbang.proofs.BufferFills.{cycles-first, fills-front, most-bytes, some-bytes}
 use Rattle.bitbang.proofs.step_bytes.StepBytes.fill_some.Goals as goal
 
 pub returns-clause-fills : goal.returns-clause-fills

@@ -1,7 +1,7 @@
 use Rattle.std.proofs.Common.{ℕ, ap, ◌∙◌, arith, min}
 use Rattle.std.specs.Int.{from_bool}
 use Rattle.tck_cycles.specs.Sources as source
-use Rattle.bitbang.proofs.Left.{length-left}
+use Rattle.bitbang.proofs.CycleBytes.{length-left}
 use Rattle.bitbang.proofs.step_bytes.StepBytes.left.Goals as goal
 
 pub returns : goal.returns

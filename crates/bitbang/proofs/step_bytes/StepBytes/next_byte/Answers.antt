@@ -1,6 +1,6 @@
 use Rattle.std.proofs.Common.{◌∙◌, sym, refl}
 use Rattle.tck_cycles.specs.Sources as source
-use Rattle.bitbang.proofs.Left.{last_left}
+use Rattle.bitbang.proofs.CycleBytes.{last_left}
 use Rattle.bitbang.proofs.step_bytes.StepBytes.next_byte.Goals as goal
 
 pub returns-in-None-clause-gives : goal.returns-in-None-clause-gives

@@ -7,7 +7,7 @@ use Rattle.svf_settings.specs.Seen as seen
 use Rattle.tck_cycles.specs.Cycles.{cycles}
 use Rattle.bitbang.specs.StepMessages.{line_message}
 use Rattle.bitbang.specs.Left.{bytes_left}
-use Rattle.bitbang.proofs.Left.{closed_bytes}
+use Rattle.bitbang.proofs.CycleBytes.{closed_bytes}
 use Rattle.bitbang.proofs.step_bytes.StepBytes.of.Goals as goal
 
 pub returns-clause-bytes : goal.returns-clause-bytes

@@ -1,6 +1,6 @@
 use Rattle.std.proofs.Common.{◌∙◌, sym, refl}
 use Rattle.tck_cycles.specs.Sources as source
-use Rattle.bitbang.proofs.Left.{first_cycle, first_none, last_left}
+use Rattle.bitbang.proofs.CycleBytes.{first_cycle, first_none, last_left}
 use Rattle.bitbang.proofs.step_bytes.StepBytes.peek.Goals as goal
 
 pub returns-in-Some-peek-2 : goal.returns-in-Some-peek-2

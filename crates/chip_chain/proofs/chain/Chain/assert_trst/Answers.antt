@@ -3,7 +3,7 @@ use Rattle.std.proofs.lemmas.List.{with_items_is}
 use Rattle.std.specs.Vec.{with_items}
 use Rattle.jt_tap.specs.declared.State.TheVariants.{Reset}
 use Rattle.board_meaning.specs.Chain.{members}
-use Rattle.board_meaning.specs.Resting.{standing}
+use Rattle.board_meaning.specs.Resting.{chip_at_rest}
 use Rattle.board_meaning.specs.Whole.{settled_member, trst_member}
 use Rattle.chip_chain.specs.AtRest.{AssertsTrst}
 use Rattle.chip_chain.specs.Chains.{ChainValue}
@@ -51,7 +51,7 @@ returns c =
     ≡ record v {
       trst = true;
       chips =
-          map (standing Reset) (map (trst_member (settled_member rests)) (members v.chips));
+          map (chip_at_rest Reset) (map (trst_member (settled_member rests)) (members v.chips));
     })
     c.self.view_is
     (λ i. record { trst = true; nets = c.assert_trst_wired.ensures.nets i; chips = chips-are i })

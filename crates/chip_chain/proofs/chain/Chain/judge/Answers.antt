@@ -1,6 +1,6 @@
 use Rattle.std.proofs.Common.{◌≡◌, ◌∙◌, List, map, ap, subst}
 use Rattle.board_meaning.specs.Chain.{members}
-use Rattle.board_meaning.specs.Whole.{chosen_of}
+use Rattle.board_meaning.specs.Whole.{selected_bits_of}
 use Rattle.scan_vectors.specs.Held.{bits}
 use Rattle.scan_vectors.specs.Vector.{judge, tdis}
 use Rattle.whole_chain.specs.Rows as rows
@@ -17,5 +17,5 @@ returns c =
     subst (λ (x : ChainValue). c.judge_chain.result ≡ judge v (out column (tdis v) (members x.chips))) c.self.view_is
     (c.judge_chain.ensures
     ∙ ap (λ (l : List SeatValue). judge v
-    (rows.out v (map (λ (s : SeatValue). chosen_of column (member_of s)) l))) c.deref.ensures.value
+    (rows.out v (map (λ (s : SeatValue). selected_bits_of column (member_of s)) l))) c.deref.ensures.value
     ∙ ap (judge v) (same_out column v c.self.inside.seats.items))

@@ -2,7 +2,7 @@ use Rattle.std.proofs.Common.{◌≡◌, ◌∙◌, Bool, List, map, sym, ap, su
 use Rattle.std.proofs.lemmas.List.{with_items_is}
 use Rattle.std.specs.Vec.{with_items}
 use Rattle.board_meaning.specs.Chain.{members}
-use Rattle.board_meaning.specs.Whole.{chosen_of}
+use Rattle.board_meaning.specs.Whole.{selected_bits_of}
 use Rattle.scan_vectors.specs.Held.{bits}
 use Rattle.scan_vectors.specs.Vector.{tdis}
 use Rattle.whole_chain.specs.Rows.{left}
@@ -20,7 +20,7 @@ invariant_of-self c =
     let column = c.args.column in
     let new = c.shift_chain.new.chain in
     let stays : List SeatValue → List Bool =
-    λ l. left (bits c.args.vector.now) (map (λ (x : SeatValue). chosen_of column (member_of x)) l) in
+    λ l. left (bits c.args.vector.now) (map (λ (x : SeatValue). selected_bits_of column (member_of x)) l) in
     let cut : Cut column (stays s.seats.items) s.seats.items new =
     subst (λ (l : List SeatValue). Cut column (stays l) l new) c.deref_mut.ensures.value c.shift_chain.ensures in
     let is = with_items_is s.seats new
@@ -39,7 +39,7 @@ returns c =
     let v = bits c.args.vector.now in
     let new = c.shift_chain.new.chain in
     let stays : List SeatValue → List Bool =
-    λ l. left v (map (λ (x : SeatValue). chosen_of column (member_of x)) l) in
+    λ l. left v (map (λ (x : SeatValue). selected_bits_of column (member_of x)) l) in
     let cut : Cut column (stays s.seats.items) s.seats.items new =
     subst (λ (l : List SeatValue). Cut column (stays l) l new) c.deref_mut.ensures.value c.shift_chain.ensures in
     let is = with_items_is s.seats new

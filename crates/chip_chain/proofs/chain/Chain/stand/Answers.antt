@@ -2,7 +2,7 @@ use Rattle.std.proofs.Common.{◌≡◌, ◌∙◌, List, map, sym, ap, subst}
 use Rattle.std.proofs.lemmas.List.{with_items_is}
 use Rattle.std.specs.Vec.{with_items}
 use Rattle.board_meaning.specs.Chain.{members}
-use Rattle.board_meaning.specs.Resting.{standing}
+use Rattle.board_meaning.specs.Resting.{chip_at_rest}
 use Rattle.chip_chain.specs.AtRest.{Stands}
 use Rattle.chip_chain.specs.Chains.{ChainValue}
 use Rattle.chip_chain.specs.Seats.{AllTold, SeatValue, chip_state}
@@ -42,5 +42,5 @@ returns c =
     let chips-are = ap (map chip_state) is ∙ stood_chips c.args.state s.seats.items new each in
     let now = the_view (record s { seats = with_items s.seats new }) in
     subst (λ (v : ChainValue). now
-    ≡ record v { chips = map (standing c.args.state) (members v.chips) }) c.self.view_is
+    ≡ record v { chips = map (chip_at_rest c.args.state) (members v.chips) }) c.self.view_is
     (λ i. record { trst = s.trst; nets = s.wiring.nets; chips = chips-are i })

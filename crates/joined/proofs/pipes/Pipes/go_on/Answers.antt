@@ -1,5 +1,5 @@
 use Rattle.std.proofs.Common.{sym, ◌∙◌, arith}
-use Rattle.joined.proofs.Finished.{finish-keeps, finish-smaller}
+use Rattle.joined.proofs.RoundsEnd.{finish-keeps, finish-smaller}
 use Rattle.joined.proofs.pipes.Pipes.go_on.Goals as goal
 
 pub loop-self-smaller : goal.loop-self-smaller

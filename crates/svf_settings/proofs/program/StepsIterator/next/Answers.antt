@@ -1,4 +1,4 @@
-use Rattle.svf_settings.proofs.Resolved.{left_some}
+use Rattle.svf_settings.proofs.KeptPrograms.{left_some}
 use Rattle.svf_settings.specs.Seen.{numbered}
 use Rattle.svf_settings.proofs.program.StepsIterator.next.Goals as goal
 

@@ -3,7 +3,7 @@ use Rattle.std.specs.Prelude.{option_map}
 use Rattle.svf_parse.specs.View.{said}
 use Rattle.svf_settings.specs.Steps.{Step}
 use Rattle.svf_settings.specs.Held.{step_in}
-use Rattle.svf_settings.proofs.Taken.{taken, told_behind}
+use Rattle.svf_settings.proofs.OneStatementMore.{taken, told_behind}
 use Rattle.svf_settings.proofs.reading.Reader.take.Goals as goal
 
 pub returns-in-Some : goal.returns-in-Some

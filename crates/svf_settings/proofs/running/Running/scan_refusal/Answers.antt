@@ -1,7 +1,7 @@
 use Rattle.std.proofs.Common.{sym, ◌∙◌, map}
 use Rattle.svf_parse.specs.View.{said}
 use Rattle.svf_settings.specs.Held.{settings_in}
-use Rattle.svf_settings.proofs.Told.{misses_told, other_told, sdr_told, sir_told}
+use Rattle.svf_settings.proofs.ScanRefusals.{misses_told, other_told, sdr_told, sir_told}
 use Rattle.svf_settings.proofs.running.Running.scan_refusal.Goals as goal
 
 pub returns-then-misses_tdi : goal.returns-then-misses_tdi

@@ -18,10 +18,10 @@ use Rattle.stream_player.specs.declared.progress.Mismatch as declared
 use Rattle.stream_player.specs.declared.progress.Phase.{Phase}
 use Rattle.stream_player.specs.declared.progress.Phase.TheVariants.{Opening, Within, Over}
 use Rattle.stream_player.specs.declared.progress.Progress.{Progress}
-use Rattle.stream_player.specs.Progress.{InOpening, InPhase, InStep, IsOver, IsReady, Rests, Stands, ahead, gone, mismatch, over, present, rest_of, standing, state_of}
+use Rattle.stream_player.specs.Progress.{InOpening, InPhase, InStep, IsOver, IsReady, Rests, Stands, ahead, gone, mismatch, over, present, rest_of, standing_at, state_of}
 use Rattle.stream_player.specs.Standing.{Standing, found, reads, state_at}
 use Rattle.stream_player.proofs.Ahead.{map-take, stops_at}
-use Rattle.stream_player.proofs.Here.{IsIn, over-now, reached}
+use Rattle.stream_player.proofs.TurnPlaces.{IsIn, over-now, reached}
 use Rattle.stream_player.proofs.Window.{asks-split}
 
 reads-same : (bytes : List ℕ) → reads bytes ≡ agree.reads bytes
@@ -86,10 +86,10 @@ module _ (program : Program) (p : Progress) (spot : Spot) (is : p.phase ≡ With
   asked : asks (take (gone rest p) turn.messages) ≡ p.heard + p.owed
   asked = sym (reads-asks (take (gone rest p) turn.messages)) ∙ ap reads (sym (map-take (gone rest p) turn.messages)) ∙ in-step.asked
 
-  fair : stops_at (standing program.steps p) ≡ true → 0 < p.heard
+  fair : stops_at (standing_at program.steps p) ≡ true → 0 < p.heard
   fair stops = in-step.fair (sym (map-some p.failed) ∙ stops-some (option_map mismatch p.failed) true stops)
 
-  pub is-in : IsIn program (standing program.steps p) turn later p.owed
+  pub is-in : IsIn program (standing_at program.steps p) turn later p.owed
   is-in = record {
     here = ap (λ (n : ℕ). drop n (turns program.steps)) over-is ∙ stands.rests.turns_are ∙ ap (step_turns p.place) in-step.is;
     within = omega (arith, gone-is);
@@ -107,7 +107,7 @@ module _ (program : Program) (p : Progress) (spot : Spot) (is : p.phase ≡ With
     all-gone = omega (arith, gone-is, ap length none)
 
     pub all-heard : p.heard ≡ length turn.wants
-    all-heard = omega (arith, reached program (standing program.steps p) turn later p.owed is-in, out-all (gone rest p) turn.messages all-gone)
+    all-heard = omega (arith, reached program (standing_at program.steps p) turn later p.owed is-in, out-all (gone rest p) turn.messages all-gone)
       where
         out-all : (n : ℕ) (ms : List Message) → n ≡ length ms → asks (drop n ms) ≡ 0
         out-all zero [] e = refl
@@ -133,7 +133,7 @@ module _ (program : Program) (p : Progress) (spot : Spot) (is : p.phase ≡ With
     pub stops-same : state_of program (record p { phase = Over false }) ≡ state_of program p
     stops-same =
         let g : present p.place rest + 0 ≡ gone rest p = omega (arith, all-gone, ap (present p.place) in-step.is) in
-        (λ k. state_at program (record (standing program.steps p) { over = sym over-is k; gone = g k }))
+        (λ k. state_at program (record (standing_at program.steps p) { over = sym over-is k; gone = g k }))
 
     -- or the next step begins
     pub passes-same : is_some p.failed ≡ false
@@ -141,7 +141,7 @@ module _ (program : Program) (p : Progress) (spot : Spot) (is : p.phase ≡ With
     passes-same passed =
         let no-fail : option_map mismatch p.failed ≡ None = none-of p.failed passed in
         (λ k. state_at program (record { over = suc (sym over-is k); gone = 0; heard = 0; failed = sym no-fail k; bad = sym not-bad k }))
-        ∙ over-now program (standing program.steps p) turn later p.owed is-in all-gone nothing
+        ∙ over-now program (standing_at program.steps p) turn later p.owed is-in all-gone nothing
 
 -- the opening
 module _ (program : Program) (p : Progress) (n : ℕ) (is : p.phase ≡ Opening n) (stands : Stands program.steps p) where

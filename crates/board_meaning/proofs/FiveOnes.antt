@@ -6,10 +6,10 @@ use Rattle.jt_tap.specs.declared.State.TheVariants.{Reset, Idle, DrSelect, DrCap
 use Rattle.jt_tap.specs.Controller.{next}
 use Rattle.board_meaning.specs.Nets.{sees}
 use Rattle.bitbang_table.specs.declared.Message.TheVariants.{Write, Lines}
-use Rattle.board_meaning.specs.Chain.{ChipState, BoardState, fall, rise_all, members, written, told, hear}
+use Rattle.board_meaning.specs.Chain.{ChipState, BoardState, fall, rise_all, members, after_levels, after_message, hear}
 use Rattle.board_meaning.specs.Whole.{AtRest, reset_member}
 use Rattle.bitbang_table.specs.Cycles.{resets_held, closed, opening}
-use Rattle.board_meaning.specs.Resting.{standing, resting}
+use Rattle.board_meaning.specs.Resting.{chip_at_rest, board_at_rest}
 
 abbrev pub states : List ChipState → List State
 states cs = map (λ c. c.state) cs
@@ -27,20 +27,20 @@ states-rise tdi sight k (c ∷ cs) = ap (λ r. next c.state true ∷ r) (states-
 
 -- a low byte moves no controller, whatever TCK was
 abbrev lowered_board : BoardState → BoardState
-lowered_board b = told (Write false true false) b
+lowered_board b = after_message (Write false true false) b
 
-states-low : (tck : Bool) (b : BoardState) → states (written tck false true false b) ≡ states b.chips
+states-low : (tck : Bool) (b : BoardState) → states (after_levels tck false true false b) ≡ states b.chips
 states-low true b = states-fall b.chips
 states-low false b = refl
 
 -- one cycle with TMS 1, TRST released
 abbrev one : BoardState → BoardState
-one b = told (Write true true false) (told (Write false true false) b)
+one b = after_message (Write true true false) (after_message (Write false true false) b)
 
 states-one : (b : BoardState) → b.trst ≡ false → states (one b).chips ≡ ones (states b.chips)
 states-one b released =
-    ap (λ t. states (rise_all t true false (sees b.nets (members (written b.tck false true false b))) 0 (written b.tck false true false b))) released
-    ∙ states-rise false _ 0 (written b.tck false true false b)
+    ap (λ t. states (rise_all t true false (sees b.nets (members (after_levels b.tck false true false b))) 0 (after_levels b.tck false true false b))) released
+    ∙ states-rise false _ 0 (after_levels b.tck false true false b)
     ∙ ap ones (states-low b.tck b)
 
 five : (s : State) → next (next (next (next (next s true) true) true) true) true ≡ Reset
@@ -84,11 +84,11 @@ five-all (c ∷ cs) (d ∷ ds) e = (head e ∙ five c.state, five-all cs ds (res
     rest e = ap others e
 
 -- where every controller stands in RESET, the falling edge leaves a board at rest there
-fall-reset : (cs : List ChipState) → AllReset cs → map fall cs ≡ map (standing Reset) (map reset_member (members cs))
+fall-reset : (cs : List ChipState) → AllReset cs → map fall cs ≡ map (chip_at_rest Reset) (map reset_member (members cs))
 fall-reset [] all = refl
 fall-reset (c ∷ cs) all = λ i. one-chip c all.0 i ∷ fall-reset cs all.1 i
   where
-    one-chip : (c : ChipState) → c.state ≡ Reset → fall c ≡ standing Reset (reset_member c.member)
+    one-chip : (c : ChipState) → c.state ≡ Reset → fall c ≡ chip_at_rest Reset (reset_member c.member)
     one-chip c e = ap (λ s. fall (record { member = c.member; state = s; tdo = c.tdo })) e
 
 -- the board before the last low byte
@@ -108,7 +108,7 @@ five-states b released =
 
 -- Five cycles with TMS 1 and TRST released: from every board to rest in RESET, nothing answered.
 pub five-ones : (b : BoardState) → b.trst ≡ false
-    → hear (closed resets_held) b ≡ record { answers = []; board = resting (reset_from_here b) }
+    → hear (closed resets_held) b ≡ record { answers = []; board = board_at_rest (reset_from_here b) }
 five-ones b released =
     λ i. record {
       answers = [];
@@ -116,5 +116,5 @@ five-ones b released =
     }
 
 -- The opening brings every board, in mid-scan too, to rest in RESET with TRST released.
-pub opening-rests : (b : BoardState) → hear opening b ≡ record { answers = []; board = resting (reset_from_here (told (Lines false false) b)) }
-opening-rests b = five-ones (told (Lines false false) b) refl
+pub opening-rests : (b : BoardState) → hear opening b ≡ record { answers = []; board = board_at_rest (reset_from_here (after_message (Lines false false) b)) }
+opening-rests b = five-ones (after_message (Lines false false) b) refl

@@ -18,7 +18,7 @@ use Rattle.svf_parse.specs.Sizes.{size}
 use Rattle.svf_parse.specs.Judging as said
 use Rattle.std.specs.List.{sum_by}
 use Rattle.std.proofs.lemmas.List.Sums.{sum_by-cons}
-use Rattle.svf_settings.proofs.Firsts.{resolves_is_function, refuses_is_function, accepted_is_sound}
+use Rattle.svf_settings.proofs.FirstRefusals.{resolves_is_function, refuses_is_function, accepted_is_sound}
 
 pub answers_found : (all : List Said) (r : Result Holding SvfFault) → Answers r (resolution all) → IfOk r (λ p. Resolves all (program_of p))
 answers_found all (Ok p) e = (resolves_is_function all (program_of p)).1 e

@@ -11,25 +11,25 @@ use Rattle.board_meaning.specs.Cells.{Member}
 use Rattle.pin_nets.specs.Wired.{Net}
 use Rattle.board_meaning.specs.Nets.{sees}
 use Rattle.board_meaning.specs.Chain.{hear}
-use Rattle.board_meaning.specs.Whole.{joined, cut_back, capture_all, reset_member, pass, along}
+use Rattle.board_meaning.specs.Whole.{joined_bits, cut_back, capture_all, reset_member, pass, along}
 use Rattle.svf_settings.specs.Steps.{Path, Run}
 use Rattle.plays.specs.Meaning.{command, move_unless_there}
 use Rattle.bitbang_table.specs.Cycles.{walk, closed}
 use Rattle.tck_cycles.specs.Cycles.{cycles, go_unless_there}
 use Rattle.bitbang.specs.StepMessages.{step_messages}
 use Rattle.tap_paths.specs.Paths.{last_of}
-use Rattle.board_meaning.specs.Resting.{resting}
-use Rattle.board_meaning.proofs.Low.{low, Free, cycled, ran, heard_of, hear-tail}
+use Rattle.board_meaning.specs.Resting.{board_at_rest}
+use Rattle.board_meaning.proofs.OneCycle.{low, Free, cycled, ran, heard_of, hear-tail}
 use Rattle.plays.proofs.Vectors.{cycled-shift}
 use Rattle.board_meaning.proofs.Resets.{reset-twice}
 use Rattle.board_meaning.specs.Sound.{AllSound}
 use Rattle.board_meaning.proofs.Sound.{Sound-Full, Sound-capture_all, Sound-cut_back, Sound-update, Sound-reset}
-use Rattle.board_meaning.proofs.Moves.{fall_whole, cycled-whole, ends_at, at_rest, low-resting, stable-quiet, IsWalk, walked, closed-walk}
+use Rattle.board_meaning.proofs.Walks.{fall_whole, cycled-whole, ends_at, at_rest, low-resting, stable-quiet, IsWalk, walked, closed-walk}
 
 -- what the devices do on the rising edge that leaves a state of this work, TDI being 0
 abbrev pub leave : Work → List Net → List Member → List Member
 leave (Captures column) nets ms = capture_all column (sees nets ms) 0 ms
-leave (Shifts column) nets ms = cut_back column (drop 1 (joined column ms ++ false ∷ [])) ms
+leave (Shifts column) nets ms = cut_back column (drop 1 (joined_bits column ms ++ false ∷ [])) ms
 leave _ nets ms = ms
 
 cycled-leave : (s : State) (tms : Bool) (nets : List Net) (ms : List Member) → AllSound ms
@@ -53,9 +53,9 @@ cycled-leave IrPause tms nets ms sound = cycled-whole IrPause tms false nets ms 
 cycled-leave IrExit2 tms nets ms sound = cycled-whole IrExit2 tms false nets ms refl
 cycled-leave IrUpdate tms nets ms sound = cycled-whole IrUpdate tms false nets ms refl
 
-shifted-length : (column : Column) (ms : List Member) → length (drop 1 (joined column ms ++ false ∷ [])) ≡ length (joined column ms)
+shifted-length : (column : Column) (ms : List Member) → length (drop 1 (joined_bits column ms ++ false ∷ [])) ≡ length (joined_bits column ms)
 shifted-length column ms =
-    let J = joined column ms in
+    let J = joined_bits column ms in
     omega (arith, length-drop 1 (J ++ false ∷ []), length-append J (false ∷ []))
 
 Sound-leave : (w : Work) (nets : List Net) (ms : List Member) → AllSound ms → AllSound (leave w nets ms)
@@ -123,17 +123,17 @@ closed-travel (t ∷ path) s trst nets ms legal sound free =
 -- From rest, the bytes of a stated path do what its named states do, shifts included.
 pub path-law : (path : List State) (place : State) (trst : Bool) (nets : List Net) (ms : List Member)
     → is_stable place ≡ true → is_stable (last_of place path) ≡ true → IsTrip place path → AllSound ms → Free trst ms
-    → hear (step_messages place (Path path)) (resting (at_rest place trst nets ms))
-    ≡ record { answers = []; board = resting (command (Path path) (at_rest place trst nets ms)) }
+    → hear (step_messages place (Path path)) (board_at_rest (at_rest place trst nets ms))
+    ≡ record { answers = []; board = board_at_rest (command (Path path) (at_rest place trst nets ms)) }
 path-law path place trst nets ms sp se legal sound free =
     let end = last_of place path in
     let T = travelled nets place path ms in
     ap (λ b. hear (step_messages place (Path path)) b) (sym (low-resting place trst nets ms (stable-quiet place sp)))
     ∙ closed-travel path place trst nets ms legal sound free
     ∙ (λ i. record { answers = []; board = low-resting end trst nets T (stable-quiet end se) i })
-    ∙ (λ i. record { answers = []; board = resting (at_rest end trst nets (sym (stable-leave end nets T se) i)) })
-    ∙ (λ i. record { answers = []; board = resting (travelled-along path place trst nets ms i) })
-    ∙ (λ i. record { answers = []; board = resting (along path (at_rest place trst nets (stable-leave place nets ms sp i))) })
+    ∙ (λ i. record { answers = []; board = board_at_rest (at_rest end trst nets (sym (stable-leave end nets T se) i)) })
+    ∙ (λ i. record { answers = []; board = board_at_rest (travelled-along path place trst nets ms i) })
+    ∙ (λ i. record { answers = []; board = board_at_rest (along path (at_rest place trst nets (stable-leave place nets ms sp i))) })
 
 -- a move that is none where the place is already reached
 pub record IsMaybeMove (from to : State) : Type 0 where
@@ -226,8 +226,8 @@ stays-after place run nets ms sp sr kept e = absurd (cc)
 -- From rest, the bytes of a RUNTEST move to its run state, stay there, and move to its end.
 pub run-law : (run end : State) (n : ℕ) (place : State) (trst : Bool) (nets : List Net) (ms : List Member)
     → is_stable place ≡ true → is_stable run ≡ true → is_stable end ≡ true → StaysReset place ms → Free trst ms
-    → hear (step_messages place (Run run n end)) (resting (at_rest place trst nets ms))
-    ≡ record { answers = []; board = resting (command (Run run n end) (at_rest place trst nets ms)) }
+    → hear (step_messages place (Run run n end)) (board_at_rest (at_rest place trst nets ms))
+    ≡ record { answers = []; board = board_at_rest (command (Run run n end) (at_rest place trst nets ms)) }
 run-law run end n place trst nets ms sp sr se kept free =
     let first = maybe-move place run sp sr in
     let second = maybe-move run end sr se in
@@ -258,5 +258,5 @@ run-law run end n place trst nets ms sp sr se kept free =
     ∙ closed-walk path place trst nets ms legal free
     ∙ (λ i. record { answers = []; board = low (ends i) trst nets (over i) })
     ∙ (λ i. record { answers = []; board = low-resting end trst nets (walked nets run p2 W) (stable-quiet end se) i })
-    ∙ (λ i. record { answers = []; board = resting (second.effect trst nets W i) })
-    ∙ (λ i. record { answers = []; board = resting (move_unless_there end (first.effect trst nets ms i)) })
+    ∙ (λ i. record { answers = []; board = board_at_rest (second.effect trst nets W i) })
+    ∙ (λ i. record { answers = []; board = board_at_rest (move_unless_there end (first.effect trst nets ms i)) })

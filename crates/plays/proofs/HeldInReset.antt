@@ -7,35 +7,35 @@ use Rattle.pin_nets.specs.Wired.{Net}
 use Rattle.board_meaning.specs.Chain.{ChipState, BoardState, fall, is_held, hear}
 use Rattle.board_meaning.specs.Whole.{reset_member}
 use Rattle.bitbang_table.specs.Cycles.{walk, closed}
-use Rattle.board_meaning.specs.Resting.{standing, resting}
-use Rattle.board_meaning.proofs.Low.{tail}
-use Rattle.board_meaning.proofs.Moves.{at_rest}
+use Rattle.board_meaning.specs.Resting.{chip_at_rest, board_at_rest}
+use Rattle.board_meaning.proofs.OneCycle.{tail}
+use Rattle.board_meaning.proofs.Walks.{at_rest}
 use Rattle.board_meaning.proofs.Resets.{up, board, one, one-low, one-high, standing-quiet}
 
 same-either : (held : Bool) (c : ChipState) → (if held then c else c) ≡ c
 same-either true c = refl
 same-either false c = refl
 
-ups : (trst : Bool) (ms : List Member) → map (up trst) (map (standing Reset) ms) ≡ map (standing Reset) ms
+ups : (trst : Bool) (ms : List Member) → map (up trst) (map (chip_at_rest Reset) ms) ≡ map (chip_at_rest Reset) ms
 ups trst [] = refl
-ups trst (m ∷ ms) = λ i. same-either (is_held trst m) (standing Reset m) i ∷ ups trst ms i
+ups trst (m ∷ ms) = λ i. same-either (is_held trst m) (chip_at_rest Reset m) i ∷ ups trst ms i
 
-falls : (ms : List Member) → map reset_member ms ≡ ms → map fall (map (standing Reset) ms) ≡ map (standing Reset) ms
-falls ms kept = go ms ∙ ap (map (standing Reset)) kept
+falls : (ms : List Member) → map reset_member ms ≡ ms → map fall (map (chip_at_rest Reset) ms) ≡ map (chip_at_rest Reset) ms
+falls ms kept = go ms ∙ ap (map (chip_at_rest Reset)) kept
   where
-    go : (ms : List Member) → map fall (map (standing Reset) ms) ≡ map (standing Reset) (map reset_member ms)
+    go : (ms : List Member) → map fall (map (chip_at_rest Reset) ms) ≡ map (chip_at_rest Reset) (map reset_member ms)
     go [] = refl
-    go (m ∷ ms) = ap (λ r. standing Reset (reset_member m) ∷ r) (go ms)
+    go (m ∷ ms) = ap (λ r. chip_at_rest Reset (reset_member m) ∷ r) (go ms)
 
 abbrev here : Bool → Bool → List Net → List Member → BoardState
-here tck trst nets ms = board tck trst nets (map (standing Reset) ms)
+here tck trst nets ms = board tck trst nets (map (chip_at_rest Reset) ms)
 
 -- one cycle with TMS 1 from either level of TCK
 one-more : (tck trst : Bool) (nets : List Net) (ms : List Member) → map reset_member ms ≡ ms → one (here tck trst nets ms) ≡ here true trst nets ms
 one-more false trst nets ms kept =
-    one-low trst nets (map (standing Reset) ms) (standing-quiet Reset ms refl) ∙ ap (board true trst nets) (ups trst ms)
+    one-low trst nets (map (chip_at_rest Reset) ms) (standing-quiet Reset ms refl) ∙ ap (board true trst nets) (ups trst ms)
 one-more true trst nets ms kept =
-    one-high trst nets (map (standing Reset) ms) (standing-quiet Reset ms refl)
+    one-high trst nets (map (chip_at_rest Reset) ms) (standing-quiet Reset ms refl)
     ∙ ap (λ cs. board true trst nets (map (up trst) cs)) (falls ms kept)
     ∙ ap (board true trst nets) (ups trst ms)
 
@@ -48,6 +48,6 @@ stay (suc n) tck trst nets ms kept =
 
 -- From rest in RESET, any number of cycles with TMS 1 leave the board as it is.
 pub held-law : (n : ℕ) (trst : Bool) (nets : List Net) (ms : List Member) → map reset_member ms ≡ ms
-    → hear (closed (replicate n (walk Reset))) (resting (at_rest Reset trst nets ms)) ≡ record { answers = []; board = resting (at_rest Reset trst nets ms) }
+    → hear (closed (replicate n (walk Reset))) (board_at_rest (at_rest Reset trst nets ms)) ≡ record { answers = []; board = board_at_rest (at_rest Reset trst nets ms) }
 held-law zero trst nets ms kept = refl
 held-law (suc n) trst nets ms kept = stay (suc n) false trst nets ms kept

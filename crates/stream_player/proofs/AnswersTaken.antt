@@ -14,22 +14,22 @@ use Rattle.plays.specs.Play.{Turn, is_bad, step_turns, turns, wants_of}
 use Rattle.plays.specs.Playing.{up_to_bad}
 use Rattle.plays.specs.PlayingOn.{Mismatch}
 use Rattle.plays.specs.Streams as stream
-use Rattle.plays.specs.Streams.{StreamState, hear, hear_all, taken}
+use Rattle.plays.specs.Streams.{StreamState, hear, hear_all, answers_taken}
 use Rattle.plays.proofs.Asks.{asks, asks-step}
 use Rattle.every_schedule.proofs.Quits.{asks-append}
 use Rattle.stream_player.specs.declared.progress.Mismatch as declared
 use Rattle.stream_player.specs.declared.progress.Phase.{Phase}
 use Rattle.stream_player.specs.declared.progress.Phase.TheVariants.{Opening, Within, Over}
 use Rattle.stream_player.specs.declared.progress.Progress.{Progress}
-use Rattle.stream_player.specs.Progress.{InPhase, InStep, IsOver, Stands, gone, mismatch, standing, state_of, vector_bits}
+use Rattle.stream_player.specs.Progress.{InPhase, InStep, IsOver, Stands, gone, mismatch, standing_at, state_of, vector_bits}
 use Rattle.stream_player.specs.Standing.{Standing, differing_bit, first_of, state_at}
 use Rattle.stream_player.proofs.Ahead.{ahead, owes}
 use Rattle.stream_player.proofs.Ends.{hears, hears-bad, quits, quits-behind}
-use Rattle.stream_player.proofs.Here.{owed-is, reached}
+use Rattle.stream_player.proofs.TurnPlaces.{owed-is, reached}
 use Rattle.stream_player.proofs.Pieced.{fair-end, first, is-over, none-of, opened, start, stops-is, turns-end}
 use Rattle.stream_player.proofs.Steps.{cut, same-first, wants-of-vector}
 use Rattle.stream_player.proofs.Window.{asks-split}
-use Rattle.stream_player.proofs.Within.{in-opening, in-step, is-in, later, opens, turn}
+use Rattle.stream_player.proofs.PlayerPlaces.{in-opening, in-step, is-in, later, opens, turn}
 
 asks-take : (n : ℕ) (ms : List Message) → asks (take n ms) ≤ asks ms
 asks-take n ms = omega (arith, asks-split n ms)
@@ -43,7 +43,7 @@ module _ (program : Program) (p : Progress) (stands : Stands program.steps p) (g
       i = is-over program p out is stands
 
       s : Standing
-      s = standing program.steps p
+      s = standing_at program.steps p
 
       none : (a h : ℕ) → a ≤ h → a - h ≡ 0
       none a h le = omega (arith, le)
@@ -75,7 +75,7 @@ module _ (program : Program) (p : Progress) (stands : Stands program.steps p) (g
           ap (stream.owed 256) (opens program p n is stands)
           ∙ owed-is program (start program p n is stands) (first program p n is stands) (step_turns Reset program.steps) 0 (opened program p n is stands) refl
           ∙ sym (in-opening program p n is stands).owed
-      by (Within spot) is = owed-is program (standing program.steps p) (turn program p spot is stands) (later program p spot is stands) p.owed (is-in program p spot is stands) good
+      by (Within spot) is = owed-is program (standing_at program.steps p) (turn program p spot is stands) (later program p spot is stands) p.owed (is-in program p spot is stands) good
       by (Over out) is = over-owes out is ∙ sym (is-over program p out is stands).owed
 
 -- a step is at work where answers are owed
@@ -88,7 +88,7 @@ where-owed program p stands some = by p.phase refl
     by (Over out) is = absurd (omega (arith, some, (is-over program p out is stands).owed))
 
 -- nothing is taken where nothing is owed
-pub takes-none : (s : StreamState) (bytes : List ℕ) → stream.owed 256 s ≡ 0 → taken 256 s bytes ≡ []
+pub takes-none : (s : StreamState) (bytes : List ℕ) → stream.owed 256 s ≡ 0 → answers_taken 256 s bytes ≡ []
 takes-none s bytes none = ap (λ (n : ℕ). up_to_bad (take n bytes)) none
 
 pub bad-owes : (s : StreamState) → is_some s.bad ≡ true → stream.owed 256 s ≡ 0
@@ -96,7 +96,7 @@ bad-owes s bad = ap (λ (b : Bool). if b then 0 else count_by (λ b. b == 82) (s
 
 -- one is taken, and then the others
 pub takes-one : (s t : StreamState) (byte : ℕ) (bytes : List ℕ) (n : ℕ) → stream.owed 256 s ≡ n + 1 → (is_bad byte ≡ false → stream.owed 256 t ≡ n)
-    → (is_bad byte ≡ true → stream.owed 256 t ≡ 0) → taken 256 s (byte ∷ bytes) ≡ byte ∷ taken 256 t bytes
+    → (is_bad byte ≡ true → stream.owed 256 t ≡ 0) → answers_taken 256 s (byte ∷ bytes) ≡ byte ∷ answers_taken 256 t bytes
 takes-one s t byte bytes n owed good bad =
     let next : n + 1 ≡ suc n = omega arith in
     ap (λ (k : ℕ). up_to_bad (take k (byte ∷ bytes))) (owed ∙ next) ∙ by (is_bad byte) refl
@@ -151,7 +151,7 @@ module _ (program : Program) (p : Progress) (spot : Spot) (is : p.phase ≡ With
   next = record p { heard = p.heard + 1; owed = p.owed - 1; judged = j; failed = f }
 
   less : p.heard < length wants
-  less = omega (arith, some, reached program (standing program.steps p) (turn program p spot is stands) (later program p spot is stands) p.owed (is-in program p spot is stands))
+  less = omega (arith, some, reached program (standing_at program.steps p) (turn program p spot is stands) (later program p spot is stands) p.owed (is-in program p spot is stands))
 
   n : IsNext p.heard wants
   n = next-of p.heard wants less
@@ -201,7 +201,7 @@ module _ (program : Program) (p : Progress) (spot : Spot) (is : p.phase ≡ With
 
   pub hears-same : state_of program next ≡ hear byte (state_of program p)
   hears-same =
-      let s = standing program.steps p in
+      let s = standing_at program.steps p in
       ap (λ (o : Option Mismatch). state_at program (record s { heard = p.heard + 1; failed = o })) (failed-then (is_some p.failed) refl)
       ∙ sym (hears program s (turn program p spot is stands) (later program p spot is stands) (is-in program p spot is stands).here byte n.first n.others
       good answers n.is)
@@ -265,16 +265,16 @@ is-none (Some x) e = absurd (cc)
 -- an answer is heard, and then those that are left
 pub takes-on : (program : Program) (p q : Progress) (byte : ℕ) (bytes : List ℕ) → Stands program.steps p → p.bad ≡ None → 0 < p.owed → Stands program.steps q
     → (is_bad byte ≡ false → (q.owed + 1 ≡ p.owed) × (q.bad ≡ None)) → (is_bad byte ≡ true → q.bad ≡ Some byte)
-    → taken 256 (state_of program p) (byte ∷ bytes) ≡ byte ∷ taken 256 (state_of program q) bytes
+    → answers_taken 256 (state_of program p) (byte ∷ bytes) ≡ byte ∷ answers_taken 256 (state_of program q) bytes
 takes-on program p q byte bytes stands good some then_stands taken_one bad_one =
     takes-one (state_of program p) (state_of program q) byte bytes (p.owed - 1) (owed-so program p stands good ∙ omega (arith, some))
     (λ e. owed-so program q then_stands (taken_one e).1 ∙ omega (arith, (taken_one e).0)) (λ e. bad-owes (state_of program q) (ap is_some (bad_one e)))
 
 -- nothing is owed, or a byte that was no answer was taken
-pub takes-nothing : (program : Program) (p : Progress) (bytes : List ℕ) → Stands program.steps p → p.bad ≡ None → p.owed ≡ 0 → taken 256 (state_of program p) bytes ≡ []
+pub takes-nothing : (program : Program) (p : Progress) (bytes : List ℕ) → Stands program.steps p → p.bad ≡ None → p.owed ≡ 0 → answers_taken 256 (state_of program p) bytes ≡ []
 takes-nothing program p bytes stands good none = takes-none (state_of program p) bytes (owed-so program p stands good ∙ none)
 
-pub takes-bad : (program : Program) (p : Progress) (bytes : List ℕ) → is_some p.bad ≡ true → taken 256 (state_of program p) bytes ≡ []
+pub takes-bad : (program : Program) (p : Progress) (bytes : List ℕ) → is_some p.bad ≡ true → answers_taken 256 (state_of program p) bytes ≡ []
 takes-bad program p bytes bad = takes-none (state_of program p) bytes (bad-owes (state_of program p) bad)
 
 -- a step without a vector asks for nothing
@@ -290,6 +290,6 @@ asks-nothing program p s stands first none some =
       arith,
       some,
       ap length wants,
-      reached program (standing program.steps p) (turn program p at.0 at.1 stands) (later program p at.0 at.1 stands) p.owed
+      reached program (standing_at program.steps p) (turn program p at.0 at.1 stands) (later program p at.0 at.1 stands) p.owed
           (is-in program p at.0 at.1 stands),
     )

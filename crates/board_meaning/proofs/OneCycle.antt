@@ -4,7 +4,7 @@ use Rattle.std.specs.Prelude.{unwrap_or, if◌then◌else◌, flat_map}
 use Rattle.std.specs.List.{AllByRecursion}
 use Rattle.jt_tap.specs.declared.State.{State}
 use Rattle.jt_tap.specs.Controller.{next, work}
-use Rattle.scan_registers.specs.Edges.{risen, fallen, tdo_after}
+use Rattle.scan_registers.specs.Edges.{after_rise, after_fall, tdo_after}
 use Rattle.board_meaning.specs.Cells.{Member, surroundings}
 use Rattle.pin_nets.specs.Wired.{Net}
 use Rattle.board_meaning.specs.Nets.{sees}
@@ -32,14 +32,14 @@ given s tdi (m ∷ ms) = unwrap_or (tdo_after (work s) m.device m.registers) tru
 
 -- the devices after a rising edge in a state
 abbrev pub risen_one : State → Bool → (ℕ → Bool) → Member → Member
-risen_one s tdi sight m = record m { registers = risen (work s) m.device (surroundings sight m) tdi m.registers }
+risen_one s tdi sight m = record m { registers = after_rise (work s) m.device (surroundings sight m) tdi m.registers }
 
 abbrev pub risen_all : State → Bool → (ℕ → ℕ → Bool) → ℕ → List Member → List Member
 risen_all s tdi sight k [] = []
 risen_all s tdi sight k (m ∷ ms) = risen_one s (given s tdi ms) (sight k) m ∷ risen_all s tdi sight (suc k) ms
 
 abbrev pub fallen_one : State → Member → Member
-fallen_one s m = record m { registers = fallen (work s) m.device (surroundings (λ p. true) m) m.registers }
+fallen_one s m = record m { registers = after_fall (work s) m.device (surroundings (λ p. true) m) m.registers }
 
 -- the devices after one whole cycle
 abbrev pub cycled : State → (tms tdi : Bool) → List Net → List Member → List Member

@@ -4,9 +4,9 @@ use Rattle.bitbang_table.specs.declared.Message.TheVariants.{Quit}
 use Rattle.board_meaning.specs.Chain.{BoardState, hear}
 use Rattle.scan_vectors.specs.declared.part.Part.{Part}
 use Rattle.scan_vectors.specs.Vector.{judge}
-use Rattle.plays.specs.Events.{Event, Known, World, by_answers, empty_pipes, fresh as fresh_world, run}
+use Rattle.plays.specs.Events.{Event, Known, World, by_answers, empty_pipes, before_events as fresh_world, run}
 use Rattle.plays.specs.Play.{Turn, Played, full_play, player, sent, turns}
-use Rattle.plays.specs.Streams.{StreamState, fresh}
+use Rattle.plays.specs.Streams.{StreamState, new_stream}
 use Rattle.bitbang_table.specs.Protocol.{answer}
 use Rattle.streaming.specs.Laws.{good, history_of, stream_of, with_player}
 use Rattle.streaming.proofs.Schedules.{carry_over}
@@ -18,11 +18,11 @@ use Rattle.every_schedule.specs.Fair.{HasNoLose, IsFair, loses}
 use Rattle.every_schedule.specs.InWork.{answers_in, bytes_in}
 use Rattle.every_schedule.specs.Laws.{full}
 use Rattle.plays.specs.PlayingOn.{Stops}
-use Rattle.every_schedule.proofs.Moves.{total}
+use Rattle.every_schedule.proofs.MovingEvents.{total}
 use Rattle.every_schedule.proofs.Progress.{fair-moves, moving-total, total-bound}
 use Rattle.every_schedule.proofs.Quits.{played_of, sent-eager}
 use Rattle.every_schedule.proofs.Runs.{run-append}
-use Rattle.every_schedule.proofs.Whole.{is-play, reached}
+use Rattle.every_schedule.proofs.SafetyLaws.{is-play, reached}
 use Rattle.joined.specs.Finishing.{IsReached, a_round, is_over, most, sum_of}
 use Rattle.joined.specs.Joining.{JoinedState, side}
 
@@ -59,7 +59,7 @@ link down_room up_room = record { kind = Stops; window = 256; down_room = down_r
 abbrev pub world_of : Program → World Known → World StreamState
 world_of program w = with_player (λ p. stream_of Stops (history_of program p)) w
 
-pub carries : (program : Program) (b : BoardState) (down_room up_room : ℕ) (es : List Event) → run side down_room up_room es (empty_pipes (fresh Stops program) b)
+pub carries : (program : Program) (b : BoardState) (down_room up_room : ℕ) (es : List Event) → run side down_room up_room es (empty_pipes (new_stream Stops program) b)
     ≡ world_of program (run (by_answers (player 256 (turns program.steps))) down_room up_room es (fresh_world b))
 carries program b down_room up_room es = carry_over Stops 256 program b down_room up_room es
 
@@ -73,7 +73,7 @@ sum-same program k = omega (arith, good-answers k.player.got)
 
 module _ (program : Program) (b : BoardState) (down_room up_room : ℕ) where
   abbrev start : World StreamState
-  start = empty_pipes (fresh Stops program) b
+  start = empty_pipes (new_stream Stops program) b
 
   abbrev known : List Event → World Known
   known es = run (by_answers (player 256 (turns program.steps))) down_room up_room es (fresh_world b)
@@ -141,14 +141,14 @@ reached-more s t es r e = subst (λ (u : JoinedState). IsReached u) (sym e) (rec
   events = r.events ++ es;
   down_room = r.down_room;
   up_room = r.up_room;
-  world = there ∙ ap (λ p. run side s.down_room s.up_room (r.events ++ es) (empty_pipes (fresh Stops p) r.start)) (sym kept);
+  world = there ∙ ap (λ p. run side s.down_room s.up_room (r.events ++ es) (empty_pipes (new_stream Stops p) r.start)) (sym kept);
 })
   where
     P : Program
     P = s.world.player.program
 
-    there : run side s.down_room s.up_room es s.world ≡ run side s.down_room s.up_room (r.events ++ es) (empty_pipes (fresh Stops P) r.start)
-    there = ap (run side s.down_room s.up_room es) r.world ∙ sym (run-append side s.down_room s.up_room r.events es (empty_pipes (fresh Stops P) r.start))
+    there : run side s.down_room s.up_room es s.world ≡ run side s.down_room s.up_room (r.events ++ es) (empty_pipes (new_stream Stops P) r.start)
+    there = ap (run side s.down_room s.up_room es) r.world ∙ sym (run-append side s.down_room s.up_room r.events es (empty_pipes (new_stream Stops P) r.start))
 
     kept : (run side s.down_room s.up_room es s.world).player.program ≡ P
     kept = ap (λ w. w.player.program) there ∙ program-kept P r.start s.down_room s.up_room (r.events ++ es)
@@ -171,8 +171,8 @@ one-round s t n some r going e = subst (λ (u : JoinedState). IsRound s u) (sym 
     P : Program
     P = s.world.player.program
 
-    there : run side s.down_room s.up_room (a_round n) s.world ≡ run side s.down_room s.up_room (r.events ++ a_round n) (empty_pipes (fresh Stops P) r.start)
-    there = ap (run side s.down_room s.up_room (a_round n)) r.world ∙ sym (run-append side s.down_room s.up_room r.events (a_round n) (empty_pipes (fresh Stops P) r.start))
+    there : run side s.down_room s.up_room (a_round n) s.world ≡ run side s.down_room s.up_room (r.events ++ a_round n) (empty_pipes (new_stream Stops P) r.start)
+    there = ap (run side s.down_room s.up_room (a_round n)) r.world ∙ sym (run-append side s.down_room s.up_room r.events (a_round n) (empty_pipes (new_stream Stops P) r.start))
 
 abbrev pub after_events : List Event → JoinedState → JoinedState
 after_events es s = record s { world = run side s.down_room s.up_room es s.world }
@@ -202,7 +202,7 @@ finish-keeps start now next es n kept e f = (
       ∙ (λ i. record start { world = sym (run-append side start.down_room start.up_room es (a_round n) start.world) i }),
 )
 
-pub reached-new : (p : StreamState) (b : BoardState) (down_room up_room : ℕ) (s : JoinedState) → p ≡ fresh Stops p.program → 0 < down_room → 0 < up_room
+pub reached-new : (p : StreamState) (b : BoardState) (down_room up_room : ℕ) (s : JoinedState) → p ≡ new_stream Stops p.program → 0 < down_room → 0 < up_room
     → s ≡ record { world = empty_pipes p b; down_room = down_room; up_room = up_room } → IsReached s
 reached-new p b down_room up_room s first down up e = subst (λ (u : JoinedState). IsReached u) (sym e) (record {
   start = b;

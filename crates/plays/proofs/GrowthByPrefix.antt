@@ -5,7 +5,7 @@ use Rattle.std.proofs.lemmas.Bool.{ltb-true, ltb-false}
 use Rattle.std.specs.Prelude.{Option, Some, None, if◌then◌else◌, nat_lt}
 use Rattle.bitbang_table.specs.declared.Message.{Message}
 use Rattle.bitbang_table.specs.declared.Message.TheVariants.{Write, Ask, Quit, Light, Lines}
-use Rattle.board_meaning.specs.Chain.{BoardState, hear, told, answers}
+use Rattle.board_meaning.specs.Chain.{BoardState, hear, after_message, answers}
 use Rattle.scan_vectors.specs.declared.part.Part.{Part}
 use Rattle.scan_vectors.specs.Vector.{VectorBit, judge, differs}
 use Rattle.plays.specs.Play.{Turn, up_to_asks, sent}
@@ -53,8 +53,8 @@ pub hear-append : (xs ys : List Message) (b : BoardState)
     → hear (xs ++ ys) b ≡ record { answers = (hear xs b).answers ++ (hear ys (hear xs b).board).answers; board = (hear ys (hear xs b).board).board }
 hear-append [] ys b = refl
 hear-append (m ∷ xs) ys b =
-    let e = hear-append xs ys (told m b) in
-    let first = hear xs (told m b) in
+    let e = hear-append xs ys (after_message m b) in
+    let first = hear xs (after_message m b) in
     let second = hear ys first.board in
     (λ i. record { answers = answers m b ++ (e i).answers; board = (e i).board })
     ∙ (λ i. record { answers = sym (append_assoc (answers m b) first.answers second.answers) i; board = second.board })

@@ -4,7 +4,7 @@ use Rattle.std.proofs.Math.Seq.{drop-append_seam, take-length}
 use Rattle.std.proofs.lemmas.List.{append-nil, drop-drop}
 use Rattle.std.specs.Prelude.{is_some, if◌then◌else◌}
 use borrow.Rule.Slice.PartMut.{mid_of, post_of, put_mid}
-use Rattle.plays.specs.Streams.{StreamState, bytes_of, waiting}
+use Rattle.plays.specs.Streams.{StreamState, bytes_of, bytes_to_send}
 use Rattle.direct_play.proofs.Buffers.{filled_front}
 
 drop-none : (n : ℕ) (l : List ℕ) → l ≡ [] → drop n l ≡ []
@@ -13,7 +13,7 @@ drop-none (suc n) [] e = refl
 drop-none (suc n) (x ∷ l) e = absurd (cc)
 
 -- when more bytes are given out, the rest waits
-pub waiting-more : (s : StreamState) (n : ℕ) → waiting 256 (record s { given = s.given + n }) ≡ drop n (waiting 256 s)
+pub waiting-more : (s : StreamState) (n : ℕ) → bytes_to_send 256 (record s { given = s.given + n }) ≡ drop n (bytes_to_send 256 s)
 waiting-more s n = by s.bad
   where
     by : (bad : Option ℕ) → (if is_some bad then [] else drop (s.given + n) (bytes_of 256 s)) ≡ drop n (if is_some bad then [] else drop s.given (bytes_of 256 s))

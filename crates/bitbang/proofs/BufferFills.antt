@@ -8,7 +8,7 @@ use borrow.Rule.Slice.PartMut.{put_mid}
 use Rattle.bitbang_table.specs.declared.Cycle.{Cycle}
 use Rattle.bitbang.specs.declared.begun.Begun.{Begun}
 use Rattle.bitbang.specs.Left.{Fills, bytes_left, bytes_of, bytes_of_cycle, closing, rest}
-use Rattle.bitbang.proofs.Left.{bytes_more, later_left, length-bytes}
+use Rattle.bitbang.proofs.CycleBytes.{bytes_more, later_left, length-bytes}
 
 -- ---- the front of a list
 

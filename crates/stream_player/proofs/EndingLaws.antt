@@ -19,14 +19,14 @@ use Rattle.every_schedule.proofs.Quits.{has_quit, quit-append, turns-no-quit}
 use Rattle.stream_player.specs.declared.progress.Phase.{Phase}
 use Rattle.stream_player.specs.declared.progress.Phase.TheVariants.{Opening, Within, Over}
 use Rattle.stream_player.specs.declared.progress.Progress.{Progress}
-use Rattle.stream_player.specs.Progress.{IsOver, IsReady, Stands, gone, is_out, mismatch, one, present, rest_of, standing, state_of}
+use Rattle.stream_player.specs.Progress.{IsOver, IsReady, Stands, gone, is_out, mismatch, one, present, rest_of, standing_at, state_of}
 use Rattle.stream_player.specs.Standing.{Standing, found, state_at}
 use Rattle.stream_player.proofs.Ahead.{ahead}
 use Rattle.stream_player.proofs.Ends.{command-here, ends, quits, quits-behind, works-in, works-past-all, works-stopped}
-use Rattle.stream_player.proofs.Here.{IsIn, no-quit, quit-of, reached}
+use Rattle.stream_player.proofs.TurnPlaces.{IsIn, no-quit, quit-of, reached}
 use Rattle.stream_player.proofs.Pieced.{fair-end, first, gone-end, is-over, none-of, opened, start, stops-is, turns-end}
 use Rattle.stream_player.proofs.Steps.{cut, same-first}
-use Rattle.stream_player.proofs.Within.{gone-is, in-opening, in-step, is-in, later, no-elements, opens, turn, within}
+use Rattle.stream_player.proofs.PlayerPlaces.{gone-is, in-opening, in-step, is-in, later, no-elements, opens, turn, within}
 
 module _ (program : Program) (p : Progress) (out : Bool) (is : p.phase ≡ Over out) (stands : Stands program.steps p) where
   one-out : has_quit (take (one out) (Quit ∷ [])) ≡ out
@@ -36,20 +36,20 @@ module _ (program : Program) (p : Progress) (out : Bool) (is : p.phase ≡ Over 
       by true = refl
       by false = refl
 
-  quit-out : has_quit (take (gone (drop p.at program.steps) p) (ahead program (standing program.steps p) (fair-end program p out is stands))) ≡ out
+  quit-out : has_quit (take (gone (drop p.at program.steps) p) (ahead program (standing_at program.steps p) (fair-end program p out is stands))) ≡ out
   quit-out = by (is_some p.failed) refl
     where
       i : IsOver (drop p.at program.steps) p
       i = is-over program p out is stands
 
       by : (b : Bool) → is_some p.failed ≡ b
-          → has_quit (take (gone (drop p.at program.steps) p) (ahead program (standing program.steps p) (fair-end program p out is stands))) ≡ out
+          → has_quit (take (gone (drop p.at program.steps) p) (ahead program (standing_at program.steps p) (fair-end program p out is stands))) ≡ out
       by false e =
           let none = i.passed (none-of p.failed e) in
           let nothing = turns-end program p out is stands ∙ ap (step_turns p.place) none.0 in
           let g : gone (drop p.at program.steps) p ≡ one out =
           gone-end program p out is stands ∙ ap (λ (l : List Numbered). present p.place l + one out) none.0 ∙ omega arith in
-          (λ k. has_quit (take (g k) (quits program (standing program.steps p) (fair-end program p out is stands) nothing k))) ∙ one-out
+          (λ k. has_quit (take (g k) (quits program (standing_at program.steps p) (fair-end program p out is stands) nothing k))) ∙ one-out
       by true e =
           let some = i.stopped e in
           let ms = step_messages p.place some.0.what in
@@ -58,7 +58,7 @@ module _ (program : Program) (p : Progress) (out : Bool) (is : p.phase ≡ Over 
           let here = turns-end program p out is stands ∙ ap (step_turns p.place) some.2 in
           let g : gone (drop p.at program.steps) p ≡ length ms + one out =
           gone-end program p out is stands ∙ ap (λ (l : List Numbered). present p.place l + one out) some.2 in
-          (λ k. has_quit (take (g k) (quits-behind program (standing program.steps p) (fair-end program p out is stands) t rest here some.3
+          (λ k. has_quit (take (g k) (quits-behind program (standing_at program.steps p) (fair-end program p out is stands) t rest here some.3
           (stops-is program p out is stands true e) k)))
           ∙ ap has_quit (take-append-add ms (Quit ∷ []) (one out))
           ∙ quit-append ms (take (one out) (Quit ∷ []))
@@ -72,36 +72,36 @@ module _ (program : Program) (p : Progress) (out : Bool) (is : p.phase ≡ Over 
 
       by : (b : Bool) → is_some p.failed ≡ b → stream.working (state_of program p) ≡ suc program.statements
       by false e =
-          works-past-all program (standing program.steps p) (fair-end program p out is stands)
+          works-past-all program (standing_at program.steps p) (fair-end program p out is stands)
           (turns-end program p out is stands ∙ ap (step_turns p.place) (i.passed (none-of p.failed e)).0)
       by true e =
           let some = i.stopped e in
           let ms = step_messages p.place some.0.what in
           let t : Turn = record { command = some.0.number; messages = ms; wants = wants_of some.0.what } in
-          works-stopped program (standing program.steps p) (fair-end program p out is stands) t (step_turns (place_after p.place some.0.what) some.1)
+          works-stopped program (standing_at program.steps p) (fair-end program p out is stands) t (step_turns (place_after p.place some.0.what) some.1)
           (turns-end program p out is stands ∙ ap (step_turns p.place) some.2)
           (omega (arith, gone-end program p out is stands, ap (present p.place) some.2)) some.3 (stops-is program p out is stands true e)
 
 -- how it ends where no answer was bad
-pub ended-good : (program : Program) (p : Progress) → Stands program.steps p → p.bad ≡ None → stream.ended 256 (state_of program p)
+pub ended-good : (program : Program) (p : Progress) → Stands program.steps p → p.bad ≡ None → stream.ending_of_stream 256 (state_of program p)
     ≡ (if is_out p.phase then Some (ending_of (found (option_map mismatch p.failed)).list) else None)
 ended-good program p stands good = by p.phase refl
   where
-    by : (phase : Phase) → p.phase ≡ phase → stream.ended 256 (state_of program p) ≡ (if is_out phase then Some (ending_of (found (option_map mismatch p.failed)).list) else None)
+    by : (phase : Phase) → p.phase ≡ phase → stream.ending_of_stream 256 (state_of program p) ≡ (if is_out phase then Some (ending_of (found (option_map mismatch p.failed)).list) else None)
     by (Opening n) is =
         let s = start program p n is stands in
         let i = opened program p n is stands in
-        ap (stream.ended 256) (opens program p n is stands)
+        ap (stream.ending_of_stream 256) (opens program p n is stands)
         ∙ ends program s i.fair refl
         ∙ ap (λ (b : Bool). if b then Some (ending_of (found s.failed).list) else None) (no-quit program s (first program p n is stands) (step_turns Reset program.steps) 0 i)
     by (Within spot) is =
-        let s = standing program.steps p in
+        let s = standing_at program.steps p in
         let i = is-in program p spot is stands in
         ends program s i.fair good
         ∙ ap (λ (b : Bool). if b then Some (ending_of (found s.failed).list) else None)
         (no-quit program s (turn program p spot is stands) (later program p spot is stands) p.owed i)
     by (Over out) is =
-        let s = standing program.steps p in
+        let s = standing_at program.steps p in
         ends program s (fair-end program p out is stands) good
         ∙ ap (λ (b : Bool). if b then Some (ending_of (found s.failed).list) else None) (quit-out program p out is stands)
 
@@ -116,12 +116,12 @@ module _ (program : Program) (p : Progress) (spot : Spot) (is : p.phase ≡ With
   some-owed some = omega (
     arith,
     some,
-    reached program (standing program.steps p) (turn program p spot is stands) (later program p spot is stands) p.owed (is-in program p spot is stands),
+    reached program (standing_at program.steps p) (turn program p spot is stands) (later program p spot is stands) p.owed (is-in program p spot is stands),
   )
 
   pub works-within : (rest_of p.place (drop p.at program.steps) spot ≡ [] → 0 < p.owed) → stream.working (state_of program p) ≡ s.number
   works-within ready =
-      works-in program (standing program.steps p) (is-in program p spot is stands).fair (turn program p spot is stands) (later program p spot is stands)
+      works-in program (standing_at program.steps p) (is-in program p spot is stands).fair (turn program p spot is stands) (later program p spot is stands)
       (is-in program p spot is stands).here (by (length (rest_of p.place (drop p.at program.steps) spot)) refl)
       ∙ ap (λ (x : Numbered). x.number) (sym same)
     where
@@ -130,20 +130,20 @@ module _ (program : Program) (p : Progress) (spot : Spot) (is : p.phase ≡ With
       by zero e = inr (some-owed (ready (no-elements (rest_of p.place (drop p.at program.steps) spot) e)))
       by (suc n) e = inl (omega (arith, e, gone-is program p spot is stands, within program p spot is stands))
 
-  pub bad-within : (byte : ℕ) → p.bad ≡ Some byte → stream.ended 256 (state_of program p) ≡ Some (BadAnswer s.number byte)
+  pub bad-within : (byte : ℕ) → p.bad ≡ Some byte → stream.ending_of_stream 256 (state_of program p) ≡ Some (BadAnswer s.number byte)
   bad-within byte e =
       let some : 0 < p.owed = (in-step program p spot is stands).bad (ap is_some e) in
       (λ k. elim (e k) [
-        | Some b ↦ Some (BadAnswer (command-here program (standing program.steps p) (turn program p spot is stands) (later program p spot is stands)
+        | Some b ↦ Some (BadAnswer (command-here program (standing_at program.steps p) (turn program p spot is stands) (later program p spot is stands)
             (is-in program p spot is stands).here (some-owed some) k) b)
-        | None ↦ stream.ended 256 (record (state_of program p) { bad = None })
+        | None ↦ stream.ending_of_stream 256 (record (state_of program p) { bad = None })
       ]) ∙ ap (λ (x : Numbered). Some (BadAnswer x.number byte)) (sym same)
 
 pub ended-bad : (program : Program) (p : Progress) → Stands program.steps p → (s : Numbered) → slice_get program.steps p.at ≡ Some s → (byte : ℕ)
-    → p.bad ≡ Some byte → stream.ended 256 (state_of program p) ≡ Some (BadAnswer s.number byte)
+    → p.bad ≡ Some byte → stream.ending_of_stream 256 (state_of program p) ≡ Some (BadAnswer s.number byte)
 ended-bad program p stands s first_is byte e = by p.phase refl
   where
-    by : (phase : Phase) → p.phase ≡ phase → stream.ended 256 (state_of program p) ≡ Some (BadAnswer s.number byte)
+    by : (phase : Phase) → p.phase ≡ phase → stream.ending_of_stream 256 (state_of program p) ≡ Some (BadAnswer s.number byte)
     by (Opening n) is = let clash : None ≡ Some byte = sym (in-opening program p n is stands).bad ∙ e in absurd (cc)
     by (Within spot) is = bad-within program p spot is stands s first_is byte e
     by (Over out) is = let clash : None ≡ Some byte = sym (is-over program p out is stands).bad ∙ e in absurd (cc)

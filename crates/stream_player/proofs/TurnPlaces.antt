@@ -123,13 +123,13 @@ module _ (program : Program) (s : Standing) (t : Turn) (later : List Turn) (owed
   pub owed-is : s.bad ≡ None → stream.owed 256 (state_at program s) ≡ owed
   owed-is none = owes program s i.fair none ∙ ap (λ (l : List Message). asks l - s.heard) out-of ∙ omega (arith, i.asked)
 
-  pub waits-so : s.bad ≡ None → Waits (stream.waiting 256 (state_at program s)) (map encode (drop s.gone t.messages)) owed
+  pub waits-so : s.bad ≡ None → Waits (stream.bytes_to_send 256 (state_at program s)) (map encode (drop s.gone t.messages)) owed
   waits-so none = by heard-or-not
     where
-      W : stream.waiting 256 (state_at program s) ≡ map encode (drop s.gone (ahead program s i.fair))
+      W : stream.bytes_to_send 256 (state_at program s) ≡ map encode (drop s.gone (ahead program s i.fair))
       W = waits program s i.fair none
 
-      by : (s.heard < length t.wants) ⊎ (s.heard ≡ length t.wants) → Waits (stream.waiting 256 (state_at program s)) (map encode (drop s.gone t.messages)) owed
+      by : (s.heard < length t.wants) ⊎ (s.heard ≡ length t.wants) → Waits (stream.bytes_to_send 256 (state_at program s)) (map encode (drop s.gone t.messages)) owed
       by (inl lt) =
           let left : s.heard + 256 - asks (take s.gone t.messages) ≡ 256 - owed = omega (arith, i.asked) in
           let is : map encode (drop s.gone (ahead program s i.fair)) ≡ up_to_reads (map encode (drop s.gone t.messages)) (256 - owed) =

@@ -6,7 +6,7 @@ use Rattle.jt_tap.specs.declared.State.TheVariants.{Reset, Idle, DrSelect, DrCap
 use Rattle.jt_tap.specs.declared.Work.{Work}
 use Rattle.jt_tap.specs.declared.Work.TheVariants.{Resets, Captures, Shifts, Updates, Waits}
 use Rattle.jt_tap.specs.Controller.{next, work, entered_by, is_stable}
-use Rattle.scan_registers.specs.Edges.{risen, fallen, tdo_after}
+use Rattle.scan_registers.specs.Edges.{after_rise, after_fall, tdo_after}
 use Rattle.board_meaning.specs.Cells.{Member, surroundings}
 use Rattle.bsdl_device.specs.Device.{Device}
 use Rattle.scan_registers.specs.Registers.{Registers}
@@ -16,8 +16,8 @@ use Rattle.board_meaning.specs.Chain.{hear}
 use Rattle.board_meaning.specs.Whole.{AtRest, arrive, capture_all, settle, update_member, reset_member}
 use Rattle.tap_paths.specs.Paths.{go, last_of}
 use Rattle.bitbang_table.specs.Cycles.{walk, closed}
-use Rattle.board_meaning.specs.Resting.{resting, standing}
-use Rattle.board_meaning.proofs.Low.{low, lowered, Free, given, risen_one, risen_all, fallen_one, cycled, Ran, ran, heard_of, hear-tail}
+use Rattle.board_meaning.specs.Resting.{board_at_rest, chip_at_rest}
+use Rattle.board_meaning.proofs.OneCycle.{low, lowered, Free, given, risen_one, risen_all, fallen_one, cycled, Ran, ran, heard_of, hear-tail}
 
 -- the devices after a rising edge with this work to do, no shift
 abbrev pub rise_whole : Work → List Net → List Member → List Member
@@ -40,7 +40,7 @@ rise_by (Captures column) sight k ms = capture_all column sight k ms
 rise_by _ sight k ms = ms
 
 rise-one : (w : Work) (tdi : Bool) (sight : ℕ → ℕ → Bool) (k : ℕ) (m : Member) (ms : List Member) → is_shift w ≡ false
-    → record m { registers = risen w m.device (surroundings (sight k) m) tdi m.registers } ∷ rise_by w sight (suc k) ms ≡ rise_by w sight k (m ∷ ms)
+    → record m { registers = after_rise w m.device (surroundings (sight k) m) tdi m.registers } ∷ rise_by w sight (suc k) ms ≡ rise_by w sight k (m ∷ ms)
 rise-one Resets tdi sight k m ms quiet = refl
 rise-one (Captures column) tdi sight k m ms quiet = refl
 rise-one (Shifts column) tdi sight k m ms quiet = absurd (cc)
@@ -69,7 +69,7 @@ risen-whole (Updates column) nets ms = refl
 risen-whole Waits nets ms = refl
 
 fall-one : (w : Work) (m : Member) (ms : List Member)
-    → record m { registers = fallen w m.device (surroundings (λ p. true) m) m.registers } ∷ fall_whole w ms ≡ fall_whole w (m ∷ ms)
+    → record m { registers = after_fall w m.device (surroundings (λ p. true) m) m.registers } ∷ fall_whole w ms ≡ fall_whole w (m ∷ ms)
 fall-one Resets m ms = refl
 fall-one (Captures column) m ms = refl
 fall-one (Shifts column) m ms = refl
@@ -124,7 +124,7 @@ tdo-quiet (Updates column) d r quiet = refl
 tdo-quiet Waits d r quiet = refl
 
 -- outside Shift a falling edge leaves TDO undriven
-pub lowered-standing : (s : State) (ms : List Member) → is_shift (work s) ≡ false → map (lowered s) ms ≡ map (standing s) ms
+pub lowered-standing : (s : State) (ms : List Member) → is_shift (work s) ≡ false → map (lowered s) ms ≡ map (chip_at_rest s) ms
 lowered-standing s [] quiet = refl
 lowered-standing s (m ∷ ms) quiet =
     λ i. record { member = m; state = s; tdo = tdo-quiet (work s) m.device m.registers quiet i } ∷ lowered-standing s ms quiet i
@@ -133,7 +133,7 @@ abbrev pub at_rest : State → Bool → List Net → List Member → AtRest
 at_rest s trst nets ms = record { place = s; trst = trst; nets = nets; members = ms }
 
 pub low-resting : (s : State) (trst : Bool) (nets : List Net) (ms : List Member) → is_shift (work s) ≡ false
-    → low s trst nets ms ≡ resting (at_rest s trst nets ms)
+    → low s trst nets ms ≡ board_at_rest (at_rest s trst nets ms)
 low-resting s trst nets ms quiet = λ i. record { tck = false; trst = trst; nets = nets; chips = lowered-standing s ms quiet i }
 
 pub stable-quiet : (s : State) → is_stable s ≡ true → is_shift (work s) ≡ false
@@ -192,8 +192,8 @@ closed-walk (t ∷ path) s trst nets ms legal free =
 
 -- From rest, a STATE step's bytes settle and arrive.
 pub go-law : (from to : State) (trst : Bool) (nets : List Net) (ms : List Member) → is_stable from ≡ true → is_stable to ≡ true → Free trst ms
-    → hear (closed (map walk (go from to))) (resting (at_rest from trst nets ms))
-    ≡ record { answers = []; board = resting (arrive to (settle (at_rest from trst nets ms))) }
+    → hear (closed (map walk (go from to))) (board_at_rest (at_rest from trst nets ms))
+    ≡ record { answers = []; board = board_at_rest (arrive to (settle (at_rest from trst nets ms))) }
 go-law from to trst nets ms sf st free =
     let move = default-path from to sf st in
     let after = walked nets from (go from to) ms in
@@ -201,4 +201,4 @@ go-law from to trst nets ms sf st free =
     ∙ closed-walk (go from to) from trst nets ms move.walk free
     ∙ (λ i. record { answers = []; board = low (move.ends i) trst nets after })
     ∙ (λ i. record { answers = []; board = low-resting to trst nets after (stable-quiet to st) i })
-    ∙ (λ i. record { answers = []; board = resting (move.effect trst nets ms i) })
+    ∙ (λ i. record { answers = []; board = board_at_rest (move.effect trst nets ms i) })

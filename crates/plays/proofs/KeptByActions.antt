@@ -13,15 +13,15 @@ use Rattle.board_meaning.specs.Cells.{Member}
 use Rattle.pin_nets.specs.Wired.{Net}
 use Rattle.board_meaning.specs.Nets.{sees}
 use Rattle.board_meaning.specs.Chain.{is_held}
-use Rattle.board_meaning.specs.Whole.{AtRest, chosen_of, joined, cut_back, capture_all, update_member, reset_member, capture, shift, update, settle, arrive, pass, along}
+use Rattle.board_meaning.specs.Whole.{AtRest, selected_bits_of, joined_bits, cut_back, capture_all, update_member, reset_member, capture, shift, update, settle, arrive, pass, along}
 use Rattle.plays.specs.Meaning.{scan_end, move_to, move_unless_there}
 use Rattle.tap_paths.specs.Paths.{last_of}
 use Rattle.board_meaning.specs.Resting.{IsRest}
-use Rattle.board_meaning.proofs.Low.{Free}
-use Rattle.board_meaning.proofs.Moves.{at_rest}
+use Rattle.board_meaning.proofs.OneCycle.{Free}
+use Rattle.board_meaning.proofs.Walks.{at_rest}
 use Rattle.board_meaning.specs.Sound.{AllSound}
 use Rattle.board_meaning.proofs.Sound.{Sound-capture_all, Sound-cut_back, Sound-update, Sound-reset}
-use Rattle.plays.proofs.Trips.{StaysReset, reset-all-twice}
+use Rattle.plays.proofs.PathsAndRuns.{StaysReset, reset-all-twice}
 
 -- sound devices, none of them held by TRST, and so many
 pub record IsReady (trst : Bool) (n : ℕ) (ms : List Member) : Type 0 where
@@ -43,11 +43,11 @@ count-capture_all column sight k (m ∷ ms) = ap (λ n. suc n) (count-capture_al
 
 free-cut_back : (trst : Bool) (column : Column) (bits : List Bool) (ms : List Member) → Free trst ms → Free trst (cut_back column bits ms)
 free-cut_back trst column bits [] free = tt
-free-cut_back trst column bits (m ∷ ms) free = (free.0, free-cut_back trst column (drop (length (chosen_of column m)) bits) ms free.1)
+free-cut_back trst column bits (m ∷ ms) free = (free.0, free-cut_back trst column (drop (length (selected_bits_of column m)) bits) ms free.1)
 
 count-cut_back : (column : Column) (bits : List Bool) (ms : List Member) → length (cut_back column bits ms) ≡ length ms
 count-cut_back column bits [] = refl
-count-cut_back column bits (m ∷ ms) = ap (λ n. suc n) (count-cut_back column (drop (length (chosen_of column m)) bits) ms)
+count-cut_back column bits (m ∷ ms) = ap (λ n. suc n) (count-cut_back column (drop (length (selected_bits_of column m)) bits) ms)
 
 free-update : (trst : Bool) (column : Column) (ms : List Member) → Free trst ms → Free trst (map (update_member column) ms)
 free-update trst column [] free = tt
@@ -73,9 +73,9 @@ ready-capture column n m ready = record {
 
 ready-shift : (column : Column) (t : List Bool) (n : ℕ) (m : AtRest) → Ready n m → Ready n (shift column t m)
 ready-shift column t n m ready =
-    let line = drop (length t) (joined column m.members ++ t) in
+    let line = drop (length t) (joined_bits column m.members ++ t) in
     record {
-      sound = Sound-cut_back column line m.members ready.sound (shifted-length t (joined column m.members));
+      sound = Sound-cut_back column line m.members ready.sound (shifted-length t (joined_bits column m.members));
       free = free-cut_back m.trst column line m.members ready.free;
       count = count-cut_back column line m.members ∙ ready.count;
     }
