@@ -14,7 +14,7 @@ use Rattle.scan_registers.specs.declared.Mode.TheVariants.{Extest, Clamp, HighZ}
 use Rattle.pin_nets.specs.declared.Drive.{Drive}
 use Rattle.pin_nets.specs.declared.Drive.TheVariants.{Strong, Weak, Nothing}
 
--- a boundary register on the board; `seen` is what the port of each cell sees
+-- a boundary register on the board; `seen` is what each cell was last told that its port sees
 pub record BoundaryValue : Type 0 where
   pub cells : List Cell
   pub core : List Bool
@@ -31,7 +31,8 @@ abbrev pub takes_update : Bool → Mode → Bool
 takes_update extest_update Extest = extest_update
 takes_update extest_update _ = false
 
--- What one cell captures: an input what its port sees, any other its core bit or, as above, its update bit.
+-- What one cell captures: an input, clock, observe-only or bidirectional cell what its port sees, an internal cell its
+-- core bit, an output or control its core bit or, as above, its update bit.
 abbrev pub cell_captures : (seen from_update update core : Bool) → Option ℕ → Function → Bool
 cell_captures s from_update u c (Some p) Input = s
 cell_captures s from_update u c (Some p) Clock = s

@@ -14,7 +14,8 @@ use scan_registers::{Mode, Register, SharedDevice};
 use std::alloc::{AllocError, Global};
 use std::marker::Model;
 
-/// The cells of a device with what their ports see, their core's bits, and the two lists of the register.
+/// The cells of a device with what each was last told that its port sees, their core's bits, and the two lists of the
+/// register.
 #[derive(Drop)]
 pub struct Boundary {
     device: SharedDevice,
