@@ -7,9 +7,9 @@ use Rattle.bsdl_device.specs.declared.Cell.{Cell}
 use Rattle.bsdl_device.specs.declared.Function.{Function}
 use Rattle.bsdl_device.specs.declared.Function.TheVariants.{Input, Clock, ObserveOnly, Bidir, Output2, Output3, Control, ControlR, Internal}
 use Rattle.boundary.specs.Cells.{bit, cell_captures, capture_from}
-use Rattle.boundary.specs.Sight.{cell_by_sight, capture_by_sight, Told}
+use Rattle.boundary.specs.Sight.{capture_by_sight, seen_at, Told}
 
-one_cell : (sees : ℕ → Bool) (s f u c : Bool) (port : Option ℕ) (function : Function) → ((p : ℕ) → port ≡ Some p → s ≡ sees p) → cell_captures s f u c port function ≡ cell_by_sight sees f u c port function
+one_cell : (sees : ℕ → Bool) (s f u c : Bool) (port : Option ℕ) (function : Function) → ((p : ℕ) → port ≡ Some p → s ≡ sees p) → cell_captures s f u c port function ≡ cell_captures (seen_at sees port) f u c port function
 one_cell sees s f u c (Some p) Input told = told p refl
 one_cell sees s f u c (Some p) Clock told = told p refl
 one_cell sees s f u c (Some p) ObserveOnly told = told p refl
@@ -45,5 +45,5 @@ captured_by_sight sees f update core k (c ∷ cs) (s ∷ seen) ls lu lc told =
     ap (λ (us : List Bool). capture_from (c ∷ cs) (s ∷ seen) f us (drop k core)) u_is
     ∙ ap (λ (xs : List Bool). capture_from (c ∷ cs) (s ∷ seen) f (bit update k ∷ drop (suc k) update) xs) c_is
     ∙ ap (λ (b : Bool). b ∷ capture_from cs seen f (drop (suc k) update) (drop (suc k) core)) (one_cell sees s f (bit update k) (bit core k) c.port c.function told.0)
-    ∙ ap (λ (r : List Bool). cell_by_sight sees f (bit update k) (bit core k) c.port c.function ∷ r)
+    ∙ ap (λ (r : List Bool). cell_captures (seen_at sees c.port) f (bit update k) (bit core k) c.port c.function ∷ r)
     (captured_by_sight sees f update core (suc k) cs seen (omega arith) (omega (arith, length-drop k update, length-drop (suc k) update)) (omega (arith, length-drop k core, length-drop (suc k) core)) told.1)
