@@ -23,9 +23,9 @@ use Rattle.board_file.specs.View.{member as planned_member, net as planned_net}
 use Rattle.board_file.specs.declared.plan.PlannedNet.{PlannedNet}
 use Rattle.board_file.specs.declared.plan.PlannedDevice.{PlannedDevice}
 use Rattle.board_meaning.specs.Chain.{ChipState}
-use Rattle.board_meaning.specs.Nets.{pin_drive}
+use Rattle.board_meaning.specs.Nets.{has_pin, pin_drive}
 use Rattle.board_meaning.specs.Resting.{chip_at_rest}
-use Rattle.chip_chain.specs.Building.{EntersNet, HasNets, PortsFit, has_pin, net_by, seat_of, seats_of}
+use Rattle.chip_chain.specs.Building.{EntersNet, HasNets, PortsFit, net_by, seat_of, seats_of}
 use Rattle.chip_chain.specs.Chains.{powered_up}
 use Rattle.chip_chain.specs.Seats.{AllTold, SeatValue, cell_net, chip_state, first_net, member_of}
 use Rattle.chip_chain.specs.Wires.{AreSeated, AreWired, IsWired, WiringValue, numbered}

@@ -21,7 +21,8 @@ use Rattle.boundary.proofs.SightLaws.{captured_by_sight}
 use Rattle.board_meaning.specs.Cells.{Member, drive, surroundings}
 use Rattle.board_meaning.specs.Chain as chain
 use Rattle.board_meaning.specs.Chain.{ChipState}
-use Rattle.chip_chain.specs.AtRest.{IsSightedFor, as_member, capture_member}
+use Rattle.board_meaning.specs.Whole.{capture_member}
+use Rattle.chip_chain.specs.AtRest.{IsSightedFor, as_member}
 use Rattle.chip_chain.specs.Seats.{IsSighted, SeatValue, captures_boundary, changes_drives, chip_state, member_of}
 
 -- a device of the meaning, by the device alone
