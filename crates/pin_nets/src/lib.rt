@@ -20,11 +20,16 @@ pub enum Drive {
     Nothing,
 }
 
+/// The level of a net, by its strong drivers, and by its weak ones where there is no strong one.
 #[derive(Debug, Clone, Copy, PartialEq, Eq)]
 pub enum Level {
+    /// Drivers of 0 alone.
     Zero,
+    /// Drivers of 1 alone.
     One,
+    /// Drivers of 0 and of 1, equally strong; a port reads 0.
     Contend,
+    /// No driver; a port reads 1.
     Float,
 }
 
@@ -51,10 +56,14 @@ const NO_DRIVER: Counts = Counts {
     weak_ones: 0,
 };
 
+/// The pull of a net, a weak driver.
 #[derive(Debug, Clone, Copy, PartialEq, Eq)]
 pub enum Pull {
+    /// Towards 1.
     Up,
+    /// Towards 0.
     Down,
+    /// None.
     Free,
 }
 

@@ -14,9 +14,13 @@ use jt_bits::Bits;
 /// The list that an identification or user register's capture is fixed to, as a place of the description.
 #[derive(Debug, Clone, Copy, PartialEq, Eq)]
 pub enum Fixed {
+    /// Nothing fixed.
     Free,
+    /// The identification code.
     Idcode,
+    /// The user code.
     Usercode,
+    /// What stands behind CAPTURES in this row of REGISTER_ACCESS, if anything does.
     Access(usize),
 }
 
