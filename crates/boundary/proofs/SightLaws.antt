@@ -7,7 +7,7 @@ use Rattle.bsdl_device.specs.declared.Cell.{Cell}
 use Rattle.bsdl_device.specs.declared.Function.{Function}
 use Rattle.bsdl_device.specs.declared.Function.TheVariants.{Input, Clock, ObserveOnly, Bidir, Output2, Output3, Control, ControlR, Internal}
 use Rattle.boundary.specs.Cells.{bit, cell_captures, capture_from}
-use Rattle.boundary.specs.Sight.{capture_by_sight, seen_at, Told}
+use Rattle.boundary.specs.Sight.{capture_by_sight, seen_at, SeesItsPorts}
 
 one_cell : (sees : ℕ → Bool) (s f u c : Bool) (port : Option ℕ) (function : Function) → ((p : ℕ) → port ≡ Some p → s ≡ sees p) → cell_captures s f u c port function ≡ cell_captures (seen_at sees port) f u c port function
 one_cell sees s f u c (Some p) Input told = told p refl
@@ -33,7 +33,7 @@ bit_here : (bits : List Bool) (k : ℕ) → k < length bits → drop k bits ≡ 
 bit_here bits k h = drop-cons bits k false h ∙ ap (λ (b : Bool). b ∷ drop (suc k) bits) (sym (unwrap_or-slice_get bits k false))
 
 pub captured_by_sight : (sees : ℕ → Bool) (f : Bool) (update core : List Bool) (k : ℕ) (cells : List Cell) (seen : List Bool) → length seen ≡ length cells → length (drop k update) ≡ length cells → length (drop k core) ≡ length cells
-    → Told sees cells seen → capture_from cells seen f (drop k update) (drop k core) ≡ capture_by_sight sees f update core k cells
+    → SeesItsPorts sees cells seen → capture_from cells seen f (drop k update) (drop k core) ≡ capture_by_sight sees f update core k cells
 captured_by_sight sees f update core k [] [] ls lu lc told = refl
 captured_by_sight sees f update core k [] (s ∷ seen) ls lu lc told = absurd (omega arith)
 captured_by_sight sees f update core k (c ∷ cs) [] ls lu lc told = absurd (omega arith)

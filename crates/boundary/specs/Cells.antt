@@ -129,20 +129,20 @@ pub record AreDrivers (cells : List Cell) (table : List (Option ℕ)) : Type 0 w
   pub each : (p : ℕ) → p < length table → slice_index_or table p None ≡ driver_from p 0 cells
 
 -- cell k is entered at its port, if it drives one of these
-pub record Entered (old new : List (Option ℕ)) (k : ℕ) (c : Cell) : Type 0 where
+pub record EntersDriver (old new : List (Option ℕ)) (k : ℕ) (c : Cell) : Type 0 where
   pub long : length new ≡ length old
   pub each : (p : ℕ) → p < length old
       → slice_index_or new p None
       ≡ (if drives c.function && is_port p c.port then Some k else slice_index_or old p None)
 
 -- what a port bit drives whose driving cell is this one
-abbrev pub driven : List Bool → Option ℕ → List Cell → Drive
-driven bits None cells = Nothing
-driven bits (Some k) cells = elim (slice_get cells k) [ None ↦ Nothing | Some c ↦ cell_drive bits k c.control ]
+abbrev pub drive_of_driver : List Bool → Option ℕ → List Cell → Drive
+drive_of_driver bits None cells = Nothing
+drive_of_driver bits (Some k) cells = elim (slice_get cells k) [ None ↦ Nothing | Some c ↦ cell_drive bits k c.control ]
 
 abbrev pub driven_in : Mode → List Cell → (update core : List Bool) → Option ℕ → Drive
 driven_in HighZ cells update core driver = Nothing
-driven_in mode cells update core driver = driven (in_force mode update core) driver cells
+driven_in mode cells update core driver = drive_of_driver (in_force mode update core) driver cells
 
 -- A port bit's drive is that of its driving cell.
 abbrev pub DrivenByCell : Type 0

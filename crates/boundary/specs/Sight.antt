@@ -17,13 +17,13 @@ capture_by_sight sees from_update update core k (c ∷ cs) =
     ∷ capture_by_sight sees from_update update core (suc k) cs
 
 -- each cell with a port was told what its port sees
-abbrev pub Told : (ℕ → Bool) → List Cell → List Bool → Type 0
-Told sees (c ∷ cs) (s ∷ seen) = ((p : ℕ) → c.port ≡ Some p → s ≡ sees p) × Told sees cs seen
-Told sees _ _ = Unit {0}
+abbrev pub SeesItsPorts : (ℕ → Bool) → List Cell → List Bool → Type 0
+SeesItsPorts sees (c ∷ cs) (s ∷ seen) = ((p : ℕ) → c.port ≡ Some p → s ≡ sees p) × SeesItsPorts sees cs seen
+SeesItsPorts sees _ _ = Unit {0}
 
 -- the law: with every cell told, and all lists of the cells' number
 abbrev pub CapturesBySight : Type 0
 CapturesBySight = (sees : ℕ → Bool) (b : BoundaryValue) (mode : Mode) → length b.seen ≡ length b.cells
     → length b.update ≡ length b.cells → length b.core ≡ length b.cells
-    → Told sees b.cells b.seen
+    → SeesItsPorts sees b.cells b.seen
     → captured_bits b mode ≡ capture_by_sight sees (takes_update b.extest_update mode) b.update b.core 0 b.cells

@@ -4,7 +4,7 @@
 
 ghost use Rattle.std.specs.Prelude.{◌≡◌, ◌<◌, ℕ, List, Bool, length, slice_get, IfOk};
 ghost use Rattle.boundary.specs.Cells as cells;
-ghost use Rattle.boundary.specs.Cells.{AreDrivers, BoundaryValue, DrivenByCell, Entered, IsWhole};
+ghost use Rattle.boundary.specs.Cells.{AreDrivers, BoundaryValue, DrivenByCell, EntersDriver, IsWhole};
 ghost use Rattle.boundary.specs.Sight.{CapturesBySight};
 
 use bsdl_device::{Cell, Control3, Disabled, Function};
@@ -302,7 +302,7 @@ impl Boundary {
 
 /// What the driving cell drives under the bits in force.
 fn driven(list: &[Cell], bits: &Bits, driver: Option<usize>) -> Drive
-    ensures { result ≡ cells.driven bits.now driver list.now }
+    ensures { result ≡ cells.drive_of_driver bits.now driver list.now }
 {
     match driver {
         None => Drive::Nothing,
@@ -334,7 +334,7 @@ pub fn drivers(alloc: Global, list: &[Cell], ports: usize) -> Result<Vec<Option<
 
 /// Cell `k` drives its port, if it drives.
 fn enter_driver(table: &mut [Option<usize>], k: usize, cell: Cell)
-    ensures { Entered table.old table.new k cell }
+    ensures { EntersDriver table.old table.new k cell }
 {
     if let Some(port) = cell.port {
         if drives(cell.function) && port < table.len() {

@@ -9,11 +9,12 @@ use Rattle.scan_registers.specs.Chips.{IsPut}
 use Rattle.scan_registers.specs.Instruction.{meaning}
 use Rattle.scan_registers.specs.Puts.{put_both, put_nothing}
 use Rattle.boundary.specs.Cells.{BoundaryValue, IsWhole}
-use Rattle.boundary.specs.Sight.{Told}
+use Rattle.boundary.specs.Sight.{SeesItsPorts}
 use Rattle.board_meaning.specs.Cells.{Member}
 use Rattle.board_meaning.specs.Chain.{ChipState}
 use Rattle.board_meaning.specs.Resting.{chip_at_rest}
-use Rattle.board_meaning.specs.Whole.{capture_member, selected_bits_of, cut_back, joined_bits, settled_member, trst_member}
+use Rattle.board_meaning.specs.Whole.{capture_member, selected_bits_of, cut_back, joined_bits, settled_member}
+use Rattle.board_meaning.specs.Whole.{trst_member}
 use Rattle.chip_chain.specs.Chains.{ChainValue}
 use Rattle.chip_chain.specs.Seats.{IsKept, SeatValue, captures_boundary, chip_state, member_of}
 use Rattle.chip_chain.specs.Telling.{IsAt, sight}
@@ -66,7 +67,7 @@ pub record CapturesAt (w : WiringValue) (column : Column) (place : ℕ) (s t : S
 -- if the column's capture is of the boundary register, each cell with a port was told what its port sees
 abbrev pub IsSightedFor : Column → (ℕ → Bool) → SeatValue → Type 0
 IsSightedFor column sees s = captures_boundary (Captures column) (meaning s.chip.device s.chip.latch).selected ≡ true
-    → IsWhole s.chip.boundary × Told sees s.chip.device.cells s.chip.boundary.seen
+    → IsWhole s.chip.boundary × SeesItsPorts sees s.chip.device.cells s.chip.boundary.seen
 
 -- ---- a device as a link
 
