@@ -1,7 +1,8 @@
 -- The boundary cells of a device on the board: what they capture, what a reset gives them, what the pins drive
 -- (IEEE Std 1149.1-2001, clauses 8 and 11, and Annex B for the cell table).
 use Rattle.std.specs.Prelude.{◌≡◌, ◌<◌, Bool, true, false, ◌&&◌, ℕ, suc, ◌==◌, List, [], ◌∷◌, length, replicate}
-use Rattle.std.specs.Prelude.{slice_get, slice_index_or, Option, Some, None, unwrap_or, if◌then◌else◌}
+use Rattle.std.specs.Prelude.{slice_get, slice_index_or, Option, Some, None, if◌then◌else◌}
+use Rattle.jt_bits.specs.Words.{bit_of}
 use Rattle.bsdl_device.specs.declared.Cell.{Cell}
 use Rattle.bsdl_device.specs.declared.Control3.{Control3}
 use Rattle.bsdl_device.specs.declared.Disabled.{Disabled}
@@ -22,9 +23,6 @@ pub record BoundaryValue : Type 0 where
   pub seen : List Bool
   pub stage : List Bool
   pub update : List Bool
-
-abbrev pub bit : List Bool → ℕ → Bool
-bit bits k = unwrap_or (slice_get bits k) false
 
 -- whether a capture takes the update stage: EXTEST on a device whose board file says so
 abbrev pub takes_update : Bool → Mode → Bool
@@ -100,9 +98,9 @@ same_bit false false = true
 
 -- What driving cell k drives under the bits in force: what its control leaves while disabled, else its own bit.
 abbrev pub cell_drive : List Bool → ℕ → Option Control3 → Drive
-cell_drive bits k None = Strong (bit bits k)
+cell_drive bits k None = Strong (bit_of bits k)
 cell_drive bits k (Some t) =
-    if same_bit (bit bits t.cell) t.disabling then left_by t.leaves else Strong (bit bits k)
+    if same_bit (bit_of bits t.cell) t.disabling then left_by t.leaves else Strong (bit_of bits k)
 
 abbrev pub is_port : ℕ → Option ℕ → Bool
 is_port p (Some q) = p == q

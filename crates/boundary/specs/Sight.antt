@@ -1,8 +1,9 @@
 -- The whole boundary's capture by what the ports see, as the board's meaning has it.
 use Rattle.std.specs.Prelude.{◌≡◌, Bool, ℕ, suc, false, List, [], ◌∷◌, length, Option, Some, None}
+use Rattle.jt_bits.specs.Words.{bit_of}
 use Rattle.bsdl_device.specs.declared.Cell.{Cell}
 use Rattle.scan_registers.specs.declared.Mode.{Mode}
-use Rattle.boundary.specs.Cells.{BoundaryValue, bit, captured_bits, cell_captures, takes_update}
+use Rattle.boundary.specs.Cells.{BoundaryValue, captured_bits, cell_captures, takes_update}
 
 -- what the port of a cell sees; a cell without one sees nothing
 abbrev pub seen_at : (ℕ → Bool) → Option ℕ → Bool
@@ -13,7 +14,7 @@ seen_at sees None = false
 abbrev pub capture_by_sight : (ℕ → Bool) → Bool → (update core : List Bool) → ℕ → List Cell → List Bool
 capture_by_sight sees from_update update core k [] = []
 capture_by_sight sees from_update update core k (c ∷ cs) =
-    cell_captures (seen_at sees c.port) from_update (bit update k) (bit core k) c.port c.function
+    cell_captures (seen_at sees c.port) from_update (bit_of update k) (bit_of core k) c.port c.function
     ∷ capture_by_sight sees from_update update core (suc k) cs
 
 -- each cell with a port was told what its port sees

@@ -3,6 +3,7 @@
 #![tactic(auto)]
 
 ghost use Rattle.std.specs.Prelude.{◌≡◌, ◌<◌, ℕ, List, Bool, length, slice_get, IfOk};
+ghost use Rattle.jt_bits.specs.Words.{bit_of};
 ghost use Rattle.boundary.specs.Cells as cells;
 ghost use Rattle.boundary.specs.Cells.{AreDrivers, BoundaryValue, DrivenByCell, EntersDriver, IsWhole};
 ghost use Rattle.boundary.specs.Sight.{CapturesBySight};
@@ -384,7 +385,7 @@ fn left_by(leaves: Disabled) -> Drive
 }
 
 fn bit(bits: &Bits, k: usize) -> bool
-    ensures { result ≡ cells.bit bits.now k }
+    ensures { result ≡ bit_of bits.now k }
 {
     k < bits.len() && bits.get(k)
 }
