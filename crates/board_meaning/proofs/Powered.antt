@@ -7,7 +7,7 @@ use Rattle.jt_tap.specs.declared.State.TheVariants.{Reset}
 use Rattle.bsdl_device.specs.Device.{Name, Access, Device}
 use Rattle.bsdl_device.specs.declared.Place.{Place}
 use Rattle.bsdl_device.specs.declared.Place.TheVariants.{AtBypass, AtBoundary, AtDeviceId, AtUser}
-use Rattle.scan_registers.specs.Instruction.{Meaning, bypassed, identified, standard, access_meaning, look_up, meaning_of, instruction}
+use Rattle.scan_registers.specs.Instruction.{Meaning, as_bypass, reads_code, standard, access_meaning, look_up, meaning_of, instruction}
 use Rattle.scan_registers.specs.Registers.{Registers, user_stage, user_latch}
 use Rattle.scan_registers.specs.declared.users.UserRegister.{UserRegister}
 use Rattle.board_meaning.specs.Cells.{powered}
@@ -38,7 +38,7 @@ selects-look_up r name (row ∷ rows) all =
     selects-either r (bytes_eq name row.0) row.1 (look_up name rows) all.0 (selects-look_up r name rows all.1)
 
 selects-identified : (r : Registers) (code : Option (List Bool)) → HasBitIfGiven code → ((bits : List Bool) → code ≡ Some bits → HasBit r.identification)
-    → Selects r (identified code)
+    → Selects r (reads_code code)
 selects-identified r None bit there = tt
 selects-identified r (Some bits) bit there = (there bits refl, bit)
 
@@ -101,7 +101,7 @@ selects-rows d sound =
 selects-meaning : (d : Device) (name : Option Name) → IsSoundDevice d → Selects (at_power_up d) (meaning_of d name)
 selects-meaning d None sound = tt
 selects-meaning d (Some name) sound =
-    selects-either (at_power_up d) (list_any (bytes_eq name) d.private_names) bypassed
+    selects-either (at_power_up d) (list_any (bytes_eq name) d.private_names) as_bypass
     (look_up name (standard d ++ map (access_meaning d) d.accesses)) tt
     (selects-look_up (at_power_up d) name (standard d ++ map (access_meaning d) d.accesses) (selects-rows d sound))
 

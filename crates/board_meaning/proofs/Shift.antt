@@ -8,7 +8,7 @@ use Rattle.jt_tap.specs.declared.Column.TheVariants.{Dr, Ir}
 use Rattle.jt_tap.specs.declared.State.{State}
 use Rattle.jt_tap.specs.declared.State.TheVariants.{DrShift, IrShift}
 use Rattle.scan_registers.specs.Registers.{put}
-use Rattle.scan_registers.specs.Edges.{after_shift}
+use Rattle.jt_bits.specs.Shifting.{after_shift}
 use Rattle.board_meaning.specs.Cells.{Member}
 use Rattle.board_meaning.specs.Whole.{selected_bits_of, joined_bits, cut_back}
 use Rattle.board_meaning.proofs.OneCycle.{given, risen_all, risen_one}
@@ -67,7 +67,7 @@ given-joined column tdi (m ∷ ms) full =
     (ap (λ r. r ++ (J ++ tdi ∷ [])) (first-rest c full.0))
 
 risen-shift : (column : Column) (tdi : Bool) (sight : ℕ → Bool) (m : Member)
-    → risen_one (shift_state column) tdi sight m ≡ record m { registers = put m.device column (after_shift tdi (selected_bits_of column m)) m.registers }
+    → risen_one (shift_state column) tdi sight m ≡ record m { registers = put m.device column (after_shift (selected_bits_of column m) tdi) m.registers }
 risen-shift Dr tdi sight m = refl
 risen-shift Ir tdi sight m = refl
 

@@ -8,14 +8,15 @@ use Rattle.bitbang_table.specs.declared.Message.{Message}
 use Rattle.bitbang_table.specs.declared.Message.TheVariants.{Write, Lines}
 use Rattle.bitbang_table.specs.Protocol.{decode}
 use Rattle.scan_registers.specs.Registers.{selected_bits}
-use Rattle.scan_registers.specs.Edges.{after_rise, after_fall, after_shift}
+use Rattle.jt_bits.specs.Shifting.{after_shift}
+use Rattle.scan_registers.specs.Edges.{after_rise, after_fall}
 use Rattle.board_meaning.specs.Cells.{Member, surroundings}
 use Rattle.board_meaning.specs.Nets.{sees}
 use Rattle.board_meaning.specs.Chain.{ChipState, BoardState, is_held, rise, fall, assert_trst, tdi_before, rise_all, members, after_levels, after_message, after_byte, after_bytes}
 use Rattle.board_meaning.specs.Sound.{HasBit, IsChain, IsSound, IsSoundFor, AllSound, IsSoundBoard}
 use Rattle.board_meaning.proofs.Sound.{sound-captured, sound-put, sound-updated, sound-other}
 
-moved-bit : (tdi : Bool) (bits : List Bool) → HasBit (after_shift tdi bits)
+moved-bit : (tdi : Bool) (bits : List Bool) → HasBit (after_shift bits tdi)
 moved-bit tdi bits = omega (arith, length-append (drop 1 bits) (tdi ∷ []))
 
 sound-risen : (w : Work) (sight : ℕ → Bool) (m : Member) (tdi : Bool) → IsSoundFor m.device m.registers

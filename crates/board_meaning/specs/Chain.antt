@@ -5,7 +5,7 @@ use Rattle.std.specs.Prelude.{if◌then◌else◌}
 use Rattle.jt_tap.specs.declared.State.{State}
 use Rattle.jt_tap.specs.declared.State.TheVariants.{Reset}
 use Rattle.jt_tap.specs.Controller.{next, work}
-use Rattle.scan_registers.specs.Registers.{Registers, after_reset}
+use Rattle.scan_registers.specs.Registers.{after_reset}
 use Rattle.scan_registers.specs.Edges.{after_rise, after_fall, tdo_after}
 use Rattle.board_meaning.specs.Cells.{Member, surroundings}
 use Rattle.pin_nets.specs.Wired.{Net}
@@ -21,10 +21,6 @@ pub record ChipState : Type 0 where
   pub member : Member
   pub state : State
   pub tdo : Option Bool
-
--- a device with other registers
-abbrev pub with_registers : Registers → ChipState → ChipState
-with_registers r c = record { member = record c.member { registers = r }; state = c.state; tdo = c.tdo }
 
 -- the board between two bytes; the first chip is nearest the board's TDO
 pub record BoardState : Type 0 where

@@ -17,8 +17,12 @@ pin_drive ms pin = unwrap_or (option_map (λ m. drive m pin.port) (slice_get ms 
 abbrev pub level : List Member → Net → Level
 level ms net = level_of (pull_drive net.pull ∷ map (pin_drive ms) net.pins)
 
+-- whether one of these pins is this port bit of the device at a place
+abbrev pub has_pin : (place port : ℕ) → List Pin → Bool
+has_pin place port pins = list_any (λ (pin : Pin). (pin.device == place) && (pin.port == port)) pins
+
 abbrev pub joins : ℕ → ℕ → Net → Bool
-joins device port net = list_any (λ (pin : Pin). (pin.device == device) && (pin.port == port)) net.pins
+joins device port net = has_pin device port net.pins
 
 -- a port bit that is a net by itself
 abbrev pub lone_net : ℕ → ℕ → Net

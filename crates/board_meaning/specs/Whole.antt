@@ -35,12 +35,14 @@ cut_back column bits (m ∷ ms) =
     record m { registers = put m.device column (take (length (selected_bits_of column m)) bits) m.registers }
     ∷ cut_back column (drop (length (selected_bits_of column m)) bits) ms
 
+-- what a capture gives a device whose ports see this
+abbrev pub capture_member : Column → (ℕ → Bool) → Member → Member
+capture_member column sees m = record m { registers = after_capture m.device column (surroundings sees m) m.registers }
+
 -- Every selected register gets its captured list, from device k on.
 abbrev pub capture_all : Column → (ℕ → ℕ → Bool) → ℕ → List Member → List Member
 capture_all column sight k [] = []
-capture_all column sight k (m ∷ ms) =
-    record m { registers = after_capture m.device column (surroundings (sight k) m) m.registers }
-    ∷ capture_all column sight (suc k) ms
+capture_all column sight k (m ∷ ms) = capture_member column (sight k) m ∷ capture_all column sight (suc k) ms
 
 abbrev pub update_member : Column → Member → Member
 update_member column m = record m { registers = after_update m.device column m.registers }
@@ -53,8 +55,11 @@ abbrev pub capture : Column → AtRest → AtRest
 capture column m = record m { members = capture_all column (sees m.nets m.members) 0 m.members }
 
 -- shift: the out is the first of the joined list followed by t, the new registers what comes after
+abbrev pub out_of_members : Column → List Bool → List Member → List Bool
+out_of_members column t ms = take (length t) (joined_bits column ms ++ t)
+
 abbrev pub out : Column → List Bool → AtRest → List Bool
-out column t m = take (length t) (joined_bits column m.members ++ t)
+out column t m = out_of_members column t m.members
 
 abbrev pub shift : Column → List Bool → AtRest → AtRest
 shift column t m =

@@ -101,7 +101,8 @@ impl<'t> Places<&'t str> {
     /// Adds a text, if it is not there yet.
     #[tactic(auto, using(crate::proofs::ValueLaws::list_any_map, crate::proofs::ValueLaws::map_with))]
     pub fn add(&mut self, text: &'t str) -> Result<(), AllocError>
-        ensures { OnOk result (texts_of self.new ≡ with_name (texts_of self.old) text.now) }
+        ensures added { OnOk result (texts_of self.new ≡ with_name (texts_of self.old) text.now) }
+        ensures err { OnErr result (self.new ≡ self.old) }
     {
         if self.has(text) {
             return Ok(());

@@ -4,11 +4,11 @@ use Rattle.bsdl_device.specs.declared.Cell.{Cell}
 use Rattle.scan_registers.specs.declared.Mode.TheVariants.{Extest, Clamp, HighZ, Core}
 use Rattle.pin_nets.specs.declared.Drive.{Drive}
 use Rattle.pin_nets.specs.declared.Drive.TheVariants.{Nothing}
-use Rattle.boundary.specs.Cells.{DrivenByCell, cell_drive, drive_from, driven, driver_from, drives, is_port}
+use Rattle.boundary.specs.Cells.{DrivenByCell, cell_drive, drive_from, drive_of_driver, driver_from, drives, is_port}
 
 -- the driving cell among those from cell k on stands at its number less k
 from : (bits : List Bool) (all : List Cell) (p k : ℕ) (cs : List Cell) → ((j : ℕ) → slice_get all (k + j) ≡ slice_get cs j)
-    → driven bits (driver_from p k cs) all ≡ drive_from bits p k cs
+    → drive_of_driver bits (driver_from p k cs) all ≡ drive_from bits p k cs
 from bits all p k [] at = refl
 from bits all p k (c ∷ cs) at = by (from bits all p (suc k) cs rest) (drives c.function && is_port p c.port) refl
   where
@@ -23,7 +23,7 @@ from bits all p k (c ∷ cs) at = by (from bits all p (suc k) cs rest) (drives c
     rest : (j : ℕ) → slice_get all (suc k + j) ≡ slice_get cs j
     rest j = let same : suc k + j ≡ k + suc j = omega arith in ap (slice_get all) same ∙ at (suc j)
 
-    by : driven bits (driver_from p (suc k) cs) all ≡ drive_from bits p (suc k) cs → (b : Bool) → drives c.function && is_port p c.port ≡ b → driven bits (driver_from p k (c ∷ cs)) all ≡ drive_from bits p k (c ∷ cs)
+    by : drive_of_driver bits (driver_from p (suc k) cs) all ≡ drive_from bits p (suc k) cs → (b : Bool) → drives c.function && is_port p c.port ≡ b → drive_of_driver bits (driver_from p k (c ∷ cs)) all ≡ drive_from bits p k (c ∷ cs)
     by next true is = rw is (ap there here)
     by next false is = rw is next
 

@@ -1,7 +1,8 @@
 -- The boundary cells of a device on the board: what they capture, what a reset gives them, what the pins drive
 -- (IEEE Std 1149.1-2001, clauses 8 and 11, and Annex B for the cell table).
 use Rattle.std.specs.Prelude.{◌≡◌, ◌<◌, Bool, true, false, ◌&&◌, ℕ, suc, ◌==◌, List, [], ◌∷◌, length, replicate}
-use Rattle.std.specs.Prelude.{slice_get, slice_index_or, Option, Some, None, unwrap_or, if◌then◌else◌}
+use Rattle.std.specs.Prelude.{slice_get, slice_index_or, Option, Some, None, if◌then◌else◌}
+use Rattle.jt_bits.specs.Words.{bit_of}
 use Rattle.bsdl_device.specs.declared.Cell.{Cell}
 use Rattle.bsdl_device.specs.declared.Control3.{Control3}
 use Rattle.bsdl_device.specs.declared.Disabled.{Disabled}
@@ -14,7 +15,7 @@ use Rattle.scan_registers.specs.declared.Mode.TheVariants.{Extest, Clamp, HighZ}
 use Rattle.pin_nets.specs.declared.Drive.{Drive}
 use Rattle.pin_nets.specs.declared.Drive.TheVariants.{Strong, Weak, Nothing}
 
--- a boundary register on the board; `seen` is what the port of each cell sees
+-- a boundary register on the board; `seen` is what each cell was last told that its port sees
 pub record BoundaryValue : Type 0 where
   pub cells : List Cell
   pub core : List Bool
@@ -23,15 +24,13 @@ pub record BoundaryValue : Type 0 where
   pub stage : List Bool
   pub update : List Bool
 
-abbrev pub bit : List Bool → ℕ → Bool
-bit bits k = unwrap_or (slice_get bits k) false
-
 -- whether a capture takes the update stage: EXTEST on a device whose board file says so
 abbrev pub takes_update : Bool → Mode → Bool
 takes_update extest_update Extest = extest_update
 takes_update extest_update _ = false
 
--- What one cell captures: an input what its port sees, any other its core bit or, as above, its update bit.
+-- What one cell captures: an input, clock, observe-only or bidirectional cell what its port sees, an internal cell its
+-- core bit, an output or control its core bit or, as above, its update bit.
 abbrev pub cell_captures : (seen from_update update core : Bool) → Option ℕ → Function → Bool
 cell_captures s from_update u c (Some p) Input = s
 cell_captures s from_update u c (Some p) Clock = s
@@ -99,9 +98,9 @@ same_bit false false = true
 
 -- What driving cell k drives under the bits in force: what its control leaves while disabled, else its own bit.
 abbrev pub cell_drive : List Bool → ℕ → Option Control3 → Drive
-cell_drive bits k None = Strong (bit bits k)
+cell_drive bits k None = Strong (bit_of bits k)
 cell_drive bits k (Some t) =
-    if same_bit (bit bits t.cell) t.disabling then left_by t.leaves else Strong (bit bits k)
+    if same_bit (bit_of bits t.cell) t.disabling then left_by t.leaves else Strong (bit_of bits k)
 
 abbrev pub is_port : ℕ → Option ℕ → Bool
 is_port p (Some q) = p == q
@@ -128,20 +127,20 @@ pub record AreDrivers (cells : List Cell) (table : List (Option ℕ)) : Type 0 w
   pub each : (p : ℕ) → p < length table → slice_index_or table p None ≡ driver_from p 0 cells
 
 -- cell k is entered at its port, if it drives one of these
-pub record Entered (old new : List (Option ℕ)) (k : ℕ) (c : Cell) : Type 0 where
+pub record EntersDriver (old new : List (Option ℕ)) (k : ℕ) (c : Cell) : Type 0 where
   pub long : length new ≡ length old
   pub each : (p : ℕ) → p < length old
       → slice_index_or new p None
       ≡ (if drives c.function && is_port p c.port then Some k else slice_index_or old p None)
 
 -- what a port bit drives whose driving cell is this one
-abbrev pub driven : List Bool → Option ℕ → List Cell → Drive
-driven bits None cells = Nothing
-driven bits (Some k) cells = elim (slice_get cells k) [ None ↦ Nothing | Some c ↦ cell_drive bits k c.control ]
+abbrev pub drive_of_driver : List Bool → Option ℕ → List Cell → Drive
+drive_of_driver bits None cells = Nothing
+drive_of_driver bits (Some k) cells = elim (slice_get cells k) [ None ↦ Nothing | Some c ↦ cell_drive bits k c.control ]
 
 abbrev pub driven_in : Mode → List Cell → (update core : List Bool) → Option ℕ → Drive
 driven_in HighZ cells update core driver = Nothing
-driven_in mode cells update core driver = driven (in_force mode update core) driver cells
+driven_in mode cells update core driver = drive_of_driver (in_force mode update core) driver cells
 
 -- A port bit's drive is that of its driving cell.
 abbrev pub DrivenByCell : Type 0

@@ -1,34 +1,30 @@
 -- The whole boundary's capture by what the ports see, as the board's meaning has it.
-use Rattle.std.specs.Prelude.{◌≡◌, Bool, ℕ, suc, List, [], ◌∷◌, length, Option, Some, if◌then◌else◌}
+use Rattle.std.specs.Prelude.{◌≡◌, Bool, ℕ, suc, false, List, [], ◌∷◌, length, Option, Some, None}
+use Rattle.jt_bits.specs.Words.{bit_of}
 use Rattle.bsdl_device.specs.declared.Cell.{Cell}
-use Rattle.bsdl_device.specs.declared.Function.{Function}
-use Rattle.bsdl_device.specs.declared.Function.TheVariants.{Input, Clock, ObserveOnly, Bidir, Internal}
 use Rattle.scan_registers.specs.declared.Mode.{Mode}
-use Rattle.boundary.specs.Cells.{BoundaryValue, bit, captured_bits, takes_update}
+use Rattle.boundary.specs.Cells.{BoundaryValue, captured_bits, cell_captures, takes_update}
 
-abbrev pub cell_by_sight : (ℕ → Bool) → (from_update : Bool) (update core : Bool) → Option ℕ → Function → Bool
-cell_by_sight sees from_update u c (Some p) Input = sees p
-cell_by_sight sees from_update u c (Some p) Clock = sees p
-cell_by_sight sees from_update u c (Some p) ObserveOnly = sees p
-cell_by_sight sees from_update u c (Some p) Bidir = sees p
-cell_by_sight sees from_update u c port Internal = c
-cell_by_sight sees from_update u c port _ = if from_update then u else c
+-- what the port of a cell sees; a cell without one sees nothing
+abbrev pub seen_at : (ℕ → Bool) → Option ℕ → Bool
+seen_at sees (Some p) = sees p
+seen_at sees None = false
 
 -- from cell k on
 abbrev pub capture_by_sight : (ℕ → Bool) → Bool → (update core : List Bool) → ℕ → List Cell → List Bool
 capture_by_sight sees from_update update core k [] = []
 capture_by_sight sees from_update update core k (c ∷ cs) =
-    cell_by_sight sees from_update (bit update k) (bit core k) c.port c.function
+    cell_captures (seen_at sees c.port) from_update (bit_of update k) (bit_of core k) c.port c.function
     ∷ capture_by_sight sees from_update update core (suc k) cs
 
 -- each cell with a port was told what its port sees
-abbrev pub Told : (ℕ → Bool) → List Cell → List Bool → Type 0
-Told sees (c ∷ cs) (s ∷ seen) = ((p : ℕ) → c.port ≡ Some p → s ≡ sees p) × Told sees cs seen
-Told sees _ _ = Unit {0}
+abbrev pub SeesItsPorts : (ℕ → Bool) → List Cell → List Bool → Type 0
+SeesItsPorts sees (c ∷ cs) (s ∷ seen) = ((p : ℕ) → c.port ≡ Some p → s ≡ sees p) × SeesItsPorts sees cs seen
+SeesItsPorts sees _ _ = Unit {0}
 
 -- the law: with every cell told, and all lists of the cells' number
 abbrev pub CapturesBySight : Type 0
 CapturesBySight = (sees : ℕ → Bool) (b : BoundaryValue) (mode : Mode) → length b.seen ≡ length b.cells
     → length b.update ≡ length b.cells → length b.core ≡ length b.cells
-    → Told sees b.cells b.seen
+    → SeesItsPorts sees b.cells b.seen
     → captured_bits b mode ≡ capture_by_sight sees (takes_update b.extest_update mode) b.update b.core 0 b.cells

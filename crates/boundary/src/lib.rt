@@ -3,8 +3,9 @@
 #![tactic(auto)]
 
 ghost use Rattle.std.specs.Prelude.{◌≡◌, ◌<◌, ℕ, List, Bool, length, slice_get, IfOk};
+ghost use Rattle.jt_bits.specs.Words.{bit_of};
 ghost use Rattle.boundary.specs.Cells as cells;
-ghost use Rattle.boundary.specs.Cells.{AreDrivers, BoundaryValue, DrivenByCell, Entered, IsWhole};
+ghost use Rattle.boundary.specs.Cells.{AreDrivers, BoundaryValue, DrivenByCell, EntersDriver, IsWhole};
 ghost use Rattle.boundary.specs.Sight.{CapturesBySight};
 
 use bsdl_device::{Cell, Control3, Disabled, Function};
@@ -14,7 +15,8 @@ use scan_registers::{Mode, Register, SharedDevice};
 use std::alloc::{AllocError, Global};
 use std::marker::Model;
 
-/// The cells of a device with what their ports see, their core's bits, and the two lists of the register.
+/// The cells of a device with what each was last told that its port sees, their core's bits, and the two lists of the
+/// register.
 #[derive(Drop)]
 pub struct Boundary {
     device: SharedDevice,
@@ -301,7 +303,7 @@ impl Boundary {
 
 /// What the driving cell drives under the bits in force.
 fn driven(list: &[Cell], bits: &Bits, driver: Option<usize>) -> Drive
-    ensures { result ≡ cells.driven bits.now driver list.now }
+    ensures { result ≡ cells.drive_of_driver bits.now driver list.now }
 {
     match driver {
         None => Drive::Nothing,
@@ -333,7 +335,7 @@ pub fn drivers(alloc: Global, list: &[Cell], ports: usize) -> Result<Vec<Option<
 
 /// Cell `k` drives its port, if it drives.
 fn enter_driver(table: &mut [Option<usize>], k: usize, cell: Cell)
-    ensures { Entered table.old table.new k cell }
+    ensures { EntersDriver table.old table.new k cell }
 {
     if let Some(port) = cell.port {
         if drives(cell.function) && port < table.len() {
@@ -383,7 +385,7 @@ fn left_by(leaves: Disabled) -> Drive
 }
 
 fn bit(bits: &Bits, k: usize) -> bool
-    ensures { result ≡ cells.bit bits.now k }
+    ensures { result ≡ bit_of bits.now k }
 {
     k < bits.len() && bits.get(k)
 }

@@ -15,7 +15,7 @@ use Rattle.bsdl_twice.specs.ResetOpcode.{bits}
 use Rattle.bsdl_built.specs.Built.{access, accesses_of_row, device, public_place}
 use Rattle.bsdl.specs.Exact.{IsExactAccess, IsExactAt, IsExactDevice, Takes}
 use Rattle.bsdl.specs.Form.{text_form}
-use Rattle.bsdl.specs.Judging.{fault, file_says, judged, text_says}
+use Rattle.bsdl.specs.Judging.{fault, file_says, device_or_refusal, text_says}
 use Rattle.bsdl.specs.Limited.{HasLengthIfGiven}
 use Rattle.bsdl.proofs.OnceLaws.{both, not_false}
 use Rattle.bsdl.proofs.SoundLaws.{not_empty, or_true}
@@ -206,13 +206,13 @@ exact d e =
       accesses = rows_exact (users_of d.accesses) d.boundary_length d.accesses (all_found d.accesses d.accesses four.1 (λ q there. there)) four.0;
     }
 
-judged_exact : (d : Description) (v : Device) (o : Option Refusal) → fault d ≡ o → judged o d ≡ Ok v → IsExactDevice v
+judged_exact : (d : Description) (v : Device) (o : Option Refusal) → fault d ≡ o → device_or_refusal o d ≡ Ok v → IsExactDevice v
 judged_exact d v (Some r) is e = absurd cc
 judged_exact d v None is e =
     let same : device d ≡ v = cc in
     rw (sym same) (exact d is)
 
-described_exact : (x : Result Description Refusal) (v : Device) → (x >>? λ d. judged (fault d) d) ≡ Ok v → IsExactDevice v
+described_exact : (x : Result Description Refusal) (v : Device) → (x >>? λ d. device_or_refusal (fault d) d) ≡ Ok v → IsExactDevice v
 described_exact (Err r) v e = absurd cc
 described_exact (Ok d) v e = judged_exact d v (fault d) refl e
 

@@ -19,7 +19,7 @@ use Rattle.bsdl_twice.specs.ResetOpcode.{bits, opcode}
 use Rattle.bsdl_twice.specs.Twice.{given_again}
 use Rattle.bsdl_built.specs.Built.{cell, device, port_bits}
 use Rattle.bsdl.specs.Form.{text_form}
-use Rattle.bsdl.specs.Judging.{fault, file_says, judged, or_else, text_says, twice_in, unless}
+use Rattle.bsdl.specs.Judging.{fault, file_says, device_or_refusal, or_else, text_says, twice_in, unless}
 use Rattle.bsdl.specs.Limited.{HasLengthIfGiven, HasPatternsOf, IsLimitedDevice}
 use Rattle.bsdl.proofs.OnceLaws.{both, each_cell_once, holds, neither}
 
@@ -129,13 +129,13 @@ limited d e =
       user_lengths = users_long (users_of d.accesses) users.1;
     }
 
-judged_limited : (d : Description) (v : Device) (o : Option Refusal) → fault d ≡ o → judged o d ≡ Ok v → IsLimitedDevice v
+judged_limited : (d : Description) (v : Device) (o : Option Refusal) → fault d ≡ o → device_or_refusal o d ≡ Ok v → IsLimitedDevice v
 judged_limited d v (Some r) is e = absurd cc
 judged_limited d v None is e =
     let same : device d ≡ v = cc in
     rw (sym same) (limited d is)
 
-described_limited : (x : Result Description Refusal) (v : Device) → (x >>? λ d. judged (fault d) d) ≡ Ok v → IsLimitedDevice v
+described_limited : (x : Result Description Refusal) (v : Device) → (x >>? λ d. device_or_refusal (fault d) d) ≡ Ok v → IsLimitedDevice v
 described_limited (Err r) v e = absurd cc
 described_limited (Ok d) v e = judged_limited d v (fault d) refl e
 

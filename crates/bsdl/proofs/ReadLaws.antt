@@ -3,7 +3,7 @@ use Rattle.std.proofs.Common.{◌≡◌, ap, ◌∙◌}
 use Rattle.std.specs.Prelude.{⊤, Option, Some, None, MatchOption, Result, Ok, Err}
 use Rattle.bsdl_device.specs.Device.{Device}
 use Rattle.bsdl_described.specs.Describing.{Refusal, Description, ◌>>?◌}
-use Rattle.bsdl.specs.Judging.{fault, judged}
+use Rattle.bsdl.specs.Judging.{fault, device_or_refusal}
 use Rattle.bsdl.specs.View.{Tells, refusal}
 use Rattle.bsdl.specs.declared.fault.BsdlFault.{BsdlFault}
 
@@ -18,9 +18,9 @@ pub refused_then : {A B : Type 0} (o : Option Refusal) (x : Result A Refusal) (a
 refused_then None x a f is h = h
 refused_then (Some r) x a f is h = ap (λ y. y >>? f) is ∙ h
 
-pub refused_last : (o : Option Refusal) (d : Description) → MatchOption o ⊤ (λ r. fault d ≡ Some r) → MatchOption o ⊤ (λ r. judged (fault d) d ≡ Err r)
+pub refused_last : (o : Option Refusal) (d : Description) → MatchOption o ⊤ (λ r. fault d ≡ Some r) → MatchOption o ⊤ (λ r. device_or_refusal (fault d) d ≡ Err r)
 refused_last None d h = h
-refused_last (Some r) d h = ap (λ f. judged f d) h
+refused_last (Some r) d h = ap (λ f. device_or_refusal f d) h
 
 -- the device, or the refusal of a later step
 pub told_then : {B : Type 0} (r : Result Device BsdlFault) (x : Result B Refusal) (b : B) (f : B → Result Device Refusal) → x ≡ Ok b → Tells r (f b) → Tells r (x >>? f)

@@ -16,7 +16,7 @@ use Rattle.bsdl_twice.specs.ResetOpcode.{bits, opcode}
 use Rattle.bsdl_limits.specs.Users.{users_of}
 use Rattle.bsdl_built.specs.Built.{access, accesses_of_row, device}
 use Rattle.bsdl.specs.Form.{read_form, text_form, text_limit, tokens_form}
-use Rattle.bsdl.specs.Judging.{fault, file_says, judged, text_says}
+use Rattle.bsdl.specs.Judging.{fault, file_says, device_or_refusal, text_says}
 use Rattle.bsdl.specs.Small.{IsSmallDevice, access_size, bits_given, opcode_size, total}
 use Rattle.bsdl.proofs.LimitedLaws.{bits_len}
 use Rattle.bsdl.proofs.Weights.{Weighs, heft, size, tokens_weigh}
@@ -195,11 +195,11 @@ device_small n d within = record {
 
 -- ---- the whole
 
-judged_small : (n : ℕ) (d : Description) (v : Device) (o : Option Refusal) → IsWithin n d → judged o d ≡ Ok v → IsSmallDevice n v
+judged_small : (n : ℕ) (d : Description) (v : Device) (o : Option Refusal) → IsWithin n d → device_or_refusal o d ≡ Ok v → IsSmallDevice n v
 judged_small n d v (Some r) within e = absurd cc
 judged_small n d v None within e = subst (IsSmallDevice n) (same_ok (device d) v e) (device_small n d within)
 
-described_small : (n : ℕ) (x : Result Description Refusal) (v : Device) → ((d : Description) → x ≡ Ok d → IsWithin n d) → (x >>? λ d. judged (fault d) d) ≡ Ok v → IsSmallDevice n v
+described_small : (n : ℕ) (x : Result Description Refusal) (v : Device) → ((d : Description) → x ≡ Ok d → IsWithin n d) → (x >>? λ d. device_or_refusal (fault d) d) ≡ Ok v → IsSmallDevice n v
 described_small n (Err r) v each e = absurd cc
 described_small n (Ok d) v each e = judged_small n d v (fault d) (each d refl) e
 

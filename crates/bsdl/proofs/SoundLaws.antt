@@ -17,7 +17,7 @@ use Rattle.bsdl_twice.specs.ResetOpcode.{bits}
 use Rattle.bsdl_twice.specs.Twice.{given_again}
 use Rattle.bsdl_built.specs.Built.{access, accesses_of_row, cell, cells_of, device, public_place}
 use Rattle.bsdl.specs.Form.{text_form}
-use Rattle.bsdl.specs.Judging.{fault, file_says, judged, text_says, twice_in, unless}
+use Rattle.bsdl.specs.Judging.{fault, file_says, device_or_refusal, text_says, twice_in, unless}
 use Rattle.bsdl.proofs.OnceLaws.{both, each_cell_once, holds, neither}
 
 bits_len : (p : Pattern) → length (bits p) ≡ length p
@@ -192,13 +192,13 @@ sound d e =
       accesses = rows_sound (users_of d.accesses) d.boundary_length d.accesses (λ any. some_user d.boundary_length d.accesses any) (users_some d.boundary_length d.accesses four.0) four.0;
     }
 
-judged_sound : (d : Description) (v : Device) (o : Option Refusal) → fault d ≡ o → judged o d ≡ Ok v → IsSoundDevice v
+judged_sound : (d : Description) (v : Device) (o : Option Refusal) → fault d ≡ o → device_or_refusal o d ≡ Ok v → IsSoundDevice v
 judged_sound d v (Some r) is e = absurd cc
 judged_sound d v None is e =
     let same : device d ≡ v = cc in
     rw (sym same) (sound d is)
 
-described_sound : (x : Result Description Refusal) (v : Device) → (x >>? λ d. judged (fault d) d) ≡ Ok v → IsSoundDevice v
+described_sound : (x : Result Description Refusal) (v : Device) → (x >>? λ d. device_or_refusal (fault d) d) ≡ Ok v → IsSoundDevice v
 described_sound (Err r) v e = absurd cc
 described_sound (Ok d) v e = judged_sound d v (fault d) refl e
 

@@ -39,12 +39,12 @@ fault d =
     (or_else (option_map bad_cell (unfit_cell d))
     (unless (is_within_limits d) too_large))))
 
-abbrev pub judged : Option Refusal → Description → Result Device Refusal
-judged None d = Ok (device d)
-judged (Some r) d = Err r
+abbrev pub device_or_refusal : Option Refusal → Description → Result Device Refusal
+device_or_refusal None d = Ok (device d)
+device_or_refusal (Some r) d = Err r
 
 abbrev pub file_says : File → Result Device Refusal
-file_says f = described f >>? λ d. judged (fault d) d
+file_says f = described f >>? λ d. device_or_refusal (fault d) d
 
 -- what a text says: a device, or its first refusal
 abbrev pub text_says : List ℕ → Result Device Refusal

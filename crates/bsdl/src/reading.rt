@@ -1,5 +1,5 @@
 //! Reading a description: the device that it says, or its first refusal.
-ghost use Rattle.bsdl.specs.Judging.{fault, file_says, judged, text_says};
+ghost use Rattle.bsdl.specs.Judging.{device_or_refusal, fault, file_says, text_says};
 ghost use Rattle.bsdl.specs.View.{Tells};
 ghost use Rattle.bsdl_described.specs.View.{description};
 ghost use Rattle.bsdl_entity.specs.OutlineView.{outline};
@@ -39,7 +39,7 @@ fn read_description(
     entity: &Outline<'_>,
     described: &Description<'_>,
 ) -> Result<Device, BsdlFault>
-    ensures { Tells result (judged (fault (description entity.now described.now))
+    ensures { Tells result (device_or_refusal (fault (description entity.now described.now))
         (description entity.now described.now)) }
 {
     match judge(alloc, entity, described) {

@@ -16,16 +16,16 @@ use bsdl_fit::places::{Place, Places};
 use bsdl_text::numbers::Digits;
 use std::alloc::{AllocError, Global};
 
-/// The number of the first bit of each port, and how many bits there are.
+/// The number of the first bit of each port so far, and that of the next.
 #[derive(Debug, Drop)]
-pub struct Firsts {
-    pub bits: Vec<usize>,
-    pub next: usize,
+struct Firsts {
+    bits: Vec<usize>,
+    next: usize,
 }
 
 /// The numbers of the first bits of ports.
-pub fn firsts_of(alloc: Global, groups: &[Group<'_>]) -> Result<Firsts, AllocError>
-    ensures { IfOk result (λ f. f.bits.items ≡ firsts 0 (entity_view.ports groups.now)) }
+pub fn firsts_of(alloc: Global, groups: &[Group<'_>]) -> Result<Vec<usize>, AllocError>
+    ensures { IfOk result (λ bits. bits.items ≡ firsts 0 (entity_view.ports groups.now)) }
 {
     let mut all = Firsts {
         bits: Vec::new(alloc),
@@ -34,7 +34,7 @@ pub fn firsts_of(alloc: Global, groups: &[Group<'_>]) -> Result<Firsts, AllocErr
     for group in groups {
         add_group(&mut all, group)?;
     }
-    Ok(all)
+    Ok(all.bits)
 }
 
 fn add_group(all: &mut Firsts, group: &Group<'_>) -> Result<(), AllocError>

@@ -68,7 +68,7 @@ fn boundary_of(
     let places = places_of(alloc, &outline.groups)?;
     let firsts = firsts_of(alloc, &outline.groups)?;
     let len = size_of(described.boundary_length)?;
-    let cells = cells_of(alloc, &places, &firsts.bits, &described.cells, len)?;
+    let cells = cells_of(alloc, &places, &firsts, &described.cells, len)?;
     Ok(cells)
 }
 

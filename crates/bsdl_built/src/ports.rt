@@ -1,5 +1,5 @@
 //! The ports of a device, bit by bit.
-ghost use Rattle.std.specs.Prelude.{◌≡◌, ◌<◌, ◌+◌, ◌-◌, ◌^◌, ◌++◌, option_map, IfOk, IfSome};
+ghost use Rattle.std.specs.Prelude.{◌≡◌, ◌<◌, ◌≤◌, ◌+◌, ◌-◌, ◌^◌, ◌++◌, option_map, IfOk, IfErr, IfSome};
 ghost use Rattle.std.specs.List.{flat_map};
 ghost use Rattle.bsdl_device.specs.View.{pair};
 ghost use Rattle.bsdl_device.specs.Ports.{bits_of};
@@ -83,7 +83,8 @@ fn indices_of(range: Option<Range<'_>>) -> Result<Option<Indices>, AllocError>
 
 /// A number below 2^64; a larger one, which nothing that is judged has, counts as want of memory.
 pub(crate) fn size_of(number: Digits<'_>) -> Result<usize, AllocError>
-    ensures { IfOk result (λ n. n ≡ value number.entry) }
+    ensures value { IfOk result (λ n. n ≡ value number.entry) }
+    ensures large { IfErr result (λ e. 2 ^ 64 ≤ value number.entry) }
 {
     match number.size() {
         Some(size) => Ok(size),

@@ -5,7 +5,7 @@
 ghost use Rattle.std.specs.Prelude.{◌≡◌, ◌<◌, ◌≤◌, length, option_map, IfOk};
 ghost use Rattle.bsdl_lex.specs.Left.{left};
 ghost use Rattle.bsdl_text.specs.View as text_view;
-ghost use Rattle.bsdl_text.specs.View.{Gives};
+ghost use Rattle.bsdl_text.specs.View.{Gives, StopsAtMisfit};
 ghost use Rattle.bsdl_cells.specs.Rows as spec;
 ghost use Rattle.bsdl_cells.specs.View as view;
 
@@ -79,6 +79,7 @@ impl<'a> Entry<'a> for CellRow<'a> {
 fn cell_port<'a>(lexer: Lexer<'a>) -> Result<(Option<PortName<'a>>, Lexer<'a>), Stop>
     ensures gives { Gives (option_map view.port_name) result (spec.cell_port (left lexer.entry)) }
     ensures shorter { IfOk result (λ p. length (left p.1) < length (left lexer.entry)) }
+    ensures misfit { StopsAtMisfit result }
 {
     if stands(lexer, b'*') {
         let rest = mark(lexer, b'*')?;
@@ -93,6 +94,7 @@ fn cell_port<'a>(lexer: Lexer<'a>) -> Result<(Option<PortName<'a>>, Lexer<'a>), 
 fn port_index<'a>(lexer: Lexer<'a>) -> Result<(Option<Digits<'a>>, Lexer<'a>), Stop>
     ensures gives { Gives (option_map text_view.value) result (spec.port_index (left lexer.entry)) }
     ensures no_longer { IfOk result (λ p. length (left p.1) ≤ length (left lexer.entry)) }
+    ensures misfit { StopsAtMisfit result }
 {
     if !stands(lexer, b'(') {
         return Ok((None, lexer));
@@ -107,6 +109,7 @@ fn port_index<'a>(lexer: Lexer<'a>) -> Result<(Option<Digits<'a>>, Lexer<'a>), S
 fn cell_control<'a>(lexer: Lexer<'a>) -> Result<(Option<Controlling<'a>>, Lexer<'a>), Stop>
     ensures gives { Gives (option_map view.control) result (spec.cell_control (left lexer.entry)) }
     ensures no_longer { IfOk result (λ p. length (left p.1) ≤ length (left lexer.entry)) }
+    ensures misfit { StopsAtMisfit result }
 {
     if !stands(lexer, b',') {
         return Ok((None, lexer));
@@ -119,6 +122,7 @@ fn cell_control<'a>(lexer: Lexer<'a>) -> Result<(Option<Controlling<'a>>, Lexer<
 fn control<'a>(lexer: Lexer<'a>) -> Result<(Controlling<'a>, Lexer<'a>), Stop>
     ensures gives { Gives view.control result (spec.control (left lexer.entry)) }
     ensures shorter { IfOk result (λ p. length (left p.1) < length (left lexer.entry)) }
+    ensures misfit { StopsAtMisfit result }
 {
     let (cell, rest) = number(lexer)?;
     let rest = mark(rest, b',')?;

@@ -20,12 +20,14 @@ impl Model for Pattern {
 }
 
 impl Pattern {
+    /// A pattern of these bits, bit 0 nearest TDO; `None` is an X.
     pub fn new(bits: Vec<Option<bool>>) -> Pattern
         ensures { result ≡ bits.items }
     {
         Pattern { bits }
     }
 
+    /// Its bits, bit 0 nearest TDO; `None` is an X.
     pub fn bits(&self) -> &[Option<bool>]
         ensures { result.now ≡ self.now }
     {
@@ -57,12 +59,14 @@ impl Opcode {
         Opcode { name, patterns }
     }
 
+    /// The instruction's name, in upper case.
     pub fn name(&self) -> &str
         ensures { result.now ≡ self.now.name }
     {
         self.name.as_str()
     }
 
+    /// Its opcodes, in the order in which they are written.
     pub fn patterns(&self) -> &[Pattern]
         ensures { result.now ≡ self.now.patterns }
     {
@@ -99,18 +103,21 @@ impl Access {
         }
     }
 
+    /// The instruction's name, in upper case.
     pub fn instruction(&self) -> &str
         ensures { result.now ≡ self.now.instruction }
     {
         self.instruction.as_str()
     }
 
+    /// The register that it selects.
     pub fn place(&self) -> Place
         ensures { result ≡ self.now.place }
     {
         self.place
     }
 
+    /// What it captures there, bit 0 nearest TDO; `None` where that is not fixed.
     pub fn captures(&self) -> Option<&Bits>
         ensures { option_map {U = List Bool} (λ b. b.now) result ≡ self.now.captures }
     {

@@ -1,7 +1,7 @@
 //! A whole description.
 ghost use Rattle.std.specs.Prelude.{◌≡◌, ◌≤◌, length, map, IfOk, true};
 ghost use Rattle.bsdl_lex.specs.Left.{left};
-ghost use Rattle.bsdl_text.specs.View.{Gives, Passes};
+ghost use Rattle.bsdl_text.specs.View.{Gives, Passes, StopsAtMisfit};
 ghost use Rattle.bsdl_entity.specs.Entity as spec;
 ghost use Rattle.bsdl_text.specs.Reading.{fits};
 ghost use Rattle.bsdl_entity.specs.GivenView.{given};
@@ -41,6 +41,7 @@ pub fn read_entity<'a>(alloc: Global, lexer: Lexer<'a>) -> Result<(Outline<'a>, 
 /// `end [word] [word] ;`, behind which nothing stands.
 fn ending<'a>(lexer: Lexer<'a>) -> Result<Lexer<'a>, Stop>
     ensures passes { Passes result (spec.ending (left lexer.entry)) }
+    ensures misfit { StopsAtMisfit result }
 {
     let (_end, rest) = keyword(lexer, &END)?;
     let rest = past_word(rest);
@@ -51,6 +52,7 @@ fn ending<'a>(lexer: Lexer<'a>) -> Result<Lexer<'a>, Stop>
 
 fn end_of_text<'a>(lexer: Lexer<'a>) -> Result<Lexer<'a>, Stop>
     ensures passes { Passes result (spec.end_of_text (left lexer.entry)) }
+    ensures misfit { StopsAtMisfit result }
 {
     match lexer.next() {
         Some((token, _)) => Err(Stop::Misfit(Some(token.start))),
@@ -75,6 +77,7 @@ fn past_word<'a>(lexer: Lexer<'a>) -> Lexer<'a>
 fn generic<'a>(lexer: Lexer<'a>) -> Result<Lexer<'a>, Stop>
     ensures passes { Passes result (spec.generic (left lexer.entry)) }
     ensures no_longer { IfOk result (λ l. length (left l) ≤ length (left lexer.entry)) }
+    ensures misfit { StopsAtMisfit result }
 {
     match behind_word(lexer, b"GENERIC") {
         Some(behind) => {

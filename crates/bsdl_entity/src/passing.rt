@@ -1,7 +1,7 @@
 //! Tokens that are passed over.
 ghost use Rattle.std.specs.Prelude.{◌≡◌, ◌<◌, length, true, IfOk};
 ghost use Rattle.bsdl_lex.specs.Left.{left};
-ghost use Rattle.bsdl_text.specs.View.{Passes};
+ghost use Rattle.bsdl_text.specs.View.{Passes, StopsAtMisfit};
 ghost use Rattle.bsdl_entity.specs.Entity as spec;
 
 use bsdl_lex::Lexer;
@@ -11,6 +11,7 @@ use bsdl_text::reading::{Stop, mark, stands};
 pub(crate) fn brackets<'a>(lexer: Lexer<'a>) -> Result<Lexer<'a>, Stop>
     ensures passes { Passes result (spec.brackets (left lexer.entry)) }
     ensures shorter { IfOk result (λ l. length (left l) < length (left lexer.entry)) }
+    ensures misfit { StopsAtMisfit result }
 {
     let rest = mark(lexer, b'(')?;
     past_closing(rest)
@@ -20,6 +21,7 @@ pub(crate) fn brackets<'a>(lexer: Lexer<'a>) -> Result<Lexer<'a>, Stop>
 fn past_closing<'a>(lexer: Lexer<'a>) -> Result<Lexer<'a>, Stop>
     ensures passes { Passes result (spec.past_closing 0 (left lexer.entry)) }
     ensures shorter { IfOk result (λ l. length (left l) < length (left lexer.entry)) }
+    ensures misfit { StopsAtMisfit result }
 {
     let mut depth: u64 = 0;
     let mut rest = lexer;
@@ -41,6 +43,7 @@ fn past_closing<'a>(lexer: Lexer<'a>) -> Result<Lexer<'a>, Stop>
 pub(crate) fn past_semi<'a>(lexer: Lexer<'a>) -> Result<Lexer<'a>, Stop>
     ensures passes { Passes result (spec.past_semi (left lexer.entry)) }
     ensures shorter { IfOk result (λ l. length (left l) < length (left lexer.entry)) }
+    ensures misfit { StopsAtMisfit result }
 {
     let mut rest = lexer;
     'tokens: while let Some((_, after)) = rest.next() {

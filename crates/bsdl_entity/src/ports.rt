@@ -2,7 +2,7 @@
 ghost use Rattle.std.specs.Prelude.{◌≡◌, ◌<◌, List, length, map, option_map, nat_le, min, max, IfOk};
 ghost use Rattle.bsdl_lex.specs.Left.{left};
 ghost use Rattle.bsdl_text.specs.Reading as reading;
-ghost use Rattle.bsdl_text.specs.View.{Gives};
+ghost use Rattle.bsdl_text.specs.View.{Gives, StopsAtMisfit};
 ghost use Rattle.bsdl_text.specs.View as text_view;
 ghost use Rattle.bsdl_text.specs.WordView.{word_lexeme};
 ghost use Rattle.bsdl_entity.specs.Entity as spec;
@@ -106,6 +106,7 @@ fn names<'a>(alloc: Global, lexer: Lexer<'a>) -> Result<(Vec<Word<'a>>, Lexer<'a
 fn kind_of_port<'a>(lexer: Lexer<'a>) -> Result<(Option<Range<'a>>, Lexer<'a>), Stop>
     ensures gives { Gives (option_map view.range) result (spec.kind_of_port (left lexer.entry)) }
     ensures shorter { IfOk result (λ p. length (left p.1) < length (left lexer.entry)) }
+    ensures misfit { StopsAtMisfit result }
 {
     let (is_vector, rest) = keyword(lexer, &KINDS)?;
     if is_vector {
@@ -119,6 +120,7 @@ fn kind_of_port<'a>(lexer: Lexer<'a>) -> Result<(Option<Range<'a>>, Lexer<'a>), 
 fn index_range<'a>(lexer: Lexer<'a>) -> Result<(Range<'a>, Lexer<'a>), Stop>
     ensures gives { Gives (λ r. Some (view.range r)) result (spec.range (left lexer.entry)) }
     ensures shorter { IfOk result (λ p. length (left p.1) < length (left lexer.entry)) }
+    ensures misfit { StopsAtMisfit result }
 {
     let rest = mark(lexer, b'(')?;
     let (first, rest) = number(rest)?;
@@ -136,6 +138,7 @@ fn up_to<'a>(
 ) -> Result<(Range<'a>, Lexer<'a>), Stop>
     ensures gives { Gives view.range result (spec.upto (text_view.value first.entry) is_rising (left lexer.entry)) }
     ensures shorter { IfOk result (λ p. length (left p.1) < length (left lexer.entry)) }
+    ensures misfit { StopsAtMisfit result }
 {
     let (second, rest) = number(lexer)?;
     match in_order(first, second, is_rising) {

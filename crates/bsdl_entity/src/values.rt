@@ -2,7 +2,7 @@
 ghost use Rattle.std.specs.Prelude.{◌≡◌, ◌<◌, ◌≤◌, List, length, map, option_map, IfOk};
 ghost use Rattle.bsdl_lex.specs.Left.{left};
 ghost use Rattle.bsdl_text.specs.Reading.{quoted_value};
-ghost use Rattle.bsdl_text.specs.View.{Gives};
+ghost use Rattle.bsdl_text.specs.View.{Gives, StopsAtMisfit};
 ghost use Rattle.bsdl_text.specs.Words.{upper};
 ghost use Rattle.bsdl_instructions.specs.Values as rows;
 ghost use Rattle.bsdl_entity.specs.Entity as spec;
@@ -179,6 +179,7 @@ pub(crate) fn value_of<'a>(
 fn truth<'a>(owner: Word<'a>, lexer: Lexer<'a>) -> Result<(Value<'a>, Lexer<'a>), Stop>
     ensures gives { Gives view.value result (spec.truth (upper owner.entry.text.now) (left lexer.entry)) }
     ensures shorter { IfOk result (λ p. length (left p.1) < length (left lexer.entry)) }
+    ensures misfit { StopsAtMisfit result }
 {
     let (is_true, rest) = keyword(lexer, &TRUTHS)?;
     if is_true {
@@ -190,6 +191,7 @@ fn truth<'a>(owner: Word<'a>, lexer: Lexer<'a>) -> Result<(Value<'a>, Lexer<'a>)
 fn count<'a>(lexer: Lexer<'a>) -> Result<(Value<'a>, Lexer<'a>), Stop>
     ensures gives { Gives view.value result (spec.length_value (left lexer.entry)) }
     ensures shorter { IfOk result (λ p. length (left p.1) < length (left lexer.entry)) }
+    ensures misfit { StopsAtMisfit result }
 {
     let (found, rest) = number(lexer)?;
     Ok((Value::Count(found), rest))

@@ -1,4 +1,4 @@
-//! Which port bits the cells drive, and which cells control.
+//! The lowest cells that drive port bits.
 ghost use Rattle.std.specs.Prelude.{◌≡◌, ◌<◌, ◌≤◌, ◌||◌, ◌&&◌, ◌==◌, ℕ, List, map, nat_lt, IfOk, OnOk};
 ghost use Rattle.std.specs.List.{list_any};
 ghost use Rattle.bsdl_cells.specs.Rows as rows;

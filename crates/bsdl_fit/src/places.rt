@@ -31,7 +31,7 @@ pub struct Place<'a> {
 #[derive(Debug, Drop)]
 pub struct Places<'a> {
     pub by_name: BTreeMap<String, Place<'a>>,
-    pub next: usize,
+    next: usize,
 }
 
 /// The ports of an entity by their names.

@@ -14,6 +14,7 @@ pub struct Table {
 }
 
 impl Table {
+    /// No rows yet.
     pub fn new(alloc: Global) -> Table
         ensures { (n : ℕ) → get nat_cmp result.cells n ≡ None }
     {

@@ -3,7 +3,7 @@ ghost use Rattle.std.specs.Prelude.{◌≡◌, ◌<◌, ◌≤◌, length, optio
 ghost use Rattle.bsdl_lex.specs.Left.{left};
 ghost use Rattle.bsdl_text.specs.WordView.{word_lexeme};
 ghost use Rattle.bsdl_text.specs.View as text_view;
-ghost use Rattle.bsdl_text.specs.View.{Gives};
+ghost use Rattle.bsdl_text.specs.View.{Gives, StopsAtMisfit};
 ghost use Rattle.bsdl_instructions.specs.Values as spec;
 ghost use Rattle.bsdl_device.specs.Device as device;
 ghost use Rattle.bsdl_instructions.specs.View as view;
@@ -125,6 +125,7 @@ fn register_len<'a>(
     ensures gives { Gives (option_map text_view.value) result
         (spec.register_len (word_lexeme name.entry) (left lexer.entry)) }
     ensures no_longer { IfOk result (λ p. length (left p.1) ≤ length (left lexer.entry)) }
+    ensures misfit { StopsAtMisfit result }
 {
     if stands(lexer, b'[') {
         let rest = mark(lexer, b'[')?;

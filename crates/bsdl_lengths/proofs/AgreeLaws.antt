@@ -6,8 +6,17 @@ use Rattle.std.proofs.lemmas.List.Folds.{list_any-append, list_all-append}
 use Rattle.std.proofs.lemmas.Slice.Eq.{bytes_eq-Decides}
 use Rattle.std.proofs.lemmas.Bool.Decides.{nat_tests}
 use Rattle.bsdl_instructions.specs.Values.{AccessRow}
-use Rattle.bsdl_lengths.specs.Agreeing.{gives, tells, is_new, is_new_row, noted}
+use Rattle.bsdl_lengths.specs.Agreeing.{is_new, is_new_row, noted}
 use Rattle.bsdl_lengths.specs.Lengths.{differ, agree}
+
+-- a row gives this register this length
+abbrev pub gives : List ℕ → ℕ → AccessRow → Bool
+gives name n r = is_some r.len && (bytes_eq r.register name && nat_eq (unwrap_or r.len 0) n)
+
+-- this length is known
+abbrev pub tells : Option ℕ → ℕ → Bool
+tells None n = false
+tells (Some m) n = nat_eq m n
 
 -- the lengths that rows give are the known ones
 pub record Known (known : List ℕ → Option ℕ) (rows : List AccessRow) : Type 0 where

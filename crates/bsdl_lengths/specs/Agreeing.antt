@@ -1,16 +1,6 @@
 -- The lengths that are known of registers.
-use Rattle.std.specs.Prelude.{ℕ, ◌==◌, Bool, true, false, ◌&&◌, is_some, if◌then◌else◌, List, Option, Some, None}
-use Rattle.std.specs.Prelude.{unwrap_or, bytes_eq}
+use Rattle.std.specs.Prelude.{ℕ, ◌==◌, Bool, true, if◌then◌else◌, List, Option, Some, None, bytes_eq}
 use Rattle.bsdl_instructions.specs.Values.{AccessRow}
-
--- a row gives this register this length
-abbrev pub gives : List ℕ → ℕ → AccessRow → Bool
-gives name n r = is_some r.len && (bytes_eq r.register name && unwrap_or r.len 0 == n)
-
--- this length is known
-abbrev pub tells : Option ℕ → ℕ → Bool
-tells None n = false
-tells (Some m) n = m == n
 
 -- no other length is known
 abbrev pub is_new : Option ℕ → ℕ → Bool

@@ -1,5 +1,5 @@
 -- What a reader of the code answers, beside what the tokens say.
-use Rattle.std.specs.Prelude.{◌≡◌, ℕ, Bool, List, Result, Ok, Err, Option, Some, None}
+use Rattle.std.specs.Prelude.{◌≡◌, ⊤, ℕ, Bool, List, Result, Ok, Err, Option, Some, None}
 use Rattle.std.specs.Str.Parse.{digits_value}
 use Rattle.bsdl_lex.specs.declared.Lexer.{Lexer}
 use Rattle.bsdl_text.specs.declared.reading.Stop.{Stop}
@@ -27,6 +27,11 @@ Gives view (Err e) says = Stops e says
 abbrev pub Passes : {Y : Type 0} → Result Lexer Stop → Read Y → Type 0
 Passes {Y = Y} (Ok l) says = (y : Y) × (says ≡ fits y (left l))
 Passes (Err e) says = Stops e says
+
+-- a reader that takes no memory stops at a misfit alone
+abbrev pub StopsAtMisfit : {X : Type 0} → Result X Stop → Type 0
+StopsAtMisfit (Err stop.Memory) = ⊥
+StopsAtMisfit _ = ⊤
 
 -- where a list closes: at the text's end, or before a mark
 abbrev pub closes : Option ℕ → List Lexeme → Bool

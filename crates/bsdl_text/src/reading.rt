@@ -9,7 +9,7 @@ ghost use Rattle.bsdl_text.specs.WordView.{word_lexeme};
 ghost use Rattle.bsdl_text.specs.Reading as spec;
 ghost use Rattle.bsdl_text.specs.Words as words;
 ghost use Rattle.bsdl_text.specs.View as view;
-ghost use Rattle.bsdl_text.specs.View.{Gives, Passes};
+ghost use Rattle.bsdl_text.specs.View.{Gives, Passes, StopsAtMisfit};
 
 use crate::names::Word;
 use crate::numbers::Digits;
@@ -28,6 +28,7 @@ pub enum Stop {
 pub fn word<'a>(lexer: Lexer<'a>) -> Result<(Word<'a>, Lexer<'a>), Stop>
     ensures gives { Gives word_lexeme result (spec.word (left lexer.entry)) }
     ensures shorter { IfOk result (λ p. length (left p.1) < length (left lexer.entry)) }
+    ensures misfit { StopsAtMisfit result }
 {
     match lexer.next() {
         Some((token, rest)) => match token.kind {
@@ -48,6 +49,7 @@ pub fn word<'a>(lexer: Lexer<'a>) -> Result<(Word<'a>, Lexer<'a>), Stop>
 pub fn string<'a>(lexer: Lexer<'a>) -> Result<(Token<'a>, Lexer<'a>), Stop>
     ensures gives { Gives lexeme result (spec.string (left lexer.entry)) }
     ensures shorter { IfOk result (λ p. length (left p.1) < length (left lexer.entry)) }
+    ensures misfit { StopsAtMisfit result }
 {
     match lexer.next() {
         Some((token, rest)) => match token.kind {
@@ -62,6 +64,7 @@ pub fn string<'a>(lexer: Lexer<'a>) -> Result<(Token<'a>, Lexer<'a>), Stop>
 pub fn mark<'a>(lexer: Lexer<'a>, byte: u8) -> Result<Lexer<'a>, Stop>
     ensures passes { Passes result (spec.mark byte (left lexer.entry)) }
     ensures shorter { IfOk result (λ l. length (left l) < length (left lexer.entry)) }
+    ensures misfit { StopsAtMisfit result }
 {
     match lexer.next() {
         Some((token, rest)) if is_mark(token, byte) => Ok(rest),
@@ -107,6 +110,7 @@ pub fn closes(lexer: Lexer<'_>, close: Option<u8>) -> bool
 pub fn number<'a>(lexer: Lexer<'a>) -> Result<(Digits<'a>, Lexer<'a>), Stop>
     ensures gives { Gives view.value result (spec.number (left lexer.entry)) }
     ensures shorter { IfOk result (λ p. length (left p.1) < length (left lexer.entry)) }
+    ensures misfit { StopsAtMisfit result }
 {
     match lexer.next() {
         Some((token, rest)) => {
@@ -131,6 +135,7 @@ pub fn keyword<'a, A: Copy>(lexer: Lexer<'a>, table: &[(&[u8], A)]) -> Result<(A
     ensures gives { Gives (λ a. a) result (spec.keyword
         (words.stands_for (map {A = Bor (List ℕ) × A} (λ row. (row.0.now, row.1)) table.now)) (left lexer.entry)) }
     ensures shorter { IfOk result (λ p. length (left p.1) < length (left lexer.entry)) }
+    ensures misfit { StopsAtMisfit result }
 {
     match lexer.next() {
         Some((token, rest)) => match stands_for(table, token.text) {

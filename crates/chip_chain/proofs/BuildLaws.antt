@@ -12,7 +12,7 @@ use Rattle.bsdl_device.specs.Device.{Device}
 use Rattle.bsdl_device.specs.declared.Cell.{Cell}
 use Rattle.pin_nets.specs.declared.Pin.{Pin}
 use Rattle.pin_nets.specs.declared.build.NetSpec.{NetSpec}
-use Rattle.pin_nets.specs.Building.{Below, net_value}
+use Rattle.pin_nets.specs.Building.{HasPinsBelow, net_value}
 use Rattle.pin_nets.specs.Levels.{NetValue, one}
 use Rattle.pin_nets.specs.Places.{IsOnce, times}
 use Rattle.pin_nets.specs.Wired.{Net}
@@ -23,9 +23,9 @@ use Rattle.board_file.specs.View.{member as planned_member, net as planned_net}
 use Rattle.board_file.specs.declared.plan.PlannedNet.{PlannedNet}
 use Rattle.board_file.specs.declared.plan.PlannedDevice.{PlannedDevice}
 use Rattle.board_meaning.specs.Chain.{ChipState}
-use Rattle.board_meaning.specs.Nets.{pin_drive}
+use Rattle.board_meaning.specs.Nets.{has_pin, pin_drive}
 use Rattle.board_meaning.specs.Resting.{chip_at_rest}
-use Rattle.chip_chain.specs.Building.{EntersNet, HasNets, PortsFit, has_pin, net_by, seat_of, seats_of}
+use Rattle.chip_chain.specs.Building.{EntersNet, HasNets, PortsFit, net_by, seat_of, seats_of}
 use Rattle.chip_chain.specs.Chains.{powered_up}
 use Rattle.chip_chain.specs.Seats.{AllTold, SeatValue, cell_net, chip_state, first_net, member_of}
 use Rattle.chip_chain.specs.Wires.{AreSeated, AreWired, IsWired, WiringValue, numbered}
@@ -234,7 +234,7 @@ numbered_once ns = record {
     by p n m x y differ at there (inl h) = (earlier 0 ns n m p x y h at there).0
     by p n m x y differ at there (inr h) = (earlier 0 ns m n p y x (omega (arith, h, differ)) there at).1
 
-pub numbered_below : (ns : List Net) (pins : ℕ) → pins ≡ length (all_pins ns) → Below pins (numbered 0 ns)
+pub numbered_below : (ns : List Net) (pins : ℕ) → pins ≡ length (all_pins ns) → HasPinsBelow pins (numbered 0 ns)
 numbered_below ns pins e = record {
   each = λ n i x at inside.
       let r = ranged-at 0 ns n x at in

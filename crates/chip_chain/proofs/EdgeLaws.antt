@@ -16,12 +16,13 @@ use Rattle.scan_registers.specs.Instruction.{meaning}
 use Rattle.scan_registers.specs.Registers.{Registers, Surroundings, capture_of, put, with_stage}
 use Rattle.scan_registers.specs.Registers as chip_registers
 use Rattle.boundary.specs.Cells.{BoundaryValue, IsWhole, at_reset, captured_bits, drive_in, takes_update}
-use Rattle.boundary.specs.Sight.{Told, capture_by_sight}
+use Rattle.boundary.specs.Sight.{SeesItsPorts, capture_by_sight}
 use Rattle.boundary.proofs.SightLaws.{captured_by_sight}
 use Rattle.board_meaning.specs.Cells.{Member, drive, surroundings}
 use Rattle.board_meaning.specs.Chain as chain
 use Rattle.board_meaning.specs.Chain.{ChipState}
-use Rattle.chip_chain.specs.AtRest.{IsSightedFor, as_member, capture_member}
+use Rattle.board_meaning.specs.Whole.{capture_member}
+use Rattle.chip_chain.specs.AtRest.{IsSightedFor, as_member}
 use Rattle.chip_chain.specs.Seats.{IsSighted, SeatValue, captures_boundary, changes_drives, chip_state, member_of}
 
 -- a device of the meaning, by the device alone
@@ -72,7 +73,7 @@ module _ (s : SeatValue) (cells : s.chip.boundary.cells ≡ s.chip.device.cells)
   abbrev now : OneChip
   now = one_chip stage update s.chip
 
-  captures-alike : (sees : ℕ → Bool) (mode : Mode) → IsWhole s.chip.boundary → Told sees s.chip.device.cells s.chip.boundary.seen
+  captures-alike : (sees : ℕ → Bool) (mode : Mode) → IsWhole s.chip.boundary → SeesItsPorts sees s.chip.device.cells s.chip.boundary.seen
       → captured_bits s.chip.boundary mode ≡ (surroundings sees (member_of s)).captures mode
   captures-alike sees mode whole told =
       let b = s.chip.boundary in

@@ -19,9 +19,9 @@ use Rattle.board_meaning.specs.Cells.{Member, drive}
 use Rattle.board_meaning.specs.Chain.{ChipState, members}
 use Rattle.board_meaning.specs.Nets.{sees}
 use Rattle.board_meaning.specs.Resting.{chip_at_rest}
-use Rattle.board_meaning.specs.Whole.{capture_all, selected_bits_of, cut_back, joined_bits, settled_member, trst_member}
+use Rattle.board_meaning.specs.Whole.{capture_all, capture_member, out_of_members, selected_bits_of, cut_back, joined_bits, settled_member, trst_member}
 use Rattle.chip_chain.specs.AtRest.{AssertsTrst, CapturesAt, Changes, IsPutInto, Stands, as_member, as_members}
-use Rattle.chip_chain.specs.AtRest.{capture_member, out, shifted}
+use Rattle.chip_chain.specs.AtRest.{shifted_through}
 use Rattle.chip_chain.specs.Seats.{AllTold, IsKept, SeatValue, chip_state, member_of}
 use Rattle.chip_chain.specs.Sweeping.{EachFrom}
 use Rattle.chip_chain.specs.Wires.{AreSeated, AreWired, IsWired, WiringValue}
@@ -253,7 +253,7 @@ module _ (column : Column) where
   -- what comes out
   pub same_out : (v : List VectorBit) (seats : List SeatValue)
       → rows.out v (map (λ (s : SeatValue). selected_bits_of column (member_of s)) seats)
-      ≡ out column (tdis v) (members (map chip_state seats))
+      ≡ out_of_members column (tdis v) (members (map chip_state seats))
   same_out v seats =
       ap (λ (l : List Bool). take (length v) (l ++ tdis v)) (same_joined seats)
       ∙ ap (λ (n : ℕ). take n (joined_bits column (members (map chip_state seats)) ++ tdis v))
@@ -262,7 +262,7 @@ module _ (column : Column) where
   -- what stays in, by the length of what is shifted in
   pub shifted_chips : (v : List VectorBit) (old new : List SeatValue)
       → Cut (rows.left v (map (λ (s : SeatValue). selected_bits_of column (member_of s)) old)) old new
-      → map chip_state new ≡ as_members (shifted column (tdis v) (members (map chip_state old))) (map chip_state old)
+      → map chip_state new ≡ as_members (shifted_through column (tdis v) (members (map chip_state old))) (map chip_state old)
   shifted_chips v old new cut =
       cut-chips (rows.left v (map (λ (s : SeatValue). selected_bits_of column (member_of s)) old)) old new cut
       ∙ ap (λ (l : List Bool). as_members (cut_back column (drop (length v) (l ++ tdis v)) (map member_of old))

@@ -9,7 +9,7 @@ use Rattle.pin_nets.specs.declared.Level.{Level}
 use Rattle.pin_nets.specs.declared.Pin.{Pin}
 use Rattle.pin_nets.specs.Levels.{level_of, pull_drive, reads}
 use Rattle.pin_nets.specs.Wired.{Net}
-use Rattle.boundary.specs.Sight.{Told}
+use Rattle.boundary.specs.Sight.{SeesItsPorts}
 use Rattle.board_meaning.specs.Cells.{Member, drive}
 use Rattle.board_meaning.specs.Nets.{joins, level, lone_net, pin_drive, sees}
 use Rattle.chip_chain.specs.Seats.{SeatValue, first_net}
@@ -85,7 +85,7 @@ seen_alone w place port ms m d at is first =
 -- ---- all cells
 
 pub told_all : (sees : ℕ → Bool) (cells : List Cell) (seen : List Bool)
-    → ((k : ℕ) (c : Cell) → slice_get cells k ≡ Some c → (p : ℕ) → c.port ≡ Some p → slice_get seen k ≡ Some (sees p)) → Told sees cells seen
+    → ((k : ℕ) (c : Cell) → slice_get cells k ≡ Some c → (p : ℕ) → c.port ≡ Some p → slice_get seen k ≡ Some (sees p)) → SeesItsPorts sees cells seen
 told_all sees [] seen each = tt
 told_all sees (c ∷ cs) [] each = tt
 told_all sees (c ∷ cs) (s ∷ seen) each =

@@ -1,5 +1,5 @@
 -- What is done to all devices of a chain at once, without TCK.
-use Rattle.std.specs.Prelude.{◌≡◌, ◌++◌, Bool, true, ℕ, List, [], ◌∷◌, length, take, drop, refl}
+use Rattle.std.specs.Prelude.{◌≡◌, ◌++◌, Bool, true, ℕ, List, [], ◌∷◌, length, drop, refl}
 use Rattle.std.proofs.Common.{◌∙◌}
 use Rattle.jt_tap.specs.declared.Column.{Column}
 use Rattle.jt_tap.specs.declared.State.{State}
@@ -8,13 +8,13 @@ use Rattle.jt_tap.specs.declared.Work.TheVariants.{Captures}
 use Rattle.scan_registers.specs.Chips.{IsPut}
 use Rattle.scan_registers.specs.Instruction.{meaning}
 use Rattle.scan_registers.specs.Puts.{put_both, put_nothing}
-use Rattle.scan_registers.specs.Registers.{after_capture}
 use Rattle.boundary.specs.Cells.{BoundaryValue, IsWhole}
-use Rattle.boundary.specs.Sight.{Told}
-use Rattle.board_meaning.specs.Cells.{Member, surroundings}
+use Rattle.boundary.specs.Sight.{SeesItsPorts}
+use Rattle.board_meaning.specs.Cells.{Member}
 use Rattle.board_meaning.specs.Chain.{ChipState}
 use Rattle.board_meaning.specs.Resting.{chip_at_rest}
-use Rattle.board_meaning.specs.Whole.{selected_bits_of, cut_back, joined_bits, settled_member, trst_member}
+use Rattle.board_meaning.specs.Whole.{capture_member, selected_bits_of, cut_back, joined_bits, settled_member}
+use Rattle.board_meaning.specs.Whole.{trst_member}
 use Rattle.chip_chain.specs.Chains.{ChainValue}
 use Rattle.chip_chain.specs.Seats.{IsKept, SeatValue, captures_boundary, chip_state, member_of}
 use Rattle.chip_chain.specs.Telling.{IsAt, sight}
@@ -33,17 +33,9 @@ as_members _ _ = []
 abbrev pub chain_as : List Member → ChainValue → ChainValue
 chain_as ms c = record c { chips = as_members ms c.chips }
 
--- what a capture gives a device whose ports see this
-abbrev pub capture_member : Column → (ℕ → Bool) → Member → Member
-capture_member column sees m = record m { registers = after_capture m.device column (surroundings sees m) m.registers }
-
--- what comes out of the joined registers
-abbrev pub out : Column → List Bool → List Member → List Bool
-out column t ms = take (length t) (joined_bits column ms ++ t)
-
 -- the devices, each with its part of what stays in
-abbrev pub shifted : Column → List Bool → List Member → List Member
-shifted column t ms = cut_back column (drop (length t) (joined_bits column ms ++ t)) ms
+abbrev pub shifted_through : Column → List Bool → List Member → List Member
+shifted_through column t ms = cut_back column (drop (length t) (joined_bits column ms ++ t)) ms
 
 -- ---- one device, in the code's terms
 
@@ -75,7 +67,7 @@ pub record CapturesAt (w : WiringValue) (column : Column) (place : ℕ) (s t : S
 -- if the column's capture is of the boundary register, each cell with a port was told what its port sees
 abbrev pub IsSightedFor : Column → (ℕ → Bool) → SeatValue → Type 0
 IsSightedFor column sees s = captures_boundary (Captures column) (meaning s.chip.device s.chip.latch).selected ≡ true
-    → IsWhole s.chip.boundary × Told sees s.chip.device.cells s.chip.boundary.seen
+    → IsWhole s.chip.boundary × SeesItsPorts sees s.chip.device.cells s.chip.boundary.seen
 
 -- ---- a device as a link
 

@@ -1,12 +1,13 @@
 -- How a planned chain is made.
-use Rattle.std.specs.Prelude.{◌≡◌, ◌<◌, ◌≤◌, ◌&&◌, ◌==◌, ℕ, suc, Bool, List, [], ◌∷◌, length, map, slice_index_or}
+use Rattle.std.specs.Prelude.{◌≡◌, ◌<◌, ◌≤◌, ℕ, suc, List, [], ◌∷◌, length, map, slice_index_or}
 use Rattle.std.specs.Prelude.{Option, Some, None, if◌then◌else◌}
-use Rattle.std.specs.List.{AllByRecursion, list_any}
+use Rattle.std.specs.List.{AllByRecursion}
 use Rattle.scan_registers.specs.Chips.{powered}
 use Rattle.scan_registers.specs.Fitting.{IsFormed}
 use Rattle.pin_nets.specs.declared.Pin.{Pin}
 use Rattle.pin_nets.specs.Wired.{Net}
 use Rattle.boundary.specs.Cells as cells
+use Rattle.board_meaning.specs.Nets.{has_pin}
 use Rattle.board_file.specs.Fits.{HasCore, IsPinOf, all_pins}
 use Rattle.board_file.specs.Wiring as planned
 use Rattle.chip_chain.specs.Seats.{SeatValue, cell_net, first_net}
@@ -23,10 +24,6 @@ seat_of nets m = record {
 abbrev pub seats_of : List Net → ℕ → List planned.Member → List SeatValue
 seats_of nets place [] = []
 seats_of nets place (m ∷ ms) = seat_of (map (cell_net nets place) m.device.cells) m ∷ seats_of nets (suc place) ms
-
--- whether one of these pins is this port bit of the device at a place
-abbrev pub has_pin : (place port : ℕ) → List Pin → Bool
-has_pin place port pins = list_any (λ (pin : Pin). (pin.device == place) && (pin.port == port)) pins
 
 -- the pins of a net are entered at their port bits, those of the device at this place
 pub record EntersNet (place net : ℕ) (pins : List Pin) (old new : List (Option ℕ)) : Type 0 where

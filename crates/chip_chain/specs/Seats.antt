@@ -14,7 +14,7 @@ use Rattle.scan_registers.specs.Chips.{ChipValue, registers}
 use Rattle.scan_registers.specs.Instruction.{meaning}
 use Rattle.pin_nets.specs.Wired.{Net}
 use Rattle.boundary.specs.Cells.{BoundaryValue, IsWhole}
-use Rattle.boundary.specs.Sight.{Told}
+use Rattle.boundary.specs.Sight.{SeesItsPorts}
 use Rattle.board_meaning.specs.Cells.{Member}
 use Rattle.board_meaning.specs.Chain.{ChipState}
 use Rattle.board_meaning.specs.Nets.{joins}
@@ -75,7 +75,7 @@ captures_boundary _ _ = false
 -- if it does, each cell with a port was told what its port sees
 abbrev pub IsSighted : (ℕ → Bool) → SeatValue → Type 0
 IsSighted sees s = captures_boundary (work s.chip.state) (meaning s.chip.device s.chip.latch).selected ≡ true
-    → IsWhole s.chip.boundary × Told sees s.chip.device.cells s.chip.boundary.seen
+    → IsWhole s.chip.boundary × SeesItsPorts sees s.chip.device.cells s.chip.boundary.seen
 
 -- whether the falling edge that comes may change what a pin drives: it updates or resets
 abbrev pub changes_drives : Work → Bool

@@ -1,7 +1,7 @@
 -- How the cells of a device are told what their ports see.
 use Rattle.std.specs.Prelude.{◌≡◌, ℕ, Bool, List, map, slice_get, Some}
 use Rattle.bsdl_device.specs.declared.Cell.{Cell}
-use Rattle.boundary.specs.Sight.{Told}
+use Rattle.boundary.specs.Sight.{SeesItsPorts}
 use Rattle.board_file.specs.Fits.{all_pins}
 use Rattle.board_meaning.specs.Cells.{Member}
 use Rattle.board_meaning.specs.Nets.{pin_drive, sees}
@@ -28,4 +28,4 @@ TellsCell w k old new = (place : ℕ) (ms : List Member) → IsAt w place ms old
 -- each was
 abbrev pub TellsAll : WiringValue → SeatValue → SeatValue → Type 0
 TellsAll w old new = (place : ℕ) (ms : List Member) → IsAt w place ms old
-    → Told (sight w ms place) old.chip.device.cells new.chip.boundary.seen
+    → SeesItsPorts (sight w ms place) old.chip.device.cells new.chip.boundary.seen

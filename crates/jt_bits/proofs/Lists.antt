@@ -14,7 +14,7 @@ use Rattle.std.proofs.lemmas.List.FromFn.{get_or-map-range_with_len, length-map-
 use Rattle.std.proofs.lemmas.Option.{slice_get-get_or, unwrap_or-slice_get}
 use Rattle.jt_bits.specs.Lengths.{resized}
 use Rattle.jt_bits.specs.Packed.{has_bit, packed_bit, listed}
-use Rattle.jt_bits.specs.Shifting.{shifted}
+use Rattle.jt_bits.specs.Shifting.{after_shift}
 use Rattle.jt_bits.specs.Words.{bit_of, number, word_of, word_from, differ, is_bad_at, is_bad_bit, IsFirst}
 use Rattle.jt_bits.proofs.PackedWords.{ring, ring_below, ring_apart, ring_distinct, ring_next, ring_add, listed-length, listed-get, is_listed, packed_at, and_bit}
 
@@ -86,14 +86,14 @@ bit_put old new start len i bit same in_ s h put =
 
 pub bit_shifted : (old new : List ℕ) (start len : ℕ) (bit : Bool) → length new ≡ length old → len ≤ 64 * length old → start < 64 * length old → 0 < len
     → ((q : ℕ) → packed_bit new q ≡ if q == (start + len) % (64 * length old) then bit else packed_bit old q)
-    → listed new ((start + 1) % (64 * length old)) len ≡ shifted (listed old start len) bit
+    → listed new ((start + 1) % (64 * length old)) len ≡ after_shift (listed old start len) bit
 bit_shifted old new start len bit same in_ s some put =
     let room = 64 * length old in
     let bits = listed old start len in
     let is_long : length bits ≡ len = listed-length old start len in
     let rest : length (drop 1 bits) ≡ len - 1 = length-drop 1 bits ∙ omega arith in
     let place : ℕ → ℕ = λ k. (start + k) % room in
-    is_listed new ((start + 1) % room) len (shifted bits bit) (length-append (drop 1 bits) (bit ∷ []) ∙ omega arith)
+    is_listed new ((start + 1) % room) len (after_shift bits bit) (length-append (drop 1 bits) (bit ∷ []) ∙ omega arith)
     (λ k low.
     let moved : packed_bit new (((start + 1) % room + k) % (64 * length new)) ≡ put_at old (place len) bit (place (suc k)) =
     ap (λ (n : ℕ). packed_bit new (((start + 1) % room + k) % (64 * n))) same
@@ -263,12 +263,12 @@ set_there words lent new after start len i place n bits bit view h in_ s same lo
 
 pub shifted_there : (words lent new after : List ℕ) (start next len place n : ℕ) (bits : List Bool) (bit : Bool) → listed words start len ≡ bits → 0 < len → len ≤ 64 * length words → start < 64 * length words
     → lent ≡ words → length new ≡ length words → after ≡ new → place ≡ (start + len) % (64 * n) → next ≡ (start + 1) % (64 * n) → n ≡ length words
-    → ((q : ℕ) → packed_bit new q ≡ if q == place then bit else packed_bit lent q) → listed after next len ≡ shifted bits bit
+    → ((q : ℕ) → packed_bit new q ≡ if q == place then bit else packed_bit lent q) → listed after next len ≡ after_shift bits bit
 shifted_there words lent new after start next len place n bits bit view h in_ s same long is at step many put =
     ap (λ (ws : List ℕ). listed ws next len) is
     ∙ ap (λ (k : ℕ). listed new k len) (same_place start 1 next n (length words) step many)
     ∙ bit_shifted words new start len bit long in_ s h (same_put words lent new place ((start + len) % (64 * length words)) bit same (same_place start len place n (length words) at many) put)
-    ∙ ap (λ (b : List Bool). shifted b bit) view
+    ∙ ap (λ (b : List Bool). after_shift b bit) view
 
 pub at_start : (start n : ℕ) → start < 64 * n → start ≡ (start + 0) % (64 * n)
 at_start start n h =

@@ -6,7 +6,7 @@ ghost use Rattle.std.specs.Prelude.{slice_set, IfOk};
 ghost use Rattle.jt_bits.specs.Lengths.{resized};
 ghost use Rattle.jt_bits.specs.Packed.{has_bit, packed_bit, listed, FewWords};
 ghost use Rattle.jt_bits.specs.Runs.{RunSet, copied};
-ghost use Rattle.jt_bits.specs.Shifting.{shifted};
+ghost use Rattle.jt_bits.specs.Shifting.{after_shift};
 ghost use Rattle.jt_bits.specs.Words.{bit_of, word_of, word_from, is_bad_at, is_bad_bit, IsFirst};
 
 pub use digits::{HexFault, has_one_beyond};
@@ -134,7 +134,7 @@ impl Bits {
     pub fn shift_in(&mut self, bit: bool) -> bool
         requires { 0 < length self.old }
         ensures out { slice_get self.old 0 ≡ Some result }
-        ensures bits { self.new ≡ shifted self.old bit }
+        ensures bits { self.new ≡ after_shift self.old bit }
     {
         words::shift(&mut self.words, &mut self.start, self.len, bit)
     }

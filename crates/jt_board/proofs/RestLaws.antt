@@ -19,7 +19,7 @@ use Rattle.board_meaning.specs.Whole.{reset_member, settle, settled_member, shif
 use Rattle.board_meaning.specs.Whole.{update_member}
 use Rattle.board_meaning.proofs.Sound.{Sound-capture_all, Sound-cut_back, Sound-reset, Sound-update, sound-other}
 use Rattle.board_meaning.proofs.Sound.{sound-updated}
-use Rattle.chip_chain.specs.AtRest.{as_members, chain_as, shifted}
+use Rattle.chip_chain.specs.AtRest.{as_members, chain_as, shifted_through}
 use Rattle.chip_chain.specs.Chains.{ChainValue}
 use Rattle.jt_board.specs.Made.{board_at}
 
@@ -96,7 +96,7 @@ chain-reset cs is =
     (Sound-reset (members cs) is.sound) is
 
 pub chain-shifted : (column : Column) (t : List Bool) (cs : List ChipState) → IsChain cs
-    → IsChain (as_members (shifted column t (members cs)) cs)
+    → IsChain (as_members (shifted_through column t (members cs)) cs)
 chain-shifted column t cs is =
     let left = drop (length t) (joined_bits column (members cs) ++ t) in
     let long : length left ≡ length (joined_bits column (members cs)) =
@@ -106,7 +106,7 @@ chain-shifted column t cs is =
       length-append
           (joined_bits column (members cs)) t,
     ) in
-    chain-as (shifted column t (members cs)) cs (count-cut column left (members cs))
+    chain-as (shifted_through column t (members cs)) cs (count-cut column left (members cs))
     (Sound-cut_back column left (members cs) is.sound long) is
 
 -- ---- each action on a board at rest
@@ -174,9 +174,9 @@ rests_reset tck c m is = rests_as (λ nets ms. map reset_member ms) (λ nets ms.
 
 pub rests_shifted : (column : Column) (t : List Bool) (tck : Bool) (c : ChainValue) (m : AtRest)
     → IsAtRest (board_at tck c) m
-    → IsAtRest (board_at tck (chain_as (shifted column t (members c.chips)) c)) (shift column t m)
+    → IsAtRest (board_at tck (chain_as (shifted_through column t (members c.chips)) c)) (shift column t m)
 rests_shifted column t tck c m is =
-    rests_as (λ nets ms. shifted column t ms)
+    rests_as (λ nets ms. shifted_through column t ms)
     (λ nets ms. count-cut column (drop (length t) (joined_bits column ms ++ t)) ms) tck c m is
 
 -- the members of a board at rest

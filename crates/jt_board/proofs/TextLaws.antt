@@ -18,7 +18,7 @@ use Rattle.board_file.specs.declared.fault.BoardFault.TheVariants as fault
 use Rattle.board_file.specs.declared.plan.Plan.{Plan}
 use Rattle.board_meaning.specs.Chain.{BoardState}
 use Rattle.chip_chain.specs.Building.{IsReady}
-use Rattle.jt_board.specs.FromText.{TellsMade, is_why, said_device}
+use Rattle.jt_board.specs.FromText.{TellsMade, IsWhyRefused, said_device}
 use Rattle.jt_board.specs.Made.{IsSoundWiring, board_of}
 
 -- ---- what is said
@@ -55,11 +55,11 @@ ready_wiring w fits said = record {
 
 -- ---- what is told
 
-pub told_fault : (f : BoardFault BsdlFault) (said : Result planned.Wiring planned.Fault) → TellsBoard is_why (Err f) said → TellsMade (Err f) said
+pub told_fault : (f : BoardFault BsdlFault) (said : Result planned.Wiring planned.Fault) → TellsBoard IsWhyRefused (Err f) said → TellsMade (Err f) said
 told_fault f (Ok w) h = h
 told_fault f (Err e) h = h
 
-pub told_board : (p : Plan) (b : BoardState) (said : Result planned.Wiring planned.Fault) → TellsBoard is_why (Ok p) said → b ≡ board_of (wiring p) → TellsMade (Ok b) said
+pub told_board : (p : Plan) (b : BoardState) (said : Result planned.Wiring planned.Fault) → TellsBoard IsWhyRefused (Ok p) said → b ≡ board_of (wiring p) → TellsMade (Ok b) said
 told_board p b (Ok w) h is = let same : w ≡ wiring p = cc in is ∙ ap board_of (sym same)
 told_board p b (Err e) h is = absurd cc
 

@@ -1,5 +1,5 @@
 -- Boards that a board file and the descriptions it names make.
-use Rattle.std.specs.Prelude.{◌≡◌, ℕ, List, Option, Some, None, Result, Ok, Err}
+use Rattle.std.specs.Prelude.{◌≡◌, ℕ, List, Option, Some, None, MatchOption, Result, Ok, Err}
 use Rattle.bsdl_device.specs.Device.{Device}
 use Rattle.bsdl.specs.Judging.{text_says}
 use Rattle.bsdl.specs.View as reading
@@ -14,13 +14,13 @@ use Rattle.jt_board.specs.Made.{board_of}
 abbrev pub said_device : List ℕ → Option Device
 said_device text = elim (text_says text) [ Ok d ↦ Some d | Err r ↦ None ]
 
--- this is why a text is refused
-abbrev pub is_why : List ℕ → BsdlFault → Type 0
-is_why text fault = reading.Refuses fault (text_says text)
+-- why a text is refused; want of memory is no reason
+abbrev pub IsWhyRefused : List ℕ → BsdlFault → Type 0
+IsWhyRefused text fault = MatchOption (reading.refusal fault) ⊥ (λ r. text_says text ≡ Err r)
 
 -- The board as it powers up, or the fault that the refusal names, unless memory runs out.
 abbrev pub TellsMade : Result BoardState (BoardFault BsdlFault) → Result planned.Wiring planned.Fault → Type 0
 TellsMade (Ok b) (Ok w) = b ≡ board_of w
 TellsMade (Ok b) (Err e) = ⊥
-TellsMade (Err f) (Ok w) = TellsFault is_why f None
-TellsMade (Err f) (Err e) = TellsFault is_why f (Some e)
+TellsMade (Err f) (Ok w) = TellsFault IsWhyRefused f None
+TellsMade (Err f) (Err e) = TellsFault IsWhyRefused f (Some e)

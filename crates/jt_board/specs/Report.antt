@@ -18,15 +18,15 @@ digit false = 48
 abbrev pub digits : List Bool → List ℕ
 digits bits = map digit (reverse bits)
 
-abbrev pub shown : Option Name → List ℕ
-shown (Some name) = name
-shown None = codes "-"
+abbrev pub name_or_dash : Option Name → List ℕ
+name_or_dash (Some name) = name
+name_or_dash None = codes "-"
 
 -- an instruction: its bits and its name
 abbrev pub instruction_part : ChipState → List ℕ
 instruction_part c =
     digits c.member.registers.latch ++ codes " "
-    ++ (shown (instruction c.member.device c.member.registers.latch) ++ codes "\n")
+    ++ (name_or_dash (instruction c.member.device c.member.registers.latch) ++ codes "\n")
 
 -- a device: its name, the word of its controller's state, and its instruction
 abbrev pub device_line : ChipState → List ℕ

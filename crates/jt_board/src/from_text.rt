@@ -22,7 +22,7 @@ impl Describe for Bsdl {
 
     ghost says = { text.said_device };
 
-    ghost refuses = { text.is_why };
+    ghost refuses = { text.IsWhyRefused };
 
     fn read(&self, alloc: Global, text: &[u8]) -> Result<Device, Unread<BsdlFault>> {
         match read(alloc, text) {

@@ -3,7 +3,7 @@
 ghost use Rattle.std.specs.Prelude.{◌≡◌, ◌++◌, flat_map};
 ghost use Rattle.byte_ends.specs.Writes.{WritesAll};
 ghost use Rattle.jt_board.specs.Report.{device_line, digit, digits, instruction_part, level_line, net_line, report};
-ghost use Rattle.jt_board.specs.Report.{shown};
+ghost use Rattle.jt_board.specs.Report as spec;
 ghost use Rattle.jt_board.specs.LeftOut.{device_lines, left_out_line, left_out_lines};
 ghost use Rattle.jt_board.specs.Report.{level_word as said_level};
 ghost use Rattle.board_meaning.specs.Chain.{members};
@@ -147,7 +147,7 @@ fn write_instruction<W: Sink>(seat: &Seat, out: &mut Counted<W>) -> Result<(), B
 
 /// The name of a device's instruction, `-` where it has none.
 fn name_or_dash(seat: &Seat) -> &[u8]
-    ensures { result.now ≡ shown (instruction seat.now.chip.device seat.now.chip.latch) }
+    ensures { result.now ≡ spec.name_or_dash (instruction seat.now.chip.device seat.now.chip.latch) }
 {
     match seat.instruction() {
         Some(name) => name.as_bytes(),

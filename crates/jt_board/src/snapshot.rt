@@ -144,8 +144,7 @@ impl<'a> Snapshot<'a> {
     }
 
     /// The stage and the latch of its user register `k`, counted in the order in which its description first names
-    /// them;
-    /// `None` past the last.
+    /// them; `None` past the last.
     pub fn user(&self, i: usize, k: usize) -> Option<(&'a Bits, &'a Bits)>
         requires { i < length self.now.chips }
         ensures { option_map (λ c. user_of c.member k) (slice_get self.now.chips i)

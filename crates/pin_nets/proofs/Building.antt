@@ -14,9 +14,9 @@ use Rattle.pin_nets.specs.declared.Counts.{Counts}
 use Rattle.pin_nets.specs.declared.Drive.{Drive}
 use Rattle.pin_nets.specs.declared.Drive.TheVariants.{Nothing}
 use Rattle.pin_nets.specs.declared.build.NetSpec.{NetSpec}
-use Rattle.pin_nets.specs.Building.{Below, net_value}
+use Rattle.pin_nets.specs.Building.{HasPinsBelow, net_value}
 use Rattle.pin_nets.specs.Levels.{NetValue, four, counts_of, net_counts, one, is_strong, is_weak, pull_drive, drive_at}
-use Rattle.pin_nets.specs.Places.{has_pin, times, alone, lone_nets, IsOnce, Marked, Joined, Lone, Short, AllNone, Placed}
+use Rattle.pin_nets.specs.Places.{has_pin, times, alone, lone_nets, IsOnce, HasNetOfEach, EntersPins, AddsLoneNets, AreShort, AllNone, Placed}
 use Rattle.pin_nets.proofs.Counting.{nobody, count-cons, on_none, some_of, past_end, eq_true, eq_false}
 
 -- ---- the pins of one net
@@ -33,11 +33,11 @@ any_push p (k ∷ pins) q = step (k == p) (list_any (λ k. k == p) (pins ++ q �
     step true x y b e = refl
     step false x y b e = e
 
-pub joined_none : (old : List (Option ℕ)) (net : ℕ) → Joined old old net []
+pub joined_none : (old : List (Option ℕ)) (net : ℕ) → EntersPins old old net []
 joined_none old net = record { long = refl; each = λ p h. refl }
 
-pub joined_more : (old now : List (Option ℕ)) (net : ℕ) (pins : List ℕ) (i : ℕ) → i < length pins → get_or pins i 0 < length old → Joined old now net (take i pins)
-    → Joined old (set now (get_or pins i 0) (Some net)) net (take (i + 1) pins)
+pub joined_more : (old now : List (Option ℕ)) (net : ℕ) (pins : List ℕ) (i : ℕ) → i < length pins → get_or pins i 0 < length old → EntersPins old now net (take i pins)
+    → EntersPins old (set now (get_or pins i 0) (Some net)) net (take (i + 1) pins)
 joined_more old now net pins i h in_ so_far =
     let q = get_or pins i 0 in
     let any : (p : ℕ) → list_any (λ k. k == p) (take (i + 1) pins) ≡ (list_any (λ k. k == p) (take i pins) || (q == p)) =
@@ -107,8 +107,8 @@ pos_miss f xs x fails =
     pushed f xs x n is ∙ at_place n (all + 1) (omega arith) ∙ sym (at_place n all (omega arith)))
     (cases_eq n all)
 
-pub marked_push : (old new : List (Option ℕ)) (nets : List NetValue) (x : NetValue) → Marked old nets → Joined old new (length nets) x.pins
-    → ((p : ℕ) → has_pin p x ≡ true → position (has_pin p) nets ≡ None) → Marked new (nets ++ x ∷ [])
+pub marked_push : (old new : List (Option ℕ)) (nets : List NetValue) (x : NetValue) → HasNetOfEach old nets → EntersPins old new (length nets) x.pins
+    → ((p : ℕ) → has_pin p x ≡ true → position (has_pin p) nets ≡ None) → HasNetOfEach new (nets ++ x ∷ [])
 marked_push old new nets x marked joined free = record {
   each = λ p h. by (has_pin p x) p (omega (arith, joined.long)) refl;
 }
@@ -128,12 +128,12 @@ slice_push [] x (suc n) y e = absurd (impossible e)
 slice_push (z ∷ nets) x zero y e = inl e
 slice_push (z ∷ nets) x (suc n) y e = ⊎_elim (λ a. inl a) (λ b. inr (ap suc b.0, b.1)) (slice_push nets x n y e)
 
-pub short_push : (nets : List NetValue) (x : NetValue) → Short nets → length x.pins < 2 ^ 60 → Short (nets ++ x ∷ [])
+pub short_push : (nets : List NetValue) (x : NetValue) → AreShort nets → length x.pins < 2 ^ 60 → AreShort (nets ++ x ∷ [])
 short_push nets x short h = record {
   each = λ n y is. ⊎_elim (λ a. short.each n y a) (λ b. subst (λ (z : NetValue). length z.pins < 2 ^ 60) b.1 h) (slice_push nets x n y is);
 }
 
-pub short_none : Short []
+pub short_none : AreShort []
 short_none = record { each = λ n x is. absurd (impossible x is) }
   where
     impossible : (x : NetValue) → None ≡ Some x → ⊥
@@ -173,7 +173,7 @@ free_named whole part k are h once p has = by (position (has_pin p) part) refl
         let none = once.apart p k m (get_or whole k nobody) (get_or whole m nobody) (λ e. omega (arith, found.0)) (slice_get-get_or whole k nobody h) (slice_get-get_or whole m nobody (omega (arith, found.0))) some in
         absurd (omega (arith, none, also))
 
-pub marked_none : (net_of : List (Option ℕ)) → AllNone net_of → Marked net_of []
+pub marked_none : (net_of : List (Option ℕ)) → AllNone net_of → HasNetOfEach net_of []
 marked_none net_of none = record { each = λ p h. none.each p h }
 
 -- ---- pins on no net
@@ -188,14 +188,14 @@ other_pin : (p q : ℕ) → q ≢ p → has_pin p (alone q) ≡ false
 other_pin p q apart = ap (λ (b : Bool). b || false) (eq_false q p apart)
 
 pub record LoneUntil (base : List NetValue) (k : ℕ) (old net_of : List (Option ℕ)) (nets : List NetValue) : Type 0 where
-  pub lone : Lone base k net_of nets
+  pub lone : AddsLoneNets base k net_of nets
   pub long : length net_of ≡ length old
   pub ahead : (p : ℕ) → k ≤ p → position (has_pin p) nets ≡ position (has_pin p) base
 
 no_lone : (base : List NetValue) → base ≡ base ++ lone_nets base 0
 no_lone base = sym (append-nil base)
 
-pub lone_none : (base : List NetValue) (net_of : List (Option ℕ)) → Marked net_of base → IsOnce base → Short base → LoneUntil base 0 net_of net_of base
+pub lone_none : (base : List NetValue) (net_of : List (Option ℕ)) → HasNetOfEach net_of base → IsOnce base → AreShort base → LoneUntil base 0 net_of net_of base
 lone_none base net_of marked once short = record {
   lone = record { nets = no_lone base; marked = marked; once = once; short = short };
   long = refl;
@@ -216,7 +216,7 @@ lone_taken base k old net_of nets h none so_far =
     let lone = so_far.lone in
     let here : position (has_pin k) nets ≡ None = sym (lone.marked.each k h) ∙ none in
     let is : is_lone base k ≡ true = ap is_none (sym (so_far.ahead k (omega arith)) ∙ here) in
-    let joined : Joined net_of (set net_of k (Some (length nets))) (length nets) (k ∷ []) = joined_more net_of net_of (length nets) (k ∷ []) 0 (omega arith) h (joined_none net_of (length nets)) in
+    let joined : EntersPins net_of (set net_of k (Some (length nets))) (length nets) (k ∷ []) = joined_more net_of net_of (length nets) (k ∷ []) 0 (omega arith) h (joined_none net_of (length nets)) in
     record {
       lone = record {
         nets =
@@ -262,7 +262,7 @@ lone_left base k old net_of nets h taken so_far =
       ahead = λ p more. so_far.ahead p (omega arith);
     }
 
-pub placed : (net_of : List (Option ℕ)) (nets : List NetValue) → IsOnce nets → Marked net_of nets → Placed net_of nets
+pub placed : (net_of : List (Option ℕ)) (nets : List NetValue) → IsOnce nets → HasNetOfEach net_of nets → Placed net_of nets
 placed net_of nets once marked = record {
   once = once;
   found = λ p o is. sym (get_or_from_slice_get net_of p o None is) ∙ marked.each p (slice_get_within net_of p o is);
@@ -295,14 +295,14 @@ lone_keep base k old net_of entered nets more r h test is same_of same so_far =
 pub named_at : (specs : List NetSpec) (k : ℕ) (spec : NetSpec) → k < length specs → spec ≡ get_or specs k spec → get_or (map net_value specs) k nobody ≡ net_value spec
 named_at specs k spec h is = get_or-map net_value specs k spec nobody h ∙ ap net_value (sym is)
 
-pub named_inside : (specs : List NetSpec) (k : ℕ) (spec : NetSpec) (pins : ℕ) → k < length specs → spec ≡ get_or specs k spec → Below pins (map net_value specs) → (i : ℕ) → i < length spec.pins.items → slice_index spec.pins.items i < pins
+pub named_inside : (specs : List NetSpec) (k : ℕ) (spec : NetSpec) (pins : ℕ) → k < length specs → spec ≡ get_or specs k spec → HasPinsBelow pins (map net_value specs) → (i : ℕ) → i < length spec.pins.items → slice_index spec.pins.items i < pins
 named_inside specs k spec pins h is below i in_ =
     below.each k i (net_value spec) (slice_get-get_or (map net_value specs) k nobody (omega (arith, length-map specs net_value)) ∙ ap Some (named_at specs k spec h is)) in_
 
 pub marked_named : (whole nets : List NetValue) (k : ℕ) (x : NetValue) (now new : List (Option ℕ)) (len : ℕ) (pins : List ℕ) → nets ≡ take k whole → k < length whole → get_or whole k nobody ≡ x → IsOnce whole
-    → Marked now nets → Joined now new len pins → len ≡ length nets → pins ≡ x.pins → Marked new (nets ++ x ∷ [])
+    → HasNetOfEach now nets → EntersPins now new len pins → len ≡ length nets → pins ≡ x.pins → HasNetOfEach new (nets ++ x ∷ [])
 marked_named whole nets k x now new len pins are h is once marked joined long same =
-    marked_push now new nets x marked (subst (λ (n : ℕ). Joined now new n x.pins) long (subst (λ (ps : List ℕ). Joined now new len ps) same joined))
+    marked_push now new nets x marked (subst (λ (n : ℕ). EntersPins now new n x.pins) long (subst (λ (ps : List ℕ). EntersPins now new len ps) same joined))
     (λ p has. free_named whole nets k are h once p (ap (has_pin p) is ∙ has))
 
 -- ---- at first no pin drives

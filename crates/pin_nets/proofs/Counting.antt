@@ -15,8 +15,8 @@ use Rattle.pin_nets.specs.declared.Drive.TheVariants.{Nothing}
 use Rattle.pin_nets.specs.declared.Level.{Level}
 use Rattle.pin_nets.specs.declared.Level.TheVariants.{Float}
 use Rattle.pin_nets.specs.declared.Pull.TheVariants.{Free}
-use Rattle.pin_nets.specs.Levels.{NetValue, four, net_counts, level, level_by, Has, IsFew, Moved, one, is_strong, is_weak, pull_drive, drive_at}
-use Rattle.pin_nets.specs.Places.{has_pin, times, IsOnce, Placed, Short}
+use Rattle.pin_nets.specs.Levels.{NetValue, four, net_counts, level, level_by, Has, IsFew, Replaces, one, is_strong, is_weak, pull_drive, drive_at}
+use Rattle.pin_nets.specs.Places.{has_pin, times, IsOnce, Placed, AreShort}
 
 -- ---- one pin of a list of pins
 
@@ -79,13 +79,13 @@ off_net ds p d x h none =
     λ i. record { strong_zeros = same (is_strong false) i; strong_ones = same (is_strong true) i; weak_zeros = same (is_weak false) i; weak_ones = same (is_weak true) i }
 
 -- the net of the pin
-pub on_net : (ds : List Drive) (p : ℕ) (d : Drive) (x : NetValue) → p < length ds → times p x ≡ 1 → Moved (net_counts ds x) (net_counts (set ds p d) x) (drive_at ds p) d
+pub on_net : (ds : List Drive) (p : ℕ) (d : Drive) (x : NetValue) → p < length ds → times p x ≡ 1 → Replaces (net_counts ds x) (net_counts (set ds p d) x) (drive_at ds p) d
 on_net ds p d x h once =
     let moves : (t : Drive → Bool) → count_by t (pull_drive x.pull ∷ map (drive_at (set ds p d)) x.pins) + one (t (drive_at ds p)) ≡ count_by t (pull_drive x.pull ∷ map (drive_at ds) x.pins) + one (t d) =
     λ t. omega (arith, net_put t ds p d x h, ap (λ (m : ℕ). m * one (t (drive_at ds p))) once, ap (λ (m : ℕ). m * one (t d)) once) in
     record { strong_zeros = moves (is_strong false); strong_ones = moves (is_strong true); weak_zeros = moves (is_weak false); weak_ones = moves (is_weak true) }
 
-pub same_moves : (c a b : Counts) (old new : Drive) → Moved c a old new → Moved c b old new → a ≡ b
+pub same_moves : (c a b : Counts) (old new : Drive) → Replaces c a old new → Replaces c b old new → a ≡ b
 same_moves c a b old new x y =
     let z : a.strong_zeros ≡ b.strong_zeros = omega (arith, x.strong_zeros, y.strong_zeros) in
     let o : a.strong_ones ≡ b.strong_ones = omega (arith, x.strong_ones, y.strong_ones) in
@@ -201,10 +201,10 @@ module _ (ds : List Drive) (p : ℕ) (d : Drive) (nets : List NetValue) (m : ℕ
   abbrev new : List Drive
   new = set ds p d
 
-  pub counted : (after : Counts) → Moved (net_counts ds net) after (drive_at ds p) d → after ≡ net_counts new net
+  pub counted : (after : Counts) → Replaces (net_counts ds net) after (drive_at ds p) d → after ≡ net_counts new net
   counted after is = same_moves (net_counts ds net) after (net_counts new net) (drive_at ds p) d is (on_net ds p d net h on.once)
 
-  pub kept_on : (after : Counts) → Moved (net_counts ds net) after (drive_at ds p) d → set (kept ds nets) m (four after) ≡ kept new nets
+  pub kept_on : (after : Counts) → Replaces (net_counts ds net) after (drive_at ds p) d → set (kept ds nets) m (four after) ≡ kept new nets
   kept_on after is =
       let f : ℕ → List ℕ = λ n. four (net_counts new (get_or nets n nobody)) in
       let old = kept ds nets in
@@ -250,10 +250,10 @@ pub has_before : (ds : List Drive) (pin : ℕ) (x : NetValue) (old : Drive) (bef
 has_before ds pin x old before h once is same =
     subst (λ (d : Drive). Has d before) (sym is) (subst (λ (c : Counts). Has (drive_at ds pin) c) (sym same) (has_old ds pin x h once))
 
-pub few_before : (ds : List Drive) (nets : List NetValue) (m : ℕ) (before : Counts) → Short nets → m < length nets → before ≡ net_counts ds (get_or nets m nobody) → IsFew before
+pub few_before : (ds : List Drive) (nets : List NetValue) (m : ℕ) (before : Counts) → AreShort nets → m < length nets → before ≡ net_counts ds (get_or nets m nobody) → IsFew before
 few_before ds nets m before short h same =
     subst IsFew (sym same) (few ds (get_or nets m nobody) (short.each m (get_or nets m nobody) (there nets m h)))
 
-pub moved_as : (before after : Counts) (c : Counts) (old d new : Drive) → before ≡ c → old ≡ d → Moved before after old new → Moved c after d new
+pub moved_as : (before after : Counts) (c : Counts) (old d new : Drive) → before ≡ c → old ≡ d → Replaces before after old new → Replaces c after d new
 moved_as before after c old d new same is move =
-    subst (λ (x : Drive). Moved c after x new) is (subst (λ (x : Counts). Moved x after old new) same move)
+    subst (λ (x : Drive). Replaces c after x new) is (subst (λ (x : Counts). Replaces x after old new) same move)

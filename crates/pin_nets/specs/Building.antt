@@ -9,7 +9,7 @@ abbrev pub net_value : NetSpec → NetValue
 net_value s = record { pull = s.pull; pins = s.pins.items }
 
 -- each pin is one of so many
-pub record Below (pins : ℕ) (nets : List NetValue) : Type 0 where
+pub record HasPinsBelow (pins : ℕ) (nets : List NetValue) : Type 0 where
   pub each : (n i : ℕ) (x : NetValue) → slice_get nets n ≡ Some x → i < length x.pins → slice_index x.pins i < pins
 
 -- the nets, and each pin on none of them as a net by itself; no pin drives

@@ -99,7 +99,7 @@ pub record IsFew (c : Counts) : Type 0 where
   pub weak_ones : c.weak_ones ≤ 2 ^ 60
 
 -- one driver in place of another
-pub record Moved (c after : Counts) (old new : Drive) : Type 0 where
+pub record Replaces (c after : Counts) (old new : Drive) : Type 0 where
   pub strong_zeros : after.strong_zeros + one (is_strong false old) ≡ c.strong_zeros + one (is_strong false new)
   pub strong_ones : after.strong_ones + one (is_strong true old) ≡ c.strong_ones + one (is_strong true new)
   pub weak_zeros : after.weak_zeros + one (is_weak false old) ≡ c.weak_zeros + one (is_weak false new)

@@ -23,7 +23,7 @@ pub record Placed (net_of : List (Option ℕ)) (nets : List NetValue) : Type 0 w
   pub once : IsOnce nets
   pub found : (p : ℕ) (o : Option ℕ) → slice_get net_of p ≡ Some o → o ≡ position (has_pin p) nets
 
-pub record Short (nets : List NetValue) : Type 0 where
+pub record AreShort (nets : List NetValue) : Type 0 where
   pub each : (n : ℕ) (x : NetValue) → slice_get nets n ≡ Some x → length x.pins < 2 ^ 60
 
 -- a pin that is a net by itself
@@ -35,21 +35,21 @@ abbrev pub lone_nets : List NetValue → ℕ → List NetValue
 lone_nets nets n = map alone (filter (λ p. is_none (position (has_pin p) nets)) (map (λ p. p) (range_with_len 0 n)))
 
 -- each pin has the place of its net
-pub record Marked (net_of : List (Option ℕ)) (nets : List NetValue) : Type 0 where
+pub record HasNetOfEach (net_of : List (Option ℕ)) (nets : List NetValue) : Type 0 where
   pub each : (p : ℕ) → p < length net_of → slice_index_or net_of p None ≡ position (has_pin p) nets
 
 pub record AllNone (net_of : List (Option ℕ)) : Type 0 where
   pub each : (p : ℕ) → p < length net_of → slice_index_or net_of p None ≡ None
 
 -- these pins, and no others, have come to this net
-pub record Joined (old new : List (Option ℕ)) (net : ℕ) (pins : List ℕ) : Type 0 where
+pub record EntersPins (old new : List (Option ℕ)) (net : ℕ) (pins : List ℕ) : Type 0 where
   pub long : length new ≡ length old
   pub each : (p : ℕ) → p < length old
       → slice_index_or new p None ≡ (if list_any (λ q. q == p) pins then Some net else slice_index_or old p None)
 
 -- the nets of the first n pins stand behind the others, each pin entered
-pub record Lone (old : List NetValue) (n : ℕ) (net_of : List (Option ℕ)) (new : List NetValue) : Type 0 where
+pub record AddsLoneNets (old : List NetValue) (n : ℕ) (net_of : List (Option ℕ)) (new : List NetValue) : Type 0 where
   pub nets : new ≡ old ++ lone_nets old n
-  pub marked : Marked net_of new
+  pub marked : HasNetOfEach net_of new
   pub once : IsOnce new
-  pub short : Short new
+  pub short : AreShort new

@@ -2,8 +2,9 @@
 
 ghost use Rattle.std.specs.Prelude.{◌≡◌, ◌<◌, ◌++◌, ℕ, [], ◌∷◌, None, length, map, slice_index, IfOk, OnOk};
 ghost use Rattle.pin_nets.specs.Levels.{four, counts_of, pull_drive};
-ghost use Rattle.pin_nets.specs.Places.{IsOnce, Marked, Joined, Lone, Short, AllNone, alone, lone_nets};
-ghost use Rattle.pin_nets.specs.Building.{Below, built, net_value};
+ghost use Rattle.pin_nets.specs.Places.{AddsLoneNets, AllNone, AreShort, EntersPins, HasNetOfEach, IsOnce, alone};
+ghost use Rattle.pin_nets.specs.Places.{lone_nets};
+ghost use Rattle.pin_nets.specs.Building.{HasPinsBelow, built, net_value};
 
 use crate::nets::{Net, Nets};
 use crate::{Drive, Pull, listed, pull_counts};
@@ -21,7 +22,7 @@ impl Nets {
     /// pull, after the others, by rising number. No pin stands twice, and each is below the count.
     pub fn build(alloc: Global, pins: usize, nets: &[NetSpec]) -> Result<Nets, AllocError>
         requires once { IsOnce (map net_value nets.now) }
-        requires below { Below pins (map net_value nets.now) }
+        requires below { HasPinsBelow pins (map net_value nets.now) }
         ensures { IfOk result (λ n. n ≡ built pins (map net_value nets.now)) }
     {
         let mut net_of = Vec::from_elem(alloc, None, pins)?;
@@ -45,11 +46,11 @@ fn named_nets(
     net_of: &mut [Option<usize>],
 ) -> Result<Vec<Net>, AllocError>
     requires once { IsOnce (map net_value specs.now) }
-    requires below { Below (length net_of.old) (map net_value specs.now) }
+    requires below { HasPinsBelow (length net_of.old) (map net_value specs.now) }
     requires none { AllNone net_of.old }
     ensures nets { IfOk result (λ v. v.items ≡ map net_value specs.now) }
-    ensures marked { IfOk result (λ v. Marked net_of.new v.items) }
-    ensures short { IfOk result (λ v. Short v.items) }
+    ensures marked { IfOk result (λ v. HasNetOfEach net_of.new v.items) }
+    ensures short { IfOk result (λ v. AreShort v.items) }
 {
     let mut nets = Vec::with_capacity(alloc, specs.len())?;
     for spec in specs {
@@ -65,7 +66,7 @@ fn named_nets(
 /// Enters a net at its pins.
 fn join(net_of: &mut [Option<usize>], net: usize, pins: &[usize])
     requires { (i : ℕ) → i < length pins.now → slice_index pins.now i < length net_of.old }
-    ensures { Joined net_of.old net_of.new net pins.now }
+    ensures { EntersPins net_of.old net_of.new net pins.now }
 {
     for pin in pins {
         net_of[*pin] = Some(net);
@@ -78,10 +79,10 @@ fn add_lone(
     nets: &mut Vec<Net>,
     net_of: &mut [Option<usize>],
 ) -> Result<(), AllocError>
-    requires marked { Marked net_of.old nets.old.items }
+    requires marked { HasNetOfEach net_of.old nets.old.items }
     requires once { IsOnce nets.old.items }
-    requires short { Short nets.old.items }
-    ensures { OnOk result (Lone nets.old.items (length net_of.old) net_of.new nets.new.items) }
+    requires short { AreShort nets.old.items }
+    ensures { OnOk result (AddsLoneNets nets.old.items (length net_of.old) net_of.new nets.new.items) }
 {
     for pin in 0..net_of.len() {
         if net_of[pin].is_none() {

@@ -3,7 +3,7 @@
 
 ghost use Rattle.std.specs.Prelude.{◌≡◌, ◌≢◌, ◌↔◌, IsTrue, [], ◌∷◌};
 ghost use Rattle.pin_nets.specs.Levels as levels;
-ghost use Rattle.pin_nets.specs.Levels.{Has, IsFew, Moved, four};
+ghost use Rattle.pin_nets.specs.Levels.{Has, IsFew, Replaces, four};
 ghost use Rattle.pin_nets.specs.declared.Drive.TheVariants.{Nothing};
 
 pub use build::NetSpec;
@@ -20,11 +20,16 @@ pub enum Drive {
     Nothing,
 }
 
+/// The level of a net, by its strong drivers, and by its weak ones where there is no strong one.
 #[derive(Debug, Clone, Copy, PartialEq, Eq)]
 pub enum Level {
+    /// Drivers of 0 alone.
     Zero,
+    /// Drivers of 1 alone.
     One,
+    /// Drivers of 0 and of 1, equally strong; a port reads 0.
     Contend,
+    /// No driver; a port reads 1.
     Float,
 }
 
@@ -51,10 +56,14 @@ const NO_DRIVER: Counts = Counts {
     weak_ones: 0,
 };
 
+/// The pull of a net, a weak driver.
 #[derive(Debug, Clone, Copy, PartialEq, Eq)]
 pub enum Pull {
+    /// Towards 1.
     Up,
+    /// Towards 0.
     Down,
+    /// None.
     Free,
 }
 
@@ -78,7 +87,7 @@ fn pull_counts(pull: Pull) -> Counts
 fn moved(counts: Counts, old: Drive, new: Drive) -> Counts
     requires there { Has old counts }
     requires few { IsFew counts }
-    ensures { Moved counts result old new }
+    ensures { Replaces counts result old new }
 {
     with(without(counts, old), new)
 }
@@ -86,7 +95,7 @@ fn moved(counts: Counts, old: Drive, new: Drive) -> Counts
 /// The numbers with one driver less.
 fn without(counts: Counts, drive: Drive) -> Counts
     requires { Has drive counts }
-    ensures { Moved counts result drive Nothing }
+    ensures { Replaces counts result drive Nothing }
 {
     let mut fewer = counts;
     match drive {
@@ -102,7 +111,7 @@ fn without(counts: Counts, drive: Drive) -> Counts
 /// The numbers with one driver more.
 fn with(counts: Counts, drive: Drive) -> Counts
     requires { IsFew counts }
-    ensures { Moved counts result Nothing drive }
+    ensures { Replaces counts result Nothing drive }
 {
     let mut more = counts;
     match drive {

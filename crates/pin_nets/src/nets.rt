@@ -36,7 +36,7 @@ pub struct Nets {
 impl Model for Nets {
     ghost use Rattle.std.specs.Prelude.{◌≡◌, length, map};
     ghost use Rattle.pin_nets.specs.Levels.{NetsValue, four, net_counts};
-    ghost use Rattle.pin_nets.specs.Places.{Placed, Short};
+    ghost use Rattle.pin_nets.specs.Places.{Placed, AreShort};
 
     ghost Value = { NetsValue };
 
@@ -45,7 +45,7 @@ impl Model for Nets {
     ghost invariant = { λ n. record {
       long : length n.net_of.items ≡ length n.drives.items;
       placed : Placed n.net_of.items n.nets.items;
-      short : Short n.nets.items;
+      short : AreShort n.nets.items;
       counts : n.counts.items ≡ map (λ x. four (net_counts n.drives.items x)) n.nets.items;
     } };
 }

@@ -64,7 +64,7 @@ met = record {
       ),
     ),
   );
-  devices = (record { description = rich-sound; registers = refl }, (record { description = bare-sound; registers = refl }, tt));
+  devices = (record { description = rich-sound; powered_up = refl }, (record { description = bare-sound; powered_up = refl }, tt));
 }
 
 pub needed : PremisesAreNeeded

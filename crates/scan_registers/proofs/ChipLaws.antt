@@ -12,7 +12,7 @@ use Rattle.scan_registers.specs.declared.Selected.{Selected}
 use Rattle.scan_registers.specs.declared.Selected.TheVariants.{User}
 use Rattle.scan_registers.specs.declared.decode.Decoded.{Decoded}
 use Rattle.scan_registers.specs.declared.users.UserRegister.{UserRegister}
-use Rattle.scan_registers.specs.Edges.{after_shift}
+use Rattle.jt_bits.specs.Shifting.{after_shift}
 use Rattle.scan_registers.specs.Fitting.{Fits, FitsAt, UsersFit, fixed_of, meaning_by}
 use Rattle.scan_registers.specs.Chips.{new_user}
 use Rattle.scan_registers.specs.Instruction.{meaning, reset_latch, x_as_0}
@@ -50,14 +50,14 @@ captured_users d m k us lent new after fixed fits is users same from captured st
     subst (λ (xs : List UserRegister). UsersFit d.users xs) (sym is_new) (with_stage_fits d.users us k f.0 bits users f.1 long)
 
 pub shifted_users : (d : Device) (m : Decoded) (k : ℕ) (us lent new after : List UserRegister) (tdi : Bool) → Fits d m → m.selected ≡ User k → UsersFit d.users us → lent ≡ us
-    → new ≡ with_user_stage k (after_shift tdi (user_stage k lent)) lent → after ≡ new → UsersFit d.users after
+    → new ≡ with_user_stage k (after_shift (user_stage k lent) tdi) lent → after ≡ new → UsersFit d.users after
 shifted_users d m k us lent new after tdi fits is users same shifted stored =
     let f = user_fits d m k fits is in
     let stage = user_stage k us in
     let was : length stage ≡ f.0 = stage_length d.users us k f.0 users f.1 in
-    let long : length (after_shift tdi stage) ≡ f.0 = moved-length tdi stage (omega (arith, was, f.2)) ∙ was in
-    let is_new : after ≡ with_user_stage k (after_shift tdi stage) us = stored ∙ shifted ∙ ap (λ (xs : List UserRegister). with_user_stage k (after_shift tdi (user_stage k xs)) xs) same in
-    subst (λ (xs : List UserRegister). UsersFit d.users xs) (sym is_new) (with_stage_fits d.users us k f.0 (after_shift tdi stage) users f.1 long)
+    let long : length (after_shift stage tdi) ≡ f.0 = moved-length tdi stage (omega (arith, was, f.2)) ∙ was in
+    let is_new : after ≡ with_user_stage k (after_shift stage tdi) us = stored ∙ shifted ∙ ap (λ (xs : List UserRegister). with_user_stage k (after_shift (user_stage k xs) tdi) xs) same in
+    subst (λ (xs : List UserRegister). UsersFit d.users xs) (sym is_new) (with_stage_fits d.users us k f.0 (after_shift stage tdi) users f.1 long)
 
 pub put_users : (d : Device) (m : Decoded) (k : ℕ) (us lent new after : List UserRegister) (at word n : ℕ) → Fits d m → m.selected ≡ User k → UsersFit d.users us → lent ≡ us
     → new ≡ with_user_stage k (user_stage k new) lent → RunSet (user_stage k lent) (user_stage k new) at word n → after ≡ new → UsersFit d.users after

@@ -1,23 +1,20 @@
 -- One device, edge by edge (IEEE Std 1149.1-2001, clauses 4 and 6). A rising edge captures or shifts and moves; a
 -- falling edge updates, resets and sets TDO.
-use Rattle.std.specs.Prelude.{Bool, ◌&&◌, List, [], ◌∷◌, ◌++◌, drop, slice_get, Option, None, if◌then◌else◌}
+use Rattle.std.specs.Prelude.{Bool, ◌&&◌, slice_get, Option, None, if◌then◌else◌}
 use Rattle.jt_tap.specs.declared.State.{State}
 use Rattle.jt_tap.specs.declared.State.TheVariants.{Reset}
 use Rattle.jt_tap.specs.Controller.{next, work}
 use Rattle.jt_tap.specs.declared.Work.{Work}
 use Rattle.jt_tap.specs.declared.Work.TheVariants.{Resets, Captures, Shifts, Updates}
+use Rattle.jt_bits.specs.Shifting.{after_shift}
 use Rattle.bsdl_device.specs.Device.{Device}
 use Rattle.scan_registers.specs.Registers.{Registers, Surroundings, selected_bits, put, after_capture, after_update}
 use Rattle.scan_registers.specs.Registers.{after_reset}
 
--- one place towards TDO, taking TDI at the far end
-abbrev pub after_shift : Bool → List Bool → List Bool
-after_shift tdi bits = drop 1 bits ++ tdi ∷ []
-
 -- The registers after a rising edge on which the controller stands in a state of this work.
 abbrev pub after_rise : Work → Device → Surroundings → Bool → Registers → Registers
 after_rise (Captures column) d around tdi r = after_capture d column around r
-after_rise (Shifts column) d around tdi r = put d column (after_shift tdi (selected_bits d column r)) r
+after_rise (Shifts column) d around tdi r = put d column (after_shift (selected_bits d column r) tdi) r
 after_rise _ d around tdi r = r
 
 -- The registers after a falling edge in such a state.

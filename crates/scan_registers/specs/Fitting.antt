@@ -28,13 +28,17 @@ meaning_by d m = record { mode = m.mode; selected = m.selected; fixed = fixed_of
 abbrev pub has_code : Device → Bool
 has_code d = is_some d.idcode || is_some d.usercode
 
+-- bits, where there are some, are so many
+abbrev pub HaveLengthIfGiven : Option (List Bool) → ℕ → Type 0
+HaveLengthIfGiven bits n = (b : List Bool) → bits ≡ Some b → length b ≡ n
+
 -- the selected register is there, and has the length of what it captures
 abbrev pub FitsAt : Device → Selected → Option (List Bool) → Type 0
 FitsAt d Bypass fixed = Unit {0}
 FitsAt d Boundary fixed = Unit {0}
 FitsAt d Identification fixed = (code : List Bool) × (fixed ≡ Some code) × (length code ≡ 32) × (has_code d ≡ true)
 FitsAt d (User k) fixed = (n : ℕ) × (slice_get d.users k ≡ Some n) × (0 < n)
-    × ((bits : List Bool) → fixed ≡ Some bits → length bits ≡ n)
+    × HaveLengthIfGiven fixed n
 
 pub record Fits (d : Device) (m : Decoded) : Type 0 where
   pub it : FitsAt d m.selected (fixed_of d m.fixed)
@@ -43,23 +47,19 @@ pub record Fits (d : Device) (m : Decoded) : Type 0 where
 abbrev pub AccessFits : Device → Access → Type 0
 AccessFits d a = (u : ℕ) → a.place ≡ AtUser u
     → (n : ℕ) × (slice_get d.users u ≡ Some n) × (0 < n)
-    × ((bits : List Bool) → a.captures ≡ Some bits → length bits ≡ n)
+    × HaveLengthIfGiven a.captures n
 
 -- every access does
 abbrev pub AllFit : Device → Type 0
 AllFit d = (k : ℕ) (a : Access) → access_at d k ≡ Some a → AccessFits d a
-
--- bits, where there are some, are so many
-abbrev pub AreLong : Option (List Bool) → ℕ → Type 0
-AreLong bits n = (b : List Bool) → bits ≡ Some b → length b ≡ n
 
 pub record IsFormed (d : Device) : Type 0 where
   pub instruction : 0 < d.instruction_length
   pub capture : length d.capture ≡ d.instruction_length
   pub cells : 0 < length d.cells
   pub reset : length (reset_latch d) ≡ d.instruction_length
-  pub idcode : (code : List Bool) → d.idcode ≡ Some code → length code ≡ 32
-  pub usercode : (code : List Bool) → d.usercode ≡ Some code → length code ≡ 32
+  pub idcode : HaveLengthIfGiven d.idcode 32
+  pub usercode : HaveLengthIfGiven d.usercode 32
   pub accesses : AllFit d
 
 -- the user registers have their lengths

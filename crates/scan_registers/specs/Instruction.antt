@@ -40,48 +40,48 @@ abbrev pub selects : Mode → Selected → Meaning
 selects mode selected = record { mode = mode; selected = selected; fixed = None }
 
 -- An instruction without a meaning of its own here selects bypass and leaves the pins to the core.
-abbrev pub bypassed : Meaning
-bypassed = selects Core Bypass
+abbrev pub as_bypass : Meaning
+as_bypass = selects Core Bypass
 
 -- the identification register with this code; bypass where the device lacks it
-abbrev pub identified : Option (List Bool) → Meaning
-identified (Some code) = record { mode = Core; selected = Identification; fixed = Some code }
-identified None = bypassed
+abbrev pub reads_code : Option (List Bool) → Meaning
+reads_code (Some code) = record { mode = Core; selected = Identification; fixed = Some code }
+reads_code None = as_bypass
 
 -- The standard's instructions. INTEST and RUNBIST are left out here, and so stand for BYPASS.
 abbrev pub standard : Device → List (Name × Meaning)
 standard d =
-    (codes "BYPASS", bypassed)
+    (codes "BYPASS", as_bypass)
     ∷ (codes "EXTEST", selects Extest Boundary)
     ∷ (codes "SAMPLE", selects Core Boundary)
     ∷ (codes "PRELOAD", selects Core Boundary)
     ∷ (codes "CLAMP", selects Clamp Bypass)
     ∷ (codes "HIGHZ", selects HighZ Bypass)
-    ∷ (codes "IDCODE", identified d.idcode)
-    ∷ (codes "USERCODE", identified d.usercode)
-    ∷ (codes "INTEST", bypassed)
-    ∷ (codes "RUNBIST", bypassed)
+    ∷ (codes "IDCODE", reads_code d.idcode)
+    ∷ (codes "USERCODE", reads_code d.usercode)
+    ∷ (codes "INTEST", as_bypass)
+    ∷ (codes "RUNBIST", as_bypass)
     ∷ []
 
 abbrev pub access_meaning : Device → Access → Name × Meaning
 access_meaning d a = (a.instruction, at a.place)
   where
     at : Place → Meaning
-    at AtBypass = bypassed
+    at AtBypass = as_bypass
     at AtBoundary = selects Core Boundary
-    at AtDeviceId = identified d.idcode
+    at AtDeviceId = reads_code d.idcode
     at (AtUser k) = record { mode = Core; selected = User k; fixed = a.captures }
 
 abbrev pub look_up : Name → List (Name × Meaning) → Meaning
-look_up name [] = bypassed
+look_up name [] = as_bypass
 look_up name (row ∷ rows) = if bytes_eq name row.0 then row.1 else look_up name rows
 
 -- A private instruction means BYPASS, then the standard's have their meaning, then the device's own.
 abbrev pub meaning_of : Device → Option Name → Meaning
-meaning_of d None = bypassed
+meaning_of d None = as_bypass
 meaning_of d (Some name) =
     if list_any (bytes_eq name) d.private_names
-    then bypassed
+    then as_bypass
     else look_up name (standard d ++ map (access_meaning d) d.accesses)
 
 -- what the instruction in a latch does

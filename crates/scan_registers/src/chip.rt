@@ -8,7 +8,8 @@ ghost use Rattle.jt_bits.specs.Words.{bit_of};
 ghost use Rattle.jt_tap.specs.Controller.{work};
 ghost use Rattle.scan_registers.specs.declared.Mode.{Mode as TheMode};
 ghost use Rattle.scan_registers.specs.Chips.{ChipValue, one_chip, around, powered, registers, with_registers};
-ghost use Rattle.scan_registers.specs.Edges.{OneChip, rise, fall, after_trst, after_rise, after_fall, after_shift};
+ghost use Rattle.jt_bits.specs.Shifting.{after_shift};
+ghost use Rattle.scan_registers.specs.Edges.{OneChip, rise, fall, after_trst, after_rise, after_fall};
 ghost use Rattle.scan_registers.specs.Edges.{tdo_after};
 ghost use Rattle.scan_registers.specs.Fitting.{IsFormed, meaning_by, has_code as is_coded};
 ghost use Rattle.scan_registers.specs.Instruction.{instruction, meaning};
@@ -177,6 +178,7 @@ impl<B: Register> Chip<B> {
         self.device.get()
     }
 
+    /// The state of its controller (clause 6).
     pub fn state(&self) -> State
         ensures { result ≡ self.now.state }
     {
@@ -190,6 +192,7 @@ impl<B: Register> Chip<B> {
         self.tdo
     }
 
+    /// How the instruction in the latch drives the pins (clause 8).
     pub fn mode(&self) -> Mode
         ensures { result ≡ (meaning self.now.device self.now.latch).mode }
     {
@@ -203,24 +206,28 @@ impl<B: Register> Chip<B> {
         self.decoded.selected
     }
 
+    /// The present instruction, bit 0 nearest TDO (clause 7).
     pub fn latch(&self) -> &Bits
         ensures { result.now ≡ self.now.latch }
     {
         &self.latch
     }
 
+    /// The shift stage of the instruction register, bit 0 nearest TDO (clause 7).
     pub fn stage(&self) -> &Bits
         ensures { result.now ≡ self.now.stage }
     {
         &self.stage
     }
 
+    /// The bit of the bypass register (clause 10).
     pub fn bypass(&self) -> bool
         ensures { result ≡ self.now.bypass }
     {
         self.bypass
     }
 
+    /// The boundary register, cell 0 nearest TDO (clause 11).
     pub fn boundary(&self) -> &B
         ensures { result.now ≡ self.now.boundary }
     {
@@ -289,7 +296,7 @@ impl<B: Register> Chip<B> {
     fn shift(&mut self, column: Column, tdi: bool)
         ensures chip { one_chip B.stage B.update_part self.new
             ≡ with_registers (put self.old.device column
-            (after_shift tdi (selected_bits self.old.device column (registers B.stage B.update_part self.old)))
+            (after_shift (selected_bits self.old.device column (registers B.stage B.update_part self.old)) tdi)
             (registers B.stage B.update_part self.old)) (one_chip B.stage B.update_part self.old) }
         ensures boundary { self.new.boundary
             ≡ B.with_parts self.old.boundary (B.stage self.new.boundary) (B.update_part self.new.boundary) }

@@ -3,7 +3,7 @@
 ghost use Rattle.std.specs.Prelude.{◌≡◌, ℕ, List, Bool, Some, option_map, slice_get, map};
 ghost use Rattle.std.specs.List.{list_all};
 ghost use Rattle.scan_registers.specs.Fitting.{Fits, IsFormed, fixed_of, meaning_by};
-ghost use Rattle.scan_registers.specs.Instruction.{bypassed, identified, instruction, matches, meaning, meaning_of};
+ghost use Rattle.scan_registers.specs.Instruction.{as_bypass, reads_code, instruction, matches, meaning, meaning_of};
 ghost use Rattle.scan_registers.specs.Instruction.{names_it, look_up, standard, access_meaning};
 ghost use Rattle.std.specs.List.{find};
 
@@ -14,9 +14,13 @@ use jt_bits::Bits;
 /// The list that an identification or user register's capture is fixed to, as a place of the description.
 #[derive(Debug, Clone, Copy, PartialEq, Eq)]
 pub enum Fixed {
+    /// Nothing fixed.
     Free,
+    /// The identification code.
     Idcode,
+    /// The user code.
     Usercode,
+    /// What stands behind CAPTURES in this row of REGISTER_ACCESS, if anything does.
     Access(usize),
 }
 
@@ -109,7 +113,7 @@ fn named(device: &Device, name: &str) -> Decoded
 /// What IDCODE does.
 fn idcode(device: &Device) -> Decoded
     requires { IsFormed device.now }
-    ensures meaning { meaning_by device.now result ≡ identified device.now.idcode }
+    ensures meaning { meaning_by device.now result ≡ reads_code device.now.idcode }
     ensures fits { Fits device.now result }
 {
     if device.idcode().is_some() {
@@ -126,7 +130,7 @@ fn idcode(device: &Device) -> Decoded
 /// What USERCODE does.
 fn usercode(device: &Device) -> Decoded
     requires { IsFormed device.now }
-    ensures meaning { meaning_by device.now result ≡ identified device.now.usercode }
+    ensures meaning { meaning_by device.now result ≡ reads_code device.now.usercode }
     ensures fits { Fits device.now result }
 {
     if device.usercode().is_some() {

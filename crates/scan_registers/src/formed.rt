@@ -1,7 +1,7 @@
 //! Whether a description is one that a chip can rest on.
 
 ghost use Rattle.std.specs.Prelude.{◌≡◌, Bool, List, IsTrue, length, option_map};
-ghost use Rattle.scan_registers.specs.Fitting.{AccessFits, AllFit, AreLong, IsFormed};
+ghost use Rattle.scan_registers.specs.Fitting.{AccessFits, AllFit, HaveLengthIfGiven, IsFormed};
 ghost use Rattle.scan_registers.specs.Instruction.{reset_latch};
 
 use crate::start::idcode_opcode;
@@ -32,8 +32,8 @@ pub fn is_formed(device: &Device) -> bool
 
 /// Whether these bits, if there are some, are so many.
 fn is_long(bits: Option<&Bits>, n: usize) -> bool
-    ensures fits { IsTrue result → AreLong (option_map {U = List Bool} (λ x. x.now) bits.entry) n }
-    ensures needed { AreLong (option_map {U = List Bool} (λ x. x.now) bits.entry) n → IsTrue result }
+    ensures fits { IsTrue result → HaveLengthIfGiven (option_map {U = List Bool} (λ x. x.now) bits.entry) n }
+    ensures needed { HaveLengthIfGiven (option_map {U = List Bool} (λ x. x.now) bits.entry) n → IsTrue result }
 {
     match bits {
         Some(found) => found.len() == n,

@@ -22,18 +22,26 @@ pub use users::UserRegister;
 /// How an instruction drives the pins.
 #[derive(Debug, Clone, Copy, PartialEq, Eq)]
 pub enum Mode {
+    /// The boundary's update stage drives, and a capture may take it.
     Extest,
+    /// The boundary's update stage drives.
     Clamp,
+    /// No port drives.
     HighZ,
+    /// The core drives.
     Core,
 }
 
 /// The data register between TDI and TDO.
 #[derive(Debug, Clone, Copy, PartialEq, Eq)]
 pub enum Selected {
+    /// One bit (clause 10).
     Bypass,
+    /// The 32 bits of a code (clause 12).
     Identification,
+    /// A cell for each row of the description (clause 11).
     Boundary,
+    /// A register of the device's own, counted in the order in which the description first names them.
     User(usize),
 }
 

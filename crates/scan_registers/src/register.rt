@@ -3,7 +3,7 @@
 ghost use Rattle.std.specs.Prelude.{◌≡◌, ◌≢◌, ◌+◌, ◌<◌, ◌≤◌, ◌⊎◌, ℕ, Bool, List, length, slice_get};
 ghost use Rattle.jt_bits.specs.Packed.{has_bit};
 ghost use Rattle.jt_bits.specs.Runs.{RunSet};
-ghost use Rattle.jt_bits.specs.Shifting.{shifted};
+ghost use Rattle.jt_bits.specs.Shifting.{after_shift};
 ghost use Rattle.jt_bits.specs.Words.{bit_of};
 ghost use Rattle.scan_registers.specs.declared.Mode.{Mode as TheMode};
 
@@ -29,28 +29,34 @@ pub trait Register: Drop {
     /// The same register when what a cell sees is this bit.
     ghost saw: { Self → ℕ → Bool → Self };
 
+    /// How many cells it has.
     fn len(&self) -> usize
         ensures value { result ≡ length (stage self.now) }
         ensures update_part { length (update_part self.now) ≡ length (stage self.now) }
         ensures captured { (mode : TheMode) → length (captured self.now mode) ≡ length (stage self.now) }
         ensures at_reset { length (at_reset self.now) ≡ length (stage self.now) };
 
+    /// The bit in the stage of a cell, cell 0 nearest TDO.
     fn get(&self, i: usize) -> bool
         requires { i < length (stage self.now) }
         ensures { slice_get (stage self.now) i ≡ Some result };
 
+    /// Tells a cell, cell 0 nearest TDO, what its port sees.
     fn see(&mut self, cell: usize, bit: bool)
         requires { cell < length (stage self.old) }
         ensures { self.new ≡ saw self.old cell bit };
 
+    /// The stage captures under a mode; the update part is kept (clauses 9 and 11).
     fn capture(&mut self, mode: Mode)
         ensures stage { self.new ≡ with_parts self.old (captured self.old mode) (update_part self.old) }
         ensures len { length (stage self.new) ≡ length (stage self.old) };
 
+    /// Shifts the stage one cell towards TDO, this bit into the cell nearest TDI; gives the bit that leaves cell 0
+    /// (clauses 9 and 11).
     fn shift_in(&mut self, bit: bool) -> bool
         requires { 0 < length (stage self.old) }
         ensures out { slice_get (stage self.old) 0 ≡ Some result }
-        ensures stage { self.new ≡ with_parts self.old (shifted (stage self.old) bit) (update_part self.old) };
+        ensures stage { self.new ≡ with_parts self.old (after_shift (stage self.old) bit) (update_part self.old) };
 
     /// The stage's bits from place `i` on as a number, 64 of them, bit `i` lowest; missing ones are 0.
     fn word_at(&self, i: usize) -> u64
@@ -64,9 +70,11 @@ pub trait Register: Drop {
         ensures run { RunSet (stage self.old) (stage self.new) at bits n }
         ensures stage { self.new ≡ with_parts self.old (stage self.new) (update_part self.old) };
 
+    /// The update part becomes the stage (clauses 9 and 11).
     fn update(&mut self)
         ensures { self.new ≡ with_parts self.old (stage self.old) (stage self.old) };
 
+    /// The update part becomes what a reset gives it; the stage is kept (clause 11).
     fn reset(&mut self)
         ensures { self.new ≡ with_parts self.old (stage self.old) (at_reset self.old) };
 

@@ -6,7 +6,7 @@ ghost use Rattle.board_meaning.specs.Chain.{members};
 ghost use Rattle.board_meaning.specs.Nets.{sees};
 ghost use Rattle.board_meaning.specs.Resting.{chip_at_rest};
 ghost use Rattle.board_meaning.specs.Whole as whole;
-ghost use Rattle.chip_chain.specs.AtRest.{AssertsTrst, CapturesAt, Changes, Stands, chain_as, out, shifted};
+ghost use Rattle.chip_chain.specs.AtRest.{AssertsTrst, CapturesAt, Changes, Stands, chain_as, shifted_through};
 ghost use Rattle.chip_chain.specs.Sweeping.{EachFrom};
 ghost use Rattle.chip_chain.specs.Wires.{IsWired};
 ghost use Rattle.jt_tap.specs.declared.State.TheVariants.{Reset};
@@ -34,14 +34,16 @@ impl Chain {
     /// The least bit of a vector whose wanted value differs from what comes out of the column's registers, joined from
     /// TDO to TDI, when the vector is shifted in.
     pub fn judge(&self, column: Column, vector: &Vector) -> Option<(Part, usize)>
-        ensures { result ≡ judge (bits vector.now) (out column (tdis (bits vector.now)) (members self.now.chips)) }
+        ensures { result ≡ judge (bits vector.now)
+            (whole.out_of_members column (tdis (bits vector.now)) (members self.now.chips)) }
     {
         judge_chain(&self.seats, column, vector)
     }
 
     /// A whole vector is shifted through the column's registers, joined from TDO to TDI.
     pub fn shift(&mut self, column: Column, vector: &Vector)
-        ensures { self.new ≡ chain_as (shifted column (tdis (bits vector.now)) (members self.old.chips)) self.old }
+        ensures { self.new
+            ≡ chain_as (shifted_through column (tdis (bits vector.now)) (members self.old.chips)) self.old }
     {
         shift_chain(&mut self.seats, column, vector);
     }

@@ -3,8 +3,8 @@
 ghost use Rattle.std.specs.Prelude.{◌≡◌, ℕ, Bool, true, List, length};
 ghost use Rattle.board_meaning.specs.Cells.{Member};
 ghost use Rattle.board_meaning.specs.Resting.{chip_at_rest};
-ghost use Rattle.board_meaning.specs.Whole.{reset_member, settled_member, trst_member, update_member};
-ghost use Rattle.chip_chain.specs.AtRest.{IsSightedFor, as_member, capture_member};
+ghost use Rattle.board_meaning.specs.Whole.{capture_member, reset_member, settled_member, trst_member, update_member};
+ghost use Rattle.chip_chain.specs.AtRest.{IsSightedFor, as_member};
 ghost use Rattle.chip_chain.specs.Seats.{AreBelow, IsKept, captures_boundary, chip_state, member_of};
 ghost use Rattle.chip_chain.specs.Telling.{IsAt, sight};
 ghost use Rattle.jt_tap.specs.declared.State.TheVariants.{Reset};

@@ -13,14 +13,15 @@ use jt_tap::{Column, State, Work};
 use scan_vectors::{Part, Part3, Vector, join};
 
 impl Board {
-    /// The state in which the controllers of a board at rest stand.
+    /// The state in which the controllers of a board at rest stand. Of a board that is not at rest nothing is said.
     pub fn place(&self) -> State
         ensures { (m : AtRest) → IsAtRest self.now m → result ≡ m.place }
     {
         self.chain.seat(0).state()
     }
 
-    /// Of a board at rest in a pause the update that is pending is made.
+    /// Of a board at rest in a pause the update that is pending is made. Of a board that is not at rest nothing is
+    /// said.
     pub fn settle(&mut self)
         ensures { (m : AtRest) → IsAtRest self.old m → IsAtRest self.new (whole.settle m) }
     {
@@ -31,15 +32,17 @@ impl Board {
         }
     }
 
-    /// Of a board at rest the column's register of every device captures, each from the levels before.
+    /// Of a board at rest the column's register of every device captures, each from the levels before. Of a board that
+    /// is not at rest nothing is said.
     pub fn capture(&mut self, column: Column)
         ensures { (m : AtRest) → IsAtRest self.old m → IsAtRest self.new (whole.capture column m) }
     {
         self.chain.capture(column);
     }
 
-    /// The least bit of a vector whose wanted value differs from what comes out of the column's registers of a board at
-    /// rest when the vector is shifted in, by its part and its place there.
+    /// The least bit of a vector whose wanted value differs from what comes out of the column's registers of a board
+    /// at rest when the vector is shifted in, by its part and its place there. Of a board that is not at rest nothing
+    /// is said.
     pub fn judge(&self, column: Column, vector: &Vector) -> Option<(Part, usize)>
         ensures { (m : AtRest) → IsAtRest self.now m
             → result ≡ judge (bits vector.now) (whole.out column (tdis (bits vector.now)) m) }
@@ -47,7 +50,8 @@ impl Board {
         self.chain.judge(column, vector)
     }
 
-    /// A whole vector is shifted through the column's registers of a board at rest.
+    /// A whole vector is shifted through the column's registers of a board at rest. Of a board that is not at rest
+    /// nothing is said.
     pub fn shift(&mut self, column: Column, vector: &Vector)
         ensures { (m : AtRest) → IsAtRest self.old m
             → IsAtRest self.new (whole.shift column (tdis (bits vector.now)) m) }
@@ -55,28 +59,31 @@ impl Board {
         self.chain.shift(column, vector);
     }
 
-    /// Of a board at rest the column's register of every device updates.
+    /// Of a board at rest the column's register of every device updates. Of a board that is not at rest nothing is
+    /// said.
     pub fn update(&mut self, column: Column)
         ensures { (m : AtRest) → IsAtRest self.old m → IsAtRest self.new (whole.update column m) }
     {
         self.chain.update(column);
     }
 
-    /// Every device of a board at rest is reset, as in RESET.
+    /// Every device of a board at rest is reset, as in RESET. Of a board that is not at rest nothing is said.
     pub fn reset(&mut self)
         ensures { (m : AtRest) → IsAtRest self.old m → IsAtRest self.new (whole.reset_all m) }
     {
         self.chain.reset();
     }
 
-    /// A board at rest stands in this state, and has done nothing there yet.
+    /// A board at rest stands in this state, and has done nothing there yet. Of a board that is not at rest nothing is
+    /// said.
     pub fn stand(&mut self, state: State)
         ensures { (m : AtRest) → IsAtRest self.old m → IsAtRest self.new (record m { place = state }) }
     {
         self.chain.stand(state);
     }
 
-    /// A board at rest arrives in a stable state: it is reset in RESET, and captures in a pause.
+    /// A board at rest arrives in a stable state: it is reset in RESET, and captures in a pause. Of a board that is
+    /// not at rest nothing is said.
     pub fn arrive(&mut self, state: State)
         ensures { (m : AtRest) → IsAtRest self.old m → IsAtRest self.new (whole.arrive state m) }
     {
@@ -90,7 +97,7 @@ impl Board {
     }
 
     /// TRST is asserted on a board at rest: a device without the port settles, and every device is reset and stands in
-    /// RESET.
+    /// RESET. Of a board that is not at rest nothing is said.
     pub fn assert_trst(&mut self)
         ensures { (m : AtRest) → IsAtRest self.old m → IsAtRest self.new (whole.trst_asserted m) }
     {
@@ -98,7 +105,7 @@ impl Board {
         self.chain.assert_trst(place);
     }
 
-    /// TRST is released on a board at rest.
+    /// TRST is released on a board at rest. Of a board that is not at rest nothing is said.
     pub fn release_trst(&mut self)
         ensures { (m : AtRest) → IsAtRest self.old m → IsAtRest self.new (record m { trst = false }) }
     {
@@ -106,6 +113,7 @@ impl Board {
     }
 
     /// A board at rest goes along a path, and does in each of its states what the state does; what it shifts in is 0.
+    /// Of a board that is not at rest nothing is said.
     pub fn along(&mut self, path: &[State])
         ensures { (m : AtRest) → IsAtRest self.old m → IsAtRest self.new (whole.along path.now m) }
     {

@@ -16,5 +16,5 @@ returns c = λ once.
     let bits : c.deref-3.result.now ≡ firsts 0 d.ports = c.deref-3.ensures.value ∙ c.in_ok-firsts.ensures ∙ ap (λ gs. firsts 0 (entity_view.ports gs)) c.deref-2.ensures.value in
     let rows : map cell_row c.deref-4.result.now ≡ d.cells = ap (map cell_row) c.deref-4.ensures.value in
     let each : (k : ℕ) → k < c.in_ok-len.len → length (filter (λ r. nat_eq r.number k) (map cell_row c.deref-4.result.now)) ≡ 1 = λ k h.
-    ap (λ rs. length (filter (λ r. nat_eq r.number k) rs)) rows ∙ once k (rw (sym c.in_ok-len.ensures) h) in
-    c.in_ok-cells.ensures d.ports at bits each ∙ ap (λ rs. cells_of d.ports rs c.in_ok-len.len) rows ∙ ap (λ (n : ℕ). cells_of d.ports d.cells n) c.in_ok-len.ensures
+    ap (λ rs. length (filter (λ r. nat_eq r.number k) rs)) rows ∙ once k (rw (sym c.in_ok-len.ensures.value) h) in
+    c.in_ok-cells.ensures d.ports at bits each ∙ ap (λ rs. cells_of d.ports rs c.in_ok-len.len) rows ∙ ap (λ (n : ℕ). cells_of d.ports d.cells n) c.in_ok-len.ensures.value

@@ -2,7 +2,7 @@ use Rattle.std.proofs.Common.{◌≡◌, ◌<◌, ◌++◌, [], ◌∷◌, ℕ, 
 use Rattle.std.proofs.lemmas.List.{take_more, length-map}
 use Rattle.pin_nets.specs.Levels.{NetValue}
 use Rattle.pin_nets.specs.Building.{net_value}
-use Rattle.pin_nets.specs.Places.{Marked, Short}
+use Rattle.pin_nets.specs.Places.{HasNetOfEach, AreShort}
 use Rattle.pin_nets.proofs.Counting.{nobody}
 use Rattle.pin_nets.proofs.Building.{named_at, named_inside, marked_named, short_push}
 use Rattle.pin_nets.proofs.build.named_nets.Goals as goal
@@ -24,12 +24,12 @@ loop-spec-preserved c =
     let at : get_or whole k nobody ≡ x = named_at specs k spec c.loop-spec-test.true c.spec-item.is in
     let pins : c.in_ok-to_vec.field-0.items ≡ spec.pins.items = c.in_ok-to_vec.ensures.items_if_clones_equal (λ a b e. e) ∙ c.deref-in-loop-spec.ensures.value in
     let pushed : c.push.new.self.items ≡ nets ++ x ∷ [] = c.in_ok-push.ensures.items ∙ ap (λ (ps : List ℕ). nets ++ record { pull = spec.pull; pins = ps } ∷ []) pins in
-    let marked : Marked c.join.new.net_of (nets ++ x ∷ []) =
+    let marked : HasNetOfEach c.join.new.net_of (nets ++ x ∷ []) =
     marked_named whole nets k x c.loop-spec.net_of c.join.new.net_of c.len.result c.deref.result.now c.loop-spec.invariant.nets h at c.requires.once c.loop-spec.invariant.marked c.join.ensures
     (omega (arith, c.len.ensures, c.loop-spec.nets.ok.0)) c.deref.ensures.value in
     record {
       nets = pushed ∙ ap (λ (l : List NetValue). l ++ x ∷ []) c.loop-spec.invariant.nets ∙ ap (λ (y : NetValue). take k whole ++ y ∷ []) (sym at) ∙ sym (take_more whole k nobody h);
       long = c.join.ensures.long ∙ c.loop-spec.invariant.long;
-      marked = subst (λ (l : List NetValue). Marked c.join.new.net_of l) (sym pushed) marked;
-      short = subst Short (sym pushed) (short_push nets x c.loop-spec.invariant.short (omega (arith, c.deref.type_inv, ap length c.deref.ensures.value)));
+      marked = subst (λ (l : List NetValue). HasNetOfEach c.join.new.net_of l) (sym pushed) marked;
+      short = subst AreShort (sym pushed) (short_push nets x c.loop-spec.invariant.short (omega (arith, c.deref.type_inv, ap length c.deref.ensures.value)));
     }

@@ -6,7 +6,7 @@ use Rattle.board_meaning.specs.Whole.{selected_bits_of}
 use Rattle.scan_vectors.specs.Held.{bits}
 use Rattle.scan_vectors.specs.Vector.{tdis}
 use Rattle.whole_chain.specs.Rows.{left}
-use Rattle.chip_chain.specs.AtRest.{chain_as, shifted}
+use Rattle.chip_chain.specs.AtRest.{chain_as, shifted_through}
 use Rattle.chip_chain.specs.Chains.{ChainValue}
 use Rattle.chip_chain.specs.Seats.{AllTold, SeatValue, chip_state, member_of}
 use Rattle.chip_chain.specs.Wires.{IsWired}
@@ -46,5 +46,5 @@ returns c =
     (shifted_long column (stays s.seats.items) s.seats.items new cut ∙ sym s.seats.ok.0) in
     let chips-are = ap (map chip_state) is ∙ shifted_chips column v s.seats.items new cut in
     let now = the_view (record s { seats = with_items s.seats new }) in
-    subst (λ (x : ChainValue). now ≡ chain_as (shifted column (tdis v) (members x.chips)) x) c.self.view_is
+    subst (λ (x : ChainValue). now ≡ chain_as (shifted_through column (tdis v) (members x.chips)) x) c.self.view_is
     (λ i. record { trst = s.trst; nets = s.wiring.nets; chips = chips-are i })

@@ -1,6 +1,7 @@
 use Rattle.std.proofs.Common.{◌≡◌, ℕ, Bool, refl, ap, subst}
 use Rattle.boundary.specs.Cells.{BoundaryValue}
-use Rattle.chip_chain.specs.AtRest.{IsSightedFor, as_member, capture_member}
+use Rattle.board_meaning.specs.Whole.{capture_member}
+use Rattle.chip_chain.specs.AtRest.{IsSightedFor, as_member}
 use Rattle.chip_chain.specs.Seats.{SeatValue, chip_state, member_of}
 use Rattle.chip_chain.specs.contracts.seat.Seat.{the_view}
 use Rattle.chip_chain.proofs.EdgeLaws.{captures}
