@@ -1,6 +1,6 @@
 //! The player of a program.
 
-ghost use Rattle.std.specs.Prelude.{◌≡◌, ◌+◌, ◌-◌, ◌^◌, ◌↔◌, ◌++◌, IsTrue, MatchResult, length, min, take, drop};
+ghost use Rattle.std.specs.Prelude.{◌≡◌, ◌+◌, ◌-◌, ◌^◌, ◌↔◌, ◌++◌, IsTrue, IsOk, IfOk, length, min, take, drop};
 ghost use Rattle.svf_settings.specs.Sizes.{program_of};
 ghost use Rattle.plays.specs.PlayingOn.{Stops};
 ghost use Rattle.plays.specs.Streams as stream;
@@ -43,8 +43,8 @@ impl Model for Player {
 impl Player {
     /// A fresh player of a program. It takes no memory, and always answers `Ok`.
     pub fn new(_alloc: Global, program: Program) -> Result<Player, Program>
-        ensures { MatchResult result (λ player. player ≡ new_stream Stops (program_of program))
-            (λ back. back ≡ program) }
+        ensures made { IsOk result }
+        ensures fresh { IfOk result (λ player. player ≡ new_stream Stops (program_of program)) }
     {
         // For the proof alone: what the program's type keeps of its steps.
         let _ = program.len();
