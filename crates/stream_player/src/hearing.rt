@@ -111,6 +111,8 @@ fn judged(command: usize, vector: &Vector<'_>, p: Progress, bit: bool) -> Progre
     if p.failed.is_some() {
         return p;
     }
+    // For the proof alone: how long the vector is.
+    let _ = vector.len();
     let Some(i) = next_wanted(vector, p.judged) else {
         return p;
     };
