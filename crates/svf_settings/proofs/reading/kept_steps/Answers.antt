@@ -16,7 +16,7 @@ loop-index-init c = record {
 
 pub take-requires : goal.take-requires
 take-requires c =
-    let here = (rw c.in-Some.is at c.place_of.ensures).0 in
+    let here = (rw c.in-Some.is at c.place_of.ensures.found).0 in
     rw here (said_at c.args.statements.now c.loop-index.index c.index-statements-index.result c.loop-index-test.true c.index-statements-index.is)
 
 pub returns-in-Err : goal.returns-in-Err
@@ -26,7 +26,7 @@ returns-in-Err c = λ _.
     let s = said c.index-statements-index.result in
     let at = said_at c.args.statements.now k c.index-statements-index.result c.loop-index-test.true c.index-statements-index.is in
     let l = length_before all k s at in
-    let here = (rw c.in-Some.is at c.place_of.ensures).0 in
+    let here = (rw c.in-Some.is at c.place_of.ensures.found).0 in
     let taken = c.take.ensures (before k all) c.loop-index.invariant.behind (l ∙ sym here) in
     refused_at all (before k all) k (k + 1) s c.in-Err.code (before_more all k s at) c.loop-index.invariant.fine (rw c.in-Err.is at taken) (ap (λ (m : ℕ). m + 1) (sym l))
     ∙ ap (λ (f : SvfFault). Some f) (sym c.fault_at.ensures)
@@ -38,7 +38,7 @@ loop-index-preserved c =
     let s = said c.index-statements-index.result in
     let at = said_at c.args.statements.now k c.index-statements-index.result c.loop-index-test.true c.index-statements-index.is in
     let l = length_before all k s at in
-    let here = (rw c.in-Some.is at c.place_of.ensures).0 in
+    let here = (rw c.in-Some.is at c.place_of.ensures.found).0 in
     let taken = c.take.ensures (before k all) c.loop-index.invariant.behind (l ∙ sym here) in
     rw (c.in-Ok-push_made.ensures, here)
     (after_more all k s c.in-Ok.behind c.in-Ok.made c.loop-index.steps.items at c.loop-index.invariant.fine c.loop-index.invariant.kept_are (rw c.in-Ok.is at taken))
