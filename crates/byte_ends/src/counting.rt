@@ -211,7 +211,8 @@ pub fn put_all<W: Sink>(out: &mut Counted<W>, bytes: &[u8]) -> Result<(), Broken
 /// Writes pieces one after another, as `put_all` writes each.
 pub fn put_pieces<W: Sink>(out: &mut Counted<W>, pieces: &[&[u8]]) -> Result<(), Broken>
     requires { out.old.failures ≡ 0 }
-    ensures { WritesAll W.contents out.old out.new (flat_map (λ piece. piece.now) pieces.now) result }
+    ensures writes { WritesAll W.contents out.old out.new (flat_map (λ piece. piece.now) pieces.now) result }
+    ensures at_end { out.new.at_end ≡ out.old.at_end }
 {
     for piece in pieces {
         put_all(out, piece)?;
