@@ -42,10 +42,12 @@ fn default_path(from: State, to: State) -> ArrayVec<State, 8>
     path
 }
 
-/// The default path from a stable state to the Shift state of a column.
+/// The default path from a stable state (asked) to the Shift state of a column (Serial Vector Format, revision E, SDR
+/// and SIR): from RESET over IDLE, from a pause over its update.
 pub fn to_shift(from: State, column: Column) -> ArrayVec<State, 8>
     requires { is_stable from ≡ true }
-    ensures { result.items ≡ spec.to_shift from column }
+    ensures path { result.items ≡ spec.to_shift from column }
+    ensures legal { Leads from result.items (spec.shift_state column) }
 {
     let mut path = ArrayVec::new();
     append(&mut path, towards_idle(from));
@@ -53,9 +55,17 @@ pub fn to_shift(from: State, column: Column) -> ArrayVec<State, 8>
     path
 }
 
-/// The default path from the Exit1 state of a column to a stable state.
+/// The default path from the Exit1 state of a column to a stable state (asked; Serial Vector Format, revision E, ENDDR
+/// and ENDIR): to its own pause at once, anywhere else over its update.
 pub fn from_exit1(column: Column, to: State) -> ArrayVec<State, 8>
     requires { is_stable to ≡ true }
+    ensures path { result.items ≡ spec.from_exit1 column to }
+    ensures legal { Leads (spec.exit1_state column) result.items to }
+{
+    exit1_path(column, to)
+}
+
+fn exit1_path(column: Column, to: State) -> ArrayVec<State, 8>
     ensures { result.items ≡ spec.from_exit1 column to }
 {
     let mut path = ArrayVec::new();
