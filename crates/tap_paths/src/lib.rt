@@ -1,7 +1,7 @@
 //! The default paths of the Serial Vector Format through the TAP controller.
 #![tactic(auto)]
 
-ghost use Rattle.std.specs.Prelude.{◌≡◌, ◌↔◌, ◌+◌, ◌<◌, ◌≤◌, ◌++◌, Bool, true, length, IsOk, IfErr, IfSome, IsSome};
+ghost use Rattle.std.specs.Prelude.{◌≡◌, ◌↔◌, ◌+◌, ◌<◌, ◌≤◌, ◌++◌, Bool, true, length, IsOk, IfErr, IfSome};
 ghost use Rattle.arrayvec.specs.ArrayVec.{array_vec_len};
 ghost use Rattle.jt_tap.specs.Controller.{is_stable};
 ghost use Rattle.tap_paths.specs.Paths as spec;
@@ -156,7 +156,6 @@ fn append(path: &mut ArrayVec<State, 8>, states: &[State])
 pub fn tms_of(from: State, to: State) -> Option<bool>
     ensures found { IfSome result (λ tms. Arrow from tms to) }
     ensures only { (tms : Bool) → Arrow from tms to → result ≡ Some tms }
-    ensures follows { IsSome result ↔ (stated.follows from to ≡ true) }
 {
     let tms = to.entered_by();
     if from.step(tms) == to {
@@ -185,12 +184,19 @@ fn gap(from: State, path: &[State]) -> Option<usize>
 {
     let mut before = from;
     for (place, state) in path.iter().enumerate() {
-        if tms_of(before, *state).is_none() {
+        if !follows(before, *state) {
             return Some(place);
         }
         before = *state;
     }
     None
+}
+
+/// Whether a state is one rising edge from the one before.
+fn follows(before: State, state: State) -> bool
+    ensures { result ≡ stated.follows before state }
+{
+    tms_of(before, state).is_some()
 }
 
 /// Every default path leads by arrows of the state diagram from its first state to its last.
