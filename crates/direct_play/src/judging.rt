@@ -10,7 +10,7 @@ use scan_vectors::{Part, Vector};
 
 /// The first bit from this place on that is wanted.
 pub fn next_wanted(vector: &Vector, from: usize) -> Option<usize>
-    ensures next { MatchOption result (wanted (drop from (bits vector.now)) ≡ [])
+    ensures { MatchOption result (wanted (drop from (bits vector.now)) ≡ [])
         (λ i. (i < length (bits vector.now)) × (v : VectorBit) × (slice_get (bits vector.now) i ≡ Some v)
         × (wanted (drop from (bits vector.now)) ≡ v ∷ wanted (drop (i + 1) (bits vector.now)))) }
 {
