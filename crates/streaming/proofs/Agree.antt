@@ -18,7 +18,7 @@ use Rattle.every_schedule.proofs.BothPlayers.{ask-for, no-quit-for}
 use Rattle.every_schedule.proofs.Quits.{asks-append, has_quit}
 use Rattle.streaming.specs.Histories as history
 use Rattle.streaming.specs.Histories.{WasAsked, bits}
-use Rattle.streaming.specs.Laws.{AnsweringStaysAsked, IsSame, StreamsAgree, TheStopperIsThePlayer, good, stream_of}
+use Rattle.streaming.specs.Laws.{AnsweringStaysAsked, IsSame, StreamsAgree, good, stream_of}
 use Rattle.plays.specs.Streams as stream
 use Rattle.plays.specs.Streams.{command_at, kept, sends, some_differ, stops_for, works}
 use Rattle.streaming.proofs.SameByCount.{ends-bad, ends-good, sends-same, unjudged-command, unjudged-failures, unjudged-sends, unjudged-works, works-same}
@@ -314,6 +314,3 @@ more-asked kind window p bytes asked =
 
 pub stays_asked : AnsweringStaysAsked
 stays_asked kind window = record { fresh = λ program. omega arith; give = λ p n asked. asked; answer = λ p bytes asked. more-asked kind window p bytes asked }
-
-pub the_player : TheStopperIsThePlayer
-the_player p = record { waiting = refl; owed = refl; taken = λ bytes. refl; ended = refl }

@@ -75,15 +75,6 @@ pub record StaysAsked (kind : Kind) (window : ℕ) : Type 0 where
 abbrev pub AnsweringStaysAsked : Type 0
 AnsweringStaysAsked = (kind : Kind) (window : ℕ) → StaysAsked kind window
 
-pub record IsThePlayer (p : PlayerState) : Type 0 where
-  pub waiting : history.bytes_to_send Stops 1 p ≡ playing.bytes_to_send p
-  pub owed : history.owed Stops 1 p ≡ playing.owed p
-  pub taken : (bytes : List ℕ) → history.answers_taken Stops 1 p bytes ≡ playing.answers_taken p bytes
-  pub ended : history.ending_of_history Stops 1 p ≡ playing.ending_of_player p
-
-abbrev pub TheStopperIsThePlayer : Type 0
-TheStopperIsThePlayer = (p : PlayerState) → IsThePlayer p
-
 -- Whatever the state, no more answers are owed than the window.
 abbrev pub OwedWithinTheWindow : Type 0
 OwedWithinTheWindow = (window : ℕ) (s : StreamState) → stream.owed window s ≤ window
