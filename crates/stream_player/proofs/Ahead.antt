@@ -16,7 +16,8 @@ use Rattle.plays.specs.Streams.{sends, some_differ}
 use Rattle.plays.proofs.Asks.{AllAsk, asks, turns-ask}
 use Rattle.every_schedule.proofs.Quits.{NoneQuit, asks-append, has_quit, quit-append, turns-no-quit}
 use Rattle.streaming.proofs.Agree.{ask-count, counts, quit-byte}
-use Rattle.stream_player.specs.Standing.{Standing, found, messages_in, reads, state_at, up_to_reads, wanted_in}
+use Rattle.stream_player.specs.Standing.{Standing, found, messages_in, reads, state_at, up_to_reads}
+use Rattle.every_schedule.specs.InWork.{answers_in}
 
 -- whether it stops
 abbrev pub stops_at : Standing → Bool
@@ -41,11 +42,11 @@ module _ (window : ℕ) where
 
   -- The turns that are over drop out.
   pub sends-past : (k : ℕ) (ts : List Turn) (n : ℕ) (stops : Bool) → (stops ≡ true → 0 < n)
-      → sends window ts (wanted_in (take k ts) + n) stops ≡ messages_in (take k ts) ++ sends window (drop k ts) n stops
+      → sends window ts (answers_in (take k ts) + n) stops ≡ messages_in (take k ts) ++ sends window (drop k ts) n stops
   sends-past zero ts n stops more = let same : 0 + n ≡ n = omega arith in ap (λ k. sends window ts k stops) same
   sends-past (suc k) [] n stops more = refl
   sends-past (suc k) (t ∷ ts) n stops more =
-      passes t ts (length t.wants + wanted_in (take k ts) + n) (wanted_in (take k ts) + n) stops (omega arith) (λ is. let above = more is in omega arith)
+      passes t ts (length t.wants + answers_in (take k ts) + n) (answers_in (take k ts) + n) stops (omega arith) (λ is. let above = more is in omega arith)
       ∙ ap (λ l. t.messages ++ l) (sends-past k ts n stops more)
       ∙ sym (append_assoc t.messages (messages_in (take k ts)) (sends window (drop k ts) n stops))
 
@@ -76,7 +77,7 @@ module _ (window : ℕ) where
       by false is true q = refl
       by false is false q = let gt = leb-false n (length t.wants) q in absurd (omega (arith, e))
 
-asks-in : (ts : List Turn) → AllAsk ts → (k : ℕ) → asks (messages_in (take k ts)) ≡ wanted_in (take k ts)
+asks-in : (ts : List Turn) → AllAsk ts → (k : ℕ) → asks (messages_in (take k ts)) ≡ answers_in (take k ts)
 asks-in ts all zero = refl
 asks-in [] all (suc k) = refl
 asks-in (t ∷ ts) all (suc k) =
@@ -120,8 +121,8 @@ module _ (program : Program) (s : Standing) (fair : stops_at s ≡ true → 0 < 
   -- how many answers are owed
   pub owes : s.bad ≡ None → stream.owed 256 (state_at program s) ≡ asks (take s.gone ahead) - s.heard
   owes none =
-      (λ i. if is_some (none i) then 0 else count_by (λ b. b == 82) (out i) - (wanted_in (take s.over ts) + s.heard))
-      ∙ ap (λ n. n - (wanted_in (take s.over ts) + s.heard))
+      (λ i. if is_some (none i) then 0 else count_by (λ b. b == 82) (out i) - (answers_in (take s.over ts) + s.heard))
+      ∙ ap (λ n. n - (answers_in (take s.over ts) + s.heard))
       (counts (map encode (before ++ take s.gone ahead)) ∙ ask-count (before ++ take s.gone ahead) ∙ asks-append before (take s.gone ahead))
       ∙ omega (arith, asks-in ts (turns-ask program.steps) s.over)
 

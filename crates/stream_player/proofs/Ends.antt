@@ -18,7 +18,8 @@ use Rattle.plays.specs.Streams as stream
 use Rattle.plays.specs.Streams.{Found, StreamState, Wanted, command_at, hear, judged, noted, wanted, works}
 use Rattle.plays.proofs.Asks.{asks}
 use Rattle.every_schedule.proofs.Quits.{has_quit, quit-append}
-use Rattle.stream_player.specs.Standing.{Standing, differing_bit, first_of, found, messages_in, state_at, wanted_in}
+use Rattle.stream_player.specs.Standing.{Standing, differing_bit, first_of, found, messages_in, state_at}
+use Rattle.every_schedule.specs.InWork.{answers_in}
 use Rattle.stream_player.proofs.Ahead.{ahead, is-out, owes, sends-last, stops_at, waits}
 use Rattle.stream_player.proofs.TurnPlaces.{IsIn, fits, no-quit, reached}
 
@@ -27,14 +28,14 @@ abbrev of-turn : Turn → VectorBit → Wanted
 of-turn t v = record { command = t.command; bit = v }
 
 -- the wanted bits of the turns that are over drop out
-wanted-past : (k : ℕ) (ts : List Turn) (n : ℕ) → drop (wanted_in (take k ts) + n) (wanted ts) ≡ drop n (wanted (drop k ts))
+wanted-past : (k : ℕ) (ts : List Turn) (n : ℕ) → drop (answers_in (take k ts) + n) (wanted ts) ≡ drop n (wanted (drop k ts))
 wanted-past zero ts n = let same : 0 + n ≡ n = omega arith in ap (λ m. drop m (wanted ts)) same
 wanted-past (suc k) [] n = let same : 0 + n ≡ n = omega arith in ap (λ m. drop m []) same
 wanted-past (suc k) (t ∷ ts) n =
-    let here : length t.wants + wanted_in (take k ts) + n ≡ length (map (of-turn t) t.wants) + (wanted_in (take k ts) + n) =
+    let here : length t.wants + answers_in (take k ts) + n ≡ length (map (of-turn t) t.wants) + (answers_in (take k ts) + n) =
     omega (arith, length-map t.wants (of-turn t)) in
     ap (λ m. drop m (map (of-turn t) t.wants ++ wanted ts)) here
-    ∙ drop-append-add (map (of-turn t) t.wants) (wanted ts) (wanted_in (take k ts) + n)
+    ∙ drop-append-add (map (of-turn t) t.wants) (wanted ts) (answers_in (take k ts) + n)
     ∙ wanted-past k ts n
 
 -- the next one of a turn
@@ -74,7 +75,7 @@ module _ (program : Program) (s : Standing) (t : Turn) (later : List Turn) (here
       ∙ next-wanted t s.heard t.wants (wanted later) w ws next in
       let judge : judged (drop now.answered (wanted (turns program.steps))) (byte == 49) ≡ listed (differing_bit t.command w (byte == 49)) =
       ap (λ (l : List Wanted). judged l (byte == 49)) left ∙ judged-one t w (map (of-turn t) ws ++ wanted later) (byte == 49) in
-      let count : now.answered + 1 ≡ wanted_in (take s.over (turns program.steps)) + (s.heard + 1) = omega arith in
+      let count : now.answered + 1 ≡ answers_in (take s.over (turns program.steps)) + (s.heard + 1) = omega arith in
       (λ k. if is_some (none k) then now else if good k then record now { bad = Some byte } else
       record now {
         answered = count k;
@@ -91,17 +92,17 @@ module _ (program : Program) (s : Standing) (t : Turn) (later : List Turn) (here
       })
 
   -- the command that the next answer belongs to
-  command-past : (k : ℕ) (ts : List Turn) (n : ℕ) → command_at ts (wanted_in (take k ts) + n) ≡ command_at (drop k ts) n
+  command-past : (k : ℕ) (ts : List Turn) (n : ℕ) → command_at ts (answers_in (take k ts) + n) ≡ command_at (drop k ts) n
   command-past zero ts n = let same : 0 + n ≡ n = omega arith in ap (command_at ts) same
   command-past (suc k) [] n = refl
-  command-past (suc k) (x ∷ ts) n = by (nat_lt (length x.wants + wanted_in (take k ts) + n) (length x.wants)) refl (command-past k ts n)
+  command-past (suc k) (x ∷ ts) n = by (nat_lt (length x.wants + answers_in (take k ts) + n) (length x.wants)) refl (command-past k ts n)
     where
-      by : (b : Bool) → nat_lt (length x.wants + wanted_in (take k ts) + n) (length x.wants) ≡ b
-          → command_at ts (wanted_in (take k ts) + n) ≡ command_at (drop k ts) n
-          → (if b then x.command else command_at ts (length x.wants + wanted_in (take k ts) + n - length x.wants)) ≡ command_at (drop k ts) n
-      by true e rest = let lt = ltb-true (length x.wants + wanted_in (take k ts) + n) (length x.wants) e in absurd (omega arith)
+      by : (b : Bool) → nat_lt (length x.wants + answers_in (take k ts) + n) (length x.wants) ≡ b
+          → command_at ts (answers_in (take k ts) + n) ≡ command_at (drop k ts) n
+          → (if b then x.command else command_at ts (length x.wants + answers_in (take k ts) + n - length x.wants)) ≡ command_at (drop k ts) n
+      by true e rest = let lt = ltb-true (length x.wants + answers_in (take k ts) + n) (length x.wants) e in absurd (omega arith)
       by false e rest =
-          let same : length x.wants + wanted_in (take k ts) + n - length x.wants ≡ wanted_in (take k ts) + n = omega arith in
+          let same : length x.wants + answers_in (take k ts) + n - length x.wants ≡ answers_in (take k ts) + n = omega arith in
           ap (command_at ts) same ∙ rest
 
   pub command-here : s.heard < length t.wants → command_at (turns program.steps) (state_at program s).answered ≡ t.command
@@ -114,7 +115,7 @@ module _ (program : Program) (s : Standing) (t : Turn) (later : List Turn) (here
 
 -- the turns that are over drop out of what is in work
 works-past : (statements k : ℕ) (ts : List Turn) (g n : ℕ) (stops : Bool) → (stops ≡ true → 0 < n)
-    → works statements ts (length (messages_in (take k ts)) + g) (wanted_in (take k ts) + n) stops ≡ works statements (drop k ts) g n stops
+    → works statements ts (length (messages_in (take k ts)) + g) (answers_in (take k ts) + n) stops ≡ works statements (drop k ts) g n stops
 works-past statements zero ts g n stops more =
     let a : 0 + g ≡ g = omega arith in let b : 0 + n ≡ n = omega arith in (λ i. works statements ts (a i) (b i) stops)
 works-past statements (suc k) [] g n stops more = refl
@@ -126,7 +127,7 @@ works-past statements (suc k) (t ∷ ts) g n stops more =
     G = length (t.messages ++ messages_in (take k ts)) + g
 
     N : ℕ
-    N = length t.wants + wanted_in (take k ts) + n
+    N = length t.wants + answers_in (take k ts) + n
 
     no-last : (stops : Bool) → (stops ≡ true → 0 < n) → (stops && nat_le N (length t.wants)) ≡ true → ⊥
     no-last true more is = let le = leb-true N (length t.wants) is in let above = more refl in omega arith
@@ -134,7 +135,7 @@ works-past statements (suc k) (t ∷ ts) g n stops more =
 
     by : (a : Bool) → nat_lt G (length t.messages) ≡ a → (b : Bool) → nat_lt N (length t.wants) ≡ b → (last : Bool)
         → (stops && nat_le N (length t.wants)) ≡ last
-        → works statements ts (length (messages_in (take k ts)) + g) (wanted_in (take k ts) + n) stops ≡ works statements (drop k ts) g n stops
+        → works statements ts (length (messages_in (take k ts)) + g) (answers_in (take k ts) + n) stops ≡ works statements (drop k ts) g n stops
         → (if a || b then t.command else if last then suc statements else works statements ts (G - length t.messages) (N - length t.wants) stops)
         ≡ works statements (drop k ts) g n stops
     by true e b f last q rest = let lt = ltb-true G (length t.messages) e in absurd (omega (arith, length-append t.messages (messages_in (take k ts))))
@@ -142,7 +143,7 @@ works-past statements (suc k) (t ∷ ts) g n stops more =
     by false e false f true q rest = absurd (no-last stops more q)
     by false e false f false q rest =
         let x : G - length t.messages ≡ length (messages_in (take k ts)) + g = omega (arith, length-append t.messages (messages_in (take k ts))) in
-        let y : N - length t.wants ≡ wanted_in (take k ts) + n = omega arith in
+        let y : N - length t.wants ≡ answers_in (take k ts) + n = omega arith in
         (λ i. works statements ts (x i) (y i) stops) ∙ rest
 
 module _ (program : Program) (s : Standing) (fair : stops_at s ≡ true → 0 < s.heard) where

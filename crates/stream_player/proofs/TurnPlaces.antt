@@ -16,7 +16,8 @@ use Rattle.plays.specs.Streams as stream
 use Rattle.plays.specs.Streams.{Found, StreamState, Wanted, command_at, judged, noted, sends, wanted, works}
 use Rattle.plays.proofs.Asks.{AllAsk, asks, turns-ask}
 use Rattle.every_schedule.proofs.Quits.{NoneQuit, has_quit, turns-no-quit}
-use Rattle.stream_player.specs.Standing.{Standing, found, messages_in, state_at, up_to_reads, wanted_in}
+use Rattle.stream_player.specs.Standing.{Standing, found, messages_in, state_at, up_to_reads}
+use Rattle.every_schedule.specs.InWork.{answers_in}
 use Rattle.stream_player.proofs.Ahead.{ahead, is-out, owes, sends-last, sends-short, sends-whole, stops_at, waits}
 use Rattle.stream_player.proofs.Window.{asks-split, in-bytes, up-to-all, up-to-front, up-to-past}
 
@@ -49,7 +50,7 @@ quit-front (suc g) (Lines trst srst ∷ ms) none = quit-front g ms none
 
 -- one more turn is over
 more-in : (k : ℕ) (ts : List Turn) (t : Turn) (rest : List Turn) → drop k ts ≡ t ∷ rest
-    → (messages_in (take (suc k) ts) ≡ messages_in (take k ts) ++ t.messages) × (wanted_in (take (suc k) ts) ≡ wanted_in (take k ts) + length t.wants)
+    → (messages_in (take (suc k) ts) ≡ messages_in (take k ts) ++ t.messages) × (answers_in (take (suc k) ts) ≡ answers_in (take k ts) + length t.wants)
 more-in k [] t rest e = absurd (none k e)
   where
     none : (k : ℕ) → drop k [] ≡ t ∷ rest → ⊥
@@ -160,7 +161,7 @@ module _ (program : Program) (s : Standing) (t : Turn) (later : List Turn) (owed
       let none-left : asks (drop s.gone t.messages) ≡ 0 = omega (arith, asks-split s.gone t.messages, i.asked, out-all) in
       let given : length (messages_in (take (suc s.over) (turns program.steps))) + 0 ≡ length (messages_in (take s.over (turns program.steps))) + s.gone =
       omega (arith, ap length more.0, length-append (messages_in (take s.over (turns program.steps))) t.messages) in
-      let answered : wanted_in (take (suc s.over) (turns program.steps)) + 0 ≡ wanted_in (take s.over (turns program.steps)) + s.heard =
+      let answered : answers_in (take (suc s.over) (turns program.steps)) + 0 ≡ answers_in (take s.over (turns program.steps)) + s.heard =
       omega (arith, more.1, reached) in
       (λ k. record (state_at program s) { given = given k; answered = answered k })
     where

@@ -7,6 +7,7 @@ use Rattle.svf_settings.specs.Steps.{Program}
 use Rattle.plays.specs.Play.{Turn, turns}
 use Rattle.plays.specs.PlayingOn.{Mismatch, Stops}
 use Rattle.plays.specs.Streams.{Found, StreamState}
+use Rattle.every_schedule.specs.InWork.{answers_in}
 
 -- how many turns are over, how many messages of the present one are out and how many of its answers are there, what
 -- differed, and the byte that was no answer, if one came
@@ -17,14 +18,10 @@ pub record Standing : Type 0 where
   pub failed : Option Mismatch
   pub bad : Option ℕ
 
--- the messages of turns, and the answers that they want
+-- the messages of turns
 abbrev pub messages_in : List Turn → List Message
 messages_in [] = []
 messages_in (t ∷ ts) = t.messages ++ messages_in ts
-
-abbrev pub wanted_in : List Turn → ℕ
-wanted_in [] = 0
-wanted_in (t ∷ ts) = length t.wants + wanted_in ts
 
 -- of all that differed, one that stops keeps the first
 abbrev pub found : Option Mismatch → Found
@@ -38,7 +35,7 @@ state_at program s =
       program = program;
       kind = Stops;
       given = length (messages_in before) + s.gone;
-      answered = wanted_in before + s.heard;
+      answered = answers_in before + s.heard;
       found = found s.failed;
       bad = s.bad;
     }
