@@ -6,7 +6,7 @@ use Rattle.scan_vectors.specs.Vector.{VectorBit, differs}
 use Rattle.plays.specs.Play.{Turn, is_bad, turns}
 use Rattle.svf_settings.specs.Steps.{Program}
 use Rattle.plays.specs.PlayingOn.{Kind, Stops, PlaysOn, Mismatch, differing, failures}
-use Rattle.streaming.specs.Histories.{bits}
+use Rattle.streaming.specs.Histories.{bits_told}
 use Rattle.streaming.specs.Laws.{FreshAgrees, HearingIsTheHistory, good, stream_of}
 use Rattle.plays.specs.Streams.{StreamState, Wanted, counted, found_of, hear, hear_all, judged, kept, noted, wanted}
 
@@ -118,7 +118,7 @@ state kind program given g bad = record {
   kind = kind;
   given = given;
   answered = length g;
-  found = found_of kind (failures (turns program.steps) (bits g));
+  found = found_of kind (failures (turns program.steps) (bits_told g));
   bad = bad;
 }
 
@@ -154,16 +154,16 @@ hear-one kind program given got b =
         W : List Wanted
         W = wanted (turns program.steps)
 
-        all_same : failures (turns program.steps) (bits G) ++ judged (drop (length G) W) (b == 49) ≡ failures (turns program.steps) (bits (G ++ b ∷ []))
+        all_same : failures (turns program.steps) (bits_told G) ++ judged (drop (length G) W) (b == 49) ≡ failures (turns program.steps) (bits_told (G ++ b ∷ []))
         all_same =
-            (λ i. failing-is (turns program.steps) (bits G) i ++ judged (drop (sym (length-map G (λ b. b == 49)) i) W) (b == 49))
-            ∙ sym (failing-push W (bits G) (b == 49))
-            ∙ sym (failing-is (turns program.steps) (bits G ++ (b == 49) ∷ []))
+            (λ i. failing-is (turns program.steps) (bits_told G) i ++ judged (drop (sym (length-map G (λ b. b == 49)) i) W) (b == 49))
+            ∙ sym (failing-push W (bits_told G) (b == 49))
+            ∙ sym (failing-is (turns program.steps) (bits_told G ++ (b == 49) ∷ []))
             ∙ ap (failures (turns program.steps)) (sym (map-append (λ b. b == 49) G (b ∷ [])))
 
-        found_same : noted kind (judged (drop (length G) W) (b == 49)) (found_of kind (failures (turns program.steps) (bits G)))
-            ≡ found_of kind (failures (turns program.steps) (bits (G ++ b ∷ [])))
-        found_same = noted-more kind (failures (turns program.steps) (bits G)) (judged (drop (length G) W) (b == 49)) ∙ ap (found_of kind) all_same
+        found_same : noted kind (judged (drop (length G) W) (b == 49)) (found_of kind (failures (turns program.steps) (bits_told G)))
+            ≡ found_of kind (failures (turns program.steps) (bits_told (G ++ b ∷ [])))
+        found_same = noted-more kind (failures (turns program.steps) (bits_told G)) (judged (drop (length G) W) (b == 49)) ∙ ap (found_of kind) all_same
 
 pub hearing : HearingIsTheHistory
 hearing kind p [] = λ i. stream_of kind (record p { got = sym (append-nil p.got) i })

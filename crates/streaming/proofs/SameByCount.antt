@@ -15,7 +15,7 @@ use Rattle.plays.specs.PlayingOn.{any_value, differing, ending_of, failures, unj
 use Rattle.every_schedule.proofs.AllFailures.{Judged, none, some, judged}
 use Rattle.every_schedule.proofs.Fronts.{empty-length}
 use Rattle.every_schedule.proofs.Quits.{NoneQuit, asks-append, asks-no-quit, has_quit, or-right, quit-append, sent_of}
-use Rattle.streaming.specs.Histories.{bits}
+use Rattle.streaming.specs.Histories.{bits_told}
 use Rattle.streaming.specs.Laws.{good}
 use Rattle.plays.specs.Streams.{command_at, sends, some_differ, works}
 use Rattle.streaming.proofs.Hearing.{failures-none}
@@ -202,37 +202,37 @@ drop-good (suc n) (g ∷ got) e = one (is_bad g) e (drop-good n got)
     one false e rest = rest e
 
 -- Once `Q` is sent, and no bad answer came, the play has passed, or failed by the first that differs.
-pub ends-good : (window : ℕ) (ts : List Turn) → NoneQuit ts → (got : List ℕ) → find is_bad got ≡ None → has_quit (sent window ts (bits got)) ≡ true
-    → ending_for ts got ≡ Some (ending_of (failures ts (bits got)))
+pub ends-good : (window : ℕ) (ts : List Turn) → NoneQuit ts → (got : List ℕ) → find is_bad got ≡ None → has_quit (sent window ts (bits_told got)) ≡ true
+    → ending_for ts got ≡ Some (ending_of (failures ts (bits_told got)))
 ends-good window [] all got ok quit = refl
 ends-good window (t ∷ ts) all got ok quit =
-    (λ i. end_of t ts got (take-good w got ok i) (nat_lt (sym (length-map got (λ b. b == 49)) i) w) (judge t.wants (bits got)))
-    ∙ one (nat_lt (length (bits got)) w) (judge t.wants (bits got)) refl quit
+    (λ i. end_of t ts got (take-good w got ok i) (nat_lt (sym (length-map got (λ b. b == 49)) i) w) (judge t.wants (bits_told got)))
+    ∙ one (nat_lt (length (bits_told got)) w) (judge t.wants (bits_told got)) refl quit
     (λ q. ends-good window ts all.1 (drop w got) (drop-good w got ok) q)
   where
     w : ℕ
     w = length t.wants
 
-    cut : drop w (bits got) ≡ bits (drop w got)
+    cut : drop w (bits_told got) ≡ bits_told (drop w got)
     cut = drop-map (λ b. b == 49) w got
 
-    of : (f : Part × ℕ) → Judged t.command t.wants (bits got) (Some f)
-        → Some (Fail t.command f.0 f.1) ≡ Some (ending_of (failures (t ∷ ts) (bits got)))
-    of f (some _ rest q) = sym (ap (λ l. Some (ending_of (l ++ failures ts (drop w (bits got))))) q)
+    of : (f : Part × ℕ) → Judged t.command t.wants (bits_told got) (Some f)
+        → Some (Fail t.command f.0 f.1) ≡ Some (ending_of (failures (t ∷ ts) (bits_told got)))
+    of f (some _ rest q) = sym (ap (λ l. Some (ending_of (l ++ failures ts (drop w (bits_told got))))) q)
 
-    one : (short : Bool) (found : Option (Part × ℕ)) → judge t.wants (bits got) ≡ found → has_quit (sent_of window t ts (bits got) short found) ≡ true
-        → (has_quit (sent window ts (bits (drop w got))) ≡ true → ending_for ts (drop w got) ≡ Some (ending_of (failures ts (bits (drop w got)))))
-        → end_of t ts got None short found ≡ Some (ending_of (failures (t ∷ ts) (bits got)))
-    one true found e quit rest = absurd (clash (sym quit ∙ asks-no-quit t.messages (length (bits got) + window) all.0))
+    one : (short : Bool) (found : Option (Part × ℕ)) → judge t.wants (bits_told got) ≡ found → has_quit (sent_of window t ts (bits_told got) short found) ≡ true
+        → (has_quit (sent window ts (bits_told (drop w got))) ≡ true → ending_for ts (drop w got) ≡ Some (ending_of (failures ts (bits_told (drop w got)))))
+        → end_of t ts got None short found ≡ Some (ending_of (failures (t ∷ ts) (bits_told got)))
+    one true found e quit rest = absurd (clash (sym quit ∙ asks-no-quit t.messages (length (bits_told got) + window) all.0))
       where
         clash : true ≡ false → ⊥
         clash p = cc
-    one false (Some f) e quit rest = of f (subst (λ o. Judged t.command t.wants (bits got) o) e (judged t.command t.wants (bits got)))
+    one false (Some f) e quit rest = of f (subst (λ o. Judged t.command t.wants (bits_told got) o) e (judged t.command t.wants (bits_told got)))
     one false None e quit rest =
-        let more : has_quit (sent window ts (bits (drop w got))) ≡ true =
+        let more : has_quit (sent window ts (bits_told (drop w got))) ≡ true =
         ap (λ l. has_quit (sent window ts l)) (sym cut)
-        ∙ sym (quit-append t.messages (sent window ts (drop w (bits got))) ∙ or-right (has_quit t.messages) _ all.0) ∙ quit in
-        rest more ∙ (λ i. Some (ending_of (failures ts (sym cut i)))) ∙ (λ i. Some (ending_of (sym (is-passed t ts (bits got) e).same i)))
+        ∙ sym (quit-append t.messages (sent window ts (drop w (bits_told got))) ∙ or-right (has_quit t.messages) _ all.0) ∙ quit in
+        rest more ∙ (λ i. Some (ending_of (failures ts (sym cut i)))) ∙ (λ i. Some (ending_of (sym (is-passed t ts (bits_told got) e).same i)))
 
 -- where the first bad answer is
 data Split (n : ℕ) (got : List ℕ) (x : ℕ) : Type 0 where
@@ -269,7 +269,7 @@ take-all (suc n) (g ∷ got) le = ap (λ l. g ∷ l) (take-all n got (omega arit
 
 -- A bad answer that was asked for ends the play at the command that it belongs to.
 pub ends-bad : (window : ℕ) (ts : List Turn) → AllAsk ts → (got : List ℕ) (x : ℕ) → find is_bad got ≡ Some x
-    → length (bits got) ≤ asks (sent window ts (bits got)) → ending_for ts got ≡ Some (BadAnswer (command_at ts (length (good got))) x)
+    → length (bits_told got) ≤ asks (sent window ts (bits_told got)) → ending_for ts got ≡ Some (BadAnswer (command_at ts (length (good got))) x)
 ends-bad window [] all got x e le = absurd (clash (sym (ap (find is_bad) (empty got (omega (arith, le, length-map got (λ b. b == 49))))) ∙ e))
   where
     empty : (l : List ℕ) → length l ≡ 0 → l ≡ []
@@ -283,34 +283,34 @@ ends-bad window (t ∷ ts) all got x e le = of (split w got x e) (λ b q. ends-b
     w : ℕ
     w = length t.wants
 
-    cut : drop w (bits got) ≡ bits (drop w got)
+    cut : drop w (bits_told got) ≡ bits_told (drop w got)
     cut = drop-map (λ b. b == 49) w got
 
-    of : Split w got x → (find is_bad (drop w got) ≡ Some x → length (bits (drop w got)) ≤ asks (sent window ts (bits (drop w got)))
+    of : Split w got x → (find is_bad (drop w got) ≡ Some x → length (bits_told (drop w got)) ≤ asks (sent window ts (bits_told (drop w got)))
         → ending_for ts (drop w got) ≡ Some (BadAnswer (command_at ts (length (good (drop w got)))) x))
         → ending_for (t ∷ ts) got ≡ Some (BadAnswer (command_at (t ∷ ts) (length (good got))) x)
     of (here a b) rest =
-        (λ i. end_of t ts got (a i) (nat_lt (length got) w) (judge t.wants (bits got)))
+        (λ i. end_of t ts got (a i) (nat_lt (length got) w) (judge t.wants (bits_told got)))
         ∙ (λ i. Some (BadAnswer (if sym (lt-test (length (good got)) w b) i then t.command else command_at ts (length (good got) - w)) x))
     of (later a b c d) rest =
-        (λ i. end_of t ts got (a i) (not-lt-test (length got) w (omega (arith, d)) i) (judge t.wants (bits got)))
-        ∙ one (judge t.wants (bits got)) refl
-        (subst (λ s. length (bits got) ≤ asks (sent_of window t ts (bits got) s (judge t.wants (bits got))))
-        (not-lt-test (length (bits got)) w (omega (arith, d, length-map got (λ b. b == 49)))) le)
+        (λ i. end_of t ts got (a i) (not-lt-test (length got) w (omega (arith, d)) i) (judge t.wants (bits_told got)))
+        ∙ one (judge t.wants (bits_told got)) refl
+        (subst (λ s. length (bits_told got) ≤ asks (sent_of window t ts (bits_told got) s (judge t.wants (bits_told got))))
+        (not-lt-test (length (bits_told got)) w (omega (arith, d, length-map got (λ b. b == 49)))) le)
         ∙ (λ i. Some (BadAnswer (if sym (not-lt-test (length (good got)) w (omega (arith, c))) i then t.command else command_at ts (length (good got) - w)) x))
       where
         far : length (good (drop w got)) ≡ length (good got) - w
         far = omega (arith, c)
 
-        one : (found : Option (Part × ℕ)) → judge t.wants (bits got) ≡ found → length (bits got) ≤ asks (sent_of window t ts (bits got) false found)
+        one : (found : Option (Part × ℕ)) → judge t.wants (bits_told got) ≡ found → length (bits_told got) ≤ asks (sent_of window t ts (bits_told got) false found)
             → end_of t ts got None false found ≡ Some (BadAnswer (command_at ts (length (good got) - w)) x)
-        one (Some f) q le = absurd (omega (arith, (is-failed window t ts (bits got) all.0 f q le).last, d, length-map got (λ b. b == 49)))
+        one (Some f) q le = absurd (omega (arith, (is-failed window t ts (bits_told got) all.0 f q le).last, d, length-map got (λ b. b == 49)))
         one None q le =
             rest b
-            (subst (λ l. length l ≤ asks (sent window ts l)) cut (later-asked window t ts (bits got) all.0 le))
+            (subst (λ l. length l ≤ asks (sent window ts l)) cut (later-asked window t ts (bits_told got) all.0 le))
             ∙ ap (λ n. Some (BadAnswer (command_at ts n) x)) far
 
--- A player that plays on: its turns want the same bits, and none differs.
+-- A player that plays on: its turns want the same bits_told, and none differs.
 pub same-length : (vs : List VectorBit) → length (map any_value vs) ≡ length vs
 same-length vs = length-map vs any_value
 

@@ -13,7 +13,7 @@ use Rattle.every_schedule.specs.Fronts.{IsFront}
 use Rattle.every_schedule.specs.Laws.{full, full_bytes}
 use Rattle.every_schedule.specs.Sides.{answered_all}
 use Rattle.streaming.specs.Histories as history
-use Rattle.streaming.specs.Histories.{WasAsked, bits}
+use Rattle.streaming.specs.Histories.{WasAsked, bits_told}
 use Rattle.plays.specs.Streams as stream
 use Rattle.plays.specs.Streams.{StreamState, found_of, hear_all}
 
@@ -29,7 +29,7 @@ stream_of kind p = record {
   kind = kind;
   given = p.given;
   answered = length (good p.got);
-  found = found_of kind (failures (turns p.program.steps) (bits (good p.got)));
+  found = found_of kind (failures (turns p.program.steps) (bits_told (good p.got)));
   bad = find is_bad p.got;
 }
 
