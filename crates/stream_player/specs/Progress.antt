@@ -4,7 +4,7 @@ use Rattle.std.specs.Prelude.{drop, filter, is_some, option_map, Option, Some, N
 use Rattle.jt_tap.specs.Controller.{is_stable}
 use Rattle.jt_tap.specs.declared.State.{State}
 use Rattle.jt_tap.specs.declared.State.TheVariants.{Reset}
-use Rattle.bitbang_table.specs.Protocol.{encode}
+use Rattle.bitbang_table.specs.Protocol.{encode, value}
 use Rattle.bitbang_table.specs.Cycles.{opening}
 use Rattle.bitbang.specs.Left.{behind}
 use Rattle.bitbang.specs.StepMessages.{step_bytes, step_messages}
@@ -30,10 +30,6 @@ mismatch m = record { command = m.command; part = m.part; place = m.bit }
 abbrev pub over : Progress → ℕ
 over p = elim p.phase [ Opening n ↦ 0 | Within spot ↦ suc p.at | Over out ↦ suc p.at ]
 
-abbrev pub one : Bool → ℕ
-one true = 1
-one false = 0
-
 -- the messages of the first of these steps
 abbrev pub present : State → List Numbered → ℕ
 present place [] = 0
@@ -49,7 +45,7 @@ abbrev pub gone : List Numbered → Progress → ℕ
 gone rest p = elim p.phase [
   | Opening n ↦ n
   | Within spot ↦ present p.place rest - length (rest_of p.place rest spot)
-  | Over out ↦ present p.place rest + one out
+  | Over out ↦ present p.place rest + value out
 ]
 
 abbrev pub standing_at : List Numbered → Progress → Standing
