@@ -22,9 +22,9 @@ use Rattle.stream_player.specs.declared.progress.Phase.{Phase}
 use Rattle.stream_player.specs.declared.progress.Phase.TheVariants.{Opening, Within, Over}
 use Rattle.stream_player.specs.declared.progress.Progress.{Progress}
 use Rattle.stream_player.specs.Progress.{InPhase, InStep, IsOver, Stands, gone, mismatch, standing_at, state_of, vector_bits}
-use Rattle.stream_player.specs.Standing.{Standing, differing_bit, first_of, state_at}
+use Rattle.stream_player.specs.Standing.{Standing, differing_bit, state_at}
 use Rattle.stream_player.proofs.Ahead.{ahead, owes}
-use Rattle.stream_player.proofs.Ends.{hears, hears-bad, quits, quits-behind}
+use Rattle.stream_player.proofs.Ends.{first_of, hears, hears-bad, quits, quits-behind}
 use Rattle.stream_player.proofs.TurnPlaces.{owed-is, reached}
 use Rattle.stream_player.proofs.Pieced.{fair-end, first, is-over, none-of, opened, start, stops-is, turns-end}
 use Rattle.stream_player.proofs.Steps.{cut, same-first, wants-of-vector}

@@ -18,7 +18,7 @@ use Rattle.plays.specs.Streams as stream
 use Rattle.plays.specs.Streams.{Found, StreamState, Wanted, command_at, hear, judged, noted, wanted, works}
 use Rattle.plays.proofs.Asks.{asks}
 use Rattle.every_schedule.proofs.Quits.{has_quit, quit-append}
-use Rattle.stream_player.specs.Standing.{Standing, differing_bit, first_of, found, messages_in, state_at}
+use Rattle.stream_player.specs.Standing.{Standing, differing_bit, found, messages_in, state_at}
 use Rattle.every_schedule.specs.InWork.{answers_in}
 use Rattle.stream_player.proofs.Ahead.{ahead, is-out, owes, sends-last, stops_at, waits}
 use Rattle.stream_player.proofs.TurnPlaces.{IsIn, fits, no-quit, reached}
@@ -48,6 +48,11 @@ next-wanted t (suc n) (v ∷ vs) more w ws e = next-wanted t n vs more w ws e
 abbrev listed : Option Mismatch → List Mismatch
 listed None = []
 listed (Some m) = m ∷ []
+
+-- the first that differs is kept
+abbrev pub first_of : Option Mismatch → Option Mismatch → Option Mismatch
+first_of None later = later
+first_of (Some m) later = Some m
 
 noted-first : (had more : Option Mismatch) → noted Stops (listed more) (found had) ≡ found (first_of had more)
 noted-first None None = refl

@@ -55,8 +55,3 @@ reads (b ∷ bytes) = if b == 82 then suc (reads bytes) else reads bytes
 abbrev pub differing_bit : ℕ → VectorBit → Bool → Option Mismatch
 differing_bit command w bit =
     if differs w.wanted bit then Some (record { command = command; part = w.part; place = w.place }) else None
-
--- the first that differs is kept
-abbrev pub first_of : Option Mismatch → Option Mismatch → Option Mismatch
-first_of None later = later
-first_of (Some m) later = Some m

@@ -7,7 +7,7 @@ use Rattle.bitbang_table.specs.declared.Message.{Message}
 use Rattle.bitbang_table.specs.declared.Message.TheVariants.{Write, Ask, Quit, Light, Lines}
 use Rattle.bitbang_table.specs.Protocol.{answer, decode, encode}
 use Rattle.board_meaning.specs.Chain.{BoardState}
-use Rattle.plays.specs.Events.{Event, Put, Serve, Take, Lose, Known, World, by_answers, before_events as fresh_world, happens, has_room, hear_all, put_bytes, run, served, take_answers, after_byte_taken}
+use Rattle.plays.specs.Events.{Event, Put, Serve, Take, Lose, Known, Side, World, by_answers, before_events as fresh_world, happens, has_room, hear_all, put_bytes, run, served, take_answers, after_byte_taken}
 use Rattle.plays.specs.Play.{player, sent}
 use Rattle.plays.specs.Playing.{PlayerState, up_to_bad}
 use Rattle.svf_settings.specs.Steps.{Numbered, Program}
@@ -21,8 +21,16 @@ use Rattle.every_schedule.proofs.InsideFullPlay.{inside-happens, length-encoded}
 use Rattle.every_schedule.proofs.MovingEvents.{heard-is}
 use Rattle.every_schedule.proofs.Quits.{asks-append}
 use Rattle.every_schedule.proofs.SafetyLaws.{In, from-fresh, is-play}
-use Rattle.streaming.specs.Histories.{bytes_of, given_out, owed, side, bytes_to_send}
+use Rattle.streaming.specs.Histories.{answers_taken, bytes_of, given_out, owed, bytes_to_send}
 use Rattle.streaming.specs.Laws.{history_of, with_player}
+
+-- a history, as events see it
+abbrev pub side : Kind → ℕ → Side PlayerState
+side kind window = record {
+  waiting = bytes_to_send kind window;
+  give = λ n p. record p { given = p.given + n };
+  hear = λ bit p. record p { got = p.got ++ answers_taken kind window p (answer bit ∷ []) };
+}
 
 abbrev pub world_of : Program → World Known → World PlayerState
 world_of program w = with_player (history_of program) w

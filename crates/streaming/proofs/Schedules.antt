@@ -12,10 +12,10 @@ use Rattle.plays.specs.Streams as stream
 use Rattle.plays.specs.Streams.{hear_all}
 use Rattle.streaming.proofs.Agree.{agree, stays_asked}
 use Rattle.streaming.proofs.Alike.{IsAlike, run-alike}
-use Rattle.streaming.proofs.Carried.{carried}
+use Rattle.streaming.proofs.Carried.{carried, side}
 use Rattle.streaming.proofs.Hearing.{fresh_agrees, hearing}
 
-alike : (kind : Kind) (window : ℕ) → IsAlike (history.side kind window) (stream.side window) (stream_of kind) (WasAsked kind window)
+alike : (kind : Kind) (window : ℕ) → IsAlike (side kind window) (stream.side window) (stream_of kind) (WasAsked kind window)
 alike kind window = record {
   waiting = λ p ok. (agree kind window p ok).waiting;
   give = λ n p ok. refl;
@@ -28,7 +28,7 @@ alike kind window = record {
 pub carry_over : SchedulesCarryOver
 carry_over kind window program b down_room up_room es =
     (λ i. run (stream.side window) down_room up_room es (empty_pipes (sym (fresh_agrees kind program) i) b))
-    ∙ run-alike (history.side kind window) (stream.side window) (stream_of kind) (WasAsked kind window) (alike kind window) down_room up_room es
+    ∙ run-alike (side kind window) (stream.side window) (stream_of kind) (WasAsked kind window) (alike kind window) down_room up_room es
     (empty_pipes (playing.new_player program) b) ((stays_asked kind window).fresh program)
     ∙ ap (with_player (stream_of kind)) (carried kind window program b down_room up_room es)
 

@@ -1,11 +1,9 @@
 -- The player that is known by all answers it took, for any window, whether it stops after a failing step or plays on.
-use Rattle.std.specs.Prelude.{◌≤◌, Bool, ◌||◌, ℕ, ◌+◌, ◌-◌, ◌==◌, List, [], ◌∷◌, ◌++◌, map, length, take, drop}
+use Rattle.std.specs.Prelude.{◌≤◌, Bool, ◌||◌, ℕ, ◌-◌, ◌==◌, List, [], map, length, take, drop}
 use Rattle.std.specs.Prelude.{count_by, Option, Some, None, if◌then◌else◌}
 use Rattle.std.specs.List.{list_any}
-use Rattle.bitbang_table.specs.Protocol.{answer}
 use Rattle.plays.specs.declared.ending.Ending.{Ending}
 use Rattle.plays.specs.declared.ending.Ending.TheVariants.{Pass}
-use Rattle.plays.specs.Events.{Side}
 use Rattle.plays.specs.Play.{Turn, ending_for, in_work, player, turns}
 use Rattle.plays.specs.Playing.{PlayerState, has_bad_answer, up_to_bad}
 use Rattle.plays.specs.PlayingOn.{Kind, Stops, PlaysOn, ending_of, failures, turns_for}
@@ -57,11 +55,3 @@ module _ (kind : Kind) (window : ℕ) where
   -- No answer was taken that was not asked for.
   abbrev pub WasAsked : PlayerState → Type 0
   WasAsked p = length p.got ≤ count_by (λ b. b == 82) (bytes_of p)
-
-  -- as events see it
-  abbrev pub side : Side PlayerState
-  side = record {
-    waiting = bytes_to_send;
-    give = λ n p. record p { given = p.given + n };
-    hear = λ bit p. record p { got = p.got ++ answers_taken p (answer bit ∷ []) };
-  }

@@ -2,9 +2,8 @@ use Rattle.std.proofs.Common.{◌+◌, ℕ, map, refl, sym, ap, ◌∙◌}
 use Rattle.std.specs.Prelude.{Some}
 use Rattle.svf_parse.specs.declared.fault.SvfFault.{SvfFault}
 use Rattle.svf_parse.specs.View.{said}
-use Rattle.svf_settings.specs.Reading.{before}
 use Rattle.svf_settings.proofs.OneStatementMore.{after_more, before_more, length_before, said_at}
-use Rattle.svf_settings.proofs.FirstRefusals.{refused_at}
+use Rattle.svf_settings.proofs.FirstRefusals.{before, refused_at}
 use Rattle.svf_settings.proofs.reading.kept_steps.Goals as goal
 
 pub loop-index-init : goal.loop-index-init
