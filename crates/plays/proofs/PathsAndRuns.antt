@@ -13,7 +13,7 @@ use Rattle.board_meaning.specs.Nets.{sees}
 use Rattle.board_meaning.specs.Chain.{hear}
 use Rattle.board_meaning.specs.Whole.{joined_bits, cut_back, capture_all, reset_member, pass, along}
 use Rattle.svf_settings.specs.Steps.{Path, Run}
-use Rattle.plays.specs.Meaning.{command, move_unless_there}
+use Rattle.plays.specs.Meaning.{after_step, move_unless_there}
 use Rattle.bitbang_table.specs.Cycles.{walk, closed}
 use Rattle.tck_cycles.specs.Cycles.{cycles, go_unless_there}
 use Rattle.bitbang.specs.StepMessages.{step_messages}
@@ -124,7 +124,7 @@ closed-travel (t ∷ path) s trst nets ms legal sound free =
 pub path-law : (path : List State) (place : State) (trst : Bool) (nets : List Net) (ms : List Member)
     → is_stable place ≡ true → is_stable (last_of place path) ≡ true → IsTrip place path → AllSound ms → Free trst ms
     → hear (step_messages place (Path path)) (board_at_rest (at_rest place trst nets ms))
-    ≡ record { answers = []; board = board_at_rest (command (Path path) (at_rest place trst nets ms)) }
+    ≡ record { answers = []; board = board_at_rest (after_step (Path path) (at_rest place trst nets ms)) }
 path-law path place trst nets ms sp se legal sound free =
     let end = last_of place path in
     let T = travelled nets place path ms in
@@ -227,7 +227,7 @@ stays-after place run nets ms sp sr kept e = absurd (cc)
 pub run-law : (run end : State) (n : ℕ) (place : State) (trst : Bool) (nets : List Net) (ms : List Member)
     → is_stable place ≡ true → is_stable run ≡ true → is_stable end ≡ true → StaysReset place ms → Free trst ms
     → hear (step_messages place (Run run n end)) (board_at_rest (at_rest place trst nets ms))
-    ≡ record { answers = []; board = board_at_rest (command (Run run n end) (at_rest place trst nets ms)) }
+    ≡ record { answers = []; board = board_at_rest (after_step (Run run n end) (at_rest place trst nets ms)) }
 run-law run end n place trst nets ms sp sr se kept free =
     let first = maybe-move place run sp sr in
     let second = maybe-move run end sr se in

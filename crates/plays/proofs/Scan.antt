@@ -11,7 +11,7 @@ use Rattle.board_meaning.specs.Chain.{hear}
 use Rattle.board_meaning.specs.Whole.{AtRest, joined_bits, cut_back, capture, settle, out, shift}
 use Rattle.scan_vectors.specs.Vector.{VectorBit, tdis}
 use Rattle.svf_settings.specs.Steps.{Scan}
-use Rattle.plays.specs.Meaning.{command, scan_end}
+use Rattle.plays.specs.Meaning.{after_step, scan_end}
 use Rattle.tap_paths.specs.Paths.{to_shift, from_exit1, last_of}
 use Rattle.bitbang_table.specs.declared.Cycle.{Cycle}
 use Rattle.bitbang_table.specs.Cycles.{walk, closed}
@@ -101,7 +101,7 @@ pub scan-law : (column : Column) (v : VectorBit) (vs : List VectorBit) (place en
     → hear (step_messages place (Scan column (v ∷ vs) end)) (board_at_rest (at_rest place trst nets ms))
     ≡ record {
       answers = picked (v ∷ vs) (out column (tdis (v ∷ vs)) (ready column place trst nets ms));
-      board = board_at_rest (command (Scan column (v ∷ vs) end) (at_rest place trst nets ms));
+      board = board_at_rest (after_step (Scan column (v ∷ vs) end) (at_rest place trst nets ms));
     }
 scan-law column v vs place end trst nets ms sp se free some full =
     let start = start-path place column sp in

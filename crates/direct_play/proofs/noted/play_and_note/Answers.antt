@@ -13,7 +13,7 @@ use Rattle.board_meaning.specs.Chain.{BoardState}
 use Rattle.board_meaning.specs.Resting.{IsAtRest, board_at_rest}
 use Rattle.plays.specs.declared.ending.Ending.TheVariants.{Fail, Pass}
 use Rattle.plays.specs.DirectPlay.{full_bytes, opened_state}
-use Rattle.plays.specs.Meaning.{command, outcome}
+use Rattle.plays.specs.Meaning.{after_step, outcome}
 use Rattle.plays.specs.Play.{full_play, step_turns}
 use Rattle.direct_play.proofs.NotedPieces.{Notes-is, Notes-then}
 use Rattle.direct_play.proofs.Turns.{bytes-of}
@@ -68,9 +68,9 @@ loop-step-preserved g c =
     let can : CanPlay (s ∷ ss) i.m = subst (λ (l : List Numbered). CanPlay l i.m) c.in-Some.ensures.steps i.can in
     let none = sym (c.play_step.ensures.judged i.m i.rests) ∙ c.in_default.is in
     let bytes = step_bytes i.m.place s.what in
-    let rest = bytes-of (full_play (step_turns (command s.what i.m).place ss) (board_at_rest (command s.what i.m))) in
+    let rest = bytes-of (full_play (step_turns (after_step s.what i.m).place ss) (board_at_rest (after_step s.what i.m))) in
     record {
-      m = command s.what i.m;
+      m = after_step s.what i.m;
       rests = c.play_step.ensures.board i.m i.rests;
       can = can_play_on s ss i.m can;
       within = (subst AllWithin c.in-Some.ensures.steps i.within).1;
