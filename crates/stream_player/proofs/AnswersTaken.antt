@@ -14,7 +14,7 @@ use Rattle.plays.specs.Play.{Turn, is_bad, step_turns, turns, wants_of}
 use Rattle.plays.specs.Playing.{up_to_bad}
 use Rattle.plays.specs.PlayingOn.{Mismatch}
 use Rattle.plays.specs.Streams as stream
-use Rattle.plays.specs.Streams.{StreamState, hear, hear_all, answers_taken}
+use Rattle.plays.specs.Streams.{StreamState, hear, hear_bytes, answers_taken}
 use Rattle.plays.proofs.Asks.{asks, asks-step}
 use Rattle.every_schedule.proofs.Quits.{asks-append}
 use Rattle.stream_player.specs.declared.progress.Mismatch as declared

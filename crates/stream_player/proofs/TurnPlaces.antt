@@ -13,7 +13,7 @@ use Rattle.svf_settings.specs.Steps.{Program}
 use Rattle.plays.specs.Play.{Turn, turns, up_to_asks}
 use Rattle.plays.specs.PlayingOn.{Mismatch, Stops}
 use Rattle.plays.specs.Streams as stream
-use Rattle.plays.specs.Streams.{Found, StreamState, Wanted, command_at, judged, noted, sends, wanted, works}
+use Rattle.plays.specs.Streams.{Found, StreamState, Wanted, command_at, mismatch_of, with_more, may_send, all_wanted, command_at_work}
 use Rattle.plays.proofs.Asks.{AllAsk, asks, turns-ask}
 use Rattle.every_schedule.proofs.Quits.{NoneQuit, has_quit, turns-no-quit}
 use Rattle.stream_player.specs.Standing.{Standing, found, messages_in, state_at, up_to_reads}
@@ -85,8 +85,8 @@ module _ (program : Program) (s : Standing) (t : Turn) (later : List Turn) (owed
   pub reached : s.heard + owed + asks (drop s.gone t.messages) ≡ length t.wants
   reached = omega (arith, i.asked, asks-split s.gone t.messages, fits)
 
-  ahead-is : ahead program s i.fair ≡ sends 256 (t ∷ later) s.heard (stops_at s)
-  ahead-is = ap (λ (l : List Turn). sends 256 l s.heard (stops_at s)) i.here
+  ahead-is : ahead program s i.fair ≡ may_send 256 (t ∷ later) s.heard (stops_at s)
+  ahead-is = ap (λ (l : List Turn). may_send 256 l s.heard (stops_at s)) i.here
 
   -- all answers are there, so all of the turn may be sent
   record AllThere : Type 0 where
@@ -97,10 +97,10 @@ module _ (program : Program) (s : Standing) (t : Turn) (later : List Turn) (owed
   all-there e = by (stops_at s) refl
     where
       by : (b : Bool) → stops_at s ≡ b → AllThere
-      by true is = record { follows = Quit ∷ []; is = ahead-is ∙ ap (λ (b : Bool). sends 256 (t ∷ later) s.heard b) is ∙ sends-last 256 t later s.heard e }
+      by true is = record { follows = Quit ∷ []; is = ahead-is ∙ ap (λ (b : Bool). may_send 256 (t ∷ later) s.heard b) is ∙ sends-last 256 t later s.heard e }
       by false is = record {
-        follows = sends 256 later 0 false;
-        is = ahead-is ∙ ap (λ (b : Bool). sends 256 (t ∷ later) s.heard b) is ∙ sends-whole 256 t later s.heard e;
+        follows = may_send 256 later 0 false;
+        is = ahead-is ∙ ap (λ (b : Bool). may_send 256 (t ∷ later) s.heard b) is ∙ sends-whole 256 t later s.heard e;
       }
 
   short-is : s.heard < length t.wants → ahead program s i.fair ≡ up_to_asks t.messages (s.heard + 256)

@@ -4,7 +4,7 @@ ghost use Rattle.std.specs.Prelude.{◌≡◌, ◌+◌, ◌-◌, ◌^◌, ◌↔
 ghost use Rattle.svf_settings.specs.Sizes.{program_of};
 ghost use Rattle.plays.specs.PlayingOn.{Stops};
 ghost use Rattle.plays.specs.Streams as stream;
-ghost use Rattle.plays.specs.Streams.{new_stream, hear_all, answers_taken, bytes_to_send};
+ghost use Rattle.plays.specs.Streams.{new_stream, hear_bytes, answers_taken, bytes_to_send};
 
 use crate::hearing::hear;
 use crate::pieces::fill;
@@ -73,7 +73,7 @@ impl Player {
     /// the first that is neither `0` nor `1`, which ends the play. Answers how many were taken.
     pub fn answers(&mut self, bytes: &[u8]) -> usize
         ensures count { result ≡ length (answers_taken 256 self.old bytes.now) }
-        ensures player { self.new ≡ hear_all (answers_taken 256 self.old bytes.now) self.old }
+        ensures player { self.new ≡ hear_bytes (answers_taken 256 self.old bytes.now) self.old }
     {
         let (progress, count) = hear(&self.program, self.progress, bytes);
         self.progress = progress;

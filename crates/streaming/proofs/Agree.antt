@@ -20,7 +20,7 @@ use Rattle.streaming.specs.Histories as history
 use Rattle.streaming.specs.Histories.{WasAsked, bits_told}
 use Rattle.streaming.specs.Laws.{AnsweringStaysAsked, IsSame, StreamsAgree, good, stream_of}
 use Rattle.plays.specs.Streams as stream
-use Rattle.plays.specs.Streams.{command_at, kept, sends, some_differ, stops_for, works}
+use Rattle.plays.specs.Streams.{command_at, most_kept, may_send, some_differ, stops_for, command_at_work}
 use Rattle.streaming.proofs.SameByCount.{ends-bad, ends-good, sends-same, unjudged-command, unjudged-failures, unjudged-sends, unjudged-works, works-same}
 
 -- how many `R` are among bytes
@@ -115,13 +115,13 @@ good-all (g ∷ got) e = one (is_bad g) e (good-all got)
         clash p = cc
     one false e rest = ap (λ l. g ∷ l) (rest e)
 
-first-kept : (kind : Kind) (fs : List Mismatch) → some_differ (take (kept kind) fs) ≡ some_differ fs
+first-kept : (kind : Kind) (fs : List Mismatch) → some_differ (take (most_kept kind) fs) ≡ some_differ fs
 first-kept Stops [] = refl
 first-kept Stops (f ∷ fs) = refl
 first-kept PlaysOn [] = refl
 first-kept PlaysOn (f ∷ fs) = refl
 
-first-named : (kind : Kind) (fs : List Mismatch) → ending_of (take (kept kind) fs) ≡ ending_of fs
+first-named : (kind : Kind) (fs : List Mismatch) → ending_of (take (most_kept kind) fs) ≡ ending_of fs
 first-named Stops [] = refl
 first-named Stops (f ∷ fs) = refl
 first-named PlaysOn [] = refl
@@ -137,29 +137,29 @@ module _ (window : ℕ) (p : PlayerState) where
       omega (arith, asked, length-map p.got (λ b. b == 49), ask-bytes (sent window (turns_for kind p.program.steps) (bits_told p.got)))
 
   abbrev stopping : Kind → List ℕ → Bool
-  stopping kind g = stops_for kind (take (kept kind) (failures (turns p.program.steps) (bits_told g)))
+  stopping kind g = stops_for kind (take (most_kept kind) (failures (turns p.program.steps) (bits_told g)))
 
   sends-for : (kind : Kind) → WasAsked kind window p
-      → sends window (turns p.program.steps) (length p.got) (stopping kind p.got) ≡ sent window (turns_for kind p.program.steps) (bits_told p.got)
+      → may_send window (turns p.program.steps) (length p.got) (stopping kind p.got) ≡ sent window (turns_for kind p.program.steps) (bits_told p.got)
   sends-for Stops asked =
-      (λ i. sends window (turns p.program.steps) (sym (length-map p.got (λ b. b == 49)) i) (first-kept Stops (failures (turns p.program.steps) (bits_told p.got)) i))
+      (λ i. may_send window (turns p.program.steps) (sym (length-map p.got (λ b. b == 49)) i) (first-kept Stops (failures (turns p.program.steps) (bits_told p.got)) i))
       ∙ sym (sends-same window (turns p.program.steps) (ask-for Stops p.program.steps) (bits_told p.got) (was-asked Stops asked))
   sends-for PlaysOn asked =
       sym (unjudged-sends window (turns p.program.steps) (length p.got))
-      ∙ (λ i. sends window (map unjudged (turns p.program.steps)) (sym (length-map p.got (λ b. b == 49)) i)
+      ∙ (λ i. may_send window (map unjudged (turns p.program.steps)) (sym (length-map p.got (λ b. b == 49)) i)
       (some_differ (sym (unjudged-failures (turns p.program.steps) (bits_told p.got)) i)))
       ∙ sym (sends-same window (map unjudged (turns p.program.steps)) (ask-for PlaysOn p.program.steps) (bits_told p.got) (was-asked PlaysOn asked))
 
   works-for : (kind : Kind) → WasAsked kind window p
-      → works p.program.statements (turns p.program.steps) p.given (length p.got) (stopping kind p.got)
+      → command_at_work p.program.statements (turns p.program.steps) p.given (length p.got) (stopping kind p.got)
       ≡ in_work p.program.statements (turns_for kind p.program.steps) p.given (bits_told p.got)
   works-for Stops asked =
-      (λ i. works p.program.statements (turns p.program.steps) p.given (sym (length-map p.got (λ b. b == 49)) i)
+      (λ i. command_at_work p.program.statements (turns p.program.steps) p.given (sym (length-map p.got (λ b. b == 49)) i)
       (first-kept Stops (failures (turns p.program.steps) (bits_told p.got)) i))
       ∙ sym (works-same p.program.statements window (turns p.program.steps) (ask-for Stops p.program.steps) p.given (bits_told p.got) (was-asked Stops asked))
   works-for PlaysOn asked =
       sym (unjudged-works p.program.statements (turns p.program.steps) p.given (length p.got))
-      ∙ (λ i. works p.program.statements (map unjudged (turns p.program.steps)) p.given (sym (length-map p.got (λ b. b == 49)) i)
+      ∙ (λ i. command_at_work p.program.statements (map unjudged (turns p.program.steps)) p.given (sym (length-map p.got (λ b. b == 49)) i)
       (some_differ (sym (unjudged-failures (turns p.program.steps) (bits_told p.got)) i)))
       ∙ sym (works-same p.program.statements window (map unjudged (turns p.program.steps)) (ask-for PlaysOn p.program.steps) p.given (bits_told p.got) (was-asked PlaysOn asked))
 
@@ -167,7 +167,7 @@ module _ (window : ℕ) (p : PlayerState) where
   bytes-same : (kind : Kind) → WasAsked kind window p → find is_bad p.got ≡ None
       → stream.bytes_of window (stream_of kind p) ≡ history.bytes_of kind window p
   bytes-same kind asked ok =
-      (λ i. map encode (sends window (turns p.program.steps) (length (good-all p.got ok i)) (stopping kind (good-all p.got ok i))))
+      (λ i. map encode (may_send window (turns p.program.steps) (length (good-all p.got ok i)) (stopping kind (good-all p.got ok i))))
       ∙ ap (map encode) (sends-for kind asked)
 
   bad-ending : (kind : Kind) → WasAsked kind window p → (x : ℕ) → find is_bad p.got ≡ Some x
@@ -189,7 +189,7 @@ module _ (window : ℕ) (p : PlayerState) where
   abbrev ended_as : Kind → List ℕ → Option ℕ → Bool → Option Ending
   ended_as kind g bad quit = elim bad [
     | Some byte ↦ Some (BadAnswer (command_at (turns p.program.steps) (length g)) byte)
-    | None ↦ if quit then Some (ending_of (take (kept kind) (failures (turns p.program.steps) (bits_told g)))) else None
+    | None ↦ if quit then Some (ending_of (take (most_kept kind) (failures (turns p.program.steps) (bits_told g)))) else None
   ]
 
   abbrev Q : List ℕ → Bool
@@ -230,7 +230,7 @@ module _ (window : ℕ) (p : PlayerState) where
       quits e = sym (quit-byte (sent window (turns_for kind p.program.steps) (bits_told p.got))) ∙ any-take p.given H e
 
       finished : (q : Bool) → Q H ≡ q → find is_bad p.got ≡ None
-          → (if q then Some (ending_of (take (kept kind) (failures (turns p.program.steps) (bits_told p.got)))) else None)
+          → (if q then Some (ending_of (take (most_kept kind) (failures (turns p.program.steps) (bits_told p.got)))) else None)
           ≡ (if q then history.verdict kind window p else None)
       finished true e ok = ap (λ v. Some v) (first-named kind (failures (turns p.program.steps) (bits_told p.got))) ∙ good-ending kind ok (quits e)
       finished false e ok = refl
@@ -245,13 +245,13 @@ module _ (window : ℕ) (p : PlayerState) where
           ∙ (λ i. if sym (is-bad ∙ ap is_some e) i || Q H then history.verdict kind window p else None)
 
       works_ : (f : Option ℕ) → find is_bad p.got ≡ f → has_bad_answer p ≡ false
-          → works p.program.statements (turns p.program.steps) p.given (length (good p.got)) (stopping kind (good p.got)) ≡ history.working kind window p
+          → command_at_work p.program.statements (turns p.program.steps) p.given (length (good p.got)) (stopping kind (good p.got)) ≡ history.working kind window p
       works_ (Some x) e none = absurd (clash (sym (is-bad ∙ ap is_some e) ∙ none))
         where
           clash : true ≡ false → ⊥
           clash p = cc
       works_ None e none =
-          (λ i. works p.program.statements (turns p.program.steps) p.given (length (good-all p.got e i)) (stopping kind (good-all p.got e i)))
+          (λ i. command_at_work p.program.statements (turns p.program.steps) p.given (length (good-all p.got e i)) (stopping kind (good-all p.got e i)))
           ∙ works-for kind asked
 
 pub agree : StreamsAgree

@@ -17,7 +17,7 @@ use Rattle.every_schedule.proofs.Fronts.{empty-length}
 use Rattle.every_schedule.proofs.Quits.{NoneQuit, asks-append, asks-no-quit, has_quit, or-right, quit-append, sent_of}
 use Rattle.streaming.specs.Histories.{bits_told}
 use Rattle.streaming.specs.Laws.{good}
-use Rattle.plays.specs.Streams.{command_at, sends, some_differ, works}
+use Rattle.plays.specs.Streams.{command_at, may_send, some_differ, command_at_work}
 use Rattle.streaming.proofs.Hearing.{failures-none}
 
 le-test : (n k : ℕ) → n ≤ k → nat_le n k ≡ true
@@ -92,10 +92,10 @@ later-asked window t ts got fits le =
 abbrev sends_of : (window : ℕ) → Turn → List Turn → ℕ → Bool → Bool → Bool → List Message
 sends_of window t ts n stops short last =
     if short then up_to_asks t.messages (n + window) else
-    t.messages ++ (if last then Quit ∷ [] else sends window ts (n - length t.wants) stops)
+    t.messages ++ (if last then Quit ∷ [] else may_send window ts (n - length t.wants) stops)
 
 pub sends-same : (window : ℕ) (ts : List Turn) → AllAsk ts → (got : List Bool) → length got ≤ asks (sent window ts got)
-    → sent window ts got ≡ sends window ts (length got) (some_differ (failures ts got))
+    → sent window ts got ≡ may_send window ts (length got) (some_differ (failures ts got))
 sends-same window [] all got le = refl
 sends-same window (t ∷ ts) all got le = one (nat_lt (length got) (length t.wants)) (judge t.wants got) refl le (sends-same window ts all.1 (drop (length t.wants) got))
   where
@@ -105,24 +105,24 @@ sends-same window (t ∷ ts) all got le = one (nat_lt (length got) (length t.wan
     one : (short : Bool) (found : Option (Part × ℕ)) → judge t.wants got ≡ found → length got ≤ asks (sent_of window t ts got short found)
         → (length (drop (length t.wants) got) ≤ asks (sent window ts (drop (length t.wants) got))
         → sent window ts (drop (length t.wants) got)
-        ≡ sends window ts (length (drop (length t.wants) got)) (some_differ (failures ts (drop (length t.wants) got))))
+        ≡ may_send window ts (length (drop (length t.wants) got)) (some_differ (failures ts (drop (length t.wants) got))))
         → sent_of window t ts got short found ≡ sends_of window t ts (length got) D short (D && nat_le (length got) (length t.wants))
     one true found e le rest = refl
     one false (Some f) e le rest =
         let h = is-failed window t ts got all.0 f e le in
         let both : (D && nat_le (length got) (length t.wants)) ≡ true =
         (λ i. h.differ i && le-test (length got) (length t.wants) h.last i) in
-        λ i. t.messages ++ (if sym both i then Quit ∷ [] else sends window ts (length got - length t.wants) D)
+        λ i. t.messages ++ (if sym both i then Quit ∷ [] else may_send window ts (length got - length t.wants) D)
     one false None e le rest =
         let h = is-passed t ts got e in
         (λ i. t.messages ++ (rest (later-asked window t ts got all.0 le)
-        ∙ (λ j. sends window ts (h.later j) (some_differ (sym h.same j)))) i)
-        ∙ (λ i. t.messages ++ (if sym h.goes_on i then Quit ∷ [] else sends window ts (length got - length t.wants) D))
+        ∙ (λ j. may_send window ts (h.later j) (some_differ (sym h.same j)))) i)
+        ∙ (λ i. t.messages ++ (if sym h.goes_on i then Quit ∷ [] else may_send window ts (length got - length t.wants) D))
 
 abbrev works_of : (statements : ℕ) → Turn → List Turn → (given n : ℕ) → Bool → Bool → Bool → ℕ
 works_of statements t ts given n stops unsent last =
     if unsent then t.command else
-    if last then suc statements else works statements ts (given - length t.messages) (n - length t.wants) stops
+    if last then suc statements else command_at_work statements ts (given - length t.messages) (n - length t.wants) stops
 
 abbrev in_work_of : (statements : ℕ) → Turn → List Turn → ℕ → List Bool → Bool → Option (Part × ℕ) → ℕ
 in_work_of statements t ts given got unsent found =
@@ -136,7 +136,7 @@ or-right-false true b e = absurd (cc)
 or-right-false false b e = e
 
 pub works-same : (statements window : ℕ) (ts : List Turn) → AllAsk ts → (given : ℕ) (got : List Bool) → length got ≤ asks (sent window ts got)
-    → in_work statements ts given got ≡ works statements ts given (length got) (some_differ (failures ts got))
+    → in_work statements ts given got ≡ command_at_work statements ts given (length got) (some_differ (failures ts got))
 works-same statements window [] all given got le = refl
 works-same statements window (t ∷ ts) all given got le =
     one (nat_lt given (length t.messages) || nat_lt (length got) (length t.wants)) refl (nat_lt (length got) (length t.wants)) refl (judge t.wants got) refl le
@@ -150,7 +150,7 @@ works-same statements window (t ∷ ts) all given got le =
         → (found : Option (Part × ℕ)) → judge t.wants got ≡ found → length got ≤ asks (sent_of window t ts got short found)
         → (length (drop (length t.wants) got) ≤ asks (sent window ts (drop (length t.wants) got))
         → in_work statements ts (given - length t.messages) (drop (length t.wants) got)
-        ≡ works statements ts (given - length t.messages) (length (drop (length t.wants) got)) (some_differ (failures ts (drop (length t.wants) got))))
+        ≡ command_at_work statements ts (given - length t.messages) (length (drop (length t.wants) got)) (some_differ (failures ts (drop (length t.wants) got))))
         → in_work_of statements t ts given got unsent found
         ≡ works_of statements t ts given (length got) D unsent (D && nat_le (length got) (length t.wants))
     one true u short s found e le rest = refl
@@ -162,12 +162,12 @@ works-same statements window (t ∷ ts) all given got le =
         let h = is-failed window t ts got all.0 f e le in
         let both : (D && nat_le (length got) (length t.wants)) ≡ true =
         (λ i. h.differ i && le-test (length got) (length t.wants) h.last i) in
-        λ i. if sym both i then suc statements else works statements ts (given - length t.messages) (length got - length t.wants) D
+        λ i. if sym both i then suc statements else command_at_work statements ts (given - length t.messages) (length got - length t.wants) D
     one false u false s None e le rest =
         let h = is-passed t ts got e in
         rest (later-asked window t ts got all.0 le)
-        ∙ (λ j. works statements ts (given - length t.messages) (h.later j) (some_differ (sym h.same j)))
-        ∙ (λ i. if sym h.goes_on i then suc statements else works statements ts (given - length t.messages) (length got - length t.wants) D)
+        ∙ (λ j. command_at_work statements ts (given - length t.messages) (h.later j) (some_differ (sym h.same j)))
+        ∙ (λ i. if sym h.goes_on i then suc statements else command_at_work statements ts (given - length t.messages) (length got - length t.wants) D)
 
 -- the ending
 abbrev end_of : Turn → List Turn → List ℕ → Option ℕ → Bool → Option (Part × ℕ) → Option Ending
@@ -314,17 +314,17 @@ ends-bad window (t ∷ ts) all got x e le = of (split w got x e) (λ b q. ends-b
 pub same-length : (vs : List VectorBit) → length (map any_value vs) ≡ length vs
 same-length vs = length-map vs any_value
 
-pub unjudged-sends : (window : ℕ) (ts : List Turn) (n : ℕ) → sends window (map unjudged ts) n false ≡ sends window ts n false
+pub unjudged-sends : (window : ℕ) (ts : List Turn) (n : ℕ) → may_send window (map unjudged ts) n false ≡ may_send window ts n false
 unjudged-sends window [] n = refl
 unjudged-sends window (t ∷ ts) n = λ i.
     (if nat_lt n (same-length t.wants i) then up_to_asks t.messages (n + window) else t.messages ++ (unjudged-sends window ts (n - length (map any_value t.wants))
-    ∙ (λ j. sends window ts (n - same-length t.wants j) false)) i)
+    ∙ (λ j. may_send window ts (n - same-length t.wants j) false)) i)
 
-pub unjudged-works : (statements : ℕ) (ts : List Turn) (given n : ℕ) → works statements (map unjudged ts) given n false ≡ works statements ts given n false
+pub unjudged-works : (statements : ℕ) (ts : List Turn) (given n : ℕ) → command_at_work statements (map unjudged ts) given n false ≡ command_at_work statements ts given n false
 unjudged-works statements [] given n = refl
 unjudged-works statements (t ∷ ts) given n = λ i.
     (if nat_lt given (length t.messages) || nat_lt n (same-length t.wants i) then t.command else (unjudged-works statements ts (given - length t.messages) (n - length (map any_value t.wants))
-    ∙ (λ j. works statements ts (given - length t.messages) (n - same-length t.wants j) false)) i)
+    ∙ (λ j. command_at_work statements ts (given - length t.messages) (n - same-length t.wants j) false)) i)
 
 pub unjudged-command : (ts : List Turn) (n : ℕ) → command_at (map unjudged ts) n ≡ command_at ts n
 unjudged-command [] n = refl

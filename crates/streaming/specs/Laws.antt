@@ -15,7 +15,7 @@ use Rattle.every_schedule.specs.Sides.{answered_all}
 use Rattle.streaming.specs.Histories as history
 use Rattle.streaming.specs.Histories.{WasAsked, bits_told}
 use Rattle.plays.specs.Streams as stream
-use Rattle.plays.specs.Streams.{StreamState, found_of, hear_all}
+use Rattle.plays.specs.Streams.{StreamState, found_of, hear_bytes}
 
 -- the answers before the first that is neither `0` nor `1`
 abbrev pub good : List ℕ → List ℕ
@@ -36,7 +36,7 @@ stream_of kind p = record {
 -- For every list of answers: heard one by one they lead from a history's stream to the stream of the longer history.
 abbrev pub HearingIsTheHistory : Type 0
 HearingIsTheHistory = (kind : Kind) (p : PlayerState) (bytes : List ℕ)
-    → hear_all bytes (stream_of kind p) ≡ stream_of kind (record p { got = p.got ++ bytes })
+    → hear_bytes bytes (stream_of kind p) ≡ stream_of kind (record p { got = p.got ++ bytes })
 
 abbrev pub FreshAgrees : Type 0
 FreshAgrees = (kind : Kind) (program : Program)
@@ -58,7 +58,7 @@ StreamsAgree = (kind : Kind) (window : ℕ) (p : PlayerState) → WasAsked kind 
 pub record GoesAlike (kind : Kind) (window : ℕ) (p : PlayerState) : Type 0 where
   pub give : (n : ℕ) → record (stream_of kind p) { given = p.given + n }
       ≡ stream_of kind (record p { given = p.given + n })
-  pub answers : (bytes : List ℕ) → hear_all (stream.answers_taken window (stream_of kind p) bytes) (stream_of kind p)
+  pub answers : (bytes : List ℕ) → hear_bytes (stream.answers_taken window (stream_of kind p) bytes) (stream_of kind p)
       ≡ stream_of kind (record p { got = p.got ++ history.answers_taken kind window p bytes })
 
 abbrev pub CallsGoAlike : Type 0
