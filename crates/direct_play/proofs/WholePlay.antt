@@ -15,7 +15,7 @@ use Rattle.board_meaning.specs.Sound.{AllSound, HasDevice, IsSoundBoard}
 use Rattle.board_meaning.specs.Whole.{AtRest}
 use Rattle.plays.specs.declared.ending.Ending.{Ending}
 use Rattle.plays.specs.declared.ending.Ending.TheVariants.{Fail}
-use Rattle.plays.specs.DirectPlay.{MeansFromOpening, full_bytes, opened_state}
+use Rattle.plays.specs.DirectPlay.{MeansFromOpening, bytes_of_full_play, opened_state}
 use Rattle.plays.specs.Legal.{AllLegal}
 use Rattle.plays.specs.LegalPlays.{IsOpened, PlaysAsItMeans}
 use Rattle.plays.specs.Meaning.{Outcome, after_step, failure, outcome}
@@ -141,7 +141,7 @@ opening_bytes = map encode opening
 
 -- all bytes, from behind the opening on
 pub opening_first : (program : Program) (b : BoardState) → IsAtRest (hear opening b).board (opened_state b)
-    → full_bytes program b
+    → bytes_of_full_play program b
     ≡ opening_bytes ++ bytes-of (full_play (step_turns Reset program.steps) (board_at_rest (opened_state b)))
 opening_first program b is =
     opening-first program b

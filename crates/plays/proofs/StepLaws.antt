@@ -16,7 +16,7 @@ use Rattle.board_meaning.specs.Whole.{AtRest, reset_member, out, capture, settle
 use Rattle.svf_settings.specs.Steps.{Step, Scan, Go, Path, Run, Trst, place_after}
 use Rattle.svf_parse.specs.declared.statement.TrstWord.TheVariants.{On, Off, Z, Absent}
 use Rattle.plays.specs.Meaning.{after_step, move_unless_there}
-use Rattle.bitbang_table.specs.Cycles.{walk, closed}
+use Rattle.bitbang_table.specs.Cycles.{entering, closed_messages}
 use Rattle.bitbang.specs.StepMessages.{step_messages}
 use Rattle.tap_paths.specs.Paths.{last_of}
 use Rattle.board_meaning.specs.Resting.{board_at_rest, IsRest}
@@ -136,9 +136,9 @@ all-resets [] all = refl
 all-resets (Reset ∷ path) all = ap (λ r. Reset ∷ r) (all-resets path all)
 all-resets (s ∷ path) all = absurd (cc)
 
-walk-resets : (n : ℕ) → map walk (replicate n Reset) ≡ replicate n (walk Reset)
+walk-resets : (n : ℕ) → map entering (replicate n Reset) ≡ replicate n (entering Reset)
 walk-resets zero = refl
-walk-resets (suc n) = ap (λ r. walk Reset ∷ r) (walk-resets n)
+walk-resets (suc n) = ap (λ r. entering Reset ∷ r) (walk-resets n)
 
 last-resets : (n : ℕ) → last_of Reset (replicate n Reset) ≡ Reset
 last-resets zero = refl
@@ -166,8 +166,8 @@ path-stays path trst nets ms all rest sound =
     let same : path ≡ replicate n Reset = all-resets path all in
     done-same (Path path) (at_rest Reset trst nets ms)
     ((λ i. along (same i) (at_rest Reset trst nets ms)) ∙ along-resets n trst nets ms (rest.at_reset refl))
-    ((λ i. hear (closed (map walk (same i))) (board_at_rest (at_rest Reset trst nets ms)))
-    ∙ (λ i. hear (closed (walk-resets n i)) (board_at_rest (at_rest Reset trst nets ms)))
+    ((λ i. hear (closed_messages (map entering (same i))) (board_at_rest (at_rest Reset trst nets ms)))
+    ∙ (λ i. hear (closed_messages (walk-resets n i)) (board_at_rest (at_rest Reset trst nets ms)))
     ∙ held-law n trst nets ms (rest.at_reset refl))
     refl ((λ i. last_of Reset (same i)) ∙ last-resets n) rest sound
 
@@ -176,7 +176,7 @@ run-stays : (n : ℕ) (trst : Bool) (nets : List Net) (ms : List Member)
     → IsRest (at_rest Reset trst nets ms) → AllSound ms → IsDone (Run Reset n Reset) (at_rest Reset trst nets ms)
 run-stays n trst nets ms rest sound =
     done-same (Run Reset n Reset) (at_rest Reset trst nets ms) refl
-    ((λ i. hear (closed (append-nil (replicate n (walk Reset)) i)) (board_at_rest (at_rest Reset trst nets ms)))
+    ((λ i. hear (closed_messages (append-nil (replicate n (entering Reset)) i)) (board_at_rest (at_rest Reset trst nets ms)))
     ∙ held-law n trst nets ms (rest.at_reset refl))
     refl refl rest sound
 

@@ -10,8 +10,8 @@ use Rattle.plays.specs.Playing.{PlayerState, has_bad_answer}
 use Rattle.svf_settings.specs.Steps.{Program}
 use Rattle.plays.specs.PlayingOn.{Kind, Stops, failures, turns_for}
 use Rattle.every_schedule.specs.Fronts.{IsFront}
-use Rattle.every_schedule.specs.Laws.{full, full_bytes}
-use Rattle.every_schedule.specs.Sides.{answered_all}
+use Rattle.every_schedule.specs.Laws.{full, bytes_of_full_play}
+use Rattle.every_schedule.specs.Sides.{answers_to_bytes}
 use Rattle.streaming.specs.Histories as history
 use Rattle.streaming.specs.Histories.{WasAsked, bits_told}
 use Rattle.plays.specs.Streams as stream
@@ -105,10 +105,10 @@ SchedulesCarryOver = (kind : Kind) (window : ℕ) (program : Program) (b : Board
 -- verdict, and all its bytes lead a board to the full play's, whatever the window.
 pub record IsFullPlay (window : ℕ) (p : PlayerState) (b : BoardState) : Type 0 where
   pub ending : history.ending_of_history Stops window p ≡ Some (full Stops p.program.steps b).ending
-  pub bytes : history.given_out Stops window p ≡ full_bytes Stops p.program.steps b
+  pub bytes : history.given_out Stops window p ≡ bytes_of_full_play Stops p.program.steps b
   pub board : after_bytes (history.given_out Stops window p) b ≡ (full Stops p.program.steps b).board
 
 abbrev pub AnHonestVerdictForAnyWindow : Type 0
 AnHonestVerdictForAnyWindow = (window : ℕ) (p : PlayerState) (b : BoardState) (got : List Bool) → p.got ≡ map answer got
-    → IsFront got (answered_all (history.given_out Stops window p) b) → history.has_ended Stops window p ≡ true
+    → IsFront got (answers_to_bytes (history.given_out Stops window p) b) → history.has_ended Stops window p ≡ true
     → IsFullPlay window p b
