@@ -17,7 +17,7 @@ use Rattle.pin_nets.specs.declared.Pin.{Pin}
 use Rattle.pin_nets.specs.declared.Pull.{Pull}
 use Rattle.board_meaning.specs.Whole.{AtRest}
 use Rattle.board_meaning.specs.Resting.{power_up}
-use Rattle.scan_vectors.specs.Vector.{Part3, join}
+use Rattle.scan_vectors.specs.Vector.{PartBits, join}
 use Rattle.svf_settings.specs.Steps.{Step, Scan, Numbered}
 
 -- the n lowest binary digits
@@ -104,29 +104,29 @@ d i = record { device = i; port = 5 }
 abbrev pub net : Pull → List Pin → List Net
 net pull pins = record { name = codes "N"; pull = pull; pins = pins } ∷ []
 
-abbrev pub nothing : Part3
+abbrev pub nothing : PartBits
 nothing = record { tdi = []; want = []; care = [] }
 
 -- a part with TDI alone, with TDO, with TDO and MASK
-abbrev pub tdi : ℕ → ℕ → Part3
+abbrev pub tdi : ℕ → ℕ → PartBits
 tdi n t = record { tdi = bits n t; want = bits n 0; care = bits n 0 }
 
-abbrev pub tdo : ℕ → ℕ → ℕ → Part3
+abbrev pub tdo : ℕ → ℕ → ℕ → PartBits
 tdo n t w = record { tdi = bits n t; want = bits n w; care = replicate n true }
 
-abbrev pub mask : ℕ → ℕ → ℕ → ℕ → Part3
+abbrev pub mask : ℕ → ℕ → ℕ → ℕ → PartBits
 mask n t w c = record { tdi = bits n t; want = bits n w; care = bits n c }
 
-abbrev pub sir : ℕ → Part3 → Numbered
+abbrev pub sir : ℕ → PartBits → Numbered
 sir i part = record { number = i; what = Scan Ir (join nothing part nothing) Idle }
 
-abbrev pub sdr : ℕ → Part3 → Numbered
+abbrev pub sdr : ℕ → PartBits → Numbered
 sdr i part = record { number = i; what = Scan Dr (join nothing part nothing) Idle }
 
-abbrev pub sdr_to : ℕ → Part3 → State → Numbered
+abbrev pub sdr_to : ℕ → PartBits → State → Numbered
 sdr_to i part end = record { number = i; what = Scan Dr (join nothing part nothing) end }
 
-abbrev pub hdr_sdr : ℕ → Part3 → Part3 → Numbered
+abbrev pub hdr_sdr : ℕ → PartBits → PartBits → Numbered
 hdr_sdr i header part = record { number = i; what = Scan Dr (join header part nothing) Idle }
 
 abbrev pub step : ℕ → Step → Numbered
