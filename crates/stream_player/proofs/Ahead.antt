@@ -16,11 +16,11 @@ use Rattle.plays.specs.Streams.{may_send, some_differ}
 use Rattle.plays.proofs.Asks.{AllAsk, asks, turns-ask}
 use Rattle.every_schedule.proofs.Quits.{NoneQuit, asks-append, has_quit, quit-append, turns-no-quit}
 use Rattle.streaming.proofs.Agree.{ask-count, counts, quit-byte}
-use Rattle.stream_player.specs.Standing.{Standing, found, messages_in, reads, state_at, up_to_reads}
+use Rattle.stream_player.specs.PlaceInPlay.{PlaceInPlay, found, messages_in, reads, state_at, up_to_reads}
 use Rattle.every_schedule.specs.InWork.{answers_in}
 
 -- whether it stops
-abbrev pub stops_at : Standing → Bool
+abbrev pub stops_at : PlaceInPlay → Bool
 stops_at s = some_differ (found s.failed).list
 
 module _ (window : ℕ) where
@@ -94,7 +94,7 @@ map-take zero ms = refl
 map-take (suc n) [] = refl
 map-take (suc n) (m ∷ ms) = ap (λ l. encode m ∷ l) (map-take n ms)
 
-module _ (program : Program) (s : Standing) (fair : stops_at s ≡ true → 0 < s.heard) where
+module _ (program : Program) (s : PlaceInPlay) (fair : stops_at s ≡ true → 0 < s.heard) where
   abbrev ts : List Turn
   ts = turns program.steps
 

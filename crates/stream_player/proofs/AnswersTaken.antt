@@ -22,7 +22,7 @@ use Rattle.stream_player.specs.declared.progress.Phase.{Phase}
 use Rattle.stream_player.specs.declared.progress.Phase.TheVariants.{Opening, Within, Over}
 use Rattle.stream_player.specs.declared.progress.Progress.{Progress}
 use Rattle.stream_player.specs.Progress.{InPhase, InStep, IsOver, Stands, gone, mismatch, standing_at, state_of, vector_bits}
-use Rattle.stream_player.specs.Standing.{Standing, differing_bit, state_at}
+use Rattle.stream_player.specs.PlaceInPlay.{PlaceInPlay, differing_bit, state_at}
 use Rattle.stream_player.proofs.Ahead.{ahead, owes}
 use Rattle.stream_player.proofs.Ends.{first_of, hears, hears-bad, quits, quits-behind}
 use Rattle.stream_player.proofs.TurnPlaces.{owed-is, reached}
@@ -42,7 +42,7 @@ module _ (program : Program) (p : Progress) (stands : Stands program.steps p) (g
       i : IsOver (drop p.at program.steps) p
       i = is-over program p out is stands
 
-      s : Standing
+      s : PlaceInPlay
       s = standing_at program.steps p
 
       none : (a h : ℕ) → a ≤ h → a - h ≡ 0

@@ -21,7 +21,7 @@ use Rattle.stream_player.specs.declared.progress.Phase.TheVariants.{Opening, Wit
 use Rattle.stream_player.specs.declared.progress.Progress.{Progress}
 use Rattle.stream_player.specs.Progress.{IsOver, IsReady, Stands, gone, is_out, mismatch, present, rest_of, standing_at, state_of}
 use Rattle.bitbang_table.specs.Protocol.{value}
-use Rattle.stream_player.specs.Standing.{Standing, found, state_at}
+use Rattle.stream_player.specs.PlaceInPlay.{PlaceInPlay, found, state_at}
 use Rattle.stream_player.proofs.Ahead.{ahead}
 use Rattle.stream_player.proofs.Ends.{command-here, ends, quits, quits-behind, works-in, works-past-all, works-stopped}
 use Rattle.stream_player.proofs.TurnPlaces.{IsIn, no-quit, quit-of, reached}

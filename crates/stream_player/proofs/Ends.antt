@@ -18,7 +18,7 @@ use Rattle.plays.specs.Streams as stream
 use Rattle.plays.specs.Streams.{Found, StreamState, Wanted, command_at, hear, mismatch_of, with_more, all_wanted, command_at_work}
 use Rattle.plays.proofs.Asks.{asks}
 use Rattle.every_schedule.proofs.Quits.{has_quit, quit-append}
-use Rattle.stream_player.specs.Standing.{Standing, differing_bit, found, messages_in, state_at}
+use Rattle.stream_player.specs.PlaceInPlay.{PlaceInPlay, differing_bit, found, messages_in, state_at}
 use Rattle.every_schedule.specs.InWork.{answers_in}
 use Rattle.stream_player.proofs.Ahead.{ahead, is-out, owes, sends-last, stops_at, waits}
 use Rattle.stream_player.proofs.TurnPlaces.{IsIn, fits, no-quit, reached}
@@ -68,7 +68,7 @@ judged-one t w rest bit = by (differs w.wanted bit)
     by true = refl
     by false = refl
 
-module _ (program : Program) (s : Standing) (t : Turn) (later : List Turn) (here : drop s.over (turns program.steps) ≡ t ∷ later) where
+module _ (program : Program) (s : PlaceInPlay) (t : Turn) (later : List Turn) (here : drop s.over (turns program.steps) ≡ t ∷ later) where
   -- An answer is heard: it is judged by the next wanted bit.
   pub hears : (byte : ℕ) (w : VectorBit) (ws : List VectorBit) → s.bad ≡ None → is_bad byte ≡ false → drop s.heard t.wants ≡ w ∷ ws
       → hear byte (state_at program s)
@@ -151,7 +151,7 @@ works-past statements (suc k) (t ∷ ts) g n stops more =
         let y : N - length t.wants ≡ answers_in (take k ts) + n = omega arith in
         (λ i. command_at_work statements ts (x i) (y i) stops) ∙ rest
 
-module _ (program : Program) (s : Standing) (fair : stops_at s ≡ true → 0 < s.heard) where
+module _ (program : Program) (s : PlaceInPlay) (fair : stops_at s ≡ true → 0 < s.heard) where
   abbrev works-on : List Turn → ℕ
   works-on ts = command_at_work program.statements ts s.gone s.heard (stops_at s)
 

@@ -20,7 +20,7 @@ use Rattle.stream_player.specs.declared.progress.Phase.{Phase}
 use Rattle.stream_player.specs.declared.progress.Phase.TheVariants.{Opening, Within, Over}
 use Rattle.stream_player.specs.declared.progress.Progress.{Progress}
 use Rattle.stream_player.specs.Progress.{Gives, InOpening, InPhase, InStep, IsOver, IsReady, Stands, gone, mismatch, over, present, rest_of, standing_at, state_of}
-use Rattle.stream_player.specs.Standing.{Standing, found, messages_in, reads, state_at, up_to_reads}
+use Rattle.stream_player.specs.PlaceInPlay.{PlaceInPlay, found, messages_in, reads, state_at, up_to_reads}
 use Rattle.stream_player.proofs.Ahead.{ahead, stops_at, waits}
 use Rattle.stream_player.proofs.Ends.{quits, quits-behind}
 use Rattle.stream_player.proofs.TurnPlaces.{IsIn, Waits, waits-so}
@@ -78,7 +78,7 @@ reads-append n (suc g) (b ∷ l) =
     by false e = e
 
 -- more of the present turn is out
-pub given-more : (program : Program) (s : Standing) (n : ℕ)
+pub given-more : (program : Program) (s : PlaceInPlay) (n : ℕ)
     → state_at program (record s { gone = s.gone + n }) ≡ record (state_at program s) { given = (state_at program s).given + n }
 given-more program s n =
     let before = length (messages_in (take s.over (turns program.steps))) in
@@ -115,7 +115,7 @@ gives-one program p next (x ∷ xs) after b more stands good state waits room is
 
 -- the opening
 module _ (program : Program) (p : Progress) (n : ℕ) (is : p.phase ≡ Opening n) (stands : Stands program.steps p) where
-  abbrev pub start : Standing
+  abbrev pub start : PlaceInPlay
   start = record { over = 0; gone = n; heard = 0; failed = None; bad = None }
 
   abbrev pub first : Turn

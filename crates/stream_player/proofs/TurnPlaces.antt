@@ -16,7 +16,7 @@ use Rattle.plays.specs.Streams as stream
 use Rattle.plays.specs.Streams.{Found, StreamState, Wanted, command_at, mismatch_of, with_more, may_send, all_wanted, command_at_work}
 use Rattle.plays.proofs.Asks.{AllAsk, asks, turns-ask}
 use Rattle.every_schedule.proofs.Quits.{NoneQuit, has_quit, turns-no-quit}
-use Rattle.stream_player.specs.Standing.{Standing, found, messages_in, state_at, up_to_reads}
+use Rattle.stream_player.specs.PlaceInPlay.{PlaceInPlay, found, messages_in, state_at, up_to_reads}
 use Rattle.every_schedule.specs.InWork.{answers_in}
 use Rattle.stream_player.proofs.Ahead.{ahead, is-out, owes, sends-last, sends-short, sends-whole, stops_at, waits}
 use Rattle.stream_player.proofs.Window.{asks-split, in-bytes, up-to-all, up-to-front, up-to-past}
@@ -64,7 +64,7 @@ more-in (suc k) (x ∷ ts) t rest e =
     (ap (λ l. x.messages ++ l) more.0 ∙ sym (append_assoc x.messages (messages_in (take k ts)) t.messages), omega (arith, more.1))
 
 -- The player is within a turn.
-pub record IsIn (program : Program) (s : Standing) (t : Turn) (later : List Turn) (owed : ℕ) : Type 0 where
+pub record IsIn (program : Program) (s : PlaceInPlay) (t : Turn) (later : List Turn) (owed : ℕ) : Type 0 where
   pub here : drop s.over (turns program.steps) ≡ t ∷ later
   pub within : s.gone ≤ length t.messages
   pub asked : asks (take s.gone t.messages) ≡ s.heard + owed
@@ -77,7 +77,7 @@ pub record Waits (waiting left : List ℕ) (owed : ℕ) : Type 0 where
   pub is : waiting ≡ up_to_reads left (256 - owed) ++ tail
   pub none : 0 < owed → tail ≡ []
 
-module _ (program : Program) (s : Standing) (t : Turn) (later : List Turn) (owed : ℕ) (i : IsIn program s t later owed) where
+module _ (program : Program) (s : PlaceInPlay) (t : Turn) (later : List Turn) (owed : ℕ) (i : IsIn program s t later owed) where
   pub fits : asks t.messages ≡ length t.wants
   fits = ask-of s.over (turns program.steps) (turns-ask program.steps) t later i.here
 

@@ -21,7 +21,7 @@ use Rattle.stream_player.specs.declared.progress.Mismatch as declared
 use Rattle.stream_player.specs.declared.progress.Phase.{Phase}
 use Rattle.stream_player.specs.declared.progress.Phase.TheVariants.{Opening, Within, Over}
 use Rattle.stream_player.specs.declared.progress.Progress.{Progress}
-use Rattle.stream_player.specs.Standing.{Standing, reads, state_at}
+use Rattle.stream_player.specs.PlaceInPlay.{PlaceInPlay, reads, state_at}
 
 abbrev pub mismatch : declared.Mismatch → playing_on.Mismatch
 mismatch m = record { command = m.command; part = m.part; place = m.bit }
@@ -48,7 +48,7 @@ gone rest p = elim p.phase [
   | Over out ↦ present p.place rest + value out
 ]
 
-abbrev pub standing_at : List Numbered → Progress → Standing
+abbrev pub standing_at : List Numbered → Progress → PlaceInPlay
 standing_at steps p = record {
   over = over p;
   gone = gone (drop p.at steps) p;

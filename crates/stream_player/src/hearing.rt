@@ -12,7 +12,7 @@ ghost use Rattle.plays.specs.Play.{is_bad};
 ghost use Rattle.plays.specs.Streams.{hear_bytes, answers_taken};
 ghost use Rattle.plays.specs.Streams as stream;
 ghost use Rattle.stream_player.specs.Progress.{Stands, mismatch, state_of, vector_bits};
-ghost use Rattle.stream_player.specs.Standing.{differing_bit};
+ghost use Rattle.stream_player.specs.PlaceInPlay.{differing_bit};
 
 use crate::progress::{Mismatch, Progress};
 use bitbang::read_answer;

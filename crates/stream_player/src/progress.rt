@@ -2,7 +2,7 @@
 
 ghost use Rattle.std.specs.Prelude.{◌≡◌, ◌≤◌, ◌<◌, ◌+◌, suc, drop, length, None, MatchOption};
 ghost use Rattle.svf_settings.specs.Sizes.{program_of};
-ghost use Rattle.stream_player.specs.Standing.{state_at};
+ghost use Rattle.stream_player.specs.PlaceInPlay.{state_at};
 ghost use Rattle.stream_player.specs.Progress.{IsReady, Rests, Stands, ahead, state_of};
 
 use bitbang::{Spot, StepBytes};

@@ -11,7 +11,7 @@ use Rattle.every_schedule.specs.InWork.{answers_in}
 
 -- how many turns are over, how many messages of the present one are out and how many of its answers are there, what
 -- differed, and the byte that was no answer, if one came
-pub record Standing : Type 0 where
+pub record PlaceInPlay : Type 0 where
   pub over : ℕ
   pub gone : ℕ
   pub heard : ℕ
@@ -29,7 +29,7 @@ found None = record { list = []; total = 0 }
 found (Some m) = record { list = m ∷ []; total = 1 }
 
 -- the player that stands so
-abbrev pub state_at : Program → Standing → StreamState
+abbrev pub state_at : Program → PlaceInPlay → StreamState
 state_at program s =
     let before = take s.over (turns program.steps) in record {
       program = program;
