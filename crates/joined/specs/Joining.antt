@@ -22,7 +22,8 @@ pub record JoinedState : Type 0 where
 
 abbrev pub world_between : StreamState → BoardState → Buffer ℕ → Buffer ℕ → (quit lost : Bool) → JoinedState
 world_between player board down up quit lost = record {
-  world = record { player = player; down = down.items; up = bits_told up.items; board = board; quit = quit; lost = lost };
+  world =
+      record { player = player; down = down.items; up = bits_told up.items; board = board; quit = quit; lost = lost };
   down_room = down.capacity;
   up_room = up.capacity;
 }

@@ -44,7 +44,8 @@ pub fn play_noted<W: Sink>(
     ensures meaning { MeansFromOpening player.program board.old result.0 board.new }
 
     // What was written of it.
-    ensures writes { WritesAll W.contents out.old out.new (bytes_of_full_play player.program board.old) (flagged result.1) }
+    ensures writes { WritesAll W.contents out.old out.new (bytes_of_full_play player.program board.old)
+        (flagged result.1) }
 {
     play_program_noted(player.program(), board, out)
 }

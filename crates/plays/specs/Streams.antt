@@ -33,7 +33,8 @@ abbrev pub found_of : Kind → List Mismatch → Found
 found_of kind all = record { list = take (most_kept kind) all; total = count_kept kind (length all) }
 
 abbrev pub with_more : Kind → List Mismatch → Found → Found
-with_more kind more f = record { list = take (most_kept kind) (f.list ++ more); total = count_kept kind (f.total + length more) }
+with_more kind more f =
+    record { list = take (most_kept kind) (f.list ++ more); total = count_kept kind (f.total + length more) }
 
 -- the program, how many bytes were given out, how many answers `0` and `1` were taken, what differed, and the other
 -- byte, if one came

@@ -64,29 +64,30 @@ abbrev pub rows_with : List ℕ → List Opcode
 rows_with third = opcode (codes "BYPASS") 3 ∷ opcode (codes "EXTEST") 0 ∷ opcode third 1 ∷ opcode (codes "IDCODE") 2
     ∷ []
 
-abbrev pub k : Device
-k = device_with (rows_with (codes "SAMPLE")) q_cell [] [] false
+abbrev pub sample_device : Device
+sample_device = device_with (rows_with (codes "SAMPLE")) q_cell [] [] false
 
-abbrev pub kt : Device
-kt = device_with (rows_with (codes "SAMPLE")) q_cell [] [] true
+abbrev pub with_trst : Device
+with_trst = device_with (rows_with (codes "SAMPLE")) q_cell [] [] true
 
-abbrev pub kh : Device
-kh = device_with (rows_with (codes "HIGHZ")) (record { function = Output2; port = Some 4; control = None }) [] [] false
+abbrev pub with_highz : Device
+with_highz = device_with (rows_with (codes "HIGHZ"))
+    (record { function = Output2; port = Some 4; control = None }) [] [] false
 
-abbrev pub ki : Device
-ki = device_with (rows_with (codes "INTEST")) q_cell [] [] false
+abbrev pub with_intest : Device
+with_intest = device_with (rows_with (codes "INTEST")) q_cell [] [] false
 
-abbrev pub ku : Device
-ku = device_with (rows_with (codes "LOAD")) q_cell
+abbrev pub with_user : Device
+with_user = device_with (rows_with (codes "LOAD")) q_cell
     (record { instruction = codes "LOAD"; place = AtUser 0; captures = None } ∷ []) (4 ∷ []) false
 
-abbrev pub kuc : Device
-kuc = device_with (rows_with (codes "LOAD")) q_cell
+abbrev pub with_fixed_user : Device
+with_fixed_user = device_with (rows_with (codes "LOAD")) q_cell
     (record { instruction = codes "LOAD"; place = AtUser 0; captures = Some (bits 4 5) } ∷ []) (4 ∷ []) false
 
 -- the bare device
-abbrev pub p : Device
-p = bare
+abbrev pub bare_device : Device
+bare_device = bare
 
 abbrev pub with_core : Device → ℕ → Member
 with_core d core = powered (codes "U") d (bits (length d.cells) core) false
@@ -95,11 +96,11 @@ abbrev pub plain : List Device → AtRest
 plain ds = power_up [] (map (λ d. with_core d 0) ds)
 
 -- pins Q and D
-abbrev pub q : ℕ → Pin
-q i = record { device = i; port = 4 }
+abbrev pub pin_q : ℕ → Pin
+pin_q i = record { device = i; port = 4 }
 
-abbrev pub d : ℕ → Pin
-d i = record { device = i; port = 5 }
+abbrev pub pin_d : ℕ → Pin
+pin_d i = record { device = i; port = 5 }
 
 abbrev pub net : Pull → List Pin → List Net
 net pull pins = record { name = codes "N"; pull = pull; pins = pins } ∷ []
