@@ -319,7 +319,7 @@ module _ (program : Program) (p : Progress) (out : Bool) (is : p.phase ≡ Over 
   pub quit-state : out ≡ false → state_of program (record p { phase = Over true }) ≡ record (state_of program p) { given = (state_of program p).given + 1 }
   quit-state none =
       let P = present p.place (drop p.at program.steps) in
-      let g : P + one true ≡ gone (drop p.at program.steps) p + 1 = omega (arith, gone-end, ap one none) in
+      let g : P + value true ≡ gone (drop p.at program.steps) p + 1 = omega (arith, gone-end, ap value none) in
       (λ k. state_at program (record (standing_at program.steps p) { over = suc p.at; gone = g k }))
       ∙ given-more program (record (standing_at program.steps p) { over = suc p.at }) 1
       ∙ (λ k. let s = state_at program (record (standing_at program.steps p) { over = sym over-end k }) in record s { given = s.given + 1 })
