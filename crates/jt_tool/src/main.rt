@@ -96,7 +96,11 @@ fn refuse_board(rt: &HostRuntime, fault: &Unmade) -> u8 {
     match fault {
         Unmade::Unreadable(name) => tell_line(rt, format_args!("file {name}"), REFUSED),
         Unmade::Refused(BoardFault::NoMemory) => tell_line(rt, "memory", MEMORY),
-        Unmade::Refused(BoardFault::Bsdl(fault)) => tell_line(rt, format_args!("bsdl {fault}"), REFUSED),
+        Unmade::Refused(BoardFault::Bsdl(fault)) => tell_line(
+            rt,
+            format_args!("bsdl {fault}"),
+            REFUSED,
+        ),
         Unmade::Refused(fault) => tell_line(rt, format_args!("board {fault}"), REFUSED),
     }
 }
