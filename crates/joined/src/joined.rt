@@ -43,8 +43,8 @@ pub struct Unjoined {
 }
 
 impl Joined {
-    /// Joins a fresh player (asked) and a board by two empty pipes, with room for `down` bytes and `up` answers, at least
-    /// 1 each (asked). It takes all its memory before it takes anything over: for want of memory both come back.
+    /// Joins a fresh player (asked) and a board by two empty pipes, with room for `down` bytes and `up` answers, at
+    /// least 1 each (asked). It takes all its memory before it takes anything over: for want of memory both come back.
     pub fn new(
         alloc: Global,
         player: Player,
