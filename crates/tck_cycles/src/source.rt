@@ -90,7 +90,8 @@ impl<'a> Source<'a> {
     /// All cycles of these parts.
     fn made(lead: ArrayVec<State, 8>, middle: Middle<'a>, tail: ArrayVec<State, 8>) -> Source<'a>
         requires { array_vec_len lead + length (middle_cycles middle) + array_vec_len tail < 2 ^ 64 }
-        ensures whole { whole result ≡ map entering lead.items ++ middle_cycles middle.entry ++ map entering tail.items }
+        ensures whole { whole result
+            ≡ map entering lead.items ++ middle_cycles middle.entry ++ map entering tail.items }
         ensures left { left result ≡ whole result }
     {
         Source {
