@@ -8,7 +8,7 @@ use Rattle.std.proofs.lemmas.List.Sums.{sum_by-cons}
 use Rattle.bitbang_table.specs.declared.Message.TheVariants.{Write}
 use Rattle.bitbang_table.specs.declared.Cycle.{Cycle}
 use Rattle.bitbang_table.specs.Protocol.{cycle_messages, encode}
-use Rattle.bitbang_table.specs.Cycles.{closed}
+use Rattle.bitbang_table.specs.Cycles.{closed_messages}
 use Rattle.bitbang.specs.declared.begun.Begun.{Begun}
 use Rattle.bitbang.specs.Left.{bytes_left, bytes_of, closing, rest}
 
@@ -34,7 +34,7 @@ length-bytes (c ∷ cs) =
 some_cycles : (n : ℕ) → not (nat_eq (suc n) 0) ≡ true
 some_cycles n = grind (arith, nat_tests)
 
-pub closed_bytes : (cs : List Cycle) → bytes_of cs ++ closing (not (nat_eq (length cs) 0)) ≡ map encode (closed cs)
+pub closed_bytes : (cs : List Cycle) → bytes_of cs ++ closing (not (nat_eq (length cs) 0)) ≡ map encode (closed_messages cs)
 closed_bytes [] = refl
 closed_bytes (c ∷ cs) =
     ap (λ b. bytes_of (c ∷ cs) ++ closing b) (some_cycles (length cs))

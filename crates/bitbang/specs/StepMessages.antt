@@ -4,7 +4,7 @@ use Rattle.jt_tap.specs.declared.State.{State}
 use Rattle.bitbang_table.specs.declared.Message.{Message}
 use Rattle.bitbang_table.specs.declared.Message.TheVariants.{Lines}
 use Rattle.bitbang_table.specs.Protocol.{encode}
-use Rattle.bitbang_table.specs.Cycles.{closed}
+use Rattle.bitbang_table.specs.Cycles.{closed_messages}
 use Rattle.svf_parse.specs.declared.statement.TrstWord.TheVariants as word
 use Rattle.svf_settings.specs.Steps.{Step, Trst}
 use Rattle.tck_cycles.specs.Cycles.{cycles}
@@ -18,7 +18,7 @@ line_message _ = []
 
 -- The messages of a step.
 abbrev pub step_messages : State → Step → List Message
-step_messages place step = line_message step ++ closed (cycles place step)
+step_messages place step = line_message step ++ closed_messages (cycles place step)
 
 -- The bytes of a step.
 abbrev pub step_bytes : State → Step → List ℕ

@@ -9,17 +9,17 @@ use Rattle.bitbang_table.specs.declared.Cycle.{Cycle}
 use Rattle.bitbang_table.specs.Protocol.{cycle_messages}
 
 -- the cycle that enters a state
-abbrev pub walk : State → Cycle
-walk s = record { tms = entered_by s; tdi = false; read = false }
+abbrev pub entering : State → Cycle
+entering s = record { tms = entered_by s; tdi = false; read = false }
 
 abbrev pub resets_held : List Cycle
-resets_held = replicate 5 (walk Reset)
+resets_held = replicate 5 (entering Reset)
 
 -- a step that has cycles is closed by a low byte
-abbrev pub closed : List Cycle → List Message
-closed [] = []
-closed (c ∷ cs) = flat_map cycle_messages (c ∷ cs) ++ Write false false false ∷ []
+abbrev pub closed_messages : List Cycle → List Message
+closed_messages [] = []
+closed_messages (c ∷ cs) = flat_map cycle_messages (c ∷ cs) ++ Write false false false ∷ []
 
 -- TRST released and five cycles with TMS 1
 abbrev pub opening : List Message
-opening = Lines false false ∷ closed resets_held
+opening = Lines false false ∷ closed_messages resets_held

@@ -25,8 +25,11 @@ pub enum Message {
 /// One cycle of TCK: the levels of TMS and TDI during it, and whether TDO is read in it.
 #[derive(Debug, Clone, Copy, PartialEq, Eq, Default)]
 pub struct Cycle {
+    /// The level of TMS.
     pub tms: bool,
+    /// The level of TDI.
     pub tdi: bool,
+    /// Whether TDO is asked for while TCK is low, before the rising edge.
     pub read: bool,
 }
 

@@ -15,7 +15,7 @@ use Rattle.board_meaning.specs.Nets.{sees}
 use Rattle.board_meaning.specs.Chain.{hear}
 use Rattle.board_meaning.specs.Whole.{AtRest, arrive, capture_all, settle, update_member, reset_member}
 use Rattle.tap_paths.specs.Paths.{go, last_of}
-use Rattle.bitbang_table.specs.Cycles.{walk, closed}
+use Rattle.bitbang_table.specs.Cycles.{entering, closed_messages}
 use Rattle.board_meaning.specs.Resting.{board_at_rest, chip_at_rest}
 use Rattle.board_meaning.proofs.OneCycle.{low, lowered, Free, given, risen_one, risen_all, fallen_one, cycled, Ran, ran, heard_of, hear-tail}
 
@@ -108,11 +108,11 @@ abbrev pub ends_at : State → List Member → Ran
 ends_at s ms = record { answers = []; state = s; members = ms }
 
 pub ran-walk : (nets : List Net) (path : List State) (s : State) (ms : List Member) → IsWalk s path
-    → ran nets (map walk path) s ms ≡ ends_at (last_of s path) (walked nets s path ms)
+    → ran nets (map entering path) s ms ≡ ends_at (last_of s path) (walked nets s path ms)
 ran-walk nets [] s ms legal = refl
 ran-walk nets (t ∷ path) s ms legal =
-    (λ i. ran nets (map walk path) (legal.0 i) (cycled s (entered_by t) false nets ms))
-    ∙ ap (λ r. ran nets (map walk path) t r)
+    (λ i. ran nets (map entering path) (legal.0 i) (cycled s (entered_by t) false nets ms))
+    ∙ ap (λ r. ran nets (map entering path) t r)
     (cycled-whole s (entered_by t) false nets ms legal.1 ∙ ap (λ u. fall_whole (work u) (rise_whole (work s) nets ms)) legal.0)
     ∙ ran-walk nets path t _ legal.2
 
@@ -185,19 +185,19 @@ default-path IrPause _ sf st = absurd (cc)
 default-path _ to sf st = absurd (cc)
 
 pub closed-walk : (path : List State) (s : State) (trst : Bool) (nets : List Net) (ms : List Member) → IsWalk s path → Free trst ms
-    → hear (closed (map walk path)) (low s trst nets ms) ≡ heard_of trst nets (ends_at (last_of s path) (walked nets s path ms))
+    → hear (closed_messages (map entering path)) (low s trst nets ms) ≡ heard_of trst nets (ends_at (last_of s path) (walked nets s path ms))
 closed-walk [] s trst nets ms legal free = refl
 closed-walk (t ∷ path) s trst nets ms legal free =
-    hear-tail trst nets (map walk (t ∷ path)) s ms free ∙ ap (heard_of trst nets) (ran-walk nets (t ∷ path) s ms legal)
+    hear-tail trst nets (map entering (t ∷ path)) s ms free ∙ ap (heard_of trst nets) (ran-walk nets (t ∷ path) s ms legal)
 
 -- From rest, a STATE step's bytes settle and arrive.
 pub go-law : (from to : State) (trst : Bool) (nets : List Net) (ms : List Member) → is_stable from ≡ true → is_stable to ≡ true → Free trst ms
-    → hear (closed (map walk (go from to))) (board_at_rest (at_rest from trst nets ms))
+    → hear (closed_messages (map entering (go from to))) (board_at_rest (at_rest from trst nets ms))
     ≡ record { answers = []; board = board_at_rest (arrive to (settle (at_rest from trst nets ms))) }
 go-law from to trst nets ms sf st free =
     let move = default-path from to sf st in
     let after = walked nets from (go from to) ms in
-    ap (λ b. hear (closed (map walk (go from to))) b) (sym (low-resting from trst nets ms (stable-quiet from sf)))
+    ap (λ b. hear (closed_messages (map entering (go from to))) b) (sym (low-resting from trst nets ms (stable-quiet from sf)))
     ∙ closed-walk (go from to) from trst nets ms move.walk free
     ∙ (λ i. record { answers = []; board = low (move.ends i) trst nets after })
     ∙ (λ i. record { answers = []; board = low-resting to trst nets after (stable-quiet to st) i })

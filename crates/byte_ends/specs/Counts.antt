@@ -1,4 +1,4 @@
--- What a counted reader or writer remembers of its calls, and what a list of calls of one writer hands it.
+-- What a counted reader or writer remembers of its calls.
 use Rattle.std.specs.Prelude.{ℕ, zero, suc, Bool, true, false, List, [], ◌∷◌, Result, Ok, Err, if◌then◌else◌, ◌&&◌}
 use Rattle.std.specs.Prelude.{◌||◌, ◌==◌}
 
@@ -24,13 +24,9 @@ is_end (Ok zero) (x ∷ xs) = true
 is_end (Ok (suc n)) (x ∷ xs) = false
 is_end (Err e) (x ∷ xs) = false
 
--- `failures` after a write of `piece`
-abbrev pub written_after : {E : Type 0} → ℕ → Result ℕ E → List ℕ → ℕ
-written_after before result piece = if is_lost result piece then 1 else before
-
--- `failures` after a read into `buffer`
-abbrev pub read_after : {E : Type 0} → ℕ → Result ℕ E → List ℕ → ℕ
-read_after before result buffer = if is_lost result buffer then 1 else before
+-- `failures` after a read into a buffer, or a write of it
+abbrev pub lost_after : {E : Type 0} → ℕ → Result ℕ E → List ℕ → ℕ
+lost_after before result buffer = if is_lost result buffer then 1 else before
 
 -- `failures` after a flush, which has no piece
 abbrev pub flushed_after : {A E : Type 0} → ℕ → Result A E → ℕ

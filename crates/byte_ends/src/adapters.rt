@@ -58,7 +58,9 @@ impl<W: Write> Sink for Plain<W> {
 /// One end made of a reader and a writer that are apart, such as standard input and standard output.
 #[derive(Debug, Drop)]
 pub struct Both<R, W> {
+    /// The reader.
     pub reader: R,
+    /// The writer.
     pub writer: W,
 }
 

@@ -2,7 +2,7 @@
 ghost use Rattle.std.specs.Prelude.{◌≡◌, ℕ, ◌≤◌, ◌↔◌, false, true, IsTrue, IsOk, IsErr, OnOk, flat_map, is_ok};
 ghost use Rattle.std.specs.Io.{ReadsAtMost, WritesAtMost};
 ghost use Rattle.std.specs.Io.KnownBytes.{Appends, Keeps, ReadConsumes, WriteAppends};
-ghost use Rattle.byte_ends.specs.Counts.{CountedView, written_after, read_after, flushed_after, ended_after};
+ghost use Rattle.byte_ends.specs.Counts.{CountedView, lost_after, flushed_after, ended_after};
 ghost use Rattle.byte_ends.specs.Writes.{PutsAll, WritesAll};
 
 use crate::ends::{End, Sink, Source};
@@ -99,7 +99,7 @@ impl<T: Source> Read for Counted<T> {
         ensures bound { ReadsAtMost result buffer.new }
         ensures bytes { ReadConsumes (T.remaining self.old.inner) (T.remaining self.new.inner) result buffer.new }
         ensures hears { T.hears self.old.inner buffer.new result self.new.inner }
-        ensures failures { self.new.failures ≡ read_after self.old.failures result buffer.new }
+        ensures failures { self.new.failures ≡ lost_after self.old.failures result buffer.new }
         ensures at_end { self.new.at_end ≡ ended_after self.old.at_end self.old.failures result buffer.new }
     {
         self.hear(buffer)
@@ -108,7 +108,7 @@ impl<T: Source> Read for Counted<T> {
 
 impl<T: Source> Source for Counted<T> {
     ghost hears = { λ s buffer r t. T.hears s.inner buffer r t.inner
-        × (t.failures ≡ read_after s.failures r buffer)
+        × (t.failures ≡ lost_after s.failures r buffer)
         × (t.at_end ≡ ended_after s.at_end s.failures r buffer) };
 
     fn hear(&mut self, buffer: &mut [u8]) -> io::Result<usize> {
@@ -131,7 +131,7 @@ impl<T: Sink> Write for Counted<T> {
         ensures bound { WritesAtMost result piece.now }
         ensures bytes { WriteAppends (T.contents self.old.inner) (T.contents self.new.inner) result piece.now }
         ensures puts { T.puts self.old.inner piece.now result self.new.inner }
-        ensures failures { self.new.failures ≡ written_after self.old.failures result piece.now }
+        ensures failures { self.new.failures ≡ lost_after self.old.failures result piece.now }
         ensures at_end { self.new.at_end ≡ self.old.at_end }
     {
         self.put(piece)
@@ -149,7 +149,7 @@ impl<T: Sink> Write for Counted<T> {
 
 impl<T: Sink> Sink for Counted<T> {
     ghost puts = { λ s piece r t. T.puts s.inner piece r t.inner
-        × (t.failures ≡ written_after s.failures r piece)
+        × (t.failures ≡ lost_after s.failures r piece)
         × (t.at_end ≡ s.at_end) };
 
     ghost flushes = { λ s r t. T.flushes s.inner r t.inner
@@ -211,7 +211,8 @@ pub fn put_all<W: Sink>(out: &mut Counted<W>, bytes: &[u8]) -> Result<(), Broken
 /// Writes pieces one after another, as `put_all` writes each.
 pub fn put_pieces<W: Sink>(out: &mut Counted<W>, pieces: &[&[u8]]) -> Result<(), Broken>
     requires { out.old.failures ≡ 0 }
-    ensures { WritesAll W.contents out.old out.new (flat_map (λ piece. piece.now) pieces.now) result }
+    ensures writes { WritesAll W.contents out.old out.new (flat_map (λ piece. piece.now) pieces.now) result }
+    ensures at_end { out.new.at_end ≡ out.old.at_end }
 {
     for piece in pieces {
         put_all(out, piece)?;

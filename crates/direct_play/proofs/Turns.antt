@@ -17,7 +17,7 @@ use Rattle.svf_settings.specs.Steps.{Step, Scan, Go, Path, Run, Trst, Numbered, 
 use Rattle.tap_paths.specs.Paths.{last_of}
 use Rattle.board_meaning.specs.Chain.{BoardState, Heard, hear}
 use Rattle.plays.specs.declared.ending.Ending.TheVariants.{Fail}
-use Rattle.plays.specs.DirectPlay.{full_bytes}
+use Rattle.plays.specs.DirectPlay.{bytes_of_full_play}
 use Rattle.plays.specs.Play.{Played, full_play, step_turns, wants_of}
 
 abbrev pub heard-of : State → Numbered → BoardState → Heard
@@ -58,7 +58,7 @@ bytes-of p = map encode p.messages
 
 module _ (program : Program) (b : BoardState) where
   -- the bytes of the opening come first
-  pub opening-first : full_bytes program b ≡ map encode opening ++ bytes-of (full_play (step_turns Reset program.steps) (hear opening b).board)
+  pub opening-first : bytes_of_full_play program b ≡ map encode opening ++ bytes-of (full_play (step_turns Reset program.steps) (hear opening b).board)
   opening-first = map-append opening (full_play (step_turns Reset program.steps) (hear opening b).board).messages
 
 module _ (place : State) (s : Numbered) (ss : List Numbered) (b : BoardState) where

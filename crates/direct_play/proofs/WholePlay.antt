@@ -15,10 +15,10 @@ use Rattle.board_meaning.specs.Sound.{AllSound, HasDevice, IsSoundBoard}
 use Rattle.board_meaning.specs.Whole.{AtRest}
 use Rattle.plays.specs.declared.ending.Ending.{Ending}
 use Rattle.plays.specs.declared.ending.Ending.TheVariants.{Fail}
-use Rattle.plays.specs.DirectPlay.{MeansFromOpening, full_bytes, opened_state}
+use Rattle.plays.specs.DirectPlay.{MeansFromOpening, bytes_of_full_play, opened_state}
 use Rattle.plays.specs.Legal.{AllLegal}
 use Rattle.plays.specs.LegalPlays.{IsOpened, PlaysAsItMeans}
-use Rattle.plays.specs.Meaning.{Outcome, command, failure, outcome}
+use Rattle.plays.specs.Meaning.{Outcome, after_step, failure, outcome}
 use Rattle.plays.specs.Play.{full_play, play, step_turns, wants_of}
 use Rattle.plays.proofs.Described as Described
 use Rattle.plays.proofs.Direct.{IsPlayed, judged-of}
@@ -32,18 +32,18 @@ use Rattle.direct_play.proofs.Turns.{bytes-of, failed-bytes, heard-of, opening-f
 
 abbrev decided : Numbered → List Numbered → AtRest → Option (Part × ℕ) → Outcome
 decided s ss m found =
-    let rest = outcome ss (command s.what m) in
+    let rest = outcome ss (after_step s.what m) in
     elim found [
       | None ↦ rest
-      | Some f ↦ record { ending = Fail s.number f.0 f.1; after = command s.what m }
+      | Some f ↦ record { ending = Fail s.number f.0 f.1; after = after_step s.what m }
     ]
 
 module _ (s : Numbered) (ss : List Numbered) (m : AtRest) where
-  pub outcome_passed : failure s.what m ≡ None → outcome (s ∷ ss) m ≡ outcome ss (command s.what m)
+  pub outcome_passed : failure s.what m ≡ None → outcome (s ∷ ss) m ≡ outcome ss (after_step s.what m)
   outcome_passed none = ap (decided s ss m) none
 
   pub outcome_failed : (f : Part × ℕ) → failure s.what m ≡ Some f
-      → outcome (s ∷ ss) m ≡ record { ending = Fail s.number f.0 f.1; after = command s.what m }
+      → outcome (s ∷ ss) m ≡ record { ending = Fail s.number f.0 f.1; after = after_step s.what m }
   outcome_failed f some = ap (decided s ss m) some
 
 -- ---- where the opening leaves a board
@@ -113,7 +113,7 @@ module _ (s : Numbered) (ss : List Numbered) (m : AtRest) (can : CanPlay (s ∷ 
   played : IsPlayed s.what m done.answers
   played = done.played
 
-  pub can_play_on : CanPlay ss (command s.what m)
+  pub can_play_on : CanPlay ss (after_step s.what m)
   can_play_on = record {
     rest = done.rest;
     sound = done.sound;
@@ -126,7 +126,7 @@ module _ (s : Numbered) (ss : List Numbered) (m : AtRest) (can : CanPlay (s ∷ 
 
   pub bytes_passed : failure s.what m ≡ None → bytes-of (full_play (step_turns m.place (s ∷ ss)) (board_at_rest m))
       ≡ step_bytes m.place s.what ++ bytes-of
-      (full_play (step_turns (command s.what m).place ss) (board_at_rest (command s.what m)))
+      (full_play (step_turns (after_step s.what m).place ss) (board_at_rest (after_step s.what m)))
   bytes_passed none =
       passed-bytes m.place s ss (board_at_rest m) (judged-is ∙ none)
       ∙ (λ i. step_bytes m.place s.what ++ bytes-of
@@ -141,7 +141,7 @@ opening_bytes = map encode opening
 
 -- all bytes, from behind the opening on
 pub opening_first : (program : Program) (b : BoardState) → IsAtRest (hear opening b).board (opened_state b)
-    → full_bytes program b
+    → bytes_of_full_play program b
     ≡ opening_bytes ++ bytes-of (full_play (step_turns Reset program.steps) (board_at_rest (opened_state b)))
 opening_first program b is =
     opening-first program b

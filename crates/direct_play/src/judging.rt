@@ -1,6 +1,6 @@
 //! The wanted bits of a vector, one by one, for a player that judges each answer as it comes.
 
-ghost use Rattle.std.specs.Prelude.{◌≡◌, ◌+◌, ◌<◌, ◌^◌, [], ◌∷◌, Option, Some, None, MatchOption, drop, length};
+ghost use Rattle.std.specs.Prelude.{◌≡◌, ◌+◌, ◌<◌, [], ◌∷◌, Option, Some, None, MatchOption, drop, length};
 ghost use Rattle.std.specs.Prelude.{slice_get, if◌then◌else◌};
 ghost use Rattle.scan_vectors.specs.Held.{bits};
 ghost use Rattle.scan_vectors.specs.Vector.{VectorBit, differs};
@@ -10,10 +10,9 @@ use scan_vectors::{Part, Vector};
 
 /// The first bit from this place on that is wanted.
 pub fn next_wanted(vector: &Vector, from: usize) -> Option<usize>
-    ensures next { MatchOption result (wanted (drop from (bits vector.now)) ≡ [])
+    ensures { MatchOption result (wanted (drop from (bits vector.now)) ≡ [])
         (λ i. (i < length (bits vector.now)) × (v : VectorBit) × (slice_get (bits vector.now) i ≡ Some v)
         × (wanted (drop from (bits vector.now)) ≡ v ∷ wanted (drop (i + 1) (bits vector.now)))) }
-    ensures fits { length (bits vector.now) < 2 ^ 64 }
 {
     for i in from..vector.len() {
         if vector.bit(i).1.is_some() {

@@ -3,7 +3,7 @@
 ghost use Rattle.std.specs.Prelude.{◌≡◌};
 ghost use Rattle.byte_ends.specs.Writes.{WritesAll, flagged};
 ghost use Rattle.svf_settings.specs.Sizes.{program_of};
-ghost use Rattle.plays.specs.DirectPlay.{MeansFromOpening, full_bytes};
+ghost use Rattle.plays.specs.DirectPlay.{MeansFromOpening, bytes_of_full_play};
 ghost use Rattle.plays.specs.Play.{play};
 ghost use Rattle.direct_play.specs.Noting.{Notes};
 
@@ -30,7 +30,7 @@ pub fn play_program_noted<W: Sink>(
     ensures meaning { MeansFromOpening (program_of program.now) board.old result.0 board.new }
 
     // What was written of it.
-    ensures writes { WritesAll W.contents out.old out.new (full_bytes (program_of program.now) board.old)
+    ensures writes { WritesAll W.contents out.old out.new (bytes_of_full_play (program_of program.now) board.old)
         (flagged result.1) }
 {
     // For the proof alone: what the types keep of a program's steps and of a board's devices.
@@ -44,7 +44,7 @@ pub fn play_program_noted<W: Sink>(
 fn play_and_note<W: Sink>(program: &Program, board: &mut Board, out: &mut Counted<W>) -> Ending
     ensures ending { result ≡ (play (program_of program.now) board.old).ending }
     ensures board { board.new ≡ (play (program_of program.now) board.old).board }
-    ensures notes { Notes W.contents out.old out.new (full_bytes (program_of program.now) board.old) }
+    ensures notes { Notes W.contents out.old out.new (bytes_of_full_play (program_of program.now) board.old) }
 {
     // For the proof alone: what the types keep of a program's steps and of a board's devices.
     let _ = program.len();

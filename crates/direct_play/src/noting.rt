@@ -1,8 +1,7 @@
 //! The bytes of a play, written beside it.
 
-ghost use Rattle.std.specs.Prelude.{◌≡◌, ◌++◌, length, min, take, drop, true};
+ghost use Rattle.std.specs.Prelude.{◌≡◌, true};
 ghost use Rattle.jt_tap.specs.Controller.{is_stable};
-ghost use Rattle.bitbang.specs.Left.{left};
 ghost use Rattle.bitbang.specs.StepMessages.{step_bytes};
 ghost use Rattle.svf_settings.specs.Legal.{IsFormed};
 ghost use Rattle.svf_settings.specs.Laws.{IsWithin};
@@ -38,27 +37,10 @@ pub(crate) fn note_step<W: Sink>(place: State, step: &Step<'_>, out: &mut Counte
     let mut bytes = StepBytes::of(place, step);
     let mut buffer = [0; PIECE];
     loop {
-        let count = fill(&mut bytes, &mut buffer);
+        let count = bytes.fill(&mut buffer);
         if count == 0 {
             return;
         }
         note(out, &buffer[..count]);
     }
-}
-
-/// Fills the buffer with the next bytes of a step, as many as fit, and tells how many they are.
-fn fill(bytes: &mut StepBytes<'_>, buffer: &mut [u8]) -> usize
-    ensures count { result ≡ min (length buffer.old) (length (left bytes.old)) }
-    ensures filled { buffer.new ≡ take result (left bytes.old) ++ drop result buffer.old }
-    ensures left { left bytes.new ≡ drop result (left bytes.old) }
-{
-    let mut count = 0;
-    while count < buffer.len() {
-        let Some(byte) = bytes.next() else {
-            return count;
-        };
-        buffer[count] = byte;
-        count += 1;
-    }
-    count
 }

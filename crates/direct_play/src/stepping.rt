@@ -43,7 +43,7 @@ fn take_all(board: &mut Board, bytes: &[u8])
 /// there.
 pub(crate) fn play_step(step: &Step<'_>, board: &mut Board) -> Option<(Part, usize)>
     ensures board { (m : AtRest) → IsAtRest board.old m
-        → IsAtRest board.new (meaning.command (seen.step step.now.what) m) }
+        → IsAtRest board.new (meaning.after_step (seen.step step.now.what) m) }
     ensures judged { (m : AtRest) → IsAtRest board.old m → result ≡ meaning.failure (seen.step step.now.what) m }
 {
     match step.what {
@@ -113,7 +113,7 @@ fn move_unless_there(state: State, board: &mut Board)
 
 /// Drives the line TRST.
 fn set_trst(word: TrstWord, board: &mut Board)
-    ensures { (m : AtRest) → IsAtRest board.old m → IsAtRest board.new (meaning.command (steps.Trst word) m) }
+    ensures { (m : AtRest) → IsAtRest board.old m → IsAtRest board.new (meaning.after_step (steps.Trst word) m) }
 {
     match word {
         TrstWord::On => board.assert_trst(),

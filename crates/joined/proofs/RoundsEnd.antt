@@ -1,10 +1,10 @@
 -- Each round adds to a sum that the program bounds.
-use Rattle.std.proofs.Common.{◌≡◌, Bool, true, false, ◌||◌, ℕ, ◌+◌, ◌-◌, ◌<◌, ◌≤◌, List, [], ◌∷◌, ◌++◌, map, length, refl, sym, ap, ◌∙◌, subst, arith, length-append, lt-ltb, Option, Some, None}
+use Rattle.std.proofs.Common.{◌≡◌, Bool, true, false, ◌||◌, ℕ, ◌+◌, ◌-◌, ◌*◌, ◌<◌, ◌≤◌, List, [], ◌∷◌, ◌++◌, map, length, refl, sym, ap, ◌∙◌, subst, arith, length-append, lt-ltb, Option, Some, None}
 use Rattle.bitbang_table.specs.declared.Message.TheVariants.{Quit}
 use Rattle.board_meaning.specs.Chain.{BoardState, hear}
 use Rattle.scan_vectors.specs.declared.part.Part.{Part}
 use Rattle.scan_vectors.specs.Vector.{judge}
-use Rattle.plays.specs.Events.{Event, Known, World, by_answers, empty_pipes, before_events as fresh_world, run}
+use Rattle.plays.specs.Events.{Event, Put, Serve, Take, Known, World, by_answers, empty_pipes, before_events as fresh_world, run}
 use Rattle.plays.specs.Play.{Turn, Played, full_play, player, sent, turns}
 use Rattle.plays.specs.Streams.{StreamState, new_stream}
 use Rattle.bitbang_table.specs.Protocol.{answer}
@@ -23,8 +23,20 @@ use Rattle.every_schedule.proofs.Progress.{fair-moves, moving-total, total-bound
 use Rattle.every_schedule.proofs.Quits.{played_of, sent-eager}
 use Rattle.every_schedule.proofs.Runs.{run-append}
 use Rattle.every_schedule.proofs.SafetyLaws.{is-play, reached}
-use Rattle.joined.specs.Finishing.{IsReached, a_round, is_over, most, sum_of}
+use Rattle.joined.specs.Finishing.{IsReached, is_over}
 use Rattle.joined.specs.Joining.{JoinedState, side}
+
+-- bytes given out, bytes taken, answers taken
+abbrev pub sum_of : World StreamState → ℕ
+sum_of w = w.player.given + (w.player.given - length w.down) + w.player.answered
+
+-- the most that it can be, whatever the board answers
+abbrev pub most : Program → ℕ
+most program = 2 * (bytes_in (turns program.steps) + 1) + answers_in (turns program.steps)
+
+-- as much as may be, each way
+abbrev pub a_round : ℕ → List Event
+a_round n = Put n ∷ Serve n ∷ Take n ∷ []
 
 -- whatever the board answers, a play has no more than the program's bytes and `Q`, and no more than its answers
 pub record IsWithin (ts : List Turn) (p : Played) : Type 0 where

@@ -1,17 +1,14 @@
--- Playing on until the end: why it comes.
-use Rattle.std.specs.Prelude.{◌≡◌, Bool, true, ◌||◌, ℕ, ◌+◌, ◌*◌, ◌-◌, ◌^◌, ◌<◌, List, [], ◌∷◌, length, min, Option}
+-- Playing on until the end.
+use Rattle.std.specs.Prelude.{◌≡◌, Bool, true, ◌||◌, ◌-◌, ◌^◌, ◌<◌, List, min, Option}
 use Rattle.std.specs.Prelude.{Some, None, if◌then◌else◌}
 use Rattle.plays.specs.declared.ending.Ending.{Ending}
 use Rattle.plays.specs.declared.ending.Ending.TheVariants.{Lost}
 use Rattle.plays.specs.Streams as stream
 use Rattle.board_meaning.specs.Chain.{BoardState}
-use Rattle.plays.specs.Events.{Event, Put, Serve, Take, World, empty_pipes, run}
-use Rattle.plays.specs.Play.{turns}
+use Rattle.plays.specs.Events.{Event, World, empty_pipes, run}
 use Rattle.plays.specs.PlayingOn.{Stops}
 use Rattle.plays.specs.Streams.{StreamState, new_stream}
-use Rattle.svf_settings.specs.Steps.{Program}
 use Rattle.every_schedule.specs.Fair.{HasNoLose}
-use Rattle.every_schedule.specs.InWork.{answers_in, bytes_in}
 use Rattle.joined.specs.Joining.{JoinedState, side}
 
 -- Some events led here from a fresh player and a board with empty pipes; this is what the type keeps.
@@ -25,18 +22,6 @@ pub record IsReached (s : JoinedState) : Type 0 where
 
 abbrev pub is_over : World StreamState → Bool
 is_over w = w.quit || w.lost
-
--- bytes given out, bytes taken, answers taken
-abbrev pub sum_of : World StreamState → ℕ
-sum_of w = w.player.given + (w.player.given - length w.down) + w.player.answered
-
--- the most that it can be, whatever the board answers
-abbrev pub most : Program → ℕ
-most program = 2 * (bytes_in (turns program.steps) + 1) + answers_in (turns program.steps)
-
--- as much as may be, each way
-abbrev pub a_round : ℕ → List Event
-a_round n = Put n ∷ Serve n ∷ Take n ∷ []
 
 -- Events without a loss after which the play is over.
 pub record IsFinished (before after : JoinedState) : Type 0 where

@@ -1,5 +1,5 @@
 -- Player and board joined by two bounded pipes, as the program holds them.
-use Rattle.std.specs.Prelude.{◌≡◌, Bool, not, ◌||◌, ℕ, ◌+◌, ◌==◌, List, [], ◌∷◌, ◌++◌, map, Option, Some, None}
+use Rattle.std.specs.Prelude.{◌≡◌, Bool, not, ◌||◌, ℕ, List, [], ◌∷◌, map, Option, Some, None}
 use Rattle.std.specs.Prelude.{if◌then◌else◌}
 use Rattle.bitbang_table.specs.Protocol.{answer, decode}
 use Rattle.circular_buffer.specs.Buffer.{Buffer}
@@ -9,6 +9,7 @@ use Rattle.joined.specs.declared.event.Event.TheVariants as happening
 use Rattle.plays.specs.Events.{Event, Put, Serve, Take, Lose, Side, World, has_room, after_byte_taken as taken_byte}
 use Rattle.plays.specs.Streams as stream
 use Rattle.plays.specs.Streams.{StreamState}
+use Rattle.streaming.specs.Histories.{bits_told}
 
 -- The player, as events see it, with up to 256 answers owed.
 abbrev pub side : Side StreamState
@@ -19,20 +20,17 @@ pub record JoinedState : Type 0 where
   pub down_room : ℕ
   pub up_room : ℕ
 
--- the bits that answer bytes tell
-abbrev pub bits : List ℕ → List Bool
-bits bytes = map (λ b. b == 49) bytes
-
 abbrev pub world_between : StreamState → BoardState → Buffer ℕ → Buffer ℕ → (quit lost : Bool) → JoinedState
 world_between player board down up quit lost = record {
-  world = record { player = player; down = down.items; up = bits up.items; board = board; quit = quit; lost = lost };
+  world =
+      record { player = player; down = down.items; up = bits_told up.items; board = board; quit = quit; lost = lost };
   down_room = down.capacity;
   up_room = up.capacity;
 }
 
 -- every byte in the up pipe is an answer
 abbrev pub AreAnswers : List ℕ → Type 0
-AreAnswers bytes = bytes ≡ map answer (bits bytes)
+AreAnswers bytes = bytes ≡ map answer (bits_told bytes)
 
 -- the world after the board took one byte, if it takes one
 abbrev pub serve_one : ℕ → World StreamState → Option (World StreamState)

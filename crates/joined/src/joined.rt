@@ -36,12 +36,15 @@ impl Model for Joined {
 /// Player and board that were not joined, for want of memory.
 #[derive(Drop)]
 pub struct Unjoined {
+    /// The player, as it was handed over.
     pub player: Player,
+    /// The board, as it was handed over.
     pub board: Board,
 }
 
 impl Joined {
-    /// Joins a fresh player and a board by two empty pipes. For want of memory both come back.
+    /// Joins a fresh player (asked) and a board by two empty pipes, with room for `down` bytes and `up` answers, at
+    /// least 1 each (asked). It takes all its memory before it takes anything over: for want of memory both come back.
     pub fn new(
         alloc: Global,
         player: Player,

@@ -10,7 +10,7 @@ use Rattle.svf_settings.specs.Steps.{Program}
 use Rattle.board_meaning.specs.Chain.{BoardState}
 use Rattle.jt_board.specs.LeftOut.{left_out_lines}
 use Rattle.jt_board.specs.Report.{report}
-use Rattle.plays.specs.DirectPlay.{MeansFromOpening, full_bytes}
+use Rattle.plays.specs.DirectPlay.{MeansFromOpening, bytes_of_full_play}
 use Rattle.plays.specs.Endings.{status_of, verdict_line}
 use Rattle.plays.specs.Play.{play}
 use Rattle.direct_play.specs.Accepting.{Accepts, Refuses}
@@ -18,7 +18,7 @@ use Rattle.jt_player.specs.Showing.{accepted_line, refusal_line}
 
 -- what a play tells first: the bytes that were sent, where they are asked for
 abbrev pub note : Bool → Program → BoardState → List ℕ
-note true program before = codes "bytes " ++ full_bytes program before ++ codes "\n"
+note true program before = codes "bytes " ++ bytes_of_full_play program before ++ codes "\n"
 note false program before = []
 
 -- what a run tells its output and its errors, its exit status, and the board that it leaves

@@ -14,7 +14,7 @@ pub use play::{play_board, play_noted};
 pub use plays::Ending;
 pub use run::{run_check, run_play};
 pub use scan_vectors::Part;
-pub use stream_player::{Mismatch, Player};
+pub use stream_player::Player;
 pub use svf_parse::{Code, SvfFault};
 pub use svf_settings::{Action, Program, Step};
 

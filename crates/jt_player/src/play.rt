@@ -2,7 +2,7 @@
 
 ghost use Rattle.std.specs.Prelude.{◌≡◌};
 ghost use Rattle.byte_ends.specs.Writes.{WritesAll, flagged};
-ghost use Rattle.plays.specs.DirectPlay.{MeansFromOpening, full_bytes};
+ghost use Rattle.plays.specs.DirectPlay.{MeansFromOpening, bytes_of_full_play};
 ghost use Rattle.plays.specs.Play.{play};
 ghost use Rattle.plays.specs.PlayingOn.{Stops};
 ghost use Rattle.plays.specs.Streams.{new_stream};
@@ -44,7 +44,8 @@ pub fn play_noted<W: Sink>(
     ensures meaning { MeansFromOpening player.program board.old result.0 board.new }
 
     // What was written of it.
-    ensures writes { WritesAll W.contents out.old out.new (full_bytes player.program board.old) (flagged result.1) }
+    ensures writes { WritesAll W.contents out.old out.new (bytes_of_full_play player.program board.old)
+        (flagged result.1) }
 {
     play_program_noted(player.program(), board, out)
 }

@@ -31,8 +31,8 @@ fn main(rt: HostRuntime) -> ExitCode {
     let alloc = rt.alloc();
     let status = match command_words(&rt, alloc) {
         Ok(words) => run(&rt, alloc, words.as_slice()),
-        Err(fault) if fault.kind() == ErrorKind::OutOfMemory => told(&rt, "memory", MEMORY),
-        Err(_) => told(&rt, "a word of the command line is not UTF-8", REFUSED),
+        Err(fault) if fault.kind() == ErrorKind::OutOfMemory => tell_line(&rt, "memory", MEMORY),
+        Err(_) => tell_line(&rt, "a word of the command line is not UTF-8", REFUSED),
     };
     ExitCode::from(status)
 }
@@ -42,7 +42,7 @@ fn run(rt: &HostRuntime, alloc: Global, args: &[String]) -> u8 {
     let mut words = Vec::new(alloc);
     for arg in args {
         if words.push(arg.as_str()).is_err() {
-            return told(rt, "memory", MEMORY);
+            return tell_line(rt, "memory", MEMORY);
         }
     }
     match parse(alloc, &words) {
@@ -54,7 +54,7 @@ fn run(rt: &HostRuntime, alloc: Global, args: &[String]) -> u8 {
 /// Tells what is wrong with the words, or gives the help that they ask for.
 fn refuse_words<R: Print + Eprint>(rt: &R, fault: &clap::Error) -> u8 {
     if fault.kind() == WordsFault::OutOfMemory {
-        return told(rt, "memory", MEMORY);
+        return tell_line(rt, "memory", MEMORY);
     }
     let status = if fault.exit_code() == 0 {
         DONE
@@ -78,31 +78,35 @@ fn run_text(rt: &HostRuntime, alloc: Global, request: &Request<'_>) -> u8 {
         Ok(text) => text,
         Err(InputFault::Unreadable) => {
             let name = request.svf.unwrap_or("-");
-            return told(rt, format_args!("file {name}"), REFUSED);
+            return tell_line(rt, format_args!("file {name}"), REFUSED);
         }
-        Err(InputFault::NoMemory) => return told(rt, "memory", MEMORY),
+        Err(InputFault::NoMemory) => return tell_line(rt, "memory", MEMORY),
     };
     let mut out = Counted::new(Plain(io::writer(rt)));
     let mut err = Counted::new(Plain(rt.stderr()));
-    let told = match request.task {
+    let status = match request.task {
         Task::Play { bytes } => run_play(alloc, &text, &mut board, bytes, &mut out, &mut err),
         Task::Check => run_check(alloc, &text, &board, &mut out, &mut err),
     };
-    told.unwrap_or(BROKEN)
+    status.unwrap_or(BROKEN)
 }
 
 /// Tells why no board was made. Answers the exit status.
 fn refuse_board(rt: &HostRuntime, fault: &Unmade) -> u8 {
     match fault {
-        Unmade::Unreadable(name) => told(rt, format_args!("file {name}"), REFUSED),
-        Unmade::Refused(BoardFault::NoMemory) => told(rt, "memory", MEMORY),
-        Unmade::Refused(BoardFault::Bsdl(fault)) => told(rt, format_args!("bsdl {fault}"), REFUSED),
-        Unmade::Refused(fault) => told(rt, format_args!("board {fault}"), REFUSED),
+        Unmade::Unreadable(name) => tell_line(rt, format_args!("file {name}"), REFUSED),
+        Unmade::Refused(BoardFault::NoMemory) => tell_line(rt, "memory", MEMORY),
+        Unmade::Refused(BoardFault::Bsdl(fault)) => tell_line(
+            rt,
+            format_args!("bsdl {fault}"),
+            REFUSED,
+        ),
+        Unmade::Refused(fault) => tell_line(rt, format_args!("board {fault}"), REFUSED),
     }
 }
 
 /// Writes a line to standard error. Answers this status, or that the line was lost.
-fn told<R: Eprint, T: fmt::Display + Drop>(rt: &R, line: T, status: u8) -> u8 {
+fn tell_line<R: Eprint, T: fmt::Display + Drop>(rt: &R, line: T, status: u8) -> u8 {
     if rt.eprintln(line).is_err() {
         BROKEN
     } else {

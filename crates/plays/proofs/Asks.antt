@@ -16,7 +16,7 @@ use Rattle.svf_parse.specs.declared.statement.TrstWord.TheVariants.{On, Off, Z, 
 use Rattle.plays.specs.declared.ending.Ending.TheVariants.{Fail}
 use Rattle.tap_paths.specs.Paths.{go, to_shift, from_exit1}
 use Rattle.bitbang_table.specs.declared.Cycle.{Cycle}
-use Rattle.bitbang_table.specs.Cycles.{walk, closed}
+use Rattle.bitbang_table.specs.Cycles.{entering, closed_messages}
 use Rattle.tck_cycles.specs.Cycles.{scan_cycles, go_unless_there, cycles}
 use Rattle.bitbang.specs.StepMessages.{line_message, step_messages}
 use Rattle.bitbang_table.specs.Protocol.{cycle_messages}
@@ -59,7 +59,7 @@ asks-cycles [] = refl
 asks-cycles (c ∷ cs) =
     asks-append (cycle_messages c) (flat_map cycle_messages cs) ∙ (λ i. asks-cycle c.tms c.tdi c.read i + asks-cycles cs i)
 
-asks-closed : (cs : List Cycle) → asks (closed cs) ≡ reads cs
+asks-closed : (cs : List Cycle) → asks (closed_messages cs) ≡ reads cs
 asks-closed [] = refl
 asks-closed (c ∷ cs) =
     let e = asks-append (flat_map cycle_messages (c ∷ cs)) (Write false false false ∷ []) in
@@ -70,11 +70,11 @@ reads-append : (xs ys : List Cycle) → reads (xs ++ ys) ≡ reads xs + reads ys
 reads-append [] ys = omega arith
 reads-append (x ∷ xs) ys = let e = reads-append xs ys in omega arith
 
-reads-walk : (path : List State) → reads (map walk path) ≡ 0
+reads-walk : (path : List State) → reads (map entering path) ≡ 0
 reads-walk [] = refl
 reads-walk (s ∷ path) = let e = reads-walk path in omega arith
 
-reads-stay : (n : ℕ) (s : State) → reads (replicate n (walk s)) ≡ 0
+reads-stay : (n : ℕ) (s : State) → reads (replicate n (entering s)) ≡ 0
 reads-stay zero s = refl
 reads-stay (suc n) s = let e = reads-stay n s in omega arith
 
@@ -93,8 +93,8 @@ reads-scan (v ∷ w ∷ vs) = wants-one (is_some v.wanted) v (reads (scan_cycles
 
 reads-step : (place : State) (step : Step) → reads (cycles place step) ≡ length (wants_of step)
 reads-step place (Scan column v end) =
-    let first = map walk (to_shift place column) in
-    let last = map walk (from_exit1 column end) in
+    let first = map entering (to_shift place column) in
+    let last = map entering (from_exit1 column end) in
     let a = reads-append (first ++ scan_cycles v) last in
     let b = reads-append first (scan_cycles v) in
     let c = reads-walk (to_shift place column) in
@@ -104,10 +104,10 @@ reads-step place (Scan column v end) =
 reads-step place (Go s) = reads-walk (go place s)
 reads-step place (Path path) = reads-walk path
 reads-step place (Run run n end) =
-    let first = map walk (go_unless_there place run) in
-    let last = map walk (go_unless_there run end) in
-    let a = reads-append (first ++ replicate n (walk run)) last in
-    let b = reads-append first (replicate n (walk run)) in
+    let first = map entering (go_unless_there place run) in
+    let last = map entering (go_unless_there run end) in
+    let a = reads-append (first ++ replicate n (entering run)) last in
+    let b = reads-append first (replicate n (entering run)) in
     let c = reads-walk (go_unless_there place run) in
     let d = reads-walk (go_unless_there run end) in
     let e = reads-stay n run in
@@ -130,7 +130,7 @@ no-asks (Trst Absent) = refl
 -- A step asks as often as it wants a bit.
 pub asks-step : (place : State) (step : Step) → asks (step_messages place step) ≡ length (wants_of step)
 asks-step place step =
-    asks-append (line_message step) (closed (cycles place step))
+    asks-append (line_message step) (closed_messages (cycles place step))
     ∙ (λ i. no-asks step i + asks-closed (cycles place step) i)
     ∙ omega (arith, reads-step place step)
 

@@ -9,7 +9,7 @@ use Rattle.board_meaning.specs.Whole.{AtRest, capture, out, settle}
 use Rattle.scan_vectors.specs.declared.part.Part.{Part}
 use Rattle.scan_vectors.specs.Vector.{VectorBit, judge, differs, tdis}
 use Rattle.svf_settings.specs.Steps.{Step, Scan, Go, Path, Run, Trst, Numbered, place_after}
-use Rattle.plays.specs.Meaning.{command, failure, outcome, Outcome}
+use Rattle.plays.specs.Meaning.{after_step, failure, outcome, Outcome}
 use Rattle.plays.specs.declared.ending.Ending.TheVariants.{Fail}
 use Rattle.bitbang.specs.StepMessages.{step_messages}
 use Rattle.plays.specs.Play.{Turn, Played, wants_of, step_turns, turns, full_play}
@@ -41,9 +41,9 @@ asked_of _ m = []
 
 -- what one step's law says: the answers, the board at rest, and the place
 pub record IsPlayed (step : Step) (m : AtRest) (answers : List Bool) : Type 0 where
-  pub heard : hear (step_messages m.place step) (board_at_rest m) ≡ record { answers = answers; board = board_at_rest (command step m) }
+  pub heard : hear (step_messages m.place step) (board_at_rest m) ≡ record { answers = answers; board = board_at_rest (after_step step m) }
   pub said : answers ≡ asked_of step m
-  pub place : (command step m).place ≡ place_after m.place step
+  pub place : (after_step step m).place ≡ place_after m.place step
 
 -- so the first wanted bit that differs is the one that whole registers name
 pub judged-of : (step : Step) (m : AtRest) (answers : List Bool) → answers ≡ asked_of step m → judge (wants_of step) answers ≡ failure step m
@@ -56,14 +56,14 @@ judged-of (Trst word) m answers e = ap (judge []) e
 
 abbrev pub AllPlayed : List Numbered → AtRest → Type 0
 AllPlayed [] m = Unit {0}
-AllPlayed (s ∷ ss) m = (answers : List Bool) × IsPlayed s.what m answers × AllPlayed ss (command s.what m)
+AllPlayed (s ∷ ss) m = (answers : List Bool) × IsPlayed s.what m answers × AllPlayed ss (after_step s.what m)
 
 pub record Same (p : Played) (o : Outcome) : Type 0 where
   pub ending : p.ending ≡ o.ending
   pub board : p.board ≡ board_at_rest o.after
 
-abbrev after_step : Turn → List Turn → Heard → Option (Part × ℕ) → Played
-after_step t ts heard found =
+abbrev after_turn : Turn → List Turn → Heard → Option (Part × ℕ) → Played
+after_turn t ts heard found =
     let rest = full_play ts heard.board in
     elim found [
       | None ↦ record { messages = t.messages ++ rest.messages; answers = heard.answers ++ rest.answers; ending = rest.ending; board = rest.board }
@@ -72,15 +72,15 @@ after_step t ts heard found =
 
 abbrev decided : Numbered → List Numbered → AtRest → Option (Part × ℕ) → Outcome
 decided s ss m found =
-    let rest = outcome ss (command s.what m) in
+    let rest = outcome ss (after_step s.what m) in
     elim found [
       | None ↦ rest
-      | Some f ↦ record { ending = Fail s.number f.0 f.1; after = command s.what m }
+      | Some f ↦ record { ending = Fail s.number f.0 f.1; after = after_step s.what m }
     ]
 
 combine : (t : Turn) (ts : List Turn) (s : Numbered) (ss : List Numbered) (m : AtRest) (answers : List Bool)
-    → Same (full_play ts (board_at_rest (command s.what m))) (outcome ss (command s.what m)) → (found : Option (Part × ℕ)) → t.command ≡ s.number
-    → Same (after_step t ts (record { answers = answers; board = board_at_rest (command s.what m) }) found) (decided s ss m found)
+    → Same (full_play ts (board_at_rest (after_step s.what m))) (outcome ss (after_step s.what m)) → (found : Option (Part × ℕ)) → t.command ≡ s.number
+    → Same (after_turn t ts (record { answers = answers; board = board_at_rest (after_step s.what m) }) found) (decided s ss m found)
 combine t ts s ss m answers rest None number = record { ending = rest.ending; board = rest.board }
 combine t ts s ss m answers rest (Some f) number = record { ending = λ i. Fail (number i) f.0 f.1; board = refl }
 
@@ -89,12 +89,12 @@ steps-law [] m legal = record { ending = refl; board = refl }
 steps-law (s ∷ ss) m (answers, p, legal) =
     let t : Turn = record { command = s.number; messages = step_messages m.place s.what; wants = wants_of s.what } in
     let ts = step_turns (place_after m.place s.what) ss in
-    let after = command s.what m in
+    let after = after_step s.what m in
     let heard : Heard = record { answers = answers; board = board_at_rest after } in
     let rest : Same (full_play ts (board_at_rest after)) (outcome ss after) =
     subst (λ (place : State). Same (full_play (step_turns place ss) (board_at_rest after)) (outcome ss after)) p.place (steps-law ss after legal) in
-    let path : full_play (t ∷ ts) (board_at_rest m) ≡ after_step t ts heard (failure s.what m) =
-    (λ i. after_step t ts (p.heard i) (judge t.wants (p.heard i).answers)) ∙ (λ i. after_step t ts heard (judged-of s.what m answers p.said i)) in
+    let path : full_play (t ∷ ts) (board_at_rest m) ≡ after_turn t ts heard (failure s.what m) =
+    (λ i. after_turn t ts (p.heard i) (judge t.wants (p.heard i).answers)) ∙ (λ i. after_turn t ts heard (judged-of s.what m answers p.said i)) in
     subst (λ (q : Played). Same q (outcome (s ∷ ss) m)) (sym path) (combine t ts s ss m answers rest (failure s.what m) refl)
 
 -- Direct play: from every board, whatever bytes it took before, the full play ends as the register meaning says, from

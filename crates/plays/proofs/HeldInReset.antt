@@ -6,7 +6,7 @@ use Rattle.board_meaning.specs.Cells.{Member}
 use Rattle.pin_nets.specs.Wired.{Net}
 use Rattle.board_meaning.specs.Chain.{ChipState, BoardState, fall, is_held, hear}
 use Rattle.board_meaning.specs.Whole.{reset_member}
-use Rattle.bitbang_table.specs.Cycles.{walk, closed}
+use Rattle.bitbang_table.specs.Cycles.{entering, closed_messages}
 use Rattle.board_meaning.specs.Resting.{chip_at_rest, board_at_rest}
 use Rattle.board_meaning.proofs.OneCycle.{tail}
 use Rattle.board_meaning.proofs.Walks.{at_rest}
@@ -40,14 +40,14 @@ one-more true trst nets ms kept =
     ∙ ap (board true trst nets) (ups trst ms)
 
 stay : (n : ℕ) (tck trst : Bool) (nets : List Net) (ms : List Member) → map reset_member ms ≡ ms
-    → hear (tail (replicate n (walk Reset))) (here tck trst nets ms) ≡ record { answers = []; board = here false trst nets ms }
+    → hear (tail (replicate n (entering Reset))) (here tck trst nets ms) ≡ record { answers = []; board = here false trst nets ms }
 stay zero false trst nets ms kept = refl
 stay zero true trst nets ms kept = λ i. record { answers = []; board = board false trst nets (falls ms kept i) }
 stay (suc n) tck trst nets ms kept =
-    (λ i. hear (tail (replicate n (walk Reset))) (one-more tck trst nets ms kept i)) ∙ stay n true trst nets ms kept
+    (λ i. hear (tail (replicate n (entering Reset))) (one-more tck trst nets ms kept i)) ∙ stay n true trst nets ms kept
 
 -- From rest in RESET, any number of cycles with TMS 1 leave the board as it is.
 pub held-law : (n : ℕ) (trst : Bool) (nets : List Net) (ms : List Member) → map reset_member ms ≡ ms
-    → hear (closed (replicate n (walk Reset))) (board_at_rest (at_rest Reset trst nets ms)) ≡ record { answers = []; board = board_at_rest (at_rest Reset trst nets ms) }
+    → hear (closed_messages (replicate n (entering Reset))) (board_at_rest (at_rest Reset trst nets ms)) ≡ record { answers = []; board = board_at_rest (at_rest Reset trst nets ms) }
 held-law zero trst nets ms kept = refl
 held-law (suc n) trst nets ms kept = stay (suc n) false trst nets ms kept

@@ -14,7 +14,7 @@ use Rattle.scan_vectors.specs.Vector.{tdis}
 use Rattle.board_meaning.specs.Whole.{AtRest, arrive, along, capture, pass, settle, shift, update}
 use Rattle.svf_settings.specs.Steps.{Step, Scan, Go, Path, Run, Trst, place_after, Numbered, line_after}
 use Rattle.svf_parse.specs.declared.statement.TrstWord.TheVariants.{On, Off, Z, Absent}
-use Rattle.plays.specs.Meaning.{command, move_to, move_unless_there, scan_end}
+use Rattle.plays.specs.Meaning.{after_step, move_to, move_unless_there, scan_end}
 use Rattle.tap_paths.specs.Paths.{last_of}
 use Rattle.svf_settings.specs.Legal.{IsFormed, AllLegalFrom}
 use Rattle.board_meaning.proofs.Walks.{at_rest}
@@ -58,7 +58,7 @@ maybe-place IrPause place trst nets ms stable = refl
 maybe-place _ place trst nets ms stable = absurd (cc)
 
 -- A step rests where it says.
-place-command : (step : Step) (m : AtRest) → IsFormed m.place step → (command step m).place ≡ place_after m.place step
+place-command : (step : Step) (m : AtRest) → IsFormed m.place step → (after_step step m).place ≡ place_after m.place step
 place-command (Scan column v end) m formed = end-place column end (shift column (tdis v) (capture column (settle m))) formed.1
 place-command (Go s) m formed = arrive-place s (settle m) formed
 place-command (Path path) m formed = along-place path m
@@ -116,7 +116,7 @@ along-line [] m = refl
 along-line (s ∷ path) m = along-line path (record (pass (work s) m) { place = s }) ∙ pass-line (work s) m
 
 -- A step leaves on the TRST line what it says.
-line-command : (step : Step) (m : AtRest) → (command step m).trst ≡ line_after m.trst step
+line-command : (step : Step) (m : AtRest) → (after_step step m).trst ≡ line_after m.trst step
 line-command (Scan column v end) m =
     end-line column end (shift column (tdis v) (capture column (settle m))) ∙ settle-line m.place m.trst m.nets m.members
 line-command (Go s) m = move-line s m
@@ -127,7 +127,7 @@ line-command (Trst Off) m = refl
 line-command (Trst Z) m = refl
 line-command (Trst Absent) m = refl
 
-rest-stable : (step : Step) (m : AtRest) → is_stable m.place ≡ true → IsFormed m.place step → is_stable (command step m).place ≡ true
+rest-stable : (step : Step) (m : AtRest) → is_stable m.place ≡ true → IsFormed m.place step → is_stable (after_step step m).place ≡ true
 rest-stable step m stable formed = ap is_stable (place-command step m formed) ∙ place-stable step m.place stable formed
 
 moved-there : (steps : List Numbered) (p q : State) (a b : Bool) → p ≡ q → a ≡ b → AllLegalFrom p a steps → AllLegalFrom q b steps
@@ -138,7 +138,7 @@ pub legal-from : (steps : List Numbered) (m : AtRest) → is_stable m.place ≡ 
 legal-from [] m stable legal = tt
 legal-from (s ∷ steps) m stable legal = (
   record { formed = legal.0.formed; stays = legal.0.stays; not_absent = legal.0.not_absent },
-  legal-from steps (command s.what m) (rest-stable s.what m stable legal.0.formed)
+  legal-from steps (after_step s.what m) (rest-stable s.what m stable legal.0.formed)
       (moved-there steps _ _ _ _ (sym (place-command s.what m legal.0.formed)) (sym (line-command s.what m)) legal.1),
 )
 
@@ -147,7 +147,7 @@ legal-to [] m stable legal = tt
 legal-to (s ∷ steps) m stable legal = (
   record { formed = legal.0.formed; stays = legal.0.stays; not_absent = legal.0.not_absent },
   moved-there steps _ _ _ _ (place-command s.what m legal.0.formed) (line-command s.what m)
-      (legal-to steps (command s.what m) (rest-stable s.what m stable legal.0.formed) legal.1),
+      (legal-to steps (after_step s.what m) (rest-stable s.what m stable legal.0.formed) legal.1),
 )
 
 pub legality : LegalityIsOfTheProgram

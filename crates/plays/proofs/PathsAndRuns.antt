@@ -13,8 +13,8 @@ use Rattle.board_meaning.specs.Nets.{sees}
 use Rattle.board_meaning.specs.Chain.{hear}
 use Rattle.board_meaning.specs.Whole.{joined_bits, cut_back, capture_all, reset_member, pass, along}
 use Rattle.svf_settings.specs.Steps.{Path, Run}
-use Rattle.plays.specs.Meaning.{command, move_unless_there}
-use Rattle.bitbang_table.specs.Cycles.{walk, closed}
+use Rattle.plays.specs.Meaning.{after_step, move_unless_there}
+use Rattle.bitbang_table.specs.Cycles.{entering, closed_messages}
 use Rattle.tck_cycles.specs.Cycles.{cycles, go_unless_there}
 use Rattle.bitbang.specs.StepMessages.{step_messages}
 use Rattle.tap_paths.specs.Paths.{last_of}
@@ -82,11 +82,11 @@ IsTrip s [] = Unit {0}
 IsTrip s (t ∷ path) = (next s (entered_by t) ≡ t) × IsTrip t path
 
 ran-travel : (nets : List Net) (path : List State) (s : State) (ms : List Member) → IsTrip s path → AllSound ms
-    → ran nets (map walk path) s ms ≡ ends_at (last_of s path) (travelled nets s path ms)
+    → ran nets (map entering path) s ms ≡ ends_at (last_of s path) (travelled nets s path ms)
 ran-travel nets [] s ms legal sound = refl
 ran-travel nets (t ∷ path) s ms legal sound =
-    (λ i. ran nets (map walk path) (legal.0 i) (cycled s (entered_by t) false nets ms))
-    ∙ ap (λ r. ran nets (map walk path) t r)
+    (λ i. ran nets (map entering path) (legal.0 i) (cycled s (entered_by t) false nets ms))
+    ∙ ap (λ r. ran nets (map entering path) t r)
     (cycled-leave s (entered_by t) nets ms sound ∙ ap (λ u. fall_whole (work u) (leave (work s) nets ms)) legal.0)
     ∙ ran-travel nets path t _ legal.1 (Sound-fall (work t) _ (Sound-leave (work s) nets ms sound))
 
@@ -115,16 +115,16 @@ stable-leave IrPause nets ms stable = refl
 stable-leave _ nets ms stable = absurd (cc)
 
 closed-travel : (path : List State) (s : State) (trst : Bool) (nets : List Net) (ms : List Member) → IsTrip s path → AllSound ms → Free trst ms
-    → hear (closed (map walk path)) (low s trst nets ms) ≡ heard_of trst nets (ends_at (last_of s path) (travelled nets s path ms))
+    → hear (closed_messages (map entering path)) (low s trst nets ms) ≡ heard_of trst nets (ends_at (last_of s path) (travelled nets s path ms))
 closed-travel [] s trst nets ms legal sound free = refl
 closed-travel (t ∷ path) s trst nets ms legal sound free =
-    hear-tail trst nets (map walk (t ∷ path)) s ms free ∙ ap (heard_of trst nets) (ran-travel nets (t ∷ path) s ms legal sound)
+    hear-tail trst nets (map entering (t ∷ path)) s ms free ∙ ap (heard_of trst nets) (ran-travel nets (t ∷ path) s ms legal sound)
 
 -- From rest, the bytes of a stated path do what its named states do, shifts included.
 pub path-law : (path : List State) (place : State) (trst : Bool) (nets : List Net) (ms : List Member)
     → is_stable place ≡ true → is_stable (last_of place path) ≡ true → IsTrip place path → AllSound ms → Free trst ms
     → hear (step_messages place (Path path)) (board_at_rest (at_rest place trst nets ms))
-    ≡ record { answers = []; board = board_at_rest (command (Path path) (at_rest place trst nets ms)) }
+    ≡ record { answers = []; board = board_at_rest (after_step (Path path) (at_rest place trst nets ms)) }
 path-law path place trst nets ms sp se legal sound free =
     let end = last_of place path in
     let T = travelled nets place path ms in
@@ -165,13 +165,13 @@ maybe-move IrPause IrPause sf st = record { legal = tt; ends = refl; effect = λ
 maybe-move IrPause _ sf st = absurd (cc)
 maybe-move _ to sf st = absurd (cc)
 
-map-append : (xs ys : List State) → map walk xs ++ map walk ys ≡ map walk (xs ++ ys)
+map-append : (xs ys : List State) → map entering xs ++ map entering ys ≡ map entering (xs ++ ys)
 map-append [] ys = refl
-map-append (x ∷ xs) ys = ap (λ r. walk x ∷ r) (map-append xs ys)
+map-append (x ∷ xs) ys = ap (λ r. entering x ∷ r) (map-append xs ys)
 
-map-replicate : (n : ℕ) (s : State) → replicate n (walk s) ≡ map walk (replicate n s)
+map-replicate : (n : ℕ) (s : State) → replicate n (entering s) ≡ map entering (replicate n s)
 map-replicate zero s = refl
-map-replicate (suc n) s = ap (λ r. walk s ∷ r) (map-replicate n s)
+map-replicate (suc n) s = ap (λ r. entering s ∷ r) (map-replicate n s)
 
 walk-append : (xs ys : List State) (s : State) → IsWalk s xs → IsWalk (last_of s xs) ys → IsWalk s (xs ++ ys)
 walk-append [] ys s a b = b
@@ -227,7 +227,7 @@ stays-after place run nets ms sp sr kept e = absurd (cc)
 pub run-law : (run end : State) (n : ℕ) (place : State) (trst : Bool) (nets : List Net) (ms : List Member)
     → is_stable place ≡ true → is_stable run ≡ true → is_stable end ≡ true → StaysReset place ms → Free trst ms
     → hear (step_messages place (Run run n end)) (board_at_rest (at_rest place trst nets ms))
-    ≡ record { answers = []; board = board_at_rest (command (Run run n end) (at_rest place trst nets ms)) }
+    ≡ record { answers = []; board = board_at_rest (after_step (Run run n end) (at_rest place trst nets ms)) }
 run-law run end n place trst nets ms sp sr se kept free =
     let first = maybe-move place run sp sr in
     let second = maybe-move run end sr se in
@@ -236,9 +236,9 @@ run-law run end n place trst nets ms sp sr se kept free =
     let p2 = go_unless_there run end in
     let path = p1 ++ stay ++ p2 in
     let W = walked nets place p1 ms in
-    let same : cycles place (Run run n end) ≡ map walk path =
-    (λ i. map walk p1 ++ map-replicate n run i ++ map walk p2)
-    ∙ ap (λ r. r ++ map walk p2) (map-append p1 stay)
+    let same : cycles place (Run run n end) ≡ map entering path =
+    (λ i. map entering p1 ++ map-replicate n run i ++ map entering p2)
+    ∙ ap (λ r. r ++ map entering p2) (map-append p1 stay)
     ∙ map-append (p1 ++ stay) p2 in
     let there : last_of place (p1 ++ stay) ≡ run =
     last-append p1 stay place ∙ ap (λ s. last_of s stay) first.ends ∙ stay-last n run in
@@ -253,8 +253,8 @@ run-law run end n place trst nets ms sp sr se kept free =
     ∙ stay-walked n run nets W sr (stays-after place run nets ms sp sr kept) in
     let over : walked nets place path ms ≡ walked nets run p2 W =
     walked-append nets (p1 ++ stay) p2 place ms ∙ (λ i. walked nets (there i) p2 (middle i)) in
-    ap (λ b. hear (closed (cycles place (Run run n end))) b) (sym (low-resting place trst nets ms (stable-quiet place sp)))
-    ∙ ap (λ cs. hear (closed cs) (low place trst nets ms)) same
+    ap (λ b. hear (closed_messages (cycles place (Run run n end))) b) (sym (low-resting place trst nets ms (stable-quiet place sp)))
+    ∙ ap (λ cs. hear (closed_messages cs) (low place trst nets ms)) same
     ∙ closed-walk path place trst nets ms legal free
     ∙ (λ i. record { answers = []; board = low (ends i) trst nets (over i) })
     ∙ (λ i. record { answers = []; board = low-resting end trst nets (walked nets run p2 W) (stable-quiet end se) i })

@@ -7,7 +7,7 @@ use Rattle.board_meaning.specs.Cells.{Member}
 use Rattle.bitbang_table.specs.Protocol.{encode}
 use Rattle.board_meaning.specs.Chain.{ChipState, BoardState, after_bytes, is_held, members, after_message}
 use Rattle.board_meaning.specs.Whole.{AtRest, reset_member}
-use Rattle.plays.specs.Meaning.{command}
+use Rattle.plays.specs.Meaning.{after_step}
 use Rattle.board_meaning.specs.Resting.{IsRest}
 use Rattle.board_meaning.proofs.FiveOnes.{opening-rests, reset_from_here}
 use Rattle.board_meaning.specs.Sound.{AllSound, HasDevice, IsSoundBoard}
@@ -30,8 +30,8 @@ pub all-played : (ss : List Numbered) (m : AtRest) → IsRest m → AllSound m.m
 all-played [] m rest sound some legal = tt
 all-played (s ∷ ss) m rest sound some legal =
     let done = step-done s.what m.place m.trst m.nets m.members rest sound some legal.0 in
-    let devices : 0 < length (command s.what m).members = subst (λ (n : ℕ). 0 < n) (sym done.count) some in
-    (done.answers, done.played, all-played ss (command s.what m) done.rest done.sound devices legal.1)
+    let devices : 0 < length (after_step s.what m).members = subst (λ (n : ℕ). 0 < n) (sym done.count) some in
+    (done.answers, done.played, all-played ss (after_step s.what m) done.rest done.sound devices legal.1)
 
 -- one cycle with TMS 1
 abbrev one : BoardState → BoardState

@@ -11,10 +11,10 @@ use Rattle.board_meaning.specs.Chain.{hear}
 use Rattle.board_meaning.specs.Whole.{AtRest, joined_bits, cut_back, capture, settle, out, shift}
 use Rattle.scan_vectors.specs.Vector.{VectorBit, tdis}
 use Rattle.svf_settings.specs.Steps.{Scan}
-use Rattle.plays.specs.Meaning.{command, scan_end}
+use Rattle.plays.specs.Meaning.{after_step, scan_end}
 use Rattle.tap_paths.specs.Paths.{to_shift, from_exit1, last_of}
 use Rattle.bitbang_table.specs.declared.Cycle.{Cycle}
-use Rattle.bitbang_table.specs.Cycles.{walk, closed}
+use Rattle.bitbang_table.specs.Cycles.{entering, closed_messages}
 use Rattle.bitbang.specs.StepMessages.{step_messages}
 use Rattle.tck_cycles.specs.Cycles.{scan_cycles}
 use Rattle.board_meaning.specs.Resting.{board_at_rest}
@@ -44,7 +44,7 @@ pub record IsStart (place : State) (column : Column) : Type 0 where
   pub effect : (trst : Bool) (nets : List Net) (ms : List Member)
       → at_rest place trst nets (walked nets place (to_shift place column) ms) ≡ capture column (settle (at_rest place trst nets ms))
   pub closes : (body last : List Cycle)
-      → closed (map walk (to_shift place column) ++ body ++ last) ≡ tail (map walk (to_shift place column) ++ body ++ last)
+      → closed_messages (map entering (to_shift place column) ++ body ++ last) ≡ tail (map entering (to_shift place column) ++ body ++ last)
 
 start-path : (place : State) (column : Column) → is_stable place ≡ true → IsStart place column
 start-path Reset Dr sp = record { legal = (refl, refl, (refl, refl, (refl, refl, (refl, refl, tt)))); ends = refl; effect = λ trst nets ms. refl; closes = λ body last. refl }
@@ -101,14 +101,14 @@ pub scan-law : (column : Column) (v : VectorBit) (vs : List VectorBit) (place en
     → hear (step_messages place (Scan column (v ∷ vs) end)) (board_at_rest (at_rest place trst nets ms))
     ≡ record {
       answers = picked (v ∷ vs) (out column (tdis (v ∷ vs)) (ready column place trst nets ms));
-      board = board_at_rest (command (Scan column (v ∷ vs) end) (at_rest place trst nets ms));
+      board = board_at_rest (after_step (Scan column (v ∷ vs) end) (at_rest place trst nets ms));
     }
 scan-law column v vs place end trst nets ms sp se free some full =
     let start = start-path place column sp in
     let finish = finish-path column end se in
-    let first = map walk (to_shift place column) in
+    let first = map entering (to_shift place column) in
     let body = scan_cycles (v ∷ vs) in
-    let last = map walk (from_exit1 column end) in
+    let last = map entering (from_exit1 column end) in
     let S = shift_state column in
     let E = next S true in
     let C = walked nets place (to_shift place column) ms in

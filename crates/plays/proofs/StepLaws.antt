@@ -15,8 +15,8 @@ use Rattle.board_meaning.specs.Chain.{hear, is_held}
 use Rattle.board_meaning.specs.Whole.{AtRest, reset_member, out, capture, settle, along, trst_member, settled_member}
 use Rattle.svf_settings.specs.Steps.{Step, Scan, Go, Path, Run, Trst, place_after}
 use Rattle.svf_parse.specs.declared.statement.TrstWord.TheVariants.{On, Off, Z, Absent}
-use Rattle.plays.specs.Meaning.{command, move_unless_there}
-use Rattle.bitbang_table.specs.Cycles.{walk, closed}
+use Rattle.plays.specs.Meaning.{after_step, move_unless_there}
+use Rattle.bitbang_table.specs.Cycles.{entering, closed_messages}
 use Rattle.bitbang.specs.StepMessages.{step_messages}
 use Rattle.tap_paths.specs.Paths.{last_of}
 use Rattle.board_meaning.specs.Resting.{board_at_rest, IsRest}
@@ -40,18 +40,18 @@ use Rattle.plays.proofs.KeptByActions.{IsReady, Ready, IsEnd, end-is-rest, move-
 pub record IsDone (step : Step) (m : AtRest) : Type 0 where
   pub answers : List Bool
   pub played : IsPlayed step m answers
-  pub rest : IsRest (command step m)
-  pub sound : AllSound (command step m).members
-  pub count : length (command step m).members ≡ length m.members
+  pub rest : IsRest (after_step step m)
+  pub sound : AllSound (after_step step m).members
+  pub count : length (after_step step m).members ≡ length m.members
 
 -- a step that ends in a state
 done-at : (step : Step) (m : AtRest) (answers : List Bool) (to : State) → is_stable to ≡ true → place_after m.place step ≡ to
-    → hear (step_messages m.place step) (board_at_rest m) ≡ record { answers = answers; board = board_at_rest (command step m) }
-    → answers ≡ asked_of step m → IsEnd to (length m.members) (command step m) → IsDone step m
+    → hear (step_messages m.place step) (board_at_rest m) ≡ record { answers = answers; board = board_at_rest (after_step step m) }
+    → answers ≡ asked_of step m → IsEnd to (length m.members) (after_step step m) → IsDone step m
 done-at step m answers to stable after heard said end = record {
   answers = answers;
   played = record { heard = heard; said = said; place = end.place ∙ sym after };
-  rest = end-is-rest to (length m.members) (command step m) stable end;
+  rest = end-is-rest to (length m.members) (after_step step m) stable end;
   sound = end.ready.sound;
   count = end.ready.count;
 }
@@ -116,7 +116,7 @@ free-done (Run run n end) place trst nets ms leaves here kept some formed ready 
 free-done (Trst word) place trst nets ms leaves here kept some formed ready = absurd (cc)
 
 -- A step that changes nothing.
-done-same : (step : Step) (m : AtRest) → command step m ≡ m → hear (step_messages m.place step) (board_at_rest m) ≡ record { answers = []; board = board_at_rest m }
+done-same : (step : Step) (m : AtRest) → after_step step m ≡ m → hear (step_messages m.place step) (board_at_rest m) ≡ record { answers = []; board = board_at_rest m }
     → [] ≡ asked_of step m → place_after m.place step ≡ m.place → IsRest m → AllSound m.members → IsDone step m
 done-same step m same heard said after rest sound = record {
   answers = [];
@@ -136,9 +136,9 @@ all-resets [] all = refl
 all-resets (Reset ∷ path) all = ap (λ r. Reset ∷ r) (all-resets path all)
 all-resets (s ∷ path) all = absurd (cc)
 
-walk-resets : (n : ℕ) → map walk (replicate n Reset) ≡ replicate n (walk Reset)
+walk-resets : (n : ℕ) → map entering (replicate n Reset) ≡ replicate n (entering Reset)
 walk-resets zero = refl
-walk-resets (suc n) = ap (λ r. walk Reset ∷ r) (walk-resets n)
+walk-resets (suc n) = ap (λ r. entering Reset ∷ r) (walk-resets n)
 
 last-resets : (n : ℕ) → last_of Reset (replicate n Reset) ≡ Reset
 last-resets zero = refl
@@ -166,8 +166,8 @@ path-stays path trst nets ms all rest sound =
     let same : path ≡ replicate n Reset = all-resets path all in
     done-same (Path path) (at_rest Reset trst nets ms)
     ((λ i. along (same i) (at_rest Reset trst nets ms)) ∙ along-resets n trst nets ms (rest.at_reset refl))
-    ((λ i. hear (closed (map walk (same i))) (board_at_rest (at_rest Reset trst nets ms)))
-    ∙ (λ i. hear (closed (walk-resets n i)) (board_at_rest (at_rest Reset trst nets ms)))
+    ((λ i. hear (closed_messages (map entering (same i))) (board_at_rest (at_rest Reset trst nets ms)))
+    ∙ (λ i. hear (closed_messages (walk-resets n i)) (board_at_rest (at_rest Reset trst nets ms)))
     ∙ held-law n trst nets ms (rest.at_reset refl))
     refl ((λ i. last_of Reset (same i)) ∙ last-resets n) rest sound
 
@@ -176,7 +176,7 @@ run-stays : (n : ℕ) (trst : Bool) (nets : List Net) (ms : List Member)
     → IsRest (at_rest Reset trst nets ms) → AllSound ms → IsDone (Run Reset n Reset) (at_rest Reset trst nets ms)
 run-stays n trst nets ms rest sound =
     done-same (Run Reset n Reset) (at_rest Reset trst nets ms) refl
-    ((λ i. hear (closed (append-nil (replicate n (walk Reset)) i)) (board_at_rest (at_rest Reset trst nets ms)))
+    ((λ i. hear (closed_messages (append-nil (replicate n (entering Reset)) i)) (board_at_rest (at_rest Reset trst nets ms)))
     ∙ held-law n trst nets ms (rest.at_reset refl))
     refl refl rest sound
 

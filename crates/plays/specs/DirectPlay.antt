@@ -24,5 +24,5 @@ MeansFromOpening program before ending after =
     IsAtRest (hear opening before).board (opened_state before) × (ending ≡ meant.ending) × IsAtRest after meant.after
 
 -- the bytes of the full play of a program on a board
-abbrev pub full_bytes : Program → BoardState → List ℕ
-full_bytes program b = map encode (play program b).messages
+abbrev pub bytes_of_full_play : Program → BoardState → List ℕ
+bytes_of_full_play program b = map encode (play program b).messages

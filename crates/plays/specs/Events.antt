@@ -25,9 +25,9 @@ pub record Side (P : Type 0) : Type 0 where
   pub give : ℕ → P → P
   pub hear : Bool → P → P
 
-abbrev pub hear_all : {P : Type 0} → Side P → List Bool → P → P
-hear_all side [] p = p
-hear_all side (bit ∷ bits) p = hear_all side bits (side.hear bit p)
+abbrev pub hear_bits : {P : Type 0} → Side P → List Bool → P → P
+hear_bits side [] p = p
+hear_bits side (bit ∷ bits) p = hear_bits side bits (side.hear bit p)
 
 -- The down pipe holds bytes for the board, the up pipe answers for the player. The board took `Q`, or the play was
 -- lost.
@@ -72,7 +72,7 @@ module _ {P : Type 0} where
 
     -- up to n answers go to the player
     abbrev pub take_answers : ℕ → World P → World P
-    take_answers n w = record w { player = hear_all side (take n w.up) w.player; up = drop n w.up }
+    take_answers n w = record w { player = hear_bits side (take n w.up) w.player; up = drop n w.up }
 
     -- After an end or a loss nothing changes.
     abbrev pub happens : Event → World P → World P

@@ -11,7 +11,7 @@ use Rattle.board_meaning.specs.Chain.{BoardState, members}
 use Rattle.board_meaning.specs.Whole.{AtRest}
 use Rattle.svf_settings.specs.Steps.{Step, Trst, place_after, Numbered}
 use Rattle.svf_parse.specs.declared.statement.TrstWord.TheVariants.{On, Absent}
-use Rattle.plays.specs.Meaning.{command}
+use Rattle.plays.specs.Meaning.{after_step}
 use Rattle.svf_settings.specs.Legal.{IsFormed, leaves_reset}
 use Rattle.board_meaning.specs.Sound.{AllSound}
 
@@ -24,4 +24,4 @@ pub record IsLegal (step : Step) (m : AtRest) : Type 0 where
 -- Each step is legal at the state where it begins, which whole registers give.
 abbrev pub AllLegal : List Numbered → AtRest → Type 0
 AllLegal [] m = Unit {0}
-AllLegal (s ∷ ss) m = IsLegal s.what m × AllLegal ss (command s.what m)
+AllLegal (s ∷ ss) m = IsLegal s.what m × AllLegal ss (after_step s.what m)

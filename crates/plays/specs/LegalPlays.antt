@@ -16,7 +16,7 @@ use Rattle.bsdl_device.specs.Sound.{IsSoundDevice}
 use Rattle.bitbang_table.specs.Cycles.{opening}
 use Rattle.bitbang.specs.StepMessages.{step_messages}
 use Rattle.svf_settings.specs.Steps.{Step, Numbered, Program}
-use Rattle.plays.specs.Meaning.{command, failure, outcome}
+use Rattle.plays.specs.Meaning.{after_step, failure, outcome}
 use Rattle.scan_vectors.specs.Vector.{judge}
 use Rattle.board_meaning.specs.Whole.{AtRest}
 use Rattle.plays.specs.DirectPlay.{MeansFromOpening, opened_state}
@@ -26,11 +26,11 @@ use Rattle.svf_settings.specs.Legal.{AllLegalFrom, IsLegalProgram}
 -- What a step's bytes do from rest: the board at rest that whole registers give, the same first bit that differs, at
 -- rest again and sound again.
 pub record StepPlaysAsItMeans (step : Step) (m : AtRest) : Type 0 where
-  pub board : IsAtRest (hear (step_messages m.place step) (board_at_rest m)).board (command step m)
+  pub board : IsAtRest (hear (step_messages m.place step) (board_at_rest m)).board (after_step step m)
   pub judged : judge (wants_of step) (hear (step_messages m.place step) (board_at_rest m)).answers ≡ failure step m
-  pub rest : IsRest (command step m)
-  pub sound : AllSound (command step m).members
-  pub devices : length (command step m).members ≡ length m.members
+  pub rest : IsRest (after_step step m)
+  pub sound : AllSound (after_step step m).members
+  pub devices : length (after_step step m).members ≡ length m.members
 
 -- Of every legal step, from rest on a chain of sound devices.
 abbrev pub EachLegalStepPlaysAsItMeans : Type 0

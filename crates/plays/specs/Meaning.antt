@@ -25,14 +25,14 @@ abbrev pub move_unless_there : State → AtRest → AtRest
 move_unless_there s m = if is_at m.place s then m else move_to s m
 
 -- The state after a step.
-abbrev pub command : Step → AtRest → AtRest
-command (Scan column v end) m = scan_end column end (shift column (tdis v) (capture column (settle m)))
-command (Go s) m = move_to s m
-command (Path path) m = along path m
-command (Run run n end) m = move_unless_there end (move_unless_there run m)
-command (Trst On) m = trst_asserted m
-command (Trst Absent) m = m
-command (Trst _) m = record m { trst = false }
+abbrev pub after_step : Step → AtRest → AtRest
+after_step (Scan column v end) m = scan_end column end (shift column (tdis v) (capture column (settle m)))
+after_step (Go s) m = move_to s m
+after_step (Path path) m = along path m
+after_step (Run run n end) m = move_unless_there end (move_unless_there run m)
+after_step (Trst On) m = trst_asserted m
+after_step (Trst Absent) m = m
+after_step (Trst _) m = record m { trst = false }
 
 -- The first bit of the step that fails.
 abbrev pub failure : Step → AtRest → Option (Part × ℕ)
@@ -47,8 +47,8 @@ pub record Outcome : Type 0 where
 abbrev pub outcome : List Numbered → AtRest → Outcome
 outcome [] m = record { ending = Pass; after = m }
 outcome (s ∷ ss) m =
-    let rest = outcome ss (command s.what m) in
+    let rest = outcome ss (after_step s.what m) in
     elim (failure s.what m) [
       | None ↦ rest
-      | Some f ↦ record { ending = Fail s.number f.0 f.1; after = command s.what m }
+      | Some f ↦ record { ending = Fail s.number f.0 f.1; after = after_step s.what m }
     ]

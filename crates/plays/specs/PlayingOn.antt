@@ -1,7 +1,7 @@
 -- A player that plays its program to the end, whatever fails, and the list of all that failed.
 use Rattle.std.specs.Prelude.{Bool, ℕ, List, [], ◌∷◌, ◌++◌, map, length, drop, None, if◌then◌else◌}
 use Rattle.svf_settings.specs.Steps.{Step, Scan, Numbered}
-use Rattle.plays.specs.Meaning.{command}
+use Rattle.plays.specs.Meaning.{after_step}
 use Rattle.scan_vectors.specs.Vector.{VectorBit, differs, tdis}
 use Rattle.board_meaning.specs.Whole.{AtRest, capture, out, settle}
 use Rattle.scan_vectors.specs.declared.part.Part.{Part}
@@ -64,5 +64,5 @@ step_failures s m = of s.what
 abbrev pub outcome_of_all : List Numbered → AtRest → OutcomeOfAll
 outcome_of_all [] m = record { failures = []; after = m }
 outcome_of_all (s ∷ ss) m =
-    let rest = outcome_of_all ss (command s.what m) in
+    let rest = outcome_of_all ss (after_step s.what m) in
     record { failures = step_failures s m ++ rest.failures; after = rest.after }

@@ -20,20 +20,21 @@ pub record Found : Type 0 where
   pub list : List Mismatch
   pub total : ℕ
 
-abbrev pub kept : Kind → ℕ
-kept Stops = 1
-kept PlaysOn = 256
+abbrev pub most_kept : Kind → ℕ
+most_kept Stops = 1
+most_kept PlaysOn = 256
 
-abbrev pub counted : Kind → ℕ → ℕ
-counted Stops n = min 1 n
-counted PlaysOn n = n
+abbrev pub count_kept : Kind → ℕ → ℕ
+count_kept Stops n = min 1 n
+count_kept PlaysOn n = n
 
 -- what is kept of all that differed
 abbrev pub found_of : Kind → List Mismatch → Found
-found_of kind all = record { list = take (kept kind) all; total = counted kind (length all) }
+found_of kind all = record { list = take (most_kept kind) all; total = count_kept kind (length all) }
 
-abbrev pub noted : Kind → List Mismatch → Found → Found
-noted kind more f = record { list = take (kept kind) (f.list ++ more); total = counted kind (f.total + length more) }
+abbrev pub with_more : Kind → List Mismatch → Found → Found
+with_more kind more f =
+    record { list = take (most_kept kind) (f.list ++ more); total = count_kept kind (f.total + length more) }
 
 -- the program, how many bytes were given out, how many answers `0` and `1` were taken, what differed, and the other
 -- byte, if one came
@@ -64,14 +65,14 @@ pub record Wanted : Type 0 where
   pub bit : VectorBit
 
 -- all of a play, one an answer
-abbrev pub wanted : List Turn → List Wanted
-wanted [] = []
-wanted (t ∷ ts) = map (λ v. record { command = t.command; bit = v }) t.wants ++ wanted ts
+abbrev pub all_wanted : List Turn → List Wanted
+all_wanted [] = []
+all_wanted (t ∷ ts) = map (λ v. record { command = t.command; bit = v }) t.wants ++ all_wanted ts
 
 -- what the next answer adds to that
-abbrev pub judged : List Wanted → Bool → List Mismatch
-judged [] b = []
-judged (w ∷ ws) b = if differs w.bit.wanted b
+abbrev pub mismatch_of : List Wanted → Bool → List Mismatch
+mismatch_of [] b = []
+mismatch_of (w ∷ ws) b = if differs w.bit.wanted b
     then record { command = w.command; part = w.bit.part; place = w.bit.place } ∷ [] else []
 
 -- the command that an answer belongs to, by its place among all answers
@@ -81,18 +82,18 @@ command_at (t ∷ ts) n = if nat_lt n (length t.wants) then t.command else comma
 
 -- the wanted bits that are not yet answered
 abbrev pub unanswered : StreamState → List Wanted
-unanswered s = drop s.answered (wanted (turns_of s))
+unanswered s = drop s.answered (all_wanted (turns_of s))
 
 -- One answer is judged. After a bad one nothing is heard.
 abbrev pub hear : ℕ → StreamState → StreamState
 hear byte s =
     if is_some s.bad then s else
     if is_bad byte then record s { bad = Some byte } else
-    record s { answered = s.answered + 1; found = noted s.kind (judged (unanswered s) (byte == 49)) s.found }
+    record s { answered = s.answered + 1; found = with_more s.kind (mismatch_of (unanswered s) (byte == 49)) s.found }
 
-abbrev pub hear_all : List ℕ → StreamState → StreamState
-hear_all [] s = s
-hear_all (byte ∷ bytes) s = hear_all bytes (hear byte s)
+abbrev pub hear_bytes : List ℕ → StreamState → StreamState
+hear_bytes [] s = s
+hear_bytes (byte ∷ bytes) s = hear_bytes bytes (hear byte s)
 
 abbrev pub some_differ : List Mismatch → Bool
 some_differ [] = false
@@ -108,28 +109,28 @@ stops s = stops_for s.kind s.found.list
 
 -- What may be sent, when so many answers were taken: turns of which all answers are there, then the present one up to
 -- the window. A player that stops does so after the turn of the last answer.
-abbrev pub sends : (window : ℕ) → List Turn → (answered : ℕ) → (stops : Bool) → List Message
-sends window [] n stops = Quit ∷ []
-sends window (t ∷ ts) n stops =
+abbrev pub may_send : (window : ℕ) → List Turn → (answered : ℕ) → (stops : Bool) → List Message
+may_send window [] n stops = Quit ∷ []
+may_send window (t ∷ ts) n stops =
     let wants = length t.wants in
     if nat_lt n wants then up_to_asks t.messages (n + window) else
-    t.messages ++ (if stops && nat_le n wants then Quit ∷ [] else sends window ts (n - wants) stops)
+    t.messages ++ (if stops && nat_le n wants then Quit ∷ [] else may_send window ts (n - wants) stops)
 
 -- the command in work
-abbrev pub works : (statements : ℕ) → List Turn → (given answered : ℕ) → (stops : Bool) → ℕ
-works statements [] given n stops = suc statements
-works statements (t ∷ ts) given n stops =
+abbrev pub command_at_work : (statements : ℕ) → List Turn → (given answered : ℕ) → (stops : Bool) → ℕ
+command_at_work statements [] given n stops = suc statements
+command_at_work statements (t ∷ ts) given n stops =
     let wants = length t.wants in
     if nat_lt given (length t.messages) || nat_lt n wants then t.command else
     if stops && nat_le n wants then suc statements
-    else works statements ts (given - length t.messages) (n - wants) stops
+    else command_at_work statements ts (given - length t.messages) (n - wants) stops
 
 abbrev pub working : StreamState → ℕ
-working s = works s.program.statements (turns_of s) s.given s.answered (stops s)
+working s = command_at_work s.program.statements (turns_of s) s.given s.answered (stops s)
 
 module _ (window : ℕ) where
   abbrev pub bytes_of : StreamState → List ℕ
-  bytes_of s = map encode (sends window (turns_of s) s.answered (stops s))
+  bytes_of s = map encode (may_send window (turns_of s) s.answered (stops s))
 
   abbrev pub bytes_to_send : StreamState → List ℕ
   bytes_to_send s = if is_some s.bad then [] else drop s.given (bytes_of s)
@@ -154,5 +155,5 @@ module _ (window : ℕ) where
   side = record {
     waiting = bytes_to_send;
     give = λ n s. record s { given = s.given + n };
-    hear = λ bit s. hear_all (answers_taken s (answer bit ∷ [])) s;
+    hear = λ bit s. hear_bytes (answers_taken s (answer bit ∷ [])) s;
   }

@@ -1,7 +1,7 @@
 -- The fields of a scan, and the bits that they stand for at the scan's length.
 use Rattle.std.specs.Prelude.{ℕ, Bool, true, false, List, replicate, Option, Some, None}
 use Rattle.jt_bits.specs.Lengths.{resized}
-use Rattle.scan_vectors.specs.Vector.{VectorBit, Part3, join}
+use Rattle.scan_vectors.specs.Vector.{VectorBit, PartBits, join}
 
 -- A length, and the fields in force there, as they are written: a TDI, a TDO if bits are wanted, and a MASK if not
 -- all of them are.
@@ -25,7 +25,7 @@ cares f = given f.tdo
     given (Some bits) = at_length f.len true f.mask
 
 -- the bits of one part
-abbrev pub part_of : Fields → Part3
+abbrev pub part_of : Fields → PartBits
 part_of f = record { tdi = at_length f.len false f.tdi; want = at_length f.len false f.tdo; care = cares f }
 
 -- where there is no header or trailer

@@ -13,7 +13,7 @@ pub record VectorBit : Type 0 where
   pub place : ℕ
 
 -- one part: its TDI, its TDO, and a 1 where TDO is given and MASK is 1; all of one length
-pub record Part3 : Type 0 where
+pub record PartBits : Type 0 where
   pub tdi : List Bool
   pub want : List Bool
   pub care : List Bool
@@ -24,7 +24,7 @@ bits_from part k (t ∷ ts) (w ∷ ws) (c ∷ cs) =
 bits_from part k _ _ _ = []
 
 -- The whole vector: header, then body, then trailer.
-abbrev pub join : (header body trailer : Part3) → List VectorBit
+abbrev pub join : (header body trailer : PartBits) → List VectorBit
 join h b t =
     bits_from Header 0 h.tdi h.want h.care ++ bits_from Data 0 b.tdi b.want b.care
     ++ bits_from Trailer 0 t.tdi t.want t.care

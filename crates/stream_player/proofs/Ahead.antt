@@ -12,20 +12,21 @@ use Rattle.svf_settings.specs.Steps.{Program}
 use Rattle.plays.specs.Play.{Turn, turns, up_to_asks}
 use Rattle.plays.specs.PlayingOn.{Mismatch, ending_of}
 use Rattle.plays.specs.Streams as stream
-use Rattle.plays.specs.Streams.{sends, some_differ}
+use Rattle.plays.specs.Streams.{may_send, some_differ}
 use Rattle.plays.proofs.Asks.{AllAsk, asks, turns-ask}
 use Rattle.every_schedule.proofs.Quits.{NoneQuit, asks-append, has_quit, quit-append, turns-no-quit}
 use Rattle.streaming.proofs.Agree.{ask-count, counts, quit-byte}
-use Rattle.stream_player.specs.Standing.{Standing, found, messages_in, reads, state_at, up_to_reads, wanted_in}
+use Rattle.stream_player.specs.PlaceInPlay.{PlaceInPlay, found, messages_in, reads, state_at, up_to_reads}
+use Rattle.every_schedule.specs.InWork.{answers_in}
 
 -- whether it stops
-abbrev pub stops_at : Standing → Bool
+abbrev pub stops_at : PlaceInPlay → Bool
 stops_at s = some_differ (found s.failed).list
 
 module _ (window : ℕ) where
   -- a turn of which every answer is there, and not the last one heard of a player that stops, is passed
   passes : (t : Turn) (ts : List Turn) (n m : ℕ) (stops : Bool) → n ≡ length t.wants + m → (stops ≡ true → 0 < m)
-      → sends window (t ∷ ts) n stops ≡ t.messages ++ sends window ts m stops
+      → may_send window (t ∷ ts) n stops ≡ t.messages ++ may_send window ts m stops
   passes t ts n m stops e more = by (nat_lt n (length t.wants)) refl (stops && nat_le n (length t.wants)) refl
     where
       no-last : (stops : Bool) → (stops ≡ true → 0 < m) → (stops && nat_le n (length t.wants)) ≡ true → ⊥
@@ -33,50 +34,50 @@ module _ (window : ℕ) where
       no-last false more is = absurd (cc)
 
       by : (short : Bool) → nat_lt n (length t.wants) ≡ short → (last : Bool) → (stops && nat_le n (length t.wants)) ≡ last
-          → (if short then up_to_asks t.messages (n + window) else t.messages ++ (if last then Quit ∷ [] else sends window ts (n - length t.wants) stops))
-          ≡ t.messages ++ sends window ts m stops
+          → (if short then up_to_asks t.messages (n + window) else t.messages ++ (if last then Quit ∷ [] else may_send window ts (n - length t.wants) stops))
+          ≡ t.messages ++ may_send window ts m stops
       by true is last q = let lt = ltb-true n (length t.wants) is in absurd (omega (arith, e))
       by false is true q = absurd (no-last stops more q)
-      by false is false q = let same : n - length t.wants ≡ m = omega (arith, e) in ap (λ k. t.messages ++ sends window ts k stops) same
+      by false is false q = let same : n - length t.wants ≡ m = omega (arith, e) in ap (λ k. t.messages ++ may_send window ts k stops) same
 
   -- The turns that are over drop out.
   pub sends-past : (k : ℕ) (ts : List Turn) (n : ℕ) (stops : Bool) → (stops ≡ true → 0 < n)
-      → sends window ts (wanted_in (take k ts) + n) stops ≡ messages_in (take k ts) ++ sends window (drop k ts) n stops
-  sends-past zero ts n stops more = let same : 0 + n ≡ n = omega arith in ap (λ k. sends window ts k stops) same
+      → may_send window ts (answers_in (take k ts) + n) stops ≡ messages_in (take k ts) ++ may_send window (drop k ts) n stops
+  sends-past zero ts n stops more = let same : 0 + n ≡ n = omega arith in ap (λ k. may_send window ts k stops) same
   sends-past (suc k) [] n stops more = refl
   sends-past (suc k) (t ∷ ts) n stops more =
-      passes t ts (length t.wants + wanted_in (take k ts) + n) (wanted_in (take k ts) + n) stops (omega arith) (λ is. let above = more is in omega arith)
+      passes t ts (length t.wants + answers_in (take k ts) + n) (answers_in (take k ts) + n) stops (omega arith) (λ is. let above = more is in omega arith)
       ∙ ap (λ l. t.messages ++ l) (sends-past k ts n stops more)
-      ∙ sym (append_assoc t.messages (messages_in (take k ts)) (sends window (drop k ts) n stops))
+      ∙ sym (append_assoc t.messages (messages_in (take k ts)) (may_send window (drop k ts) n stops))
 
   -- of a turn whose answers are not all there, what the window allows
   pub sends-short : (t : Turn) (ts : List Turn) (n : ℕ) (stops : Bool) → n < length t.wants
-      → sends window (t ∷ ts) n stops ≡ up_to_asks t.messages (n + window)
+      → may_send window (t ∷ ts) n stops ≡ up_to_asks t.messages (n + window)
   sends-short t ts n stops short = by (nat_lt n (length t.wants)) refl
     where
       by : (b : Bool) → nat_lt n (length t.wants) ≡ b
-          → (if b then up_to_asks t.messages (n + window) else t.messages ++ (if stops && nat_le n (length t.wants) then Quit ∷ [] else sends window ts (n - length t.wants) stops))
+          → (if b then up_to_asks t.messages (n + window) else t.messages ++ (if stops && nat_le n (length t.wants) then Quit ∷ [] else may_send window ts (n - length t.wants) stops))
           ≡ up_to_asks t.messages (n + window)
       by true is = refl
       by false is = let le = ltb-false n (length t.wants) is in absurd (omega arith)
 
   -- the whole of a turn whose answers are all there, and what follows
   pub sends-whole : (t : Turn) (ts : List Turn) (n : ℕ) → n ≡ length t.wants
-      → sends window (t ∷ ts) n false ≡ t.messages ++ sends window ts 0 false
+      → may_send window (t ∷ ts) n false ≡ t.messages ++ may_send window ts 0 false
   sends-whole t ts n e = passes t ts n 0 false (omega (arith, e)) (λ is. absurd (cc))
 
   -- or `Quit` where the player stops
-  pub sends-last : (t : Turn) (ts : List Turn) (n : ℕ) → n ≡ length t.wants → sends window (t ∷ ts) n true ≡ t.messages ++ Quit ∷ []
+  pub sends-last : (t : Turn) (ts : List Turn) (n : ℕ) → n ≡ length t.wants → may_send window (t ∷ ts) n true ≡ t.messages ++ Quit ∷ []
   sends-last t ts n e = by (nat_lt n (length t.wants)) refl (nat_le n (length t.wants)) refl
     where
       by : (short : Bool) → nat_lt n (length t.wants) ≡ short → (last : Bool) → nat_le n (length t.wants) ≡ last
-          → (if short then up_to_asks t.messages (n + window) else t.messages ++ (if last then Quit ∷ [] else sends window ts (n - length t.wants) true))
+          → (if short then up_to_asks t.messages (n + window) else t.messages ++ (if last then Quit ∷ [] else may_send window ts (n - length t.wants) true))
           ≡ t.messages ++ Quit ∷ []
       by true is last q = let lt = ltb-true n (length t.wants) is in absurd (omega (arith, e))
       by false is true q = refl
       by false is false q = let gt = leb-false n (length t.wants) q in absurd (omega (arith, e))
 
-asks-in : (ts : List Turn) → AllAsk ts → (k : ℕ) → asks (messages_in (take k ts)) ≡ wanted_in (take k ts)
+asks-in : (ts : List Turn) → AllAsk ts → (k : ℕ) → asks (messages_in (take k ts)) ≡ answers_in (take k ts)
 asks-in ts all zero = refl
 asks-in [] all (suc k) = refl
 asks-in (t ∷ ts) all (suc k) =
@@ -93,7 +94,7 @@ map-take zero ms = refl
 map-take (suc n) [] = refl
 map-take (suc n) (m ∷ ms) = ap (λ l. encode m ∷ l) (map-take n ms)
 
-module _ (program : Program) (s : Standing) (fair : stops_at s ≡ true → 0 < s.heard) where
+module _ (program : Program) (s : PlaceInPlay) (fair : stops_at s ≡ true → 0 < s.heard) where
   abbrev ts : List Turn
   ts = turns program.steps
 
@@ -102,7 +103,7 @@ module _ (program : Program) (s : Standing) (fair : stops_at s ≡ true → 0 < 
 
   -- what it sends from the present turn on
   abbrev pub ahead : List Message
-  ahead = sends 256 (drop s.over (turns program.steps)) s.heard (stops_at s)
+  ahead = may_send 256 (drop s.over (turns program.steps)) s.heard (stops_at s)
 
   bytes : stream.bytes_of 256 (state_at program s) ≡ map encode (before ++ ahead)
   bytes = ap (map encode) (sends-past 256 s.over ts s.heard (stops_at s) fair)
@@ -120,8 +121,8 @@ module _ (program : Program) (s : Standing) (fair : stops_at s ≡ true → 0 < 
   -- how many answers are owed
   pub owes : s.bad ≡ None → stream.owed 256 (state_at program s) ≡ asks (take s.gone ahead) - s.heard
   owes none =
-      (λ i. if is_some (none i) then 0 else count_by (λ b. b == 82) (out i) - (wanted_in (take s.over ts) + s.heard))
-      ∙ ap (λ n. n - (wanted_in (take s.over ts) + s.heard))
+      (λ i. if is_some (none i) then 0 else count_by (λ b. b == 82) (out i) - (answers_in (take s.over ts) + s.heard))
+      ∙ ap (λ n. n - (answers_in (take s.over ts) + s.heard))
       (counts (map encode (before ++ take s.gone ahead)) ∙ ask-count (before ++ take s.gone ahead) ∙ asks-append before (take s.gone ahead))
       ∙ omega (arith, asks-in ts (turns-ask program.steps) s.over)
 

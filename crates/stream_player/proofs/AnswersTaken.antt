@@ -14,7 +14,7 @@ use Rattle.plays.specs.Play.{Turn, is_bad, step_turns, turns, wants_of}
 use Rattle.plays.specs.Playing.{up_to_bad}
 use Rattle.plays.specs.PlayingOn.{Mismatch}
 use Rattle.plays.specs.Streams as stream
-use Rattle.plays.specs.Streams.{StreamState, hear, hear_all, answers_taken}
+use Rattle.plays.specs.Streams.{StreamState, hear, hear_bytes, answers_taken}
 use Rattle.plays.proofs.Asks.{asks, asks-step}
 use Rattle.every_schedule.proofs.Quits.{asks-append}
 use Rattle.stream_player.specs.declared.progress.Mismatch as declared
@@ -22,9 +22,9 @@ use Rattle.stream_player.specs.declared.progress.Phase.{Phase}
 use Rattle.stream_player.specs.declared.progress.Phase.TheVariants.{Opening, Within, Over}
 use Rattle.stream_player.specs.declared.progress.Progress.{Progress}
 use Rattle.stream_player.specs.Progress.{InPhase, InStep, IsOver, Stands, gone, mismatch, standing_at, state_of, vector_bits}
-use Rattle.stream_player.specs.Standing.{Standing, differing_bit, first_of, state_at}
+use Rattle.stream_player.specs.PlaceInPlay.{PlaceInPlay, differing_bit, state_at}
 use Rattle.stream_player.proofs.Ahead.{ahead, owes}
-use Rattle.stream_player.proofs.Ends.{hears, hears-bad, quits, quits-behind}
+use Rattle.stream_player.proofs.Ends.{first_of, hears, hears-bad, quits, quits-behind}
 use Rattle.stream_player.proofs.TurnPlaces.{owed-is, reached}
 use Rattle.stream_player.proofs.Pieced.{fair-end, first, is-over, none-of, opened, start, stops-is, turns-end}
 use Rattle.stream_player.proofs.Steps.{cut, same-first, wants-of-vector}
@@ -42,7 +42,7 @@ module _ (program : Program) (p : Progress) (stands : Stands program.steps p) (g
       i : IsOver (drop p.at program.steps) p
       i = is-over program p out is stands
 
-      s : Standing
+      s : PlaceInPlay
       s = standing_at program.steps p
 
       none : (a h : ℕ) → a ≤ h → a - h ≡ 0

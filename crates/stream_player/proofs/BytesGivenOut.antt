@@ -2,7 +2,7 @@
 use Rattle.std.proofs.Common.{◌≡◌, Bool, true, false, ℕ, zero, suc, ◌+◌, ◌-◌, ◌<◌, ◌≤◌, List, [], ◌∷◌, ◌++◌, length, take, drop, refl, sym, ap, subst, ◌∙◌, arith, length-drop}
 use Rattle.std.proofs.lemmas.Bool.{eqb-true}
 use Rattle.std.specs.Prelude.{◌==◌, min, slice_get, Some, if◌then◌else◌}
-use Rattle.stream_player.specs.Standing.{reads, up_to_reads}
+use Rattle.stream_player.specs.PlaceInPlay.{reads, up_to_reads}
 
 -- how many `R` a byte is
 abbrev pub is_read : ℕ → ℕ

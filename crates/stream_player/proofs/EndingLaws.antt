@@ -19,8 +19,9 @@ use Rattle.every_schedule.proofs.Quits.{has_quit, quit-append, turns-no-quit}
 use Rattle.stream_player.specs.declared.progress.Phase.{Phase}
 use Rattle.stream_player.specs.declared.progress.Phase.TheVariants.{Opening, Within, Over}
 use Rattle.stream_player.specs.declared.progress.Progress.{Progress}
-use Rattle.stream_player.specs.Progress.{IsOver, IsReady, Stands, gone, is_out, mismatch, one, present, rest_of, standing_at, state_of}
-use Rattle.stream_player.specs.Standing.{Standing, found, state_at}
+use Rattle.stream_player.specs.Progress.{IsOver, IsReady, Stands, gone, is_out, mismatch, present, rest_of, standing_at, state_of}
+use Rattle.bitbang_table.specs.Protocol.{value}
+use Rattle.stream_player.specs.PlaceInPlay.{PlaceInPlay, found, state_at}
 use Rattle.stream_player.proofs.Ahead.{ahead}
 use Rattle.stream_player.proofs.Ends.{command-here, ends, quits, quits-behind, works-in, works-past-all, works-stopped}
 use Rattle.stream_player.proofs.TurnPlaces.{IsIn, no-quit, quit-of, reached}
@@ -29,10 +30,10 @@ use Rattle.stream_player.proofs.Steps.{cut, same-first}
 use Rattle.stream_player.proofs.PlayerPlaces.{gone-is, in-opening, in-step, is-in, later, no-elements, opens, turn, within}
 
 module _ (program : Program) (p : Progress) (out : Bool) (is : p.phase ≡ Over out) (stands : Stands program.steps p) where
-  one-out : has_quit (take (one out) (Quit ∷ [])) ≡ out
+  one-out : has_quit (take (value out) (Quit ∷ [])) ≡ out
   one-out = by out
     where
-      by : (b : Bool) → has_quit (take (one b) (Quit ∷ [])) ≡ b
+      by : (b : Bool) → has_quit (take (value b) (Quit ∷ [])) ≡ b
       by true = refl
       by false = refl
 
@@ -47,8 +48,8 @@ module _ (program : Program) (p : Progress) (out : Bool) (is : p.phase ≡ Over 
       by false e =
           let none = i.passed (none-of p.failed e) in
           let nothing = turns-end program p out is stands ∙ ap (step_turns p.place) none.0 in
-          let g : gone (drop p.at program.steps) p ≡ one out =
-          gone-end program p out is stands ∙ ap (λ (l : List Numbered). present p.place l + one out) none.0 ∙ omega arith in
+          let g : gone (drop p.at program.steps) p ≡ value out =
+          gone-end program p out is stands ∙ ap (λ (l : List Numbered). present p.place l + value out) none.0 ∙ omega arith in
           (λ k. has_quit (take (g k) (quits program (standing_at program.steps p) (fair-end program p out is stands) nothing k))) ∙ one-out
       by true e =
           let some = i.stopped e in
@@ -56,12 +57,12 @@ module _ (program : Program) (p : Progress) (out : Bool) (is : p.phase ≡ Over 
           let t : Turn = record { command = some.0.number; messages = ms; wants = wants_of some.0.what } in
           let rest = step_turns (place_after p.place some.0.what) some.1 in
           let here = turns-end program p out is stands ∙ ap (step_turns p.place) some.2 in
-          let g : gone (drop p.at program.steps) p ≡ length ms + one out =
-          gone-end program p out is stands ∙ ap (λ (l : List Numbered). present p.place l + one out) some.2 in
+          let g : gone (drop p.at program.steps) p ≡ length ms + value out =
+          gone-end program p out is stands ∙ ap (λ (l : List Numbered). present p.place l + value out) some.2 in
           (λ k. has_quit (take (g k) (quits-behind program (standing_at program.steps p) (fair-end program p out is stands) t rest here some.3
           (stops-is program p out is stands true e) k)))
-          ∙ ap has_quit (take-append-add ms (Quit ∷ []) (one out))
-          ∙ quit-append ms (take (one out) (Quit ∷ []))
+          ∙ ap has_quit (take-append-add ms (Quit ∷ []) (value out))
+          ∙ quit-append ms (take (value out) (Quit ∷ []))
           ∙ (λ k. quit-of _ (turns program.steps) (turns-no-quit program.steps) t rest here k || one-out k)
 
   pub works-over : stream.working (state_of program p) ≡ suc program.statements

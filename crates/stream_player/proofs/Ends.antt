@@ -15,10 +15,11 @@ use Rattle.plays.specs.declared.ending.Ending.TheVariants.{BadAnswer}
 use Rattle.plays.specs.Play.{Turn, is_bad, turns}
 use Rattle.plays.specs.PlayingOn.{Mismatch, Stops, ending_of}
 use Rattle.plays.specs.Streams as stream
-use Rattle.plays.specs.Streams.{Found, StreamState, Wanted, command_at, hear, judged, noted, wanted, works}
+use Rattle.plays.specs.Streams.{Found, StreamState, Wanted, command_at, hear, mismatch_of, with_more, all_wanted, command_at_work}
 use Rattle.plays.proofs.Asks.{asks}
 use Rattle.every_schedule.proofs.Quits.{has_quit, quit-append}
-use Rattle.stream_player.specs.Standing.{Standing, differing_bit, first_of, found, messages_in, state_at, wanted_in}
+use Rattle.stream_player.specs.PlaceInPlay.{PlaceInPlay, differing_bit, found, messages_in, state_at}
+use Rattle.every_schedule.specs.InWork.{answers_in}
 use Rattle.stream_player.proofs.Ahead.{ahead, is-out, owes, sends-last, stops_at, waits}
 use Rattle.stream_player.proofs.TurnPlaces.{IsIn, fits, no-quit, reached}
 
@@ -27,14 +28,14 @@ abbrev of-turn : Turn → VectorBit → Wanted
 of-turn t v = record { command = t.command; bit = v }
 
 -- the wanted bits of the turns that are over drop out
-wanted-past : (k : ℕ) (ts : List Turn) (n : ℕ) → drop (wanted_in (take k ts) + n) (wanted ts) ≡ drop n (wanted (drop k ts))
-wanted-past zero ts n = let same : 0 + n ≡ n = omega arith in ap (λ m. drop m (wanted ts)) same
+wanted-past : (k : ℕ) (ts : List Turn) (n : ℕ) → drop (answers_in (take k ts) + n) (all_wanted ts) ≡ drop n (all_wanted (drop k ts))
+wanted-past zero ts n = let same : 0 + n ≡ n = omega arith in ap (λ m. drop m (all_wanted ts)) same
 wanted-past (suc k) [] n = let same : 0 + n ≡ n = omega arith in ap (λ m. drop m []) same
 wanted-past (suc k) (t ∷ ts) n =
-    let here : length t.wants + wanted_in (take k ts) + n ≡ length (map (of-turn t) t.wants) + (wanted_in (take k ts) + n) =
+    let here : length t.wants + answers_in (take k ts) + n ≡ length (map (of-turn t) t.wants) + (answers_in (take k ts) + n) =
     omega (arith, length-map t.wants (of-turn t)) in
-    ap (λ m. drop m (map (of-turn t) t.wants ++ wanted ts)) here
-    ∙ drop-append-add (map (of-turn t) t.wants) (wanted ts) (wanted_in (take k ts) + n)
+    ap (λ m. drop m (map (of-turn t) t.wants ++ all_wanted ts)) here
+    ∙ drop-append-add (map (of-turn t) t.wants) (all_wanted ts) (answers_in (take k ts) + n)
     ∙ wanted-past k ts n
 
 -- the next one of a turn
@@ -48,13 +49,18 @@ abbrev listed : Option Mismatch → List Mismatch
 listed None = []
 listed (Some m) = m ∷ []
 
-noted-first : (had more : Option Mismatch) → noted Stops (listed more) (found had) ≡ found (first_of had more)
+-- the first that differs is kept
+abbrev pub first_of : Option Mismatch → Option Mismatch → Option Mismatch
+first_of None later = later
+first_of (Some m) later = Some m
+
+noted-first : (had more : Option Mismatch) → with_more Stops (listed more) (found had) ≡ found (first_of had more)
 noted-first None None = refl
 noted-first None (Some m) = refl
 noted-first (Some m) None = refl
 noted-first (Some m) (Some n) = refl
 
-judged-one : (t : Turn) (w : VectorBit) (rest : List Wanted) (bit : Bool) → judged (of-turn t w ∷ rest) bit ≡ listed (differing_bit t.command w bit)
+judged-one : (t : Turn) (w : VectorBit) (rest : List Wanted) (bit : Bool) → mismatch_of (of-turn t w ∷ rest) bit ≡ listed (differing_bit t.command w bit)
 judged-one t w rest bit = by (differs w.wanted bit)
   where
     by : (b : Bool) → (if b then record { command = t.command; part = w.part; place = w.place } ∷ [] else [])
@@ -62,23 +68,23 @@ judged-one t w rest bit = by (differs w.wanted bit)
     by true = refl
     by false = refl
 
-module _ (program : Program) (s : Standing) (t : Turn) (later : List Turn) (here : drop s.over (turns program.steps) ≡ t ∷ later) where
+module _ (program : Program) (s : PlaceInPlay) (t : Turn) (later : List Turn) (here : drop s.over (turns program.steps) ≡ t ∷ later) where
   -- An answer is heard: it is judged by the next wanted bit.
   pub hears : (byte : ℕ) (w : VectorBit) (ws : List VectorBit) → s.bad ≡ None → is_bad byte ≡ false → drop s.heard t.wants ≡ w ∷ ws
       → hear byte (state_at program s)
       ≡ state_at program (record s { heard = s.heard + 1; failed = first_of s.failed (differing_bit t.command w (byte == 49)) })
   hears byte w ws none good next =
       let now = state_at program s in
-      let left : drop now.answered (wanted (turns program.steps)) ≡ of-turn t w ∷ (map (of-turn t) ws ++ wanted later) =
-      wanted-past s.over (turns program.steps) s.heard ∙ ap (λ (l : List Turn). drop s.heard (wanted l)) here
-      ∙ next-wanted t s.heard t.wants (wanted later) w ws next in
-      let judge : judged (drop now.answered (wanted (turns program.steps))) (byte == 49) ≡ listed (differing_bit t.command w (byte == 49)) =
-      ap (λ (l : List Wanted). judged l (byte == 49)) left ∙ judged-one t w (map (of-turn t) ws ++ wanted later) (byte == 49) in
-      let count : now.answered + 1 ≡ wanted_in (take s.over (turns program.steps)) + (s.heard + 1) = omega arith in
+      let left : drop now.answered (all_wanted (turns program.steps)) ≡ of-turn t w ∷ (map (of-turn t) ws ++ all_wanted later) =
+      wanted-past s.over (turns program.steps) s.heard ∙ ap (λ (l : List Turn). drop s.heard (all_wanted l)) here
+      ∙ next-wanted t s.heard t.wants (all_wanted later) w ws next in
+      let judge : mismatch_of (drop now.answered (all_wanted (turns program.steps))) (byte == 49) ≡ listed (differing_bit t.command w (byte == 49)) =
+      ap (λ (l : List Wanted). mismatch_of l (byte == 49)) left ∙ judged-one t w (map (of-turn t) ws ++ all_wanted later) (byte == 49) in
+      let count : now.answered + 1 ≡ answers_in (take s.over (turns program.steps)) + (s.heard + 1) = omega arith in
       (λ k. if is_some (none k) then now else if good k then record now { bad = Some byte } else
       record now {
         answered = count k;
-        found = (ap (λ (m : List Mismatch). noted Stops m (found s.failed)) judge
+        found = (ap (λ (m : List Mismatch). with_more Stops m (found s.failed)) judge
             ∙ noted-first s.failed (differing_bit t.command w (byte == 49))) k;
       })
 
@@ -87,21 +93,21 @@ module _ (program : Program) (s : Standing) (t : Turn) (later : List Turn) (here
   hears-bad byte none bad = (λ k. if is_some (none k) then state_at program s else if bad k then record (state_at program s) { bad = Some byte } else
       record (state_at program s) {
         answered = (state_at program s).answered + 1;
-        found = noted Stops (judged (drop (state_at program s).answered (wanted (turns program.steps))) (byte == 49)) (state_at program s).found;
+        found = with_more Stops (mismatch_of (drop (state_at program s).answered (all_wanted (turns program.steps))) (byte == 49)) (state_at program s).found;
       })
 
   -- the command that the next answer belongs to
-  command-past : (k : ℕ) (ts : List Turn) (n : ℕ) → command_at ts (wanted_in (take k ts) + n) ≡ command_at (drop k ts) n
+  command-past : (k : ℕ) (ts : List Turn) (n : ℕ) → command_at ts (answers_in (take k ts) + n) ≡ command_at (drop k ts) n
   command-past zero ts n = let same : 0 + n ≡ n = omega arith in ap (command_at ts) same
   command-past (suc k) [] n = refl
-  command-past (suc k) (x ∷ ts) n = by (nat_lt (length x.wants + wanted_in (take k ts) + n) (length x.wants)) refl (command-past k ts n)
+  command-past (suc k) (x ∷ ts) n = by (nat_lt (length x.wants + answers_in (take k ts) + n) (length x.wants)) refl (command-past k ts n)
     where
-      by : (b : Bool) → nat_lt (length x.wants + wanted_in (take k ts) + n) (length x.wants) ≡ b
-          → command_at ts (wanted_in (take k ts) + n) ≡ command_at (drop k ts) n
-          → (if b then x.command else command_at ts (length x.wants + wanted_in (take k ts) + n - length x.wants)) ≡ command_at (drop k ts) n
-      by true e rest = let lt = ltb-true (length x.wants + wanted_in (take k ts) + n) (length x.wants) e in absurd (omega arith)
+      by : (b : Bool) → nat_lt (length x.wants + answers_in (take k ts) + n) (length x.wants) ≡ b
+          → command_at ts (answers_in (take k ts) + n) ≡ command_at (drop k ts) n
+          → (if b then x.command else command_at ts (length x.wants + answers_in (take k ts) + n - length x.wants)) ≡ command_at (drop k ts) n
+      by true e rest = let lt = ltb-true (length x.wants + answers_in (take k ts) + n) (length x.wants) e in absurd (omega arith)
       by false e rest =
-          let same : length x.wants + wanted_in (take k ts) + n - length x.wants ≡ wanted_in (take k ts) + n = omega arith in
+          let same : length x.wants + answers_in (take k ts) + n - length x.wants ≡ answers_in (take k ts) + n = omega arith in
           ap (command_at ts) same ∙ rest
 
   pub command-here : s.heard < length t.wants → command_at (turns program.steps) (state_at program s).answered ≡ t.command
@@ -114,9 +120,9 @@ module _ (program : Program) (s : Standing) (t : Turn) (later : List Turn) (here
 
 -- the turns that are over drop out of what is in work
 works-past : (statements k : ℕ) (ts : List Turn) (g n : ℕ) (stops : Bool) → (stops ≡ true → 0 < n)
-    → works statements ts (length (messages_in (take k ts)) + g) (wanted_in (take k ts) + n) stops ≡ works statements (drop k ts) g n stops
+    → command_at_work statements ts (length (messages_in (take k ts)) + g) (answers_in (take k ts) + n) stops ≡ command_at_work statements (drop k ts) g n stops
 works-past statements zero ts g n stops more =
-    let a : 0 + g ≡ g = omega arith in let b : 0 + n ≡ n = omega arith in (λ i. works statements ts (a i) (b i) stops)
+    let a : 0 + g ≡ g = omega arith in let b : 0 + n ≡ n = omega arith in (λ i. command_at_work statements ts (a i) (b i) stops)
 works-past statements (suc k) [] g n stops more = refl
 works-past statements (suc k) (t ∷ ts) g n stops more =
     by (nat_lt G (length t.messages)) refl (nat_lt N (length t.wants)) refl (stops && nat_le N (length t.wants)) refl
@@ -126,7 +132,7 @@ works-past statements (suc k) (t ∷ ts) g n stops more =
     G = length (t.messages ++ messages_in (take k ts)) + g
 
     N : ℕ
-    N = length t.wants + wanted_in (take k ts) + n
+    N = length t.wants + answers_in (take k ts) + n
 
     no-last : (stops : Bool) → (stops ≡ true → 0 < n) → (stops && nat_le N (length t.wants)) ≡ true → ⊥
     no-last true more is = let le = leb-true N (length t.wants) is in let above = more refl in omega arith
@@ -134,22 +140,22 @@ works-past statements (suc k) (t ∷ ts) g n stops more =
 
     by : (a : Bool) → nat_lt G (length t.messages) ≡ a → (b : Bool) → nat_lt N (length t.wants) ≡ b → (last : Bool)
         → (stops && nat_le N (length t.wants)) ≡ last
-        → works statements ts (length (messages_in (take k ts)) + g) (wanted_in (take k ts) + n) stops ≡ works statements (drop k ts) g n stops
-        → (if a || b then t.command else if last then suc statements else works statements ts (G - length t.messages) (N - length t.wants) stops)
-        ≡ works statements (drop k ts) g n stops
+        → command_at_work statements ts (length (messages_in (take k ts)) + g) (answers_in (take k ts) + n) stops ≡ command_at_work statements (drop k ts) g n stops
+        → (if a || b then t.command else if last then suc statements else command_at_work statements ts (G - length t.messages) (N - length t.wants) stops)
+        ≡ command_at_work statements (drop k ts) g n stops
     by true e b f last q rest = let lt = ltb-true G (length t.messages) e in absurd (omega (arith, length-append t.messages (messages_in (take k ts))))
     by false e true f last q rest = let lt = ltb-true N (length t.wants) f in absurd (omega arith)
     by false e false f true q rest = absurd (no-last stops more q)
     by false e false f false q rest =
         let x : G - length t.messages ≡ length (messages_in (take k ts)) + g = omega (arith, length-append t.messages (messages_in (take k ts))) in
-        let y : N - length t.wants ≡ wanted_in (take k ts) + n = omega arith in
-        (λ i. works statements ts (x i) (y i) stops) ∙ rest
+        let y : N - length t.wants ≡ answers_in (take k ts) + n = omega arith in
+        (λ i. command_at_work statements ts (x i) (y i) stops) ∙ rest
 
-module _ (program : Program) (s : Standing) (fair : stops_at s ≡ true → 0 < s.heard) where
+module _ (program : Program) (s : PlaceInPlay) (fair : stops_at s ≡ true → 0 < s.heard) where
   abbrev works-on : List Turn → ℕ
-  works-on ts = works program.statements ts s.gone s.heard (stops_at s)
+  works-on ts = command_at_work program.statements ts s.gone s.heard (stops_at s)
 
-  pub working-here : stream.working (state_at program s) ≡ works program.statements (drop s.over (turns program.steps)) s.gone s.heard (stops_at s)
+  pub working-here : stream.working (state_at program s) ≡ command_at_work program.statements (drop s.over (turns program.steps)) s.gone s.heard (stops_at s)
   working-here = works-past program.statements s.over (turns program.steps) s.gone s.heard (stops_at s) fair
 
   -- a turn of which something is not out, or an answer is not there
@@ -160,7 +166,7 @@ module _ (program : Program) (s : Standing) (fair : stops_at s ≡ true → 0 < 
       by : (a : Bool) → nat_lt s.gone (length t.messages) ≡ a → (b : Bool) → nat_lt s.heard (length t.wants) ≡ b
           → (s.gone < length t.messages) ⊎ (s.heard < length t.wants)
           → (if a || b then t.command else if stops_at s && nat_le s.heard (length t.wants) then suc program.statements else
-          works program.statements later (s.gone - length t.messages) (s.heard - length t.wants) (stops_at s)) ≡ t.command
+          command_at_work program.statements later (s.gone - length t.messages) (s.heard - length t.wants) (stops_at s)) ≡ t.command
       by true e b f some = refl
       by false e true f some = refl
       by false e false f (inl lt) = let le = ltb-false s.gone (length t.messages) e in absurd (omega arith)
@@ -179,7 +185,7 @@ module _ (program : Program) (s : Standing) (fair : stops_at s ≡ true → 0 < 
       by : (a : Bool) → nat_lt s.gone (length t.messages) ≡ a → (b : Bool) → nat_lt s.heard (length t.wants) ≡ b → (c : Bool)
           → nat_le s.heard (length t.wants) ≡ c → (d : Bool) → d ≡ true
           → (if a || b then t.command else if d && c then suc program.statements else
-          works program.statements later (s.gone - length t.messages) (s.heard - length t.wants) d) ≡ suc program.statements
+          command_at_work program.statements later (s.gone - length t.messages) (s.heard - length t.wants) d) ≡ suc program.statements
       by true f b g c h d is = let lt = ltb-true s.gone (length t.messages) f in absurd (omega arith)
       by false f true g c h d is = let lt = ltb-true s.heard (length t.wants) g in absurd (omega (arith, e))
       by false f false g true h true is = refl
@@ -188,12 +194,12 @@ module _ (program : Program) (s : Standing) (fair : stops_at s ≡ true → 0 < 
 
   -- at the end `Quit` is ahead
   pub quits : drop s.over (turns program.steps) ≡ [] → ahead program s fair ≡ Quit ∷ []
-  quits none = ap (λ (l : List Turn). stream.sends 256 l s.heard (stops_at s)) none
+  quits none = ap (λ (l : List Turn). stream.may_send 256 l s.heard (stops_at s)) none
 
   pub quits-behind : (t : Turn) (later : List Turn) → drop s.over (turns program.steps) ≡ t ∷ later → s.heard ≡ length t.wants → stops_at s ≡ true
       → ahead program s fair ≡ t.messages ++ Quit ∷ []
-  quits-behind t later here e stops = ap (λ (l : List Turn). stream.sends 256 l s.heard (stops_at s)) here
-      ∙ ap (λ (b : Bool). stream.sends 256 (t ∷ later) s.heard b) stops ∙ sends-last 256 t later s.heard e
+  quits-behind t later here e stops = ap (λ (l : List Turn). stream.may_send 256 l s.heard (stops_at s)) here
+      ∙ ap (λ (b : Bool). stream.may_send 256 (t ∷ later) s.heard b) stops ∙ sends-last 256 t later s.heard e
 
   -- how it ends
   abbrev ending-by : Bool → Option Ending

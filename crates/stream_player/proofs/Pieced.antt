@@ -8,7 +8,7 @@ use Rattle.jt_tap.specs.declared.State.TheVariants.{Reset}
 use Rattle.bitbang_table.specs.Cycles.{opening}
 use Rattle.bitbang_table.specs.declared.Message.{Message}
 use Rattle.bitbang_table.specs.declared.Message.TheVariants.{Quit}
-use Rattle.bitbang_table.specs.Protocol.{encode}
+use Rattle.bitbang_table.specs.Protocol.{encode, value}
 use Rattle.bitbang.specs.StepMessages.{step_bytes, step_messages}
 use Rattle.bitbang.specs.declared.step_bytes.Spot.{Spot}
 use Rattle.svf_settings.specs.Steps.{Numbered, Program, place_after}
@@ -19,8 +19,8 @@ use Rattle.stream_player.specs.declared.progress.Mismatch as declared
 use Rattle.stream_player.specs.declared.progress.Phase.{Phase}
 use Rattle.stream_player.specs.declared.progress.Phase.TheVariants.{Opening, Within, Over}
 use Rattle.stream_player.specs.declared.progress.Progress.{Progress}
-use Rattle.stream_player.specs.Progress.{Gives, InOpening, InPhase, InStep, IsOver, IsReady, Stands, gone, mismatch, one, over, present, rest_of, standing_at, state_of}
-use Rattle.stream_player.specs.Standing.{Standing, found, messages_in, reads, state_at, up_to_reads}
+use Rattle.stream_player.specs.Progress.{Gives, InOpening, InPhase, InStep, IsOver, IsReady, Stands, gone, mismatch, over, present, rest_of, standing_at, state_of}
+use Rattle.stream_player.specs.PlaceInPlay.{PlaceInPlay, found, messages_in, reads, state_at, up_to_reads}
 use Rattle.stream_player.proofs.Ahead.{ahead, stops_at, waits}
 use Rattle.stream_player.proofs.Ends.{quits, quits-behind}
 use Rattle.stream_player.proofs.TurnPlaces.{IsIn, Waits, waits-so}
@@ -78,7 +78,7 @@ reads-append n (suc g) (b ∷ l) =
     by false e = e
 
 -- more of the present turn is out
-pub given-more : (program : Program) (s : Standing) (n : ℕ)
+pub given-more : (program : Program) (s : PlaceInPlay) (n : ℕ)
     → state_at program (record s { gone = s.gone + n }) ≡ record (state_at program s) { given = (state_at program s).given + n }
 given-more program s n =
     let before = length (messages_in (take s.over (turns program.steps))) in
@@ -115,7 +115,7 @@ gives-one program p next (x ∷ xs) after b more stands good state waits room is
 
 -- the opening
 module _ (program : Program) (p : Progress) (n : ℕ) (is : p.phase ≡ Opening n) (stands : Stands program.steps p) where
-  abbrev pub start : Standing
+  abbrev pub start : PlaceInPlay
   start = record { over = 0; gone = n; heard = 0; failed = None; bad = None }
 
   abbrev pub first : Turn
@@ -269,7 +269,7 @@ module _ (program : Program) (p : Progress) (out : Bool) (is : p.phase ≡ Over 
   pub over-end : over p ≡ suc p.at
   over-end = ap (λ (ph : Phase). elim ph [ Opening n ↦ 0 | Within spot ↦ suc p.at | Over out ↦ suc p.at ]) is
 
-  pub gone-end : gone (drop p.at program.steps) p ≡ present p.place (drop p.at program.steps) + one out
+  pub gone-end : gone (drop p.at program.steps) p ≡ present p.place (drop p.at program.steps) + value out
   gone-end = ap (λ (ph : Phase). gone (drop p.at program.steps) (record p { phase = ph })) is
 
   pub turns-end : drop (over p) (turns program.steps) ≡ step_turns p.place (drop p.at program.steps)
@@ -286,15 +286,15 @@ module _ (program : Program) (p : Progress) (out : Bool) (is : p.phase ≡ Over 
   fair-end stops = (is-over.stopped (sym (map-some p.failed) ∙ stops-some (option_map mismatch p.failed) true stops)).4
 
   -- what is ahead, behind what is out
-  pub ahead-end : drop (gone (drop p.at program.steps) p) (ahead program (standing_at program.steps p) fair-end) ≡ drop (one out) (Quit ∷ [])
+  pub ahead-end : drop (gone (drop p.at program.steps) p) (ahead program (standing_at program.steps p) fair-end) ≡ drop (value out) (Quit ∷ [])
   ahead-end = by (is_some p.failed) refl
     where
       by : (b : Bool) → is_some p.failed ≡ b
-          → drop (gone (drop p.at program.steps) p) (ahead program (standing_at program.steps p) fair-end) ≡ drop (one out) (Quit ∷ [])
+          → drop (gone (drop p.at program.steps) p) (ahead program (standing_at program.steps p) fair-end) ≡ drop (value out) (Quit ∷ [])
       by false e =
           let none = is-over.passed (none-of p.failed e) in
           let nothing : drop (over p) (turns program.steps) ≡ [] = turns-end ∙ ap (step_turns p.place) none.0 in
-          let g : gone (drop p.at program.steps) p ≡ one out = gone-end ∙ ap (λ (l : List Numbered). present p.place l + one out) none.0 ∙ omega arith in
+          let g : gone (drop p.at program.steps) p ≡ value out = gone-end ∙ ap (λ (l : List Numbered). present p.place l + value out) none.0 ∙ omega arith in
           (λ k. drop (g k) (quits program (standing_at program.steps p) fair-end nothing k))
       by true e =
           let some = is-over.stopped e in
@@ -302,11 +302,11 @@ module _ (program : Program) (p : Progress) (out : Bool) (is : p.phase ≡ Over 
           let t : Turn = record { command = some.0.number; messages = ms; wants = wants_of some.0.what } in
           let here : drop (over p) (turns program.steps) ≡ t ∷ step_turns (place_after p.place some.0.what) some.1 =
           turns-end ∙ ap (step_turns p.place) some.2 in
-          let g : gone (drop p.at program.steps) p ≡ length ms + one out = gone-end ∙ ap (λ (l : List Numbered). present p.place l + one out) some.2 in
+          let g : gone (drop p.at program.steps) p ≡ length ms + value out = gone-end ∙ ap (λ (l : List Numbered). present p.place l + value out) some.2 in
           (λ k. drop (g k) (quits-behind program (standing_at program.steps p) fair-end t _ here some.3 (stops-is true e) k))
-          ∙ drop-append-add ms (Quit ∷ []) (one out)
+          ∙ drop-append-add ms (Quit ∷ []) (value out)
 
-  pub quit-waits : bytes_to_send 256 (state_of program p) ≡ map encode (drop (one out) (Quit ∷ []))
+  pub quit-waits : bytes_to_send 256 (state_of program p) ≡ map encode (drop (value out) (Quit ∷ []))
   quit-waits = waits program (standing_at program.steps p) fair-end is-over.bad ∙ ap (map encode) ahead-end
 
   -- `Q` is given out
@@ -319,7 +319,7 @@ module _ (program : Program) (p : Progress) (out : Bool) (is : p.phase ≡ Over 
   pub quit-state : out ≡ false → state_of program (record p { phase = Over true }) ≡ record (state_of program p) { given = (state_of program p).given + 1 }
   quit-state none =
       let P = present p.place (drop p.at program.steps) in
-      let g : P + one true ≡ gone (drop p.at program.steps) p + 1 = omega (arith, gone-end, ap one none) in
+      let g : P + value true ≡ gone (drop p.at program.steps) p + 1 = omega (arith, gone-end, ap value none) in
       (λ k. state_at program (record (standing_at program.steps p) { over = suc p.at; gone = g k }))
       ∙ given-more program (record (standing_at program.steps p) { over = suc p.at }) 1
       ∙ (λ k. let s = state_at program (record (standing_at program.steps p) { over = sym over-end k }) in record s { given = s.given + 1 })

@@ -19,7 +19,7 @@ use Rattle.stream_player.specs.declared.progress.Phase.{Phase}
 use Rattle.stream_player.specs.declared.progress.Phase.TheVariants.{Opening, Within, Over}
 use Rattle.stream_player.specs.declared.progress.Progress.{Progress}
 use Rattle.stream_player.specs.Progress.{InOpening, InPhase, InStep, IsOver, IsReady, Rests, Stands, ahead, gone, mismatch, over, present, rest_of, standing_at, state_of}
-use Rattle.stream_player.specs.Standing.{Standing, found, reads, state_at}
+use Rattle.stream_player.specs.PlaceInPlay.{PlaceInPlay, found, reads, state_at}
 use Rattle.stream_player.proofs.Ahead.{map-take, stops_at}
 use Rattle.stream_player.proofs.TurnPlaces.{IsIn, over-now, reached}
 use Rattle.stream_player.proofs.Window.{asks-split}

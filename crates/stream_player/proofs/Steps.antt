@@ -19,7 +19,7 @@ use Rattle.direct_play.proofs.Turns.{stable-after}
 use Rattle.stream_player.specs.declared.progress.Phase.TheVariants.{Opening, Within, Over}
 use Rattle.stream_player.specs.declared.progress.Progress.{Progress}
 use Rattle.stream_player.specs.Progress.{InStep, Rests, Stands, gone, present, rest_of, standing_at, state_of, vector_bits}
-use Rattle.stream_player.specs.Standing.{Standing, reads, state_at}
+use Rattle.stream_player.specs.PlaceInPlay.{PlaceInPlay, reads, state_at}
 
 -- the step at a place stands first of those from there on
 pub cut : (steps : List Numbered) (at : ℕ) (s : Numbered) → slice_get steps at ≡ Some s → drop at steps ≡ s ∷ drop (suc at) steps

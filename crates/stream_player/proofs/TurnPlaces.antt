@@ -13,10 +13,11 @@ use Rattle.svf_settings.specs.Steps.{Program}
 use Rattle.plays.specs.Play.{Turn, turns, up_to_asks}
 use Rattle.plays.specs.PlayingOn.{Mismatch, Stops}
 use Rattle.plays.specs.Streams as stream
-use Rattle.plays.specs.Streams.{Found, StreamState, Wanted, command_at, judged, noted, sends, wanted, works}
+use Rattle.plays.specs.Streams.{Found, StreamState, Wanted, command_at, mismatch_of, with_more, may_send, all_wanted, command_at_work}
 use Rattle.plays.proofs.Asks.{AllAsk, asks, turns-ask}
 use Rattle.every_schedule.proofs.Quits.{NoneQuit, has_quit, turns-no-quit}
-use Rattle.stream_player.specs.Standing.{Standing, found, messages_in, state_at, up_to_reads, wanted_in}
+use Rattle.stream_player.specs.PlaceInPlay.{PlaceInPlay, found, messages_in, state_at, up_to_reads}
+use Rattle.every_schedule.specs.InWork.{answers_in}
 use Rattle.stream_player.proofs.Ahead.{ahead, is-out, owes, sends-last, sends-short, sends-whole, stops_at, waits}
 use Rattle.stream_player.proofs.Window.{asks-split, in-bytes, up-to-all, up-to-front, up-to-past}
 
@@ -49,7 +50,7 @@ quit-front (suc g) (Lines trst srst ∷ ms) none = quit-front g ms none
 
 -- one more turn is over
 more-in : (k : ℕ) (ts : List Turn) (t : Turn) (rest : List Turn) → drop k ts ≡ t ∷ rest
-    → (messages_in (take (suc k) ts) ≡ messages_in (take k ts) ++ t.messages) × (wanted_in (take (suc k) ts) ≡ wanted_in (take k ts) + length t.wants)
+    → (messages_in (take (suc k) ts) ≡ messages_in (take k ts) ++ t.messages) × (answers_in (take (suc k) ts) ≡ answers_in (take k ts) + length t.wants)
 more-in k [] t rest e = absurd (none k e)
   where
     none : (k : ℕ) → drop k [] ≡ t ∷ rest → ⊥
@@ -63,7 +64,7 @@ more-in (suc k) (x ∷ ts) t rest e =
     (ap (λ l. x.messages ++ l) more.0 ∙ sym (append_assoc x.messages (messages_in (take k ts)) t.messages), omega (arith, more.1))
 
 -- The player is within a turn.
-pub record IsIn (program : Program) (s : Standing) (t : Turn) (later : List Turn) (owed : ℕ) : Type 0 where
+pub record IsIn (program : Program) (s : PlaceInPlay) (t : Turn) (later : List Turn) (owed : ℕ) : Type 0 where
   pub here : drop s.over (turns program.steps) ≡ t ∷ later
   pub within : s.gone ≤ length t.messages
   pub asked : asks (take s.gone t.messages) ≡ s.heard + owed
@@ -76,7 +77,7 @@ pub record Waits (waiting left : List ℕ) (owed : ℕ) : Type 0 where
   pub is : waiting ≡ up_to_reads left (256 - owed) ++ tail
   pub none : 0 < owed → tail ≡ []
 
-module _ (program : Program) (s : Standing) (t : Turn) (later : List Turn) (owed : ℕ) (i : IsIn program s t later owed) where
+module _ (program : Program) (s : PlaceInPlay) (t : Turn) (later : List Turn) (owed : ℕ) (i : IsIn program s t later owed) where
   pub fits : asks t.messages ≡ length t.wants
   fits = ask-of s.over (turns program.steps) (turns-ask program.steps) t later i.here
 
@@ -84,8 +85,8 @@ module _ (program : Program) (s : Standing) (t : Turn) (later : List Turn) (owed
   pub reached : s.heard + owed + asks (drop s.gone t.messages) ≡ length t.wants
   reached = omega (arith, i.asked, asks-split s.gone t.messages, fits)
 
-  ahead-is : ahead program s i.fair ≡ sends 256 (t ∷ later) s.heard (stops_at s)
-  ahead-is = ap (λ (l : List Turn). sends 256 l s.heard (stops_at s)) i.here
+  ahead-is : ahead program s i.fair ≡ may_send 256 (t ∷ later) s.heard (stops_at s)
+  ahead-is = ap (λ (l : List Turn). may_send 256 l s.heard (stops_at s)) i.here
 
   -- all answers are there, so all of the turn may be sent
   record AllThere : Type 0 where
@@ -96,10 +97,10 @@ module _ (program : Program) (s : Standing) (t : Turn) (later : List Turn) (owed
   all-there e = by (stops_at s) refl
     where
       by : (b : Bool) → stops_at s ≡ b → AllThere
-      by true is = record { follows = Quit ∷ []; is = ahead-is ∙ ap (λ (b : Bool). sends 256 (t ∷ later) s.heard b) is ∙ sends-last 256 t later s.heard e }
+      by true is = record { follows = Quit ∷ []; is = ahead-is ∙ ap (λ (b : Bool). may_send 256 (t ∷ later) s.heard b) is ∙ sends-last 256 t later s.heard e }
       by false is = record {
-        follows = sends 256 later 0 false;
-        is = ahead-is ∙ ap (λ (b : Bool). sends 256 (t ∷ later) s.heard b) is ∙ sends-whole 256 t later s.heard e;
+        follows = may_send 256 later 0 false;
+        is = ahead-is ∙ ap (λ (b : Bool). may_send 256 (t ∷ later) s.heard b) is ∙ sends-whole 256 t later s.heard e;
       }
 
   short-is : s.heard < length t.wants → ahead program s i.fair ≡ up_to_asks t.messages (s.heard + 256)
@@ -160,7 +161,7 @@ module _ (program : Program) (s : Standing) (t : Turn) (later : List Turn) (owed
       let none-left : asks (drop s.gone t.messages) ≡ 0 = omega (arith, asks-split s.gone t.messages, i.asked, out-all) in
       let given : length (messages_in (take (suc s.over) (turns program.steps))) + 0 ≡ length (messages_in (take s.over (turns program.steps))) + s.gone =
       omega (arith, ap length more.0, length-append (messages_in (take s.over (turns program.steps))) t.messages) in
-      let answered : wanted_in (take (suc s.over) (turns program.steps)) + 0 ≡ wanted_in (take s.over (turns program.steps)) + s.heard =
+      let answered : answers_in (take (suc s.over) (turns program.steps)) + 0 ≡ answers_in (take s.over (turns program.steps)) + s.heard =
       omega (arith, more.1, reached) in
       (λ k. record (state_at program s) { given = given k; answered = answered k })
     where

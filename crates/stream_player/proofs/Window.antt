@@ -5,7 +5,7 @@ use Rattle.bitbang_table.specs.declared.Message.TheVariants.{Ask, Light, Lines, 
 use Rattle.bitbang_table.specs.Protocol.{encode}
 use Rattle.plays.specs.Play.{up_to_asks}
 use Rattle.plays.proofs.Asks.{asks}
-use Rattle.stream_player.specs.Standing.{up_to_reads}
+use Rattle.stream_player.specs.PlaceInPlay.{up_to_reads}
 
 -- in bytes as in messages
 pub in-bytes : (ms : List Message) (n : ℕ) → up_to_reads (map encode ms) n ≡ map encode (up_to_asks ms n)

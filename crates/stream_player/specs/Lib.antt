@@ -1,2 +1,2 @@
-pub mod Standing
+pub mod PlaceInPlay
 pub mod Progress

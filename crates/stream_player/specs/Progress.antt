@@ -4,7 +4,7 @@ use Rattle.std.specs.Prelude.{drop, filter, is_some, option_map, Option, Some, N
 use Rattle.jt_tap.specs.Controller.{is_stable}
 use Rattle.jt_tap.specs.declared.State.{State}
 use Rattle.jt_tap.specs.declared.State.TheVariants.{Reset}
-use Rattle.bitbang_table.specs.Protocol.{encode}
+use Rattle.bitbang_table.specs.Protocol.{encode, value}
 use Rattle.bitbang_table.specs.Cycles.{opening}
 use Rattle.bitbang.specs.Left.{behind}
 use Rattle.bitbang.specs.StepMessages.{step_bytes, step_messages}
@@ -21,7 +21,7 @@ use Rattle.stream_player.specs.declared.progress.Mismatch as declared
 use Rattle.stream_player.specs.declared.progress.Phase.{Phase}
 use Rattle.stream_player.specs.declared.progress.Phase.TheVariants.{Opening, Within, Over}
 use Rattle.stream_player.specs.declared.progress.Progress.{Progress}
-use Rattle.stream_player.specs.Standing.{Standing, reads, state_at}
+use Rattle.stream_player.specs.PlaceInPlay.{PlaceInPlay, reads, state_at}
 
 abbrev pub mismatch : declared.Mismatch → playing_on.Mismatch
 mismatch m = record { command = m.command; part = m.part; place = m.bit }
@@ -29,10 +29,6 @@ mismatch m = record { command = m.command; part = m.part; place = m.bit }
 -- how many turns are over: the opening is one, and each step
 abbrev pub over : Progress → ℕ
 over p = elim p.phase [ Opening n ↦ 0 | Within spot ↦ suc p.at | Over out ↦ suc p.at ]
-
-abbrev pub one : Bool → ℕ
-one true = 1
-one false = 0
 
 -- the messages of the first of these steps
 abbrev pub present : State → List Numbered → ℕ
@@ -49,10 +45,10 @@ abbrev pub gone : List Numbered → Progress → ℕ
 gone rest p = elim p.phase [
   | Opening n ↦ n
   | Within spot ↦ present p.place rest - length (rest_of p.place rest spot)
-  | Over out ↦ present p.place rest + one out
+  | Over out ↦ present p.place rest + value out
 ]
 
-abbrev pub standing_at : List Numbered → Progress → Standing
+abbrev pub standing_at : List Numbered → Progress → PlaceInPlay
 standing_at steps p = record {
   over = over p;
   gone = gone (drop p.at steps) p;

@@ -3,7 +3,7 @@
 ghost use Rattle.std.specs.Prelude.{◌≡◌, [], false, IsTrue, ◌≤◌, ◌<◌, ◌==◌, ◌+◌, ◌-◌, ◌++◌, ◌∷◌, ℕ, List, Some, drop};
 ghost use Rattle.std.specs.Prelude.{length, min, slice_get, take, if◌then◌else◌};
 ghost use Rattle.bitbang.specs.Left.{left, whole};
-ghost use Rattle.stream_player.specs.Standing.{reads, up_to_reads};
+ghost use Rattle.stream_player.specs.PlaceInPlay.{reads, up_to_reads};
 
 use bitbang::StepBytes;
 

@@ -9,10 +9,10 @@ ghost use Rattle.svf_settings.specs.Sizes.{program_of};
 ghost use Rattle.svf_settings.specs.Seen as seen;
 ghost use Rattle.svf_settings.specs.Seen.{numbered};
 ghost use Rattle.plays.specs.Play.{is_bad};
-ghost use Rattle.plays.specs.Streams.{hear_all, answers_taken};
+ghost use Rattle.plays.specs.Streams.{hear_bytes, answers_taken};
 ghost use Rattle.plays.specs.Streams as stream;
 ghost use Rattle.stream_player.specs.Progress.{Stands, mismatch, state_of, vector_bits};
-ghost use Rattle.stream_player.specs.Standing.{differing_bit};
+ghost use Rattle.stream_player.specs.PlaceInPlay.{differing_bit};
 
 use crate::progress::{Mismatch, Progress};
 use bitbang::read_answer;
@@ -27,7 +27,7 @@ pub(crate) fn hear(program: &Program, p: Progress, bytes: &[u8]) -> (Progress, u
     ensures stands { Stands program.now.steps result.0 }
     ensures count { result.1 ≡ length (answers_taken 256 (state_of (program_of program.now) p) bytes.now) }
     ensures state { state_of (program_of program.now) result.0
-        ≡ hear_all (answers_taken 256 (state_of (program_of program.now) p) bytes.now)
+        ≡ hear_bytes (answers_taken 256 (state_of (program_of program.now) p) bytes.now)
         (state_of (program_of program.now) p) }
 {
     if p.bad.is_some() {
@@ -111,6 +111,8 @@ fn judged(command: usize, vector: &Vector<'_>, p: Progress, bit: bool) -> Progre
     if p.failed.is_some() {
         return p;
     }
+    // For the proof alone: how long the vector is.
+    let _ = vector.len();
     let Some(i) = next_wanted(vector, p.judged) else {
         return p;
     };

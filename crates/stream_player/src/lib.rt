@@ -9,7 +9,6 @@ mod progress;
 mod telling;
 
 pub use player::Player;
-pub use progress::Mismatch;
 
 #[cfg(test)]
 mod tests;

@@ -1,10 +1,10 @@
 //! The player of a program.
 
-ghost use Rattle.std.specs.Prelude.{◌≡◌, ◌+◌, ◌-◌, ◌^◌, ◌↔◌, ◌++◌, IsTrue, MatchResult, length, min, take, drop};
+ghost use Rattle.std.specs.Prelude.{◌≡◌, ◌+◌, ◌-◌, ◌^◌, ◌↔◌, ◌++◌, IsTrue, IsOk, IfOk, length, min, take, drop};
 ghost use Rattle.svf_settings.specs.Sizes.{program_of};
 ghost use Rattle.plays.specs.PlayingOn.{Stops};
 ghost use Rattle.plays.specs.Streams as stream;
-ghost use Rattle.plays.specs.Streams.{new_stream, hear_all, answers_taken, bytes_to_send};
+ghost use Rattle.plays.specs.Streams.{new_stream, hear_bytes, answers_taken, bytes_to_send};
 
 use crate::hearing::hear;
 use crate::pieces::fill;
@@ -43,8 +43,8 @@ impl Model for Player {
 impl Player {
     /// A fresh player of a program. It takes no memory, and always answers `Ok`.
     pub fn new(_alloc: Global, program: Program) -> Result<Player, Program>
-        ensures { MatchResult result (λ player. player ≡ new_stream Stops (program_of program))
-            (λ back. back ≡ program) }
+        ensures made { IsOk result }
+        ensures fresh { IfOk result (λ player. player ≡ new_stream Stops (program_of program)) }
     {
         // For the proof alone: what the program's type keeps of its steps.
         let _ = program.len();
@@ -73,7 +73,7 @@ impl Player {
     /// the first that is neither `0` nor `1`, which ends the play. Answers how many were taken.
     pub fn answers(&mut self, bytes: &[u8]) -> usize
         ensures count { result ≡ length (answers_taken 256 self.old bytes.now) }
-        ensures player { self.new ≡ hear_all (answers_taken 256 self.old bytes.now) self.old }
+        ensures player { self.new ≡ hear_bytes (answers_taken 256 self.old bytes.now) self.old }
     {
         let (progress, count) = hear(&self.program, self.progress, bytes);
         self.progress = progress;

@@ -2,7 +2,7 @@
 
 ghost use Rattle.std.specs.Prelude.{◌≡◌, ◌≤◌, ◌<◌, ◌+◌, suc, drop, length, None, MatchOption};
 ghost use Rattle.svf_settings.specs.Sizes.{program_of};
-ghost use Rattle.stream_player.specs.Standing.{state_at};
+ghost use Rattle.stream_player.specs.PlaceInPlay.{state_at};
 ghost use Rattle.stream_player.specs.Progress.{IsReady, Rests, Stands, ahead, state_of};
 
 use bitbang::{Spot, StepBytes};
@@ -17,10 +17,10 @@ pub(crate) const OPENING: &[u8; 12] = b"r26262626260";
 /// A wanted bit that did not come out: the statement of its step, counted from 1, its part of the vector and its place
 /// there, counted from 0.
 #[derive(Debug, Clone, Copy, PartialEq, Eq)]
-pub struct Mismatch {
-    pub command: usize,
-    pub part: Part,
-    pub bit: usize,
+pub(crate) struct Mismatch {
+    pub(crate) command: usize,
+    pub(crate) part: Part,
+    pub(crate) bit: usize,
 }
 
 /// The present turn.

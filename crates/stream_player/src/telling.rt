@@ -5,7 +5,7 @@ ghost use Rattle.svf_settings.specs.Sizes.{program_of};
 ghost use Rattle.plays.specs.PlayingOn.{ending_of};
 ghost use Rattle.plays.specs.Streams as stream;
 ghost use Rattle.stream_player.specs.Progress.{Stands, is_out, mismatch, state_of};
-ghost use Rattle.stream_player.specs.Standing.{found};
+ghost use Rattle.stream_player.specs.PlaceInPlay.{found};
 
 use crate::progress::{Mismatch, Phase, Progress, settled};
 use plays::Ending;

@@ -17,10 +17,10 @@ use Rattle.plays.specs.PlayingOn.{Kind, Stops, PlaysOn, Mismatch, ending_of, fai
 use Rattle.every_schedule.proofs.BothPlayers.{ask-for, no-quit-for}
 use Rattle.every_schedule.proofs.Quits.{asks-append, has_quit}
 use Rattle.streaming.specs.Histories as history
-use Rattle.streaming.specs.Histories.{WasAsked, bits}
-use Rattle.streaming.specs.Laws.{AnsweringStaysAsked, IsSame, StreamsAgree, TheStopperIsThePlayer, good, stream_of}
+use Rattle.streaming.specs.Histories.{WasAsked, bits_told}
+use Rattle.streaming.specs.Laws.{AnsweringStaysAsked, IsSame, StreamsAgree, good, stream_of}
 use Rattle.plays.specs.Streams as stream
-use Rattle.plays.specs.Streams.{command_at, kept, sends, some_differ, stops_for, works}
+use Rattle.plays.specs.Streams.{command_at, most_kept, may_send, some_differ, stops_for, command_at_work}
 use Rattle.streaming.proofs.SameByCount.{ends-bad, ends-good, sends-same, unjudged-command, unjudged-failures, unjudged-sends, unjudged-works, works-same}
 
 -- how many `R` are among bytes
@@ -115,13 +115,13 @@ good-all (g ∷ got) e = one (is_bad g) e (good-all got)
         clash p = cc
     one false e rest = ap (λ l. g ∷ l) (rest e)
 
-first-kept : (kind : Kind) (fs : List Mismatch) → some_differ (take (kept kind) fs) ≡ some_differ fs
+first-kept : (kind : Kind) (fs : List Mismatch) → some_differ (take (most_kept kind) fs) ≡ some_differ fs
 first-kept Stops [] = refl
 first-kept Stops (f ∷ fs) = refl
 first-kept PlaysOn [] = refl
 first-kept PlaysOn (f ∷ fs) = refl
 
-first-named : (kind : Kind) (fs : List Mismatch) → ending_of (take (kept kind) fs) ≡ ending_of fs
+first-named : (kind : Kind) (fs : List Mismatch) → ending_of (take (most_kept kind) fs) ≡ ending_of fs
 first-named Stops [] = refl
 first-named Stops (f ∷ fs) = refl
 first-named PlaysOn [] = refl
@@ -132,42 +132,42 @@ module _ (window : ℕ) (p : PlayerState) where
   ts = turns p.program.steps
 
   -- the history was asked for, in messages
-  was-asked : (kind : Kind) → WasAsked kind window p → length (bits p.got) ≤ asks (sent window (turns_for kind p.program.steps) (bits p.got))
+  was-asked : (kind : Kind) → WasAsked kind window p → length (bits_told p.got) ≤ asks (sent window (turns_for kind p.program.steps) (bits_told p.got))
   was-asked kind asked =
-      omega (arith, asked, length-map p.got (λ b. b == 49), ask-bytes (sent window (turns_for kind p.program.steps) (bits p.got)))
+      omega (arith, asked, length-map p.got (λ b. b == 49), ask-bytes (sent window (turns_for kind p.program.steps) (bits_told p.got)))
 
   abbrev stopping : Kind → List ℕ → Bool
-  stopping kind g = stops_for kind (take (kept kind) (failures (turns p.program.steps) (bits g)))
+  stopping kind g = stops_for kind (take (most_kept kind) (failures (turns p.program.steps) (bits_told g)))
 
   sends-for : (kind : Kind) → WasAsked kind window p
-      → sends window (turns p.program.steps) (length p.got) (stopping kind p.got) ≡ sent window (turns_for kind p.program.steps) (bits p.got)
+      → may_send window (turns p.program.steps) (length p.got) (stopping kind p.got) ≡ sent window (turns_for kind p.program.steps) (bits_told p.got)
   sends-for Stops asked =
-      (λ i. sends window (turns p.program.steps) (sym (length-map p.got (λ b. b == 49)) i) (first-kept Stops (failures (turns p.program.steps) (bits p.got)) i))
-      ∙ sym (sends-same window (turns p.program.steps) (ask-for Stops p.program.steps) (bits p.got) (was-asked Stops asked))
+      (λ i. may_send window (turns p.program.steps) (sym (length-map p.got (λ b. b == 49)) i) (first-kept Stops (failures (turns p.program.steps) (bits_told p.got)) i))
+      ∙ sym (sends-same window (turns p.program.steps) (ask-for Stops p.program.steps) (bits_told p.got) (was-asked Stops asked))
   sends-for PlaysOn asked =
       sym (unjudged-sends window (turns p.program.steps) (length p.got))
-      ∙ (λ i. sends window (map unjudged (turns p.program.steps)) (sym (length-map p.got (λ b. b == 49)) i)
-      (some_differ (sym (unjudged-failures (turns p.program.steps) (bits p.got)) i)))
-      ∙ sym (sends-same window (map unjudged (turns p.program.steps)) (ask-for PlaysOn p.program.steps) (bits p.got) (was-asked PlaysOn asked))
+      ∙ (λ i. may_send window (map unjudged (turns p.program.steps)) (sym (length-map p.got (λ b. b == 49)) i)
+      (some_differ (sym (unjudged-failures (turns p.program.steps) (bits_told p.got)) i)))
+      ∙ sym (sends-same window (map unjudged (turns p.program.steps)) (ask-for PlaysOn p.program.steps) (bits_told p.got) (was-asked PlaysOn asked))
 
   works-for : (kind : Kind) → WasAsked kind window p
-      → works p.program.statements (turns p.program.steps) p.given (length p.got) (stopping kind p.got)
-      ≡ in_work p.program.statements (turns_for kind p.program.steps) p.given (bits p.got)
+      → command_at_work p.program.statements (turns p.program.steps) p.given (length p.got) (stopping kind p.got)
+      ≡ in_work p.program.statements (turns_for kind p.program.steps) p.given (bits_told p.got)
   works-for Stops asked =
-      (λ i. works p.program.statements (turns p.program.steps) p.given (sym (length-map p.got (λ b. b == 49)) i)
-      (first-kept Stops (failures (turns p.program.steps) (bits p.got)) i))
-      ∙ sym (works-same p.program.statements window (turns p.program.steps) (ask-for Stops p.program.steps) p.given (bits p.got) (was-asked Stops asked))
+      (λ i. command_at_work p.program.statements (turns p.program.steps) p.given (sym (length-map p.got (λ b. b == 49)) i)
+      (first-kept Stops (failures (turns p.program.steps) (bits_told p.got)) i))
+      ∙ sym (works-same p.program.statements window (turns p.program.steps) (ask-for Stops p.program.steps) p.given (bits_told p.got) (was-asked Stops asked))
   works-for PlaysOn asked =
       sym (unjudged-works p.program.statements (turns p.program.steps) p.given (length p.got))
-      ∙ (λ i. works p.program.statements (map unjudged (turns p.program.steps)) p.given (sym (length-map p.got (λ b. b == 49)) i)
-      (some_differ (sym (unjudged-failures (turns p.program.steps) (bits p.got)) i)))
-      ∙ sym (works-same p.program.statements window (map unjudged (turns p.program.steps)) (ask-for PlaysOn p.program.steps) p.given (bits p.got) (was-asked PlaysOn asked))
+      ∙ (λ i. command_at_work p.program.statements (map unjudged (turns p.program.steps)) p.given (sym (length-map p.got (λ b. b == 49)) i)
+      (some_differ (sym (unjudged-failures (turns p.program.steps) (bits_told p.got)) i)))
+      ∙ sym (works-same p.program.statements window (map unjudged (turns p.program.steps)) (ask-for PlaysOn p.program.steps) p.given (bits_told p.got) (was-asked PlaysOn asked))
 
   -- without a bad answer the bytes are the same
   bytes-same : (kind : Kind) → WasAsked kind window p → find is_bad p.got ≡ None
       → stream.bytes_of window (stream_of kind p) ≡ history.bytes_of kind window p
   bytes-same kind asked ok =
-      (λ i. map encode (sends window (turns p.program.steps) (length (good-all p.got ok i)) (stopping kind (good-all p.got ok i))))
+      (λ i. map encode (may_send window (turns p.program.steps) (length (good-all p.got ok i)) (stopping kind (good-all p.got ok i))))
       ∙ ap (map encode) (sends-for kind asked)
 
   bad-ending : (kind : Kind) → WasAsked kind window p → (x : ℕ) → find is_bad p.got ≡ Some x
@@ -178,18 +178,18 @@ module _ (window : ℕ) (p : PlayerState) where
       (ends-bad window (map unjudged (turns p.program.steps)) (ask-for PlaysOn p.program.steps) p.got x e (was-asked PlaysOn asked)
       ∙ ap (λ n. Some (BadAnswer n x)) (unjudged-command (turns p.program.steps) (length (good p.got)))))
 
-  good-ending : (kind : Kind) → find is_bad p.got ≡ None → has_quit (sent window (turns_for kind p.program.steps) (bits p.got)) ≡ true
-      → Some (ending_of (failures (turns p.program.steps) (bits p.got))) ≡ history.verdict kind window p
+  good-ending : (kind : Kind) → find is_bad p.got ≡ None → has_quit (sent window (turns_for kind p.program.steps) (bits_told p.got)) ≡ true
+      → Some (ending_of (failures (turns p.program.steps) (bits_told p.got))) ≡ history.verdict kind window p
   good-ending Stops ok quit = sym (ends-good window (turns p.program.steps) (no-quit-for Stops p.program.steps) p.got ok quit)
   good-ending PlaysOn ok quit =
       sym (ap (history.verdict_of PlaysOn window p)
       (ends-good window (map unjudged (turns p.program.steps)) (no-quit-for PlaysOn p.program.steps) p.got ok quit
-      ∙ ap (λ l. Some (ending_of l)) (unjudged-failures (turns p.program.steps) (bits p.got))))
+      ∙ ap (λ l. Some (ending_of l)) (unjudged-failures (turns p.program.steps) (bits_told p.got))))
 
   abbrev ended_as : Kind → List ℕ → Option ℕ → Bool → Option Ending
   ended_as kind g bad quit = elim bad [
     | Some byte ↦ Some (BadAnswer (command_at (turns p.program.steps) (length g)) byte)
-    | None ↦ if quit then Some (ending_of (take (kept kind) (failures (turns p.program.steps) (bits g)))) else None
+    | None ↦ if quit then Some (ending_of (take (most_kept kind) (failures (turns p.program.steps) (bits_told g)))) else None
   ]
 
   abbrev Q : List ℕ → Bool
@@ -226,13 +226,13 @@ module _ (window : ℕ) (p : PlayerState) where
       owes : stream.owed window (stream_of kind p) ≡ history.owed kind window p
       owes = owes_ (find is_bad p.got) refl
 
-      quits : Q H ≡ true → has_quit (sent window (turns_for kind p.program.steps) (bits p.got)) ≡ true
-      quits e = sym (quit-byte (sent window (turns_for kind p.program.steps) (bits p.got))) ∙ any-take p.given H e
+      quits : Q H ≡ true → has_quit (sent window (turns_for kind p.program.steps) (bits_told p.got)) ≡ true
+      quits e = sym (quit-byte (sent window (turns_for kind p.program.steps) (bits_told p.got))) ∙ any-take p.given H e
 
       finished : (q : Bool) → Q H ≡ q → find is_bad p.got ≡ None
-          → (if q then Some (ending_of (take (kept kind) (failures (turns p.program.steps) (bits p.got)))) else None)
+          → (if q then Some (ending_of (take (most_kept kind) (failures (turns p.program.steps) (bits_told p.got)))) else None)
           ≡ (if q then history.verdict kind window p else None)
-      finished true e ok = ap (λ v. Some v) (first-named kind (failures (turns p.program.steps) (bits p.got))) ∙ good-ending kind ok (quits e)
+      finished true e ok = ap (λ v. Some v) (first-named kind (failures (turns p.program.steps) (bits_told p.got))) ∙ good-ending kind ok (quits e)
       finished false e ok = refl
 
       ends : (f : Option ℕ) → find is_bad p.got ≡ f
@@ -245,13 +245,13 @@ module _ (window : ℕ) (p : PlayerState) where
           ∙ (λ i. if sym (is-bad ∙ ap is_some e) i || Q H then history.verdict kind window p else None)
 
       works_ : (f : Option ℕ) → find is_bad p.got ≡ f → has_bad_answer p ≡ false
-          → works p.program.statements (turns p.program.steps) p.given (length (good p.got)) (stopping kind (good p.got)) ≡ history.working kind window p
+          → command_at_work p.program.statements (turns p.program.steps) p.given (length (good p.got)) (stopping kind (good p.got)) ≡ history.working kind window p
       works_ (Some x) e none = absurd (clash (sym (is-bad ∙ ap is_some e) ∙ none))
         where
           clash : true ≡ false → ⊥
           clash p = cc
       works_ None e none =
-          (λ i. works p.program.statements (turns p.program.steps) p.given (length (good-all p.got e i)) (stopping kind (good-all p.got e i)))
+          (λ i. command_at_work p.program.statements (turns p.program.steps) p.given (length (good-all p.got e i)) (stopping kind (good-all p.got e i)))
           ∙ works-for kind asked
 
 pub agree : StreamsAgree
@@ -294,13 +294,13 @@ more-asked kind window p bytes asked =
     T = history.answers_taken kind window p bytes
 
     S : List Message
-    S = sent window ts (bits p.got)
+    S = sent window ts (bits_told p.got)
 
     S2 : List Message
-    S2 = sent window ts (bits (p.got ++ T))
+    S2 = sent window ts (bits_told (p.got ++ T))
 
-    more : (rest : List Message) × (S ++ rest ≡ sent window ts (bits p.got ++ bits T))
-    more = sent-grows window ts (bits p.got) (bits T)
+    more : (rest : List Message) × (S ++ rest ≡ sent window ts (bits_told p.got ++ bits_told T))
+    more = sent-grows window ts (bits_told p.got) (bits_told T)
 
     c : ℕ
     c = count_by (λ b. b == 82) (take p.given (map encode S))
@@ -314,6 +314,3 @@ more-asked kind window p bytes asked =
 
 pub stays_asked : AnsweringStaysAsked
 stays_asked kind window = record { fresh = λ program. omega arith; give = λ p n asked. asked; answer = λ p bytes asked. more-asked kind window p bytes asked }
-
-pub the_player : TheStopperIsThePlayer
-the_player p = record { waiting = refl; owed = refl; taken = λ bytes. refl; ended = refl }

@@ -4,7 +4,7 @@ use Rattle.std.specs.Prelude.{if◌then◌else◌}
 use Rattle.bitbang_table.specs.declared.Message.{Message}
 use Rattle.bitbang_table.specs.declared.Message.TheVariants.{Write, Ask, Quit, Light, Lines}
 use Rattle.bitbang_table.specs.Protocol.{decode}
-use Rattle.plays.specs.Events.{Event, Put, Serve, Take, Lose, Side, World, happens, has_room, hear_all, put_bytes, run, served, take_answers, after_byte_taken}
+use Rattle.plays.specs.Events.{Event, Put, Serve, Take, Lose, Side, World, happens, has_room, hear_bits, put_bytes, run, served, take_answers, after_byte_taken}
 use Rattle.streaming.specs.Laws.{with_player}
 
 module _ {P Q : Type 0} (f : P → Q) where
@@ -66,11 +66,11 @@ pub record IsAlike {P Q : Type 0} (a : Side P) (b : Side Q) (f : P → Q) (Ok : 
   pub heard : (bit : Bool) (p : P) → Ok p → Ok (a.hear bit p)
 
 module _ {P Q : Type 0} (a : Side P) (b : Side Q) (f : P → Q) (Ok : P → Type 0) (like : IsAlike a b f Ok) (down_room up_room : ℕ) where
-  hear-alike : (bits : List Bool) (p : P) → Ok p → hear_all b bits (f p) ≡ f (hear_all a bits p)
+  hear-alike : (bits : List Bool) (p : P) → Ok p → hear_bits b bits (f p) ≡ f (hear_bits a bits p)
   hear-alike [] p ok = refl
-  hear-alike (bit ∷ bits) p ok = ap (hear_all b bits) (like.hear bit p ok) ∙ hear-alike bits (a.hear bit p) (like.heard bit p ok)
+  hear-alike (bit ∷ bits) p ok = ap (hear_bits b bits) (like.hear bit p ok) ∙ hear-alike bits (a.hear bit p) (like.heard bit p ok)
 
-  heard-ok : (bits : List Bool) (p : P) → Ok p → Ok (hear_all a bits p)
+  heard-ok : (bits : List Bool) (p : P) → Ok p → Ok (hear_bits a bits p)
   heard-ok [] p ok = ok
   heard-ok (bit ∷ bits) p ok = heard-ok bits (a.hear bit p) (like.heard bit p ok)
 

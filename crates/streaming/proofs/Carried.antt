@@ -7,7 +7,7 @@ use Rattle.bitbang_table.specs.declared.Message.{Message}
 use Rattle.bitbang_table.specs.declared.Message.TheVariants.{Write, Ask, Quit, Light, Lines}
 use Rattle.bitbang_table.specs.Protocol.{answer, decode, encode}
 use Rattle.board_meaning.specs.Chain.{BoardState}
-use Rattle.plays.specs.Events.{Event, Put, Serve, Take, Lose, Known, World, by_answers, before_events as fresh_world, happens, has_room, hear_all, put_bytes, run, served, take_answers, after_byte_taken}
+use Rattle.plays.specs.Events.{Event, Put, Serve, Take, Lose, Known, Side, World, by_answers, before_events as fresh_world, happens, has_room, hear_bits, put_bytes, run, served, take_answers, after_byte_taken}
 use Rattle.plays.specs.Play.{player, sent}
 use Rattle.plays.specs.Playing.{PlayerState, up_to_bad}
 use Rattle.svf_settings.specs.Steps.{Numbered, Program}
@@ -21,8 +21,16 @@ use Rattle.every_schedule.proofs.InsideFullPlay.{inside-happens, length-encoded}
 use Rattle.every_schedule.proofs.MovingEvents.{heard-is}
 use Rattle.every_schedule.proofs.Quits.{asks-append}
 use Rattle.every_schedule.proofs.SafetyLaws.{In, from-fresh, is-play}
-use Rattle.streaming.specs.Histories.{bytes_of, given_out, owed, side, bytes_to_send}
+use Rattle.streaming.specs.Histories.{answers_taken, bytes_of, given_out, owed, bytes_to_send}
 use Rattle.streaming.specs.Laws.{history_of, with_player}
+
+-- a history, as events see it
+abbrev pub side : Kind → ℕ → Side PlayerState
+side kind window = record {
+  waiting = bytes_to_send kind window;
+  give = λ n p. record p { given = p.given + n };
+  hear = λ bit p. record p { got = p.got ++ answers_taken kind window p (answer bit ∷ []) };
+}
 
 abbrev pub world_of : Program → World Known → World PlayerState
 world_of program w = with_player (history_of program) w
@@ -161,7 +169,7 @@ module _ (kind : Kind) (window : ℕ) (program : Program) (b : BoardState) (down
 
   -- answers from the up pipe are all taken
   hear-same : (took queued : List Message) (w : World Known) → In l steps b took queued w → (xs ys : List Bool) → IsFront (xs ++ ys) w.up
-      → hear_all (side kind window) ys (history_of program (record { given = w.player.given; got = w.player.got ++ xs }))
+      → hear_bits (side kind window) ys (history_of program (record { given = w.player.given; got = w.player.got ++ xs }))
       ≡ history_of program (record { given = w.player.given; got = w.player.got ++ (xs ++ ys) })
   hear-same took queued w i xs [] front = λ j. history_of program (record { given = w.player.given; got = w.player.got ++ (sym (append-nil xs) j) })
   hear-same took queued w i xs (y ∷ ys) front =
@@ -177,7 +185,7 @@ module _ (kind : Kind) (window : ℕ) (program : Program) (b : BoardState) (down
         got = ((λ k. map answer (w.player.got ++ xs) ++ taken-one y (owed kind window p) some k) ∙ sym (answers-append (w.player.got ++ xs) (y ∷ []))
             ∙ ap (map answer) (append_assoc w.player.got xs (y ∷ []))) j;
       } in
-      ap (hear_all (side kind window) ys) one
+      ap (hear_bits (side kind window) ys) one
       ∙ hear-same took queued w i (xs ++ y ∷ []) ys (subst (λ z. IsFront z w.up) moved front)
       ∙ (λ j. history_of program (record { given = w.player.given; got = w.player.got ++ sym moved j }))
 
@@ -211,10 +219,10 @@ module _ (kind : Kind) (window : ℕ) (program : Program) (b : BoardState) (down
       got : List Bool
       got = w.player.got
 
-      player_same : hear_all (side kind window) (take n w.up) (history_of program w.player)
-          ≡ history_of program (hear_all (by_answers (player window (turns_for kind steps))) (take n w.up) w.player)
+      player_same : hear_bits (side kind window) (take n w.up) (history_of program w.player)
+          ≡ history_of program (hear_bits (by_answers (player window (turns_for kind steps))) (take n w.up) w.player)
       player_same =
-          (λ j. hear_all (side kind window) (take n w.up) (history_of program (record { given = w.player.given; got = sym (append-nil got) j })))
+          (λ j. hear_bits (side kind window) (take n w.up) (history_of program (record { given = w.player.given; got = sym (append-nil got) j })))
           ∙ hear-same took queued w i [] (take n w.up) (drop n w.up, take-append-drop n w.up)
           ∙ ap (history_of program) (sym (heard-is (player window (turns_for kind steps)) (take n w.up) w.player))
 

@@ -6,9 +6,9 @@ use Rattle.scan_vectors.specs.Vector.{VectorBit, differs}
 use Rattle.plays.specs.Play.{Turn, is_bad, turns}
 use Rattle.svf_settings.specs.Steps.{Program}
 use Rattle.plays.specs.PlayingOn.{Kind, Stops, PlaysOn, Mismatch, differing, failures}
-use Rattle.streaming.specs.Histories.{bits}
+use Rattle.streaming.specs.Histories.{bits_told}
 use Rattle.streaming.specs.Laws.{FreshAgrees, HearingIsTheHistory, good, stream_of}
-use Rattle.plays.specs.Streams.{StreamState, Wanted, counted, found_of, hear, hear_all, judged, kept, noted, wanted}
+use Rattle.plays.specs.Streams.{StreamState, Wanted, count_kept, found_of, hear, hear_bytes, mismatch_of, most_kept, with_more, all_wanted}
 
 abbrev no_bits : List Bool
 no_bits = []
@@ -33,7 +33,7 @@ failures-none (t ∷ ts) = (λ i. differing-none t.command t.wants i ++ failures
 abbrev failing : List Wanted → List Bool → List Mismatch
 failing [] got = []
 failing (w ∷ ws) [] = []
-failing (w ∷ ws) (g ∷ got) = judged (w ∷ ws) g ++ failing ws got
+failing (w ∷ ws) (g ∷ got) = mismatch_of (w ∷ ws) g ++ failing ws got
 
 failing-none : (ws : List Wanted) → failing ws [] ≡ []
 failing-none [] = refl
@@ -55,19 +55,19 @@ failing-turn command (v ∷ vs) ws (g ∷ got) = one (differs v.wanted g) (faili
     one true e = ap (λ l. m ∷ l) e
     one false e = e
 
-failing-is : (ts : List Turn) (got : List Bool) → failures ts got ≡ failing (wanted ts) got
+failing-is : (ts : List Turn) (got : List Bool) → failures ts got ≡ failing (all_wanted ts) got
 failing-is [] got = refl
 failing-is (t ∷ ts) got =
     ap (λ l. differing t.command t.wants got ++ l) (failing-is ts (drop (length t.wants) got))
-    ∙ sym (failing-turn t.command t.wants (wanted ts) got)
+    ∙ sym (failing-turn t.command t.wants (all_wanted ts) got)
 
-failing-push : (ws : List Wanted) (got : List Bool) (b : Bool) → failing ws (got ++ b ∷ []) ≡ failing ws got ++ judged (drop (length got) ws) b
+failing-push : (ws : List Wanted) (got : List Bool) (b : Bool) → failing ws (got ++ b ∷ []) ≡ failing ws got ++ mismatch_of (drop (length got) ws) b
 failing-push [] [] b = refl
 failing-push [] (g ∷ got) b = refl
-failing-push (w ∷ ws) [] b = ap (λ l. judged (w ∷ ws) b ++ l) (failing-none ws) ∙ append-nil (judged (w ∷ ws) b)
+failing-push (w ∷ ws) [] b = ap (λ l. mismatch_of (w ∷ ws) b ++ l) (failing-none ws) ∙ append-nil (mismatch_of (w ∷ ws) b)
 failing-push (w ∷ ws) (g ∷ got) b =
-    ap (λ l. judged (w ∷ ws) g ++ l) (failing-push ws got b)
-    ∙ sym (append_assoc (judged (w ∷ ws) g) (failing ws got) (judged (drop (length got) ws) b))
+    ap (λ l. mismatch_of (w ∷ ws) g ++ l) (failing-push ws got b)
+    ∙ sym (append_assoc (mismatch_of (w ∷ ws) g) (failing ws got) (mismatch_of (drop (length got) ws) b))
 
 -- what is kept of more
 take-twice : (k : ℕ) (xs ys : List Mismatch) → take k (take k xs ++ ys) ≡ take k (xs ++ ys)
@@ -75,14 +75,14 @@ take-twice zero xs ys = refl
 take-twice (suc k) [] ys = refl
 take-twice (suc k) (x ∷ xs) ys = ap (λ l. x ∷ l) (take-twice k xs ys)
 
-counted-more : (kind : Kind) (n k : ℕ) → counted kind (counted kind n + k) ≡ counted kind (n + k)
+counted-more : (kind : Kind) (n k : ℕ) → count_kept kind (count_kept kind n + k) ≡ count_kept kind (n + k)
 counted-more Stops n k = omega arith
 counted-more PlaysOn n k = refl
 
-noted-more : (kind : Kind) (all more : List Mismatch) → noted kind more (found_of kind all) ≡ found_of kind (all ++ more)
+noted-more : (kind : Kind) (all more : List Mismatch) → with_more kind more (found_of kind all) ≡ found_of kind (all ++ more)
 noted-more kind all more = λ i. record {
-  list = take-twice (kept kind) all more i;
-  total = (counted-more kind (length all) (length more) ∙ ap (counted kind) (sym (length-append all more))) i;
+  list = take-twice (most_kept kind) all more i;
+  total = (counted-more kind (length all) (length more) ∙ ap (count_kept kind) (sym (length-append all more))) i;
 }
 
 -- the first bad one, and those before it
@@ -118,7 +118,7 @@ state kind program given g bad = record {
   kind = kind;
   given = given;
   answered = length g;
-  found = found_of kind (failures (turns program.steps) (bits g));
+  found = found_of kind (failures (turns program.steps) (bits_told g));
   bad = bad;
 }
 
@@ -126,7 +126,7 @@ abbrev heard_as : StreamState → ℕ → Option ℕ → Bool → StreamState
 heard_as s b before bad =
     if is_some before then s else
     if bad then record s { bad = Some b } else
-    record s { answered = s.answered + 1; found = noted s.kind (judged (drop s.answered (wanted (turns s.program.steps))) (b == 49)) s.found }
+    record s { answered = s.answered + 1; found = with_more s.kind (mismatch_of (drop s.answered (all_wanted (turns s.program.steps))) (b == 49)) s.found }
 
 hear-one : (kind : Kind) (program : Program) (given : ℕ) (got : List ℕ) (b : ℕ)
     → hear b (state kind program given (good got) (find is_bad got)) ≡ state kind program given (good (got ++ b ∷ [])) (find is_bad (got ++ b ∷ []))
@@ -152,23 +152,23 @@ hear-one kind program given got b =
     }
       where
         W : List Wanted
-        W = wanted (turns program.steps)
+        W = all_wanted (turns program.steps)
 
-        all_same : failures (turns program.steps) (bits G) ++ judged (drop (length G) W) (b == 49) ≡ failures (turns program.steps) (bits (G ++ b ∷ []))
+        all_same : failures (turns program.steps) (bits_told G) ++ mismatch_of (drop (length G) W) (b == 49) ≡ failures (turns program.steps) (bits_told (G ++ b ∷ []))
         all_same =
-            (λ i. failing-is (turns program.steps) (bits G) i ++ judged (drop (sym (length-map G (λ b. b == 49)) i) W) (b == 49))
-            ∙ sym (failing-push W (bits G) (b == 49))
-            ∙ sym (failing-is (turns program.steps) (bits G ++ (b == 49) ∷ []))
+            (λ i. failing-is (turns program.steps) (bits_told G) i ++ mismatch_of (drop (sym (length-map G (λ b. b == 49)) i) W) (b == 49))
+            ∙ sym (failing-push W (bits_told G) (b == 49))
+            ∙ sym (failing-is (turns program.steps) (bits_told G ++ (b == 49) ∷ []))
             ∙ ap (failures (turns program.steps)) (sym (map-append (λ b. b == 49) G (b ∷ [])))
 
-        found_same : noted kind (judged (drop (length G) W) (b == 49)) (found_of kind (failures (turns program.steps) (bits G)))
-            ≡ found_of kind (failures (turns program.steps) (bits (G ++ b ∷ [])))
-        found_same = noted-more kind (failures (turns program.steps) (bits G)) (judged (drop (length G) W) (b == 49)) ∙ ap (found_of kind) all_same
+        found_same : with_more kind (mismatch_of (drop (length G) W) (b == 49)) (found_of kind (failures (turns program.steps) (bits_told G)))
+            ≡ found_of kind (failures (turns program.steps) (bits_told (G ++ b ∷ [])))
+        found_same = noted-more kind (failures (turns program.steps) (bits_told G)) (mismatch_of (drop (length G) W) (b == 49)) ∙ ap (found_of kind) all_same
 
 pub hearing : HearingIsTheHistory
 hearing kind p [] = λ i. stream_of kind (record p { got = sym (append-nil p.got) i })
 hearing kind p (b ∷ bytes) =
-    ap (hear_all bytes) (hear-one kind p.program p.given p.got b)
+    ap (hear_bytes bytes) (hear-one kind p.program p.given p.got b)
     ∙ hearing kind (record p { got = p.got ++ b ∷ [] }) bytes
     ∙ (λ i. stream_of kind (record p { got = append_assoc p.got (b ∷ []) bytes i }))
 

@@ -13,7 +13,7 @@ use Rattle.plays.proofs.Asks.{hear-full, sent-full, turns-ask}
 use Rattle.every_schedule.specs.Fronts.{IsFront}
 use Rattle.every_schedule.specs.Laws.{full}
 use Rattle.plays.specs.PlayingOn.{Stops}
-use Rattle.every_schedule.specs.Sides.{answered_all}
+use Rattle.every_schedule.specs.Sides.{answers_to_bytes}
 use Rattle.every_schedule.proofs.Fronts.{front-take, front-trans}
 use Rattle.every_schedule.proofs.HonestLinks.{ending-full, honest, none-bad-any, told-bits}
 use Rattle.every_schedule.proofs.InsideFullPlay.{hear-front}
@@ -56,7 +56,7 @@ honest_verdict window p b got same front over =
 
     heard : IsFront got (hear S b).answers
     heard = front-trans _ _ _
-        (subst (λ l. IsFront got l) (ap (λ l. answered_all l b) out_is ∙ answered-encoded (take p.given S) b) front)
+        (subst (λ l. IsFront got l) (ap (λ l. answers_to_bytes l b) out_is ∙ answered-encoded (take p.given S) b) front)
         (hear-front (take p.given S) S b out_front)
 
     inside : IsFront got (full Stops steps b).answers

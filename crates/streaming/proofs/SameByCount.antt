@@ -15,9 +15,9 @@ use Rattle.plays.specs.PlayingOn.{any_value, differing, ending_of, failures, unj
 use Rattle.every_schedule.proofs.AllFailures.{Judged, none, some, judged}
 use Rattle.every_schedule.proofs.Fronts.{empty-length}
 use Rattle.every_schedule.proofs.Quits.{NoneQuit, asks-append, asks-no-quit, has_quit, or-right, quit-append, sent_of}
-use Rattle.streaming.specs.Histories.{bits}
+use Rattle.streaming.specs.Histories.{bits_told}
 use Rattle.streaming.specs.Laws.{good}
-use Rattle.plays.specs.Streams.{command_at, sends, some_differ, works}
+use Rattle.plays.specs.Streams.{command_at, may_send, some_differ, command_at_work}
 use Rattle.streaming.proofs.Hearing.{failures-none}
 
 le-test : (n k : ℕ) → n ≤ k → nat_le n k ≡ true
@@ -92,10 +92,10 @@ later-asked window t ts got fits le =
 abbrev sends_of : (window : ℕ) → Turn → List Turn → ℕ → Bool → Bool → Bool → List Message
 sends_of window t ts n stops short last =
     if short then up_to_asks t.messages (n + window) else
-    t.messages ++ (if last then Quit ∷ [] else sends window ts (n - length t.wants) stops)
+    t.messages ++ (if last then Quit ∷ [] else may_send window ts (n - length t.wants) stops)
 
 pub sends-same : (window : ℕ) (ts : List Turn) → AllAsk ts → (got : List Bool) → length got ≤ asks (sent window ts got)
-    → sent window ts got ≡ sends window ts (length got) (some_differ (failures ts got))
+    → sent window ts got ≡ may_send window ts (length got) (some_differ (failures ts got))
 sends-same window [] all got le = refl
 sends-same window (t ∷ ts) all got le = one (nat_lt (length got) (length t.wants)) (judge t.wants got) refl le (sends-same window ts all.1 (drop (length t.wants) got))
   where
@@ -105,24 +105,24 @@ sends-same window (t ∷ ts) all got le = one (nat_lt (length got) (length t.wan
     one : (short : Bool) (found : Option (Part × ℕ)) → judge t.wants got ≡ found → length got ≤ asks (sent_of window t ts got short found)
         → (length (drop (length t.wants) got) ≤ asks (sent window ts (drop (length t.wants) got))
         → sent window ts (drop (length t.wants) got)
-        ≡ sends window ts (length (drop (length t.wants) got)) (some_differ (failures ts (drop (length t.wants) got))))
+        ≡ may_send window ts (length (drop (length t.wants) got)) (some_differ (failures ts (drop (length t.wants) got))))
         → sent_of window t ts got short found ≡ sends_of window t ts (length got) D short (D && nat_le (length got) (length t.wants))
     one true found e le rest = refl
     one false (Some f) e le rest =
         let h = is-failed window t ts got all.0 f e le in
         let both : (D && nat_le (length got) (length t.wants)) ≡ true =
         (λ i. h.differ i && le-test (length got) (length t.wants) h.last i) in
-        λ i. t.messages ++ (if sym both i then Quit ∷ [] else sends window ts (length got - length t.wants) D)
+        λ i. t.messages ++ (if sym both i then Quit ∷ [] else may_send window ts (length got - length t.wants) D)
     one false None e le rest =
         let h = is-passed t ts got e in
         (λ i. t.messages ++ (rest (later-asked window t ts got all.0 le)
-        ∙ (λ j. sends window ts (h.later j) (some_differ (sym h.same j)))) i)
-        ∙ (λ i. t.messages ++ (if sym h.goes_on i then Quit ∷ [] else sends window ts (length got - length t.wants) D))
+        ∙ (λ j. may_send window ts (h.later j) (some_differ (sym h.same j)))) i)
+        ∙ (λ i. t.messages ++ (if sym h.goes_on i then Quit ∷ [] else may_send window ts (length got - length t.wants) D))
 
 abbrev works_of : (statements : ℕ) → Turn → List Turn → (given n : ℕ) → Bool → Bool → Bool → ℕ
 works_of statements t ts given n stops unsent last =
     if unsent then t.command else
-    if last then suc statements else works statements ts (given - length t.messages) (n - length t.wants) stops
+    if last then suc statements else command_at_work statements ts (given - length t.messages) (n - length t.wants) stops
 
 abbrev in_work_of : (statements : ℕ) → Turn → List Turn → ℕ → List Bool → Bool → Option (Part × ℕ) → ℕ
 in_work_of statements t ts given got unsent found =
@@ -136,7 +136,7 @@ or-right-false true b e = absurd (cc)
 or-right-false false b e = e
 
 pub works-same : (statements window : ℕ) (ts : List Turn) → AllAsk ts → (given : ℕ) (got : List Bool) → length got ≤ asks (sent window ts got)
-    → in_work statements ts given got ≡ works statements ts given (length got) (some_differ (failures ts got))
+    → in_work statements ts given got ≡ command_at_work statements ts given (length got) (some_differ (failures ts got))
 works-same statements window [] all given got le = refl
 works-same statements window (t ∷ ts) all given got le =
     one (nat_lt given (length t.messages) || nat_lt (length got) (length t.wants)) refl (nat_lt (length got) (length t.wants)) refl (judge t.wants got) refl le
@@ -150,7 +150,7 @@ works-same statements window (t ∷ ts) all given got le =
         → (found : Option (Part × ℕ)) → judge t.wants got ≡ found → length got ≤ asks (sent_of window t ts got short found)
         → (length (drop (length t.wants) got) ≤ asks (sent window ts (drop (length t.wants) got))
         → in_work statements ts (given - length t.messages) (drop (length t.wants) got)
-        ≡ works statements ts (given - length t.messages) (length (drop (length t.wants) got)) (some_differ (failures ts (drop (length t.wants) got))))
+        ≡ command_at_work statements ts (given - length t.messages) (length (drop (length t.wants) got)) (some_differ (failures ts (drop (length t.wants) got))))
         → in_work_of statements t ts given got unsent found
         ≡ works_of statements t ts given (length got) D unsent (D && nat_le (length got) (length t.wants))
     one true u short s found e le rest = refl
@@ -162,12 +162,12 @@ works-same statements window (t ∷ ts) all given got le =
         let h = is-failed window t ts got all.0 f e le in
         let both : (D && nat_le (length got) (length t.wants)) ≡ true =
         (λ i. h.differ i && le-test (length got) (length t.wants) h.last i) in
-        λ i. if sym both i then suc statements else works statements ts (given - length t.messages) (length got - length t.wants) D
+        λ i. if sym both i then suc statements else command_at_work statements ts (given - length t.messages) (length got - length t.wants) D
     one false u false s None e le rest =
         let h = is-passed t ts got e in
         rest (later-asked window t ts got all.0 le)
-        ∙ (λ j. works statements ts (given - length t.messages) (h.later j) (some_differ (sym h.same j)))
-        ∙ (λ i. if sym h.goes_on i then suc statements else works statements ts (given - length t.messages) (length got - length t.wants) D)
+        ∙ (λ j. command_at_work statements ts (given - length t.messages) (h.later j) (some_differ (sym h.same j)))
+        ∙ (λ i. if sym h.goes_on i then suc statements else command_at_work statements ts (given - length t.messages) (length got - length t.wants) D)
 
 -- the ending
 abbrev end_of : Turn → List Turn → List ℕ → Option ℕ → Bool → Option (Part × ℕ) → Option Ending
@@ -202,37 +202,37 @@ drop-good (suc n) (g ∷ got) e = one (is_bad g) e (drop-good n got)
     one false e rest = rest e
 
 -- Once `Q` is sent, and no bad answer came, the play has passed, or failed by the first that differs.
-pub ends-good : (window : ℕ) (ts : List Turn) → NoneQuit ts → (got : List ℕ) → find is_bad got ≡ None → has_quit (sent window ts (bits got)) ≡ true
-    → ending_for ts got ≡ Some (ending_of (failures ts (bits got)))
+pub ends-good : (window : ℕ) (ts : List Turn) → NoneQuit ts → (got : List ℕ) → find is_bad got ≡ None → has_quit (sent window ts (bits_told got)) ≡ true
+    → ending_for ts got ≡ Some (ending_of (failures ts (bits_told got)))
 ends-good window [] all got ok quit = refl
 ends-good window (t ∷ ts) all got ok quit =
-    (λ i. end_of t ts got (take-good w got ok i) (nat_lt (sym (length-map got (λ b. b == 49)) i) w) (judge t.wants (bits got)))
-    ∙ one (nat_lt (length (bits got)) w) (judge t.wants (bits got)) refl quit
+    (λ i. end_of t ts got (take-good w got ok i) (nat_lt (sym (length-map got (λ b. b == 49)) i) w) (judge t.wants (bits_told got)))
+    ∙ one (nat_lt (length (bits_told got)) w) (judge t.wants (bits_told got)) refl quit
     (λ q. ends-good window ts all.1 (drop w got) (drop-good w got ok) q)
   where
     w : ℕ
     w = length t.wants
 
-    cut : drop w (bits got) ≡ bits (drop w got)
+    cut : drop w (bits_told got) ≡ bits_told (drop w got)
     cut = drop-map (λ b. b == 49) w got
 
-    of : (f : Part × ℕ) → Judged t.command t.wants (bits got) (Some f)
-        → Some (Fail t.command f.0 f.1) ≡ Some (ending_of (failures (t ∷ ts) (bits got)))
-    of f (some _ rest q) = sym (ap (λ l. Some (ending_of (l ++ failures ts (drop w (bits got))))) q)
+    of : (f : Part × ℕ) → Judged t.command t.wants (bits_told got) (Some f)
+        → Some (Fail t.command f.0 f.1) ≡ Some (ending_of (failures (t ∷ ts) (bits_told got)))
+    of f (some _ rest q) = sym (ap (λ l. Some (ending_of (l ++ failures ts (drop w (bits_told got))))) q)
 
-    one : (short : Bool) (found : Option (Part × ℕ)) → judge t.wants (bits got) ≡ found → has_quit (sent_of window t ts (bits got) short found) ≡ true
-        → (has_quit (sent window ts (bits (drop w got))) ≡ true → ending_for ts (drop w got) ≡ Some (ending_of (failures ts (bits (drop w got)))))
-        → end_of t ts got None short found ≡ Some (ending_of (failures (t ∷ ts) (bits got)))
-    one true found e quit rest = absurd (clash (sym quit ∙ asks-no-quit t.messages (length (bits got) + window) all.0))
+    one : (short : Bool) (found : Option (Part × ℕ)) → judge t.wants (bits_told got) ≡ found → has_quit (sent_of window t ts (bits_told got) short found) ≡ true
+        → (has_quit (sent window ts (bits_told (drop w got))) ≡ true → ending_for ts (drop w got) ≡ Some (ending_of (failures ts (bits_told (drop w got)))))
+        → end_of t ts got None short found ≡ Some (ending_of (failures (t ∷ ts) (bits_told got)))
+    one true found e quit rest = absurd (clash (sym quit ∙ asks-no-quit t.messages (length (bits_told got) + window) all.0))
       where
         clash : true ≡ false → ⊥
         clash p = cc
-    one false (Some f) e quit rest = of f (subst (λ o. Judged t.command t.wants (bits got) o) e (judged t.command t.wants (bits got)))
+    one false (Some f) e quit rest = of f (subst (λ o. Judged t.command t.wants (bits_told got) o) e (judged t.command t.wants (bits_told got)))
     one false None e quit rest =
-        let more : has_quit (sent window ts (bits (drop w got))) ≡ true =
+        let more : has_quit (sent window ts (bits_told (drop w got))) ≡ true =
         ap (λ l. has_quit (sent window ts l)) (sym cut)
-        ∙ sym (quit-append t.messages (sent window ts (drop w (bits got))) ∙ or-right (has_quit t.messages) _ all.0) ∙ quit in
-        rest more ∙ (λ i. Some (ending_of (failures ts (sym cut i)))) ∙ (λ i. Some (ending_of (sym (is-passed t ts (bits got) e).same i)))
+        ∙ sym (quit-append t.messages (sent window ts (drop w (bits_told got))) ∙ or-right (has_quit t.messages) _ all.0) ∙ quit in
+        rest more ∙ (λ i. Some (ending_of (failures ts (sym cut i)))) ∙ (λ i. Some (ending_of (sym (is-passed t ts (bits_told got) e).same i)))
 
 -- where the first bad answer is
 data Split (n : ℕ) (got : List ℕ) (x : ℕ) : Type 0 where
@@ -269,7 +269,7 @@ take-all (suc n) (g ∷ got) le = ap (λ l. g ∷ l) (take-all n got (omega arit
 
 -- A bad answer that was asked for ends the play at the command that it belongs to.
 pub ends-bad : (window : ℕ) (ts : List Turn) → AllAsk ts → (got : List ℕ) (x : ℕ) → find is_bad got ≡ Some x
-    → length (bits got) ≤ asks (sent window ts (bits got)) → ending_for ts got ≡ Some (BadAnswer (command_at ts (length (good got))) x)
+    → length (bits_told got) ≤ asks (sent window ts (bits_told got)) → ending_for ts got ≡ Some (BadAnswer (command_at ts (length (good got))) x)
 ends-bad window [] all got x e le = absurd (clash (sym (ap (find is_bad) (empty got (omega (arith, le, length-map got (λ b. b == 49))))) ∙ e))
   where
     empty : (l : List ℕ) → length l ≡ 0 → l ≡ []
@@ -283,48 +283,48 @@ ends-bad window (t ∷ ts) all got x e le = of (split w got x e) (λ b q. ends-b
     w : ℕ
     w = length t.wants
 
-    cut : drop w (bits got) ≡ bits (drop w got)
+    cut : drop w (bits_told got) ≡ bits_told (drop w got)
     cut = drop-map (λ b. b == 49) w got
 
-    of : Split w got x → (find is_bad (drop w got) ≡ Some x → length (bits (drop w got)) ≤ asks (sent window ts (bits (drop w got)))
+    of : Split w got x → (find is_bad (drop w got) ≡ Some x → length (bits_told (drop w got)) ≤ asks (sent window ts (bits_told (drop w got)))
         → ending_for ts (drop w got) ≡ Some (BadAnswer (command_at ts (length (good (drop w got)))) x))
         → ending_for (t ∷ ts) got ≡ Some (BadAnswer (command_at (t ∷ ts) (length (good got))) x)
     of (here a b) rest =
-        (λ i. end_of t ts got (a i) (nat_lt (length got) w) (judge t.wants (bits got)))
+        (λ i. end_of t ts got (a i) (nat_lt (length got) w) (judge t.wants (bits_told got)))
         ∙ (λ i. Some (BadAnswer (if sym (lt-test (length (good got)) w b) i then t.command else command_at ts (length (good got) - w)) x))
     of (later a b c d) rest =
-        (λ i. end_of t ts got (a i) (not-lt-test (length got) w (omega (arith, d)) i) (judge t.wants (bits got)))
-        ∙ one (judge t.wants (bits got)) refl
-        (subst (λ s. length (bits got) ≤ asks (sent_of window t ts (bits got) s (judge t.wants (bits got))))
-        (not-lt-test (length (bits got)) w (omega (arith, d, length-map got (λ b. b == 49)))) le)
+        (λ i. end_of t ts got (a i) (not-lt-test (length got) w (omega (arith, d)) i) (judge t.wants (bits_told got)))
+        ∙ one (judge t.wants (bits_told got)) refl
+        (subst (λ s. length (bits_told got) ≤ asks (sent_of window t ts (bits_told got) s (judge t.wants (bits_told got))))
+        (not-lt-test (length (bits_told got)) w (omega (arith, d, length-map got (λ b. b == 49)))) le)
         ∙ (λ i. Some (BadAnswer (if sym (not-lt-test (length (good got)) w (omega (arith, c))) i then t.command else command_at ts (length (good got) - w)) x))
       where
         far : length (good (drop w got)) ≡ length (good got) - w
         far = omega (arith, c)
 
-        one : (found : Option (Part × ℕ)) → judge t.wants (bits got) ≡ found → length (bits got) ≤ asks (sent_of window t ts (bits got) false found)
+        one : (found : Option (Part × ℕ)) → judge t.wants (bits_told got) ≡ found → length (bits_told got) ≤ asks (sent_of window t ts (bits_told got) false found)
             → end_of t ts got None false found ≡ Some (BadAnswer (command_at ts (length (good got) - w)) x)
-        one (Some f) q le = absurd (omega (arith, (is-failed window t ts (bits got) all.0 f q le).last, d, length-map got (λ b. b == 49)))
+        one (Some f) q le = absurd (omega (arith, (is-failed window t ts (bits_told got) all.0 f q le).last, d, length-map got (λ b. b == 49)))
         one None q le =
             rest b
-            (subst (λ l. length l ≤ asks (sent window ts l)) cut (later-asked window t ts (bits got) all.0 le))
+            (subst (λ l. length l ≤ asks (sent window ts l)) cut (later-asked window t ts (bits_told got) all.0 le))
             ∙ ap (λ n. Some (BadAnswer (command_at ts n) x)) far
 
--- A player that plays on: its turns want the same bits, and none differs.
+-- A player that plays on: its turns want the same bits_told, and none differs.
 pub same-length : (vs : List VectorBit) → length (map any_value vs) ≡ length vs
 same-length vs = length-map vs any_value
 
-pub unjudged-sends : (window : ℕ) (ts : List Turn) (n : ℕ) → sends window (map unjudged ts) n false ≡ sends window ts n false
+pub unjudged-sends : (window : ℕ) (ts : List Turn) (n : ℕ) → may_send window (map unjudged ts) n false ≡ may_send window ts n false
 unjudged-sends window [] n = refl
 unjudged-sends window (t ∷ ts) n = λ i.
     (if nat_lt n (same-length t.wants i) then up_to_asks t.messages (n + window) else t.messages ++ (unjudged-sends window ts (n - length (map any_value t.wants))
-    ∙ (λ j. sends window ts (n - same-length t.wants j) false)) i)
+    ∙ (λ j. may_send window ts (n - same-length t.wants j) false)) i)
 
-pub unjudged-works : (statements : ℕ) (ts : List Turn) (given n : ℕ) → works statements (map unjudged ts) given n false ≡ works statements ts given n false
+pub unjudged-works : (statements : ℕ) (ts : List Turn) (given n : ℕ) → command_at_work statements (map unjudged ts) given n false ≡ command_at_work statements ts given n false
 unjudged-works statements [] given n = refl
 unjudged-works statements (t ∷ ts) given n = λ i.
     (if nat_lt given (length t.messages) || nat_lt n (same-length t.wants i) then t.command else (unjudged-works statements ts (given - length t.messages) (n - length (map any_value t.wants))
-    ∙ (λ j. works statements ts (given - length t.messages) (n - same-length t.wants j) false)) i)
+    ∙ (λ j. command_at_work statements ts (given - length t.messages) (n - same-length t.wants j) false)) i)
 
 pub unjudged-command : (ts : List Turn) (n : ℕ) → command_at (map unjudged ts) n ≡ command_at ts n
 unjudged-command [] n = refl

@@ -9,17 +9,17 @@ use Rattle.streaming.specs.Histories as history
 use Rattle.streaming.specs.Histories.{WasAsked}
 use Rattle.streaming.specs.Laws.{CallsGoAlike, SchedulesCarryOver, stream_of, with_player}
 use Rattle.plays.specs.Streams as stream
-use Rattle.plays.specs.Streams.{hear_all}
+use Rattle.plays.specs.Streams.{hear_bytes}
 use Rattle.streaming.proofs.Agree.{agree, stays_asked}
 use Rattle.streaming.proofs.Alike.{IsAlike, run-alike}
-use Rattle.streaming.proofs.Carried.{carried}
+use Rattle.streaming.proofs.Carried.{carried, side}
 use Rattle.streaming.proofs.Hearing.{fresh_agrees, hearing}
 
-alike : (kind : Kind) (window : ℕ) → IsAlike (history.side kind window) (stream.side window) (stream_of kind) (WasAsked kind window)
+alike : (kind : Kind) (window : ℕ) → IsAlike (side kind window) (stream.side window) (stream_of kind) (WasAsked kind window)
 alike kind window = record {
   waiting = λ p ok. (agree kind window p ok).waiting;
   give = λ n p ok. refl;
-  hear = λ bit p ok. ap (λ l. hear_all l (stream_of kind p)) ((agree kind window p ok).taken (answer bit ∷ []))
+  hear = λ bit p ok. ap (λ l. hear_bytes l (stream_of kind p)) ((agree kind window p ok).taken (answer bit ∷ []))
       ∙ hearing kind p (history.answers_taken kind window p (answer bit ∷ []));
   gave = λ n p ok. (stays_asked kind window).give p n ok;
   heard = λ bit p ok. (stays_asked kind window).answer p (answer bit ∷ []) ok;
@@ -28,13 +28,13 @@ alike kind window = record {
 pub carry_over : SchedulesCarryOver
 carry_over kind window program b down_room up_room es =
     (λ i. run (stream.side window) down_room up_room es (empty_pipes (sym (fresh_agrees kind program) i) b))
-    ∙ run-alike (history.side kind window) (stream.side window) (stream_of kind) (WasAsked kind window) (alike kind window) down_room up_room es
+    ∙ run-alike (side kind window) (stream.side window) (stream_of kind) (WasAsked kind window) (alike kind window) down_room up_room es
     (empty_pipes (playing.new_player program) b) ((stays_asked kind window).fresh program)
     ∙ ap (with_player (stream_of kind)) (carried kind window program b down_room up_room es)
 
 pub calls_alike : CallsGoAlike
 calls_alike kind window p asked = record {
   give = λ n. refl;
-  answers = λ bytes. ap (λ l. hear_all l (stream_of kind p)) ((agree kind window p asked).taken bytes)
+  answers = λ bytes. ap (λ l. hear_bytes l (stream_of kind p)) ((agree kind window p asked).taken bytes)
       ∙ hearing kind p (history.answers_taken kind window p bytes);
 }

@@ -9,16 +9,16 @@ use Rattle.plays.specs.Play.{Turn, turns, up_to_asks}
 use Rattle.plays.proofs.Asks.{AllAsk, asks, turns-ask}
 use Rattle.every_schedule.proofs.Quits.{asks-append, asks-up-to}
 use Rattle.streaming.specs.Laws.{OwedWithinTheWindow}
-use Rattle.plays.specs.Streams.{sends, stops}
+use Rattle.plays.specs.Streams.{may_send, stops}
 use Rattle.streaming.proofs.Agree.{ask-count, counts, reads-take}
 
-sends-within : (window : ℕ) (ts : List Turn) → AllAsk ts → (n : ℕ) (failed : Bool) → asks (sends window ts n failed) ≤ n + window
+sends-within : (window : ℕ) (ts : List Turn) → AllAsk ts → (n : ℕ) (failed : Bool) → asks (may_send window ts n failed) ≤ n + window
 sends-within window [] all n failed = omega arith
 sends-within window (t ∷ ts) all n failed =
     one (nat_lt n (length t.wants)) refl (failed && nat_le n (length t.wants)) (sends-within window ts all.1 (n - length t.wants) failed)
   where
     rest : List Message
-    rest = sends window ts (n - length t.wants) failed
+    rest = may_send window ts (n - length t.wants) failed
 
     one : (short : Bool) → nat_lt n (length t.wants) ≡ short → (last : Bool) → asks rest ≤ n - length t.wants + window
         → asks (if short then up_to_asks t.messages (n + window) else t.messages ++ (if last then Quit ∷ [] else rest)) ≤ n + window
@@ -30,7 +30,7 @@ pub within : OwedWithinTheWindow
 within window s = one (is_some s.bad)
   where
     S : List Message
-    S = sends window (turns s.program.steps) s.answered (stops s)
+    S = may_send window (turns s.program.steps) s.answered (stops s)
 
     one : (bad : Bool) → (if bad then 0 else count_by (λ b. b == 82) (take s.given (map encode S)) - s.answered) ≤ window
     one true = omega arith

@@ -1,24 +1,23 @@
 -- The player that is known by all answers it took, for any window, whether it stops after a failing step or plays on.
-use Rattle.std.specs.Prelude.{◌≤◌, Bool, ◌||◌, ℕ, ◌+◌, ◌-◌, ◌==◌, List, [], ◌∷◌, ◌++◌, map, length, take, drop}
+use Rattle.std.specs.Prelude.{◌≤◌, Bool, ◌||◌, ℕ, ◌-◌, ◌==◌, List, [], map, length, take, drop}
 use Rattle.std.specs.Prelude.{count_by, Option, Some, None, if◌then◌else◌}
 use Rattle.std.specs.List.{list_any}
-use Rattle.bitbang_table.specs.Protocol.{answer}
 use Rattle.plays.specs.declared.ending.Ending.{Ending}
 use Rattle.plays.specs.declared.ending.Ending.TheVariants.{Pass}
-use Rattle.plays.specs.Events.{Side}
 use Rattle.plays.specs.Play.{Turn, ending_for, in_work, player, turns}
 use Rattle.plays.specs.Playing.{PlayerState, has_bad_answer, up_to_bad}
 use Rattle.plays.specs.PlayingOn.{Kind, Stops, PlaysOn, ending_of, failures, turns_for}
 
-abbrev pub bits : List ℕ → List Bool
-bits bytes = map (λ b. b == 49) bytes
+-- the bits that answer bytes tell
+abbrev pub bits_told : List ℕ → List Bool
+bits_told bytes = map (λ b. b == 49) bytes
 
 module _ (kind : Kind) (window : ℕ) where
   abbrev pub turns_in : PlayerState → List Turn
   turns_in p = turns_for kind p.program.steps
 
   abbrev pub bytes_of : PlayerState → List ℕ
-  bytes_of p = player window (turns_in p) (bits p.got)
+  bytes_of p = player window (turns_in p) (bits_told p.got)
 
   abbrev pub bytes_to_send : PlayerState → List ℕ
   bytes_to_send p = if has_bad_answer p then [] else drop p.given (bytes_of p)
@@ -37,7 +36,7 @@ module _ (kind : Kind) (window : ℕ) where
 
   -- One that plays on fails, once it has passed to the end, by the first of all failures.
   abbrev pub verdict_of : PlayerState → Option Ending → Option Ending
-  verdict_of p (Some Pass) = Some (ending_of (failures (turns p.program.steps) (bits p.got)))
+  verdict_of p (Some Pass) = Some (ending_of (failures (turns p.program.steps) (bits_told p.got)))
   verdict_of p other = other
 
   abbrev pub verdict : PlayerState → Option Ending
@@ -51,16 +50,8 @@ module _ (kind : Kind) (window : ℕ) where
   ending_of_history p = if has_ended p then verdict p else None
 
   abbrev pub working : PlayerState → ℕ
-  working p = in_work p.program.statements (turns_in p) p.given (bits p.got)
+  working p = in_work p.program.statements (turns_in p) p.given (bits_told p.got)
 
   -- No answer was taken that was not asked for.
   abbrev pub WasAsked : PlayerState → Type 0
   WasAsked p = length p.got ≤ count_by (λ b. b == 82) (bytes_of p)
-
-  -- as events see it
-  abbrev pub side : Side PlayerState
-  side = record {
-    waiting = bytes_to_send;
-    give = λ n p. record p { given = p.given + n };
-    hear = λ bit p. record p { got = p.got ++ answers_taken p (answer bit ∷ []) };
-  }

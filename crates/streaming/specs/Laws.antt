@@ -10,12 +10,12 @@ use Rattle.plays.specs.Playing.{PlayerState, has_bad_answer}
 use Rattle.svf_settings.specs.Steps.{Program}
 use Rattle.plays.specs.PlayingOn.{Kind, Stops, failures, turns_for}
 use Rattle.every_schedule.specs.Fronts.{IsFront}
-use Rattle.every_schedule.specs.Laws.{full, full_bytes}
-use Rattle.every_schedule.specs.Sides.{answered_all}
+use Rattle.every_schedule.specs.Laws.{full, bytes_of_full_play}
+use Rattle.every_schedule.specs.Sides.{answers_to_bytes}
 use Rattle.streaming.specs.Histories as history
-use Rattle.streaming.specs.Histories.{WasAsked, bits}
+use Rattle.streaming.specs.Histories.{WasAsked, bits_told}
 use Rattle.plays.specs.Streams as stream
-use Rattle.plays.specs.Streams.{StreamState, found_of, hear_all}
+use Rattle.plays.specs.Streams.{StreamState, found_of, hear_bytes}
 
 -- the answers before the first that is neither `0` nor `1`
 abbrev pub good : List ℕ → List ℕ
@@ -29,14 +29,14 @@ stream_of kind p = record {
   kind = kind;
   given = p.given;
   answered = length (good p.got);
-  found = found_of kind (failures (turns p.program.steps) (bits (good p.got)));
+  found = found_of kind (failures (turns p.program.steps) (bits_told (good p.got)));
   bad = find is_bad p.got;
 }
 
 -- For every list of answers: heard one by one they lead from a history's stream to the stream of the longer history.
 abbrev pub HearingIsTheHistory : Type 0
 HearingIsTheHistory = (kind : Kind) (p : PlayerState) (bytes : List ℕ)
-    → hear_all bytes (stream_of kind p) ≡ stream_of kind (record p { got = p.got ++ bytes })
+    → hear_bytes bytes (stream_of kind p) ≡ stream_of kind (record p { got = p.got ++ bytes })
 
 abbrev pub FreshAgrees : Type 0
 FreshAgrees = (kind : Kind) (program : Program)
@@ -58,7 +58,7 @@ StreamsAgree = (kind : Kind) (window : ℕ) (p : PlayerState) → WasAsked kind 
 pub record GoesAlike (kind : Kind) (window : ℕ) (p : PlayerState) : Type 0 where
   pub give : (n : ℕ) → record (stream_of kind p) { given = p.given + n }
       ≡ stream_of kind (record p { given = p.given + n })
-  pub answers : (bytes : List ℕ) → hear_all (stream.answers_taken window (stream_of kind p) bytes) (stream_of kind p)
+  pub answers : (bytes : List ℕ) → hear_bytes (stream.answers_taken window (stream_of kind p) bytes) (stream_of kind p)
       ≡ stream_of kind (record p { got = p.got ++ history.answers_taken kind window p bytes })
 
 abbrev pub CallsGoAlike : Type 0
@@ -74,15 +74,6 @@ pub record StaysAsked (kind : Kind) (window : ℕ) : Type 0 where
 
 abbrev pub AnsweringStaysAsked : Type 0
 AnsweringStaysAsked = (kind : Kind) (window : ℕ) → StaysAsked kind window
-
-pub record IsThePlayer (p : PlayerState) : Type 0 where
-  pub waiting : history.bytes_to_send Stops 1 p ≡ playing.bytes_to_send p
-  pub owed : history.owed Stops 1 p ≡ playing.owed p
-  pub taken : (bytes : List ℕ) → history.answers_taken Stops 1 p bytes ≡ playing.answers_taken p bytes
-  pub ended : history.ending_of_history Stops 1 p ≡ playing.ending_of_player p
-
-abbrev pub TheStopperIsThePlayer : Type 0
-TheStopperIsThePlayer = (p : PlayerState) → IsThePlayer p
 
 -- Whatever the state, no more answers are owed than the window.
 abbrev pub OwedWithinTheWindow : Type 0
@@ -114,10 +105,10 @@ SchedulesCarryOver = (kind : Kind) (window : ℕ) (program : Program) (b : Board
 -- verdict, and all its bytes lead a board to the full play's, whatever the window.
 pub record IsFullPlay (window : ℕ) (p : PlayerState) (b : BoardState) : Type 0 where
   pub ending : history.ending_of_history Stops window p ≡ Some (full Stops p.program.steps b).ending
-  pub bytes : history.given_out Stops window p ≡ full_bytes Stops p.program.steps b
+  pub bytes : history.given_out Stops window p ≡ bytes_of_full_play Stops p.program.steps b
   pub board : after_bytes (history.given_out Stops window p) b ≡ (full Stops p.program.steps b).board
 
 abbrev pub AnHonestVerdictForAnyWindow : Type 0
 AnHonestVerdictForAnyWindow = (window : ℕ) (p : PlayerState) (b : BoardState) (got : List Bool) → p.got ≡ map answer got
-    → IsFront got (answered_all (history.given_out Stops window p) b) → history.has_ended Stops window p ≡ true
+    → IsFront got (answers_to_bytes (history.given_out Stops window p) b) → history.has_ended Stops window p ≡ true
     → IsFullPlay window p b

@@ -7,7 +7,7 @@ use Rattle.svf_settings.specs.Steps.{Program}
 use Rattle.every_schedule.specs.Fair.{one_each}
 use Rattle.plays.specs.PlayingOn.{Kind, Stops, PlaysOn}
 use Rattle.every_schedule.specs.Samples.{sample, two_scans}
-use Rattle.plays.specs.Streams.{StreamState, ending_of_stream, new_stream, hear_all, owed, side, answers_taken}
+use Rattle.plays.specs.Streams.{StreamState, ending_of_stream, new_stream, hear_bytes, owed, side, answers_taken}
 use Rattle.plays.specs.Streams.{bytes_to_send, working}
 
 abbrev pub program : Program
@@ -33,4 +33,4 @@ pub record SamplesCompute : Type 0 where
   pub owes : owed 256 asked ≡ 1
   pub takes : answers_taken 256 asked (49 ∷ 49 ∷ []) ≡ 49 ∷ []
   pub works : working asked ≡ 1
-  pub bad : ending_of_stream 256 (hear_all (answers_taken 256 asked (50 ∷ [])) asked) ≡ Some (BadAnswer 1 50)
+  pub bad : ending_of_stream 256 (hear_bytes (answers_taken 256 asked (50 ∷ [])) asked) ≡ Some (BadAnswer 1 50)

@@ -75,7 +75,7 @@ joined (p ∷ parts) text rest (after, is, fits, more) =
     append_assoc (bytes_of p) (flat_map bytes_of parts) rest ∙ ap (λ (t : List ℕ). bytes_of p ++ t) (joined parts after rest more) ∙ sym is
 
 pub parts_join : PartsJoin
-parts_join text ts t = (t.parts, sym (append-nil (flat_map bytes_of t.parts)) ∙ joined t.parts text [] t.divides, sym t.among)
+parts_join text parts is = sym (append-nil (flat_map bytes_of parts)) ∙ joined parts text [] is
 
 no_run_behind : (second here more : List ℕ) → here ≡ second ++ more → 0 < length second → AllByRecursion IsRunByte second → EndsRun here → ⊥
 no_run_behind [] here more is holds all ends = omega arith

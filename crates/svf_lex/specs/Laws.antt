@@ -4,7 +4,7 @@ use Rattle.std.specs.List.{flat_map}
 use Rattle.svf_lex.specs.declared.Kind.TheVariants as kind
 use Rattle.svf_lex.specs.declared.LexFault.{LexFault}
 use Rattle.svf_lex.specs.Cutting.{Lexeme, piece, bad, cuts_of, items_of}
-use Rattle.svf_lex.specs.Gaps.{Part, token, bytes_of, Divides, tokens_at, TokensOf, BadAfter}
+use Rattle.svf_lex.specs.Gaps.{Part, token, bytes_of, Divides, TokensOf, BadAfter}
 use Rattle.svf_lex.specs.Lexed.{Lexes, InOrder}
 
 -- the tokens of a text are those of its cut
@@ -42,8 +42,7 @@ NeverBoth = (text : List ℕ) (tokens others : List Lexeme) (place : ℕ) → To
 
 -- the bytes of all parts in order are the text
 abbrev pub PartsJoin : Type 0
-PartsJoin = (text : List ℕ) (tokens : List Lexeme) → TokensOf text tokens
-    → (parts : List Part) × (flat_map bytes_of parts ≡ text) × (tokens_at 0 parts ≡ tokens)
+PartsJoin = (text : List ℕ) (parts : List Part) → Divides parts text [] → flat_map bytes_of parts ≡ text
 
 -- no run stands right behind another
 abbrev pub RunsStandApart : Type 0

@@ -29,6 +29,7 @@ pub enum Kind {
 /// A token of a text.
 #[derive(Debug, Clone, Copy, PartialEq, Eq)]
 pub struct Token<'a> {
+    /// What it is.
     pub kind: Kind,
     /// Its bytes, which stand in the text at `start`.
     pub text: &'a [u8],

@@ -8,7 +8,7 @@ use Rattle.svf_parse.specs.Judging.{Said}
 use Rattle.svf_parse.specs.View.{memory_fault}
 use Rattle.svf_settings.specs.declared.kept.KeptStep.{KeptStep}
 use Rattle.svf_settings.specs.Steps.{Step, Numbered, Program}
-use Rattle.svf_settings.specs.Programs.{Resolves, Refuses, resolution, first_refusal, unless, program, steps, numbered}
+use Rattle.svf_settings.specs.Programs.{Resolves, Refuses, resolution, first_refusal, unless, program, steps, step_made}
 use Rattle.svf_settings.specs.Held.{step_in, numbered_in}
 use Rattle.svf_settings.specs.Laws.{IsWithin, AllWithin, IsSound}
 use Rattle.svf_settings.specs.Reading.{Answers}
@@ -50,14 +50,14 @@ refused all f e = ap (λ o. unless o (program all)) e
 
 -- ---- how much is kept
 
-one_step : (n : ℕ) (o : Option Step) → length (numbered n o) ≤ 1
+one_step : (n : ℕ) (o : Option Step) → length (step_made n o) ≤ 1
 one_step n None = lit≤ tt
 one_step n (Some s) = lit≤ tt
 
 pub few_steps : (past : List Said) → length (steps past) ≤ length past
 few_steps [] = lit≤ tt
 few_steps (s ∷ past) =
-    let made = numbered (length past + 1) (step (settings past) s) in
+    let made = step_made (length past + 1) (step (settings past) s) in
     omega (arith, few_steps past, one_step (length past + 1) (step (settings past) s), length-append (steps past) made)
 
 sized : (s : Said) → size s ≡ 1 + content s

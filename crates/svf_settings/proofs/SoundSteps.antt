@@ -22,7 +22,7 @@ use Rattle.scan_vectors.proofs.Places.{length-vector}
 use Rattle.tap_paths.specs.Paths.{last_of}
 use Rattle.svf_settings.specs.Steps.{Step, Scan, Go, Path, Run, Trst, Numbered, place_after, line_after}
 use Rattle.svf_settings.specs.Legal.{IsPath, IsFormed, IsLegalAt, AllLegalFrom, IsLegalProgram}
-use Rattle.svf_settings.specs.LookBack.{Settings, settings, step, place, in_force, cycles, runs_in, ends_in, trst_word, dr_end, ir_end}
+use Rattle.svf_settings.specs.LookBack.{Settings, settings, step, place, in_force, cycle_count, runs_in, ends_in, trst_word, dr_end, ir_end}
 use Rattle.svf_settings.specs.Refusals.{refusal_at, refusal, misses_tdi, is_unstable, is_broken, is_stopped, uses_absent, is_empty, is_too_slow, is_too_large, is_held, needs_release, len_of, vector_limit}
 use Rattle.svf_settings.specs.Programs.{steps, first_refusal, or_refused}
 use Rattle.svf_settings.specs.Laws.{IsWithin, AllWithin, IsSound}
@@ -147,7 +147,7 @@ good st at (said.scan Sdr n tdi tdo mask smask) d i c =
 good st at (said.scan Sir n tdi tdo mask smask) d i c =
     scan_good at (is_held st.trst) Ir st.hir st.tir (in_force n tdi tdo mask st.sir) st.ir_end i (positive n c.some) (within _ _ c.small) c.free
 good st at (said.run_test run count min max end) d i c =
-    let x : Step = Run (runs_in run st.run_state) (cycles st.period count min) (ends_in run end st.run_end) in
+    let x : Step = Run (runs_in run st.run_state) (cycle_count st.period count min) (ends_in run end st.run_end) in
     record { legal = legal at (is_held st.trst) x (both_true _ _ c.stable) c.free; within = within _ _ c.small }
 good st at (said.states []) d i c = tt
 good st at (said.states (s ∷ [])) d i c = record { legal = legal at (is_held st.trst) (Go s) (not_false _ c.stable) c.free; within = tt }

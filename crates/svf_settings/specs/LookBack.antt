@@ -59,8 +59,8 @@ period (said.frequency p ∷ before) = unwrap_or p 1000000
 period (_ ∷ before) = period before
 
 -- the cycles of a RUNTEST: at least its count, and at least its least time
-abbrev pub cycles : ℕ → Option ℕ → Option ℕ → ℕ
-cycles period count min = max (unwrap_or count 0) (div_ceil (unwrap_or min 0) period)
+abbrev pub cycle_count : ℕ → Option ℕ → Option ℕ → ℕ
+cycle_count period count min = max (unwrap_or count 0) (div_ceil (unwrap_or min 0) period)
 
 -- ---- the line TRST
 
@@ -161,26 +161,26 @@ whole Dr s body = vector_of (unwrap_or s.hdr no_fields) body (unwrap_or s.tdr no
 whole Ir s body = vector_of (unwrap_or s.hir no_fields) body (unwrap_or s.tir no_fields)
 
 -- one state to go to, or a path
-abbrev pub along : List State → Option Step
-along [] = None
-along (s ∷ []) = Some (Go s)
-along (s ∷ t ∷ path) = Some (Path (s ∷ t ∷ path))
+abbrev pub path_step : List State → Option Step
+path_step [] = None
+path_step (s ∷ []) = Some (Go s)
+path_step (s ∷ t ∷ path) = Some (Path (s ∷ t ∷ path))
 
 -- The step that a statement makes at these settings, if it makes one.
 abbrev pub step : Settings → Said → Option Step
 step s (said.scan Sdr n tdi tdo mask smask) = Some (Scan Dr (whole Dr s (in_force n tdi tdo mask s.sdr)) s.dr_end)
 step s (said.scan Sir n tdi tdo mask smask) = Some (Scan Ir (whole Ir s (in_force n tdi tdo mask s.sir)) s.ir_end)
 step s (said.run_test run count min max end) =
-    Some (Run (runs_in run s.run_state) (cycles s.period count min) (ends_in run end s.run_end))
-step s (said.states path) = along path
+    Some (Run (runs_in run s.run_state) (cycle_count s.period count min) (ends_in run end s.run_end))
+step s (said.states path) = path_step path
 step s (said.trst w) = Some (Trst w)
 step s _ = None
 
-abbrev pub rests : State → Option Step → State
-rests place None = place
-rests place (Some step) = place_after place step
+abbrev pub place_after_some : State → Option Step → State
+place_after_some place None = place
+place_after_some place (Some step) = place_after place step
 
 -- where the program rests: in RESET at first, and then where the last step rests
 abbrev pub place : List Said → State
 place [] = Reset
-place (s ∷ before) = rests (place before) (step (settings before) s)
+place (s ∷ before) = place_after_some (place before) (step (settings before) s)

@@ -1,5 +1,5 @@
 -- A reader of statements, between two of them.
-use Rattle.std.specs.Prelude.{◌≡◌, ◌≢◌, ℕ, List, [], ◌∷◌, map, option_map, reverse, take, Option, Some, None, Result}
+use Rattle.std.specs.Prelude.{◌≡◌, ◌≢◌, ℕ, List, [], ◌∷◌, map, option_map, reverse, Option, Some, None, Result}
 use Rattle.std.specs.Prelude.{Ok, Err}
 use Rattle.std.specs.Global.{Vec}
 use Rattle.svf_parse.specs.declared.fault.Code.{Code}
@@ -15,10 +15,6 @@ use Rattle.svf_settings.specs.LookBack.{settings, place, step}
 use Rattle.svf_settings.specs.Refusals.{refusal}
 use Rattle.svf_settings.specs.Programs.{steps, first_refusal}
 use Rattle.svf_settings.specs.Held.{settings_in, numbered_in, step_in}
-
--- the first statements, the nearest first
-abbrev pub before : ℕ → List Said → List Said
-before k all = reverse (take k all)
 
 -- a reader has the settings and the place behind these statements
 pub record IsBehind (all past : List Said) (r : Reader) : Type 0 where

@@ -15,7 +15,8 @@ use Rattle.svf_parse.specs.Judging as said
 use Rattle.scan_vectors.specs.Fields.{Fields}
 use Rattle.svf_settings.specs.Steps.{Step, Trst}
 use Rattle.svf_settings.specs.Legal.{leaves_reset}
-use Rattle.svf_settings.specs.LookBack.{Settings, settings, cycles, field_or, last_of_command, runs_in, ends_in, step}
+use Rattle.svf_settings.specs.LookBack.{Settings, settings, cycle_count, field_or, last_of_command, runs_in, ends_in}
+use Rattle.svf_settings.specs.LookBack.{step}
 use Rattle.svf_settings.specs.LookBack.{place}
 
 -- a whole vector has at most 65,536 bits, and a run at most 4,294,967,295 cycles
@@ -83,7 +84,7 @@ is_slower time None = false
 is_slower time (Some most) = nat_lt most time
 
 abbrev pub is_too_slow : Settings → Said → Bool
-is_too_slow st (said.run_test run count min max end) = is_slower (cycles st.period count min * st.period) max
+is_too_slow st (said.run_test run count min max end) = is_slower (cycle_count st.period count min * st.period) max
 is_too_slow st _ = false
 
 -- S15: a whole vector or a run is too long
@@ -94,7 +95,7 @@ len_of (Some f) = f.len
 abbrev pub is_too_large : Settings → Said → Bool
 is_too_large st (said.scan Sdr n tdi tdo mask smask) = nat_lt vector_limit (len_of st.hdr + n + len_of st.tdr)
 is_too_large st (said.scan Sir n tdi tdo mask smask) = nat_lt vector_limit (len_of st.hir + n + len_of st.tir)
-is_too_large st (said.run_test run count min max end) = nat_lt cycle_limit (cycles st.period count min)
+is_too_large st (said.run_test run count min max end) = nat_lt cycle_limit (cycle_count st.period count min)
 is_too_large st _ = false
 
 -- a statement has this refusal

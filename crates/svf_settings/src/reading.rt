@@ -1,7 +1,7 @@
 //! Statements read from the first to the last, each with what those before it set.
 
-ghost use Rattle.std.specs.Prelude.{◌≡◌, ◌++◌, ◌+◌, ◌<◌, ◌^◌, List, [], Some, Option, IfOk, IfSome, map, length};
-ghost use Rattle.std.specs.Prelude.{slice_get};
+ghost use Rattle.std.specs.Prelude.{◌≡◌, ◌++◌, ◌+◌, ◌<◌, ◌≤◌, ◌^◌, List, [], Some, None, Option, IfOk, IfSome, map};
+ghost use Rattle.std.specs.Prelude.{length, slice_get};
 ghost use Rattle.svf_parse.specs.View.{memory_fault, said};
 ghost use Rattle.svf_parse.specs.Judging.{Said};
 ghost use Rattle.svf_settings.specs.Reading.{IsBehind, Keeps, Takes, kept_as};
@@ -90,7 +90,8 @@ pub(crate) fn kept_steps(alloc: Global, statements: &[Statement]) -> Result<Vec<
 
 /// The place of a statement, as a step names it: there is room for 2^32 - 1 statements.
 fn place_of(index: usize) -> Option<u32>
-    ensures { IfSome result (λ place. (place ≡ index) × (place + 1 < 2 ^ 32)) }
+    ensures found { IfSome result (λ place. (place ≡ index) × (place + 1 < 2 ^ 32)) }
+    ensures none { result ≡ None → 2 ^ 32 ≤ index + 1 }
 {
     if index < u32::MAX as usize {
         Some(index as u32)

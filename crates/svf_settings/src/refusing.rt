@@ -190,7 +190,7 @@ impl Running {
 
     /// Its cycles.
     pub(crate) fn cycles(&self, count: Option<u32>, min_ps: Option<u64>) -> u64
-        ensures { result ≡ look.cycles self.now.period count min_ps }
+        ensures { result ≡ look.cycle_count self.now.period count min_ps }
     {
         let least = rounded_up(min_ps.unwrap_or(0), self.period);
         u64::from(count.unwrap_or(0)).max(least)

@@ -228,7 +228,7 @@ fn mask_before(statements: &[Statement], previous: Option<KeptPart>, len: usize)
 /// The step of a STATE statement, which stands at this place of the statements.
 fn path_step(index: u32, path: &[State]) -> Option<Kept>
     ensures { (all : List Said) → slice_get all index ≡ Some (says.states path.now)
-        → option_map (step_in all) result ≡ look.along path.now }
+        → option_map (step_in all) result ≡ look.path_step path.now }
 {
     match path {
         [] => None,

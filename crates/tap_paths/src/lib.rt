@@ -1,7 +1,7 @@
 //! The default paths of the Serial Vector Format through the TAP controller.
 #![tactic(auto)]
 
-ghost use Rattle.std.specs.Prelude.{◌≡◌, ◌↔◌, ◌+◌, ◌<◌, ◌≤◌, ◌++◌, Bool, true, length, IsOk, IfErr, IfSome, IsSome};
+ghost use Rattle.std.specs.Prelude.{◌≡◌, ◌↔◌, ◌+◌, ◌<◌, ◌≤◌, ◌++◌, Bool, true, length, IsOk, IfErr, IfSome};
 ghost use Rattle.arrayvec.specs.ArrayVec.{array_vec_len};
 ghost use Rattle.jt_tap.specs.Controller.{is_stable};
 ghost use Rattle.tap_paths.specs.Paths as spec;
@@ -42,10 +42,12 @@ fn default_path(from: State, to: State) -> ArrayVec<State, 8>
     path
 }
 
-/// The default path from a stable state to the Shift state of a column.
+/// The default path from a stable state (asked) to the Shift state of a column (Serial Vector Format, revision E, SDR
+/// and SIR): from RESET over IDLE, from a pause over its update.
 pub fn to_shift(from: State, column: Column) -> ArrayVec<State, 8>
     requires { is_stable from ≡ true }
-    ensures { result.items ≡ spec.to_shift from column }
+    ensures path { result.items ≡ spec.to_shift from column }
+    ensures legal { Leads from result.items (spec.shift_state column) }
 {
     let mut path = ArrayVec::new();
     append(&mut path, towards_idle(from));
@@ -53,9 +55,17 @@ pub fn to_shift(from: State, column: Column) -> ArrayVec<State, 8>
     path
 }
 
-/// The default path from the Exit1 state of a column to a stable state.
+/// The default path from the Exit1 state of a column to a stable state (asked; Serial Vector Format, revision E, ENDDR
+/// and ENDIR): to its own pause at once, anywhere else over its update.
 pub fn from_exit1(column: Column, to: State) -> ArrayVec<State, 8>
     requires { is_stable to ≡ true }
+    ensures path { result.items ≡ spec.from_exit1 column to }
+    ensures legal { Leads (spec.exit1_state column) result.items to }
+{
+    exit1_path(column, to)
+}
+
+fn exit1_path(column: Column, to: State) -> ArrayVec<State, 8>
     ensures { result.items ≡ spec.from_exit1 column to }
 {
     let mut path = ArrayVec::new();
@@ -146,7 +156,6 @@ fn append(path: &mut ArrayVec<State, 8>, states: &[State])
 pub fn tms_of(from: State, to: State) -> Option<bool>
     ensures found { IfSome result (λ tms. Arrow from tms to) }
     ensures only { (tms : Bool) → Arrow from tms to → result ≡ Some tms }
-    ensures follows { IsSome result ↔ (stated.follows from to ≡ true) }
 {
     let tms = to.entered_by();
     if from.step(tms) == to {
@@ -175,12 +184,19 @@ fn gap(from: State, path: &[State]) -> Option<usize>
 {
     let mut before = from;
     for (place, state) in path.iter().enumerate() {
-        if tms_of(before, *state).is_none() {
+        if !follows(before, *state) {
             return Some(place);
         }
         before = *state;
     }
     None
+}
+
+/// Whether a state is one rising edge from the one before.
+fn follows(before: State, state: State) -> bool
+    ensures { result ≡ stated.follows before state }
+{
+    tms_of(before, state).is_some()
 }
 
 /// Every default path leads by arrows of the state diagram from its first state to its last.

@@ -11,7 +11,7 @@ use Rattle.std.proofs.lemmas.Option.{slice_get_read, slice_get_past}
 use Rattle.scan_vectors.specs.Vector.{VectorBit}
 use Rattle.scan_vectors.proofs.Places.{get-left, get-right}
 use Rattle.bitbang_table.specs.declared.Cycle.{Cycle}
-use Rattle.tck_cycles.specs.Cycles.{walk, scan_cycles}
+use Rattle.tck_cycles.specs.Cycles.{entering, scan_cycles}
 use Rattle.jt_tap.specs.declared.Column.{Column}
 use Rattle.jt_tap.specs.declared.Column.TheVariants.{Dr, Ir}
 use Rattle.jt_tap.specs.declared.State.{State}
@@ -220,16 +220,16 @@ reads_at_most cs i =
 pub reads_past : (cs : List Cycle) (i : ℕ) → length cs ≤ i → reads (drop i cs) ≡ 0
 reads_past cs i h = ap reads (drop_of_length-le cs h)
 
-pub no_reads_walked : (ss : List State) (i : ℕ) → reads (drop i (map walk ss)) ≡ 0
+pub no_reads_walked : (ss : List State) (i : ℕ) → reads (drop i (map entering ss)) ≡ 0
 no_reads_walked [] zero = refl
 no_reads_walked [] (suc i) = refl
-no_reads_walked (s ∷ ss) zero = sum_by-cons _ (walk s) (map walk ss) ∙ zero-add _ ∙ no_reads_walked ss zero
+no_reads_walked (s ∷ ss) zero = sum_by-cons _ (entering s) (map entering ss) ∙ zero-add _ ∙ no_reads_walked ss zero
 no_reads_walked (s ∷ ss) (suc i) = no_reads_walked ss i
 
-pub no_reads_stayed : (n : ℕ) (s : State) (i : ℕ) → reads (drop i (replicate n (walk s))) ≡ 0
+pub no_reads_stayed : (n : ℕ) (s : State) (i : ℕ) → reads (drop i (replicate n (entering s))) ≡ 0
 no_reads_stayed zero s zero = refl
 no_reads_stayed zero s (suc i) = refl
-no_reads_stayed (suc n) s zero = sum_by-cons _ (walk s) (replicate n (walk s)) ∙ zero-add _ ∙ no_reads_stayed n s zero
+no_reads_stayed (suc n) s zero = sum_by-cons _ (entering s) (replicate n (entering s)) ∙ zero-add _ ∙ no_reads_stayed n s zero
 no_reads_stayed (suc n) s (suc i) = no_reads_stayed n s i
 
 drop_parts : {A : Type 0} (xs ys : List A) (n : ℕ) → drop n (xs ++ ys) ≡ drop n xs ++ drop (n - length xs) ys
@@ -245,13 +245,13 @@ reads_parts xs ys n = ap reads (drop_parts xs ys n) ∙ sum_by-append _ (drop n 
 
 -- between two paths only the middle reads
 pub middle_reads : (lead tail : List State) (m : List Cycle) (n k : ℕ) → k ≡ n - length lead
-    → reads (drop k m) ≡ reads (drop n (map walk lead ++ m ++ map walk tail))
+    → reads (drop k m) ≡ reads (drop n (map entering lead ++ m ++ map entering tail))
 middle_reads lead tail m n k e =
-    let l = length-map lead walk in
-    let at : n - length (map walk lead) ≡ k = omega (arith, l, e) in
-    let whole = reads_parts (map walk lead ++ m) (map walk tail) n in
-    let front = reads_parts (map walk lead) m n in
+    let l = length-map lead entering in
+    let at : n - length (map entering lead) ≡ k = omega (arith, l, e) in
+    let whole = reads_parts (map entering lead ++ m) (map entering tail) n in
+    let front = reads_parts (map entering lead) m n in
     let a = no_reads_walked lead n in
-    let b = no_reads_walked tail (n - length (map walk lead ++ m)) in
+    let b = no_reads_walked tail (n - length (map entering lead ++ m)) in
     let c = ap (λ i. reads (drop i m)) at in
     omega (arith, whole, front, a, b, c)

@@ -7,7 +7,7 @@ use Rattle.svf_parse.specs.declared.statement.TrstWord.TheVariants as word
 use Rattle.scan_vectors.specs.Vector.{VectorBit}
 use Rattle.svf_settings.specs.Steps.{Step, Scan, Go, Path, Run, Trst}
 use Rattle.bitbang_table.specs.declared.Cycle.{Cycle}
-pub use Rattle.bitbang_table.specs.Cycles.{walk, resets_held}
+pub use Rattle.bitbang_table.specs.Cycles.{entering, resets_held}
 
 -- one cycle a bit, TMS 1 on the last
 abbrev pub scan_cycles : List VectorBit → List Cycle
@@ -21,10 +21,10 @@ go_unless_there from to = if is_at from to then [] else go from to
 -- The cycles of a step from a resting place.
 abbrev pub cycles : State → Step → List Cycle
 cycles place (Scan column v end) =
-    map walk (to_shift place column) ++ scan_cycles v ++ map walk (from_exit1 column end)
-cycles place (Go s) = map walk (go place s)
-cycles place (Path path) = map walk path
+    map entering (to_shift place column) ++ scan_cycles v ++ map entering (from_exit1 column end)
+cycles place (Go s) = map entering (go place s)
+cycles place (Path path) = map entering path
 cycles place (Run run n end) =
-    map walk (go_unless_there place run) ++ replicate n (walk run) ++ map walk (go_unless_there run end)
+    map entering (go_unless_there place run) ++ replicate n (entering run) ++ map entering (go_unless_there run end)
 cycles place (Trst word.On) = resets_held
 cycles place (Trst w) = []

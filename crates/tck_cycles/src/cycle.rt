@@ -8,7 +8,7 @@ use jt_tap::State;
 
 /// The cycle that enters a state.
 pub(crate) fn walk(state: State) -> Cycle
-    ensures { result ≡ spec.walk state }
+    ensures { result ≡ spec.entering state }
 {
     Cycle {
         tms: state.entered_by(),

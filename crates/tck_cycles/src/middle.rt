@@ -71,7 +71,7 @@ impl<'a> Middle<'a> {
 
 /// The cycle of a path at a place, if there is one.
 pub(crate) fn path_cycle(path: &[State], at: u64) -> Option<Cycle>
-    ensures { result ≡ slice_get (map spec.walk path.now) at }
+    ensures { result ≡ slice_get (map spec.entering path.now) at }
 {
     match path.get(at as usize) {
         Some(state) => Some(walk(*state)),
@@ -81,7 +81,7 @@ pub(crate) fn path_cycle(path: &[State], at: u64) -> Option<Cycle>
 
 /// The cycle at a place of so many in a state, if there is one.
 fn stay_cycle(state: State, cycles: u64, at: u64) -> Option<Cycle>
-    ensures { result ≡ slice_get (replicate cycles (spec.walk state)) at }
+    ensures { result ≡ slice_get (replicate cycles (spec.entering state)) at }
 {
     if at < cycles { Some(walk(state)) } else { None }
 }

@@ -41,7 +41,7 @@ impl<'a> Source<'a> {
     ghost use Rattle.svf_settings.specs.Legal.{IsFormed};
     ghost use Rattle.svf_settings.specs.Laws.{IsWithin};
     ghost use Rattle.svf_settings.specs.Seen as seen;
-    ghost use Rattle.tck_cycles.specs.Cycles.{cycles, walk};
+    ghost use Rattle.tck_cycles.specs.Cycles.{cycles, entering};
     ghost use Rattle.tck_cycles.specs.Sources.{behind, left, whole};
     ghost use Rattle.std.specs.Iterator.{YieldsFirst};
 
@@ -90,7 +90,8 @@ impl<'a> Source<'a> {
     /// All cycles of these parts.
     fn made(lead: ArrayVec<State, 8>, middle: Middle<'a>, tail: ArrayVec<State, 8>) -> Source<'a>
         requires { array_vec_len lead + length (middle_cycles middle) + array_vec_len tail < 2 ^ 64 }
-        ensures whole { whole result ≡ map walk lead.items ++ middle_cycles middle.entry ++ map walk tail.items }
+        ensures whole { whole result
+            ≡ map entering lead.items ++ middle_cycles middle.entry ++ map entering tail.items }
         ensures left { left result ≡ whole result }
     {
         Source {

@@ -19,12 +19,14 @@ use Rattle.plays.specs.declared.ending.Ending.TheVariants.{Pass, Fail}
 use Rattle.svf_settings.specs.Steps.{Go, Path, Run, Trst, Numbered}
 use Rattle.svf_parse.specs.declared.statement.TrstWord.TheVariants.{On}
 use Rattle.plays.specs.Play.{player, turns}
-use Rattle.worked_rows.specs.Samples.{bits, k, kt, kh, ki, ku, kuc, p, plain, with_core, q, d, net, tdi, tdo, mask, sir}
+use Rattle.worked_rows.specs.Samples.{bits, sample_device, with_trst, with_highz, with_intest, with_user}
+use Rattle.worked_rows.specs.Samples.{with_fixed_user, bare_device, plain, with_core, pin_q, pin_d, net, tdi, tdo}
+use Rattle.worked_rows.specs.Samples.{mask, sir}
 use Rattle.worked_rows.specs.Samples.{sdr, sdr_to, hdr_sdr, step}
 use Rattle.worked_rows.specs.Agree.{Row, played}
 
 abbrev pub pulled_down : AtRest
-pulled_down = power_up (net Down (q 0 ∷ [])) (with_core k 0 ∷ [])
+pulled_down = power_up (net Down (pin_q 0 ∷ [])) (with_core sample_device 0 ∷ [])
 
 -- the level of the net that the sample boards name
 abbrev pub net_levels : BoardState → List Level
@@ -40,31 +42,35 @@ abbrev pub trst_after_a_pause : List Numbered
 trst_after_a_pause = sir 1 (tdi 4 0) ∷ sdr_to 3 (tdi 6 0x1B) DrPause ∷ step 4 (Trst On) ∷ []
 
 abbrev pub opposed_drivers : Pull → AtRest
-opposed_drivers pull = power_up (net pull (q 0 ∷ q 1 ∷ d 0 ∷ [])) (with_core k 0 ∷ with_core k 0 ∷ [])
+opposed_drivers pull = power_up (net pull (pin_q 0 ∷ pin_q 1 ∷ pin_d 0 ∷ []))
+    (with_core sample_device 0 ∷ with_core sample_device 0 ∷ [])
 
 -- the board of the boundary and nets: core 011, core 001, HIGHZ
 abbrev pub with_q : Device → ℕ → AtRest
-with_q device core = power_up (net Free (q 0 ∷ [])) (with_core device core ∷ [])
+with_q device core = power_up (net Free (pin_q 0 ∷ [])) (with_core device core ∷ [])
 
 pub record PlayRows : Type 0 where
-  pub empty_text : Row (plain (k ∷ [])) [] (codes "r26262626260Q") Pass
-  pub ir_scan : Row (plain (k ∷ [])) (sir 1 (tdo 2 3 1) ∷ []) (codes "r2626262626004262604041R53R726040Q") Pass
-  pub ir_scan_answers : (played (plain (k ∷ [])) (sir 1 (tdo 2 3 1) ∷ [])).answers ≡ true ∷ false ∷ []
-  pub identification_twice : Row (plain (k ∷ [])) (sdr 1 (tdo 32 0 0x01234567) ∷ sdr 2 (tdo 32 0 0x01234566) ∷ [])
+  pub empty_text : Row (plain (sample_device ∷ [])) [] (codes "r26262626260Q") Pass
+  pub ir_scan : Row (plain (sample_device ∷ [])) (sir 1 (tdo 2 3 1) ∷ [])
+      (codes "r2626262626004262604041R53R726040Q") Pass
+  pub ir_scan_answers : (played (plain (sample_device ∷ [])) (sir 1 (tdo 2 3 1) ∷ [])).answers ≡ true ∷ false ∷ []
+  pub identification_twice : Row (plain (sample_device ∷ []))
+      (sdr 1 (tdo 32 0 0x01234567) ∷ sdr 2 (tdo 32 0 0x01234566) ∷ [])
       (codes "r26262626260042604040R40R40R40R40R40R40R40R40R40R40R40R40R40R40R40R40R40R40R40R40R40R40R40"
       ++ codes "R40R40R40R40R40R40R40R42R6260402604040R40R40R40R40R40R40R40R40R40R40R40R40R40R40R40R40R40R"
       ++ codes "40R40R40R40R40R40R40R40R40R40R40R40R40R42R626040Q")
       (Fail 2 Data 0)
-  pub bypass_chain : Row (plain (k ∷ k ∷ [])) (sir 1 (tdi 4 15) ∷ sdr 2 (tdo 3 5 4) ∷ [])
+  pub bypass_chain : Row (plain (sample_device ∷ sample_device ∷ [])) (sir 1 (tdi 4 15) ∷ sdr 2 (tdo 3 5 4) ∷ [])
       (codes "r26262626260042626040415151537260402604041R50R43R726040Q") Pass
-  pub header_fails_first : Row (plain (k ∷ k ∷ [])) (sir 1 (tdi 4 15) ∷ hdr_sdr 3 (tdo 1 0 1) (tdo 1 1 1) ∷ [])
+  pub header_fails_first : Row (plain (sample_device ∷ sample_device ∷ []))
+      (sir 1 (tdi 4 15) ∷ hdr_sdr 3 (tdo 1 0 1) (tdo 1 1 1) ∷ [])
       (codes "r26262626260042626040415151537260402604040R43R726040Q") (Fail 3 Header 0)
-  pub mask_not_kept_past_a_length : Row (plain (k ∷ []))
+  pub mask_not_kept_past_a_length : Row (plain (sample_device ∷ []))
       (sir 1 (tdi 2 3) ∷ sdr 2 (mask 8 0 0xF0 0x0F) ∷ sdr 3 (tdo 4 0 0) ∷ sdr 4 (tdo 8 0 0xF0) ∷ [])
       (codes "r2626262626004262604041537260402604040R40R40R40R404040426260402604040R40R40R42R62604026040"
       ++ codes "40R40R40R40R40R40R40R42R626040Q")
       (Fail 4 Data 4)
-  pub bypass_delays_a_bit : Row (plain (k ∷ [])) (sir 1 (tdi 2 3) ∷ sdr 2 (tdo 5 0x15 0x0A) ∷ [])
+  pub bypass_delays_a_bit : Row (plain (sample_device ∷ [])) (sir 1 (tdi 2 3) ∷ sdr 2 (tdo 5 0x15 0x0A) ∷ [])
       (codes "r2626262626004262604041537260402604041R50R41R50R43R726040Q") Pass
   pub pause_holds_the_update : Row pulled_down (sir 1 (tdi 2 0) ∷ sdr_to 3 (tdi 3 3) DrPause ∷ [])
       (codes "r262626262600426260404042626040260404151526040Q") Pass
@@ -74,21 +80,26 @@ pub record PlayRows : Type 0 where
       (codes "r2626262626004262604040426260402604041515260402626040Q") Pass
   pub left_pause_level : net_levels
       (played pulled_down (sir 1 (tdi 2 0) ∷ sdr_to 3 (tdi 3 3) DrPause ∷ step 4 (Go Idle) ∷ [])).board ≡ One ∷ []
-  pub ir_pause_captures : Row (plain (k ∷ [])) (step 1 (Go IrPause) ∷ step 2 (Go Idle) ∷ [])
+  pub ir_pause_captures : Row (plain (sample_device ∷ [])) (step 1 (Go IrPause) ∷ step 2 (Go Idle) ∷ [])
       (codes "r2626262626004262604260402626040Q") Pass
-  pub ir_pause_latch : latches (played (plain (k ∷ [])) (step 1 (Go IrPause) ∷ step 2 (Go Idle) ∷ [])).board
+  pub ir_pause_latch : latches
+      (played (plain (sample_device ∷ [])) (step 1 (Go IrPause) ∷ step 2 (Go Idle) ∷ [])).board
       ≡ bits 2 1 ∷ []
-  pub ir_pause_instruction : instruction k (bits 2 1) ≡ Some (codes "SAMPLE")
-  pub stated_path_shifts_zeros : Row (plain (k ∷ []))
-      (sir 1 (tdi 2 3) ∷ step 2 (Path (DrSelect ∷ DrCapture ∷ DrShift ∷ DrShift ∷ DrExit1 ∷ DrUpdate ∷ Idle ∷ [])) ∷ [])
+  pub ir_pause_instruction : instruction sample_device (bits 2 1) ≡ Some (codes "SAMPLE")
+  pub stated_path_shifts_zeros : Row (plain (sample_device ∷ []))
+      (sir 1 (tdi 2 3)
+      ∷ step 2 (Path (DrSelect ∷ DrCapture ∷ DrShift ∷ DrShift ∷ DrExit1 ∷ DrUpdate ∷ Idle ∷ [])) ∷ [])
       (codes "r262626262600426260404153726040260404042626040Q") Pass
-  pub trst_resets_without_settling : Row (plain (kt ∷ k ∷ [])) trst_after_a_pause
+  pub trst_resets_without_settling : Row (plain (with_trst ∷ sample_device ∷ [])) trst_after_a_pause
       (codes "r2626262626004262604040404042626040260404151504151526040t26262626260Q") Pass
   pub trst_keeps_update_stages : map (λ r. r.update)
-      (registers_of (played (plain (kt ∷ k ∷ [])) trst_after_a_pause).board) ≡ bits 3 0 ∷ bits 3 3 ∷ []
-  pub trst_resets_latches : latches (played (plain (kt ∷ k ∷ [])) trst_after_a_pause).board ≡ bits 2 2 ∷ bits 2 2 ∷ []
+      (registers_of (played (plain (with_trst ∷ sample_device ∷ [])) trst_after_a_pause).board)
+      ≡ bits 3 0 ∷ bits 3 3 ∷ []
+  pub trst_resets_latches : latches (played (plain (with_trst ∷ sample_device ∷ [])) trst_after_a_pause).board
+      ≡ bits 2 2 ∷ bits 2 2 ∷ []
   -- three cycles in IDLE
-  pub runtest_cycles : Row (plain (k ∷ [])) (step 2 (Run Idle 3 Idle) ∷ []) (codes "r26262626260040404040Q") Pass
+  pub runtest_cycles : Row (plain (sample_device ∷ [])) (step 2 (Run Idle 3 Idle) ∷ [])
+      (codes "r26262626260040404040Q") Pass
   pub contention : Row (opposed_drivers Free) (sir 1 (tdi 4 0) ∷ sdr 2 (tdi 6 0x13) ∷ sdr 3 (tdo 6 0x13 0x20) ∷ [])
       (codes "r2626262626004262604040404042626040260404151504041526260402604041R51R50R40R41R52R626040Q") Pass
   pub contention_level : net_levels
@@ -102,29 +113,32 @@ pub record PlayRows : Type 0 where
       (codes "r26262626260042626040404040426260402604040R40R40R40R40R42R626040Q") Pass
   pub floating_level : net_levels (played (opposed_drivers Free) (sir 1 (tdi 4 0) ∷ sdr 2 (tdo 6 0 0x24) ∷ [])).board
       ≡ Float ∷ []
-  pub pins_on : net_levels (board_at_rest (with_q k 3)) ≡ One ∷ []
-  pub pins_off : net_levels (board_at_rest (with_q k 1)) ≡ Float ∷ []
-  pub pins_plain : net_levels (board_at_rest (with_q kh 1)) ≡ One ∷ []
-  pub highz : Row (with_q kh 1) (sir 1 (tdi 2 1) ∷ []) (codes "r262626262600426260404152626040Q") Pass
-  pub highz_level : net_levels (played (with_q kh 1) (sir 1 (tdi 2 1) ∷ [])).board ≡ Float ∷ []
-  pub intest : instruction ki (bits 2 1) ≡ Some (codes "INTEST")
+  pub pins_on : net_levels (board_at_rest (with_q sample_device 3)) ≡ One ∷ []
+  pub pins_off : net_levels (board_at_rest (with_q sample_device 1)) ≡ Float ∷ []
+  pub pins_plain : net_levels (board_at_rest (with_q with_highz 1)) ≡ One ∷ []
+  pub highz : Row (with_q with_highz 1) (sir 1 (tdi 2 1) ∷ []) (codes "r262626262600426260404152626040Q") Pass
+  pub highz_level : net_levels (played (with_q with_highz 1) (sir 1 (tdi 2 1) ∷ [])).board ≡ Float ∷ []
+  pub intest : instruction with_intest (bits 2 1) ≡ Some (codes "INTEST")
   -- the simulation's own rows
-  pub two_ks : Row (plain (k ∷ k ∷ [])) (sir 1 (tdi 4 7) ∷ sdr 2 (tdo 4 0 8) ∷ [])
+  pub two_ks : Row (plain (sample_device ∷ sample_device ∷ [])) (sir 1 (tdi 4 7) ∷ sdr 2 (tdo 4 0 8) ∷ [])
       (codes "r26262626260042626040415151526260402604040R40R40R42R626040Q") Pass
-  pub user : Row (plain (ku ∷ [])) (sir 1 (tdi 2 1) ∷ sdr 2 (tdo 4 9 0) ∷ sdr 3 (tdo 4 0 9) ∷ [])
+  pub user : Row (plain (with_user ∷ [])) (sir 1 (tdi 2 1) ∷ sdr 2 (tdo 4 9 0) ∷ sdr 3 (tdo 4 0 9) ∷ [])
       (codes "r2626262626004262604041526260402604041R50R40R43R7260402604040R40R40R42R626040Q") Pass
   pub user_latch : map (λ r. r.users)
-      (registers_of (played (plain (ku ∷ [])) (sir 1 (tdi 2 1) ∷ sdr 2 (tdo 4 9 0) ∷ sdr 3 (tdo 4 0 9) ∷ [])).board)
+      (registers_of
+      (played (plain (with_user ∷ [])) (sir 1 (tdi 2 1) ∷ sdr 2 (tdo 4 9 0) ∷ sdr 3 (tdo 4 0 9) ∷ [])).board)
       ≡ (record { stage = bits 4 0; latch = bits 4 0 } ∷ []) ∷ []
-  pub user_fixed : Row (plain (kuc ∷ [])) (sir 1 (tdi 2 1) ∷ sdr 2 (tdo 4 9 5) ∷ sdr 3 (tdo 4 9 5) ∷ [])
+  pub user_fixed : Row (plain (with_fixed_user ∷ [])) (sir 1 (tdi 2 1) ∷ sdr 2 (tdo 4 9 5) ∷ sdr 3 (tdo 4 9 5) ∷ [])
       (codes "r2626262626004262604041526260402604041R50R40R43R7260402604041R50R40R43R726040Q") Pass
   -- the bare device
-  pub bare_ir : Row (plain (p ∷ [])) (step 1 (Go IrPause) ∷ step 2 (Go Idle) ∷ [])
+  pub bare_ir : Row (plain (bare_device ∷ [])) (step 1 (Go IrPause) ∷ step 2 (Go Idle) ∷ [])
       (codes "r2626262626004262604260402626040Q") Pass
-  pub bare_latch : latches (played (plain (p ∷ [])) (step 1 (Go IrPause) ∷ step 2 (Go Idle) ∷ [])).board ≡ bits 2 1 ∷ []
-  pub bare_name : instruction p (bits 2 1) ≡ None
-  pub bare_dr : Row (plain (p ∷ p ∷ [])) (step 1 (Go DrPause) ∷ []) (codes "r2626262626004260426040Q") Pass
-  pub run_test : Row (plain (k ∷ []))
+  pub bare_latch : latches (played (plain (bare_device ∷ [])) (step 1 (Go IrPause) ∷ step 2 (Go Idle) ∷ [])).board
+      ≡ bits 2 1 ∷ []
+  pub bare_name : instruction bare_device (bits 2 1) ≡ None
+  pub bare_dr : Row (plain (bare_device ∷ bare_device ∷ [])) (step 1 (Go DrPause) ∷ [])
+      (codes "r2626262626004260426040Q") Pass
+  pub run_test : Row (plain (sample_device ∷ []))
       (step 1 (Run DrPause 2 Idle) ∷ step 2 (Run Reset 2 Reset) ∷ step 3 (Run Reset 0 Reset)
       ∷ step 4 (Run Reset 0 Reset) ∷ [])
       (codes "r2626262626004260426040404262604026262626260Q") Pass

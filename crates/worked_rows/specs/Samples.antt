@@ -17,7 +17,7 @@ use Rattle.pin_nets.specs.declared.Pin.{Pin}
 use Rattle.pin_nets.specs.declared.Pull.{Pull}
 use Rattle.board_meaning.specs.Whole.{AtRest}
 use Rattle.board_meaning.specs.Resting.{power_up}
-use Rattle.scan_vectors.specs.Vector.{Part3, join}
+use Rattle.scan_vectors.specs.Vector.{PartBits, join}
 use Rattle.svf_settings.specs.Steps.{Step, Scan, Numbered}
 
 -- the n lowest binary digits
@@ -64,29 +64,30 @@ abbrev pub rows_with : List ℕ → List Opcode
 rows_with third = opcode (codes "BYPASS") 3 ∷ opcode (codes "EXTEST") 0 ∷ opcode third 1 ∷ opcode (codes "IDCODE") 2
     ∷ []
 
-abbrev pub k : Device
-k = device_with (rows_with (codes "SAMPLE")) q_cell [] [] false
+abbrev pub sample_device : Device
+sample_device = device_with (rows_with (codes "SAMPLE")) q_cell [] [] false
 
-abbrev pub kt : Device
-kt = device_with (rows_with (codes "SAMPLE")) q_cell [] [] true
+abbrev pub with_trst : Device
+with_trst = device_with (rows_with (codes "SAMPLE")) q_cell [] [] true
 
-abbrev pub kh : Device
-kh = device_with (rows_with (codes "HIGHZ")) (record { function = Output2; port = Some 4; control = None }) [] [] false
+abbrev pub with_highz : Device
+with_highz = device_with (rows_with (codes "HIGHZ"))
+    (record { function = Output2; port = Some 4; control = None }) [] [] false
 
-abbrev pub ki : Device
-ki = device_with (rows_with (codes "INTEST")) q_cell [] [] false
+abbrev pub with_intest : Device
+with_intest = device_with (rows_with (codes "INTEST")) q_cell [] [] false
 
-abbrev pub ku : Device
-ku = device_with (rows_with (codes "LOAD")) q_cell
+abbrev pub with_user : Device
+with_user = device_with (rows_with (codes "LOAD")) q_cell
     (record { instruction = codes "LOAD"; place = AtUser 0; captures = None } ∷ []) (4 ∷ []) false
 
-abbrev pub kuc : Device
-kuc = device_with (rows_with (codes "LOAD")) q_cell
+abbrev pub with_fixed_user : Device
+with_fixed_user = device_with (rows_with (codes "LOAD")) q_cell
     (record { instruction = codes "LOAD"; place = AtUser 0; captures = Some (bits 4 5) } ∷ []) (4 ∷ []) false
 
 -- the bare device
-abbrev pub p : Device
-p = bare
+abbrev pub bare_device : Device
+bare_device = bare
 
 abbrev pub with_core : Device → ℕ → Member
 with_core d core = powered (codes "U") d (bits (length d.cells) core) false
@@ -95,38 +96,38 @@ abbrev pub plain : List Device → AtRest
 plain ds = power_up [] (map (λ d. with_core d 0) ds)
 
 -- pins Q and D
-abbrev pub q : ℕ → Pin
-q i = record { device = i; port = 4 }
+abbrev pub pin_q : ℕ → Pin
+pin_q i = record { device = i; port = 4 }
 
-abbrev pub d : ℕ → Pin
-d i = record { device = i; port = 5 }
+abbrev pub pin_d : ℕ → Pin
+pin_d i = record { device = i; port = 5 }
 
 abbrev pub net : Pull → List Pin → List Net
 net pull pins = record { name = codes "N"; pull = pull; pins = pins } ∷ []
 
-abbrev pub nothing : Part3
+abbrev pub nothing : PartBits
 nothing = record { tdi = []; want = []; care = [] }
 
 -- a part with TDI alone, with TDO, with TDO and MASK
-abbrev pub tdi : ℕ → ℕ → Part3
+abbrev pub tdi : ℕ → ℕ → PartBits
 tdi n t = record { tdi = bits n t; want = bits n 0; care = bits n 0 }
 
-abbrev pub tdo : ℕ → ℕ → ℕ → Part3
+abbrev pub tdo : ℕ → ℕ → ℕ → PartBits
 tdo n t w = record { tdi = bits n t; want = bits n w; care = replicate n true }
 
-abbrev pub mask : ℕ → ℕ → ℕ → ℕ → Part3
+abbrev pub mask : ℕ → ℕ → ℕ → ℕ → PartBits
 mask n t w c = record { tdi = bits n t; want = bits n w; care = bits n c }
 
-abbrev pub sir : ℕ → Part3 → Numbered
+abbrev pub sir : ℕ → PartBits → Numbered
 sir i part = record { number = i; what = Scan Ir (join nothing part nothing) Idle }
 
-abbrev pub sdr : ℕ → Part3 → Numbered
+abbrev pub sdr : ℕ → PartBits → Numbered
 sdr i part = record { number = i; what = Scan Dr (join nothing part nothing) Idle }
 
-abbrev pub sdr_to : ℕ → Part3 → State → Numbered
+abbrev pub sdr_to : ℕ → PartBits → State → Numbered
 sdr_to i part end = record { number = i; what = Scan Dr (join nothing part nothing) end }
 
-abbrev pub hdr_sdr : ℕ → Part3 → Part3 → Numbered
+abbrev pub hdr_sdr : ℕ → PartBits → PartBits → Numbered
 hdr_sdr i header part = record { number = i; what = Scan Dr (join header part nothing) Idle }
 
 abbrev pub step : ℕ → Step → Numbered

@@ -13,7 +13,7 @@ use Rattle.svf_settings.specs.Steps.{Numbered}
 use Rattle.plays.specs.Play.{turns, full_play, player, ending_for}
 use Rattle.plays.specs.Events.{World, Known, Event, Put, Serve, Take, Lose, by_answers, before_events, run, moving}
 use Rattle.plays.specs.Events.{ending_of_world}
-use Rattle.worked_rows.specs.Samples.{bits, k, kt, p, plain, with_core, tdo, sir}
+use Rattle.worked_rows.specs.Samples.{bits, sample_device, with_trst, bare_device, plain, with_core, tdo, sir}
 use Rattle.worked_rows.specs.Agree.{meant, flat_board}
 
 abbrev pub up : Bool → ChipState → ChipState
@@ -25,24 +25,25 @@ cycled [] c = c
 cycled (tms ∷ more) c = cycled more (fall (up tms c))
 
 abbrev pub shifting : ChipState
-shifting = up false (cycled (false ∷ true ∷ false ∷ []) (chip_at_rest Reset (with_core k 0)))
+shifting = up false (cycled (false ∷ true ∷ false ∷ []) (chip_at_rest Reset (with_core sample_device 0)))
 
 abbrev pub tdos : ℕ → ChipState → List (Option Bool)
 tdos zero c = c.tdo ∷ []
 tdos (suc n) c = c.tdo ∷ tdos n (fall (up false c))
 
 abbrev pub reset_now : ChipState
-reset_now = assert_trst (fall (up false (cycled (false ∷ true ∷ false ∷ []) (chip_at_rest Reset (with_core kt 0)))))
+reset_now = assert_trst
+    (fall (up false (cycled (false ∷ true ∷ false ∷ []) (chip_at_rest Reset (with_core with_trst 0)))))
 
 abbrev pub paused : ChipState
-paused = cycled (false ∷ true ∷ true ∷ false ∷ true ∷ false ∷ []) (chip_at_rest Reset (with_core k 0))
+paused = cycled (false ∷ true ∷ true ∷ false ∷ true ∷ false ∷ []) (chip_at_rest Reset (with_core sample_device 0))
 
 -- a scan of the instruction register under schedules
 abbrev pub ir_scan : List Numbered
 ir_scan = sir 1 (tdo 2 3 1) ∷ []
 
 abbrev pub start : World Known
-start = before_events (board_at_rest (plain (k ∷ [])))
+start = before_events (board_at_rest (plain (sample_device ∷ [])))
 
 abbrev pub one_by_one : ℕ → List Event
 one_by_one zero = []
@@ -50,7 +51,9 @@ one_by_one (suc n) = Put 1 ∷ Serve 1 ∷ Take 1 ∷ one_by_one n
 
 -- from mid-scan, TCK high, after the bytes of the opening on a broken-off play
 abbrev pub broken_off : BoardState
-broken_off = (hear (turns_messages ++ Write true false true ∷ []) (board_at_rest (plain (kt ∷ k ∷ [])))).board
+broken_off =
+    (hear (turns_messages ++ Write true false true ∷ [])
+    (board_at_rest (plain (with_trst ∷ sample_device ∷ [])))).board
   where
     turns_messages : List Message
     turns_messages = Write true false false ∷ Write false false false ∷ Write true true false ∷ Write false true false
@@ -73,8 +76,9 @@ pub record EdgeRows : Type 0 where
   pub third_rise_latch : (up true (cycled (true ∷ true ∷ true ∷ true ∷ []) paused)).member.registers.latch ≡ bits 2 1
   pub third_fall_latch : (cycled (true ∷ true ∷ true ∷ true ∷ true ∷ []) paused).member.registers.latch ≡ bits 2 2
   -- a byte off the table
-  pub refused : reply 0x5a (board_at_rest (plain (p ∷ []))) ≡ Refused 0x5a
-  pub refused_board : after_byte 0x5a (board_at_rest (plain (p ∷ []))) ≡ board_at_rest (plain (p ∷ []))
+  pub refused : reply 0x5a (board_at_rest (plain (bare_device ∷ []))) ≡ Refused 0x5a
+  pub refused_board : after_byte 0x5a (board_at_rest (plain (bare_device ∷ [])))
+      ≡ board_at_rest (plain (bare_device ∷ []))
   pub byte_by_byte : ending_of_world 1 (turns ir_scan)
       (run (by_answers (player 1 (turns ir_scan))) 1 1 (one_by_one 34) start)
       ≡ Some Pass
@@ -84,7 +88,7 @@ pub record EdgeRows : Type 0 where
       (run (by_answers (player 256 (turns ir_scan))) 1 1 (one_by_one 33) start) ≡ None
   pub byte_by_byte_board : bytes_eq
       (flat_board (run (by_answers (player 256 (turns ir_scan))) 1 1 (one_by_one 34) start).board)
-      (flat_board (board_at_rest (meant (plain (k ∷ [])) ir_scan).after)) ≡ true
+      (flat_board (board_at_rest (meant (plain (sample_device ∷ [])) ir_scan).after)) ≡ true
   pub lost_after_an_answer : ending_of_world 1 (turns ir_scan)
       (run (by_answers (player 1 (turns ir_scan))) 1 1 (one_by_one 26 ++ Lose ∷ []) start) ≡ Some (Lost 1)
   pub lost_before_quit : ending_of_world 0 (turns [])
@@ -98,7 +102,8 @@ pub record EdgeRows : Type 0 where
   pub byte_by_byte_moves : moving (by_answers (player 1 (turns ir_scan))) 1 1 (one_by_one 34) start ≡ 70
   pub lost_first_moves : moving (by_answers (player 256 (turns ir_scan))) 64 64 (Lose ∷ Put 5 ∷ []) start ≡ 0
   pub two_events_move : moving (by_answers (player 256 (turns ir_scan))) 64 64 (Put 64 ∷ Serve 3 ∷ []) start ≡ 2
-  pub serve_three : (run (by_answers (player 256 (turns ir_scan))) 64 64 (Put 64 ∷ Serve 3 ∷ []) start).board.tck ≡ true
+  pub serve_three : (run (by_answers (player 256 (turns ir_scan))) 64 64 (Put 64 ∷ Serve 3 ∷ []) start).board.tck
+      ≡ true
   pub answers_ok : ending_for (turns ir_scan) (codes "10") ≡ Some Pass
   pub answers_zero : ending_for (turns ir_scan) (codes "00") ≡ Some (Fail 1 Data 0)
   pub answers_one : ending_for (turns ir_scan) (codes "11") ≡ Some (Fail 1 Data 1)

@@ -13,13 +13,14 @@ loop-piece-preserved g c =
     let i = c.loop-piece.piece-index in
     record {
       none_lost = c.in_ok-put_all.ensures.writes.ok.0 refl;
+      at_end = c.in_ok-put_all.ensures.at_end ∙ c.loop-piece.invariant.at_end;
       sent = subst (λ (l : List ℕ). Appends (g.W.Write.contents c.args.out.now.inner) (g.W.Write.contents c.put_all.new.out.inner) l)
           (flat_map-more (λ piece. piece.now) pieces i _ c.loop-piece-test.true)
           (Appends-trans _ _ _ _ _ c.loop-piece.invariant.sent c.in_ok-put_all.ensures.writes.whole);
     }
 
-pub returns-in_err-put_all : goal.returns-in_err-put_all
-returns-in_err-put_all g c =
+pub returns-in_err-put_all-clause-writes : goal.returns-in_err-put_all-clause-writes
+returns-in_err-put_all-clause-writes g c =
     let pieces = c.args.pieces.now in
     let i = c.loop-piece.piece-index in
     WritesAll-lost _ (flat_map (λ piece. piece.now) (take i pieces)) (flat_map (λ piece. piece.now) (drop (i + 1) pieces))
@@ -27,8 +28,8 @@ returns-in_err-put_all g c =
     ∙ ap (λ l. l ++ flat_map (λ piece. piece.now) (drop (i + 1) pieces)) (sym (flat_map-more (λ piece. piece.now) pieces i _ c.loop-piece-test.true)))
     c.loop-piece.invariant.sent c.in_err-put_all.ensures.writes refl c.from_residual.ensures.0
 
-pub returns : goal.returns
-returns g c =
+pub returns-clause-writes : goal.returns-clause-writes
+returns-clause-writes g c =
     let pieces = c.args.pieces.now in
     let i = c.loop-piece.piece-index in
     let all : i ≡ length pieces = omega (arith, c.loop-piece-test.false, c.loop-piece.auto.piece-index-end) in

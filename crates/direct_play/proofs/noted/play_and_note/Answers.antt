@@ -12,8 +12,8 @@ use Rattle.svf_settings.specs.Steps.{Numbered}
 use Rattle.board_meaning.specs.Chain.{BoardState}
 use Rattle.board_meaning.specs.Resting.{IsAtRest, board_at_rest}
 use Rattle.plays.specs.declared.ending.Ending.TheVariants.{Fail, Pass}
-use Rattle.plays.specs.DirectPlay.{full_bytes, opened_state}
-use Rattle.plays.specs.Meaning.{command, outcome}
+use Rattle.plays.specs.DirectPlay.{bytes_of_full_play, opened_state}
+use Rattle.plays.specs.Meaning.{after_step, outcome}
 use Rattle.plays.specs.Play.{full_play, step_turns}
 use Rattle.direct_play.proofs.NotedPieces.{Notes-is, Notes-then}
 use Rattle.direct_play.proofs.Turns.{bytes-of}
@@ -68,9 +68,9 @@ loop-step-preserved g c =
     let can : CanPlay (s ∷ ss) i.m = subst (λ (l : List Numbered). CanPlay l i.m) c.in-Some.ensures.steps i.can in
     let none = sym (c.play_step.ensures.judged i.m i.rests) ∙ c.in_default.is in
     let bytes = step_bytes i.m.place s.what in
-    let rest = bytes-of (full_play (step_turns (command s.what i.m).place ss) (board_at_rest (command s.what i.m))) in
+    let rest = bytes-of (full_play (step_turns (after_step s.what i.m).place ss) (board_at_rest (after_step s.what i.m))) in
     record {
-      m = command s.what i.m;
+      m = after_step s.what i.m;
       rests = c.play_step.ensures.board i.m i.rests;
       can = can_play_on s ss i.m can;
       within = (subst AllWithin c.in-Some.ensures.steps i.within).1;
@@ -95,7 +95,7 @@ returns-in-Some-play_step-clause-notes g c =
     let can : CanPlay (s ∷ ss) i.m = subst (λ (l : List Numbered). CanPlay l i.m) c.in-Some.ensures.steps i.can in
     let some = sym (c.play_step.ensures.judged i.m i.rests) ∙ c.in-Some-play_step.is in
     let bytes = step_bytes i.m.place s.what in
-    let all : full_bytes (program_of c.args.program.now) c.args.board.now ≡ (i.sent ++ bytes) ++ 81 ∷ [] =
+    let all : bytes_of_full_play (program_of c.args.program.now) c.args.board.now ≡ (i.sent ++ bytes) ++ 81 ∷ [] =
     i.split ∙ ap
     (λ (l : List Numbered). i.sent ++ bytes-of
     (full_play (step_turns i.m.place l) (board_at_rest i.m))) c.in-Some.ensures.steps
@@ -111,7 +111,7 @@ returns-in-Some-play_step-clause-notes g c =
 pub returns-clause-notes : goal.returns-clause-notes
 returns-clause-notes g c =
     let i = c.loop-step.invariant in
-    let all : full_bytes (program_of c.args.program.now) c.args.board.now ≡ i.sent ++ 81 ∷ [] =
+    let all : bytes_of_full_play (program_of c.args.program.now) c.args.board.now ≡ i.sent ++ 81 ∷ [] =
     i.split ∙ ap
     (λ (l : List Numbered). i.sent ++ bytes-of
     (full_play (step_turns i.m.place l) (board_at_rest i.m))) c.in-None.ensures.steps.0 in

@@ -4,7 +4,7 @@ use Rattle.svf_settings.specs.Left.{left}
 use Rattle.svf_settings.specs.Sizes.{program_of}
 use Rattle.board_meaning.specs.Resting.{IsAtRest, board_at_rest}
 use Rattle.board_meaning.specs.Whole.{AtRest}
-use Rattle.plays.specs.DirectPlay.{full_bytes, opened_state}
+use Rattle.plays.specs.DirectPlay.{bytes_of_full_play, opened_state}
 use Rattle.plays.specs.Meaning.{outcome}
 use Rattle.plays.specs.Play.{full_play, step_turns}
 use Rattle.direct_play.specs.Noting.{Notes}
@@ -22,7 +22,7 @@ invariant-loop-step g l = record {
   within : AllWithin (left l.step-iterator);
   ends : outcome (program_of l.program).steps (opened_state l.fn.board) ≡ outcome (left l.step-iterator) m;
   sent : List ℕ;
-  split : full_bytes (program_of l.program) l.fn.board
+  split : bytes_of_full_play (program_of l.program) l.fn.board
       ≡ sent ++ bytes-of (full_play (step_turns m.place (left l.step-iterator)) (board_at_rest m));
   notes : Notes g.W.Write.contents l.fn.out l.out sent;
 }

@@ -1,7 +1,7 @@
 use Rattle.std.proofs.Common.{◌<◌, ℕ, ap, subst}
 use Rattle.std.specs.Prelude.{◌==◌}
 use Rattle.svf_settings.specs.Sizes.{program_of}
-use Rattle.plays.specs.DirectPlay.{full_bytes}
+use Rattle.plays.specs.DirectPlay.{bytes_of_full_play}
 use Rattle.direct_play.proofs.NotedPieces.{noted-writes}
 use Rattle.direct_play.proofs.WholePlay.{played_so}
 use Rattle.direct_play.proofs.noted.play_program_noted.Goals as goal
@@ -16,6 +16,6 @@ returns-clause-meaning g c =
 pub returns-clause-writes : goal.returns-clause-writes
 returns-clause-writes g c =
     noted-writes g.W.Write.contents c.args.out.now c.play_and_note-ending.new.out
-    (full_bytes (program_of c.args.program.now) c.args.board.now)
+    (bytes_of_full_play (program_of c.args.program.now) c.args.board.now)
     (c.failures.result == 0)
     (ap (λ n. n == 0) c.failures.ensures.value) c.requires.none_lost c.play_and_note-ending.ensures.notes

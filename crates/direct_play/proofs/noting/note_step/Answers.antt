@@ -20,11 +20,11 @@ loop-bytes-preserved g c =
     let piece = take n c.fill-count.new.buffer in
     let some : n ≤ length rest = omega (arith, c.fill-count.ensures.count) in
     let is : piece ≡ take n rest = ap (take n) c.fill-count.ensures.filled ∙ filled_front rest (drop n c.loop-bytes.buffer) n some in
-    let cut : rest ≡ piece ++ left c.fill-count.new.bytes =
+    let cut : rest ≡ piece ++ left c.fill-count.new.self =
     sym (take-append-drop n rest) ∙ (λ i. sym is i ++ sym c.fill-count.ensures.left i) in
     record {
       sent = i.sent ++ piece;
-      split = i.split ∙ ap (λ (l : List ℕ). i.sent ++ l) cut ∙ sym (append_assoc i.sent piece (left c.fill-count.new.bytes));
+      split = i.split ∙ ap (λ (l : List ℕ). i.sent ++ l) cut ∙ sym (append_assoc i.sent piece (left c.fill-count.new.self));
       notes = Notes-then i.notes c.note.ensures;
     }
 

@@ -7,7 +7,7 @@ use Rattle.board_meaning.specs.Chain.{BoardState}
 use Rattle.board_meaning.specs.Resting.{IsAtRest}
 use Rattle.plays.specs.declared.ending.Ending.TheVariants.{Fail, Pass}
 use Rattle.plays.specs.DirectPlay.{opened_state}
-use Rattle.plays.specs.Meaning.{command, outcome}
+use Rattle.plays.specs.Meaning.{after_step, outcome}
 use Rattle.direct_play.proofs.WholePlay.{means_from_opening, opened, outcome_failed, outcome_passed, same_board}
 use Rattle.direct_play.proofs.WholePlay.{same_ending}
 use Rattle.direct_play.proofs.playing.play_program.Goals as goal
@@ -30,7 +30,7 @@ loop-step-preserved c =
     let s : Numbered = numbered c.in-Some.step in
     let ss : List Numbered = left c.next.new.self in
     record {
-      m = command s.what i.m;
+      m = after_step s.what i.m;
       rests = c.play_step.ensures.board i.m i.rests;
       ends = i.ends ∙ ap (λ (l : List Numbered). outcome l i.m) c.in-Some.ensures.steps
           ∙ outcome_passed s ss i.m (sym (c.play_step.ensures.judged i.m i.rests) ∙ c.in_default.is);

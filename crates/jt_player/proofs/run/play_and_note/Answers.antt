@@ -4,7 +4,7 @@ use Rattle.std.specs.Prelude.{codes, is_ok, is_err}
 use Rattle.byte_ends.specs.Writes.{WritesAll, flagged}
 use Rattle.byte_ends.proofs.Fronts.{WritesAll-is, WritesAll-then, WritesAll-stopped, WritesAll-done}
 use Rattle.svf_settings.specs.Sizes.{program_of}
-use Rattle.plays.specs.DirectPlay.{full_bytes}
+use Rattle.plays.specs.DirectPlay.{bytes_of_full_play}
 use Rattle.jt_player.specs.Running.{note}
 use Rattle.jt_player.proofs.RunLaws.{WritesAll-like, not-ok}
 use Rattle.jt_player.proofs.run.play_and_note.Goals as goal
@@ -18,7 +18,7 @@ pub returns-in_err-put_all-clause-writes : goal.returns-in_err-put_all-clause-wr
 returns-in_err-put_all-clause-writes g c =
     let so = c.from_residual.ensures.0 in
     WritesAll-is (ap (λ b. note b (program_of c.args.program.now) c.args.board.now) (sym c.if-not-bytes.false))
-    (WritesAll-stopped (codes "\n") (WritesAll-stopped (full_bytes (program_of c.args.program.now) c.args.board.now) c.in_err-put_all.ensures.writes refl so) so so)
+    (WritesAll-stopped (codes "\n") (WritesAll-stopped (bytes_of_full_play (program_of c.args.program.now) c.args.board.now) c.in_err-put_all.ensures.writes refl so) so so)
 
 pub returns-then-not-noted-clause-writes : goal.returns-then-not-noted-clause-writes
 returns-then-not-noted-clause-writes g c =

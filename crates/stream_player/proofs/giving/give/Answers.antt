@@ -2,7 +2,7 @@ use Rattle.std.proofs.Common.{◌≡◌, ◌≤◌, ◌+◌, ◌-◌, ◌++◌, 
 use Rattle.std.proofs.lemmas.List.{drop-drop}
 use Rattle.bitbang.specs.Left.{left}
 use Rattle.bitbang.proofs.BufferFills.{filled-part}
-use Rattle.stream_player.specs.Standing.{reads, up_to_reads}
+use Rattle.stream_player.specs.PlaceInPlay.{reads, up_to_reads}
 use Rattle.stream_player.proofs.BytesGivenOut.{all-given, few-reads, past, reach}
 use Rattle.stream_player.proofs.Pieced.{reads-append}
 use Rattle.stream_player.proofs.giving.give.Goals as goal

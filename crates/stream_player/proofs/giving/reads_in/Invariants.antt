@@ -1,5 +1,5 @@
 use Rattle.std.proofs.Common.{◌≡◌, ◌≤◌, take}
-use Rattle.stream_player.specs.Standing.{reads}
+use Rattle.stream_player.specs.PlaceInPlay.{reads}
 use Rattle.stream_player.proofs.giving.reads_in.Given as goal
 
 abbrev pub invariant-loop-i : goal.invariant-loop-i

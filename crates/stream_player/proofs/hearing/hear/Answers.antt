@@ -2,7 +2,7 @@ use Rattle.std.proofs.Common.{◌≡◌, ◌≢◌, ◌<◌, ◌≤◌, ◌+◌,
 use Rattle.std.specs.Prelude.{is_some}
 use Rattle.svf_settings.specs.Seen.{numbered}
 use Rattle.svf_settings.specs.Sizes.{program_of}
-use Rattle.plays.specs.Streams.{StreamState, hear_all, answers_taken}
+use Rattle.plays.specs.Streams.{StreamState, hear_bytes, answers_taken}
 use Rattle.stream_player.specs.Progress.{state_of}
 use Rattle.stream_player.proofs.AnswersTaken.{asks-nothing, is-none, takes-bad, takes-nothing, takes-on}
 use Rattle.stream_player.proofs.Pieced.{drop-index}
@@ -16,7 +16,7 @@ returns-then-p-eq0-clause-count c =
 pub returns-then-p-eq0-clause-state : goal.returns-then-p-eq0-clause-state
 returns-then-p-eq0-clause-state c =
     let s = state_of (program_of c.args.program.now) c.args.p in
-    sym (ap (λ (l : List ℕ). hear_all l s) (takes-nothing (program_of c.args.program.now) c.args.p c.args.bytes.now c.requires
+    sym (ap (λ (l : List ℕ). hear_bytes l s) (takes-nothing (program_of c.args.program.now) c.args.p c.args.bytes.now c.requires
     (is-none c.args.p.bad (sym c.is_some.ensures ∙ c.if-is_some.false)) c.if-p-eq0.true))
 
 pub returns-in_default-clause-count : goal.returns-in_default-clause-count
@@ -42,7 +42,7 @@ returns-then-p-eq0-2-clause-state c =
     let s = state_of (program_of c.args.program.now) c.loop-byte.p in
     let none = takes-nothing (program_of c.args.program.now) c.loop-byte.p (drop c.loop-byte.byte-index c.args.bytes.now) i.stands
     (is-none c.loop-byte.p.bad (sym c.is_some-in-loop-byte.ensures ∙ c.if-is_some-2.false)) c.if-p-eq0-2.true in
-    ap (λ (l : List ℕ). hear_all l s) (sym none) ∙ i.state
+    ap (λ (l : List ℕ). hear_bytes l s) (sym none) ∙ i.state
 
 pub loop-byte-preserved : goal.loop-byte-preserved
 loop-byte-preserved c =
@@ -65,6 +65,6 @@ loop-byte-preserved c =
       index = omega (arith, i.index);
       at = c.hear_one-p.ensures.at ∙ i.at;
       count = omega (arith, i.count, ap length one);
-      state = ap (hear_all (answers_taken 256 (state_of program q) (drop (n + 1) bytes))) c.hear_one-p.ensures.state
-          ∙ ap (λ (l : List ℕ). hear_all l (state_of program p)) (sym one) ∙ i.state;
+      state = ap (hear_bytes (answers_taken 256 (state_of program q) (drop (n + 1) bytes))) c.hear_one-p.ensures.state
+          ∙ ap (λ (l : List ℕ). hear_bytes l (state_of program p)) (sym one) ∙ i.state;
     }

@@ -1,6 +1,6 @@
 use Rattle.std.proofs.Common.{◌≡◌, ◌+◌, length, drop}
 use Rattle.svf_settings.specs.Sizes.{program_of}
-use Rattle.plays.specs.Streams.{hear_all, answers_taken}
+use Rattle.plays.specs.Streams.{hear_bytes, answers_taken}
 use Rattle.stream_player.specs.Progress.{Stands, state_of}
 use Rattle.stream_player.proofs.hearing.hear.Given as goal
 
@@ -11,6 +11,6 @@ invariant-loop-byte l = record {
   index : l.count ≡ l.byte-index;
   at : l.p.at ≡ l.fn.p.at;
   count : l.count + length (answers_taken 256 (state_of (program_of l.program) l.p) (drop l.byte-index l.bytes)) ≡ length (answers_taken 256 (state_of (program_of l.program) l.fn.p) l.fn.bytes);
-  state : hear_all (answers_taken 256 (state_of (program_of l.program) l.p) (drop l.byte-index l.bytes)) (state_of (program_of l.program) l.p)
-      ≡ hear_all (answers_taken 256 (state_of (program_of l.program) l.fn.p) l.fn.bytes) (state_of (program_of l.program) l.fn.p);
+  state : hear_bytes (answers_taken 256 (state_of (program_of l.program) l.p) (drop l.byte-index l.bytes)) (state_of (program_of l.program) l.p)
+      ≡ hear_bytes (answers_taken 256 (state_of (program_of l.program) l.fn.p) l.fn.bytes) (state_of (program_of l.program) l.fn.p);
 }

@@ -1,8 +1,7 @@
 use Rattle.std.proofs.Common.{◌≡◌, ◌<◌, List, ℕ, [], ◌∷◌, true, false, map, drop, refl, sym, ap, ◌∙◌, arith}
 use Rattle.bitbang_table.specs.declared.Message.TheVariants.{Quit}
-use Rattle.bitbang_table.specs.Protocol.{encode}
+use Rattle.bitbang_table.specs.Protocol.{encode, value}
 use Rattle.svf_settings.specs.Sizes.{program_of}
-use Rattle.stream_player.specs.Progress.{one}
 use Rattle.stream_player.proofs.Pieced.{gives-none, gives-one, is-over, quit-on, quit-state, quit-waits}
 use Rattle.stream_player.proofs.pieces.quit_piece.Goals as goal
 
@@ -11,7 +10,7 @@ returns-then-out c =
     let program = program_of c.args.program.now in
     let p = c.args.p in
     gives-none program p c.args.buffer.now c.requires.stands (is-over program p c.args.out c.requires.is c.requires.stands).bad
-    (λ room. quit-waits program p c.args.out c.requires.is c.requires.stands ∙ ap (λ b. map encode (drop (one b) (Quit ∷ []))) c.if-out.true)
+    (λ room. quit-waits program p c.args.out c.requires.is c.requires.stands ∙ ap (λ b. map encode (drop (value b) (Quit ∷ []))) c.if-out.true)
 
 pub returns-then-is_empty : goal.returns-then-is_empty
 returns-then-is_empty c =
@@ -27,5 +26,5 @@ returns c =
     gives-one program p (record p { phase = _ }) c.args.buffer.now _ 81 []
     (quit-on program p c.args.out c.requires.is c.requires.stands) (is-over program p c.args.out c.requires.is c.requires.stands).bad
     (quit-state program p c.args.out c.requires.is c.requires.stands c.if-out.false)
-    (quit-waits program p c.args.out c.requires.is c.requires.stands ∙ ap (λ b. map encode (drop (one b) (Quit ∷ []))) c.if-out.false)
+    (quit-waits program p c.args.out c.requires.is c.requires.stands ∙ ap (λ b. map encode (drop (value b) (Quit ∷ []))) c.if-out.false)
     (grind (arith, c.is_empty.ensures, c.if-is_empty.false)) refl

@@ -5,7 +5,7 @@ use Rattle.svf_settings.specs.Seen.{numbered, step}
 use Rattle.svf_settings.specs.Sizes.{program_of}
 use Rattle.svf_settings.specs.Steps.{Numbered}
 use Rattle.stream_player.specs.Progress.{rest_of}
-use Rattle.stream_player.specs.Standing.{reads, up_to_reads}
+use Rattle.stream_player.specs.PlaceInPlay.{reads, up_to_reads}
 use Rattle.stream_player.proofs.Pieced.{gives-step}
 use Rattle.stream_player.proofs.Steps.{cut, first}
 use Rattle.stream_player.proofs.pieces.step_piece.Goals as goal

@@ -9,7 +9,7 @@ use Rattle.jt_tap.specs.declared.State.{State}
 use Rattle.stream_player.specs.declared.progress.Phase.{Phase}
 use Rattle.stream_player.specs.declared.progress.Phase.TheVariants.{Opening, Within, Over}
 use Rattle.stream_player.specs.Progress.{IsReady, Rests, Stands, ahead, rest_of, state_of}
-use Rattle.stream_player.specs.Standing.{state_at}
+use Rattle.stream_player.specs.PlaceInPlay.{state_at}
 use Rattle.stream_player.proofs.Steps.{below, cut, first, length-below, next-rests, none-first, some-first}
 use Rattle.stream_player.proofs.PlayerPlaces.{passes-same, stops-here, stops-same}
 use Rattle.stream_player.proofs.progress.after_step.Goals as goal

@@ -8,7 +8,7 @@ use Rattle.svf_settings.specs.Sizes.{program_of}
 use Rattle.svf_settings.specs.Steps.{Numbered}
 use Rattle.stream_player.specs.declared.progress.Progress.{Progress}
 use Rattle.stream_player.specs.Progress.{Stands, state_of}
-use Rattle.stream_player.specs.Standing.{state_at}
+use Rattle.stream_player.specs.PlaceInPlay.{state_at}
 use Rattle.stream_player.proofs.Steps.{cut, enters, enters-same, first, start}
 use Rattle.stream_player.proofs.progress.entered.Goals as goal
 

@@ -3,7 +3,7 @@ use Rattle.std.specs.Prelude.{option_map, if◌then◌else◌}
 use Rattle.plays.specs.declared.ending.Ending.{Ending}
 use Rattle.plays.specs.PlayingOn.{ending_of}
 use Rattle.stream_player.specs.Progress.{mismatch}
-use Rattle.stream_player.specs.Standing.{found}
+use Rattle.stream_player.specs.PlaceInPlay.{found}
 use Rattle.svf_settings.specs.Seen.{numbered}
 use Rattle.svf_settings.specs.Sizes.{program_of}
 use Rattle.stream_player.proofs.EndingLaws.{ended-bad, ended-good}

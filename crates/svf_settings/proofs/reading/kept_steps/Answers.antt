@@ -2,9 +2,8 @@ use Rattle.std.proofs.Common.{◌+◌, ℕ, map, refl, sym, ap, ◌∙◌}
 use Rattle.std.specs.Prelude.{Some}
 use Rattle.svf_parse.specs.declared.fault.SvfFault.{SvfFault}
 use Rattle.svf_parse.specs.View.{said}
-use Rattle.svf_settings.specs.Reading.{before}
 use Rattle.svf_settings.proofs.OneStatementMore.{after_more, before_more, length_before, said_at}
-use Rattle.svf_settings.proofs.FirstRefusals.{refused_at}
+use Rattle.svf_settings.proofs.FirstRefusals.{before, refused_at}
 use Rattle.svf_settings.proofs.reading.kept_steps.Goals as goal
 
 pub loop-index-init : goal.loop-index-init
@@ -16,7 +15,7 @@ loop-index-init c = record {
 
 pub take-requires : goal.take-requires
 take-requires c =
-    let here = (rw c.in-Some.is at c.place_of.ensures).0 in
+    let here = (rw c.in-Some.is at c.place_of.ensures.found).0 in
     rw here (said_at c.args.statements.now c.loop-index.index c.index-statements-index.result c.loop-index-test.true c.index-statements-index.is)
 
 pub returns-in-Err : goal.returns-in-Err
@@ -26,7 +25,7 @@ returns-in-Err c = λ _.
     let s = said c.index-statements-index.result in
     let at = said_at c.args.statements.now k c.index-statements-index.result c.loop-index-test.true c.index-statements-index.is in
     let l = length_before all k s at in
-    let here = (rw c.in-Some.is at c.place_of.ensures).0 in
+    let here = (rw c.in-Some.is at c.place_of.ensures.found).0 in
     let taken = c.take.ensures (before k all) c.loop-index.invariant.behind (l ∙ sym here) in
     refused_at all (before k all) k (k + 1) s c.in-Err.code (before_more all k s at) c.loop-index.invariant.fine (rw c.in-Err.is at taken) (ap (λ (m : ℕ). m + 1) (sym l))
     ∙ ap (λ (f : SvfFault). Some f) (sym c.fault_at.ensures)
@@ -38,7 +37,7 @@ loop-index-preserved c =
     let s = said c.index-statements-index.result in
     let at = said_at c.args.statements.now k c.index-statements-index.result c.loop-index-test.true c.index-statements-index.is in
     let l = length_before all k s at in
-    let here = (rw c.in-Some.is at c.place_of.ensures).0 in
+    let here = (rw c.in-Some.is at c.place_of.ensures.found).0 in
     let taken = c.take.ensures (before k all) c.loop-index.invariant.behind (l ∙ sym here) in
     rw (c.in-Ok-push_made.ensures, here)
     (after_more all k s c.in-Ok.behind c.in-Ok.made c.loop-index.steps.items at c.loop-index.invariant.fine c.loop-index.invariant.kept_are (rw c.in-Ok.is at taken))

@@ -2,7 +2,7 @@ use Rattle.std.proofs.Common.{Bool, ℕ, List, ◌++◌, not, nat_eq, map, lengt
 use Rattle.std.proofs.lemmas.List.{map-append}
 use Rattle.bitbang_table.specs.declared.Cycle.{Cycle}
 use Rattle.bitbang_table.specs.Protocol.{encode}
-use Rattle.bitbang_table.specs.Cycles.{closed}
+use Rattle.bitbang_table.specs.Cycles.{closed_messages}
 use Rattle.svf_settings.specs.Seen as seen
 use Rattle.tck_cycles.specs.Cycles.{cycles}
 use Rattle.bitbang.specs.StepMessages.{line_message}
@@ -19,4 +19,4 @@ returns-clause-bytes c =
     ap (λ (xs : List Cycle). bytes_left c.line_byte.result c.over.result xs c.has_cycles-closes.result) all
     ∙ ap (λ (b : Bool). bytes_left c.line_byte.result c.over.result cs b) count
     ∙ rw (c.line_byte.ensures, c.over.ensures)
-    (ap (λ (bs : List ℕ). map encode (line_message step) ++ bs) (closed_bytes cs) ∙ sym (map-append encode (line_message step) (closed cs)))
+    (ap (λ (bs : List ℕ). map encode (line_message step) ++ bs) (closed_bytes cs) ∙ sym (map-append encode (line_message step) (closed_messages cs)))

@@ -1,8 +1,8 @@
 use Rattle.std.proofs.Common.{◌≡◌, ◌-◌, List}
 use Rattle.plays.specs.Events.{Event, run}
 use Rattle.every_schedule.specs.Fair.{HasNoLose}
-use Rattle.joined.specs.Finishing.{most, sum_of}
 use Rattle.joined.specs.Joining.{side}
+use Rattle.joined.proofs.RoundsEnd.{most, sum_of}
 use Rattle.joined.proofs.pipes.Pipes.go_on.Given as goal
 
 abbrev pub invariant-loop-self : goal.invariant-loop-self

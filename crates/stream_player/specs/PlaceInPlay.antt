@@ -7,24 +7,21 @@ use Rattle.svf_settings.specs.Steps.{Program}
 use Rattle.plays.specs.Play.{Turn, turns}
 use Rattle.plays.specs.PlayingOn.{Mismatch, Stops}
 use Rattle.plays.specs.Streams.{Found, StreamState}
+use Rattle.every_schedule.specs.InWork.{answers_in}
 
 -- how many turns are over, how many messages of the present one are out and how many of its answers are there, what
 -- differed, and the byte that was no answer, if one came
-pub record Standing : Type 0 where
+pub record PlaceInPlay : Type 0 where
   pub over : ℕ
   pub gone : ℕ
   pub heard : ℕ
   pub failed : Option Mismatch
   pub bad : Option ℕ
 
--- the messages of turns, and the answers that they want
+-- the messages of turns
 abbrev pub messages_in : List Turn → List Message
 messages_in [] = []
 messages_in (t ∷ ts) = t.messages ++ messages_in ts
-
-abbrev pub wanted_in : List Turn → ℕ
-wanted_in [] = 0
-wanted_in (t ∷ ts) = length t.wants + wanted_in ts
 
 -- of all that differed, one that stops keeps the first
 abbrev pub found : Option Mismatch → Found
@@ -32,13 +29,13 @@ found None = record { list = []; total = 0 }
 found (Some m) = record { list = m ∷ []; total = 1 }
 
 -- the player that stands so
-abbrev pub state_at : Program → Standing → StreamState
+abbrev pub state_at : Program → PlaceInPlay → StreamState
 state_at program s =
     let before = take s.over (turns program.steps) in record {
       program = program;
       kind = Stops;
       given = length (messages_in before) + s.gone;
-      answered = wanted_in before + s.heard;
+      answered = answers_in before + s.heard;
       found = found s.failed;
       bad = s.bad;
     }
@@ -58,8 +55,3 @@ reads (b ∷ bytes) = if b == 82 then suc (reads bytes) else reads bytes
 abbrev pub differing_bit : ℕ → VectorBit → Bool → Option Mismatch
 differing_bit command w bit =
     if differs w.wanted bit then Some (record { command = command; part = w.part; place = w.place }) else None
-
--- the first that differs is kept
-abbrev pub first_of : Option Mismatch → Option Mismatch → Option Mismatch
-first_of None later = later
-first_of (Some m) later = Some m
