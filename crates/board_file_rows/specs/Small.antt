@@ -1,5 +1,5 @@
 -- A small device that a reader of the tests gives: a TAP port, an output, an input, a bus of two bits and a power pin.
-use Rattle.std.specs.Prelude.{ℕ, Bool, true, false, List, [], ◌∷◌, ◌++◌, Option, Some, None, codes, bytes_eq}
+use Rattle.std.specs.Prelude.{ℕ, true, false, List, [], ◌∷◌, ◌++◌, Option, Some, None, codes, bytes_eq}
 use Rattle.std.specs.Prelude.{if◌then◌else◌}
 use Rattle.bsdl_device.specs.Device.{PortBit, Device}
 use Rattle.bsdl_device.specs.Ports.{bits_of}

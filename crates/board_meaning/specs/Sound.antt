@@ -1,6 +1,6 @@
 -- Every register that an instruction can select has at least one bit, and so has what it captures (IEEE Std
 -- 1149.1-2001, clauses 7 to 12, ask for that and more of every component).
-use Rattle.std.specs.Prelude.{◌≡◌, Bool, ℕ, ◌<◌, ◌≤◌, List, [], length, Option, unwrap_or}
+use Rattle.std.specs.Prelude.{◌≡◌, Bool, ◌<◌, ◌≤◌, List, [], length, Option, unwrap_or}
 use Rattle.std.specs.List.{AllByRecursion}
 use Rattle.bsdl_device.specs.Device.{Device}
 use Rattle.bsdl_device.specs.Sound.{IsSoundDevice}

@@ -1,10 +1,10 @@
 -- What an entity gives weighs no more than its tokens.
-use Rattle.std.proofs.Common.{◌≡◌, ◌≤◌, ℕ, zero, suc, ◌+◌, ◌-◌, Bool, true, false, List, [], ◌∷◌, length, drop, refl, sym, ap, ◌∙◌, arith}
+use Rattle.std.proofs.Common.{◌≡◌, ◌≤◌, ℕ, zero, suc, ◌+◌, ◌-◌, Bool, true, false, List, [], ◌∷◌, length, drop, arith}
 use Rattle.std.specs.Prelude.{Option, Some, None, codes, pred, ◌&&◌, ◌==◌, not, if◌then◌else◌}
 use Rattle.bsdl_device.specs.Device.{Name}
 use Rattle.bsdl_lex.specs.Cutting.{Lexeme}
 use Rattle.bsdl_text.specs.Marks.{closing, colon, comma, opening, semi}
-use Rattle.bsdl_text.specs.Reading.{Read, fits, misfit, is_mark_of, joined_by, joined_text, keyword, listed, mark, meant, number, quoted_value, refused_at, stands, word}
+use Rattle.bsdl_text.specs.Reading.{Read, fits, misfit, is_mark_of, joined_by, joined_text, keyword, listed, mark, number, quoted_value, refused_at, stands, word}
 use Rattle.bsdl_instructions.specs.Values.{access_row, begins, opcode_row, pattern, private_name, rows}
 use Rattle.bsdl_cells.specs.Rows.{cell_row}
 use Rattle.bsdl_entity.specs.declared.Attribute.{Attribute}
@@ -13,9 +13,9 @@ use Rattle.bsdl_entity.specs.declared.values.Language.{Language}
 use Rattle.bsdl_entity.specs.declared.values.Language.TheVariants.{Opcodes, Capture, Cells, Codes, PrivateNames, Accesses}
 use Rattle.bsdl_entity.specs.Attributes.{attribute_of}
 use Rattle.bsdl_entity.specs.Keywords.{is_rising, is_vector, mode_of, truth_of}
-use Rattle.bsdl_entity.specs.Entity.{File, Given, Port, Range, Value, absent, accesses_value, and_given, any_word, attribute, attribute_form, brackets, cells_value, codes_value, concat, count, end_of_text, ending, file, first_start, generic, in_order, is_scalar, is_tap, item, items, kind_of_port, length_value, names_value, nothing, opcodes_value, ordered, owner, past_closing, past_semi, pattern_value, port, port_group, ports, quoted, range, said, text_in, this_word, truth, upto, value_behind, value_of}
+use Rattle.bsdl_entity.specs.Entity.{File, Given, Port, Range, Value, absent, accesses_value, and_given, any_word, attribute, attribute_form, brackets, cells_value, codes_value, count, end_of_text, ending, file, first_start, generic, in_order, is_scalar, is_tap, item, items, kind_of_port, length_value, names_value, nothing, opcodes_value, ordered, owner, past_closing, past_semi, pattern_value, port, port_group, ports, quoted, range, said, text_in, this_word, truth, upto, value_behind, value_of}
 use Rattle.bsdl.specs.Small.{total}
-use Rattle.bsdl.proofs.Weights.{Weighs, bind, chain_weighs, choose, dropped, heft, joined_text_weighs, joined_weighs, keyword_weighs, listed_weighs, meant_weighs, one_weighs, quoted_value_weighs, size, weaker}
+use Rattle.bsdl.proofs.Weights.{Weighs, bind, choose, dropped, heft, joined_text_weighs, joined_weighs, keyword_weighs, listed_weighs, meant_weighs, one_weighs, quoted_value_weighs, size, weaker}
 use Rattle.bsdl.proofs.RowWeights.{access_weighs, access_weight, name_weighs, opcode_weighs, opcode_weight, rows_weigh}
 
 -- ---- values

@@ -1,9 +1,9 @@
 -- Rows within quotes weigh no more than their tokens.
-use Rattle.std.proofs.Common.{◌≡◌, ◌≤◌, ℕ, ◌+◌, ◌-◌, Bool, true, false, List, [], ◌∷◌, ◌++◌, length, drop, map, refl, sym, ap, ◌∙◌, arith}
+use Rattle.std.proofs.Common.{◌≡◌, ℕ, ◌+◌, ◌-◌, List, [], ◌∷◌, ◌++◌, length, drop, map, ◌∙◌, arith}
 use Rattle.std.specs.Prelude.{Option, Some, None, codes, reverse}
 use Rattle.std.proofs.lemmas.List.{length-append, length-map, length-reverse}
 use Rattle.std.specs.Char.{to_ascii_uppercase}
-use Rattle.bsdl_device.specs.Device.{Name, Pattern}
+use Rattle.bsdl_device.specs.Device.{Pattern}
 use Rattle.bsdl_lex.specs.Cutting.{Lexeme}
 use Rattle.bsdl_text.specs.Words.{upper}
 use Rattle.bsdl_text.specs.Marks.{comma, opening, closing}

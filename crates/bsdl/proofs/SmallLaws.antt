@@ -1,23 +1,23 @@
 -- Every device that a text says has no more than stands in the text.
-use Rattle.std.proofs.Common.{◌≡◌, ◌≤◌, ℕ, ◌+◌, ◌-◌, Bool, true, false, cond, List, [], ◌∷◌, ◌++◌, length, map, refl, sym, ap, subst, ◌∙◌, arith}
-use Rattle.std.specs.Prelude.{Option, Some, None, Result, Ok, Err, filter, option_map, nat_lt, if◌then◌else◌}
+use Rattle.std.proofs.Common.{◌≡◌, ◌≤◌, ℕ, ◌+◌, ◌-◌, Bool, true, false, List, [], ◌∷◌, ◌++◌, length, map, refl, ap, subst, arith}
+use Rattle.std.specs.Prelude.{Option, Some, None, Result, Ok, Err, filter, nat_lt}
 use Rattle.std.specs.List.{flat_map}
 use Rattle.std.proofs.lemmas.List.{length-append, length-map}
-use Rattle.bsdl_device.specs.Device.{Access, Device, Name, Opcode}
+use Rattle.bsdl_device.specs.Device.{Device, Name}
 use Rattle.bsdl_device.specs.declared.Place.{Place}
 use Rattle.bsdl_lex.specs.Cutting.{Lexeme, bad_place, cuts_of, tokens}
 use Rattle.bsdl_text.specs.Reading.{Read, fits, misfit}
 use Rattle.bsdl_instructions.specs.Values.{AccessRow, Instr, OpcodeRow}
 use Rattle.bsdl_entity.specs.declared.Attribute.{Attribute}
-use Rattle.bsdl_entity.specs.declared.Attribute.TheVariants.{TapScanIn, TapScanOut, TapScanMode, TapScanClock, TapScanReset, InstructionLength, BoundaryLength, InstructionOpcode, InstructionCapture, BoundaryRegister, IdcodeRegister, UsercodeRegister, InstructionPrivate, RegisterAccess}
+use Rattle.bsdl_entity.specs.declared.Attribute.TheVariants.{TapScanIn, TapScanOut, TapScanMode, TapScanClock, InstructionLength, BoundaryLength, InstructionOpcode, InstructionCapture, BoundaryRegister, InstructionPrivate, RegisterAccess}
 use Rattle.bsdl_entity.specs.Entity.{File, Given, Value, absent, accesses_value, cells_value, codes_value, count, file, names_value, opcodes_value, pattern_value, port}
 use Rattle.bsdl_described.specs.Describing.{Description, Refusal, as_accesses, as_cells, as_count, as_names, as_opcodes, as_pattern, as_port, described, is_attribute, is_own, need, own_accesses, too_large, value_given, with_own, ◌>>?◌}
-use Rattle.bsdl_twice.specs.ResetOpcode.{bits, opcode}
+use Rattle.bsdl_twice.specs.ResetOpcode.{opcode}
 use Rattle.bsdl_limits.specs.Users.{users_of}
 use Rattle.bsdl_built.specs.Built.{access, accesses_of_row, device}
 use Rattle.bsdl.specs.Form.{read_form, text_form, text_limit, tokens_form}
 use Rattle.bsdl.specs.Judging.{fault, file_says, device_or_refusal, text_says}
-use Rattle.bsdl.specs.Small.{IsSmallDevice, access_size, bits_given, opcode_size, total}
+use Rattle.bsdl.specs.Small.{IsSmallDevice, access_size, opcode_size, total}
 use Rattle.bsdl.proofs.LimitedLaws.{bits_len}
 use Rattle.bsdl.proofs.Weights.{Weighs, heft, size, tokens_weigh}
 use Rattle.bsdl.proofs.RowWeights.{access_weight, instr_weight, opcode_weight, upper_len}

@@ -1,12 +1,11 @@
 -- What reading gives weighs no more than the tokens that it takes, and tokens no more than their text.
-use Rattle.std.proofs.Common.{◌≡◌, ◌≤◌, ℕ, zero, suc, ◌+◌, ◌-◌, Bool, true, false, List, [], ◌∷◌, ◌++◌, length, take, drop, map, refl, sym, ap, ◌∙◌, arith}
-use Rattle.std.specs.Prelude.{Option, Some, None, if◌then◌else◌, reverse, pred}
-use Rattle.std.specs.List.{flat_map}
-use Rattle.std.proofs.lemmas.List.{length-append, length-map, length-reverse, length-drop, length-take-le}
+use Rattle.std.proofs.Common.{◌≡◌, ◌≤◌, ℕ, zero, suc, ◌+◌, ◌-◌, Bool, true, false, List, [], ◌∷◌, length, take, drop, refl, ap, arith}
+use Rattle.std.specs.Prelude.{Option, Some, None, if◌then◌else◌}
+use Rattle.std.proofs.lemmas.List.{length-append, length-drop, length-take-le}
 use Rattle.bsdl_lex.specs.Cutting.{Lexeme, bad_place, cuts_of, tokens}
 pub use Rattle.bsdl_lex.proofs.Heft.{heft, size, tokens_weigh}
-use Rattle.bsdl_text.specs.Words.{inner, text_within, upper}
-use Rattle.bsdl_text.specs.Reading.{Read, fits, misfit, ◌>>=◌, chain, complete, further, joined_by, joined_text, keyword, listed, mark, meant, one, quoted_value, refused_at, stands, string, is_text_kind}
+use Rattle.bsdl_text.specs.Words.{inner, text_within}
+use Rattle.bsdl_text.specs.Reading.{Read, fits, misfit, ◌>>=◌, chain, complete, further, joined_by, joined_text, keyword, listed, mark, meant, one, quoted_value, refused_at, stands, string}
 use Rattle.bsdl.specs.Small.{total}
 
 -- what is read and what stands behind it weigh no more than this

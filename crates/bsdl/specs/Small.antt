@@ -1,6 +1,6 @@
 -- What no limit bounds stands in the text: names, how many patterns a row has, and what own instructions capture.
 use Rattle.std.specs.Prelude.{ℕ, ◌+◌, ◌≤◌, Bool, List, [], ◌∷◌, length, Option, Some, None}
-use Rattle.bsdl_device.specs.Device.{Access, Device, Opcode, Pattern}
+use Rattle.bsdl_device.specs.Device.{Access, Device, Opcode}
 
 -- the sum of a measure
 abbrev pub total : {A : Type 0} → (A → ℕ) → List A → ℕ

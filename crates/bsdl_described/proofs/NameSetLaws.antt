@@ -1,5 +1,5 @@
 -- Names in tables and sets.
-use Rattle.std.proofs.Common.{◌≡◌, ℕ, Bool, true, false, cond, ◌||◌, List, [], ◌∷◌, map, refl, sym, ap, ◌∙◌}
+use Rattle.std.proofs.Common.{◌≡◌, ℕ, Bool, true, false, cond, ◌||◌, List, [], ◌∷◌, map, refl, ap, ◌∙◌}
 use Rattle.std.specs.Prelude.{Some, is_some, bytes_eq}
 use Rattle.std.specs.List.{list_any}
 use Rattle.bsdl_text.specs.Words.{upper, stands_for}

@@ -1,8 +1,7 @@
 -- What a description gives as a whole: each attribute's value is that of its first giving.
-use Rattle.std.specs.Prelude.{ℕ, ◌==◌, Bool, true, false, is_some, if◌then◌else◌, List, [], ◌∷◌, ◌++◌, map, filter}
+use Rattle.std.specs.Prelude.{ℕ, Bool, true, false, is_some, if◌then◌else◌, List, [], ◌∷◌, filter}
 use Rattle.std.specs.Prelude.{Option, Some, None, Result, Ok, Err, bytes_eq, codes}
-use Rattle.std.specs.List.{list_any, find}
-use Rattle.bsdl_lex.specs.Cutting.{Lexeme}
+use Rattle.std.specs.List.{list_any}
 use Rattle.bsdl_text.specs.Words.{upper, same_name}
 use Rattle.bsdl_entity.specs.declared.Attribute.{Attribute}
 use Rattle.bsdl_entity.specs.declared.Attribute.TheVariants.{TapScanIn, TapScanOut, TapScanMode, TapScanClock}

@@ -1,14 +1,14 @@
 -- What the texts of the rows say, by an independent reader.
-use Rattle.std.specs.Prelude.{ℕ, true, false, List, [], ◌∷◌, codes, Some, None, Result, Ok, Err}
+use Rattle.std.specs.Prelude.{true, false, [], ◌∷◌, codes, Some, None, Result, Ok, Err}
 use Rattle.bsdl_entity.specs.declared.Attribute.TheVariants.{TapScanClock}
-use Rattle.bsdl_device.specs.declared.PortMode.TheVariants.{In, Out, InOut, Buffer, Linkage}
-use Rattle.bsdl_device.specs.declared.Function.TheVariants.{Input, Clock, ObserveOnly, Bidir, Output2, Output3}
-use Rattle.bsdl_device.specs.declared.Function.TheVariants.{Control, ControlR, Internal}
-use Rattle.bsdl_device.specs.declared.Disabled.TheVariants.{Z, Keeper, Weak0, Weak1, Pull0, Pull1}
+use Rattle.bsdl_device.specs.declared.PortMode.TheVariants.{In, Out}
+use Rattle.bsdl_device.specs.declared.Function.TheVariants.{Input, Output3}
+use Rattle.bsdl_device.specs.declared.Function.TheVariants.{Control, Internal}
+use Rattle.bsdl_device.specs.declared.Disabled.TheVariants.{Z}
 use Rattle.bsdl_device.specs.Device.{Device}
-use Rattle.bsdl_device.specs.declared.Place.TheVariants.{AtUser, AtBypass, AtBoundary, AtDeviceId}
+use Rattle.bsdl_device.specs.declared.Place.TheVariants.{AtUser}
 use Rattle.bsdl_described.specs.Describing.{Refusal, bad_token, bad_form, missing, twice, bad_length, bad_capture}
-use Rattle.bsdl_described.specs.Describing.{bad_id, bad_cell, too_large}
+use Rattle.bsdl_described.specs.Describing.{bad_id, bad_cell}
 
 abbrev pub k : Result Device Refusal
 k = Ok (record {

@@ -1,26 +1,23 @@
 -- Once `Q` was taken, the player that keeps no answers tells the full play's ending.
-use Rattle.std.proofs.Common.{◌≡◌, Bool, true, false, ◌||◌, ℕ, ◌+◌, ◌-◌, ◌==◌, ◌≤◌, List, [], ◌∷◌, ◌++◌, map, length, take, refl, sym, ap, ◌∙◌, subst, arith, count_by, Option, Some, None, append-nil}
+use Rattle.std.proofs.Common.{◌≡◌, Bool, true, false, ◌||◌, ℕ, ◌+◌, ◌-◌, ◌==◌, List, ◌++◌, map, length, take, refl, sym, ap, ◌∙◌, subst, arith, count_by, Some, None, append-nil}
 use Rattle.std.proofs.Math.Seq.{take-length}
 use Rattle.std.proofs.lemmas.List.{length-map}
 use Rattle.std.specs.Prelude.{◌^◌, min, if◌then◌else◌}
 use Rattle.std.specs.List.{list_any}
 use Rattle.bitbang_table.specs.Protocol.{answer, encode}
-use Rattle.svf_settings.specs.Legal.{IsLegalProgram}
 use Rattle.svf_settings.specs.Steps.{Program}
 use Rattle.board_meaning.specs.Chain.{BoardState}
-use Rattle.board_meaning.specs.Sound.{HasDevice, IsSoundBoard}
 use Rattle.plays.specs.declared.ending.Ending.{Ending}
 use Rattle.plays.specs.declared.ending.Ending.TheVariants.{Lost}
 use Rattle.plays.specs.DirectPlay.{MeansFromOpening}
-use Rattle.plays.specs.Events.{Event, Known, World, by_answers, empty_pipes, before_events as fresh_world, run}
+use Rattle.plays.specs.Events.{Event, World, by_answers, empty_pipes, before_events as fresh_world, run}
 use Rattle.plays.specs.Play.{Played, ending_for, play, player, sent, turns}
-use Rattle.plays.specs.Playing.{PlayerState, has_bad_answer}
+use Rattle.plays.specs.Playing.{PlayerState}
 use Rattle.plays.specs.PlayingOn.{Stops}
 use Rattle.plays.specs.Streams as stream
 use Rattle.plays.specs.Streams.{StreamState, new_stream}
 use Rattle.plays.proofs.Asks.{asks, hear-asks, hear-full, sent-full, turns-ask}
 use Rattle.plays.proofs.Described.{means_from_opening}
-use Rattle.every_schedule.specs.Laws.{IsInside, IsWhole, taken_in}
 use Rattle.every_schedule.proofs.HonestLinks.{ending-full, none-bad-any, told-bits}
 use Rattle.every_schedule.proofs.Quits.{full-quits, turns-no-quit}
 use Rattle.every_schedule.proofs.Runs.{run-append}
@@ -31,8 +28,8 @@ use Rattle.streaming.specs.Laws.{history_of, stream_of}
 use Rattle.streaming.proofs.Agree.{agree, ask-count, counts, quit-byte}
 use Rattle.joined.specs.Finishing.{IsReached, ended_of, is_over}
 use Rattle.joined.specs.Joining.{JoinedState, side}
-use Rattle.joined.specs.Laws.{EndsAsTheFullPlay, MeansAfter, WhatIsJoinedEndsAsTheFullPlay, WhatIsJoinedMeansTheProgram, joined_after}
-use Rattle.joined.proofs.RoundsEnd.{carries, link, world_of}
+use Rattle.joined.specs.Laws.{MeansAfter, WhatIsJoinedEndsAsTheFullPlay, WhatIsJoinedMeansTheProgram, joined_after}
+use Rattle.joined.proofs.RoundsEnd.{carries, link}
 
 -- A history that has all of the full play: its ending is the full play's.
 module _ (program : Program) (b : BoardState) where

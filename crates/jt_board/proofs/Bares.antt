@@ -1,5 +1,5 @@
 -- Boards of sound devices, and bare ones.
-use Rattle.std.proofs.Common.{◌≡◌, ◌<◌, ◌≤◌, ℕ, zero, suc, ◌+◌, false, List, [], ◌∷◌, ◌++◌, length, map, Some, None, refl, sym, ap, subst, ◌∙◌, arith, slice_get}
+use Rattle.std.proofs.Common.{◌≡◌, ◌<◌, ◌≤◌, ℕ, zero, suc, ◌+◌, List, [], ◌∷◌, ◌++◌, length, map, refl, sym, ap, subst, ◌∙◌, arith}
 use Rattle.std.specs.List.{AllByRecursion}
 use Rattle.std.proofs.lemmas.List.{length-map}
 use Rattle.std.proofs.lemmas.Option.{none-some}
@@ -8,7 +8,7 @@ use Rattle.bsdl_device.specs.Sound.{IsSoundDevice}
 use Rattle.scan_registers.specs.Fitting.{IsFormed}
 use Rattle.board_file.specs.Fits.{HasCore}
 use Rattle.board_file.specs.Wiring as planned
-use Rattle.board_meaning.specs.Bare.{bare, bare_board, bare_from, bare_name}
+use Rattle.board_meaning.specs.Bare.{bare, bare_board, bare_from}
 use Rattle.board_meaning.specs.Cells.{Member}
 use Rattle.board_meaning.specs.Chain.{members}
 use Rattle.board_meaning.specs.Resting.{power_up, board_at_rest, chip_at_rest}

@@ -12,7 +12,7 @@ use Rattle.pin_nets.specs.Wired.{Net}
 use Rattle.board_meaning.specs.Cells.{Member}
 use Rattle.board_meaning.specs.Chain.{BoardState, ChipState, members}
 use Rattle.board_meaning.specs.Nets.{sees}
-use Rattle.board_meaning.specs.Resting.{IsAtRest, board_at_rest, chip_at_rest}
+use Rattle.board_meaning.specs.Resting.{IsAtRest, chip_at_rest}
 use Rattle.board_meaning.specs.Sound.{AllSound, IsChain, IsSound}
 use Rattle.board_meaning.specs.Whole.{AtRest, arrive, capture, capture_all, selected_bits_of, cut_back, joined_bits, reset_all}
 use Rattle.board_meaning.specs.Whole.{reset_member, settle, settled_member, shift, trst_asserted, trst_member, update}

@@ -1,6 +1,5 @@
 -- A whole vector through the chain: the out, and the joined list afterwards.
 use Rattle.std.proofs.Common.{◌≡◌, Bool, true, false, ℕ, zero, suc, ◌+◌, ◌<◌, List, [], ◌∷◌, ◌++◌, length, take, drop, refl, sym, ap, ◌∙◌, map, subst, append_assoc, arith, length-append, length-drop, take-append-drop}
-use Rattle.std.proofs.lemmas.List.{length-take-le}
 use Rattle.std.specs.Prelude.{is_some, if◌then◌else◌}
 use Rattle.jt_tap.specs.declared.Column.{Column}
 use Rattle.jt_tap.specs.declared.Column.TheVariants.{Dr, Ir}

@@ -1,19 +1,11 @@
 -- Which steps and programs are legal at a state of whole registers.
-use Rattle.std.specs.Prelude.{◌≡◌, ◌≢◌, Bool, true, false, ℕ, zero, suc, ◌<◌, List, [], ◌∷◌, length, Option, Some, None}
-use Rattle.std.specs.List.{AllByRecursion}
-use Rattle.jt_tap.specs.declared.State.{State}
+use Rattle.std.specs.Prelude.{◌≡◌, ◌≢◌, true, false, List, [], ◌∷◌}
 use Rattle.jt_tap.specs.declared.State.TheVariants.{Reset}
-use Rattle.board_meaning.specs.Cells.{Member, powered}
-use Rattle.bsdl_device.specs.declared.Place.{Place}
-use Rattle.bsdl_device.specs.declared.Place.TheVariants.{AtBypass, AtBoundary, AtDeviceId, AtUser}
-use Rattle.bsdl_device.specs.Device.{Access, Device}
-use Rattle.board_meaning.specs.Chain.{BoardState, members}
 use Rattle.board_meaning.specs.Whole.{AtRest}
-use Rattle.svf_settings.specs.Steps.{Step, Trst, place_after, Numbered}
-use Rattle.svf_parse.specs.declared.statement.TrstWord.TheVariants.{On, Absent}
+use Rattle.svf_settings.specs.Steps.{Step, Trst, Numbered}
+use Rattle.svf_parse.specs.declared.statement.TrstWord.TheVariants.{Absent}
 use Rattle.plays.specs.Meaning.{after_step}
 use Rattle.svf_settings.specs.Legal.{IsFormed, leaves_reset}
-use Rattle.board_meaning.specs.Sound.{AllSound}
 
 -- Legal at M: formed, and while TRST is asserted no step from RESET leaves it, and none is TRST ABSENT.
 pub record IsLegal (step : Step) (m : AtRest) : Type 0 where

@@ -1,18 +1,15 @@
 -- The laws of direct play: what the bytes of a legal step and of a legal program do, edge by edge, is what whole
 -- registers say.
-use Rattle.std.specs.Prelude.{◌≡◌, ◌↔◌, Bool, true, false, ℕ, ◌<◌, List, length}
+use Rattle.std.specs.Prelude.{◌≡◌, ◌↔◌, true, false, ℕ, ◌<◌, List, length}
 use Rattle.std.specs.List.{AllByRecursion}
 use Rattle.jt_tap.specs.declared.State.TheVariants.{Reset}
 use Rattle.jt_tap.specs.Controller.{is_stable}
-use Rattle.board_meaning.specs.Bare.{bare_board}
-use Rattle.board_meaning.specs.Cells.{Member, powered}
+use Rattle.board_meaning.specs.Cells.{Member}
 use Rattle.pin_nets.specs.Wired.{Net}
 use Rattle.board_meaning.specs.Chain.{BoardState, after_bytes, hear}
-use Rattle.bsdl_device.specs.Device.{Device, Name}
 use Rattle.board_meaning.specs.Resting.{IsAtRest, IsRest, power_up, board_at_rest}
 use Rattle.plays.specs.Legal.{IsLegal, AllLegal}
-use Rattle.board_meaning.specs.Sound.{HasDevice, IsPoweredUp, IsSoundBoard, AllSound, IsSound}
-use Rattle.bsdl_device.specs.Sound.{IsSoundDevice}
+use Rattle.board_meaning.specs.Sound.{HasDevice, IsPoweredUp, IsSoundBoard, AllSound}
 use Rattle.bitbang_table.specs.Cycles.{opening}
 use Rattle.bitbang.specs.StepMessages.{step_messages}
 use Rattle.svf_settings.specs.Steps.{Step, Numbered, Program}

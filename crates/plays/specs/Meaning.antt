@@ -1,9 +1,8 @@
 -- What the steps of a program do to whole registers, and a program: a fold of its steps (Serial Vector Format, revision
 -- E).
-use Rattle.std.specs.Prelude.{true, false, List, [], ◌∷◌, map, Option, Some, None, ℕ, if◌then◌else◌}
+use Rattle.std.specs.Prelude.{false, List, [], ◌∷◌, Option, Some, None, ℕ, if◌then◌else◌}
 use Rattle.jt_tap.specs.declared.Column.{Column}
 use Rattle.jt_tap.specs.declared.State.{State}
-use Rattle.jt_tap.specs.declared.State.TheVariants.{Reset}
 use Rattle.jt_tap.specs.Controller.{pause, is_at}
 use Rattle.svf_parse.specs.declared.statement.TrstWord.TheVariants.{On, Absent}
 use Rattle.scan_vectors.specs.declared.part.Part.{Part}

@@ -2,7 +2,6 @@
 use Rattle.std.proofs.Common.{◌≡◌, true, false, [], codes, Some, None, refl, lit≤}
 use Rattle.svf_parse.specs.Numbers.{numeral_of}
 use Rattle.svf_parse.specs.Words.{Word}
-use Rattle.svf_parse.specs.Written.{Writes}
 use Rattle.svf_parse.specs.Written as written
 use Rattle.svf_parse.proofs.WrittenLaws.{reads_what_is_written}
 use Rattle.settings_rows.specs.NumberRows.{number, WritesNone, NumberRows}

@@ -1,22 +1,21 @@
 -- What a player that stands somewhere in its play sends, and what is owed to it.
-use Rattle.std.proofs.Common.{◌≡◌, ◌⊎◌, Bool, true, false, ℕ, zero, suc, ◌+◌, ◌-◌, ◌<◌, ◌≤◌, List, [], ◌∷◌, ◌++◌, map, length, take, drop, refl, sym, ap, subst, ◌∙◌, append_assoc, arith, count_by, Option, Some, None}
+use Rattle.std.proofs.Common.{◌≡◌, Bool, true, false, ℕ, zero, suc, ◌+◌, ◌-◌, ◌<◌, List, [], ◌∷◌, ◌++◌, map, length, take, drop, refl, sym, ap, ◌∙◌, append_assoc, arith, count_by, None}
 use Rattle.std.proofs.Math.Seq.{drop-append-add, take-append-add}
 use Rattle.std.proofs.lemmas.Bool.{ltb-true, ltb-false, leb-true, leb-false}
-use Rattle.std.proofs.lemmas.List.{length-map, map-append, drop-map}
+use Rattle.std.proofs.lemmas.List.{drop-map}
 use Rattle.std.specs.Prelude.{◌&&◌, ◌||◌, ◌==◌, nat_le, nat_lt, is_some, if◌then◌else◌}
-use Rattle.std.specs.List.{AllByRecursion, list_any}
+use Rattle.std.specs.List.{list_any}
 use Rattle.bitbang_table.specs.declared.Message.{Message}
-use Rattle.bitbang_table.specs.declared.Message.TheVariants.{Ask, Light, Lines, Quit, Write}
+use Rattle.bitbang_table.specs.declared.Message.TheVariants.{Quit}
 use Rattle.bitbang_table.specs.Protocol.{encode}
 use Rattle.svf_settings.specs.Steps.{Program}
 use Rattle.plays.specs.Play.{Turn, turns, up_to_asks}
-use Rattle.plays.specs.PlayingOn.{Mismatch, ending_of}
 use Rattle.plays.specs.Streams as stream
 use Rattle.plays.specs.Streams.{may_send, some_differ}
 use Rattle.plays.proofs.Asks.{AllAsk, asks, turns-ask}
 use Rattle.every_schedule.proofs.Quits.{NoneQuit, asks-append, has_quit, quit-append, turns-no-quit}
 use Rattle.streaming.proofs.Agree.{ask-count, counts, quit-byte}
-use Rattle.stream_player.specs.PlaceInPlay.{PlaceInPlay, found, messages_in, reads, state_at, up_to_reads}
+use Rattle.stream_player.specs.PlaceInPlay.{PlaceInPlay, found, messages_in, state_at}
 use Rattle.every_schedule.specs.InWork.{answers_in}
 
 -- whether it stops

@@ -1,5 +1,5 @@
 -- Answers taken.
-use Rattle.std.proofs.Common.{◌≡◌, Bool, true, false, ℕ, zero, suc, ◌+◌, ◌-◌, ◌<◌, ◌≤◌, List, [], ◌∷◌, ◌++◌, map, length, take, drop, refl, sym, ap, subst, ◌∙◌, arith, length-append, count_by, Option, Some, None}
+use Rattle.std.proofs.Common.{◌≡◌, Bool, true, false, ℕ, zero, suc, ◌+◌, ◌-◌, ◌<◌, ◌≤◌, List, [], ◌∷◌, length, take, drop, refl, sym, ap, subst, ◌∙◌, arith, count_by, Option, Some, None}
 use Rattle.std.proofs.lemmas.Bool.{eqb-true}
 use Rattle.std.specs.Prelude.{◌==◌, not, filter, is_some, option_map, slice_get, if◌then◌else◌}
 use Rattle.jt_tap.specs.declared.State.TheVariants.{Reset}
@@ -14,7 +14,7 @@ use Rattle.plays.specs.Play.{Turn, is_bad, step_turns, turns, wants_of}
 use Rattle.plays.specs.Playing.{up_to_bad}
 use Rattle.plays.specs.PlayingOn.{Mismatch}
 use Rattle.plays.specs.Streams as stream
-use Rattle.plays.specs.Streams.{StreamState, hear, hear_bytes, answers_taken}
+use Rattle.plays.specs.Streams.{StreamState, hear, answers_taken}
 use Rattle.plays.proofs.Asks.{asks, asks-step}
 use Rattle.every_schedule.proofs.Quits.{asks-append}
 use Rattle.stream_player.specs.declared.progress.Mismatch as declared
@@ -24,7 +24,7 @@ use Rattle.stream_player.specs.declared.progress.Progress.{Progress}
 use Rattle.stream_player.specs.Progress.{InPhase, InStep, IsOver, Stands, gone, mismatch, standing_at, state_of, vector_bits}
 use Rattle.stream_player.specs.PlaceInPlay.{PlaceInPlay, differing_bit, state_at}
 use Rattle.stream_player.proofs.Ahead.{ahead, owes}
-use Rattle.stream_player.proofs.Ends.{first_of, hears, hears-bad, quits, quits-behind}
+use Rattle.stream_player.proofs.Ends.{first_of, hears, quits, quits-behind}
 use Rattle.stream_player.proofs.TurnPlaces.{owed-is, reached}
 use Rattle.stream_player.proofs.Pieced.{fair-end, first, is-over, none-of, opened, start, stops-is, turns-end}
 use Rattle.stream_player.proofs.Steps.{cut, same-first, wants-of-vector}

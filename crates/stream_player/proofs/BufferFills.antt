@@ -1,11 +1,8 @@
 -- A buffer that is filled by pieces.
-use Rattle.std.proofs.Common.{◌≡◌, ℕ, zero, suc, ◌+◌, ◌-◌, ◌<◌, ◌≤◌, List, [], ◌∷◌, ◌++◌, length, take, drop, refl, sym, ap, subst, ◌∙◌, append_assoc, arith, length-append, length-drop, min, Option, Some, None}
-use Rattle.std.proofs.Math.Seq.{drop-append_seam, take-length}
-use Rattle.std.proofs.lemmas.List.{append-nil, drop-drop}
+use Rattle.std.proofs.Common.{◌≡◌, ℕ, zero, suc, ◌+◌, ◌-◌, List, [], ◌∷◌, drop, refl, sym, Option, Some, None}
+use Rattle.std.proofs.lemmas.List.{drop-drop}
 use Rattle.std.specs.Prelude.{is_some, if◌then◌else◌}
-use borrow.Rule.Slice.PartMut.{mid_of, post_of, put_mid}
 use Rattle.plays.specs.Streams.{StreamState, bytes_of, bytes_to_send}
-use Rattle.direct_play.proofs.Buffers.{filled_front}
 
 drop-none : (n : ℕ) (l : List ℕ) → l ≡ [] → drop n l ≡ []
 drop-none zero l e = e

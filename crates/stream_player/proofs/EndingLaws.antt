@@ -1,30 +1,27 @@
 -- What a player tells of its play.
-use Rattle.std.proofs.Common.{◌≡◌, ◌⊎◌, Bool, true, false, ℕ, zero, suc, ◌+◌, ◌-◌, ◌<◌, ◌≤◌, List, [], ◌∷◌, ◌++◌, map, length, take, drop, refl, sym, ap, subst, ◌∙◌, arith, inl, inr, min, Option, Some, None}
+use Rattle.std.proofs.Common.{◌≡◌, ◌⊎◌, Bool, true, false, ℕ, zero, suc, ◌+◌, ◌-◌, ◌<◌, List, [], ◌∷◌, length, take, drop, refl, sym, ap, ◌∙◌, arith, inl, inr, Some, None}
 use Rattle.std.proofs.Math.Seq.{take-append-add}
 use Rattle.std.specs.Prelude.{◌||◌, is_some, option_map, slice_get, if◌then◌else◌}
 use Rattle.jt_tap.specs.declared.State.TheVariants.{Reset}
 use Rattle.bitbang_table.specs.Cycles.{opening}
-use Rattle.bitbang_table.specs.declared.Message.{Message}
 use Rattle.bitbang_table.specs.declared.Message.TheVariants.{Quit}
 use Rattle.bitbang.specs.StepMessages.{step_messages}
 use Rattle.bitbang.specs.declared.step_bytes.Spot.{Spot}
 use Rattle.svf_settings.specs.Steps.{Numbered, Program, place_after}
-use Rattle.plays.specs.declared.ending.Ending.{Ending}
 use Rattle.plays.specs.declared.ending.Ending.TheVariants.{BadAnswer}
 use Rattle.plays.specs.Play.{Turn, step_turns, turns, wants_of}
-use Rattle.plays.specs.PlayingOn.{Mismatch, ending_of}
+use Rattle.plays.specs.PlayingOn.{ending_of}
 use Rattle.plays.specs.Streams as stream
-use Rattle.plays.specs.Streams.{StreamState, command_at}
 use Rattle.every_schedule.proofs.Quits.{has_quit, quit-append, turns-no-quit}
 use Rattle.stream_player.specs.declared.progress.Phase.{Phase}
 use Rattle.stream_player.specs.declared.progress.Phase.TheVariants.{Opening, Within, Over}
 use Rattle.stream_player.specs.declared.progress.Progress.{Progress}
-use Rattle.stream_player.specs.Progress.{IsOver, IsReady, Stands, gone, is_out, mismatch, present, rest_of, standing_at, state_of}
+use Rattle.stream_player.specs.Progress.{IsOver, Stands, gone, is_out, mismatch, present, rest_of, standing_at, state_of}
 use Rattle.bitbang_table.specs.Protocol.{value}
-use Rattle.stream_player.specs.PlaceInPlay.{PlaceInPlay, found, state_at}
+use Rattle.stream_player.specs.PlaceInPlay.{found}
 use Rattle.stream_player.proofs.Ahead.{ahead}
 use Rattle.stream_player.proofs.Ends.{command-here, ends, quits, quits-behind, works-in, works-past-all, works-stopped}
-use Rattle.stream_player.proofs.TurnPlaces.{IsIn, no-quit, quit-of, reached}
+use Rattle.stream_player.proofs.TurnPlaces.{no-quit, quit-of, reached}
 use Rattle.stream_player.proofs.Pieced.{fair-end, first, gone-end, is-over, none-of, opened, start, stops-is, turns-end}
 use Rattle.stream_player.proofs.Steps.{cut, same-first}
 use Rattle.stream_player.proofs.PlayerPlaces.{gone-is, in-opening, in-step, is-in, later, no-elements, opens, turn, within}

@@ -1,13 +1,10 @@
 -- A player that hears an answer, that quits, and what it tells.
-use Rattle.std.proofs.Common.{◌≡◌, ◌⊎◌, Bool, true, false, ℕ, zero, suc, ◌+◌, ◌-◌, ◌<◌, ◌≤◌, List, [], ◌∷◌, ◌++◌, map, length, take, drop, refl, sym, ap, subst, ◌∙◌, append_assoc, arith, length-append, inl, inr, Option, Some, None}
-use Rattle.std.proofs.Math.Seq.{drop-append-add, drop-append-le, take-append-add, take-append-le}
+use Rattle.std.proofs.Common.{◌≡◌, ◌⊎◌, Bool, true, false, ℕ, zero, suc, ◌+◌, ◌-◌, ◌<◌, ◌≤◌, List, [], ◌∷◌, ◌++◌, map, length, take, drop, refl, ap, ◌∙◌, arith, length-append, inl, inr, Option, Some, None}
+use Rattle.std.proofs.Math.Seq.{drop-append-add}
 use Rattle.std.proofs.lemmas.Bool.{ltb-true, ltb-false, leb-true, leb-false}
 use Rattle.std.proofs.lemmas.List.{length-map}
-use Rattle.std.specs.Prelude.{◌&&◌, ◌||◌, ◌==◌, is_some, nat_le, nat_lt, min, if◌then◌else◌}
-use Rattle.std.specs.List.{list_any}
-use Rattle.bitbang_table.specs.declared.Message.{Message}
+use Rattle.std.specs.Prelude.{◌&&◌, ◌||◌, ◌==◌, is_some, nat_le, nat_lt, if◌then◌else◌}
 use Rattle.bitbang_table.specs.declared.Message.TheVariants.{Quit}
-use Rattle.bitbang_table.specs.Protocol.{encode}
 use Rattle.scan_vectors.specs.Vector.{VectorBit, differs}
 use Rattle.svf_settings.specs.Steps.{Program}
 use Rattle.plays.specs.declared.ending.Ending.{Ending}
@@ -15,13 +12,11 @@ use Rattle.plays.specs.declared.ending.Ending.TheVariants.{BadAnswer}
 use Rattle.plays.specs.Play.{Turn, is_bad, turns}
 use Rattle.plays.specs.PlayingOn.{Mismatch, Stops, ending_of}
 use Rattle.plays.specs.Streams as stream
-use Rattle.plays.specs.Streams.{Found, StreamState, Wanted, command_at, hear, mismatch_of, with_more, all_wanted, command_at_work}
-use Rattle.plays.proofs.Asks.{asks}
-use Rattle.every_schedule.proofs.Quits.{has_quit, quit-append}
+use Rattle.plays.specs.Streams.{Wanted, command_at, hear, mismatch_of, with_more, all_wanted, command_at_work}
+use Rattle.every_schedule.proofs.Quits.{has_quit}
 use Rattle.stream_player.specs.PlaceInPlay.{PlaceInPlay, differing_bit, found, messages_in, state_at}
 use Rattle.every_schedule.specs.InWork.{answers_in}
-use Rattle.stream_player.proofs.Ahead.{ahead, is-out, owes, sends-last, stops_at, waits}
-use Rattle.stream_player.proofs.TurnPlaces.{IsIn, fits, no-quit, reached}
+use Rattle.stream_player.proofs.Ahead.{ahead, is-out, sends-last, stops_at}
 
 -- a wanted bit of a turn
 abbrev of-turn : Turn → VectorBit → Wanted

@@ -1,12 +1,10 @@
 -- Bytes of a play given out.
 use Rattle.std.proofs.Common.{slice_index_or, ◌≡◌, Bool, true, false, ℕ, zero, suc, ◌+◌, ◌-◌, ◌<◌, ◌≤◌, List, [], ◌∷◌, ◌++◌, map, length, take, drop, set, refl, sym, ap, subst, ◌∙◌, arith, length-append, length-drop, min, Option, Some, None}
 use Rattle.std.proofs.Math.Seq.{drop-append-add, take-append-le}
-use Rattle.std.proofs.lemmas.List.{length-map, drop-drop, drop-map}
-use Rattle.std.specs.Prelude.{◌==◌, is_some, option_map, slice_index, if◌then◌else◌}
-use Rattle.jt_tap.specs.declared.State.{State}
+use Rattle.std.proofs.lemmas.List.{drop-drop, drop-map}
+use Rattle.std.specs.Prelude.{◌==◌, is_some, option_map, if◌then◌else◌}
 use Rattle.jt_tap.specs.declared.State.TheVariants.{Reset}
 use Rattle.bitbang_table.specs.Cycles.{opening}
-use Rattle.bitbang_table.specs.declared.Message.{Message}
 use Rattle.bitbang_table.specs.declared.Message.TheVariants.{Quit}
 use Rattle.bitbang_table.specs.Protocol.{encode, value}
 use Rattle.bitbang.specs.StepMessages.{step_bytes, step_messages}
@@ -19,13 +17,13 @@ use Rattle.stream_player.specs.declared.progress.Mismatch as declared
 use Rattle.stream_player.specs.declared.progress.Phase.{Phase}
 use Rattle.stream_player.specs.declared.progress.Phase.TheVariants.{Opening, Within, Over}
 use Rattle.stream_player.specs.declared.progress.Progress.{Progress}
-use Rattle.stream_player.specs.Progress.{Gives, InOpening, InPhase, InStep, IsOver, IsReady, Stands, gone, mismatch, over, present, rest_of, standing_at, state_of}
+use Rattle.stream_player.specs.Progress.{Gives, InPhase, InStep, IsOver, IsReady, Stands, gone, mismatch, over, present, rest_of, standing_at, state_of}
 use Rattle.stream_player.specs.PlaceInPlay.{PlaceInPlay, found, messages_in, reads, state_at, up_to_reads}
 use Rattle.stream_player.proofs.Ahead.{ahead, stops_at, waits}
 use Rattle.stream_player.proofs.Ends.{quits, quits-behind}
 use Rattle.stream_player.proofs.TurnPlaces.{IsIn, Waits, waits-so}
 use Rattle.stream_player.proofs.Window.{asks-split, in-bytes, up-to-all}
-use Rattle.stream_player.proofs.PlayerPlaces.{gone-is, gone-so, map-some, no-elements, stops-some, in-opening, in-step, is-in, left-is, opens, over-is, turn, later, within}
+use Rattle.stream_player.proofs.PlayerPlaces.{map-some, no-elements, stops-some, in-opening, in-step, is-in, left-is, opens, over-is, turn, later, within}
 
 -- of what the window lets through
 pub through-front : (n : ℕ) (l : List ℕ) (k : ℕ) → n ≤ length (up_to_reads l k) → take n (up_to_reads l k) ≡ take n l

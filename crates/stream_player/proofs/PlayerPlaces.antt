@@ -1,28 +1,26 @@
 -- A player whose fields say that it is in a step, in the opening, or at the end.
-use Rattle.std.proofs.Common.{◌≡◌, ◌⊎◌, Bool, true, false, ℕ, zero, suc, ◌+◌, ◌-◌, ◌<◌, ◌≤◌, List, [], ◌∷◌, ◌++◌, map, length, take, drop, refl, sym, ap, subst, ◌∙◌, arith, inl, inr, Option, Some, None}
-use Rattle.std.proofs.lemmas.List.{length-map, drop-map}
-use Rattle.std.specs.Prelude.{◌==◌, is_some, option_map, slice_get, if◌then◌else◌}
-use Rattle.jt_tap.specs.declared.State.{State}
+use Rattle.std.proofs.Common.{◌≡◌, Bool, true, false, ℕ, zero, suc, ◌+◌, ◌-◌, ◌<◌, ◌≤◌, List, [], ◌∷◌, map, length, take, drop, refl, sym, ap, subst, ◌∙◌, arith, Option, Some, None}
+use Rattle.std.proofs.lemmas.List.{drop-map}
+use Rattle.std.specs.Prelude.{◌==◌, is_some, option_map, if◌then◌else◌}
 use Rattle.bitbang_table.specs.Cycles.{opening}
 use Rattle.bitbang_table.specs.declared.Message.{Message}
 use Rattle.bitbang_table.specs.Protocol.{encode}
-use Rattle.bitbang.specs.StepMessages.{step_bytes, step_messages}
+use Rattle.bitbang.specs.StepMessages.{step_messages}
 use Rattle.bitbang.specs.declared.step_bytes.Spot.{Spot}
 use Rattle.svf_settings.specs.Steps.{Numbered, Program, place_after}
 use Rattle.plays.specs.Play.{Turn, step_turns, turns, wants_of}
 use Rattle.plays.specs.PlayingOn.{Mismatch}
-use Rattle.plays.specs.Streams.{StreamState, some_differ}
+use Rattle.plays.specs.Streams.{some_differ}
 use Rattle.plays.proofs.Asks.{asks}
 use Rattle.streaming.proofs.Agree as agree
 use Rattle.stream_player.specs.declared.progress.Mismatch as declared
 use Rattle.stream_player.specs.declared.progress.Phase.{Phase}
 use Rattle.stream_player.specs.declared.progress.Phase.TheVariants.{Opening, Within, Over}
 use Rattle.stream_player.specs.declared.progress.Progress.{Progress}
-use Rattle.stream_player.specs.Progress.{InOpening, InPhase, InStep, IsOver, IsReady, Rests, Stands, ahead, gone, mismatch, over, present, rest_of, standing_at, state_of}
-use Rattle.stream_player.specs.PlaceInPlay.{PlaceInPlay, found, reads, state_at}
+use Rattle.stream_player.specs.Progress.{InOpening, InPhase, InStep, Stands, gone, mismatch, over, present, rest_of, standing_at, state_of}
+use Rattle.stream_player.specs.PlaceInPlay.{found, reads, state_at}
 use Rattle.stream_player.proofs.Ahead.{map-take, stops_at}
 use Rattle.stream_player.proofs.TurnPlaces.{IsIn, over-now, reached}
-use Rattle.stream_player.proofs.Window.{asks-split}
 
 reads-same : (bytes : List ℕ) → reads bytes ≡ agree.reads bytes
 reads-same [] = refl

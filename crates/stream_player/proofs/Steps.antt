@@ -1,5 +1,5 @@
 -- The fields of a player from one turn to the next.
-use Rattle.std.proofs.Common.{◌≡◌, Bool, true, false, ℕ, zero, suc, ◌+◌, ◌-◌, ◌<◌, ◌≤◌, List, [], ◌∷◌, ◌++◌, map, length, take, drop, refl, sym, ap, subst, ◌∙◌, arith, Option, Some, None}
+use Rattle.std.proofs.Common.{◌≡◌, Bool, true, false, ℕ, zero, suc, ◌+◌, ◌-◌, ◌<◌, List, [], ◌∷◌, map, length, take, drop, refl, sym, ap, subst, ◌∙◌, arith, Some, None}
 use Rattle.std.proofs.lemmas.List.{length-map}
 use Rattle.std.specs.Prelude.{filter, is_some, slice_get}
 use Rattle.jt_tap.specs.declared.State.{State}
@@ -7,19 +7,16 @@ use Rattle.bitbang_table.specs.Protocol.{encode}
 use Rattle.bitbang.specs.Left.{behind}
 use Rattle.bitbang.specs.StepMessages.{step_bytes, step_messages}
 use Rattle.bitbang.specs.declared.step_bytes.Spot.{Spot}
-use Rattle.scan_vectors.specs.Vector.{VectorBit}
-use Rattle.svf_parse.specs.declared.statement.TrstWord.{TrstWord}
 use Rattle.svf_settings.specs.Laws.{AllWithin, IsWithin}
-use Rattle.svf_settings.specs.Legal.{AllLegalFrom, IsFormed, IsLegalAt}
+use Rattle.svf_settings.specs.Legal.{AllLegalFrom, IsLegalAt}
 use Rattle.svf_settings.specs.Steps.{Step, Scan, Go, Path, Run, Trst, Numbered, Program, line_after, place_after}
 use Rattle.tck_cycles.specs.Cycles.{cycles}
 use Rattle.plays.specs.Play.{Turn, step_turns, turns, wants_of}
-use Rattle.plays.specs.Streams.{StreamState}
 use Rattle.direct_play.proofs.Turns.{stable-after}
-use Rattle.stream_player.specs.declared.progress.Phase.TheVariants.{Opening, Within, Over}
+use Rattle.stream_player.specs.declared.progress.Phase.TheVariants.{Within}
 use Rattle.stream_player.specs.declared.progress.Progress.{Progress}
-use Rattle.stream_player.specs.Progress.{InStep, Rests, Stands, gone, present, rest_of, standing_at, state_of, vector_bits}
-use Rattle.stream_player.specs.PlaceInPlay.{PlaceInPlay, reads, state_at}
+use Rattle.stream_player.specs.Progress.{InStep, Rests, Stands, gone, state_of, vector_bits}
+use Rattle.stream_player.specs.PlaceInPlay.{reads, state_at}
 
 -- the step at a place stands first of those from there on
 pub cut : (steps : List Numbered) (at : ℕ) (s : Numbered) → slice_get steps at ≡ Some s → drop at steps ≡ s ∷ drop (suc at) steps

@@ -1,24 +1,21 @@
 -- A player within one turn, between two turns, and at the end.
-use Rattle.std.proofs.Common.{◌≡◌, ◌⊎◌, Bool, true, false, ℕ, zero, suc, ◌+◌, ◌-◌, ◌<◌, ◌≤◌, List, [], ◌∷◌, ◌++◌, map, length, take, drop, refl, sym, ap, subst, ◌∙◌, append_assoc, arith, length-append, inl, inr, Option, Some, None}
-use Rattle.std.proofs.Math.Seq.{drop-append-add, drop-append-le, take-append-add, take-append-le, drop-drop}
-use Rattle.std.proofs.lemmas.Bool.{ltb-true, ltb-false, leb-true, leb-false}
+use Rattle.std.proofs.Common.{◌≡◌, ◌⊎◌, Bool, true, false, ℕ, zero, suc, ◌+◌, ◌-◌, ◌<◌, ◌≤◌, List, [], ◌∷◌, ◌++◌, map, length, take, drop, refl, sym, ap, subst, ◌∙◌, append_assoc, arith, length-append, inl, inr, None}
+use Rattle.std.proofs.Math.Seq.{drop-append-le, take-append-le}
+use Rattle.std.proofs.lemmas.Bool.{ltb-true, ltb-false}
 use Rattle.std.proofs.lemmas.List.{append-nil, map-append}
-use Rattle.std.specs.Prelude.{◌&&◌, ◌||◌, ◌==◌, is_some, nat_le, nat_lt, min, if◌then◌else◌}
-use Rattle.std.specs.List.{AllByRecursion}
+use Rattle.std.specs.Prelude.{nat_lt}
 use Rattle.bitbang_table.specs.declared.Message.{Message}
 use Rattle.bitbang_table.specs.declared.Message.TheVariants.{Ask, Light, Lines, Quit, Write}
 use Rattle.bitbang_table.specs.Protocol.{encode}
-use Rattle.scan_vectors.specs.Vector.{VectorBit, differs}
 use Rattle.svf_settings.specs.Steps.{Program}
 use Rattle.plays.specs.Play.{Turn, turns, up_to_asks}
-use Rattle.plays.specs.PlayingOn.{Mismatch, Stops}
 use Rattle.plays.specs.Streams as stream
-use Rattle.plays.specs.Streams.{Found, StreamState, Wanted, command_at, mismatch_of, with_more, may_send, all_wanted, command_at_work}
+use Rattle.plays.specs.Streams.{may_send}
 use Rattle.plays.proofs.Asks.{AllAsk, asks, turns-ask}
 use Rattle.every_schedule.proofs.Quits.{NoneQuit, has_quit, turns-no-quit}
-use Rattle.stream_player.specs.PlaceInPlay.{PlaceInPlay, found, messages_in, state_at, up_to_reads}
+use Rattle.stream_player.specs.PlaceInPlay.{PlaceInPlay, messages_in, state_at, up_to_reads}
 use Rattle.every_schedule.specs.InWork.{answers_in}
-use Rattle.stream_player.proofs.Ahead.{ahead, is-out, owes, sends-last, sends-short, sends-whole, stops_at, waits}
+use Rattle.stream_player.proofs.Ahead.{ahead, owes, sends-last, sends-short, sends-whole, stops_at, waits}
 use Rattle.stream_player.proofs.Window.{asks-split, in-bytes, up-to-all, up-to-front, up-to-past}
 
 ask-of : (k : ℕ) (ts : List Turn) → AllAsk ts → (t : Turn) (rest : List Turn) → drop k ts ≡ t ∷ rest → asks t.messages ≡ length t.wants

@@ -1,10 +1,10 @@
 -- What the fields of a player say of where it stands in its play.
 use Rattle.std.specs.Prelude.{◌≡◌, ◌≤◌, ◌<◌, ◌+◌, ◌-◌, ℕ, suc, Bool, true, false, List, [], ◌∷◌, ◌++◌, length, take}
-use Rattle.std.specs.Prelude.{drop, filter, is_some, option_map, Option, Some, None}
+use Rattle.std.specs.Prelude.{drop, filter, is_some, option_map, None}
 use Rattle.jt_tap.specs.Controller.{is_stable}
 use Rattle.jt_tap.specs.declared.State.{State}
 use Rattle.jt_tap.specs.declared.State.TheVariants.{Reset}
-use Rattle.bitbang_table.specs.Protocol.{encode, value}
+use Rattle.bitbang_table.specs.Protocol.{value}
 use Rattle.bitbang_table.specs.Cycles.{opening}
 use Rattle.bitbang.specs.Left.{behind}
 use Rattle.bitbang.specs.StepMessages.{step_bytes, step_messages}

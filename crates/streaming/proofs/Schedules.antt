@@ -3,7 +3,6 @@ use Rattle.std.proofs.Common.{ℕ, [], ◌∷◌, refl, sym, ap, ◌∙◌}
 use Rattle.bitbang_table.specs.Protocol.{answer}
 use Rattle.plays.specs.Events.{empty_pipes, run}
 use Rattle.plays.specs.Playing as playing
-use Rattle.plays.specs.Playing.{PlayerState}
 use Rattle.plays.specs.PlayingOn.{Kind}
 use Rattle.streaming.specs.Histories as history
 use Rattle.streaming.specs.Histories.{WasAsked}

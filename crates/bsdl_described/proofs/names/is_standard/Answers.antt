@@ -1,4 +1,4 @@
-use Rattle.std.proofs.Common.{◌≡◌, ap, sym, ◌∙◌}
+use Rattle.std.proofs.Common.{ap, ◌∙◌}
 use Rattle.std.specs.Prelude.{is_some}
 use Rattle.bsdl_described.specs.Describing.{standard_names}
 use Rattle.bsdl_described.proofs.NameSetLaws.{in_table}

@@ -1,4 +1,4 @@
-use Rattle.std.proofs.Common.{◌≡◌, map, sym, ap, ◌∙◌}
+use Rattle.std.proofs.Common.{map}
 use Rattle.bsdl_instructions.specs.View as rows_view
 use Rattle.bsdl_described.proofs.OwnLaws.{own_test}
 use Rattle.bsdl_described.proofs.names.own_accesses.Goals as goal

@@ -1,9 +1,8 @@
-use Rattle.std.proofs.Common.{◌≡◌, ◌<◌, ◌∷◌, [], ◌++◌, length, map, sym, ap, ◌∙◌, arith}
+use Rattle.std.proofs.Common.{◌≡◌, ◌<◌, length, map, arith}
 use Rattle.std.proofs.lemmas.List.{map-append, length-map}
 use Rattle.std.proofs.lemmas.Bool.Decides.{nat_tests}
 use Rattle.bsdl_instructions.specs.View.{access_row, instr}
 use Rattle.bsdl_instructions.specs.Values.{Instr}
-use Rattle.bsdl_described.specs.Describing.{own_accesses}
 use Rattle.bsdl_described.specs.NameSets.{is_own_by}
 use Rattle.bsdl_described.proofs.OwnLaws.{row_kept, row_left_out}
 use Rattle.bsdl_described.proofs.names.own_rows.Goals as goal

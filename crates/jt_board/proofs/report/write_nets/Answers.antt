@@ -1,6 +1,5 @@
-use Rattle.std.proofs.Common.{◌≡◌, ◌<◌, ℕ, ◌+◌, ◌++◌, List, Some, length, refl, sym, drop, take, get_or, slice_get, ap, ◌∙◌, subst, arith}
+use Rattle.std.proofs.Common.{◌<◌, ℕ, ◌+◌, ◌++◌, List, length, refl, sym, drop, take, ap, ◌∙◌, subst, arith}
 use Rattle.std.proofs.lemmas.List.{take_all}
-use Rattle.std.proofs.lemmas.Option.{get_or_from_slice_get}
 use Rattle.std.specs.Prelude.{flat_map}
 use Rattle.std.specs.Io.KnownBytes.{Appends}
 use Rattle.std.proofs.KnownBytes.{Appends-trans}
@@ -8,7 +7,7 @@ use Rattle.byte_ends.proofs.Fronts.{WritesAll-lost, WritesAll-done}
 use Rattle.byte_ends.proofs.Pieces.{flat_map-more, flat_map-split}
 use Rattle.pin_nets.specs.Wired.{Net}
 use Rattle.board_meaning.specs.Chain.{members}
-use Rattle.jt_board.specs.Report.{level_line, net_line}
+use Rattle.jt_board.specs.Report.{net_line}
 use Rattle.jt_board.proofs.Lines.{net_said}
 use Rattle.jt_board.proofs.report.write_nets.Goals as goal
 

@@ -1,4 +1,4 @@
-use Rattle.std.proofs.Common.{◌≡◌, ◌++◌, ◌∙◌, ℕ, List, refl, ap}
+use Rattle.std.proofs.Common.{◌++◌, ◌∙◌, ℕ, List, refl, ap}
 use Rattle.std.specs.Prelude.{flat_map}
 use Rattle.byte_ends.proofs.Fronts.{WritesAll-is, WritesAll-then, WritesAll-stopped}
 use Rattle.pin_nets.specs.Wired.{Net}

@@ -1,4 +1,4 @@
-use Rattle.std.proofs.Common.{◌≡◌, ◌<◌, ℕ, refl, subst}
+use Rattle.std.proofs.Common.{◌<◌, ℕ, refl, subst}
 use Rattle.svf_settings.specs.Sizes.{program_of}
 use Rattle.plays.specs.DirectPlay.{MeansFromOpening}
 use Rattle.plays.specs.Play.{play}

@@ -1,6 +1,5 @@
 use Rattle.std.proofs.Common.{IfSome, ◌∙◌}
 use Rattle.jt_tap.specs.declared.TheConstants.{STATES}
-use Rattle.jt_tap.specs.Words.{IsWordOf}
 use Rattle.jt_tap.proofs.WordLaws.{IfSome-find, find-word}
 use Rattle.jt_tap.proofs.State.from_word.Goals as goal
 

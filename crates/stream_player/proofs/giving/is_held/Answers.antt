@@ -1,5 +1,4 @@
-use Rattle.std.proofs.Common.{◌≡◌, Bool, true, false, ℕ, List, [], ◌∷◌, refl, sym, ap, ◌∙◌}
-use Rattle.std.specs.Prelude.{◌&&◌, ◌==◌}
+use Rattle.std.proofs.Common.{true}
 use Rattle.bitbang.specs.Left.{left}
 use Rattle.stream_player.proofs.BytesGivenOut.{held}
 use Rattle.stream_player.proofs.giving.is_held.Goals as goal

@@ -1,4 +1,4 @@
-use Rattle.std.proofs.Common.{◌≡◌, ◌<◌, sym, ap, ◌∙◌, arith}
+use Rattle.std.proofs.Common.{sym, ◌∙◌, arith}
 use Rattle.scan_vectors.specs.Held.{bits}
 use Rattle.svf_settings.specs.Seen.{numbered}
 use Rattle.svf_settings.specs.Sizes.{program_of}

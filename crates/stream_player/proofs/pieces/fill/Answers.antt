@@ -1,4 +1,4 @@
-use Rattle.std.proofs.Common.{◌≡◌, ◌+◌, ◌-◌, ◌≤◌, ◌++◌, ℕ, List, length, take, drop, refl, sym, ap, ◌∙◌, arith, length-drop}
+use Rattle.std.proofs.Common.{◌≡◌, ◌+◌, ◌-◌, ◌++◌, ℕ, List, length, take, drop, ap, ◌∙◌, arith, length-drop}
 use Rattle.svf_settings.specs.Sizes.{program_of}
 use Rattle.plays.specs.Streams.{StreamState, bytes_to_send}
 use Rattle.stream_player.specs.Progress.{state_of}

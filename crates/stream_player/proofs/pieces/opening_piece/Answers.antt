@@ -1,4 +1,4 @@
-use Rattle.std.proofs.Common.{◌≡◌, ◌<◌, ◌+◌, ℕ, suc, List, ◌∷◌, ◌++◌, map, drop, slice_index_or, refl, sym, ap, ◌∙◌, arith}
+use Rattle.std.proofs.Common.{◌+◌, ℕ, suc, List, ◌++◌, map, drop, slice_index_or, refl, ap, ◌∙◌, arith}
 use Rattle.bitbang_table.specs.Cycles.{opening}
 use Rattle.bitbang_table.specs.Protocol.{encode}
 use Rattle.svf_settings.specs.Sizes.{program_of}

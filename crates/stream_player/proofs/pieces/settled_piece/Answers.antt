@@ -1,4 +1,4 @@
-use Rattle.std.proofs.Common.{◌≡◌, drop, subst, sym}
+use Rattle.std.proofs.Common.{drop, subst}
 use Rattle.svf_settings.specs.Sizes.{program_of}
 use Rattle.stream_player.specs.declared.progress.Phase.{Phase}
 use Rattle.stream_player.specs.Progress.{IsReady}

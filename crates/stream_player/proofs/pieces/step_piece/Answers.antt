@@ -1,6 +1,5 @@
-use Rattle.std.proofs.Common.{◌≡◌, ◌-◌, ◌+◌, ◌++◌, ℕ, suc, List, drop, take, length, min, refl, sym, ap, subst, ◌∙◌}
+use Rattle.std.proofs.Common.{◌≡◌, ◌-◌, ◌+◌, ◌++◌, ℕ, suc, List, drop, take, length, min, sym, ap, ◌∙◌}
 use Rattle.bitbang.specs.Left.{behind, left, whole}
-use Rattle.tck_cycles.specs.Cycles.{cycles}
 use Rattle.svf_settings.specs.Seen.{numbered, step}
 use Rattle.svf_settings.specs.Sizes.{program_of}
 use Rattle.svf_settings.specs.Steps.{Numbered}

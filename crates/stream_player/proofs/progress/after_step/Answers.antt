@@ -1,14 +1,13 @@
-use Rattle.std.proofs.Common.{◌≡◌, ◌<◌, ◌≤◌, ◌+◌, ◌-◌, ℕ, suc, Bool, true, false, List, [], ◌∷◌, drop, length, refl, sym, ap, subst, ◌∙◌, arith, None}
-use Rattle.std.specs.Prelude.{is_some, slice_get}
-use Rattle.bitbang.specs.Left.{behind, left}
-use Rattle.tck_cycles.specs.Cycles.{cycles}
+use Rattle.std.proofs.Common.{◌≡◌, ◌<◌, ◌+◌, ◌-◌, ℕ, suc, true, false, List, [], drop, length, sym, ap, subst, ◌∙◌, arith, None}
+use Rattle.std.specs.Prelude.{is_some}
+use Rattle.bitbang.specs.Left.{left}
 use Rattle.svf_settings.specs.Seen.{numbered, step}
 use Rattle.svf_settings.specs.Sizes.{program_of}
 use Rattle.svf_settings.specs.Steps.{Numbered, place_after}
 use Rattle.jt_tap.specs.declared.State.{State}
 use Rattle.stream_player.specs.declared.progress.Phase.{Phase}
 use Rattle.stream_player.specs.declared.progress.Phase.TheVariants.{Opening, Within, Over}
-use Rattle.stream_player.specs.Progress.{IsReady, Rests, Stands, ahead, rest_of, state_of}
+use Rattle.stream_player.specs.Progress.{IsReady, Rests, ahead, rest_of}
 use Rattle.stream_player.specs.PlaceInPlay.{state_at}
 use Rattle.stream_player.proofs.Steps.{below, cut, first, length-below, next-rests, none-first, some-first}
 use Rattle.stream_player.proofs.PlayerPlaces.{passes-same, stops-here, stops-same}

@@ -1,15 +1,9 @@
-use Rattle.std.proofs.Common.{◌≡◌, ℕ, suc, List, ◌∷◌, drop, refl, sym, ap, subst, ◌∙◌, None}
+use Rattle.std.proofs.Common.{suc, drop, sym, ap, subst, ◌∙◌}
 use Rattle.bitbang.specs.Left.{behind}
-use Rattle.bitbang.specs.StepMessages.{step_bytes}
-use Rattle.bitbang.specs.declared.step_bytes.Spot.{Spot}
-use Rattle.tck_cycles.specs.Cycles.{cycles}
 use Rattle.svf_settings.specs.Seen.{numbered, step}
 use Rattle.svf_settings.specs.Sizes.{program_of}
-use Rattle.svf_settings.specs.Steps.{Numbered}
-use Rattle.stream_player.specs.declared.progress.Progress.{Progress}
 use Rattle.stream_player.specs.Progress.{Stands, state_of}
-use Rattle.stream_player.specs.PlaceInPlay.{state_at}
-use Rattle.stream_player.proofs.Steps.{cut, enters, enters-same, first, start}
+use Rattle.stream_player.proofs.Steps.{cut, enters, enters-same, first}
 use Rattle.stream_player.proofs.progress.entered.Goals as goal
 
 pub of-requires-clause-formed : goal.of-requires-clause-formed

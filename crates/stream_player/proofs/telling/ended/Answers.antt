@@ -1,4 +1,4 @@
-use Rattle.std.proofs.Common.{◌≡◌, Bool, true, false, sym, ap, ◌∙◌, Some, None}
+use Rattle.std.proofs.Common.{Bool, true, false, sym, ap, ◌∙◌, Some, None}
 use Rattle.std.specs.Prelude.{option_map, if◌then◌else◌}
 use Rattle.plays.specs.declared.ending.Ending.{Ending}
 use Rattle.plays.specs.PlayingOn.{ending_of}

@@ -1,8 +1,7 @@
-use Rattle.std.proofs.Common.{◌≡◌, ◌-◌, ◌^◌, ℕ, drop, min, sym, ap, subst, ◌∙◌, arith}
+use Rattle.std.proofs.Common.{◌-◌, drop, ap, subst, arith}
 use Rattle.svf_settings.specs.Seen.{numbered}
 use Rattle.svf_settings.specs.Sizes.{program_of}
 use Rattle.plays.specs.Streams as stream
-use Rattle.stream_player.specs.declared.progress.Phase.{Phase}
 use Rattle.stream_player.specs.Progress.{IsReady}
 use Rattle.stream_player.proofs.EndingLaws.{works-over, works-within}
 use Rattle.stream_player.proofs.telling.working.Goals as goal

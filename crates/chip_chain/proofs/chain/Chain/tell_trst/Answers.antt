@@ -2,7 +2,6 @@ use Rattle.std.proofs.Common.{◌≡◌, ◌∙◌, List, map, sym, ap, subst, i
 use Rattle.std.proofs.lemmas.List.{with_items_is}
 use Rattle.std.specs.Vec.{with_items}
 use Rattle.board_meaning.specs.Chain as meant
-use Rattle.board_meaning.specs.Chain.{ChipState, members, rise_all}
 use Rattle.chip_chain.specs.Chains.{ChainValue}
 use Rattle.chip_chain.specs.Seats.{AllTold, SeatValue, chip_state}
 use Rattle.chip_chain.specs.Sweeping.{EachFrom, TakesTrst}

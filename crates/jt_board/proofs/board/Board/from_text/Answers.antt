@@ -1,9 +1,5 @@
-use Rattle.std.proofs.Common.{◌≡◌, sym, ap, subst, ◌∙◌}
-use Rattle.board_file.specs.Files.{Reads}
-use Rattle.board_file.specs.View.{files_of, wiring}
-use Rattle.board_file.specs.Wiring.{makes}
-use Rattle.jt_board.specs.FromText.{TellsMade, said_device}
-use Rattle.jt_board.proofs.TextLaws.{ready_wiring, sound_wiring, told_board, told_fault, told_memory}
+use Rattle.board_file.specs.View.{wiring}
+use Rattle.jt_board.proofs.TextLaws.{ready_wiring, sound_wiring, told_board, told_fault}
 use Rattle.jt_board.proofs.board.Board.from_text.Goals as goal
 
 pub returns-in-Err-clause-told : goal.returns-in-Err-clause-told

@@ -1,6 +1,5 @@
-use Rattle.std.proofs.Common.{◌≡◌, List, false, sym, ap, subst}
+use Rattle.std.proofs.Common.{false, sym, ap, subst}
 use Rattle.bitbang_table.specs.declared.Message.TheVariants.{Lines, Write}
-use Rattle.board_meaning.specs.Chain.{ChipState}
 use Rattle.board_meaning.specs.Sound.{IsChain}
 use Rattle.board_meaning.proofs.SoundEdges.{IsChain-told}
 use Rattle.chip_chain.specs.Chains.{ChainValue}

@@ -1,4 +1,4 @@
-use Rattle.std.proofs.Common.{◌≡◌, sym, ap, subst}
+use Rattle.std.proofs.Common.{sym, ap, subst}
 use Rattle.board_file.specs.View.{wiring}
 use Rattle.board_meaning.specs.Sound.{IsChain}
 use Rattle.chip_chain.specs.Chains.{ChainValue}

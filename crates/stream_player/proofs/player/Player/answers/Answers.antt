@@ -1,4 +1,4 @@
-use Rattle.std.proofs.Common.{length, sym, ap, ◌∙◌}
+use Rattle.std.proofs.Common.{length, ap, ◌∙◌}
 use Rattle.plays.specs.Streams.{StreamState, hear_bytes, answers_taken}
 use Rattle.stream_player.proofs.player.Player.answers.Goals as goal
 
