@@ -9,6 +9,3 @@ pub use bitbang_table::{
     Cycle, Message, answer, cycle_bytes, decode, decoding_undoes_encoding, encode, read_answer,
 };
 pub use step_bytes::{Spot, StepBytes};
-
-#[cfg(test)]
-mod tests;

@@ -10,5 +10,3 @@ mod form;
 mod judge;
 pub mod laws;
 mod reading;
-#[cfg(test)]
-mod tests;

@@ -13,6 +13,3 @@ pub use accepting::accept;
 pub use judging::{difference, next_wanted};
 pub use noted::play_program_noted;
 pub use playing::play_program;
-
-#[cfg(test)]
-mod tests;

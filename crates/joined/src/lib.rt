@@ -21,6 +21,3 @@ pub fn what_is_joined_ends_as_the_full_play()
 pub fn what_is_joined_means_the_program()
     ensures { WhatIsJoinedMeansTheProgram }
 {}
-
-#[cfg(test)]
-mod tests;

@@ -15,6 +15,3 @@ pub use byte_ends::{Broken, Counted};
 pub use pin_nets::Level;
 pub use report::{write_left_out, write_report};
 pub use snapshot::Snapshot;
-
-#[cfg(test)]
-mod tests;

@@ -17,6 +17,3 @@ pub use scan_vectors::Part;
 pub use stream_player::Player;
 pub use svf_parse::{Code, SvfFault};
 pub use svf_settings::{Action, Program, Step};
-
-#[cfg(test)]
-mod tests;

@@ -44,6 +44,3 @@ pub enum Selected {
     /// A register of the device's own, counted in the order in which the description first names them.
     User(usize),
 }
-
-#[cfg(test)]
-mod tests;

@@ -14,8 +14,6 @@ pub use part::{Part, Part3, TdiRun, WantedRun};
 pub use vector::Vector;
 
 mod part;
-#[cfg(test)]
-mod tests;
 mod vector;
 
 /// The whole vector of a header, a body and a trailer. It takes no memory.

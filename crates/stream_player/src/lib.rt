@@ -9,6 +9,3 @@ mod progress;
 mod telling;
 
 pub use player::Player;
-
-#[cfg(test)]
-mod tests;

@@ -117,6 +117,3 @@ impl<'a> Iterator for Lexer<'a> {
         }
     }
 }
-
-#[cfg(test)]
-mod tests;

@@ -17,7 +17,5 @@ pub mod laws;
 mod numbers;
 mod run_test;
 mod statement;
-#[cfg(test)]
-mod tests;
 mod text;
 mod words;

@@ -10,8 +10,6 @@ mod resolving;
 mod running;
 mod step;
 mod stepping;
-#[cfg(test)]
-mod tests;
 
 pub use program::{Program, Steps};
 pub use resolving::resolve;

@@ -12,6 +12,3 @@ mod source;
 pub use bitbang_table::Cycle;
 pub use place::place_after;
 pub use source::{Source, Spot};
-
-#[cfg(test)]
-mod tests;

@@ -1,4 +1,4 @@
-use crate::{Kind, LexFault, Lexer};
+use svf_lex::{Kind, LexFault, Lexer};
 use std::process::Abort;
 use std::test::Fail;
 

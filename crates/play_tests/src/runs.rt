@@ -1,4 +1,4 @@
-use crate::{Board, Ending, Player, accept, play_board, run_check, run_play};
+use jt_player::{Board, Ending, Player, accept, play_board, run_check, run_play};
 use byte_ends::{Counted, Plain};
 use std::alloc::Global;
 use std::process::Abort;

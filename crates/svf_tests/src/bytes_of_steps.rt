@@ -4,7 +4,7 @@ ghost use Rattle.svf_settings.specs.Legal.{IsFormed};
 ghost use Rattle.svf_settings.specs.Laws.{IsWithin};
 ghost use Rattle.svf_settings.specs.Seen as seen;
 
-use crate::StepBytes;
+use bitbang::StepBytes;
 use jt_bits::{Bits, HexFault};
 use jt_tap::{Column, State};
 use scan_vectors::{Part3, Vector, join};

@@ -1,4 +1,4 @@
-use crate::{Action, Step, resolve};
+use svf_settings::{Action, Step, resolve};
 use std::alloc::Global;
 use std::process::Abort;
 use std::test::Fail;

@@ -1,4 +1,4 @@
-use crate::{BsdlFault, read};
+use bsdl::{BsdlFault, read};
 use bsdl_device::{Access, Cell, Device, Opcode, Pattern};
 use jt_bits::Bits;
 use std::alloc::{AllocError, Global};

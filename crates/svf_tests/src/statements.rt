@@ -1,4 +1,4 @@
-use crate::{Code, Statement, SvfFault, TrstWord, Which, parse};
+use svf_parse::{Code, Statement, SvfFault, TrstWord, Which, parse};
 use jt_bits::Bits;
 use jt_tap::State;
 use std::alloc::Global;

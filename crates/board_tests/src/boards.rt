@@ -1,4 +1,4 @@
-use crate::{Board, BoardFault, Reply, Snapshot, write_report};
+use jt_board::{Board, BoardFault, Reply, Snapshot, write_report};
 use byte_ends::Counted;
 use jt_bits::Bits;
 use jt_tap::State;

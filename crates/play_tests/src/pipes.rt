@@ -1,4 +1,4 @@
-use crate::{Event, Joined, Standing};
+use joined::{Event, Joined, Standing};
 use direct_play::accept;
 use jt_board::Board;
 use plays::Ending;

@@ -1,4 +1,4 @@
-use crate::Player;
+use stream_player::Player;
 use direct_play::accept;
 use plays::Ending;
 use scan_vectors::Part;

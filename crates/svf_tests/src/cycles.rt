@@ -5,7 +5,7 @@ ghost use Rattle.svf_settings.specs.Legal.{IsFormed};
 ghost use Rattle.svf_settings.specs.Laws.{IsWithin};
 ghost use Rattle.svf_settings.specs.Seen as seen;
 
-use crate::{Cycle, Source, place_after};
+use tck_cycles::{Cycle, Source, place_after};
 use jt_bits::{Bits, HexFault};
 use jt_tap::{Column, State};
 use scan_vectors::{Part3, join};

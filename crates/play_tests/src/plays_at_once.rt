@@ -1,4 +1,4 @@
-use crate::{accept, play_program};
+use direct_play::{accept, play_program};
 use jt_board::Board;
 use plays::Ending;
 use scan_vectors::Part;

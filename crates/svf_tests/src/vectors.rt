@@ -1,6 +1,6 @@
 ghost use Rattle.std.specs.Prelude.{◌≡◌};
 
-use crate::{Part, Part3, join, judge};
+use scan_vectors::{Part, Part3, join, judge};
 use jt_bits::{Bits, HexFault};
 use std::alloc::AllocError;
 

@@ -1,0 +1,11 @@
+//! Tests of public calls: devices, descriptions and boards.
+//!
+//! They stand in a crate of their own, since a crate with tests is proved twice.
+#![tactic(auto)]
+
+#[cfg(test)]
+mod chips;
+#[cfg(test)]
+mod descriptions;
+#[cfg(test)]
+mod boards;

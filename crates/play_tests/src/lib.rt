@@ -1,0 +1,13 @@
+//! Tests of public calls: plays: at once, by bytes and answers, over pipes, and as the program runs them.
+//!
+//! They stand in a crate of their own, since a crate with tests is proved twice.
+#![tactic(auto)]
+
+#[cfg(test)]
+mod plays_at_once;
+#[cfg(test)]
+mod players;
+#[cfg(test)]
+mod pipes;
+#[cfg(test)]
+mod runs;

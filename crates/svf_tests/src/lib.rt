@@ -1,0 +1,17 @@
+//! Tests of public calls: what a text becomes: tokens, statements, vectors, steps, cycles and bytes.
+//!
+//! They stand in a crate of their own, since a crate with tests is proved twice.
+#![tactic(auto)]
+
+#[cfg(test)]
+mod tokens;
+#[cfg(test)]
+mod statements;
+#[cfg(test)]
+mod vectors;
+#[cfg(test)]
+mod steps;
+#[cfg(test)]
+mod cycles;
+#[cfg(test)]
+mod bytes_of_steps;
