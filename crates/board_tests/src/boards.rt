@@ -1,6 +1,6 @@
-use jt_board::{Board, BoardFault, Reply, Snapshot, write_report};
 use byte_ends::Counted;
 use jt_bits::Bits;
+use jt_board::{Board, BoardFault, Reply, Snapshot, write_report};
 use jt_tap::State;
 use std::alloc::{AllocError, Global};
 use std::process::Abort;

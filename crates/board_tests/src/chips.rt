@@ -1,11 +1,11 @@
 //! One chip, edge by edge. The device has an identification code 01234567, three cells, and the instructions BYPASS 11,
 //! EXTEST 00, IDCODE 10 and SAMPLE or LOAD 01, of which LOAD selects a user register of four bits.
-use scan_registers::{Chip, Plain, SharedDevice};
 use bsdl_device::{
     Access, Cell, Control3, Device, Disabled, Function, Names, Opcode, Parts, Pattern, Place, Ports,
 };
 use jt_bits::Bits;
 use jt_tap::State;
+use scan_registers::{Chip, Plain, SharedDevice};
 use std::alloc::{AllocError, Global};
 use std::process::Abort;
 use std::test::Fail;

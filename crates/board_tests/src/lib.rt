@@ -4,8 +4,8 @@
 #![tactic(auto)]
 
 #[cfg(test)]
+mod boards;
+#[cfg(test)]
 mod chips;
 #[cfg(test)]
 mod descriptions;
-#[cfg(test)]
-mod boards;

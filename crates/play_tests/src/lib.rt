@@ -4,10 +4,10 @@
 #![tactic(auto)]
 
 #[cfg(test)]
-mod plays_at_once;
+mod pipes;
 #[cfg(test)]
 mod players;
 #[cfg(test)]
-mod pipes;
+mod plays_at_once;
 #[cfg(test)]
 mod runs;

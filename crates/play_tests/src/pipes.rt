@@ -1,5 +1,5 @@
-use joined::{Event, Joined, Standing};
 use direct_play::accept;
+use joined::{Event, Joined, Standing};
 use jt_board::Board;
 use plays::Ending;
 use std::alloc::Global;

@@ -1,10 +1,10 @@
-use stream_player::Player;
 use direct_play::accept;
 use plays::Ending;
 use scan_vectors::Part;
 use std::alloc::Global;
 use std::process::Abort;
 use std::test::Fail;
+use stream_player::Player;
 
 /// A fresh player of a text.
 fn player_of(alloc: Global, text: &[u8]) -> Result<Player, Fail> {

@@ -1,5 +1,5 @@
-use jt_player::{Board, Ending, Player, accept, play_board, run_check, run_play};
 use byte_ends::{Counted, Plain};
+use jt_player::{Board, Ending, Player, accept, play_board, run_check, run_play};
 use std::alloc::Global;
 use std::process::Abort;
 use std::test::Fail;

@@ -5,13 +5,13 @@ ghost use Rattle.svf_settings.specs.Legal.{IsFormed};
 ghost use Rattle.svf_settings.specs.Laws.{IsWithin};
 ghost use Rattle.svf_settings.specs.Seen as seen;
 
-use tck_cycles::{Cycle, Source, place_after};
 use jt_bits::{Bits, HexFault};
 use jt_tap::{Column, State};
 use scan_vectors::{Part3, join};
 use std::process::Abort;
 use svf_parse::TrstWord;
 use svf_settings::{Action, Step};
+use tck_cycles::{Cycle, Source, place_after};
 
 /// A cycle in which nothing is shifted.
 fn walk(tms: bool) -> Cycle {

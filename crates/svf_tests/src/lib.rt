@@ -4,14 +4,14 @@
 #![tactic(auto)]
 
 #[cfg(test)]
-mod tokens;
-#[cfg(test)]
-mod statements;
-#[cfg(test)]
-mod vectors;
-#[cfg(test)]
-mod steps;
+mod bytes_of_steps;
 #[cfg(test)]
 mod cycles;
 #[cfg(test)]
-mod bytes_of_steps;
+mod statements;
+#[cfg(test)]
+mod steps;
+#[cfg(test)]
+mod tokens;
+#[cfg(test)]
+mod vectors;

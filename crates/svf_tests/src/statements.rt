@@ -1,9 +1,9 @@
-use svf_parse::{Code, Statement, SvfFault, TrstWord, Which, parse};
 use jt_bits::Bits;
 use jt_tap::State;
 use std::alloc::Global;
 use std::process::Abort;
 use std::test::Fail;
+use svf_parse::{Code, Statement, SvfFault, TrstWord, Which, parse};
 
 fn assert_refused(rt: &impl Abort, alloc: Global, text: &[u8], statement: usize, code: Code) {
     match parse(alloc, text) {

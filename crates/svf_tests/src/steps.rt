@@ -1,8 +1,8 @@
-use svf_settings::{Action, Step, resolve};
 use std::alloc::Global;
 use std::process::Abort;
 use std::test::Fail;
 use svf_parse::parse;
+use svf_settings::{Action, Step, resolve};
 
 /// What a text is: how many statements it has, and its steps, or its refusal.
 fn told(alloc: Global, text: &[u8]) -> Result<String, Fail> {

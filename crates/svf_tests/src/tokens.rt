@@ -1,6 +1,6 @@
-use svf_lex::{Kind, LexFault, Lexer};
 use std::process::Abort;
 use std::test::Fail;
+use svf_lex::{Kind, LexFault, Lexer};
 
 /// Asserts that the text has these tokens, by text and start, and then this fault.
 fn assert_lexes(rt: &impl Abort, text: &[u8], tokens: &[(&[u8], usize)], fault: Option<LexFault>) {

@@ -1,7 +1,7 @@
 ghost use Rattle.std.specs.Prelude.{◌≡◌};
 
-use scan_vectors::{Part, Part3, join, judge};
 use jt_bits::{Bits, HexFault};
+use scan_vectors::{Part, Part3, join, judge};
 use std::alloc::AllocError;
 
 /// A part of some bits with all of these fields.
