@@ -5,7 +5,7 @@ use bsdl_device::{
 };
 use jt_bits::Bits;
 use jt_tap::State;
-use scan_registers::{Chip, Plain, SharedDevice};
+use scan_registers::{Chip, Plain, SharedDevice, is_formed};
 use std::alloc::{AllocError, Global};
 use std::process::Abort;
 use std::test::Fail;
