@@ -132,9 +132,9 @@ fn pause(column: Column) -> State
     }
 }
 
-/// Whether a stable state is this one.
+/// Whether two states are one.
 fn is_at(here: State, state: State) -> bool
     ensures { result ≡ controller.is_at here state }
 {
-    here == state && here.is_stable()
+    here == state
 }

@@ -135,10 +135,22 @@ abbrev pub pause : Column → State
 pause Dr = DrPause
 pause Ir = IrPause
 
--- Whether a stable state is this one.
+-- Whether two states are one.
 abbrev pub is_at : State → State → Bool
 is_at Reset Reset = true
 is_at Idle Idle = true
+is_at DrSelect DrSelect = true
+is_at DrCapture DrCapture = true
+is_at DrShift DrShift = true
+is_at DrExit1 DrExit1 = true
 is_at DrPause DrPause = true
+is_at DrExit2 DrExit2 = true
+is_at DrUpdate DrUpdate = true
+is_at IrSelect IrSelect = true
+is_at IrCapture IrCapture = true
+is_at IrShift IrShift = true
+is_at IrExit1 IrExit1 = true
 is_at IrPause IrPause = true
+is_at IrExit2 IrExit2 = true
+is_at IrUpdate IrUpdate = true
 is_at _ _ = false
