@@ -127,6 +127,7 @@ fn read_quoted<'a>(
     lexer: Lexer<'a>,
 ) -> Result<(Quoted, Lexer<'a>), Stop>
     ensures gives { Gives view.quoted result (spec.text_in language (left lexer.entry)) }
+    ensures start { IfOk result (λ p. p.0.start ≡ spec.first_start (left lexer.entry)) }
     ensures shorter { IfOk result (λ p. length (left p.1) < length (left lexer.entry)) }
 {
     let start = place_of(lexer);
