@@ -4,7 +4,7 @@ use Rattle.std.specs.Prelude.{Option, Some, None, codes, pred, ◌&&◌, ◌==�
 use Rattle.bsdl_device.specs.Device.{Name}
 use Rattle.bsdl_lex.specs.Cutting.{Lexeme}
 use Rattle.bsdl_text.specs.Marks.{closing, colon, comma, opening, semi}
-use Rattle.bsdl_text.specs.Reading.{Read, fits, misfit, is_mark_of, joined_by, joined_text, keyword, listed, mark, number, quoted_value, refused_at, stands, word}
+use Rattle.bsdl_text.specs.Reading.{Read, fits, misfit, is_mark_of, joined_by, joined_text, keyword, separated, mark, number, quoted_value, refused_at, stands, word}
 use Rattle.bsdl_instructions.specs.Values.{access_row, begins, opcode_row, pattern, private_name, rows}
 use Rattle.bsdl_cells.specs.Rows.{cell_row}
 use Rattle.bsdl_entity.specs.declared.Attribute.{Attribute}
@@ -13,7 +13,7 @@ use Rattle.bsdl_entity.specs.declared.values.Language.{Language}
 use Rattle.bsdl_entity.specs.declared.values.Language.TheVariants.{Opcodes, Capture, Cells, Codes, PrivateNames, Accesses}
 use Rattle.bsdl_entity.specs.Attributes.{attribute_of}
 use Rattle.bsdl_entity.specs.Keywords.{is_rising, is_vector, mode_of, truth_of}
-use Rattle.bsdl_entity.specs.Entity.{File, Given, Port, Range, Value, absent, accesses_value, and_given, any_word, attribute, attribute_form, brackets, cells_value, codes_value, count, end_of_text, ending, file, first_start, generic, in_order, is_scalar, is_tap, item, items, kind_of_port, length_value, names_value, nothing, opcodes_value, ordered, owner, past_closing, past_semi, pattern_value, port, port_group, ports, quoted, range, said, text_in, this_word, truth, upto, value_behind, value_of}
+use Rattle.bsdl_entity.specs.Entity.{File, Given, Port, Range, Value, absent, accesses_value, and_given, any_word, attribute, attribute_form, brackets, cells_value, codes_value, count, end_of_text, ending, file, first_start, generic, in_order, is_scalar, is_tap, item, items, kind_of_port, length_value, names_value, nothing, opcodes_value, ordered, owner, past_closing, past_semi, pattern_value, port, port_group, ports, quoted, range, with_value, text_in, this_word, truth, upto, value_behind, value_of}
 use Rattle.bsdl.specs.Small.{total}
 use Rattle.bsdl.proofs.Weights.{Weighs, bind, choose, dropped, heft, joined_text_weighs, joined_weighs, keyword_weighs, listed_weighs, meant_weighs, one_weighs, quoted_value_weighs, size, weaker}
 use Rattle.bsdl.proofs.RowWeights.{access_weighs, access_weight, name_weighs, opcode_weighs, opcode_weight, rows_weigh}
@@ -111,7 +111,7 @@ abbrev some_weight : Option Given → ℕ
 some_weight None = 0
 some_weight (Some g) = given_weight g
 
-said_weighs : (name : Lexeme) (a : Attribute) (v : Value) → some_weight (said (record { name = name; attribute = a; value = v }) v) ≤ value_weight v
+said_weighs : (name : Lexeme) (a : Attribute) (v : Value) → some_weight (with_value (record { name = name; attribute = a; value = v }) v) ≤ value_weight v
 said_weighs name a (port n) = omega arith
 said_weighs name a absent = omega arith
 said_weighs name a (count n) = omega arith
@@ -208,7 +208,7 @@ ports_weigh : (ts : List Lexeme) → Weighs (λ _. 0) (size ts) (ports ts)
 ports_weigh ts =
     bind (λ _. 0) (λ _. 0) (size ts) (size ts) (this_word (codes "PORT") ts) _ (keyword_weighs _ ts)
     (λ p a less. bind (λ t. heft t.text) (λ _. 0) (size a) (size ts) (mark opening a) _ (one_weighs _ a)
-    (λ m b less-2. bind (total (λ (g : List Port). 0)) (λ _. 0) (size b) (size ts) (listed port_group semi (stands closing) b) _ (listed_weighs (λ _. 0) port_group semi (stands closing) group_weighs b)
+    (λ m b less-2. bind (total (λ (g : List Port). 0)) (λ _. 0) (size b) (size ts) (separated port_group semi (stands closing) b) _ (listed_weighs (λ _. 0) port_group semi (stands closing) group_weighs b)
     (λ groups c less-3. bind (λ t. heft t.text) (λ _. 0) (size c) (size ts) (mark closing c) _ (one_weighs _ c)
     (λ k d less-4. bind (λ t. heft t.text) (λ _. 0) (size d) (size ts) (mark semi d) _ (one_weighs _ d)
     (λ s e last. omega (arith, less, less-2, less-3, less-4, last))))))

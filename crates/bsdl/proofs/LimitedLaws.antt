@@ -10,7 +10,7 @@ use Rattle.bsdl_device.specs.Device.{Device, Name, Pattern}
 use Rattle.bsdl_instructions.specs.Values.{OpcodeRow}
 use Rattle.bsdl_entity.specs.Entity.{File, Port, Range}
 use Rattle.bsdl_described.specs.Describing.{Description, Refusal, bad_capture, bad_cell, bad_id, bad_length, described, too_large, ◌>>?◌}
-use Rattle.bsdl_fit.specs.Fits.{listed, unfit_cell}
+use Rattle.bsdl_fit.specs.Fits.{rows_numbered, unfit_cell}
 use Rattle.bsdl_lengths.specs.Lengths.{captures_one, codes_fit, ends_in_one, has_bits, has_len, instructions_fit, lengths_fit}
 use Rattle.bsdl_limits.specs.Limits.{cells_within, instructions_within, is_within_limits, ports_within, subscript_limit, users_within}
 use Rattle.bsdl_limits.specs.PortBits.{highest, width}
@@ -41,13 +41,13 @@ ports_len taps (p ∷ ps) =
 
 -- ---- cells
 
-cells_len : (d : Description) (a n : ℕ) → ((k : ℕ) → a ≤ k → k < a + n → length (listed d k) ≡ 1)
-    → length (flat_map (λ k. map (cell d.ports) (listed d k)) (range_with_len a n)) ≡ n
+cells_len : (d : Description) (a n : ℕ) → ((k : ℕ) → a ≤ k → k < a + n → length (rows_numbered d k) ≡ 1)
+    → length (flat_map (λ k. map (cell d.ports) (rows_numbered d k)) (range_with_len a n)) ≡ n
 cells_len d a zero once = refl
 cells_len d a (suc n) once =
     let rest = cells_len d (a + 1) n (λ k low high. once k (omega arith) (omega arith)) in
     let here = once a (omega arith) (omega arith) in
-    omega (arith, length-append (map (cell d.ports) (listed d a)) (flat_map (λ k. map (cell d.ports) (listed d k)) (range_with_len (a + 1) n)), length-map (listed d a) (cell d.ports), here, rest)
+    omega (arith, length-append (map (cell d.ports) (rows_numbered d a)) (flat_map (λ k. map (cell d.ports) (rows_numbered d k)) (range_with_len (a + 1) n)), length-map (rows_numbered d a) (cell d.ports), here, rest)
 
 -- ---- patterns
 

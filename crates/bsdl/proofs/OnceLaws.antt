@@ -5,7 +5,7 @@ use Rattle.std.specs.List.{find, fold, range_with_len, list_all}
 use Rattle.std.proofs.lemmas.Bool.Decides.{nat_tests}
 use Rattle.bsdl_cells.specs.Rows.{CellRow}
 use Rattle.bsdl_described.specs.Describing.{Description, Refusal, bad_capture, bad_cell, bad_id, bad_length, too_large}
-use Rattle.bsdl_fit.specs.Fits.{cells_end, is_fit, listed, row_fits, unfit_cell}
+use Rattle.bsdl_fit.specs.Fits.{cells_end, is_fit, rows_numbered, row_fits, unfit_cell}
 use Rattle.bsdl_lengths.specs.Lengths.{captures_one, ends_in_one, lengths_fit}
 use Rattle.bsdl_limits.specs.Limits.{instructions_within, cells_within, is_within_limits, ports_within, users_within}
 use Rattle.bsdl_twice.specs.Twice.{given_again}
@@ -55,18 +55,18 @@ at_least n (r ∷ rows) =
     let more = at_least (max n (suc r.number)) rows in
     omega arith
 
-one_listed : (d : Description) (k : ℕ) → k < d.boundary_length → is_fit d k ≡ true → length (listed d k) ≡ 1
+one_listed : (d : Description) (k : ℕ) → k < d.boundary_length → is_fit d k ≡ true → length (rows_numbered d k) ≡ 1
 one_listed d k h fit =
     let below : nat_lt k d.boundary_length ≡ true = grind (arith, nat_tests) in
-    let here : (nat_eq (length (listed d k)) 1 && list_all (row_fits d) (listed d k)) ≡ true = rw below at fit in
-    let one = (both (nat_eq (length (listed d k)) 1) (list_all (row_fits d) (listed d k)) here).0 in
+    let here : (nat_eq (length (rows_numbered d k)) 1 && list_all (row_fits d) (rows_numbered d k)) ≡ true = rw below at fit in
+    let one = (both (nat_eq (length (rows_numbered d k)) 1) (list_all (row_fits d) (rows_numbered d k)) here).0 in
     grind (arith, nat_tests, one)
 
 pub not_false : (b : Bool) → not b ≡ false → b ≡ true
 not_false true e = refl
 not_false false e = absurd cc
 
-pub each_cell_once : (d : Description) → fault d ≡ None → (k : ℕ) → k < d.boundary_length → length (listed d k) ≡ 1
+pub each_cell_once : (d : Description) → fault d ≡ None → (k : ℕ) → k < d.boundary_length → length (rows_numbered d k) ≡ 1
 each_cell_once d e k h =
     let names = neither (twice_in d (given_again d)) _ e in
     let lengths = neither (unless (lengths_fit d) bad_length) _ names.second in

@@ -7,7 +7,7 @@ use Rattle.bsdl_device.specs.Device.{Pattern}
 use Rattle.bsdl_lex.specs.Cutting.{Lexeme}
 use Rattle.bsdl_text.specs.Words.{upper}
 use Rattle.bsdl_text.specs.Marks.{comma, opening, closing}
-use Rattle.bsdl_text.specs.Reading.{Read, fits, mark, number, one, stands, word, listed, is_over}
+use Rattle.bsdl_text.specs.Reading.{Read, fits, mark, number, one, stands, word, separated, is_over}
 use Rattle.bsdl_instructions.specs.Values.{AccessRow, Instr, OpcodeRow, access_row, are_digits, begins, bit, bracketed, digits_on, instr, is_public, opcode_row, pattern, pattern_of, private_name, register_len, rows}
 use Rattle.bsdl.specs.Small.{total}
 use Rattle.bsdl.proofs.Weights.{Weighs, bind, choose, dropped, heft, keyword_weighs, listed_weighs, one_weighs, size}
@@ -31,7 +31,7 @@ rows_weigh w item each ts = listed_weighs w item comma is_over each ts
 bracketed_weighs : {A : Type 0} (w : A → ℕ) (item : List Lexeme → Read A) → ((ts : List Lexeme) → Weighs w (size ts) (item ts)) → (ts : List Lexeme) → Weighs (total w) (size ts) (bracketed item ts)
 bracketed_weighs w item each ts =
     bind (λ t. heft t.text) (total w) (size ts) (size ts) (mark opening ts) _ (one_weighs _ ts)
-    (λ m a less. bind (total w) (total w) (size a) (size ts) (listed item comma (stands closing) a) _ (listed_weighs w item comma (stands closing) each a)
+    (λ m a less. bind (total w) (total w) (size a) (size ts) (separated item comma (stands closing) a) _ (listed_weighs w item comma (stands closing) each a)
     (λ xs b inside. bind (λ t. heft t.text) (total w) (size b) (size ts) (mark closing b) _ (one_weighs _ b)
     (λ n c last. omega (arith, less, inside, last))))
 

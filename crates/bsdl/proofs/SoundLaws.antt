@@ -10,7 +10,7 @@ use Rattle.bsdl_device.specs.Sound.{HasBitIfGiven, IsSoundAccess, IsSoundAt, IsS
 use Rattle.bsdl_instructions.specs.Values.{AccessRow, Instr}
 use Rattle.bsdl_entity.specs.Entity.{File}
 use Rattle.bsdl_described.specs.Describing.{Description, Refusal, bad_length, described, ◌>>?◌}
-use Rattle.bsdl_fit.specs.Fits.{listed}
+use Rattle.bsdl_fit.specs.Fits.{rows_numbered}
 use Rattle.bsdl_lengths.specs.Lengths.{access_fits, agree, patterns_captured, captures_fit, codes_fit, has_bits, has_len, instructions_fit, is_empty, lengths_fit, row_len}
 use Rattle.bsdl_limits.specs.Users.{is_other, user_number, users_of}
 use Rattle.bsdl_twice.specs.ResetOpcode.{bits}
@@ -164,11 +164,11 @@ rows_sound us b (r ∷ rows) some all fits =
 
 -- ---- the whole
 
-first_cell : (d : Description) (n : ℕ) → 0 < n → length (listed d 0) ≡ 1 → 0 < length (cells_of d.ports d.cells n)
+first_cell : (d : Description) (n : ℕ) → 0 < n → length (rows_numbered d 0) ≡ 1 → 0 < length (cells_of d.ports d.cells n)
 first_cell d zero some one = absurd (omega arith)
 first_cell d (suc n) some one =
-    let rest = flat_map (λ k. map (cell d.ports) (listed d k)) (range_with_len (0 + 1) n) in
-    omega (arith, length-append (map (cell d.ports) (listed d 0)) rest, length-map (listed d 0) (cell d.ports))
+    let rest = flat_map (λ k. map (cell d.ports) (rows_numbered d k)) (range_with_len (0 + 1) n) in
+    omega (arith, length-append (map (cell d.ports) (rows_numbered d 0)) rest, length-map (rows_numbered d 0) (cell d.ports))
 
 sound : (d : Description) → fault d ≡ None → IsSoundDevice (device d)
 sound d e =

@@ -5,7 +5,7 @@ use Rattle.std.proofs.lemmas.List.{length-append, length-drop, length-take-le}
 use Rattle.bsdl_lex.specs.Cutting.{Lexeme, bad_place, cuts_of, tokens}
 pub use Rattle.bsdl_lex.proofs.Heft.{heft, size, tokens_weigh}
 use Rattle.bsdl_text.specs.Words.{inner, text_within}
-use Rattle.bsdl_text.specs.Reading.{Read, fits, misfit, ◌>>=◌, chain, complete, further, joined_by, joined_text, keyword, listed, mark, meant, one, quoted_value, refused_at, stands, string}
+use Rattle.bsdl_text.specs.Reading.{Read, fits, misfit, ◌>>=◌, chain, complete, further, joined_by, joined_text, keyword, separated, mark, meant, one, quoted_value, refused_at, stands, string}
 use Rattle.bsdl.specs.Small.{total}
 
 -- what is read and what stands behind it weigh no more than this
@@ -63,7 +63,7 @@ further_weighs w item separator closes each (suc n) ts =
     (λ xs after last. omega (arith, behind, less, last))))))
 
 pub listed_weighs : {A : Type 0} (w : A → ℕ) (item : List Lexeme → Read A) (separator : ℕ) (closes : List Lexeme → Bool) → ((ts : List Lexeme) → Weighs w (size ts) (item ts))
-    → (ts : List Lexeme) → Weighs (total w) (size ts) (listed item separator closes ts)
+    → (ts : List Lexeme) → Weighs (total w) (size ts) (separated item separator closes ts)
 listed_weighs w item separator closes each ts =
     bind w (total w) (size ts) (size ts) (item ts) _ (each ts)
     (λ x rest less. bind (total w) (total w) (size rest) (size ts) (further item separator closes (length rest) rest) _ (further_weighs w item separator closes each (length rest) rest)

@@ -5,7 +5,7 @@ ghost use Rattle.bsdl_text.specs.View.{value};
 ghost use Rattle.bsdl_cells.specs.View.{port_name};
 ghost use Rattle.bsdl_entity.specs.Entity as entity;
 ghost use Rattle.bsdl_entity.specs.View as entity_view;
-ghost use Rattle.bsdl_fit.specs.View.{AreAt, found, place as place_view};
+ghost use Rattle.bsdl_fit.specs.View.{AreAt, place_named, place as place_view};
 ghost use Rattle.bsdl_limits.specs.PortBits.{bit_at, bit_number, width};
 ghost use Rattle.bsdl_built.specs.Bits.{firsts};
 
@@ -94,7 +94,7 @@ fn bit_named(
 ) -> Result<Option<usize>, AllocError>
     ensures { IfOk result (λ o. o ≡ option_and_then
         (λ x. option_map (λ k. unwrap_or (slice_get bits.now x.0) 0 + k) (bit_at x.1 (option_map value index.entry)))
-        (found places.now name.now)) }
+        (place_named places.now name.now)) }
 {
     match places.by_name.get(name) {
         Some(place) => bit_in(*place, bits, index),

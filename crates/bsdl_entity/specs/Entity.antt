@@ -6,7 +6,7 @@ use Rattle.std.specs.List.{find}
 use Rattle.bsdl_lex.specs.Cutting.{Lexeme}
 use Rattle.bsdl_text.specs.Words.{upper, same_name}
 use Rattle.bsdl_text.specs.Reading.{Read, fits, misfit, ◌>>=◌, refused_at, meant, word, joined_text, mark, is_mark_of}
-use Rattle.bsdl_text.specs.Reading.{stands, keyword, number, joined_by, listed, quoted_value}
+use Rattle.bsdl_text.specs.Reading.{stands, keyword, number, joined_by, separated, quoted_value}
 use Rattle.bsdl_entity.specs.declared.values.Language.{Language}
 use Rattle.bsdl_entity.specs.declared.values.Language.TheVariants.{Opcodes, Capture, Cells, Codes, PrivateNames}
 use Rattle.bsdl_entity.specs.declared.values.Language.TheVariants.{Accesses}
@@ -77,7 +77,7 @@ concat (xs ∷ xss) = xs ++ concat xss
 -- port ( group {; group} [;] ) ;
 abbrev pub ports : List Lexeme → Read (List Port)
 ports ts =
-    this_word (codes "PORT") ts >>= λ p a. mark opening a >>= λ m b. listed port_group semi (stands closing) b >>=
+    this_word (codes "PORT") ts >>= λ p a. mark opening a >>= λ m b. separated port_group semi (stands closing) b >>=
     λ groups c. mark closing c >>= λ k d.
     mark semi d >>= λ s e. fits (concat groups) e
 
@@ -187,9 +187,9 @@ pub record Given : Type 0 where
   pub value : Value
 
 -- `false` says nothing
-abbrev pub said : Given → Value → Option Given
-said g absent = None
-said g v = Some g
+abbrev pub with_value : Given → Value → Option Given
+with_value g absent = None
+with_value g v = Some g
 
 -- is value
 abbrev pub value_behind : Attribute → Name → List Lexeme → Read Value
@@ -200,7 +200,7 @@ abbrev pub attribute_form : (List ℕ → Bool) → Lexeme → Attribute → Lis
 attribute_form is_port name a ts =
     this_word (codes "OF") ts >>= λ k b. owner is_port a b >>= λ n c. mark colon c >>= λ m d. word d >>= λ class e.
     value_behind a (upper n.text) e >>= λ v g. mark semi g >>=
-    λ s h. fits (said (record { name = name; attribute = a; value = v }) v) h
+    λ s h. fits (with_value (record { name = name; attribute = a; value = v }) v) h
 
 abbrev pub nothing : Read Bool → Read (Option Given)
 nothing r = r >>= λ b rest. fits None rest

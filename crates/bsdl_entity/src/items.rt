@@ -103,7 +103,7 @@ fn value_behind<'a>(
 
 /// An attribute that says something.
 fn said<'a>(name: Word<'a>, attribute: Attribute, value: Value<'a>) -> Option<Given<'a>>
-    ensures { option_map given_view.given result ≡ spec.said
+    ensures { option_map given_view.given result ≡ spec.with_value
         (given_view.given (record { name = name.entry; attribute = attribute; value = value.entry }))
         (value_view value.entry) }
 {

@@ -7,7 +7,7 @@ use Rattle.std.proofs.lemmas.List.Elements.{filter-append}
 use Rattle.bsdl_cells.specs.Rows.{CellRow}
 use Rattle.bsdl_described.specs.Describing.{Description}
 use Rattle.bsdl_fit.specs.Fits as fits
-use Rattle.bsdl_fit.specs.Table.{alone, is_fit, kept, with_row}
+use Rattle.bsdl_fit.specs.Table.{alone, is_fit, only_row_fits, with_row}
 
 alone_more : (test : CellRow → Bool) (rows : List CellRow) (r : CellRow) → alone test (rows ++ r ∷ []) ≡ with_row (alone test rows) (test r)
 alone_more test [] r = refl
@@ -18,10 +18,10 @@ nil : {A : Type 0} (xs : List A) → xs ++ [] ≡ xs
 nil [] = refl
 nil (x ∷ xs) = ap (λ ys. x ∷ ys) (nil xs)
 
-pub kept_more : (test : CellRow → Bool) (rows : List CellRow) (r : CellRow) (n : ℕ) → kept test (rows ++ r ∷ []) n ≡ cond (nat_eq r.number n) (with_row (kept test rows n) (test r)) (kept test rows n)
+pub kept_more : (test : CellRow → Bool) (rows : List CellRow) (r : CellRow) (n : ℕ) → only_row_fits test (rows ++ r ∷ []) n ≡ cond (nat_eq r.number n) (with_row (only_row_fits test rows n) (test r)) (only_row_fits test rows n)
 kept_more test rows r n = by_test (nat_eq r.number n) refl
   where
-    by_test : (b : Bool) → nat_eq r.number n ≡ b → kept test (rows ++ r ∷ []) n ≡ cond (nat_eq r.number n) (with_row (kept test rows n) (test r)) (kept test rows n)
+    by_test : (b : Bool) → nat_eq r.number n ≡ b → only_row_fits test (rows ++ r ∷ []) n ≡ cond (nat_eq r.number n) (with_row (only_row_fits test rows n) (test r)) (only_row_fits test rows n)
     by_test true is = rw is (ap (alone test) (filter-append (λ s. nat_eq s.number n) rows (r ∷ []) ∙ rw is refl) ∙ alone_more test (filter (λ s. nat_eq s.number n) rows) r)
     by_test false is = rw is (ap (alone test) (filter-append (λ s. nat_eq s.number n) rows (r ∷ []) ∙ rw is (nil (filter (λ s. nat_eq s.number n) rows))))
 
@@ -43,10 +43,10 @@ one_row test (r ∷ s ∷ rows) false =
     rw some refl
 
 -- a cell is fit by the table
-pub fit_by : (d : Description) (n length : ℕ) (found : Option Bool) → n ≤ 65535 → length ≡ min d.boundary_length 65536 → found ≡ kept (fits.row_fits d) d.cells n → fits.is_fit d n ≡ is_fit (nat_lt n length) found
+pub fit_by : (d : Description) (n length : ℕ) (found : Option Bool) → n ≤ 65535 → length ≡ min d.boundary_length 65536 → found ≡ only_row_fits (fits.row_fits d) d.cells n → fits.is_fit d n ≡ is_fit (nat_lt n length) found
 fit_by d n length found few len is =
     let below : nat_lt n length ≡ nat_lt n d.boundary_length = grind (arith, nat_tests) in
-    one_row (fits.row_fits d) (fits.listed d n) (nat_lt n d.boundary_length) ∙ sym (rw (below, is) refl)
+    one_row (fits.row_fits d) (fits.rows_numbered d n) (nat_lt n d.boundary_length) ∙ sym (rw (below, is) refl)
 
 -- the first number that fails is the same where tests agree
 pub find_same : (f g : ℕ → Bool) (a n : ℕ) → ((k : ℕ) → k < a + n → f k ≡ g k) → find f (range_with_len a n) ≡ find g (range_with_len a n)

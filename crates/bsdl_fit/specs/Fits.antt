@@ -65,14 +65,14 @@ control_fits d n _ c = true
 abbrev pub row_fits : Description → CellRow → Bool
 row_fits d r = port_fits d r && control_fits d r.number r.function r.control
 
-abbrev pub listed : Description → ℕ → List CellRow
-listed d k = filter (λ r. r.number == k) d.cells
+abbrev pub rows_numbered : Description → ℕ → List CellRow
+rows_numbered d k = filter (λ r. r.number == k) d.cells
 
 -- Cell k is fit: below the length it has one row, which fits; from the length on it has none.
 abbrev pub is_fit : Description → ℕ → Bool
 is_fit d k =
-    if nat_lt k d.boundary_length then length (listed d k) == 1 && list_all (row_fits d) (listed d k)
-    else length (listed d k) == 0
+    if nat_lt k d.boundary_length then length (rows_numbered d k) == 1 && list_all (row_fits d) (rows_numbered d k)
+    else length (rows_numbered d k) == 0
 
 -- no cell from here on is below the length or listed
 abbrev pub cells_end : Description → ℕ

@@ -23,5 +23,5 @@ alone fits (r ∷ []) = Some (fits r)
 alone fits (r ∷ s ∷ rows) = Some false
 
 -- of the rows of a number
-abbrev pub kept : (CellRow → Bool) → List CellRow → ℕ → Option Bool
-kept fits rows n = alone fits (filter (λ r. r.number == n) rows)
+abbrev pub only_row_fits : (CellRow → Bool) → List CellRow → ℕ → Option Bool
+only_row_fits fits rows n = alone fits (filter (λ r. r.number == n) rows)

@@ -16,9 +16,9 @@ abbrev pub seat : declared_seat.Seat → ℕ × ℕ
 seat s = (s.port, value s.index)
 
 -- the first port of a name, as it is kept
-abbrev pub found : declared_places.Places → List ℕ → Option (ℕ × Option Range)
-found p q = option_map place (get_by_text p.by_name q)
+abbrev pub place_named : declared_places.Places → List ℕ → Option (ℕ × Option Range)
+place_named p q = option_map place (get_by_text p.by_name q)
 
 -- these ports are kept
 abbrev pub AreAt : declared_places.Places → List Port → Type 0
-AreAt p ps = (q : List ℕ) → found p q ≡ find_port 0 ps q
+AreAt p ps = (q : List ℕ) → place_named p q ≡ find_port 0 ps q

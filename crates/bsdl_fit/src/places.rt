@@ -9,7 +9,7 @@ ghost use Rattle.bsdl_entity.specs.View as entity_view;
 ghost use Rattle.bsdl_entity.specs.Entity as entity;
 ghost use Rattle.bsdl_limits.specs.PortBits.{bit_at};
 ghost use Rattle.bsdl_fit.specs.Places as spec;
-ghost use Rattle.bsdl_fit.specs.View.{AreAt, found, place as place_view, seat};
+ghost use Rattle.bsdl_fit.specs.View.{AreAt, place_named, place as place_view, seat};
 
 use crate::seat::Seat;
 use bsdl_cells::PortName;
@@ -54,8 +54,8 @@ fn add_group<'a>(
     group: &Group<'a>,
 ) -> Result<(), AllocError>
     ensures next { OnOk result (places.new.next ≡ places.old.next + length (entity_view.group group.now)) }
-    ensures found { OnOk result ((q : List ℕ) → found places.new q
-        ≡ spec.or_first (found places.old q) (spec.find_port places.old.next (entity_view.group group.now) q)) }
+    ensures found { OnOk result ((q : List ℕ) → place_named places.new q
+        ≡ spec.or_first (place_named places.old q) (spec.find_port places.old.next (entity_view.group group.now) q)) }
 {
     let range = trimmed(group.range);
     for name in &group.names {
@@ -84,8 +84,8 @@ fn add_name<'a>(
     range: Option<Range<'a>>,
 ) -> Result<(), AllocError>
     ensures next { OnOk result (places.new.next ≡ places.old.next + 1) }
-    ensures found { OnOk result ((q : List ℕ) → found places.new q
-        ≡ spec.or_first (found places.old q) (spec.at_name (upper name.entry.text.now)
+    ensures found { OnOk result ((q : List ℕ) → place_named places.new q
+        ≡ spec.or_first (place_named places.old q) (spec.at_name (upper name.entry.text.now)
         (places.old.next, option_map entity_view.range range.entry) q)) }
 {
     let key = name.upper_name(alloc)?;
@@ -112,7 +112,7 @@ pub fn seat_of<'a>(
 
 fn seat_named<'a>(places: &Places<'_>, name: &str, index: Option<Digits<'a>>) -> Option<Seat<'a>>
     ensures { option_map seat result ≡ option_and_then (spec.seat_at (option_map value index.entry))
-        (found places.now name.now) }
+        (place_named places.now name.now) }
 {
     match places.by_name.get(name) {
         Some(place) => seat_at(*place, index),

@@ -5,16 +5,16 @@ use Rattle.std.specs.List.{list_all}
 use Rattle.bsdl_lex.specs.Cutting.{Lexeme}
 use Rattle.bsdl_text.specs.Words.{upper, same_name}
 use Rattle.bsdl_text.specs.Marks.{comma, opening, closing}
-use Rattle.bsdl_text.specs.Reading.{Read, fits, ◌>>=◌, refused_at, one, word, mark, stands, is_over, number, listed}
+use Rattle.bsdl_text.specs.Reading.{Read, fits, ◌>>=◌, refused_at, one, word, mark, stands, is_over, number, separated}
 use Rattle.bsdl_device.specs.Device.{Name, Pattern}
 
 -- `one {, one} [,]` to the end of the text, and between brackets
 abbrev pub rows : {A : Type 0} → (List Lexeme → Read A) → List Lexeme → Read (List A)
-rows item ts = listed item comma is_over ts
+rows item ts = separated item comma is_over ts
 
 abbrev pub bracketed : {A : Type 0} → (List Lexeme → Read A) → List Lexeme → Read (List A)
 bracketed item ts =
-    mark opening ts >>= λ m a. listed item comma (stands closing) a >>= λ xs b. mark closing b >>= λ n c. fits xs c
+    mark opening ts >>= λ m a. separated item comma (stands closing) a >>= λ xs b. mark closing b >>= λ n c. fits xs c
 
 -- ---- patterns
 

@@ -6,7 +6,7 @@ use Rattle.std.proofs.lemmas.List.Folds.{list_any-append, list_all-append}
 use Rattle.std.proofs.lemmas.Slice.Eq.{bytes_eq-Decides}
 use Rattle.std.proofs.lemmas.Bool.Decides.{nat_tests}
 use Rattle.bsdl_instructions.specs.Values.{AccessRow}
-use Rattle.bsdl_lengths.specs.Agreeing.{is_new, is_new_row, noted}
+use Rattle.bsdl_lengths.specs.Agreeing.{is_new, is_new_row, with_row_length}
 use Rattle.bsdl_lengths.specs.Lengths.{differ, agree}
 
 -- a row gives this register this length
@@ -55,7 +55,7 @@ known_more known after rows r n is new noted before = record {
   same = λ q k.
       list_any-append (gives q k) rows (r ∷ []) ∙ ap (λ b. list_any (gives q k) rows || (b || false)) (given_by q k r (Some n) is)
       ∙ ap (λ b. b || ((bytes_eq r.register q && nat_eq n k) || false)) (before.same q k)
-      ∙ by_test q k (bytes_eq r.register q) refl ∙ sym (ap (λ o. tells o k) (noted q));
+      ∙ by_test q k (bytes_eq r.register q) refl ∙ sym (ap (λ o. tells o k) (with_row_length q));
 }
   where
     by_test : (q : List ℕ) (k : ℕ) (b : Bool) → bytes_eq r.register q ≡ b → (tells (known q) k || ((bytes_eq r.register q && nat_eq n k) || false)) ≡ tells (cond (bytes_eq r.register q) (Some n) (known q)) k
@@ -182,7 +182,7 @@ two_differ known before after r n is old k = by_known (known r.register) refl
 
 -- ---- a row more
 
-pub row_known : (known after : List ℕ → Option ℕ) (rows : List AccessRow) (r : AccessRow) → is_new_row known r ≡ true → ((q : List ℕ) → after q ≡ noted known r q) → Known known rows
+pub row_known : (known after : List ℕ → Option ℕ) (rows : List AccessRow) (r : AccessRow) → is_new_row known r ≡ true → ((q : List ℕ) → after q ≡ with_row_length known r q) → Known known rows
     → Known after (rows ++ r ∷ [])
 row_known known after rows r new note before = by_len r.len refl
   where

@@ -16,8 +16,8 @@ is_new_row known r = at_len r.len
     at_len (Some n) = is_new (known r.register) n
 
 -- what is known with a row
-abbrev pub noted : (List ℕ → Option ℕ) → AccessRow → List ℕ → Option ℕ
-noted known r q = at_len r.len
+abbrev pub with_row_length : (List ℕ → Option ℕ) → AccessRow → List ℕ → Option ℕ
+with_row_length known r q = at_len r.len
   where
     at_len : Option ℕ → Option ℕ
     at_len None = known q

@@ -4,7 +4,7 @@ ghost use Rattle.std.specs.BTreeMap.{get_by_text};
 ghost use Rattle.bsdl_text.specs.Words.{upper};
 ghost use Rattle.bsdl_text.specs.View.{value};
 ghost use Rattle.bsdl_instructions.specs.View as rows_view;
-ghost use Rattle.bsdl_lengths.specs.Agreeing.{is_new, is_new_row, noted};
+ghost use Rattle.bsdl_lengths.specs.Agreeing.{is_new, is_new_row, with_row_length};
 ghost use Rattle.bsdl_lengths.specs.Lengths as spec;
 
 use bsdl_instructions::names::AccessRow;
@@ -36,7 +36,7 @@ fn put_row<'a>(
     ensures known { IfOk result (λ b. b ≡ is_new_row (λ q. option_map value (get_by_text lengths.old q))
         (rows_view.access_row row.now)) }
     ensures noted { OnOk result ((q : List ℕ) → option_map value (get_by_text lengths.new q)
-        ≡ noted (λ p. option_map value (get_by_text lengths.old p)) (rows_view.access_row row.now) q) }
+        ≡ with_row_length (λ p. option_map value (get_by_text lengths.old p)) (rows_view.access_row row.now) q) }
 {
     match row.len {
         Some(len) => put_len(alloc, lengths, row.register, len),

@@ -5,7 +5,7 @@ use Rattle.bsdl_text.specs.declared.reading.Stop.{Stop}
 use Rattle.bsdl_text.specs.declared.reading.Stop.TheVariants as stop
 use Rattle.bsdl_text.specs.View.{Stops}
 use Rattle.bsdl_lex.specs.Cutting.{Lexeme}
-use Rattle.bsdl_text.specs.Reading.{Read, fits, misfit, ◌>>=◌, refused_at, mark, further, listed}
+use Rattle.bsdl_text.specs.Reading.{Read, fits, misfit, ◌>>=◌, refused_at, mark, further, separated}
 
 -- a reader that stops where another one does
 pub stops_where : {X Y : Type 0} (s : Stop) (r : Read X) (total : Read Y) → Stops s r → ((at : Option ℕ) → r ≡ misfit at → total ≡ misfit at) → Stops s total
@@ -74,10 +74,10 @@ module _ {A : Type 0} (item : List Lexeme → Read A) (separator : ℕ) (closes 
   one_more (suc n) ts t rest x after short on marked more here less =
       (n, omega (arith, short, less), rw (on, marked, more, here) (is_prepended x (further item separator closes n after)))
 
-  pub first_one : (ts : List Lexeme) (x : A) (rest : List Lexeme) → item ts ≡ fits x rest → listed item separator closes ts ≡ prepend (x ∷ []) (further item separator closes (length rest) rest)
+  pub first_one : (ts : List Lexeme) (x : A) (rest : List Lexeme) → item ts ≡ fits x rest → separated item separator closes ts ≡ prepend (x ∷ []) (further item separator closes (length rest) rest)
   first_one ts x rest here = rw here (is_prepended x (further item separator closes (length rest) rest))
 
-  pub no_first : (ts : List Lexeme) (at : Option ℕ) → item ts ≡ misfit at → listed item separator closes ts ≡ misfit at
+  pub no_first : (ts : List Lexeme) (at : Option ℕ) → item ts ≡ misfit at → separated item separator closes ts ≡ misfit at
   no_first ts at none = rw none refl
 
   -- ---- the same behind entries that were read

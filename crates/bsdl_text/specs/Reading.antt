@@ -108,9 +108,9 @@ further item separator closes (suc n) ts =
     else item rest >>= λ x more. further item separator closes n more >>= λ xs after. fits (x ∷ xs) after
 
 -- `one {separator one} [separator]`, up to where the list closes
-abbrev pub listed : {A : Type 0} → (List Lexeme → Read A) → (separator : ℕ) → (closes : List Lexeme → Bool)
+abbrev pub separated : {A : Type 0} → (List Lexeme → Read A) → (separator : ℕ) → (closes : List Lexeme → Bool)
     → List Lexeme → Read (List A)
-listed item separator closes ts =
+separated item separator closes ts =
     item ts >>= λ x rest. further item separator closes (length rest) rest >>= λ xs after. fits (x ∷ xs) after
 
 -- the text of a string, or of several joined by `&`

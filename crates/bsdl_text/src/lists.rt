@@ -44,7 +44,7 @@ pub fn listed<'a, E: Entry<'a>>(
     close: Option<u8>,
 ) -> Result<(Vec<E>, Lexer<'a>), Stop>
     ensures gives { Gives (λ v. map E.seen v.items) result
-        (spec.listed E.says separator (view.closes close) (left lexer.entry)) }
+        (spec.separated E.says separator (view.closes close) (left lexer.entry)) }
     ensures shorter { IfOk result (λ p. length (left p.1) < length (left lexer.entry)) }
 {
     let mut all = room_for_one(alloc)?;

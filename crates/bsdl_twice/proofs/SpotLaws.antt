@@ -4,17 +4,17 @@ use Rattle.std.specs.Prelude.{Option, Some, None, bytes_eq, filter}
 use Rattle.std.proofs.lemmas.Slice.Eq.{bytes_eq-Decides}
 use Rattle.std.proofs.lemmas.Bool.Decides.{nat_tests}
 use Rattle.bsdl_twice.specs.declared.naming.Spot.{Spot}
-use Rattle.bsdl_twice.specs.Twice.{before, Naming, earliest}
+use Rattle.bsdl_twice.specs.Twice.{stands_before, Naming, earliest}
 use Rattle.bsdl_twice.specs.Spots.{begins_before, either}
 
-pub before_trans : (p q r : Spot) → before p q ≡ true → before q r ≡ true → before p r ≡ true
+pub before_trans : (p q r : Spot) → stands_before p q ≡ true → stands_before q r ≡ true → stands_before p r ≡ true
 before_trans p q r a b = grind (arith, nat_tests)
 
-pub not_before_trans : (p q r : Spot) → before p q ≡ false → before q r ≡ false → before p r ≡ false
+pub not_before_trans : (p q r : Spot) → stands_before p q ≡ false → stands_before q r ≡ false → stands_before p r ≡ false
 not_before_trans p q r a b = grind (arith, nat_tests)
 
 -- the earlier of two stands before a place where one of them does
-pub before_either : (p q s : Spot) → cond (before q p) (before q s) (before p s) ≡ (before p s || before q s)
+pub before_either : (p q s : Spot) → cond (stands_before q p) (stands_before q s) (stands_before p s) ≡ (stands_before p s || stands_before q s)
 before_either p q s = grind (arith, nat_tests)
 
 pub either_none : (o : Option Naming) → either o None ≡ o
@@ -22,9 +22,9 @@ either_none None = refl
 either_none (Some n) = refl
 
 three : (a b c : Naming) → either (either (Some a) (Some b)) (Some c) ≡ either (Some a) (either (Some b) (Some c))
-three a b c = by_tests (before b.spot a.spot) (before c.spot b.spot) (before c.spot a.spot) refl refl refl
+three a b c = by_tests (stands_before b.spot a.spot) (stands_before c.spot b.spot) (stands_before c.spot a.spot) refl refl refl
   where
-    by_tests : (x y z : Bool) → before b.spot a.spot ≡ x → before c.spot b.spot ≡ y → before c.spot a.spot ≡ z → either (either (Some a) (Some b)) (Some c) ≡ either (Some a) (either (Some b) (Some c))
+    by_tests : (x y z : Bool) → stands_before b.spot a.spot ≡ x → stands_before c.spot b.spot ≡ y → stands_before c.spot a.spot ≡ z → either (either (Some a) (Some b)) (Some c) ≡ either (Some a) (either (Some b) (Some c))
     by_tests true true true e f g = rw (e, f, g) refl
     by_tests true true false e f g = absurd (cc (before_trans c.spot b.spot a.spot f e))
     by_tests true false z e f g = rw (e, f, e) refl
@@ -49,11 +49,11 @@ or_false true = refl
 or_false false = refl
 
 -- a name's first place, once it is given here too
-pub first_kept : (get : List ℕ → Option Spot) (key name q : List ℕ) (first spot s : Spot) → key ≡ name → before first s ≡ (begins_before (get key) s || before spot s)
-    → begins_before (cond (bytes_eq key q) (Some first) (get q)) s ≡ (begins_before (get q) s || (bytes_eq name q && before spot s))
+pub first_kept : (get : List ℕ → Option Spot) (key name q : List ℕ) (first spot s : Spot) → key ≡ name → stands_before first s ≡ (begins_before (get key) s || stands_before spot s)
+    → begins_before (cond (bytes_eq key q) (Some first) (get q)) s ≡ (begins_before (get q) s || (bytes_eq name q && stands_before spot s))
 first_kept get key name q first spot s same least = by_test (bytes_eq key q) refl
   where
-    by_test : (b : Bool) → bytes_eq key q ≡ b → begins_before (cond (bytes_eq key q) (Some first) (get q)) s ≡ (begins_before (get q) s || (bytes_eq name q && before spot s))
+    by_test : (b : Bool) → bytes_eq key q ≡ b → begins_before (cond (bytes_eq key q) (Some first) (get q)) s ≡ (begins_before (get q) s || (bytes_eq name q && stands_before spot s))
     by_test true is =
         let here : key ≡ q = (bytes_eq-Decides key q).0 is in
         let there : bytes_eq name q ≡ true = ap (λ (n : List ℕ). bytes_eq n q) (sym same) ∙ is in

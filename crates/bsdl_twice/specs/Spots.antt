@@ -3,16 +3,16 @@ use Rattle.std.specs.Prelude.{ℕ, Bool, false, ◌&&◌, List, Option, Some, No
 use Rattle.std.specs.List.{list_any}
 use Rattle.bsdl_text.specs.Words.{upper}
 use Rattle.bsdl_twice.specs.declared.naming.Spot.{Spot}
-use Rattle.bsdl_twice.specs.Twice.{before, Naming, earlier}
+use Rattle.bsdl_twice.specs.Twice.{stands_before, Naming, earlier}
 
 -- there is a place, and it stands before this one
 abbrev pub begins_before : Option Spot → Spot → Bool
 begins_before None s = false
-begins_before (Some p) s = before p s
+begins_before (Some p) s = stands_before p s
 
 -- a naming of this name, in upper case, before this place
 abbrev pub is_naming : Naming → List ℕ → Spot → Bool
-is_naming n q s = bytes_eq (upper n.name) q && before n.spot s
+is_naming n q s = bytes_eq (upper n.name) q && stands_before n.spot s
 
 abbrev pub is_named_before : List Naming → List ℕ → Spot → Bool
 is_named_before all q s = list_any (λ n. is_naming n q s) all

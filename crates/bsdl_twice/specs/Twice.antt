@@ -8,8 +8,8 @@ use Rattle.bsdl_described.specs.Describing.{Description}
 use Rattle.bsdl_twice.specs.declared.naming.Spot.{Spot}
 
 -- Places are in order by the token, then by the byte within its text.
-abbrev pub before : Spot → Spot → Bool
-before p q = nat_lt p.outer q.outer || (p.outer == q.outer && nat_lt p.within q.within)
+abbrev pub stands_before : Spot → Spot → Bool
+stands_before p q = nat_lt p.outer q.outer || (p.outer == q.outer && nat_lt p.within q.within)
 
 -- a name that is given at a place
 pub record Naming : Type 0 where
@@ -18,14 +18,14 @@ pub record Naming : Type 0 where
 
 -- one of the same name stands before
 abbrev pub is_repeated : List Naming → Naming → Bool
-is_repeated all n = list_any (λ m. same_name m.name n.name && before m.spot n.spot) all
+is_repeated all n = list_any (λ m. same_name m.name n.name && stands_before m.spot n.spot) all
 
 abbrev pub repeated : List Naming → List Naming
 repeated all = filter (is_repeated all) all
 
 abbrev pub earlier : Naming → Option Naming → Naming
 earlier n None = n
-earlier n (Some m) = if before m.spot n.spot then m else n
+earlier n (Some m) = if stands_before m.spot n.spot then m else n
 
 abbrev pub earliest : List Naming → Option Naming
 earliest [] = None

@@ -21,14 +21,14 @@ pub struct Spot {
 impl Spot {
     /// Whether this place stands before another.
     fn is_before(self, other: Spot) -> bool
-        ensures { result ≡ spec.before self other }
+        ensures { result ≡ spec.stands_before self other }
     {
         self.outer < other.outer || (self.outer == other.outer && self.within < other.within)
     }
 
     /// The earlier of two places.
     fn or_before(self, other: Spot) -> Spot
-        ensures { (s : Spot) → spec.before result s ≡ spec.before self s || spec.before other s }
+        ensures { (s : Spot) → spec.stands_before result s ≡ spec.stands_before self s || spec.stands_before other s }
     {
         if other.is_before(self) { other } else { self }
     }
@@ -124,8 +124,8 @@ fn add_spot(
 
 /// The first place of a name, where it stands at this one too.
 fn first_of(spots: &BTreeMap<String, Spot>, key: &str, spot: Spot) -> Spot
-    ensures { (s : Spot) → spec.before result s ≡ begins_before (get_by_text spots.now key.now) s
-        || spec.before spot s }
+    ensures { (s : Spot) → spec.stands_before result s ≡ begins_before (get_by_text spots.now key.now) s
+        || spec.stands_before spot s }
 {
     match spots.get(key) {
         Some(known) => known.or_before(spot),

@@ -10,7 +10,7 @@ use Rattle.bsdl_device.specs.declared.Cell.{Cell}
 use Rattle.scan_registers.specs.declared.Mode.{Mode}
 use Rattle.scan_registers.specs.declared.Selected.{Selected}
 use Rattle.scan_registers.specs.declared.Selected.TheVariants.{Bypass, Identification, Boundary, User}
-use Rattle.scan_registers.specs.Chips.{around, one_chip, with_registers}
+use Rattle.scan_registers.specs.Chips.{surroundings_of, one_chip, with_registers}
 use Rattle.scan_registers.specs.Edges.{OneChip, after_fall, is_held, rise, after_rise}
 use Rattle.scan_registers.specs.Instruction.{meaning}
 use Rattle.scan_registers.specs.Registers.{Registers, Surroundings, capture_of, put, with_stage}
@@ -81,27 +81,27 @@ module _ (s : SeatValue) (cells : s.chip.boundary.cells ≡ s.chip.device.cells)
       ∙ ap (λ (cs : List Cell). capture_by_sight sees (takes_update s.chip.boundary.extest_update mode) s.chip.boundary.update s.chip.boundary.core 0 cs) cells
 
   pub rises : (t : SeatValue) (sees : ℕ → Bool) (tms tdi : Bool)
-      → one_chip stage update t.chip ≡ rise tms tdi (around captured_bits at_reset s.chip) now
+      → one_chip stage update t.chip ≡ rise tms tdi (surroundings_of captured_bits at_reset s.chip) now
       → t.name ≡ s.name → t.chip.boundary.core ≡ s.chip.boundary.core → t.chip.boundary.extest_update ≡ s.chip.boundary.extest_update
       → IsSighted sees s → chip_state t ≡ chain.rise s.chip.trst tms tdi sees (chip_state s)
   rises t sees tms tdi is name core extest sighted =
       ap (λ (o : OneChip). state_of t.name t.chip.boundary.core t.chip.boundary.extest_update o) is
-      ∙ ap (λ (n : List ℕ). state_of n t.chip.boundary.core t.chip.boundary.extest_update (rise tms tdi (around captured_bits at_reset s.chip) now)) name
-      ∙ ap (λ (c : List Bool). state_of s.name c t.chip.boundary.extest_update (rise tms tdi (around captured_bits at_reset s.chip) now)) core
-      ∙ ap (λ (e : Bool). state_of s.name s.chip.boundary.core e (rise tms tdi (around captured_bits at_reset s.chip) now)) extest
-      ∙ rise-alike s.name s.chip.boundary.core s.chip.boundary.extest_update now (around captured_bits at_reset s.chip) sees tms tdi
-      (risen-alike (work s.chip.state) s.chip.device (around captured_bits at_reset s.chip) (surroundings sees (member_of s)) tdi now.registers
+      ∙ ap (λ (n : List ℕ). state_of n t.chip.boundary.core t.chip.boundary.extest_update (rise tms tdi (surroundings_of captured_bits at_reset s.chip) now)) name
+      ∙ ap (λ (c : List Bool). state_of s.name c t.chip.boundary.extest_update (rise tms tdi (surroundings_of captured_bits at_reset s.chip) now)) core
+      ∙ ap (λ (e : Bool). state_of s.name s.chip.boundary.core e (rise tms tdi (surroundings_of captured_bits at_reset s.chip) now)) extest
+      ∙ rise-alike s.name s.chip.boundary.core s.chip.boundary.extest_update now (surroundings_of captured_bits at_reset s.chip) sees tms tdi
+      (risen-alike (work s.chip.state) s.chip.device (surroundings_of captured_bits at_reset s.chip) (surroundings sees (member_of s)) tdi now.registers
       (λ yes. let w = sighted yes in captures-alike sees (meaning s.chip.device s.chip.latch).mode w.0 w.1))
 
   pub captures : (t : SeatValue) (sees : ℕ → Bool) (column : Column)
-      → one_chip stage update t.chip ≡ with_registers (chip_registers.after_capture s.chip.device column (around captured_bits at_reset s.chip) now.registers) now
+      → one_chip stage update t.chip ≡ with_registers (chip_registers.after_capture s.chip.device column (surroundings_of captured_bits at_reset s.chip) now.registers) now
       → t.name ≡ s.name → t.chip.boundary.core ≡ s.chip.boundary.core → t.chip.boundary.extest_update ≡ s.chip.boundary.extest_update
       → IsSightedFor column sees s → chip_state t ≡ as_member (capture_member column sees (member_of s)) (chip_state s)
   captures t sees column is name core extest sighted =
       let mode = (meaning s.chip.device s.chip.latch).mode in
       (λ i. state_of (name i) (core i) (extest i) (is i))
       ∙ ap (λ (r : Registers). state_of s.name s.chip.boundary.core s.chip.boundary.extest_update (with_registers r now))
-      (risen-alike (Captures column) s.chip.device (around captured_bits at_reset s.chip) (surroundings sees (member_of s)) false now.registers
+      (risen-alike (Captures column) s.chip.device (surroundings_of captured_bits at_reset s.chip) (surroundings sees (member_of s)) false now.registers
       (λ yes. let w = sighted yes in captures-alike sees mode w.0 w.1))
 
 -- ---- what an edge changes of what is driven

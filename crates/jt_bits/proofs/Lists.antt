@@ -13,14 +13,14 @@ use Rattle.std.proofs.lemmas.List.{get_or-set_same, get_or-set_other, get_or-rep
 use Rattle.std.proofs.lemmas.List.FromFn.{get_or-map-range_with_len, length-map-range_with_len}
 use Rattle.std.proofs.lemmas.Option.{slice_get-get_or, unwrap_or-slice_get}
 use Rattle.jt_bits.specs.Lengths.{resized}
-use Rattle.jt_bits.specs.Packed.{has_bit, packed_bit, listed}
+use Rattle.jt_bits.specs.Packed.{has_bit, packed_bit, bits_in_words}
 use Rattle.jt_bits.specs.Shifting.{after_shift}
 use Rattle.jt_bits.specs.Words.{bit_of, number, word_of, word_from, differ, is_bad_at, is_bad_bit, IsFirst}
 use Rattle.jt_bits.proofs.PackedWords.{ring, ring_below, ring_apart, ring_distinct, ring_next, ring_add, listed-length, listed-get, is_listed, packed_at, and_bit}
 
 -- one value everywhere
 pub same_everywhere : (words : List ℕ) (len : ℕ) (bit : Bool) → len ≤ 64 * length words → ((p : ℕ) → p < 64 * length words → packed_bit words p ≡ bit)
-    → listed words 0 len ≡ replicate len bit
+    → bits_in_words words 0 len ≡ replicate len bit
 same_everywhere words len bit room each =
     is_listed words 0 len (replicate len bit) (length-replicate len bit)
     (λ i h. get_or-replicate len i bit false h ∙ sym (each ((0 + i) % (64 * length words)) (ring_below (64 * length words) 0 i (omega arith) (omega arith))))
@@ -37,21 +37,21 @@ everything : (j : ℕ) → j < 64 → has_bit (2 ^ 64 - 1) j ≡ true
 unfolding has_bit
 everything j h = ap (λ (n : ℕ). n == 1) (bit_at_ones 64 j h)
 
-filled : (n w len : ℕ) (words : List ℕ) (bit : Bool) → words ≡ replicate n w → len ≤ 64 * n → ((j : ℕ) → j < 64 → has_bit w j ≡ bit) → listed words 0 len ≡ replicate len bit
+filled : (n w len : ℕ) (words : List ℕ) (bit : Bool) → words ≡ replicate n w → len ≤ 64 * n → ((j : ℕ) → j < 64 → has_bit w j ≡ bit) → bits_in_words words 0 len ≡ replicate len bit
 filled n w len words bit are room each =
     let many : length words ≡ n = ap length are ∙ length-replicate n w in
     same_everywhere words len bit (omega arith)
     (λ p h. ap (λ (ws : List ℕ). packed_bit ws p) are ∙ filled_at n w p (omega arith) ∙ each (p % 64) (omega arith))
 
-pub zeros_listed : (n len : ℕ) (words : List ℕ) → words ≡ replicate n 0 → len ≤ 64 * n → listed words 0 len ≡ replicate len false
+pub zeros_listed : (n len : ℕ) (words : List ℕ) → words ≡ replicate n 0 → len ≤ 64 * n → bits_in_words words 0 len ≡ replicate len false
 zeros_listed n len words are room = filled n 0 len words false are room (λ j h. nothing j)
 
-pub ones_listed : (n len : ℕ) (words : List ℕ) → words ≡ replicate n (2 ^ 64 - 1) → len ≤ 64 * n → listed words 0 len ≡ replicate len true
+pub ones_listed : (n len : ℕ) (words : List ℕ) → words ≡ replicate n (2 ^ 64 - 1) → len ≤ 64 * n → bits_in_words words 0 len ≡ replicate len true
 ones_listed n len words are room = filled n (2 ^ 64 - 1) len words true are room everything
 
-pub got : (words : List ℕ) (start len i : ℕ) → i < len → slice_get (listed words start len) i ≡ Some (packed_bit words ((start + i) % (64 * length words)))
+pub got : (words : List ℕ) (start len i : ℕ) → i < len → slice_get (bits_in_words words start len) i ≡ Some (packed_bit words ((start + i) % (64 * length words)))
 got words start len i h =
-    slice_get-get_or (listed words start len) i false (omega (arith, listed-length words start len)) ∙ ap Some (listed-get words start len i false h)
+    slice_get-get_or (bits_in_words words start len) i false (omega (arith, listed-length words start len)) ∙ ap Some (listed-get words start len i false h)
 
 -- what a list with one bit put there is
 abbrev put_at : List ℕ → ℕ → Bool → ℕ → Bool
@@ -65,10 +65,10 @@ put_elsewhere words place q bit e = let t : (q == place) ≡ false = grind (arit
 
 pub bit_put : (old new : List ℕ) (start len i : ℕ) (bit : Bool) → length new ≡ length old → len ≤ 64 * length old → start < 64 * length old → i < len
     → ((q : ℕ) → packed_bit new q ≡ if q == (start + i) % (64 * length old) then bit else packed_bit old q)
-    → listed new start len ≡ slice_set (listed old start len) i bit
+    → bits_in_words new start len ≡ slice_set (bits_in_words old start len) i bit
 bit_put old new start len i bit same in_ s h put =
     let room = 64 * length old in
-    let old_list = listed old start len in
+    let old_list = bits_in_words old start len in
     let is_long = listed-length old start len in
     let place : ℕ → ℕ = λ k. (start + k) % room in
     is_listed new start len (set old_list i bit) (length-set old_list i bit ∙ is_long)
@@ -86,10 +86,10 @@ bit_put old new start len i bit same in_ s h put =
 
 pub bit_shifted : (old new : List ℕ) (start len : ℕ) (bit : Bool) → length new ≡ length old → len ≤ 64 * length old → start < 64 * length old → 0 < len
     → ((q : ℕ) → packed_bit new q ≡ if q == (start + len) % (64 * length old) then bit else packed_bit old q)
-    → listed new ((start + 1) % (64 * length old)) len ≡ after_shift (listed old start len) bit
+    → bits_in_words new ((start + 1) % (64 * length old)) len ≡ after_shift (bits_in_words old start len) bit
 bit_shifted old new start len bit same in_ s some put =
     let room = 64 * length old in
-    let bits = listed old start len in
+    let bits = bits_in_words old start len in
     let is_long : length bits ≡ len = listed-length old start len in
     let rest : length (drop 1 bits) ≡ len - 1 = length-drop 1 bits ∙ omega arith in
     let place : ℕ → ℕ = λ k. (start + k) % room in
@@ -186,10 +186,10 @@ pub bits_from : (words : List ℕ) (start len i from whole low : ℕ) → len �
     → from ≡ (start + i) % (64 * length words)
     → ((j : ℕ) → j < 64 → has_bit whole j ≡ packed_bit words ((from + j) % (64 * length words)))
     → ((j : ℕ) → j < 64 → has_bit low j ≡ if nat_lt j (len - i) then has_bit whole j else false)
-    → (j : ℕ) → j < 64 → has_bit low j ≡ get_or (listed words start len) (i + j) false
+    → (j : ℕ) → j < 64 → has_bit low j ≡ get_or (bits_in_words words start len) (i + j) false
 bits_from words start len i from whole low in_ s some at window lowest j h =
     let room = 64 * length words in
-    let bits = listed words start len in
+    let bits = bits_in_words words start len in
     let is_long : length bits ≡ len = listed-length words start len in
     ⊎_elim
     (λ (less : j < len - i).
@@ -206,13 +206,13 @@ pub word_from_packed : (words : List ℕ) (start len k from whole low : ℕ) →
     → from ≡ (start + 64 * k) % (64 * length words) → low < 2 ^ 64
     → ((j : ℕ) → j < 64 → has_bit whole j ≡ packed_bit words ((from + j) % (64 * length words)))
     → ((j : ℕ) → j < 64 → has_bit low j ≡ if nat_lt j (len - 64 * k) then has_bit whole j else false)
-    → low ≡ word_of (listed words start len) k
+    → low ≡ word_of (bits_in_words words start len) k
 word_from_packed words start len k from whole low in_ s inside some at fits window lowest =
-    word_is (listed words start len) k low fits (bits_from words start len (64 * k) from whole low in_ s some at window lowest)
+    word_is (bits_in_words words start len) k low fits (bits_from words start len (64 * k) from whole low in_ s some at window lowest)
 
 -- words put one behind the other
 pub words_listed : (bits : List Bool) (words : List ℕ) (count len : ℕ) → words ≡ map (word_of bits) (range_with_len 0 count) → len ≤ 64 * count
-    → listed words 0 len ≡ resized len bits
+    → bits_in_words words 0 len ≡ resized len bits
 words_listed bits words count len are room =
     let many : length words ≡ count = ap length are ∙ length-map-range_with_len (word_of bits) 0 count in
     let kept = take len bits in
@@ -237,7 +237,7 @@ words_listed bits words count len are room =
     (cases_lt i (length bits)))
 
 -- what was read at the place of a bit
-pub got_there : (words lent : List ℕ) (start len i place n : ℕ) (bits : List Bool) (r : Bool) → listed words start len ≡ bits → i < len
+pub got_there : (words lent : List ℕ) (start len i place n : ℕ) (bits : List Bool) (r : Bool) → bits_in_words words start len ≡ bits → i < len
     → r ≡ packed_bit lent place → lent ≡ words → place ≡ (start + i) % (64 * n) → n ≡ length words → slice_get bits i ≡ Some r
 got_there words lent start len i place n bits r view h is same at many =
     ap (λ (b : List Bool). slice_get b i) (sym view) ∙ got words start len i h
@@ -253,20 +253,20 @@ same_put : (old lent new : List ℕ) (place at : ℕ) (bit : Bool) → lent ≡ 
 same_put old lent new place at bit same e put =
     subst (λ (p : ℕ). Put old new p bit) e (subst (λ (ws : List ℕ). Put ws new place bit) same put)
 
-pub set_there : (words lent new after : List ℕ) (start len i place n : ℕ) (bits : List Bool) (bit : Bool) → listed words start len ≡ bits → i < len → len ≤ 64 * length words → start < 64 * length words
+pub set_there : (words lent new after : List ℕ) (start len i place n : ℕ) (bits : List Bool) (bit : Bool) → bits_in_words words start len ≡ bits → i < len → len ≤ 64 * length words → start < 64 * length words
     → lent ≡ words → length new ≡ length words → after ≡ new → place ≡ (start + i) % (64 * n) → n ≡ length words
-    → ((q : ℕ) → packed_bit new q ≡ if q == place then bit else packed_bit lent q) → listed after start len ≡ slice_set bits i bit
+    → ((q : ℕ) → packed_bit new q ≡ if q == place then bit else packed_bit lent q) → bits_in_words after start len ≡ slice_set bits i bit
 set_there words lent new after start len i place n bits bit view h in_ s same long is at many put =
-    ap (λ (ws : List ℕ). listed ws start len) is
+    ap (λ (ws : List ℕ). bits_in_words ws start len) is
     ∙ bit_put words new start len i bit long in_ s h (same_put words lent new place ((start + i) % (64 * length words)) bit same (same_place start i place n (length words) at many) put)
     ∙ ap (λ (b : List Bool). slice_set b i bit) view
 
-pub shifted_there : (words lent new after : List ℕ) (start next len place n : ℕ) (bits : List Bool) (bit : Bool) → listed words start len ≡ bits → 0 < len → len ≤ 64 * length words → start < 64 * length words
+pub shifted_there : (words lent new after : List ℕ) (start next len place n : ℕ) (bits : List Bool) (bit : Bool) → bits_in_words words start len ≡ bits → 0 < len → len ≤ 64 * length words → start < 64 * length words
     → lent ≡ words → length new ≡ length words → after ≡ new → place ≡ (start + len) % (64 * n) → next ≡ (start + 1) % (64 * n) → n ≡ length words
-    → ((q : ℕ) → packed_bit new q ≡ if q == place then bit else packed_bit lent q) → listed after next len ≡ after_shift bits bit
+    → ((q : ℕ) → packed_bit new q ≡ if q == place then bit else packed_bit lent q) → bits_in_words after next len ≡ after_shift bits bit
 shifted_there words lent new after start next len place n bits bit view h in_ s same long is at step many put =
-    ap (λ (ws : List ℕ). listed ws next len) is
-    ∙ ap (λ (k : ℕ). listed new k len) (same_place start 1 next n (length words) step many)
+    ap (λ (ws : List ℕ). bits_in_words ws next len) is
+    ∙ ap (λ (k : ℕ). bits_in_words new k len) (same_place start 1 next n (length words) step many)
     ∙ bit_shifted words new start len bit long in_ s h (same_put words lent new place ((start + len) % (64 * length words)) bit same (same_place start len place n (length words) at many) put)
     ∙ ap (λ (b : List Bool). after_shift b bit) view
 
@@ -275,7 +275,7 @@ at_start start n h =
     let same : start + 0 ≡ start = omega arith in
     sym (mod-eq_of_lt {n = start} {m = 64 * n} h) ∙ ap (λ (k : ℕ). k % (64 * n)) (sym same)
 
-pub word_there : (words lent : List ℕ) (start len k from whole low n : ℕ) (bits : List Bool) → listed words start len ≡ bits → len ≤ 64 * length words → start < 64 * length words → k < length words → 64 * k ≤ len
+pub word_there : (words lent : List ℕ) (start len k from whole low n : ℕ) (bits : List Bool) → bits_in_words words start len ≡ bits → len ≤ 64 * length words → start < 64 * length words → k < length words → 64 * k ≤ len
     → from ≡ (start + 64 * k) % (64 * n) → n ≡ length words → lent ≡ words → low < 2 ^ 64
     → ((j : ℕ) → j < 64 → has_bit whole j ≡ packed_bit lent ((from + j) % (64 * length lent)))
     → ((j : ℕ) → j < 64 → has_bit low j ≡ if nat_lt j (len - 64 * k) then has_bit whole j else false)
@@ -285,7 +285,7 @@ word_there words lent start len k from whole low n bits view in_ s inside some a
     (λ j h. window j h ∙ ap (λ (ws : List ℕ). packed_bit ws ((from + j) % (64 * length ws))) same) lowest
     ∙ ap (λ (b : List Bool). word_of b k) view
 
-pub bits_there : (words lent : List ℕ) (start len i from whole low n : ℕ) (bits : List Bool) → listed words start len ≡ bits → len ≤ 64 * length words → start < 64 * length words → i ≤ len
+pub bits_there : (words lent : List ℕ) (start len i from whole low n : ℕ) (bits : List Bool) → bits_in_words words start len ≡ bits → len ≤ 64 * length words → start < 64 * length words → i ≤ len
     → from ≡ (start + i) % (64 * n) → n ≡ length words → lent ≡ words
     → ((j : ℕ) → j < 64 → has_bit whole j ≡ packed_bit lent ((from + j) % (64 * length lent)))
     → ((j : ℕ) → j < 64 → has_bit low j ≡ if nat_lt j (len - i) then has_bit whole j else false)

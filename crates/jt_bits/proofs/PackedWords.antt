@@ -9,7 +9,7 @@ use Rattle.std.proofs.lemmas.Nat.{pow_pos, one_shl, shr-shr, shr_split}
 use Rattle.std.proofs.lemmas.Nat.Bits.{bit_at-lt, bit_at_and, bit_at_or, bit_at_ones, bit_at_ones_above, bit_at_set_same, bit_at_set_other, bit_at_clear_same, bit_at_clear_other, bit_at_cat_low, bit_at_cat_high, bit_at_above, bit_at-zero, shr_and_one}
 use Rattle.std.proofs.lemmas.List.{get_or-set_same, get_or-set_other}
 use Rattle.std.proofs.lemmas.List.FromFn.{length-map-range_with_len, get_or-map-range_with_len, fill_by_all}
-use Rattle.jt_bits.specs.Packed.{has_bit, packed_bit, listed}
+use Rattle.jt_bits.specs.Packed.{has_bit, packed_bit, bits_in_words}
 
 -- ---- places of a ring
 
@@ -78,17 +78,17 @@ ring_add room from a j f h =
 abbrev bit_from : List ℕ → ℕ → ℕ → Bool
 bit_from words start i = packed_bit words ((start + i) % (64 * length words))
 
-pub listed-length : (words : List ℕ) (start len : ℕ) → length (listed words start len) ≡ len
-unfolding listed
+pub listed-length : (words : List ℕ) (start len : ℕ) → length (bits_in_words words start len) ≡ len
+unfolding bits_in_words
 listed-length words start len = length-map-range_with_len (bit_from words start) 0 len
 
-pub listed-get : (words : List ℕ) (start len i : ℕ) (d : Bool) → i < len → get_or (listed words start len) i d ≡ packed_bit words ((start + i) % (64 * length words))
-unfolding listed
+pub listed-get : (words : List ℕ) (start len i : ℕ) (d : Bool) → i < len → get_or (bits_in_words words start len) i d ≡ packed_bit words ((start + i) % (64 * length words))
+unfolding bits_in_words
 listed-get words start len i d h = get_or-map-range_with_len (bit_from words start) 0 len i i d h (omega arith)
 
 pub is_listed : (words : List ℕ) (start len : ℕ) (bits : List Bool) → length bits ≡ len
-    → ((i : ℕ) → i < len → get_or bits i false ≡ packed_bit words ((start + i) % (64 * length words))) → listed words start len ≡ bits
-unfolding listed
+    → ((i : ℕ) → i < len → get_or bits i false ≡ packed_bit words ((start + i) % (64 * length words))) → bits_in_words words start len ≡ bits
+unfolding bits_in_words
 is_listed words start len bits is each = sym (fill_by_all (bit_from words start) bits len false is each)
 
 -- ---- one bit

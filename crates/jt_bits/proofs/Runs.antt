@@ -9,7 +9,7 @@ use Rattle.std.proofs.lemmas.Bool.Decides.{nat_tests}
 use Rattle.std.proofs.lemmas.Nat.Bits.{bit_at-lt, bit_at_not, bit_at_ones}
 use Rattle.std.proofs.lemmas.List.{get_or-set_same, get_or-set_other, get_or-take, get_or-drop, get_or_append_left, length-take, length-append, length-drop}
 use Rattle.std.proofs.lemmas.List.FromFn.{fill_by_all}
-use Rattle.jt_bits.specs.Packed.{has_bit, packed_bit, listed, RunPut}
+use Rattle.jt_bits.specs.Packed.{has_bit, packed_bit, bits_in_words, RunPut}
 use Rattle.jt_bits.specs.Runs.{RunSet, copied}
 use Rattle.jt_bits.specs.Words.{bit_of}
 use Rattle.jt_bits.proofs.Lists.{bit_of-get_or}
@@ -193,16 +193,16 @@ module _ (old mid new : List ℕ) (place bits n mask : ℕ) (inside : place < 64
 -- ---- a run of a list
 
 pub run_set : (words new : List ℕ) (start len at place bits n : ℕ) → length new ≡ length words → len ≤ 64 * length words → start < 64 * length words
-    → at + n ≤ len → place ≡ (start + at) % (64 * length words) → RunPut words new place bits n → RunSet (listed words start len) (listed new start len) at bits n
+    → at + n ≤ len → place ≡ (start + at) % (64 * length words) → RunPut words new place bits n → RunSet (bits_in_words words start len) (bits_in_words new start len) at bits n
 run_set words new start len at place bits n same in_ s inside is put =
     let room = 64 * length words in
-    let get : (i : ℕ) → i < len → bit_of (listed new start len) i ≡ packed_bit new ((start + i) % room) =
-    λ i h. bit_of-get_or (listed new start len) i ∙ listed-get new start len i false h ∙ ap (λ (m : ℕ). packed_bit new ((start + i) % (64 * m))) same in
-    let got : (i : ℕ) → i < len → bit_of (listed words start len) i ≡ packed_bit words ((start + i) % room) =
-    λ i h. bit_of-get_or (listed words start len) i ∙ listed-get words start len i false h in
+    let get : (i : ℕ) → i < len → bit_of (bits_in_words new start len) i ≡ packed_bit new ((start + i) % room) =
+    λ i h. bit_of-get_or (bits_in_words new start len) i ∙ listed-get new start len i false h ∙ ap (λ (m : ℕ). packed_bit new ((start + i) % (64 * m))) same in
+    let got : (i : ℕ) → i < len → bit_of (bits_in_words words start len) i ≡ packed_bit words ((start + i) % room) =
+    λ i h. bit_of-get_or (bits_in_words words start len) i ∙ listed-get words start len i false h in
     let step : (j : ℕ) → j < n → (place + j) % room ≡ (start + (at + j)) % room =
     λ j h. ap (λ (p : ℕ). (p + j) % room) is ∙ ring_add room start at j s (omega arith) in
-    let keeps : (i : ℕ) → i < len → ((j : ℕ) → j < n → i ≢ at + j) → bit_of (listed new start len) i ≡ bit_of (listed words start len) i =
+    let keeps : (i : ℕ) → i < len → ((j : ℕ) → j < n → i ≢ at + j) → bit_of (bits_in_words new start len) i ≡ bit_of (bits_in_words words start len) i =
     λ i h apart.
     get i h
     ∙ put.others ((start + i) % room) (λ j small e. ring_distinct room start i (at + j) s (omega arith) (omega arith) (apart j small) (e ∙ step j small))
@@ -215,15 +215,15 @@ run_set words new start len at place bits n same in_ s inside is put =
     }
 
 -- what was put from the place of a bit on
-pub run_put_there : (words lent new after : List ℕ) (start len at place bits n : ℕ) (list : List Bool) → listed words start len ≡ list → len ≤ 64 * length words → start < 64 * length words → at + n ≤ len
-    → lent ≡ words → length new ≡ length words → after ≡ new → place ≡ (start + at) % (64 * length words) → RunPut lent new place bits n → RunSet list (listed after start len) at bits n
+pub run_put_there : (words lent new after : List ℕ) (start len at place bits n : ℕ) (list : List Bool) → bits_in_words words start len ≡ list → len ≤ 64 * length words → start < 64 * length words → at + n ≤ len
+    → lent ≡ words → length new ≡ length words → after ≡ new → place ≡ (start + at) % (64 * length words) → RunPut lent new place bits n → RunSet list (bits_in_words after start len) at bits n
 run_put_there words lent new after start len at place bits n list view in_ s inside same long is where_ put =
-    subst (λ (l : List Bool). RunSet l (listed after start len) at bits n) view
-    (subst (λ (ws : List ℕ). RunSet (listed words start len) (listed ws start len) at bits n) (sym is)
+    subst (λ (l : List Bool). RunSet l (bits_in_words after start len) at bits n) view
+    (subst (λ (ws : List ℕ). RunSet (bits_in_words words start len) (bits_in_words ws start len) at bits n) (sym is)
     (run_set words new start len at place bits n long in_ s inside where_ (subst (λ (ws : List ℕ). RunPut ws new place bits n) same put)))
 
 -- what was read from the place of a bit on
-pub run_there : (words lent : List ℕ) (start len at place r : ℕ) (list : List Bool) → listed words start len ≡ list → len ≤ 64 * length words → start < 64 * length words
+pub run_there : (words lent : List ℕ) (start len at place r : ℕ) (list : List Bool) → bits_in_words words start len ≡ list → len ≤ 64 * length words → start < 64 * length words
     → lent ≡ words → place ≡ (start + at) % (64 * length words) → ((j : ℕ) → j < 64 → has_bit r j ≡ packed_bit lent ((place + j) % (64 * length lent)))
     → (j : ℕ) → j < 64 → at + j < length list → has_bit r j ≡ bit_of list (at + j)
 run_there words lent start len at place r list view in_ s same where_ read j small inside =

@@ -12,8 +12,8 @@ unfoldable pub packed_bit : List ℕ → ℕ → Bool
 packed_bit words place = has_bit (slice_index words (place / 64)) (place % 64)
 
 -- so many bits from a start on, after the last place the first again
-unfoldable pub listed : List ℕ → ℕ → ℕ → List Bool
-listed words start len = map (λ i. packed_bit words ((start + i) % (64 * length words))) (range_with_len 0 len)
+unfoldable pub bits_in_words : List ℕ → ℕ → ℕ → List Bool
+bits_in_words words start len = map (λ i. packed_bit words ((start + i) % (64 * length words))) (range_with_len 0 len)
 
 -- as few words as hold so many bits
 abbrev pub FewWords : List ℕ → ℕ → Type 0

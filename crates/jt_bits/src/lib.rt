@@ -4,7 +4,7 @@
 ghost use Rattle.std.specs.Prelude.{◌≡◌, ◌+◌, ◌*◌, ◌%◌, ◌<◌, ◌≤◌, ℕ, true, false, length, replicate, slice_get};
 ghost use Rattle.std.specs.Prelude.{slice_set, IfOk};
 ghost use Rattle.jt_bits.specs.Lengths.{resized};
-ghost use Rattle.jt_bits.specs.Packed.{has_bit, packed_bit, listed, FewWords};
+ghost use Rattle.jt_bits.specs.Packed.{has_bit, packed_bit, bits_in_words, FewWords};
 ghost use Rattle.jt_bits.specs.Runs.{RunSet, copied};
 ghost use Rattle.jt_bits.specs.Shifting.{after_shift};
 ghost use Rattle.jt_bits.specs.Words.{bit_of, word_of, word_from, is_bad_at, is_bad_bit, IsFirst};
@@ -30,11 +30,11 @@ pub struct Bits {
 
 impl Model for Bits {
     ghost use Rattle.std.specs.Prelude.{◌+◌, ◌*◌, ◌^◌, ◌<◌, ◌≤◌, Bool, List, length};
-    ghost use Rattle.jt_bits.specs.Packed.{listed};
+    ghost use Rattle.jt_bits.specs.Packed.{bits_in_words};
 
     ghost Value = { List Bool };
 
-    ghost view = { λ b. listed b.words.items b.start b.len };
+    ghost view = { λ b. bits_in_words b.words.items b.start b.len };
 
     ghost invariant = { λ b. record {
       enough : b.len ≤ 64 * length b.words.items;
@@ -211,7 +211,7 @@ impl Bits {
 
     /// The words that the bits stand in, and where bit 0 stands in them.
     pub fn layout(&self) -> Layout<'_>
-        ensures bits { self.now ≡ listed result.words.now result.start (length self.now) }
+        ensures bits { self.now ≡ bits_in_words result.words.now result.start (length self.now) }
         ensures few { FewWords result.words.now (length self.now) }
         ensures start { 0 < length self.now → result.start < 64 * length result.words.now }
     {
@@ -223,7 +223,7 @@ impl Bits {
 
     /// The words of the layout.
     pub fn packed(&self) -> &[u64]
-        ensures bits { (start : ℕ) × (self.now ≡ listed result.now start (length self.now)) }
+        ensures bits { (start : ℕ) × (self.now ≡ bits_in_words result.now start (length self.now)) }
         ensures few { FewWords result.now (length self.now) }
     {
         self.layout().words

@@ -42,9 +42,9 @@ one_chip stage update c = record {
 }
 
 -- what its boundary register knows
-abbrev pub around : {B : Type 0} → (captured : B → Mode → List Bool) → (at_reset : B → List Bool) → ChipValue B
+abbrev pub surroundings_of : {B : Type 0} → (captured : B → Mode → List Bool) → (at_reset : B → List Bool) → ChipValue B
     → Surroundings
-around captured at_reset c = record { captures = captured c.boundary; at_reset = at_reset c.boundary }
+surroundings_of captured at_reset c = record { captures = captured c.boundary; at_reset = at_reset c.boundary }
 
 abbrev pub registers : {B : Type 0} → (stage update : B → List Bool) → ChipValue B → Registers
 registers stage update c = (one_chip stage update c).registers

@@ -7,7 +7,7 @@ ghost use Rattle.jt_bits.specs.Runs.{RunSet};
 ghost use Rattle.jt_bits.specs.Words.{bit_of};
 ghost use Rattle.jt_tap.specs.Controller.{work};
 ghost use Rattle.scan_registers.specs.declared.Mode.{Mode as TheMode};
-ghost use Rattle.scan_registers.specs.Chips.{ChipValue, one_chip, around, powered, registers, with_registers};
+ghost use Rattle.scan_registers.specs.Chips.{ChipValue, one_chip, surroundings_of, powered, registers, with_registers};
 ghost use Rattle.jt_bits.specs.Shifting.{after_shift};
 ghost use Rattle.scan_registers.specs.Edges.{OneChip, rise, fall, after_trst, after_rise, after_fall};
 ghost use Rattle.scan_registers.specs.Edges.{tdo_after};
@@ -118,7 +118,7 @@ impl<B: Register> Chip<B> {
     /// A rising edge of TCK: the state's capture or shift, and then the move to the next state.
     pub fn rise(&mut self, tms: bool, tdi: bool)
         ensures chip { one_chip B.stage B.update_part self.new
-            ≡ rise tms tdi (around B.captured B.at_reset self.old) (one_chip B.stage B.update_part self.old) }
+            ≡ rise tms tdi (surroundings_of B.captured B.at_reset self.old) (one_chip B.stage B.update_part self.old) }
         ensures boundary { self.new.boundary
             ≡ B.with_parts self.old.boundary (B.stage self.new.boundary) (B.update_part self.new.boundary) }
     {
@@ -136,7 +136,7 @@ impl<B: Register> Chip<B> {
     /// A falling edge of TCK: the state's update or reset, and then TDO.
     pub fn fall(&mut self)
         ensures chip { one_chip B.stage B.update_part self.new
-            ≡ fall (around B.captured B.at_reset self.old) (one_chip B.stage B.update_part self.old) }
+            ≡ fall (surroundings_of B.captured B.at_reset self.old) (one_chip B.stage B.update_part self.old) }
         ensures boundary { self.new.boundary
             ≡ B.with_parts self.old.boundary (B.stage self.new.boundary) (B.update_part self.new.boundary) }
     {
@@ -151,7 +151,8 @@ impl<B: Register> Chip<B> {
     /// TRST is asserted or released.
     pub fn trst(&mut self, trst: bool)
         ensures chip { one_chip B.stage B.update_part self.new
-            ≡ after_trst trst (around B.captured B.at_reset self.old) (one_chip B.stage B.update_part self.old) }
+            ≡ after_trst trst (surroundings_of B.captured B.at_reset self.old)
+            (one_chip B.stage B.update_part self.old) }
         ensures boundary { self.new.boundary
             ≡ B.with_parts self.old.boundary (B.stage self.new.boundary) (B.update_part self.new.boundary) }
     {
@@ -267,7 +268,7 @@ impl<B: Register> Chip<B> {
     /// The column's register captures, as on a rising edge in the column's Capture state.
     pub fn capture(&mut self, column: Column)
         ensures chip { one_chip B.stage B.update_part self.new
-            ≡ with_registers (after_capture self.old.device column (around B.captured B.at_reset self.old)
+            ≡ with_registers (after_capture self.old.device column (surroundings_of B.captured B.at_reset self.old)
             (registers B.stage B.update_part self.old)) (one_chip B.stage B.update_part self.old) }
         ensures boundary { self.new.boundary
             ≡ B.with_parts self.old.boundary (B.stage self.new.boundary) (B.update_part self.new.boundary) }
@@ -343,7 +344,7 @@ impl<B: Register> Chip<B> {
     /// The latch takes its reset instruction, and the boundary register is reset, as on a falling edge in RESET.
     pub fn reset(&mut self)
         ensures chip { one_chip B.stage B.update_part self.new
-            ≡ with_registers (after_reset self.old.device (around B.captured B.at_reset self.old)
+            ≡ with_registers (after_reset self.old.device (surroundings_of B.captured B.at_reset self.old)
             (registers B.stage B.update_part self.old)) (one_chip B.stage B.update_part self.old) }
         ensures boundary { self.new.boundary
             ≡ B.with_parts self.old.boundary (B.stage self.new.boundary) (B.update_part self.new.boundary) }

@@ -15,12 +15,12 @@ use Rattle.plays.specs.Streams.{may_send, some_differ}
 use Rattle.plays.proofs.Asks.{AllAsk, asks, turns-ask}
 use Rattle.every_schedule.proofs.Quits.{NoneQuit, asks-append, has_quit, quit-append, turns-no-quit}
 use Rattle.streaming.proofs.Agree.{ask-count, counts, quit-byte}
-use Rattle.stream_player.specs.PlaceInPlay.{PlaceInPlay, found, messages_in, state_at}
+use Rattle.stream_player.specs.PlaceInPlay.{PlaceInPlay, finding_of, messages_in, state_at}
 use Rattle.every_schedule.specs.InWork.{answers_in}
 
 -- whether it stops
 abbrev pub stops_at : PlaceInPlay → Bool
-stops_at s = some_differ (found s.failed).list
+stops_at s = some_differ (finding_of s.failed).list
 
 module _ (window : ℕ) where
   -- a turn of which every answer is there, and not the last one heard of a player that stops, is passed

@@ -18,7 +18,7 @@ use Rattle.stream_player.specs.declared.progress.Phase.TheVariants.{Opening, Wit
 use Rattle.stream_player.specs.declared.progress.Progress.{Progress}
 use Rattle.stream_player.specs.Progress.{IsOver, Stands, gone, is_out, mismatch, present, rest_of, standing_at, state_of}
 use Rattle.bitbang_table.specs.Protocol.{value}
-use Rattle.stream_player.specs.PlaceInPlay.{found}
+use Rattle.stream_player.specs.PlaceInPlay.{finding_of}
 use Rattle.stream_player.proofs.Ahead.{ahead}
 use Rattle.stream_player.proofs.Ends.{command-here, ends, quits, quits-behind, works-in, works-past-all, works-stopped}
 use Rattle.stream_player.proofs.TurnPlaces.{no-quit, quit-of, reached}
@@ -82,26 +82,26 @@ module _ (program : Program) (p : Progress) (out : Bool) (is : p.phase ≡ Over 
 
 -- how it ends where no answer was bad
 pub ended-good : (program : Program) (p : Progress) → Stands program.steps p → p.bad ≡ None → stream.ending_of_stream 256 (state_of program p)
-    ≡ (if is_out p.phase then Some (ending_of (found (option_map mismatch p.failed)).list) else None)
+    ≡ (if is_out p.phase then Some (ending_of (finding_of (option_map mismatch p.failed)).list) else None)
 ended-good program p stands good = by p.phase refl
   where
-    by : (phase : Phase) → p.phase ≡ phase → stream.ending_of_stream 256 (state_of program p) ≡ (if is_out phase then Some (ending_of (found (option_map mismatch p.failed)).list) else None)
+    by : (phase : Phase) → p.phase ≡ phase → stream.ending_of_stream 256 (state_of program p) ≡ (if is_out phase then Some (ending_of (finding_of (option_map mismatch p.failed)).list) else None)
     by (Opening n) is =
         let s = start program p n is stands in
         let i = opened program p n is stands in
         ap (stream.ending_of_stream 256) (opens program p n is stands)
         ∙ ends program s i.fair refl
-        ∙ ap (λ (b : Bool). if b then Some (ending_of (found s.failed).list) else None) (no-quit program s (first program p n is stands) (step_turns Reset program.steps) 0 i)
+        ∙ ap (λ (b : Bool). if b then Some (ending_of (finding_of s.failed).list) else None) (no-quit program s (first program p n is stands) (step_turns Reset program.steps) 0 i)
     by (Within spot) is =
         let s = standing_at program.steps p in
         let i = is-in program p spot is stands in
         ends program s i.fair good
-        ∙ ap (λ (b : Bool). if b then Some (ending_of (found s.failed).list) else None)
+        ∙ ap (λ (b : Bool). if b then Some (ending_of (finding_of s.failed).list) else None)
         (no-quit program s (turn program p spot is stands) (later program p spot is stands) p.owed i)
     by (Over out) is =
         let s = standing_at program.steps p in
         ends program s (fair-end program p out is stands) good
-        ∙ ap (λ (b : Bool). if b then Some (ending_of (found s.failed).list) else None) (quit-out program p out is stands)
+        ∙ ap (λ (b : Bool). if b then Some (ending_of (finding_of s.failed).list) else None) (quit-out program p out is stands)
 
 -- the step at work
 module _ (program : Program) (p : Progress) (spot : Spot) (is : p.phase ≡ Within spot) (stands : Stands program.steps p) (s : Numbered)

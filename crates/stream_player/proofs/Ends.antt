@@ -14,7 +14,7 @@ use Rattle.plays.specs.PlayingOn.{Mismatch, Stops, ending_of}
 use Rattle.plays.specs.Streams as stream
 use Rattle.plays.specs.Streams.{Wanted, command_at, hear, mismatch_of, with_more, all_wanted, command_at_work}
 use Rattle.every_schedule.proofs.Quits.{has_quit}
-use Rattle.stream_player.specs.PlaceInPlay.{PlaceInPlay, differing_bit, found, messages_in, state_at}
+use Rattle.stream_player.specs.PlaceInPlay.{PlaceInPlay, differing_bit, finding_of, messages_in, state_at}
 use Rattle.every_schedule.specs.InWork.{answers_in}
 use Rattle.stream_player.proofs.Ahead.{ahead, is-out, sends-last, stops_at}
 
@@ -49,7 +49,7 @@ abbrev pub first_of : Option Mismatch → Option Mismatch → Option Mismatch
 first_of None later = later
 first_of (Some m) later = Some m
 
-noted-first : (had more : Option Mismatch) → with_more Stops (listed more) (found had) ≡ found (first_of had more)
+noted-first : (had more : Option Mismatch) → with_more Stops (listed more) (finding_of had) ≡ finding_of (first_of had more)
 noted-first None None = refl
 noted-first None (Some m) = refl
 noted-first (Some m) None = refl
@@ -79,7 +79,7 @@ module _ (program : Program) (s : PlaceInPlay) (t : Turn) (later : List Turn) (h
       (λ k. if is_some (none k) then now else if good k then record now { bad = Some byte } else
       record now {
         answered = count k;
-        found = (ap (λ (m : List Mismatch). with_more Stops m (found s.failed)) judge
+        found = (ap (λ (m : List Mismatch). with_more Stops m (finding_of s.failed)) judge
             ∙ noted-first s.failed (differing_bit t.command w (byte == 49))) k;
       })
 
@@ -198,7 +198,7 @@ module _ (program : Program) (s : PlaceInPlay) (fair : stops_at s ≡ true → 0
 
   -- how it ends
   abbrev ending-by : Bool → Option Ending
-  ending-by out = if out then Some (ending_of (found s.failed).list) else None
+  ending-by out = if out then Some (ending_of (finding_of s.failed).list) else None
 
   pub ends : s.bad ≡ None → stream.ending_of_stream 256 (state_at program s) ≡ ending-by (has_quit (take s.gone (ahead program s fair)))
   ends none = (λ i. elim (none i) [

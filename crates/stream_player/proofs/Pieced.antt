@@ -18,7 +18,7 @@ use Rattle.stream_player.specs.declared.progress.Phase.{Phase}
 use Rattle.stream_player.specs.declared.progress.Phase.TheVariants.{Opening, Within, Over}
 use Rattle.stream_player.specs.declared.progress.Progress.{Progress}
 use Rattle.stream_player.specs.Progress.{Gives, InPhase, InStep, IsOver, IsReady, Stands, gone, mismatch, over, present, rest_of, standing_at, state_of}
-use Rattle.stream_player.specs.PlaceInPlay.{PlaceInPlay, found, messages_in, reads, state_at, up_to_reads}
+use Rattle.stream_player.specs.PlaceInPlay.{PlaceInPlay, finding_of, messages_in, reads, state_at, up_to_reads}
 use Rattle.stream_player.proofs.Ahead.{ahead, stops_at, waits}
 use Rattle.stream_player.proofs.Ends.{quits, quits-behind}
 use Rattle.stream_player.proofs.TurnPlaces.{IsIn, Waits, waits-so}
@@ -276,7 +276,7 @@ module _ (program : Program) (p : Progress) (out : Bool) (is : p.phase ≡ Over 
   pub stops-is : (b : Bool) → is_some p.failed ≡ b → stops_at (standing_at program.steps p) ≡ b
   stops-is b e = by p.failed b e
     where
-      by : (failed : Option declared.Mismatch) (b : Bool) → is_some failed ≡ b → some_differ (found (option_map mismatch failed)).list ≡ b
+      by : (failed : Option declared.Mismatch) (b : Bool) → is_some failed ≡ b → some_differ (finding_of (option_map mismatch failed)).list ≡ b
       by None b e = e
       by (Some m) b e = e
 

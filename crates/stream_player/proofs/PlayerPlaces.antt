@@ -18,7 +18,7 @@ use Rattle.stream_player.specs.declared.progress.Phase.{Phase}
 use Rattle.stream_player.specs.declared.progress.Phase.TheVariants.{Opening, Within, Over}
 use Rattle.stream_player.specs.declared.progress.Progress.{Progress}
 use Rattle.stream_player.specs.Progress.{InOpening, InPhase, InStep, Stands, gone, mismatch, over, present, rest_of, standing_at, state_of}
-use Rattle.stream_player.specs.PlaceInPlay.{found, reads, state_at}
+use Rattle.stream_player.specs.PlaceInPlay.{finding_of, reads, state_at}
 use Rattle.stream_player.proofs.Ahead.{map-take, stops_at}
 use Rattle.stream_player.proofs.TurnPlaces.{IsIn, over-now, reached}
 
@@ -35,7 +35,7 @@ pub reads-asks : (ms : List Message) → reads (map encode ms) ≡ asks ms
 reads-asks ms = reads-same (map encode ms) ∙ agree.ask-count ms
 
 -- it stops where something differed
-pub stops-some : (failed : Option Mismatch) (b : Bool) → some_differ (found failed).list ≡ b → is_some failed ≡ b
+pub stops-some : (failed : Option Mismatch) (b : Bool) → some_differ (finding_of failed).list ≡ b → is_some failed ≡ b
 stops-some None b e = e
 stops-some (Some m) b e = e
 

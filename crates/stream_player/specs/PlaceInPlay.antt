@@ -24,9 +24,9 @@ messages_in [] = []
 messages_in (t ∷ ts) = t.messages ++ messages_in ts
 
 -- of all that differed, one that stops keeps the first
-abbrev pub found : Option Mismatch → Found
-found None = record { list = []; total = 0 }
-found (Some m) = record { list = m ∷ []; total = 1 }
+abbrev pub finding_of : Option Mismatch → Found
+finding_of None = record { list = []; total = 0 }
+finding_of (Some m) = record { list = m ∷ []; total = 1 }
 
 -- the player that stands so
 abbrev pub state_at : Program → PlaceInPlay → StreamState
@@ -36,7 +36,7 @@ state_at program s =
       kind = Stops;
       given = length (messages_in before) + s.gone;
       answered = answers_in before + s.heard;
-      found = found s.failed;
+      found = finding_of s.failed;
       bad = s.bad;
     }
 

@@ -5,7 +5,7 @@ ghost use Rattle.svf_settings.specs.Sizes.{program_of};
 ghost use Rattle.plays.specs.PlayingOn.{ending_of};
 ghost use Rattle.plays.specs.Streams as stream;
 ghost use Rattle.stream_player.specs.Progress.{Stands, is_out, mismatch, state_of};
-ghost use Rattle.stream_player.specs.PlaceInPlay.{found};
+ghost use Rattle.stream_player.specs.PlaceInPlay.{finding_of};
 
 use crate::progress::{Mismatch, Phase, Progress, settled};
 use plays::Ending;
@@ -40,7 +40,7 @@ fn quit_is_out(p: Progress) -> bool
 
 /// The verdict of a play of which `Q` is out.
 fn verdict(failed: Option<Mismatch>) -> Ending
-    ensures { result ≡ ending_of (found (option_map mismatch failed)).list }
+    ensures { result ≡ ending_of (finding_of (option_map mismatch failed)).list }
 {
     match failed {
         Some(Mismatch { command, part, bit }) => Ending::Fail { command, part, bit },

@@ -13,22 +13,22 @@ use Rattle.plays.specs.Streams.{bytes_to_send, working}
 abbrev pub program : Program
 program = record { steps = two_scans; statements = 2 }
 
-abbrev pub after : Kind → (window : ℕ) → World StreamState
-after kind window = run (side window) 3 1 (one_each 90) (empty_pipes (new_stream kind program) sample)
+abbrev pub after_90_events : Kind → (window : ℕ) → World StreamState
+after_90_events kind window = run (side window) 3 1 (one_each 90) (empty_pipes (new_stream kind program) sample)
 
 -- all that may be sent before the first answer was given out
 abbrev pub asked : StreamState
 asked = record (new_stream Stops program) { given = length (bytes_to_send 256 (new_stream Stops program)) }
 
 pub record SamplesCompute : Type 0 where
-  pub quit : (after PlaysOn 256).quit ≡ true
-  pub both : (after PlaysOn 256).player.found.total ≡ 2
-  pub answered : (after PlaysOn 256).player.answered ≡ 2
-  pub first : ending_of_stream 256 (after PlaysOn 256).player ≡ Some (Fail 1 Data 0)
-  pub stopped : (after Stops 256).quit ≡ true
-  pub one : (after Stops 256).player.answered ≡ 1
-  pub verdict : ending_of_stream 256 (after Stops 256).player ≡ Some (Fail 1 Data 0)
-  pub narrow : (after Stops 1).player.answered ≡ 1
+  pub quit : (after_90_events PlaysOn 256).quit ≡ true
+  pub both : (after_90_events PlaysOn 256).player.found.total ≡ 2
+  pub answered : (after_90_events PlaysOn 256).player.answered ≡ 2
+  pub first : ending_of_stream 256 (after_90_events PlaysOn 256).player ≡ Some (Fail 1 Data 0)
+  pub stopped : (after_90_events Stops 256).quit ≡ true
+  pub one : (after_90_events Stops 256).player.answered ≡ 1
+  pub verdict : ending_of_stream 256 (after_90_events Stops 256).player ≡ Some (Fail 1 Data 0)
+  pub narrow : (after_90_events Stops 1).player.answered ≡ 1
   -- one answer is owed; a further one is not taken, and a byte that is no answer ends it
   pub owes : owed 256 asked ≡ 1
   pub takes : answers_taken 256 asked (49 ∷ 49 ∷ []) ≡ 49 ∷ []

@@ -12,7 +12,7 @@ use Rattle.svf_parse.specs.Words.{Word, Parts, last, group, with_word, with_toke
 use Rattle.svf_parse.specs.declared.fault.Stop.{Stop}
 use Rattle.svf_parse.specs.declared.fault.Stop.TheVariants as stop
 use Rattle.svf_parse.specs.declared.statement.Statement.{Statement}
-use Rattle.svf_parse.specs.View.{said, Stops}
+use Rattle.svf_parse.specs.View.{said_of, Stops}
 use Rattle.svf_parse.specs.Judging.{◌>>=◌, Said}
 use Rattle.svf_parse.specs.Reading.{statement_says, parts_say, text_says, at_statement, within_limit, lex_code}
 
@@ -129,28 +129,28 @@ abbrev pub group_count : Parts → ℕ
 group_count (last ws fault) = 0
 group_count (group ws parts) = suc (group_count parts)
 
-module _ (all : List Statement) (n : ℕ) (parts : Parts) (total : Result (List Said) SvfFault) (so_far : in_front (map said all) (parts_say n parts) ≡ total) where
-  pub told_over : (ws : List Word) → parts ≡ last ws None → total ≡ Ok (map said all)
-  told_over ws is = sym so_far ∙ ap (λ (p : Parts). in_front (map said all) (parts_say n p)) is ∙ at_last (map said all) n ws
+module _ (all : List Statement) (n : ℕ) (parts : Parts) (total : Result (List Said) SvfFault) (so_far : in_front (map said_of all) (parts_say n parts) ≡ total) where
+  pub told_over : (ws : List Word) → parts ≡ last ws None → total ≡ Ok (map said_of all)
+  told_over ws is = sym so_far ∙ ap (λ (p : Parts). in_front (map said_of all) (parts_say n p)) is ∙ at_last (map said_of all) n ws
 
   pub told_broken : (ws : List Word) (e : LexFault) → parts ≡ last ws (Some e) → total ≡ Err (record { statement = n; code = lex_code e })
-  told_broken ws e is = sym so_far ∙ ap (λ (p : Parts). in_front (map said all) (parts_say n p)) is ∙ at_broken (map said all) n ws e
+  told_broken ws e is = sym so_far ∙ ap (λ (p : Parts). in_front (map said_of all) (parts_say n p)) is ∙ at_broken (map said_of all) n ws e
 
-  pub told_empty : (after : Parts) → parts ≡ group [] after → in_front (map said all) (parts_say n after) ≡ total
-  told_empty after is = sym (ap (λ (p : Parts). in_front (map said all) (parts_say n p)) is ∙ ap (in_front (map said all)) (empty_group n [] after refl)) ∙ so_far
+  pub told_empty : (after : Parts) → parts ≡ group [] after → in_front (map said_of all) (parts_say n after) ≡ total
+  told_empty after is = sym (ap (λ (p : Parts). in_front (map said_of all) (parts_say n p)) is ∙ ap (in_front (map said_of all)) (empty_group n [] after refl)) ∙ so_far
 
-  pub told_said : (w : Word) (ws : List Word) (after : Parts) (x : Statement) → parts ≡ group (w ∷ ws) after → group_says n (first_words parts) ≡ Ok (said x)
-      → in_front (map said (all ++ x ∷ [])) (parts_say (n + 1) after) ≡ total
+  pub told_said : (w : Word) (ws : List Word) (after : Parts) (x : Statement) → parts ≡ group (w ∷ ws) after → group_says n (first_words parts) ≡ Ok (said_of x)
+      → in_front (map said_of (all ++ x ∷ [])) (parts_say (n + 1) after) ≡ total
   told_said w ws after x is says =
-      let says' : group_says n (w ∷ ws) ≡ Ok (said x) = ap (λ (p : Parts). group_says n (first_words p)) (sym is) ∙ says in
-      ap (λ (front : List Said). in_front front (parts_say (n + 1) after)) (map-append said all (x ∷ []))
-      ∙ sym (said_group (map said all) n (w ∷ ws) after (said x) (λ e. cc) says') ∙ ap (λ (p : Parts). in_front (map said all) (parts_say n p)) (sym is) ∙ so_far
+      let says' : group_says n (w ∷ ws) ≡ Ok (said_of x) = ap (λ (p : Parts). group_says n (first_words p)) (sym is) ∙ says in
+      ap (λ (front : List Said). in_front front (parts_say (n + 1) after)) (map-append said_of all (x ∷ []))
+      ∙ sym (said_group (map said_of all) n (w ∷ ws) after (said_of x) (λ e. cc) says') ∙ ap (λ (p : Parts). in_front (map said_of all) (parts_say n p)) (sym is) ∙ so_far
 
   pub told_refused : (w : Word) (ws : List Word) (after : Parts) (e : Stop) → parts ≡ group (w ∷ ws) after → Stops e (group_says n (first_words parts)) → Stops e total
   told_refused w ws after stop.Memory is stops = tt
   told_refused w ws after (stop.Fault f) is stops =
       let says' : group_says n (w ∷ ws) ≡ Err f = ap (λ (p : Parts). group_says n (first_words p)) (sym is) ∙ stops in
-      sym so_far ∙ ap (λ (p : Parts). in_front (map said all) (parts_say n p)) is ∙ refused_group (map said all) n (w ∷ ws) after f (λ e. cc) says'
+      sym so_far ∙ ap (λ (p : Parts). in_front (map said_of all) (parts_say n p)) is ∙ refused_group (map said_of all) n (w ∷ ws) after f (λ e. cc) says'
 
 -- ---- the limit of a text
 

@@ -15,7 +15,7 @@ use Rattle.svf_parse.specs.Judging.{◌>>=◌, Said}
 use Rattle.svf_parse.specs.Reading.{lex_code, statement_says, parts_say, text_says, at_statement, within_limit}
 use Rattle.svf_parse.specs.Spelling.{Spells, Refuses, EachSpells, closed_by, TextSpells, FirstRefusal, TextRefuses}
 use Rattle.svf_parse.specs.Spelling as spelling
-use Rattle.svf_parse.specs.View.{said, Parses, memory_fault}
+use Rattle.svf_parse.specs.View.{said_of, Parses, memory_fault}
 use Rattle.svf_parse.proofs.StatementLaws.{spelled, read_again, refused, refused_again}
 use Rattle.svf_parse.proofs.TextLaws.{text_found}
 use Rattle.svf_lex.proofs.Endings.{each_lexes, lexer_gives}
@@ -202,8 +202,8 @@ ok_or_refused ss f e = cc
 pub no_long : (text : List ℕ) (ss : List Said) → text_says text ≡ Ok ss → length text ≤ 16777216
 no_long text ss says = ⊎_elim (λ long. absurd (ok_or_refused ss (fault_at 0 code.TooLarge) (sym says ∙ long_text text long))) (λ short. short) (order 16777216 (length text))
 
-pub parse_found : (r : Result (Vec Statement) SvfFault) (text : List ℕ) → Parses r (text_says text) → IfOk r (λ v. TextSpells text (map said v.items))
-parse_found (Ok v) text h = text_found text (map said v.items) (no_long text (map said v.items) h) h
+pub parse_found : (r : Result (Vec Statement) SvfFault) (text : List ℕ) → Parses r (text_says text) → IfOk r (λ v. TextSpells text (map said_of v.items))
+parse_found (Ok v) text h = text_found text (map said_of v.items) (no_long text (map said_of v.items) h) h
 parse_found (Err f) text h = tt
 
 pub parse_refused : (r : Result (Vec Statement) SvfFault) (text : List ℕ) → Parses r (text_says text) → IfErr r (λ f. f ≢ memory_fault → TextRefuses text f)

@@ -19,7 +19,7 @@ use Rattle.std.specs.Global.{Vec}
 use Rattle.svf_parse.specs.declared.fault.Code.{Code}
 use Rattle.svf_parse.specs.declared.fault.SvfFault.{SvfFault}
 use Rattle.svf_parse.specs.declared.statement.Statement.{Statement}
-use Rattle.svf_parse.specs.View.{said}
+use Rattle.svf_parse.specs.View.{said_of}
 use Rattle.svf_parse.specs.declared.keywords.FieldName.{FieldName}
 use Rattle.svf_parse.specs.declared.keywords.FieldName.TheVariants.{Tdi, Tdo, Mask, Smask}
 use Rattle.svf_parse.specs.declared.statement.Which.{Which}
@@ -292,6 +292,6 @@ small_text text ss h =
     let fit = slices_fit text 0 (items_of text) (slices_in_order text) (omega arith) in
     omega (arith, statements, words, tokens_fit, slices, fit)
 
-pub small_answer : (r : Result (Vec Statement) SvfFault) (text : List ℕ) → IfOk r (λ v. TextSpells text (map said v.items)) → IfOk r (λ v. sum_by size (map said v.items) ≤ 4 * length text)
-small_answer (Ok v) text h = small_text text (map said v.items) h
+pub small_answer : (r : Result (Vec Statement) SvfFault) (text : List ℕ) → IfOk r (λ v. TextSpells text (map said_of v.items)) → IfOk r (λ v. sum_by size (map said_of v.items) ≤ 4 * length text)
+small_answer (Ok v) text h = small_text text (map said_of v.items) h
 small_answer (Err f) text h = tt

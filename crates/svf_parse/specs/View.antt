@@ -51,14 +51,14 @@ form (written.States v) = states_form v.items
 form (written.Trst t) = trst_form t
 form written.Port = port_form
 
-abbrev pub said : Statement → Said
-said (statement.EndDr s) = end_dr s
-said (statement.EndIr s) = end_ir s
-said (statement.Frequency p) = frequency p
-said (statement.Scan which len tdi tdo mask smask) = scan which len tdi tdo mask smask
-said (statement.RunTest run count min_ps max_ps end) = judging.run_test run count min_ps max_ps end
-said (statement.States v) = states v.items
-said (statement.Trst t) = trst t
+abbrev pub said_of : Statement → Said
+said_of (statement.EndDr s) = end_dr s
+said_of (statement.EndIr s) = end_ir s
+said_of (statement.Frequency p) = frequency p
+said_of (statement.Scan which len tdi tdo mask smask) = scan which len tdi tdo mask smask
+said_of (statement.RunTest run count min_ps max_ps end) = judging.run_test run count min_ps max_ps end
+said_of (statement.States v) = states v.items
+said_of (statement.Trst t) = trst t
 
 -- unless memory ran out, the refusal is that of the definition
 abbrev pub Fails : {Y : Type 0} → Refusal → Result Y Code → Type 0
@@ -86,7 +86,7 @@ memory_fault = record { statement = 0; code = NoMemory }
 
 -- what `parse` answered is what the text says, unless memory ran out
 abbrev pub Parses : Result (Vec Statement) SvfFault → Result (List Said) SvfFault → Type 0
-Parses (Ok v) says = says ≡ Ok (map said v.items)
+Parses (Ok v) says = says ≡ Ok (map said_of v.items)
 Parses (Err f) says = f ≢ memory_fault → says ≡ Err f
 
 -- what stands at a lexer: the text's end, a fault, or a group of words and the lexer behind it

@@ -5,7 +5,7 @@ ghost use Rattle.svf_parse.specs.Forms.{scan_form};
 ghost use Rattle.svf_parse.specs.Words.{Word};
 ghost use Rattle.svf_parse.specs.Numbers as numbers_spec;
 ghost use Rattle.svf_parse.specs.View as view;
-ghost use Rattle.svf_parse.specs.View.{Gives, said, fields, bytes_of};
+ghost use Rattle.svf_parse.specs.View.{Gives, said_of, fields, bytes_of};
 ghost use Rattle.svf_parse.specs.declared.keywords.Clock as declared_clock;
 ghost use Rattle.std.specs.List.{list_all};
 ghost use Rattle.std.specs.Char.{is_ascii_hexdigit};
@@ -22,7 +22,7 @@ use std::alloc::Global;
 
 /// The statement, or the refusal with the lowest number among its own.
 pub(crate) fn form_says(alloc: Global, form: Written<'_>) -> Result<Statement, Refusal>
-    ensures { Gives said result (spec.form_says (view.form form.entry)) }
+    ensures { Gives said_of result (spec.form_says (view.form form.entry)) }
 {
     match form {
         Written::EndDr(state) => Ok(Statement::EndDr(state)),
@@ -66,7 +66,7 @@ fn both<T: Drop, U: Drop>(first: Result<T, Code>, second: Result<U, Code>) -> Re
 // ---- scans
 
 fn scan(alloc: Global, which: Which, len: &[u8], all: Fields) -> Result<Statement, Refusal>
-    ensures { Gives said result (spec.form_says (scan_form which len.now (fields all))) }
+    ensures { Gives said_of result (spec.form_says (scan_form which len.now (fields all))) }
 {
     let len = match scan_length(len, &all) {
         Ok(len) => len,
@@ -154,7 +154,7 @@ fn bits(alloc: Global, len: usize, digits: &Option<Vec<u8>>) -> Result<Option<Bi
 
 #[tactic(auto, unfolding(crate::specs::Judging::run_says))]
 fn run_test(run: Run<'_>) -> Result<Statement, Refusal>
-    ensures { Gives said result (spec.run_says (view.run run.entry)) }
+    ensures { Gives said_of result (spec.run_says (view.run run.entry)) }
 {
     let times = both(given_time(run.min), given_time(run.max));
     match both(given_cycles(run.count), times) {

@@ -8,7 +8,7 @@ ghost use Rattle.svf_parse.specs.Reading as spec;
 ghost use Rattle.svf_parse.specs.Reading.{text_says, parts_say, at_statement, within_limit, statement_says};
 ghost use Rattle.svf_parse.specs.Spelling.{TextSpells, TextRefuses};
 ghost use Rattle.svf_parse.specs.Sizes.{size};
-ghost use Rattle.svf_parse.specs.View.{Gives, Tells, Parses, IsGroup, said, memory_fault};
+ghost use Rattle.svf_parse.specs.View.{Gives, Tells, Parses, IsGroup, said_of, memory_fault};
 
 use crate::fault::{Code, Refusal, Stop, SvfFault};
 use crate::forms::form_of;
@@ -42,11 +42,11 @@ enum Group<'a> {
 /// of one statement's fields.
 pub fn parse(alloc: Global, text: &[u8]) -> Result<Vec<Statement>, SvfFault>
     // What is read is spelled so.
-    ensures found { IfOk result (λ v. TextSpells text.now (map said v.items)) }
+    ensures found { IfOk result (λ v. TextSpells text.now (map said_of v.items)) }
     // What is spelled so is read, unless memory runs out.
     ensures only { (ss : List Said) → TextSpells text.now ss → Parses result (Ok ss) }
     // It is small: statements, bits of fields and states of paths together are at most four for each byte of the text.
-    ensures small { IfOk result (λ v. sum_by size (map said v.items) ≤ 4 * length text.now) }
+    ensures small { IfOk result (λ v. sum_by size (map said_of v.items) ≤ 4 * length text.now) }
     // What is refused has that refusal first.
     ensures refused { IfErr result (λ fault. fault ≢ memory_fault → TextRefuses text.now fault) }
     // What has a refusal first is refused so, unless memory runs out.
@@ -75,7 +75,7 @@ fn read(alloc: Global, text: &[u8]) -> Result<Vec<Statement>, SvfFault>
 }
 
 fn statements(alloc: Global, text: Lexer<'_>) -> Result<Vec<Statement>, Stop>
-    ensures { Tells (λ v. map said v.items) result (parts_say 1 (parts_of (left text.entry))) }
+    ensures { Tells (λ v. map said_of v.items) result (parts_say 1 (parts_of (left text.entry))) }
 {
     let mut all = Vec::new(alloc);
     let mut lexer = text;
@@ -105,7 +105,7 @@ fn statements(alloc: Global, text: Lexer<'_>) -> Result<Vec<Statement>, Stop>
 
 /// The statement with this number, or its refusal.
 fn numbered(alloc: Global, number: usize, words: Lexer<'_>) -> Result<Statement, Stop>
-    ensures says { Tells said result
+    ensures says { Tells said_of result
         (at_statement number (within_limit number (statement_says (words_left words.entry)))) }
     ensures within { IfOk result (λ _. number ≤ 200000) }
 {
@@ -126,7 +126,7 @@ fn numbered(alloc: Global, number: usize, words: Lexer<'_>) -> Result<Statement,
 /// What the words of a statement say.
 #[tactic(auto, unfolding(crate::specs::Reading::statement_says))]
 fn statement(alloc: Global, words: Lexer<'_>) -> Result<Statement, Refusal>
-    ensures { Gives said result (statement_says (words_left words.entry)) }
+    ensures { Gives said_of result (statement_says (words_left words.entry)) }
 {
     let Some((word, rest)) = next_word(words) else {
         return Err(Refusal::Code(Code::UnknownCommand));

@@ -1,7 +1,7 @@
 //! What is kept of a program beside its statements: steps that name the statements in which their fields are written.
 
 ghost use Rattle.std.specs.Prelude.{◌≡◌, List, Bool, Option, map, option_map, slice_get};
-ghost use Rattle.svf_parse.specs.View.{said};
+ghost use Rattle.svf_parse.specs.View.{said_of};
 ghost use Rattle.scan_vectors.specs.Held.{fields};
 ghost use Rattle.scan_vectors.specs.Fields.{no_fields};
 ghost use Rattle.svf_settings.specs.Held as spec;
@@ -53,7 +53,7 @@ pub(crate) struct KeptStep {
 
 /// The TDI that a statement gives.
 fn tdi_of(statement: &Statement) -> Option<&Bits>
-    ensures { option_map {U = List Bool} (λ b. b.now) result ≡ spec.tdi_of (said statement.now) }
+    ensures { option_map {U = List Bool} (λ b. b.now) result ≡ spec.tdi_of (said_of statement.now) }
 {
     match statement {
         Statement::Scan { tdi, .. } => tdi.as_ref(),
@@ -63,7 +63,7 @@ fn tdi_of(statement: &Statement) -> Option<&Bits>
 
 /// The TDO that a statement gives.
 fn tdo_of(statement: &Statement) -> Option<&Bits>
-    ensures { option_map {U = List Bool} (λ b. b.now) result ≡ spec.tdo_of (said statement.now) }
+    ensures { option_map {U = List Bool} (λ b. b.now) result ≡ spec.tdo_of (said_of statement.now) }
 {
     match statement {
         Statement::Scan { tdo, .. } => tdo.as_ref(),
@@ -73,7 +73,7 @@ fn tdo_of(statement: &Statement) -> Option<&Bits>
 
 /// The MASK that a statement gives.
 fn mask_of(statement: &Statement) -> Option<&Bits>
-    ensures { option_map {U = List Bool} (λ b. b.now) result ≡ spec.mask_of (said statement.now) }
+    ensures { option_map {U = List Bool} (λ b. b.now) result ≡ spec.mask_of (said_of statement.now) }
 {
     match statement {
         Statement::Scan { mask, .. } => mask.as_ref(),
@@ -83,7 +83,8 @@ fn mask_of(statement: &Statement) -> Option<&Bits>
 
 /// The TDI that is written there.
 pub(crate) fn tdi_at(statements: &[Statement], at: u32) -> Option<&Bits>
-    ensures { option_map {U = List Bool} (λ b. b.now) result ≡ spec.field_at spec.tdi_of (map said statements.now) at }
+    ensures { option_map {U = List Bool} (λ b. b.now) result
+        ≡ spec.field_at spec.tdi_of (map said_of statements.now) at }
 {
     match statements.get(at as usize) {
         None => None,
@@ -93,7 +94,8 @@ pub(crate) fn tdi_at(statements: &[Statement], at: u32) -> Option<&Bits>
 
 /// The TDO that is written there.
 fn tdo_at(statements: &[Statement], at: u32) -> Option<&Bits>
-    ensures { option_map {U = List Bool} (λ b. b.now) result ≡ spec.field_at spec.tdo_of (map said statements.now) at }
+    ensures { option_map {U = List Bool} (λ b. b.now) result
+        ≡ spec.field_at spec.tdo_of (map said_of statements.now) at }
 {
     match statements.get(at as usize) {
         None => None,
@@ -103,7 +105,8 @@ fn tdo_at(statements: &[Statement], at: u32) -> Option<&Bits>
 
 /// The MASK that is written there.
 fn mask_at(statements: &[Statement], at: u32) -> Option<&Bits>
-    ensures { option_map {U = List Bool} (λ b. b.now) result ≡ spec.field_at spec.mask_of (map said statements.now) at }
+    ensures { option_map {U = List Bool} (λ b. b.now) result
+        ≡ spec.field_at spec.mask_of (map said_of statements.now) at }
 {
     match statements.get(at as usize) {
         None => None,
@@ -113,7 +116,7 @@ fn mask_at(statements: &[Statement], at: u32) -> Option<&Bits>
 
 /// The length of the scan that stands there.
 pub(crate) fn len_at(statements: &[Statement], at: u32) -> usize
-    ensures { result ≡ spec.len_in (slice_get (map said statements.now) at) }
+    ensures { result ≡ spec.len_in (slice_get (map said_of statements.now) at) }
 {
     match statements.get(at as usize) {
         Some(Statement::Scan { len, .. }) => *len,
@@ -124,7 +127,7 @@ pub(crate) fn len_at(statements: &[Statement], at: u32) -> usize
 impl KeptPart {
     /// The fields of the part.
     pub(crate) fn part<'a>(&self, statements: &'a [Statement]) -> Part3<'a>
-        ensures { fields result ≡ spec.part_in (map said statements.now) self.now }
+        ensures { fields result ≡ spec.part_in (map said_of statements.now) self.now }
     {
         Part3 {
             len: len_at(statements, self.at),
@@ -137,7 +140,7 @@ impl KeptPart {
 
 /// The fields of a header or trailer, of no bits where there is none.
 pub(crate) fn part_or_none<'a>(part: Option<KeptPart>, statements: &'a [Statement]) -> Part3<'a>
-    ensures { fields result ≡ unwrap_or (spec.parts_in (map said statements.now) part) no_fields }
+    ensures { fields result ≡ unwrap_or (spec.parts_in (map said_of statements.now) part) no_fields }
 {
     match part {
         Some(part) => part.part(statements),
@@ -152,7 +155,7 @@ pub(crate) fn part_or_none<'a>(part: Option<KeptPart>, statements: &'a [Statemen
 
 /// The states of a path, by its statement.
 pub(crate) fn path_at(statements: &[Statement], at: u32) -> &[State]
-    ensures { result.now ≡ spec.path_of (slice_get (map said statements.now) at) }
+    ensures { result.now ≡ spec.path_of (slice_get (map said_of statements.now) at) }
 {
     match statements.get(at as usize) {
         Some(Statement::States(states)) => states.as_slice(),

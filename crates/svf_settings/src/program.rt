@@ -1,7 +1,7 @@
 //! A program that was accepted.
 
 ghost use Rattle.std.specs.Prelude.{◌≡◌, ◌<◌, ◌+◌, ◌^◌, length, map, slice_get, Some};
-ghost use Rattle.svf_parse.specs.View.{said};
+ghost use Rattle.svf_parse.specs.View.{said_of};
 ghost use Rattle.svf_settings.specs.Held as held;
 ghost use Rattle.svf_settings.specs.Seen as seen;
 ghost use Rattle.svf_settings.specs.Laws.{IsWithin};
@@ -26,22 +26,22 @@ impl Model for Program {
 
     ghost Value = { Holding };
 
-    ghost use Rattle.svf_parse.specs.View.{said};
+    ghost use Rattle.svf_parse.specs.View.{said_of};
     ghost use Rattle.svf_settings.specs.Held.{numbered_in};
     ghost use Rattle.svf_settings.specs.Laws.{IsSound};
 
     ghost view = { λ p. record {
       statements = length p.statements.items;
-      steps = map (numbered_in (map said p.statements.items)) p.steps.items;
-      held = sum_by content (map said p.statements.items);
+      steps = map (numbered_in (map said_of p.statements.items)) p.steps.items;
+      held = sum_by content (map said_of p.statements.items);
     } };
 
-    ghost invariant = { λ p. IsSound (map (numbered_in (map said p.statements.items)) p.steps.items) };
+    ghost invariant = { λ p. IsSound (map (numbered_in (map said_of p.statements.items)) p.steps.items) };
 }
 
 impl Program {
     ghost use Rattle.std.specs.Prelude.{◌≡◌, ◌<◌, length, map, slice_get, Some};
-    ghost use Rattle.svf_parse.specs.View.{said};
+    ghost use Rattle.svf_parse.specs.View.{said_of};
     ghost use Rattle.svf_settings.specs.Held.{numbered_in};
     ghost use Rattle.svf_settings.specs.Laws.{IsSound};
     ghost use Rattle.svf_settings.specs.Seen.{numbered};
@@ -51,11 +51,11 @@ impl Program {
 
     /// The program of these statements and steps.
     pub(crate) fn of(statements: Vec<Statement>, steps: Vec<KeptStep>) -> Program
-        requires { IsSound (map (numbered_in (map said statements.items)) steps.items) }
+        requires { IsSound (map (numbered_in (map said_of statements.items)) steps.items) }
         ensures { result ≡ record {
           statements = length statements.items;
-          steps = map (numbered_in (map said statements.items)) steps.items;
-          held = sum_by content (map said statements.items);
+          steps = map (numbered_in (map said_of statements.items)) steps.items;
+          held = sum_by content (map said_of statements.items);
         } }
     {
         Program { statements, steps }
@@ -125,8 +125,8 @@ impl<'a> Iterator for Steps<'a> {
 
 /// The step that is kept so.
 fn read<'a>(statements: &'a [Statement], step: &KeptStep) -> Step<'a>
-    requires { IsWithin (held.step_in (map said statements.now) step.now.what) }
-    ensures { seen.numbered result ≡ held.numbered_in (map said statements.now) step.now }
+    requires { IsWithin (held.step_in (map said_of statements.now) step.now.what) }
+    ensures { seen.numbered result ≡ held.numbered_in (map said_of statements.now) step.now }
 {
     Step {
         number: step.number as usize,
@@ -136,8 +136,8 @@ fn read<'a>(statements: &'a [Statement], step: &KeptStep) -> Step<'a>
 
 /// What a step does that is kept so.
 fn action<'a>(statements: &'a [Statement], what: &Kept) -> Action<'a>
-    requires { IsWithin (held.step_in (map said statements.now) what.now) }
-    ensures { seen.step result ≡ held.step_in (map said statements.now) what.now }
+    requires { IsWithin (held.step_in (map said_of statements.now) what.now) }
+    ensures { seen.step result ≡ held.step_in (map said_of statements.now) what.now }
 {
     match what {
         Kept::Scan {

@@ -2,7 +2,7 @@
 
 ghost use Rattle.std.specs.Prelude.{◌≡◌, ◌++◌, ◌+◌, ◌<◌, ◌≤◌, ◌^◌, List, [], Some, None, Option, IfOk, IfSome, map};
 ghost use Rattle.std.specs.Prelude.{length, slice_get};
-ghost use Rattle.svf_parse.specs.View.{memory_fault, said};
+ghost use Rattle.svf_parse.specs.View.{memory_fault, said_of};
 ghost use Rattle.svf_parse.specs.Judging.{Said};
 ghost use Rattle.svf_settings.specs.Reading.{IsBehind, Keeps, Takes, kept_as};
 
@@ -38,9 +38,9 @@ impl Reader {
         index: u32,
         statement: &Statement,
     ) -> Result<(Reader, Option<Kept>), Code>
-        requires { slice_get (map said statements.now) index ≡ Some (said statement.now) }
-        ensures { (past : List Said) → IsBehind (map said statements.now) past self.now → length past ≡ index
-            → Takes (map said statements.now) past (said statement.now) result }
+        requires { slice_get (map said_of statements.now) index ≡ Some (said_of statement.now) }
+        ensures { (past : List Said) → IsBehind (map said_of statements.now) past self.now → length past ≡ index
+            → Takes (map said_of statements.now) past (said_of statement.now) result }
     {
         if let Some(code) = self.running.refusal(self.place, statements, statement) {
             return Err(code);
@@ -67,7 +67,7 @@ impl Reader {
 
 /// The steps of statements, or their first refusal.
 pub(crate) fn kept_steps(alloc: Global, statements: &[Statement]) -> Result<Vec<KeptStep>, SvfFault>
-    ensures { Keeps (map said statements.now) result }
+    ensures { Keeps (map said_of statements.now) result }
 {
     let mut steps = Vec::new(alloc);
     let mut reader = Reader::first();

@@ -4,7 +4,7 @@ ghost use Rattle.std.specs.Prelude.{◌≡◌, ◌+◌, ◌*◌, ◌==◌, ◌&&
 ghost use Rattle.std.specs.Prelude.{option_map, if◌then◌else◌, unwrap_or, is_some};
 ghost use Rattle.std.specs.Int.{div_ceil};
 ghost use Rattle.std.specs.List.{list_all};
-ghost use Rattle.svf_parse.specs.View.{said};
+ghost use Rattle.svf_parse.specs.View.{said_of};
 ghost use Rattle.svf_parse.specs.Judging.{Said};
 ghost use Rattle.svf_parse.specs.Judging as says;
 ghost use Rattle.tap_paths.specs.Paths as paths;
@@ -34,7 +34,8 @@ impl Running {
         statements: &[Statement],
         statement: &Statement,
     ) -> Option<Code>
-        ensures { result ≡ spec.refusal_at (settings_in (map said statements.now) self.now) place (said statement.now) }
+        ensures { result
+            ≡ spec.refusal_at (settings_in (map said_of statements.now) self.now) place (said_of statement.now) }
     {
         match statement {
             Statement::EndDr(state) => end_refusal(*state),
@@ -74,7 +75,7 @@ impl Running {
     ) -> Option<Code>
         ensures { (place : State) (tdo mask smask : Option (List Bool))
             → result
-            ≡ spec.refusal_at (settings_in (map said statements.now) self.now) place
+            ≡ spec.refusal_at (settings_in (map said_of statements.now) self.now) place
             (says.scan which len tdi.now tdo mask smask) }
     {
         if self.misses_tdi(statements, which, len, tdi) {
@@ -97,7 +98,7 @@ impl Running {
     ) -> bool
         ensures { (tdo mask smask : Option (List Bool))
             → result
-            ≡ spec.misses_tdi (settings_in (map said statements.now) self.now)
+            ≡ spec.misses_tdi (settings_in (map said_of statements.now) self.now)
             (says.scan which len tdi.now tdo mask smask) }
     {
         len != 0 && tdi.is_none() && self.tdi_before(statements, which, len).is_none()
@@ -112,7 +113,7 @@ impl Running {
     ) -> Option<&'a Bits>
         ensures { option_map {U = List Bool} (λ b. b.now) result
             ≡ look.field_or (λ f. f.tdi) len None
-            (look.last_of_command which (settings_in (map said statements.now) self.now)) }
+            (look.last_of_command which (settings_in (map said_of statements.now) self.now)) }
     {
         match self.last(which) {
             Some(part) if len_at(statements, part.at) == len => tdi_at(statements, part.tdi),
@@ -128,7 +129,7 @@ impl Running {
         len: usize,
         trailer: Option<KeptPart>,
     ) -> Option<Code>
-        ensures { let all = map said statements.now in
+        ensures { let all = map said_of statements.now in
             let whole = spec.len_of (parts_in all header) + len + spec.len_of (parts_in all trailer) in
             result ≡ (if spec.is_held self.now.trst then Some Code.TrstHeld else if len == 0 then Some Code.EmptyScan
             else if nat_lt spec.vector_limit whole then Some Code.TooLarge else None) }
@@ -238,7 +239,7 @@ fn end_refusal(state: State) -> Option<Code>
 
 /// How many bits a header or trailer has.
 fn len_of(statements: &[Statement], part: Option<KeptPart>) -> usize
-    ensures { result ≡ spec.len_of (parts_in (map said statements.now) part) }
+    ensures { result ≡ spec.len_of (parts_in (map said_of statements.now) part) }
 {
     match part {
         Some(part) => len_at(statements, part.at),

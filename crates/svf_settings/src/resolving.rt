@@ -4,7 +4,7 @@ ghost use Rattle.std.specs.Prelude.{◌≡◌, ◌≢◌, ◌+◌, ◌≤◌, If
 ghost use Rattle.std.specs.List.{sum_by};
 ghost use Rattle.svf_parse.specs.Sizes.{size};
 ghost use Rattle.svf_settings.specs.Sizes.{content, program_of};
-ghost use Rattle.svf_parse.specs.View.{memory_fault, said};
+ghost use Rattle.svf_parse.specs.View.{memory_fault, said_of};
 ghost use Rattle.svf_settings.specs.Steps as steps;
 ghost use Rattle.svf_settings.specs.Laws.{IsSound};
 ghost use Rattle.svf_settings.specs.Programs.{Refuses, Resolves, resolution};
@@ -22,25 +22,25 @@ use svf_parse::{Statement, SvfFault};
 /// The program keeps the statements, so beside them memory is taken for the steps alone.
 pub fn resolve(alloc: Global, statements: Vec<Statement>) -> Result<Program, SvfFault>
     // What is accepted is this program, by looking back from each statement.
-    ensures found { IfOk result (λ p. Resolves (map said statements.items) (program_of p)) }
+    ensures found { IfOk result (λ p. Resolves (map said_of statements.items) (program_of p)) }
     // What is this program is accepted, unless memory runs out.
-    ensures only { (p : steps.Program) → Resolves (map said statements.items) p → Answers result (Ok p) }
+    ensures only { (p : steps.Program) → Resolves (map said_of statements.items) p → Answers result (Ok p) }
     // What is refused has that refusal first.
-    ensures refused { IfErr result (λ fault. fault ≢ memory_fault → Refuses (map said statements.items) fault) }
+    ensures refused { IfErr result (λ fault. fault ≢ memory_fault → Refuses (map said_of statements.items) fault) }
     // What has a refusal first is refused so, unless memory runs out.
-    ensures first { (fault : SvfFault) → Refuses (map said statements.items) fault → Answers result (Err fault) }
+    ensures first { (fault : SvfFault) → Refuses (map said_of statements.items) fault → Answers result (Err fault) }
     // An accepted program is legal and within the limits.
     ensures sound { IfOk result (λ p. IsSound p.steps) }
     // It is small: steps, bits of fields and states of paths together are no more than the size of the statements,
     // whatever lengths they name.
-    ensures small { IfOk result (λ p. length p.steps + p.held ≤ sum_by size (map said statements.items)) }
+    ensures small { IfOk result (λ p. length p.steps + p.held ≤ sum_by size (map said_of statements.items)) }
 {
     read(alloc, statements)
 }
 
 fn read(alloc: Global, statements: Vec<Statement>) -> Result<Program, SvfFault>
-    ensures answers { Answers result (resolution (map said statements.items)) }
-    ensures held { IfOk result (λ p. p.held ≡ sum_by content (map said statements.items)) }
+    ensures answers { Answers result (resolution (map said_of statements.items)) }
+    ensures held { IfOk result (λ p. p.held ≡ sum_by content (map said_of statements.items)) }
 {
     match kept_steps(alloc, statements.as_slice()) {
         Ok(steps) => Ok(Program::of(statements, steps)),

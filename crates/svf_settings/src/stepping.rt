@@ -2,7 +2,7 @@
 
 ghost use Rattle.std.specs.Prelude.{◌≡◌, ℕ, Bool, List, Option, Some, None, if◌then◌else◌, is_some, map};
 ghost use Rattle.std.specs.Prelude.{option_and_then, option_map, slice_get, unwrap_or};
-ghost use Rattle.svf_parse.specs.View.{said};
+ghost use Rattle.svf_parse.specs.View.{said_of};
 ghost use Rattle.svf_parse.specs.Judging.{Said};
 ghost use Rattle.svf_parse.specs.Judging as says;
 ghost use Rattle.svf_settings.specs.Steps as steps;
@@ -25,9 +25,9 @@ impl Running {
         index: u32,
         statement: &Statement,
     ) -> Option<Kept>
-        requires { slice_get (map said statements.now) index ≡ Some (said statement.now) }
-        ensures { let all = map said statements.now in
-            option_map (step_in all) result ≡ look.step (settings_in all self.now) (said statement.now) }
+        requires { slice_get (map said_of statements.now) index ≡ Some (said_of statement.now) }
+        ensures { let all = map said_of statements.now in
+            option_map (step_in all) result ≡ look.step (settings_in all self.now) (said_of statement.now) }
     {
         match statement {
             Statement::Scan {
@@ -98,7 +98,7 @@ impl Running {
         tdi: &Option<Bits>,
         mask: &Option<Bits>,
     ) -> KeptPart
-        ensures { let all = map said statements.now in (tdo smask : Option (List Bool))
+        ensures { let all = map said_of statements.now in (tdo smask : Option (List Bool))
             → slice_get all index ≡ Some (says.scan which len tdi.now tdo mask.now smask)
             → part_in all result
             ≡ look.in_force len tdi.now tdo mask.now (look.last_of_command which (settings_in all self.now)) }
@@ -118,9 +118,9 @@ impl Running {
         index: u32,
         statement: &Statement,
     ) -> Running
-        requires { slice_get (map said statements.now) index ≡ Some (said statement.now) }
-        ensures { let all = map said statements.now in
-            settings_in all result ≡ running.next (settings_in all self.now) (said statement.now) }
+        requires { slice_get (map said_of statements.now) index ≡ Some (said_of statement.now) }
+        ensures { let all = map said_of statements.now in
+            settings_in all result ≡ running.next (settings_in all self.now) (said_of statement.now) }
     {
         match statement {
             Statement::EndDr(state) => Running {
@@ -205,7 +205,7 @@ fn written_or(index: u32, field: &Option<Bits>, earlier: Option<u32>) -> u32
 
 /// Where the TDI stands that a scan of this length takes over.
 fn tdi_before(statements: &[Statement], previous: Option<KeptPart>, len: usize) -> Option<u32>
-    ensures { let all = map said statements.now in
+    ensures { let all = map said_of statements.now in
         option_and_then (field_at tdi_of all) result ≡ look.field_or (λ f. f.tdi) len None (parts_in all previous) }
 {
     match previous {
@@ -216,7 +216,7 @@ fn tdi_before(statements: &[Statement], previous: Option<KeptPart>, len: usize) 
 
 /// Where the MASK stands that a scan of this length takes over.
 fn mask_before(statements: &[Statement], previous: Option<KeptPart>, len: usize) -> Option<u32>
-    ensures { let all = map said statements.now in
+    ensures { let all = map said_of statements.now in
         option_and_then (field_at mask_of all) result ≡ look.field_or (λ f. f.mask) len None (parts_in all previous) }
 {
     match previous {
@@ -239,7 +239,7 @@ fn path_step(index: u32, path: &[State]) -> Option<Kept>
 
 /// Where the program rests behind a step.
 pub(crate) fn place_after(place: State, statements: &[Statement], step: Kept) -> State
-    ensures { result ≡ steps.place_after place (step_in (map said statements.now) step) }
+    ensures { result ≡ steps.place_after place (step_in (map said_of statements.now) step) }
 {
     match step {
         Kept::Scan { end, .. } => end,

@@ -3,7 +3,7 @@ use Rattle.std.proofs.lemmas.List.{take_all, take_more, map-append}
 use Rattle.bsdl_cells.specs.View.{cell_row}
 use Rattle.bsdl_cells.specs.declared.CellRow.{CellRow}
 use Rattle.bsdl_fit.specs.Fits.{row_fits}
-use Rattle.bsdl_fit.specs.Table.{kept, with_row}
+use Rattle.bsdl_fit.specs.Table.{only_row_fits, with_row}
 use Rattle.bsdl_fit.proofs.TableLaws.{kept_more}
 use Rattle.bsdl_fit.proofs.unfit.table_of.Goals as goal
 
@@ -17,8 +17,8 @@ loop-row-preserved c = λ d holds n few.
     ap (map cell_row) (take_more rows i c.row-item.result c.loop-row-test.true) ∙ map-append cell_row (take i rows) (get_or rows i c.row-item.result ∷ [])
     ∙ ap (λ (s : CellRow). before ++ cell_row s ∷ []) (sym c.row-item.is) in
     c.in_ok-add_row.ensures d holds n few ∙ ap (λ o. cond (nat_eq r.number n) (with_row o (row_fits d r)) o) (c.loop-row.invariant d holds n few)
-    ∙ sym (kept_more (row_fits d) before r n) ∙ ap (λ rs. kept (row_fits d) rs n) (sym taken)
+    ∙ sym (kept_more (row_fits d) before r n) ∙ ap (λ rs. only_row_fits (row_fits d) rs n) (sym taken)
 
 pub returns : goal.returns
 returns c = λ d holds n few.
-    c.loop-row.invariant d holds n few ∙ ap (λ rows. kept (row_fits d) (map cell_row rows) n) (take_all c.loop-row.row-index c.args.rows.now c.loop-row-test.false)
+    c.loop-row.invariant d holds n few ∙ ap (λ rows. only_row_fits (row_fits d) (map cell_row rows) n) (take_all c.loop-row.row-index c.args.rows.now c.loop-row-test.false)

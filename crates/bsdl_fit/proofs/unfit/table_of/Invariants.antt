@@ -5,8 +5,8 @@ use Rattle.bsdl_cells.specs.View.{cell_row}
 use Rattle.bsdl_described.specs.Describing.{Description}
 use Rattle.bsdl_fit.specs.Fits.{row_fits}
 use Rattle.bsdl_fit.specs.Holds.{Holds}
-use Rattle.bsdl_fit.specs.Table.{kept}
+use Rattle.bsdl_fit.specs.Table.{only_row_fits}
 use Rattle.bsdl_fit.proofs.unfit.table_of.Given as goal
 
 abbrev pub invariant-loop-row : goal.invariant-loop-row
-invariant-loop-row l = (d : Description) → Holds l.known d → (n : ℕ) → n ≤ 65535 → get nat_cmp l.table.cells n ≡ kept (row_fits d) (map cell_row (take l.row-index l.rows)) n
+invariant-loop-row l = (d : Description) → Holds l.known d → (n : ℕ) → n ≤ 65535 → get nat_cmp l.table.cells n ≡ only_row_fits (row_fits d) (map cell_row (take l.row-index l.rows)) n

@@ -6,7 +6,7 @@ use Rattle.std.specs.Ordering.{nat_cmp}
 use Rattle.bsdl_cells.specs.View.{cell_row}
 use Rattle.bsdl_described.specs.View.{description}
 use Rattle.bsdl_fit.specs.Fits as fits
-use Rattle.bsdl_fit.specs.Table.{is_fit, kept}
+use Rattle.bsdl_fit.specs.Table.{is_fit, only_row_fits}
 use Rattle.bsdl_fit.proofs.TableLaws.{end_by, find_same, fit_by}
 use Rattle.bsdl_fit.proofs.unfit.unfit_cell.Goals as goal
 
@@ -17,8 +17,8 @@ returns c =
     let table = c.in_ok-table.table in
     let end = min 65536 (fits.cells_end d) in
     let test = λ (n : ℕ). not (is_fit (nat_lt n length) (get nat_cmp table.cells n)) in
-    let listed : (n : ℕ) → n ≤ 65535 → get nat_cmp table.cells n ≡ kept (fits.row_fits d) d.cells n = λ n few.
-    c.in_ok-table.ensures d c.in_ok-known.ensures n few ∙ ap (λ rows. kept (fits.row_fits d) (map cell_row rows) n) c.deref.ensures.value in
+    let listed : (n : ℕ) → n ≤ 65535 → get nat_cmp table.cells n ≡ only_row_fits (fits.row_fits d) d.cells n = λ n few.
+    c.in_ok-table.ensures d c.in_ok-known.ensures n few ∙ ap (λ rows. only_row_fits (fits.row_fits d) (map cell_row rows) n) c.deref.ensures.value in
     let ends : c.cells_end-end.result ≡ end =
     c.cells_end-end.ensures ∙ ap (λ rows. min (fold (λ n r. max n (suc r.number)) length (map cell_row rows)) 65536) c.deref-2.ensures.value ∙ end_by d length c.up_to-length.ensures in
     c.first_unfit.ensures ∙ ap (λ (e : ℕ). find test (range_with_len 0 e)) ends

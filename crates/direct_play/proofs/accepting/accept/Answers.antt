@@ -1,13 +1,13 @@
 use Rattle.std.proofs.Common.{◌≡◌, List, map, Err, inl, subst, ⊎_elim}
 use Rattle.svf_parse.specs.Judging.{Said}
-use Rattle.svf_parse.specs.View.{said}
+use Rattle.svf_parse.specs.View.{said_of}
 use Rattle.svf_settings.specs.Programs.{Refuses, Resolves}
 use Rattle.direct_play.proofs.accepting.accept.Goals as goal
 
 pub returns-in-Ok-clause-only : goal.returns-in-Ok-clause-only
 returns-in-Ok-clause-only c = λ p (ss, spells, is).
     let read = c.in-Ok.ensures.only ss spells in
-    let same : ss ≡ map said c.in-Ok.statements.items = cc in
+    let same : ss ≡ map said_of c.in-Ok.statements.items = cc in
     c.resolve.ensures.only p (subst (λ (l : List Said). Resolves l p) same is)
 
 pub returns-in-Ok-clause-first : goal.returns-in-Ok-clause-first
@@ -15,7 +15,7 @@ returns-in-Ok-clause-first c = λ fault why.
     ⊎_elim (λ form. let read = c.in-Ok.ensures.first fault form in absurd (cc))
     (λ (ss, spells, is).
     let read = c.in-Ok.ensures.only ss spells in
-    let same : ss ≡ map said c.in-Ok.statements.items = cc in
+    let same : ss ≡ map said_of c.in-Ok.statements.items = cc in
     c.resolve.ensures.first fault (subst (λ (l : List Said). Refuses l fault) same is)) why
 
 pub returns-in-Err-clause-only : goal.returns-in-Err-clause-only

@@ -1,14 +1,14 @@
 use Rattle.std.proofs.Common.{◌+◌, ℕ, map, refl, sym, ap, ◌∙◌}
 use Rattle.std.specs.Prelude.{Some}
 use Rattle.svf_parse.specs.declared.fault.SvfFault.{SvfFault}
-use Rattle.svf_parse.specs.View.{said}
+use Rattle.svf_parse.specs.View.{said_of}
 use Rattle.svf_settings.proofs.OneStatementMore.{after_more, before_more, length_before, said_at}
 use Rattle.svf_settings.proofs.FirstRefusals.{before, refused_at}
 use Rattle.svf_settings.proofs.reading.kept_steps.Goals as goal
 
 pub loop-index-init : goal.loop-index-init
 loop-index-init c = record {
-  behind = c.first-reader.ensures (map said c.args.statements.now);
+  behind = c.first-reader.ensures (map said_of c.args.statements.now);
   fine = refl;
   kept_are = rw c.new-steps.ensures.items refl;
 }
@@ -20,9 +20,9 @@ take-requires c =
 
 pub returns-in-Err : goal.returns-in-Err
 returns-in-Err c = λ _.
-    let all = map said c.args.statements.now in
+    let all = map said_of c.args.statements.now in
     let k = c.loop-index.index in
-    let s = said c.index-statements-index.result in
+    let s = said_of c.index-statements-index.result in
     let at = said_at c.args.statements.now k c.index-statements-index.result c.loop-index-test.true c.index-statements-index.is in
     let l = length_before all k s at in
     let here = (rw c.in-Some.is at c.place_of.ensures.found).0 in
@@ -32,9 +32,9 @@ returns-in-Err c = λ _.
 
 pub loop-index-preserved : goal.loop-index-preserved
 loop-index-preserved c =
-    let all = map said c.args.statements.now in
+    let all = map said_of c.args.statements.now in
     let k = c.loop-index.index in
-    let s = said c.index-statements-index.result in
+    let s = said_of c.index-statements-index.result in
     let at = said_at c.args.statements.now k c.index-statements-index.result c.loop-index-test.true c.index-statements-index.is in
     let l = length_before all k s at in
     let here = (rw c.in-Some.is at c.place_of.ensures.found).0 in

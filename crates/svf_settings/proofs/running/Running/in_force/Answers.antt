@@ -1,6 +1,6 @@
 use Rattle.std.proofs.Common.{◌∙◌, ap, map}
 use Rattle.std.specs.Prelude.{None}
-use Rattle.svf_parse.specs.View.{said}
+use Rattle.svf_parse.specs.View.{said_of}
 use Rattle.scan_vectors.specs.Fields.{Fields}
 use Rattle.svf_settings.specs.LookBack as look
 use Rattle.svf_settings.specs.Held.{settings_in}
@@ -9,7 +9,7 @@ use Rattle.svf_settings.proofs.running.Running.in_force.Goals as goal
 
 pub returns : goal.returns
 returns c = λ tdo smask at.
-    let all = map said c.args.statements.now in
+    let all = map said_of c.args.statements.now in
     let previous = look.last_of_command c.args.which (settings_in all c.args.self.now) in
     kept_in_force all c.args.which c.args.len c.args.tdi.now tdo c.args.mask.now smask c.args.index previous
     c.written_or.result c.written_or-2.result c.tdi_before.result c.mask_before.result at
