@@ -1,10 +1,11 @@
 -- The board or its first fault, from what each part of the judgement says.
 use Rattle.std.proofs.Common.{◌≡◌, ℕ, List, [], map, codes, string_bytes, Option, Some, None, option_map, Result, Ok, Err, IfOk, refl, ap, sym, ◌∙◌, subst}
+use Rattle.std.specs.Option.{option_or}
 use Rattle.std.specs.List.{filter_map}
 use Rattle.toml.specs.Data.{Members}
 use Rattle.bsdl_device.specs.Device.{Device}
 use Rattle.board_tables.specs.Fields.{name_at, tables_at}
-use Rattle.board_tables.specs.Faults.{or_else, unfit}
+use Rattle.board_tables.specs.Faults.{unfit}
 use Rattle.board_file.specs.declared.fault.BoardFault.{BoardFault}
 use Rattle.board_file.specs.declared.fault.BoardFault.TheVariants as fault
 use Rattle.board_file.specs.declared.plan.Plan.{Plan}
@@ -27,8 +28,8 @@ module _ {F : Type 0} (refuses : List ℕ → F → Type 0) where
   told : (f : BoardFault F) (o : Option Fault) (e : Fault) (w : Wiring) → o ≡ Some e → TellsFault refuses f (Some e) → TellsBoard refuses (Err f) (made o w)
   told f o e w is h = subst (λ o. TellsBoard refuses (Err f) (made o w)) (sym is) h
 
-  key_told : (f : BoardFault F) (o : Option (List ℕ)) (rest : Option Fault) (w : Wiring) → JudgesKeys (Err f) o → TellsBoard refuses (Err f) (made (or_else (option_map BadField o) rest) w)
-  key_told (fault.BadField k) o rest w h = told (fault.BadField k) _ (BadField (string_bytes k)) w (ap (λ o. or_else (option_map BadField o) rest) h) refl
+  key_told : (f : BoardFault F) (o : Option (List ℕ)) (rest : Option Fault) (w : Wiring) → JudgesKeys (Err f) o → TellsBoard refuses (Err f) (made (option_or (option_map BadField o) rest) w)
+  key_told (fault.BadField k) o rest w h = told (fault.BadField k) _ (BadField (string_bytes k)) w (ap (λ o. option_or (option_map BadField o) rest) h) refl
   key_told fault.NoMemory o rest w h = any_memory _
   key_told fault.BadToml o rest w h = absurd h
   key_told (fault.UnknownFile s) o rest w h = absurd h
@@ -80,31 +81,31 @@ module _ {F : Type 0} (refuses : List ℕ → F → Type 0) where
     -- ---- where no key is at fault
 
     module _ (keys : unfit (map (cells_in names ds) devices) t ≡ None) where
-      rest_is : (o : Option Fault) → or_else (option_map BadField (unfit (map (cells_at says files) devices) t)) o ≡ o
-      rest_is o = ap (λ k. or_else (option_map BadField k) o) (sym keys_are ∙ keys)
+      rest_is : (o : Option Fault) → option_or (option_map BadField (unfit (map (cells_at says files) devices) t)) o ≡ o
+      rest_is o = ap (λ k. option_or (option_map BadField k) o) (sym keys_are ∙ keys)
 
       pub missing_fault : (f : BoardFault F) (name : List ℕ) → missing_in files names ≡ Some name → IsUnknownFile name f → TellsBoard refuses (Err f) (makes says files t)
       missing_fault f name is h =
           let refused = option_map Bsdl (refused_in says files (file_names t)) in
-          file_told f _ name board (rest_is _ ∙ ap (λ m. or_else (or_else (option_map UnknownFile m) refused) wires) (ap (missing_in files) (sym names_is) ∙ is)) h
+          file_told f _ name board (rest_is _ ∙ ap (λ m. option_or (option_or (option_map UnknownFile m) refused) wires) (ap (missing_in files) (sym names_is) ∙ is)) h
 
       module _ (missing : missing_in files names ≡ None) where
-        files_are : (o : Option Fault) → or_else (or_else (option_map UnknownFile (missing_in files (file_names t))) (option_map Bsdl (refused_in says files (file_names t)))) o ≡ or_else (option_map Bsdl (refused_in says files names)) o
+        files_are : (o : Option Fault) → option_or (option_or (option_map UnknownFile (missing_in files (file_names t))) (option_map Bsdl (refused_in says files (file_names t)))) o ≡ option_or (option_map Bsdl (refused_in says files names)) o
         files_are o =
-            ap (λ ns. or_else (or_else (option_map UnknownFile (missing_in files ns)) (option_map Bsdl (refused_in says files ns))) o) (sym names_is)
-            ∙ ap (λ m. or_else (or_else (option_map UnknownFile m) (option_map Bsdl (refused_in says files names))) o) missing
+            ap (λ ns. option_or (option_or (option_map UnknownFile (missing_in files ns)) (option_map Bsdl (refused_in says files ns))) o) (sym names_is)
+            ∙ ap (λ m. option_or (option_or (option_map UnknownFile m) (option_map Bsdl (refused_in says files names))) o) missing
 
         pub refused_fault : (f : F) (text : List ℕ) → refused_in says files names ≡ Some text → refuses text f → TellsBoard refuses (Err (fault.Bsdl f)) (makes says files t)
         refused_fault f text is why =
-            told (fault.Bsdl f) _ (Bsdl text) board (rest_is _ ∙ files_are wires ∙ ap (λ r. or_else (option_map Bsdl r) wires) is) (text, refl, why)
+            told (fault.Bsdl f) _ (Bsdl text) board (rest_is _ ∙ files_are wires ∙ ap (λ r. option_or (option_map Bsdl r) wires) is) (text, refl, why)
 
         module _ (good : refused_in says files names ≡ None) where
           left_is : (o : Option Fault) → wire_fault (map name_at devices) (filter_map (stands_at names ds) devices) nets ≡ o
-              → or_else (option_map BadField (unfit (map (cells_at says files) devices) t))
-              (or_else (or_else (option_map UnknownFile (missing_in files (file_names t))) (option_map Bsdl (refused_in says files (file_names t))))
+              → option_or (option_map BadField (unfit (map (cells_at says files) devices) t))
+              (option_or (option_or (option_map UnknownFile (missing_in files (file_names t))) (option_map Bsdl (refused_in says files (file_names t))))
               wires) ≡ o
           left_is o is =
-              rest_is _ ∙ files_are wires ∙ ap (λ r. or_else (option_map Bsdl r) wires) good
+              rest_is _ ∙ files_are wires ∙ ap (λ r. option_or (option_map Bsdl r) wires) good
               ∙ ap (λ found. wire_fault (map name_at devices) found nets) (sym devices_are) ∙ is
 
           same_board : board ≡ record { members = filter_map (member_in names ds) devices; nets = map (net_of (map name_at devices) (filter_map (stands_at names ds) devices)) nets }

@@ -1,5 +1,6 @@
 -- What holds of every board that a board file makes.
 use Rattle.std.proofs.Common.{◌≡◌, ◌<◌, ◌≤◌, ℕ, zero, suc, nat_lt, ◌==◌, Bool, true, false, not, ◌&&◌, ◌||◌, cond, List, [], ◌∷◌, ◌++◌, append_assoc, map, reverse, length, slice_get, codes, Option, Some, None, is_some, is_none, option_map, option_and_then, unwrap_or, Result, Ok, Err, IfOk, refl, ap, sym, ◌∙◌, subst, arith}
+use Rattle.std.specs.Option.{option_or}
 use Rattle.std.specs.List.{list_any, list_all, filter_map, AllByRecursion, position}
 use Rattle.std.specs.Str.{bytes_eq}
 use Rattle.std.proofs.lemmas.Bool.{false≢true, and_parts, eqb-true, ltb-false}
@@ -10,7 +11,7 @@ use Rattle.toml.specs.Data.{Data, string, integer, float, boolean, datetime, arr
 use Rattle.bsdl_device.specs.Device.{Device, PortBit}
 use Rattle.board_tables.specs.Fields.{passes, is_table, items_all, has_item, tables_in, text_at, name_at, tables_at, texts_at}
 use Rattle.board_tables.specs.Keys.{device_keys, top_keys, unfit_key, is_core, is_bit}
-use Rattle.board_tables.specs.Faults.{or_else, unfit_device}
+use Rattle.board_tables.specs.Faults.{unfit_device}
 use Rattle.board_tables.specs.PinTexts.{PinText, pin_of}
 use Rattle.board_tables.proofs.KeyLaws.{fitting, head_in}
 use Rattle.pin_nets.specs.declared.Pin.{Pin}
@@ -23,7 +24,7 @@ use Rattle.board_file.specs.View.{TellsBoard, wiring}
 use Rattle.board_file.specs.Fits.{AreApart, AreSaid, FitsTogether, HasCore, IsPinOf, IsSaid, all_pins}
 use Rattle.board_file.proofs.DescribedLaws.{Has, Named, named_from}
 
-neither : {A : Type 0} (a b : Option A) → or_else a b ≡ None → (a ≡ None) × (b ≡ None)
+neither : {A : Type 0} (a b : Option A) → option_or a b ≡ None → (a ≡ None) × (b ≡ None)
 neither None b h = (refl, h)
 neither (Some x) b h = absurd cc
 

@@ -1,11 +1,11 @@
 -- What one more reading adds.
 use Rattle.std.proofs.Common.{◌≡◌, ℕ, List, [], ◌∷◌, Option, Some, None, option_map, refl, ap, sym, ◌∙◌, ◌++◌, ◌+◌, ◌<◌, map, length, drop, append_assoc}
+use Rattle.std.specs.Option.{option_or}
 use Rattle.std.proofs.lemmas.List.{drop_more}
 use Rattle.std.proofs.Math.ListN.{get_or}
 use Rattle.board_tables.specs.View.{texts_of}
 use denote.Ref.{Bor}
 use Rattle.bsdl_device.specs.Device.{Device}
-use Rattle.board_tables.specs.Faults.{or_else}
 use Rattle.board_file.specs.declared.library.Reading.{Reading}
 use Rattle.board_file.specs.declared.library.Reading.TheVariants as reading
 use Rattle.board_file.specs.Files.{File, described, missing_in, refused_in}
@@ -18,7 +18,7 @@ module _ {F : Type 0} (says : List ℕ → Option Device) (refuses : List ℕ �
   described_there name (reading.Described d) (text, at, said) = rw at (sym said)
 
   pub missing_there : (m : Option (Bor (List ℕ))) (name : Bor (List ℕ)) (r : Reading F) (rest : List (List ℕ)) → IsReading says refuses files name.now r
-      → or_else (option_map (λ n. n.now) (missing_with m name r)) (missing_in files rest) ≡ or_else (option_map (λ n. n.now) m) (missing_in files (name.now ∷ rest))
+      → option_or (option_map (λ n. n.now) (missing_with m name r)) (missing_in files rest) ≡ option_or (option_map (λ n. n.now) m) (missing_in files (name.now ∷ rest))
   missing_there (Some m) name r rest h = refl
   missing_there None name reading.Missing rest h = rw (h, missing_in) refl
   missing_there None name (reading.Refused f) rest (text, at, none) = rw (at, missing_in) refl

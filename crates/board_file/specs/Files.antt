@@ -1,6 +1,7 @@
 -- Which descriptions a board file names, and what they say. A description stands in a file; `says` is the device that a
 -- text describes, None where the text is refused.
 use Rattle.std.specs.Prelude.{◌≡◌, ℕ, List, [], ◌∷◌, length, map, fold, filter_map, codes, bytes_eq, is_none}
+use Rattle.std.specs.Option.{option_or}
 use Rattle.std.specs.Prelude.{option_map, option_and_then, Option, Some, None, unwrap_or, Result, Ok, Err, IsUtf8}
 use Rattle.std.specs.Prelude.{if◌then◌else◌}
 use Rattle.std.specs.List.{find}
@@ -8,7 +9,7 @@ use Rattle.toml.specs.Data.{Members}
 use Rattle.toml.specs.Parse.{parse_document}
 use Rattle.bsdl_device.specs.Device.{Device}
 use Rattle.board_tables.specs.Fields.{with_name, text_at, tables_at}
-use Rattle.board_tables.specs.Faults.{or_else, unfit}
+use Rattle.board_tables.specs.Faults.{unfit}
 
 -- ---- the board file's own text
 
@@ -77,4 +78,4 @@ refused says text = if is_none (says text) then Some text else None
 abbrev pub refused_in : (List ℕ → Option Device) → List File → List (List ℕ) → Option (List ℕ)
 refused_in says files [] = None
 refused_in says files (name ∷ names) =
-    or_else (option_and_then (refused says) (text_of files name)) (refused_in says files names)
+    option_or (option_and_then (refused says) (text_of files name)) (refused_in says files names)

@@ -1,5 +1,6 @@
 -- Which port bits the pins of the nets are. A pin is a port bit of a device; the TAP's ports are none.
 use Rattle.std.specs.Prelude.{ℕ, Bool, ◌&&◌, ◌==◌, nat_lt, List, [], ◌∷◌, ◌++◌, filter_map, codes, bytes_eq, option_map}
+use Rattle.std.specs.Option.{option_or}
 use Rattle.std.specs.Prelude.{option_and_then, Option, Some, None, position, slice_get, if◌then◌else◌}
 use Rattle.std.specs.List.{list_any}
 use Rattle.std.specs.Str.Parse.{digits_value}
@@ -8,7 +9,6 @@ use Rattle.bsdl_device.specs.Device.{PortBit, Device}
 use Rattle.bsdl_device.specs.Ports.{bit_number}
 use Rattle.board_tables.specs.PinTexts.{PinText, pin_of}
 use Rattle.board_tables.specs.Fields.{texts_at}
-use Rattle.board_tables.specs.Faults.{or_else}
 use Rattle.pin_nets.specs.declared.Pin.{Pin}
 
 -- The index that digits write. No description has one above 65,535.
@@ -49,7 +49,7 @@ unknown_pin names ds (text ∷ texts) =
 abbrev pub unknown_in_nets : List (List ℕ) → List Device → List Members → Option (List ℕ)
 unknown_in_nets names ds [] = None
 unknown_in_nets names ds (t ∷ ts) =
-    or_else (unknown_pin names ds (texts_at (codes "pins") t)) (unknown_in_nets names ds ts)
+    option_or (unknown_pin names ds (texts_at (codes "pins") t)) (unknown_in_nets names ds ts)
 
 -- ---- pins a second time
 
@@ -72,5 +72,5 @@ pins_at names ds t = filter_map (pin_at names ds) (texts_at (codes "pins") t)
 abbrev pub twice_in_nets : List (List ℕ) → List Device → List Pin → List Members → Option (List ℕ)
 twice_in_nets names ds before [] = None
 twice_in_nets names ds before (t ∷ ts) =
-    or_else (twice names ds before (texts_at (codes "pins") t))
+    option_or (twice names ds before (texts_at (codes "pins") t))
     (twice_in_nets names ds (before ++ pins_at names ds t) ts)

@@ -1,12 +1,13 @@
 -- What a board file says, given the files that it names: the board's devices and nets, or why it is refused.
 use Rattle.std.specs.Prelude.{ℕ, Bool, false, ◌||◌, ◌==◌, nat_lt, List, [], map, length, filter_map, replicate, reverse}
+use Rattle.std.specs.Option.{option_or}
 use Rattle.std.specs.Prelude.{codes, bytes_eq, option_map, Option, Some, None, Result, Ok, Err, if◌then◌else◌}
 use Rattle.toml.specs.Data.{Members}
 use Rattle.bsdl_device.specs.Device.{Device}
 use Rattle.pin_nets.specs.declared.Pull.{Pull}
 use Rattle.pin_nets.specs.declared.Pull.TheVariants.{Up, Down, Free}
 use Rattle.board_tables.specs.Fields.{text_at, name_at, tables_at}
-use Rattle.board_tables.specs.Faults.{or_else, unfit}
+use Rattle.board_tables.specs.Faults.{unfit}
 use Rattle.pin_nets.specs.Wired.{Net}
 use Rattle.board_file.specs.Files.{File, file_names, device_at, cells_at, devices_of, missing_in, refused_in}
 use Rattle.board_file.specs.Pins.{pins_at, unknown_in_nets, twice_in_nets}
@@ -81,20 +82,20 @@ large devices nets = if nat_lt 32 devices || nat_lt 4096 nets then Some TooLarge
 -- of the pins, given the names of the devices and what is described of each
 abbrev pub wire_fault : List (List ℕ) → List Device → List Members → Option Fault
 wire_fault names ds nets =
-    or_else (option_map UnknownPin (unknown_in_nets names ds nets))
-    (or_else (option_map PinTwice (twice_in_nets names ds [] nets)) (large (length names) (length nets)))
+    option_or (option_map UnknownPin (unknown_in_nets names ds nets))
+    (option_or (option_map PinTwice (twice_in_nets names ds [] nets)) (large (length names) (length nets)))
 
 -- of the descriptions that are named
 abbrev pub file_fault : (List ℕ → Option Device) → List File → List (List ℕ) → Option Fault
 file_fault says files names =
-    or_else (option_map UnknownFile (missing_in files names)) (option_map Bsdl (refused_in says files names))
+    option_or (option_map UnknownFile (missing_in files names)) (option_map Bsdl (refused_in says files names))
 
 -- Of the whole: the first in the order of the cases, and in each the first device, net and pin.
 abbrev pub fault_of : (List ℕ → Option Device) → List File → Members → Option Fault
 fault_of says files t =
     let devices = tables_at (codes "device") t in
-    or_else (option_map BadField (unfit (map (cells_at says files) devices) t))
-    (or_else (file_fault says files (file_names t))
+    option_or (option_map BadField (unfit (map (cells_at says files) devices) t))
+    (option_or (file_fault says files (file_names t))
     (wire_fault (map name_at devices) (devices_of says files devices) (tables_at (codes "net") t)))
 
 -- the board, or why the table and the files make none

@@ -4,7 +4,8 @@ use Rattle.bsdl_device.specs.declared.Cell.{Cell}
 use Rattle.scan_registers.specs.declared.Mode.TheVariants.{Extest, Clamp, HighZ, Core}
 use Rattle.pin_nets.specs.declared.Drive.{Drive}
 use Rattle.pin_nets.specs.declared.Drive.TheVariants.{Nothing}
-use Rattle.boundary.specs.Cells.{DrivenByCell, cell_drive, drive_from, drive_of_driver, driver_from, drives, is_port}
+use Rattle.bsdl_device.specs.Driving.{drives}
+use Rattle.boundary.specs.Cells.{DrivenByCell, cell_drive, drive_from, drive_of_driver, driver_from, is_port}
 
 -- the driving cell among those from cell k on stands at its number less k
 from : (bits : List Bool) (all : List Cell) (p k : ℕ) (cs : List Cell) → ((j : ℕ) → slice_get all (k + j) ≡ slice_get cs j)

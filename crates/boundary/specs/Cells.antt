@@ -3,6 +3,7 @@
 use Rattle.std.specs.Prelude.{◌≡◌, ◌<◌, Bool, true, false, ◌&&◌, ℕ, suc, ◌==◌, List, [], ◌∷◌, length, replicate}
 use Rattle.std.specs.Prelude.{slice_get, slice_index_or, Option, Some, None, if◌then◌else◌}
 use Rattle.jt_bits.specs.Words.{bit_of}
+use Rattle.bsdl_device.specs.Driving.{drives}
 use Rattle.bsdl_device.specs.declared.Cell.{Cell}
 use Rattle.bsdl_device.specs.declared.Control3.{Control3}
 use Rattle.bsdl_device.specs.declared.Disabled.{Disabled}
@@ -83,13 +84,6 @@ left_by Weak0 = Weak false
 left_by Pull0 = Weak false
 left_by Weak1 = Weak true
 left_by Pull1 = Weak true
-
--- whether a cell of this function drives its port
-abbrev pub drives : Function → Bool
-drives Output2 = true
-drives Output3 = true
-drives Bidir = true
-drives _ = false
 
 abbrev pub same_bit : Bool → Bool → Bool
 same_bit true b = b

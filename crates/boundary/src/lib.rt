@@ -338,7 +338,7 @@ fn enter_driver(table: &mut [Option<usize>], k: usize, cell: Cell)
     ensures { EntersDriver table.old table.new k cell }
 {
     if let Some(port) = cell.port {
-        if drives(cell.function) && port < table.len() {
+        if cell.function.drives() && port < table.len() {
             table[port] = Some(k);
         }
     }
@@ -349,20 +349,11 @@ fn drive_of(list: &[Cell], bits: &Bits, port: usize) -> Drive
     ensures { result ≡ cells.drive_from bits.now port 0 list.now }
 {
     for k in 0..list.len() {
-        if drives(list[k].function) && list[k].port == Some(port) {
+        if list[k].function.drives() && list[k].port == Some(port) {
             return cell_drive(bits, k, list[k].control);
         }
     }
     Drive::Nothing
-}
-
-fn drives(function: Function) -> bool
-    ensures { result ≡ cells.drives function }
-{
-    matches!(
-        function,
-        Function::Output2 | Function::Output3 | Function::Bidir
-    )
 }
 
 fn cell_drive(bits: &Bits, k: usize, control: Option<Control3>) -> Drive

@@ -1,5 +1,6 @@
 -- Every device that a text says keeps the limits.
 use Rattle.std.proofs.Common.{◌≡◌, ◌<◌, ◌≤◌, ℕ, zero, suc, ◌+◌, ◌-◌, true, false, List, [], ◌∷◌, length, map, refl, sym, ◌∙◌, arith}
+use Rattle.std.specs.Option.{option_or}
 use Rattle.std.specs.Prelude.{Option, Some, None, Result, Ok, Err, option_map, unwrap_or, nat_le, slice_get}
 use Rattle.std.specs.List.{AllByRecursion, flat_map, list_all, range_with_len, sum_by}
 use Rattle.std.proofs.lemmas.Bool.Decides.{nat_tests}
@@ -19,7 +20,7 @@ use Rattle.bsdl_twice.specs.ResetOpcode.{bits, opcode}
 use Rattle.bsdl_twice.specs.Twice.{given_again}
 use Rattle.bsdl_built.specs.Built.{cell, device, port_bits}
 use Rattle.bsdl.specs.Form.{text_form}
-use Rattle.bsdl.specs.Judging.{fault, file_says, device_or_refusal, or_else, text_says, twice_in, unless}
+use Rattle.bsdl.specs.Judging.{fault, file_says, device_or_refusal, text_says, twice_in, unless}
 use Rattle.bsdl.specs.Limited.{HasLengthIfGiven, HasPatternsOf, IsLimitedDevice}
 use Rattle.bsdl.proofs.OnceLaws.{both, each_cell_once, holds, neither}
 
@@ -88,7 +89,7 @@ limits : (d : Description) → fault d ≡ None → is_within_limits d ≡ true
 limits d e =
     let names = neither (twice_in d (given_again d)) _ e in
     let lengths = neither (unless (lengths_fit d) bad_length) _ names.second in
-    let ends = neither (or_else (unless (captures_one d.capture) bad_capture) (unless (ends_in_one d.idcodes) bad_id)) _ lengths.second in
+    let ends = neither (option_or (unless (captures_one d.capture) bad_capture) (unless (ends_in_one d.idcodes) bad_id)) _ lengths.second in
     let cells = neither (option_map bad_cell (unfit_cell d)) (unless (is_within_limits d) too_large) ends.second in
     holds (is_within_limits d) too_large cells.second
 

@@ -1,5 +1,6 @@
 -- A description that no rule refuses lists each cell once.
 use Rattle.std.proofs.Common.{◌≡◌, ◌<◌, ◌≤◌, ℕ, zero, suc, ◌+◌, Bool, true, false, nat_eq, nat_lt, min, max, ◌&&◌, List, [], ◌∷◌, length, refl, sym, ap, ◌∙◌, arith}
+use Rattle.std.specs.Option.{option_or}
 use Rattle.std.specs.Prelude.{Option, Some, None, not, option_map, nat_le}
 use Rattle.std.specs.List.{find, fold, range_with_len, list_all}
 use Rattle.std.proofs.lemmas.Bool.Decides.{nat_tests}
@@ -9,13 +10,13 @@ use Rattle.bsdl_fit.specs.Fits.{cells_end, is_fit, rows_numbered, row_fits, unfi
 use Rattle.bsdl_lengths.specs.Lengths.{captures_one, ends_in_one, lengths_fit}
 use Rattle.bsdl_limits.specs.Limits.{instructions_within, cells_within, is_within_limits, ports_within, users_within}
 use Rattle.bsdl_twice.specs.Twice.{given_again}
-use Rattle.bsdl.specs.Judging.{fault, or_else, twice_in, unless}
+use Rattle.bsdl.specs.Judging.{fault, twice_in, unless}
 
 pub record Neither (a b : Option Refusal) : Type 0 where
   pub first : a ≡ None
   pub second : b ≡ None
 
-pub neither : (a b : Option Refusal) → or_else a b ≡ None → Neither a b
+pub neither : (a b : Option Refusal) → option_or a b ≡ None → Neither a b
 neither None b e = record { first = refl; second = e }
 neither (Some r) b e = absurd cc
 
@@ -70,7 +71,7 @@ pub each_cell_once : (d : Description) → fault d ≡ None → (k : ℕ) → k 
 each_cell_once d e k h =
     let names = neither (twice_in d (given_again d)) _ e in
     let lengths = neither (unless (lengths_fit d) bad_length) _ names.second in
-    let ends = neither (or_else (unless (captures_one d.capture) bad_capture) (unless (ends_in_one d.idcodes) bad_id)) _ lengths.second in
+    let ends = neither (option_or (unless (captures_one d.capture) bad_capture) (unless (ends_in_one d.idcodes) bad_id)) _ lengths.second in
     let cells = neither (option_map bad_cell (unfit_cell d)) (unless (is_within_limits d) too_large) ends.second in
     let unfit : unfit_cell d ≡ None = none_mapped (unfit_cell d) cells.first in
     let limits : is_within_limits d ≡ true = holds (is_within_limits d) too_large cells.second in

@@ -1,5 +1,6 @@
 -- Judging a description that is well formed: the refusals in their order, and the device that it says.
 use Rattle.std.specs.Prelude.{ℕ, Bool, if◌then◌else◌, List, map, Option, Some, None, option_map}
+use Rattle.std.specs.Option.{option_or}
 use Rattle.std.specs.Prelude.{Result, Ok, Err, codes}
 use Rattle.bsdl.specs.Form.{text_form}
 use Rattle.bsdl_device.specs.Device.{Device}
@@ -26,17 +27,12 @@ twice_in d None =
 abbrev pub unless : Bool → Refusal → Option Refusal
 unless ok r = if ok then None else Some r
 
--- this refusal, if it applies, before the next
-abbrev pub or_else : Option Refusal → Option Refusal → Option Refusal
-or_else None next = next
-or_else (Some r) next = Some r
-
 abbrev pub fault : Description → Option Refusal
 fault d =
-    or_else (twice_in d (given_again d))
-    (or_else (unless (lengths_fit d) bad_length)
-    (or_else (or_else (unless (captures_one d.capture) bad_capture) (unless (ends_in_one d.idcodes) bad_id))
-    (or_else (option_map bad_cell (unfit_cell d))
+    option_or (twice_in d (given_again d))
+    (option_or (unless (lengths_fit d) bad_length)
+    (option_or (option_or (unless (captures_one d.capture) bad_capture) (unless (ends_in_one d.idcodes) bad_id))
+    (option_or (option_map bad_cell (unfit_cell d))
     (unless (is_within_limits d) too_large))))
 
 abbrev pub device_or_refusal : Option Refusal → Description → Result Device Refusal

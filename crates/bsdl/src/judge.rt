@@ -1,5 +1,6 @@
 //! Judging a description that is well formed.
 ghost use Rattle.std.specs.Prelude.{None, option_map};
+ghost use Rattle.std.specs.Option.{option_or};
 ghost use Rattle.bsdl.specs.Judging as spec;
 ghost use Rattle.bsdl.specs.View.{Judges};
 ghost use Rattle.bsdl_described.specs.Describing.{bad_capture, bad_cell, bad_id, bad_length, too_large};
@@ -87,7 +88,7 @@ fn judge_lengths(
 
 /// B6 and B7: what captures and codes end in.
 fn judge_ends(outline: &Outline<'_>, described: &Description<'_>) -> Result<(), BsdlFault>
-    ensures { Judges result (spec.or_else (spec.unless
+    ensures { Judges result (option_or (spec.unless
         (lengths.captures_one (description outline.now described.now).capture) bad_capture)
         (spec.unless (lengths.ends_in_one (description outline.now described.now).idcodes) bad_id)) }
 {

@@ -4,6 +4,7 @@ use Rattle.std.specs.Prelude.{Option, Some, None, option_map, unwrap_or, bytes_e
 use Rattle.std.specs.List.{range_with_len, flat_map}
 use Rattle.bsdl_text.specs.Words.{upper}
 use Rattle.bsdl_device.specs.Device.{Name, PortBit, Access, Device}
+use Rattle.bsdl_device.specs.Driving.{drives}
 use Rattle.bsdl_device.specs.declared.Cell.{Cell}
 use Rattle.bsdl_device.specs.declared.Place.{Place}
 use Rattle.bsdl_device.specs.declared.Place.TheVariants.{AtBypass, AtBoundary, AtDeviceId, AtUser}
@@ -11,7 +12,6 @@ use Rattle.bsdl_instructions.specs.Values.{AccessRow, Instr}
 use Rattle.bsdl_cells.specs.Rows.{CellRow}
 use Rattle.bsdl_entity.specs.Entity.{Port}
 use Rattle.bsdl_twice.specs.ResetOpcode.{bits, opcode}
-use Rattle.bsdl_fit.specs.Fits.{drives}
 use Rattle.bsdl_limits.specs.PortBits.{bit_number}
 use Rattle.bsdl_device.specs.Ports.{bits_of}
 use Rattle.bsdl_limits.specs.Users.{user_number, users_of}

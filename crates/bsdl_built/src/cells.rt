@@ -7,7 +7,7 @@ ghost use Rattle.std.specs.Ordering.{nat_cmp};
 ghost use Rattle.bsdl_text.specs.View.{value};
 ghost use Rattle.bsdl_cells.specs.View as cells_view;
 ghost use Rattle.bsdl_entity.specs.Entity as entity;
-ghost use Rattle.bsdl_fit.specs.Fits.{drives as is_driver};
+ghost use Rattle.bsdl_device.specs.Driving.{drives as is_driver};
 ghost use Rattle.bsdl_fit.specs.View.{AreAt};
 ghost use Rattle.bsdl_limits.specs.PortBits.{bit_number};
 ghost use Rattle.bsdl_built.specs.Bits.{firsts, last_of};
@@ -17,7 +17,6 @@ use crate::bits::bit_of_port;
 use crate::ports::size_of;
 use bsdl_cells::{CellRow, Controlling, PortName};
 use bsdl_device::{Cell, Control3, Function};
-use bsdl_fit::drivers::drives;
 use bsdl_fit::places::Places;
 use std::alloc::{AllocError, Global};
 use std::collections::BTreeMap;
@@ -116,7 +115,7 @@ fn control_of(
     ensures { IfOk result (λ o. o ≡ (if is_driver function then option_map cells_view.control control.entry
         else None)) }
 {
-    if !drives(function) {
+    if !function.drives() {
         return Ok(None);
     }
     match control {

@@ -1,5 +1,6 @@
 -- Numbers of bits by name and index, as they are kept.
 use Rattle.std.proofs.Common.{◌≡◌, ℕ, suc, ◌+◌, ◌&&◌, Bool, true, false, cond, List, [], ◌∷◌, ◌++◌, map, length, append_assoc, refl, sym, ap, subst, ◌∙◌, arith}
+use Rattle.std.specs.Option.{option_or}
 use Rattle.std.proofs.Common.{String, Global}
 use Rattle.std.proofs.Math.Bool.{true≢false}
 use Rattle.std.specs.Prelude.{Option, Some, None, option_and_then, option_map, bytes_eq, position, if◌then◌else◌, slice_get, string_bytes}
@@ -13,7 +14,7 @@ use Rattle.bsdl_device.specs.declared.numbers.Numbers.{Numbers}
 use Rattle.bsdl_device.specs.declared.port_bits.Port.{Port}
 use Rattle.bsdl_device.specs.declared.port_bits.Indices.{Indices}
 use Rattle.bsdl_device.specs.declared.port_bits.BitPlace.{BitPlace}
-use Rattle.bsdl_device.specs.Found.{AreFirst, first_of, number_at, number_if, number_named}
+use Rattle.bsdl_device.specs.Found.{AreFirst, number_at, number_if, number_named}
 use Rattle.bsdl_device.specs.Kept.{AreKept}
 use Rattle.bsdl_device.specs.Ports.{bit_number, is_bit, same_index}
 use Rattle.bsdl_device.specs.View.{bit_of, placed, places}
@@ -24,31 +25,31 @@ use Rattle.bsdl_device.proofs.PortLaws.{get_seam, placed_front, position_map, po
 position_here : {A : Type 0} (p : A → Bool) (x : A) (xs : List A) → p x ≡ true → position p (x ∷ xs) ≡ Some 0
 position_here p x xs passes = rw passes (grind (arith, nat_tests))
 
-later : (o : Option ℕ) (b : Bool) (n : ℕ) → option_map (λ k. suc k) (first_of o (if b then Some n else None)) ≡ first_of (option_map (λ k. suc k) o) (if b then Some (suc n) else None)
+later : (o : Option ℕ) (b : Bool) (n : ℕ) → option_map (λ k. suc k) (option_or o (if b then Some n else None)) ≡ option_or (option_map (λ k. suc k) o) (if b then Some (suc n) else None)
 later None true n = refl
 later None false n = refl
 later (Some k) b n = refl
 
-pub position_end : {A : Type 0} (p : A → Bool) (xs : List A) (y : A) → position p (xs ++ y ∷ []) ≡ first_of (position p xs) (if p y then Some (length xs) else None)
+pub position_end : {A : Type 0} (p : A → Bool) (xs : List A) (y : A) → position p (xs ++ y ∷ []) ≡ option_or (position p xs) (if p y then Some (length xs) else None)
 position_end p [] y = by_test (p y) refl
   where
-    by_test : (b : Bool) → p y ≡ b → position p (y ∷ []) ≡ first_of (position p []) (if p y then Some 0 else None)
-    by_test true is = position_here p y [] is ∙ ap (λ h. first_of (position p []) (if h then Some 0 else None)) (sym is)
-    by_test false is = position_more p y [] is ∙ ap (λ h. first_of (position p []) (if h then Some 0 else None)) (sym is)
+    by_test : (b : Bool) → p y ≡ b → position p (y ∷ []) ≡ option_or (position p []) (if p y then Some 0 else None)
+    by_test true is = position_here p y [] is ∙ ap (λ h. option_or (position p []) (if h then Some 0 else None)) (sym is)
+    by_test false is = position_more p y [] is ∙ ap (λ h. option_or (position p []) (if h then Some 0 else None)) (sym is)
 position_end p (x ∷ xs) y = by_test (p x) refl (position_end p xs y)
   where
-    by_test : (b : Bool) → p x ≡ b → position p (xs ++ y ∷ []) ≡ first_of (position p xs) (if p y then Some (length xs) else None)
-        → position p (x ∷ xs ++ y ∷ []) ≡ first_of (position p (x ∷ xs)) (if p y then Some (suc (length xs)) else None)
-    by_test true is rest = position_here p x (xs ++ y ∷ []) is ∙ ap (λ o. first_of o (if p y then Some (suc (length xs)) else None)) (sym (position_here p x xs is))
+    by_test : (b : Bool) → p x ≡ b → position p (xs ++ y ∷ []) ≡ option_or (position p xs) (if p y then Some (length xs) else None)
+        → position p (x ∷ xs ++ y ∷ []) ≡ option_or (position p (x ∷ xs)) (if p y then Some (suc (length xs)) else None)
+    by_test true is rest = position_here p x (xs ++ y ∷ []) is ∙ ap (λ o. option_or o (if p y then Some (suc (length xs)) else None)) (sym (position_here p x xs is))
     by_test false is rest =
         position_more p x (xs ++ y ∷ []) is ∙ ap (option_map (λ k. suc k)) rest ∙ later (position p xs) (p y) (length xs)
-        ∙ ap (λ o. first_of o (if p y then Some (suc (length xs)) else None)) (sym (position_more p x xs is))
+        ∙ ap (λ o. option_or o (if p y then Some (suc (length xs)) else None)) (sym (position_more p x xs is))
 
 pub bit_more : (passes : BitPlace → Bool) (bits new : List BitPlace) (b : BitPlace) (before after : Numbers) (n : ℕ) → n ≡ length bits → new ≡ bits ++ b ∷ [] → passes b ≡ true
-    → ((i : Option ℕ) → number_at after i ≡ first_of (number_at before i) (number_if i b.index n)) → AreFirst passes before bits → AreFirst passes after new
+    → ((i : Option ℕ) → number_at after i ≡ option_or (number_at before i) (number_if i b.index n)) → AreFirst passes before bits → AreFirst passes after new
 bit_more passes bits new b before after n len is here step first = λ i.
-    step i ∙ ap (λ o. first_of o (number_if i b.index n)) (first i) ∙ ap (λ (k : ℕ). first_of (position (λ x. passes x && same_index i x.index) bits) (number_if i b.index k)) len
-    ∙ ap (λ h. first_of (position (λ x. passes x && same_index i x.index) bits) (if h && same_index i b.index then Some (length bits) else None)) (sym here)
+    step i ∙ ap (λ o. option_or o (number_if i b.index n)) (first i) ∙ ap (λ (k : ℕ). option_or (position (λ x. passes x && same_index i x.index) bits) (number_if i b.index k)) len
+    ∙ ap (λ h. option_or (position (λ x. passes x && same_index i x.index) bits) (if h && same_index i b.index then Some (length bits) else None)) (sym here)
     ∙ sym (position_end (λ x. passes x && same_index i x.index) bits b) ∙ ap (position (λ x. passes x && same_index i x.index)) (sym is)
 
 position_same : {A : Type 0} (p q : A → Bool) (xs : List A) → ((x : A) → p x ≡ q x) → position p xs ≡ position q xs
@@ -59,14 +60,14 @@ position_same p q (x ∷ xs) e = by_test (p x) refl (position_same p q xs e)
     by_test true is rest = position_here p x xs is ∙ sym (position_here q x xs (sym (e x) ∙ is))
     by_test false is rest = position_more p x xs is ∙ ap (option_map (λ k. suc k)) rest ∙ sym (position_more q x xs (sym (e x) ∙ is))
 
-or_nothing : (o : Option ℕ) → first_of o None ≡ o
+or_nothing : (o : Option ℕ) → option_or o None ≡ o
 or_nothing None = refl
 or_nothing (Some n) = refl
 
 -- one that fails behind
 fails_behind : (f : BitPlace → Bool) (bits : List BitPlace) (b : BitPlace) → f b ≡ false → position f (bits ++ b ∷ []) ≡ position f bits
 fails_behind f bits b fails =
-    position_end f bits b ∙ ap (λ h. first_of (position f bits) (if h then Some (length bits) else None)) fails ∙ or_nothing (position f bits)
+    position_end f bits b ∙ ap (λ h. option_or (position f bits) (if h then Some (length bits) else None)) fails ∙ or_nothing (position f bits)
 
 indexed_behind : (f : BitPlace → Bool) (port : ℕ) → ((i : Option ℕ) → f (record { port = port; index = i }) ≡ false) → (bits : List BitPlace) (ks : List ℕ)
     → position f (bits ++ map (λ k. record { port = port; index = Some k }) ks) ≡ position f bits

@@ -8,11 +8,6 @@ use Rattle.bsdl_device.specs.declared.numbers.Numbers.{Numbers}
 use Rattle.bsdl_device.specs.declared.port_bits.BitPlace.{BitPlace}
 use Rattle.bsdl_device.specs.Ports.{same_index}
 
--- the first of two, where it is there
-abbrev pub first_of : Option ℕ → Option ℕ → Option ℕ
-first_of None next = next
-first_of (Some n) next = Some n
-
 -- this number, where the index is that one
 abbrev pub number_if : Option ℕ → Option ℕ → ℕ → Option ℕ
 number_if i index number = if same_index i index then Some number else None

@@ -1,7 +1,9 @@
 pub mod Device
+pub mod Driving
 pub mod Found
 pub mod Kept
 pub mod Names
+pub mod Opcodes
 pub mod Ports
 pub mod Sound
 pub mod View

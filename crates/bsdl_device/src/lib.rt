@@ -1,6 +1,9 @@
 //! What a device description says of a device (IEEE Std 1149.1-2001, Annex B). Data alone; bits stand lowest first.
 #![tactic(auto)]
 
+ghost use Rattle.std.specs.Prelude.{◌≡◌};
+ghost use Rattle.bsdl_device.specs.Driving as spec;
+
 pub use names::Names;
 pub use port_bits::{Indices, Port, PortBit, Ports};
 pub use rows::{Access, Opcode, Pattern};
@@ -34,6 +37,18 @@ pub enum Function {
     Control,
     ControlR,
     Internal,
+}
+
+impl Function {
+    /// Whether a cell of this function drives its port.
+    pub fn drives(self) -> bool
+        ensures { result ≡ spec.drives self }
+    {
+        matches!(
+            self,
+            Function::Output2 | Function::Output3 | Function::Bidir
+        )
+    }
 }
 
 /// What a pin shows while its driver is disabled (Annex B.8.14).

@@ -1,8 +1,9 @@
 //! The numbers of the bits of one name, by their indices.
 ghost use Rattle.std.specs.Prelude.{◌≡◌, ℕ, Option, None, Some, OnOk};
+ghost use Rattle.std.specs.Option.{option_or};
 ghost use Rattle.std.specs.BTreeMap.{get};
 ghost use Rattle.std.specs.Ordering.{nat_cmp};
-ghost use Rattle.bsdl_device.specs.Found.{first_of, number_at, number_if};
+ghost use Rattle.bsdl_device.specs.Found.{number_at, number_if};
 
 use std::alloc::{AllocError, Global};
 use std::collections::BTreeMap;
@@ -36,7 +37,7 @@ impl Numbers {
     /// Adds a number for an index, where there is none yet.
     pub(crate) fn add(&mut self, index: Option<usize>, number: usize) -> Result<(), AllocError>
         ensures { OnOk result ((i : Option ℕ)
-            → number_at self.new i ≡ first_of (number_at self.old i) (number_if i index number)) }
+            → number_at self.new i ≡ option_or (number_at self.old i) (number_if i index number)) }
     {
         match index {
             None => self.add_whole(number),
@@ -47,7 +48,7 @@ impl Numbers {
 
     fn add_whole(&mut self, number: usize)
         ensures { (i : Option ℕ)
-            → number_at self.new i ≡ first_of (number_at self.old i) (number_if i None number) }
+            → number_at self.new i ≡ option_or (number_at self.old i) (number_if i None number) }
     {
         if self.whole.is_none() {
             self.whole = Some(number);
@@ -61,7 +62,7 @@ fn add_indexed(
     number: usize,
 ) -> Result<(), AllocError>
     ensures { OnOk result ((i : ℕ) → get nat_cmp by_index.new i
-        ≡ first_of (get nat_cmp by_index.old i) (number_if (Some i) (Some index) number)) }
+        ≡ option_or (get nat_cmp by_index.old i) (number_if (Some i) (Some index) number)) }
 {
     if !by_index.contains_key(&index) {
         by_index.insert(index, number)?;

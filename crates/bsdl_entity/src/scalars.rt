@@ -1,9 +1,10 @@
 //! Which ports are single bits, by their names.
 ghost use Rattle.std.specs.Prelude.{◌≡◌, List, ℕ, map, IfOk, OnOk, is_none, ◌∷◌, [], ◌++◌};
+ghost use Rattle.std.specs.Option.{option_or};
 ghost use Rattle.std.specs.BTreeMap.{get_by_text};
 ghost use Rattle.bsdl_text.specs.Words.{upper};
 ghost use Rattle.bsdl_text.specs.WordView.{word_lexeme};
-ghost use Rattle.bsdl_entity.specs.Scalars.{first_scalar, or_first, scalar_at, tells};
+ghost use Rattle.bsdl_entity.specs.Scalars.{first_scalar, scalar_at, tells};
 ghost use Rattle.bsdl_entity.specs.View as view;
 
 use crate::ports::Group;
@@ -31,7 +32,7 @@ fn add_group(
     group: &Group<'_>,
 ) -> Result<(), AllocError>
     ensures { OnOk result ((q : List ℕ) → get_by_text scalars.new q
-        ≡ or_first (get_by_text scalars.old q) (first_scalar (view.group group.now) q)) }
+        ≡ option_or (get_by_text scalars.old q) (first_scalar (view.group group.now) q)) }
 {
     let is_scalar = group.range.is_none();
     for name in &group.names {
@@ -47,7 +48,7 @@ fn add_name(
     is_scalar: bool,
 ) -> Result<(), AllocError>
     ensures { OnOk result ((q : List ℕ) → get_by_text scalars.new q
-        ≡ or_first (get_by_text scalars.old q) (scalar_at (upper name.entry.text.now) is_scalar q)) }
+        ≡ option_or (get_by_text scalars.old q) (scalar_at (upper name.entry.text.now) is_scalar q)) }
 {
     let key = name.upper_name(alloc)?;
     if scalars.contains_key(key.as_str()) {

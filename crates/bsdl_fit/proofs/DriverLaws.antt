@@ -13,7 +13,7 @@ use Rattle.bsdl_cells.specs.Rows.{CellRow, PortName}
 use Rattle.bsdl_entity.specs.Entity.{Port}
 use Rattle.bsdl_fit.specs.declared.seat.Seat.{Seat}
 use Rattle.bsdl_fit.specs.Drivers.{drives_below, is_below, same_place}
-use Rattle.bsdl_fit.specs.Fits.{drives}
+use Rattle.bsdl_device.specs.Driving.{drives}
 use Rattle.bsdl_fit.specs.Places.{same_seat, seat_of}
 use Rattle.bsdl_fit.specs.View.{seat}
 

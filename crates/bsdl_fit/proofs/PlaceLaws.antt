@@ -1,5 +1,6 @@
 -- Ports by their names, one more.
 use Rattle.std.proofs.Common.{◌≡◌, ℕ, suc, ◌+◌, Bool, true, false, cond, List, [], ◌∷◌, ◌++◌, length, map, refl, sym, ap, ◌∙◌, arith}
+use Rattle.std.specs.Option.{option_or}
 use Rattle.std.specs.Prelude.{Option, Some, None, is_some, option_map, bytes_eq}
 use Rattle.std.proofs.lemmas.List.{length-map}
 use Rattle.std.proofs.lemmas.Slice.Eq.{bytes_eq-Decides}
@@ -12,60 +13,60 @@ use Rattle.bsdl_entity.specs.declared.ports.Group.{Group}
 use Rattle.bsdl_entity.specs.Entity.{Port, Range}
 use Rattle.bsdl_entity.specs.View as view
 use Rattle.bsdl_limits.proofs.WidthLaws.{ports_named}
-use Rattle.bsdl_fit.specs.Places.{at_name, find_port, or_first}
+use Rattle.bsdl_fit.specs.Places.{at_name, find_port}
 
-pub or_none : {A : Type 0} (o : Option A) → or_first o None ≡ o
+pub or_none : {A : Type 0} (o : Option A) → option_or o None ≡ o
 or_none None = refl
 or_none (Some x) = refl
 
-or_assoc : {A : Type 0} (a b c : Option A) → or_first (or_first a b) c ≡ or_first a (or_first b c)
+or_assoc : {A : Type 0} (a b c : Option A) → option_or (option_or a b) c ≡ option_or a (option_or b c)
 or_assoc None b c = refl
 or_assoc (Some x) b c = refl
 
 -- a port more
-one_port : (n : ℕ) (p : Port) (ps : List Port) (q : List ℕ) → find_port n (p ∷ ps) q ≡ or_first (at_name (upper p.name.text) (n, p.range) q) (find_port (suc n) ps q)
+one_port : (n : ℕ) (p : Port) (ps : List Port) (q : List ℕ) → find_port n (p ∷ ps) q ≡ option_or (at_name (upper p.name.text) (n, p.range) q) (find_port (suc n) ps q)
 one_port n p ps q = by_test (bytes_eq (upper p.name.text) q) refl
   where
-    by_test : (b : Bool) → bytes_eq (upper p.name.text) q ≡ b → find_port n (p ∷ ps) q ≡ or_first (at_name (upper p.name.text) (n, p.range) q) (find_port (suc n) ps q)
+    by_test : (b : Bool) → bytes_eq (upper p.name.text) q ≡ b → find_port n (p ∷ ps) q ≡ option_or (at_name (upper p.name.text) (n, p.range) q) (find_port (suc n) ps q)
     by_test true is = rw is refl
     by_test false is = rw is refl
 
 pub port_kept : (before after : List ℕ → Option (ℕ × Option Range)) (n next : ℕ) (p : Port) (ps : List Port) (q : List ℕ) → next ≡ n + 1
-    → ((q : List ℕ) → after q ≡ or_first (before q) (at_name (upper p.name.text) (n, p.range) q))
-    → or_first (after q) (find_port next ps q) ≡ or_first (before q) (find_port n (p ∷ ps) q)
+    → ((q : List ℕ) → after q ≡ option_or (before q) (at_name (upper p.name.text) (n, p.range) q))
+    → option_or (after q) (find_port next ps q) ≡ option_or (before q) (find_port n (p ∷ ps) q)
 port_kept before after n next p ps q is step =
     let e : next ≡ suc n = omega arith in
-    ap (λ (k : ℕ). or_first (after q) (find_port k ps q)) e ∙ ap (λ o. or_first o (find_port (suc n) ps q)) (step q)
-    ∙ or_assoc (before q) (at_name (upper p.name.text) (n, p.range) q) (find_port (suc n) ps q) ∙ ap (or_first (before q)) (sym (one_port n p ps q))
+    ap (λ (k : ℕ). option_or (after q) (find_port k ps q)) e ∙ ap (λ o. option_or o (find_port (suc n) ps q)) (step q)
+    ∙ or_assoc (before q) (at_name (upper p.name.text) (n, p.range) q) (find_port (suc n) ps q) ∙ ap (option_or (before q)) (sym (one_port n p ps q))
 
-pub ports_both : (n : ℕ) (ps more : List Port) (q : List ℕ) → find_port n (ps ++ more) q ≡ or_first (find_port n ps q) (find_port (n + length ps) more q)
+pub ports_both : (n : ℕ) (ps more : List Port) (q : List ℕ) → find_port n (ps ++ more) q ≡ option_or (find_port n ps q) (find_port (n + length ps) more q)
 ports_both n [] more q = ap (λ (k : ℕ). find_port k more q) (omega arith)
 ports_both n (p ∷ ps) more q =
     let e : suc n + length ps ≡ n + length (p ∷ ps) = omega arith in
-    one_port n p (ps ++ more) q ∙ ap (or_first (at_name (upper p.name.text) (n, p.range) q)) (ports_both (suc n) ps more q)
+    one_port n p (ps ++ more) q ∙ ap (option_or (at_name (upper p.name.text) (n, p.range) q)) (ports_both (suc n) ps more q)
     ∙ sym (or_assoc (at_name (upper p.name.text) (n, p.range) q) (find_port (suc n) ps q) (find_port (suc n + length ps) more q))
-    ∙ ap (λ o. or_first o (find_port (suc n + length ps) more q)) (sym (one_port n p ps q)) ∙ ap (λ (k : ℕ). or_first (find_port n (p ∷ ps) q) (find_port k more q)) e
+    ∙ ap (λ o. option_or o (find_port (suc n + length ps) more q)) (sym (one_port n p ps q)) ∙ ap (λ (k : ℕ). option_or (find_port n (p ∷ ps) q) (find_port k more q)) e
 
 pub group_kept : (before after : List ℕ → Option (ℕ × Option Range)) (n next : ℕ) (g : Group) (gs : List Group) (q : List ℕ) → next ≡ n + length (view.group g)
-    → ((q : List ℕ) → after q ≡ or_first (before q) (find_port n (view.group g) q))
-    → or_first (after q) (find_port next (view.ports gs) q) ≡ or_first (before q) (find_port n (view.ports (g ∷ gs)) q)
+    → ((q : List ℕ) → after q ≡ option_or (before q) (find_port n (view.group g) q))
+    → option_or (after q) (find_port next (view.ports gs) q) ≡ option_or (before q) (find_port n (view.ports (g ∷ gs)) q)
 group_kept before after n next g gs q is step =
-    ap (λ (k : ℕ). or_first (after q) (find_port k (view.ports gs) q)) is ∙ ap (λ o. or_first o (find_port (n + length (view.group g)) (view.ports gs) q)) (step q)
-    ∙ or_assoc (before q) (find_port n (view.group g) q) (find_port (n + length (view.group g)) (view.ports gs) q) ∙ ap (or_first (before q)) (sym (ports_both n (view.group g) (view.ports gs) q))
+    ap (λ (k : ℕ). option_or (after q) (find_port k (view.ports gs) q)) is ∙ ap (λ o. option_or o (find_port (n + length (view.group g)) (view.ports gs) q)) (step q)
+    ∙ or_assoc (before q) (find_port n (view.group g) q) (find_port (n + length (view.group g)) (view.ports gs) q) ∙ ap (option_or (before q)) (sym (ports_both n (view.group g) (view.ports gs) q))
 
 pub named_len : (mode : PortMode) (r : Option declared_range.Range) (ws : List Word) → length (ports_named mode r ws) ≡ length ws
 named_len mode r ws = length-map (map word_lexeme ws) (λ n. record { name = n; mode = mode; range = option_map view.range r }) ∙ length-map ws word_lexeme
 
 -- a name that is put where it is new
 pub name_put : (before : List ℕ → Option (ℕ × Option Range)) (key name q : List ℕ) (x : ℕ × Option Range) → key ≡ name → is_some (before key) ≡ false
-    → cond (bytes_eq key q) (Some x) (before q) ≡ or_first (before q) (at_name name x q)
+    → cond (bytes_eq key q) (Some x) (before q) ≡ option_or (before q) (at_name name x q)
 name_put before key name q x same new = by_test (bytes_eq key q) refl
   where
     none_is : (o : Option (ℕ × Option Range)) → is_some o ≡ false → o ≡ None
     none_is None e = refl
     none_is (Some y) e = absurd cc
 
-    by_test : (b : Bool) → bytes_eq key q ≡ b → cond (bytes_eq key q) (Some x) (before q) ≡ or_first (before q) (at_name name x q)
+    by_test : (b : Bool) → bytes_eq key q ≡ b → cond (bytes_eq key q) (Some x) (before q) ≡ option_or (before q) (at_name name x q)
     by_test true is =
         let here : before q ≡ None = ap before (sym ((bytes_eq-Decides key q).0 is)) ∙ none_is (before key) new in
         let there : bytes_eq name q ≡ true = ap (λ (n : List ℕ). bytes_eq n q) (sym same) ∙ is in
@@ -74,14 +75,14 @@ name_put before key name q x same new = by_test (bytes_eq key q) refl
         let there : bytes_eq name q ≡ false = ap (λ (n : List ℕ). bytes_eq n q) (sym same) ∙ is in
         rw (is, there) (sym (or_none (before q)))
 
-pub name_known : (before : List ℕ → Option (ℕ × Option Range)) (key name q : List ℕ) (x : ℕ × Option Range) → key ≡ name → is_some (before key) ≡ true → before q ≡ or_first (before q) (at_name name x q)
+pub name_known : (before : List ℕ → Option (ℕ × Option Range)) (key name q : List ℕ) (x : ℕ × Option Range) → key ≡ name → is_some (before key) ≡ true → before q ≡ option_or (before q) (at_name name x q)
 name_known before key name q x same known = by_test (bytes_eq name q) refl
   where
-    some_is : (o : Option (ℕ × Option Range)) → is_some o ≡ true → o ≡ or_first o (Some x)
+    some_is : (o : Option (ℕ × Option Range)) → is_some o ≡ true → o ≡ option_or o (Some x)
     some_is None e = absurd cc
     some_is (Some y) e = refl
 
-    by_test : (b : Bool) → bytes_eq name q ≡ b → before q ≡ or_first (before q) (at_name name x q)
+    by_test : (b : Bool) → bytes_eq name q ≡ b → before q ≡ option_or (before q) (at_name name x q)
     by_test true is =
         let here : key ≡ q = same ∙ (bytes_eq-Decides name q).0 is in
         rw is (some_is (before q) (ap (λ (k : List ℕ). is_some (before k)) (sym here) ∙ known))

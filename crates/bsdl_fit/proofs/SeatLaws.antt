@@ -10,7 +10,8 @@ use Rattle.bsdl_limits.specs.PortBits.{bit_at, bit_number, width}
 use Rattle.bsdl_described.specs.Describing.{Description, is_among}
 use Rattle.bsdl_fit.specs.declared.seat.Seat.{Seat}
 use Rattle.bsdl_fit.specs.Drivers.{drives_below}
-use Rattle.bsdl_fit.specs.Fits.{drives, is_driven_below, is_internal, names_tap, port_bit, port_fits, same_bit}
+use Rattle.bsdl_device.specs.Driving.{drives}
+use Rattle.bsdl_fit.specs.Fits.{is_driven_below, is_internal, names_tap, port_bit, port_fits, same_bit}
 use Rattle.bsdl_fit.specs.Places.{find_port, same_seat, seat_at, seat_of}
 use Rattle.bsdl_fit.specs.View.{seat}
 use Rattle.bsdl_fit.proofs.PlaceLaws.{some_mapped}

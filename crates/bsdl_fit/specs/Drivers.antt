@@ -3,11 +3,11 @@ use Rattle.std.specs.Prelude.{ℕ, nat_lt, ◌==◌, Bool, false, ◌&&◌, List
 use Rattle.std.specs.BTreeMap.{get}
 use Rattle.std.specs.Ordering.{nat_cmp, ordering_then}
 use Rattle.std.specs.Cmp.Lexicographic.{slice_cmp}
+use Rattle.bsdl_device.specs.Driving.{drives}
 use Rattle.bsdl_cells.specs.Rows.{CellRow}
 use Rattle.bsdl_entity.specs.Entity.{Port}
 use Rattle.bsdl_fit.specs.declared.drivers.Drivers as declared_drivers
 use Rattle.bsdl_fit.specs.declared.seat.Seat.{Seat}
-use Rattle.bsdl_fit.specs.Fits.{drives}
 use Rattle.bsdl_fit.specs.Places.{same_seat, seat_of}
 use Rattle.bsdl_fit.specs.View.{seat}
 

@@ -2,6 +2,7 @@
 use Rattle.std.specs.Prelude.{ℕ, suc, nat_lt, nat_le, ◌==◌, min, max, Bool, true, false, not, ◌&&◌, ◌||◌, is_some}
 use Rattle.std.specs.Prelude.{is_none, if◌then◌else◌, List, filter, length, Option, Some, None, option_and_then}
 use Rattle.std.specs.List.{list_any, list_all, find, range_with_len, fold}
+use Rattle.bsdl_device.specs.Driving.{drives}
 use Rattle.bsdl_device.specs.declared.Function.{Function}
 use Rattle.bsdl_device.specs.declared.Function.TheVariants.{Bidir, Output2, Output3, Control, ControlR, Internal}
 use Rattle.bsdl_device.specs.declared.Control3.{Control3}
@@ -12,12 +13,6 @@ use Rattle.bsdl_limits.specs.PortBits.{bit_number}
 
 abbrev pub port_bit : Description → CellRow → Option ℕ
 port_bit d r = option_and_then (bit_number 0 d.ports) r.port
-
-abbrev pub drives : Function → Bool
-drives Output2 = true
-drives Output3 = true
-drives Bidir = true
-drives _ = false
 
 -- cells without a port
 abbrev pub is_internal : Function → Bool

@@ -22,10 +22,5 @@ abbrev pub same_seat : Option (ℕ × ℕ) → Option (ℕ × ℕ) → Bool
 same_seat (Some a) (Some b) = a.0 == b.0 && a.1 == b.1
 same_seat _ _ = false
 
--- the first of two
-abbrev pub or_first : {A : Type 0} → Option A → Option A → Option A
-or_first (Some x) next = Some x
-or_first None next = next
-
 abbrev pub at_name : {A : Type 0} → List ℕ → A → List ℕ → Option A
 at_name name x q = if bytes_eq name q then Some x else None

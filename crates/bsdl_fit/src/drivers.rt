@@ -7,13 +7,11 @@ ghost use Rattle.bsdl_entity.specs.Entity as entity;
 ghost use Rattle.bsdl_text.specs.View.{value};
 ghost use Rattle.bsdl_fit.specs.declared.seat.Seat as declared_seat;
 ghost use Rattle.bsdl_fit.specs.Drivers.{drives_below, driver_at, is_below, same_place};
-ghost use Rattle.bsdl_fit.specs.Fits as spec;
 ghost use Rattle.bsdl_fit.specs.View.{AreAt};
 
 use crate::places::{Places, seat_of};
 use crate::seat::Seat;
 use bsdl_cells::CellRow;
-use bsdl_device::Function;
 use std::alloc::{AllocError, Global};
 use std::collections::{BTreeMap, BTreeSet};
 
@@ -22,16 +20,6 @@ use std::collections::{BTreeMap, BTreeSet};
 #[derive(Debug, Drop)]
 pub struct Drivers<'a> {
     pub lowest: BTreeMap<(usize, &'a [u8]), usize>,
-}
-
-/// Whether a cell of this function drives its port.
-pub fn drives(function: Function) -> bool
-    ensures { result ≡ spec.drives function }
-{
-    matches!(
-        function,
-        Function::Output2 | Function::Output3 | Function::Bidir
-    )
 }
 
 /// The lowest cells that drive port bits.
@@ -62,7 +50,7 @@ fn add_row<'a>(
         → is_below (driver_at drivers.new s) n ≡ is_below (driver_at drivers.old s) n
         || drives_below ps s n (cell_row row.now)) }
 {
-    if !drives(row.function) {
+    if !row.function.drives() {
         return Ok(());
     }
     match row.port {

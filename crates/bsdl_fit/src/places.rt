@@ -1,5 +1,6 @@
 //! Ports by their names, and port bits.
 ghost use Rattle.std.specs.Prelude.{◌≡◌, ◌+◌, ℕ, List, length, option_map, option_and_then, IfOk, OnOk, Some};
+ghost use Rattle.std.specs.Option.{option_or};
 ghost use Rattle.std.specs.BTreeMap.{get_by_text};
 ghost use Rattle.bsdl_text.specs.Words.{upper};
 ghost use Rattle.bsdl_text.specs.View.{value};
@@ -55,7 +56,7 @@ fn add_group<'a>(
 ) -> Result<(), AllocError>
     ensures next { OnOk result (places.new.next ≡ places.old.next + length (entity_view.group group.now)) }
     ensures found { OnOk result ((q : List ℕ) → place_named places.new q
-        ≡ spec.or_first (place_named places.old q) (spec.find_port places.old.next (entity_view.group group.now) q)) }
+        ≡ option_or (place_named places.old q) (spec.find_port places.old.next (entity_view.group group.now) q)) }
 {
     let range = trimmed(group.range);
     for name in &group.names {
@@ -85,7 +86,7 @@ fn add_name<'a>(
 ) -> Result<(), AllocError>
     ensures next { OnOk result (places.new.next ≡ places.old.next + 1) }
     ensures found { OnOk result ((q : List ℕ) → place_named places.new q
-        ≡ spec.or_first (place_named places.old q) (spec.at_name (upper name.entry.text.now)
+        ≡ option_or (place_named places.old q) (spec.at_name (upper name.entry.text.now)
         (places.old.next, option_map entity_view.range range.entry) q)) }
 {
     let key = name.upper_name(alloc)?;

@@ -10,7 +10,6 @@ ghost use Rattle.bsdl_fit.specs.Drivers.{driver_at, is_below};
 ghost use Rattle.bsdl_fit.specs.Fits as spec;
 ghost use Rattle.bsdl_fit.specs.Holds.{Holds};
 
-use crate::drivers::drives;
 use crate::known::Known;
 use crate::places::seat_of;
 use crate::seat::Seat;
@@ -92,7 +91,7 @@ fn drives_again<'a>(
 ) -> bool
     ensures { result ≡ (spec.drives function && is_below (driver_at known.now.drivers seat.entry) number) }
 {
-    drives(function) && known.drivers.is_driven_below(seat, number)
+    function.drives() && known.drivers.is_driven_below(seat, number)
 }
 
 /// Whether a port of this name is one of the TAP's.

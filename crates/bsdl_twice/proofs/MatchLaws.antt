@@ -7,7 +7,8 @@ use Rattle.std.proofs.lemmas.List.Folds.{list_all-append}
 use Rattle.std.proofs.lemmas.Bool.Decides.{nat_tests}
 use Rattle.bsdl_device.specs.Device.{Pattern}
 use Rattle.bsdl_instructions.specs.Values.{bit}
-use Rattle.bsdl_twice.specs.ResetOpcode.{bits, matches, matches_bit}
+use Rattle.bsdl_device.specs.Opcodes.{matches, matches_bit}
+use Rattle.bsdl_twice.specs.ResetOpcode.{bits}
 
 and_swap : (a b : Bool) → (a && b) ≡ (b && a)
 and_swap true true = refl

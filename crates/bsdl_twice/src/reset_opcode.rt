@@ -3,6 +3,7 @@ ghost use Rattle.std.specs.Prelude.{◌≡◌, ◌==◌, List, map, reverse, opt
 ghost use Rattle.std.specs.Prelude.{bytes_eq, codes, slice_get, false};
 ghost use Rattle.std.specs.List.{list_all, find};
 ghost use Rattle.bsdl_device.specs.Device as device;
+ghost use Rattle.bsdl_device.specs.Opcodes as opcodes;
 ghost use Rattle.bsdl_instructions.specs.Values.{bit};
 ghost use Rattle.bsdl_instructions.specs.View as rows_view;
 ghost use Rattle.bsdl_twice.specs.ResetOpcode as spec;
@@ -37,7 +38,8 @@ fn reset_pattern<'r>(rows: &'r [OpcodeRow<'_>]) -> Option<&'r WrittenPattern>
 
 /// Whether an opcode, by its digits with X as 0, names IDCODE.
 fn names_idcode(rows: &[OpcodeRow<'_>], latch: &[u8]) -> bool
-    ensures { result ≡ bytes_eq (unwrap_or (spec.instruction (map spec.opcode (map rows_view.opcode_row rows.now))
+    ensures { result ≡ bytes_eq (unwrap_or (opcodes.named_instruction
+        (map spec.opcode (map rows_view.opcode_row rows.now))
         (spec.bits (reverse (map bit latch.now)))) []) (codes "IDCODE") }
 {
     if are_ones(latch) {
@@ -66,7 +68,7 @@ fn are_all_ones(latch: &[u8]) -> bool
 
 /// Whether a row has a pattern that matches an opcode.
 fn is_named(row: &OpcodeRow<'_>, latch: &[u8]) -> bool
-    ensures { result ≡ spec.names_it (spec.bits (reverse (map bit latch.now)))
+    ensures { result ≡ opcodes.names_it (spec.bits (reverse (map bit latch.now)))
         (spec.opcode (rows_view.opcode_row row.now)) }
 {
     for pattern in &row.patterns {
@@ -79,13 +81,13 @@ fn is_named(row: &OpcodeRow<'_>, latch: &[u8]) -> bool
 
 /// Whether a pattern matches an opcode of its own length, an X either bit.
 fn is_match(pattern: &[u8], latch: &[u8]) -> bool
-    ensures { result ≡ spec.matches (reverse (map bit pattern.now)) (spec.bits (reverse (map bit latch.now))) }
+    ensures { result ≡ opcodes.matches (reverse (map bit pattern.now)) (spec.bits (reverse (map bit latch.now))) }
 {
     digits_match(pattern, latch)
 }
 
 fn digits_match(pattern: &[u8], latch: &[u8]) -> bool
-    ensures { result ≡ spec.matches (map bit pattern.now) (spec.bits (map bit latch.now)) }
+    ensures { result ≡ opcodes.matches (map bit pattern.now) (spec.bits (map bit latch.now)) }
 {
     if pattern.len() != latch.len() {
         return false;
@@ -99,7 +101,7 @@ fn digits_match(pattern: &[u8], latch: &[u8]) -> bool
 }
 
 fn digit_matches(digit: u8, latched: u8) -> bool
-    ensures { result ≡ spec.matches_bit (bit digit) (unwrap_or (bit latched) false) }
+    ensures { result ≡ opcodes.matches_bit (bit digit) (unwrap_or (bit latched) false) }
 {
     match digit {
         b'0' => latched != b'1',

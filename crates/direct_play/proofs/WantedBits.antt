@@ -2,7 +2,7 @@
 use Rattle.std.proofs.Common.{◌≡◌, Bool, true, false, ℕ, zero, suc, ◌+◌, ◌≤◌, List, [], ◌∷◌, drop, length, refl, sym, ap, ◌∙◌, arith, Some, None}
 use Rattle.std.specs.Prelude.{Option, option_map, slice_get, is_some, if◌then◌else◌}
 use Rattle.scan_vectors.specs.Vector.{VectorBit}
-use Rattle.direct_play.specs.Judging.{wanted}
+use Rattle.scan_vectors.specs.Vector.{wanted_bits}
 
 -- what stands at a place, and what stands behind it
 drop-there : (v : List VectorBit) (i : ℕ) (b : VectorBit) → slice_get v i ≡ Some b → drop i v ≡ b ∷ drop (suc i) v
@@ -25,20 +25,20 @@ first-of b rest is = if is then b ∷ rest else rest
 
 -- a bit that is not wanted is passed over
 pub passed-over : (v : List VectorBit) (i : ℕ) (r : Bool × Option Bool) → option_map {U = Bool × Option Bool} (λ b. (b.tdi, b.wanted)) (slice_get v i) ≡ Some r
-    → is_some r.1 ≡ false → wanted (drop i v) ≡ wanted (drop (i + 1) v)
+    → is_some r.1 ≡ false → wanted_bits (drop i v) ≡ wanted_bits (drop (i + 1) v)
 passed-over v i r e not =
     let (b, is, w) = read-bit (slice_get v i) r e in
-    ap wanted (drop-at v i b is) ∙ ap (λ t. first-of b (wanted (drop (i + 1) v)) t) (ap is_some w ∙ not)
+    ap wanted_bits (drop-at v i b is) ∙ ap (λ t. first-of b (wanted_bits (drop (i + 1) v)) t) (ap is_some w ∙ not)
 
 -- a wanted bit is the next one
 pub next-one : (v : List VectorBit) (i : ℕ) (r : Bool × Option Bool) → option_map {U = Bool × Option Bool} (λ b. (b.tdi, b.wanted)) (slice_get v i) ≡ Some r
-    → is_some r.1 ≡ true → (b : VectorBit) × (slice_get v i ≡ Some b) × (wanted (drop i v) ≡ b ∷ wanted (drop (i + 1) v))
+    → is_some r.1 ≡ true → (b : VectorBit) × (slice_get v i ≡ Some b) × (wanted_bits (drop i v) ≡ b ∷ wanted_bits (drop (i + 1) v))
 next-one v i r e there =
     let (b, is, w) = read-bit (slice_get v i) r e in
-    (b, is, ap wanted (drop-at v i b is) ∙ ap (λ t. first-of b (wanted (drop (i + 1) v)) t) (ap is_some w ∙ there))
+    (b, is, ap wanted_bits (drop-at v i b is) ∙ ap (λ t. first-of b (wanted_bits (drop (i + 1) v)) t) (ap is_some w ∙ there))
 
 -- past the end nothing is wanted
-pub none-past : (v : List VectorBit) (i : ℕ) → length v ≤ i → wanted (drop i v) ≡ []
+pub none-past : (v : List VectorBit) (i : ℕ) → length v ≤ i → wanted_bits (drop i v) ≡ []
 none-past [] zero e = refl
 none-past [] (suc i) e = refl
 none-past (b ∷ v) zero e = absurd (omega (arith, e))

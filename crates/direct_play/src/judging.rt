@@ -4,15 +4,15 @@ ghost use Rattle.std.specs.Prelude.{◌≡◌, ◌+◌, ◌<◌, [], ◌∷◌, 
 ghost use Rattle.std.specs.Prelude.{slice_get, if◌then◌else◌};
 ghost use Rattle.scan_vectors.specs.Held.{bits};
 ghost use Rattle.scan_vectors.specs.Vector.{VectorBit, differs};
-ghost use Rattle.direct_play.specs.Judging.{wanted};
+ghost use Rattle.scan_vectors.specs.Vector.{wanted_bits};
 
 use scan_vectors::{Part, Vector};
 
 /// The first bit from this place on that is wanted.
 pub fn next_wanted(vector: &Vector, from: usize) -> Option<usize>
-    ensures { MatchOption result (wanted (drop from (bits vector.now)) ≡ [])
+    ensures { MatchOption result (wanted_bits (drop from (bits vector.now)) ≡ [])
         (λ i. (i < length (bits vector.now)) × (v : VectorBit) × (slice_get (bits vector.now) i ≡ Some v)
-        × (wanted (drop from (bits vector.now)) ≡ v ∷ wanted (drop (i + 1) (bits vector.now)))) }
+        × (wanted_bits (drop from (bits vector.now)) ≡ v ∷ wanted_bits (drop (i + 1) (bits vector.now)))) }
 {
     for i in from..vector.len() {
         if vector.bit(i).1.is_some() {

@@ -1,13 +1,13 @@
 -- The player as a function of the answers it got, and the full play against a board.
 use Rattle.std.specs.Prelude.{Bool, true, false, not, ◌||◌, ℕ, zero, suc, ◌+◌, ◌-◌, ◌==◌, nat_lt, List, [], ◌∷◌, ◌++◌}
-use Rattle.std.specs.Prelude.{map, length, take, drop, filter, find, Option, Some, None, is_some, if◌then◌else◌}
+use Rattle.std.specs.Prelude.{map, length, take, drop, find, Option, Some, None, is_some, if◌then◌else◌}
 use Rattle.jt_tap.specs.declared.State.{State}
 use Rattle.jt_tap.specs.declared.State.TheVariants.{Reset}
 use Rattle.bitbang_table.specs.declared.Message.{Message}
 use Rattle.bitbang_table.specs.declared.Message.TheVariants.{Ask, Quit}
 use Rattle.bitbang_table.specs.Protocol.{encode, read_answer}
 use Rattle.board_meaning.specs.Chain.{BoardState, hear}
-use Rattle.scan_vectors.specs.Vector.{VectorBit, judge}
+use Rattle.scan_vectors.specs.Vector.{VectorBit, judge, wanted_bits}
 use Rattle.svf_settings.specs.Steps.{Step, Scan, Numbered, Program, place_after}
 use Rattle.plays.specs.declared.ending.Ending.{Ending}
 use Rattle.plays.specs.declared.ending.Ending.TheVariants.{Pass, Fail, BadAnswer}
@@ -21,7 +21,7 @@ pub record Turn : Type 0 where
   pub wants : List VectorBit
 
 abbrev pub wants_of : Step → List VectorBit
-wants_of (Scan column v end) = filter (λ b. is_some b.wanted) v
+wants_of (Scan column v end) = wanted_bits v
 wants_of _ = []
 
 abbrev pub step_turns : State → List Numbered → List Turn

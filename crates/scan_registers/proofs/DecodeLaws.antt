@@ -10,7 +10,8 @@ use Rattle.std.specs.Prelude.{option_map, option_and_then}
 use Rattle.bsdl_device.specs.declared.Place.TheVariants.{AtUser}
 use Rattle.scan_registers.specs.declared.Selected.TheVariants.{User}
 use Rattle.scan_registers.specs.Fitting.{FitsAt, IsFormed, access_at}
-use Rattle.scan_registers.specs.Instruction.{Meaning, matches, look_up, access_meaning}
+use Rattle.bsdl_device.specs.Opcodes.{matches}
+use Rattle.scan_registers.specs.Instruction.{Meaning, look_up, access_meaning}
 
 pub matches_length : (p : Pattern) (bits : List Bool) → length p ≢ length bits → matches p bits ≡ false
 matches_length [] [] h = absurd (h refl)

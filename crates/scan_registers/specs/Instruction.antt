@@ -1,8 +1,9 @@
 -- What the instruction in a device's latch names, selects and drives (IEEE Std 1149.1-2001, clauses 7 and 8).
-use Rattle.std.specs.Prelude.{Bool, true, false, not, ◌&&◌, List, [], ◌∷◌, ◌++◌, map, replicate, Option, Some, None}
+use Rattle.std.specs.Prelude.{Bool, true, false, List, [], ◌∷◌, ◌++◌, map, replicate, Option, Some, None}
 use Rattle.std.specs.Prelude.{unwrap_or, codes, bytes_eq, slice_get, option_and_then, if◌then◌else◌}
 use Rattle.std.specs.List.{list_any, list_all, find}
-use Rattle.bsdl_device.specs.Device.{Name, Pattern, Opcode, Access, Device}
+use Rattle.bsdl_device.specs.Device.{Name, Pattern, Access, Device}
+use Rattle.bsdl_device.specs.Opcodes.{named_instruction}
 use Rattle.bsdl_device.specs.declared.Place.{Place}
 use Rattle.bsdl_device.specs.declared.Place.TheVariants.{AtBypass, AtBoundary, AtDeviceId, AtUser}
 use Rattle.scan_registers.specs.declared.Mode.{Mode}
@@ -16,25 +17,9 @@ pub record Meaning : Type 0 where
   pub selected : Selected
   pub fixed : Option (List Bool)
 
--- a pattern matches an opcode of its own length, an X either bit
-abbrev pub matches : Pattern → List Bool → Bool
-matches [] [] = true
-matches (None ∷ p) (b ∷ bits) = matches p bits
-matches (Some true ∷ p) (b ∷ bits) = b && matches p bits
-matches (Some false ∷ p) (b ∷ bits) = not b && matches p bits
-matches _ _ = false
-
-abbrev pub names_it : List Bool → Opcode → Bool
-names_it latch o = list_any (λ p. matches p latch) o.patterns
-
-abbrev pub name_of : Option Opcode → Option Name
-name_of (Some o) = Some o.name
-name_of None = None
-
--- All ones is BYPASS; else the first row with a matching opcode names the instruction.
+-- The instruction in a latch.
 abbrev pub instruction : Device → List Bool → Option Name
-instruction d latch = if list_all (λ b. b) latch then Some (codes "BYPASS")
-    else name_of (find (names_it latch) d.opcodes)
+instruction d latch = named_instruction d.opcodes latch
 
 abbrev pub selects : Mode → Selected → Meaning
 selects mode selected = record { mode = mode; selected = selected; fixed = None }

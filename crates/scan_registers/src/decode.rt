@@ -3,8 +3,9 @@
 ghost use Rattle.std.specs.Prelude.{◌≡◌, ℕ, List, Bool, Some, option_map, slice_get, map};
 ghost use Rattle.std.specs.List.{list_all};
 ghost use Rattle.scan_registers.specs.Fitting.{Fits, IsFormed, fixed_of, meaning_by};
-ghost use Rattle.scan_registers.specs.Instruction.{as_bypass, reads_code, instruction, matches, meaning, meaning_of};
-ghost use Rattle.scan_registers.specs.Instruction.{names_it, look_up, standard, access_meaning};
+ghost use Rattle.bsdl_device.specs.Opcodes.{matches, names_it};
+ghost use Rattle.scan_registers.specs.Instruction.{as_bypass, reads_code, instruction, meaning, meaning_of};
+ghost use Rattle.scan_registers.specs.Instruction.{look_up, standard, access_meaning};
 ghost use Rattle.std.specs.List.{find};
 
 use crate::{Mode, Selected};

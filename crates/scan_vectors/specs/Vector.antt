@@ -1,7 +1,7 @@
 -- The whole vector of a scan, and the judgement of what came out (Serial Vector Format, revision E, SDR, SIR and
 -- their headers and trailers).
 use Rattle.std.specs.Prelude.{Bool, true, false, not, ℕ, suc, List, [], ◌∷◌, ◌++◌, map, Option, Some, None}
-use Rattle.std.specs.Prelude.{if◌then◌else◌}
+use Rattle.std.specs.Prelude.{if◌then◌else◌, filter, is_some}
 use Rattle.scan_vectors.specs.declared.part.Part.{Part}
 use Rattle.scan_vectors.specs.declared.part.Part.TheVariants.{Header, Data, Trailer}
 
@@ -31,6 +31,10 @@ join h b t =
 
 abbrev pub tdis : List VectorBit → List Bool
 tdis v = map (λ b. b.tdi) v
+
+-- the bits that are wanted, each of which a read byte asks for
+abbrev pub wanted_bits : List VectorBit → List VectorBit
+wanted_bits v = filter (λ b. is_some b.wanted) v
 
 abbrev pub differs : Option Bool → Bool → Bool
 differs (Some true) b = not b

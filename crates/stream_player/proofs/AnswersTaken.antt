@@ -1,5 +1,6 @@
 -- Answers taken.
 use Rattle.std.proofs.Common.{◌≡◌, Bool, true, false, ℕ, zero, suc, ◌+◌, ◌-◌, ◌<◌, ◌≤◌, List, [], ◌∷◌, length, take, drop, refl, sym, ap, subst, ◌∙◌, arith, count_by, Option, Some, None}
+use Rattle.std.specs.Option.{option_or}
 use Rattle.std.proofs.lemmas.Bool.{eqb-true}
 use Rattle.std.specs.Prelude.{◌==◌, not, filter, is_some, option_map, slice_get, if◌then◌else◌}
 use Rattle.jt_tap.specs.declared.State.TheVariants.{Reset}
@@ -24,7 +25,7 @@ use Rattle.stream_player.specs.declared.progress.Progress.{Progress}
 use Rattle.stream_player.specs.Progress.{InPhase, InStep, IsOver, Stands, gone, mismatch, standing_at, state_of, vector_bits}
 use Rattle.stream_player.specs.PlaceInPlay.{PlaceInPlay, differing_bit, state_at}
 use Rattle.stream_player.proofs.Ahead.{ahead, owes}
-use Rattle.stream_player.proofs.Ends.{first_of, hears, quits, quits-behind}
+use Rattle.stream_player.proofs.Ends.{hears, quits, quits-behind}
 use Rattle.stream_player.proofs.TurnPlaces.{owed-is, reached}
 use Rattle.stream_player.proofs.Pieced.{fair-end, first, is-over, none-of, opened, start, stops-is, turns-end}
 use Rattle.stream_player.proofs.Steps.{cut, same-first, wants-of-vector}
@@ -187,15 +188,15 @@ module _ (program : Program) (p : Progress) (spot : Spot) (is : p.phase ≡ With
       }
 
   failed-then : (b : Bool) → is_some p.failed ≡ b
-      → option_map mismatch f ≡ first_of (option_map mismatch p.failed) (differing_bit i.step.number n.first (byte == 49))
+      → option_map mismatch f ≡ option_or (option_map mismatch p.failed) (differing_bit i.step.number n.first (byte == 49))
   failed-then false e =
       let none = none-of p.failed e in
       (judged-then none).1 ∙ ap (differing_bit i.step.number n.first) (sym said)
-      ∙ ap (λ (o : Option declared.Mismatch). first_of (option_map mismatch o) (differing_bit i.step.number n.first (byte == 49))) (sym none)
+      ∙ ap (λ (o : Option declared.Mismatch). option_or (option_map mismatch o) (differing_bit i.step.number n.first (byte == 49))) (sym none)
   failed-then true e = ap (option_map mismatch) (judged.kept e).1 ∙ stays p.failed e
     where
       stays : (o : Option declared.Mismatch) → is_some o ≡ true
-          → option_map mismatch o ≡ first_of (option_map mismatch o) (differing_bit i.step.number n.first (byte == 49))
+          → option_map mismatch o ≡ option_or (option_map mismatch o) (differing_bit i.step.number n.first (byte == 49))
       stays None e = absurd (cc)
       stays (Some m) e = refl
 

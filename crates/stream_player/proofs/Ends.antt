@@ -1,5 +1,6 @@
 -- A player that hears an answer, that quits, and what it tells.
 use Rattle.std.proofs.Common.{◌≡◌, ◌⊎◌, Bool, true, false, ℕ, zero, suc, ◌+◌, ◌-◌, ◌<◌, ◌≤◌, List, [], ◌∷◌, ◌++◌, map, length, take, drop, refl, ap, ◌∙◌, arith, length-append, inl, inr, Option, Some, None}
+use Rattle.std.specs.Option.{option_or}
 use Rattle.std.proofs.Math.Seq.{drop-append-add}
 use Rattle.std.proofs.lemmas.Bool.{ltb-true, ltb-false, leb-true, leb-false}
 use Rattle.std.proofs.lemmas.List.{length-map}
@@ -44,12 +45,7 @@ abbrev listed : Option Mismatch → List Mismatch
 listed None = []
 listed (Some m) = m ∷ []
 
--- the first that differs is kept
-abbrev pub first_of : Option Mismatch → Option Mismatch → Option Mismatch
-first_of None later = later
-first_of (Some m) later = Some m
-
-noted-first : (had more : Option Mismatch) → with_more Stops (listed more) (finding_of had) ≡ finding_of (first_of had more)
+noted-first : (had more : Option Mismatch) → with_more Stops (listed more) (finding_of had) ≡ finding_of (option_or had more)
 noted-first None None = refl
 noted-first None (Some m) = refl
 noted-first (Some m) None = refl
@@ -67,7 +63,7 @@ module _ (program : Program) (s : PlaceInPlay) (t : Turn) (later : List Turn) (h
   -- An answer is heard: it is judged by the next wanted bit.
   pub hears : (byte : ℕ) (w : VectorBit) (ws : List VectorBit) → s.bad ≡ None → is_bad byte ≡ false → drop s.heard t.wants ≡ w ∷ ws
       → hear byte (state_at program s)
-      ≡ state_at program (record s { heard = s.heard + 1; failed = first_of s.failed (differing_bit t.command w (byte == 49)) })
+      ≡ state_at program (record s { heard = s.heard + 1; failed = option_or s.failed (differing_bit t.command w (byte == 49)) })
   hears byte w ws none good next =
       let now = state_at program s in
       let left : drop now.answered (all_wanted (turns program.steps)) ≡ of-turn t w ∷ (map (of-turn t) ws ++ all_wanted later) =

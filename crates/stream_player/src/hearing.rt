@@ -4,7 +4,7 @@ ghost use Rattle.std.specs.Prelude.{◌≡◌, ◌<◌, ◌+◌, ◌∷◌, fals
 ghost use Rattle.std.specs.Prelude.{length, option_map, slice_get};
 ghost use Rattle.scan_vectors.specs.Held.{bits};
 ghost use Rattle.scan_vectors.specs.Vector.{VectorBit};
-ghost use Rattle.direct_play.specs.Judging.{wanted};
+ghost use Rattle.scan_vectors.specs.Vector.{wanted_bits};
 ghost use Rattle.svf_settings.specs.Sizes.{program_of};
 ghost use Rattle.svf_settings.specs.Seen as seen;
 ghost use Rattle.svf_settings.specs.Seen.{numbered};
@@ -104,8 +104,8 @@ fn judged(command: usize, vector: &Vector<'_>, p: Progress, bit: bool) -> Progre
     ensures kept { is_some p.failed ≡ true → result ≡ p }
     ensures rest { result ≡ record p { judged = result.judged; failed = result.failed } }
     ensures judged { p.failed ≡ None → (w : VectorBit) (ws : List VectorBit)
-        → wanted (drop p.judged (bits vector.now)) ≡ w ∷ ws
-        → (wanted (drop result.judged (bits vector.now)) ≡ ws)
+        → wanted_bits (drop p.judged (bits vector.now)) ≡ w ∷ ws
+        → (wanted_bits (drop result.judged (bits vector.now)) ≡ ws)
         × (option_map mismatch result.failed ≡ differing_bit command w bit) }
 {
     if p.failed.is_some() {

@@ -1,5 +1,6 @@
 -- The judgement of a vector by pieces of what comes out.
 use Rattle.std.proofs.Common.{◌≡◌, ℕ, zero, suc, ◌+◌, ◌<◌, ◌≤◌, Bool, true, false, ◌&&◌, List, [], ◌∷◌, ◌++◌, length, take, drop, refl, sym, ap, ◌∙◌, arith, if◌then◌else◌, Option, Some, None}
+use Rattle.std.specs.Option.{option_or}
 use Rattle.std.specs.Prelude.{slice_get, option_map}
 use Rattle.std.proofs.lemmas.List.{drop_all, drop-drop}
 use Rattle.jt_bits.specs.Packed.{has_bit}
@@ -8,10 +9,6 @@ use Rattle.scan_vectors.specs.declared.part.Part.{Part}
 use Rattle.scan_vectors.specs.Vector.{VectorBit, judge, differs, tdis}
 use Rattle.scan_vectors.specs.Held.{wanted_of}
 use Rattle.whole_scan.specs.Pieces.{Begins}
-
-abbrev pub or_else : Option (Part × ℕ) → Option (Part × ℕ) → Option (Part × ℕ)
-or_else (Some p) o = Some p
-or_else None o = o
 
 -- what comes out is judged up to the vector's end
 pub judge-take : (vs : List VectorBit) (bits : List Bool) → judge vs (take (length vs) bits) ≡ judge vs bits
@@ -27,11 +24,11 @@ pub judge-nothing : (bits : List Bool) → judge [] bits ≡ None
 judge-nothing [] = refl
 judge-nothing (b ∷ bits) = refl
 
-choice : (t : Bool) (s : Part × ℕ) (o p : Option (Part × ℕ)) → (if t then Some s else or_else o p) ≡ or_else (if t then Some s else o) p
+choice : (t : Bool) (s : Part × ℕ) (o p : Option (Part × ℕ)) → (if t then Some s else option_or o p) ≡ option_or (if t then Some s else o) p
 choice true s o p = refl
 choice false s o p = refl
 
-pub judge-append : (vs : List VectorBit) (xs ys : List Bool) → judge vs (xs ++ ys) ≡ or_else (judge vs xs) (judge (drop (length xs) vs) ys)
+pub judge-append : (vs : List VectorBit) (xs ys : List Bool) → judge vs (xs ++ ys) ≡ option_or (judge vs xs) (judge (drop (length xs) vs) ys)
 judge-append [] [] ys = refl
 judge-append [] (x ∷ xs) ys = sym (judge-nothing ys)
 judge-append (v ∷ vs) [] ys = refl

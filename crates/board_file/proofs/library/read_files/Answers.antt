@@ -1,6 +1,6 @@
 use Rattle.std.proofs.Common.{◌∙◌, [], sym, ap, subst, drop, option_map, Bor, List, ℕ, ◌+◌}
+use Rattle.std.specs.Option.{option_or}
 use Rattle.std.proofs.Math.ListN.{get_or}
-use Rattle.board_tables.specs.Faults.{or_else}
 use Rattle.board_tables.specs.View.{texts_of}
 use Rattle.board_file.specs.Files.{described, missing_in, refused_in}
 use Rattle.board_file.specs.View.{files_of, IsFirstRefusal}
@@ -23,6 +23,6 @@ loop-name-preserved g c =
     let before = c.loop-name.library in
     record {
       devices = rw c.in_ok-note.ensures.devices (devices_more (described says files) before.devices.items _ name.now _ more _ next (described_there says refuses files name.now c.in_ok-reading.reading read) c.loop-name.invariant.devices);
-      missing = rw c.in_ok-note.ensures.missing (missing_there says refuses files before.missing name c.in_ok-reading.reading more read ∙ ap (λ r. or_else (option_map (λ n. n.now) before.missing) (missing_in files r)) (sym next) ∙ c.loop-name.invariant.missing);
+      missing = rw c.in_ok-note.ensures.missing (missing_there says refuses files before.missing name c.in_ok-reading.reading more read ∙ ap (λ r. option_or (option_map (λ n. n.now) before.missing) (missing_in files r)) (sym next) ∙ c.loop-name.invariant.missing);
       refused = rw c.in_ok-note.ensures.refused (refused_there says refuses files before.refused name.now c.in_ok-reading.reading more _ read (subst (λ r. IsFirstRefusal refuses before.refused (refused_in says files r) (refused_in says files (texts_of names))) next c.loop-name.invariant.refused));
     }

@@ -1,5 +1,5 @@
 use Rattle.std.proofs.Common.{◌≡◌, ◌++◌, drop, map, option_map}
-use Rattle.board_tables.specs.Faults.{or_else}
+use Rattle.std.specs.Option.{option_or}
 use Rattle.board_tables.specs.View.{texts_of}
 use Rattle.board_file.specs.Files.{described, missing_in, refused_in}
 use Rattle.board_file.specs.View.{IsFirstRefusal, files_of}
@@ -14,6 +14,6 @@ invariant-loop-name g l =
     let all = texts_of l.names in
     record {
       devices : l.library.devices.items ++ map (described says files) rest ≡ map (described says files) all;
-      missing : or_else (option_map (λ n. n.now) l.library.missing) (missing_in files rest) ≡ missing_in files all;
+      missing : option_or (option_map (λ n. n.now) l.library.missing) (missing_in files rest) ≡ missing_in files all;
       refused : IsFirstRefusal g.R.Describe.refuses l.library.refused (refused_in says files rest) (refused_in says files all);
     }

@@ -1,7 +1,8 @@
 use Rattle.std.proofs.Common.{◌≡◌, ◌+◌, ℕ, List, drop}
+use Rattle.std.specs.Option.{option_or}
 use Rattle.bsdl_entity.specs.View.{group}
 use Rattle.bsdl_limits.proofs.WidthLaws.{ports_named}
-use Rattle.bsdl_fit.specs.Places.{find_port, or_first}
+use Rattle.bsdl_fit.specs.Places.{find_port}
 use Rattle.bsdl_fit.specs.View.{place_named}
 use Rattle.bsdl_fit.proofs.places.add_group.Given as goal
 
@@ -10,5 +11,5 @@ invariant-loop-name l = record {
   counted : l.places.next ≡ l.initial.places.next + l.name-index;
   kept :
       (q : List ℕ)
-      → or_first (place_named l.places q) (find_port l.places.next (ports_named l.group.mode l.group.range (drop l.name-index l.group.names.items)) q) ≡ or_first (place_named l.initial.places q) (find_port l.initial.places.next (group l.group) q);
+      → option_or (place_named l.places q) (find_port l.places.next (ports_named l.group.mode l.group.range (drop l.name-index l.group.names.items)) q) ≡ option_or (place_named l.initial.places q) (find_port l.initial.places.next (group l.group) q);
 }

@@ -1,8 +1,9 @@
 use Rattle.std.proofs.Common.{◌+◌, ◌∷◌, drop, ap, sym, ◌∙◌}
+use Rattle.std.specs.Option.{option_or}
 use Rattle.std.proofs.lemmas.List.{at_drop_more}
 use Rattle.bsdl_entity.specs.View as view
 use Rattle.bsdl_entity.specs.declared.ports.Group.{Group}
-use Rattle.bsdl_fit.specs.Places.{find_port, or_first}
+use Rattle.bsdl_fit.specs.Places.{find_port}
 use Rattle.bsdl_fit.specs.View.{place_named}
 use Rattle.bsdl_fit.proofs.PlaceLaws.{group_kept}
 use Rattle.bsdl_fit.proofs.places.places_of.Goals as goal
@@ -13,6 +14,6 @@ loop-group-preserved c = λ q.
     let i = c.loop-group.group-index in
     let n = c.loop-group.places.next in
     group_kept (place_named c.loop-group.places) (place_named c.add_group.new.places) n c.add_group.new.places.next c.group-item.result (drop (i + 1) groups) q c.in_ok-add_group.ensures.next c.in_ok-add_group.ensures.found
-    ∙ ap (λ (g : Group). or_first (place_named c.loop-group.places q) (find_port n (view.ports (g ∷ drop (i + 1) groups)) q)) c.group-item.is
-    ∙ sym (at_drop_more (λ gs. or_first (place_named c.loop-group.places q) (find_port n (view.ports gs) q)) groups i c.group-item.result c.loop-group-test.true)
+    ∙ ap (λ (g : Group). option_or (place_named c.loop-group.places q) (find_port n (view.ports (g ∷ drop (i + 1) groups)) q)) c.group-item.is
+    ∙ sym (at_drop_more (λ gs. option_or (place_named c.loop-group.places q) (find_port n (view.ports gs) q)) groups i c.group-item.result c.loop-group-test.true)
     ∙ c.loop-group.invariant q

@@ -1,6 +1,7 @@
 use Rattle.std.proofs.Common.{◌≡◌, map, drop}
 use Rattle.bsdl_instructions.specs.Values.{bit}
-use Rattle.bsdl_twice.specs.ResetOpcode.{bits, matches}
+use Rattle.bsdl_twice.specs.ResetOpcode.{bits}
+use Rattle.bsdl_device.specs.Opcodes.{matches}
 use Rattle.bsdl_twice.proofs.reset_opcode.digits_match.Given as goal
 
 abbrev pub invariant-loop-i : goal.invariant-loop-i

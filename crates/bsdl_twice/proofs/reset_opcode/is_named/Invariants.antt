@@ -3,7 +3,8 @@ use Rattle.std.specs.Prelude.{reverse}
 use Rattle.std.specs.List.{list_any}
 use Rattle.bsdl_instructions.specs.Values.{bit}
 use Rattle.bsdl_instructions.specs.View.{pattern}
-use Rattle.bsdl_twice.specs.ResetOpcode.{bits, matches}
+use Rattle.bsdl_twice.specs.ResetOpcode.{bits}
+use Rattle.bsdl_device.specs.Opcodes.{matches}
 use Rattle.bsdl_twice.proofs.reset_opcode.is_named.Given as goal
 
 abbrev pub invariant-loop-pattern : goal.invariant-loop-pattern

@@ -3,7 +3,8 @@ use Rattle.std.specs.Prelude.{reverse}
 use Rattle.std.specs.List.{find}
 use Rattle.bsdl_instructions.specs.Values.{bit}
 use Rattle.bsdl_instructions.specs.View.{opcode_row}
-use Rattle.bsdl_twice.specs.ResetOpcode.{bits, opcode, names_it}
+use Rattle.bsdl_twice.specs.ResetOpcode.{bits, opcode}
+use Rattle.bsdl_device.specs.Opcodes.{names_it}
 use Rattle.bsdl_twice.proofs.reset_opcode.names_idcode.Given as goal
 
 abbrev pub invariant-loop-row : goal.invariant-loop-row

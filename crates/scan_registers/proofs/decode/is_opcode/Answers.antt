@@ -1,7 +1,7 @@
 use Rattle.std.proofs.Common.{◌<◌, length, sym, ap, ◌∙◌, arith}
 use Rattle.std.proofs.lemmas.Option.{get_or_from_slice_get}
 use Rattle.bsdl_device.specs.Device.{Pattern}
-use Rattle.scan_registers.specs.Instruction.{matches}
+use Rattle.bsdl_device.specs.Opcodes.{matches}
 use Rattle.scan_registers.proofs.DecodeLaws.{matches_length, digit_differs, digit_same, digit_free}
 use Rattle.scan_registers.proofs.decode.is_opcode.Goals as goal
 use Rattle.scan_registers.proofs.decode.is_opcode.Goals.{in-Some+else-get-wanted, in_default}
