@@ -1,5 +1,5 @@
 -- The first key of a board file that is at fault: those of the file, then of each device, then of each net.
-use Rattle.std.specs.Prelude.{ℕ, List, [], ◌∷◌, ◌++◌, drop, codes, Option, Some, None}
+use Rattle.std.specs.Prelude.{ℕ, List, [], ◌∷◌, ◌++◌, drop, codes, Option, None}
 use Rattle.std.specs.Option.{option_or}
 use Rattle.toml.specs.Data.{Members}
 use Rattle.board_tables.specs.Fields.{name_at, tables_at}

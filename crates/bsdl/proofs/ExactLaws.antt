@@ -1,5 +1,6 @@
 -- In every device that a text says, what a register takes is as long as it.
 use Rattle.std.proofs.Common.{◌≡◌, ◌<◌, ℕ, suc, Bool, true, false, nat_eq, ◌&&◌, ◌||◌, cond, List, [], ◌∷◌, ◌++◌, map, refl, sym, ap, ◌∙◌, arith}
+use Rattle.bsdl_device.specs.Opcodes.{x_as_0}
 use Rattle.std.specs.Prelude.{Option, Some, None, Result, Ok, Err, is_some, not, option_map, unwrap_or, filter, bytes_eq, codes, slice_get}
 use Rattle.std.specs.List.{AllByRecursion, flat_map, list_all, list_any}
 use Rattle.std.proofs.lemmas.Bool.Decides.{nat_tests}
@@ -11,7 +12,6 @@ use Rattle.bsdl_entity.specs.Entity.{File}
 use Rattle.bsdl_described.specs.Describing.{Description, Refusal, described, ◌>>?◌}
 use Rattle.bsdl_lengths.specs.Lengths.{access_fits, agree, patterns_captured, captures_fit, codes_fit, differ, has_bits, has_len, instructions_fit, is_empty, row_len}
 use Rattle.bsdl_limits.specs.Users.{is_other, is_user, user_number, users_of}
-use Rattle.bsdl_twice.specs.ResetOpcode.{bits}
 use Rattle.bsdl_built.specs.Built.{access, accesses_of_row, device, public_place}
 use Rattle.bsdl.specs.Exact.{IsExactAccess, IsExactAt, IsExactDevice, Takes}
 use Rattle.bsdl.specs.Form.{text_form}
@@ -166,7 +166,7 @@ public_row : (lens : List ℕ) (q : Name) (is : List Instr) → AllExact lens (m
 public_row lens q [] = tt
 public_row lens q (i ∷ is) = (public_exact lens q None, public_row lens q is)
 
-captures_long : (n : ℕ) (o : Option Pattern) → list_all (has_len n) (patterns_captured o) ≡ true → HasLengthIfGiven n (option_map bits o)
+captures_long : (n : ℕ) (o : Option Pattern) → list_all (has_len n) (patterns_captured o) ≡ true → HasLengthIfGiven n (option_map x_as_0 o)
 captures_long n None fits = tt
 captures_long n (Some p) fits = bits_len p ∙ is_long n p (both (has_len n p) true fits).0
 
@@ -174,7 +174,7 @@ own_row : (lens : List ℕ) (k n : ℕ) (is : List Instr) → slice_get lens k �
 own_row lens k n [] there some fits = tt
 own_row lens k n (i ∷ is) there some fits =
     let parts = both (captures_fit n i) (list_all (captures_fit n) is) fits in
-    let here : Takes (slice_get lens k) (option_map bits i.captures) = rw there (some, captures_long n i.captures parts.0) in
+    let here : Takes (slice_get lens k) (option_map x_as_0 i.captures) = rw there (some, captures_long n i.captures parts.0) in
     (here, own_row lens k n is there some parts.1)
 
 row_exact : (us : List (Name × ℕ)) (b : ℕ) (r : AccessRow) → IsFound us r → access_fits b r ≡ true → AllExact (map (λ u. u.1) us) (accesses_of_row us r)

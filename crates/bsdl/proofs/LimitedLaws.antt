@@ -1,5 +1,6 @@
 -- Every device that a text says keeps the limits.
 use Rattle.std.proofs.Common.{◌≡◌, ◌<◌, ◌≤◌, ℕ, zero, suc, ◌+◌, ◌-◌, true, false, List, [], ◌∷◌, length, map, refl, sym, ◌∙◌, arith}
+use Rattle.bsdl_device.specs.Opcodes.{x_as_0}
 use Rattle.std.specs.Option.{option_or}
 use Rattle.std.specs.Prelude.{Option, Some, None, Result, Ok, Err, option_map, unwrap_or, nat_le, slice_get}
 use Rattle.std.specs.List.{AllByRecursion, flat_map, list_all, range_with_len, sum_by}
@@ -16,7 +17,7 @@ use Rattle.bsdl_lengths.specs.Lengths.{captures_one, codes_fit, ends_in_one, has
 use Rattle.bsdl_limits.specs.Limits.{cells_within, instructions_within, is_within_limits, ports_within, subscript_limit, users_within}
 use Rattle.bsdl_limits.specs.PortBits.{highest, width}
 use Rattle.bsdl_limits.specs.Users.{users_of}
-use Rattle.bsdl_twice.specs.ResetOpcode.{bits, opcode}
+use Rattle.bsdl_twice.specs.ResetOpcode.{opcode}
 use Rattle.bsdl_twice.specs.Twice.{given_again}
 use Rattle.bsdl_built.specs.Built.{cell, device, port_bits}
 use Rattle.bsdl.specs.Form.{text_form}
@@ -52,7 +53,7 @@ cells_len d a (suc n) once =
 
 -- ---- patterns
 
-pub bits_len : (p : Pattern) → length (bits p) ≡ length p
+pub bits_len : (p : Pattern) → length (x_as_0 p) ≡ length p
 bits_len p = length-map p (λ b. unwrap_or b false)
 
 pub is_long : (n : ℕ) (p : Pattern) → has_len n p ≡ true → length p ≡ n
@@ -70,7 +71,7 @@ rows_long n (r ∷ rows) fits =
     let parts = both (list_all (has_len n) r.patterns) (list_all (λ s. list_all (has_len n) s.patterns) rows) fits in
     (are_long n r.patterns parts.0, rows_long n rows parts.1)
 
-code_long : (ps : List Pattern) → list_all (has_len 32) ps ≡ true → HasLengthIfGiven 32 (option_map bits (slice_get ps 0))
+code_long : (ps : List Pattern) → list_all (has_len 32) ps ≡ true → HasLengthIfGiven 32 (option_map x_as_0 (slice_get ps 0))
 code_long [] fits = tt
 code_long (p ∷ ps) fits = bits_len p ∙ is_long 32 p (both (has_len 32 p) (list_all (has_len 32) ps) fits).0
 

@@ -1,5 +1,6 @@
 -- Every device that a text says is sound.
 use Rattle.std.proofs.Common.{◌≡◌, ◌<◌, ℕ, zero, suc, ◌+◌, Bool, true, false, nat_eq, ◌||◌, cond, List, [], ◌∷◌, ◌++◌, length, map, refl, sym, ap, ◌∙◌, arith}
+use Rattle.bsdl_device.specs.Opcodes.{x_as_0}
 use Rattle.std.specs.Prelude.{Option, Some, None, Result, Ok, Err, is_some, not, option_map, unwrap_or, filter, bytes_eq, codes, nat_le, slice_get}
 use Rattle.std.specs.List.{AllByRecursion, flat_map, list_all, list_any, range_with_len}
 use Rattle.std.proofs.lemmas.Bool.Decides.{nat_tests}
@@ -13,23 +14,22 @@ use Rattle.bsdl_described.specs.Describing.{Description, Refusal, bad_length, de
 use Rattle.bsdl_fit.specs.Fits.{rows_numbered}
 use Rattle.bsdl_lengths.specs.Lengths.{access_fits, agree, patterns_captured, captures_fit, codes_fit, has_bits, has_len, instructions_fit, is_empty, lengths_fit, row_len}
 use Rattle.bsdl_limits.specs.Users.{is_other, user_number, users_of}
-use Rattle.bsdl_twice.specs.ResetOpcode.{bits}
 use Rattle.bsdl_twice.specs.Twice.{given_again}
 use Rattle.bsdl_built.specs.Built.{access, accesses_of_row, cell, cells_of, device, public_place}
 use Rattle.bsdl.specs.Form.{text_form}
 use Rattle.bsdl.specs.Judging.{fault, file_says, device_or_refusal, text_says, twice_in, unless}
 use Rattle.bsdl.proofs.OnceLaws.{both, each_cell_once, holds, neither}
 
-bits_len : (p : Pattern) → length (bits p) ≡ length p
+bits_len : (p : Pattern) → length (x_as_0 p) ≡ length p
 bits_len p = length-map p (λ b. unwrap_or b false)
 
-has_bit : (n : ℕ) (p : Pattern) → 0 < n → has_len n p ≡ true → 0 < length (bits p)
+has_bit : (n : ℕ) (p : Pattern) → 0 < n → has_len n p ≡ true → 0 < length (x_as_0 p)
 has_bit n p some fits =
     let len : length p ≡ n = grind (arith, nat_tests) in
     omega (arith, bits_len p)
 
 -- the first code
-code : (ps : List Pattern) → list_all (has_len 32) ps ≡ true → HasBitIfGiven (option_map bits (slice_get ps 0))
+code : (ps : List Pattern) → list_all (has_len 32) ps ≡ true → HasBitIfGiven (option_map x_as_0 (slice_get ps 0))
 code [] fits = tt
 code (p ∷ ps) fits = has_bit 32 p (omega arith) (both (has_len 32 p) (list_all (has_len 32) ps) fits).0
 
@@ -127,7 +127,7 @@ public_row : (lens : List ℕ) (q : Name) (is : List Instr) → AllSound lens (m
 public_row lens q [] = tt
 public_row lens q (i ∷ is) = (public_sound lens q None, public_row lens q is)
 
-captures_sound : (n : ℕ) (o : Option Pattern) → 0 < n → list_all (has_len n) (patterns_captured o) ≡ true → HasBitIfGiven (option_map bits o)
+captures_sound : (n : ℕ) (o : Option Pattern) → 0 < n → list_all (has_len n) (patterns_captured o) ≡ true → HasBitIfGiven (option_map x_as_0 o)
 captures_sound n None some fits = tt
 captures_sound n (Some p) some fits = has_bit n p some (both (has_len n p) true fits).0
 

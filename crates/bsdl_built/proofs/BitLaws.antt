@@ -1,11 +1,11 @@
 -- The bits of a pattern, from the right.
 use Rattle.std.proofs.Common.{◌≡◌, ◌<◌, ℕ, ◌+◌, ◌-◌, Bool, false, nat_eq, List, [], ◌∷◌, ◌++◌, length, map, take, get_or, sym, ap, ◌∙◌, arith}
+use Rattle.bsdl_device.specs.Opcodes.{x_as_0}
 use Rattle.std.specs.Prelude.{Some, option_map, reverse, slice_get, slice_set, unwrap_or}
 use Rattle.std.proofs.lemmas.Bool.Decides.{nat_tests}
 use Rattle.std.proofs.lemmas.List.{get_or-reverse, length-map, length-reverse, take_more, take_more_set}
 use Rattle.std.proofs.lemmas.Option.{get_or_from_slice_get, slice_get-get_or, slice_get-map}
 use Rattle.bsdl_instructions.specs.Values.{bit}
-use Rattle.bsdl_twice.specs.ResetOpcode.{bits}
 
 from_right : (ds : List ℕ) (k d : ℕ) → k < length ds → slice_get (reverse (map bit ds)) k ≡ Some (bit (get_or ds (length ds - 1 - k) d))
 from_right ds k d h =
@@ -22,10 +22,10 @@ from_right ds k d h =
 one_is : (d : ℕ) → unwrap_or (bit d) false ≡ nat_eq d 49
 one_is d = grind (arith, nat_tests)
 
-pub bit_more : (ds : List ℕ) (bs : List Bool) (i d : ℕ) → length bs ≡ length ds → i < length ds → d ≡ get_or ds (length ds - 1 - i) d → take i bs ≡ take i (bits (reverse (map bit ds)))
-    → take (i + 1) (slice_set bs i (nat_eq d 49)) ≡ take (i + 1) (bits (reverse (map bit ds)))
+pub bit_more : (ds : List ℕ) (bs : List Bool) (i d : ℕ) → length bs ≡ length ds → i < length ds → d ≡ get_or ds (length ds - 1 - i) d → take i bs ≡ take i (x_as_0 (reverse (map bit ds)))
+    → take (i + 1) (slice_set bs i (nat_eq d 49)) ≡ take (i + 1) (x_as_0 (reverse (map bit ds)))
 bit_more ds bs i d len h digit front =
-    let target = bits (reverse (map bit ds)) in
+    let target = x_as_0 (reverse (map bit ds)) in
     let b = nat_eq d 49 in
     let inside : i < length bs = omega arith in
     let at : slice_get target i ≡ Some b =

@@ -1,5 +1,6 @@
 -- The device that a description says.
 use Rattle.std.specs.Prelude.{ℕ, ◌+◌, ◌-◌, ◌==◌, Bool, filter, option_and_then, is_some, if◌then◌else◌, List, map}
+use Rattle.bsdl_device.specs.Opcodes.{x_as_0}
 use Rattle.std.specs.Prelude.{Option, Some, None, option_map, unwrap_or, bytes_eq, codes, slice_get}
 use Rattle.std.specs.List.{range_with_len, flat_map}
 use Rattle.bsdl_text.specs.Words.{upper}
@@ -11,7 +12,7 @@ use Rattle.bsdl_device.specs.declared.Place.TheVariants.{AtBypass, AtBoundary, A
 use Rattle.bsdl_instructions.specs.Values.{AccessRow, Instr}
 use Rattle.bsdl_cells.specs.Rows.{CellRow}
 use Rattle.bsdl_entity.specs.Entity.{Port}
-use Rattle.bsdl_twice.specs.ResetOpcode.{bits, opcode}
+use Rattle.bsdl_twice.specs.ResetOpcode.{opcode}
 use Rattle.bsdl_limits.specs.PortBits.{bit_number}
 use Rattle.bsdl_device.specs.Ports.{bits_of}
 use Rattle.bsdl_limits.specs.Users.{user_number, users_of}
@@ -53,7 +54,7 @@ access place is_own i =
     record {
       instruction = upper i.name.text;
       place = place;
-      captures = if is_own then option_map bits i.captures
+      captures = if is_own then option_map x_as_0 i.captures
           else None;
     }
 
@@ -65,9 +66,9 @@ device d = record {
   ports = flat_map (port_bits d.taps) d.ports;
   instruction_length = d.instruction_length;
   opcodes = map opcode d.opcodes;
-  capture = bits d.capture;
-  idcode = option_map bits (slice_get d.idcodes 0);
-  usercode = option_map bits (slice_get d.usercodes 0);
+  capture = x_as_0 d.capture;
+  idcode = option_map x_as_0 (slice_get d.idcodes 0);
+  usercode = option_map x_as_0 (slice_get d.usercodes 0);
   cells = cells_of d.ports d.cells d.boundary_length;
   private_names = d.private_names;
   accesses = flat_map (accesses_of_row (users_of d.accesses)) d.accesses;

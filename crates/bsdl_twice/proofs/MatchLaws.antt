@@ -7,8 +7,7 @@ use Rattle.std.proofs.lemmas.List.Folds.{list_all-append}
 use Rattle.std.proofs.lemmas.Bool.Decides.{nat_tests}
 use Rattle.bsdl_device.specs.Device.{Pattern}
 use Rattle.bsdl_instructions.specs.Values.{bit}
-use Rattle.bsdl_device.specs.Opcodes.{matches, matches_bit}
-use Rattle.bsdl_twice.specs.ResetOpcode.{bits}
+use Rattle.bsdl_device.specs.Opcodes.{matches, matches_bit, x_as_0}
 
 and_swap : (a b : Bool) → (a && b) ≡ (b && a)
 and_swap true true = refl
@@ -51,22 +50,22 @@ matches_reversed (d ∷ p) (b ∷ bs) =
     rw (reverse_cons d p, reverse_cons b bs) (one_at_end (reverse p) (reverse bs) d b ∙ and_swap (matches (reverse p) (reverse bs)) (matches_bit d b) ∙ ap (λ r. matches_bit d b && r) (matches_reversed p bs))
 
 -- the same of the digits as they are written
-bits_reversed : (q : Pattern) → bits (reverse q) ≡ reverse (bits q)
+bits_reversed : (q : Pattern) → x_as_0 (reverse q) ≡ reverse (x_as_0 q)
 bits_reversed [] = refl
 bits_reversed (d ∷ q) =
-    ap bits (reverse_cons d q) ∙ map_behind (reverse q) d ∙ ap (λ bs. bs ++ unwrap_or d false ∷ []) (bits_reversed q) ∙ sym (reverse_cons (unwrap_or d false) (bits q))
+    ap x_as_0 (reverse_cons d q) ∙ map_behind (reverse q) d ∙ ap (λ bs. bs ++ unwrap_or d false ∷ []) (bits_reversed q) ∙ sym (reverse_cons (unwrap_or d false) (x_as_0 q))
   where
-    map_behind : (p : Pattern) (e : Option Bool) → bits (p ++ e ∷ []) ≡ bits p ++ unwrap_or e false ∷ []
+    map_behind : (p : Pattern) (e : Option Bool) → x_as_0 (p ++ e ∷ []) ≡ x_as_0 p ++ unwrap_or e false ∷ []
     map_behind [] e = refl
     map_behind (f ∷ p) e = ap (λ bs. unwrap_or f false ∷ bs) (map_behind p e)
 
-pub written_match : (p q : Pattern) → matches (reverse p) (bits (reverse q)) ≡ matches p (bits q)
-written_match p q = ap (matches (reverse p)) (bits_reversed q) ∙ matches_reversed p (bits q)
+pub written_match : (p q : Pattern) → matches (reverse p) (x_as_0 (reverse q)) ≡ matches p (x_as_0 q)
+written_match p q = ap (matches (reverse p)) (bits_reversed q) ∙ matches_reversed p (x_as_0 q)
 
 one_is : (d : ℕ) → unwrap_or (bit d) false ≡ (d == 49)
 one_is d = grind (arith, nat_tests)
 
-all_ones : (ds : List ℕ) → list_all (λ b. b) (bits (map bit ds)) ≡ list_all (λ d. d == 49) ds
+all_ones : (ds : List ℕ) → list_all (λ b. b) (x_as_0 (map bit ds)) ≡ list_all (λ d. d == 49) ds
 all_ones [] = refl
 all_ones (d ∷ ds) = rw (one_is d) (ap (λ r. (d == 49) && r) (all_ones ds))
 
@@ -82,10 +81,10 @@ all_reversed (b ∷ bs) =
     swapped false true = refl
     swapped false false = refl
 
-pub ones_reversed : (ds : List ℕ) → list_all (λ b. b) (bits (reverse (map bit ds))) ≡ list_all (λ d. d == 49) ds
-ones_reversed ds = ap (list_all (λ b. b)) (bits_reversed (map bit ds)) ∙ all_reversed (bits (map bit ds)) ∙ all_ones ds
+pub ones_reversed : (ds : List ℕ) → list_all (λ b. b) (x_as_0 (reverse (map bit ds))) ≡ list_all (λ d. d == 49) ds
+ones_reversed ds = ap (list_all (λ b. b)) (bits_reversed (map bit ds)) ∙ all_reversed (x_as_0 (map bit ds)) ∙ all_ones ds
 
-pub other_length : (xs ys : List ℕ) → length xs ≢ length ys → matches (map bit xs) (bits (map bit ys)) ≡ false
+pub other_length : (xs ys : List ℕ) → length xs ≢ length ys → matches (map bit xs) (x_as_0 (map bit ys)) ≡ false
 other_length [] [] h = absurd (h refl)
 other_length [] (y ∷ ys) h = refl
 other_length (x ∷ xs) [] h = refl

@@ -1,5 +1,6 @@
 //! The instruction that a reset loads.
 ghost use Rattle.std.specs.Prelude.{◌≡◌, ◌==◌, List, map, reverse, option_map, option_and_then, unwrap_or, []};
+ghost use Rattle.bsdl_device.specs.Opcodes.{x_as_0};
 ghost use Rattle.std.specs.Prelude.{bytes_eq, codes, slice_get, false};
 ghost use Rattle.std.specs.List.{list_all, find};
 ghost use Rattle.bsdl_device.specs.Device as device;
@@ -40,7 +41,7 @@ fn reset_pattern<'r>(rows: &'r [OpcodeRow<'_>]) -> Option<&'r WrittenPattern>
 fn names_idcode(rows: &[OpcodeRow<'_>], latch: &[u8]) -> bool
     ensures { result ≡ bytes_eq (unwrap_or (opcodes.named_instruction
         (map spec.opcode (map rows_view.opcode_row rows.now))
-        (spec.bits (reverse (map bit latch.now)))) []) (codes "IDCODE") }
+        (x_as_0 (reverse (map bit latch.now)))) []) (codes "IDCODE") }
 {
     if are_ones(latch) {
         return false;
@@ -55,7 +56,7 @@ fn names_idcode(rows: &[OpcodeRow<'_>], latch: &[u8]) -> bool
 
 #[tactic(auto, using(crate::proofs::MatchLaws::ones_reversed))]
 fn are_ones(latch: &[u8]) -> bool
-    ensures { result ≡ list_all (λ b. b) (spec.bits (reverse (map bit latch.now))) }
+    ensures { result ≡ list_all (λ b. b) (x_as_0 (reverse (map bit latch.now))) }
 {
     are_all_ones(latch)
 }
@@ -68,7 +69,7 @@ fn are_all_ones(latch: &[u8]) -> bool
 
 /// Whether a row has a pattern that matches an opcode.
 fn is_named(row: &OpcodeRow<'_>, latch: &[u8]) -> bool
-    ensures { result ≡ opcodes.names_it (spec.bits (reverse (map bit latch.now)))
+    ensures { result ≡ opcodes.names_it (x_as_0 (reverse (map bit latch.now)))
         (spec.opcode (rows_view.opcode_row row.now)) }
 {
     for pattern in &row.patterns {
@@ -81,13 +82,13 @@ fn is_named(row: &OpcodeRow<'_>, latch: &[u8]) -> bool
 
 /// Whether a pattern matches an opcode of its own length, an X either bit.
 fn is_match(pattern: &[u8], latch: &[u8]) -> bool
-    ensures { result ≡ opcodes.matches (reverse (map bit pattern.now)) (spec.bits (reverse (map bit latch.now))) }
+    ensures { result ≡ opcodes.matches (reverse (map bit pattern.now)) (x_as_0 (reverse (map bit latch.now))) }
 {
     digits_match(pattern, latch)
 }
 
 fn digits_match(pattern: &[u8], latch: &[u8]) -> bool
-    ensures { result ≡ opcodes.matches (map bit pattern.now) (spec.bits (map bit latch.now)) }
+    ensures { result ≡ opcodes.matches (map bit pattern.now) (x_as_0 (map bit latch.now)) }
 {
     if pattern.len() != latch.len() {
         return false;

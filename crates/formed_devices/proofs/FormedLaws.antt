@@ -1,5 +1,6 @@
 -- Every device that a text says can be made a chip.
 use Rattle.std.proofs.Common.{◌≡◌, ◌<◌, ℕ, zero, suc, Bool, true, false, cond, List, [], ◌∷◌, length, refl, sym, ap, ◌∙◌}
+use Rattle.bsdl_device.specs.Opcodes.{idcode_opcode, is_idcode}
 use Rattle.std.specs.Prelude.{Option, Some, None, Ok, option_and_then, slice_get, unwrap_or}
 use Rattle.std.specs.List.{AllByRecursion, find}
 use Rattle.std.proofs.lemmas.List.{length-map, length-replicate}
@@ -7,7 +8,7 @@ use Rattle.bsdl_device.specs.Device.{Access, Device, Opcode, Pattern}
 use Rattle.bsdl_device.specs.Sound.{IsSoundDevice}
 use Rattle.bsdl_device.specs.declared.Place.TheVariants.{AtUser}
 use Rattle.scan_registers.specs.Fitting.{AccessFits, IsFormed}
-use Rattle.scan_registers.specs.Instruction.{idcode_opcode, is_idcode, reset_latch}
+use Rattle.scan_registers.specs.Instruction.{reset_latch}
 use Rattle.bsdl.specs.Exact.{IsExactAccess, IsExactAt, IsExactDevice, Takes}
 use Rattle.bsdl.specs.Judging.{text_says}
 use Rattle.bsdl.specs.Limited.{HasLengthIfGiven, HasPatternsOf}

@@ -1,5 +1,6 @@
 -- What a decoded instruction gives a chip.
 use Rattle.std.proofs.Common.{◌≡◌, ◌≢◌, ◌+◌, ◌-◌, ◌%◌, ◌==◌, ◌<◌, ◌≤◌, ℕ, zero, suc, true, List, [], ◌∷◌, Bool, false, length, get_or, map, Option, Some, None, unwrap_or, refl, sym, ap, subst, ◌∙◌, arith}
+use Rattle.bsdl_device.specs.Opcodes.{x_as_0}
 use Rattle.std.proofs.lemmas.List.{length-replicate, length-map, get_or-map}
 use Rattle.std.proofs.lemmas.List.FromFn.{fill_by_all}
 use Rattle.std.specs.Int.{bit_at}
@@ -15,7 +16,7 @@ use Rattle.scan_registers.specs.declared.users.UserRegister.{UserRegister}
 use Rattle.jt_bits.specs.Shifting.{after_shift}
 use Rattle.scan_registers.specs.Fitting.{Fits, FitsAt, UsersFit, fixed_of, meaning_by}
 use Rattle.scan_registers.specs.Chips.{new_user}
-use Rattle.scan_registers.specs.Instruction.{meaning, reset_latch, x_as_0}
+use Rattle.scan_registers.specs.Instruction.{meaning, reset_latch}
 use Rattle.scan_registers.specs.Registers.{user_stage, user_latch, with_user_stage, user_updated}
 use Rattle.scan_registers.specs.Users.{Fit}
 use Rattle.scan_registers.proofs.UserLaws.{fits_at, stage_length, latch_length, with_stage_fits, updated_fits, moved-length}

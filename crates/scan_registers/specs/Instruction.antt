@@ -1,9 +1,9 @@
 -- What the instruction in a device's latch names, selects and drives (IEEE Std 1149.1-2001, clauses 7 and 8).
-use Rattle.std.specs.Prelude.{Bool, true, false, List, [], ◌∷◌, ◌++◌, map, replicate, Option, Some, None}
-use Rattle.std.specs.Prelude.{unwrap_or, codes, bytes_eq, slice_get, option_and_then, if◌then◌else◌}
-use Rattle.std.specs.List.{list_any, list_all, find}
+use Rattle.std.specs.Prelude.{Bool, true, List, [], ◌∷◌, ◌++◌, map, replicate, Option, Some, None}
+use Rattle.std.specs.Prelude.{codes, bytes_eq, if◌then◌else◌}
+use Rattle.std.specs.List.{list_any}
 use Rattle.bsdl_device.specs.Device.{Name, Pattern, Access, Device}
-use Rattle.bsdl_device.specs.Opcodes.{named_instruction}
+use Rattle.bsdl_device.specs.Opcodes.{idcode_opcode, named_instruction, x_as_0}
 use Rattle.bsdl_device.specs.declared.Place.{Place}
 use Rattle.bsdl_device.specs.declared.Place.TheVariants.{AtBypass, AtBoundary, AtDeviceId, AtUser}
 use Rattle.scan_registers.specs.declared.Mode.{Mode}
@@ -72,15 +72,6 @@ meaning_of d (Some name) =
 -- what the instruction in a latch does
 abbrev pub meaning : Device → List Bool → Meaning
 meaning d latch = meaning_of d (instruction d latch)
-
-abbrev pub is_idcode : Opcode → Bool
-is_idcode o = bytes_eq (codes "IDCODE") o.name
-
-abbrev pub idcode_opcode : List Opcode → Option Pattern
-idcode_opcode rows = option_and_then (λ o. slice_get o.patterns 0) (find is_idcode rows)
-
-abbrev pub x_as_0 : Pattern → List Bool
-x_as_0 opcode = map (λ b. unwrap_or b false) opcode
 
 -- The latch that a reset gives: IDCODE where the device has its code and its opcode, X as 0; else all ones.
 abbrev pub reset_latch : Device → List Bool

@@ -1,6 +1,7 @@
 //! What a chip starts from.
 
 ghost use Rattle.std.specs.Prelude.{◌≡◌, Bool, List, IfOk, map, option_map, if◌then◌else◌};
+ghost use Rattle.bsdl_device.specs.Opcodes.{idcode_opcode, x_as_0};
 ghost use Rattle.bsdl_device.specs.Device.{Pattern as ThePattern};
 ghost use Rattle.scan_registers.specs.Chips.{new_user};
 ghost use Rattle.scan_registers.specs.Fitting.{has_code as is_coded};
@@ -37,7 +38,7 @@ pub(crate) fn reset_latch(alloc: Global, device: &Device) -> Result<Bits, AllocE
 
 /// The first opcode of IDCODE.
 pub(crate) fn idcode_opcode(rows: &[Opcode]) -> Option<&Pattern>
-    ensures { option_map {U = ThePattern} (λ p. p.now) result ≡ named.idcode_opcode rows.now }
+    ensures { option_map {U = ThePattern} (λ p. p.now) result ≡ idcode_opcode rows.now }
 {
     for row in rows {
         if row.name() == "IDCODE" {
@@ -49,7 +50,7 @@ pub(crate) fn idcode_opcode(rows: &[Opcode]) -> Option<&Pattern>
 
 /// A pattern's bits, X as 0.
 fn x_as_0(alloc: Global, digits: &[Option<bool>]) -> Result<Bits, AllocError>
-    ensures { IfOk result (λ b. b ≡ named.x_as_0 digits.now) }
+    ensures { IfOk result (λ b. b ≡ x_as_0 digits.now) }
 {
     let mut bits = Bits::zeros(alloc, digits.len())?;
     for i in 0..digits.len() {

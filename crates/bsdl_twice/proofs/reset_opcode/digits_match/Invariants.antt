@@ -1,8 +1,7 @@
 use Rattle.std.proofs.Common.{◌≡◌, map, drop}
 use Rattle.bsdl_instructions.specs.Values.{bit}
-use Rattle.bsdl_twice.specs.ResetOpcode.{bits}
-use Rattle.bsdl_device.specs.Opcodes.{matches}
+use Rattle.bsdl_device.specs.Opcodes.{matches, x_as_0}
 use Rattle.bsdl_twice.proofs.reset_opcode.digits_match.Given as goal
 
 abbrev pub invariant-loop-i : goal.invariant-loop-i
-invariant-loop-i l = matches (map bit (drop l.i l.pattern)) (bits (map bit (drop l.i l.latch))) ≡ matches (map bit l.pattern) (bits (map bit l.latch))
+invariant-loop-i l = matches (map bit (drop l.i l.pattern)) (x_as_0 (map bit (drop l.i l.latch))) ≡ matches (map bit l.pattern) (x_as_0 (map bit l.latch))

@@ -1,6 +1,6 @@
 use Rattle.std.proofs.Common.{◌≡◌, drop}
+use Rattle.bsdl_device.specs.Opcodes.{is_idcode}
 use Rattle.std.specs.List.{find}
-use Rattle.scan_registers.specs.Instruction.{is_idcode}
 use Rattle.scan_registers.proofs.start.idcode_opcode.Given as goal
 
 abbrev pub invariant-loop-row : goal.invariant-loop-row
