@@ -1,4 +1,4 @@
-//! Tests of public calls: devices, descriptions and boards.
+//! Tests of public calls: nets, cells, devices, descriptions and boards.
 //!
 //! They stand in a crate of their own, since a crate with tests is proved twice.
 #![tactic(auto)]
@@ -6,6 +6,12 @@
 #[cfg(test)]
 mod boards;
 #[cfg(test)]
+mod cells;
+#[cfg(test)]
 mod chips;
 #[cfg(test)]
 mod descriptions;
+#[cfg(test)]
+mod nets;
+#[cfg(test)]
+mod whole_registers;

@@ -380,6 +380,3 @@ fn bit(bits: &Bits, k: usize) -> bool
 {
     k < bits.len() && bits.get(k)
 }
-
-#[cfg(test)]
-mod tests;

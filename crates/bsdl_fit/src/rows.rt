@@ -1,6 +1,7 @@
 //! Whether a row of the boundary register fits.
 ghost use Rattle.std.specs.Prelude.{◌≡◌, ◌≤◌, ◌&&◌, ℕ, List, not, option_map, option_to_list, bytes_eq, IfOk};
 ghost use Rattle.std.specs.List.{list_any};
+ghost use Rattle.bsdl_device.specs.Driving as driving;
 ghost use Rattle.bsdl_text.specs.Words.{upper};
 ghost use Rattle.bsdl_text.specs.View.{value};
 ghost use Rattle.bsdl_cells.specs.View as cells_view;
@@ -78,7 +79,7 @@ fn seat_fits<'a>(
     number: usize,
 ) -> bool
     ensures { result ≡ (not (described.is_among (taps_view known.now.taps) (upper port.entry.name.text.now))
-        && not (spec.drives function && is_below (driver_at known.now.drivers seat.entry) number)) }
+        && not (driving.drives function && is_below (driver_at known.now.drivers seat.entry) number)) }
 {
     !names_tap(&known.taps, port.name.text) && !drives_again(known, function, seat, number)
 }
@@ -89,7 +90,7 @@ fn drives_again<'a>(
     seat: Seat<'a>,
     number: usize,
 ) -> bool
-    ensures { result ≡ (spec.drives function && is_below (driver_at known.now.drivers seat.entry) number) }
+    ensures { result ≡ (driving.drives function && is_below (driver_at known.now.drivers seat.entry) number) }
 {
     function.drives() && known.drivers.is_driven_below(seat, number)
 }

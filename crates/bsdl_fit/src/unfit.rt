@@ -42,7 +42,7 @@ fn table_of<'a>(
     rows: &[CellRow<'a>],
 ) -> Result<Table, AllocError>
     ensures { IfOk result (λ t. (d : described.Description) → Holds known.now d → (n : ℕ) → n ≤ 65535
-        → get nat_cmp t.cells n ≡ cells.kept (spec.row_fits d) (map cell_row rows.now) n) }
+        → get nat_cmp t.cells n ≡ cells.only_row_fits (spec.row_fits d) (map cell_row rows.now) n) }
 {
     let mut table = Table::new(alloc);
     for row in rows {

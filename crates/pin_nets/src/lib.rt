@@ -183,6 +183,3 @@ pub fn reads(level: Level) -> bool
 {
     matches!(level, Level::One | Level::Float)
 }
-
-#[cfg(test)]
-mod tests;

@@ -203,29 +203,3 @@ fn follows(before: State, state: State) -> bool
 pub fn default_paths_lead()
     ensures { DefaultPathsLead }
 {}
-
-#[cfg(test)]
-mod tests {
-    use super::*;
-
-    #[test]
-    fn the_longest_path(rt: HostRuntime) {
-        let wanted = [
-            State::DrExit2,
-            State::DrUpdate,
-            State::DrSelect,
-            State::IrSelect,
-            State::IrCapture,
-            State::IrExit1,
-            State::IrPause,
-        ];
-        assert_eq!(rt;
-            go(State::DrPause, State::IrPause).as_slice(),
-            wanted.as_slice()
-        );
-        assert_eq!(rt;
-            go(State::Reset, State::Reset).as_slice(),
-            [State::Reset].as_slice()
-        );
-    }
-}

@@ -161,6 +161,3 @@ fn run_at<L: Link>(chain: &[L], column: Column, vector: &Vector, spot: Spot) -> 
         len: (len - spot.bit).min(64),
     }
 }
-
-#[cfg(test)]
-mod tests;

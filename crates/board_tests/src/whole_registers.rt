@@ -1,12 +1,14 @@
+//! A scan of whole registers, through two bypass bits.
 ghost use Rattle.std.specs.Prelude.{◌≡◌};
 
-use super::*;
 use bsdl_device::{Cell, Device, Function, Names, Parts, Ports};
 use jt_bits::{Bits, HexFault};
+use jt_tap::Column;
 use scan_registers::{Chip, Plain, SharedDevice, is_formed};
 use scan_vectors::{Part, Part3, join};
 use std::alloc::{AllocError, Global};
 use std::test::Fail;
+use whole_chain::{judge_chain, shift_chain};
 
 /// A device without a code, so that its reset instruction selects bypass.
 fn device(alloc: Global) -> Result<Device, AllocError> {

@@ -1,7 +1,7 @@
 //! Three pins on one net, put one after another.
 ghost use Rattle.std.specs.Prelude.{◌≡◌, ◌<◌, length, IfOk};
 
-use super::*;
+use pin_nets::{Drive, Level, NetSpec, Nets, Pull};
 use std::alloc::{AllocError, Global};
 use std::process::Abort;
 use std::test::Fail;

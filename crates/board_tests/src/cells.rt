@@ -1,7 +1,10 @@
 //! A register of five cells: output3 on port 0, its control, input on port 1, a controlr cell, and output2 on port 2
 //! that the controlr cell disables by 1, with a pull to 1.
-use super::*;
-use bsdl_device::{Device, Names, Parts, Ports};
+use boundary::{Boundary, Drive};
+use bsdl_device::{Cell, Control3, Device, Disabled, Function, Names, Parts, Ports};
+use jt_bits::Bits;
+use scan_registers::{Mode, Register, SharedDevice};
+use std::alloc::{AllocError, Global};
 use std::process::Abort;
 use std::test::Fail;
 

@@ -1,0 +1,89 @@
+//! The words of the states, and steps between them.
+use jt_tap::State;
+use std::test::Fail;
+
+const WORDS: [&str; 16] = [
+    "RESET",
+    "IDLE",
+    "DRSELECT",
+    "DRCAPTURE",
+    "DRSHIFT",
+    "DREXIT1",
+    "DRPAUSE",
+    "DREXIT2",
+    "DRUPDATE",
+    "IRSELECT",
+    "IRCAPTURE",
+    "IRSHIFT",
+    "IREXIT1",
+    "IRPAUSE",
+    "IREXIT2",
+    "IRUPDATE",
+];
+
+#[test]
+fn every_word_in_any_case(rt: HostRuntime) -> Result<(), Fail> {
+    for word in WORDS {
+        let mut mixed = word.as_bytes().to_vec(rt.alloc())?;
+        let state = State::from_word(&mixed).ok_or("upper case")?;
+        assert_eq!(rt; state.word(), word);
+        mixed.as_mut_slice().make_ascii_lowercase();
+        assert_eq!(rt; State::from_word(&mixed), Some(state));
+        if let Some(first) = mixed.first_mut() {
+            first.make_ascii_uppercase();
+        }
+        assert_eq!(rt; State::from_word(&mixed), Some(state));
+    }
+    Ok(())
+}
+
+#[test]
+fn near_misses(rt: HostRuntime) {
+    for text in [
+        "",
+        "R",
+        "RESE",
+        "RESETS",
+        " RESET",
+        "RESET ",
+        "RE SET",
+        "IDL",
+        "IDLEE",
+        "DR",
+        "DRSHIF",
+        "DRSHIFTT",
+        "DR_SHIFT",
+        "DRPAUS",
+        "IRPAUSE1",
+        "DREXIT",
+        "DREXIT3",
+        "IREXIT0",
+        "XRSHIFT",
+        "UPDATEDR",
+        "DRUPDATE;",
+    ] {
+        assert_eq!(rt; State::from_word(text.as_bytes()), None, "{text}");
+    }
+}
+
+#[test]
+fn stable_states_and_steps(rt: HostRuntime) -> Result<(), Fail> {
+    let stable = ["RESET", "IDLE", "DRPAUSE", "IRPAUSE"];
+    for word in WORDS {
+        let state = State::from_word(word.as_bytes()).ok_or("a state")?;
+        assert_eq!(rt; state.is_stable(), stable.contains(&word), "{word}");
+    }
+    let mut state = State::DrShift;
+    for wanted in [
+        State::DrExit1,
+        State::DrUpdate,
+        State::DrSelect,
+        State::IrSelect,
+        State::Reset,
+    ] {
+        state = state.step(true);
+        assert_eq!(rt; state, wanted);
+    }
+    assert_eq!(rt; State::Reset.step(false), State::Idle);
+    Ok(())
+}
