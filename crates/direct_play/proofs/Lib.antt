@@ -1,4 +1,3 @@
-pub mod WantedBits
 pub mod WholePlay
 pub mod Turns
 pub mod NotedPieces

@@ -1,7 +1,6 @@
 -- The full play, one step after another.
-use Rattle.std.proofs.Common.{◌≡◌, true, ℕ, List, [], ◌∷◌, ◌++◌, refl, ap, ◌∙◌, map, Some, None}
+use Rattle.std.proofs.Common.{◌≡◌, ℕ, List, [], ◌∷◌, ◌++◌, refl, ap, ◌∙◌, map, Some, None}
 use Rattle.std.specs.Prelude.{Option}
-use Rattle.jt_tap.specs.Controller.{is_stable}
 use Rattle.jt_tap.specs.declared.State.{State}
 use Rattle.bitbang_table.specs.declared.Message.TheVariants.{Quit}
 use Rattle.jt_tap.specs.declared.State.TheVariants.{Reset}
@@ -11,10 +10,7 @@ use Rattle.bitbang_table.specs.Cycles.{opening}
 use Rattle.bitbang.specs.StepMessages.{step_bytes, step_messages}
 use Rattle.scan_vectors.specs.declared.part.Part.{Part}
 use Rattle.scan_vectors.specs.Vector.{judge}
-use Rattle.svf_parse.specs.declared.statement.TrstWord.TheVariants.{On, Off, Z, Absent}
-use Rattle.svf_settings.specs.Legal.{IsFormed, IsPath}
-use Rattle.svf_settings.specs.Steps.{Step, Scan, Go, Path, Run, Trst, Numbered, Program, place_after}
-use Rattle.tap_paths.specs.Paths.{last_of}
+use Rattle.svf_settings.specs.Steps.{Numbered, Program, place_after}
 use Rattle.board_meaning.specs.Chain.{BoardState, Heard, hear}
 use Rattle.plays.specs.declared.ending.Ending.TheVariants.{Fail}
 use Rattle.plays.specs.DirectPlay.{bytes_of_full_play}
@@ -32,21 +28,6 @@ decided place s ss b found =
       | None ↦ record { messages = messages ++ rest.messages; answers = heard.answers ++ rest.answers; ending = rest.ending; board = rest.board }
       | Some f ↦ record { messages = messages ++ Quit ∷ []; answers = heard.answers; ending = Fail s.number f.0 f.1; board = heard.board }
     ]
-
-path-stable : (place : State) (path : List State) → IsPath place path → is_stable (last_of place path) ≡ true
-path-stable place [] is = is
-path-stable place (s ∷ path) is = path-stable s path is.1
-
--- a step that is formed rests in a stable state
-pub stable-after : (place : State) (s : Step) → is_stable place ≡ true → IsFormed place s → is_stable (place_after place s) ≡ true
-stable-after place (Scan column v end) here formed = formed.1
-stable-after place (Go s) here formed = formed
-stable-after place (Path path) here formed = path-stable place path formed
-stable-after place (Run run n end) here formed = formed.1
-stable-after place (Trst On) here formed = refl
-stable-after place (Trst Off) here formed = here
-stable-after place (Trst Z) here formed = here
-stable-after place (Trst Absent) here formed = here
 
 map-append : (xs ys : List Message) → map encode (xs ++ ys) ≡ map encode xs ++ map encode ys
 map-append [] ys = refl

@@ -3,13 +3,11 @@
 #![tactic(auto)]
 
 mod accepting;
-mod judging;
 mod noted;
 mod noting;
 mod playing;
 mod stepping;
 
 pub use accepting::accept;
-pub use judging::{difference, next_wanted};
 pub use noted::play_program_noted;
 pub use playing::play_program;

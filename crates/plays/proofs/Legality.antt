@@ -69,7 +69,8 @@ place-command (Trst Off) m formed = refl
 place-command (Trst Z) m formed = refl
 place-command (Trst Absent) m formed = refl
 
-place-stable : (step : Step) (place : State) → is_stable place ≡ true → IsFormed place step → is_stable (place_after place step) ≡ true
+-- a step that is formed rests in a stable state
+pub place-stable : (step : Step) (place : State) → is_stable place ≡ true → IsFormed place step → is_stable (place_after place step) ≡ true
 place-stable (Scan column v end) place stable formed = formed.1
 place-stable (Go s) place stable formed = formed
 place-stable (Path path) place stable formed = path-stable path place formed

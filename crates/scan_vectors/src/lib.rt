@@ -10,9 +10,11 @@ ghost use Rattle.scan_vectors.specs.Fields.{vector_of};
 ghost use Rattle.scan_vectors.specs.Held.{bits, fields};
 
 use jt_bits::Bits;
+pub use judging::{difference, next_wanted};
 pub use part::{Part, Part3, TdiRun, WantedRun};
 pub use vector::Vector;
 
+mod judging;
 mod part;
 mod vector;
 

@@ -12,7 +12,7 @@ use Rattle.svf_settings.specs.Legal.{AllLegalFrom, IsLegalAt}
 use Rattle.svf_settings.specs.Steps.{Step, Scan, Go, Path, Run, Trst, Numbered, Program, line_after, place_after}
 use Rattle.tck_cycles.specs.Cycles.{cycles}
 use Rattle.plays.specs.Play.{Turn, step_turns, turns, wants_of}
-use Rattle.direct_play.proofs.Turns.{stable-after}
+use Rattle.plays.proofs.Legality.{place-stable}
 use Rattle.stream_player.specs.declared.progress.Phase.TheVariants.{Within}
 use Rattle.stream_player.specs.declared.progress.Progress.{Progress}
 use Rattle.stream_player.specs.Progress.{InStep, Rests, Stands, gone, state_of, vector_bits}
@@ -45,7 +45,7 @@ pub next-rests : (steps : List Numbered) (at : ℕ) (place : State) → Rests st
 next-rests steps at place r s e =
     let f = first steps at place r s (drop (suc at) steps) e in
     record {
-      stable = stable-after place s.what r.stable f.legal.formed;
+      stable = place-stable s.what place r.stable f.legal.formed;
       line = line_after r.line s.what;
       legal = f.legal_on;
       within = f.within_on;

@@ -3,8 +3,7 @@
 ghost use Rattle.std.specs.Prelude.{◌≡◌, ◌<◌, ◌+◌, ◌∷◌, false, true, List, [], MatchOption, None, Some, drop, is_some};
 ghost use Rattle.std.specs.Prelude.{length, option_map, slice_get};
 ghost use Rattle.scan_vectors.specs.Held.{bits};
-ghost use Rattle.scan_vectors.specs.Vector.{VectorBit};
-ghost use Rattle.scan_vectors.specs.Vector.{wanted_bits};
+ghost use Rattle.scan_vectors.specs.Vector.{VectorBit, wanted_bits};
 ghost use Rattle.svf_settings.specs.Sizes.{program_of};
 ghost use Rattle.svf_settings.specs.Seen as seen;
 ghost use Rattle.svf_settings.specs.Seen.{numbered};
@@ -16,8 +15,7 @@ ghost use Rattle.stream_player.specs.PlaceInPlay.{differing_bit};
 
 use crate::progress::{Mismatch, Progress};
 use bitbang::read_answer;
-use direct_play::{difference, next_wanted};
-use scan_vectors::Vector;
+use scan_vectors::{Vector, difference, next_wanted};
 use svf_settings::{Action, Program, Step};
 
 /// Takes as many answers as are owed, up to and with the first that is none. Answers where the player stands then, and

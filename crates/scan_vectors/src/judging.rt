@@ -3,10 +3,9 @@
 ghost use Rattle.std.specs.Prelude.{◌≡◌, ◌+◌, ◌<◌, [], ◌∷◌, Option, Some, None, MatchOption, drop, length};
 ghost use Rattle.std.specs.Prelude.{slice_get, if◌then◌else◌};
 ghost use Rattle.scan_vectors.specs.Held.{bits};
-ghost use Rattle.scan_vectors.specs.Vector.{VectorBit, differs};
-ghost use Rattle.scan_vectors.specs.Vector.{wanted_bits};
+ghost use Rattle.scan_vectors.specs.Vector.{VectorBit, differs, wanted_bits};
 
-use scan_vectors::{Part, Vector};
+use crate::{Part, Vector};
 
 /// The first bit from this place on that is wanted.
 pub fn next_wanted(vector: &Vector, from: usize) -> Option<usize>

@@ -1,7 +1,7 @@
 use Rattle.std.proofs.Common.{sym, ◌∙◌, arith}
 use Rattle.scan_vectors.specs.Held.{bits}
-use Rattle.direct_play.proofs.WantedBits.{next-one, none-past, passed-over}
-use Rattle.direct_play.proofs.judging.next_wanted.Goals as goal
+use Rattle.scan_vectors.proofs.WantedBits.{next-one, none-past, passed-over}
+use Rattle.scan_vectors.proofs.judging.next_wanted.Goals as goal
 
 pub returns-then-is_some : goal.returns-then-is_some
 returns-then-is_some c =

@@ -1,8 +1,7 @@
 -- The wanted bits of a vector, from a place on.
 use Rattle.std.proofs.Common.{◌≡◌, Bool, true, false, ℕ, zero, suc, ◌+◌, ◌≤◌, List, [], ◌∷◌, drop, length, refl, sym, ap, ◌∙◌, arith, Some, None}
 use Rattle.std.specs.Prelude.{Option, option_map, slice_get, is_some, if◌then◌else◌}
-use Rattle.scan_vectors.specs.Vector.{VectorBit}
-use Rattle.scan_vectors.specs.Vector.{wanted_bits}
+use Rattle.scan_vectors.specs.Vector.{VectorBit, wanted_bits}
 
 -- what stands at a place, and what stands behind it
 drop-there : (v : List VectorBit) (i : ℕ) (b : VectorBit) → slice_get v i ≡ Some b → drop i v ≡ b ∷ drop (suc i) v
