@@ -55,7 +55,7 @@ known_more known after rows r n is new noted before = record {
   same = λ q k.
       list_any-append (gives q k) rows (r ∷ []) ∙ ap (λ b. list_any (gives q k) rows || (b || false)) (given_by q k r (Some n) is)
       ∙ ap (λ b. b || ((bytes_eq r.register q && nat_eq n k) || false)) (before.same q k)
-      ∙ by_test q k (bytes_eq r.register q) refl ∙ sym (ap (λ o. tells o k) (with_row_length q));
+      ∙ by_test q k (bytes_eq r.register q) refl ∙ sym (ap (λ o. tells o k) (noted q));
 }
   where
     by_test : (q : List ℕ) (k : ℕ) (b : Bool) → bytes_eq r.register q ≡ b → (tells (known q) k || ((bytes_eq r.register q && nat_eq n k) || false)) ≡ tells (cond (bytes_eq r.register q) (Some n) (known q)) k
