@@ -68,10 +68,13 @@ fn near_misses(rt: HostRuntime) {
 
 #[test]
 fn stable_states_and_steps(rt: HostRuntime) -> Result<(), Fail> {
-    let stable = ["RESET", "IDLE", "DRPAUSE", "IRPAUSE"];
     for word in WORDS {
         let state = State::from_word(word.as_bytes()).ok_or("a state")?;
-        assert_eq!(rt; state.is_stable(), stable.contains(&word), "{word}");
+        let stable = matches!(
+            state,
+            State::Reset | State::Idle | State::DrPause | State::IrPause
+        );
+        assert_eq!(rt; state.is_stable(), stable, "{word}");
     }
     let mut state = State::DrShift;
     for wanted in [
