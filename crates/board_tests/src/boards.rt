@@ -26,14 +26,18 @@ const WAYS: [(State, &[u8]); 16] = [
     (State::IrUpdate, b"011011"),
 ];
 
+fn bytes(board: &mut Board, bytes: &[u8]) {
+    for byte in bytes {
+        let _ = board.byte(*byte);
+    }
+}
+
 /// Whole cycles with these TMS, and a low byte.
 fn cycles(board: &mut Board, ways: &[u8]) {
     for tms in ways {
-        let one = *tms == b'1';
-        let _ = board.byte(if one { b'2' } else { b'0' });
-        let _ = board.byte(if one { b'6' } else { b'4' });
+        bytes(board, if *tms == b'1' { b"26" } else { b"04" });
     }
-    let _ = board.byte(b'0');
+    bytes(board, b"0");
 }
 
 fn bits_shown(rt: &impl Abort, bits: &Bits, shown: &mut Vec<u8>) -> Result<(), AllocError> {
@@ -45,24 +49,45 @@ fn bits_shown(rt: &impl Abort, bits: &Bits, shown: &mut Vec<u8>) -> Result<(), A
     Ok(())
 }
 
-/// Every part of a snapshot, as bytes that are equal only where the parts are.
+/// Every part of a device of a snapshot, as bytes that are equal only where the parts are.
+fn device_shown(
+    rt: &impl Abort,
+    snapshot: &Snapshot<'_>,
+    i: usize,
+    shown: &mut Vec<u8>,
+) -> Result<(), AllocError> {
+    assert!(rt; i < snapshot.devices());
+    shown.extend_from_slice(snapshot.name(i).as_bytes())?;
+    shown.extend_from_slice(snapshot.state(i).word().as_bytes())?;
+    bits_shown(rt, snapshot.latch(i), shown)?;
+    bits_shown(rt, snapshot.stage(i), shown)?;
+    bits_shown(rt, snapshot.boundary(i), shown)?;
+    bits_shown(rt, snapshot.boundary_update(i), shown)?;
+    shown.push(u8::from(snapshot.bypass(i)))?;
+    shown.extend_from_slice(snapshot.instruction(i).unwrap_or("-").as_bytes())
+}
+
+/// Every part of a snapshot.
 fn shown(rt: &impl Abort, alloc: Global, board: &Board) -> Result<Vec<u8>, AllocError> {
-    let snapshot: Snapshot<'_> = board.snapshot();
+    let snapshot = board.snapshot();
     let mut shown = Vec::new(alloc);
     shown.push(u8::from(snapshot.tck()))?;
     shown.push(u8::from(snapshot.trst()))?;
     for i in 0..snapshot.devices() {
-        assert!(rt; i < snapshot.devices());
-        shown.extend_from_slice(snapshot.name(i).as_bytes())?;
-        shown.extend_from_slice(snapshot.state(i).word().as_bytes())?;
-        bits_shown(rt, snapshot.latch(i), &mut shown)?;
-        bits_shown(rt, snapshot.stage(i), &mut shown)?;
-        bits_shown(rt, snapshot.boundary(i), &mut shown)?;
-        bits_shown(rt, snapshot.boundary_update(i), &mut shown)?;
-        shown.push(u8::from(snapshot.bypass(i)))?;
-        shown.extend_from_slice(snapshot.instruction(i).unwrap_or("-").as_bytes())?;
+        device_shown(rt, &snapshot, i, &mut shown)?;
     }
     Ok(shown)
+}
+
+fn assert_shown(
+    rt: &impl Abort,
+    alloc: Global,
+    board: &Board,
+    wanted: &[u8],
+) -> Result<(), AllocError> {
+    let shown = shown(rt, alloc, board)?;
+    assert_eq!(rt; shown.as_slice(), wanted);
+    Ok(())
 }
 
 fn state_of(rt: &impl Abort, board: &Board) -> State {
@@ -128,30 +153,22 @@ fn boards_of_every_size(rt: HostRuntime) -> Result<(), Fail> {
 /// stage holds the 1 and the update stage not yet.
 #[test]
 fn registers_of_a_device(rt: HostRuntime) -> Result<(), Fail> {
-    let mut board = Board::bare(rt.alloc(), 1)?;
-    assert_eq!(rt;
-        shown(&rt, rt.alloc(), &board)?.as_slice(),
-        b"\x00\x00U1RESET\x01\x01\x02\x00\x00\x02\x00\x02\x00\x02\x00BYPASS".as_slice()
-    );
+    let alloc = rt.alloc();
+    let mut board = Board::bare(alloc, 1)?;
+    let powered_up = b"\x00\x00U1RESET\x01\x01\x02\x00\x00\x02\x00\x02\x00\x02\x00BYPASS";
+    assert_shown(&rt, alloc, &board, powered_up)?;
     cycles(&mut board, b"01100");
-    for byte in b"0426" {
-        let _ = board.byte(*byte);
-    }
+    bytes(&mut board, b"0426");
     assert_eq!(rt; state_of(&rt, &board), State::IrExit1);
     cycles(&mut board, b"1");
     cycles(&mut board, b"100");
-    let _ = board.byte(b'3');
-    let _ = board.byte(b'7');
+    bytes(&mut board, b"37");
     cycles(&mut board, b"0");
-    assert_eq!(rt;
-        shown(&rt, rt.alloc(), &board)?.as_slice(),
-        b"\x00\x00U1DRPAUSE\x00\x00\x02\x00\x00\x02\x01\x02\x00\x02\x00EXTEST".as_slice()
-    );
+    let in_pause = b"\x00\x00U1DRPAUSE\x00\x00\x02\x00\x00\x02\x01\x02\x00\x02\x00EXTEST";
+    assert_shown(&rt, alloc, &board, in_pause)?;
     cycles(&mut board, b"11");
-    assert_eq!(rt;
-        shown(&rt, rt.alloc(), &board)?.as_slice(),
-        b"\x00\x00U1DRUPDATE\x00\x00\x02\x00\x00\x02\x01\x02\x01\x02\x00EXTEST".as_slice()
-    );
+    let updated = b"\x00\x00U1DRUPDATE\x00\x00\x02\x00\x00\x02\x01\x02\x01\x02\x00EXTEST";
+    assert_shown(&rt, alloc, &board, updated)?;
     Ok(())
 }
 

@@ -60,26 +60,45 @@ fn digits(bits: &Bits) -> (u8, u8) {
     (bits.hex_digit(1), bits.hex_digit(0))
 }
 
+/// Asserts what ports drive in modes.
+fn assert_drives(rt: &impl Abort, register: &Boundary, rows: &[(usize, Mode, Drive)]) {
+    for (port, mode, wanted) in rows {
+        assert_eq!(rt; register.drive(*port, *mode), *wanted);
+    }
+}
+
 #[test]
 fn drives_in_each_mode(rt: HostRuntime) -> Result<(), Fail> {
     let mut register = register(&rt, rt.alloc(), false)?;
-    assert_eq!(rt; register.drive(0, Mode::Core), Drive::Strong(true));
-    assert_eq!(rt; register.drive(0, Mode::Extest), Drive::Nothing);
-    assert_eq!(rt; register.drive(1, Mode::Core), Drive::Nothing);
-    assert_eq!(rt; register.drive(2, Mode::Core), Drive::Strong(false));
-    assert_eq!(rt; register.drive(2, Mode::Clamp), Drive::Weak(true));
-    assert_eq!(rt; register.drive(2, Mode::HighZ), Drive::Nothing);
+    assert_drives(
+        &rt,
+        &register,
+        &[
+            (0, Mode::Core, Drive::Strong(true)),
+            (0, Mode::Extest, Drive::Nothing),
+            (1, Mode::Core, Drive::Nothing),
+            (2, Mode::Core, Drive::Strong(false)),
+            (2, Mode::Clamp, Drive::Weak(true)),
+            (2, Mode::HighZ, Drive::Nothing),
+        ],
+    );
     for bit in [false, true, false, false, true] {
         assert!(rt; register.len() > 0);
         register.shift_in(bit);
     }
     register.update();
     assert_eq!(rt; digits(register.update_stage()), (b'1', b'2'));
-    assert_eq!(rt; register.drive(0, Mode::Extest), Drive::Strong(false));
-    assert_eq!(rt; register.drive(2, Mode::Extest), Drive::Strong(true));
+    assert_drives(
+        &rt,
+        &register,
+        &[
+            (0, Mode::Extest, Drive::Strong(false)),
+            (2, Mode::Extest, Drive::Strong(true)),
+        ],
+    );
     register.reset();
     assert_eq!(rt; digits(register.update_stage()), (b'1', b'A'));
-    assert_eq!(rt; register.drive(2, Mode::Clamp), Drive::Weak(true));
+    assert_drives(&rt, &register, &[(2, Mode::Clamp, Drive::Weak(true))]);
     Ok(())
 }
 

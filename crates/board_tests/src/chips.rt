@@ -90,27 +90,50 @@ fn chip(
     Ok(Chip::new(alloc, &shared, Plain::new(alloc, 3)?)?)
 }
 
-/// Edges with these TMS values and TDI 1, a falling edge after each rising one.
+/// A rising edge with this TMS and TDI 1.
+fn rise(chip: &mut Chip<Plain>, tms: bool) {
+    chip.rise(tms, true);
+}
+
+fn fall(chip: &mut Chip<Plain>) {
+    chip.fall();
+}
+
+/// Edges with these TMS values, a falling edge after each rising one.
 fn edges(chip: &mut Chip<Plain>, tms: &[bool]) {
     for bit in tms {
-        chip.rise(*bit, true);
-        chip.fall();
+        rise(chip, *bit);
+        fall(chip);
     }
 }
 
-fn latch(chip: &Chip<Plain>) -> (u8, u8) {
-    (chip.latch().hex_digit(0), chip.stage().hex_digit(0))
+/// Asserts the state, and what TDO shows.
+fn assert_tdo(rt: &impl Abort, chip: &Chip<Plain>, state: State, tdo: Option<bool>) {
+    assert_eq!(rt; (chip.state(), chip.tdo()), (state, tdo));
+}
+
+/// Asserts the state, and the digits of the latch and of the instruction register's stage.
+fn assert_latch(rt: &impl Abort, chip: &Chip<Plain>, state: State, latch: u8, stage: u8) {
+    assert_eq!(rt; chip.state(), state);
+    assert_eq!(rt;
+        (chip.latch().hex_digit(0), chip.stage().hex_digit(0)),
+        (latch, stage)
+    );
+}
+
+fn assert_instruction(rt: &impl Abort, chip: &Chip<Plain>, wanted: &str) {
+    assert_eq!(rt; chip.instruction(), Some(wanted));
 }
 
 #[test]
 fn the_code_is_shifted_out(rt: HostRuntime) -> Result<(), Fail> {
     let mut chip = chip(&rt, rt.alloc(), false, false)?;
-    assert_eq!(rt; chip.instruction(), Some("IDCODE"));
+    assert_instruction(&rt, &chip, "IDCODE");
     edges(&mut chip, &[false, true, false]);
-    chip.rise(false, true);
-    assert_eq!(rt; (chip.state(), chip.tdo()), (State::DrShift, None));
-    chip.fall();
-    assert_eq!(rt; chip.tdo(), Some(true));
+    rise(&mut chip, false);
+    assert_tdo(&rt, &chip, State::DrShift, None);
+    fall(&mut chip);
+    assert_tdo(&rt, &chip, State::DrShift, Some(true));
     let mut code: u32 = 1;
     for i in 1..32u32 {
         edges(&mut chip, &[false]);
@@ -126,14 +149,14 @@ fn the_code_is_shifted_out(rt: HostRuntime) -> Result<(), Fail> {
 fn trst_holds_a_device_that_has_it(rt: HostRuntime) -> Result<(), Fail> {
     let mut chip = chip(&rt, rt.alloc(), true, false)?;
     edges(&mut chip, &[false, true, false, false]);
-    assert_eq!(rt; chip.state(), State::DrShift);
+    assert_tdo(&rt, &chip, State::DrShift, Some(true));
     chip.trst(true);
-    assert_eq!(rt; (chip.state(), chip.tdo()), (State::Reset, None));
-    chip.rise(false, true);
-    assert_eq!(rt; chip.state(), State::Reset);
+    assert_tdo(&rt, &chip, State::Reset, None);
+    rise(&mut chip, false);
+    assert_tdo(&rt, &chip, State::Reset, None);
     chip.trst(false);
-    chip.rise(false, true);
-    assert_eq!(rt; chip.state(), State::Idle);
+    rise(&mut chip, false);
+    assert_tdo(&rt, &chip, State::Idle, None);
     Ok(())
 }
 
@@ -141,29 +164,19 @@ fn trst_holds_a_device_that_has_it(rt: HostRuntime) -> Result<(), Fail> {
 fn the_latch_changes_on_falling_edges(rt: HostRuntime) -> Result<(), Fail> {
     let mut chip = chip(&rt, rt.alloc(), false, false)?;
     edges(&mut chip, &[false, true, true, false, true, false]);
-    assert_eq!(rt;
-        (chip.state(), latch(&chip)),
-        (State::IrPause, (b'2', b'1'))
-    );
+    assert_latch(&rt, &chip, State::IrPause, b'2', b'1');
     edges(&mut chip, &[true]);
-    chip.rise(true, true);
-    assert_eq!(rt;
-        (chip.state(), latch(&chip)),
-        (State::IrUpdate, (b'2', b'1'))
-    );
-    chip.fall();
-    assert_eq!(rt;
-        (latch(&chip), chip.instruction()),
-        ((b'1', b'1'), Some("SAMPLE"))
-    );
+    rise(&mut chip, true);
+    assert_latch(&rt, &chip, State::IrUpdate, b'2', b'1');
+    fall(&mut chip);
+    assert_latch(&rt, &chip, State::IrUpdate, b'1', b'1');
+    assert_instruction(&rt, &chip, "SAMPLE");
     edges(&mut chip, &[true, true]);
-    chip.rise(true, true);
-    assert_eq!(rt; (chip.state(), latch(&chip)), (State::Reset, (b'1', b'1')));
-    chip.fall();
-    assert_eq!(rt;
-        (latch(&chip), chip.instruction()),
-        ((b'2', b'1'), Some("IDCODE"))
-    );
+    rise(&mut chip, true);
+    assert_latch(&rt, &chip, State::Reset, b'1', b'1');
+    fall(&mut chip);
+    assert_latch(&rt, &chip, State::Reset, b'2', b'1');
+    assert_instruction(&rt, &chip, "IDCODE");
     Ok(())
 }
 
@@ -171,7 +184,7 @@ fn the_latch_changes_on_falling_edges(rt: HostRuntime) -> Result<(), Fail> {
 fn a_user_register_keeps_what_it_is_given(rt: HostRuntime) -> Result<(), Fail> {
     let mut chip = chip(&rt, rt.alloc(), false, true)?;
     edges(&mut chip, &[false, true, true, false, true, true]);
-    assert_eq!(rt; chip.instruction(), Some("LOAD"));
+    assert_instruction(&rt, &chip, "LOAD");
     edges(&mut chip, &[true, false, false, false, false, true, true]);
     let Some((stage, held)) = chip.user(0) else {
         return Err(Fail::from("no user register"));

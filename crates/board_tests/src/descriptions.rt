@@ -1,7 +1,8 @@
 use bsdl::{BsdlFault, read};
-use bsdl_device::{Access, Cell, Device, Opcode, Pattern};
+use bsdl_device::{Access, Cell, Device, Opcode, Pattern, PortBit};
 use jt_bits::Bits;
 use std::alloc::{AllocError, Global};
+use std::process::Abort;
 use std::test::Fail;
 
 /// A device of one output with its control and one input.
@@ -72,15 +73,18 @@ fn show_pattern(shown: &mut String, pattern: &Pattern) -> Result<(), AllocError>
     Ok(())
 }
 
+fn show_port(alloc: Global, shown: &mut String, bit: &PortBit<'_>) -> Result<(), AllocError> {
+    let (name, mode) = (bit.name, bit.mode);
+    shown.push_str(format!(in alloc; " {name}:{mode:?}")?.as_str())?;
+    if let Some(index) = bit.index {
+        shown.push_str(format!(in alloc; "({index})")?.as_str())?;
+    }
+    shown.push_str(if bit.is_tap { "+" } else { "" })
+}
+
 fn show_ports(alloc: Global, shown: &mut String, device: &Device) -> Result<(), AllocError> {
     for number in 0..device.port_count() {
-        let bit = device.port(number);
-        let (name, mode) = (bit.name, bit.mode);
-        shown.push_str(format!(in alloc; " {name}:{mode:?}")?.as_str())?;
-        if let Some(index) = bit.index {
-            shown.push_str(format!(in alloc; "({index})")?.as_str())?;
-        }
-        shown.push_str(if bit.is_tap { "+" } else { "" })?;
+        show_port(alloc, shown, &device.port(number))?;
     }
     Ok(())
 }
@@ -182,21 +186,48 @@ const K_TOLD: &str =
     "ports TDI:In+ TMS:In+ TCK:In+ TDO:Out+ Q:Out D:In instructions 2 BYPASS:11 EXTEST:00 SAMPLE:01 \
     IDCODE:10 capture 01 id 00000001001000110100010101100111 cells Output3:4/1=false>Z Control Input:5";
 
+/// Asserts that the text is read as a device of these parts, or refused so.
+fn assert_told(rt: &impl Abort, alloc: Global, text: &str, wanted: &str) -> Result<(), AllocError> {
+    assert_eq!(rt; told(alloc, text)?.as_str(), wanted);
+    Ok(())
+}
+
+/// Asserts that the text is read, or refused so.
+fn assert_outcome(
+    rt: &impl Abort,
+    alloc: Global,
+    text: &str,
+    wanted: &str,
+) -> Result<(), AllocError> {
+    assert_eq!(rt; outcome(alloc, text)?.as_str(), wanted);
+    Ok(())
+}
+
 /// The sample devices, each part of them.
 #[test]
 fn sample_devices(rt: HostRuntime) -> Result<(), Fail> {
-    let alloc = rt.alloc();
-    assert_eq!(&rt; told(alloc, K)?.as_str(), K_TOLD);
-    assert_eq!(&rt;
-        told(alloc, P)?.as_str(),
-        "ports TDI:In+ TMS:In+ TCK:In+ TDO:Out+ instructions 2 BYPASS:11 EXTEST:00 capture 01 cells Internal"
-    );
-    let with_port = K.replace(alloc, "D : in bit)", "D, TRST : in bit)")?;
+    assert_told(&rt, rt.alloc(), K, K_TOLD)?;
+    assert_told(
+        &rt,
+        rt.alloc(),
+        P,
+        "ports TDI:In+ TMS:In+ TCK:In+ TDO:Out+ instructions 2 BYPASS:11 EXTEST:00 capture 01 cells Internal",
+    )?;
+    Ok(())
+}
+
+/// The device K with TRST.
+#[test]
+fn a_device_with_trst(rt: HostRuntime) -> Result<(), Fail> {
+    let with_port = K.replace(rt.alloc(), "D : in bit)", "D, TRST : in bit)")?;
     let reset = "attribute TAP_SCAN_RESET of TRST : signal is true;\nend";
-    let kt = with_port.as_str().replace(alloc, "end", reset)?;
-    let kt_told = K_TOLD.replace(alloc, "D:In instr", "D:In TRST:In+ instr")?;
-    let kt_told = kt_told.as_str().replace(alloc, "Input:5", "Input:5 trst")?;
-    assert_eq!(&rt; told(alloc, kt.as_str())?.as_str(), kt_told.as_str());
+    let text = with_port.as_str().replace(rt.alloc(), "end", reset)?;
+    let device = told(rt.alloc(), text.as_str())?;
+    let ports = K_TOLD.replace(rt.alloc(), "D:In instr", "D:In TRST:In+ instr")?;
+    let wanted = ports
+        .as_str()
+        .replace(rt.alloc(), "Input:5", "Input:5 trst")?;
+    assert_eq!(&rt; device.as_str(), wanted.as_str());
     Ok(())
 }
 
@@ -234,7 +265,7 @@ const WHOLE_TOLD: &str =
 
 #[test]
 fn each_part(rt: HostRuntime) -> Result<(), Fail> {
-    assert_eq!(&rt; told(rt.alloc(), WHOLE)?.as_str(), WHOLE_TOLD);
+    assert_told(&rt, rt.alloc(), WHOLE, WHOLE_TOLD)?;
     Ok(())
 }
 
@@ -256,15 +287,12 @@ fn mixed(alloc: Global, text: &str) -> Result<String, AllocError> {
 fn any_case(rt: HostRuntime) -> Result<(), Fail> {
     let alloc = rt.alloc();
     for (text, device) in [(K, K_TOLD), (WHOLE, WHOLE_TOLD)] {
-        assert_eq!(&rt;
-            told(alloc, text.to_ascii_uppercase(alloc)?.as_str())?.as_str(),
-            device
-        );
-        assert_eq!(&rt;
-            told(alloc, text.to_ascii_lowercase(alloc)?.as_str())?.as_str(),
-            device
-        );
-        assert_eq!(&rt; told(alloc, mixed(alloc, text)?.as_str())?.as_str(), device);
+        let upper = text.to_ascii_uppercase(alloc)?;
+        assert_told(&rt, alloc, upper.as_str(), device)?;
+        let lower = text.to_ascii_lowercase(alloc)?;
+        assert_told(&rt, alloc, lower.as_str(), device)?;
+        let mixed = mixed(alloc, text)?;
+        assert_told(&rt, alloc, mixed.as_str(), device)?;
     }
     Ok(())
 }
@@ -272,7 +300,7 @@ fn any_case(rt: HostRuntime) -> Result<(), Fail> {
 // ---- refusals
 
 /// What K with one piece replaced is told to be.
-const CHANGES: [(&str, &str, &str); 32] = [
+const CHANGES: &[(&str, &str, &str)] = &[
     ("end K;", "end K; -- behind", "read"),
     ("PHYSICAL", "#", "B1 BadToken 23"),
     ("\"DIP\"", "\"DIP", "B1 BadToken 52"),
@@ -323,12 +351,23 @@ const CHANGES: [(&str, &str, &str); 32] = [
     ("D, input, X)", "Q, output2, X)", "B8 BadCell 2"),
 ];
 
+/// Asserts what K with one piece replaced is told to be, row by row.
+fn assert_changes(
+    rt: &impl Abort,
+    alloc: Global,
+    rows: &[(&str, &str, &str)],
+) -> Result<(), AllocError> {
+    for (from, to, wanted) in rows {
+        let told = changed(alloc, from, to)?;
+        assert_eq!(rt; told.as_str(), *wanted);
+    }
+    Ok(())
+}
+
 /// The tables of refusals: the least number that applies, with its place, name or cell.
 #[test]
 fn changes(rt: HostRuntime) -> Result<(), Fail> {
-    for (from, to, wanted) in CHANGES {
-        assert_eq!(&rt; changed(rt.alloc(), from, to)?.as_str(), wanted);
-    }
+    assert_changes(&rt, rt.alloc(), CHANGES)?;
     Ok(())
 }
 
@@ -356,31 +395,23 @@ fn with_rows(alloc: Global, count: usize) -> Result<String, AllocError> {
     K.replace(alloc, "is\n    \"BYPASS (11), EXTEST (00),", rows.as_str())
 }
 
-/// K with instructions of so many bits.
+/// K with instructions of so many bits: what stands above the lowest two is 0, of BYPASS 1.
 fn with_instruction_bits(alloc: Global, count: usize) -> Result<String, AllocError> {
-    let text = K.replace(
-        alloc,
-        "entity is 2",
-        format!(in alloc; "entity is {count}")?.as_str(),
-    )?;
-    let zeros = "0".repeat(alloc, count.saturating_sub(2))?;
-    let ones = "1".repeat(alloc, count)?;
-    let text = text
-        .as_str()
-        .replace(alloc, "(00)", format!(in alloc; "({zeros}00)")?.as_str())?;
-    let text = text
-        .as_str()
-        .replace(alloc, "(01)", format!(in alloc; "({zeros}01)")?.as_str())?;
-    let text = text
-        .as_str()
-        .replace(alloc, "(10)", format!(in alloc; "({zeros}10)")?.as_str())?;
-    let text = text.as_str().replace(
-        alloc,
-        "\"01\"",
-        format!(in alloc; "\"{zeros}01\"")?.as_str(),
-    )?;
-    text.as_str()
-        .replace(alloc, "(11)", format!(in alloc; "({ones})")?.as_str())
+    let length = format!(in alloc; "entity is {count}")?;
+    let mut text = K.replace(alloc, "entity is 2", length.as_str())?;
+    for (opening, above, lowest) in [
+        ("(", "0", "00)"),
+        ("(", "0", "01)"),
+        ("(", "0", "10)"),
+        ("\"", "0", "01\""),
+        ("(", "1", "11)"),
+    ] {
+        let above = above.repeat(alloc, count.saturating_sub(2))?;
+        let from = format!(in alloc; "{opening}{lowest}")?;
+        let to = format!(in alloc; "{opening}{above}{lowest}")?;
+        text = text.as_str().replace(alloc, from.as_str(), to.as_str())?;
+    }
+    Ok(text)
 }
 
 /// K with so many cells.
@@ -420,23 +451,22 @@ fn with_users(alloc: Global, count: usize, length: usize) -> Result<String, Allo
 fn limits(rt: HostRuntime) -> Result<(), Fail> {
     let alloc = rt.alloc();
     for (count, wanted) in [(2, "read"), (64, "read"), (65, "B9 TooLarge")] {
-        assert_eq!(&rt;
-            outcome(alloc, with_instruction_bits(alloc, count)?.as_str())?.as_str(),
-            wanted
-        );
+        let text = with_instruction_bits(alloc, count)?;
+        assert_outcome(&rt, alloc, text.as_str(), wanted)?;
     }
     for (count, wanted) in [(256, "read"), (257, "B9 TooLarge")] {
-        assert_eq!(&rt;
-            outcome(alloc, with_rows(alloc, count)?.as_str())?.as_str(),
-            wanted
-        );
+        let text = with_rows(alloc, count)?;
+        assert_outcome(&rt, alloc, text.as_str(), wanted)?;
     }
     for (count, wanted) in [(4_096, "read"), (4_097, "B9 TooLarge")] {
-        assert_eq!(&rt;
-            outcome(alloc, with_cells(alloc, count)?.as_str())?.as_str(),
-            wanted
-        );
+        let text = with_cells(alloc, count)?;
+        assert_outcome(&rt, alloc, text.as_str(), wanted)?;
     }
+    Ok(())
+}
+
+#[test]
+fn limits_of_own_registers(rt: HostRuntime) -> Result<(), Fail> {
     for (count, length, wanted) in [
         (64, 1, "read"),
         (65, 1, "B9 TooLarge"),
@@ -444,15 +474,13 @@ fn limits(rt: HostRuntime) -> Result<(), Fail> {
         (1, 4_097, "B9 TooLarge"),
         (1, 0, "B5 BadLength"),
     ] {
-        assert_eq!(&rt;
-            outcome(alloc, with_users(alloc, count, length)?.as_str())?.as_str(),
-            wanted
-        );
+        let text = with_users(rt.alloc(), count, length)?;
+        assert_outcome(&rt, rt.alloc(), text.as_str(), wanted)?;
     }
     Ok(())
 }
 
-const EDGES: [(&str, &str, &str); 12] = [
+const EDGES: &[(&str, &str, &str)] = &[
     (
         "Q : out bit;",
         "Q : out bit; A : in bit_vector (0 to 8185);",
@@ -493,9 +521,7 @@ const EDGES: [(&str, &str, &str); 12] = [
 
 #[test]
 fn edges(rt: HostRuntime) -> Result<(), Fail> {
-    for (from, to, wanted) in EDGES {
-        assert_eq!(&rt; changed(rt.alloc(), from, to)?.as_str(), wanted);
-    }
+    assert_changes(&rt, rt.alloc(), EDGES)?;
     Ok(())
 }
 
@@ -505,81 +531,56 @@ fn size_of_the_text(rt: HostRuntime) -> Result<(), Fail> {
     let alloc = rt.alloc();
     let mut text = String::from_str(alloc, K)?;
     text.push_str(" ".repeat(alloc, 4_194_304 - K.len())?.as_str())?;
-    assert_eq!(&rt; outcome(alloc, text.as_str())?.as_str(), "read");
+    assert_outcome(&rt, alloc, text.as_str(), "read")?;
     text.push('#')?;
-    assert_eq!(&rt; outcome(alloc, text.as_str())?.as_str(), "B9 TooLarge");
+    assert_outcome(&rt, alloc, text.as_str(), "B9 TooLarge")?;
     Ok(())
 }
 
 // ---- much of one thing
 
-/// Numbers of a thousand digits.
+/// What K with one piece replaced is told to be, where ZEROS and NINES are a thousand such digits.
+const LONG_NUMBERS: &[(&str, &str, &str)] = &[
+    ("entity is 2", "entity is ZEROS2", "read"),
+    ("entity is 2", "entity is NINES", "B5 BadLength"),
+    ("entity is 3", "entity is ZEROS3", "read"),
+    ("entity is 3", "entity is NINES", "B8 BadCell 3"),
+    ("2 (BC", "ZEROS2 (BC", "read"),
+    ("2 (BC", "NINES (BC", "B8 BadCell 2"),
+    ("1, 0, Z", "ZEROS1, ZEROS, Z", "B2 BadForm 795"),
+    ("1, 0, Z", "NINES, 0, Z", "B8 BadCell 0"),
+    ("D, input", "D(NINES), input", "B8 BadCell 2"),
+    (
+        "Q : out bit",
+        "Q, A : out bit_vector (ZEROS8 to NINES)",
+        "B8 BadCell 0",
+    ),
+    (
+        "D : in bit",
+        "D : in bit; A : out bit_vector (ZEROS8 to NINES)",
+        "B9 TooLarge",
+    ),
+    (
+        "D : in bit",
+        "D : in bit; A : out bit_vector (NINES to NINES0)",
+        "B9 TooLarge",
+    ),
+    (
+        "D : in bit",
+        "D : in bit; A : out bit_vector (NINES0 to NINES)",
+        "B2 BadForm 1165",
+    ),
+];
+
 #[test]
 fn long_numbers(rt: HostRuntime) -> Result<(), Fail> {
-    let alloc = rt.alloc();
-    let zeros = "0".repeat(alloc, 1_000)?;
-    let nines = "9".repeat(alloc, 1_000)?;
-    let rows = [
-        (
-            "entity is 2",
-            format!(in alloc; "entity is {zeros}2")?,
-            "read",
-        ),
-        (
-            "entity is 2",
-            format!(in alloc; "entity is {nines}")?,
-            "B5 BadLength",
-        ),
-        (
-            "entity is 3",
-            format!(in alloc; "entity is {zeros}3")?,
-            "read",
-        ),
-        (
-            "entity is 3",
-            format!(in alloc; "entity is {nines}")?,
-            "B8 BadCell 3",
-        ),
-        ("2 (BC", format!(in alloc; "{zeros}2 (BC")?, "read"),
-        ("2 (BC", format!(in alloc; "{nines} (BC")?, "B8 BadCell 2"),
-        (
-            "1, 0, Z",
-            format!(in alloc; "{zeros}1, {zeros}, Z")?,
-            "B2 BadForm 795",
-        ),
-        (
-            "1, 0, Z",
-            format!(in alloc; "{nines}, 0, Z")?,
-            "B8 BadCell 0",
-        ),
-        (
-            "D, input",
-            format!(in alloc; "D({nines}), input")?,
-            "B8 BadCell 2",
-        ),
-        (
-            "Q : out bit",
-            format!(in alloc; "Q, A : out bit_vector ({zeros}8 to {nines})")?,
-            "B8 BadCell 0",
-        ),
-        (
-            "D : in bit",
-            format!(in alloc; "D : in bit; A : out bit_vector ({zeros}8 to {nines})")?,
-            "B9 TooLarge",
-        ),
-        (
-            "D : in bit",
-            format!(in alloc; "D : in bit; A : out bit_vector ({nines} to {nines}0)")?,
-            "B9 TooLarge",
-        ),
-        (
-            "D : in bit",
-            format!(in alloc; "D : in bit; A : out bit_vector ({nines}0 to {nines})")?,
-            "B2 BadForm 1165",
-        ),
-    ];
-    for (from, to, wanted) in &rows {
-        assert_eq!(&rt; changed(alloc, from, to.as_str())?.as_str(), *wanted);
+    let zeros = "0".repeat(rt.alloc(), 1_000)?;
+    let nines = "9".repeat(rt.alloc(), 1_000)?;
+    for (from, to, wanted) in LONG_NUMBERS {
+        let to = to.replace(rt.alloc(), "ZEROS", zeros.as_str())?;
+        let to = to.as_str().replace(rt.alloc(), "NINES", nines.as_str())?;
+        let told = changed(rt.alloc(), from, to.as_str())?;
+        assert_eq!(&rt; told.as_str(), *wanted);
     }
     Ok(())
 }
@@ -602,42 +603,23 @@ fn brackets_without_end(rt: HostRuntime) -> Result<(), Fail> {
 /// A text that is joined from 100,000 pieces is one text; one that is bad is refused at its first quote.
 #[test]
 fn many_pieces(rt: HostRuntime) -> Result<(), Fail> {
-    let alloc = rt.alloc();
-    let pieces = "\"\" & ".repeat(alloc, 100_000)?;
-    assert_eq!(&rt;
-        changed(
-            alloc,
-            "is \"01\"",
-            format!(in alloc; "is {pieces}\"01\"")?.as_str()
-        )?
-        .as_str(),
-        "read"
-    );
-    assert_eq!(&rt;
-        changed(
-            alloc,
-            "is \"01\"",
-            format!(in alloc; "is \"0\" & {pieces}\"2\"")?.as_str()
-        )?
-        .as_str(),
-        "B2 BadForm 590"
-    );
-    assert_eq!(&rt;
-        changed(
-            alloc,
-            "is \"01\"",
-            format!(in alloc; "is \"01\" & {pieces};")?.as_str()
-        )?
-        .as_str(),
-        "B2 BadForm 500597"
-    );
+    let pieces = "\"\" & ".repeat(rt.alloc(), 100_000)?;
+    for (to, wanted) in [
+        ("is PIECES\"01\"", "read"),
+        ("is \"0\" & PIECES\"2\"", "B2 BadForm 590"),
+        ("is \"01\" & PIECES;", "B2 BadForm 500597"),
+    ] {
+        let to = to.replace(rt.alloc(), "PIECES", pieces.as_str())?;
+        assert_eq!(&rt;
+            changed(rt.alloc(), "is \"01\"", to.as_str())?.as_str(),
+            wanted
+        );
+    }
     Ok(())
 }
 
-/// 8,192 port bits, and 4,096 cells that each name one; a cell that drives what a lower one drives is refused.
-#[test]
-fn many_bits(rt: HostRuntime) -> Result<(), Fail> {
-    let alloc = rt.alloc();
+/// K with 8,192 port bits, and 4,096 cells of which each names one.
+fn with_many_bits(alloc: Global) -> Result<String, AllocError> {
     let ports = "Q : out bit; A : out bit_vector (0 to 8185);";
     let text = K.replace(alloc, "Q : out bit;", ports)?;
     let text = text
@@ -648,13 +630,18 @@ fn many_bits(rt: HostRuntime) -> Result<(), Fail> {
         let bit = 8_188_usize.saturating_sub(i);
         rows.push_str(format!(in alloc; "& \", {i} (BC_1, a({bit}), output2, X)\"")?.as_str())?;
     }
-    let text = text
-        .as_str()
-        .replace(alloc, "D, input, X)\"", rows.as_str())?;
-    assert_eq!(&rt; outcome(alloc, text.as_str())?.as_str(), "read");
+    text.as_str()
+        .replace(alloc, "D, input, X)\"", rows.as_str())
+}
+
+/// It is read; a cell that drives what a lower one drives is refused.
+#[test]
+fn many_bits(rt: HostRuntime) -> Result<(), Fail> {
+    let text = with_many_bits(rt.alloc())?;
+    assert_outcome(&rt, rt.alloc(), text.as_str(), "read")?;
     let again = text
         .as_str()
-        .replace(alloc, "4095 (BC_1, a(4093)", "4095 (BC_1, a(4094)")?;
-    assert_eq!(&rt; outcome(alloc, again.as_str())?.as_str(), "B8 BadCell 4095");
+        .replace(rt.alloc(), "4095 (BC_1, a(4093)", "4095 (BC_1, a(4094)")?;
+    assert_outcome(&rt, rt.alloc(), again.as_str(), "B8 BadCell 4095")?;
     Ok(())
 }

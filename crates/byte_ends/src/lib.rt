@@ -13,6 +13,3 @@ mod socket;
 pub use adapters::{Both, Plain};
 pub use counting::{Broken, Counted, put_all, put_pieces};
 pub use ends::{End, Sink, Source};
-
-#[cfg(test)]
-mod tests;

@@ -262,6 +262,3 @@ pub fn first_bad_bit(got: u64, want: u64, mask: u64) -> Option<usize>
     }
     Some(bad.trailing_zeros() as usize)
 }
-
-#[cfg(test)]
-mod tests;

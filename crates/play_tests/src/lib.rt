@@ -1,8 +1,11 @@
-//! Tests of public calls: plays: at once, by bytes and answers, over pipes, and as the program runs them.
+//! Tests of public calls: ends of bytes, and plays: at once, by bytes and answers, over pipes, and as the program runs
+//! them.
 //!
 //! They stand in a crate of their own, since a crate with tests is proved twice.
 #![tactic(auto)]
 
+#[cfg(test)]
+mod ends;
 #[cfg(test)]
 mod pipes;
 #[cfg(test)]

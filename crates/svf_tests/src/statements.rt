@@ -1,5 +1,5 @@
 use jt_bits::Bits;
-use jt_tap::State;
+use jt_tap::{Column, State};
 use std::alloc::Global;
 use std::process::Abort;
 use std::test::Fail;
@@ -157,10 +157,10 @@ fn runs_that_are_refused(rt: HostRuntime) {
     );
 }
 
-#[test]
-fn scans(rt: HostRuntime) -> Result<(), Fail> {
-    let alloc = rt.alloc();
-    let Some(
+/// A scan's TDI, TDO, MASK and SMASK, each as four digits and how many bits are written.
+fn fields(alloc: Global, text: &[u8]) -> Option<(Which, usize, [Option<([u8; 4], usize)>; 4])> {
+    let written = |bits: &Bits| (shown(bits), bits.len());
+    match one(alloc, text)? {
         Statement::Scan {
             which,
             len,
@@ -168,21 +168,36 @@ fn scans(rt: HostRuntime) -> Result<(), Fail> {
             tdo,
             mask,
             smask,
-        },
-    ) = one(alloc, b"sdr 12 Mask (0FF) TDI (1 2\n3) SMASK ();")
-    else {
-        return Err(Fail::from("no scan"));
-    };
-    let (Some(tdi), None, Some(mask), Some(smask)) = (tdi, tdo, mask, smask) else {
-        return Err(Fail::from("other fields"));
-    };
-    assert_eq!(rt; which, Which::Sdr);
-    assert_eq!(rt; len, 12);
-    assert_eq!(rt; shown(&tdi), *b"0123");
-    assert_eq!(rt; shown(&mask), *b"00FF");
-    assert_eq!(rt; shown(&smask), *b"0000");
-    assert_eq!(rt; (tdi.len(), mask.len(), smask.len()), (12, 12, 0));
-    assert_eq!(rt; smask.resized(alloc, len)?.len(), 12);
+        } => {
+            let fields = [
+                tdi.as_ref().map(written),
+                tdo.as_ref().map(written),
+                mask.as_ref().map(written),
+                smask.as_ref().map(written),
+            ];
+            Some((which, len, fields))
+        }
+        _ => None,
+    }
+}
+
+#[test]
+fn scans(rt: HostRuntime) {
+    let alloc = rt.alloc();
+    let digits = |digits: &[u8; 4], written: usize| Some((*digits, written));
+    assert_eq!(rt;
+        fields(alloc, b"sdr 12 Mask (0FF) TDI (1 2\n3) SMASK ();"),
+        Some((
+            Which::Sdr,
+            12,
+            [
+                digits(b"0123", 12),
+                None,
+                digits(b"00FF", 12),
+                digits(b"0000", 0)
+            ],
+        ))
+    );
     assert_count(
         &rt,
         alloc,
@@ -190,7 +205,6 @@ fn scans(rt: HostRuntime) -> Result<(), Fail> {
         6,
     );
     assert_count(&rt, alloc, b"SDR 4 TDI (0F);", 1);
-    Ok(())
 }
 
 #[test]
@@ -270,41 +284,50 @@ fn a_length_above_the_limit_and_a_wider_field(rt: HostRuntime) -> Result<(), Fai
     Ok(())
 }
 
+/// The column and the state of an ENDDR or ENDIR.
+fn end_state(alloc: Global, text: &[u8]) -> Option<(Column, State)> {
+    match one(alloc, text)? {
+        Statement::EndDr(state) => Some((Column::Dr, state)),
+        Statement::EndIr(state) => Some((Column::Ir, state)),
+        _ => None,
+    }
+}
+
+fn trst(alloc: Global, text: &[u8]) -> Option<TrstWord> {
+    match one(alloc, text)? {
+        Statement::Trst(word) => Some(word),
+        _ => None,
+    }
+}
+
 #[test]
-fn states_and_trst(rt: HostRuntime) -> Result<(), Fail> {
-    let alloc = rt.alloc();
-    let Some(Statement::States(states)) = one(alloc, b"STATE drselect IRSELECT Reset;") else {
+fn end_states_and_trst(rt: HostRuntime) {
+    let ends: [(&[u8], _); 2] = [
+        (b"ENDDR DRPAUSE;", (Column::Dr, State::DrPause)),
+        (b"EndIr IDLE;", (Column::Ir, State::Idle)),
+    ];
+    for (text, wanted) in ends {
+        assert_eq!(rt; end_state(rt.alloc(), text), Some(wanted));
+    }
+    let words: [(&[u8], _); 4] = [
+        (b"TRST ON;", TrstWord::On),
+        (b"TRST off;", TrstWord::Off),
+        (b"trst Z;", TrstWord::Z),
+        (b"TRST ABSENT;", TrstWord::Absent),
+    ];
+    for (text, wanted) in words {
+        assert_eq!(rt; trst(rt.alloc(), text), Some(wanted));
+    }
+}
+
+#[test]
+fn states(rt: HostRuntime) -> Result<(), Fail> {
+    let Some(Statement::States(states)) = one(rt.alloc(), b"STATE drselect IRSELECT Reset;") else {
         return Err(Fail::from("no states"));
     };
     assert_eq!(rt;
         states.as_slice(),
         [State::DrSelect, State::IrSelect, State::Reset].as_slice()
-    );
-    assert!(rt;
-        matches!(
-            one(alloc, b"ENDDR DRPAUSE;"),
-            Some(Statement::EndDr(State::DrPause))
-        )
-    );
-    assert!(rt;
-        matches!(
-            one(alloc, b"EndIr IDLE;"),
-            Some(Statement::EndIr(State::Idle))
-        )
-    );
-    assert!(rt; matches!(one(alloc, b"TRST ON;"), Some(Statement::Trst(TrstWord::On))));
-    assert!(rt;
-        matches!(
-            one(alloc, b"TRST off;"),
-            Some(Statement::Trst(TrstWord::Off))
-        )
-    );
-    assert!(rt; matches!(one(alloc, b"trst Z;"), Some(Statement::Trst(TrstWord::Z))));
-    assert!(rt;
-        matches!(
-            one(alloc, b"TRST ABSENT;"),
-            Some(Statement::Trst(TrstWord::Absent))
-        )
     );
     Ok(())
 }

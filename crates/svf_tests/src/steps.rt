@@ -1,4 +1,6 @@
-use std::alloc::Global;
+use jt_tap::State;
+use scan_vectors::Vector;
+use std::alloc::{AllocError, Global};
 use std::process::Abort;
 use std::test::Fail;
 use svf_parse::parse;
@@ -22,8 +24,35 @@ fn told(alloc: Global, text: &[u8]) -> Result<String, Fail> {
     Ok(lines)
 }
 
-/// A step: of a scan for each bit its part, what is shifted in, and what is wanted out.
-fn shown(alloc: Global, step: Step) -> Result<String, Fail> {
+/// A vector: for each bit its part, what is shifted in, and what is wanted out.
+fn shown_vector(alloc: Global, vector: &Vector) -> Result<String, AllocError> {
+    let mut parts = String::new(alloc);
+    let mut tdi = String::new(alloc);
+    let mut wanted = String::new(alloc);
+    for at in 0..vector.len() {
+        let (bit, wants) = vector.bit(at);
+        let (part, place) = vector.part(at);
+        parts.push_str(format!(in alloc; "{part:?}{place} ")?.as_str())?;
+        tdi.push(if bit { '1' } else { '0' })?;
+        wanted.push(match wants {
+            None => 'x',
+            Some(false) => '0',
+            Some(true) => '1',
+        })?;
+    }
+    format!(in alloc; "{parts}{tdi} {wanted}")
+}
+
+fn shown_path(alloc: Global, path: &[State]) -> Result<String, AllocError> {
+    let mut words = String::new(alloc);
+    for state in path {
+        words.push(' ')?;
+        words.push_str(state.word())?;
+    }
+    Ok(words)
+}
+
+fn shown(alloc: Global, step: Step) -> Result<String, AllocError> {
     let number = step.number;
     match step.what {
         Action::Scan {
@@ -31,38 +60,17 @@ fn shown(alloc: Global, step: Step) -> Result<String, Fail> {
             vector,
             end,
         } => {
-            let mut parts = String::new(alloc);
-            let mut tdi = String::new(alloc);
-            let mut wanted = String::new(alloc);
-            for at in 0..vector.len() {
-                let bit = vector.bit(at);
-                let (part, place) = vector.part(at);
-                parts.push_str(format!(in alloc; "{part:?}{place} ")?.as_str())?;
-                tdi.push(if bit.0 { '1' } else { '0' })?;
-                wanted.push(match bit.1 {
-                    None => 'x',
-                    Some(false) => '0',
-                    Some(true) => '1',
-                })?;
-            }
-            let end = end.word();
-            Ok(format!(in alloc; "{number} {column:?} {parts}{tdi} {wanted} {end}")?)
+            let bits = shown_vector(alloc, &vector)?;
+            format!(in alloc; "{number} {column:?} {bits} {}", end.word())
         }
-        Action::Go(state) => Ok(format!(in alloc; "{number} {}", state.word())?),
-        Action::Path(path) => {
-            let mut words = format!(in alloc; "{number}")?;
-            for state in path {
-                words.push(' ')?;
-                words.push_str(state.word())?;
-            }
-            Ok(words)
-        }
-        Action::Run { run, cycles, end } => Ok(format!(in alloc;
+        Action::Go(state) => format!(in alloc; "{number} {}", state.word()),
+        Action::Path(path) => format!(in alloc; "{number}{}", shown_path(alloc, path)?),
+        Action::Run { run, cycles, end } => format!(in alloc;
             "{number} {cycles} in {} to {}",
             run.word(),
             end.word()
-        )?),
-        Action::Trst(word) => Ok(format!(in alloc; "{number} {word:?}")?),
+        ),
+        Action::Trst(word) => format!(in alloc; "{number} {word:?}"),
     }
 }
 

@@ -1,7 +1,8 @@
-// What no clause says: which call of a faulty reader or writer is the first that counts, and that the calls succeed.
+//! Ends that bytes come from and go to. What no clause says: which call of a faulty reader or writer is the first that
+//! counts, and that the calls succeed.
 ghost use Rattle.std.specs.Prelude.{⊤};
 
-use super::{Both, Broken, Counted, End, Plain, Sink, Source, put_all};
+use byte_ends::{Both, Broken, Counted, End, Plain, Sink, Source, put_all};
 use std::alloc::Global;
 use std::io;
 use std::io::{Error, ErrorKind, Read, Write};

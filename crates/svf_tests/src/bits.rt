@@ -1,5 +1,6 @@
 //! Each call beside a plain list of bits.
-use super::*;
+use jt_bits::{Bits, first_bad};
+use std::alloc::{AllocError, Global};
 use std::process::Abort;
 use std::test::Fail;
 
