@@ -9,9 +9,11 @@ use Rattle.board_tables.specs.Faults.{unfit}
 use Rattle.board_file.specs.declared.fault.BoardFault.{BoardFault}
 use Rattle.board_file.specs.declared.fault.BoardFault.TheVariants as fault
 use Rattle.board_file.specs.declared.plan.Plan.{Plan}
-use Rattle.board_file.specs.Files.{File, file_names, described, cells_at, device_at, missing_in, refused_in}
+use Rattle.board_library.specs.Files.{File, described, cells_at, device_at, missing_in, refused_in}
+use Rattle.board_file.specs.Files.{file_names}
 use Rattle.board_file.specs.Wiring.{Wiring, Fault, BadField, UnknownFile, Bsdl, makes, wiring_of, wire_fault, net_of, member_at}
-use Rattle.board_file.specs.View.{JudgesKeys, IsUnknownFile, TellsFault, TellsBoard, PlansBoard, cells_in, stands_at, member_in}
+use Rattle.board_file.specs.View.{JudgesKeys, IsUnknownFile, TellsFault, TellsBoard, PlansBoard, member_in}
+use Rattle.board_library.specs.View.{cells_in, stands_at}
 use Rattle.board_file.proofs.DescribedLaws.{Named, named_from, same_cells, same_devices, same_members}
 
 pub of_ok : {A E : Type 0} (P : A → Type 0) (r : Result A E) (x : A) → IfOk r P → r ≡ Ok x → P x

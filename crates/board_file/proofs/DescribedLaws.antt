@@ -8,10 +8,12 @@ use Rattle.std.proofs.lemmas.Slice.Eq.{bytes_eq-Decides}
 use Rattle.toml.specs.Data.{Members}
 use Rattle.bsdl_device.specs.Device.{Device}
 use Rattle.board_tables.specs.Fields.{text_at, with_name}
-use Rattle.board_file.specs.Files.{File, file_at, described, device_at, cells_at}
+use Rattle.board_library.specs.Files.{File, described, device_at, cells_at}
+use Rattle.board_file.specs.Files.{file_at}
 use Rattle.board_file.specs.Wiring.{member_at}
-use Rattle.board_file.specs.View.{stands_at, cells_in, member_in}
-use Rattle.board_file.proofs.FileLaws.{found_at}
+use Rattle.board_library.specs.View.{stands_at, cells_in}
+use Rattle.board_file.specs.View.{member_in}
+use Rattle.board_library.proofs.FileLaws.{found_at}
 
 -- ---- each name is among those that are distinct
 

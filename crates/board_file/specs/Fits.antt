@@ -3,7 +3,7 @@ use Rattle.std.specs.Prelude.{◌≡◌, ◌<◌, ◌≤◌, false, ℕ, Option,
 use Rattle.std.specs.List.{list_any, flat_map, AllByRecursion}
 use Rattle.bsdl_device.specs.Device.{Device}
 use Rattle.pin_nets.specs.declared.Pin.{Pin}
-use Rattle.board_file.specs.Pins.{same_pin}
+use Rattle.board_pins.specs.Pins.{same_pin}
 use Rattle.pin_nets.specs.Wired.{Net}
 use Rattle.board_file.specs.Wiring.{Member, Wiring}
 

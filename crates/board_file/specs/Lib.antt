@@ -1,5 +1,4 @@
 pub mod Files
-pub mod Pins
 pub mod Wiring
 pub mod LeftOut
 pub mod View

@@ -8,14 +8,15 @@ ghost use Rattle.board_tables.specs.View.{texts_of};
 ghost use Rattle.board_file.specs.Files.{Reads, IsBadToml};
 ghost use Rattle.board_file.specs.Wiring.{makes};
 ghost use Rattle.board_file.specs.View.{IsMiswired, IsUnknownFile, JudgesKeys, PlansBoard, TellsBadToml, TellsBoard};
-ghost use Rattle.board_file.specs.View.{cells_in, files_of, wiring};
+ghost use Rattle.board_library.specs.View.{cells_in, files_of};
+ghost use Rattle.board_file.specs.View.{wiring};
 ghost use Rattle.board_file.specs.Fits.{AreSaid, FitsTogether};
 
 use crate::fault::{BoardFault, told};
 use crate::files::{distinct_files, read_table};
-use crate::library::{Describe, Library, cells_of, devices_of, read_files};
 use crate::plan::{Plan, plan_devices, plan_nets};
 use crate::wiring::{Miswired, check_pins};
+use board_library::{Describe, Library, cells_of, devices_of, read_files};
 use board_tables::{Places, check_fields, items_at, name_at};
 use scan_registers::SharedDevice;
 use std::alloc::{AllocError, Global};

@@ -5,15 +5,13 @@ mod board;
 mod fault;
 mod files;
 mod instructions;
-mod library;
-mod pins;
 mod plan;
 mod wiring;
 
 pub use board::plan_of_text;
+pub use board_library::{Describe, Unread};
 pub use fault::BoardFault;
 pub use files::bsdl_names;
 pub use instructions::left_out;
-pub use library::{Describe, Unread};
 pub use pin_nets::Pin;
 pub use plan::{Plan, PlannedDevice, PlannedNet};

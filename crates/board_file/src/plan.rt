@@ -4,12 +4,12 @@ ghost use Rattle.std.specs.List.{filter_map};
 ghost use Rattle.toml.specs.View.{table_view, items_view};
 ghost use Rattle.board_tables.specs.Fields.{tables_in, texts_in};
 ghost use Rattle.board_tables.specs.View.{texts_of};
-ghost use Rattle.board_file.specs.Pins.{pin_at};
+ghost use Rattle.board_pins.specs.Pins.{pin_at};
 ghost use Rattle.board_file.specs.Wiring as spec;
 ghost use Rattle.board_file.specs.View as view;
 
-use crate::library::described_at;
-use crate::pins::find_pin;
+use board_library::described_at;
+use board_pins::find_pin;
 use board_tables::{Places, items_at, name_at, text_at};
 use jt_bits::Bits;
 use pin_nets::{Pin, Pull};

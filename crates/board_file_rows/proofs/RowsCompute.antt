@@ -1,7 +1,7 @@
 -- The worked rows compute.
 use Rattle.std.proofs.Common.{refl}
 use Rattle.board_tables.specs.PinTexts.{pin_of, port_of, index_of}
-use Rattle.board_file.specs.Pins.{pin_at}
+use Rattle.board_pins.specs.Pins.{pin_at}
 use Rattle.board_file_rows.specs.Rows.{BoardRows}
 
 pub board_rows : BoardRows

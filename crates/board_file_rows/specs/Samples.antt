@@ -11,7 +11,7 @@ use Rattle.bsdl_device.specs.declared.Disabled.TheVariants.{Z}
 use Rattle.bsdl_device.specs.declared.Cell.{Cell}
 use Rattle.pin_nets.specs.declared.Pull.{Pull}
 use Rattle.pin_nets.specs.declared.Pin.{Pin}
-use Rattle.board_file.specs.Files.{File}
+use Rattle.board_library.specs.Files.{File}
 use Rattle.pin_nets.specs.Wired.{Net}
 use Rattle.board_file.specs.Wiring.{Member, Wiring, Fault, makes}
 

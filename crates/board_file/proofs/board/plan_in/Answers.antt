@@ -2,8 +2,10 @@ use Rattle.std.proofs.Common.{◌∙◌, sym, ap, subst, map, option_map, codes,
 use Rattle.toml.specs.View.{table_view}
 use Rattle.board_tables.specs.Fields.{tables_in, tables_at}
 use Rattle.board_tables.specs.View.{texts_of}
-use Rattle.board_file.specs.Files.{file_at, distinct, described, missing_in, refused_in}
-use Rattle.board_file.specs.View.{files_of, IsFirstRefusal, PlansBoard}
+use Rattle.board_file.specs.Files.{file_at, distinct}
+use Rattle.board_library.specs.Files.{described, missing_in, refused_in}
+use Rattle.board_library.specs.View.{files_of, IsFirstRefusal}
+use Rattle.board_file.specs.View.{PlansBoard}
 use Rattle.board_file.proofs.BoardLaws.{keys_fault, missing_fault, refused_fault, planned}
 use Rattle.board_file.proofs.FitLaws.{told_fits, told_said}
 use Rattle.board_file.proofs.board.plan_in.Goals as goal

@@ -1,0 +1,234 @@
+//! The descriptions that a board file names, each read once.
+ghost use Rattle.std.specs.Prelude.{◌≡◌, map, option_map, option_copied, IfOk, OnOk, length, None, ◌++◌, ◌∷◌, []};
+ghost use Rattle.toml.specs.View.{table_view, items_view};
+ghost use Rattle.board_tables.specs.Fields.{tables_in};
+ghost use Rattle.board_tables.specs.View.{texts_of};
+ghost use Rattle.bsdl_device.specs.Device as described;
+ghost use Rattle.board_library.specs.Files as spec;
+ghost use Rattle.std.specs.List.{filter_map};
+ghost use Rattle.board_library.specs.View.{Describes, IsRead, IsReading, IsFirstRefusal, device_in, missing_with};
+ghost use Rattle.board_library.specs.View.{refused_with, files_of, stands_at, cells_in};
+
+use board_tables::{Places, text_at};
+use bsdl_device::Device;
+use scan_registers::SharedDevice;
+use std::alloc::{AllocError, Global};
+use toml::{Table, Value};
+
+/// Why a text gave no device.
+#[derive(Debug, Drop)]
+pub enum Unread<F> {
+    /// It is refused, and why.
+    Refused(F),
+    /// A growth was refused.
+    Memory,
+}
+
+/// A reader of device descriptions.
+pub trait Describe {
+    /// Why a text is refused.
+    type Fault: Drop;
+
+    ghost use Rattle.std.specs.Prelude.{ℕ, List, Option};
+    ghost use Rattle.bsdl_device.specs.Device as described;
+
+    /// The device that a text describes, none where the text is refused.
+    ghost says: { List ℕ → Option described.Device };
+
+    /// Why a text is refused.
+    ghost refuses: { List ℕ → Self.Fault → Type 0 };
+
+    /// Reads a description.
+    fn read(&self, alloc: Global, text: &[u8]) -> Result<Device, Unread<Self::Fault>>
+        ensures { Describes says refuses text.now result };
+}
+
+/// What stands in the file of a name.
+#[derive(Drop)]
+enum Reading<F> {
+    /// No such file was handed in.
+    Missing,
+    Refused(F),
+    Described(SharedDevice),
+}
+
+/// The descriptions that a board file names.
+#[derive(Drop)]
+pub struct Library<'t, F> {
+    /// What is described in the file of each name; none where there is no such file, or where it is refused.
+    pub devices: Vec<Option<SharedDevice>>,
+    /// The first name that no file has.
+    pub missing: Option<&'t str>,
+    /// Why the first description that is refused is so.
+    pub refused: Option<F>,
+}
+
+/// Reads the files of these names, each once.
+pub fn read_files<'t, 'f, R: Describe>(
+    alloc: Global,
+    reader: &R,
+    files: &[(&'f str, &'f [u8])],
+    names: &[&'t str],
+) -> Result<Library<'t, R::Fault>, AllocError>
+    ensures devices { IfOk result
+        (λ l. l.devices.items ≡ map (spec.described R.says (files_of files.now)) (texts_of names.now)) }
+    ensures missing { IfOk result
+        (λ l. option_map (λ n. n.now) l.missing ≡ spec.missing_in (files_of files.now) (texts_of names.now)) }
+    ensures refused { IfOk result
+        (λ l. IsFirstRefusal R.refuses l.refused None
+        (spec.refused_in R.says (files_of files.now) (texts_of names.now))) }
+{
+    let places = file_places(alloc, files)?;
+    let mut library = Library {
+        devices: Vec::with_capacity(alloc, names.len())?,
+        missing: None,
+        refused: None,
+    };
+    for name in names {
+        let reading = read_named(alloc, reader, files, &places, name)?;
+        note(&mut library, name, reading)?;
+    }
+    Ok(library)
+}
+
+/// Notes what stands in the file of a name.
+fn note<'t, F: Drop>(
+    library: &mut Library<'t, F>,
+    name: &'t str,
+    reading: Reading<F>,
+) -> Result<(), AllocError>
+    ensures devices { OnOk result (library.new.devices.items ≡ library.old.devices.items ++ device_in reading ∷ []) }
+    ensures missing { OnOk result (library.new.missing ≡ missing_with library.old.missing name.entry reading) }
+    ensures refused { OnOk result (library.new.refused ≡ refused_with library.old.refused reading) }
+{
+    match reading {
+        Reading::Described(device) => library.devices.push(Some(device))?,
+        Reading::Missing => {
+            if library.missing.is_none() {
+                library.missing = Some(name);
+            }
+            library.devices.push(None)?;
+        }
+        Reading::Refused(fault) => {
+            if library.refused.is_none() {
+                library.refused = Some(fault);
+            }
+            library.devices.push(None)?;
+        }
+    }
+    Ok(())
+}
+
+/// What stands in the file of a name, given the places of all names.
+fn read_named<R: Describe>(
+    alloc: Global,
+    reader: &R,
+    files: &[(&str, &[u8])],
+    places: &Places<&str>,
+    name: &str,
+) -> Result<Reading<R::Fault>, AllocError>
+    requires { texts_of places.now ≡ map (λ f. f.0.now) files.now }
+    ensures { IfOk result (IsReading R.says R.refuses (files_of files.now) name.now) }
+{
+    let Some(place) = places.place_of(name) else {
+        return Ok(Reading::Missing);
+    };
+    match files.get(place) {
+        Some((_, text)) => read_file(alloc, reader, text),
+        None => Ok(Reading::Missing),
+    }
+}
+
+/// The names of the files.
+fn file_places<'f>(
+    alloc: Global,
+    files: &[(&'f str, &'f [u8])],
+) -> Result<Places<&'f str>, AllocError>
+    ensures { IfOk result (λ p. texts_of p ≡ map (λ f. f.0.now) files.now) }
+{
+    let mut places = Places::new(alloc);
+    for (name, _) in files {
+        places.push(*name)?;
+    }
+    Ok(places)
+}
+
+/// What a text describes.
+fn read_file<R: Describe>(
+    alloc: Global,
+    reader: &R,
+    text: &[u8],
+) -> Result<Reading<R::Fault>, AllocError>
+    ensures { IfOk result (IsRead R.says R.refuses text.now) }
+{
+    match reader.read(alloc, text) {
+        Ok(device) => Ok(Reading::Described(SharedDevice::new(alloc, device)?)),
+        Err(Unread::Refused(fault)) => Ok(Reading::Refused(fault)),
+        Err(Unread::Memory) => Err(AllocError),
+    }
+}
+
+/// What is described of a device of the board file, given all names of files and what is described in each.
+pub fn described_at<'r>(
+    names: &Places<&str>,
+    described: &'r [Option<SharedDevice>],
+    table: &Table,
+) -> Option<&'r SharedDevice>
+    ensures { option_copied result ≡ stands_at (texts_of names.now) described.now (table_view table.now) }
+{
+    let name = text_at(table, "bsdl")?;
+    let place = names.place_of(name)?;
+    match described.get(place) {
+        Some(Some(device)) => Some(device),
+        _ => None,
+    }
+}
+
+/// The number of cells of each device, where its description is there and not refused.
+pub fn cells_of(
+    alloc: Global,
+    names: &Places<&str>,
+    described: &[Option<SharedDevice>],
+    devices: &[Value],
+) -> Result<Vec<Option<usize>>, AllocError>
+    ensures { IfOk result (λ v. v.items
+        ≡ map (cells_in (texts_of names.now) described.now) (tables_in (items_view devices.now))) }
+{
+    let mut cells = Vec::new(alloc);
+    for device in devices {
+        if let Some(table) = device.as_table() {
+            cells.push(count_of(described_at(names, described, table)))?;
+        }
+    }
+    Ok(cells)
+}
+
+fn count_of(device: Option<&SharedDevice>) -> Option<usize>
+    ensures { result ≡ option_map (λ (d : described.Device). length d.cells) (option_copied device.entry) }
+{
+    match device {
+        Some(device) => Some(device.get().cells().len()),
+        None => None,
+    }
+}
+
+/// The devices of the board that are described.
+pub fn devices_of(
+    alloc: Global,
+    names: &Places<&str>,
+    described: &[Option<SharedDevice>],
+    devices: &[Value],
+) -> Result<Vec<SharedDevice>, AllocError>
+    ensures { IfOk result (λ v. v.items
+        ≡ filter_map (stands_at (texts_of names.now) described.now) (tables_in (items_view devices.now))) }
+{
+    let mut shared = Vec::new(alloc);
+    for device in devices {
+        if let Some(table) = device.as_table() {
+            if let Some(device) = described_at(names, described, table) {
+                shared.push(device.share()?)?;
+            }
+        }
+    }
+    Ok(shared)
+}

@@ -1,0 +1,2 @@
+pub mod IndexLaws
+pub mod PinLaws
