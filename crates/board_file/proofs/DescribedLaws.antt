@@ -9,7 +9,7 @@ use Rattle.toml.specs.Data.{Members}
 use Rattle.bsdl_device.specs.Device.{Device}
 use Rattle.board_tables.specs.Fields.{text_at, with_name}
 use Rattle.board_library.specs.Files.{File, described, device_at, cells_at}
-use Rattle.board_file.specs.Files.{file_at}
+use Rattle.board_names.specs.Files.{file_at}
 use Rattle.board_file.specs.Wiring.{member_at}
 use Rattle.board_library.specs.View.{stands_at, cells_in}
 use Rattle.board_file.specs.View.{member_in}

@@ -1,4 +1,3 @@
-pub mod Files
 pub mod Wiring
 pub mod LeftOut
 pub mod View

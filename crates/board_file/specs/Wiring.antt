@@ -10,7 +10,7 @@ use Rattle.board_tables.specs.Fields.{text_at, name_at, tables_at}
 use Rattle.board_tables.specs.Faults.{unfit}
 use Rattle.pin_nets.specs.Wired.{Net}
 use Rattle.board_library.specs.Files.{File, device_at, cells_at, devices_of, missing_in, refused_in}
-use Rattle.board_file.specs.Files.{file_names}
+use Rattle.board_names.specs.Files.{file_names}
 use Rattle.board_pins.specs.Pins.{pins_at, unknown_in_nets, twice_in_nets}
 
 -- ---- a board as it is wired

@@ -2,16 +2,13 @@
 #![tactic(auto)]
 
 mod board;
-mod fault;
-mod files;
 mod instructions;
 mod plan;
 mod wiring;
 
 pub use board::plan_of_text;
 pub use board_library::{Describe, Unread};
-pub use fault::BoardFault;
-pub use files::bsdl_names;
+pub use board_names::{BoardFault, bsdl_names};
 pub use instructions::left_out;
 pub use pin_nets::Pin;
 pub use plan::{Plan, PlannedDevice, PlannedNet};

@@ -2,7 +2,7 @@
 use Rattle.std.specs.Prelude.{◌≡◌, ℕ, Bool, true, false, List, [], ◌∷◌, codes, Some, None, Result, Ok, Err}
 use Rattle.toml.specs.Data.{Members, no_members, member, boolean}
 use Rattle.pin_nets.specs.declared.Pull.TheVariants.{Up, Down, Free}
-use Rattle.board_file.specs.Files.{names_of}
+use Rattle.board_names.specs.Files.{names_of}
 use Rattle.board_file.specs.Wiring.{Fault, BadField, UnknownFile, Bsdl, UnknownPin, PinTwice, TooLarge, large}
 use Rattle.board_file.specs.LeftOut.{left_out}
 use Rattle.board_file_rows.specs.Samples.{Shown, k, ki, shows, pin, tables, file, device, cored, net, pulled, one_net}

@@ -13,8 +13,8 @@ use Rattle.formed_devices.proofs.FormedLaws.{every_device as every_formed}
 use Rattle.board_file.specs.Fits.{AreSaid, FitsTogether, IsSaid}
 use Rattle.board_file.specs.View.{TellsBoard, wiring}
 use Rattle.board_file.specs.Wiring as planned
-use Rattle.board_file.specs.declared.fault.BoardFault.{BoardFault}
-use Rattle.board_file.specs.declared.fault.BoardFault.TheVariants as fault
+use Rattle.board_names.specs.declared.fault.BoardFault.{BoardFault}
+use Rattle.board_names.specs.declared.fault.BoardFault.TheVariants as fault
 use Rattle.board_file.specs.declared.plan.Plan.{Plan}
 use Rattle.board_meaning.specs.Chain.{BoardState}
 use Rattle.chip_chain.specs.Building.{IsReady}

@@ -6,7 +6,7 @@ use Rattle.bsdl.specs.View as reading
 use Rattle.bsdl.specs.declared.fault.BsdlFault.{BsdlFault}
 use Rattle.board_file.specs.View.{TellsFault}
 use Rattle.board_file.specs.Wiring as planned
-use Rattle.board_file.specs.declared.fault.BoardFault.{BoardFault}
+use Rattle.board_names.specs.declared.fault.BoardFault.{BoardFault}
 use Rattle.board_meaning.specs.Chain.{BoardState}
 use Rattle.jt_board.specs.Made.{board_of}
 

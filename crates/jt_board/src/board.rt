@@ -4,7 +4,7 @@ ghost use Rattle.std.specs.Prelude.{◌≡◌, ◌<◌, ◌≤◌, ◌⊎◌, �
 ghost use Rattle.std.specs.Prelude.{MatchResult};
 ghost use Rattle.board_file.specs.LeftOut as spec;
 ghost use Rattle.board_file.specs.View.{wiring};
-ghost use Rattle.board_file.specs.declared.fault.BoardFault.TheVariants as fault;
+ghost use Rattle.board_names.specs.declared.fault.BoardFault.TheVariants as fault;
 ghost use Rattle.board_meaning.specs.Bare.{bare_board};
 ghost use Rattle.board_meaning.specs.Chain as chain;
 ghost use Rattle.board_meaning.specs.Sound.{IsSoundBoard};

@@ -1,8 +1,8 @@
 //! Boards by their board file and the descriptions that it names.
 
 ghost use Rattle.toml.specs.Data.{Members};
-ghost use Rattle.board_file.specs.Files.{IsBadToml, Reads};
-ghost use Rattle.board_file.specs.View.{TellsBadToml};
+ghost use Rattle.board_names.specs.Files.{IsBadToml, Reads};
+ghost use Rattle.board_names.specs.View.{TellsBadToml};
 ghost use Rattle.board_library.specs.View.{files_of};
 ghost use Rattle.board_file.specs.Wiring.{makes};
 ghost use Rattle.jt_board.specs.FromText.{TellsMade, said_device};

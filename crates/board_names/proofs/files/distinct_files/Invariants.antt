@@ -1,10 +1,10 @@
 use Rattle.std.proofs.Common.{◌≡◌, drop, fold, map}
 use Rattle.toml.specs.View.{items_view}
 use Rattle.board_tables.specs.Fields.{tables_in, with_name}
-use Rattle.board_file.specs.Files.{file_at}
-use Rattle.board_file.specs.Files.{distinct}
+use Rattle.board_names.specs.Files.{file_at}
+use Rattle.board_names.specs.Files.{distinct}
 use Rattle.board_tables.specs.View.{texts_of}
-use Rattle.board_file.proofs.files.distinct_files.Given as goal
+use Rattle.board_names.proofs.files.distinct_files.Given as goal
 
 -- the names so far, with those to come, are all
 abbrev pub invariant-loop-device : goal.invariant-loop-device

@@ -1,5 +1,5 @@
 //! Why a board file is refused.
-ghost use Rattle.board_file.specs.View.{IsTold};
+ghost use Rattle.board_names.specs.View.{IsTold};
 
 use board_tables::Unfit;
 use std::alloc::Global;
@@ -37,7 +37,7 @@ pub enum BoardFault<F> {
 }
 
 /// The refusal for a key at fault.
-pub(crate) fn told<F>(alloc: Global, unfit: Unfit<'_>) -> BoardFault<F>
+pub fn told<F>(alloc: Global, unfit: Unfit<'_>) -> BoardFault<F>
     ensures { IsTold unfit.entry result }
 {
     match unfit {

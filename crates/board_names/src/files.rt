@@ -4,9 +4,9 @@ ghost use Rattle.toml.specs.Data.{Members};
 ghost use Rattle.toml.specs.View.{table_view, items_view};
 ghost use Rattle.board_tables.specs.Fields.{tables_in};
 ghost use Rattle.board_tables.specs.View.{texts_of};
-ghost use Rattle.board_file.specs.Files.{Reads, IsBadToml, names_of, distinct};
-ghost use Rattle.board_file.specs.Files as spec;
-ghost use Rattle.board_file.specs.View.{TellsNames, TellsBadToml, ReadsToml};
+ghost use Rattle.board_names.specs.Files.{Reads, IsBadToml, names_of, distinct};
+ghost use Rattle.board_names.specs.Files as spec;
+ghost use Rattle.board_names.specs.View.{TellsNames, TellsBadToml, ReadsToml};
 
 use crate::fault::{BoardFault, told};
 use board_tables::{Places, check_fields, items_at, text_at};
@@ -26,7 +26,7 @@ pub fn bsdl_names<F>(alloc: Global, toml_text: &[u8]) -> Result<Vec<String>, Boa
 }
 
 /// The table that a text is.
-pub(crate) fn read_table<F>(alloc: Global, text: &[u8]) -> Result<Table, BoardFault<F>>
+pub fn read_table<F>(alloc: Global, text: &[u8]) -> Result<Table, BoardFault<F>>
     ensures { ReadsToml text.now result }
 {
     match toml::table_from_slice(alloc, text) {
@@ -52,7 +52,7 @@ fn names_in<F>(alloc: Global, table: &Table) -> Result<Vec<String>, BoardFault<F
 }
 
 /// The names of the devices' descriptions, each once.
-pub(crate) fn distinct_files<'t>(
+pub fn distinct_files<'t>(
     alloc: Global,
     devices: &'t [Value],
 ) -> Result<Places<&'t str>, AllocError>
