@@ -1,4 +1,3 @@
-pub mod Lines
 pub mod Bares
 pub mod TextLaws
 pub mod RestLaws

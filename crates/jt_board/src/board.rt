@@ -14,10 +14,10 @@ ghost use Rattle.jt_board.specs.Made.{IsSoundWiring, board_at, board_of};
 mod at_rest;
 
 use crate::bare::bare_plan;
-use crate::snapshot::Snapshot;
 use bitbang_table::Message;
 use board_file::Plan;
 use board_meaning::Reply;
+use board_report::Snapshot;
 use bsdl::BsdlFault;
 use chip_chain::Chain;
 use std::alloc::{AllocError, Global};

@@ -5,13 +5,12 @@ mod bare;
 mod board;
 mod from_text;
 mod report;
-mod snapshot;
 
 pub use board::{Board, BoardFault};
 pub use board_file::bsdl_names;
 pub use board_meaning::Reply;
+pub use board_report::Snapshot;
 pub use bsdl::BsdlFault;
 pub use byte_ends::{Broken, Counted};
 pub use pin_nets::Level;
 pub use report::{write_left_out, write_report};
-pub use snapshot::Snapshot;

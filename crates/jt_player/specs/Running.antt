@@ -8,8 +8,8 @@ use Rattle.byte_ends.specs.declared.counting.Broken.{Broken}
 use Rattle.svf_parse.specs.declared.fault.SvfFault.{SvfFault}
 use Rattle.svf_settings.specs.Steps.{Program}
 use Rattle.board_meaning.specs.Chain.{BoardState}
-use Rattle.jt_board.specs.LeftOut.{left_out_lines}
-use Rattle.jt_board.specs.Report.{report}
+use Rattle.board_report.specs.LeftOut.{left_out_lines}
+use Rattle.board_report.specs.Report.{report}
 use Rattle.plays.specs.DirectPlay.{MeansFromOpening, bytes_of_full_play}
 use Rattle.plays.specs.Endings.{status_of, verdict_line}
 use Rattle.plays.specs.Play.{play}

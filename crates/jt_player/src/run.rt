@@ -2,7 +2,7 @@
 
 ghost use Rattle.std.specs.Prelude.{◌≡◌, ◌≢◌, ◌⊎◌, ◌++◌, IfOk, OnOk, codes};
 ghost use Rattle.byte_ends.specs.Writes.{WritesAll};
-ghost use Rattle.jt_board.specs.LeftOut.{left_out_lines};
+ghost use Rattle.board_report.specs.LeftOut.{left_out_lines};
 ghost use Rattle.plays.specs.Play.{play};
 ghost use Rattle.svf_settings.specs.Sizes.{program_of};
 ghost use Rattle.jt_player.specs.Running.{Happens, IsCheckOf, IsRunOf, Run, Tells, note, played_run};

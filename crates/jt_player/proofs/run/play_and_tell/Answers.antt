@@ -1,6 +1,6 @@
 use Rattle.std.proofs.Common.{refl, ap}
 use Rattle.byte_ends.proofs.Fronts.{WritesAll-is, WritesAll-then, WritesAll-stopped}
-use Rattle.jt_board.specs.Report.{report}
+use Rattle.board_report.specs.Report.{report}
 use Rattle.plays.specs.Endings.{verdict_line}
 use Rattle.svf_settings.specs.Sizes.{program_of}
 use Rattle.plays.specs.Play.{play}

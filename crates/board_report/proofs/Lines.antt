@@ -1,0 +1,65 @@
+-- A report that grows line by line, and bits that are written from the highest down.
+use Rattle.std.proofs.Common.{◌≡◌, ◌≤◌, length, Bool, ℕ, zero, suc, ◌+◌, List, [], ◌∷◌, ◌++◌, take, drop, map, reverse, sym, ap, ◌∙◌, arith, refl, get_or, option_map, Option, None, Some}
+use Rattle.std.specs.Prelude.{slice_get}
+use Rattle.std.proofs.lemmas.Option.{get_or_from_slice_get, none-some, same_Some}
+use Rattle.std.specs.List.{filter}
+use Rattle.std.proofs.lemmas.List.{length-map}
+use Rattle.std.proofs.lemmas.List.Sums.{count_by-le-length, length-filter}
+use Rattle.bsdl_device.specs.Device.{Device, Opcode}
+use Rattle.board_file.specs.LeftOut.{is_left_out, left_out}
+use Rattle.pin_nets.specs.declared.Level.{Level}
+use Rattle.pin_nets.specs.declared.Pull.TheVariants.{Free}
+use Rattle.pin_nets.specs.Wired.{Net}
+use Rattle.board_meaning.specs.Cells.{Member}
+use Rattle.board_meaning.specs.Nets.{level}
+use Rattle.std.proofs.lemmas.List.{map-append, reverse-append, take-append-drop}
+use Rattle.board_report.specs.Report.{digit, digits, level_line, net_line}
+
+drop-there : (bits : List Bool) (n : ℕ) (b : Bool) → slice_get bits n ≡ Some b → drop n bits ≡ b ∷ drop (suc n) bits
+drop-there [] zero b e = absurd (cc)
+drop-there [] (suc n) b e = absurd (cc)
+drop-there (x ∷ bits) zero b e = let same : x ≡ b = cc in ap (λ v. v ∷ bits) same
+drop-there (x ∷ bits) (suc n) b e = drop-there bits n b e
+
+pub digits-more : (bits : List Bool) (n i : ℕ) (b : Bool) → i ≡ n + 1 → slice_get bits n ≡ Some b → digits (drop i bits) ++ digit b ∷ [] ≡ digits (drop n bits)
+digits-more bits n i b e there =
+    let next : i ≡ suc n = omega arith in
+    ap (λ k. digits (drop k bits) ++ digit b ∷ []) next
+    ∙ sym (ap digits (drop-there bits n b there) ∙ ap (map digit) (reverse-append (b ∷ []) (drop (suc n) bits))
+    ∙ map-append digit (reverse (drop (suc n) bits)) (b ∷ []))
+
+-- the digits before a place, and those from there on
+pub digits-split : (bits : List Bool) (n : ℕ) → digits bits ≡ digits (drop n bits) ++ digits (take n bits)
+digits-split bits n =
+    ap digits (sym (take-append-drop n bits)) ∙ ap (map digit) (reverse-append (take n bits) (drop n bits))
+    ∙ map-append digit (reverse (drop n bits)) (reverse (take n bits))
+
+pub nowhere : Net
+nowhere = record { name = []; pull = Free; pins = [] }
+
+-- the line of a net, by its name and its level
+pub net_said : (ms : List Member) (nets : List Net) (k : ℕ) (name : List ℕ) (l : Level) → option_map (λ n. n.name) (slice_get nets k) ≡ Some name
+    → option_map (level ms) (slice_get nets k) ≡ Some l → level_line name l ≡ net_line ms (get_or nets k nowhere)
+net_said ms nets k name l named is = by (slice_get nets k) refl
+  where
+    by : (o : Option Net) → slice_get nets k ≡ o → level_line name l ≡ net_line ms (get_or nets k nowhere)
+    by None at = absurd (none-some name (sym (ap (option_map (λ (n : Net). n.name)) at) ∙ named))
+    by (Some n) at =
+        let name-is : n.name ≡ name = same_Some _ _ (sym (ap (option_map (λ (n : Net). n.name)) at) ∙ named) in
+        let level-is : level ms n ≡ l = same_Some _ _ (sym (ap (option_map (level ms)) at) ∙ is) in
+        sym (ap (λ (x : List ℕ). level_line x l) name-is) ∙ sym (ap (level_line n.name) level-is) ∙ sym (ap (net_line ms) (get_or_from_slice_get nets k n nowhere at))
+
+-- ---- instructions that are left out
+
+pub found_left_out : (d e : Device) (k : ℕ) (o : Option (List ℕ)) (name : List ℕ) → e ≡ d → o ≡ slice_get (left_out e) k → o ≡ Some name → slice_get (left_out d) k ≡ Some name
+found_left_out d e k o name same is some = sym (ap (λ (x : Device). slice_get (left_out x) k) same) ∙ sym is ∙ some
+
+-- there are no more of them than opcode rows
+pub few_left_out : (d e : Device) (rows : List Opcode) (k : ℕ) → e ≡ d → rows ≡ e.opcodes → length rows ≤ k → length (left_out d) ≤ k
+few_left_out d e rows k same are h =
+    let many : length (left_out d) ≤ length (map (λ (o : Opcode). o.name) d.opcodes) = few (is_left_out d) (map (λ (o : Opcode). o.name) d.opcodes) in
+    let long : length rows ≡ length d.opcodes = ap length are ∙ ap (λ (x : Device). length x.opcodes) same in
+    omega (arith, many, long, h, length-map d.opcodes (λ (o : Opcode). o.name))
+  where
+    few : (test : List ℕ → Bool) (names : List (List ℕ)) → length (filter test names) ≤ length names
+    few test names = let counted = length-filter test names in omega (arith, counted, count_by-le-length test names)

@@ -1,0 +1,3 @@
+pub mod LeftOut
+pub mod Report
+pub mod Shown

@@ -1,0 +1,170 @@
+//! The lines of a board's report, and of the instructions that stand for BYPASS.
+
+ghost use Rattle.std.specs.Prelude.{◌≡◌, ◌++◌, flat_map};
+ghost use Rattle.byte_ends.specs.Writes.{WritesAll};
+ghost use Rattle.board_report.specs.Report.{device_line, digit, digits, instruction_part, level_line, net_line};
+ghost use Rattle.board_report.specs.Report as spec;
+ghost use Rattle.board_report.specs.LeftOut.{device_lines, left_out_line};
+ghost use Rattle.board_report.specs.Report.{level_word as said_level};
+ghost use Rattle.board_meaning.specs.Chain.{members};
+ghost use Rattle.chip_chain.specs.Seats.{chip_state};
+ghost use Rattle.scan_registers.specs.Instruction.{instruction};
+
+use board_file::left_out;
+use byte_ends::{Broken, Counted, Sink, put_all};
+use chip_chain::{Chain, Seat};
+use jt_bits::Bits;
+use pin_nets::Level;
+
+/// Writes a line for each instruction of a chain's devices that has an opcode but no meaning of its own here, and so
+/// stands for BYPASS: by devices, from the one nearest TDO on, and in the order of the opcode rows.
+///
+/// `Broken` comes exactly where the writer's first failure came in this call.
+pub fn write_all_left_out<W: Sink>(chain: &Chain, out: &mut Counted<W>) -> Result<(), Broken>
+    requires { out.old.failures ≡ 0 }
+    ensures { WritesAll W.contents out.old out.new (flat_map device_lines chain.now.chips) result }
+{
+    for i in 0..chain.devices() {
+        write_instructions(chain.seat(i), out)?;
+    }
+    Ok(())
+}
+
+/// Writes the lines of a device.
+fn write_instructions<W: Sink>(seat: &Seat, out: &mut Counted<W>) -> Result<(), Broken>
+    requires { out.old.failures ≡ 0 }
+    ensures { WritesAll W.contents out.old out.new (device_lines (chip_state seat.now)) result }
+{
+    for k in 0..seat.device().opcodes().len() {
+        let Some(name) = left_out(seat.device(), k) else {
+            return Ok(());
+        };
+        write_instruction_line(seat.name(), name, out)?;
+    }
+    Ok(())
+}
+
+/// Writes the line of an instruction.
+#[tactic(auto, using(byte_ends::proofs::Fronts::fronts))]
+fn write_instruction_line<W: Sink>(
+    device: &str,
+    name: &str,
+    out: &mut Counted<W>,
+) -> Result<(), Broken>
+    requires { out.old.failures ≡ 0 }
+    ensures { WritesAll W.contents out.old out.new (left_out_line device.now name.now) result }
+{
+    write_field(device.as_bytes(), b" treats ", out)?;
+    write_field(name.as_bytes(), b" as BYPASS\n", out)
+}
+
+/// Writes a line for each device, from the one nearest TDO on: its name, the word of its controller's state, the bits of
+/// its instruction, highest first, and the instruction's name, `-` where it has none.
+///
+/// `Broken` comes exactly where the writer's first failure came in this call.
+pub fn write_devices<W: Sink>(chain: &Chain, out: &mut Counted<W>) -> Result<(), Broken>
+    requires { out.old.failures ≡ 0 }
+    ensures { WritesAll W.contents out.old out.new (flat_map device_line chain.now.chips) result }
+{
+    for i in 0..chain.devices() {
+        write_device(chain.seat(i), out)?;
+    }
+    Ok(())
+}
+
+/// Writes a line for each net with a name: its name and its level.
+///
+/// `Broken` comes exactly where the writer's first failure came in this call.
+pub fn write_nets<W: Sink>(chain: &Chain, out: &mut Counted<W>) -> Result<(), Broken>
+    requires { out.old.failures ≡ 0 }
+    ensures { WritesAll W.contents out.old out.new (flat_map (net_line (members chain.now.chips)) chain.now.nets)
+        result }
+{
+    for k in 0..chain.nets() {
+        write_level(chain.net_name(k), chain.level(k), out)?;
+    }
+    Ok(())
+}
+
+/// Writes the line of a net.
+fn write_level<W: Sink>(name: &str, level: Level, out: &mut Counted<W>) -> Result<(), Broken>
+    requires { out.old.failures ≡ 0 }
+    ensures { WritesAll W.contents out.old out.new (level_line name.now level) result }
+{
+    write_field(name.as_bytes(), b" ", out)?;
+    write_field(level_word(level), b"\n", out)
+}
+
+/// The word of a level.
+fn level_word(level: Level) -> &'static [u8]
+    ensures { result.now ≡ said_level level }
+{
+    match level {
+        Level::Zero => b"Zero",
+        Level::One => b"One",
+        Level::Contend => b"Contend",
+        Level::Float => b"Float",
+    }
+}
+
+/// Writes the line of one device.
+#[tactic(auto, using(byte_ends::proofs::Fronts::fronts))]
+fn write_device<W: Sink>(seat: &Seat, out: &mut Counted<W>) -> Result<(), Broken>
+    requires { out.old.failures ≡ 0 }
+    ensures { WritesAll W.contents out.old out.new (device_line (chip_state seat.now)) result }
+{
+    write_field(seat.name().as_bytes(), b" ", out)?;
+    write_field(seat.state().word().as_bytes(), b" ", out)?;
+    write_instruction(seat, out)
+}
+
+/// Writes a device's instruction, its bits and its name, and ends the line.
+#[tactic(auto, using(byte_ends::proofs::Fronts::fronts))]
+fn write_instruction<W: Sink>(seat: &Seat, out: &mut Counted<W>) -> Result<(), Broken>
+    requires { out.old.failures ≡ 0 }
+    ensures { WritesAll W.contents out.old out.new (instruction_part (chip_state seat.now)) result }
+{
+    write_bits(seat.latch(), out)?;
+    put_all(out, b" ")?;
+    write_field(name_or_dash(seat), b"\n", out)
+}
+
+/// The name of a device's instruction, `-` where it has none.
+fn name_or_dash(seat: &Seat) -> &[u8]
+    ensures { result.now ≡ spec.name_or_dash (instruction seat.now.chip.device seat.now.chip.latch) }
+{
+    match seat.instruction() {
+        Some(name) => name.as_bytes(),
+        None => b"-",
+    }
+}
+
+/// Writes a field and what ends it.
+#[tactic(auto, using(byte_ends::proofs::Fronts::fronts))]
+fn write_field<W: Sink>(field: &[u8], end: &[u8], out: &mut Counted<W>) -> Result<(), Broken>
+    requires { out.old.failures ≡ 0 }
+    ensures { WritesAll W.contents out.old out.new (field.now ++ end.now) result }
+{
+    put_all(out, field)?;
+    put_all(out, end)
+}
+
+/// Writes bits as digits, the highest first.
+fn write_bits<W: Sink>(bits: &Bits, out: &mut Counted<W>) -> Result<(), Broken>
+    requires { out.old.failures ≡ 0 }
+    ensures { WritesAll W.contents out.old out.new (digits bits.now) result }
+{
+    let mut i = bits.len();
+    while i > 0 {
+        i -= 1;
+        put_all(out, &[digit_of(bits.get(i))])?;
+    }
+    Ok(())
+}
+
+/// The digit of a bit.
+fn digit_of(bit: bool) -> u8
+    ensures { result ≡ digit bit }
+{
+    if bit { b'1' } else { b'0' }
+}
