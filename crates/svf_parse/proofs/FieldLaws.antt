@@ -2,9 +2,9 @@
 use Rattle.std.proofs.Common.{◌≡◌, ℕ, Bool, true, false, cond, List, [], ◌∷◌, ◌++◌, Option, Some, None, refl, sym, ap, ◌∙◌, append_assoc, arith}
 use Rattle.std.proofs.lemmas.List.{append-nil}
 use Rattle.std.proofs.lemmas.Bool.Decides.{nat_tests}
-use Rattle.svf_parse.specs.declared.keywords.FieldName.{FieldName}
-use Rattle.svf_parse.specs.Words.{Word, is_open, is_close}
-use Rattle.svf_parse.specs.Keywords.{field_of}
+use Rattle.svf_words.specs.declared.keywords.FieldName.{FieldName}
+use Rattle.svf_words.specs.Words.{Word, is_open, is_close}
+use Rattle.svf_words.specs.Keywords.{field_of}
 use Rattle.svf_parse.specs.Fields.{◌>>?◌, Fields, Closed, over, closing, before_close, cut_at_close, joined_digits, runs, bracket, put, fields_say}
 
 -- digits that were read, before those that are read next

@@ -1,12 +1,9 @@
-pub mod Digits
 pub mod FieldLaws
 pub mod FieldValues
 pub mod FormLaws
 pub mod Grouping
 pub mod JudgedLaws
-pub mod KeywordLaws
 pub mod LeastLaws
-pub mod NumberLaws
 pub mod RefusalLaws
 pub mod RunLaws
 pub mod ScanLaws
@@ -14,5 +11,3 @@ pub mod SizeLaws
 pub mod StateLists
 pub mod StatementLaws
 pub mod TextLaws
-pub mod WrittenLaws
-pub mod MeasureLaws

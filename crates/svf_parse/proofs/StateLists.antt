@@ -3,8 +3,8 @@ use Rattle.std.proofs.lemmas.Bool.Decides.{nat_tests}
 use Rattle.std.proofs.Common.{◌≡◌, ℕ, true, false, nat_eq, ◌<◌, List, [], ◌∷◌, ◌++◌, length, Option, Some, None, refl, sym, ap, ◌∙◌, arith, append_assoc}
 use Rattle.std.proofs.lemmas.List.{append-nil}
 use Rattle.jt_tap.specs.declared.State.{State}
-use Rattle.svf_parse.specs.Words.{Word}
-use Rattle.svf_parse.specs.Keywords.{state_of}
+use Rattle.svf_words.specs.Words.{Word}
+use Rattle.svf_words.specs.Keywords.{state_of}
 use Rattle.svf_parse.specs.Forms.{with_state, each_state, some_states}
 
 -- states read so far, before those that are read next

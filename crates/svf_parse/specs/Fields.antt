@@ -1,9 +1,9 @@
 -- The fields of a scan.
 use Rattle.std.specs.Prelude.{ℕ, if◌then◌else◌, List, [], ◌∷◌, ◌++◌, Option, Some, None, option_and_then}
-use Rattle.svf_parse.specs.declared.keywords.FieldName.{FieldName}
-use Rattle.svf_parse.specs.declared.keywords.FieldName.TheVariants.{Tdi, Tdo, Mask, Smask}
-use Rattle.svf_parse.specs.Words.{Word, is_open, is_close}
-use Rattle.svf_parse.specs.Keywords.{field_of}
+use Rattle.svf_words.specs.declared.keywords.FieldName.{FieldName}
+use Rattle.svf_words.specs.declared.keywords.FieldName.TheVariants.{Tdi, Tdo, Mask, Smask}
+use Rattle.svf_words.specs.Words.{Word, is_open, is_close}
+use Rattle.svf_words.specs.Keywords.{field_of}
 
 infixl 10 ◌>>?◌
 abbrev pub ◌>>?◌ : {A B : Type 0} → Option A → (A → Option B) → Option B

@@ -1,12 +1,12 @@
 -- The forms of the statements, and which of them a command's words are.
 use Rattle.std.specs.Prelude.{◌&&◌, if◌then◌else◌, List, [], ◌∷◌, codes, Option, Some, None, option_map}
 use Rattle.jt_tap.specs.declared.State.{State}
-use Rattle.svf_parse.specs.declared.statement.TrstWord.{TrstWord}
-use Rattle.svf_parse.specs.declared.statement.Which.{Which}
-use Rattle.svf_parse.specs.declared.keywords.Command.{Command}
-use Rattle.svf_parse.specs.declared.keywords.Command.TheVariants as command
-use Rattle.svf_parse.specs.Words.{Word, reads, is_number}
-use Rattle.svf_parse.specs.Keywords.{state_of, trst_of}
+use Rattle.svf_words.specs.declared.keywords.TrstWord.{TrstWord}
+use Rattle.svf_words.specs.declared.keywords.Which.{Which}
+use Rattle.svf_words.specs.declared.keywords.Command.{Command}
+use Rattle.svf_words.specs.declared.keywords.Command.TheVariants as command
+use Rattle.svf_words.specs.Words.{Word, reads, is_number}
+use Rattle.svf_words.specs.Keywords.{state_of, trst_of}
 use Rattle.svf_parse.specs.Fields.{Fields, no_fields, cut_at_close, fields_say}
 use Rattle.svf_parse.specs.RunTests.{Run, run_of}
 

@@ -1,9 +1,9 @@
 -- The parts of a RUNTEST: each is read if it stands there.
 use Rattle.std.specs.Prelude.{if◌then◌else◌, ◌&&◌, List, [], ◌∷◌, codes, Option, Some, None}
 use Rattle.jt_tap.specs.declared.State.{State}
-use Rattle.svf_parse.specs.declared.keywords.Clock.{Clock}
-use Rattle.svf_parse.specs.Words.{Word, reads, is_number}
-use Rattle.svf_parse.specs.Keywords.{state_of, clock_of}
+use Rattle.svf_words.specs.declared.keywords.Clock.{Clock}
+use Rattle.svf_words.specs.Words.{Word, reads, is_number}
+use Rattle.svf_words.specs.Keywords.{state_of, clock_of}
 
 -- a RUNTEST as it is written: each number as its digits
 pub record Run : Type 0 where

@@ -7,14 +7,14 @@ use Rattle.jt_tap.specs.Words as states
 use Rattle.svf_lex.specs.declared.LexFault.{LexFault}
 use Rattle.svf_lex.specs.Cutting.{Lexeme}
 use Rattle.svf_lex.specs.Lexed.{Lexes}
-use Rattle.svf_parse.specs.declared.fault.Code.{Code}
-use Rattle.svf_parse.specs.declared.fault.Code.TheVariants as code
-use Rattle.svf_parse.specs.declared.fault.SvfFault.{SvfFault}
-use Rattle.svf_parse.specs.declared.keywords.Command.{Command}
-use Rattle.svf_parse.specs.declared.keywords.FieldName.{FieldName}
-use Rattle.svf_parse.specs.declared.keywords.Clock.{Clock}
-use Rattle.svf_parse.specs.Words.{Word, reads, is_open, is_close, is_number, Parts, last, group, parts_of}
-use Rattle.svf_parse.specs.Keywords.{command_word, scan_word, field_word, clock_word, trst_word}
+use Rattle.svf_words.specs.declared.fault.Code.{Code}
+use Rattle.svf_words.specs.declared.fault.Code.TheVariants as code
+use Rattle.svf_words.specs.declared.fault.SvfFault.{SvfFault}
+use Rattle.svf_words.specs.declared.keywords.Command.{Command}
+use Rattle.svf_words.specs.declared.keywords.FieldName.{FieldName}
+use Rattle.svf_words.specs.declared.keywords.Clock.{Clock}
+use Rattle.svf_words.specs.Words.{Word, reads, is_open, is_close, is_number, Parts, last, group, parts_of}
+use Rattle.svf_words.specs.Keywords.{command_word, scan_word, field_word, clock_word, trst_word}
 use Rattle.svf_parse.specs.Fields.{Fields, no_fields, put}
 use Rattle.svf_parse.specs.RunTests.{Run}
 use Rattle.svf_parse.specs.Forms.{Form, end_dr_form, end_ir_form, frequency_form, scan_form, run_form, states_form}

@@ -2,9 +2,9 @@
 use Rattle.std.specs.Prelude.{◌≡◌, ◌≢◌, ℕ, List, [], ◌∷◌, map, Option, Some, None, option_map, Result, Ok, Err}
 use Rattle.std.specs.Global.{Vec}
 use Rattle.svf_lex.specs.Left.{left}
-use Rattle.svf_parse.specs.declared.fault.Code.{Code}
-use Rattle.svf_parse.specs.declared.fault.Code.TheVariants.{NoMemory}
-use Rattle.svf_parse.specs.declared.fault.SvfFault.{SvfFault}
+use Rattle.svf_words.specs.declared.fault.Code.{Code}
+use Rattle.svf_words.specs.declared.fault.Code.TheVariants.{NoMemory}
+use Rattle.svf_words.specs.declared.fault.SvfFault.{SvfFault}
 use Rattle.svf_parse.specs.declared.fault.Refusal.{Refusal}
 use Rattle.svf_parse.specs.declared.fault.Refusal.TheVariants as refusal
 use Rattle.svf_parse.specs.declared.fault.Stop.{Stop}
@@ -17,7 +17,7 @@ use Rattle.svf_parse.specs.declared.statement.Statement.{Statement}
 use Rattle.svf_parse.specs.declared.statement.Statement.TheVariants as statement
 use Rattle.svf_parse.specs.declared.text.Group.{Group}
 use Rattle.svf_parse.specs.declared.text.Group.TheVariants.{Over, Broken, Empty, Words}
-use Rattle.svf_parse.specs.Words.{Word, Parts, last, group, parts_of}
+use Rattle.svf_words.specs.Words.{Word, Parts, last, group, parts_of}
 use Rattle.svf_parse.specs.Fields.{Fields}
 use Rattle.svf_parse.specs.RunTests.{Run}
 use Rattle.svf_parse.specs.Forms.{Form, end_dr_form, end_ir_form, frequency_form, scan_form, run_form, states_form}

@@ -1,15 +1,15 @@
 //! The fields of a scan.
 ghost use Rattle.std.specs.Prelude.{◌≡◌, ◌<◌, ◌++◌, List, ℕ, length, IfOk, IfSome, MatchBool, Some, None, option_map};
 ghost use Rattle.std.specs.Prelude.{if◌then◌else◌};
-ghost use Rattle.svf_parse.specs.Words.{words_left};
+ghost use Rattle.svf_words.specs.Words.{words_left};
 ghost use Rattle.svf_parse.specs.Fields as spec;
 ghost use Rattle.svf_parse.specs.Fields.{Closed, cut_at_close, no_fields, fields_say};
 ghost use Rattle.svf_parse.specs.View.{fields, bytes_of};
 
-use crate::keywords::{FieldName, field_of};
-use crate::words::{is_close, is_open, next_word};
 use std::alloc::{AllocError, Global};
 use svf_lex::Lexer;
+use svf_words::keywords::{FieldName, field_of};
+use svf_words::words::{is_close, is_open, next_word};
 
 /// The hexadecimal digits of each field that is given.
 #[derive(Debug, Drop)]

@@ -1,18 +1,17 @@
 //! The forms of the statements.
 ghost use Rattle.std.specs.Prelude.{◌≡◌, List, Option, IfOk, option_map};
 ghost use Rattle.jt_tap.specs.declared.State as declared_state;
-ghost use Rattle.svf_parse.specs.Words.{Word, words_left};
+ghost use Rattle.svf_words.specs.Words.{Word, words_left};
 ghost use Rattle.svf_parse.specs.Forms as spec;
 ghost use Rattle.svf_parse.specs.View as view;
 
 use crate::fields::{Fields, fields_of};
-use crate::keywords::{Command, state_of, trst_of};
 use crate::run_test::{Run, run_of};
-use crate::statement::{TrstWord, Which};
-use crate::words::{is_number, next_word, reads};
 use jt_tap::State;
 use std::alloc::{AllocError, Global};
 use svf_lex::Lexer;
+use svf_words::keywords::{Command, TrstWord, Which, state_of, trst_of};
+use svf_words::words::{is_number, next_word, reads};
 
 /// A statement as it is written: each number as its word, each field as its digits.
 #[derive(Debug, Drop)]

@@ -1,14 +1,14 @@
 //! The parts of a RUNTEST.
 ghost use Rattle.std.specs.Prelude.{◌≡◌, List, ℕ, option_map};
-ghost use Rattle.svf_parse.specs.Words.{Word, words_left};
+ghost use Rattle.svf_words.specs.Words.{Word, words_left};
 ghost use Rattle.svf_parse.specs.RunTests as spec;
 ghost use Rattle.svf_parse.specs.View as view;
-ghost use Rattle.svf_parse.specs.declared.keywords.Clock as declared_clock;
+ghost use Rattle.svf_words.specs.declared.keywords.Clock as declared_clock;
 
-use crate::keywords::{Clock, clock_of, state_of};
-use crate::words::{is_number, next_word, reads};
 use jt_tap::State;
 use svf_lex::Lexer;
+use svf_words::keywords::{Clock, clock_of, state_of};
+use svf_words::words::{is_number, next_word, reads};
 
 /// A RUNTEST as it is written: each number as its word.
 #[derive(Debug, Drop, Clone, Copy)]

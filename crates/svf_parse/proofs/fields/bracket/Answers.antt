@@ -1,5 +1,5 @@
 use Rattle.std.proofs.Common.{sym}
-use Rattle.svf_parse.specs.Words.{words_left}
+use Rattle.svf_words.specs.Words.{words_left}
 use Rattle.svf_parse.proofs.FieldLaws.{opened, not_opened, no_bracket}
 use Rattle.svf_parse.proofs.fields.bracket.Goals as goal
 use Rattle.svf_parse.proofs.fields.bracket.Goals.{in_default-via-in-Some+else-is_open, in_default-via-in_default}

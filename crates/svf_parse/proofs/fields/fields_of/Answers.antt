@@ -1,4 +1,4 @@
-use Rattle.svf_parse.specs.Words.{words_left}
+use Rattle.svf_words.specs.Words.{words_left}
 use Rattle.svf_parse.specs.Fields.{no_fields, cut_at_close, fields_say}
 use Rattle.svf_parse.specs.View.{fields}
 use Rattle.svf_parse.proofs.FieldLaws.{no_field, all_fields, field_missing, field_twice, field_put}

@@ -1,5 +1,5 @@
 use Rattle.std.proofs.Common.{◌≡◌, length}
-use Rattle.svf_parse.specs.Words.{words_left}
+use Rattle.svf_words.specs.Words.{words_left}
 use Rattle.svf_parse.specs.Fields.{no_fields, cut_at_close, fields_say}
 use Rattle.svf_parse.specs.View.{fields}
 use Rattle.svf_parse.proofs.fields.fields_of.Given as goal

@@ -1,5 +1,5 @@
 use Rattle.std.proofs.Common.{◌≡◌, ◌≤◌, length}
-use Rattle.svf_parse.specs.Words.{words_left}
+use Rattle.svf_words.specs.Words.{words_left}
 use Rattle.svf_parse.specs.Fields.{cut_at_close, runs}
 use Rattle.svf_parse.proofs.FieldLaws.{with_digits}
 use Rattle.svf_parse.proofs.fields.runs.Given as goal

@@ -1,5 +1,5 @@
 use Rattle.std.proofs.Common.{◌≡◌, length}
-use Rattle.svf_parse.specs.Words.{words_left}
+use Rattle.svf_words.specs.Words.{words_left}
 use Rattle.svf_parse.specs.Forms.{each_state}
 use Rattle.svf_parse.proofs.StateLists.{in_front}
 use Rattle.svf_parse.proofs.forms.some_states.Given as goal
