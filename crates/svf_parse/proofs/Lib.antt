@@ -1,13 +1,9 @@
-pub mod FieldLaws
 pub mod FieldValues
-pub mod FormLaws
 pub mod Grouping
 pub mod JudgedLaws
 pub mod LeastLaws
 pub mod RefusalLaws
-pub mod RunLaws
 pub mod ScanLaws
 pub mod SizeLaws
-pub mod StateLists
 pub mod StatementLaws
 pub mod TextLaws

@@ -6,7 +6,7 @@ use Rattle.std.specs.Str.Parse.{digits_value}
 use Rattle.svf_words.specs.declared.fault.Code.{Code}
 use Rattle.svf_words.specs.declared.fault.Code.TheVariants as code
 use Rattle.svf_words.specs.Words.{Word}
-use Rattle.svf_parse.specs.Fields.{Fields}
+use Rattle.svf_forms.specs.Fields.{Fields}
 use Rattle.svf_words.specs.Numbers.{len_says, len_value}
 use Rattle.svf_parse.specs.Judging.{checked, field_fault, scan_says}
 

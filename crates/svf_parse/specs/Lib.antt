@@ -1,10 +1,7 @@
-pub mod Fields
-pub mod Forms
 pub mod Judged
 pub mod Judging
 pub mod Least
 pub mod Reading
-pub mod RunTests
 pub mod Sizes
 pub mod Spelling
 pub mod View

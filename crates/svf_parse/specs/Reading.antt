@@ -9,7 +9,7 @@ use Rattle.svf_words.specs.declared.fault.SvfFault.{SvfFault}
 use Rattle.svf_words.specs.declared.keywords.Command.{Command}
 use Rattle.svf_words.specs.Words.{Word, Parts, last, group, parts_of}
 use Rattle.svf_words.specs.Keywords.{command_of}
-use Rattle.svf_parse.specs.Forms.{form_of}
+use Rattle.svf_forms.specs.Forms.{form_of}
 use Rattle.svf_parse.specs.Judging.{◌>>=◌, Said, form_says}
 
 -- the value, or this refusal

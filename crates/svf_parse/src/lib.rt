@@ -10,10 +10,7 @@ pub use svf_words::{Code, SvfFault};
 pub use text::parse;
 
 mod fault;
-mod fields;
-mod forms;
 mod judging;
 pub mod laws;
-mod run_test;
 mod statement;
 mod text;

@@ -11,10 +11,10 @@ ghost use Rattle.svf_parse.specs.Sizes.{size};
 ghost use Rattle.svf_parse.specs.View.{Gives, Tells, Parses, IsGroup, said_of, memory_fault};
 
 use crate::fault::{Refusal, Stop};
-use crate::forms::form_of;
 use crate::judging::form_says;
 use crate::statement::Statement;
 use std::alloc::Global;
+use svf_forms::forms::form_of;
 use svf_lex::{Kind, LexFault, Lexer};
 use svf_words::keywords::command_of;
 use svf_words::words::next_word;

@@ -12,14 +12,14 @@ use Rattle.svf_words.specs.declared.keywords.Command.TheVariants as command
 use Rattle.svf_words.specs.declared.keywords.FieldName.{FieldName}
 use Rattle.svf_words.specs.Words.{Word, reads, is_open, is_close, is_number}
 use Rattle.svf_words.specs.Keywords.{command_word, scan_word, trst_word, command_of, field_of, state_of}
-use Rattle.svf_parse.specs.Fields.{◌>>?◌, Fields, no_fields, put, Closed, over, closing, before_close, cut_at_close, joined_digits, runs, bracket, fields_say}
-use Rattle.svf_parse.specs.RunTests.{run_of}
-use Rattle.svf_parse.specs.Forms.{Form, end_dr_form, end_ir_form, frequency_form, scan_form, run_form, states_form, trst_form, port_form, form_of, one_state, one_trst, each_state, with_state, some_states, hertz, scan_of}
-use Rattle.svf_parse.specs.Spelling.{Reads, IsNumber, IsRun, AreFields, AreStates, IsForm}
-use Rattle.svf_parse.proofs.StateLists.{some_read}
-use Rattle.svf_parse.proofs.FieldLaws.{with_digits, with_digits-nil, next_run, ended_runs, opened, all_fields, field_put}
+use Rattle.svf_forms.specs.Fields.{◌>>?◌, Fields, no_fields, put, Closed, over, closing, before_close, cut_at_close, joined_digits, runs, bracket, fields_say}
+use Rattle.svf_forms.specs.RunTests.{run_of}
+use Rattle.svf_forms.specs.Forms.{Form, end_dr_form, end_ir_form, frequency_form, scan_form, run_form, states_form, trst_form, port_form, form_of, one_state, one_trst, each_state, with_state, some_states, hertz, scan_of}
+use Rattle.svf_forms.specs.Grammar.{Reads, IsNumber, IsRun, AreFields, AreStates, IsForm}
+use Rattle.svf_forms.proofs.StateLists.{some_read}
+use Rattle.svf_forms.proofs.FieldLaws.{with_digits, with_digits-nil, next_run, ended_runs, opened, all_fields, field_put}
 use Rattle.svf_words.proofs.KeywordLaws.{command_read, field_read, field_found, state_read, state_found, trst_read, trst_found}
-use Rattle.svf_parse.proofs.RunLaws.{run_found, run_read}
+use Rattle.svf_forms.proofs.RunLaws.{run_found, run_read}
 
 -- ---- lists of states
 

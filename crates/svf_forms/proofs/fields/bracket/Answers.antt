@@ -1,8 +1,8 @@
 use Rattle.std.proofs.Common.{sym}
 use Rattle.svf_words.specs.Words.{words_left}
-use Rattle.svf_parse.proofs.FieldLaws.{opened, not_opened, no_bracket}
-use Rattle.svf_parse.proofs.fields.bracket.Goals as goal
-use Rattle.svf_parse.proofs.fields.bracket.Goals.{in_default-via-in-Some+else-is_open, in_default-via-in_default}
+use Rattle.svf_forms.proofs.FieldLaws.{opened, not_opened, no_bracket}
+use Rattle.svf_forms.proofs.fields.bracket.Goals as goal
+use Rattle.svf_forms.proofs.fields.bracket.Goals.{in_default-via-in-Some+else-is_open, in_default-via-in_default}
 
 pub returns-in-Some-clause-found : goal.returns-in-Some-clause-found
 returns-in-Some-clause-found c =

@@ -1,8 +1,8 @@
 use Rattle.std.proofs.Common.{◌≡◌, ◌+◌, ap, sym, length, arith}
 use Rattle.svf_words.specs.Words.{words_left}
-use Rattle.svf_parse.specs.Fields.{cut_at_close, runs}
-use Rattle.svf_parse.proofs.FieldLaws.{next_run, ended_runs, broken_runs, unended_runs}
-use Rattle.svf_parse.proofs.fields.runs.Goals as goal
+use Rattle.svf_forms.specs.Fields.{cut_at_close, runs}
+use Rattle.svf_forms.proofs.FieldLaws.{next_run, ended_runs, broken_runs, unended_runs}
+use Rattle.svf_forms.proofs.fields.runs.Goals as goal
 
 pub returns-then-is_close-clause-found : goal.returns-then-is_close-clause-found
 returns-then-is_close-clause-found c =

@@ -2,8 +2,8 @@
 ghost use Rattle.std.specs.Prelude.{◌≡◌, List, Option, IfOk, option_map};
 ghost use Rattle.jt_tap.specs.declared.State as declared_state;
 ghost use Rattle.svf_words.specs.Words.{Word, words_left};
-ghost use Rattle.svf_parse.specs.Forms as spec;
-ghost use Rattle.svf_parse.specs.View as view;
+ghost use Rattle.svf_forms.specs.Forms as spec;
+ghost use Rattle.svf_forms.specs.View as view;
 
 use crate::fields::{Fields, fields_of};
 use crate::run_test::{Run, run_of};
@@ -15,20 +15,28 @@ use svf_words::words::{is_number, next_word, reads};
 
 /// A statement as it is written: each number as its word, each field as its digits.
 #[derive(Debug, Drop)]
-pub(crate) enum Written<'a> {
+pub enum Written<'a> {
+    /// `ENDDR state`.
     EndDr(State),
+    /// `ENDIR state`.
     EndIr(State),
+    /// `FREQUENCY [number HZ]`.
     Frequency(Option<&'a [u8]>),
+    /// `HDR`, `HIR`, `TDR`, `TIR`, `SDR` or `SIR`, its length and its fields.
     Scan(Which, &'a [u8], Fields),
+    /// `RUNTEST` and its parts.
     RunTest(Run<'a>),
+    /// `STATE` and its states, at least one.
     States(Vec<State>),
+    /// `TRST` and its word.
     Trst(TrstWord),
     /// `PIO` or `PIOMAP`, whatever follows.
     Port,
 }
 
-/// The form that the words after a command have.
-pub(crate) fn form_of<'a>(
+/// The form that the words after a command have, up to the `;`. There is none where they do not fit the command. Memory
+/// is taken for the digits of fields and for the states of a path.
+pub fn form_of<'a>(
     alloc: Global,
     command: Command,
     words: Lexer<'a>,

@@ -2,26 +2,31 @@
 ghost use Rattle.std.specs.Prelude.{◌≡◌, ◌<◌, ◌++◌, List, ℕ, length, IfOk, IfSome, MatchBool, Some, None, option_map};
 ghost use Rattle.std.specs.Prelude.{if◌then◌else◌};
 ghost use Rattle.svf_words.specs.Words.{words_left};
-ghost use Rattle.svf_parse.specs.Fields as spec;
-ghost use Rattle.svf_parse.specs.Fields.{Closed, cut_at_close, no_fields, fields_say};
-ghost use Rattle.svf_parse.specs.View.{fields, bytes_of};
+ghost use Rattle.svf_forms.specs.Fields as spec;
+ghost use Rattle.svf_forms.specs.Fields.{Closed, cut_at_close, no_fields, fields_say};
+ghost use Rattle.svf_forms.specs.View.{fields, bytes_of};
 
 use std::alloc::{AllocError, Global};
 use svf_lex::Lexer;
 use svf_words::keywords::{FieldName, field_of};
 use svf_words::words::{is_close, is_open, next_word};
 
-/// The hexadecimal digits of each field that is given.
+/// The hexadecimal digits of each field that is given, as they are written.
 #[derive(Debug, Drop)]
-pub(crate) struct Fields {
-    pub(crate) tdi: Option<Vec<u8>>,
-    pub(crate) tdo: Option<Vec<u8>>,
-    pub(crate) mask: Option<Vec<u8>>,
-    pub(crate) smask: Option<Vec<u8>>,
+pub struct Fields {
+    /// What goes in (TDI).
+    pub tdi: Option<Vec<u8>>,
+    /// What must come out (TDO).
+    pub tdo: Option<Vec<u8>>,
+    /// Which bits of TDO count (MASK).
+    pub mask: Option<Vec<u8>>,
+    /// Which bits of TDI count (SMASK).
+    pub smask: Option<Vec<u8>>,
 }
 
-/// The fields that the words are: each a name and digits between brackets, at most once.
-pub(crate) fn fields_of(alloc: Global, words: Lexer<'_>) -> Result<Option<Fields>, AllocError>
+/// The fields that the words up to the `;` are: each a name and digits between brackets, at most once. There are none
+/// where the words are anything else. Memory is taken for the digits.
+pub fn fields_of(alloc: Global, words: Lexer<'_>) -> Result<Option<Fields>, AllocError>
     ensures { IfOk result (λ o. option_map fields o ≡ fields_say no_fields (cut_at_close (words_left words.entry))) }
 {
     let mut all = Fields {

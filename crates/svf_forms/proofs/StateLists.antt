@@ -5,7 +5,7 @@ use Rattle.std.proofs.lemmas.List.{append-nil}
 use Rattle.jt_tap.specs.declared.State.{State}
 use Rattle.svf_words.specs.Words.{Word}
 use Rattle.svf_words.specs.Keywords.{state_of}
-use Rattle.svf_parse.specs.Forms.{with_state, each_state, some_states}
+use Rattle.svf_forms.specs.Forms.{with_state, each_state, some_states}
 
 -- states read so far, before those that are read next
 abbrev pub in_front : List State → Option (List State) → Option (List State)

@@ -1,8 +1,8 @@
 use Rattle.std.proofs.Common.{◌≡◌, length}
 use Rattle.svf_words.specs.Words.{words_left}
-use Rattle.svf_parse.specs.Fields.{no_fields, cut_at_close, fields_say}
-use Rattle.svf_parse.specs.View.{fields}
-use Rattle.svf_parse.proofs.fields.fields_of.Given as goal
+use Rattle.svf_forms.specs.Fields.{no_fields, cut_at_close, fields_say}
+use Rattle.svf_forms.specs.View.{fields}
+use Rattle.svf_forms.proofs.fields.fields_of.Given as goal
 
 abbrev pub invariant-loop-word : goal.invariant-loop-word
 invariant-loop-word l =

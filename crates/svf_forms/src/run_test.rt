@@ -1,8 +1,8 @@
 //! The parts of a RUNTEST.
 ghost use Rattle.std.specs.Prelude.{◌≡◌, List, ℕ, option_map};
 ghost use Rattle.svf_words.specs.Words.{Word, words_left};
-ghost use Rattle.svf_parse.specs.RunTests as spec;
-ghost use Rattle.svf_parse.specs.View as view;
+ghost use Rattle.svf_forms.specs.RunTests as spec;
+ghost use Rattle.svf_forms.specs.View as view;
 ghost use Rattle.svf_words.specs.declared.keywords.Clock as declared_clock;
 
 use jt_tap::State;
@@ -12,18 +12,23 @@ use svf_words::words::{is_number, next_word, reads};
 
 /// A RUNTEST as it is written: each number as its word.
 #[derive(Debug, Drop, Clone, Copy)]
-pub(crate) struct Run<'a> {
-    pub(crate) run: Option<State>,
-    pub(crate) count: Option<(&'a [u8], Clock)>,
-    pub(crate) min: Option<&'a [u8]>,
-    pub(crate) max: Option<&'a [u8]>,
-    pub(crate) end: Option<State>,
+pub struct Run<'a> {
+    /// The state to run in.
+    pub run: Option<State>,
+    /// The number of cycles, and the clock that counts them.
+    pub count: Option<(&'a [u8], Clock)>,
+    /// The least time, in seconds.
+    pub min: Option<&'a [u8]>,
+    /// The longest time, in seconds.
+    pub max: Option<&'a [u8]>,
+    /// The state to end in.
+    pub end: Option<State>,
 }
 
 /// The RUNTEST that the words are: `[state] [number TCK or SCK] [number SEC [MAXIMUM number SEC]] [ENDSTATE state]`,
 /// with at least one of the count and the first time.
 #[tactic(auto, unfolding(crate::specs::RunTests::run_of))]
-pub(crate) fn run_of(words: Lexer<'_>) -> Option<Run<'_>>
+pub fn run_of(words: Lexer<'_>) -> Option<Run<'_>>
     ensures { option_map view.run result ≡ spec.run_of (words_left words.entry) }
 {
     let (run, words) = take_state(words);

@@ -1,8 +1,8 @@
 use Rattle.svf_words.specs.Words.{words_left}
-use Rattle.svf_parse.specs.Fields.{no_fields, cut_at_close, fields_say}
-use Rattle.svf_parse.specs.View.{fields}
-use Rattle.svf_parse.proofs.FieldLaws.{no_field, all_fields, field_missing, field_twice, field_put}
-use Rattle.svf_parse.proofs.fields.fields_of.Goals as goal
+use Rattle.svf_forms.specs.Fields.{no_fields, cut_at_close, fields_say}
+use Rattle.svf_forms.specs.View.{fields}
+use Rattle.svf_forms.proofs.FieldLaws.{no_field, all_fields, field_missing, field_twice, field_put}
+use Rattle.svf_forms.proofs.fields.fields_of.Goals as goal
 
 pub returns-in_default-field_of : goal.returns-in_default-field_of
 returns-in_default-field_of c =

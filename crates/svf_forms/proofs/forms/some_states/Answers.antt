@@ -1,8 +1,8 @@
 use Rattle.std.proofs.Common.{sym, vec_len}
 use Rattle.svf_words.specs.Words.{words_left}
-use Rattle.svf_parse.specs.Forms.{each_state}
-use Rattle.svf_parse.proofs.StateLists.{one_more, no_state, all_read, some_read, no_states, empty_list, filled_list}
-use Rattle.svf_parse.proofs.forms.some_states.Goals as goal
+use Rattle.svf_forms.specs.Forms.{each_state}
+use Rattle.svf_forms.proofs.StateLists.{one_more, no_state, all_read, some_read, no_states, empty_list, filled_list}
+use Rattle.svf_forms.proofs.forms.some_states.Goals as goal
 
 pub returns-in_default-state_of : goal.returns-in_default-state_of
 returns-in_default-state_of c =

@@ -7,8 +7,8 @@ use Rattle.svf_words.specs.declared.keywords.Command.{Command}
 use Rattle.svf_words.specs.declared.keywords.Command.TheVariants as command
 use Rattle.svf_words.specs.Words.{Word, reads, is_number}
 use Rattle.svf_words.specs.Keywords.{state_of, trst_of}
-use Rattle.svf_parse.specs.Fields.{Fields, no_fields, cut_at_close, fields_say}
-use Rattle.svf_parse.specs.RunTests.{Run, run_of}
+use Rattle.svf_forms.specs.Fields.{Fields, no_fields, cut_at_close, fields_say}
+use Rattle.svf_forms.specs.RunTests.{Run, run_of}
 
 -- a statement as it is written: each number and each field as its digits
 pub data Form : Type 0 where

@@ -1,8 +1,8 @@
 use Rattle.std.proofs.Common.{◌≡◌, ◌≤◌, length}
 use Rattle.svf_words.specs.Words.{words_left}
-use Rattle.svf_parse.specs.Fields.{cut_at_close, runs}
-use Rattle.svf_parse.proofs.FieldLaws.{with_digits}
-use Rattle.svf_parse.proofs.fields.runs.Given as goal
+use Rattle.svf_forms.specs.Fields.{cut_at_close, runs}
+use Rattle.svf_forms.proofs.FieldLaws.{with_digits}
+use Rattle.svf_forms.proofs.fields.runs.Given as goal
 
 abbrev pub invariant-loop-word : goal.invariant-loop-word
 invariant-loop-word l =

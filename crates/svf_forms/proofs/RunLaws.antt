@@ -10,8 +10,8 @@ use Rattle.jt_tap.specs.Words as states
 use Rattle.svf_words.specs.declared.keywords.Clock.{Clock}
 use Rattle.svf_words.specs.Words.{Word, lower, reads, is_number}
 use Rattle.svf_words.specs.Keywords.{state_of, clock_of}
-use Rattle.svf_parse.specs.RunTests.{Run, state_or, count_or, maximum_or, take_state, take_count, take_time, take_maximum, take_end, whole_run, maximum_behind, run_behind, run_of}
-use Rattle.svf_parse.specs.Spelling.{Reads, IsNumber, IsState, IsCount, IsTime, IsMaximum, IsEnd, IsRunTest}
+use Rattle.svf_forms.specs.RunTests.{Run, state_or, count_or, maximum_or, take_state, take_count, take_time, take_maximum, take_end, whole_run, maximum_behind, run_behind, run_of}
+use Rattle.svf_forms.specs.Grammar.{Reads, IsNumber, IsState, IsCount, IsTime, IsMaximum, IsEnd, IsRunTest}
 use Rattle.svf_words.proofs.KeywordLaws.{lowered, state_read, state_found, clock_read, clock_found, seconds_are_no_clock}
 
 -- ---- numbers begin with no letter

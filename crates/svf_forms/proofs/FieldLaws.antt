@@ -5,7 +5,7 @@ use Rattle.std.proofs.lemmas.Bool.Decides.{nat_tests}
 use Rattle.svf_words.specs.declared.keywords.FieldName.{FieldName}
 use Rattle.svf_words.specs.Words.{Word, is_open, is_close}
 use Rattle.svf_words.specs.Keywords.{field_of}
-use Rattle.svf_parse.specs.Fields.{◌>>?◌, Fields, Closed, over, closing, before_close, cut_at_close, joined_digits, runs, bracket, put, fields_say}
+use Rattle.svf_forms.specs.Fields.{◌>>?◌, Fields, Closed, over, closing, before_close, cut_at_close, joined_digits, runs, bracket, put, fields_say}
 
 -- digits that were read, before those that are read next
 abbrev pub with_digits : List ℕ → Option (List ℕ × Closed) → Option (List ℕ × Closed)
