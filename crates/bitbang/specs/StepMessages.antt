@@ -5,7 +5,7 @@ use Rattle.bitbang_table.specs.declared.Message.{Message}
 use Rattle.bitbang_table.specs.declared.Message.TheVariants.{Lines}
 use Rattle.bitbang_table.specs.Protocol.{encode}
 use Rattle.bitbang_table.specs.Cycles.{closed_messages}
-use Rattle.svf_parse.specs.declared.statement.TrstWord.TheVariants as word
+use Rattle.svf_words.specs.declared.keywords.TrstWord.TheVariants as word
 use Rattle.svf_settings.specs.Steps.{Step, Trst}
 use Rattle.tck_cycles.specs.Cycles.{cycles}
 

@@ -1,7 +1,7 @@
 -- Which texts are accepted as which programs (Serial Vector Format, revision E): first each statement by its form, then
 -- by those before it.
 use Rattle.std.specs.Prelude.{◌⊎◌, ℕ, List}
-use Rattle.svf_parse.specs.declared.fault.SvfFault.{SvfFault}
+use Rattle.svf_words.specs.declared.fault.SvfFault.{SvfFault}
 use Rattle.svf_parse.specs.Judging.{Said}
 use Rattle.svf_parse.specs.Spelling.{TextSpells, TextRefuses}
 use Rattle.svf_settings.specs.Steps.{Program}

@@ -7,8 +7,8 @@ use Rattle.byte_ends.specs.Counts.{CountedView}
 use Rattle.byte_ends.specs.Writes.{AppendsFront, WritesAll}
 use Rattle.byte_ends.specs.declared.counting.Broken.{Broken}
 use Rattle.board_meaning.specs.Chain.{BoardState}
-use Rattle.svf_parse.specs.declared.fault.Code.TheVariants.{NoMemory}
-use Rattle.svf_parse.specs.declared.fault.SvfFault.{SvfFault}
+use Rattle.svf_words.specs.declared.fault.Code.TheVariants.{NoMemory}
+use Rattle.svf_words.specs.declared.fault.SvfFault.{SvfFault}
 use Rattle.svf_parse.specs.View.{memory_fault}
 use Rattle.direct_play.specs.Accepting.{Refuses}
 use Rattle.jt_player.specs.Running.{Happens, Run, Tells, memory_run, refused_run}

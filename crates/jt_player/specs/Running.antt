@@ -5,7 +5,7 @@ use Rattle.std.specs.Io.KnownBytes.{Appends}
 use Rattle.byte_ends.specs.Counts.{CountedView}
 use Rattle.byte_ends.specs.Writes.{AppendsFront, WritesAll}
 use Rattle.byte_ends.specs.declared.counting.Broken.{Broken}
-use Rattle.svf_parse.specs.declared.fault.SvfFault.{SvfFault}
+use Rattle.svf_words.specs.declared.fault.SvfFault.{SvfFault}
 use Rattle.svf_settings.specs.Steps.{Program}
 use Rattle.board_meaning.specs.Chain.{BoardState}
 use Rattle.board_report.specs.LeftOut.{left_out_lines}

@@ -14,7 +14,7 @@ use Rattle.scan_vectors.specs.Vector.{VectorBit, tdis, judge}
 use Rattle.board_meaning.specs.Chain.{hear, is_held}
 use Rattle.board_meaning.specs.Whole.{AtRest, reset_member, out, capture, settle, along, trst_member, settled_member}
 use Rattle.svf_settings.specs.Steps.{Step, Scan, Go, Path, Run, Trst, place_after}
-use Rattle.svf_parse.specs.declared.statement.TrstWord.TheVariants.{On, Off, Z, Absent}
+use Rattle.svf_words.specs.declared.keywords.TrstWord.TheVariants.{On, Off, Z, Absent}
 use Rattle.plays.specs.Meaning.{after_step, move_unless_there}
 use Rattle.bitbang_table.specs.Cycles.{entering, closed_messages}
 use Rattle.bitbang.specs.StepMessages.{step_messages}

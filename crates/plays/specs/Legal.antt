@@ -3,7 +3,7 @@ use Rattle.std.specs.Prelude.{◌≡◌, ◌≢◌, true, false, List, [], ◌�
 use Rattle.jt_tap.specs.declared.State.TheVariants.{Reset}
 use Rattle.board_meaning.specs.Whole.{AtRest}
 use Rattle.svf_settings.specs.Steps.{Step, Trst, Numbered}
-use Rattle.svf_parse.specs.declared.statement.TrstWord.TheVariants.{Absent}
+use Rattle.svf_words.specs.declared.keywords.TrstWord.TheVariants.{Absent}
 use Rattle.plays.specs.Meaning.{after_step}
 use Rattle.svf_settings.specs.Legal.{IsFormed, leaves_reset}
 

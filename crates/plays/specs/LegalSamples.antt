@@ -12,7 +12,7 @@ use Rattle.bsdl_device.specs.declared.Place.TheVariants.{AtUser}
 use Rattle.bsdl_device.specs.Device.{Device}
 use Rattle.board_meaning.specs.Resting.{power_up, board_at_rest}
 use Rattle.svf_settings.specs.Steps.{Step, Scan, Go, Path, Run, Trst, Numbered}
-use Rattle.svf_parse.specs.declared.statement.TrstWord.TheVariants.{On, Off, Z, Absent}
+use Rattle.svf_words.specs.declared.keywords.TrstWord.TheVariants.{On, Off, Z, Absent}
 use Rattle.scan_vectors.specs.Vector.{VectorBit}
 use Rattle.board_meaning.specs.Whole.{AtRest, after_opening}
 use Rattle.scan_vectors.specs.declared.part.Part.TheVariants.{Data}

@@ -4,7 +4,7 @@ use Rattle.std.specs.Prelude.{false, List, [], ◌∷◌, Option, Some, None, �
 use Rattle.jt_tap.specs.declared.Column.{Column}
 use Rattle.jt_tap.specs.declared.State.{State}
 use Rattle.jt_tap.specs.Controller.{pause, is_at}
-use Rattle.svf_parse.specs.declared.statement.TrstWord.TheVariants.{On, Absent}
+use Rattle.svf_words.specs.declared.keywords.TrstWord.TheVariants.{On, Absent}
 use Rattle.scan_vectors.specs.declared.part.Part.{Part}
 use Rattle.scan_vectors.specs.Vector.{tdis, judge}
 use Rattle.svf_settings.specs.Steps.{Step, Scan, Go, Path, Run, Trst, Numbered}

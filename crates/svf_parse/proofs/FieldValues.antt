@@ -8,11 +8,11 @@ use Rattle.std.proofs.lemmas.List.{reverse-append, take_min, append-nil, length-
 use Rattle.jt_bits.specs.Hex.{is_white, is_bad, bits_of, binary, has_one_beyond, lowest, value_by, hex_value}
 use Rattle.jt_bits.specs.Lengths.{resized}
 use Rattle.jt_bits.proofs.LengthLaws.{resized-take}
-use Rattle.svf_parse.specs.declared.fault.Code.TheVariants as code
+use Rattle.svf_words.specs.declared.fault.Code.TheVariants as code
 use Rattle.jt_bits.specs.declared.digits.HexFault.TheVariants.{TooWide}
 use Rattle.svf_parse.specs.Sizes.{ValuesAreWritten}
 use Rattle.svf_parse.specs.Judging.{bits, bits_written, field_fault}
-use Rattle.svf_parse.proofs.Digits.{and_true}
+use Rattle.svf_words.proofs.Digits.{and_true}
 
 digit_is_no_white : (c : ℕ) → is_ascii_hexdigit c ≡ true → is_white c ≡ false
 digit_is_no_white c h = grind (arith, nat_tests)

@@ -6,9 +6,9 @@ use Rattle.svf_lex.specs.declared.Kind.{Kind}
 use Rattle.svf_lex.specs.declared.Kind.TheVariants as kind
 use Rattle.svf_lex.specs.declared.LexFault.{LexFault}
 use Rattle.svf_lex.specs.Cutting.{Lexeme, items_of}
-use Rattle.svf_parse.specs.declared.fault.Code.TheVariants as code
-use Rattle.svf_parse.specs.declared.fault.SvfFault.{SvfFault}
-use Rattle.svf_parse.specs.Words.{Word, Parts, last, group, with_word, with_token, parts_of, first_words}
+use Rattle.svf_words.specs.declared.fault.Code.TheVariants as code
+use Rattle.svf_words.specs.declared.fault.SvfFault.{SvfFault}
+use Rattle.svf_words.specs.Words.{Word, Parts, last, group, with_word, with_token, parts_of, first_words}
 use Rattle.svf_parse.specs.declared.fault.Stop.{Stop}
 use Rattle.svf_parse.specs.declared.fault.Stop.TheVariants as stop
 use Rattle.svf_parse.specs.declared.statement.Statement.{Statement}

@@ -1,6 +1,6 @@
 -- A text is judged in one way.
 use Rattle.std.proofs.Common.{◌≡◌, ℕ, List, Result, Ok, Err, refl, sym, ◌∙◌, inl, inr, ◌⊎◌}
-use Rattle.svf_parse.specs.declared.fault.SvfFault.{SvfFault}
+use Rattle.svf_words.specs.declared.fault.SvfFault.{SvfFault}
 use Rattle.svf_parse.specs.Judging.{Said}
 use Rattle.svf_parse.specs.Reading.{text_says}
 use Rattle.svf_parse.specs.Spelling.{TextSpells, TextRefuses}

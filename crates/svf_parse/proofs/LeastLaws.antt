@@ -1,16 +1,17 @@
 -- Of the refusals that a statement has the one with the lowest number is told.
 use Rattle.std.proofs.Common.{◌≡◌, ℕ, ◌≤◌, Bool, true, false, cond, ◌⊎◌, inl, inr, nat_le, List, Option, Some, None, Result, Ok, Err, refl, sym, ap, subst, ◌∙◌, arith}
 use Rattle.std.proofs.lemmas.Bool.Decides.{nat_tests}
-use Rattle.svf_parse.specs.declared.fault.Code.{Code}
-use Rattle.svf_parse.specs.declared.fault.Code.TheVariants as code
-use Rattle.svf_parse.specs.declared.keywords.Clock.{Clock}
-use Rattle.svf_parse.specs.declared.keywords.Clock.TheVariants as clock
-use Rattle.svf_parse.specs.Words.{Word}
-use Rattle.svf_parse.specs.Fields.{Fields}
-use Rattle.svf_parse.specs.RunTests.{Run}
-use Rattle.svf_parse.specs.Numbers.{period_says, time_says, count_says, len_says, len_value}
-use Rattle.svf_parse.specs.Forms.{Form, end_dr_form, end_ir_form, frequency_form, scan_form, run_form, states_form, trst_form, port_form}
-use Rattle.svf_parse.specs.Judging.{◌>>=◌, number, lower_code, checked, both, given, is_misspelt, is_wider, field_fault, clock_fault, cycles_say, scan_says, scan_with, run_says, run_with, frequency, form_says}
+use Rattle.svf_words.specs.declared.fault.Code.{Code}
+use Rattle.svf_words.specs.declared.fault.Code.TheVariants as code
+use Rattle.svf_words.specs.declared.keywords.Clock.{Clock}
+use Rattle.svf_words.specs.declared.keywords.Clock.TheVariants as clock
+use Rattle.svf_words.specs.Words.{Word}
+use Rattle.svf_words.specs.Faults.{number, lower_code}
+use Rattle.svf_forms.specs.Fields.{Fields}
+use Rattle.svf_forms.specs.RunTests.{Run}
+use Rattle.svf_words.specs.Numbers.{period_says, time_says, count_says, len_says, len_value}
+use Rattle.svf_forms.specs.Forms.{Form, end_dr_form, end_ir_form, frequency_form, scan_form, run_form, states_form, trst_form, port_form}
+use Rattle.svf_parse.specs.Judging.{◌>>=◌, checked, both, given, is_misspelt, is_wider, field_fault, clock_fault, cycles_say, scan_says, scan_with, run_says, run_with, frequency, form_says}
 use Rattle.svf_parse.specs.Least.{GivenHas, FrequencyHas, TimeHas, LengthHas, FieldHas, CountHas, Has}
 
 -- what is told of the refusals that H names

@@ -7,10 +7,10 @@ use Rattle.std.proofs.lemmas.Bool.Decides.{nat_tests}
 use Rattle.svf_lex.specs.declared.LexFault.{LexFault}
 use Rattle.svf_lex.specs.Cutting.{items_of}
 use Rattle.svf_parse.specs.declared.statement.Statement.{Statement}
-use Rattle.svf_parse.specs.declared.fault.Code.{Code}
-use Rattle.svf_parse.specs.declared.fault.Code.TheVariants as code
-use Rattle.svf_parse.specs.declared.fault.SvfFault.{SvfFault}
-use Rattle.svf_parse.specs.Words.{Word, Parts, last, group, parts_of}
+use Rattle.svf_words.specs.declared.fault.Code.{Code}
+use Rattle.svf_words.specs.declared.fault.Code.TheVariants as code
+use Rattle.svf_words.specs.declared.fault.SvfFault.{SvfFault}
+use Rattle.svf_words.specs.Words.{Word, Parts, last, group, parts_of}
 use Rattle.svf_parse.specs.Judging.{◌>>=◌, Said}
 use Rattle.svf_parse.specs.Reading.{lex_code, statement_says, parts_say, text_says, at_statement, within_limit}
 use Rattle.svf_parse.specs.Spelling.{Spells, Refuses, EachSpells, closed_by, TextSpells, FirstRefusal, TextRefuses}

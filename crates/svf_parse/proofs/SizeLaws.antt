@@ -16,21 +16,22 @@ use Rattle.svf_lex.specs.Lexed.{InOrder}
 use Rattle.svf_lex.proofs.Order.{slices_in_order}
 use Rattle.svf_lex.proofs.Endings.{lexer_gives}
 use Rattle.std.specs.Global.{Vec}
-use Rattle.svf_parse.specs.declared.fault.Code.{Code}
-use Rattle.svf_parse.specs.declared.fault.SvfFault.{SvfFault}
+use Rattle.svf_words.specs.declared.fault.Code.{Code}
+use Rattle.svf_words.specs.declared.fault.SvfFault.{SvfFault}
 use Rattle.svf_parse.specs.declared.statement.Statement.{Statement}
 use Rattle.svf_parse.specs.View.{said_of}
-use Rattle.svf_parse.specs.declared.keywords.FieldName.{FieldName}
-use Rattle.svf_parse.specs.declared.keywords.FieldName.TheVariants.{Tdi, Tdo, Mask, Smask}
-use Rattle.svf_parse.specs.declared.statement.Which.{Which}
-use Rattle.svf_parse.specs.declared.statement.Which.TheVariants as which
-use Rattle.svf_parse.specs.Words.{Word, Parts, last, group, with_word, with_token, parts_of}
-use Rattle.svf_parse.specs.Fields.{Fields, no_fields, if_none, put}
-use Rattle.svf_parse.specs.Keywords.{scan_word}
-use Rattle.svf_parse.specs.Forms.{Form, end_dr_form, end_ir_form, frequency_form, scan_form, run_form, states_form, trst_form, port_form}
+use Rattle.svf_words.specs.declared.keywords.FieldName.{FieldName}
+use Rattle.svf_words.specs.declared.keywords.FieldName.TheVariants.{Tdi, Tdo, Mask, Smask}
+use Rattle.svf_words.specs.declared.keywords.Which.{Which}
+use Rattle.svf_words.specs.declared.keywords.Which.TheVariants as which
+use Rattle.svf_words.specs.Words.{Word, Parts, last, group, with_word, with_token, parts_of}
+use Rattle.svf_forms.specs.Fields.{Fields, no_fields, if_none, put}
+use Rattle.svf_words.specs.Keywords.{scan_word}
+use Rattle.svf_forms.specs.Forms.{Form, end_dr_form, end_ir_form, frequency_form, scan_form, run_form, states_form, trst_form, port_form}
 use Rattle.svf_parse.specs.Judging.{◌>>=◌, Said, end_dr, end_ir, frequency, states, trst, cycles_say, both, form_says, scan_says, scan_with, run_says, run_with, bits_written, bits, given}
-use Rattle.svf_parse.specs.Numbers.{period_says, time_says}
-use Rattle.svf_parse.specs.Spelling.{Reads, AreStates, IsField, AreFields, IsForm, EachSpells, closed_by, TextSpells}
+use Rattle.svf_words.specs.Numbers.{period_says, time_says}
+use Rattle.svf_forms.specs.Grammar.{Reads, AreStates, IsField, AreFields, IsForm}
+use Rattle.svf_parse.specs.Spelling.{EachSpells, closed_by, TextSpells}
 use Rattle.svf_parse.specs.Sizes.{bits_in, size}
 use Rattle.svf_parse.proofs.FieldValues.{binary-cons}
 

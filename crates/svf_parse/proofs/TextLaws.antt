@@ -4,10 +4,10 @@ use Rattle.std.proofs.lemmas.Bool.Decides.{nat_tests}
 use Rattle.svf_lex.specs.declared.Kind.{Kind}
 use Rattle.svf_lex.specs.declared.Kind.TheVariants as kind
 use Rattle.svf_lex.specs.Cutting.{Cut, piece, bad, items, items_of, cuts_of, begun_after}
-use Rattle.svf_parse.specs.declared.fault.Code.{Code}
-use Rattle.svf_parse.specs.declared.fault.Code.TheVariants as code
-use Rattle.svf_parse.specs.declared.fault.SvfFault.{SvfFault}
-use Rattle.svf_parse.specs.Words.{Word, Parts, last, group, with_word, with_token, parts_of}
+use Rattle.svf_words.specs.declared.fault.Code.{Code}
+use Rattle.svf_words.specs.declared.fault.Code.TheVariants as code
+use Rattle.svf_words.specs.declared.fault.SvfFault.{SvfFault}
+use Rattle.svf_words.specs.Words.{Word, Parts, last, group, with_word, with_token, parts_of}
 use Rattle.svf_parse.specs.Judging.{◌>>=◌, Said}
 use Rattle.svf_parse.specs.Reading.{statement_says, parts_say, text_says, at_statement, within_limit}
 use Rattle.svf_parse.specs.Spelling.{Spells, EachSpells, closed_by, TextSpells}

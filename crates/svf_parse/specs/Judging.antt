@@ -5,18 +5,19 @@ use Rattle.std.specs.List.{list_all}
 use Rattle.std.specs.Char.{is_ascii_hexdigit}
 use Rattle.jt_tap.specs.declared.State.{State}
 use Rattle.jt_bits.specs.Hex.{binary, has_one_beyond}
-use Rattle.svf_parse.specs.declared.fault.Code.{Code}
-use Rattle.svf_parse.specs.declared.fault.Code.TheVariants as code
-use Rattle.svf_parse.specs.declared.statement.TrstWord.{TrstWord}
-use Rattle.svf_parse.specs.declared.statement.Which.{Which}
-use Rattle.svf_parse.specs.declared.keywords.Clock.{Clock}
-use Rattle.svf_parse.specs.declared.keywords.Clock.TheVariants as clock
-use Rattle.svf_parse.specs.Words.{Word}
-use Rattle.svf_parse.specs.Fields.{Fields}
-use Rattle.svf_parse.specs.RunTests.{Run}
-use Rattle.svf_parse.specs.Numbers.{period_says, time_says, count_says, len_says, len_value}
-use Rattle.svf_parse.specs.Forms.{Form, end_dr_form, end_ir_form, frequency_form, scan_form, run_form, states_form}
-use Rattle.svf_parse.specs.Forms.{trst_form, port_form}
+use Rattle.svf_words.specs.declared.fault.Code.{Code}
+use Rattle.svf_words.specs.declared.fault.Code.TheVariants as code
+use Rattle.svf_words.specs.declared.keywords.TrstWord.{TrstWord}
+use Rattle.svf_words.specs.declared.keywords.Which.{Which}
+use Rattle.svf_words.specs.declared.keywords.Clock.{Clock}
+use Rattle.svf_words.specs.declared.keywords.Clock.TheVariants as clock
+use Rattle.svf_words.specs.Words.{Word}
+use Rattle.svf_words.specs.Faults.{lower_code}
+use Rattle.svf_forms.specs.Fields.{Fields}
+use Rattle.svf_forms.specs.RunTests.{Run}
+use Rattle.svf_words.specs.Numbers.{period_says, time_says, count_says, len_says, len_value}
+use Rattle.svf_forms.specs.Forms.{Form, end_dr_form, end_ir_form, frequency_form, scan_form, run_form, states_form}
+use Rattle.svf_forms.specs.Forms.{trst_form, port_form}
 
 -- a statement, without where it lies in memory
 pub data Said : Type 0 where
@@ -32,29 +33,6 @@ infixl 10 ◌>>=◌
 abbrev pub ◌>>=◌ : {A B E : Type 0} → Result A E → (A → Result B E) → Result B E
 (Ok x) >>= f = f x
 (Err e) >>= f = Err e
-
--- the number of a refusal
-abbrev pub number : Code → ℕ
-number (code.BadByte place) = 1
-number (code.Unclosed place) = 2
-number code.UnknownCommand = 3
-number code.BadForm = 4
-number code.BadNumber = 5
-number code.TooWide = 6
-number code.MissingTdi = 7
-number code.BadState = 8
-number code.BadPath = 9
-number code.TrstHeld = 10
-number code.TrstAbsent = 11
-number code.EmptyScan = 12
-number code.Unsupported = 13
-number code.TooSlow = 14
-number code.TooLarge = 15
-number code.NoMemory = 16
-
--- of two refusals the one with the lower number
-abbrev pub lower_code : Code → Code → Code
-lower_code c d = if nat_le (number c) (number d) then c else d
 
 -- what this says, but for a refusal beside it, of which a lower number comes first
 abbrev pub checked : {A : Type 0} → Option Code → Result A Code → Result A Code

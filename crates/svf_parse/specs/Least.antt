@@ -1,14 +1,15 @@
 -- The refusals that a statement has of its own, all of them, and that the one with the lowest number is told.
 use Rattle.std.specs.Prelude.{◌≡◌, ℕ, ◌≤◌, ◌⊎◌, true, List, Option, Some, None, Ok, Err}
-use Rattle.svf_parse.specs.declared.fault.Code.{Code}
-use Rattle.svf_parse.specs.declared.fault.Code.TheVariants as code
-use Rattle.svf_parse.specs.declared.keywords.Clock.{Clock}
-use Rattle.svf_parse.specs.declared.keywords.Clock.TheVariants as clock
-use Rattle.svf_parse.specs.Words.{Word}
-use Rattle.svf_parse.specs.Numbers.{period_says, time_says, count_says, len_says, len_value}
-use Rattle.svf_parse.specs.Forms.{Form, end_dr_form, end_ir_form, frequency_form, scan_form, run_form, states_form}
-use Rattle.svf_parse.specs.Forms.{trst_form, port_form}
-use Rattle.svf_parse.specs.Judging.{Said, number, is_misspelt, is_wider, form_says}
+use Rattle.svf_words.specs.declared.fault.Code.{Code}
+use Rattle.svf_words.specs.declared.fault.Code.TheVariants as code
+use Rattle.svf_words.specs.declared.keywords.Clock.{Clock}
+use Rattle.svf_words.specs.declared.keywords.Clock.TheVariants as clock
+use Rattle.svf_words.specs.Words.{Word}
+use Rattle.svf_words.specs.Faults.{number}
+use Rattle.svf_words.specs.Numbers.{period_says, time_says, count_says, len_says, len_value}
+use Rattle.svf_forms.specs.Forms.{Form, end_dr_form, end_ir_form, frequency_form, scan_form, run_form, states_form}
+use Rattle.svf_forms.specs.Forms.{trst_form, port_form}
+use Rattle.svf_parse.specs.Judging.{Said, is_misspelt, is_wider, form_says}
 
 -- what is given has this refusal
 abbrev pub GivenHas : {A : Type 0} → (A → Code → Type 0) → Option A → Code → Type 0

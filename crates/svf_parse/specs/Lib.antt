@@ -1,15 +1,7 @@
-pub mod Fields
-pub mod Forms
 pub mod Judged
 pub mod Judging
-pub mod Keywords
 pub mod Least
-pub mod Numbers
 pub mod Reading
-pub mod RunTests
 pub mod Sizes
 pub mod Spelling
 pub mod View
-pub mod Words
-pub mod Written
-pub mod Measures

@@ -3,13 +3,13 @@ use Rattle.std.specs.Prelude.{ℕ, ◌+◌, List, [], ◌∷◌, length, nat_lt,
 use Rattle.svf_lex.specs.declared.LexFault.{LexFault}
 use Rattle.svf_lex.specs.declared.LexFault.TheVariants as fault
 use Rattle.svf_lex.specs.Cutting.{items_of}
-use Rattle.svf_parse.specs.declared.fault.Code.{Code}
-use Rattle.svf_parse.specs.declared.fault.Code.TheVariants as code
-use Rattle.svf_parse.specs.declared.fault.SvfFault.{SvfFault}
-use Rattle.svf_parse.specs.declared.keywords.Command.{Command}
-use Rattle.svf_parse.specs.Words.{Word, Parts, last, group, parts_of}
-use Rattle.svf_parse.specs.Keywords.{command_of}
-use Rattle.svf_parse.specs.Forms.{form_of}
+use Rattle.svf_words.specs.declared.fault.Code.{Code}
+use Rattle.svf_words.specs.declared.fault.Code.TheVariants as code
+use Rattle.svf_words.specs.declared.fault.SvfFault.{SvfFault}
+use Rattle.svf_words.specs.declared.keywords.Command.{Command}
+use Rattle.svf_words.specs.Words.{Word, Parts, last, group, parts_of}
+use Rattle.svf_words.specs.Keywords.{command_of}
+use Rattle.svf_forms.specs.Forms.{form_of}
 use Rattle.svf_parse.specs.Judging.{◌>>=◌, Said, form_says}
 
 -- the value, or this refusal

@@ -1,55 +1,21 @@
 -- What a reader of the code answers, beside what the words say.
-use Rattle.std.specs.Prelude.{◌≡◌, ◌≢◌, ℕ, List, [], ◌∷◌, map, Option, Some, None, option_map, Result, Ok, Err}
+use Rattle.std.specs.Prelude.{◌≡◌, ◌≢◌, List, [], ◌∷◌, map, Some, None, Result, Ok, Err}
 use Rattle.std.specs.Global.{Vec}
 use Rattle.svf_lex.specs.Left.{left}
-use Rattle.svf_parse.specs.declared.fault.Code.{Code}
-use Rattle.svf_parse.specs.declared.fault.Code.TheVariants.{NoMemory}
-use Rattle.svf_parse.specs.declared.fault.SvfFault.{SvfFault}
+use Rattle.svf_words.specs.declared.fault.Code.{Code}
+use Rattle.svf_words.specs.declared.fault.Code.TheVariants.{NoMemory}
+use Rattle.svf_words.specs.declared.fault.SvfFault.{SvfFault}
 use Rattle.svf_parse.specs.declared.fault.Refusal.{Refusal}
 use Rattle.svf_parse.specs.declared.fault.Refusal.TheVariants as refusal
 use Rattle.svf_parse.specs.declared.fault.Stop.{Stop}
 use Rattle.svf_parse.specs.declared.fault.Stop.TheVariants as stop
-use Rattle.svf_parse.specs.declared.fields.Fields as declared
-use Rattle.svf_parse.specs.declared.run_test.Run as run_test
-use Rattle.svf_parse.specs.declared.forms.Written.{Written}
-use Rattle.svf_parse.specs.declared.forms.Written.TheVariants as written
 use Rattle.svf_parse.specs.declared.statement.Statement.{Statement}
 use Rattle.svf_parse.specs.declared.statement.Statement.TheVariants as statement
 use Rattle.svf_parse.specs.declared.text.Group.{Group}
 use Rattle.svf_parse.specs.declared.text.Group.TheVariants.{Over, Broken, Empty, Words}
-use Rattle.svf_parse.specs.Words.{Word, Parts, last, group, parts_of}
-use Rattle.svf_parse.specs.Fields.{Fields}
-use Rattle.svf_parse.specs.RunTests.{Run}
-use Rattle.svf_parse.specs.Forms.{Form, end_dr_form, end_ir_form, frequency_form, scan_form, run_form, states_form}
-use Rattle.svf_parse.specs.Forms.{trst_form, port_form}
+use Rattle.svf_words.specs.Words.{Word, Parts, last, group, parts_of}
 use Rattle.svf_parse.specs.Judging.{Said, end_dr, end_ir, frequency, scan, states, trst}
 use Rattle.svf_parse.specs.Judging as judging
-
--- the digits of fields, without where they lie in memory
-abbrev pub bytes_of : Option (Vec ℕ) → Option (List ℕ)
-bytes_of o = option_map (λ v. v.items) o
-
-abbrev pub fields : declared.Fields → Fields
-fields f = record { tdi = bytes_of f.tdi; tdo = bytes_of f.tdo; mask = bytes_of f.mask; smask = bytes_of f.smask }
-
-abbrev pub run : run_test.Run → Run
-run r = record {
-  run = r.run;
-  count = option_map (λ c. (c.0.now, c.1)) r.count;
-  min = option_map (λ w. w.now) r.min;
-  max = option_map (λ w. w.now) r.max;
-  end = r.end;
-}
-
-abbrev pub form : Written → Form
-form (written.EndDr s) = end_dr_form s
-form (written.EndIr s) = end_ir_form s
-form (written.Frequency n) = frequency_form (option_map (λ w. w.now) n)
-form (written.Scan which len fs) = scan_form which len.now (fields fs)
-form (written.RunTest r) = run_form (run r)
-form (written.States v) = states_form v.items
-form (written.Trst t) = trst_form t
-form written.Port = port_form
 
 abbrev pub said_of : Statement → Said
 said_of (statement.EndDr s) = end_dr s

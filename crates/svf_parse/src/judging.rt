@@ -1,24 +1,26 @@
 //! What a statement says that is written in a form.
 ghost use Rattle.std.specs.Prelude.{◌≡◌, Some, None, Ok, IfOk, Option, List, Bool, option_map};
 ghost use Rattle.svf_parse.specs.Judging as spec;
-ghost use Rattle.svf_parse.specs.Forms.{scan_form};
-ghost use Rattle.svf_parse.specs.Words.{Word};
-ghost use Rattle.svf_parse.specs.Numbers as numbers_spec;
-ghost use Rattle.svf_parse.specs.View as view;
-ghost use Rattle.svf_parse.specs.View.{Gives, said_of, fields, bytes_of};
-ghost use Rattle.svf_parse.specs.declared.keywords.Clock as declared_clock;
+ghost use Rattle.svf_forms.specs.Forms.{scan_form};
+ghost use Rattle.svf_words.specs.Words.{Word};
+ghost use Rattle.svf_words.specs.Numbers as numbers_spec;
+ghost use Rattle.svf_forms.specs.View as view;
+ghost use Rattle.svf_forms.specs.View.{fields, bytes_of};
+ghost use Rattle.svf_parse.specs.View.{Gives, said_of};
+ghost use Rattle.svf_words.specs.declared.keywords.Clock as declared_clock;
 ghost use Rattle.std.specs.List.{list_all};
 ghost use Rattle.std.specs.Char.{is_ascii_hexdigit};
 
-use crate::fault::{Code, Refusal};
-use crate::fields::Fields;
-use crate::forms::Written;
-use crate::keywords::Clock;
-use crate::numbers::{count, length, length_value, period, time};
-use crate::run_test::Run;
-use crate::statement::{Statement, Which};
+use crate::fault::Refusal;
+use crate::statement::Statement;
 use jt_bits::{Bits, has_one_beyond};
 use std::alloc::Global;
+use svf_forms::fields::Fields;
+use svf_forms::forms::Written;
+use svf_forms::run_test::Run;
+use svf_words::Code;
+use svf_words::keywords::{Clock, Which};
+use svf_words::numbers::{count, length, length_value, period, time};
 
 /// The statement, or the refusal with the lowest number among its own.
 pub(crate) fn form_says(alloc: Global, form: Written<'_>) -> Result<Statement, Refusal>

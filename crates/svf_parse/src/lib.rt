@@ -4,18 +4,13 @@
 //! each other, such as the lengths and masks that a scan takes over, is not looked at here.
 #![tactic(auto)]
 
-pub use fault::{Code, SvfFault};
-pub use statement::{Statement, TrstWord, Which};
+pub use statement::Statement;
+pub use svf_words::keywords::{TrstWord, Which};
+pub use svf_words::{Code, SvfFault};
 pub use text::parse;
 
 mod fault;
-mod fields;
-mod forms;
 mod judging;
-mod keywords;
 pub mod laws;
-mod numbers;
-mod run_test;
 mod statement;
 mod text;
-mod words;

@@ -1,36 +1,7 @@
 //! The statements.
 use jt_bits::Bits;
 use jt_tap::State;
-
-/// A scan command of SVF.
-#[derive(Debug, Clone, Copy, PartialEq, Eq)]
-pub enum Which {
-    /// `HDR`, the bits nearest TDO of each scan of a data register that follows.
-    Hdr,
-    /// `HIR`, the same of the instruction register.
-    Hir,
-    /// `TDR`, the bits farthest from TDO of each scan of a data register that follows.
-    Tdr,
-    /// `TIR`, the same of the instruction register.
-    Tir,
-    /// `SDR`, a scan of a data register.
-    Sdr,
-    /// `SIR`, a scan of the instruction register.
-    Sir,
-}
-
-/// What a `TRST` statement says.
-#[derive(Debug, Clone, Copy, PartialEq, Eq)]
-pub enum TrstWord {
-    /// TRST is held active.
-    On,
-    /// TRST is driven inactive.
-    Off,
-    /// TRST is not driven.
-    Z,
-    /// There is no TRST.
-    Absent,
-}
+use svf_words::keywords::{TrstWord, Which};
 
 /// A statement of SVF text, as it stands for itself.
 #[derive(Debug, Drop)]

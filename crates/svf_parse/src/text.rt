@@ -3,21 +3,22 @@ ghost use Rattle.std.specs.Prelude.{◌≡◌, ◌*◌, ◌≤◌, length, map, 
 ghost use Rattle.std.specs.List.{sum_by};
 ghost use Rattle.svf_lex.specs.Left.{left};
 ghost use Rattle.svf_parse.specs.Judging.{Said};
-ghost use Rattle.svf_parse.specs.Words.{words_left, parts_of};
+ghost use Rattle.svf_words.specs.Words.{words_left, parts_of};
 ghost use Rattle.svf_parse.specs.Reading as spec;
 ghost use Rattle.svf_parse.specs.Reading.{text_says, parts_say, at_statement, within_limit, statement_says};
 ghost use Rattle.svf_parse.specs.Spelling.{TextSpells, TextRefuses};
 ghost use Rattle.svf_parse.specs.Sizes.{size};
 ghost use Rattle.svf_parse.specs.View.{Gives, Tells, Parses, IsGroup, said_of, memory_fault};
 
-use crate::fault::{Code, Refusal, Stop, SvfFault};
-use crate::forms::form_of;
+use crate::fault::{Refusal, Stop};
 use crate::judging::form_says;
-use crate::keywords::command_of;
 use crate::statement::Statement;
-use crate::words::next_word;
 use std::alloc::Global;
+use svf_forms::forms::form_of;
 use svf_lex::{Kind, LexFault, Lexer};
+use svf_words::keywords::command_of;
+use svf_words::words::next_word;
+use svf_words::{Code, SvfFault};
 
 /// A text has at most 16 MiB.
 const TEXT_LIMIT: usize = 16_777_216;

@@ -1,7 +1,7 @@
 -- The fields in force at a scan, by the statements in which they are written.
 use Rattle.std.proofs.Common.{◌≡◌, ℕ, Bool, List, Option, Some, None, refl, ap, ◌∙◌, if◌then◌else◌, is_some}
 use Rattle.std.specs.Prelude.{slice_get, option_and_then, unwrap_or}
-use Rattle.svf_parse.specs.declared.statement.Which.{Which}
+use Rattle.svf_words.specs.declared.keywords.Which.{Which}
 use Rattle.svf_parse.specs.Judging.{Said}
 use Rattle.svf_parse.specs.Judging as said
 use Rattle.scan_vectors.specs.Fields.{Fields}

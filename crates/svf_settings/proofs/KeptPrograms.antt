@@ -3,7 +3,7 @@ use Rattle.std.proofs.Common.{◌≡◌, ◌≢◌, ◌<◌, ℕ, zero, suc, Lis
 use Rattle.std.specs.Prelude.{slice_get, Result, IfOk, IfErr}
 use Rattle.std.proofs.lemmas.List.{length-map, length-reverse}
 use Rattle.std.proofs.lemmas.Option.{slice_get_read}
-use Rattle.svf_parse.specs.declared.fault.SvfFault.{SvfFault}
+use Rattle.svf_words.specs.declared.fault.SvfFault.{SvfFault}
 use Rattle.svf_parse.specs.Judging.{Said}
 use Rattle.svf_parse.specs.View.{memory_fault}
 use Rattle.svf_settings.specs.declared.kept.KeptStep.{KeptStep}

@@ -10,11 +10,11 @@ use Rattle.jt_tap.specs.declared.State.TheVariants.{Reset}
 use Rattle.jt_tap.specs.Controller.{is_stable}
 use Rattle.tap_paths.specs.Stated.{IsWalk}
 use Rattle.tap_paths.proofs.StatedPaths.{walks}
-use Rattle.svf_parse.specs.declared.fault.Code.{Code}
-use Rattle.svf_parse.specs.declared.fault.Code.TheVariants as code
-use Rattle.svf_parse.specs.declared.fault.SvfFault.{SvfFault}
-use Rattle.svf_parse.specs.declared.statement.TrstWord.TheVariants as word
-use Rattle.svf_parse.specs.declared.statement.Which.TheVariants.{Hdr, Hir, Tdr, Tir, Sdr, Sir}
+use Rattle.svf_words.specs.declared.fault.Code.{Code}
+use Rattle.svf_words.specs.declared.fault.Code.TheVariants as code
+use Rattle.svf_words.specs.declared.fault.SvfFault.{SvfFault}
+use Rattle.svf_words.specs.declared.keywords.TrstWord.TheVariants as word
+use Rattle.svf_words.specs.declared.keywords.Which.TheVariants.{Hdr, Hir, Tdr, Tir, Sdr, Sir}
 use Rattle.svf_parse.specs.Judging.{Said}
 use Rattle.svf_parse.specs.Judging as said
 use Rattle.scan_vectors.specs.Fields.{Fields, no_fields, vector_of}

@@ -4,7 +4,7 @@ use Rattle.std.specs.List.{list_all}
 use Rattle.jt_tap.specs.Controller.{is_at, next, entered_by, is_stable}
 use Rattle.jt_tap.specs.declared.State.{State}
 use Rattle.jt_tap.specs.declared.State.TheVariants.{Reset}
-use Rattle.svf_parse.specs.declared.statement.TrstWord.TheVariants as word
+use Rattle.svf_words.specs.declared.keywords.TrstWord.TheVariants as word
 use Rattle.svf_settings.specs.Steps.{Step, Scan, Go, Path, Run, Trst, Numbered, place_after, line_after}
 
 -- each state one cycle from the one before, the last one stable

@@ -2,8 +2,8 @@
 use Rattle.std.specs.Prelude.{◌≡◌, ◌≢◌, ℕ, List, [], ◌∷◌, map, option_map, reverse, Option, Some, None, Result}
 use Rattle.std.specs.Prelude.{Ok, Err}
 use Rattle.std.specs.Global.{Vec}
-use Rattle.svf_parse.specs.declared.fault.Code.{Code}
-use Rattle.svf_parse.specs.declared.fault.SvfFault.{SvfFault}
+use Rattle.svf_words.specs.declared.fault.Code.{Code}
+use Rattle.svf_words.specs.declared.fault.SvfFault.{SvfFault}
 use Rattle.svf_parse.specs.Judging.{Said}
 use Rattle.svf_parse.specs.View.{memory_fault}
 use Rattle.svf_settings.specs.declared.kept.Kept.{Kept}

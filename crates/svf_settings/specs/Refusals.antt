@@ -5,12 +5,13 @@ use Rattle.jt_tap.specs.Controller.{is_stable}
 use Rattle.jt_tap.specs.declared.State.{State}
 use Rattle.tap_paths.specs.Paths.{last_of}
 use Rattle.tap_paths.specs.Stated.{first_gap}
-use Rattle.svf_parse.specs.declared.fault.Code.{Code}
-use Rattle.svf_parse.specs.declared.fault.Code.TheVariants as code
-use Rattle.svf_parse.specs.declared.statement.TrstWord.{TrstWord}
-use Rattle.svf_parse.specs.declared.statement.TrstWord.TheVariants as word
-use Rattle.svf_parse.specs.declared.statement.Which.TheVariants.{Sdr, Sir}
-use Rattle.svf_parse.specs.Judging.{Said, number}
+use Rattle.svf_words.specs.declared.fault.Code.{Code}
+use Rattle.svf_words.specs.declared.fault.Code.TheVariants as code
+use Rattle.svf_words.specs.declared.keywords.TrstWord.{TrstWord}
+use Rattle.svf_words.specs.declared.keywords.TrstWord.TheVariants as word
+use Rattle.svf_words.specs.declared.keywords.Which.TheVariants.{Sdr, Sir}
+use Rattle.svf_words.specs.Faults.{number}
+use Rattle.svf_parse.specs.Judging.{Said}
 use Rattle.svf_parse.specs.Judging as said
 use Rattle.scan_vectors.specs.Fields.{Fields}
 use Rattle.svf_settings.specs.Steps.{Step, Trst}

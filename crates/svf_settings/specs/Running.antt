@@ -1,7 +1,7 @@
 -- The settings behind one statement more, for a reader that goes from the first statement to the last.
 use Rattle.std.specs.Prelude.{◌≡◌, Some, unwrap_or, List, ◌∷◌}
-use Rattle.svf_parse.specs.declared.statement.Which.{Which}
-use Rattle.svf_parse.specs.declared.statement.Which.TheVariants.{Hdr, Hir, Tdr, Tir, Sdr, Sir}
+use Rattle.svf_words.specs.declared.keywords.Which.{Which}
+use Rattle.svf_words.specs.declared.keywords.Which.TheVariants.{Hdr, Hir, Tdr, Tir, Sdr, Sir}
 use Rattle.svf_parse.specs.Judging.{Said}
 use Rattle.svf_parse.specs.Judging as said
 use Rattle.scan_vectors.specs.Fields.{Fields}

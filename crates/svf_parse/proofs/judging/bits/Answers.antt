@@ -1,6 +1,6 @@
 use Rattle.std.proofs.Common.{ap, ◌∙◌, arith}
 use Rattle.jt_bits.specs.Hex.{hex_value}
-use Rattle.svf_parse.specs.View.{bytes_of}
+use Rattle.svf_forms.specs.View.{bytes_of}
 use Rattle.svf_parse.proofs.FieldValues.{field_bits}
 use Rattle.svf_parse.proofs.judging.bits.Goals as goal
 

@@ -2,7 +2,7 @@ use Rattle.std.proofs.Common.{◌≡◌, ap, ◌∙◌, List, [], ◌∷◌, ◌
 use Rattle.svf_lex.specs.declared.Token.{Token}
 use Rattle.svf_lex.specs.declared.LexFault.{LexFault}
 use Rattle.svf_lex.specs.Left.{left, seen}
-use Rattle.svf_parse.specs.Words.{Word, parts_of, group}
+use Rattle.svf_words.specs.Words.{Word, parts_of, group}
 use Rattle.svf_parse.proofs.Grouping.{at_over, at_fault, at_semi, at_word, some_words, pushed}
 use Rattle.svf_parse.proofs.text.next_group.Goals as goal
 

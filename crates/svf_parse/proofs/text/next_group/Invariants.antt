@@ -1,6 +1,6 @@
 use Rattle.std.proofs.Common.{◌≡◌, nat_eq, List, length}
 use Rattle.svf_lex.specs.Left.{left}
-use Rattle.svf_parse.specs.Words.{Word, parts_of}
+use Rattle.svf_words.specs.Words.{Word, parts_of}
 use Rattle.svf_parse.proofs.Grouping.{with_words}
 use Rattle.svf_parse.proofs.text.next_group.Given as goal
 

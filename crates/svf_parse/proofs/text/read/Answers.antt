@@ -1,5 +1,5 @@
 use Rattle.std.proofs.Common.{sym, ap, ◌∙◌, arith}
-use Rattle.svf_parse.specs.Words.{parts_of}
+use Rattle.svf_words.specs.Words.{parts_of}
 use Rattle.svf_parse.specs.Reading.{parts_say}
 use Rattle.svf_parse.proofs.Grouping.{long_text, short_text}
 use Rattle.svf_parse.proofs.text.read.Goals as goal

@@ -1,6 +1,6 @@
 use Rattle.std.proofs.Common.{◌+◌, vec_len, arith}
 use Rattle.svf_lex.specs.Left.{left}
-use Rattle.svf_parse.specs.Words.{parts_of, words_left}
+use Rattle.svf_words.specs.Words.{parts_of, words_left}
 use Rattle.svf_parse.specs.Reading.{parts_say}
 use Rattle.svf_parse.proofs.Grouping.{told_over, told_broken, told_empty, told_said, told_refused}
 use Rattle.svf_parse.proofs.text.statements.Goals as goal

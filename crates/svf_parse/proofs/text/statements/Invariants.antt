@@ -1,6 +1,6 @@
 use Rattle.std.proofs.Common.{◌≡◌, ◌+◌, ◌≤◌, map, vec_len}
 use Rattle.svf_lex.specs.Left.{left}
-use Rattle.svf_parse.specs.Words.{parts_of}
+use Rattle.svf_words.specs.Words.{parts_of}
 use Rattle.svf_parse.specs.Reading.{parts_say}
 use Rattle.svf_parse.specs.View.{said_of}
 use Rattle.svf_parse.proofs.Grouping.{in_front, group_count}

@@ -1,6 +1,6 @@
 use Rattle.std.proofs.Common.{◌+◌, ℕ, map, refl, sym, ap, ◌∙◌}
 use Rattle.std.specs.Prelude.{Some}
-use Rattle.svf_parse.specs.declared.fault.SvfFault.{SvfFault}
+use Rattle.svf_words.specs.declared.fault.SvfFault.{SvfFault}
 use Rattle.svf_parse.specs.View.{said_of}
 use Rattle.svf_settings.proofs.OneStatementMore.{after_more, before_more, length_before, said_at}
 use Rattle.svf_settings.proofs.FirstRefusals.{before, refused_at}

@@ -1,0 +1,4 @@
+pub mod FieldLaws
+pub mod FormLaws
+pub mod RunLaws
+pub mod StateLists

@@ -1,0 +1,12 @@
+use Rattle.std.proofs.Common.{◌≡◌, length}
+use Rattle.svf_words.specs.Words.{words_left}
+use Rattle.svf_forms.specs.Fields.{no_fields, cut_at_close, fields_say}
+use Rattle.svf_forms.specs.View.{fields}
+use Rattle.svf_forms.proofs.fields.fields_of.Given as goal
+
+abbrev pub invariant-loop-word : goal.invariant-loop-word
+invariant-loop-word l =
+    fields_say (fields l.all) (cut_at_close (words_left l.rest)) ≡ fields_say no_fields (cut_at_close (words_left l.words))
+
+abbrev pub decreases-loop-word : goal.decreases-loop-word
+decreases-loop-word l = length (words_left l.rest)

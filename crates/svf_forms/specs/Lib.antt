@@ -1,0 +1,5 @@
+pub mod Fields
+pub mod Forms
+pub mod Grammar
+pub mod RunTests
+pub mod View

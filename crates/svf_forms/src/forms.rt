@@ -1,0 +1,158 @@
+//! The forms of the statements.
+ghost use Rattle.std.specs.Prelude.{◌≡◌, List, Option, IfOk, option_map};
+ghost use Rattle.jt_tap.specs.declared.State as declared_state;
+ghost use Rattle.svf_words.specs.Words.{Word, words_left};
+ghost use Rattle.svf_forms.specs.Forms as spec;
+ghost use Rattle.svf_forms.specs.View as view;
+
+use crate::fields::{Fields, fields_of};
+use crate::run_test::{Run, run_of};
+use jt_tap::State;
+use std::alloc::{AllocError, Global};
+use svf_lex::Lexer;
+use svf_words::keywords::{Command, TrstWord, Which, state_of, trst_of};
+use svf_words::words::{is_number, next_word, reads};
+
+/// A statement as it is written: each number as its word, each field as its digits.
+#[derive(Debug, Drop)]
+pub enum Written<'a> {
+    /// `ENDDR state`.
+    EndDr(State),
+    /// `ENDIR state`.
+    EndIr(State),
+    /// `FREQUENCY [number HZ]`.
+    Frequency(Option<&'a [u8]>),
+    /// `HDR`, `HIR`, `TDR`, `TIR`, `SDR` or `SIR`, its length and its fields.
+    Scan(Which, &'a [u8], Fields),
+    /// `RUNTEST` and its parts.
+    RunTest(Run<'a>),
+    /// `STATE` and its states, at least one.
+    States(Vec<State>),
+    /// `TRST` and its word.
+    Trst(TrstWord),
+    /// `PIO` or `PIOMAP`, whatever follows.
+    Port,
+}
+
+/// The form that the words after a command have, up to the `;`. There is none where they do not fit the command. Memory
+/// is taken for the digits of fields and for the states of a path.
+pub fn form_of<'a>(
+    alloc: Global,
+    command: Command,
+    words: Lexer<'a>,
+) -> Result<Option<Written<'a>>, AllocError>
+    ensures { IfOk result (λ o. option_map view.form o ≡ spec.form_of command (words_left words.entry)) }
+{
+    let form = match command {
+        Command::EndDr => match one_state(words) {
+            Some(state) => Some(Written::EndDr(state)),
+            None => None,
+        },
+        Command::EndIr => match one_state(words) {
+            Some(state) => Some(Written::EndIr(state)),
+            None => None,
+        },
+        Command::Frequency => match hertz(words) {
+            Some(number) => Some(Written::Frequency(number)),
+            None => None,
+        },
+        Command::Scan(which) => scan_of(alloc, which, words)?,
+        Command::RunTest => match run_of(words) {
+            Some(run) => Some(Written::RunTest(run)),
+            None => None,
+        },
+        Command::State => match some_states(alloc, words)? {
+            Some(states) => Some(Written::States(states)),
+            None => None,
+        },
+        Command::Trst => match one_trst(words) {
+            Some(word) => Some(Written::Trst(word)),
+            None => None,
+        },
+        Command::Pio | Command::PioMap => Some(Written::Port),
+    };
+    Ok(form)
+}
+
+/// One state.
+#[tactic(auto, unfolding(crate::specs::Forms::one_state))]
+fn one_state(words: Lexer<'_>) -> Option<State>
+    ensures { result ≡ spec.one_state (words_left words.entry) }
+{
+    let (word, rest) = next_word(words)?;
+    match next_word(rest) {
+        None => state_of(word),
+        Some(_) => None,
+    }
+}
+
+/// One word of TRST.
+#[tactic(auto, unfolding(crate::specs::Forms::one_trst))]
+fn one_trst(words: Lexer<'_>) -> Option<TrstWord>
+    ensures { result ≡ spec.one_trst (words_left words.entry) }
+{
+    let (word, rest) = next_word(words)?;
+    match next_word(rest) {
+        None => trst_of(word),
+        Some(_) => None,
+    }
+}
+
+/// States, at least one.
+fn some_states(alloc: Global, words: Lexer<'_>) -> Result<Option<Vec<State>>, AllocError>
+    ensures { IfOk result (λ o. option_map {U = List declared_state.State} (λ v. v.items) o
+        ≡ spec.some_states (words_left words.entry)) }
+{
+    let mut all = Vec::new(alloc);
+    let mut rest = words;
+    while let Some((word, after)) = next_word(rest) {
+        let Some(state) = state_of(word) else {
+            return Ok(None);
+        };
+        all.push(state)?;
+        rest = after;
+    }
+    if all.is_empty() {
+        Ok(None)
+    } else {
+        Ok(Some(all))
+    }
+}
+
+/// `[number HZ]`.
+#[tactic(auto, unfolding(crate::specs::Forms::hertz))]
+fn hertz<'a>(words: Lexer<'a>) -> Option<Option<&'a [u8]>>
+    ensures { option_map {U = Option Word} (λ o. option_map {U = Word} (λ w. w.now) o) result
+        ≡ spec.hertz (words_left words.entry) }
+{
+    let Some((number, after)) = next_word(words) else {
+        return Some(None);
+    };
+    let (unit, rest) = next_word(after)?;
+    if next_word(rest).is_none() && is_number(number) && reads(unit, b"HZ") {
+        Some(Some(number))
+    } else {
+        None
+    }
+}
+
+/// A length and fields.
+#[tactic(auto, unfolding(crate::specs::Forms::scan_of))]
+fn scan_of<'a>(
+    alloc: Global,
+    which: Which,
+    words: Lexer<'a>,
+) -> Result<Option<Written<'a>>, AllocError>
+    ensures { IfOk result (λ o. option_map view.form o ≡ spec.scan_of which (words_left words.entry)) }
+{
+    let Some((len, rest)) = next_word(words) else {
+        return Ok(None);
+    };
+    if !is_number(len) {
+        return Ok(None);
+    }
+    match fields_of(alloc, rest)? {
+        Some(fields) => Ok(Some(Written::Scan(which, len, fields))),
+        None => Ok(None),
+    }
+}

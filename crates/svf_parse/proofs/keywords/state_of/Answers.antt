@@ -1,5 +1,0 @@
-use Rattle.svf_parse.proofs.KeywordLaws.{same_state}
-use Rattle.svf_parse.proofs.keywords.state_of.Goals as goal
-
-pub returns : goal.returns
-returns c = same_state c.args.word.now c.from_word.result c.from_word.ensures.found c.from_word.ensures.only

@@ -1,0 +1,5 @@
+pub mod Digits
+pub mod KeywordLaws
+pub mod MeasureLaws
+pub mod NumberLaws
+pub mod WrittenLaws

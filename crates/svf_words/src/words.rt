@@ -1,0 +1,53 @@
+//! The words of a statement, one after another.
+ghost use Rattle.std.specs.Prelude.{◌≡◌, ◌∷◌, [], MatchOption};
+ghost use Rattle.svf_words.specs.Words as spec;
+ghost use Rattle.svf_words.specs.Words.{words_left};
+
+use svf_lex::{Kind, Lexer};
+
+/// The next word of the statement, and the lexer after it. There is none at the `;`, at the text's end and at a fault.
+#[tactic(auto, unfolding(crate::specs::Words::words_left))]
+pub fn next_word<'a>(lexer: Lexer<'a>) -> Option<(&'a [u8], Lexer<'a>)>
+    ensures { MatchOption result (words_left lexer.entry ≡ [])
+        (λ p. words_left lexer.entry ≡ p.0.now ∷ words_left p.1) }
+{
+    let mut after = lexer;
+    match after.next() {
+        Some(Ok(token)) => match token.kind {
+            Kind::Semi => None,
+            _ => Some((token.text, after)),
+        },
+        _ => None,
+    }
+}
+
+/// Whether the word is this keyword, in any case of ASCII letters.
+pub fn reads(word: &[u8], keyword: &[u8]) -> bool
+    ensures { result ≡ spec.reads word.now keyword.now }
+{
+    word.eq_ignore_ascii_case(keyword)
+}
+
+/// Whether the word is `(`, which opens the digits of a field.
+pub fn is_open(word: &[u8]) -> bool
+    ensures { result ≡ spec.is_open word.now }
+{
+    word.first() == Some(&b'(')
+}
+
+/// Whether the word is `)`, which closes the digits of a field.
+pub fn is_close(word: &[u8]) -> bool
+    ensures { result ≡ spec.is_close word.now }
+{
+    word.first() == Some(&b')')
+}
+
+/// Whether the word stands for a number: it begins with a digit or a point.
+pub fn is_number(word: &[u8]) -> bool
+    ensures { result ≡ spec.is_number word.now }
+{
+    match word.first() {
+        Some(first) => first.is_ascii_digit() || *first == b'.',
+        None => false,
+    }
+}
