@@ -46,8 +46,8 @@ fn add_row<'a>(
     places: &Places<'_>,
     row: &CellRow<'a>,
 ) -> Result<(), AllocError>
-    ensures { OnOk result ((ps : List port_list.Port) → AreAt places.now ps → (s : declared_seat.Seat) (n : ℕ) → n ≤ 65536
-        → is_below (driver_at drivers.new s) n ≡ is_below (driver_at drivers.old s) n
+    ensures { OnOk result ((ps : List port_list.Port) → AreAt places.now ps → (s : declared_seat.Seat) (n : ℕ)
+        → n ≤ 65536 → is_below (driver_at drivers.new s) n ≡ is_below (driver_at drivers.old s) n
         || drives_below ps s n (cell_row row.now)) }
 {
     if !row.function.drives() {

@@ -1,5 +1,5 @@
-//! What the attributes of a device description say: ports, numbers, and texts in the languages within quotes (BSDL: IEEE
-//! Std 1149.1-2001, Annex B.8.8 to B.8.14).
+//! What the attributes of a device description say: ports, numbers, and texts in the languages within quotes (BSDL:
+//! IEEE Std 1149.1-2001, Annex B.8.8 to B.8.14).
 #![tactic(auto)]
 
 mod keywords;
