@@ -7,13 +7,17 @@ use Rattle.bsdl_text.specs.Marks.{closing, colon, comma, opening, semi}
 use Rattle.bsdl_text.specs.Reading.{Read, fits, misfit, is_mark_of, joined_by, joined_text, keyword, separated, mark, number, quoted_value, refused_at, stands, word}
 use Rattle.bsdl_instructions.specs.Values.{access_row, begins, opcode_row, pattern, private_name, rows}
 use Rattle.bsdl_cells.specs.Rows.{cell_row}
-use Rattle.bsdl_entity.specs.declared.Attribute.{Attribute}
-use Rattle.bsdl_entity.specs.declared.Attribute.TheVariants.{TapScanIn, TapScanOut, TapScanMode, TapScanClock, TapScanReset, InstructionLength, BoundaryLength, InstructionOpcode, InstructionCapture, BoundaryRegister, IdcodeRegister, UsercodeRegister, InstructionPrivate, RegisterAccess}
-use Rattle.bsdl_entity.specs.declared.values.Language.{Language}
-use Rattle.bsdl_entity.specs.declared.values.Language.TheVariants.{Opcodes, Capture, Cells, Codes, PrivateNames, Accesses}
+use Rattle.bsdl_values.specs.declared.Attribute.{Attribute}
+use Rattle.bsdl_values.specs.declared.Attribute.TheVariants.{TapScanIn, TapScanOut, TapScanMode, TapScanClock, TapScanReset, InstructionLength, BoundaryLength, InstructionOpcode, InstructionCapture, BoundaryRegister, IdcodeRegister, UsercodeRegister, InstructionPrivate, RegisterAccess}
+use Rattle.bsdl_values.specs.declared.values.Language.{Language}
+use Rattle.bsdl_values.specs.declared.values.Language.TheVariants.{Opcodes, Capture, Cells, Codes, PrivateNames, Accesses}
 use Rattle.bsdl_entity.specs.Attributes.{attribute_of}
-use Rattle.bsdl_entity.specs.Keywords.{is_rising, is_vector, mode_of, truth_of}
-use Rattle.bsdl_entity.specs.Entity.{File, Given, Port, Range, Value, absent, accesses_value, and_given, any_word, attribute, attribute_form, brackets, cells_value, codes_value, count, end_of_text, ending, file, first_start, generic, in_order, is_scalar, is_tap, item, items, kind_of_port, length_value, names_value, nothing, opcodes_value, ordered, owner, past_closing, past_semi, pattern_value, port, port_group, ports, quoted, range, with_value, text_in, this_word, truth, upto, value_behind, value_of}
+use Rattle.bsdl_ports.specs.Keywords.{is_rising, is_vector, mode_of, this_word}
+use Rattle.bsdl_values.specs.Keywords.{truth_of}
+use Rattle.bsdl_ports.specs.Ports.{Port, Range, in_order, is_scalar, kind_of_port, ordered, port_group, ports, range, upto}
+use Rattle.bsdl_values.specs.Values.{Value, absent, accesses_value, cells_value, codes_value, count, first_start, length_value, names_value, opcodes_value, pattern_value, port, quoted, text_in, truth, value_of}
+use Rattle.bsdl_values.specs.Passing.{brackets, past_closing, past_semi}
+use Rattle.bsdl_entity.specs.Entity.{File, Given, and_given, any_word, attribute, attribute_form, end_of_text, ending, file, generic, is_tap, item, items, nothing, owner, with_value, value_behind}
 use Rattle.bsdl.specs.Small.{total}
 use Rattle.bsdl.proofs.Weights.{Weighs, bind, choose, dropped, heft, joined_text_weighs, joined_weighs, keyword_weighs, listed_weighs, meant_weighs, one_weighs, quoted_value_weighs, size, weaker}
 use Rattle.bsdl.proofs.RowWeights.{access_weighs, access_weight, name_weighs, opcode_weighs, opcode_weight, rows_weigh}

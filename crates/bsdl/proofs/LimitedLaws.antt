@@ -10,7 +10,8 @@ use Rattle.std.proofs.lemmas.List.FromFn.{length-map-range_with_len}
 use Rattle.std.proofs.lemmas.List.Sums.{sum_by-cons}
 use Rattle.bsdl_device.specs.Device.{Device, Name, Pattern}
 use Rattle.bsdl_instructions.specs.Values.{OpcodeRow}
-use Rattle.bsdl_entity.specs.Entity.{File, Port, Range}
+use Rattle.bsdl_ports.specs.Ports.{Port, Range}
+use Rattle.bsdl_entity.specs.Entity.{File}
 use Rattle.bsdl_described.specs.Describing.{Description, Refusal, bad_capture, bad_cell, bad_id, bad_length, described, too_large, ◌>>?◌}
 use Rattle.bsdl_fit.specs.Fits.{rows_numbered, unfit_cell}
 use Rattle.bsdl_lengths.specs.Lengths.{captures_one, codes_fit, ends_in_one, has_bits, has_len, instructions_fit, lengths_fit}

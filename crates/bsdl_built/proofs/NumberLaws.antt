@@ -6,9 +6,9 @@ use Rattle.bsdl_device.specs.declared.PortMode.{PortMode}
 use Rattle.bsdl_text.specs.Words.{upper}
 use Rattle.bsdl_text.specs.declared.names.Word.{Word}
 use Rattle.bsdl_cells.specs.Rows.{PortName}
-use Rattle.bsdl_entity.specs.declared.ports.Range as declared_range
-use Rattle.bsdl_entity.specs.Entity.{Port, Range}
-use Rattle.bsdl_entity.specs.View as view
+use Rattle.bsdl_ports.specs.declared.ports.Range as declared_range
+use Rattle.bsdl_ports.specs.Ports.{Port, Range}
+use Rattle.bsdl_ports.specs.View as view
 use Rattle.bsdl_limits.proofs.WidthLaws.{ports_named}
 use Rattle.bsdl_limits.specs.PortBits.{bit_at, bit_number, width}
 use Rattle.bsdl_fit.specs.Places.{find_port}

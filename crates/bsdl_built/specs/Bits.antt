@@ -1,6 +1,6 @@
 -- The numbers of port bits.
 use Rattle.std.specs.Prelude.{ℕ, ◌+◌, List, [], ◌∷◌, Option, Some, None, unwrap_or}
-use Rattle.bsdl_entity.specs.Entity.{Port}
+use Rattle.bsdl_ports.specs.Ports.{Port}
 use Rattle.bsdl_limits.specs.PortBits.{width}
 
 -- the number of the first bit of each port, behind m others

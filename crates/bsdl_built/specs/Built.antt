@@ -11,7 +11,7 @@ use Rattle.bsdl_device.specs.declared.Place.{Place}
 use Rattle.bsdl_device.specs.declared.Place.TheVariants.{AtBypass, AtBoundary, AtDeviceId, AtUser}
 use Rattle.bsdl_instructions.specs.Values.{AccessRow, Instr}
 use Rattle.bsdl_cells.specs.Rows.{CellRow}
-use Rattle.bsdl_entity.specs.Entity.{Port}
+use Rattle.bsdl_ports.specs.Ports.{Port}
 use Rattle.bsdl_twice.specs.ResetOpcode.{opcode}
 use Rattle.bsdl_limits.specs.PortBits.{bit_number}
 use Rattle.bsdl_device.specs.Ports.{bits_of}

@@ -3,8 +3,8 @@ ghost use Rattle.std.specs.Prelude.{◌≡◌, ◌+◌, ◌++◌, ◌∷◌, [],
 ghost use Rattle.std.specs.Prelude.{slice_get, IfOk, OnOk};
 ghost use Rattle.bsdl_text.specs.View.{value};
 ghost use Rattle.bsdl_cells.specs.View.{port_name};
-ghost use Rattle.bsdl_entity.specs.Entity as entity;
-ghost use Rattle.bsdl_entity.specs.View as entity_view;
+ghost use Rattle.bsdl_ports.specs.Ports as port_list;
+ghost use Rattle.bsdl_ports.specs.View as ports_view;
 ghost use Rattle.bsdl_fit.specs.View.{AreAt, place_named, place as place_view};
 ghost use Rattle.bsdl_limits.specs.PortBits.{bit_at, bit_number, width};
 ghost use Rattle.bsdl_built.specs.Bits.{firsts};
@@ -25,7 +25,7 @@ struct Firsts {
 
 /// The numbers of the first bits of ports.
 pub fn firsts_of(alloc: Global, groups: &[Group<'_>]) -> Result<Vec<usize>, AllocError>
-    ensures { IfOk result (λ bits. bits.items ≡ firsts 0 (entity_view.ports groups.now)) }
+    ensures { IfOk result (λ bits. bits.items ≡ firsts 0 (ports_view.ports groups.now)) }
 {
     let mut all = Firsts {
         bits: Vec::new(alloc),
@@ -38,8 +38,8 @@ pub fn firsts_of(alloc: Global, groups: &[Group<'_>]) -> Result<Vec<usize>, Allo
 }
 
 fn add_group(all: &mut Firsts, group: &Group<'_>) -> Result<(), AllocError>
-    ensures { OnOk result ((more : List entity.Port) → all.new.bits.items ++ firsts all.new.next more
-        ≡ all.old.bits.items ++ firsts all.old.next (entity_view.group group.now ++ more)) }
+    ensures { OnOk result ((more : List port_list.Port) → all.new.bits.items ++ firsts all.new.next more
+        ≡ all.old.bits.items ++ firsts all.old.next (ports_view.group group.now ++ more)) }
 {
     let width = width_of(group.range)?;
     for _name in &group.names {
@@ -59,7 +59,7 @@ fn add_port(all: &mut Firsts, width: usize) -> Result<(), AllocError>
 }
 
 fn width_of(range: Option<Range<'_>>) -> Result<usize, AllocError>
-    ensures { IfOk result (λ w. w ≡ width (option_map entity_view.range range.entry)) }
+    ensures { IfOk result (λ w. w ≡ width (option_map ports_view.range range.entry)) }
 {
     match range {
         Some(range) => {
@@ -78,7 +78,7 @@ pub fn bit_of_port(
     bits: &[usize],
     port: PortName<'_>,
 ) -> Result<Option<usize>, AllocError>
-    ensures { IfOk result (λ o. (ps : List entity.Port) → AreAt places.now ps → bits.now ≡ firsts 0 ps → o
+    ensures { IfOk result (λ o. (ps : List port_list.Port) → AreAt places.now ps → bits.now ≡ firsts 0 ps → o
         ≡ bit_number 0 ps (port_name port.entry)) }
 {
     let key = port.name.upper_name(alloc)?;
@@ -128,7 +128,7 @@ fn first_bit(bits: &[usize], port: usize) -> usize
 
 /// The place of an index among a port's bits.
 fn offset(range: Option<Range<'_>>, index: Option<Digits<'_>>) -> Result<Option<usize>, AllocError>
-    ensures { IfOk result (λ o. o ≡ bit_at (option_map entity_view.range range.entry) (option_map value index.entry)) }
+    ensures { IfOk result (λ o. o ≡ bit_at (option_map ports_view.range range.entry) (option_map value index.entry)) }
 {
     match (range, index) {
         (None, None) => Ok(Some(0)),

@@ -6,7 +6,7 @@ ghost use Rattle.std.specs.List.{flat_map, range_with_len};
 ghost use Rattle.std.specs.Ordering.{nat_cmp};
 ghost use Rattle.bsdl_text.specs.View.{value};
 ghost use Rattle.bsdl_cells.specs.View as cells_view;
-ghost use Rattle.bsdl_entity.specs.Entity as entity;
+ghost use Rattle.bsdl_ports.specs.Ports as port_list;
 ghost use Rattle.bsdl_device.specs.Driving.{drives as is_driver};
 ghost use Rattle.bsdl_fit.specs.View.{AreAt};
 ghost use Rattle.bsdl_limits.specs.PortBits.{bit_number};
@@ -29,7 +29,7 @@ pub fn cells_of(
     rows: &[CellRow<'_>],
     len: usize,
 ) -> Result<Vec<Cell>, AllocError>
-    ensures { IfOk result (λ v. (ps : List entity.Port) → AreAt places.now ps → bits.now ≡ firsts 0 ps
+    ensures { IfOk result (λ v. (ps : List port_list.Port) → AreAt places.now ps → bits.now ≡ firsts 0 ps
         → ((k : ℕ) → k < len → length (filter (λ r. r.number == k) (map cells_view.cell_row rows.now)) ≡ 1) → v.items
         ≡ spec.cells_of ps (map cells_view.cell_row rows.now) len) }
 {
@@ -45,7 +45,7 @@ fn table_of(
     bits: &[usize],
     rows: &[CellRow<'_>],
 ) -> Result<BTreeMap<usize, Cell>, AllocError>
-    ensures { IfOk result (λ t. (ps : List entity.Port) → AreAt places.now ps → bits.now ≡ firsts 0 ps → (n : ℕ)
+    ensures { IfOk result (λ t. (ps : List port_list.Port) → AreAt places.now ps → bits.now ≡ firsts 0 ps → (n : ℕ)
         → get nat_cmp t n ≡ last_of (map (spec.cell ps)
         (filter (λ r. r.number == n) (map cells_view.cell_row rows.now)))) }
 {
@@ -63,7 +63,7 @@ fn add_row(
     bits: &[usize],
     row: &CellRow<'_>,
 ) -> Result<(), AllocError>
-    ensures { OnOk result ((ps : List entity.Port) → AreAt places.now ps → bits.now ≡ firsts 0 ps → (n : ℕ)
+    ensures { OnOk result ((ps : List port_list.Port) → AreAt places.now ps → bits.now ≡ firsts 0 ps → (n : ℕ)
         → get nat_cmp table.new n ≡ (if value row.now.number == n
         then Some (spec.cell ps (cells_view.cell_row row.now)) else get nat_cmp table.old n)) }
 {
@@ -80,7 +80,7 @@ fn cell_of(
     bits: &[usize],
     row: &CellRow<'_>,
 ) -> Result<Cell, AllocError>
-    ensures { IfOk result (λ c. (ps : List entity.Port) → AreAt places.now ps → bits.now ≡ firsts 0 ps → c
+    ensures { IfOk result (λ c. (ps : List port_list.Port) → AreAt places.now ps → bits.now ≡ firsts 0 ps → c
         ≡ spec.cell ps (cells_view.cell_row row.now)) }
 {
     let port = port_of(alloc, places, bits, row.port)?;
@@ -99,7 +99,7 @@ fn port_of(
     bits: &[usize],
     port: Option<PortName<'_>>,
 ) -> Result<Option<usize>, AllocError>
-    ensures { IfOk result (λ o. (ps : List entity.Port) → AreAt places.now ps → bits.now ≡ firsts 0 ps → o
+    ensures { IfOk result (λ o. (ps : List port_list.Port) → AreAt places.now ps → bits.now ≡ firsts 0 ps → o
         ≡ option_and_then (bit_number 0 ps) (option_map cells_view.port_name port.entry)) }
 {
     match port {

@@ -5,7 +5,7 @@ ghost use Rattle.bsdl_device.specs.View.{pair};
 ghost use Rattle.bsdl_device.specs.Ports.{bits_of};
 ghost use Rattle.bsdl_text.specs.Words.{upper};
 ghost use Rattle.bsdl_text.specs.View.{value};
-ghost use Rattle.bsdl_entity.specs.View as entity_view;
+ghost use Rattle.bsdl_ports.specs.View as ports_view;
 ghost use Rattle.bsdl_described.specs.Describing.{is_among};
 ghost use Rattle.bsdl_described.specs.View.{taps as taps_view};
 ghost use Rattle.bsdl_built.specs.Built as spec;
@@ -20,7 +20,7 @@ use std::alloc::{AllocError, Global};
 
 /// The ports of an entity.
 pub fn ports_of(alloc: Global, taps: &Taps<'_>, groups: &[Group<'_>]) -> Result<Ports, AllocError>
-    ensures { IfOk result (λ p. p ≡ flat_map (spec.port_bits (taps_view taps.now)) (entity_view.ports groups.now)) }
+    ensures { IfOk result (λ p. p ≡ flat_map (spec.port_bits (taps_view taps.now)) (ports_view.ports groups.now)) }
 {
     let mut ports = Ports::new(alloc);
     for group in groups {
@@ -36,7 +36,7 @@ fn with_group(
     group: &Group<'_>,
 ) -> Result<Ports, AllocError>
     ensures { IfOk result (λ p. p ≡ ports ++ flat_map (spec.port_bits (taps_view taps.now))
-        (entity_view.group group.now)) }
+        (ports_view.group group.now)) }
 {
     let indices = indices_of(group.range)?;
     let mut ports = ports;
@@ -67,7 +67,7 @@ fn with_port(
 fn indices_of(range: Option<Range<'_>>) -> Result<Option<Indices>, AllocError>
     ensures fits { IfOk result (λ o. IfSome o (λ i. i.low + i.len < 2 ^ 64)) }
     ensures indices { IfOk result (λ o. option_map pair o
-        ≡ option_map (λ r. (r.low, r.high - r.low + 1)) (option_map entity_view.range range.entry)) }
+        ≡ option_map (λ r. (r.low, r.high - r.low + 1)) (option_map ports_view.range range.entry)) }
 {
     let Some(range) = range else {
         return Ok(None);

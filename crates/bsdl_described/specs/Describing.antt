@@ -3,17 +3,19 @@ use Rattle.std.specs.Prelude.{ℕ, Bool, true, false, is_some, if◌then◌else�
 use Rattle.std.specs.Prelude.{Option, Some, None, Result, Ok, Err, bytes_eq, codes}
 use Rattle.std.specs.List.{list_any}
 use Rattle.bsdl_text.specs.Words.{upper, same_name}
-use Rattle.bsdl_entity.specs.declared.Attribute.{Attribute}
-use Rattle.bsdl_entity.specs.declared.Attribute.TheVariants.{TapScanIn, TapScanOut, TapScanMode, TapScanClock}
-use Rattle.bsdl_entity.specs.declared.Attribute.TheVariants.{TapScanReset, InstructionLength, BoundaryLength}
-use Rattle.bsdl_entity.specs.declared.Attribute.TheVariants.{InstructionOpcode, InstructionCapture, BoundaryRegister}
-use Rattle.bsdl_entity.specs.declared.Attribute.TheVariants.{IdcodeRegister, UsercodeRegister, InstructionPrivate}
-use Rattle.bsdl_entity.specs.declared.Attribute.TheVariants.{RegisterAccess}
+use Rattle.bsdl_values.specs.declared.Attribute.{Attribute}
+use Rattle.bsdl_values.specs.declared.Attribute.TheVariants.{TapScanIn, TapScanOut, TapScanMode, TapScanClock}
+use Rattle.bsdl_values.specs.declared.Attribute.TheVariants.{TapScanReset, InstructionLength, BoundaryLength}
+use Rattle.bsdl_values.specs.declared.Attribute.TheVariants.{InstructionOpcode, InstructionCapture, BoundaryRegister}
+use Rattle.bsdl_values.specs.declared.Attribute.TheVariants.{IdcodeRegister, UsercodeRegister, InstructionPrivate}
+use Rattle.bsdl_values.specs.declared.Attribute.TheVariants.{RegisterAccess}
 use Rattle.bsdl_device.specs.Device.{Name, Pattern}
 use Rattle.bsdl_instructions.specs.Values.{OpcodeRow, Instr, AccessRow}
 use Rattle.bsdl_cells.specs.Rows.{CellRow}
-use Rattle.bsdl_entity.specs.Entity.{File, Port, Given, Value, port, count, pattern_value, codes_value, names_value}
-use Rattle.bsdl_entity.specs.Entity.{opcodes_value, accesses_value, cells_value}
+use Rattle.bsdl_ports.specs.Ports.{Port}
+use Rattle.bsdl_values.specs.Values.{Value, port, count, pattern_value, codes_value, names_value}
+use Rattle.bsdl_values.specs.Values.{opcodes_value, accesses_value, cells_value}
+use Rattle.bsdl_entity.specs.Entity.{File, Given}
 use Rattle.bsdl_entity.specs.Attributes.{attribute_word}
 
 -- why a description is refused; a place is counted in bytes from 0

@@ -5,10 +5,10 @@ use Rattle.bsdl_text.specs.Words.{upper}
 use Rattle.bsdl_instructions.specs.View as rows_view
 use Rattle.bsdl_cells.specs.View.{cell_row}
 use Rattle.bsdl_device.specs.Device.{Name}
-use Rattle.bsdl_entity.specs.declared.Attribute.{Attribute}
+use Rattle.bsdl_values.specs.declared.Attribute.{Attribute}
 use Rattle.bsdl_entity.specs.declared.entity.Outline.{Outline}
 use Rattle.bsdl_entity.specs.GivenView.{given}
-use Rattle.bsdl_entity.specs.View.{ports}
+use Rattle.bsdl_ports.specs.View.{ports}
 use Rattle.bsdl_described.specs.declared.description.Taps.{Taps}
 use Rattle.bsdl_described.specs.declared.description.Description as declared_description
 use Rattle.bsdl_described.specs.Describing.{Refusal, missing, Description, and_reset}

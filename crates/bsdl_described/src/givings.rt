@@ -9,8 +9,8 @@ ghost use Rattle.bsdl_cells.specs.Rows as cell_rows;
 ghost use Rattle.bsdl_cells.specs.View as cells_view;
 ghost use Rattle.bsdl_entity.specs.Attributes.{attribute_word};
 ghost use Rattle.bsdl_entity.specs.GivenView.{given as given_view};
-ghost use Rattle.bsdl_entity.specs.View.{value as value_view};
-ghost use Rattle.bsdl_entity.specs.Entity as entity;
+ghost use Rattle.bsdl_values.specs.View.{value as value_view};
+ghost use Rattle.bsdl_values.specs.Values as values;
 ghost use Rattle.bsdl_described.specs.Describing as spec;
 
 use bsdl_cells::CellRow;
@@ -54,7 +54,7 @@ fn is_attribute(one: Attribute, other: Attribute) -> bool
 
 /// What the first giving of an attribute says.
 pub fn value_given<'o, 't>(given: &'o [Given<'t>], attribute: Attribute) -> Option<&'o Value<'t>>
-    ensures { option_map {U = entity.Value} (λ v. value_view v.now) result
+    ensures { option_map {U = values.Value} (λ v. value_view v.now) result
         ≡ spec.value_given attribute (map given_view given.now) }
 {
     for giving in given {

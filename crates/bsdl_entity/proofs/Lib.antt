@@ -1,4 +1,1 @@
-pub mod ChainLaws
-pub mod PassingLaws
-pub mod ScalarLaws
 pub mod ItemLaws

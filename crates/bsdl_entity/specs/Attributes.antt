@@ -1,12 +1,12 @@
 -- The attributes of BSDL that say something of a device (IEEE Std 1149.1-2001, Annex B.8).
 use Rattle.std.specs.Prelude.{ℕ, List, [], ◌∷◌, codes, map, Option}
 use Rattle.bsdl_text.specs.Words.{stands_for}
-use Rattle.bsdl_entity.specs.declared.Attribute.{Attribute}
-use Rattle.bsdl_entity.specs.declared.Attribute.TheVariants.{TapScanIn, TapScanOut, TapScanMode, TapScanClock}
-use Rattle.bsdl_entity.specs.declared.Attribute.TheVariants.{TapScanReset, InstructionLength, BoundaryLength}
-use Rattle.bsdl_entity.specs.declared.Attribute.TheVariants.{InstructionOpcode, InstructionCapture, BoundaryRegister}
-use Rattle.bsdl_entity.specs.declared.Attribute.TheVariants.{IdcodeRegister, UsercodeRegister, InstructionPrivate}
-use Rattle.bsdl_entity.specs.declared.Attribute.TheVariants.{RegisterAccess}
+use Rattle.bsdl_values.specs.declared.Attribute.{Attribute}
+use Rattle.bsdl_values.specs.declared.Attribute.TheVariants.{TapScanIn, TapScanOut, TapScanMode, TapScanClock}
+use Rattle.bsdl_values.specs.declared.Attribute.TheVariants.{TapScanReset, InstructionLength, BoundaryLength}
+use Rattle.bsdl_values.specs.declared.Attribute.TheVariants.{InstructionOpcode, InstructionCapture, BoundaryRegister}
+use Rattle.bsdl_values.specs.declared.Attribute.TheVariants.{IdcodeRegister, UsercodeRegister, InstructionPrivate}
+use Rattle.bsdl_values.specs.declared.Attribute.TheVariants.{RegisterAccess}
 
 abbrev pub attribute_word : Attribute → List ℕ
 attribute_word TapScanIn = codes "TAP_SCAN_IN"

@@ -6,15 +6,16 @@ ghost use Rattle.bsdl_entity.specs.Entity as spec;
 ghost use Rattle.bsdl_text.specs.Reading.{fits};
 ghost use Rattle.bsdl_entity.specs.GivenView.{given};
 ghost use Rattle.bsdl_entity.specs.OutlineView.{outline};
-ghost use Rattle.bsdl_entity.specs.View.{ports};
+ghost use Rattle.bsdl_ports.specs.Ports.{is_scalar};
+ghost use Rattle.bsdl_ports.specs.View.{ports};
 
 use crate::items::{Given, behind_word, items};
 use crate::keywords::{END, ENTITY, IS};
-use crate::passing::brackets;
-use crate::ports::{Group, read_ports};
-use crate::scalars::scalars_of;
 use bsdl_lex::{Kind, Lexer};
+use bsdl_ports::ports::{Group, read_ports};
+use bsdl_ports::scalars::scalars_of;
 use bsdl_text::reading::{Stop, keyword, mark, word};
+use bsdl_values::passing::brackets;
 use std::alloc::Global;
 
 /// The ports of an entity, and what its attributes say.
@@ -96,7 +97,7 @@ fn attributes<'a>(
     lexer: Lexer<'a>,
 ) -> Result<(Vec<Given<'a>>, Lexer<'a>), Stop>
     ensures gives { Gives (λ v. map given v.items) result
-        (spec.items (spec.is_scalar (ports groups.now)) (length (left lexer.entry)) (left lexer.entry)) }
+        (spec.items (is_scalar (ports groups.now)) (length (left lexer.entry)) (left lexer.entry)) }
 {
     match scalars_of(alloc, groups) {
         Ok(scalars) => items(alloc, &scalars, lexer),

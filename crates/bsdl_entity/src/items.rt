@@ -6,19 +6,19 @@ ghost use Rattle.bsdl_text.specs.View.{Gives, Passes};
 ghost use Rattle.bsdl_text.specs.WordView.{word_lexeme};
 ghost use Rattle.bsdl_entity.specs.Attributes.{attribute_of};
 ghost use Rattle.bsdl_text.specs.Words.{upper};
-ghost use Rattle.bsdl_entity.specs.View.{value as value_view};
+ghost use Rattle.bsdl_values.specs.View.{value as value_view};
 ghost use Rattle.bsdl_entity.specs.Entity as spec;
 ghost use Rattle.bsdl_entity.specs.GivenView as given_view;
-ghost use Rattle.bsdl_entity.specs.Scalars.{tells};
+ghost use Rattle.bsdl_ports.specs.Scalars.{tells};
 
-use crate::Attribute;
 use crate::keywords::{ATTRIBUTE, ATTRIBUTES, IS, OF};
-use crate::passing::past_semi;
-use crate::scalars::is_scalar;
-use crate::values::{Value, value_of};
 use bsdl_lex::Lexer;
+use bsdl_ports::scalars::is_scalar;
 use bsdl_text::names::Word;
 use bsdl_text::reading::{Stop, keyword, mark, same_name, stands_for, word};
+use bsdl_values::Attribute;
+use bsdl_values::passing::past_semi;
+use bsdl_values::values::{Value, value_of};
 use std::alloc::Global;
 use std::collections::BTreeMap;
 

@@ -5,26 +5,6 @@
 pub mod entity;
 pub mod items;
 mod keywords;
-mod passing;
-pub mod ports;
-mod scalars;
-pub mod values;
 
-/// An attribute that says something of a device.
-#[derive(Debug, Clone, Copy, PartialEq, Eq)]
-pub enum Attribute {
-    TapScanIn,
-    TapScanOut,
-    TapScanMode,
-    TapScanClock,
-    TapScanReset,
-    InstructionLength,
-    BoundaryLength,
-    InstructionOpcode,
-    InstructionCapture,
-    BoundaryRegister,
-    IdcodeRegister,
-    UsercodeRegister,
-    InstructionPrivate,
-    RegisterAccess,
-}
+pub use bsdl_ports::ports;
+pub use bsdl_values::{Attribute, values};

@@ -10,7 +10,7 @@ use Rattle.std.proofs.lemmas.Map.Text.{is_eq-slice_cmp}
 use Rattle.std.proofs.lemmas.Slice.Eq.{bytes_eq-Decides}
 use Rattle.bsdl_text.proofs.SpellingLaws.{one_spelling}
 use Rattle.bsdl_cells.specs.Rows.{CellRow, PortName}
-use Rattle.bsdl_entity.specs.Entity.{Port}
+use Rattle.bsdl_ports.specs.Ports.{Port}
 use Rattle.bsdl_fit.specs.declared.seat.Seat.{Seat}
 use Rattle.bsdl_fit.specs.Drivers.{drives_below, is_below, same_place}
 use Rattle.bsdl_device.specs.Driving.{drives}

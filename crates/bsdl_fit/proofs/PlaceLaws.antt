@@ -8,10 +8,10 @@ use Rattle.bsdl_device.specs.declared.PortMode.{PortMode}
 use Rattle.bsdl_text.specs.Words.{upper}
 use Rattle.bsdl_text.specs.WordView.{word_lexeme}
 use Rattle.bsdl_text.specs.declared.names.Word.{Word}
-use Rattle.bsdl_entity.specs.declared.ports.Range as declared_range
-use Rattle.bsdl_entity.specs.declared.ports.Group.{Group}
-use Rattle.bsdl_entity.specs.Entity.{Port, Range}
-use Rattle.bsdl_entity.specs.View as view
+use Rattle.bsdl_ports.specs.declared.ports.Range as declared_range
+use Rattle.bsdl_ports.specs.declared.ports.Group.{Group}
+use Rattle.bsdl_ports.specs.Ports.{Port, Range}
+use Rattle.bsdl_ports.specs.View as view
 use Rattle.bsdl_limits.proofs.WidthLaws.{ports_named}
 use Rattle.bsdl_fit.specs.Places.{at_name, find_port}
 

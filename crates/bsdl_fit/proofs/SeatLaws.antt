@@ -5,7 +5,7 @@ use Rattle.std.specs.List.{list_any}
 use Rattle.std.proofs.lemmas.Bool.Decides.{nat_tests}
 use Rattle.bsdl_text.specs.Words.{upper}
 use Rattle.bsdl_cells.specs.Rows.{CellRow, PortName}
-use Rattle.bsdl_entity.specs.Entity.{Port, Range}
+use Rattle.bsdl_ports.specs.Ports.{Port, Range}
 use Rattle.bsdl_limits.specs.PortBits.{bit_at, bit_number, width}
 use Rattle.bsdl_described.specs.Describing.{Description, is_among}
 use Rattle.bsdl_fit.specs.declared.seat.Seat.{Seat}

@@ -5,7 +5,7 @@ use Rattle.std.specs.Ordering.{nat_cmp, ordering_then}
 use Rattle.std.specs.Cmp.Lexicographic.{slice_cmp}
 use Rattle.bsdl_device.specs.Driving.{drives}
 use Rattle.bsdl_cells.specs.Rows.{CellRow}
-use Rattle.bsdl_entity.specs.Entity.{Port}
+use Rattle.bsdl_ports.specs.Ports.{Port}
 use Rattle.bsdl_fit.specs.declared.drivers.Drivers as declared_drivers
 use Rattle.bsdl_fit.specs.declared.seat.Seat.{Seat}
 use Rattle.bsdl_fit.specs.Places.{same_seat, seat_of}

@@ -2,8 +2,8 @@
 use Rattle.std.specs.Prelude.{◌≡◌, ℕ, List, Option, option_map}
 use Rattle.std.specs.BTreeMap.{get_by_text}
 use Rattle.bsdl_text.specs.View.{value}
-use Rattle.bsdl_entity.specs.Entity.{Range, Port}
-use Rattle.bsdl_entity.specs.View.{range}
+use Rattle.bsdl_ports.specs.Ports.{Range, Port}
+use Rattle.bsdl_ports.specs.View.{range}
 use Rattle.bsdl_fit.specs.declared.places.Place as declared_place
 use Rattle.bsdl_fit.specs.declared.places.Places as declared_places
 use Rattle.bsdl_fit.specs.declared.seat.Seat as declared_seat

@@ -3,7 +3,7 @@ ghost use Rattle.std.specs.Prelude.{◌≡◌, ◌<◌, ◌≤◌, ◌||◌, ◌
 ghost use Rattle.std.specs.List.{list_any};
 ghost use Rattle.bsdl_cells.specs.Rows as rows;
 ghost use Rattle.bsdl_cells.specs.View.{cell_row};
-ghost use Rattle.bsdl_entity.specs.Entity as entity;
+ghost use Rattle.bsdl_ports.specs.Ports as port_list;
 ghost use Rattle.bsdl_text.specs.View.{value};
 ghost use Rattle.bsdl_fit.specs.declared.seat.Seat as declared_seat;
 ghost use Rattle.bsdl_fit.specs.Drivers.{drives_below, driver_at, is_below, same_place};
@@ -28,7 +28,7 @@ pub fn drivers_of<'a>(
     places: &Places<'_>,
     rows: &[CellRow<'a>],
 ) -> Result<Drivers<'a>, AllocError>
-    ensures { IfOk result (λ d. (ps : List entity.Port) → AreAt places.now ps → (s : declared_seat.Seat) (n : ℕ)
+    ensures { IfOk result (λ d. (ps : List port_list.Port) → AreAt places.now ps → (s : declared_seat.Seat) (n : ℕ)
         → n ≤ 65536 → is_below (driver_at d s) n ≡ list_any (drives_below ps s n) (map cell_row rows.now)) }
 {
     let mut drivers = Drivers {
@@ -46,8 +46,8 @@ fn add_row<'a>(
     places: &Places<'_>,
     row: &CellRow<'a>,
 ) -> Result<(), AllocError>
-    ensures { OnOk result ((ps : List entity.Port) → AreAt places.now ps → (s : declared_seat.Seat) (n : ℕ) → n ≤ 65536
-        → is_below (driver_at drivers.new s) n ≡ is_below (driver_at drivers.old s) n
+    ensures { OnOk result ((ps : List port_list.Port) → AreAt places.now ps → (s : declared_seat.Seat) (n : ℕ)
+        → n ≤ 65536 → is_below (driver_at drivers.new s) n ≡ is_below (driver_at drivers.old s) n
         || drives_below ps s n (cell_row row.now)) }
 {
     if !row.function.drives() {

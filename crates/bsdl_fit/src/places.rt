@@ -6,8 +6,8 @@ ghost use Rattle.bsdl_text.specs.Words.{upper};
 ghost use Rattle.bsdl_text.specs.View.{value};
 ghost use Rattle.bsdl_text.specs.Numbers.{significant};
 ghost use Rattle.bsdl_cells.specs.View.{port_name};
-ghost use Rattle.bsdl_entity.specs.View as entity_view;
-ghost use Rattle.bsdl_entity.specs.Entity as entity;
+ghost use Rattle.bsdl_ports.specs.View as ports_view;
+ghost use Rattle.bsdl_ports.specs.Ports as port_list;
 ghost use Rattle.bsdl_limits.specs.PortBits.{bit_at};
 ghost use Rattle.bsdl_fit.specs.Places as spec;
 ghost use Rattle.bsdl_fit.specs.View.{AreAt, place_named, place as place_view, seat};
@@ -37,7 +37,7 @@ pub struct Places<'a> {
 
 /// The ports of an entity by their names.
 pub fn places_of<'a>(alloc: Global, groups: &[Group<'a>]) -> Result<Places<'a>, AllocError>
-    ensures { IfOk result (λ p. AreAt p (entity_view.ports groups.now)) }
+    ensures { IfOk result (λ p. AreAt p (ports_view.ports groups.now)) }
 {
     let mut places = Places {
         by_name: BTreeMap::new(alloc),
@@ -54,9 +54,9 @@ fn add_group<'a>(
     places: &mut Places<'a>,
     group: &Group<'a>,
 ) -> Result<(), AllocError>
-    ensures next { OnOk result (places.new.next ≡ places.old.next + length (entity_view.group group.now)) }
+    ensures next { OnOk result (places.new.next ≡ places.old.next + length (ports_view.group group.now)) }
     ensures found { OnOk result ((q : List ℕ) → place_named places.new q
-        ≡ option_or (place_named places.old q) (spec.find_port places.old.next (entity_view.group group.now) q)) }
+        ≡ option_or (place_named places.old q) (spec.find_port places.old.next (ports_view.group group.now) q)) }
 {
     let range = trimmed(group.range);
     for name in &group.names {
@@ -67,7 +67,7 @@ fn add_group<'a>(
 
 /// A range whose numbers have no zeros before them.
 fn trimmed<'a>(range: Option<Range<'a>>) -> Option<Range<'a>>
-    ensures { option_map entity_view.range result ≡ option_map entity_view.range range.entry }
+    ensures { option_map ports_view.range result ≡ option_map ports_view.range range.entry }
 {
     match range {
         Some(range) => Some(Range {
@@ -87,7 +87,7 @@ fn add_name<'a>(
     ensures next { OnOk result (places.new.next ≡ places.old.next + 1) }
     ensures found { OnOk result ((q : List ℕ) → place_named places.new q
         ≡ option_or (place_named places.old q) (spec.at_name (upper name.entry.text.now)
-        (places.old.next, option_map entity_view.range range.entry) q)) }
+        (places.old.next, option_map ports_view.range range.entry) q)) }
 {
     let key = name.upper_name(alloc)?;
     let number = places.next;
@@ -104,7 +104,7 @@ pub fn seat_of<'a>(
     places: &Places<'_>,
     port: PortName<'a>,
 ) -> Result<Option<Seat<'a>>, AllocError>
-    ensures { IfOk result (λ o. (ps : List entity.Port) → AreAt places.now ps → option_map seat o
+    ensures { IfOk result (λ o. (ps : List port_list.Port) → AreAt places.now ps → option_map seat o
         ≡ spec.seat_of ps (port_name port.entry)) }
 {
     let key = port.name.upper_name(alloc)?;
@@ -137,7 +137,7 @@ fn seat_at<'a>(place: Place<'_>, index: Option<Digits<'a>>) -> Option<Seat<'a>>
 fn seat_within<'a>(number: usize, range: Range<'_>, index: Digits<'a>) -> Option<Seat<'a>>
     requires { significant index.digits.now ≡ index.digits.now }
     ensures { option_map seat result ≡ spec.seat_at (Some (value index.entry))
-        (number, Some (entity_view.range range.entry)) }
+        (number, Some (ports_view.range range.entry)) }
 {
     if range.low.compare(index) == Ordering::Greater {
         return None;

@@ -8,10 +8,10 @@ use Rattle.std.proofs.lemmas.List.Sums.{sum_by-append, sum_by-cons}
 use Rattle.bsdl_device.specs.declared.PortMode.{PortMode}
 use Rattle.bsdl_text.specs.WordView.{word_lexeme}
 use Rattle.bsdl_text.specs.declared.names.Word.{Word}
-use Rattle.bsdl_entity.specs.declared.ports.Range as declared_range
-use Rattle.bsdl_entity.specs.declared.ports.Group.{Group}
-use Rattle.bsdl_entity.specs.Entity.{Port, Range}
-use Rattle.bsdl_entity.specs.View as view
+use Rattle.bsdl_ports.specs.declared.ports.Range as declared_range
+use Rattle.bsdl_ports.specs.declared.ports.Group.{Group}
+use Rattle.bsdl_ports.specs.Ports.{Port, Range}
+use Rattle.bsdl_ports.specs.View as view
 use Rattle.bsdl_limits.specs.Limits.{subscript_limit}
 use Rattle.bsdl_limits.specs.PortBits.{highest, width}
 use Rattle.bsdl_limits.specs.Widths.{capped_width}

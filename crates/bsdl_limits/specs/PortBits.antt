@@ -3,7 +3,7 @@ use Rattle.std.specs.Prelude.{ℕ, ◌+◌, ◌-◌, nat_le, ◌&&◌, if◌then
 use Rattle.std.specs.Prelude.{bytes_eq}
 use Rattle.bsdl_text.specs.Words.{upper}
 use Rattle.bsdl_cells.specs.Rows.{PortName}
-use Rattle.bsdl_entity.specs.Entity.{Range, Port}
+use Rattle.bsdl_ports.specs.Ports.{Range, Port}
 
 -- how many bits a port has
 abbrev pub width : Option Range → ℕ

@@ -1,7 +1,7 @@
 -- Widths of ports by indices up to 65,536.
 use Rattle.std.specs.Prelude.{ℕ, ◌+◌, ◌-◌, min, nat_le, Bool, ◌&&◌, List, Option, Some, None}
 use Rattle.std.specs.List.{list_all, sum_by}
-use Rattle.bsdl_entity.specs.Entity.{Range, Port}
+use Rattle.bsdl_ports.specs.Ports.{Range, Port}
 use Rattle.bsdl_limits.specs.Limits.{subscript_limit}
 use Rattle.bsdl_limits.specs.PortBits.{highest, width}
 

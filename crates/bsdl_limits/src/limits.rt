@@ -4,7 +4,7 @@ ghost use Rattle.std.specs.List.{list_all, sum_by};
 ghost use Rattle.bsdl_text.specs.View.{value};
 ghost use Rattle.bsdl_cells.specs.View.{cell_row};
 ghost use Rattle.bsdl_entity.specs.declared.entity.Outline as declared_outline;
-ghost use Rattle.bsdl_entity.specs.View as entity_view;
+ghost use Rattle.bsdl_ports.specs.View as ports_view;
 ghost use Rattle.bsdl_described.specs.View.{description};
 ghost use Rattle.bsdl_limits.specs.Limits as spec;
 ghost use Rattle.bsdl_limits.specs.PortBits.{highest};
@@ -65,20 +65,20 @@ fn numbers_within(rows: &[CellRow<'_>]) -> bool
 }
 
 fn ports_within(groups: &[Group<'_>]) -> bool
-    ensures { result ≡ ports_fit (entity_view.ports groups.now) }
+    ensures { result ≡ ports_fit (ports_view.ports groups.now) }
 {
     few_bits(groups)
 }
 
 fn few_bits(groups: &[Group<'_>]) -> bool
-    ensures { result ≡ (list_all (λ p. nat_le (highest p.range) spec.subscript_limit) (entity_view.ports groups.now)
-        && nat_le (sum_by (λ p. capped_width p.range) (entity_view.ports groups.now)) 8192) }
+    ensures { result ≡ (list_all (λ p. nat_le (highest p.range) spec.subscript_limit) (ports_view.ports groups.now)
+        && nat_le (sum_by (λ p. capped_width p.range) (ports_view.ports groups.now)) 8192) }
 {
     highs_within(groups) && bit_count(groups) <= 8192
 }
 
 fn highs_within(groups: &[Group<'_>]) -> bool
-    ensures { result ≡ list_all (λ p. nat_le (highest p.range) spec.subscript_limit) (entity_view.ports groups.now) }
+    ensures { result ≡ list_all (λ p. nat_le (highest p.range) spec.subscript_limit) (ports_view.ports groups.now) }
 {
     for group in groups {
         if !high_within(group) {
@@ -89,7 +89,7 @@ fn highs_within(groups: &[Group<'_>]) -> bool
 }
 
 fn high_within(group: &Group<'_>) -> bool
-    ensures { result ≡ list_all (λ p. nat_le (highest p.range) spec.subscript_limit) (entity_view.group group.now) }
+    ensures { result ≡ list_all (λ p. nat_le (highest p.range) spec.subscript_limit) (ports_view.group group.now) }
 {
     let within = is_range_within(group.range);
     for _name in &group.names {
@@ -101,7 +101,7 @@ fn high_within(group: &Group<'_>) -> bool
 }
 
 fn is_range_within(range: Option<Range<'_>>) -> bool
-    ensures { result ≡ nat_le (highest (option_map entity_view.range range.entry)) spec.subscript_limit }
+    ensures { result ≡ nat_le (highest (option_map ports_view.range range.entry)) spec.subscript_limit }
 {
     match range {
         Some(range) => range.high.up_to(65_536) <= 65_535,
@@ -111,7 +111,7 @@ fn is_range_within(range: Option<Range<'_>>) -> bool
 
 /// How many port bits there are, at most 8,193, where no index is above 65,535.
 fn bit_count(groups: &[Group<'_>]) -> usize
-    ensures { result ≡ min (sum_by (λ p. capped_width p.range) (entity_view.ports groups.now)) 8193 }
+    ensures { result ≡ min (sum_by (λ p. capped_width p.range) (ports_view.ports groups.now)) 8193 }
 {
     let mut count = 0;
     for group in groups {
@@ -122,7 +122,7 @@ fn bit_count(groups: &[Group<'_>]) -> usize
 
 fn with_group(before: usize, group: &Group<'_>) -> usize
     requires { before ≤ 8193 }
-    ensures { result ≡ min (before + sum_by (λ p. capped_width p.range) (entity_view.group group.now)) 8193 }
+    ensures { result ≡ min (before + sum_by (λ p. capped_width p.range) (ports_view.group group.now)) 8193 }
 {
     let width = width_of(group.range);
     let mut count = before;
@@ -135,7 +135,7 @@ fn with_group(before: usize, group: &Group<'_>) -> usize
 /// How many bits a port of this range has, where no index is above 65,535.
 fn width_of(range: Option<Range<'_>>) -> usize
     ensures within { result < 65_538 }
-    ensures width { result ≡ capped_width (option_map entity_view.range range.entry) }
+    ensures width { result ≡ capped_width (option_map ports_view.range range.entry) }
 {
     match range {
         Some(range) => {

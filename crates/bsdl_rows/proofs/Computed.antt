@@ -5,7 +5,8 @@ use Rattle.bsdl_lex.specs.Cutting.{cut}
 use Rattle.bsdl_text.specs.Reading.{chain, further}
 use Rattle.bsdl_instructions.specs.Values.{digits_on}
 use Rattle.bsdl_entity.specs.Attributes.{attribute_of}
-use Rattle.bsdl_entity.specs.Entity.{items, past_closing, past_semi}
+use Rattle.bsdl_values.specs.Passing.{past_closing, past_semi}
+use Rattle.bsdl_entity.specs.Entity.{items}
 use Rattle.bsdl_rows.specs.Texts as text
 use Rattle.bsdl_rows.specs.Expected as expected
 

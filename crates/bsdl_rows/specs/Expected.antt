@@ -1,6 +1,6 @@
 -- What the texts of the rows say, by an independent reader.
 use Rattle.std.specs.Prelude.{true, false, [], ◌∷◌, codes, Some, None, Result, Ok, Err}
-use Rattle.bsdl_entity.specs.declared.Attribute.TheVariants.{TapScanClock}
+use Rattle.bsdl_values.specs.declared.Attribute.TheVariants.{TapScanClock}
 use Rattle.bsdl_device.specs.declared.PortMode.TheVariants.{In, Out}
 use Rattle.bsdl_device.specs.declared.Function.TheVariants.{Input, Output3}
 use Rattle.bsdl_device.specs.declared.Function.TheVariants.{Control, Internal}

@@ -2,7 +2,7 @@
 ghost use Rattle.std.specs.Prelude.{◌≡◌, ◌++◌, map, option_map, IfOk, OnOk};
 ghost use Rattle.std.specs.List.{flat_map};
 ghost use Rattle.bsdl_entity.specs.OutlineView.{outline as outline_view};
-ghost use Rattle.bsdl_entity.specs.View as entity_view;
+ghost use Rattle.bsdl_ports.specs.View as ports_view;
 ghost use Rattle.bsdl_entity.specs.GivenView.{given as given_view};
 ghost use Rattle.bsdl_instructions.specs.View as rows_view;
 ghost use Rattle.bsdl_text.specs.WordView.{word_lexeme};
@@ -46,7 +46,7 @@ fn inside<'a>(start: usize, name: Word<'a>) -> Naming<'a>
 }
 
 fn port_names<'a>(alloc: Global, groups: &[Group<'a>]) -> Result<Vec<Naming<'a>>, AllocError>
-    ensures { IfOk result (λ v. map naming v.items ≡ map (λ p. spec.outside p.name) (entity_view.ports groups.now)) }
+    ensures { IfOk result (λ v. map naming v.items ≡ map (λ p. spec.outside p.name) (ports_view.ports groups.now)) }
 {
     let mut names = Vec::new(alloc);
     for group in groups {
@@ -57,7 +57,7 @@ fn port_names<'a>(alloc: Global, groups: &[Group<'a>]) -> Result<Vec<Naming<'a>>
 
 fn add_group<'a>(names: &mut Vec<Naming<'a>>, group: &Group<'a>) -> Result<(), AllocError>
     ensures { OnOk result (map naming names.new.items ≡ map naming names.old.items
-        ++ map (λ p. spec.outside p.name) (entity_view.group group.now)) }
+        ++ map (λ p. spec.outside p.name) (ports_view.group group.now)) }
 {
     for name in &group.names {
         names.push(outside(*name))?;
@@ -121,7 +121,7 @@ fn add_instrs<'a>(
 
 fn port_again(alloc: Global, groups: &[Group<'_>]) -> Result<Option<Again>, AllocError>
     ensures { IfOk result (λ o. option_map again o ≡ spec.earliest
-        (spec.repeated (map (λ p. spec.outside p.name) (entity_view.ports groups.now)))) }
+        (spec.repeated (map (λ p. spec.outside p.name) (ports_view.ports groups.now)))) }
 {
     let names = port_names(alloc, groups)?;
     first_again(alloc, &names)

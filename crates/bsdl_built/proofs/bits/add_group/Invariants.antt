@@ -1,6 +1,6 @@
 use Rattle.std.proofs.Common.{◌≡◌, ◌++◌, List, drop}
-use Rattle.bsdl_entity.specs.Entity.{Port}
-use Rattle.bsdl_entity.specs.View.{group}
+use Rattle.bsdl_ports.specs.Ports.{Port}
+use Rattle.bsdl_ports.specs.View.{group}
 use Rattle.bsdl_limits.proofs.WidthLaws.{ports_named}
 use Rattle.bsdl_built.specs.Bits.{firsts}
 use Rattle.bsdl_built.proofs.bits.add_group.Given as goal

@@ -2,7 +2,7 @@ use Rattle.std.proofs.Common.{◌+◌, ℕ, List, ap, sym, ◌∙◌}
 use Rattle.std.specs.Prelude.{Option, option_map, option_and_then, unwrap_or, slice_get}
 use Rattle.bsdl_cells.specs.View.{port_name}
 use Rattle.bsdl_limits.specs.PortBits.{bit_at}
-use Rattle.bsdl_entity.specs.Entity.{Range}
+use Rattle.bsdl_ports.specs.Ports.{Range}
 use Rattle.bsdl_fit.specs.View.{place_named}
 use Rattle.bsdl_built.specs.Bits.{firsts}
 use Rattle.bsdl_built.proofs.NumberLaws.{bit_by}

@@ -3,7 +3,7 @@ use Rattle.std.specs.Prelude.{filter}
 use Rattle.std.specs.BTreeMap.{get}
 use Rattle.std.specs.Ordering.{nat_cmp}
 use Rattle.bsdl_cells.specs.View.{cell_row}
-use Rattle.bsdl_entity.specs.Entity.{Port}
+use Rattle.bsdl_ports.specs.Ports.{Port}
 use Rattle.bsdl_fit.specs.View.{AreAt}
 use Rattle.bsdl_built.specs.Bits.{firsts, last_of}
 use Rattle.bsdl_built.specs.Built.{cell}

@@ -1,6 +1,6 @@
 use Rattle.std.proofs.Common.{◌≡◌, ◌++◌, drop}
 use Rattle.std.specs.List.{flat_map}
-use Rattle.bsdl_entity.specs.View as view
+use Rattle.bsdl_ports.specs.View as view
 use Rattle.bsdl_described.specs.View.{taps}
 use Rattle.bsdl_built.specs.Built.{port_bits}
 use Rattle.bsdl_built.proofs.ports.ports_of.Given as goal

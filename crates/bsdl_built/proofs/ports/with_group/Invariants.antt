@@ -1,6 +1,6 @@
 use Rattle.std.proofs.Common.{◌≡◌, ◌++◌, drop}
 use Rattle.std.specs.List.{flat_map}
-use Rattle.bsdl_entity.specs.View.{group}
+use Rattle.bsdl_ports.specs.View.{group}
 use Rattle.bsdl_described.specs.View.{taps}
 use Rattle.bsdl_limits.proofs.WidthLaws.{ports_named}
 use Rattle.bsdl_built.specs.Built.{port_bits}

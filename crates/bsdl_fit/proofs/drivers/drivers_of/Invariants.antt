@@ -1,7 +1,7 @@
 use Rattle.std.proofs.Common.{◌≡◌, ◌≤◌, ℕ, List, map, take}
 use Rattle.std.specs.List.{list_any}
 use Rattle.bsdl_cells.specs.View.{cell_row}
-use Rattle.bsdl_entity.specs.Entity.{Port}
+use Rattle.bsdl_ports.specs.Ports.{Port}
 use Rattle.bsdl_fit.specs.declared.seat.Seat.{Seat}
 use Rattle.bsdl_fit.specs.Drivers.{driver_at, drives_below, is_below}
 use Rattle.bsdl_fit.specs.View.{AreAt}

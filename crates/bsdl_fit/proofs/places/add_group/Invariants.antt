@@ -1,6 +1,6 @@
 use Rattle.std.proofs.Common.{◌≡◌, ◌+◌, ℕ, List, drop}
 use Rattle.std.specs.Option.{option_or}
-use Rattle.bsdl_entity.specs.View.{group}
+use Rattle.bsdl_ports.specs.View.{group}
 use Rattle.bsdl_limits.proofs.WidthLaws.{ports_named}
 use Rattle.bsdl_fit.specs.Places.{find_port}
 use Rattle.bsdl_fit.specs.View.{place_named}

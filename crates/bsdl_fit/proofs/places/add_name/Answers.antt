@@ -3,7 +3,7 @@ use Rattle.std.specs.Prelude.{string_bytes, bytes_eq, is_some, option_map}
 use Rattle.std.specs.BTreeMap.{get_by_text}
 use Rattle.std.proofs.lemmas.Map.Text.{btree_map_updates_text}
 use Rattle.bsdl_text.specs.Words.{upper}
-use Rattle.bsdl_entity.specs.View.{range}
+use Rattle.bsdl_ports.specs.View.{range}
 use Rattle.bsdl_fit.specs.declared.places.Place.{Place}
 use Rattle.bsdl_fit.specs.View.{place_named, place}
 use Rattle.bsdl_fit.proofs.PlaceLaws.{mapped, name_put, some_mapped}

@@ -1,8 +1,8 @@
 use Rattle.std.proofs.Common.{◌+◌, ◌∷◌, drop, ap, sym, ◌∙◌}
 use Rattle.std.specs.Option.{option_or}
 use Rattle.std.proofs.lemmas.List.{at_drop_more}
-use Rattle.bsdl_entity.specs.View as view
-use Rattle.bsdl_entity.specs.declared.ports.Group.{Group}
+use Rattle.bsdl_ports.specs.View as view
+use Rattle.bsdl_ports.specs.declared.ports.Group.{Group}
 use Rattle.bsdl_fit.specs.Places.{find_port}
 use Rattle.bsdl_fit.specs.View.{place_named}
 use Rattle.bsdl_fit.proofs.PlaceLaws.{group_kept}

@@ -1,6 +1,6 @@
 use Rattle.std.proofs.Common.{◌≡◌, ℕ, List, drop}
 use Rattle.std.specs.Option.{option_or}
-use Rattle.bsdl_entity.specs.View.{ports}
+use Rattle.bsdl_ports.specs.View.{ports}
 use Rattle.bsdl_fit.specs.Places.{find_port}
 use Rattle.bsdl_fit.specs.View.{place_named}
 use Rattle.bsdl_fit.proofs.places.places_of.Given as goal

@@ -1,6 +1,6 @@
 use Rattle.std.proofs.Common.{◌+◌, min, sym, ◌∙◌, arith}
 use Rattle.std.proofs.lemmas.List.{at_drop_all}
-use Rattle.bsdl_entity.specs.View.{ports}
+use Rattle.bsdl_ports.specs.View.{ports}
 use Rattle.bsdl_limits.proofs.WidthLaws.{group_counted, is_counted, total}
 use Rattle.bsdl_limits.proofs.limits.bit_count.Goals as goal
 

@@ -1,6 +1,6 @@
 use Rattle.std.proofs.Common.{◌≡◌, ◌≤◌, ◌+◌, min, drop}
 use Rattle.std.specs.List.{sum_by}
-use Rattle.bsdl_entity.specs.View.{ports}
+use Rattle.bsdl_ports.specs.View.{ports}
 use Rattle.bsdl_limits.specs.Widths.{capped_width}
 use Rattle.bsdl_limits.proofs.limits.bit_count.Given as goal
 

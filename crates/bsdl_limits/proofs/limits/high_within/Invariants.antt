@@ -1,7 +1,7 @@
 use Rattle.std.proofs.Common.{◌≡◌, drop}
 use Rattle.std.specs.Prelude.{nat_le}
 use Rattle.std.specs.List.{list_all}
-use Rattle.bsdl_entity.specs.View.{group}
+use Rattle.bsdl_ports.specs.View.{group}
 use Rattle.bsdl_limits.specs.Limits.{subscript_limit}
 use Rattle.bsdl_limits.specs.PortBits.{highest}
 use Rattle.bsdl_limits.proofs.WidthLaws.{ports_named}

@@ -3,7 +3,7 @@ use Rattle.std.specs.Prelude.{nat_le}
 use Rattle.std.specs.List.{list_all}
 use Rattle.std.proofs.lemmas.List.{length-map}
 use Rattle.bsdl_text.specs.View.{value}
-use Rattle.bsdl_entity.specs.View as entity_view
+use Rattle.bsdl_ports.specs.View as ports_view
 use Rattle.bsdl_described.specs.View.{description}
 use Rattle.bsdl_limits.specs.Limits.{ports_within}
 use Rattle.bsdl_limits.proofs.LimitLaws.{first_fails, rest_is, users_by}
@@ -22,13 +22,13 @@ returns-then-not-cells_within c =
 pub returns-then-not-ports_within : goal.returns-then-not-ports_within
 returns-then-not-ports_within c =
     let o = c.args.outline.now in
-    let ports : ports_within (description o c.args.described.now) ≡ false = ap (λ gs. ports_fit (entity_view.ports gs)) (sym c.deref.ensures.value) ∙ sym c.if-not-ports_within.ensures in
+    let ports : ports_within (description o c.args.described.now) ≡ false = ap (λ gs. ports_fit (ports_view.ports gs)) (sym c.deref.ensures.value) ∙ sym c.if-not-ports_within.ensures in
     first_fails _ _ ports ∙ rest_is _ _ (sym (c.if-not-cells_within.ensures o)) ∙ rest_is _ _ (sym (c.if-not-instructions_within.ensures o))
 
 pub returns : goal.returns
 returns c =
     let o = c.args.outline.now in
-    let ports : ports_within (description o c.args.described.now) ≡ true = ap (λ gs. ports_fit (entity_view.ports gs)) (sym c.deref.ensures.value) ∙ sym c.if-not-ports_within.ensures in
+    let ports : ports_within (description o c.args.described.now) ≡ true = ap (λ gs. ports_fit (ports_view.ports gs)) (sym c.deref.ensures.value) ∙ sym c.if-not-ports_within.ensures in
     c.users_within.ensures ∙ ap (λ ns. nat_le (length ns) 64 && list_all (λ n. nat_le n 4096) (map value ns)) c.deref-2.ensures.value
     ∙ ap (λ (n : ℕ). nat_le n 64 && list_all (λ n. nat_le n 4096) (map value c.args.users.now.lengths.items)) (sym (length-map c.args.users.now.lengths.items value))
     ∙ users_by (map value c.args.users.now.lengths.items) (users_of (description o c.args.described.now).accesses) c.requires.lengths ∙ rest_is _ _ ports ∙ rest_is _ _ (sym (c.if-not-cells_within.ensures o)) ∙ rest_is _ _ (sym (c.if-not-instructions_within.ensures o))

@@ -1,5 +1,5 @@
 use Rattle.std.proofs.Common.{◌∙◌}
-use Rattle.bsdl_entity.specs.View.{ports}
+use Rattle.bsdl_ports.specs.View.{ports}
 use Rattle.bsdl_limits.proofs.WidthLaws.{ports_by}
 use Rattle.bsdl_limits.proofs.limits.ports_within.Goals as goal
 

@@ -1,6 +1,6 @@
 use Rattle.std.proofs.Common.{◌<◌, ◌≤◌, ◌+◌, min, length, ap, sym, ◌∙◌, arith}
 use Rattle.std.proofs.lemmas.List.{at_drop_all}
-use Rattle.bsdl_entity.specs.View.{group}
+use Rattle.bsdl_ports.specs.View.{group}
 use Rattle.bsdl_limits.proofs.WidthLaws.{is_counted, name_counted, ports_named, total}
 use Rattle.bsdl_limits.proofs.limits.with_group.Goals as goal
 

@@ -1,6 +1,6 @@
 use Rattle.std.proofs.Common.{◌≡◌, ◌≤◌, ◌+◌, min, drop}
 use Rattle.std.specs.List.{sum_by}
-use Rattle.bsdl_entity.specs.View.{group}
+use Rattle.bsdl_ports.specs.View.{group}
 use Rattle.bsdl_limits.specs.Widths.{capped_width}
 use Rattle.bsdl_limits.proofs.WidthLaws.{ports_named}
 use Rattle.bsdl_limits.proofs.limits.with_group.Given as goal

@@ -1,7 +1,7 @@
 use Rattle.std.proofs.Common.{◌≡◌, ap, sym, ◌∙◌, map}
 use Rattle.std.specs.Prelude.{option_map}
 use Rattle.std.specs.List.{flat_map}
-use Rattle.bsdl_entity.specs.View as entity_view
+use Rattle.bsdl_ports.specs.View as ports_view
 use Rattle.bsdl_entity.specs.GivenView as given_view
 use Rattle.bsdl_instructions.specs.View as rows_view
 use Rattle.bsdl_described.specs.View.{description}
@@ -15,7 +15,7 @@ pub returns : goal.returns
 returns c =
     let d = description c.args.outline.now c.args.described.now in
     let ports : option_map again c.in_ok-ports.ports ≡ earliest (repeated (port_names d)) =
-    c.in_ok-ports.ensures ∙ ap (λ gs. earliest (repeated (map (λ p. outside p.name) (entity_view.ports gs)))) c.deref.ensures.value in
+    c.in_ok-ports.ensures ∙ ap (λ gs. earliest (repeated (map (λ p. outside p.name) (ports_view.ports gs)))) c.deref.ensures.value in
     let attribute : option_map again c.in_ok-attribute.attribute ≡ earliest (repeated (attribute_names d)) =
     c.in_ok-attribute.ensures ∙ ap (λ gs. earliest (repeated (map (λ g. outside g.name) (map given_view.given gs)))) c.deref-2.ensures.value in
     let opcode : option_map again c.in_ok-opcode.opcode ≡ earliest (repeated (opcode_names d)) =

@@ -1,5 +1,5 @@
 use Rattle.std.proofs.Common.{◌≡◌, ◌++◌, map, drop}
-use Rattle.bsdl_entity.specs.View.{ports}
+use Rattle.bsdl_ports.specs.View.{ports}
 use Rattle.bsdl_twice.specs.Twice.{outside}
 use Rattle.bsdl_twice.specs.View.{naming}
 use Rattle.bsdl_twice.proofs.again.port_names.Given as goal

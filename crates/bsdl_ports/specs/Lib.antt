@@ -1,0 +1,4 @@
+pub mod Keywords
+pub mod Ports
+pub mod Scalars
+pub mod View

@@ -1,0 +1,4 @@
+pub mod Keywords
+pub mod Passing
+pub mod Values
+pub mod View

@@ -1,0 +1,214 @@
+//! What attributes say.
+ghost use Rattle.std.specs.Prelude.{◌≡◌, ◌<◌, ◌≤◌, List, length, map, option_map, IfOk};
+ghost use Rattle.bsdl_lex.specs.Left.{left};
+ghost use Rattle.bsdl_text.specs.Reading.{quoted_value};
+ghost use Rattle.bsdl_text.specs.View.{Gives, StopsAtMisfit};
+ghost use Rattle.bsdl_text.specs.Words.{upper};
+ghost use Rattle.bsdl_instructions.specs.Values as rows;
+ghost use Rattle.bsdl_values.specs.Values as spec;
+ghost use Rattle.bsdl_values.specs.View as view;
+
+use crate::Attribute;
+use crate::keywords::TRUTHS;
+use crate::passing::brackets;
+use bsdl_cells::CellRow;
+use bsdl_instructions::names::{AccessRow, OpcodeRow, PrivateName};
+use bsdl_instructions::patterns::WrittenPattern;
+use bsdl_lex::{Lexer, bad_byte};
+use bsdl_text::lists::{Entry, listed};
+use bsdl_text::names::Word;
+use bsdl_text::numbers::Digits;
+use bsdl_text::reading::{Stop, is_over, keyword, number};
+use bsdl_text::strings::joined_text;
+use std::alloc::{AllocError, Global};
+
+/// What the text of an attribute is written in.
+#[derive(Debug, Clone, Copy, PartialEq, Eq)]
+pub enum Language {
+    Opcodes,
+    Capture,
+    Cells,
+    Codes,
+    PrivateNames,
+    Accesses,
+}
+
+/// The text of a string, or of several joined by `&`.
+#[derive(Debug, Drop)]
+pub struct Quoted {
+    pub language: Language,
+    /// The place of the first quote.
+    pub start: usize,
+    pub text: Vec<u8>,
+}
+
+/// What an attribute says. A text is kept as it is written.
+#[derive(Debug, Drop)]
+pub enum Value<'a> {
+    /// The port of the TAP that it names.
+    Port(Word<'a>),
+    /// `false`, as if the attribute were not given.
+    Absent,
+    Count(Digits<'a>),
+    Text(Quoted),
+}
+
+/// What a text within quotes says as rows: `None` where it says nothing.
+pub fn rows_of<'a, E: Entry<'a>>(
+    alloc: Global,
+    text: &'a [u8],
+) -> Result<Option<Vec<E>>, AllocError>
+    ensures { IfOk result (λ o. option_map (λ v. map E.seen v.items) o ≡ quoted_value (rows.rows E.says) text.now) }
+{
+    if bad_byte(text, true).is_some() {
+        return Ok(None);
+    }
+    match listed::<E>(alloc, Lexer::within_quotes(text), b',', None) {
+        Ok((found, rest)) => {
+            if is_over(rest) {
+                Ok(Some(found))
+            } else {
+                Ok(None)
+            }
+        }
+        Err(Stop::Misfit(_)) => Ok(None),
+        Err(Stop::Memory) => Err(AllocError),
+    }
+}
+
+/// What a text within quotes says as one entry: `None` where it says nothing.
+pub fn entry_of<'a, E: Entry<'a>>(alloc: Global, text: &'a [u8]) -> Result<Option<E>, AllocError>
+    ensures { IfOk result (λ o. option_map E.seen o ≡ quoted_value E.says text.now) }
+{
+    if bad_byte(text, true).is_some() {
+        return Ok(None);
+    }
+    match E::read(alloc, Lexer::within_quotes(text)) {
+        Ok((found, rest)) => {
+            if is_over(rest) {
+                Ok(Some(found))
+            } else {
+                Ok(None)
+            }
+        }
+        Err(Stop::Misfit(_)) => Ok(None),
+        Err(Stop::Memory) => Err(AllocError),
+    }
+}
+
+/// The place of the next token, or 0 where there is none.
+fn place_of(lexer: Lexer<'_>) -> usize
+    ensures { result ≡ spec.first_start (left lexer.entry) }
+{
+    match lexer.next() {
+        Some((token, _)) => token.start,
+        None => 0,
+    }
+}
+
+/// Whether a text within quotes says something.
+fn says(alloc: Global, language: Language, text: &[u8]) -> Result<bool, AllocError>
+    ensures { IfOk result (λ b. b ≡ view.says language text.now) }
+{
+    match language {
+        Language::Opcodes => Ok(rows_of::<OpcodeRow>(alloc, text)?.is_some()),
+        Language::Capture => Ok(entry_of::<WrittenPattern>(alloc, text)?.is_some()),
+        Language::Cells => Ok(rows_of::<CellRow>(alloc, text)?.is_some()),
+        Language::Codes => Ok(rows_of::<WrittenPattern>(alloc, text)?.is_some()),
+        Language::PrivateNames => Ok(rows_of::<PrivateName>(alloc, text)?.is_some()),
+        Language::Accesses => Ok(rows_of::<AccessRow>(alloc, text)?.is_some()),
+    }
+}
+
+/// A joined text that says something, and the lexer behind it.
+fn read_quoted<'a>(
+    alloc: Global,
+    language: Language,
+    lexer: Lexer<'a>,
+) -> Result<(Quoted, Lexer<'a>), Stop>
+    ensures gives { Gives view.quoted result (spec.text_in language (left lexer.entry)) }
+    ensures start { IfOk result (λ p. p.0.start ≡ spec.first_start (left lexer.entry)) }
+    ensures shorter { IfOk result (λ p. length (left p.1) < length (left lexer.entry)) }
+{
+    let start = place_of(lexer);
+    let (text, rest) = joined_text(alloc, lexer)?;
+    match says(alloc, language, &text) {
+        Ok(true) => {
+            let found = Quoted {
+                language,
+                start,
+                text,
+            };
+            Ok((found, rest))
+        }
+        Ok(false) => Err(Stop::Misfit(Some(start))),
+        Err(_) => Err(Stop::Memory),
+    }
+}
+
+/// What an attribute of this port, or of another thing of this name, says, and the lexer behind it (Annex B.8.8 to
+/// B.8.14).
+///
+/// Refuses at the first token that does not fit, at the first quote of a text that says nothing, or for want of memory.
+pub fn value_of<'a>(
+    alloc: Global,
+    attribute: Attribute,
+    owner: Word<'a>,
+    lexer: Lexer<'a>,
+) -> Result<(Value<'a>, Lexer<'a>), Stop>
+    ensures gives { Gives view.value result (spec.value_of attribute (upper owner.entry.text.now) (left lexer.entry)) }
+    ensures shorter { IfOk result (λ p. length (left p.1) < length (left lexer.entry)) }
+{
+    match attribute {
+        Attribute::TapScanIn
+        | Attribute::TapScanOut
+        | Attribute::TapScanMode
+        | Attribute::TapScanReset => truth(owner, lexer),
+        Attribute::TapScanClock => {
+            let rest = brackets(lexer)?;
+            Ok((Value::Port(owner), rest))
+        }
+        Attribute::InstructionLength | Attribute::BoundaryLength => count(lexer),
+        Attribute::InstructionOpcode => text(alloc, Language::Opcodes, lexer),
+        Attribute::InstructionCapture => text(alloc, Language::Capture, lexer),
+        Attribute::BoundaryRegister => text(alloc, Language::Cells, lexer),
+        Attribute::IdcodeRegister | Attribute::UsercodeRegister => {
+            text(alloc, Language::Codes, lexer)
+        }
+        Attribute::InstructionPrivate => text(alloc, Language::PrivateNames, lexer),
+        Attribute::RegisterAccess => text(alloc, Language::Accesses, lexer),
+    }
+}
+
+fn truth<'a>(owner: Word<'a>, lexer: Lexer<'a>) -> Result<(Value<'a>, Lexer<'a>), Stop>
+    ensures gives { Gives view.value result (spec.truth (upper owner.entry.text.now) (left lexer.entry)) }
+    ensures shorter { IfOk result (λ p. length (left p.1) < length (left lexer.entry)) }
+    ensures misfit { StopsAtMisfit result }
+{
+    let (is_true, rest) = keyword(lexer, &TRUTHS)?;
+    if is_true {
+        return Ok((Value::Port(owner), rest));
+    }
+    Ok((Value::Absent, rest))
+}
+
+fn count<'a>(lexer: Lexer<'a>) -> Result<(Value<'a>, Lexer<'a>), Stop>
+    ensures gives { Gives view.value result (spec.length_value (left lexer.entry)) }
+    ensures shorter { IfOk result (λ p. length (left p.1) < length (left lexer.entry)) }
+    ensures misfit { StopsAtMisfit result }
+{
+    let (found, rest) = number(lexer)?;
+    Ok((Value::Count(found), rest))
+}
+
+fn text<'a>(
+    alloc: Global,
+    language: Language,
+    lexer: Lexer<'a>,
+) -> Result<(Value<'a>, Lexer<'a>), Stop>
+    ensures gives { Gives view.value result (spec.text_in language (left lexer.entry)) }
+    ensures shorter { IfOk result (λ p. length (left p.1) < length (left lexer.entry)) }
+{
+    let (found, rest) = read_quoted(alloc, language, lexer)?;
+    Ok((Value::Text(found), rest))
+}
