@@ -4,12 +4,12 @@ use Rattle.jt_tap.specs.declared.Column.{Column}
 use Rattle.jt_tap.specs.declared.State.{State}
 use Rattle.jt_tap.specs.declared.State.TheVariants.{Reset}
 use Rattle.bsdl_device.specs.Device.{Device}
-use Rattle.scan_registers.specs.declared.Mode.{Mode}
+use Rattle.device_instructions.specs.declared.Mode.{Mode}
 use Rattle.scan_registers.specs.declared.users.UserRegister.{UserRegister}
 use Rattle.scan_registers.specs.Registers.{Registers, Surroundings, put}
 use Rattle.scan_registers.specs.Edges.{OneChip}
-use Rattle.scan_registers.specs.Fitting.{has_code}
-use Rattle.scan_registers.specs.Instruction.{reset_latch}
+use Rattle.device_instructions.specs.Fitting.{has_code}
+use Rattle.device_instructions.specs.Instruction.{reset_latch}
 
 pub record ChipValue (B : Type 0) : Type 0 where
   pub device : Device

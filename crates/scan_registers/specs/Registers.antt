@@ -4,11 +4,11 @@ use Rattle.std.specs.Prelude.{Bool, false, ℕ, zero, suc, List, [], ◌∷◌, 
 use Rattle.jt_tap.specs.declared.Column.{Column}
 use Rattle.jt_tap.specs.declared.Column.TheVariants.{Dr, Ir}
 use Rattle.bsdl_device.specs.Device.{Device}
-use Rattle.scan_registers.specs.declared.Mode.{Mode}
-use Rattle.scan_registers.specs.declared.Selected.{Selected}
-use Rattle.scan_registers.specs.declared.Selected.TheVariants.{Bypass, Identification, Boundary, User}
+use Rattle.device_instructions.specs.declared.Mode.{Mode}
+use Rattle.device_instructions.specs.declared.Selected.{Selected}
+use Rattle.device_instructions.specs.declared.Selected.TheVariants.{Bypass, Identification, Boundary, User}
 use Rattle.scan_registers.specs.declared.users.UserRegister.{UserRegister}
-use Rattle.scan_registers.specs.Instruction.{meaning, reset_latch}
+use Rattle.device_instructions.specs.Instruction.{meaning, reset_latch}
 
 -- `bypass` is one bit; `identification` is empty on a device without a code
 pub record Registers : Type 0 where

@@ -5,9 +5,9 @@ ghost use Rattle.jt_bits.specs.Packed.{has_bit};
 ghost use Rattle.jt_bits.specs.Runs.{RunSet};
 ghost use Rattle.jt_bits.specs.Shifting.{after_shift};
 ghost use Rattle.jt_bits.specs.Words.{bit_of};
-ghost use Rattle.scan_registers.specs.declared.Mode.{Mode as TheMode};
+ghost use Rattle.device_instructions.specs.declared.Mode.{Mode as TheMode};
 
-use crate::Mode;
+use device_instructions::Mode;
 
 /// A register with a stage that shifts and an update part, both lists of one length.
 pub trait Register: Drop {
