@@ -7,7 +7,7 @@ use Rattle.bsdl_device.specs.Sound.{IsSoundDevice}
 use Rattle.device_instructions.specs.declared.Selected.{Selected}
 use Rattle.device_instructions.specs.declared.Selected.TheVariants.{Bypass, Identification, Boundary, User}
 use Rattle.device_instructions.specs.Instruction.{meaning}
-use Rattle.scan_registers.specs.Registers.{Registers, user_stage, user_latch}
+use Rattle.device_registers.specs.Registers.{Registers, user_stage, user_latch}
 use Rattle.board_meaning.specs.Cells.{Member, powered}
 use Rattle.board_meaning.specs.Chain.{BoardState, ChipState, members}
 

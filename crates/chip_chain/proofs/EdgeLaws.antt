@@ -13,8 +13,8 @@ use Rattle.device_instructions.specs.declared.Selected.TheVariants.{Bypass, Iden
 use Rattle.scan_registers.specs.Chips.{surroundings_of, one_chip, with_registers}
 use Rattle.scan_registers.specs.Edges.{OneChip, after_fall, is_held, rise, after_rise}
 use Rattle.device_instructions.specs.Instruction.{meaning}
-use Rattle.scan_registers.specs.Registers.{Registers, Surroundings, capture_of, put, with_stage}
-use Rattle.scan_registers.specs.Registers as chip_registers
+use Rattle.device_registers.specs.Registers.{Registers, Surroundings, capture_of, put, with_stage}
+use Rattle.device_registers.specs.Registers as chip_registers
 use Rattle.boundary.specs.Cells.{BoundaryValue, IsWhole, at_reset, captured_bits, drive_in, takes_update}
 use Rattle.boundary.specs.Sight.{SeesItsPorts, capture_by_sight}
 use Rattle.boundary.proofs.SightLaws.{captured_by_sight}

@@ -55,8 +55,8 @@ pub fn decode(device: &Device, latch: &Bits) -> Decoded
     }
 }
 
-/// The name of the instruction in a latch, in upper case: BYPASS for all ones, else that of the first row with an opcode
-/// that matches (clauses 7 and 8); `None` where no opcode matches.
+/// The name of the instruction in a latch, in upper case: BYPASS for all ones, else that of the first row with
+/// an opcode that matches (clauses 7 and 8); `None` where no opcode matches.
 pub fn instruction_of<'a>(device: &'a Device, latch: &Bits) -> Option<&'a str>
     ensures { option_map {U = List ℕ} (λ s. s.now) result ≡ instruction device.now latch.now }
 {

@@ -1,13 +1,15 @@
-//! What the instruction in a latch does, from a device's description (IEEE Std 1149.1-2001, clauses 7 and 8), and what
-//! a description must have for it.
+//! What the instruction in a latch does, from a device's description (IEEE Std 1149.1-2001, clauses 7 and 8); what a
+//! chip asks of its description, and how several chips share one.
 #![tactic(auto)]
 
 mod decoding;
 mod formed;
+mod shared;
 mod start;
 
 pub use decoding::{Decoded, Fixed, decode, fixed_bits, instruction_of};
 pub use formed::is_formed;
+pub use shared::SharedDevice;
 pub use start::{code_length, has_code, reset_latch};
 
 /// How an instruction drives the pins.

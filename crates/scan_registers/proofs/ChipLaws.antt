@@ -10,14 +10,13 @@ use Rattle.bsdl_device.specs.Device.{Device}
 use Rattle.device_instructions.specs.declared.Selected.{Selected}
 use Rattle.device_instructions.specs.declared.Selected.TheVariants.{User}
 use Rattle.device_instructions.specs.declared.decoding.Decoded.{Decoded}
-use Rattle.scan_registers.specs.declared.users.UserRegister.{UserRegister}
+use Rattle.device_registers.specs.declared.users.UserRegister.{UserRegister}
 use Rattle.jt_bits.specs.Shifting.{after_shift}
 use Rattle.device_instructions.specs.Fitting.{Fits, FitsAt, fixed_of, meaning_by}
-use Rattle.scan_registers.specs.Chips.{new_user}
 use Rattle.device_instructions.specs.Instruction.{meaning, reset_latch}
-use Rattle.scan_registers.specs.Registers.{user_stage, user_latch, with_user_stage, user_updated}
-use Rattle.scan_registers.specs.Users.{Fit, UsersFit}
-use Rattle.scan_registers.proofs.UserLaws.{fits_at, stage_length, latch_length, with_stage_fits, updated_fits, moved-length}
+use Rattle.device_registers.specs.Registers.{new_user, user_stage, user_latch, with_user_stage, user_updated}
+use Rattle.device_registers.specs.Users.{Fit, UsersFit}
+use Rattle.device_registers.proofs.UserLaws.{fits_at, stage_length, latch_length, with_stage_fits, updated_fits, moved-length}
 
 user_fits : (d : Device) (m : Decoded) (k : ℕ) → Fits d m → m.selected ≡ User k → FitsAt d (User k) (fixed_of d m.fixed)
 user_fits d m k fits is = subst (λ (s : Selected). FitsAt d s (fixed_of d m.fixed)) is fits.it

@@ -5,8 +5,8 @@ use Rattle.jt_tap.specs.declared.State.{State}
 use Rattle.jt_tap.specs.declared.State.TheVariants.{Reset}
 use Rattle.bsdl_device.specs.Device.{Device}
 use Rattle.device_instructions.specs.declared.Mode.{Mode}
-use Rattle.scan_registers.specs.declared.users.UserRegister.{UserRegister}
-use Rattle.scan_registers.specs.Registers.{Registers, Surroundings, put}
+use Rattle.device_registers.specs.declared.users.UserRegister.{UserRegister}
+use Rattle.device_registers.specs.Registers.{Registers, Surroundings, put, zeros, new_user}
 use Rattle.scan_registers.specs.Edges.{OneChip}
 use Rattle.device_instructions.specs.Fitting.{has_code}
 use Rattle.device_instructions.specs.Instruction.{reset_latch}
@@ -52,12 +52,6 @@ registers stage update c = (one_chip stage update c).registers
 -- a device with other registers
 abbrev pub with_registers : Registers → OneChip → OneChip
 with_registers r c = record c { registers = r }
-
-abbrev pub zeros : ℕ → List Bool
-zeros n = replicate n false
-
-abbrev pub new_user : ℕ → UserRegister
-new_user n = record { stage = zeros n; latch = zeros n }
 
 -- At power-up the device is in RESET with its reset instruction; every other bit of its own registers is 0.
 abbrev pub powered : {B : Type 0} → Device → B → ChipValue B

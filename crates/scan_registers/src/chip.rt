@@ -13,14 +13,16 @@ ghost use Rattle.scan_registers.specs.Edges.{OneChip, rise, fall, after_trst, af
 ghost use Rattle.scan_registers.specs.Edges.{tdo_after};
 ghost use Rattle.device_instructions.specs.Fitting.{IsFormed, meaning_by, has_code as is_coded};
 ghost use Rattle.device_instructions.specs.Instruction.{instruction, meaning};
-ghost use Rattle.scan_registers.specs.Registers.{after_capture, put, selected_bits, after_update, after_reset};
+ghost use Rattle.device_registers.specs.Registers.{after_capture, put, selected_bits, after_update, after_reset};
 
-use crate::users::{self, UserRegister, new_users};
-use crate::{Link, Register, SharedDevice};
+use crate::Link;
 use bsdl_device::Device;
 use device_instructions::{
-    Decoded, Mode, Selected, code_length, decode, fixed_bits, has_code, instruction_of, reset_latch,
+    Decoded, Mode, Selected, SharedDevice, code_length, decode, fixed_bits, has_code,
+    instruction_of, reset_latch,
 };
+use device_registers::Register;
+use device_registers::users::{self, UserRegister, new_users};
 use jt_bits::Bits;
 use jt_tap::{Column, State, Work};
 use std::alloc::{AllocError, Global};
@@ -51,7 +53,7 @@ impl<B: Register> Model for Chip<B> {
     ghost use Rattle.scan_registers.specs.Chips.{ChipValue};
     ghost use Rattle.device_instructions.specs.Fitting.{IsFormed, Fits, has_code, meaning_by};
     ghost use Rattle.device_instructions.specs.Instruction as named;
-    ghost use Rattle.scan_registers.specs.Users.{UsersFit};
+    ghost use Rattle.device_registers.specs.Users.{UsersFit};
 
     ghost Value = { ChipValue B };
 
@@ -443,7 +445,7 @@ impl<B: Register> Chip<B> {
 
 impl<B: Register> Link for Chip<B> {
     ghost use Rattle.scan_registers.specs.Chips.{IsPut, registers};
-    ghost use Rattle.scan_registers.specs.Registers as meant;
+    ghost use Rattle.device_registers.specs.Registers as meant;
     ghost use Rattle.scan_registers.specs.Puts.{put_nothing, put_both};
 
     ghost register = { λ c column. meant.selected_bits c.device column (registers B.stage B.update_part c) };

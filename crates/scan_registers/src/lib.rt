@@ -3,15 +3,8 @@
 
 mod chip;
 mod link;
-mod plain;
-mod register;
-mod shared;
-mod users;
 
 pub use chip::Chip;
-pub use device_instructions::{Mode, Selected, is_formed};
+pub use device_instructions::{Mode, Selected, SharedDevice, is_formed};
+pub use device_registers::{Plain, Register, UserRegister};
 pub use link::Link;
-pub use plain::Plain;
-pub use register::Register;
-pub use shared::SharedDevice;
-pub use users::UserRegister;

@@ -1,7 +1,7 @@
 use Rattle.std.proofs.Common.{◌≡◌, length, get_or, ap, arith}
-use Rattle.scan_registers.specs.Registers.{user_stage}
-use Rattle.scan_registers.proofs.UserLaws.{stage_at, run_put, users_put}
-use Rattle.scan_registers.proofs.users.put_run.Goals as goal
+use Rattle.device_registers.specs.Registers.{user_stage}
+use Rattle.device_registers.proofs.UserLaws.{stage_at, run_put, users_put}
+use Rattle.device_registers.proofs.users.put_run.Goals as goal
 
 pub put_run-requires-clause-inside : goal.put_run-requires-clause-inside
 put_run-requires-clause-inside c =

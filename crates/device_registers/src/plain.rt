@@ -1,9 +1,10 @@
 //! A register that captures its own update part.
 
 ghost use Rattle.std.specs.Prelude.{◌≡◌, IfOk, false, replicate};
-ghost use Rattle.scan_registers.specs.Plain.{PlainValue};
+ghost use Rattle.device_registers.specs.Plain.{PlainValue};
 
-use crate::{Mode, Register};
+use crate::Register;
+use device_instructions::Mode;
 use jt_bits::Bits;
 use std::alloc::{AllocError, Global};
 use std::marker::Model;
@@ -17,7 +18,7 @@ pub struct Plain {
 
 impl Model for Plain {
     ghost use Rattle.std.specs.Prelude.{◌≡◌, length};
-    ghost use Rattle.scan_registers.specs.Plain.{PlainValue};
+    ghost use Rattle.device_registers.specs.Plain.{PlainValue};
 
     ghost Value = { PlainValue };
 

@@ -1,9 +1,9 @@
 use Rattle.std.proofs.Common.{◌≡◌, ◌+◌, Bool, List, get_or, sym, ap, ◌∙◌}
 use Rattle.jt_bits.specs.Words.{bit_of}
-use Rattle.scan_registers.specs.declared.users.UserRegister.{UserRegister}
-use Rattle.scan_registers.specs.Registers.{user_stage}
-use Rattle.scan_registers.proofs.UserLaws.{stage_at}
-use Rattle.scan_registers.proofs.users.word_at.Goals as goal
+use Rattle.device_registers.specs.declared.users.UserRegister.{UserRegister}
+use Rattle.device_registers.specs.Registers.{user_stage}
+use Rattle.device_registers.proofs.UserLaws.{stage_at}
+use Rattle.device_registers.proofs.users.word_at.Goals as goal
 
 pub returns : goal.returns
 returns c =

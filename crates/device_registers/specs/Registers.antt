@@ -1,13 +1,13 @@
 -- The registers of one device, and what capture, update and reset do to them (IEEE Std 1149.1-2001, clauses 7, 9, 10,
 -- 11 and 12). A register is a list, bit 0 nearest TDO.
-use Rattle.std.specs.Prelude.{Bool, false, ℕ, zero, suc, List, [], ◌∷◌, Option, unwrap_or}
+use Rattle.std.specs.Prelude.{Bool, false, ℕ, zero, suc, List, [], ◌∷◌, replicate, Option, unwrap_or}
 use Rattle.jt_tap.specs.declared.Column.{Column}
 use Rattle.jt_tap.specs.declared.Column.TheVariants.{Dr, Ir}
 use Rattle.bsdl_device.specs.Device.{Device}
 use Rattle.device_instructions.specs.declared.Mode.{Mode}
 use Rattle.device_instructions.specs.declared.Selected.{Selected}
 use Rattle.device_instructions.specs.declared.Selected.TheVariants.{Bypass, Identification, Boundary, User}
-use Rattle.scan_registers.specs.declared.users.UserRegister.{UserRegister}
+use Rattle.device_registers.specs.declared.users.UserRegister.{UserRegister}
 use Rattle.device_instructions.specs.Instruction.{meaning, reset_latch}
 
 -- `bypass` is one bit; `identification` is empty on a device without a code
@@ -25,6 +25,13 @@ pub record Registers : Type 0 where
 pub record Surroundings : Type 0 where
   pub captures : Mode → List Bool
   pub at_reset : List Bool
+
+-- At power-up each user register has its length, all bits 0.
+abbrev pub zeros : ℕ → List Bool
+zeros n = replicate n false
+
+abbrev pub new_user : ℕ → UserRegister
+new_user n = record { stage = zeros n; latch = zeros n }
 
 abbrev pub user_stage : ℕ → List UserRegister → List Bool
 user_stage k [] = []

@@ -1,8 +1,8 @@
 use Rattle.std.proofs.Common.{◌≡◌, length, get_or, sym, ap, ◌∙◌}
-use Rattle.scan_registers.specs.declared.users.UserRegister.{UserRegister}
-use Rattle.scan_registers.specs.Registers.{user_stage}
-use Rattle.scan_registers.proofs.UserLaws.{stage_at}
-use Rattle.scan_registers.proofs.users.len.Goals as goal
+use Rattle.device_registers.specs.declared.users.UserRegister.{UserRegister}
+use Rattle.device_registers.specs.Registers.{user_stage}
+use Rattle.device_registers.proofs.UserLaws.{stage_at}
+use Rattle.device_registers.proofs.users.len.Goals as goal
 
 pub returns : goal.returns
 returns c =
