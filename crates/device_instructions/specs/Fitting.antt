@@ -1,5 +1,5 @@
 -- What of a description a chip rests on: every list that a register takes has that register's length.
-use Rattle.std.specs.Prelude.{◌≡◌, ◌<◌, ◌||◌, true, ℕ, Bool, List, [], ◌∷◌, length, Option, Some, None, is_some}
+use Rattle.std.specs.Prelude.{◌≡◌, ◌<◌, ◌||◌, true, ℕ, Bool, List, length, Option, Some, None, is_some}
 use Rattle.std.specs.Prelude.{slice_get, option_and_then}
 use Rattle.bsdl_device.specs.Device.{Access, Device}
 use Rattle.bsdl_device.specs.declared.Place.TheVariants.{AtUser}
