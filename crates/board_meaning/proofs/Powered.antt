@@ -7,9 +7,9 @@ use Rattle.jt_tap.specs.declared.State.TheVariants.{Reset}
 use Rattle.bsdl_device.specs.Device.{Name, Access, Device}
 use Rattle.bsdl_device.specs.declared.Place.{Place}
 use Rattle.bsdl_device.specs.declared.Place.TheVariants.{AtBypass, AtBoundary, AtDeviceId, AtUser}
-use Rattle.scan_registers.specs.Instruction.{Meaning, as_bypass, reads_code, standard, access_meaning, look_up, meaning_of, instruction}
-use Rattle.scan_registers.specs.Registers.{Registers, user_stage, user_latch}
-use Rattle.scan_registers.specs.declared.users.UserRegister.{UserRegister}
+use Rattle.device_instructions.specs.Instruction.{Meaning, as_bypass, reads_code, standard, access_meaning, look_up, meaning_of, instruction}
+use Rattle.device_registers.specs.Registers.{Registers, user_stage, user_latch}
+use Rattle.device_registers.specs.declared.users.UserRegister.{UserRegister}
 use Rattle.board_meaning.specs.Cells.{powered}
 use Rattle.board_meaning.specs.Chain.{members}
 use Rattle.board_meaning.specs.Resting.{chip_at_rest}

@@ -11,7 +11,7 @@ use Rattle.bsdl_device.specs.Device.{Device}
 use Rattle.bsdl_device.specs.declared.Cell.{Cell}
 use Rattle.bsdl_device.specs.declared.Function.{Function}
 use Rattle.bsdl_device.specs.declared.Function.TheVariants.{ControlR, Input}
-use Rattle.scan_registers.specs.Registers.{Registers, Surroundings}
+use Rattle.device_registers.specs.Registers.{Registers, Surroundings}
 use Rattle.scan_registers.specs.Edges.{after_rise}
 use Rattle.board_meaning.specs.Cells.{Member, surroundings}
 use Rattle.boundary.specs.Cells.{reset_cell, reset_from}

@@ -7,7 +7,7 @@ use Rattle.jt_tap.specs.declared.Column.{Column}
 use Rattle.jt_tap.specs.declared.Column.TheVariants.{Dr, Ir}
 use Rattle.jt_tap.specs.declared.State.{State}
 use Rattle.jt_tap.specs.declared.State.TheVariants.{DrShift, IrShift}
-use Rattle.scan_registers.specs.Registers.{put}
+use Rattle.device_registers.specs.Registers.{put}
 use Rattle.jt_bits.specs.Shifting.{after_shift}
 use Rattle.board_meaning.specs.Cells.{Member}
 use Rattle.board_meaning.specs.Whole.{selected_bits_of, joined_bits, cut_back}

@@ -5,11 +5,11 @@ use Rattle.jt_tap.specs.declared.Column.{Column}
 use Rattle.jt_tap.specs.declared.Column.TheVariants.{Dr, Ir}
 use Rattle.bsdl_device.specs.Device.{Device}
 use Rattle.bsdl_device.specs.declared.Cell.{Cell}
-use Rattle.scan_registers.specs.declared.Selected.{Selected}
-use Rattle.scan_registers.specs.declared.Selected.TheVariants.{Bypass, Identification, Boundary, User}
-use Rattle.scan_registers.specs.Instruction.{meaning}
-use Rattle.scan_registers.specs.Registers.{Registers, selected_bits, put, after_capture, after_update, stage_of, with_stage, user_stage, user_latch, with_user_stage, user_updated, capture_of, update_selected}
-use Rattle.scan_registers.specs.declared.users.UserRegister.{UserRegister}
+use Rattle.device_instructions.specs.declared.Selected.{Selected}
+use Rattle.device_instructions.specs.declared.Selected.TheVariants.{Bypass, Identification, Boundary, User}
+use Rattle.device_instructions.specs.Instruction.{meaning}
+use Rattle.device_registers.specs.Registers.{Registers, selected_bits, put, after_capture, after_update, stage_of, with_stage, user_stage, user_latch, with_user_stage, user_updated, capture_of, update_selected}
+use Rattle.device_registers.specs.declared.users.UserRegister.{UserRegister}
 use Rattle.board_meaning.specs.Cells.{Member, surroundings}
 use Rattle.boundary.specs.Sight.{capture_by_sight}
 use Rattle.boundary.specs.Cells.{takes_update}

@@ -7,7 +7,7 @@ use Rattle.jt_tap.specs.Controller.{work}
 use Rattle.bitbang_table.specs.declared.Message.{Message}
 use Rattle.bitbang_table.specs.declared.Message.TheVariants.{Write, Lines}
 use Rattle.bitbang_table.specs.Protocol.{decode}
-use Rattle.scan_registers.specs.Registers.{selected_bits}
+use Rattle.device_registers.specs.Registers.{selected_bits}
 use Rattle.jt_bits.specs.Shifting.{after_shift}
 use Rattle.scan_registers.specs.Edges.{after_rise, after_fall}
 use Rattle.board_meaning.specs.Cells.{Member, surroundings}

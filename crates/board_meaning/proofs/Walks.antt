@@ -9,7 +9,7 @@ use Rattle.jt_tap.specs.Controller.{next, work, entered_by, is_stable}
 use Rattle.scan_registers.specs.Edges.{after_rise, after_fall, tdo_after}
 use Rattle.board_meaning.specs.Cells.{Member, surroundings}
 use Rattle.bsdl_device.specs.Device.{Device}
-use Rattle.scan_registers.specs.Registers.{Registers}
+use Rattle.device_registers.specs.Registers.{Registers}
 use Rattle.pin_nets.specs.Wired.{Net}
 use Rattle.board_meaning.specs.Nets.{sees}
 use Rattle.board_meaning.specs.Chain.{hear}

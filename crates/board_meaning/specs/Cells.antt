@@ -2,8 +2,8 @@
 -- 1149.1-2001, clauses 8 and 11, and Annex B for the cell table).
 use Rattle.std.specs.Prelude.{Bool, false, ◌||◌, ℕ, List, map, length, replicate, is_some, if◌then◌else◌}
 use Rattle.bsdl_device.specs.Device.{Name, Device}
-use Rattle.scan_registers.specs.Instruction.{meaning, reset_latch}
-use Rattle.scan_registers.specs.Registers.{Registers, Surroundings}
+use Rattle.device_instructions.specs.Instruction.{meaning, reset_latch}
+use Rattle.device_registers.specs.Registers.{Registers, Surroundings}
 use Rattle.pin_nets.specs.declared.Drive.{Drive}
 use Rattle.boundary.specs.Cells.{drive_in, reset_from, takes_update}
 use Rattle.boundary.specs.Sight.{capture_by_sight}

@@ -5,7 +5,7 @@ use Rattle.std.specs.Prelude.{if◌then◌else◌}
 use Rattle.jt_tap.specs.declared.State.{State}
 use Rattle.jt_tap.specs.declared.State.TheVariants.{Reset}
 use Rattle.jt_tap.specs.Controller.{next, work}
-use Rattle.scan_registers.specs.Registers.{after_reset}
+use Rattle.device_registers.specs.Registers.{after_reset}
 use Rattle.scan_registers.specs.Edges.{after_rise, after_fall, tdo_after}
 use Rattle.board_meaning.specs.Cells.{Member, surroundings}
 use Rattle.pin_nets.specs.Wired.{Net}

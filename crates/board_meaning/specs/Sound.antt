@@ -4,10 +4,10 @@ use Rattle.std.specs.Prelude.{◌≡◌, Bool, ◌<◌, ◌≤◌, List, [], len
 use Rattle.std.specs.List.{AllByRecursion}
 use Rattle.bsdl_device.specs.Device.{Device}
 use Rattle.bsdl_device.specs.Sound.{IsSoundDevice}
-use Rattle.scan_registers.specs.declared.Selected.{Selected}
-use Rattle.scan_registers.specs.declared.Selected.TheVariants.{Bypass, Identification, Boundary, User}
-use Rattle.scan_registers.specs.Instruction.{meaning}
-use Rattle.scan_registers.specs.Registers.{Registers, user_stage, user_latch}
+use Rattle.device_instructions.specs.declared.Selected.{Selected}
+use Rattle.device_instructions.specs.declared.Selected.TheVariants.{Bypass, Identification, Boundary, User}
+use Rattle.device_instructions.specs.Instruction.{meaning}
+use Rattle.device_registers.specs.Registers.{Registers, user_stage, user_latch}
 use Rattle.board_meaning.specs.Cells.{Member, powered}
 use Rattle.board_meaning.specs.Chain.{BoardState, ChipState, members}
 

@@ -8,7 +8,7 @@ use Rattle.jt_tap.specs.declared.State.TheVariants.{Reset, DrPause, IrPause}
 use Rattle.jt_tap.specs.declared.Work.{Work}
 use Rattle.jt_tap.specs.declared.Work.TheVariants.{Resets, Captures, Shifts, Updates, Waits}
 use Rattle.jt_tap.specs.Controller.{is_at, pause, work}
-use Rattle.scan_registers.specs.Registers.{selected_bits, put, after_capture, after_update, after_reset}
+use Rattle.device_registers.specs.Registers.{selected_bits, put, after_capture, after_update, after_reset}
 use Rattle.board_meaning.specs.Cells.{Member, surroundings}
 use Rattle.pin_nets.specs.Wired.{Net}
 use Rattle.board_meaning.specs.Nets.{sees}

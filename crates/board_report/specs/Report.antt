@@ -2,7 +2,7 @@
 use Rattle.std.specs.Prelude.{Bool, true, false, ℕ, List, ◌++◌, map, reverse, flat_map, codes, Option, Some, None}
 use Rattle.jt_tap.specs.Words.{word}
 use Rattle.bsdl_device.specs.Device.{Name}
-use Rattle.scan_registers.specs.Instruction.{instruction}
+use Rattle.device_instructions.specs.Instruction.{instruction}
 use Rattle.board_meaning.specs.Cells.{Member}
 use Rattle.pin_nets.specs.declared.Level.{Level}
 use Rattle.pin_nets.specs.declared.Level.TheVariants.{Zero, One, Contend, Float}

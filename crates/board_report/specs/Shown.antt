@@ -1,6 +1,6 @@
 -- What a snapshot shows of a device.
 use Rattle.std.specs.Prelude.{Bool, ℕ, List, Option, Some, None, option_map, slice_get, if◌then◌else◌}
-use Rattle.scan_registers.specs.Fitting.{has_code}
+use Rattle.device_instructions.specs.Fitting.{has_code}
 use Rattle.pin_nets.specs.declared.Level.{Level}
 use Rattle.pin_nets.specs.Wired.{Net}
 use Rattle.board_meaning.specs.Cells.{Member}

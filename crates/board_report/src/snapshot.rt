@@ -1,7 +1,7 @@
 //! What a board shows between two bytes.
 
 ghost use Rattle.std.specs.Prelude.{◌≡◌, ◌<◌, ◌≤◌, [], ◌∷◌, ℕ, Bool, List, Some, length, option_map, slice_get};
-ghost use Rattle.scan_registers.specs.Instruction.{instruction};
+ghost use Rattle.device_instructions.specs.Instruction.{instruction};
 ghost use Rattle.board_meaning.specs.Chain.{members};
 ghost use Rattle.board_meaning.specs.Sound.{IsChain};
 ghost use Rattle.board_report.specs.Shown.{id_of, shown_net, user_of};

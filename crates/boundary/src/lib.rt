@@ -9,9 +9,10 @@ ghost use Rattle.boundary.specs.Cells.{AreDrivers, BoundaryValue, DrivenByCell, 
 ghost use Rattle.boundary.specs.Sight.{CapturesBySight};
 
 use bsdl_device::{Cell, Control3, Disabled, Function};
+use device_instructions::{Mode, SharedDevice};
+use device_registers::Register;
 use jt_bits::Bits;
 pub use pin_nets::Drive;
-use scan_registers::{Mode, Register, SharedDevice};
 use std::alloc::{AllocError, Global};
 use std::marker::Model;
 

@@ -2,8 +2,8 @@
 use Rattle.std.proofs.Common.{◌≡◌, ℕ, List, Option, Some, None, slice_get, sym, ap, ◌∙◌}
 use Rattle.std.proofs.lemmas.Option.{get_or_from_slice_get, slice_get_within}
 use Rattle.bsdl_device.specs.declared.Cell.{Cell}
-use Rattle.scan_registers.specs.declared.Mode.{Mode}
-use Rattle.scan_registers.specs.Instruction.{meaning}
+use Rattle.device_instructions.specs.declared.Mode.{Mode}
+use Rattle.device_instructions.specs.Instruction.{meaning}
 use Rattle.pin_nets.specs.declared.Drive.{Drive}
 use Rattle.boundary.specs.Cells.{AreDrivers, BoundaryValue, driven_in, driver_from}
 use Rattle.boundary.proofs.DriverLaws.{driven_by_cell}

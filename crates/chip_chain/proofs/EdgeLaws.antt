@@ -7,14 +7,14 @@ use Rattle.jt_tap.specs.declared.Work.TheVariants.{Resets, Captures, Shifts, Upd
 use Rattle.jt_tap.specs.Controller.{next, work}
 use Rattle.bsdl_device.specs.Device.{Device}
 use Rattle.bsdl_device.specs.declared.Cell.{Cell}
-use Rattle.scan_registers.specs.declared.Mode.{Mode}
-use Rattle.scan_registers.specs.declared.Selected.{Selected}
-use Rattle.scan_registers.specs.declared.Selected.TheVariants.{Bypass, Identification, Boundary, User}
+use Rattle.device_instructions.specs.declared.Mode.{Mode}
+use Rattle.device_instructions.specs.declared.Selected.{Selected}
+use Rattle.device_instructions.specs.declared.Selected.TheVariants.{Bypass, Identification, Boundary, User}
 use Rattle.scan_registers.specs.Chips.{surroundings_of, one_chip, with_registers}
 use Rattle.scan_registers.specs.Edges.{OneChip, after_fall, is_held, rise, after_rise}
-use Rattle.scan_registers.specs.Instruction.{meaning}
-use Rattle.scan_registers.specs.Registers.{Registers, Surroundings, capture_of, put, with_stage}
-use Rattle.scan_registers.specs.Registers as chip_registers
+use Rattle.device_instructions.specs.Instruction.{meaning}
+use Rattle.device_registers.specs.Registers.{Registers, Surroundings, capture_of, put, with_stage}
+use Rattle.device_registers.specs.Registers as chip_registers
 use Rattle.boundary.specs.Cells.{BoundaryValue, IsWhole, at_reset, captured_bits, drive_in, takes_update}
 use Rattle.boundary.specs.Sight.{SeesItsPorts, capture_by_sight}
 use Rattle.boundary.proofs.SightLaws.{captured_by_sight}

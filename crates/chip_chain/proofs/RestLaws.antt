@@ -8,8 +8,8 @@ use Rattle.jt_tap.specs.declared.State.TheVariants.{DrCapture, IrCapture, Reset}
 use Rattle.jt_tap.specs.declared.Column.{Column}
 use Rattle.jt_tap.specs.declared.Column.TheVariants.{Dr, Ir}
 use Rattle.scan_registers.specs.Edges.{OneChip}
-use Rattle.scan_registers.specs.Instruction.{meaning}
-use Rattle.scan_registers.specs.Registers.{put}
+use Rattle.device_instructions.specs.Instruction.{meaning}
+use Rattle.device_registers.specs.Registers.{put}
 use Rattle.boundary.specs.Cells.{BoundaryValue, drive_in}
 use Rattle.scan_vectors.specs.Vector.{VectorBit, tdis}
 use Rattle.whole_chain.specs.Rows as rows

@@ -6,7 +6,7 @@ use Rattle.jt_tap.specs.declared.State.{State}
 use Rattle.jt_tap.specs.declared.State.TheVariants.{Reset}
 use Rattle.jt_tap.specs.declared.Work.TheVariants.{Captures}
 use Rattle.scan_registers.specs.Chips.{IsPut}
-use Rattle.scan_registers.specs.Instruction.{meaning}
+use Rattle.device_instructions.specs.Instruction.{meaning}
 use Rattle.scan_registers.specs.Puts.{put_both, put_nothing}
 use Rattle.boundary.specs.Cells.{BoundaryValue, IsWhole}
 use Rattle.boundary.specs.Sight.{SeesItsPorts}

@@ -3,7 +3,7 @@ use Rattle.std.specs.Prelude.{◌≡◌, ◌<◌, ◌≤◌, ℕ, suc, List, [],
 use Rattle.std.specs.Prelude.{Option, Some, None, if◌then◌else◌}
 use Rattle.std.specs.List.{AllByRecursion}
 use Rattle.scan_registers.specs.Chips.{powered}
-use Rattle.scan_registers.specs.Fitting.{IsFormed}
+use Rattle.device_instructions.specs.Fitting.{IsFormed}
 use Rattle.pin_nets.specs.declared.Pin.{Pin}
 use Rattle.pin_nets.specs.Wired.{Net}
 use Rattle.boundary.specs.Cells as cells

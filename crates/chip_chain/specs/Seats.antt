@@ -8,10 +8,10 @@ use Rattle.jt_tap.specs.declared.Work.{Work}
 use Rattle.jt_tap.specs.declared.Work.TheVariants.{Resets, Captures, Updates}
 use Rattle.jt_tap.specs.Controller.{work}
 use Rattle.bsdl_device.specs.declared.Cell.{Cell}
-use Rattle.scan_registers.specs.declared.Selected.{Selected}
-use Rattle.scan_registers.specs.declared.Selected.TheVariants.{Boundary}
+use Rattle.device_instructions.specs.declared.Selected.{Selected}
+use Rattle.device_instructions.specs.declared.Selected.TheVariants.{Boundary}
 use Rattle.scan_registers.specs.Chips.{ChipValue, registers}
-use Rattle.scan_registers.specs.Instruction.{meaning}
+use Rattle.device_instructions.specs.Instruction.{meaning}
 use Rattle.pin_nets.specs.Wired.{Net}
 use Rattle.boundary.specs.Cells.{BoundaryValue, IsWhole}
 use Rattle.boundary.specs.Sight.{SeesItsPorts}

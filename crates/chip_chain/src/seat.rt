@@ -3,8 +3,8 @@
 ghost use Rattle.std.specs.Prelude.{◌≡◌, ◌≢◌, ◌<◌, ℕ, Bool, List, [], ◌∷◌, length, slice_get, Some, None, option_map};
 ghost use Rattle.std.specs.Prelude.{if◌then◌else◌, IfOk};
 ghost use Rattle.jt_tap.specs.Controller.{work};
-ghost use Rattle.scan_registers.specs.Fitting.{IsFormed, has_code};
-ghost use Rattle.scan_registers.specs.Instruction.{instruction, meaning};
+ghost use Rattle.device_instructions.specs.Fitting.{IsFormed, has_code};
+ghost use Rattle.device_instructions.specs.Instruction.{instruction, meaning};
 ghost use Rattle.pin_nets.specs.Levels as levels;
 ghost use Rattle.pin_nets.specs.declared.Drive.TheVariants as driving;
 ghost use Rattle.boundary.specs.Cells as cells;

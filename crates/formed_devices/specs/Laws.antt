@@ -1,7 +1,7 @@
 -- A law over all texts, which a public function ensures.
 use Rattle.std.specs.Prelude.{◌≡◌, ℕ, List, Ok}
 use Rattle.bsdl_device.specs.Device.{Device}
-use Rattle.scan_registers.specs.Fitting.{IsFormed}
+use Rattle.device_instructions.specs.Fitting.{IsFormed}
 use Rattle.bsdl.specs.Judging.{text_says}
 
 -- every device that a text says can be made a chip

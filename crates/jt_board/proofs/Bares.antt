@@ -5,7 +5,7 @@ use Rattle.std.proofs.lemmas.List.{length-map}
 use Rattle.std.proofs.lemmas.Option.{none-some}
 use Rattle.jt_tap.specs.declared.State.TheVariants.{Reset}
 use Rattle.bsdl_device.specs.Sound.{IsSoundDevice}
-use Rattle.scan_registers.specs.Fitting.{IsFormed}
+use Rattle.device_instructions.specs.Fitting.{IsFormed}
 use Rattle.board_file.specs.Fits.{HasCore}
 use Rattle.board_file.specs.Wiring as planned
 use Rattle.board_meaning.specs.Bare.{bare, bare_board, bare_from}

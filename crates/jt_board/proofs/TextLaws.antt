@@ -4,7 +4,7 @@ use Rattle.std.specs.List.{AllByRecursion}
 use Rattle.std.proofs.lemmas.Option.{none-some, same_Some}
 use Rattle.bsdl_device.specs.Device.{Device}
 use Rattle.bsdl_device.specs.Sound.{IsSoundDevice}
-use Rattle.scan_registers.specs.Fitting.{IsFormed}
+use Rattle.device_instructions.specs.Fitting.{IsFormed}
 use Rattle.bsdl_described.specs.Describing.{Refusal}
 use Rattle.bsdl.specs.Judging.{text_says}
 use Rattle.bsdl.specs.declared.fault.BsdlFault.{BsdlFault}

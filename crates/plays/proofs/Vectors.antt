@@ -5,11 +5,11 @@ use Rattle.jt_tap.specs.declared.Column.{Column}
 use Rattle.jt_tap.specs.declared.Column.TheVariants.{Dr, Ir}
 use Rattle.jt_tap.specs.Controller.{next}
 use Rattle.bsdl_device.specs.Device.{Device}
-use Rattle.scan_registers.specs.declared.Selected.{Selected}
-use Rattle.scan_registers.specs.declared.Selected.TheVariants.{Bypass, Identification, Boundary, User}
-use Rattle.scan_registers.specs.Instruction.{meaning}
-use Rattle.scan_registers.specs.Registers.{Registers, selected_bits, put, stage_of, with_stage, user_stage, with_user_stage}
-use Rattle.scan_registers.specs.declared.users.UserRegister.{UserRegister}
+use Rattle.device_instructions.specs.declared.Selected.{Selected}
+use Rattle.device_instructions.specs.declared.Selected.TheVariants.{Bypass, Identification, Boundary, User}
+use Rattle.device_instructions.specs.Instruction.{meaning}
+use Rattle.device_registers.specs.Registers.{Registers, selected_bits, put, stage_of, with_stage, user_stage, with_user_stage}
+use Rattle.device_registers.specs.declared.users.UserRegister.{UserRegister}
 use Rattle.board_meaning.specs.Cells.{Member}
 use Rattle.pin_nets.specs.Wired.{Net}
 use Rattle.board_meaning.specs.Nets.{sees}

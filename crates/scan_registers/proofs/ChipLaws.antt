@@ -1,25 +1,22 @@
 -- What a decoded instruction gives a chip.
-use Rattle.std.proofs.Common.{◌≡◌, ◌≢◌, ◌+◌, ◌-◌, ◌%◌, ◌==◌, ◌<◌, ◌≤◌, ℕ, zero, suc, true, List, [], ◌∷◌, Bool, false, length, get_or, map, Option, Some, None, unwrap_or, refl, sym, ap, subst, ◌∙◌, arith}
-use Rattle.bsdl_device.specs.Opcodes.{x_as_0}
-use Rattle.std.proofs.lemmas.List.{length-replicate, length-map, get_or-map}
-use Rattle.std.proofs.lemmas.List.FromFn.{fill_by_all}
+use Rattle.std.proofs.Common.{◌≡◌, ◌≢◌, ◌+◌, ◌-◌, ◌%◌, ◌==◌, ◌<◌, ◌≤◌, ℕ, zero, suc, true, List, [], ◌∷◌, Bool, false, length, map, Option, Some, None, unwrap_or, refl, sym, ap, subst, ◌∙◌, arith}
+use Rattle.std.proofs.lemmas.List.{length-replicate}
 use Rattle.std.specs.Int.{bit_at}
 use Rattle.std.proofs.lemmas.Nat.Bits.{bit_at-zero, bit_at_lowest, bit_at-suc}
 use Rattle.jt_bits.specs.Packed.{has_bit}
 use Rattle.jt_bits.specs.Runs.{RunSet}
 use Rattle.jt_bits.specs.Words.{bit_of}
-use Rattle.bsdl_device.specs.Device.{Device, Pattern}
-use Rattle.scan_registers.specs.declared.Selected.{Selected}
-use Rattle.scan_registers.specs.declared.Selected.TheVariants.{User}
-use Rattle.scan_registers.specs.declared.decode.Decoded.{Decoded}
-use Rattle.scan_registers.specs.declared.users.UserRegister.{UserRegister}
+use Rattle.bsdl_device.specs.Device.{Device}
+use Rattle.device_instructions.specs.declared.Selected.{Selected}
+use Rattle.device_instructions.specs.declared.Selected.TheVariants.{User}
+use Rattle.device_instructions.specs.declared.decoding.Decoded.{Decoded}
+use Rattle.device_registers.specs.declared.users.UserRegister.{UserRegister}
 use Rattle.jt_bits.specs.Shifting.{after_shift}
-use Rattle.scan_registers.specs.Fitting.{Fits, FitsAt, UsersFit, fixed_of, meaning_by}
-use Rattle.scan_registers.specs.Chips.{new_user}
-use Rattle.scan_registers.specs.Instruction.{meaning, reset_latch}
-use Rattle.scan_registers.specs.Registers.{user_stage, user_latch, with_user_stage, user_updated}
-use Rattle.scan_registers.specs.Users.{Fit}
-use Rattle.scan_registers.proofs.UserLaws.{fits_at, stage_length, latch_length, with_stage_fits, updated_fits, moved-length}
+use Rattle.device_instructions.specs.Fitting.{Fits, FitsAt, fixed_of, meaning_by}
+use Rattle.device_instructions.specs.Instruction.{meaning, reset_latch}
+use Rattle.device_registers.specs.Registers.{new_user, user_stage, user_latch, with_user_stage, user_updated}
+use Rattle.device_registers.specs.Users.{Fit, UsersFit}
+use Rattle.device_registers.proofs.UserLaws.{fits_at, stage_length, latch_length, with_stage_fits, updated_fits, moved-length}
 
 user_fits : (d : Device) (m : Decoded) (k : ℕ) → Fits d m → m.selected ≡ User k → FitsAt d (User k) (fixed_of d m.fixed)
 user_fits d m k fits is = subst (λ (s : Selected). FitsAt d s (fixed_of d m.fixed)) is fits.it
@@ -129,9 +126,3 @@ new_fit (n ∷ ns) = (length-replicate n false, length-replicate n false, new_fi
 pub users_start : (ns lengths : List ℕ) (users : List UserRegister) → lengths ≡ ns → users ≡ map new_user lengths → UsersFit ns users
 users_start ns lengths users same are =
     subst (λ (us : List UserRegister). UsersFit ns us) (sym (are ∙ ap (map new_user) same)) (new_fit ns)
-
-pub x_as_0_is : (bits : List Bool) (digits : Pattern) (i : ℕ) → length digits ≤ i → length bits ≡ length digits → ((j : ℕ) → j < i → get_or bits j false ≡ unwrap_or (get_or digits j None) false) → bits ≡ x_as_0 digits
-x_as_0_is bits digits i all long each =
-    fill_by_all (λ j. unwrap_or (get_or digits j None) false) bits (length digits) false long (λ j h. each j (omega arith))
-    ∙ sym (fill_by_all (λ j. unwrap_or (get_or digits j None) false) (x_as_0 digits) (length digits) false (length-map digits (λ (b : Option Bool). unwrap_or b false))
-    (λ j h. get_or-map (λ (b : Option Bool). unwrap_or b false) digits j None false h))

@@ -1,15 +1,15 @@
 -- A chip round any boundary register, as its parts and as one device.
-use Rattle.std.specs.Prelude.{◌≡◌, Bool, false, ℕ, List, [], ◌∷◌, map, replicate, Option, None, if◌then◌else◌}
+use Rattle.std.specs.Prelude.{◌≡◌, Bool, false, List, [], ◌∷◌, map, Option, None, if◌then◌else◌}
 use Rattle.jt_tap.specs.declared.Column.{Column}
 use Rattle.jt_tap.specs.declared.State.{State}
 use Rattle.jt_tap.specs.declared.State.TheVariants.{Reset}
 use Rattle.bsdl_device.specs.Device.{Device}
-use Rattle.scan_registers.specs.declared.Mode.{Mode}
-use Rattle.scan_registers.specs.declared.users.UserRegister.{UserRegister}
-use Rattle.scan_registers.specs.Registers.{Registers, Surroundings, put}
+use Rattle.device_instructions.specs.declared.Mode.{Mode}
+use Rattle.device_registers.specs.declared.users.UserRegister.{UserRegister}
+use Rattle.device_registers.specs.Registers.{Registers, Surroundings, put, zeros, new_user}
 use Rattle.scan_registers.specs.Edges.{OneChip}
-use Rattle.scan_registers.specs.Fitting.{has_code}
-use Rattle.scan_registers.specs.Instruction.{reset_latch}
+use Rattle.device_instructions.specs.Fitting.{has_code}
+use Rattle.device_instructions.specs.Instruction.{reset_latch}
 
 pub record ChipValue (B : Type 0) : Type 0 where
   pub device : Device
@@ -52,12 +52,6 @@ registers stage update c = (one_chip stage update c).registers
 -- a device with other registers
 abbrev pub with_registers : Registers → OneChip → OneChip
 with_registers r c = record c { registers = r }
-
-abbrev pub zeros : ℕ → List Bool
-zeros n = replicate n false
-
-abbrev pub new_user : ℕ → UserRegister
-new_user n = record { stage = zeros n; latch = zeros n }
 
 -- At power-up the device is in RESET with its reset instruction; every other bit of its own registers is 0.
 abbrev pub powered : {B : Type 0} → Device → B → ChipValue B

@@ -6,20 +6,23 @@ ghost use Rattle.jt_bits.specs.Packed.{has_bit};
 ghost use Rattle.jt_bits.specs.Runs.{RunSet};
 ghost use Rattle.jt_bits.specs.Words.{bit_of};
 ghost use Rattle.jt_tap.specs.Controller.{work};
-ghost use Rattle.scan_registers.specs.declared.Mode.{Mode as TheMode};
+ghost use Rattle.device_instructions.specs.declared.Mode.{Mode as TheMode};
 ghost use Rattle.scan_registers.specs.Chips.{ChipValue, one_chip, surroundings_of, powered, registers, with_registers};
 ghost use Rattle.jt_bits.specs.Shifting.{after_shift};
 ghost use Rattle.scan_registers.specs.Edges.{OneChip, rise, fall, after_trst, after_rise, after_fall};
 ghost use Rattle.scan_registers.specs.Edges.{tdo_after};
-ghost use Rattle.scan_registers.specs.Fitting.{IsFormed, meaning_by, has_code as is_coded};
-ghost use Rattle.scan_registers.specs.Instruction.{instruction, meaning};
-ghost use Rattle.scan_registers.specs.Registers.{after_capture, put, selected_bits, after_update, after_reset};
+ghost use Rattle.device_instructions.specs.Fitting.{IsFormed, meaning_by, has_code as is_coded};
+ghost use Rattle.device_instructions.specs.Instruction.{instruction, meaning};
+ghost use Rattle.device_registers.specs.Registers.{after_capture, put, selected_bits, after_update, after_reset};
 
-use crate::decode::{Decoded, decode, fixed_bits, instruction_of};
-use crate::start::{code_length, has_code, new_users, reset_latch};
-use crate::users::{self, UserRegister};
-use crate::{Link, Mode, Register, Selected, SharedDevice};
+use crate::Link;
 use bsdl_device::Device;
+use device_instructions::{
+    Decoded, Mode, Selected, SharedDevice, code_length, decode, fixed_bits, has_code,
+    instruction_of, reset_latch,
+};
+use device_registers::Register;
+use device_registers::users::{self, UserRegister, new_users};
 use jt_bits::Bits;
 use jt_tap::{Column, State, Work};
 use std::alloc::{AllocError, Global};
@@ -48,8 +51,9 @@ pub struct Chip<B: Register> {
 impl<B: Register> Model for Chip<B> {
     ghost use Rattle.std.specs.Prelude.{◌≡◌, ◌<◌, true, length, if◌then◌else◌};
     ghost use Rattle.scan_registers.specs.Chips.{ChipValue};
-    ghost use Rattle.scan_registers.specs.Fitting.{IsFormed, Fits, UsersFit, has_code, meaning_by};
-    ghost use Rattle.scan_registers.specs.Instruction as named;
+    ghost use Rattle.device_instructions.specs.Fitting.{IsFormed, Fits, has_code, meaning_by};
+    ghost use Rattle.device_instructions.specs.Instruction as named;
+    ghost use Rattle.device_registers.specs.Users.{UsersFit};
 
     ghost Value = { ChipValue B };
 
@@ -441,7 +445,7 @@ impl<B: Register> Chip<B> {
 
 impl<B: Register> Link for Chip<B> {
     ghost use Rattle.scan_registers.specs.Chips.{IsPut, registers};
-    ghost use Rattle.scan_registers.specs.Registers as meant;
+    ghost use Rattle.device_registers.specs.Registers as meant;
     ghost use Rattle.scan_registers.specs.Puts.{put_nothing, put_both};
 
     ghost register = { λ c column. meant.selected_bits c.device column (registers B.stage B.update_part c) };

@@ -2,8 +2,8 @@
 use Rattle.std.specs.Prelude.{◌≡◌, Bool, true, false, ℕ, List, [], ◌∷◌, ◌++◌, map, Option, Some, None, bytes_eq}
 use Rattle.jt_tap.specs.declared.State.{State}
 use Rattle.jt_tap.specs.declared.State.TheVariants.{Reset, Idle, DrPause, IrPause}
-use Rattle.scan_registers.specs.Registers.{Registers}
-use Rattle.scan_registers.specs.declared.users.UserRegister.{UserRegister}
+use Rattle.device_registers.specs.Registers.{Registers}
+use Rattle.device_registers.specs.declared.users.UserRegister.{UserRegister}
 use Rattle.bitbang_table.specs.Protocol.{encode}
 use Rattle.board_meaning.specs.Chain.{BoardState, ChipState}
 use Rattle.board_meaning.specs.Whole.{AtRest, after_opening}

@@ -10,8 +10,8 @@ use Rattle.pin_nets.specs.declared.Level.{Level}
 use Rattle.pin_nets.specs.declared.Level.TheVariants.{Zero, One, Contend, Float}
 use Rattle.pin_nets.specs.declared.Pull.TheVariants.{Up, Down, Free}
 use Rattle.board_meaning.specs.Chain.{BoardState, members}
-use Rattle.scan_registers.specs.Instruction.{instruction}
-use Rattle.scan_registers.specs.Registers.{Registers}
+use Rattle.device_instructions.specs.Instruction.{instruction}
+use Rattle.device_registers.specs.Registers.{Registers}
 use Rattle.board_meaning.specs.Whole.{AtRest}
 use Rattle.board_meaning.specs.Resting.{power_up, board_at_rest}
 use Rattle.scan_vectors.specs.declared.part.Part.TheVariants.{Header, Data}

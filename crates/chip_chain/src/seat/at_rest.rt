@@ -9,7 +9,7 @@ ghost use Rattle.chip_chain.specs.Seats.{AreBelow, IsKept, captures_boundary, ch
 ghost use Rattle.chip_chain.specs.Telling.{IsAt, sight};
 ghost use Rattle.jt_tap.specs.declared.State.TheVariants.{Reset};
 ghost use Rattle.jt_tap.specs.declared.Work.TheVariants.{Captures};
-ghost use Rattle.scan_registers.specs.Instruction.{meaning};
+ghost use Rattle.device_instructions.specs.Instruction.{meaning};
 
 use super::{Seat, tell};
 use crate::wiring::Wiring;

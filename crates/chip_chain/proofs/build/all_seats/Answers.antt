@@ -1,6 +1,6 @@
 use Rattle.std.proofs.Common.{length, map, sym, subst, arith}
 use Rattle.std.proofs.lemmas.List.{length-map}
-use Rattle.scan_registers.specs.Fitting.{IsFormed}
+use Rattle.device_instructions.specs.Fitting.{IsFormed}
 use Rattle.bsdl_device.specs.Device.{Device}
 use Rattle.board_file.specs.Fits.{HasCore}
 use Rattle.board_file.specs.View.{member as planned_member, net as planned_net}

@@ -1,7 +1,7 @@
 use Rattle.std.proofs.Common.{◌≡◌, length, sym, ap, ◌∙◌}
 use Rattle.std.proofs.lemmas.List.{with_items_is}
 use Rattle.bsdl_device.specs.Device.{Device}
-use Rattle.scan_registers.specs.Fitting.{fixed_of}
+use Rattle.device_instructions.specs.Fitting.{fixed_of}
 use Rattle.scan_registers.proofs.ChipLaws.{selected_there, fixed_long, captured_users}
 use Rattle.scan_registers.proofs.chip.Chip.capture.Goals as goal
 

@@ -1,8 +1,8 @@
 use Rattle.std.proofs.Common.{◌≡◌, false, length, sym, ap, subst, ◌∙◌, arith, if◌then◌else◌}
 use Rattle.std.proofs.lemmas.List.{length-replicate}
 use Rattle.bsdl_device.specs.Device.{Device}
-use Rattle.scan_registers.specs.Fitting.{IsFormed, Fits, has_code}
-use Rattle.scan_registers.specs.Instruction.{reset_latch}
+use Rattle.device_instructions.specs.Fitting.{IsFormed, Fits, has_code}
+use Rattle.device_instructions.specs.Instruction.{reset_latch}
 use Rattle.scan_registers.proofs.ChipLaws.{started, started_at, users_start}
 use Rattle.scan_registers.proofs.chip.Chip.new.Goals as goal
 

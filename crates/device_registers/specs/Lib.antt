@@ -1,0 +1,3 @@
+pub mod Registers
+pub mod Plain
+pub mod Users

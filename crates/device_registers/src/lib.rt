@@ -1,0 +1,11 @@
+//! The registers of one device (IEEE Std 1149.1-2001, clauses 7 and 9 to 12): the boundary register, as a chip needs
+//! it, and the user registers.
+#![tactic(auto)]
+
+mod plain;
+mod register;
+pub mod users;
+
+pub use plain::Plain;
+pub use register::Register;
+pub use users::UserRegister;

@@ -1,6 +1,0 @@
-use Rattle.std.proofs.Common.{◌≡◌, map, take}
-use Rattle.scan_registers.specs.Chips.{new_user}
-use Rattle.scan_registers.proofs.start.new_users.Given as goal
-
-abbrev pub invariant-loop-n : goal.invariant-loop-n
-invariant-loop-n l = l.users.items ≡ map new_user (take l.n-index l.lengths)
