@@ -18,7 +18,7 @@ use crate::wiring::{Miswired, check_pins};
 use board_library::{Describe, Library, cells_of, devices_of, read_files};
 use board_names::{BoardFault, distinct_files, read_table, told};
 use board_tables::{Places, check_fields, items_at, name_at};
-use scan_registers::SharedDevice;
+use device_instructions::SharedDevice;
 use std::alloc::{AllocError, Global};
 use toml::{Table, Value};
 

@@ -11,9 +11,9 @@ ghost use Rattle.board_file.specs.View as view;
 use board_library::described_at;
 use board_pins::find_pin;
 use board_tables::{Places, items_at, name_at, text_at};
+use device_instructions::SharedDevice;
 use jt_bits::Bits;
 use pin_nets::{Pin, Pull};
-use scan_registers::SharedDevice;
 use std::alloc::{AllocError, Global};
 use toml::{Table, Value};
 

@@ -8,7 +8,7 @@ ghost use Rattle.board_file.specs.View.{ChecksPins};
 
 use board_pins::{first_twice, first_unknown};
 use board_tables::Places;
-use scan_registers::SharedDevice;
+use device_instructions::SharedDevice;
 use std::alloc::Global;
 use toml::Value;
 

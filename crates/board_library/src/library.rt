@@ -11,7 +11,7 @@ ghost use Rattle.board_library.specs.View.{refused_with, files_of, stands_at, ce
 
 use board_tables::{Places, text_at};
 use bsdl_device::Device;
-use scan_registers::SharedDevice;
+use device_instructions::SharedDevice;
 use std::alloc::{AllocError, Global};
 use toml::{Table, Value};
 

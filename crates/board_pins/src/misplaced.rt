@@ -8,8 +8,8 @@ ghost use Rattle.board_pins.specs.Pins as spec;
 
 use crate::pins::find_pin;
 use board_tables::{Places, items_at};
+use device_instructions::SharedDevice;
 use pin_nets::Pin;
-use scan_registers::SharedDevice;
 use std::alloc::{AllocError, Global};
 use toml::Value;
 

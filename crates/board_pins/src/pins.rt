@@ -6,8 +6,8 @@ ghost use Rattle.board_pins.specs.Pins as spec;
 
 use board_tables::{PinText, Places, pin_of};
 use bsdl_device::Device;
+use device_instructions::SharedDevice;
 use pin_nets::Pin;
-use scan_registers::SharedDevice;
 use std::alloc::{AllocError, Global};
 
 /// The pin that a text names, given the names of all devices, and the devices.

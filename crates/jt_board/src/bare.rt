@@ -9,8 +9,8 @@ ghost use Rattle.jt_board.specs.Made.{bare_at, bare_planned, bare_wiring, two_bi
 
 use board_file::{Plan, PlannedDevice};
 use bsdl_device::{Cell, Device, Function, Names, Opcode, Parts, Pattern, Port, PortMode, Ports};
+use device_instructions::SharedDevice;
 use jt_bits::Bits;
-use scan_registers::SharedDevice;
 use std::alloc::{AllocError, Global};
 
 /// So many bare devices, named U1, U2 and so on, whose cores are 0.
