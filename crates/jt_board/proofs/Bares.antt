@@ -16,7 +16,8 @@ use Rattle.board_meaning.specs.Sound.{AllSound, IsChain}
 use Rattle.board_meaning.proofs.Powered.{powered_sound}
 use Rattle.chip_chain.specs.Building.{IsReady}
 use Rattle.chip_chain.specs.Chains.{powered_up}
-use Rattle.jt_board.specs.Made.{IsSoundWiring, bare_at, bare_planned, bare_wiring, board_of}
+use Rattle.jt_board.specs.Made.{IsSoundWiring, board_of}
+use Rattle.bare_boards.specs.Bares.{bare_at, bare_planned, bare_wiring}
 
 -- ---- sound devices
 
@@ -34,13 +35,6 @@ sound_chain w is =
     }
 
 -- ---- bare devices
-
-grown : (k n j : ℕ) → j ≡ k + n → bare_planned k (suc n) ≡ bare_planned k n ++ bare_at j ∷ []
-grown k zero j e = let at : j ≡ k = omega arith in ap (λ (m : ℕ). bare_at m ∷ []) (sym at)
-grown k (suc n) j e = ap (λ (r : List planned.Member). bare_at k ∷ r) (grown (suc k) n j (omega arith))
-
-pub bare_more : (n j : ℕ) → j ≡ n + 1 → bare_planned 1 (n + 1) ≡ bare_planned 1 n ++ bare_at j ∷ []
-bare_more n j e = let next : n + 1 ≡ suc n = omega arith in ap (bare_planned 1) next ∙ grown 1 n j (omega arith)
 
 bare-length : (k n : ℕ) → length (bare_planned k n) ≡ n
 bare-length k zero = refl
@@ -88,8 +82,3 @@ powered-bares k (suc n) = ap (λ (r : List Member). powered_up (bare_at k) ∷ r
 
 pub bare_is : (n : ℕ) → board_of (bare_wiring n) ≡ bare_board n
 bare_is n = ap (λ (ms : List Member). board_at_rest (power_up [] ms)) (powered-bares 1 n)
-
-pub bare_push : (n j : ℕ) (devices new : List planned.Member) (d : planned.Member) → j ≡ n + 1 → devices ≡ bare_planned 1 n → d ≡ bare_at j → new ≡ devices ++ d ∷ []
-    → new ≡ bare_planned 1 (n + 1)
-bare_push n j devices new d e are is pushed =
-    pushed ∙ ap (λ (l : List planned.Member). l ++ d ∷ []) are ∙ ap (λ (x : planned.Member). bare_planned 1 n ++ x ∷ []) is ∙ sym (bare_more n j e)

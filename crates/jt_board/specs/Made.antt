@@ -1,10 +1,8 @@
 -- Boards as they are made.
-use Rattle.std.specs.Prelude.{◌<◌, ◌≤◌, Bool, false, ℕ, zero, suc, List, [], ◌∷◌, length, map, Some}
+use Rattle.std.specs.Prelude.{◌<◌, ◌≤◌, Bool, length, map}
 use Rattle.std.specs.List.{AllByRecursion}
-use Rattle.bsdl_device.specs.Device.{Pattern}
 use Rattle.bsdl_device.specs.Sound.{IsSoundDevice}
 use Rattle.board_file.specs.Wiring as planned
-use Rattle.board_meaning.specs.Bare.{bare, bare_name}
 use Rattle.board_meaning.specs.Chain.{BoardState}
 use Rattle.board_meaning.specs.Resting.{power_up, board_at_rest}
 use Rattle.chip_chain.specs.Chains.{ChainValue, powered_up}
@@ -22,19 +20,3 @@ pub record IsSoundWiring (w : planned.Wiring) : Type 0 where
   pub some : 0 < length w.members
   pub most : length w.members ≤ 32
   pub sound : AllByRecursion (λ (m : planned.Member). IsSoundDevice m.device) w.members
-
--- the bare device U and this number, its core 0
-abbrev pub bare_at : ℕ → planned.Member
-bare_at k = record { name = bare_name k; device = bare; core = false ∷ []; extest_update = false }
-
--- n of them, the first with this number
-abbrev pub bare_planned : ℕ → ℕ → List planned.Member
-bare_planned k zero = []
-bare_planned k (suc n) = bare_at k ∷ bare_planned (suc k) n
-
-abbrev pub bare_wiring : ℕ → planned.Wiring
-bare_wiring n = record { members = bare_planned 1 n; nets = [] }
-
--- the opcode of two of these bits
-abbrev pub two_bits : Bool → Pattern
-two_bits bit = Some bit ∷ Some bit ∷ []

@@ -13,7 +13,7 @@ ghost use Rattle.jt_board.specs.Made.{IsSoundWiring, board_at, board_of};
 
 mod at_rest;
 
-use crate::bare::bare_plan;
+use bare_boards::bare_plan;
 use bitbang_table::Message;
 use board_file::Plan;
 use board_meaning::Reply;

@@ -1,7 +1,6 @@
 //! A simulated board of boundary-scan devices: IEEE Std 1149.1-2001, edge by edge.
 #![tactic(auto)]
 
-mod bare;
 mod board;
 mod from_text;
 mod report;

@@ -5,7 +5,7 @@ ghost use Rattle.bsdl_device.specs.Device as described;
 ghost use Rattle.bsdl_device.specs.declared.port_bits.Port.{Port as ThePort};
 ghost use Rattle.board_file.specs.View.{member, wiring};
 ghost use Rattle.board_meaning.specs.Bare.{bare};
-ghost use Rattle.jt_board.specs.Made.{bare_at, bare_planned, bare_wiring, two_bits};
+ghost use Rattle.bare_boards.specs.Bares.{bare_at, bare_planned, bare_wiring, two_bits};
 
 use board_file::{Plan, PlannedDevice};
 use bsdl_device::{Cell, Device, Function, Names, Opcode, Parts, Pattern, Port, PortMode, Ports};
@@ -14,7 +14,7 @@ use jt_bits::Bits;
 use std::alloc::{AllocError, Global};
 
 /// So many bare devices, named U1, U2 and so on, whose cores are 0.
-pub(crate) fn bare_plan(alloc: Global, n: usize) -> Result<Plan, AllocError>
+pub fn bare_plan(alloc: Global, n: usize) -> Result<Plan, AllocError>
     requires { n ≤ 32 }
     ensures { IfOk result (λ p. wiring p ≡ bare_wiring n) }
 {

@@ -1,8 +1,8 @@
 use Rattle.std.proofs.Common.{[], ◌∷◌, map, refl, ap, ◌∙◌}
 use Rattle.std.proofs.lemmas.List.{map-append}
 use Rattle.board_file.specs.View.{member}
-use Rattle.jt_board.proofs.Bares.{bare_push}
-use Rattle.jt_board.proofs.bare.bare_devices.Goals as goal
+use Rattle.bare_boards.proofs.BareLaws.{bare_push}
+use Rattle.bare_boards.proofs.bare.bare_devices.Goals as goal
 
 pub loop-i-preserved : goal.loop-i-preserved
 loop-i-preserved c =
