@@ -1,5 +1,5 @@
--- What the files that are handed in describe. A description stands in a file; `says` is the device that a text describes,
--- None where the text is refused.
+-- What the files that are handed in describe. A description stands in a file; `says` is the device that a text
+-- describes, None where the text is refused.
 use Rattle.std.specs.Prelude.{ℕ, List, [], ◌∷◌, length, filter_map, codes, bytes_eq, is_none}
 use Rattle.std.specs.Option.{option_or}
 use Rattle.std.specs.Prelude.{option_map, option_and_then, Option, Some, None}

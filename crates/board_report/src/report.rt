@@ -58,8 +58,8 @@ fn write_instruction_line<W: Sink>(
     write_field(name.as_bytes(), b" as BYPASS\n", out)
 }
 
-/// Writes a line for each device, from the one nearest TDO on: its name, the word of its controller's state, the bits of
-/// its instruction, highest first, and the instruction's name, `-` where it has none.
+/// Writes a line for each device, from the one nearest TDO on: its name, the word of its controller's state, the bits
+/// of its instruction, highest first, and the instruction's name, `-` where it has none.
 ///
 /// `Broken` comes exactly where the writer's first failure came in this call.
 pub fn write_devices<W: Sink>(chain: &Chain, out: &mut Counted<W>) -> Result<(), Broken>
