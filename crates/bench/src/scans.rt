@@ -86,10 +86,20 @@ pub fn rows(rt: &HostRuntime) -> io::Result<()> {
         return Ok(());
     }
     let vector = join(header.part(), data.part(), trailer.part());
-    let out = all_but_the_last(alloc, &vector)?;
-    let mut buffer = Vec::from_elem(alloc, 0, ROOM)?;
-    print_row(rt, "vector_bits", Unit::Bit, || Ok(vector_bits(&vector)))?;
-    print_row(rt, "judge", Unit::Bit, || Ok(judged(&vector, &out)))?;
+    bit_rows(rt, &vector)?;
+    byte_rows(rt, vector)
+}
+
+/// The rows of bits.
+fn bit_rows(rt: &HostRuntime, vector: &Vector) -> io::Result<()> {
+    let out = all_but_the_last(rt.alloc(), vector)?;
+    print_row(rt, "vector_bits", Unit::Bit, || Ok(vector_bits(vector)))?;
+    print_row(rt, "judge", Unit::Bit, || Ok(judged(vector, &out)))
+}
+
+/// The rows of bytes.
+fn byte_rows(rt: &HostRuntime, vector: Vector) -> io::Result<()> {
+    let mut buffer = Vec::from_elem(rt.alloc(), 0, ROOM)?;
     print_row(
         rt,
         "scan_bytes",

@@ -100,27 +100,42 @@ fn state_of(rt: &impl Abort, board: &Board) -> State {
 /// every part of the board as it was.
 #[test]
 fn bytes_in_every_state(rt: HostRuntime) -> Result<(), Fail> {
-    for (state, way) in WAYS {
+    for (state, way) in &WAYS[..] {
         for byte in 0..=255u8 {
-            let mut board = Board::bare(rt.alloc(), 2)?;
-            cycles(&mut board, way);
-            assert_eq!(rt; state_of(&rt, &board), state);
-            let before = shown(&rt, rt.alloc(), &board)?;
-            let reply = board.byte(byte);
-            let wanted = match byte {
-                b'0'..=b'7' | b'B' | b'b' | b'r'..=b'u' => Reply::Nothing,
-                b'R' => Reply::Answer(reading(state)),
-                b'Q' => Reply::Quit,
-                _ => Reply::Refused(byte),
-            };
-            assert_eq!(rt; reply, wanted, "{byte} in {state:?}");
-            if reply == Reply::Refused(byte) {
-                let after = shown(&rt, rt.alloc(), &board)?;
-                assert_eq!(rt; before.as_slice(), after.as_slice());
-            }
+            byte_in_state(&rt, rt.alloc(), byte, *state, way)?;
         }
     }
     Ok(())
+}
+
+/// One byte, given to a board that went this way into a state.
+fn byte_in_state(
+    rt: &impl Abort,
+    alloc: Global,
+    byte: u8,
+    state: State,
+    way: &[u8],
+) -> Result<(), Fail> {
+    let mut board = Board::bare(alloc, 2)?;
+    cycles(&mut board, way);
+    assert_eq!(rt; state_of(rt, &board), state);
+    let before = shown(rt, alloc, &board)?;
+    let reply = board.byte(byte);
+    assert_eq!(rt; reply, reply_to(byte, state), "{byte} in {state:?}");
+    if reply == Reply::Refused(byte) {
+        let after = shown(rt, alloc, &board)?;
+        assert_eq!(rt; before.as_slice(), after.as_slice());
+    }
+    Ok(())
+}
+
+fn reply_to(byte: u8, state: State) -> Reply {
+    match byte {
+        b'0'..=b'7' | b'B' | b'b' | b'r'..=b'u' => Reply::Nothing,
+        b'R' => Reply::Answer(reading(state)),
+        b'Q' => Reply::Quit,
+        _ => Reply::Refused(byte),
+    }
 }
 
 /// What TDO reads: undriven 1; in DRSHIFT the bypass bit, which captured 0; in IRSHIFT the capture's lowest bit, 1.

@@ -155,29 +155,35 @@ fn the_first_bad_bit(rt: HostRuntime) -> Result<(), Fail> {
     for n in LENGTHS {
         let mut got = Both::mixed(&rt, rt.alloc(), n)?;
         got.shift(&rt, 70);
-        let mut want = got.bits.resized(rt.alloc(), n)?;
-        let mut mask = Bits::ones(rt.alloc(), n)?;
-        assert!(rt; got.bits.len() == want.len() && got.bits.len() == mask.len());
-        assert_eq!(rt; first_bad(&got.bits, &want, &mask), None);
-        let (early, late) = (n / 2, n.saturating_sub(1));
-        for i in [late, early] {
-            if i < want.len() {
-                let bit = got.bits.len() > i && got.bits.get(i);
-                want.set(i, !bit);
-                assert!(rt; got.bits.len() == want.len() && got.bits.len() == mask.len());
-                assert_eq!(rt; first_bad(&got.bits, &want, &mask), Some(i));
-            }
-        }
-        if early < mask.len() {
-            mask.set(early, false);
-            assert!(rt; got.bits.len() == want.len() && got.bits.len() == mask.len());
-            assert_eq!(rt;
-                first_bad(&got.bits, &want, &mask),
-                if early < late { Some(late) } else { None }
-            );
-        }
+        assert_first_bad(&rt, rt.alloc(), &got.bits, n)?;
     }
     Ok(())
+}
+
+/// The first bad bit of these, where none differs, then the last, then the middle one too, then where that is masked.
+fn assert_first_bad(rt: &impl Abort, alloc: Global, got: &Bits, n: usize) -> Result<(), Fail> {
+    let mut want = got.resized(alloc, n)?;
+    let mut mask = Bits::ones(alloc, n)?;
+    assert_bad(rt, got, &want, &mask, None);
+    let (early, late) = (n / 2, n.saturating_sub(1));
+    for i in [late, early] {
+        if i < want.len() {
+            let bit = got.len() > i && got.get(i);
+            want.set(i, !bit);
+            assert_bad(rt, got, &want, &mask, Some(i));
+        }
+    }
+    if early < mask.len() {
+        mask.set(early, false);
+        let left = if early < late { Some(late) } else { None };
+        assert_bad(rt, got, &want, &mask, left);
+    }
+    Ok(())
+}
+
+fn assert_bad(rt: &impl Abort, got: &Bits, want: &Bits, mask: &Bits, first: Option<usize>) {
+    assert!(rt; got.len() == want.len() && got.len() == mask.len());
+    assert_eq!(rt; first_bad(got, want, mask), first);
 }
 
 #[test]
