@@ -82,6 +82,16 @@ pub fn rows(rt: &HostRuntime) -> io::Result<()> {
     let header = Written::mixed(alloc, HEADER)?;
     let data = Written::mixed(alloc, DATA)?;
     let trailer = Written::mixed(alloc, TRAILER)?;
+    rows_of_parts(rt, &header, &data, &trailer)
+}
+
+/// The rows of a vector of these parts.
+fn rows_of_parts(
+    rt: &HostRuntime,
+    header: &Written,
+    data: &Written,
+    trailer: &Written,
+) -> io::Result<()> {
     if header.len > HEADER || data.len > DATA || trailer.len > TRAILER {
         return Ok(());
     }
