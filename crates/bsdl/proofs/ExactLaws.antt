@@ -12,7 +12,8 @@ use Rattle.bsdl_entity.specs.Entity.{File}
 use Rattle.bsdl_described.specs.Describing.{Description, Refusal, described, ◌>>?◌}
 use Rattle.bsdl_lengths.specs.Lengths.{access_fits, agree, patterns_captured, captures_fit, codes_fit, differ, has_bits, has_len, instructions_fit, is_empty, row_len}
 use Rattle.bsdl_limits.specs.Users.{is_other, is_user, user_number, users_of}
-use Rattle.bsdl_built.specs.Built.{access, accesses_of_row, device, public_place}
+use Rattle.bsdl_opcodes.specs.Accesses.{access, accesses_of_row, public_place}
+use Rattle.bsdl_built.specs.Built.{device}
 use Rattle.bsdl.specs.Exact.{IsExactAccess, IsExactAt, IsExactDevice, Takes}
 use Rattle.bsdl.specs.Form.{text_form}
 use Rattle.bsdl.specs.Judging.{fault, file_says, device_or_refusal, text_says}

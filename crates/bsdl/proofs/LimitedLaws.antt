@@ -20,7 +20,8 @@ use Rattle.bsdl_limits.specs.PortBits.{highest, width}
 use Rattle.bsdl_limits.specs.Users.{users_of}
 use Rattle.bsdl_twice.specs.ResetOpcode.{opcode}
 use Rattle.bsdl_twice.specs.Twice.{given_again}
-use Rattle.bsdl_built.specs.Built.{cell, device, port_bits}
+use Rattle.bsdl_boundary.specs.Boundary.{cell, port_bits}
+use Rattle.bsdl_built.specs.Built.{device}
 use Rattle.bsdl.specs.Form.{text_form}
 use Rattle.bsdl.specs.Judging.{fault, file_says, device_or_refusal, text_says, twice_in, unless}
 use Rattle.bsdl.specs.Limited.{HasLengthIfGiven, HasPatternsOf, IsLimitedDevice}

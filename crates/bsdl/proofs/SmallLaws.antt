@@ -15,7 +15,8 @@ use Rattle.bsdl_entity.specs.Entity.{File, Given, file}
 use Rattle.bsdl_described.specs.Describing.{Description, Refusal, as_accesses, as_cells, as_count, as_names, as_opcodes, as_pattern, as_port, described, is_attribute, is_own, need, own_accesses, too_large, value_given, with_own, ◌>>?◌}
 use Rattle.bsdl_twice.specs.ResetOpcode.{opcode}
 use Rattle.bsdl_limits.specs.Users.{users_of}
-use Rattle.bsdl_built.specs.Built.{access, accesses_of_row, device}
+use Rattle.bsdl_opcodes.specs.Accesses.{access, accesses_of_row}
+use Rattle.bsdl_built.specs.Built.{device}
 use Rattle.bsdl.specs.Form.{read_form, text_form, text_limit, tokens_form}
 use Rattle.bsdl.specs.Judging.{fault, file_says, device_or_refusal, text_says}
 use Rattle.bsdl.specs.Small.{IsSmallDevice, access_size, opcode_size, total}

@@ -15,7 +15,9 @@ use Rattle.bsdl_fit.specs.Fits.{rows_numbered}
 use Rattle.bsdl_lengths.specs.Lengths.{access_fits, agree, patterns_captured, captures_fit, codes_fit, has_bits, has_len, instructions_fit, is_empty, lengths_fit, row_len}
 use Rattle.bsdl_limits.specs.Users.{is_other, user_number, users_of}
 use Rattle.bsdl_twice.specs.Twice.{given_again}
-use Rattle.bsdl_built.specs.Built.{access, accesses_of_row, cell, cells_of, device, public_place}
+use Rattle.bsdl_opcodes.specs.Accesses.{access, accesses_of_row, public_place}
+use Rattle.bsdl_boundary.specs.Boundary.{cell, cells_of}
+use Rattle.bsdl_built.specs.Built.{device}
 use Rattle.bsdl.specs.Form.{text_form}
 use Rattle.bsdl.specs.Judging.{fault, file_says, device_or_refusal, text_says, twice_in, unless}
 use Rattle.bsdl.proofs.OnceLaws.{both, each_cell_once, holds, neither}

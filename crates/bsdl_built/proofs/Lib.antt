@@ -1,3 +1,0 @@
-pub mod BitLaws
-pub mod CellLaws
-pub mod NumberLaws

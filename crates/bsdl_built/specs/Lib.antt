@@ -1,2 +1,1 @@
-pub mod Bits
 pub mod Built

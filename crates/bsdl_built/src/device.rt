@@ -2,18 +2,19 @@
 ghost use Rattle.std.specs.Prelude.{◌≡◌, ◌<◌, ◌==◌, ℕ, filter, length, map, IfOk};
 ghost use Rattle.bsdl_text.specs.View.{value};
 ghost use Rattle.bsdl_described.specs.View.{description};
+ghost use Rattle.bsdl_boundary.specs.Boundary as boundary;
 ghost use Rattle.bsdl_built.specs.Built as spec;
 
-use crate::accesses::accesses_of;
-use crate::bits::firsts_of;
-use crate::cells::cells_of;
-use crate::patterns::{bits_of, code_of, opcodes_of, private_names_of};
-use crate::ports::{ports_of, size_of};
+use bsdl_boundary::bits::firsts_of;
+use bsdl_boundary::cells::cells_of;
+use bsdl_boundary::ports::{ports_of, size_of};
 use bsdl_described::description::Description;
 use bsdl_device::{Cell, Device, Parts};
 use bsdl_entity::entity::Outline;
 use bsdl_fit::places::places_of;
 use bsdl_limits::users::users_of;
+use bsdl_opcodes::accesses::accesses_of;
+use bsdl_opcodes::patterns::{bits_of, code_of, opcodes_of, private_names_of};
 use bsdl_text::numbers::Digits;
 use std::alloc::{AllocError, Global};
 
@@ -62,7 +63,7 @@ fn boundary_of(
 ) -> Result<Vec<Cell>, AllocError>
     ensures { IfOk result (λ v. ((k : ℕ) → k < (description outline.now described.now).boundary_length
         → length (filter (λ r. r.number == k) (description outline.now described.now).cells) ≡ 1) → v.items
-        ≡ spec.cells_of (description outline.now described.now).ports (description outline.now described.now).cells
+        ≡ boundary.cells_of (description outline.now described.now).ports (description outline.now described.now).cells
         (description outline.now described.now).boundary_length) }
 {
     let places = places_of(alloc, &outline.groups)?;

@@ -1,9 +1,4 @@
 //! The device that a description says, once it is judged (BSDL: IEEE Std 1149.1-2001, Annex B).
 #![tactic(auto)]
 
-pub mod accesses;
-pub mod bits;
-pub mod cells;
 pub mod device;
-pub mod patterns;
-pub mod ports;

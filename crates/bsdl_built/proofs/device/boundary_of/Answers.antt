@@ -5,8 +5,8 @@ use Rattle.bsdl_ports.specs.View as ports_view
 use Rattle.bsdl_described.specs.View.{description}
 use Rattle.bsdl_fit.specs.Places.{find_port}
 use Rattle.bsdl_fit.specs.View.{AreAt}
-use Rattle.bsdl_built.specs.Bits.{firsts}
-use Rattle.bsdl_built.specs.Built.{cells_of}
+use Rattle.bsdl_boundary.specs.Bits.{firsts}
+use Rattle.bsdl_boundary.specs.Boundary.{cells_of}
 use Rattle.bsdl_built.proofs.device.boundary_of.Goals as goal
 
 pub returns : goal.returns

@@ -1,0 +1,11 @@
+use Rattle.std.proofs.Common.{map, ◌∙◌}
+use Rattle.std.specs.BTreeMap.{get}
+use Rattle.std.specs.Ordering.{nat_cmp}
+use Rattle.bsdl_cells.specs.View.{cell_row}
+use Rattle.bsdl_boundary.specs.Boundary.{cell}
+use Rattle.bsdl_boundary.proofs.CellLaws.{each_once}
+use Rattle.bsdl_boundary.proofs.cells.cells_of.Goals as goal
+
+pub returns : goal.returns
+returns c = λ ps at bits_are once.
+    c.in_ok-cells.ensures ∙ each_once (cell ps) (map cell_row c.args.rows.now) (get nat_cmp c.in_ok-table.table) c.args.len (c.in_ok-table.ensures ps at bits_are) once

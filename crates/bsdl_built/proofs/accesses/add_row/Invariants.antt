@@ -1,7 +1,0 @@
-use Rattle.std.proofs.Common.{◌≡◌, ◌++◌, map, take}
-use Rattle.bsdl_instructions.specs.View.{instr}
-use Rattle.bsdl_built.specs.Built.{access}
-use Rattle.bsdl_built.proofs.accesses.add_row.Given as goal
-
-abbrev pub invariant-loop-instr : goal.invariant-loop-instr
-invariant-loop-instr l = l.accesses.items ≡ l.initial.accesses.items ++ map (access l.place l.is_own) (map instr (take l.instr-index l.row.instrs.items))

@@ -1,7 +1,0 @@
-use Rattle.std.proofs.Common.{◌≡◌, map, take}
-use Rattle.bsdl_instructions.specs.View.{opcode_row}
-use Rattle.bsdl_twice.specs.ResetOpcode.{opcode}
-use Rattle.bsdl_built.proofs.patterns.opcodes_of.Given as goal
-
-abbrev pub invariant-loop-row : goal.invariant-loop-row
-invariant-loop-row l = l.opcodes.items ≡ map opcode (map opcode_row (take l.row-index l.rows))

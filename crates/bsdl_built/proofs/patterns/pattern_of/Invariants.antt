@@ -1,6 +1,0 @@
-use Rattle.std.proofs.Common.{◌≡◌, map, take}
-use Rattle.bsdl_instructions.specs.Values.{bit}
-use Rattle.bsdl_built.proofs.patterns.pattern_of.Given as goal
-
-abbrev pub invariant-loop-digit : goal.invariant-loop-digit
-invariant-loop-digit l = l.bits.items ≡ map bit (take l.digit-index l.pattern.digits.items)
