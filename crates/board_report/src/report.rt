@@ -7,7 +7,7 @@ ghost use Rattle.board_report.specs.Report as spec;
 ghost use Rattle.board_report.specs.LeftOut.{device_lines, left_out_line};
 ghost use Rattle.board_report.specs.Report.{level_word as said_level};
 ghost use Rattle.board_meaning.specs.Chain.{members};
-ghost use Rattle.chip_chain.specs.Seats.{chip_state};
+ghost use Rattle.chip_seats.specs.Seats.{chip_state};
 ghost use Rattle.device_instructions.specs.Instruction.{instruction};
 
 use board_file::left_out;

@@ -12,10 +12,10 @@ use Rattle.board_meaning.specs.Cells.{Member, drive}
 use Rattle.board_meaning.specs.Chain as chain
 use Rattle.board_meaning.specs.Chain.{ChipState, members, rise_all, tdi_before}
 use Rattle.board_meaning.specs.Nets.{joins, pin_drive, sees}
-use Rattle.chip_chain.specs.Seats.{AllTold, AreBelow, IsKept, SeatValue, cell_net, chip_state, first_net, may_drive_anew, member_of}
+use Rattle.chip_seats.specs.Seats.{AllTold, AreBelow, IsKept, SeatValue, cell_net, chip_state, first_net, may_drive_anew, member_of}
 use Rattle.chip_chain.specs.Sweeping.{EachFrom, Falls, Rises, TakesTrst}
-use Rattle.chip_chain.specs.Wires.{AreSeated, AreWired, IsWired, WiringValue}
-use Rattle.chip_chain.proofs.EdgeLaws.{fall_drives, rise_drives}
+use Rattle.chip_seats.specs.Wires.{AreSeated, AreWired, IsWired, WiringValue}
+use Rattle.chip_seats.proofs.EdgeLaws.{fall_drives, rise_drives}
 use Rattle.chip_chain.proofs.SweepLaws.{each_long}
 
 -- ---- TDO

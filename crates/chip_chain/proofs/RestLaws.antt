@@ -20,13 +20,14 @@ use Rattle.board_meaning.specs.Chain.{ChipState, members}
 use Rattle.board_meaning.specs.Nets.{sees}
 use Rattle.board_meaning.specs.Resting.{chip_at_rest}
 use Rattle.board_meaning.specs.Whole.{capture_all, capture_member, out_of_members, selected_bits_of, cut_back, joined_bits, settled_member, trst_member}
-use Rattle.chip_chain.specs.AtRest.{AssertsTrst, CapturesAt, Changes, IsPutInto, Stands, as_member, as_members}
+use Rattle.chip_chain.specs.AtRest.{AssertsTrst, CapturesAt, Changes, Stands, as_members}
+use Rattle.chip_seats.specs.AtRest.{IsPutInto, as_member}
 use Rattle.chip_chain.specs.AtRest.{shifted_through}
-use Rattle.chip_chain.specs.Seats.{AllTold, IsKept, SeatValue, chip_state, member_of}
+use Rattle.chip_seats.specs.Seats.{AllTold, IsKept, SeatValue, chip_state, member_of}
 use Rattle.chip_chain.specs.Sweeping.{EachFrom}
-use Rattle.chip_chain.specs.Wires.{AreSeated, AreWired, IsWired, WiringValue}
+use Rattle.chip_seats.specs.Wires.{AreSeated, AreWired, IsWired, WiringValue}
 use Rattle.chip_chain.proofs.ChainLaws.{all_chips, all_told, kept_cells, same_drives, seats_members}
-use Rattle.chip_chain.proofs.EdgeLaws.{rise_drives, put-latch, put-update}
+use Rattle.chip_seats.proofs.EdgeLaws.{rise_drives, put-latch, put-update}
 use Rattle.chip_chain.proofs.SweepLaws.{each_long}
 
 -- ---- what stays wired where nothing is driven anew

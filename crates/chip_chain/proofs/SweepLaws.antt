@@ -2,7 +2,7 @@
 use Rattle.std.proofs.Common.{◌≡◌, ◌≢◌, ◌<◌, ◌≤◌, ℕ, zero, suc, ◌+◌, List, [], ◌∷◌, length, map, drop, set, slice_get, Some, refl, sym, ap, subst, ◌∙◌, arith, ◌⊎◌, inl, inr, ⊎_elim}
 use Rattle.std.proofs.lemmas.List.{length-set}
 use Rattle.std.proofs.lemmas.Option.{same_Some, slice_get_within}
-use Rattle.chip_chain.specs.Seats.{SeatValue}
+use Rattle.chip_seats.specs.Seats.{SeatValue}
 use Rattle.chip_chain.specs.Sweeping.{EachFrom}
 
 -- the first i of them are done, the others as they were

@@ -2,9 +2,9 @@
 use Rattle.std.specs.Prelude.{◌≡◌, ◌+◌, Bool, ℕ, suc, List, [], ◌∷◌, drop, map, if◌then◌else◌}
 use Rattle.board_meaning.specs.Cells.{Member}
 use Rattle.board_meaning.specs.Chain as chain
-use Rattle.chip_chain.specs.Seats.{IsKept, SeatValue, chip_state}
-use Rattle.chip_chain.specs.Telling.{IsAt, sight}
-use Rattle.chip_chain.specs.Wires.{WiringValue}
+use Rattle.chip_seats.specs.Seats.{IsKept, SeatValue, chip_state}
+use Rattle.chip_seats.specs.Telling.{IsAt, sight}
+use Rattle.chip_seats.specs.Wires.{WiringValue}
 
 -- each device, from this place on, stands to the one it became as R has it
 abbrev pub EachFrom : (R : ℕ → SeatValue → SeatValue → Type 0) → ℕ → List SeatValue → List SeatValue → Type 0

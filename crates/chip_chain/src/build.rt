@@ -1,21 +1,13 @@
 //! A planned chain, powered up.
 
-ghost use Rattle.std.specs.Prelude.{◌≡◌, ◌++◌, length, map, IfOk, OnOk};
-ghost use Rattle.std.specs.List.{range_with_len};
-ghost use Rattle.pin_nets.specs.Building.{net_value};
-ghost use Rattle.board_file.specs.Fits.{all_pins};
-ghost use Rattle.board_file.specs.View.{member as planned_member, net as planned_net, wiring};
-ghost use Rattle.chip_chain.specs.Building.{EntersNet, HasNets, IsReady, PortsFit, net_by, seats_of};
+ghost use Rattle.std.specs.Prelude.{◌≡◌, IfOk};
+ghost use Rattle.board_file.specs.View.{wiring};
+ghost use Rattle.chip_seats.specs.Building.{IsReady};
 ghost use Rattle.chip_chain.specs.Chains.{chain_of};
-ghost use Rattle.chip_chain.specs.Seats.{cell_net};
-ghost use Rattle.chip_chain.specs.Wires.{numbered};
 
 use crate::chain::Chain;
-use crate::seat::Seat;
-use crate::wiring::Wiring;
-use board_file::{Plan, PlannedDevice, PlannedNet};
-use bsdl_device::Device;
-use pin_nets::{NetSpec, Pin};
+use board_file::Plan;
+use chip_seats::{Wiring, all_seats};
 use std::alloc::{AllocError, Global};
 
 impl Chain {
@@ -31,114 +23,4 @@ impl Chain {
         wiring.refresh(&seats);
         Ok(Chain::of(seats, wiring))
     }
-}
-
-/// The devices, each with the nets of its cells.
-fn all_seats(
-    alloc: Global,
-    devices: &[PlannedDevice],
-    nets: &[PlannedNet],
-) -> Result<Vec<Seat>, AllocError>
-    requires { IsReady (record { members = map planned_member devices.now; nets = map planned_net nets.now }) }
-    ensures { IfOk result (λ v. v.items ≡ seats_of (map planned_net nets.now) 0 (map planned_member devices.now)) }
-{
-    let mut seats = Vec::with_capacity(alloc, devices.len())?;
-    for place in 0..devices.len() {
-        let device = &devices[place];
-        let cells = cell_nets(alloc, nets, place, device.device.get())?;
-        seats.push(Seat::new(alloc, device, cells)?)?;
-    }
-    Ok(seats)
-}
-
-/// The net of each cell of the device at a place.
-fn cell_nets(
-    alloc: Global,
-    nets: &[PlannedNet],
-    place: usize,
-    device: &Device,
-) -> Result<Vec<Option<usize>>, AllocError>
-    requires { PortsFit place (length device.now.ports) (map planned_net nets.now) }
-    ensures { IfOk result (λ v. v.items ≡ map (cell_net (map planned_net nets.now) place) device.now.cells) }
-{
-    let table = port_nets(alloc, nets, place, device.port_count())?;
-    let mut all = Vec::with_capacity(alloc, device.cells().len())?;
-    for cell in device.cells() {
-        all.push(net_in(&table, cell.port))?;
-    }
-    Ok(all)
-}
-
-/// The net of a port bit, by a table of the first of them.
-fn net_in(table: &[Option<usize>], port: Option<usize>) -> Option<usize>
-    ensures { result ≡ net_by table.now port }
-{
-    match port {
-        Some(port) if port < table.len() => table[port],
-        _ => None,
-    }
-}
-
-/// Of each of the first `ports` port bits of the device at a place its net.
-fn port_nets(
-    alloc: Global,
-    nets: &[PlannedNet],
-    place: usize,
-    ports: usize,
-) -> Result<Vec<Option<usize>>, AllocError>
-    ensures long { IfOk result (λ v. length v.items ≡ ports) }
-    ensures nets { IfOk result (λ v. HasNets place (map planned_net nets.now) v.items) }
-{
-    let mut table = Vec::from_elem(alloc, None, ports)?;
-    let mut net = nets.len();
-    while net > 0 {
-        net -= 1;
-        enter_net(&mut table, place, net, &nets[net].pins);
-    }
-    Ok(table)
-}
-
-/// Enters a net at the port bits of the device at a place.
-fn enter_net(table: &mut [Option<usize>], place: usize, net: usize, pins: &[Pin])
-    ensures { EntersNet place net pins.now table.old table.new }
-{
-    for pin in pins {
-        if pin.device == place && pin.port < table.len() {
-            table[pin.port] = Some(net);
-        }
-    }
-}
-
-/// The nets by the numbers of their pins, which stand behind those that are there.
-pub(crate) fn number_nets(
-    alloc: Global,
-    nets: &[PlannedNet],
-    pins: &mut Vec<Pin>,
-) -> Result<Vec<NetSpec>, AllocError>
-    ensures nets { IfOk result
-        (λ v. map net_value v.items ≡ numbered (length pins.old.items) (map planned_net nets.now)) }
-    ensures pins { OnOk result (pins.new.items ≡ pins.old.items ++ all_pins (map planned_net nets.now)) }
-{
-    let mut specs = Vec::with_capacity(alloc, nets.len())?;
-    for net in nets {
-        let numbers = number_pins(alloc, &net.pins, pins)?;
-        specs.push(NetSpec {
-            pins: numbers,
-            pull: net.pull,
-        })?;
-    }
-    Ok(specs)
-}
-
-/// The numbers of more pins.
-fn number_pins(alloc: Global, more: &[Pin], pins: &mut Vec<Pin>) -> Result<Vec<usize>, AllocError>
-    ensures numbers { IfOk result (λ v. v.items ≡ range_with_len (length pins.old.items) (length more.now)) }
-    ensures pins { OnOk result (pins.new.items ≡ pins.old.items ++ more.now) }
-{
-    let mut numbers = Vec::with_capacity(alloc, more.len())?;
-    for pin in more {
-        numbers.push(pins.len())?;
-        pins.push(*pin)?;
-    }
-    Ok(numbers)
 }

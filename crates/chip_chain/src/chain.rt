@@ -5,14 +5,13 @@ ghost use Rattle.std.specs.Prelude.{if◌then◌else◌};
 ghost use Rattle.std.specs.List.{list_any};
 ghost use Rattle.board_meaning.specs.Chain as meant;
 ghost use Rattle.board_meaning.specs.Nets as nets;
-ghost use Rattle.chip_chain.specs.Seats.{AllTold, chip_state, may_drive_anew};
+ghost use Rattle.chip_seats.specs.Seats.{AllTold, chip_state, may_drive_anew};
 ghost use Rattle.chip_chain.specs.Sweeping.{EachFrom, Falls, Rises, TakesTrst};
-ghost use Rattle.chip_chain.specs.Wires.{IsWired};
+ghost use Rattle.chip_seats.specs.Wires.{IsWired};
 
 mod at_rest;
 
-use crate::seat::{Seat, rise};
-use crate::wiring::Wiring;
+use chip_seats::{Seat, Wiring, rise};
 use jt_tap::Work;
 use pin_nets::Level;
 use std::marker::Model;
@@ -29,8 +28,8 @@ pub struct Chain {
 impl Model for Chain {
     ghost use Rattle.std.specs.Prelude.{map};
     ghost use Rattle.chip_chain.specs.Chains.{ChainValue};
-    ghost use Rattle.chip_chain.specs.Seats.{AllTold, chip_state};
-    ghost use Rattle.chip_chain.specs.Wires.{IsWired};
+    ghost use Rattle.chip_seats.specs.Seats.{AllTold, chip_state};
+    ghost use Rattle.chip_seats.specs.Wires.{IsWired};
 
     ghost Value = { ChainValue };
 

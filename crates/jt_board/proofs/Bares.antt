@@ -14,7 +14,7 @@ use Rattle.board_meaning.specs.Chain.{members}
 use Rattle.board_meaning.specs.Resting.{power_up, board_at_rest, chip_at_rest}
 use Rattle.board_meaning.specs.Sound.{AllSound, IsChain}
 use Rattle.board_meaning.proofs.Powered.{powered_sound}
-use Rattle.chip_chain.specs.Building.{IsReady}
+use Rattle.chip_seats.specs.Building.{IsReady}
 use Rattle.chip_chain.specs.Chains.{powered_up}
 use Rattle.jt_board.specs.Made.{IsSoundWiring, board_of}
 use Rattle.bare_boards.specs.Bares.{bare_at, bare_planned, bare_wiring}

@@ -17,7 +17,7 @@ use Rattle.board_names.specs.declared.fault.BoardFault.{BoardFault}
 use Rattle.board_names.specs.declared.fault.BoardFault.TheVariants as fault
 use Rattle.board_file.specs.declared.plan.Plan.{Plan}
 use Rattle.board_meaning.specs.Chain.{BoardState}
-use Rattle.chip_chain.specs.Building.{IsReady}
+use Rattle.chip_seats.specs.Building.{IsReady}
 use Rattle.jt_board.specs.FromText.{TellsMade, IsWhyRefused, said_device}
 use Rattle.jt_board.specs.Made.{IsSoundWiring, board_of}
 

@@ -8,7 +8,7 @@ ghost use Rattle.board_names.specs.declared.fault.BoardFault.TheVariants as faul
 ghost use Rattle.board_meaning.specs.Bare.{bare_board};
 ghost use Rattle.board_meaning.specs.Chain as chain;
 ghost use Rattle.board_meaning.specs.Sound.{IsSoundBoard};
-ghost use Rattle.chip_chain.specs.Building.{IsReady};
+ghost use Rattle.chip_seats.specs.Building.{IsReady};
 ghost use Rattle.jt_board.specs.Made.{IsSoundWiring, board_at, board_of};
 
 mod at_rest;

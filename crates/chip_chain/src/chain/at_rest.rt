@@ -8,15 +8,13 @@ ghost use Rattle.board_meaning.specs.Resting.{chip_at_rest};
 ghost use Rattle.board_meaning.specs.Whole as whole;
 ghost use Rattle.chip_chain.specs.AtRest.{AssertsTrst, CapturesAt, Changes, Stands, chain_as, shifted_through};
 ghost use Rattle.chip_chain.specs.Sweeping.{EachFrom};
-ghost use Rattle.chip_chain.specs.Wires.{IsWired};
+ghost use Rattle.chip_seats.specs.Wires.{IsWired};
 ghost use Rattle.jt_tap.specs.declared.State.TheVariants.{Reset};
 ghost use Rattle.scan_vectors.specs.Held.{bits};
 ghost use Rattle.scan_vectors.specs.Vector.{judge, tdis};
 
 use super::Chain;
-use crate::seat::Seat;
-use crate::seat::at_rest::capture;
-use crate::wiring::Wiring;
+use chip_seats::{Seat, Wiring, capture};
 use jt_tap::{Column, State};
 use scan_vectors::{Part, Vector};
 use whole_chain::{judge_chain, shift_chain};

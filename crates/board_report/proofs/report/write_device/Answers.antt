@@ -3,7 +3,7 @@ use Rattle.std.proofs.lemmas.Grind.{common_steps}
 use Rattle.std.specs.Prelude.{codes}
 use Rattle.byte_ends.proofs.Fronts.{WritesAll-is, WritesAll-then, WritesAll-stopped}
 use Rattle.jt_tap.specs.Words.{word}
-use Rattle.chip_chain.specs.Seats.{chip_state}
+use Rattle.chip_seats.specs.Seats.{chip_state}
 use Rattle.board_report.specs.Report.{instruction_part}
 use Rattle.board_report.proofs.report.write_device.Goals as goal
 

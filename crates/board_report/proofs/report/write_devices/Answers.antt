@@ -7,7 +7,7 @@ use Rattle.std.proofs.KnownBytes.{Appends-trans}
 use Rattle.byte_ends.proofs.Fronts.{WritesAll-lost, WritesAll-done}
 use Rattle.byte_ends.proofs.Pieces.{flat_map-more, flat_map-split}
 use Rattle.board_meaning.specs.Chain.{ChipState}
-use Rattle.chip_chain.specs.Seats.{chip_state}
+use Rattle.chip_seats.specs.Seats.{chip_state}
 use Rattle.board_report.specs.Report.{device_line}
 use Rattle.board_report.proofs.report.write_devices.Goals as goal
 

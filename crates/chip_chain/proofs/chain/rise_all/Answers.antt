@@ -1,9 +1,9 @@
 use Rattle.std.proofs.Common.{◌≡◌, ◌+◌, Some, get_or, slice_get, drop, map, sym, ap, ◌∙◌, arith}
 use Rattle.std.proofs.lemmas.Option.{slice_get-get_or}
 use Rattle.board_meaning.specs.Chain as chain
-use Rattle.chip_chain.specs.Seats.{chip_state}
+use Rattle.chip_seats.specs.Seats.{chip_state}
 use Rattle.chip_chain.specs.Sweeping.{Rises}
-use Rattle.chip_chain.specs.Telling.{sight}
+use Rattle.chip_seats.specs.Telling.{sight}
 use Rattle.chip_chain.proofs.SweepLaws.{drop_alike, map_drop, swept_all, swept_more}
 use Rattle.chip_chain.proofs.ChainLaws.{net_below}
 use Rattle.chip_chain.proofs.chain.rise_all.Goals as goal

@@ -4,7 +4,7 @@ use Rattle.board_meaning.specs.Chain.{members}
 use Rattle.board_meaning.specs.Nets as nets
 use Rattle.board_meaning.specs.Nets.{pin_drive}
 use Rattle.chip_chain.specs.Chains.{ChainValue}
-use Rattle.chip_chain.specs.Seats.{member_of}
+use Rattle.chip_seats.specs.Seats.{member_of}
 use Rattle.chip_chain.proofs.ChainLaws.{seats_members}
 use Rattle.chip_chain.proofs.chain.Chain.level.Goals as goal
 

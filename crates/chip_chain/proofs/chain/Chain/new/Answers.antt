@@ -6,10 +6,11 @@ use Rattle.board_file.specs.declared.plan.PlannedDevice.{PlannedDevice}
 use Rattle.board_file.specs.declared.plan.PlannedNet.{PlannedNet}
 use Rattle.board_meaning.specs.Chain.{ChipState}
 use Rattle.board_meaning.specs.Nets.{pin_drive}
-use Rattle.chip_chain.specs.Building.{seats_of}
-use Rattle.chip_chain.specs.Seats.{AllTold, SeatValue, chip_state, member_of}
-use Rattle.chip_chain.specs.Wires.{IsWired, WiringValue}
-use Rattle.chip_chain.proofs.BuildLaws.{seats_stand, seats_told, start_seated, start_wired}
+use Rattle.chip_seats.specs.Building.{seats_of}
+use Rattle.chip_seats.specs.Seats.{AllTold, SeatValue, chip_state, member_of}
+use Rattle.chip_seats.specs.Wires.{IsWired, WiringValue}
+use Rattle.chip_seats.proofs.BuildLaws.{seats_told, start_seated, start_wired}
+use Rattle.chip_chain.proofs.PowerLaws.{seats_stand}
 use Rattle.chip_chain.proofs.chain.Chain.new.Goals as goal
 
 pub refresh-requires : goal.refresh-requires

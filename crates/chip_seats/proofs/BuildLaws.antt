@@ -1,0 +1,309 @@
+-- How a planned chain is made, device after device and net after net.
+use Rattle.std.proofs.Common.{◌≡◌, ◌<◌, ◌≤◌, ℕ, zero, suc, ◌+◌, Bool, true, false, ◌&&◌, ◌||◌, ◌==◌, List, [], ◌∷◌, ◌++◌, length, map, take, drop, get_or, slice_get, Option, Some, None, option_map, refl, sym, ap, subst, ◌∙◌, arith, if◌then◌else◌, append_assoc, take_all, ◌⊎◌, inl, inr}
+use Rattle.std.specs.List.{AllByRecursion, count_by, range_with_len}
+use Rattle.std.specs.Prelude.{slice_index_or}
+use Rattle.std.proofs.Math.Seq.{drop-cons}
+use Rattle.std.proofs.lemmas.Bool.{cases_eq, cases_lt}
+use Rattle.std.proofs.lemmas.List.{append-nil, get_or_past, length-append, length-take, map-append, take_more}
+use Rattle.std.proofs.lemmas.List.FromFn.{get_or-range_with_len, length-range_with_len}
+use Rattle.std.proofs.lemmas.Option.{none-some, same_Some, slice_get-map, slice_get_read, slice_get_within}
+use Rattle.bsdl_device.specs.Device.{Device}
+use Rattle.bsdl_device.specs.declared.Cell.{Cell}
+use Rattle.pin_nets.specs.declared.Pin.{Pin}
+use Rattle.pin_nets.specs.declared.build.NetSpec.{NetSpec}
+use Rattle.pin_nets.specs.Building.{HasPinsBelow, net_value}
+use Rattle.pin_nets.specs.Levels.{NetValue, one}
+use Rattle.pin_nets.specs.Places.{IsOnce, times}
+use Rattle.pin_nets.specs.Wired.{Net}
+use Rattle.pin_nets.proofs.Counting.{count-cons, eq_false, eq_true}
+use Rattle.board_file.specs.Fits.{IsPinOf, all_pins}
+use Rattle.board_file.specs.Wiring as planned
+use Rattle.board_file.specs.View.{member as planned_member, net as planned_net}
+use Rattle.board_file.specs.declared.plan.PlannedNet.{PlannedNet}
+use Rattle.board_file.specs.declared.plan.PlannedDevice.{PlannedDevice}
+use Rattle.board_meaning.specs.Nets.{has_pin, pin_drive}
+use Rattle.chip_seats.specs.Building.{EntersNet, HasNets, PortsFit, net_by, seat_of, seats_of}
+use Rattle.chip_seats.specs.Seats.{AllTold, SeatValue, cell_net, first_net, member_of}
+use Rattle.chip_seats.specs.Wires.{AreSeated, AreWired, IsWired, WiringValue, numbered}
+
+-- ---- numbers
+
+pub range_more : (a n : ℕ) → range_with_len a (n + 1) ≡ range_with_len a n ++ (a + n) ∷ []
+range_more a zero = let same : a ≡ a + 0 = omega arith in ap (λ (k : ℕ). k ∷ []) same
+range_more a (suc n) =
+    let next : suc n + 1 ≡ suc (n + 1) = omega arith in
+    let same : (a + 1) + n ≡ a + suc n = omega arith in
+    ap (range_with_len a) next ∙ ap (λ (l : List ℕ). a ∷ l) (range_more (a + 1) n) ∙ ap (λ (k : ℕ). a ∷ range_with_len (a + 1) n ++ k ∷ []) same
+
+pub numbered_more : (k : ℕ) (ns : List Net) (n : Net) (at : ℕ) → at ≡ k + length (all_pins ns)
+    → numbered k (ns ++ n ∷ []) ≡ numbered k ns ++ record { pull = n.pull; pins = range_with_len at (length n.pins) } ∷ []
+numbered_more k [] n at e = let same : k ≡ at = omega (arith, e) in ap (λ (j : ℕ). record { pull = n.pull; pins = range_with_len j (length n.pins) } ∷ []) same
+numbered_more k (x ∷ ns) n at e =
+    ap (λ (r : List NetValue). record { pull = x.pull; pins = range_with_len k (length x.pins) } ∷ r)
+    (numbered_more (k + length x.pins) ns n at (omega (arith, e, length-append x.pins (all_pins ns))))
+
+pub pins_more : (ns : List Net) (n : Net) → all_pins (ns ++ n ∷ []) ≡ all_pins ns ++ n.pins
+pins_more [] n = append-nil n.pins
+pins_more (x ∷ ns) n = ap (λ (r : List Pin). x.pins ++ r) (pins_more ns n) ∙ sym (append_assoc x.pins (all_pins ns) n.pins)
+
+-- ---- the nets of ports
+
+pub entered : (nets : List Net) (place n : ℕ) (x : Net) (old new : List (Option ℕ)) → n < length nets → x ≡ get_or nets n x → EntersNet place n x.pins old new
+    → ((p : ℕ) → p < length old → slice_index_or old p None ≡ first_net place p (suc n) (drop (suc n) nets))
+    → (p : ℕ) → p < length new → slice_index_or new p None ≡ first_net place p n (drop n nets)
+entered nets place n x old new h is e each p below =
+    let inside : p < length old = omega (arith, below, e.long) in
+    let front : drop n nets ≡ x ∷ drop (suc n) nets = drop-cons nets n x h ∙ ap (λ (y : Net). y ∷ drop (suc n) nets) (sym is) in
+    e.each p inside
+    ∙ ap (λ (o : Option ℕ). if has_pin place p x.pins then Some n else o) (each p inside)
+    ∙ sym (ap (first_net place p n) front)
+
+pub cell_by_table : (nets : List Net) (place ports : ℕ) (table : List (Option ℕ)) (c : Cell) → length table ≡ ports → PortsFit place ports nets → HasNets place nets table
+    → net_by table c.port ≡ cell_net nets place c
+cell_by_table nets place ports table c long fit has = by c.port refl
+  where
+    by : (o : Option ℕ) → c.port ≡ o → net_by table c.port ≡ cell_net nets place c
+    by None is = rw is refl
+    by (Some p) is = rw is (there p (cases_lt p (length table)))
+      where
+        there : (p : ℕ) → (p < length table) ⊎ (length table ≤ p) → slice_index_or table p None ≡ first_net place p 0 nets
+        there p (inl h) = has.each p h
+        there p (inr h) = get_or_past table p None h ∙ sym (fit.past p (omega (arith, h, long)))
+
+-- ---- pins are port bits
+
+pins-apart : (place p : ℕ) (members : List planned.Member) (m : planned.Member) (pins : List Pin) → slice_get members place ≡ Some m → length m.device.ports ≤ p
+    → AllByRecursion (IsPinOf members) pins → has_pin place p pins ≡ false
+pins-apart place p members m [] at past all = refl
+pins-apart place p members m (q ∷ pins) at past all = ap (λ (b : Bool). b || has_pin place p pins) (by (cases_eq q.device place) (cases_eq q.port p)) ∙ pins-apart place p members m pins at past all.1
+  where
+    by : (q.device ≡ place) ⊎ (q.device ≡ place → ⊥) → (q.port ≡ p) ⊎ (q.port ≡ p → ⊥) → ((q.device == place) && (q.port == p)) ≡ false
+    by (inr other) e = ap (λ (b : Bool). b && (q.port == p)) (eq_false q.device place other)
+    by (inl here) (inr other) = ap (λ (b : Bool). (q.device == place) && b) (eq_false q.port p other) ∙ none (q.device == place)
+      where
+        none : (b : Bool) → (b && false) ≡ false
+        none true = refl
+        none false = refl
+    by (inl here) (inl same) =
+        let its = all.0 in
+        let owner : its.0 ≡ m = same_Some _ _ (sym its.1 ∙ ap (slice_get members) here ∙ at) in
+        absurd (omega (arith, its.2, ap (λ (x : planned.Member). length x.device.ports) owner, same, past))
+
+none-first : (place p n : ℕ) (members : List planned.Member) (m : planned.Member) (nets : List Net) → slice_get members place ≡ Some m → length m.device.ports ≤ p
+    → AllByRecursion (IsPinOf members) (all_pins nets) → first_net place p n nets ≡ None
+none-first place p n members m [] at past all = refl
+none-first place p n members m (x ∷ nets) at past all =
+    let both = all-split x.pins (all_pins nets) all in
+    rw (pins-apart place p members m x.pins at past both.0) (none-first place p (suc n) members m nets at past both.1)
+  where
+    all-split : (xs ys : List Pin) → AllByRecursion (IsPinOf members) (xs ++ ys) → AllByRecursion (IsPinOf members) xs × AllByRecursion (IsPinOf members) ys
+    all-split [] ys all = (tt, all)
+    all-split (q ∷ xs) ys all = let rest = all-split xs ys all.1 in ((all.0, rest.0), rest.1)
+
+pub ports_fit : (place : ℕ) (members : List planned.Member) (m : planned.Member) (nets : List Net) → slice_get members place ≡ Some m
+    → AllByRecursion (IsPinOf members) (all_pins nets) → PortsFit place (length m.device.ports) nets
+ports_fit place members m nets at all = record { past = λ p past. none-first place p 0 members m nets at past all }
+
+pub seated : (members : List planned.Member) (pins : List Pin) → AllByRecursion (IsPinOf members) pins → AreSeated (length members) pins
+seated members [] all = tt
+seated members (q ∷ pins) all = let its = all.0 in (slice_get_within members q.device its.0 its.1, seated members pins all.1)
+
+-- ---- seats
+
+pub length-seats : (nets : List Net) (k : ℕ) (ms : List planned.Member) → length (seats_of nets k ms) ≡ length ms
+length-seats nets k [] = refl
+length-seats nets k (m ∷ ms) = let rest = length-seats nets (suc k) ms in omega (arith, rest)
+
+pub seat_more : (nets : List Net) (k i : ℕ) (ms : List planned.Member) (m : planned.Member) → slice_get ms i ≡ Some m
+    → take (i + 1) (seats_of nets k ms) ≡ take i (seats_of nets k ms) ++ seat_of (map (cell_net nets (k + i)) m.device.cells) m ∷ []
+seat_more nets k i [] m at = absurd (none-some m at)
+seat_more nets k zero (x ∷ ms) m at =
+    let same : k ≡ k + 0 = omega arith in
+    λ i. seat_of (map (cell_net nets (same i)) (same_Some _ _ at i).device.cells) (same_Some _ _ at i) ∷ []
+seat_more nets k (suc i) (x ∷ ms) m at =
+    let next : suc i + 1 ≡ suc (i + 1) = omega arith in
+    let same : suc k + i ≡ k + suc i = omega arith in
+    let first = seat_of (map (cell_net nets k) x.device.cells) x in
+    ap (λ (j : ℕ). take j (seats_of nets k (x ∷ ms))) next
+    ∙ ap (λ (r : List SeatValue). first ∷ r) (seat_more nets (suc k) i ms m at)
+    ∙ ap (λ (j : ℕ). first ∷ take i (seats_of nets (suc k) ms) ++ seat_of (map (cell_net nets j) m.device.cells) m ∷ []) same
+
+pub seats_wired : (nets : List Net) (k : ℕ) (ms : List planned.Member) → AreWired nets k (seats_of nets k ms)
+seats_wired nets k [] = tt
+seats_wired nets k (m ∷ ms) = (refl, seats_wired nets (suc k) ms)
+
+pub seats_told : (nets : List Net) (k : ℕ) (ms : List planned.Member) → AllTold false (seats_of nets k ms)
+seats_told nets k [] = tt
+seats_told nets k (m ∷ ms) = (refl, seats_told nets (suc k) ms)
+
+pub all_at : {A : Type 0} (P : A → Type 0) (l : List A) (i : ℕ) (x : A) → AllByRecursion P l → slice_get l i ≡ Some x → P x
+all_at P [] i x all at = absurd (none-some x at)
+all_at P (y ∷ l) zero x all at = subst P (same_Some _ _ at) all.0
+all_at P (y ∷ l) (suc i) x all at = all_at P l i x all.1 at
+
+-- ---- each pin has a number of its own
+
+-- how often a number is among these
+low : (p a n : ℕ) → p < a → count_by (λ (q : ℕ). q == p) (range_with_len a n) ≡ 0
+low p a zero h = refl
+low p a (suc n) h =
+    let here : one (a == p) ≡ 0 = ap one (eq_false a p (λ e. absurd (omega (arith, e, h)))) in
+    omega (arith, count-cons (λ (q : ℕ). q == p) a (range_with_len (a + 1) n), here, low p (a + 1) n (omega (arith, h)))
+
+high : (p a n : ℕ) → a + n ≤ p → count_by (λ (q : ℕ). q == p) (range_with_len a n) ≡ 0
+high p a zero h = refl
+high p a (suc n) h =
+    let here : one (a == p) ≡ 0 = ap one (eq_false a p (λ e. absurd (omega (arith, e, h)))) in
+    omega (arith, count-cons (λ (q : ℕ). q == p) a (range_with_len (a + 1) n), here, high p (a + 1) n (omega (arith, h)))
+
+at-most : (p a n : ℕ) → count_by (λ (q : ℕ). q == p) (range_with_len a n) ≤ 1
+at-most p a zero = omega arith
+at-most p a (suc n) = by (at-most p (a + 1) n) (cases_eq a p)
+  where
+    rest : ℕ
+    rest = count_by (λ (q : ℕ). q == p) (range_with_len (a + 1) n)
+
+    by : rest ≤ 1 → (a ≡ p) ⊎ (a ≡ p → ⊥) → count_by (λ (q : ℕ). q == p) (range_with_len a (suc n)) ≤ 1
+    by few (inl e) =
+        let here : one (a == p) ≡ 1 = ap one (eq_true a p e) in
+        omega (arith, count-cons (λ (q : ℕ). q == p) a (range_with_len (a + 1) n), here, low p (a + 1) n (omega (arith, e)))
+    by few (inr other) =
+        let here : one (a == p) ≡ 0 = ap one (eq_false a p other) in
+        omega (arith, count-cons (λ (q : ℕ). q == p) a (range_with_len (a + 1) n), here, few)
+
+-- net n of those from number k on
+record Ranged (k : ℕ) (ns : List Net) (n : ℕ) (x : NetValue) : Type 0 where
+  from : ℕ
+  long : ℕ
+  is : x.pins ≡ range_with_len from long
+  start : k ≤ from
+  end : from + long ≤ k + length (all_pins ns)
+
+ranged-at : (k : ℕ) (ns : List Net) (n : ℕ) (x : NetValue) → slice_get (numbered k ns) n ≡ Some x → Ranged k ns n x
+ranged-at k [] n x at = absurd (none-some x at)
+ranged-at k (m ∷ ns) zero x at = record {
+  from = k;
+  long = length m.pins;
+  is = ap (λ (v : NetValue). v.pins) (sym (same_Some _ _ at));
+  start = omega arith;
+  end = omega (arith, length-append m.pins (all_pins ns));
+}
+ranged-at k (m ∷ ns) (suc n) x at =
+    let r = ranged-at (k + length m.pins) ns n x at in
+    record { from = r.from; long = r.long; is = r.is; start = omega (arith, r.start); end = omega (arith, r.end, length-append m.pins (all_pins ns)) }
+
+-- an earlier net ends before a later one starts
+earlier : (k : ℕ) (ns : List Net) (n m p : ℕ) (x y : NetValue) → n < m → slice_get (numbered k ns) n ≡ Some x → slice_get (numbered k ns) m ≡ Some y
+    → (0 < times p x → times p y ≡ 0) × (0 < times p y → times p x ≡ 0)
+earlier k [] n m p x y h at there = absurd (none-some x at)
+earlier k (z ∷ ns) n zero p x y h at there = absurd (omega (arith, h))
+earlier k (z ∷ ns) (suc n) (suc m) p x y h at there = earlier (k + length z.pins) ns n m p x y (omega (arith, h)) at there
+earlier k (z ∷ ns) zero (suc m) p x y h at there =
+    let r = ranged-at (k + length z.pins) ns m y there in
+    let first : times p x ≡ count_by (λ (q : ℕ). q == p) (range_with_len k (length z.pins)) = ap (times p) (sym (same_Some _ _ at)) in
+    let second : times p y ≡ count_by (λ (q : ℕ). q == p) (range_with_len r.from r.long) = ap (λ (l : List ℕ). count_by (λ (q : ℕ). q == p) l) r.is in
+    ((λ some. by-first r first second (cases_lt p (k + length z.pins)) some), (λ some. by-second r first second (cases_lt p r.from) some))
+  where
+    by-first : (r : Ranged (k + length z.pins) ns m y) → times p x ≡ count_by (λ (q : ℕ). q == p) (range_with_len k (length z.pins))
+        → times p y ≡ count_by (λ (q : ℕ). q == p) (range_with_len r.from r.long) → (p < k + length z.pins) ⊎ (k + length z.pins ≤ p) → 0 < times p x → times p y ≡ 0
+    by-first r first second (inl below) some = second ∙ low p r.from r.long (omega (arith, below, r.start))
+    by-first r first second (inr above) some = absurd (omega (arith, some, first, high p k (length z.pins) above))
+
+    by-second : (r : Ranged (k + length z.pins) ns m y) → times p x ≡ count_by (λ (q : ℕ). q == p) (range_with_len k (length z.pins))
+        → times p y ≡ count_by (λ (q : ℕ). q == p) (range_with_len r.from r.long) → (p < r.from) ⊎ (r.from ≤ p) → 0 < times p y → times p x ≡ 0
+    by-second r first second (inl below) some = absurd (omega (arith, some, second, low p r.from r.long below))
+    by-second r first second (inr above) some = first ∙ high p k (length z.pins) (omega (arith, above, r.start))
+
+pub numbered_once : (ns : List Net) → IsOnce (numbered 0 ns)
+numbered_once ns = record {
+  alone = λ p n x at. let r = ranged-at 0 ns n x at in
+      let is : times p x ≡ count_by (λ (q : ℕ). q == p) (range_with_len r.from r.long) = ap (λ (l : List ℕ). count_by (λ (q : ℕ). q == p) l) r.is in
+      omega (arith, is, at-most p r.from r.long);
+  apart = λ p n m x y differ at there. by p n m x y differ at there (cases_lt n m);
+}
+  where
+    by : (p n m : ℕ) (x y : NetValue) → (n ≡ m → ⊥) → slice_get (numbered 0 ns) n ≡ Some x → slice_get (numbered 0 ns) m ≡ Some y → (n < m) ⊎ (m ≤ n) → 0 < times p x → times p y ≡ 0
+    by p n m x y differ at there (inl h) = (earlier 0 ns n m p x y h at there).0
+    by p n m x y differ at there (inr h) = (earlier 0 ns m n p y x (omega (arith, h, differ)) there at).1
+
+pub numbered_below : (ns : List Net) (pins : ℕ) → pins ≡ length (all_pins ns) → HasPinsBelow pins (numbered 0 ns)
+numbered_below ns pins e = record {
+  each = λ n i x at inside.
+      let r = ranged-at 0 ns n x at in
+      let long : i < r.long = omega (arith, inside, ap length r.is, length-range_with_len r.from r.long) in
+      let here : get_or x.pins i 0 ≡ r.from + i = ap (λ (l : List ℕ). get_or l i 0) r.is ∙ get_or-range_with_len r.from r.long i 0 long in
+      omega (arith, here, r.end, long, e);
+}
+
+-- ---- lists that grow
+
+pub mapped_push : {A B : Type 0} (f : A → B) (xs : List A) (i : ℕ) (d : A) (ys new : List B) (y : B) → i < length xs → ys ≡ map f (take i xs) → y ≡ f (get_or xs i d)
+    → new ≡ ys ++ y ∷ [] → new ≡ map f (take (i + 1) xs)
+mapped_push {A} {B} f xs i d ys new y h are is e =
+    e ∙ ap (λ (l : List B). l ++ y ∷ []) are ∙ ap (λ (z : B). map f (take i xs) ++ z ∷ []) is
+    ∙ sym (map-append f (take i xs) (get_or xs i d ∷ [])) ∙ ap (map f) (sym (take_more xs i d h))
+
+pub number_more : (old more : List Pin) (i : ℕ) (pins pins' : List Pin) (numbers numbers' : List ℕ) (len : ℕ) (d : Pin) → i < length more
+    → numbers ≡ range_with_len (length old) i → pins ≡ old ++ take i more → len ≡ length pins → numbers' ≡ numbers ++ len ∷ [] → pins' ≡ pins ++ get_or more i d ∷ []
+    → record { numbers : numbers' ≡ range_with_len (length old) (i + 1); pins : pins' ≡ old ++ take (i + 1) more }
+number_more old more i pins pins' numbers numbers' len d h nums are is number pin = record {
+  numbers =
+      let last : len ≡ length old + i = omega (arith, is, ap length are, length-append old (take i more), length-take i more, h) in
+      number ∙ ap (λ (l : List ℕ). l ++ len ∷ []) nums ∙ ap (λ (k : ℕ). range_with_len (length old) i ++ k ∷ []) last ∙ sym (range_more (length old) i);
+  pins = pin ∙ ap (λ (l : List Pin). l ++ get_or more i d ∷ []) are ∙ append_assoc old (take i more) (get_or more i d ∷ []) ∙ ap (λ (l : List Pin). old ++ l) (sym (take_more more i d h));
+}
+
+pub planned_at : (devices : List PlannedDevice) (i : ℕ) (d : PlannedDevice) → i < length devices → d ≡ get_or devices i d → slice_get (map planned_member devices) i ≡ Some (planned_member d)
+planned_at devices i d h is = slice_get-map planned_member devices i ∙ ap (option_map planned_member) (slice_get_read devices (length devices) i d refl h is)
+
+pub seats_end : (nets : List Net) (ms : List planned.Member) (seats : List SeatValue) (i : ℕ) → seats ≡ take i (seats_of nets 0 ms) → length ms ≤ i → seats ≡ seats_of nets 0 ms
+seats_end nets ms seats i e h = e ∙ take_all i (seats_of nets 0 ms) (omega (arith, h, length-seats nets 0 ms))
+
+pub seat_push : (nets : List Net) (ms : List planned.Member) (i : ℕ) (m : planned.Member) (seats new : List SeatValue) (s : SeatValue) (cells : List (Option ℕ)) (d : Device)
+    → slice_get ms i ≡ Some m → seats ≡ take i (seats_of nets 0 ms) → d ≡ m.device → cells ≡ map (cell_net nets i) d.cells → s ≡ seat_of cells m → new ≡ seats ++ s ∷ []
+    → new ≡ take (i + 1) (seats_of nets 0 ms)
+seat_push nets ms i m seats new s cells d at are described wired is e =
+    let place : i ≡ 0 + i = omega arith in
+    let cells-are : cells ≡ map (cell_net nets (0 + i)) m.device.cells =
+    wired ∙ ap (λ (x : Device). map (cell_net nets i) x.cells) described ∙ ap (λ (k : ℕ). map (cell_net nets k) m.device.cells) place in
+    e ∙ ap (λ (l : List SeatValue). l ++ s ∷ []) are
+    ∙ ap (λ (x : SeatValue). take i (seats_of nets 0 ms) ++ x ∷ []) (is ∙ ap (λ (cs : List (Option ℕ)). seat_of cs m) cells-are)
+    ∙ sym (seat_more nets 0 i ms m at)
+
+pub number_net : (old : List Pin) (all : List PlannedNet) (i : ℕ) (x : PlannedNet) (pins pins' : List Pin) (specs specs' : List NetSpec) (s : NetSpec) (numbers : List ℕ) (own : List Pin)
+    → i < length all → x ≡ get_or all i x → map net_value specs ≡ numbered (length old) (map planned_net (take i all)) → pins ≡ old ++ all_pins (map planned_net (take i all))
+    → own ≡ x.pins.items → numbers ≡ range_with_len (length pins) (length own) → pins' ≡ pins ++ own → net_value s ≡ record { pull = x.pull; pins = numbers } → specs' ≡ specs ++ s ∷ []
+    → record { nets : map net_value specs' ≡ numbered (length old) (map planned_net (take (i + 1) all)); pins : pins' ≡ old ++ all_pins (map planned_net (take (i + 1) all)) }
+number_net old all i x pins pins' specs specs' s numbers own h is nums are its range more value pushed =
+    let before = map planned_net (take i all) in
+    let grown : map planned_net (take (i + 1) all) ≡ before ++ planned_net x ∷ [] =
+    ap (map planned_net) (take_more all i x h) ∙ map-append planned_net (take i all) (get_or all i x ∷ []) ∙ ap (λ (y : PlannedNet). before ++ planned_net y ∷ []) (sym is) in
+    let at : length pins ≡ length old + length (all_pins before) = ap length are ∙ length-append old (all_pins before) in
+    let pins-are : numbers ≡ range_with_len (length pins) (length x.pins.items) = range ∙ ap (λ (l : List Pin). range_with_len (length pins) (length l)) its in
+    record {
+      nets =
+          ap (map net_value) pushed ∙ map-append net_value specs (s ∷ [])
+          ∙ ap (λ (l : List NetValue). l ++ net_value s ∷ []) nums
+          ∙ ap (λ (v : NetValue). numbered (length old) before ++ v ∷ []) (value ∙ ap (λ (l : List ℕ). record { pull = x.pull; pins = l }) pins-are)
+          ∙ sym (numbered_more (length old) before (planned_net x) (length pins) at)
+          ∙ sym (ap (numbered (length old)) grown);
+      pins =
+          more ∙ ap (λ (l : List Pin). pins ++ l) its ∙ ap (λ (l : List Pin). l ++ x.pins.items) are ∙ append_assoc old (all_pins before) x.pins.items
+          ∙ ap (λ (l : List Pin). old ++ l) (sym (pins_more before (planned_net x)) ∙ sym (ap all_pins grown));
+    }
+
+-- ---- the start
+
+pub start_seated : (nets : List Net) (ms : List planned.Member) (seats : List SeatValue) (w : WiringValue) → AllByRecursion (IsPinOf ms) (all_pins nets)
+    → seats ≡ seats_of nets 0 ms → w.nets ≡ nets → AreSeated (length seats) (all_pins w.nets)
+start_seated nets ms seats w all are same =
+    subst (λ (l : List Net). AreSeated (length seats) (all_pins l)) (sym same)
+    (subst (λ (n : ℕ). AreSeated n (all_pins nets)) (sym (ap length are ∙ length-seats nets 0 ms)) (seated ms (all_pins nets) all))
+
+pub start_wired : (nets : List Net) (ms : List planned.Member) (w v : WiringValue) → AllByRecursion (IsPinOf ms) (all_pins nets) → w.nets ≡ nets
+    → v ≡ record w { drives = map (pin_drive (map member_of (seats_of nets 0 ms))) (all_pins w.nets) } → IsWired (seats_of nets 0 ms) v
+start_wired nets ms w v all same is = subst (λ (x : WiringValue). IsWired (seats_of nets 0 ms) x) (sym is) (record {
+  drives = refl;
+  cells = subst (λ (l : List Net). AreWired l 0 (seats_of nets 0 ms)) (sym same) (seats_wired nets 0 ms);
+  pins = start_seated nets ms (seats_of nets 0 ms) w all refl same;
+})

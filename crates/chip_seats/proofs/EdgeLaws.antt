@@ -1,0 +1,172 @@
+-- One device of the chain, edge by edge: the chip's edges are the meaning's.
+use Rattle.std.proofs.Common.{◌≡◌, ℕ, Bool, true, false, true≢false, List, Option, refl, ap, ◌∙◌}
+use Rattle.jt_tap.specs.declared.Column.{Column}
+use Rattle.jt_tap.specs.declared.Column.TheVariants.{Dr, Ir}
+use Rattle.jt_tap.specs.declared.Work.{Work}
+use Rattle.jt_tap.specs.declared.Work.TheVariants.{Resets, Captures, Shifts, Updates, Waits}
+use Rattle.jt_tap.specs.Controller.{next, work}
+use Rattle.bsdl_device.specs.Device.{Device}
+use Rattle.bsdl_device.specs.declared.Cell.{Cell}
+use Rattle.device_instructions.specs.declared.Mode.{Mode}
+use Rattle.device_instructions.specs.declared.Selected.{Selected}
+use Rattle.device_instructions.specs.declared.Selected.TheVariants.{Bypass, Identification, Boundary, User}
+use Rattle.scan_registers.specs.Chips.{surroundings_of, one_chip, with_registers}
+use Rattle.scan_registers.specs.Edges.{OneChip, after_fall, is_held, rise, after_rise}
+use Rattle.device_instructions.specs.Instruction.{meaning}
+use Rattle.device_registers.specs.Registers.{Registers, Surroundings, capture_of, put, with_stage}
+use Rattle.device_registers.specs.Registers as chip_registers
+use Rattle.boundary.specs.Cells.{BoundaryValue, IsWhole, at_reset, captured_bits, drive_in, takes_update}
+use Rattle.boundary.specs.Sight.{SeesItsPorts, capture_by_sight}
+use Rattle.boundary.proofs.SightLaws.{captured_by_sight}
+use Rattle.board_meaning.specs.Cells.{Member, drive, surroundings}
+use Rattle.board_meaning.specs.Chain as chain
+use Rattle.board_meaning.specs.Chain.{ChipState}
+use Rattle.board_meaning.specs.Whole.{capture_member}
+use Rattle.chip_seats.specs.AtRest.{IsSightedFor, as_member}
+use Rattle.chip_seats.specs.Seats.{IsSighted, SeatValue, captures_boundary, changes_drives, chip_state, member_of}
+
+-- a device of the meaning, by the device alone
+abbrev state_of : List ℕ → List Bool → Bool → OneChip → ChipState
+state_of name core extest_update o = record {
+  member = record { name = name; device = o.device; core = core; extest_update = extest_update; registers = o.registers };
+  state = o.state;
+  tdo = o.tdo;
+}
+
+-- a capture asks what the boundary knows only where it captures the boundary
+selected-captures : (selected : Selected) (fixed : Option (List Bool)) (a b : List Bool) (r : Registers)
+    → (captures_boundary (Captures Dr) selected ≡ true → a ≡ b)
+    → with_stage selected (capture_of selected fixed a r) r ≡ with_stage selected (capture_of selected fixed b r) r
+selected-captures Bypass fixed a b r same = refl
+selected-captures Identification fixed a b r same = refl
+selected-captures Boundary fixed a b r same = ap (λ (x : List Bool). with_stage Boundary x r) (same refl)
+selected-captures (User k) fixed a b r same = refl
+
+risen-alike : (w : Work) (d : Device) (a b : Surroundings) (tdi : Bool) (r : Registers)
+    → (captures_boundary w (meaning d r.latch).selected ≡ true → a.captures (meaning d r.latch).mode ≡ b.captures (meaning d r.latch).mode)
+    → after_rise w d a tdi r ≡ after_rise w d b tdi r
+risen-alike (Captures Dr) d a b tdi r same =
+    let m = meaning d r.latch in selected-captures m.selected m.fixed (a.captures m.mode) (b.captures m.mode) r same
+risen-alike (Captures Ir) d a b tdi r same = refl
+risen-alike (Shifts column) d a b tdi r same = refl
+risen-alike (Updates column) d a b tdi r same = refl
+risen-alike Resets d a b tdi r same = refl
+risen-alike Waits d a b tdi r same = refl
+
+rise-alike : (name : List ℕ) (core : List Bool) (extest : Bool) (o : OneChip) (a : Surroundings) (sees : ℕ → Bool) (tms tdi : Bool)
+    → after_rise (work o.state) o.device a tdi o.registers
+    ≡ after_rise (work o.state) o.device (surroundings sees (state_of name core extest o).member) tdi o.registers
+    → state_of name core extest (rise tms tdi a o) ≡ chain.rise o.trst tms tdi sees (state_of name core extest o)
+rise-alike name core extest o a sees tms tdi same = by (is_held o) refl
+  where
+    by : (b : Bool) → is_held o ≡ b → state_of name core extest (rise tms tdi a o) ≡ chain.rise o.trst tms tdi sees (state_of name core extest o)
+    by true held = rw held refl
+    by false held = rw held (ap (λ (r : Registers). state_of name core extest (record o { registers = r; state = next o.state tms })) same)
+
+module _ (s : SeatValue) (cells : s.chip.boundary.cells ≡ s.chip.device.cells) where
+  abbrev stage : BoundaryValue → List Bool
+  stage b = b.stage
+
+  abbrev update : BoundaryValue → List Bool
+  update b = b.update
+
+  abbrev now : OneChip
+  now = one_chip stage update s.chip
+
+  captures-alike : (sees : ℕ → Bool) (mode : Mode) → IsWhole s.chip.boundary → SeesItsPorts sees s.chip.device.cells s.chip.boundary.seen
+      → captured_bits s.chip.boundary mode ≡ (surroundings sees (member_of s)).captures mode
+  captures-alike sees mode whole told =
+      let b = s.chip.boundary in
+      captured_by_sight sees (takes_update b.extest_update mode) b.update b.core 0 b.cells b.seen whole.seen whole.update whole.core (rw cells told)
+      ∙ ap (λ (cs : List Cell). capture_by_sight sees (takes_update s.chip.boundary.extest_update mode) s.chip.boundary.update s.chip.boundary.core 0 cs) cells
+
+  pub rises : (t : SeatValue) (sees : ℕ → Bool) (tms tdi : Bool)
+      → one_chip stage update t.chip ≡ rise tms tdi (surroundings_of captured_bits at_reset s.chip) now
+      → t.name ≡ s.name → t.chip.boundary.core ≡ s.chip.boundary.core → t.chip.boundary.extest_update ≡ s.chip.boundary.extest_update
+      → IsSighted sees s → chip_state t ≡ chain.rise s.chip.trst tms tdi sees (chip_state s)
+  rises t sees tms tdi is name core extest sighted =
+      ap (λ (o : OneChip). state_of t.name t.chip.boundary.core t.chip.boundary.extest_update o) is
+      ∙ ap (λ (n : List ℕ). state_of n t.chip.boundary.core t.chip.boundary.extest_update (rise tms tdi (surroundings_of captured_bits at_reset s.chip) now)) name
+      ∙ ap (λ (c : List Bool). state_of s.name c t.chip.boundary.extest_update (rise tms tdi (surroundings_of captured_bits at_reset s.chip) now)) core
+      ∙ ap (λ (e : Bool). state_of s.name s.chip.boundary.core e (rise tms tdi (surroundings_of captured_bits at_reset s.chip) now)) extest
+      ∙ rise-alike s.name s.chip.boundary.core s.chip.boundary.extest_update now (surroundings_of captured_bits at_reset s.chip) sees tms tdi
+      (risen-alike (work s.chip.state) s.chip.device (surroundings_of captured_bits at_reset s.chip) (surroundings sees (member_of s)) tdi now.registers
+      (λ yes. let w = sighted yes in captures-alike sees (meaning s.chip.device s.chip.latch).mode w.0 w.1))
+
+  pub captures : (t : SeatValue) (sees : ℕ → Bool) (column : Column)
+      → one_chip stage update t.chip ≡ with_registers (chip_registers.after_capture s.chip.device column (surroundings_of captured_bits at_reset s.chip) now.registers) now
+      → t.name ≡ s.name → t.chip.boundary.core ≡ s.chip.boundary.core → t.chip.boundary.extest_update ≡ s.chip.boundary.extest_update
+      → IsSightedFor column sees s → chip_state t ≡ as_member (capture_member column sees (member_of s)) (chip_state s)
+  captures t sees column is name core extest sighted =
+      let mode = (meaning s.chip.device s.chip.latch).mode in
+      (λ i. state_of (name i) (core i) (extest i) (is i))
+      ∙ ap (λ (r : Registers). state_of s.name s.chip.boundary.core s.chip.boundary.extest_update (with_registers r now))
+      (risen-alike (Captures column) s.chip.device (surroundings_of captured_bits at_reset s.chip) (surroundings sees (member_of s)) false now.registers
+      (λ yes. let w = sighted yes in captures-alike sees mode w.0 w.1))
+
+-- ---- what an edge changes of what is driven
+
+with-stage-latch : (selected : Selected) (bits : List Bool) (r : Registers) → (with_stage selected bits r).latch ≡ r.latch
+with-stage-latch Bypass bits r = refl
+with-stage-latch Identification bits r = refl
+with-stage-latch Boundary bits r = refl
+with-stage-latch (User k) bits r = refl
+
+with-stage-update : (selected : Selected) (bits : List Bool) (r : Registers) → (with_stage selected bits r).update ≡ r.update
+with-stage-update Bypass bits r = refl
+with-stage-update Identification bits r = refl
+with-stage-update Boundary bits r = refl
+with-stage-update (User k) bits r = refl
+
+risen-latch : (w : Work) (d : Device) (a : Surroundings) (tdi : Bool) (r : Registers) → (after_rise w d a tdi r).latch ≡ r.latch
+risen-latch (Captures Dr) d a tdi r = with-stage-latch (meaning d r.latch).selected _ r
+risen-latch (Captures Ir) d a tdi r = refl
+risen-latch (Shifts Dr) d a tdi r = with-stage-latch (meaning d r.latch).selected _ r
+risen-latch (Shifts Ir) d a tdi r = refl
+risen-latch (Updates column) d a tdi r = refl
+risen-latch Resets d a tdi r = refl
+risen-latch Waits d a tdi r = refl
+
+risen-update : (w : Work) (d : Device) (a : Surroundings) (tdi : Bool) (r : Registers) → (after_rise w d a tdi r).update ≡ r.update
+risen-update (Captures Dr) d a tdi r = with-stage-update (meaning d r.latch).selected _ r
+risen-update (Captures Ir) d a tdi r = refl
+risen-update (Shifts Dr) d a tdi r = with-stage-update (meaning d r.latch).selected _ r
+risen-update (Shifts Ir) d a tdi r = refl
+risen-update (Updates column) d a tdi r = refl
+risen-update Resets d a tdi r = refl
+risen-update Waits d a tdi r = refl
+
+pub put-latch : (column : Column) (d : Device) (bits : List Bool) (r : Registers) → (put d column bits r).latch ≡ r.latch
+put-latch Dr d bits r = with-stage-latch (meaning d r.latch).selected bits r
+put-latch Ir d bits r = refl
+
+pub put-update : (column : Column) (d : Device) (bits : List Bool) (r : Registers) → (put d column bits r).update ≡ r.update
+put-update Dr d bits r = with-stage-update (meaning d r.latch).selected bits r
+put-update Ir d bits r = refl
+
+-- A rising edge changes nothing that is driven.
+pub rise_drives : (trst tms tdi : Bool) (sees : ℕ → Bool) (c : ChipState) (p : ℕ) → drive (chain.rise trst tms tdi sees c).member p ≡ drive c.member p
+rise_drives trst tms tdi sees c p = by (chain.is_held trst c.member) refl
+  where
+    m : Member
+    m = c.member
+
+    after : Registers
+    after = after_rise (work c.state) m.device (surroundings sees m) tdi m.registers
+
+    by : (b : Bool) → chain.is_held trst c.member ≡ b → drive (chain.rise trst tms tdi sees c).member p ≡ drive c.member p
+    by true held = rw held refl
+    by false held = rw held
+        (ap (λ (l : List Bool). drive_in (meaning m.device l).mode m.device.cells after.update m.core p) (risen-latch (work c.state) m.device (surroundings sees m) tdi m.registers)
+        ∙ ap (λ (u : List Bool). drive_in (meaning m.device m.registers.latch).mode m.device.cells u m.core p) (risen-update (work c.state) m.device (surroundings sees m) tdi m.registers))
+
+-- Nor does a falling edge that neither updates nor resets.
+pub fall_drives : (c : ChipState) → changes_drives (work c.state) ≡ false → (chain.fall c).member ≡ c.member
+fall_drives c quiet = ap (λ (r : Registers). record c.member { registers = r }) (kept (work c.state) quiet)
+  where
+    kept : (w : Work) → changes_drives w ≡ false → after_fall w c.member.device (surroundings (λ p. true) c.member) c.member.registers ≡ c.member.registers
+    kept (Captures column) quiet = refl
+    kept (Shifts column) quiet = refl
+    kept (Updates column) quiet = absurd (true≢false quiet)
+    kept Resets quiet = absurd (true≢false quiet)
+    kept Waits quiet = refl

@@ -1,0 +1,5 @@
+pub mod EdgeLaws
+pub mod DriveLaws
+pub mod LevelLaws
+pub mod TellLaws
+pub mod BuildLaws

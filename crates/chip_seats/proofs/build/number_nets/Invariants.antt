@@ -1,0 +1,12 @@
+use Rattle.std.proofs.Common.{◌≡◌, ◌++◌, length, map, take}
+use Rattle.pin_nets.specs.Building.{net_value}
+use Rattle.board_file.specs.Fits.{all_pins}
+use Rattle.board_file.specs.View.{net as planned_net}
+use Rattle.chip_seats.specs.Wires.{numbered}
+use Rattle.chip_seats.proofs.build.number_nets.Given as goal
+
+abbrev pub invariant-loop-net : goal.invariant-loop-net
+invariant-loop-net l = record {
+  nets : map net_value l.specs.items ≡ numbered (length l.initial.pins.items) (map planned_net (take l.net-index l.nets));
+  pins : l.pins.items ≡ l.initial.pins.items ++ all_pins (map planned_net (take l.net-index l.nets));
+}

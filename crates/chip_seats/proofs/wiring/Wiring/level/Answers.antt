@@ -1,0 +1,25 @@
+use Rattle.std.proofs.Common.{◌≡◌, ◌<◌, List, ◌∷◌, Some, length, map, option_map, slice_get, sym, ap, subst, ◌∙◌}
+use Rattle.pin_nets.specs.declared.Drive.{Drive}
+use Rattle.pin_nets.specs.declared.Pin.{Pin}
+use Rattle.pin_nets.specs.Levels.{NetValue, level, level_of, pull_drive}
+use Rattle.board_file.specs.Fits.{all_pins}
+use Rattle.chip_seats.specs.Wires.{WiringValue}
+use Rattle.chip_seats.specs.contracts.wiring.Wiring.{the_view}
+use Rattle.chip_seats.proofs.LevelLaws.{net_level, net_there}
+use Rattle.chip_seats.proofs.wiring.Wiring.level.Goals as goal
+
+pub level-requires : goal.level-requires
+level-requires c =
+    let v = the_view c.self.inside in
+    let there : c.args.net < length v.nets = subst (λ (w : WiringValue). c.args.net < length w.nets) (sym c.self.view_is) c.requires in
+    subst (λ (l : List NetValue). c.args.net < length l) (sym c.self.invariant.levels) (net_there v.nets c.args.net there)
+
+pub returns : goal.returns
+returns c =
+    let v = the_view c.self.inside in
+    let there : c.args.net < length v.nets = subst (λ (w : WiringValue). c.args.net < length w.nets) (sym c.self.view_is) c.requires in
+    subst (λ (w : WiringValue). (f : Pin → Drive) → w.drives ≡ map f (all_pins w.nets)
+    → option_map (λ n. level_of (pull_drive n.pull ∷ map f n.pins)) (slice_get w.nets c.args.net) ≡ Some c.level.result)
+    c.self.view_is
+    (λ f e. net_level f v.drives v.nets c.args.net c.level.result there e
+    (sym (ap (λ (l : List NetValue). option_map (level v.drives) (slice_get l c.args.net)) c.self.invariant.levels) ∙ c.level.ensures))

@@ -1,0 +1,52 @@
+-- What is done to a device of a chain at rest, without TCK.
+use Rattle.std.specs.Prelude.{◌≡◌, Bool, true, ℕ, List, refl}
+use Rattle.std.proofs.Common.{◌∙◌}
+use Rattle.jt_tap.specs.declared.Column.{Column}
+use Rattle.jt_tap.specs.declared.Work.TheVariants.{Captures}
+use Rattle.scan_registers.specs.Chips.{IsPut}
+use Rattle.device_instructions.specs.Instruction.{meaning}
+use Rattle.scan_registers.specs.Puts.{put_both, put_nothing}
+use Rattle.boundary.specs.Cells.{BoundaryValue, IsWhole}
+use Rattle.boundary.specs.Sight.{SeesItsPorts}
+use Rattle.board_meaning.specs.Cells.{Member}
+use Rattle.board_meaning.specs.Chain.{ChipState}
+use Rattle.board_meaning.specs.Whole.{selected_bits_of}
+use Rattle.chip_seats.specs.Seats.{SeatValue, captures_boundary, member_of}
+
+-- a device in other registers
+abbrev pub as_member : Member → ChipState → ChipState
+as_member m c = record { member = m; state = c.state; tdo = c.tdo }
+
+-- if the column's capture is of the boundary register, each cell with a port was told what its port sees
+abbrev pub IsSightedFor : Column → (ℕ → Bool) → SeatValue → Type 0
+IsSightedFor column sees s = captures_boundary (Captures column) (meaning s.chip.device s.chip.latch).selected ≡ true
+    → IsWhole s.chip.boundary × SeesItsPorts sees s.chip.device.cells s.chip.boundary.seen
+
+-- ---- a device as a link
+
+-- the second is the first with these bits in the column's register
+pub record IsPutInto (column : Column) (bits : List Bool) (s t : SeatValue) : Type 0 where
+  pub chip : IsPut (λ (b : BoundaryValue). b.stage) (λ (b : BoundaryValue). b.update)
+      (λ (b : BoundaryValue) stage update. record b { stage = stage; update = update }) column bits s.chip t.chip
+  pub name : t.name ≡ s.name
+  pub nets : t.nets ≡ s.nets
+
+-- what a device has already changes nothing
+pub puts_nothing : (s : SeatValue) (column : Column) → IsPutInto column (selected_bits_of column (member_of s)) s s
+puts_nothing s column = record {
+  chip = put_nothing (λ (b : BoundaryValue). b.stage) (λ (b : BoundaryValue). b.update)
+      (λ (b : BoundaryValue) stage update. record b { stage = stage; update = update }) (λ b. refl) s.chip column;
+  name = refl;
+  nets = refl;
+}
+
+-- of two puts the second holds
+pub puts_both : (a b c : SeatValue) (column : Column) (s t : List Bool) → IsPutInto column s a b
+    → IsPutInto column t b c → IsPutInto column t a c
+puts_both a b c column s t first second = record {
+  chip = put_both (λ (b : BoundaryValue). b.stage) (λ (b : BoundaryValue). b.update)
+      (λ (b : BoundaryValue) stage update. record b { stage = stage; update = update }) (λ b s u t v. refl)
+      a.chip b.chip c.chip column s t first.chip second.chip;
+  name = second.name ∙ first.name;
+  nets = second.nets ∙ first.nets;
+}

@@ -1,0 +1,5 @@
+pub mod Seats
+pub mod Wires
+pub mod Telling
+pub mod Building
+pub mod AtRest

@@ -1,0 +1,31 @@
+-- How the cells of a device are told what their ports see.
+use Rattle.std.specs.Prelude.{◌≡◌, ℕ, Bool, List, map, slice_get, Some}
+use Rattle.bsdl_device.specs.declared.Cell.{Cell}
+use Rattle.boundary.specs.Sight.{SeesItsPorts}
+use Rattle.board_file.specs.Fits.{all_pins}
+use Rattle.board_meaning.specs.Cells.{Member}
+use Rattle.board_meaning.specs.Nets.{pin_drive, sees}
+use Rattle.chip_seats.specs.Seats.{SeatValue, cell_net, member_of}
+use Rattle.chip_seats.specs.Wires.{WiringValue}
+
+-- Of these devices this one stands at this place, wired to these nets, and what was put to the nets last is what each
+-- pin drives.
+pub record IsAt (w : WiringValue) (place : ℕ) (ms : List Member) (s : SeatValue) : Type 0 where
+  pub here : slice_get ms place ≡ Some (member_of s)
+  pub drives : w.drives ≡ map (pin_drive ms) (all_pins w.nets)
+  pub nets : s.nets ≡ map (cell_net w.nets place) s.chip.device.cells
+
+-- what a device sees at a port bit, the one at this place
+abbrev pub sight : WiringValue → List Member → ℕ → ℕ → Bool
+sight w ms place = sees w.nets ms place
+
+-- a cell with a port was told what the port sees
+abbrev pub TellsCell : WiringValue → ℕ → SeatValue → SeatValue → Type 0
+TellsCell w k old new = (place : ℕ) (ms : List Member) → IsAt w place ms old
+    → (c : Cell) → slice_get old.chip.device.cells k ≡ Some c
+    → (p : ℕ) → c.port ≡ Some p → slice_get new.chip.boundary.seen k ≡ Some (sight w ms place p)
+
+-- each was
+abbrev pub TellsAll : WiringValue → SeatValue → SeatValue → Type 0
+TellsAll w old new = (place : ℕ) (ms : List Member) → IsAt w place ms old
+    → SeesItsPorts (sight w ms place) old.chip.device.cells new.chip.boundary.seen

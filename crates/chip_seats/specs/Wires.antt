@@ -1,0 +1,41 @@
+-- The nets of a board as the code keeps them: pins by number, and what is put to each.
+use Rattle.std.specs.Prelude.{◌≡◌, ◌<◌, ℕ, suc, ◌+◌, List, [], ◌∷◌, ◌++◌, map, length}
+use Rattle.std.specs.List.{AllByRecursion, range_with_len}
+use Rattle.pin_nets.specs.declared.Drive.{Drive}
+use Rattle.pin_nets.specs.declared.Pin.{Pin}
+use Rattle.pin_nets.specs.Levels.{NetValue}
+use Rattle.pin_nets.specs.Places.{lone_nets}
+use Rattle.pin_nets.specs.Wired.{Net}
+use Rattle.board_file.specs.Fits.{all_pins}
+use Rattle.board_meaning.specs.Nets.{pin_drive}
+use Rattle.chip_seats.specs.Seats.{SeatValue, cell_net, member_of}
+
+-- the nets, and what each of their pins drives, net after net
+pub record WiringValue : Type 0 where
+  pub nets : List Net
+  pub drives : List Drive
+
+-- the nets by the numbers of their pins, from number k on
+abbrev pub numbered : ℕ → List Net → List NetValue
+numbered k [] = []
+numbered k (n ∷ ns) = record { pull = n.pull; pins = range_with_len k (length n.pins) }
+    ∷ numbered (k + length n.pins) ns
+
+-- with each pin that would be on none of them as a net by itself
+abbrev pub all_nets : List Net → List NetValue
+all_nets nets = numbered 0 nets ++ lone_nets (numbered 0 nets) (length (all_pins nets))
+
+-- each pin's device is one of so many
+abbrev pub AreSeated : ℕ → List Pin → Type 0
+AreSeated n pins = AllByRecursion (λ (p : Pin). p.device < n) pins
+
+-- the cells of the devices, from this place on, have their nets
+abbrev pub AreWired : List Net → ℕ → List SeatValue → Type 0
+AreWired nets place [] = Unit {0}
+AreWired nets place (s ∷ ss) = (s.nets ≡ map (cell_net nets place) s.chip.device.cells) × AreWired nets (suc place) ss
+
+-- The one invariant of a board between two edges: what was put to the nets last is what each pin drives.
+pub record IsWired (seats : List SeatValue) (w : WiringValue) : Type 0 where
+  pub drives : w.drives ≡ map (pin_drive (map member_of seats)) (all_pins w.nets)
+  pub cells : AreWired w.nets 0 seats
+  pub pins : AreSeated (length seats) (all_pins w.nets)

@@ -1,0 +1,12 @@
+//! The devices of a chain, each with the nets that its cells are on: what an edge of TCK, TRST and each change at rest
+//! do to one of them, and what its pins put to the nets (IEEE Std 1149.1-2001).
+#![tactic(auto)]
+
+mod build;
+mod seat;
+mod wiring;
+
+pub use build::all_seats;
+pub use seat::at_rest::capture;
+pub use seat::{Seat, rise};
+pub use wiring::Wiring;

@@ -1,0 +1,298 @@
+//! One device at its place in the chain.
+
+ghost use Rattle.std.specs.Prelude.{◌≡◌, ◌≢◌, ◌<◌, ℕ, Bool, List, [], ◌∷◌, length, slice_get, Some, None, option_map};
+ghost use Rattle.std.specs.Prelude.{if◌then◌else◌, IfOk};
+ghost use Rattle.jt_tap.specs.Controller.{work};
+ghost use Rattle.device_instructions.specs.Fitting.{IsFormed, has_code};
+ghost use Rattle.device_instructions.specs.Instruction.{instruction, meaning};
+ghost use Rattle.pin_nets.specs.Levels as levels;
+ghost use Rattle.pin_nets.specs.declared.Drive.TheVariants as driving;
+ghost use Rattle.boundary.specs.Cells as cells;
+ghost use Rattle.board_file.specs.View.{member as planned_member};
+ghost use Rattle.board_meaning.specs.Cells.{Member};
+ghost use Rattle.board_meaning.specs.Cells as meant;
+ghost use Rattle.board_meaning.specs.Chain as chain;
+ghost use Rattle.chip_seats.specs.Building.{seat_of};
+ghost use Rattle.chip_seats.specs.Seats.{AreBelow, IsKept, IsSighted, captures_boundary, chip_state, first_net};
+ghost use Rattle.chip_seats.specs.Seats.{member_of, with_seen};
+ghost use Rattle.chip_seats.specs.Telling.{IsAt, TellsAll, TellsCell, sight};
+
+pub(crate) mod at_rest;
+
+use crate::wiring::Wiring;
+use board_file::PlannedDevice;
+use boundary::{Boundary, Drive, drivers};
+use bsdl_device::Device;
+use jt_bits::Bits;
+use jt_tap::{Column, State, Work};
+use pin_nets::reads;
+use scan_registers::{Chip, Selected};
+use std::alloc::{AllocError, Global};
+use std::marker::Model;
+
+/// A device with its name and, for its cells and port bits, what they are wired to. Contracts see it without the table
+/// of its driving cells, which its description gives.
+#[derive(Drop)]
+pub struct Seat {
+    name: String,
+    chip: Chip<Boundary>,
+    /// Of each cell the net that its port is on.
+    nets: Vec<Option<usize>>,
+    /// Of each port bit the cell that drives it.
+    drivers: Vec<Option<usize>>,
+}
+
+impl Model for Seat {
+    ghost use Rattle.std.specs.Prelude.{◌≡◌, length, string_bytes};
+    ghost use Rattle.boundary.specs.Cells.{AreDrivers};
+    ghost use Rattle.chip_seats.specs.Seats.{SeatValue};
+
+    ghost Value = { SeatValue };
+
+    ghost view = { λ s. record { name = string_bytes s.name; chip = s.chip; nets = s.nets.items } };
+
+    ghost invariant = { λ s. record {
+      cells : s.chip.boundary.cells ≡ s.chip.device.cells;
+      nets : length s.nets.items ≡ length s.chip.device.cells;
+      drivers : AreDrivers s.chip.device.cells s.drivers.items;
+    } };
+}
+
+impl Seat {
+    /// A planned device as it powers up, given the net of each of its cells.
+    pub(crate) fn new(
+        alloc: Global,
+        device: &PlannedDevice,
+        nets: Vec<Option<usize>>,
+    ) -> Result<Seat, AllocError>
+        requires formed { IsFormed device.now.device }
+        requires core { length device.now.core ≡ length device.now.device.cells }
+        requires nets { length nets.items ≡ length device.now.device.cells }
+        ensures { IfOk result (λ s. s ≡ seat_of nets.items (planned_member device.now)) }
+    {
+        let description = device.device.get();
+        let drivers = drivers(alloc, description.cells(), description.port_count())?;
+        let boundary = Boundary::new(alloc, &device.device, &device.core, device.extest_update)?;
+        let chip = Chip::new(alloc, &device.device, boundary)?;
+        Ok(Seat {
+            name: String::from_str(alloc, &device.name)?,
+            chip,
+            nets,
+            drivers,
+        })
+    }
+
+    /// The name of the device on the board.
+    pub fn name(&self) -> &str
+        ensures { result.now ≡ self.now.name }
+    {
+        self.name.as_str()
+    }
+
+    /// Its description.
+    pub fn device(&self) -> &Device
+        ensures { result.now ≡ self.now.chip.device }
+    {
+        self.chip.device()
+    }
+
+    /// The state of its controller.
+    pub fn state(&self) -> State
+        ensures { result ≡ self.now.chip.state }
+    {
+        self.chip.state()
+    }
+
+    /// Its present instruction, bit 0 nearest TDO.
+    pub fn latch(&self) -> &Bits
+        ensures { result.now ≡ self.now.chip.latch }
+    {
+        self.chip.latch()
+    }
+
+    /// The name of the instruction in its latch; `None` where the description has none for it.
+    pub fn instruction(&self) -> Option<&str>
+        ensures { option_map {U = List ℕ} (λ s. s.now) result ≡ instruction self.now.chip.device self.now.chip.latch }
+    {
+        self.chip.instruction()
+    }
+
+    /// Its instruction stage, the shift register in the IR column.
+    pub fn stage(&self) -> &Bits
+        ensures { result.now ≡ self.now.chip.stage }
+    {
+        self.chip.stage()
+    }
+
+    /// The one bit of its bypass register.
+    pub fn bypass(&self) -> bool
+        ensures { result ≡ self.now.chip.bypass }
+    {
+        self.chip.bypass()
+    }
+
+    /// Its identification register, where its description has a code.
+    pub fn id(&self) -> Option<&Bits>
+        ensures { option_map {U = List Bool} (λ b. b.now) result
+            ≡ (if has_code self.now.chip.device then Some self.now.chip.identification else None) }
+    {
+        self.chip.id()
+    }
+
+    /// The shift stage of its boundary register; cell 0 is the one nearest TDO.
+    pub fn boundary(&self) -> &Bits
+        ensures { result.now ≡ self.now.chip.boundary.stage }
+    {
+        self.chip.boundary().stage()
+    }
+
+    /// The update stage of its boundary register.
+    pub fn boundary_update(&self) -> &Bits
+        ensures { result.now ≡ self.now.chip.boundary.update }
+    {
+        self.chip.boundary().update_stage()
+    }
+
+    /// The stage and the latch of its user register `k`, counted in the order in which the description first names
+    /// them.
+    pub fn user(&self, k: usize) -> Option<(&Bits, &Bits)>
+        ensures { option_map {U = List Bool × List Bool} (λ p. (p.0.now, p.1.now)) result
+            ≡ option_map (λ u. (u.stage, u.latch)) (slice_get self.now.chip.users k) }
+    {
+        self.chip.user(k)
+    }
+
+    /// The level of TDO since the last falling edge, `None` while it is not driven.
+    pub fn tdo(&self) -> Option<bool>
+        ensures { result ≡ self.now.chip.tdo }
+    {
+        self.chip.tdo()
+    }
+
+    /// What a port bit drives.
+    pub(crate) fn drive(&self, port: usize) -> Drive
+        ensures { result ≡ meant.drive (member_of self.now) port }
+    {
+        let mode = self.chip.mode();
+        match self.drivers.get(port) {
+            Some(driver) => self.chip.boundary().driven(*driver, mode),
+            None => self.chip.boundary().drive(port, mode),
+        }
+    }
+
+    /// Whether the rising edge that comes captures the boundary register.
+    fn captures_boundary(&self) -> bool
+        ensures { result ≡ captures_boundary (work self.now.chip.state)
+            (meaning self.now.chip.device self.now.chip.latch).selected }
+    {
+        self.chip.state().work() == Work::Captures(Column::Dr)
+            && self.chip.selected() == Selected::Boundary
+    }
+
+    /// How many boundary cells the device has.
+    fn cells(&self) -> usize
+        ensures count { result ≡ length self.now.chip.device.cells }
+        ensures nets { length self.now.nets ≡ length self.now.chip.device.cells }
+        ensures cells { self.now.chip.boundary.cells ≡ self.now.chip.device.cells }
+        ensures whole { cells.IsWhole self.now.chip.boundary }
+    {
+        self.chip.boundary().cells().len()
+    }
+
+    /// Cell `k` is told what its port sees, if it has one.
+    fn tell_cell(&mut self, k: usize, wiring: &Wiring)
+        requires cell { k < length self.old.chip.device.cells }
+        requires below { AreBelow (length wiring.now.nets) self.old.nets }
+        ensures same { self.new ≡ with_seen self.new.chip.boundary.seen self.old }
+        ensures long { length self.new.chip.boundary.seen ≡ length self.old.chip.boundary.seen }
+        ensures others { (j : ℕ) → j ≢ k
+            → slice_get self.new.chip.boundary.seen j ≡ slice_get self.old.chip.boundary.seen j }
+        ensures told { TellsCell wiring.now k self.old self.new }
+    {
+        let cell = self.chip.boundary().cells()[k];
+        if let Some(port) = cell.port {
+            let bit = self.sight(k, port, wiring);
+            self.chip.see(k, bit);
+        }
+    }
+
+    /// What the port of cell `k` sees.
+    fn sight(&self, k: usize, port: usize, wiring: &Wiring) -> bool
+        requires cell { k < length self.now.chip.device.cells }
+        requires below { AreBelow (length wiring.now.nets) self.now.nets }
+        ensures { (place : ℕ) (ms : List Member) → IsAt wiring.now place ms self.now
+            → slice_get self.now.nets k ≡ Some (first_net place port 0 wiring.now.nets)
+            → result ≡ sight wiring.now ms place port }
+    {
+        match self.nets[k] {
+            Some(net) => reads(wiring.level(net)),
+            None => sees_alone(self.drive(port)),
+        }
+    }
+
+    /// A rising edge, once the cells were told what their ports see.
+    fn rise(&mut self, tms: bool, tdi: bool)
+        ensures kept { IsKept self.old self.new }
+        ensures trst { self.new.chip.trst ≡ self.old.chip.trst }
+        ensures chip { (sees : ℕ → Bool) → IsSighted sees self.old
+            → chip_state self.new ≡ chain.rise self.old.chip.trst tms tdi sees (chip_state self.old) }
+    {
+        self.chip.rise(tms, tdi);
+    }
+
+    /// A falling edge.
+    pub fn fall(&mut self)
+        ensures kept { IsKept self.old self.new }
+        ensures trst { self.new.chip.trst ≡ self.old.chip.trst }
+        ensures chip { chip_state self.new ≡ chain.fall (chip_state self.old) }
+    {
+        self.chip.fall();
+    }
+
+    /// TRST is asserted or released.
+    pub fn tell_trst(&mut self, trst: bool)
+        ensures kept { IsKept self.old self.new }
+        ensures trst { self.new.chip.trst ≡ trst }
+        ensures chip { chip_state self.new
+            ≡ (if trst then chain.assert_trst (chip_state self.old) else chip_state self.old) }
+    {
+        self.chip.trst(trst);
+    }
+}
+
+/// A rising edge of one device: its boundary register captures the levels before the edge.
+pub fn rise(seat: &mut Seat, wiring: &Wiring, tms: bool, tdi: bool)
+    requires below { AreBelow (length wiring.now.nets) seat.old.nets }
+    ensures kept { IsKept seat.old seat.new }
+    ensures trst { seat.new.chip.trst ≡ seat.old.chip.trst }
+    ensures chip { (place : ℕ) (ms : List Member) → IsAt wiring.now place ms seat.old
+        → chip_state seat.new ≡ chain.rise seat.old.chip.trst tms tdi (sight wiring.now ms place)
+        (chip_state seat.old) }
+{
+    if seat.captures_boundary() {
+        tell(seat, wiring);
+    }
+    seat.rise(tms, tdi);
+}
+
+/// Each cell with a port is told what the port sees.
+fn tell(seat: &mut Seat, wiring: &Wiring)
+    requires below { AreBelow (length wiring.now.nets) seat.old.nets }
+    ensures same { seat.new ≡ with_seen seat.new.chip.boundary.seen seat.old }
+    ensures whole { cells.IsWhole seat.new.chip.boundary }
+    ensures told { TellsAll wiring.now seat.old seat.new }
+{
+    for k in 0..seat.cells() {
+        seat.tell_cell(k, wiring);
+    }
+}
+
+/// What a port bit sees that is a net by itself.
+fn sees_alone(drive: Drive) -> bool
+    ensures { result ≡ levels.reads (levels.level_of (driving.Nothing ∷ drive ∷ [])) }
+{
+    match drive {
+        Drive::Strong(bit) | Drive::Weak(bit) => bit,
+        Drive::Nothing => true,
+    }
+}

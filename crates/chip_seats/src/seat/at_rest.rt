@@ -1,0 +1,135 @@
+//! A device as a link of the chain, and what is done to its registers without TCK.
+
+ghost use Rattle.std.specs.Prelude.{◌≡◌, ℕ, Bool, true, List, length};
+ghost use Rattle.board_meaning.specs.Cells.{Member};
+ghost use Rattle.board_meaning.specs.Resting.{chip_at_rest};
+ghost use Rattle.board_meaning.specs.Whole.{capture_member, reset_member, settled_member, trst_member, update_member};
+ghost use Rattle.chip_seats.specs.AtRest.{IsSightedFor, as_member};
+ghost use Rattle.chip_seats.specs.Seats.{AreBelow, IsKept, captures_boundary, chip_state, member_of};
+ghost use Rattle.chip_seats.specs.Telling.{IsAt, sight};
+ghost use Rattle.jt_tap.specs.declared.State.TheVariants.{Reset};
+ghost use Rattle.jt_tap.specs.declared.Work.TheVariants.{Captures};
+ghost use Rattle.device_instructions.specs.Instruction.{meaning};
+
+use super::{Seat, tell};
+use crate::wiring::Wiring;
+use jt_tap::{Column, State};
+use scan_registers::{Link, Selected};
+
+impl Link for Seat {
+    ghost use Rattle.board_meaning.specs.Whole.{selected_bits_of};
+    ghost use Rattle.chip_seats.specs.AtRest.{IsPutInto, puts_both, puts_nothing};
+    ghost use Rattle.chip_seats.specs.Seats.{member_of};
+
+    ghost register = { λ s column. selected_bits_of column (member_of s) };
+
+    ghost is_put = { λ s column bits t. IsPutInto column bits s t };
+
+    fn register_len(&self, column: Column) -> usize {
+        self.chip.chosen_len(column)
+    }
+
+    fn register_word(&self, column: Column, i: usize) -> u64 {
+        self.chip.chosen_word(column, i)
+    }
+
+    fn put_register(&mut self, column: Column, at: usize, bits: u64, n: usize) {
+        self.chip.put_chosen(column, at, bits, n);
+    }
+
+    ghost put_none = { λ s column. puts_nothing s column };
+
+    ghost put_twice = { λ a b c column s t first second. puts_both a b c column s t first second };
+}
+
+impl Seat {
+    /// Whether a capture of the column is one of the boundary register.
+    fn captures_boundary_of(&self, column: Column) -> bool
+        ensures { result ≡ captures_boundary (Captures column)
+            (meaning self.now.chip.device self.now.chip.latch).selected }
+    {
+        column == Column::Dr && self.chip.selected() == Selected::Boundary
+    }
+
+    /// The column's register captures, once the cells were told what their ports see.
+    fn capture(&mut self, column: Column)
+        ensures kept { IsKept self.old self.new }
+        ensures trst { self.new.chip.trst ≡ self.old.chip.trst }
+        ensures chip { (sees : ℕ → Bool) → IsSightedFor column sees self.old
+            → chip_state self.new ≡ as_member (capture_member column sees (member_of self.old)) (chip_state self.old) }
+    {
+        self.chip.capture(column);
+    }
+
+    /// The column's register updates.
+    pub fn update(&mut self, column: Column)
+        ensures kept { IsKept self.old self.new }
+        ensures trst { self.new.chip.trst ≡ self.old.chip.trst }
+        ensures chip { chip_state self.new
+            ≡ as_member (update_member column (member_of self.old)) (chip_state self.old) }
+    {
+        self.chip.update(column);
+    }
+
+    /// The instruction and the boundary register are reset.
+    pub fn reset(&mut self)
+        ensures kept { IsKept self.old self.new }
+        ensures trst { self.new.chip.trst ≡ self.old.chip.trst }
+        ensures chip { chip_state self.new ≡ as_member (reset_member (member_of self.old)) (chip_state self.old) }
+    {
+        self.chip.reset();
+    }
+
+    /// The controller stands in this state, and TDO is not driven.
+    pub fn stand(&mut self, state: State)
+        ensures kept { IsKept self.old self.new }
+        ensures trst { self.new.chip.trst ≡ self.old.chip.trst }
+        ensures chip { chip_state self.new ≡ chip_at_rest state (member_of self.old) }
+    {
+        self.chip.rest(state);
+    }
+
+    /// A device that rests in a pause makes the update that is pending.
+    fn settle(&mut self, rests: State)
+        ensures kept { IsKept self.old self.new }
+        ensures trst { self.new.chip.trst ≡ self.old.chip.trst }
+        ensures chip { chip_state self.new
+            ≡ as_member (settled_member rests (member_of self.old)) (chip_state self.old) }
+    {
+        match rests {
+            State::DrPause => self.update(Column::Dr),
+            State::IrPause => self.update(Column::Ir),
+            _ => {}
+        }
+    }
+
+    /// TRST is asserted to a device that rests in a state: one without the port settles, and is reset by TCK.
+    pub fn assert_trst(&mut self, rests: State)
+        ensures kept { IsKept self.old self.new }
+        ensures trst { self.new.chip.trst ≡ true }
+        ensures chip { chip_state self.new
+            ≡ chip_at_rest Reset (trst_member (settled_member rests) (member_of self.old)) }
+    {
+        if !self.device().has_trst() {
+            self.settle(rests);
+            self.reset();
+        }
+        self.tell_trst(true);
+        self.stand(State::Reset);
+    }
+}
+
+/// The column's register of one device captures; its boundary register takes the levels before.
+pub fn capture(seat: &mut Seat, wiring: &Wiring, column: Column)
+    requires below { AreBelow (length wiring.now.nets) seat.old.nets }
+    ensures kept { IsKept seat.old seat.new }
+    ensures trst { seat.new.chip.trst ≡ seat.old.chip.trst }
+    ensures chip { (place : ℕ) (ms : List Member) → IsAt wiring.now place ms seat.old
+        → chip_state seat.new ≡ as_member (capture_member column (sight wiring.now ms place) (member_of seat.old))
+        (chip_state seat.old) }
+{
+    if seat.captures_boundary_of(column) {
+        tell(seat, wiring);
+    }
+    seat.capture(column);
+}

@@ -1,0 +1,108 @@
+//! The nets of a board, with what was last put to them.
+
+ghost use Rattle.std.specs.Prelude.{◌≡◌, ◌<◌, ◌∷◌, map, length, slice_get, option_map, replicate, Some, IfOk};
+ghost use Rattle.pin_nets.specs.declared.Drive.{Drive as TheDrive};
+ghost use Rattle.pin_nets.specs.declared.Drive.TheVariants as driving;
+ghost use Rattle.pin_nets.specs.declared.Pin.{Pin as ThePin};
+ghost use Rattle.pin_nets.specs.Levels as levels;
+ghost use Rattle.board_file.specs.Fits.{all_pins};
+ghost use Rattle.board_file.specs.View.{net as planned_net};
+ghost use Rattle.board_meaning.specs.Nets.{pin_drive};
+ghost use Rattle.chip_seats.specs.Seats.{member_of};
+ghost use Rattle.chip_seats.specs.Wires.{AreSeated, WiringValue};
+
+use crate::build::number_nets;
+use crate::seat::Seat;
+use board_file::PlannedNet;
+use pin_nets::{Level, Nets, Pin};
+use std::alloc::{AllocError, Global};
+use std::marker::Model;
+
+/// The nets by name, and their levels. Contracts see the nets, and what was last put to each of their pins.
+#[derive(Drop)]
+pub struct Wiring {
+    nets: Vec<PlannedNet>,
+    /// The pins of all nets; pin `k` of these is pin `k` of the levels.
+    pins: Vec<Pin>,
+    levels: Nets,
+}
+
+impl Model for Wiring {
+    ghost use Rattle.std.specs.Prelude.{◌≡◌, map, length};
+    ghost use Rattle.board_file.specs.Fits.{all_pins};
+    ghost use Rattle.board_file.specs.View.{net as planned_net};
+    ghost use Rattle.chip_seats.specs.Wires.{WiringValue, all_nets};
+
+    ghost Value = { WiringValue };
+
+    ghost view = { λ w. record { nets = map planned_net w.nets.items; drives = w.levels.drives } };
+
+    ghost invariant = { λ w. record {
+      pins : w.pins.items ≡ all_pins (map planned_net w.nets.items);
+      long : length w.levels.drives ≡ length w.pins.items;
+      levels : w.levels.nets ≡ all_nets (map planned_net w.nets.items);
+    } };
+}
+
+impl Wiring {
+    /// These nets, to whose pins nothing was put yet; refused where memory runs out.
+    pub fn new(alloc: Global, nets: Vec<PlannedNet>) -> Result<Wiring, AllocError>
+        ensures { IfOk result (λ w. w ≡ record {
+          nets = map planned_net nets.items;
+          drives = replicate (length (all_pins (map planned_net nets.items))) driving.Nothing;
+        }) }
+    {
+        let mut pins = Vec::new(alloc);
+        let specs = number_nets(alloc, &nets, &mut pins)?;
+        let levels = Nets::build(alloc, pins.len(), &specs)?;
+        Ok(Wiring { nets, pins, levels })
+    }
+
+    /// How many nets have a name.
+    pub fn count(&self) -> usize
+        ensures { result ≡ length self.now.nets }
+    {
+        self.nets.len()
+    }
+
+    /// The name of a net.
+    pub fn name(&self, net: usize) -> &str
+        requires { net < length self.now.nets }
+        ensures { option_map (λ n. n.name) (slice_get self.now.nets net) ≡ Some result.now }
+    {
+        self.nets[net].name.as_str()
+    }
+
+    /// The level of a net, if what was last put to each pin is what the pin drives.
+    pub fn level(&self, net: usize) -> Level
+        requires { net < length self.now.nets }
+        ensures { (f : ThePin → TheDrive) → self.now.drives ≡ map f (all_pins self.now.nets)
+            → option_map (λ n. levels.level_of (levels.pull_drive n.pull ∷ map f n.pins)) (slice_get self.now.nets net)
+            ≡ Some result }
+    {
+        self.levels.level(net)
+    }
+
+    /// What each pin drives is put to its net.
+    pub fn refresh(&mut self, seats: &[Seat])
+        requires { AreSeated (length seats.now) (all_pins self.old.nets) }
+        ensures { self.new ≡ record self.old {
+          drives = map (pin_drive (map member_of seats.now))
+              (all_pins self.old.nets);
+        } }
+    {
+        put_all(&mut self.levels, &self.pins, seats);
+    }
+}
+
+/// Puts what these pins drive, by their order.
+fn put_all(levels: &mut Nets, pins: &[Pin], seats: &[Seat])
+    requires long { length levels.old.drives ≡ length pins.now }
+    requires seated { AreSeated (length seats.now) pins.now }
+    ensures { levels.new ≡ record levels.old { drives = map (pin_drive (map member_of seats.now)) pins.now } }
+{
+    for k in 0..pins.len() {
+        let pin = pins[k];
+        levels.put(k, seats[pin.device].drive(pin.port));
+    }
+}
