@@ -1,6 +1,6 @@
 -- Bare devices, one more at a time.
 use Rattle.std.proofs.Common.{◌≡◌, ℕ, zero, suc, ◌+◌, List, [], ◌∷◌, ◌++◌, sym, ap, ◌∙◌, arith}
-use Rattle.board_file.specs.Wiring as planned
+use Rattle.board_plan.specs.Planned as planned
 use Rattle.bare_boards.specs.Bares.{bare_at, bare_planned}
 
 grown : (k n j : ℕ) → j ≡ k + n → bare_planned k (suc n) ≡ bare_planned k n ++ bare_at j ∷ []

@@ -1,7 +1,7 @@
 -- The plan of a board of bare devices.
 use Rattle.std.specs.Prelude.{Bool, false, ℕ, zero, suc, List, [], ◌∷◌, Some}
 use Rattle.bsdl_device.specs.Device.{Pattern}
-use Rattle.board_file.specs.Wiring as planned
+use Rattle.board_plan.specs.Planned as planned
 use Rattle.board_meaning.specs.Bare.{bare, bare_name}
 
 -- the bare device U and this number, its core 0

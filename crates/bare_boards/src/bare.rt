@@ -3,11 +3,11 @@
 ghost use Rattle.std.specs.Prelude.{◌≡◌, [], ◌∷◌, ◌≤◌, true, false, Some, map, codes, string_bytes, IfOk};
 ghost use Rattle.bsdl_device.specs.Device as described;
 ghost use Rattle.bsdl_device.specs.declared.port_bits.Port.{Port as ThePort};
-ghost use Rattle.board_file.specs.View.{member, wiring};
+ghost use Rattle.board_plan.specs.View.{member, wiring};
 ghost use Rattle.board_meaning.specs.Bare.{bare};
 ghost use Rattle.bare_boards.specs.Bares.{bare_at, bare_planned, bare_wiring, two_bits};
 
-use board_file::{Plan, PlannedDevice};
+use board_plan::{Plan, PlannedDevice};
 use bsdl_device::{Cell, Device, Function, Names, Opcode, Parts, Pattern, Port, PortMode, Ports};
 use device_instructions::SharedDevice;
 use jt_bits::Bits;

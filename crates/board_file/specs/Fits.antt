@@ -5,24 +5,12 @@ use Rattle.bsdl_device.specs.Device.{Device}
 use Rattle.pin_nets.specs.declared.Pin.{Pin}
 use Rattle.board_pins.specs.Pins.{same_pin}
 use Rattle.pin_nets.specs.Wired.{Net}
-use Rattle.board_file.specs.Wiring.{Member, Wiring}
-
--- the core has a bit for each cell
-abbrev pub HasCore : Member → Type 0
-HasCore m = length m.core ≡ length m.device.cells
-
--- the pin is a port bit of one of the devices
-abbrev pub IsPinOf : List Member → Pin → Type 0
-IsPinOf members p = (m : Member) × (slice_get members p.device ≡ Some m) × (p.port < length m.device.ports)
+use Rattle.board_plan.specs.Planned.{HasCore, IsPinOf, Member, Wiring, all_pins}
 
 -- each pin differs from those before it
 abbrev pub AreApart : (before pins : List Pin) → Type 0
 AreApart before [] = Unit {0}
 AreApart before (p ∷ ps) = (list_any (same_pin p) before ≡ false) × AreApart (before ++ p ∷ []) ps
-
--- the pins of all nets
-abbrev pub all_pins : List Net → List Pin
-all_pins nets = flat_map (λ n. n.pins) nets
 
 -- 1 to 32 devices with whole cores, at most 4,096 nets, each pin a port bit of a device, and none twice
 pub record FitsTogether (w : Wiring) : Type 0 where

@@ -1,4 +1,3 @@
 pub mod Wiring
-pub mod LeftOut
 pub mod View
 pub mod Fits

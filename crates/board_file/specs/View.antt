@@ -6,15 +6,16 @@ use Rattle.board_names.specs.declared.fault.BoardFault.{BoardFault}
 use Rattle.board_names.specs.declared.fault.BoardFault.TheVariants as fault
 use Rattle.board_file.specs.declared.wiring.Miswired.{Miswired}
 use Rattle.board_file.specs.declared.wiring.Miswired.TheVariants as miswired
-use Rattle.board_file.specs.declared.plan.Plan.{Plan}
-use Rattle.board_file.specs.declared.plan.PlannedDevice.{PlannedDevice}
-use Rattle.board_file.specs.declared.plan.PlannedNet.{PlannedNet}
+use Rattle.board_plan.specs.declared.plan.Plan.{Plan}
+use Rattle.board_plan.specs.declared.plan.PlannedDevice.{PlannedDevice}
+use Rattle.board_plan.specs.declared.plan.PlannedNet.{PlannedNet}
 use Rattle.board_library.specs.View.{stands_at}
 use Rattle.toml.specs.Data.{Members}
 use Rattle.std.specs.List.{filter_map}
 use Rattle.pin_nets.specs.Wired.{Net}
 use Rattle.board_tables.specs.Fields.{name_at}
-use Rattle.board_file.specs.Wiring.{Member, member_of, net_of, wire_fault, Wiring, Fault, BadField, UnknownFile, Bsdl}
+use Rattle.board_file.specs.Wiring.{member_of, net_of, wire_fault, Fault, BadField, UnknownFile, Bsdl}
+use Rattle.board_plan.specs.Planned.{Member, Wiring}
 use Rattle.board_file.specs.Wiring.{UnknownPin, PinTwice, TooLarge}
 
 -- what a device of the board is, given all names of files and what is described in each
@@ -61,16 +62,6 @@ IsMiswired (miswired.UnknownPin t) (fault.UnknownPin s) = string_bytes s ≡ t.n
 IsMiswired (miswired.PinTwice t) (fault.PinTwice s) = string_bytes s ≡ t.now
 IsMiswired miswired.TooLarge fault.TooLarge = Unit {0}
 IsMiswired _ _ = ⊥
-
-abbrev pub member : PlannedDevice → Member
-member m = record { name = string_bytes m.name; device = m.device; core = m.core; extest_update = m.extest_update }
-
-abbrev pub net : PlannedNet → Net
-net n = record { name = string_bytes n.name; pull = n.pull; pins = n.pins.items }
-
--- the board that is planned
-abbrev pub wiring : Plan → Wiring
-wiring p = record { members = map member p.devices.items; nets = map net p.nets.items }
 
 -- The board, or the fault that the refusal names, unless memory runs out.
 abbrev pub TellsBoard : {F : Type 0} → (List ℕ → F → Type 0) → Result Plan (BoardFault F) → Result Wiring Fault → Type 0

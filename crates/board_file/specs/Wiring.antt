@@ -11,22 +11,8 @@ use Rattle.board_tables.specs.Faults.{unfit}
 use Rattle.pin_nets.specs.Wired.{Net}
 use Rattle.board_library.specs.Files.{File, device_at, cells_at, devices_of, missing_in, refused_in}
 use Rattle.board_names.specs.Files.{file_names}
+use Rattle.board_plan.specs.Planned.{Member, Wiring}
 use Rattle.board_pins.specs.Pins.{pins_at, unknown_in_nets, twice_in_nets}
-
--- ---- a board as it is wired
-
--- A device: its name, what is described of it, its core's bits (one a cell, cell 0 first), and whether EXTEST captures
--- the update stage.
-pub record Member : Type 0 where
-  pub name : List ℕ
-  pub device : Device
-  pub core : List Bool
-  pub extest_update : Bool
-
--- the devices, the first nearest the board's TDO, and the nets
-pub record Wiring : Type 0 where
-  pub members : List Member
-  pub nets : List Net
 
 -- ---- what a table says of it
 

@@ -10,13 +10,14 @@ ghost use Rattle.board_file.specs.Wiring.{makes};
 ghost use Rattle.board_file.specs.View.{IsMiswired, IsUnknownFile, JudgesKeys, PlansBoard, TellsBoard};
 ghost use Rattle.board_names.specs.View.{TellsBadToml};
 ghost use Rattle.board_library.specs.View.{cells_in, files_of};
-ghost use Rattle.board_file.specs.View.{wiring};
+ghost use Rattle.board_plan.specs.View.{wiring};
 ghost use Rattle.board_file.specs.Fits.{AreSaid, FitsTogether};
 
-use crate::plan::{Plan, plan_devices, plan_nets};
+use crate::plan::{plan_devices, plan_nets};
 use crate::wiring::{Miswired, check_pins};
 use board_library::{Describe, Library, cells_of, devices_of, read_files};
 use board_names::{BoardFault, distinct_files, read_table, told};
+use board_plan::Plan;
 use board_tables::{Places, check_fields, items_at, name_at};
 use device_instructions::SharedDevice;
 use std::alloc::{AllocError, Global};

@@ -2,13 +2,10 @@
 #![tactic(auto)]
 
 mod board;
-mod instructions;
 mod plan;
 mod wiring;
 
 pub use board::plan_of_text;
 pub use board_library::{Describe, Unread};
 pub use board_names::{BoardFault, bsdl_names};
-pub use instructions::left_out;
 pub use pin_nets::Pin;
-pub use plan::{Plan, PlannedDevice, PlannedNet};

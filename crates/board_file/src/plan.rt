@@ -1,4 +1,4 @@
-//! A board as its file wires it, before power-up.
+//! The devices and nets that a board file's tables say.
 ghost use Rattle.std.specs.Prelude.{◌≡◌, ◌==◌, map, reverse, option_map, IfOk};
 ghost use Rattle.std.specs.List.{filter_map};
 ghost use Rattle.toml.specs.View.{table_view, items_view};
@@ -6,41 +6,18 @@ ghost use Rattle.board_tables.specs.Fields.{tables_in, texts_in};
 ghost use Rattle.board_tables.specs.View.{texts_of};
 ghost use Rattle.board_pins.specs.Pins.{pin_at};
 ghost use Rattle.board_file.specs.Wiring as spec;
-ghost use Rattle.board_file.specs.View as view;
+ghost use Rattle.board_file.specs.View.{member_in};
+ghost use Rattle.board_plan.specs.View as planned;
 
 use board_library::described_at;
 use board_pins::find_pin;
+use board_plan::{PlannedDevice, PlannedNet};
 use board_tables::{Places, items_at, name_at, text_at};
 use device_instructions::SharedDevice;
 use jt_bits::Bits;
 use pin_nets::{Pin, Pull};
 use std::alloc::{AllocError, Global};
 use toml::{Table, Value};
-
-/// A device: its name, its description, its core's bits (one a cell, cell 0 first), and whether EXTEST captures the
-/// update stage.
-#[derive(Drop)]
-pub struct PlannedDevice {
-    pub name: String,
-    pub device: SharedDevice,
-    pub core: Bits,
-    pub extest_update: bool,
-}
-
-/// A net: its name, its pull and its pins.
-#[derive(Drop)]
-pub struct PlannedNet {
-    pub name: String,
-    pub pull: Pull,
-    pub pins: Vec<Pin>,
-}
-
-/// The devices, the first nearest the board's TDO, and the nets.
-#[derive(Drop)]
-pub struct Plan {
-    pub devices: Vec<PlannedDevice>,
-    pub nets: Vec<PlannedNet>,
-}
 
 /// The devices that are described, given all names of files and what is described in each.
 pub(crate) fn plan_devices(
@@ -49,8 +26,8 @@ pub(crate) fn plan_devices(
     described: &[Option<SharedDevice>],
     devices: &[Value],
 ) -> Result<Vec<PlannedDevice>, AllocError>
-    ensures { IfOk result (λ v. map view.member v.items
-        ≡ filter_map (view.member_in (texts_of names.now) described.now) (tables_in (items_view devices.now))) }
+    ensures { IfOk result (λ v. map planned.member v.items
+        ≡ filter_map (member_in (texts_of names.now) described.now) (tables_in (items_view devices.now))) }
 {
     let mut planned = Vec::new(alloc);
     for device in devices {
@@ -68,7 +45,7 @@ fn plan_device(
     table: &Table,
     device: &SharedDevice,
 ) -> Result<PlannedDevice, AllocError>
-    ensures { IfOk result (λ p. view.member p ≡ spec.member_of (table_view table.now) device.now) }
+    ensures { IfOk result (λ p. planned.member p ≡ spec.member_of (table_view table.now) device.now) }
 {
     let cells = device.get().cells().len();
     Ok(PlannedDevice {
@@ -126,7 +103,7 @@ pub(crate) fn plan_nets(
     devices: &[SharedDevice],
     nets: &[Value],
 ) -> Result<Vec<PlannedNet>, AllocError>
-    ensures { IfOk result (λ v. map view.net v.items
+    ensures { IfOk result (λ v. map planned.net v.items
         ≡ map (spec.net_of (texts_of names.now) devices.now) (tables_in (items_view nets.now))) }
 {
     let mut planned = Vec::new(alloc);
@@ -144,7 +121,7 @@ fn plan_net(
     devices: &[SharedDevice],
     table: &Table,
 ) -> Result<PlannedNet, AllocError>
-    ensures { IfOk result (λ n. view.net n ≡ spec.net_of (texts_of names.now) devices.now (table_view table.now)) }
+    ensures { IfOk result (λ n. planned.net n ≡ spec.net_of (texts_of names.now) devices.now (table_view table.now)) }
 {
     Ok(PlannedNet {
         name: String::from_str(alloc, name_at(table))?,

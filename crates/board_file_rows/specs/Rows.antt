@@ -4,7 +4,7 @@ use Rattle.toml.specs.Data.{Members, no_members, member, boolean}
 use Rattle.pin_nets.specs.declared.Pull.TheVariants.{Up, Down, Free}
 use Rattle.board_names.specs.Files.{names_of}
 use Rattle.board_file.specs.Wiring.{Fault, BadField, UnknownFile, Bsdl, UnknownPin, PinTwice, TooLarge, large}
-use Rattle.board_file.specs.LeftOut.{left_out}
+use Rattle.board_plan.specs.LeftOut.{left_out}
 use Rattle.board_file_rows.specs.Samples.{Shown, k, ki, shows, pin, tables, file, device, cored, net, pulled, one_net}
 use Rattle.board_file_rows.specs.Samples.{with_pins, text_member}
 

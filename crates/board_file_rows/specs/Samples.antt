@@ -13,7 +13,8 @@ use Rattle.pin_nets.specs.declared.Pull.{Pull}
 use Rattle.pin_nets.specs.declared.Pin.{Pin}
 use Rattle.board_library.specs.Files.{File}
 use Rattle.pin_nets.specs.Wired.{Net}
-use Rattle.board_file.specs.Wiring.{Member, Wiring, Fault, makes}
+use Rattle.board_file.specs.Wiring.{Fault, makes}
+use Rattle.board_plan.specs.Planned.{Member, Wiring}
 
 -- ---- devices
 

@@ -2,7 +2,8 @@
 ghost use Rattle.std.specs.Prelude.{◌≡◌, [], ◌∷◌, IfOk, string_bytes};
 ghost use Rattle.board_file_rows.specs.Small.{small_cell, small_device, small_ports};
 
-use board_file::{BoardFault, Describe, Pin, Plan, Unread, bsdl_names, plan_of_text};
+use board_file::{BoardFault, Describe, Pin, Unread, bsdl_names, plan_of_text};
+use board_plan::Plan;
 use bsdl_device::{
     Cell as BoundaryCell, Device, Function, Indices, Names, Parts, Port, PortMode, Ports,
 };

@@ -6,7 +6,7 @@ use Rattle.std.specs.List.{filter}
 use Rattle.std.proofs.lemmas.List.{length-map}
 use Rattle.std.proofs.lemmas.List.Sums.{count_by-le-length, length-filter}
 use Rattle.bsdl_device.specs.Device.{Device, Opcode}
-use Rattle.board_file.specs.LeftOut.{is_left_out, left_out}
+use Rattle.board_plan.specs.LeftOut.{is_left_out, left_out}
 use Rattle.pin_nets.specs.declared.Level.{Level}
 use Rattle.pin_nets.specs.declared.Pull.TheVariants.{Free}
 use Rattle.pin_nets.specs.Wired.{Net}

@@ -1,6 +1,6 @@
 -- What `check` tells of a board: a line for each instruction that stands for BYPASS.
 use Rattle.std.specs.Prelude.{ℕ, List, ◌++◌, flat_map, codes}
-use Rattle.board_file.specs.LeftOut.{left_out}
+use Rattle.board_plan.specs.LeftOut.{left_out}
 use Rattle.board_meaning.specs.Chain.{BoardState, ChipState}
 
 abbrev pub left_out_line : List ℕ → List ℕ → List ℕ

@@ -10,7 +10,7 @@ ghost use Rattle.board_meaning.specs.Chain.{members};
 ghost use Rattle.chip_seats.specs.Seats.{chip_state};
 ghost use Rattle.device_instructions.specs.Instruction.{instruction};
 
-use board_file::left_out;
+use board_plan::left_out;
 use byte_ends::{Broken, Counted, Sink, put_all};
 use chip_chain::{Chain, Seat};
 use jt_bits::Bits;

@@ -7,7 +7,7 @@ use Rattle.bsdl_device.specs.declared.Cell.{Cell}
 use Rattle.pin_nets.specs.declared.Drive.TheVariants.{Nothing}
 use Rattle.pin_nets.specs.declared.Pin.{Pin}
 use Rattle.pin_nets.specs.Wired.{Net}
-use Rattle.board_file.specs.Fits.{all_pins}
+use Rattle.board_plan.specs.Planned.{all_pins}
 use Rattle.board_meaning.specs.Cells.{Member, drive}
 use Rattle.board_meaning.specs.Chain as chain
 use Rattle.board_meaning.specs.Chain.{ChipState, members, rise_all, tdi_before}

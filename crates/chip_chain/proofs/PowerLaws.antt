@@ -2,7 +2,7 @@
 use Rattle.std.proofs.Common.{◌≡◌, ℕ, suc, List, [], ◌∷◌, map, refl, sym, ap, ◌∙◌}
 use Rattle.jt_tap.specs.declared.State.TheVariants.{Reset}
 use Rattle.pin_nets.specs.Wired.{Net}
-use Rattle.board_file.specs.Wiring as planned
+use Rattle.board_plan.specs.Planned as planned
 use Rattle.board_meaning.specs.Chain.{ChipState}
 use Rattle.board_meaning.specs.Resting.{chip_at_rest}
 use Rattle.chip_seats.specs.Building.{seat_of, seats_of}

@@ -14,7 +14,7 @@ use Rattle.boundary.specs.Cells.{BoundaryValue, drive_in}
 use Rattle.scan_vectors.specs.Vector.{VectorBit, tdis}
 use Rattle.whole_chain.specs.Rows as rows
 use Rattle.whole_chain.specs.Rows.{IsCutBack}
-use Rattle.board_file.specs.Fits.{all_pins}
+use Rattle.board_plan.specs.Planned.{all_pins}
 use Rattle.board_meaning.specs.Cells.{Member, drive}
 use Rattle.board_meaning.specs.Chain.{ChipState, members}
 use Rattle.board_meaning.specs.Nets.{sees}

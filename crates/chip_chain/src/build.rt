@@ -1,12 +1,12 @@
 //! A planned chain, powered up.
 
 ghost use Rattle.std.specs.Prelude.{◌≡◌, IfOk};
-ghost use Rattle.board_file.specs.View.{wiring};
+ghost use Rattle.board_plan.specs.View.{wiring};
 ghost use Rattle.chip_seats.specs.Building.{IsReady};
 ghost use Rattle.chip_chain.specs.Chains.{chain_of};
 
 use crate::chain::Chain;
-use board_file::Plan;
+use board_plan::Plan;
 use chip_seats::{Wiring, all_seats};
 use std::alloc::{AllocError, Global};
 

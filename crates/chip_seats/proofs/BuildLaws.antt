@@ -16,11 +16,11 @@ use Rattle.pin_nets.specs.Levels.{NetValue, one}
 use Rattle.pin_nets.specs.Places.{IsOnce, times}
 use Rattle.pin_nets.specs.Wired.{Net}
 use Rattle.pin_nets.proofs.Counting.{count-cons, eq_false, eq_true}
-use Rattle.board_file.specs.Fits.{IsPinOf, all_pins}
-use Rattle.board_file.specs.Wiring as planned
-use Rattle.board_file.specs.View.{member as planned_member, net as planned_net}
-use Rattle.board_file.specs.declared.plan.PlannedNet.{PlannedNet}
-use Rattle.board_file.specs.declared.plan.PlannedDevice.{PlannedDevice}
+use Rattle.board_plan.specs.Planned.{IsPinOf, all_pins}
+use Rattle.board_plan.specs.Planned as planned
+use Rattle.board_plan.specs.View.{member as planned_member, net as planned_net}
+use Rattle.board_plan.specs.declared.plan.PlannedNet.{PlannedNet}
+use Rattle.board_plan.specs.declared.plan.PlannedDevice.{PlannedDevice}
 use Rattle.board_meaning.specs.Nets.{has_pin, pin_drive}
 use Rattle.chip_seats.specs.Building.{EntersNet, HasNets, PortsFit, net_by, seat_of, seats_of}
 use Rattle.chip_seats.specs.Seats.{AllTold, SeatValue, cell_net, first_net, member_of}

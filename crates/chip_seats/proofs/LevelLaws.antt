@@ -10,7 +10,7 @@ use Rattle.pin_nets.specs.declared.Level.{Level}
 use Rattle.pin_nets.specs.declared.Pin.{Pin}
 use Rattle.pin_nets.specs.Levels.{drive_at, level, level_of, pull_drive}
 use Rattle.pin_nets.specs.Wired.{Net}
-use Rattle.board_file.specs.Fits.{all_pins}
+use Rattle.board_plan.specs.Planned.{all_pins}
 use Rattle.board_meaning.specs.Cells.{Member, drive}
 use Rattle.board_meaning.specs.Nets.{pin_drive}
 use Rattle.chip_seats.specs.Seats.{SeatValue, member_of}

@@ -8,8 +8,8 @@ use Rattle.pin_nets.specs.declared.Pin.{Pin}
 use Rattle.pin_nets.specs.Wired.{Net}
 use Rattle.boundary.specs.Cells as cells
 use Rattle.board_meaning.specs.Nets.{has_pin}
-use Rattle.board_file.specs.Fits.{HasCore, IsPinOf, all_pins}
-use Rattle.board_file.specs.Wiring as planned
+use Rattle.board_plan.specs.Planned.{HasCore, IsPinOf, all_pins}
+use Rattle.board_plan.specs.Planned as planned
 use Rattle.chip_seats.specs.Seats.{SeatValue, cell_net, first_net}
 
 -- a planned device as it powers up, its cells on these nets

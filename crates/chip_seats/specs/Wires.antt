@@ -6,7 +6,7 @@ use Rattle.pin_nets.specs.declared.Pin.{Pin}
 use Rattle.pin_nets.specs.Levels.{NetValue}
 use Rattle.pin_nets.specs.Places.{lone_nets}
 use Rattle.pin_nets.specs.Wired.{Net}
-use Rattle.board_file.specs.Fits.{all_pins}
+use Rattle.board_plan.specs.Planned.{all_pins}
 use Rattle.board_meaning.specs.Nets.{pin_drive}
 use Rattle.chip_seats.specs.Seats.{SeatValue, cell_net, member_of}
 

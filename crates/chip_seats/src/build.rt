@@ -3,14 +3,14 @@
 ghost use Rattle.std.specs.Prelude.{◌≡◌, ◌++◌, length, map, IfOk, OnOk};
 ghost use Rattle.std.specs.List.{range_with_len};
 ghost use Rattle.pin_nets.specs.Building.{net_value};
-ghost use Rattle.board_file.specs.Fits.{all_pins};
-ghost use Rattle.board_file.specs.View.{member as planned_member, net as planned_net};
+ghost use Rattle.board_plan.specs.Planned.{all_pins};
+ghost use Rattle.board_plan.specs.View.{member as planned_member, net as planned_net};
 ghost use Rattle.chip_seats.specs.Building.{EntersNet, HasNets, IsReady, PortsFit, net_by, seats_of};
 ghost use Rattle.chip_seats.specs.Seats.{cell_net};
 ghost use Rattle.chip_seats.specs.Wires.{numbered};
 
 use crate::seat::Seat;
-use board_file::{PlannedDevice, PlannedNet};
+use board_plan::{PlannedDevice, PlannedNet};
 use bsdl_device::Device;
 use pin_nets::{NetSpec, Pin};
 use std::alloc::{AllocError, Global};

@@ -8,7 +8,7 @@ ghost use Rattle.device_instructions.specs.Instruction.{instruction, meaning};
 ghost use Rattle.pin_nets.specs.Levels as levels;
 ghost use Rattle.pin_nets.specs.declared.Drive.TheVariants as driving;
 ghost use Rattle.boundary.specs.Cells as cells;
-ghost use Rattle.board_file.specs.View.{member as planned_member};
+ghost use Rattle.board_plan.specs.View.{member as planned_member};
 ghost use Rattle.board_meaning.specs.Cells.{Member};
 ghost use Rattle.board_meaning.specs.Cells as meant;
 ghost use Rattle.board_meaning.specs.Chain as chain;
@@ -20,7 +20,7 @@ ghost use Rattle.chip_seats.specs.Telling.{IsAt, TellsAll, TellsCell, sight};
 pub(crate) mod at_rest;
 
 use crate::wiring::Wiring;
-use board_file::PlannedDevice;
+use board_plan::PlannedDevice;
 use boundary::{Boundary, Drive, drivers};
 use bsdl_device::Device;
 use jt_bits::Bits;

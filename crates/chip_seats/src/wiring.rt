@@ -5,15 +5,15 @@ ghost use Rattle.pin_nets.specs.declared.Drive.{Drive as TheDrive};
 ghost use Rattle.pin_nets.specs.declared.Drive.TheVariants as driving;
 ghost use Rattle.pin_nets.specs.declared.Pin.{Pin as ThePin};
 ghost use Rattle.pin_nets.specs.Levels as levels;
-ghost use Rattle.board_file.specs.Fits.{all_pins};
-ghost use Rattle.board_file.specs.View.{net as planned_net};
+ghost use Rattle.board_plan.specs.Planned.{all_pins};
+ghost use Rattle.board_plan.specs.View.{net as planned_net};
 ghost use Rattle.board_meaning.specs.Nets.{pin_drive};
 ghost use Rattle.chip_seats.specs.Seats.{member_of};
 ghost use Rattle.chip_seats.specs.Wires.{AreSeated, WiringValue};
 
 use crate::build::number_nets;
 use crate::seat::Seat;
-use board_file::PlannedNet;
+use board_plan::PlannedNet;
 use pin_nets::{Level, Nets, Pin};
 use std::alloc::{AllocError, Global};
 use std::marker::Model;
@@ -29,8 +29,8 @@ pub struct Wiring {
 
 impl Model for Wiring {
     ghost use Rattle.std.specs.Prelude.{◌≡◌, map, length};
-    ghost use Rattle.board_file.specs.Fits.{all_pins};
-    ghost use Rattle.board_file.specs.View.{net as planned_net};
+    ghost use Rattle.board_plan.specs.Planned.{all_pins};
+    ghost use Rattle.board_plan.specs.View.{net as planned_net};
     ghost use Rattle.chip_seats.specs.Wires.{WiringValue, all_nets};
 
     ghost Value = { WiringValue };

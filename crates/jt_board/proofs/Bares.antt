@@ -6,8 +6,8 @@ use Rattle.std.proofs.lemmas.Option.{none-some}
 use Rattle.jt_tap.specs.declared.State.TheVariants.{Reset}
 use Rattle.bsdl_device.specs.Sound.{IsSoundDevice}
 use Rattle.device_instructions.specs.Fitting.{IsFormed}
-use Rattle.board_file.specs.Fits.{HasCore}
-use Rattle.board_file.specs.Wiring as planned
+use Rattle.board_plan.specs.Planned.{HasCore}
+use Rattle.board_plan.specs.Planned as planned
 use Rattle.board_meaning.specs.Bare.{bare, bare_board, bare_from}
 use Rattle.board_meaning.specs.Cells.{Member}
 use Rattle.board_meaning.specs.Chain.{members}

@@ -11,11 +11,13 @@ use Rattle.bsdl.specs.declared.fault.BsdlFault.{BsdlFault}
 use Rattle.bsdl.proofs.SoundLaws.{every_device}
 use Rattle.formed_devices.proofs.FormedLaws.{every_device as every_formed}
 use Rattle.board_file.specs.Fits.{AreSaid, FitsTogether, IsSaid}
-use Rattle.board_file.specs.View.{TellsBoard, wiring}
-use Rattle.board_file.specs.Wiring as planned
+use Rattle.board_file.specs.View.{TellsBoard}
+use Rattle.board_plan.specs.View.{wiring}
+use Rattle.board_file.specs.Wiring.{Fault}
+use Rattle.board_plan.specs.Planned as planned
 use Rattle.board_names.specs.declared.fault.BoardFault.{BoardFault}
 use Rattle.board_names.specs.declared.fault.BoardFault.TheVariants as fault
-use Rattle.board_file.specs.declared.plan.Plan.{Plan}
+use Rattle.board_plan.specs.declared.plan.Plan.{Plan}
 use Rattle.board_meaning.specs.Chain.{BoardState}
 use Rattle.chip_seats.specs.Building.{IsReady}
 use Rattle.jt_board.specs.FromText.{TellsMade, IsWhyRefused, said_device}
@@ -55,14 +57,14 @@ ready_wiring w fits said = record {
 
 -- ---- what is told
 
-pub told_fault : (f : BoardFault BsdlFault) (said : Result planned.Wiring planned.Fault) → TellsBoard IsWhyRefused (Err f) said → TellsMade (Err f) said
+pub told_fault : (f : BoardFault BsdlFault) (said : Result planned.Wiring Fault) → TellsBoard IsWhyRefused (Err f) said → TellsMade (Err f) said
 told_fault f (Ok w) h = h
 told_fault f (Err e) h = h
 
-pub told_board : (p : Plan) (b : BoardState) (said : Result planned.Wiring planned.Fault) → TellsBoard IsWhyRefused (Ok p) said → b ≡ board_of (wiring p) → TellsMade (Ok b) said
+pub told_board : (p : Plan) (b : BoardState) (said : Result planned.Wiring Fault) → TellsBoard IsWhyRefused (Ok p) said → b ≡ board_of (wiring p) → TellsMade (Ok b) said
 told_board p b (Ok w) h is = let same : w ≡ wiring p = cc in is ∙ ap board_of (sym same)
 told_board p b (Err e) h is = absurd cc
 
-pub told_memory : (said : Result planned.Wiring planned.Fault) → TellsMade (Err fault.NoMemory) said
+pub told_memory : (said : Result planned.Wiring Fault) → TellsMade (Err fault.NoMemory) said
 told_memory (Ok w) = tt
 told_memory (Err e) = tt

@@ -5,7 +5,8 @@ use Rattle.bsdl.specs.Judging.{text_says}
 use Rattle.bsdl.specs.View as reading
 use Rattle.bsdl.specs.declared.fault.BsdlFault.{BsdlFault}
 use Rattle.board_file.specs.View.{TellsFault}
-use Rattle.board_file.specs.Wiring as planned
+use Rattle.board_file.specs.Wiring.{Fault}
+use Rattle.board_plan.specs.Planned as planned
 use Rattle.board_names.specs.declared.fault.BoardFault.{BoardFault}
 use Rattle.board_meaning.specs.Chain.{BoardState}
 use Rattle.jt_board.specs.Made.{board_of}
@@ -19,7 +20,7 @@ abbrev pub IsWhyRefused : List ℕ → BsdlFault → Type 0
 IsWhyRefused text fault = MatchOption (reading.refusal fault) ⊥ (λ r. text_says text ≡ Err r)
 
 -- The board as it powers up, or the fault that the refusal names, unless memory runs out.
-abbrev pub TellsMade : Result BoardState (BoardFault BsdlFault) → Result planned.Wiring planned.Fault → Type 0
+abbrev pub TellsMade : Result BoardState (BoardFault BsdlFault) → Result planned.Wiring Fault → Type 0
 TellsMade (Ok b) (Ok w) = b ≡ board_of w
 TellsMade (Ok b) (Err e) = ⊥
 TellsMade (Err f) (Ok w) = TellsFault IsWhyRefused f None

@@ -2,7 +2,7 @@
 use Rattle.std.specs.Prelude.{◌<◌, ◌≤◌, Bool, length, map}
 use Rattle.std.specs.List.{AllByRecursion}
 use Rattle.bsdl_device.specs.Sound.{IsSoundDevice}
-use Rattle.board_file.specs.Wiring as planned
+use Rattle.board_plan.specs.Planned as planned
 use Rattle.board_meaning.specs.Chain.{BoardState}
 use Rattle.board_meaning.specs.Resting.{power_up, board_at_rest}
 use Rattle.chip_chain.specs.Chains.{ChainValue, powered_up}

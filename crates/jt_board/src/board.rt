@@ -2,8 +2,8 @@
 
 ghost use Rattle.std.specs.Prelude.{◌≡◌, ◌<◌, ◌≤◌, ◌⊎◌, ℕ, List, Some, length, option_map, slice_get, IfOk};
 ghost use Rattle.std.specs.Prelude.{MatchResult};
-ghost use Rattle.board_file.specs.LeftOut as spec;
-ghost use Rattle.board_file.specs.View.{wiring};
+ghost use Rattle.board_plan.specs.LeftOut as spec;
+ghost use Rattle.board_plan.specs.View.{wiring};
 ghost use Rattle.board_names.specs.declared.fault.BoardFault.TheVariants as fault;
 ghost use Rattle.board_meaning.specs.Bare.{bare_board};
 ghost use Rattle.board_meaning.specs.Chain as chain;
@@ -15,7 +15,7 @@ mod at_rest;
 
 use bare_boards::bare_plan;
 use bitbang_table::Message;
-use board_file::Plan;
+use board_plan::Plan;
 use board_meaning::Reply;
 use board_report::Snapshot;
 use bsdl::BsdlFault;
@@ -97,7 +97,7 @@ impl Board {
         ensures { option_map (λ c. slice_get (spec.left_out c.member.device) k) (slice_get self.now.chips i)
             ≡ Some (option_map {U = List ℕ} (λ s. s.now) result) }
     {
-        board_file::left_out(self.chain.seat(i).device(), k)
+        board_plan::left_out(self.chain.seat(i).device(), k)
     }
 
     /// What every part of the board shows now.

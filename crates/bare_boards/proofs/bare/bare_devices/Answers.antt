@@ -1,6 +1,6 @@
 use Rattle.std.proofs.Common.{[], ◌∷◌, map, refl, ap, ◌∙◌}
 use Rattle.std.proofs.lemmas.List.{map-append}
-use Rattle.board_file.specs.View.{member}
+use Rattle.board_plan.specs.View.{member}
 use Rattle.bare_boards.proofs.BareLaws.{bare_push}
 use Rattle.bare_boards.proofs.bare.bare_devices.Goals as goal
 

@@ -1,5 +1,5 @@
 use Rattle.std.proofs.Common.{◌≡◌, map}
-use Rattle.board_file.specs.View.{member}
+use Rattle.board_plan.specs.View.{member}
 use Rattle.bare_boards.specs.Bares.{bare_planned}
 use Rattle.bare_boards.proofs.bare.bare_devices.Given as goal
 

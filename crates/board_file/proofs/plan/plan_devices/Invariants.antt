@@ -3,7 +3,8 @@ use Rattle.std.specs.List.{filter_map}
 use Rattle.toml.specs.View.{items_view}
 use Rattle.board_tables.specs.Fields.{tables_in}
 use Rattle.board_tables.specs.View.{texts_of}
-use Rattle.board_file.specs.View.{member, member_in}
+use Rattle.board_file.specs.View.{member_in}
+use Rattle.board_plan.specs.View.{member}
 use Rattle.board_file.proofs.plan.plan_devices.Given as goal
 
 -- the devices so far, with those to come, are all

@@ -6,7 +6,7 @@ use Rattle.std.specs.Io.KnownBytes.{Appends}
 use Rattle.std.proofs.KnownBytes.{Appends-trans}
 use Rattle.byte_ends.proofs.Fronts.{WritesAll-lost, WritesAll-done}
 use Rattle.byte_ends.proofs.Pieces.{flat_map-more, flat_map-split}
-use Rattle.board_file.specs.LeftOut.{left_out}
+use Rattle.board_plan.specs.LeftOut.{left_out}
 use Rattle.board_report.specs.LeftOut.{left_out_line}
 use Rattle.board_report.proofs.Lines.{few_left_out, found_left_out}
 use Rattle.board_report.proofs.report.write_instructions.Goals as goal

@@ -1,7 +1,7 @@
 use Rattle.std.proofs.Common.{◌≡◌, ◌≤◌, length, take}
 use Rattle.std.specs.Prelude.{flat_map}
 use Rattle.std.specs.Io.KnownBytes.{Appends}
-use Rattle.board_file.specs.LeftOut.{left_out}
+use Rattle.board_plan.specs.LeftOut.{left_out}
 use Rattle.board_report.specs.LeftOut.{left_out_line}
 use Rattle.board_report.proofs.report.write_instructions.Given as goal
 

@@ -2,9 +2,9 @@ use Rattle.std.proofs.Common.{length, map, sym, subst, arith}
 use Rattle.std.proofs.lemmas.List.{length-map}
 use Rattle.device_instructions.specs.Fitting.{IsFormed}
 use Rattle.bsdl_device.specs.Device.{Device}
-use Rattle.board_file.specs.Fits.{HasCore}
-use Rattle.board_file.specs.View.{member as planned_member, net as planned_net}
-use Rattle.board_file.specs.Wiring as planned
+use Rattle.board_plan.specs.Planned.{HasCore}
+use Rattle.board_plan.specs.View.{member as planned_member, net as planned_net}
+use Rattle.board_plan.specs.Planned as planned
 use Rattle.chip_seats.specs.Building.{PortsFit}
 use Rattle.chip_seats.proofs.BuildLaws.{all_at, planned_at, ports_fit, seat_push, seats_end}
 use Rattle.chip_seats.proofs.build.all_seats.Goals as goal

@@ -1,5 +1,5 @@
 use Rattle.std.proofs.Common.{◌≡◌, map, take}
-use Rattle.board_file.specs.View.{member as planned_member, net as planned_net}
+use Rattle.board_plan.specs.View.{member as planned_member, net as planned_net}
 use Rattle.chip_seats.specs.Building.{seats_of}
 use Rattle.chip_seats.proofs.build.all_seats.Given as goal
 

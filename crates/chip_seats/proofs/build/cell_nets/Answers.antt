@@ -1,7 +1,7 @@
 use Rattle.std.proofs.Common.{List, Option, None, ℕ, get_or, length, map, ap, ◌∙◌}
 use Rattle.bsdl_device.specs.declared.Cell.{Cell}
 use Rattle.bsdl_device.specs.declared.Function.TheVariants.{Input}
-use Rattle.board_file.specs.View.{net as planned_net}
+use Rattle.board_plan.specs.View.{net as planned_net}
 use Rattle.chip_seats.specs.Building.{net_by}
 use Rattle.chip_seats.specs.Seats.{cell_net}
 use Rattle.chip_seats.proofs.BuildLaws.{cell_by_table, mapped_push}

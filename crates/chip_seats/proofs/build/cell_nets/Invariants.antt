@@ -1,5 +1,5 @@
 use Rattle.std.proofs.Common.{◌≡◌, map, take}
-use Rattle.board_file.specs.View.{net as planned_net}
+use Rattle.board_plan.specs.View.{net as planned_net}
 use Rattle.chip_seats.specs.Seats.{cell_net}
 use Rattle.chip_seats.proofs.build.cell_nets.Given as goal
 

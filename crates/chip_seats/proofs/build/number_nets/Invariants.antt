@@ -1,7 +1,7 @@
 use Rattle.std.proofs.Common.{◌≡◌, ◌++◌, length, map, take}
 use Rattle.pin_nets.specs.Building.{net_value}
-use Rattle.board_file.specs.Fits.{all_pins}
-use Rattle.board_file.specs.View.{net as planned_net}
+use Rattle.board_plan.specs.Planned.{all_pins}
+use Rattle.board_plan.specs.View.{net as planned_net}
 use Rattle.chip_seats.specs.Wires.{numbered}
 use Rattle.chip_seats.proofs.build.number_nets.Given as goal
 

@@ -3,7 +3,7 @@ use Rattle.std.proofs.lemmas.List.{get_or-map, length-map, with_items_is}
 use Rattle.std.specs.Prelude.{slice_index_or}
 use Rattle.pin_nets.specs.declared.Pin.{Pin}
 use Rattle.pin_nets.specs.Wired.{Net}
-use Rattle.board_file.specs.View.{net as planned_net}
+use Rattle.board_plan.specs.View.{net as planned_net}
 use Rattle.chip_seats.specs.Building.{EntersNet}
 use Rattle.chip_seats.specs.Seats.{first_net}
 use Rattle.chip_seats.proofs.BuildLaws.{entered}

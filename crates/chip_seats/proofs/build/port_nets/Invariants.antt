@@ -1,6 +1,6 @@
 use Rattle.std.proofs.Common.{◌≡◌, ◌<◌, ◌≤◌, ℕ, None, length, drop, map}
 use Rattle.std.specs.Prelude.{slice_index_or}
-use Rattle.board_file.specs.View.{net as planned_net}
+use Rattle.board_plan.specs.View.{net as planned_net}
 use Rattle.chip_seats.specs.Seats.{first_net}
 use Rattle.chip_seats.proofs.build.port_nets.Given as goal
 

@@ -1,9 +1,9 @@
 use Rattle.std.proofs.Common.{◌≡◌, ◌∙◌, false, List, map, sym, ap, subst}
 use Rattle.pin_nets.specs.Wired.{Net}
-use Rattle.board_file.specs.Fits.{all_pins}
-use Rattle.board_file.specs.View.{member as planned_member, net as planned_net, wiring}
-use Rattle.board_file.specs.declared.plan.PlannedDevice.{PlannedDevice}
-use Rattle.board_file.specs.declared.plan.PlannedNet.{PlannedNet}
+use Rattle.board_plan.specs.Planned.{all_pins}
+use Rattle.board_plan.specs.View.{member as planned_member, net as planned_net, wiring}
+use Rattle.board_plan.specs.declared.plan.PlannedDevice.{PlannedDevice}
+use Rattle.board_plan.specs.declared.plan.PlannedNet.{PlannedNet}
 use Rattle.board_meaning.specs.Chain.{ChipState}
 use Rattle.board_meaning.specs.Nets.{pin_drive}
 use Rattle.chip_seats.specs.Building.{seats_of}

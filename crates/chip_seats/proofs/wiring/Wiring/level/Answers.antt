@@ -2,7 +2,7 @@ use Rattle.std.proofs.Common.{◌≡◌, ◌<◌, List, ◌∷◌, Some, length,
 use Rattle.pin_nets.specs.declared.Drive.{Drive}
 use Rattle.pin_nets.specs.declared.Pin.{Pin}
 use Rattle.pin_nets.specs.Levels.{NetValue, level, level_of, pull_drive}
-use Rattle.board_file.specs.Fits.{all_pins}
+use Rattle.board_plan.specs.Planned.{all_pins}
 use Rattle.chip_seats.specs.Wires.{WiringValue}
 use Rattle.chip_seats.specs.contracts.wiring.Wiring.{the_view}
 use Rattle.chip_seats.proofs.LevelLaws.{net_level, net_there}

@@ -2,8 +2,8 @@ use Rattle.std.proofs.Common.{◌≡◌, ◌++◌, List, ℕ, length, map, sym, 
 use Rattle.pin_nets.specs.declared.Pin.{Pin}
 use Rattle.pin_nets.specs.Building.{HasPinsBelow, net_value}
 use Rattle.pin_nets.specs.Places.{IsOnce}
-use Rattle.board_file.specs.Fits.{all_pins}
-use Rattle.board_file.specs.View.{net as planned_net}
+use Rattle.board_plan.specs.Planned.{all_pins}
+use Rattle.board_plan.specs.View.{net as planned_net}
 use Rattle.chip_seats.specs.Wires.{numbered}
 use Rattle.chip_seats.proofs.BuildLaws.{numbered_below, numbered_once}
 use Rattle.chip_seats.proofs.wiring.Wiring.new.Goals as goal

@@ -1,4 +1,4 @@
-use Rattle.board_file.specs.View.{wiring}
+use Rattle.board_plan.specs.View.{wiring}
 use Rattle.jt_board.proofs.TextLaws.{ready_wiring, sound_wiring, told_board, told_fault}
 use Rattle.jt_board.proofs.board.Board.from_text.Goals as goal
 

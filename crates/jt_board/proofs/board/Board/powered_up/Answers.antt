@@ -1,5 +1,5 @@
 use Rattle.std.proofs.Common.{sym, ap, subst}
-use Rattle.board_file.specs.View.{wiring}
+use Rattle.board_plan.specs.View.{wiring}
 use Rattle.board_meaning.specs.Sound.{IsChain}
 use Rattle.chip_chain.specs.Chains.{ChainValue}
 use Rattle.jt_board.specs.Made.{board_at}

@@ -1,7 +1,7 @@
 use Rattle.std.proofs.Common.{◌≡◌, drop, filter, map, slice_get}
 use Rattle.bsdl_device.specs.Device.{Opcode}
-use Rattle.board_file.specs.LeftOut.{is_left_out, left_out}
-use Rattle.board_file.proofs.instructions.left_out.Given as goal
+use Rattle.board_plan.specs.LeftOut.{is_left_out, left_out}
+use Rattle.board_plan.proofs.instructions.left_out.Given as goal
 
 -- what is left is counted as the whole is
 abbrev pub invariant-loop-opcode : goal.invariant-loop-opcode

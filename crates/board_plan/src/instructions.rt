@@ -1,6 +1,6 @@
 //! The instructions of a device that stand for BYPASS.
 ghost use Rattle.std.specs.Prelude.{◌≡◌, option_map, slice_get};
-ghost use Rattle.board_file.specs.LeftOut as spec;
+ghost use Rattle.board_plan.specs.LeftOut as spec;
 
 use bsdl_device::Device;
 
