@@ -1,3 +1,4 @@
 pub mod Planned
+pub mod PinNumbers
 pub mod LeftOut
 pub mod View

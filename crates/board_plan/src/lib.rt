@@ -2,7 +2,9 @@
 #![tactic(auto)]
 
 mod instructions;
+mod numbers;
 mod plan;
 
 pub use instructions::left_out;
+pub use numbers::number_nets;
 pub use plan::{Plan, PlannedDevice, PlannedNet};

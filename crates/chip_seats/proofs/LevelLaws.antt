@@ -14,9 +14,10 @@ use Rattle.board_plan.specs.Planned.{all_pins}
 use Rattle.board_meaning.specs.Cells.{Member, drive}
 use Rattle.board_meaning.specs.Nets.{pin_drive}
 use Rattle.chip_seats.specs.Seats.{SeatValue, member_of}
-use Rattle.chip_seats.specs.Wires.{AreSeated, all_nets, numbered}
+use Rattle.board_plan.specs.PinNumbers.{with_pin_numbers}
+use Rattle.chip_seats.specs.Wires.{AreSeated, all_nets}
 
-pub length-numbered : (k : ℕ) (ns : List Net) → length (numbered k ns) ≡ length ns
+pub length-numbered : (k : ℕ) (ns : List Net) → length (with_pin_numbers k ns) ≡ length ns
 length-numbered k [] = refl
 length-numbered k (n ∷ ns) = let rest = length-numbered (k + length n.pins) ns in omega (arith, rest)
 
@@ -38,7 +39,7 @@ abbrev shown : (f : Pin → Drive) → Net → Level
 shown f n = level_of (pull_drive n.pull ∷ map f n.pins)
 
 numbered-level : (f : Pin → Drive) (drives : List Drive) (k : ℕ) (ns : List Net) (net : ℕ) → drop k drives ≡ map f (all_pins ns)
-    → option_map (level drives) (slice_get (numbered k ns) net) ≡ option_map (shown f) (slice_get ns net)
+    → option_map (level drives) (slice_get (with_pin_numbers k ns) net) ≡ option_map (shown f) (slice_get ns net)
 numbered-level f drives k [] net e = refl
 numbered-level f drives k (n ∷ ns) zero e =
     let long : length (map f n.pins) ≡ length n.pins = length-map n.pins f in
@@ -63,13 +64,13 @@ left-part (x ∷ xs) ys zero h = refl
 left-part (x ∷ xs) ys (suc i) h = left-part xs ys i (omega arith)
 
 pub net_there : (ns : List Net) (net : ℕ) → net < length ns → net < length (all_nets ns)
-net_there ns net h = omega (arith, length-numbered 0 ns, length-append (numbered 0 ns) (Rattle.pin_nets.specs.Places.lone_nets (numbered 0 ns) (length (all_pins ns))), h)
+net_there ns net h = omega (arith, length-numbered 0 ns, length-append (with_pin_numbers 0 ns) (Rattle.pin_nets.specs.Places.lone_nets (with_pin_numbers 0 ns) (length (all_pins ns))), h)
 
 pub net_level : (f : Pin → Drive) (drives : List Drive) (ns : List Net) (net : ℕ) (l : Level) → net < length ns → drives ≡ map f (all_pins ns)
     → option_map (level drives) (slice_get (all_nets ns) net) ≡ Some l → option_map (shown f) (slice_get ns net) ≡ Some l
 net_level f drives ns net l h e is =
-    let below : net < length (numbered 0 ns) = omega (arith, length-numbered 0 ns, h) in
-    sym (numbered-level f drives 0 ns net e) ∙ sym (ap (option_map (level drives)) (left-part (numbered 0 ns) _ net below)) ∙ is
+    let below : net < length (with_pin_numbers 0 ns) = omega (arith, length-numbered 0 ns, h) in
+    sym (numbered-level f drives 0 ns net e) ∙ sym (ap (option_map (level drives)) (left-part (with_pin_numbers 0 ns) _ net below)) ∙ is
 
 -- one more pin is put
 pub put_more : (f : Pin → Drive) (pins : List Pin) (old ds : List Drive) (i : ℕ) (d : Drive) (x : Pin) → length old ≡ length pins

@@ -1,11 +1,12 @@
 -- The nets of a board as the code keeps them: pins by number, and what is put to each.
-use Rattle.std.specs.Prelude.{◌≡◌, ◌<◌, ℕ, suc, ◌+◌, List, [], ◌∷◌, ◌++◌, map, length}
-use Rattle.std.specs.List.{AllByRecursion, range_with_len}
+use Rattle.std.specs.Prelude.{◌≡◌, ◌<◌, ℕ, suc, List, [], ◌∷◌, ◌++◌, map, length}
+use Rattle.std.specs.List.{AllByRecursion}
 use Rattle.pin_nets.specs.declared.Drive.{Drive}
 use Rattle.pin_nets.specs.declared.Pin.{Pin}
 use Rattle.pin_nets.specs.Levels.{NetValue}
 use Rattle.pin_nets.specs.Places.{lone_nets}
 use Rattle.pin_nets.specs.Wired.{Net}
+use Rattle.board_plan.specs.PinNumbers.{with_pin_numbers}
 use Rattle.board_plan.specs.Planned.{all_pins}
 use Rattle.board_meaning.specs.Nets.{pin_drive}
 use Rattle.chip_seats.specs.Seats.{SeatValue, cell_net, member_of}
@@ -15,15 +16,9 @@ pub record WiringValue : Type 0 where
   pub nets : List Net
   pub drives : List Drive
 
--- the nets by the numbers of their pins, from number k on
-abbrev pub numbered : ℕ → List Net → List NetValue
-numbered k [] = []
-numbered k (n ∷ ns) = record { pull = n.pull; pins = range_with_len k (length n.pins) }
-    ∷ numbered (k + length n.pins) ns
-
--- with each pin that would be on none of them as a net by itself
+-- the nets by the numbers of their pins, and each pin that would be on none of them by itself
 abbrev pub all_nets : List Net → List NetValue
-all_nets nets = numbered 0 nets ++ lone_nets (numbered 0 nets) (length (all_pins nets))
+all_nets nets = with_pin_numbers 0 nets ++ lone_nets (with_pin_numbers 0 nets) (length (all_pins nets))
 
 -- each pin's device is one of so many
 abbrev pub AreSeated : ℕ → List Pin → Type 0

@@ -1,18 +1,14 @@
-//! The devices of a plan, each with the nets of its cells, and the pins of the nets by number.
+//! The devices of a plan, each with the nets of its cells.
 
-ghost use Rattle.std.specs.Prelude.{◌≡◌, ◌++◌, length, map, IfOk, OnOk};
-ghost use Rattle.std.specs.List.{range_with_len};
-ghost use Rattle.pin_nets.specs.Building.{net_value};
-ghost use Rattle.board_plan.specs.Planned.{all_pins};
+ghost use Rattle.std.specs.Prelude.{◌≡◌, length, map, IfOk};
 ghost use Rattle.board_plan.specs.View.{member as planned_member, net as planned_net};
 ghost use Rattle.chip_seats.specs.Building.{EntersNet, HasNets, IsReady, PortsFit, net_by, seats_of};
 ghost use Rattle.chip_seats.specs.Seats.{cell_net};
-ghost use Rattle.chip_seats.specs.Wires.{numbered};
 
 use crate::seat::Seat;
 use board_plan::{PlannedDevice, PlannedNet};
 use bsdl_device::Device;
-use pin_nets::{NetSpec, Pin};
+use pin_nets::Pin;
 use std::alloc::{AllocError, Global};
 
 /// The devices of a plan as they power up, each with the nets of its cells; refused where memory runs out.
@@ -89,38 +85,4 @@ fn enter_net(table: &mut [Option<usize>], place: usize, net: usize, pins: &[Pin]
             table[pin.port] = Some(net);
         }
     }
-}
-
-/// The nets by the numbers of their pins, which stand behind those that are there.
-pub(crate) fn number_nets(
-    alloc: Global,
-    nets: &[PlannedNet],
-    pins: &mut Vec<Pin>,
-) -> Result<Vec<NetSpec>, AllocError>
-    ensures nets { IfOk result
-        (λ v. map net_value v.items ≡ numbered (length pins.old.items) (map planned_net nets.now)) }
-    ensures pins { OnOk result (pins.new.items ≡ pins.old.items ++ all_pins (map planned_net nets.now)) }
-{
-    let mut specs = Vec::with_capacity(alloc, nets.len())?;
-    for net in nets {
-        let numbers = number_pins(alloc, &net.pins, pins)?;
-        specs.push(NetSpec {
-            pins: numbers,
-            pull: net.pull,
-        })?;
-    }
-    Ok(specs)
-}
-
-/// The numbers of more pins.
-fn number_pins(alloc: Global, more: &[Pin], pins: &mut Vec<Pin>) -> Result<Vec<usize>, AllocError>
-    ensures numbers { IfOk result (λ v. v.items ≡ range_with_len (length pins.old.items) (length more.now)) }
-    ensures pins { OnOk result (pins.new.items ≡ pins.old.items ++ more.now) }
-{
-    let mut numbers = Vec::with_capacity(alloc, more.len())?;
-    for pin in more {
-        numbers.push(pins.len())?;
-        pins.push(*pin)?;
-    }
-    Ok(numbers)
 }

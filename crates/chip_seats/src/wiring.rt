@@ -11,9 +11,8 @@ ghost use Rattle.board_meaning.specs.Nets.{pin_drive};
 ghost use Rattle.chip_seats.specs.Seats.{member_of};
 ghost use Rattle.chip_seats.specs.Wires.{AreSeated, WiringValue};
 
-use crate::build::number_nets;
 use crate::seat::Seat;
-use board_plan::PlannedNet;
+use board_plan::{PlannedNet, number_nets};
 use pin_nets::{Level, Nets, Pin};
 use std::alloc::{AllocError, Global};
 use std::marker::Model;

@@ -1,6 +1,6 @@
 use Rattle.std.proofs.Common.{◌∙◌}
-use Rattle.chip_seats.proofs.BuildLaws.{number_more}
-use Rattle.chip_seats.proofs.build.number_pins.Goals as goal
+use Rattle.board_plan.proofs.NumberLaws.{number_more}
+use Rattle.board_plan.proofs.numbers.number_pins.Goals as goal
 
 pub loop-pin-preserved : goal.loop-pin-preserved
 loop-pin-preserved c = number_more c.args.pins.now.items c.args.more.now c.loop-pin.pin-index c.loop-pin.pins.items c.push-in-loop-pin.new.self.items c.loop-pin.numbers.items c.push.new.self.items c.len.result _

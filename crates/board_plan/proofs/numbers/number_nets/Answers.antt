@@ -1,6 +1,6 @@
 use Rattle.std.proofs.Common.{refl}
-use Rattle.chip_seats.proofs.BuildLaws.{number_net}
-use Rattle.chip_seats.proofs.build.number_nets.Goals as goal
+use Rattle.board_plan.proofs.NumberLaws.{number_net}
+use Rattle.board_plan.proofs.numbers.number_nets.Goals as goal
 
 pub loop-net-preserved : goal.loop-net-preserved
 loop-net-preserved c =

@@ -1,6 +1,6 @@
 use Rattle.std.proofs.Common.{◌≡◌, ◌++◌, length, take}
 use Rattle.std.specs.List.{range_with_len}
-use Rattle.chip_seats.proofs.build.number_pins.Given as goal
+use Rattle.board_plan.proofs.numbers.number_pins.Given as goal
 
 abbrev pub invariant-loop-pin : goal.invariant-loop-pin
 invariant-loop-pin l = record {
