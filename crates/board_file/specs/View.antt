@@ -7,15 +7,13 @@ use Rattle.board_names.specs.declared.fault.BoardFault.TheVariants as fault
 use Rattle.board_file.specs.declared.wiring.Miswired.{Miswired}
 use Rattle.board_file.specs.declared.wiring.Miswired.TheVariants as miswired
 use Rattle.board_plan.specs.declared.plan.Plan.{Plan}
-use Rattle.board_plan.specs.declared.plan.PlannedDevice.{PlannedDevice}
-use Rattle.board_plan.specs.declared.plan.PlannedNet.{PlannedNet}
 use Rattle.board_library.specs.View.{stands_at}
 use Rattle.toml.specs.Data.{Members}
 use Rattle.std.specs.List.{filter_map}
-use Rattle.pin_nets.specs.Wired.{Net}
 use Rattle.board_tables.specs.Fields.{name_at}
 use Rattle.board_file.specs.Wiring.{member_of, net_of, wire_fault, Fault, BadField, UnknownFile, Bsdl}
 use Rattle.board_plan.specs.Planned.{Member, Wiring}
+use Rattle.board_plan.specs.View.{wiring}
 use Rattle.board_file.specs.Wiring.{UnknownPin, PinTwice, TooLarge}
 
 -- what a device of the board is, given all names of files and what is described in each
