@@ -2,12 +2,12 @@
 ghost use Rattle.std.specs.Prelude.{◌≡◌, length};
 ghost use Rattle.toml.specs.View.{items_view};
 ghost use Rattle.board_tables.specs.Fields.{tables_in};
-ghost use Rattle.board_tables.specs.View.{texts_of};
+ghost use Rattle.board_words.specs.View.{texts_of};
 ghost use Rattle.board_file.specs.Wiring.{wire_fault};
 ghost use Rattle.board_file.specs.View.{ChecksPins};
 
 use board_pins::{first_twice, first_unknown};
-use board_tables::Places;
+use board_words::Places;
 use device_instructions::SharedDevice;
 use std::alloc::Global;
 use toml::Value;
