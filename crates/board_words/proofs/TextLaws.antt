@@ -1,5 +1,5 @@
 -- Tests over borrowed texts as tests over the texts that they are, and places of texts.
-use Rattle.std.proofs.Common.{◌≡◌, ℕ, ◌+◌, Bool, true, false, not, cond, List, [], ◌∷◌, ◌++◌, map, length, Some, is_some, refl, ap, sym, ◌∙◌, ◌||◌, nat_cmp}
+use Rattle.std.proofs.Common.{◌≡◌, ℕ, ◌+◌, Bool, true, false, not, cond, List, [], ◌∷◌, ◌++◌, map, Some, is_some, refl, ap, sym, ◌∙◌, ◌||◌, nat_cmp}
 use Rattle.std.specs.List.{position, position_from, prefix_len, list_any}
 use Rattle.std.specs.BTreeMap.{is_at}
 use Rattle.std.specs.Str.{bytes_eq}
