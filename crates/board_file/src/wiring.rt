@@ -54,14 +54,9 @@ pub(crate) fn check_pins<'t>(
     Ok(())
 }
 
+#[tactic(auto, using(crate::proofs::CountLaws::tables_counted))]
 fn count_tables(items: &[Value]) -> usize
     ensures { result ≡ length (tables_in (items_view items.now)) }
 {
-    let mut count = 0;
-    for item in items {
-        if item.is_table() {
-            count += 1;
-        }
-    }
-    count
+    items.iter().filter(|item| item.is_table()).count()
 }
