@@ -54,7 +54,6 @@ pub(crate) fn check_pins<'t>(
     Ok(())
 }
 
-#[tactic(auto, using(crate::proofs::CountLaws::tables_counted))]
 fn count_tables(items: &[Value]) -> usize
     ensures { result ≡ length (tables_in (items_view items.now)) }
 {
