@@ -7,7 +7,8 @@ use Rattle.std.proofs.lemmas.Option.{slice_get-map}
 use Rattle.std.proofs.lemmas.Slice.Eq.{bytes_eq-Decides}
 use Rattle.toml.specs.Data.{Members}
 use Rattle.bsdl_device.specs.Device.{Device}
-use Rattle.board_tables.specs.Fields.{text_at, with_name}
+use Rattle.board_tables.specs.Fields.{text_at}
+use Rattle.board_words.specs.FirstPlaces.{with_name}
 use Rattle.board_library.specs.Files.{File, described, device_at, cells_at}
 use Rattle.board_names.specs.Files.{file_at}
 use Rattle.board_file.specs.Wiring.{member_at}

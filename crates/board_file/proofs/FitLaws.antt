@@ -12,7 +12,7 @@ use Rattle.bsdl_device.specs.Device.{Device, PortBit}
 use Rattle.board_tables.specs.Fields.{passes, is_table, items_all, has_item, tables_in, text_at, name_at, tables_at, texts_at}
 use Rattle.board_tables.specs.Keys.{device_keys, top_keys, unfit_key, is_core, is_bit}
 use Rattle.board_tables.specs.Faults.{unfit_device}
-use Rattle.board_tables.specs.PinTexts.{PinText, pin_of}
+use Rattle.board_words.specs.PinTexts.{PinText, pin_of}
 use Rattle.board_tables.proofs.KeyLaws.{fitting, head_in}
 use Rattle.pin_nets.specs.declared.Pin.{Pin}
 use Rattle.board_library.specs.Files.{File, text_of, described, device_at, cells_at, devices_of, missing_in, refused, refused_in}

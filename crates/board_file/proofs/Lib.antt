@@ -1,4 +1,5 @@
 pub mod BitLaws
+pub mod CountLaws
 pub mod DescribedLaws
 pub mod BoardLaws
 pub mod FitLaws

@@ -3,7 +3,7 @@ ghost use Rattle.std.specs.Prelude.{◌≡◌, ◌==◌, map, reverse, option_ma
 ghost use Rattle.std.specs.List.{filter_map};
 ghost use Rattle.toml.specs.View.{table_view, items_view};
 ghost use Rattle.board_tables.specs.Fields.{tables_in, texts_in};
-ghost use Rattle.board_tables.specs.View.{texts_of};
+ghost use Rattle.board_words.specs.View.{texts_of};
 ghost use Rattle.board_pins.specs.Pins.{pin_at};
 ghost use Rattle.board_file.specs.Wiring as spec;
 ghost use Rattle.board_file.specs.View.{member_in};
@@ -12,7 +12,8 @@ ghost use Rattle.board_plan.specs.View as planned;
 use board_library::described_at;
 use board_pins::find_pin;
 use board_plan::{PlannedDevice, PlannedNet};
-use board_tables::{Places, items_at, name_at, text_at};
+use board_tables::{items_at, name_at, text_at};
+use board_words::Places;
 use device_instructions::SharedDevice;
 use jt_bits::Bits;
 use pin_nets::{Pin, Pull};

@@ -2,12 +2,12 @@
 ghost use Rattle.std.specs.Prelude.{◌≡◌, length};
 ghost use Rattle.toml.specs.View.{items_view};
 ghost use Rattle.board_tables.specs.Fields.{tables_in};
-ghost use Rattle.board_tables.specs.View.{texts_of};
+ghost use Rattle.board_words.specs.View.{texts_of};
 ghost use Rattle.board_file.specs.Wiring.{wire_fault};
 ghost use Rattle.board_file.specs.View.{ChecksPins};
 
 use board_pins::{first_twice, first_unknown};
-use board_tables::Places;
+use board_words::Places;
 use device_instructions::SharedDevice;
 use std::alloc::Global;
 use toml::Value;
@@ -57,11 +57,5 @@ pub(crate) fn check_pins<'t>(
 fn count_tables(items: &[Value]) -> usize
     ensures { result ≡ length (tables_in (items_view items.now)) }
 {
-    let mut count = 0;
-    for item in items {
-        if item.is_table() {
-            count += 1;
-        }
-    }
-    count
+    items.iter().filter(|item| item.is_table()).count()
 }

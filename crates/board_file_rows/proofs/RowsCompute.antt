@@ -1,6 +1,6 @@
 -- The worked rows compute.
 use Rattle.std.proofs.Common.{refl}
-use Rattle.board_tables.specs.PinTexts.{pin_of, port_of, index_of}
+use Rattle.board_words.specs.PinTexts.{pin_of, port_of, index_of}
 use Rattle.board_pins.specs.Pins.{pin_at}
 use Rattle.board_file_rows.specs.Rows.{BoardRows}
 

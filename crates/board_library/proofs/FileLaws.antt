@@ -5,7 +5,7 @@ use Rattle.std.proofs.lemmas.Bool.Decides.{nat_tests}
 use Rattle.std.specs.List.{position, position_or_len, find}
 use Rattle.std.specs.Str.{bytes_eq}
 use Rattle.std.proofs.lemmas.List.Folds.{find_at}
-use Rattle.board_tables.proofs.ValueLaws.{position_map}
+use Rattle.board_words.proofs.TextLaws.{position_map}
 use denote.Ref.{Bor}
 use Rattle.board_library.specs.Files.{File, text_of}
 use Rattle.bsdl_device.specs.Device.{Device}

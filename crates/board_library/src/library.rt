@@ -2,14 +2,15 @@
 ghost use Rattle.std.specs.Prelude.{◌≡◌, map, option_map, option_copied, IfOk, OnOk, length, None, ◌++◌, ◌∷◌, []};
 ghost use Rattle.toml.specs.View.{table_view, items_view};
 ghost use Rattle.board_tables.specs.Fields.{tables_in};
-ghost use Rattle.board_tables.specs.View.{texts_of};
+ghost use Rattle.board_words.specs.View.{texts_of};
 ghost use Rattle.bsdl_device.specs.Device as described;
 ghost use Rattle.board_library.specs.Files as spec;
 ghost use Rattle.std.specs.List.{filter_map};
 ghost use Rattle.board_library.specs.View.{Describes, IsRead, IsReading, IsFirstRefusal, device_in, missing_with};
 ghost use Rattle.board_library.specs.View.{refused_with, files_of, stands_at, cells_in};
 
-use board_tables::{Places, text_at};
+use board_tables::text_at;
+use board_words::Places;
 use bsdl_device::Device;
 use device_instructions::SharedDevice;
 use std::alloc::{AllocError, Global};

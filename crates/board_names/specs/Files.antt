@@ -3,7 +3,8 @@ use Rattle.std.specs.Prelude.{◌≡◌, ℕ, List, [], map, fold, codes}
 use Rattle.std.specs.Prelude.{Some, None, unwrap_or, Result, Ok, Err, IsUtf8}
 use Rattle.toml.specs.Data.{Members}
 use Rattle.toml.specs.Parse.{parse_document}
-use Rattle.board_tables.specs.Fields.{with_name, text_at, tables_at}
+use Rattle.board_tables.specs.Fields.{text_at, tables_at}
+use Rattle.board_words.specs.FirstPlaces.{with_name}
 use Rattle.board_tables.specs.Faults.{unfit}
 
 -- ---- the board file's own text

@@ -3,13 +3,14 @@ ghost use Rattle.std.specs.Prelude.{◌≡◌, map, IfOk, string_bytes};
 ghost use Rattle.toml.specs.Data.{Members};
 ghost use Rattle.toml.specs.View.{table_view, items_view};
 ghost use Rattle.board_tables.specs.Fields.{tables_in};
-ghost use Rattle.board_tables.specs.View.{texts_of};
+ghost use Rattle.board_words.specs.View.{texts_of};
 ghost use Rattle.board_names.specs.Files.{Reads, IsBadToml, names_of, distinct};
 ghost use Rattle.board_names.specs.Files as spec;
 ghost use Rattle.board_names.specs.View.{TellsNames, TellsBadToml, ReadsToml};
 
 use crate::fault::{BoardFault, told};
-use board_tables::{Places, check_fields, items_at, text_at};
+use board_tables::{check_fields, items_at, text_at};
+use board_words::Places;
 use std::alloc::{AllocError, Global};
 use toml::{Table, Value};
 

@@ -5,7 +5,7 @@ use Rattle.std.specs.declared.cmp.Ordering.{Ordering}
 use Rattle.std.specs.declared.cmp.Ordering.TheVariants.{Less, Equal, Greater}
 use Rattle.std.specs.List.{list_any, position}
 use Rattle.std.specs.Ordering.{is_eq, ordering_then}
-use Rattle.board_tables.proofs.TextLaws.{is_there}
+use Rattle.board_words.proofs.TextLaws.{is_there}
 use Rattle.pin_nets.specs.declared.Pin.{Pin}
 use Rattle.board_pins.specs.Pins.{same_pin}
 

@@ -7,7 +7,7 @@ use Rattle.std.specs.Str.Parse.{digits_value}
 use Rattle.toml.specs.Data.{Members}
 use Rattle.bsdl_device.specs.Device.{PortBit, Device}
 use Rattle.bsdl_device.specs.Ports.{bit_number}
-use Rattle.board_tables.specs.PinTexts.{PinText, pin_of}
+use Rattle.board_words.specs.PinTexts.{PinText, pin_of}
 use Rattle.board_tables.specs.Fields.{texts_at}
 use Rattle.pin_nets.specs.declared.Pin.{Pin}
 

@@ -3,11 +3,12 @@ ghost use Rattle.std.specs.Prelude.{◌≡◌, map, option_map, ◌++◌, ◌∷
 ghost use Rattle.std.specs.List.{list_any, filter_map};
 ghost use Rattle.toml.specs.View.{items_view};
 ghost use Rattle.board_tables.specs.Fields.{tables_in, texts_in};
-ghost use Rattle.board_tables.specs.View.{texts_of};
+ghost use Rattle.board_words.specs.View.{texts_of};
 ghost use Rattle.board_pins.specs.Pins as spec;
 
 use crate::pins::find_pin;
-use board_tables::{Places, items_at};
+use board_tables::items_at;
+use board_words::Places;
 use device_instructions::SharedDevice;
 use pin_nets::Pin;
 use std::alloc::{AllocError, Global};

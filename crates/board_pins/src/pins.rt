@@ -1,10 +1,10 @@
 //! Which port bits the pins of the nets are.
 ghost use Rattle.std.specs.Prelude.{◌≡◌, true, option_map, IfOk, IfSome};
-ghost use Rattle.board_tables.specs.PinTexts as texts;
-ghost use Rattle.board_tables.specs.View.{texts_of};
+ghost use Rattle.board_words.specs.PinTexts as texts;
+ghost use Rattle.board_words.specs.View.{texts_of};
 ghost use Rattle.board_pins.specs.Pins as spec;
 
-use board_tables::{PinText, Places, pin_of};
+use board_words::{PinText, Places, pin_of};
 use bsdl_device::Device;
 use device_instructions::SharedDevice;
 use pin_nets::Pin;

@@ -9,7 +9,7 @@ use Rattle.std.specs.Cmp.Lexicographic.{slice_cmp}
 use Rattle.std.proofs.lemmas.Bool.{false≢true, and_parts}
 use Rattle.std.proofs.lemmas.Map.Lookups.{exact_bytes}
 use Rattle.toml.specs.Data.{Data, Members, no_members, member, get_member, as_str}
-use Rattle.board_tables.specs.Names.{is_name}
+use Rattle.board_words.specs.Names.{is_name}
 use Rattle.board_tables.specs.Fields.{name_at, passes}
 use Rattle.board_tables.specs.Keys.{Key, device_keys, net_keys, unfit_key, earlier, earliest, misfits, missing, needed, fits_one, is_new_name}
 

@@ -1,5 +1,2 @@
-pub mod PlaceLaws
 pub mod ValueLaws
 pub mod KeyLaws
-pub mod TextLaws
-pub mod SpellLaws

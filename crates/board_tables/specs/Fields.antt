@@ -1,5 +1,5 @@
 -- What stands in a table of the board file, as TOML data.
-use Rattle.std.specs.Prelude.{ℕ, Bool, true, false, ◌&&◌, List, [], ◌∷◌, ◌++◌, codes, if◌then◌else◌, bytes_eq, Option}
+use Rattle.std.specs.Prelude.{ℕ, Bool, true, false, ◌&&◌, List, [], ◌∷◌, codes, bytes_eq, Option}
 use Rattle.std.specs.Prelude.{Some, None, unwrap_or, option_and_then, is_some}
 use Rattle.std.specs.List.{list_any}
 use Rattle.toml.specs.Data.{Data, string, table, Items, no_items, item, Members, get_member, as_str, as_array, as_table}
@@ -66,7 +66,3 @@ texts_at key t = texts_in (items_at key t)
 -- the name that a device or a net gives itself
 abbrev pub name_at : Members → List ℕ
 name_at t = unwrap_or (text_at (codes "name") t) []
-
--- texts, each once, with one more
-abbrev pub with_name : List (List ℕ) → List ℕ → List (List ℕ)
-with_name names name = if list_any (bytes_eq name) names then names else names ++ name ∷ []

@@ -1,6 +1,3 @@
-pub mod FirstPlaces
-pub mod Names
-pub mod PinTexts
 pub mod Fields
 pub mod Keys
 pub mod Faults

@@ -1,15 +1,11 @@
 -- What the code's values stand for.
-use Rattle.std.specs.Prelude.{◌≡◌, ℕ, List, map, Option, Some, None, Result, Ok, Err}
+use Rattle.std.specs.Prelude.{◌≡◌, ℕ, List, Option, Some, None, Result, Ok, Err}
 use Rattle.board_tables.specs.declared.fields.Unfit.{Unfit}
 use Rattle.board_tables.specs.declared.fields.Unfit.TheVariants.{Field, Memory}
-use denote.Ref.{Bor}
 use Rattle.board_tables.specs.declared.keys.Keys.{Keys}
 use Rattle.board_tables.specs.declared.keys.Keys.TheVariants.{Top, Device, Net}
+use Rattle.board_words.specs.View.{texts_of}
 use Rattle.board_tables.specs.Keys.{Key, top_keys, device_keys, net_keys}
-
--- the texts that are borrowed, in order
-abbrev pub texts_of : List (Bor (List ℕ)) → List (List ℕ)
-texts_of ks = map (λ k. k.now) ks
 
 abbrev pub keys_of : Keys → List Key
 keys_of Top = top_keys

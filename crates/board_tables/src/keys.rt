@@ -3,10 +3,11 @@ ghost use Rattle.std.specs.Prelude.{◌≡◌, map, fold, is_some, option_map};
 ghost use Rattle.toml.specs.Data.{get_member};
 ghost use Rattle.toml.specs.View.{view, table_view};
 ghost use Rattle.board_tables.specs.Keys as spec;
-ghost use Rattle.board_tables.specs.View.{keys_of, texts_of};
+ghost use Rattle.board_tables.specs.View.{keys_of};
+ghost use Rattle.board_words.specs.View.{texts_of};
 
-use crate::places::Places;
 use crate::values::{is_core, is_new_name, is_one_of, is_some_tables, is_tables, is_texts};
+use board_words::Places;
 use std::cmp::Ordering;
 use toml::{Table, Value};
 

@@ -1,18 +1,10 @@
-//! What stands in the tables of a board file: which keys they have, names, and pins as they are written.
+//! What stands in the tables of a board file: which keys they have, and which values fit them.
 #![tactic(auto)]
 
 mod fields;
 mod keys;
-mod laws;
-mod names;
-mod pins;
-mod places;
 mod tables;
 mod values;
 
 pub use fields::{Unfit, check_fields};
-pub use laws::pins_are_read_as_spelt;
-pub use names::is_name;
-pub use pins::{PinText, pin_of};
-pub use places::Places;
 pub use tables::{items_at, name_at, text_at};

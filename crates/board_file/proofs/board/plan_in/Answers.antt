@@ -1,7 +1,7 @@
 use Rattle.std.proofs.Common.{◌∙◌, sym, ap, subst, map, option_map, codes, None}
 use Rattle.toml.specs.View.{table_view}
 use Rattle.board_tables.specs.Fields.{tables_in, tables_at}
-use Rattle.board_tables.specs.View.{texts_of}
+use Rattle.board_words.specs.View.{texts_of}
 use Rattle.board_names.specs.Files.{file_at, distinct}
 use Rattle.board_library.specs.Files.{described, missing_in, refused_in}
 use Rattle.board_library.specs.View.{files_of, IsFirstRefusal}

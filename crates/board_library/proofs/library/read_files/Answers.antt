@@ -1,7 +1,7 @@
 use Rattle.std.proofs.Common.{◌∙◌, [], sym, ap, subst, drop, option_map, Bor, List, ℕ, ◌+◌}
 use Rattle.std.specs.Option.{option_or}
 use Rattle.std.proofs.Math.ListN.{get_or}
-use Rattle.board_tables.specs.View.{texts_of}
+use Rattle.board_words.specs.View.{texts_of}
 use Rattle.board_library.specs.Files.{described, missing_in, refused_in}
 use Rattle.board_library.specs.View.{files_of, IsFirstRefusal}
 use Rattle.board_library.proofs.LibraryLaws.{described_there, missing_there, refused_there, texts_from, devices_more}

@@ -1,6 +1,6 @@
 use Rattle.std.proofs.Common.{◌≡◌, ◌++◌, drop, map, option_map}
 use Rattle.std.specs.Option.{option_or}
-use Rattle.board_tables.specs.View.{texts_of}
+use Rattle.board_words.specs.View.{texts_of}
 use Rattle.board_library.specs.Files.{described, missing_in, refused_in}
 use Rattle.board_library.specs.View.{IsFirstRefusal, files_of}
 use Rattle.board_library.proofs.library.read_files.Given as goal

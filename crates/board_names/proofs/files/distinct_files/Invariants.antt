@@ -1,9 +1,10 @@
 use Rattle.std.proofs.Common.{◌≡◌, drop, fold, map}
 use Rattle.toml.specs.View.{items_view}
-use Rattle.board_tables.specs.Fields.{tables_in, with_name}
+use Rattle.board_tables.specs.Fields.{tables_in}
+use Rattle.board_words.specs.FirstPlaces.{with_name}
 use Rattle.board_names.specs.Files.{file_at}
 use Rattle.board_names.specs.Files.{distinct}
-use Rattle.board_tables.specs.View.{texts_of}
+use Rattle.board_words.specs.View.{texts_of}
 use Rattle.board_names.proofs.files.distinct_files.Given as goal
 
 -- the names so far, with those to come, are all

@@ -1,7 +1,7 @@
 use Rattle.std.proofs.Common.{◌≡◌, drop}
 use Rattle.toml.specs.View.{items_view}
 use Rattle.board_tables.specs.Fields.{tables_in}
-use Rattle.board_tables.specs.View.{texts_of}
+use Rattle.board_words.specs.View.{texts_of}
 use Rattle.board_pins.specs.Pins.{unknown_in_nets}
 use Rattle.board_pins.proofs.misplaced.first_unknown.Given as goal
 

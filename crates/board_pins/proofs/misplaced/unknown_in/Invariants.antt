@@ -1,7 +1,7 @@
 use Rattle.std.proofs.Common.{◌≡◌, drop}
 use Rattle.toml.specs.View.{items_view}
 use Rattle.board_tables.specs.Fields.{texts_in}
-use Rattle.board_tables.specs.View.{texts_of}
+use Rattle.board_words.specs.View.{texts_of}
 use Rattle.board_pins.specs.Pins.{unknown_pin}
 use Rattle.board_pins.proofs.misplaced.unknown_in.Given as goal
 

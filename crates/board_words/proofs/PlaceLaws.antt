@@ -8,7 +8,7 @@ use Rattle.std.proofs.lemmas.List.Folds.{position_or_len_push}
 use Rattle.std.proofs.lemmas.List.{length-append}
 use Rattle.std.proofs.lemmas.Bool.{false≢true}
 use Rattle.std.proofs.lemmas.Bool.Decides.{nat_tests}
-use Rattle.board_tables.specs.FirstPlaces.{AreFirst}
+use Rattle.board_words.specs.FirstPlaces.{AreFirst}
 
 -- the place, or the last one where there is none and the last passes
 abbrev or_last : Option ℕ → Bool → ℕ → Option ℕ

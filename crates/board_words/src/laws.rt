@@ -1,5 +1,5 @@
 //! What the definitions of the tables say of each other.
-ghost use Rattle.board_tables.specs.PinTexts.{PinsAreReadAsSpelt};
+ghost use Rattle.board_words.specs.PinTexts.{PinsAreReadAsSpelt};
 
 /// A text is read as a pin exactly where it spells that pin: a device's name, a point, a port's name and, where the
 /// port has several bits, an index in brackets.

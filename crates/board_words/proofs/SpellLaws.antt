@@ -6,8 +6,8 @@ use Rattle.std.proofs.lemmas.Bool.{false≢true, and_parts, eqb-true}
 use Rattle.std.proofs.lemmas.Bool.Decides.{nat_tests}
 use Rattle.std.proofs.lemmas.List.{append-nil, length-append}
 use Rattle.std.proofs.Math.Seq.{take-append_seam, drop-append-add}
-use Rattle.board_tables.specs.Names.{continues, is_name}
-use Rattle.board_tables.specs.PinTexts.{PinText, is_number, index_text, pin_text, is_index, Spells, split_at, index_of, indexed, scalar, port_of, pin_of, PinsAreReadAsSpelt}
+use Rattle.board_words.specs.Names.{continues, is_name}
+use Rattle.board_words.specs.PinTexts.{PinText, is_number, index_text, pin_text, is_index, Spells, split_at, index_of, indexed, scalar, port_of, pin_of, PinsAreReadAsSpelt}
 
 -- ---- the first such byte
 

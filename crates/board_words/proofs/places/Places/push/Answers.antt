@@ -1,6 +1,6 @@
 use Rattle.std.proofs.Common.{◌∙◌, sym, ap, length}
-use Rattle.board_tables.proofs.PlaceLaws.{one_more, none_there}
-use Rattle.board_tables.proofs.places.Places.push.Goals as goal
+use Rattle.board_words.proofs.PlaceLaws.{one_more, none_there}
+use Rattle.board_words.proofs.places.Places.push.Goals as goal
 
 -- src/places.rt:52:22
 pub invariant_of-self-in-Ok : goal.invariant_of-self-in-Ok

@@ -1,8 +1,8 @@
 //! Keys in the order in which they came, found by a tree.
 ghost use Rattle.std.specs.Prelude.{◌≡◌, [], ◌∷◌, ◌++◌, length, position, bytes_eq, OnOk, OnErr};
 ghost use Rattle.std.specs.List.{list_any};
-ghost use Rattle.board_tables.specs.Fields.{with_name};
-ghost use Rattle.board_tables.specs.View.{texts_of};
+ghost use Rattle.board_words.specs.FirstPlaces.{with_name};
+ghost use Rattle.board_words.specs.View.{texts_of};
 ghost use Rattle.std.specs.BTreeMap.{is_at};
 
 use std::alloc::{AllocError, Global};
@@ -21,7 +21,7 @@ pub struct Places<K: Ord + Copy> {
 
 impl<K: Ord + Copy> Model for Places<K> {
     ghost use Rattle.std.specs.Prelude.{List};
-    ghost use Rattle.board_tables.specs.FirstPlaces.{AreFirst};
+    ghost use Rattle.board_words.specs.FirstPlaces.{AreFirst};
 
     ghost Value = { List K };
 
@@ -99,7 +99,7 @@ impl<'t> Places<&'t str> {
     }
 
     /// Adds a text, if it is not there yet.
-    #[tactic(auto, using(crate::proofs::ValueLaws::list_any_map, crate::proofs::ValueLaws::map_with))]
+    #[tactic(auto, using(crate::proofs::TextLaws::list_any_map, crate::proofs::TextLaws::map_with))]
     pub fn add(&mut self, text: &'t str) -> Result<(), AllocError>
         ensures added { OnOk result (texts_of self.new ≡ with_name (texts_of self.old) text.now) }
         ensures err { OnErr result (self.new ≡ self.old) }

@@ -3,7 +3,7 @@ use Rattle.std.specs.Prelude.{◌≡◌, ◌↔◌, ℕ, Bool, true, ◌&&◌, �
 use Rattle.std.specs.Prelude.{None, option_map, option_and_then, if◌then◌else◌}
 use Rattle.std.specs.List.{list_all, position_or_len, before_first, after_first}
 use Rattle.std.specs.Char.{is_ascii_digit}
-use Rattle.board_tables.specs.Names.{is_name}
+use Rattle.board_words.specs.Names.{is_name}
 
 -- its device and its port, and the digits of its index, if it has one
 pub record PinText : Type 0 where

@@ -1,7 +1,7 @@
 //! Names of devices, nets and ports.
 ghost use Rattle.std.specs.Prelude.{◌≡◌};
 ghost use Rattle.std.specs.List.{list_all};
-ghost use Rattle.board_tables.specs.Names as spec;
+ghost use Rattle.board_words.specs.Names as spec;
 
 /// Whether the text is a name: a letter, then letters, digits and `_`.
 pub fn is_name(text: &str) -> bool

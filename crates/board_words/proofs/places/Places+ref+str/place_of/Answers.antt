@@ -1,9 +1,9 @@
 use Rattle.std.proofs.Common.{◌∙◌, ap}
-use Rattle.board_tables.proofs.TextLaws.{text_place}
-use Rattle.board_tables.specs.View.{texts_of}
+use Rattle.board_words.proofs.TextLaws.{text_place}
+use Rattle.board_words.specs.View.{texts_of}
 use Rattle.std.specs.Str.{bytes_eq}
 use Rattle.std.specs.List.{position}
-use Rattle.board_tables.proofs.places.Places+ref+str.place_of.Goals as goal
+use Rattle.board_words.proofs.places.Places+ref+str.place_of.Goals as goal
 
 -- src/places.rt:87:5
 pub returns : goal.returns

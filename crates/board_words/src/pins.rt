@@ -2,7 +2,7 @@
 ghost use Rattle.std.specs.Prelude.{◌≡◌, ◌<◌, ℕ, true, List, option_map, IfSome};
 ghost use Rattle.std.specs.List.{list_all};
 ghost use Rattle.std.specs.Char.{is_ascii_digit};
-ghost use Rattle.board_tables.specs.PinTexts as spec;
+ghost use Rattle.board_words.specs.PinTexts as spec;
 
 use crate::names::is_name;
 

@@ -1,0 +1,4 @@
+pub mod FirstPlaces
+pub mod Names
+pub mod PinTexts
+pub mod View
