@@ -1,4 +1,3 @@
-pub mod BitLaws
 pub mod CountLaws
 pub mod DescribedLaws
 pub mod BoardLaws

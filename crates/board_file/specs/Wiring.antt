@@ -1,29 +1,19 @@
 -- What a board file says, given the files that it names: the board's devices and nets, or why it is refused.
-use Rattle.std.specs.Prelude.{ℕ, Bool, false, ◌||◌, ◌==◌, nat_lt, List, [], map, length, filter_map, replicate, reverse}
+use Rattle.std.specs.Prelude.{ℕ, ◌||◌, nat_lt, List, [], map, length, filter_map}
 use Rattle.std.specs.Option.{option_or}
-use Rattle.std.specs.Prelude.{codes, bytes_eq, option_map, Option, Some, None, Result, Ok, Err, if◌then◌else◌}
+use Rattle.std.specs.Prelude.{codes, option_map, Option, Some, None, Result, Ok, Err, if◌then◌else◌}
 use Rattle.toml.specs.Data.{Members}
 use Rattle.bsdl_device.specs.Device.{Device}
-use Rattle.pin_nets.specs.declared.Pull.{Pull}
-use Rattle.pin_nets.specs.declared.Pull.TheVariants.{Up, Down, Free}
 use Rattle.board_tables.specs.Fields.{text_at, name_at, tables_at}
 use Rattle.board_tables.specs.Faults.{unfit}
 use Rattle.pin_nets.specs.Wired.{Net}
 use Rattle.board_library.specs.Files.{File, device_at, cells_at, devices_of, missing_in, refused_in}
 use Rattle.board_names.specs.Files.{file_names}
 use Rattle.board_plan.specs.Planned.{Member, Wiring}
+use Rattle.board_plan.specs.Words.{core_of, is_update, pull_of}
 use Rattle.board_pins.specs.Pins.{pins_at, unknown_in_nets, twice_in_nets}
 
 -- ---- what a table says of it
-
--- the core's bits, cell 0 rightmost; all 0 where none are given
-abbrev pub core_of : ℕ → Option (List ℕ) → List Bool
-core_of cells None = replicate cells false
-core_of cells (Some s) = map (λ c. c == 49) (reverse s)
-
-abbrev pub is_update : Option (List ℕ) → Bool
-is_update None = false
-is_update (Some s) = bytes_eq s (codes "update")
 
 abbrev pub member_of : Members → Device → Member
 member_of t d = record {
@@ -35,10 +25,6 @@ member_of t d = record {
 
 abbrev pub member_at : (List ℕ → Option Device) → List File → Members → Option Member
 member_at says files t = option_map (member_of t) (device_at says files t)
-
-abbrev pub pull_of : Option (List ℕ) → Pull
-pull_of None = Free
-pull_of (Some s) = if bytes_eq s (codes "up") then Up else if bytes_eq s (codes "down") then Down else Free
 
 abbrev pub net_of : List (List ℕ) → List Device → Members → Net
 net_of names ds t = record { name = name_at t; pull = pull_of (text_at (codes "pull") t); pins = pins_at names ds t }

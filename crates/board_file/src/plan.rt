@@ -1,5 +1,5 @@
 //! The devices and nets that a board file's tables say.
-ghost use Rattle.std.specs.Prelude.{◌≡◌, ◌==◌, map, reverse, option_map, IfOk};
+ghost use Rattle.std.specs.Prelude.{◌≡◌, map, IfOk};
 ghost use Rattle.std.specs.List.{filter_map};
 ghost use Rattle.toml.specs.View.{table_view, items_view};
 ghost use Rattle.board_tables.specs.Fields.{tables_in, texts_in};
@@ -11,12 +11,11 @@ ghost use Rattle.board_plan.specs.View as planned;
 
 use board_library::described_at;
 use board_pins::find_pin;
-use board_plan::{PlannedDevice, PlannedNet};
+use board_plan::{PlannedDevice, PlannedNet, core_bits, is_update, pull_of};
 use board_tables::{items_at, name_at, text_at};
 use board_words::Places;
 use device_instructions::SharedDevice;
-use jt_bits::Bits;
-use pin_nets::{Pin, Pull};
+use pin_nets::Pin;
 use std::alloc::{AllocError, Global};
 use toml::{Table, Value};
 
@@ -55,46 +54,6 @@ fn plan_device(
         core: core_bits(alloc, cells, text_at(table, "core"))?,
         extest_update: is_update(text_at(table, "extest")),
     })
-}
-
-/// The core's bits, cell 0 rightmost; all 0 where none are given.
-fn core_bits(alloc: Global, cells: usize, core: Option<&str>) -> Result<Bits, AllocError>
-    ensures { IfOk result (λ b. b ≡ spec.core_of cells (option_map (λ s. s.now) core.entry)) }
-{
-    match core {
-        None => Bits::zeros(alloc, cells),
-        Some(text) => written_bits(alloc, text.as_bytes()),
-    }
-}
-
-/// The bits that 0s and 1s write, the rightmost first.
-fn written_bits(alloc: Global, text: &[u8]) -> Result<Bits, AllocError>
-    ensures { IfOk result (λ b. b ≡ map (λ c. c == 49) (reverse text.now)) }
-{
-    let mut digits = text.to_vec(alloc)?;
-    digits.reverse();
-    bits_of(alloc, &digits)
-}
-
-/// The bits that 0s and 1s write, in their order.
-#[tactic(auto, using(crate::proofs::BitLaws::all_shifted))]
-fn bits_of(alloc: Global, digits: &[u8]) -> Result<Bits, AllocError>
-    ensures { IfOk result (λ b. b ≡ map (λ c. c == 49) digits.now) }
-{
-    let mut bits = Bits::zeros(alloc, digits.len())?;
-    for digit in digits {
-        bits.shift_in(*digit == b'1');
-    }
-    Ok(bits)
-}
-
-fn is_update(text: Option<&str>) -> bool
-    ensures { result ≡ spec.is_update (option_map (λ s. s.now) text.entry) }
-{
-    match text {
-        Some(text) => text == "update",
-        None => false,
-    }
 }
 
 /// The nets, given the names of all devices, and the devices.
@@ -150,14 +109,4 @@ fn pins_of(
         }
     }
     Ok(found)
-}
-
-fn pull_of(text: Option<&str>) -> Pull
-    ensures { result ≡ spec.pull_of (option_map (λ s. s.now) text.entry) }
-{
-    match text {
-        Some("up") => Pull::Up,
-        Some("down") => Pull::Down,
-        _ => Pull::Free,
-    }
 }

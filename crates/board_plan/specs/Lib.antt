@@ -1,4 +1,5 @@
 pub mod Planned
 pub mod PinNumbers
+pub mod Words
 pub mod LeftOut
 pub mod View

@@ -4,7 +4,9 @@
 mod instructions;
 mod numbers;
 mod plan;
+mod words;
 
 pub use instructions::left_out;
 pub use numbers::number_nets;
 pub use plan::{Plan, PlannedDevice, PlannedNet};
+pub use words::{core_bits, is_update, pull_of};

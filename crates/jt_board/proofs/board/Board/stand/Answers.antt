@@ -2,7 +2,6 @@ use Rattle.std.proofs.Common.{sym, ap, subst}
 use Rattle.board_meaning.specs.Chain.{BoardState}
 use Rattle.board_meaning.specs.Resting.{IsAtRest}
 use Rattle.board_meaning.specs.Sound.{IsChain}
-use Rattle.board_meaning.specs.Whole as whole
 use Rattle.board_meaning.specs.Whole.{AtRest}
 use Rattle.chip_chain.specs.Chains.{ChainValue}
 use Rattle.jt_board.specs.Made.{board_at}

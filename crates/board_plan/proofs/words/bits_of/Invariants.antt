@@ -1,6 +1,6 @@
 use Rattle.std.proofs.Common.{◌≡◌, ◌==◌, drop, fold, map, length, replicate, false}
 use Rattle.jt_bits.specs.Shifting.{after_shift}
-use Rattle.board_file.proofs.plan.bits_of.Given as goal
+use Rattle.board_plan.proofs.words.bits_of.Given as goal
 
 -- the bits so far, with those to come shifted in, are all shifted in
 abbrev pub invariant-loop-digit : goal.invariant-loop-digit

@@ -2,8 +2,8 @@ use Rattle.std.proofs.Common.{◌∙◌, ◌==◌, sym, ap, fold, map, length}
 use Rattle.std.proofs.Math.ListN.{drop_of_length-le}
 use Rattle.std.proofs.lemmas.List.{length-map}
 use Rattle.jt_bits.specs.Shifting.{after_shift}
-use Rattle.board_file.proofs.BitLaws.{all_shifted}
-use Rattle.board_file.proofs.plan.bits_of.Goals as goal
+use Rattle.board_plan.proofs.BitLaws.{all_shifted}
+use Rattle.board_plan.proofs.words.bits_of.Goals as goal
 
 pub returns : goal.returns
 returns c =
