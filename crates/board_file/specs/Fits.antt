@@ -1,10 +1,9 @@
 -- What holds of every board that a board file makes.
-use Rattle.std.specs.Prelude.{◌≡◌, ◌<◌, ◌≤◌, false, ℕ, Option, List, [], ◌∷◌, ◌++◌, length, slice_get, Some}
-use Rattle.std.specs.List.{list_any, flat_map, AllByRecursion}
+use Rattle.std.specs.Prelude.{◌≡◌, ◌<◌, ◌≤◌, false, ℕ, Option, List, [], ◌∷◌, ◌++◌, length, Some}
+use Rattle.std.specs.List.{list_any, AllByRecursion}
 use Rattle.bsdl_device.specs.Device.{Device}
 use Rattle.pin_nets.specs.declared.Pin.{Pin}
 use Rattle.board_pins.specs.Pins.{same_pin}
-use Rattle.pin_nets.specs.Wired.{Net}
 use Rattle.board_plan.specs.Planned.{HasCore, IsPinOf, Member, Wiring, all_pins}
 
 -- each pin differs from those before it
