@@ -12,7 +12,8 @@ use Rattle.bsdl_values.specs.declared.Attribute.{Attribute}
 use Rattle.bsdl_values.specs.declared.Attribute.TheVariants.{TapScanIn, TapScanOut, TapScanMode, TapScanClock, InstructionLength, BoundaryLength, InstructionOpcode, InstructionCapture, BoundaryRegister, InstructionPrivate, RegisterAccess}
 use Rattle.bsdl_values.specs.Values.{Value, absent, accesses_value, cells_value, codes_value, count, names_value, opcodes_value, pattern_value, port}
 use Rattle.bsdl_entity.specs.Entity.{File, Given, file}
-use Rattle.bsdl_described.specs.Describing.{Description, Refusal, as_accesses, as_cells, as_count, as_names, as_opcodes, as_pattern, as_port, described, is_attribute, is_own, need, own_accesses, too_large, value_given, with_own, ◌>>?◌}
+use Rattle.bsdl_described.specs.Describing.{Description, Refusal, as_accesses, as_cells, as_count, as_names, as_opcodes, as_pattern, as_port, described, is_attribute, need, too_large, value_given, ◌>>?◌}
+use Rattle.bsdl_own_instructions.specs.Own.{is_own, own_accesses, with_own}
 use Rattle.bsdl_twice.specs.ResetOpcode.{opcode}
 use Rattle.bsdl_limits.specs.Users.{users_of}
 use Rattle.bsdl_opcodes.specs.Accesses.{access, accesses_of_row}

@@ -10,7 +10,7 @@ use Rattle.bsdl_device.specs.declared.Cell.{Cell}
 use Rattle.bsdl_cells.specs.Rows.{CellRow}
 use Rattle.bsdl_ports.specs.Ports.{Port}
 use Rattle.bsdl_limits.specs.PortBits.{bit_number}
-use Rattle.bsdl_described.specs.Describing.{is_among}
+use Rattle.bsdl_own_instructions.specs.Own.{is_among}
 
 -- the bits of a port, by rising index
 abbrev pub port_bits : List Name → Port → List PortBit

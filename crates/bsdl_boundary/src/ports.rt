@@ -6,7 +6,7 @@ ghost use Rattle.bsdl_device.specs.Ports.{bits_of};
 ghost use Rattle.bsdl_text.specs.Words.{upper};
 ghost use Rattle.bsdl_text.specs.View.{value};
 ghost use Rattle.bsdl_ports.specs.View as ports_view;
-ghost use Rattle.bsdl_described.specs.Describing.{is_among};
+ghost use Rattle.bsdl_own_instructions.specs.Own.{is_among};
 ghost use Rattle.bsdl_described.specs.View.{taps as taps_view};
 ghost use Rattle.bsdl_boundary.specs.Boundary as spec;
 

@@ -1,8 +1,6 @@
 -- What a description gives as a whole: each attribute's value is that of its first giving.
-use Rattle.std.specs.Prelude.{ℕ, Bool, true, false, is_some, if◌then◌else◌, List, [], ◌∷◌, filter}
-use Rattle.std.specs.Prelude.{Option, Some, None, Result, Ok, Err, bytes_eq, codes}
-use Rattle.std.specs.List.{list_any}
-use Rattle.bsdl_text.specs.Words.{upper, same_name}
+use Rattle.std.specs.Prelude.{ℕ, Bool, is_some, if◌then◌else◌, List, [], ◌∷◌, Option, Some, None}
+use Rattle.std.specs.Prelude.{Result, Ok, Err, bytes_eq}
 use Rattle.bsdl_values.specs.declared.Attribute.{Attribute}
 use Rattle.bsdl_values.specs.declared.Attribute.TheVariants.{TapScanIn, TapScanOut, TapScanMode, TapScanClock}
 use Rattle.bsdl_values.specs.declared.Attribute.TheVariants.{TapScanReset, InstructionLength, BoundaryLength}
@@ -10,7 +8,8 @@ use Rattle.bsdl_values.specs.declared.Attribute.TheVariants.{InstructionOpcode, 
 use Rattle.bsdl_values.specs.declared.Attribute.TheVariants.{IdcodeRegister, UsercodeRegister, InstructionPrivate}
 use Rattle.bsdl_values.specs.declared.Attribute.TheVariants.{RegisterAccess}
 use Rattle.bsdl_device.specs.Device.{Name, Pattern}
-use Rattle.bsdl_instructions.specs.Values.{OpcodeRow, Instr, AccessRow}
+use Rattle.bsdl_instructions.specs.Values.{OpcodeRow, AccessRow}
+use Rattle.bsdl_own_instructions.specs.Own.{is_own, own_accesses}
 use Rattle.bsdl_cells.specs.Rows.{CellRow}
 use Rattle.bsdl_ports.specs.Ports.{Port}
 use Rattle.bsdl_values.specs.Values.{Value, port, count, pattern_value, codes_value, names_value}
@@ -100,33 +99,6 @@ abbrev pub ◌>>?◌ : {A B : Type 0} → Result A Refusal → (A → Result B R
 abbrev pub need : {A : Type 0} → Attribute → Option A → Result A Refusal
 need a None = Err (missing a)
 need a (Some x) = Ok x
-
--- the standard's instructions
-abbrev pub standard_names : List Name
-standard_names =
-    codes "BYPASS" ∷ codes "EXTEST" ∷ codes "SAMPLE" ∷ codes "PRELOAD" ∷ codes "IDCODE" ∷ codes "USERCODE"
-    ∷ codes "CLAMP" ∷ codes "HIGHZ" ∷ codes "INTEST" ∷ codes "RUNBIST" ∷ []
-
-abbrev pub is_among : List Name → Name → Bool
-is_among names name = list_any (bytes_eq name) names
-
-abbrev pub has_opcode : List OpcodeRow → List ℕ → Bool
-has_opcode rows name = list_any (λ r. same_name r.name.text name) rows
-
--- an instruction of the device's own: it has an opcode, and is neither the standard's nor private
-abbrev pub is_own : List OpcodeRow → List Name → Instr → Bool
-is_own rows private i =
-    if has_opcode rows i.name.text then (if is_among standard_names (upper i.name.text) then false
-    else if is_among private (upper i.name.text) then false else true) else false
-
--- the own instructions of each row; a row without any is left out
-abbrev pub with_own : AccessRow → List Instr → List AccessRow → List AccessRow
-with_own row [] rows = rows
-with_own row (i ∷ is) rows = record row { instrs = i ∷ is } ∷ rows
-
-abbrev pub own_accesses : (Instr → Bool) → List AccessRow → List AccessRow
-own_accesses own [] = []
-own_accesses own (row ∷ rows) = with_own row (filter own row.instrs) (own_accesses own rows)
 
 abbrev pub and_reset : Name → Option Name → List Name
 and_reset tck None = tck ∷ []

@@ -1,3 +1,2 @@
 pub mod Describing
-pub mod NameSets
 pub mod View

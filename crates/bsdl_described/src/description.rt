@@ -8,12 +8,12 @@ use crate::givings::{
     accesses_given, capture_given, cells_given, codes_given, count_given, opcodes_given,
     port_given, private_names_given,
 };
-use crate::names::own_accesses;
 use bsdl_cells::CellRow;
 use bsdl_entity::Attribute;
 use bsdl_entity::entity::Outline;
 use bsdl_instructions::names::{AccessRow, OpcodeRow, PrivateName};
 use bsdl_instructions::patterns::WrittenPattern;
+use bsdl_own_instructions::own::own_accesses;
 use bsdl_text::names::Word;
 use bsdl_text::numbers::Digits;
 use std::alloc::{AllocError, Global};

@@ -4,4 +4,3 @@
 
 pub mod description;
 pub mod givings;
-pub mod names;

@@ -7,7 +7,8 @@ use Rattle.bsdl_text.specs.Words.{upper}
 use Rattle.bsdl_cells.specs.Rows.{CellRow, PortName}
 use Rattle.bsdl_ports.specs.Ports.{Port, Range}
 use Rattle.bsdl_limits.specs.PortBits.{bit_at, bit_number, width}
-use Rattle.bsdl_described.specs.Describing.{Description, is_among}
+use Rattle.bsdl_described.specs.Describing.{Description}
+use Rattle.bsdl_own_instructions.specs.Own.{is_among}
 use Rattle.bsdl_fit.specs.declared.seat.Seat.{Seat}
 use Rattle.bsdl_fit.specs.Drivers.{drives_below}
 use Rattle.bsdl_device.specs.Driving.{drives}

@@ -7,7 +7,8 @@ use Rattle.bsdl_device.specs.declared.Function.{Function}
 use Rattle.bsdl_device.specs.declared.Function.TheVariants.{Bidir, Output2, Output3, Control, ControlR, Internal}
 use Rattle.bsdl_device.specs.declared.Control3.{Control3}
 use Rattle.bsdl_cells.specs.Rows.{PortName, CellRow}
-use Rattle.bsdl_described.specs.Describing.{Description, is_among}
+use Rattle.bsdl_described.specs.Describing.{Description}
+use Rattle.bsdl_own_instructions.specs.Own.{is_among}
 use Rattle.bsdl_limits.specs.Limits.{subscript_limit}
 use Rattle.bsdl_limits.specs.PortBits.{bit_number}
 

@@ -5,6 +5,7 @@ ghost use Rattle.bsdl_device.specs.Driving as driving;
 ghost use Rattle.bsdl_text.specs.Words.{upper};
 ghost use Rattle.bsdl_text.specs.View.{value};
 ghost use Rattle.bsdl_cells.specs.View as cells_view;
+ghost use Rattle.bsdl_own_instructions.specs.Own.{is_among};
 ghost use Rattle.bsdl_described.specs.Describing as described;
 ghost use Rattle.bsdl_described.specs.View.{taps as taps_view};
 ghost use Rattle.bsdl_fit.specs.Drivers.{driver_at, is_below};
@@ -78,7 +79,7 @@ fn seat_fits<'a>(
     seat: Seat<'a>,
     number: usize,
 ) -> bool
-    ensures { result ≡ (not (described.is_among (taps_view known.now.taps) (upper port.entry.name.text.now))
+    ensures { result ≡ (not (is_among (taps_view known.now.taps) (upper port.entry.name.text.now))
         && not (driving.drives function && is_below (driver_at known.now.drivers seat.entry) number)) }
 {
     !names_tap(&known.taps, port.name.text) && !drives_again(known, function, seat, number)
@@ -97,7 +98,7 @@ fn drives_again<'a>(
 
 /// Whether a port of this name is one of the TAP's.
 pub fn names_tap(taps: &Taps<'_>, name: &[u8]) -> bool
-    ensures { result ≡ described.is_among (taps_view taps.now) (upper name.now) }
+    ensures { result ≡ is_among (taps_view taps.now) (upper name.now) }
 {
     same_name(name, taps.input.text)
         || same_name(name, taps.output.text)

@@ -2,7 +2,7 @@ use Rattle.std.proofs.Common.{◌≤◌, ◌&&◌, ℕ, ap, sym, ◌∙◌, arit
 use Rattle.std.specs.Prelude.{not, option_map}
 use Rattle.std.specs.List.{list_any}
 use Rattle.bsdl_cells.specs.View.{cell_row, port_name}
-use Rattle.bsdl_described.specs.Describing.{is_among}
+use Rattle.bsdl_own_instructions.specs.Own.{is_among}
 use Rattle.bsdl_fit.specs.Drivers.{driver_at, drives_below, is_below}
 use Rattle.bsdl_device.specs.Driving.{drives}
 use Rattle.bsdl_fit.specs.View.{seat}

@@ -8,8 +8,8 @@ use Rattle.std.proofs.lemmas.Bool.Decides.{nat_tests}
 use Rattle.bsdl_device.specs.Device.{Name}
 use Rattle.bsdl_text.specs.Words.{upper}
 use Rattle.bsdl_instructions.specs.Values.{Instr, AccessRow, OpcodeRow}
-use Rattle.bsdl_described.specs.Describing.{with_own, own_accesses, is_own, is_among, has_opcode, standard_names}
-use Rattle.bsdl_described.specs.NameSets.{is_own_by, opcode_named, private_named}
+use Rattle.bsdl_own_instructions.specs.Own.{with_own, own_accesses, is_own, is_among, has_opcode, standard_names}
+use Rattle.bsdl_own_instructions.specs.NameSets.{is_own_by, opcode_named, private_named}
 
 with_own_behind : (row : AccessRow) (is : List Instr) (rows more : List AccessRow) → with_own row is (rows ++ more) ≡ with_own row is rows ++ more
 with_own_behind row [] rows more = refl

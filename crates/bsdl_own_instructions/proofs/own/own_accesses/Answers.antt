@@ -1,7 +1,7 @@
 use Rattle.std.proofs.Common.{map}
 use Rattle.bsdl_instructions.specs.View as rows_view
-use Rattle.bsdl_described.proofs.OwnLaws.{own_test}
-use Rattle.bsdl_described.proofs.names.own_accesses.Goals as goal
+use Rattle.bsdl_own_instructions.proofs.OwnLaws.{own_test}
+use Rattle.bsdl_own_instructions.proofs.own.own_accesses.Goals as goal
 
 pub returns : goal.returns
 returns c =

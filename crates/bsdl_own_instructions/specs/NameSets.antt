@@ -3,7 +3,7 @@ use Rattle.std.specs.Prelude.{ℕ, Bool, false, not, ◌||◌, if◌then◌else�
 use Rattle.std.specs.List.{list_any}
 use Rattle.std.specs.BTreeSet.{BTreeSet, contains_text}
 use Rattle.std.proofs.Common.{String, Global}
-use Rattle.bsdl_described.specs.Describing.{is_among, standard_names}
+use Rattle.bsdl_own_instructions.specs.Own.{is_among, standard_names}
 use Rattle.bsdl_text.specs.Words.{upper}
 use Rattle.bsdl_instructions.specs.Values.{OpcodeRow}
 use Rattle.bsdl_device.specs.Device.{Name}

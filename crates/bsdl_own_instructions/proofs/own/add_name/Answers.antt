@@ -3,8 +3,8 @@ use Rattle.std.specs.Prelude.{string_bytes}
 use Rattle.std.specs.BTreeSet.{contains_text}
 use Rattle.std.proofs.lemmas.Map.Text.{btree_set_updates_text}
 use Rattle.bsdl_text.specs.Words.{upper}
-use Rattle.bsdl_described.proofs.NameSetLaws.{put_name}
-use Rattle.bsdl_described.proofs.names.add_name.Goals as goal
+use Rattle.bsdl_own_instructions.proofs.NameSetLaws.{put_name}
+use Rattle.bsdl_own_instructions.proofs.own.add_name.Goals as goal
 
 pub returns : goal.returns
 returns c = λ q.

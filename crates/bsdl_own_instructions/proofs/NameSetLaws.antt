@@ -3,7 +3,7 @@ use Rattle.std.proofs.Common.{◌≡◌, ℕ, Bool, true, false, cond, ◌||◌,
 use Rattle.std.specs.Prelude.{Some, is_some, bytes_eq}
 use Rattle.std.specs.List.{list_any}
 use Rattle.bsdl_text.specs.Words.{upper, stands_for}
-use Rattle.bsdl_described.specs.NameSets.{contains_or, is_equal}
+use Rattle.bsdl_own_instructions.specs.NameSets.{contains_or, is_equal}
 
 in_row : (b : Bool) (table : List (List ℕ × Bool)) (word : List ℕ) (rest : Bool) → is_some (stands_for table word) ≡ rest → is_some (cond b (Some true) (stands_for table word)) ≡ b || rest
 in_row true table word rest e = refl

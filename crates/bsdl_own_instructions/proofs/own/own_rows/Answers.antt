@@ -3,9 +3,9 @@ use Rattle.std.proofs.lemmas.List.{map-append, length-map}
 use Rattle.std.proofs.lemmas.Bool.Decides.{nat_tests}
 use Rattle.bsdl_instructions.specs.View.{access_row, instr}
 use Rattle.bsdl_instructions.specs.Values.{Instr}
-use Rattle.bsdl_described.specs.NameSets.{is_own_by}
-use Rattle.bsdl_described.proofs.OwnLaws.{row_kept, row_left_out}
-use Rattle.bsdl_described.proofs.names.own_rows.Goals as goal
+use Rattle.bsdl_own_instructions.specs.NameSets.{is_own_by}
+use Rattle.bsdl_own_instructions.proofs.OwnLaws.{row_kept, row_left_out}
+use Rattle.bsdl_own_instructions.proofs.own.own_rows.Goals as goal
 
 pub loop-row-preserved-in-Continue-branch-2 : goal.loop-row-preserved-in-Continue-branch-2
 loop-row-preserved-in-Continue-branch-2 c =

@@ -4,8 +4,8 @@ ghost use Rattle.std.specs.List.{list_any};
 ghost use Rattle.std.specs.BTreeSet.{contains_text};
 ghost use Rattle.bsdl_text.specs.Words.{upper};
 ghost use Rattle.bsdl_instructions.specs.View as rows_view;
-ghost use Rattle.bsdl_described.specs.Describing as spec;
-ghost use Rattle.bsdl_described.specs.NameSets.{contains_or, is_equal, is_own_by, opcode_named, private_named};
+ghost use Rattle.bsdl_own_instructions.specs.Own as spec;
+ghost use Rattle.bsdl_own_instructions.specs.NameSets.{contains_or, is_equal, is_own_by, opcode_named, private_named};
 
 use bsdl_instructions::names::{AccessRow, Instr, OpcodeRow, PrivateName};
 use bsdl_text::names::Word;
