@@ -1,0 +1,109 @@
+-- The register between TDI and TDO, before and after new bits are put into it.
+use Rattle.std.proofs.Common.{◌≡◌, ℕ, zero, suc, List, [], ◌∷◌, Bool, refl, sym, ap, subst, ◌∙◌}
+use Rattle.jt_bits.specs.Runs.{RunSet}
+use Rattle.jt_bits.specs.Shifting.{after_shift}
+use Rattle.jt_tap.specs.declared.Column.{Column}
+use Rattle.jt_tap.specs.declared.Column.TheVariants.{Dr, Ir}
+use Rattle.bsdl_device.specs.Device.{Device}
+use Rattle.device_instructions.specs.declared.Selected.{Selected}
+use Rattle.device_instructions.specs.declared.Selected.TheVariants.{Bypass, Identification, Boundary, User}
+use Rattle.device_instructions.specs.declared.decoding.Decoded.{Decoded}
+use Rattle.device_instructions.specs.Fitting.{meaning_by}
+use Rattle.device_instructions.specs.Instruction.{Meaning, meaning}
+use Rattle.device_registers.specs.declared.users.UserRegister.{UserRegister}
+use Rattle.device_registers.specs.Registers.{Registers, put, selected_bits, stage_of, with_stage, user_stage, with_user_stage}
+use Rattle.scan_registers.specs.Chips.{ChipValue, one_chip, registers, with_registers}
+use Rattle.scan_registers.specs.Edges.{OneChip}
+
+users_put : (k : ℕ) (bits : List Bool) (us : List UserRegister) → with_user_stage k (user_stage k (with_user_stage k bits us)) us ≡ with_user_stage k bits us
+users_put k bits [] = refl
+users_put zero bits (u ∷ us) = refl
+users_put (suc k) bits (u ∷ us) = ap (λ (xs : List UserRegister). u ∷ xs) (users_put k bits us)
+
+stage_put : (s : Selected) (bits : List Bool) (r : Registers) → with_stage s bits r ≡ with_stage s (stage_of s (with_stage s bits r)) r
+stage_put Bypass bits r = refl
+stage_put Identification bits r = refl
+stage_put Boundary bits r = refl
+stage_put (User k) bits r = ap (λ (us : List UserRegister). record r { users = us }) (sym (users_put k bits r.users))
+
+latch_kept : (s : Selected) (bits : List Bool) (r : Registers) → r.latch ≡ (with_stage s bits r).latch
+latch_kept Bypass bits r = refl
+latch_kept Identification bits r = refl
+latch_kept Boundary bits r = refl
+latch_kept (User k) bits r = refl
+
+selects : (d : Device) (m : Decoded) (latch : List Bool) (s : Selected) → meaning_by d m ≡ meaning d latch → m.selected ≡ s → s ≡ (meaning d latch).selected
+selects d m latch s decoded is = sym is ∙ ap (λ (x : Meaning). x.selected) decoded
+
+-- the bits of the chosen register, by its column and by what is selected
+pub bits_ir : {B : Type 0} (stage update : B → List Bool) (v now : ChipValue B) (column : Column) → v ≡ now → column ≡ Ir → v.stage ≡ selected_bits now.device column (registers stage update now)
+bits_ir {B} stage update v now column same is =
+    ap (λ (x : Column). selected_bits v.device x (registers stage update v)) (sym is)
+    ∙ ap (λ (x : ChipValue B). selected_bits x.device column (registers stage update x)) same
+
+pub bits_dr : {B : Type 0} (stage update : B → List Bool) (v now : ChipValue B) (column : Column) (m : Decoded) (s : Selected) → v ≡ now → column ≡ Dr
+    → meaning_by v.device m ≡ meaning v.device v.latch → m.selected ≡ s → stage_of s (registers stage update v) ≡ selected_bits now.device column (registers stage update now)
+bits_dr {B} stage update v now column m s same is decoded selected =
+    ap (λ (x : Selected). stage_of x (registers stage update v)) (selects v.device m v.latch s decoded selected)
+    ∙ ap (λ (x : Column). selected_bits v.device x (registers stage update v)) (sym is)
+    ∙ ap (λ (x : ChipValue B). selected_bits x.device column (registers stage update x)) same
+
+put_bits_dr : (d : Device) (r : Registers) (column : Column) (m : Decoded) (s : Selected) (bits : List Bool) → column ≡ Dr → meaning_by d m ≡ meaning d r.latch → m.selected ≡ s
+    → stage_of s (with_stage s bits r) ≡ selected_bits d column (with_stage s bits r)
+put_bits_dr d r column m s bits is decoded selected =
+    ap (λ (x : Selected). stage_of x (with_stage s bits r)) (selects d m r.latch s decoded selected)
+    ∙ ap (λ (x : List Bool). stage_of (meaning d x).selected (with_stage s bits r)) (latch_kept s bits r)
+    ∙ ap (λ (x : Column). selected_bits d x (with_stage s bits r)) (sym is)
+
+-- the device with these bits in the chosen register
+pub put_ir : {B : Type 0} (stage update : B → List Bool) (v now : ChipValue B) (column : Column) (bits wanted : List Bool) → v ≡ now → column ≡ Ir → bits ≡ wanted
+    → with_registers (record (registers stage update v) { stage = bits }) (one_chip stage update v) ≡ with_registers (put now.device column wanted (registers stage update now)) (one_chip stage update now)
+put_ir {B} stage update v now column bits wanted same is e =
+    ap (λ (x : List Bool). with_registers (record (registers stage update v) { stage = x }) (one_chip stage update v)) e
+    ∙ ap (λ (x : Column). with_registers (put v.device x wanted (registers stage update v)) (one_chip stage update v)) (sym is)
+    ∙ ap (λ (x : ChipValue B). with_registers (put x.device column wanted (registers stage update x)) (one_chip stage update x)) same
+
+pub put_dr : {B : Type 0} (stage update : B → List Bool) (v now : ChipValue B) (column : Column) (m : Decoded) (s : Selected) (bits wanted : List Bool) → v ≡ now → column ≡ Dr
+    → meaning_by v.device m ≡ meaning v.device v.latch → m.selected ≡ s → bits ≡ wanted
+    → with_registers (with_stage s bits (registers stage update v)) (one_chip stage update v) ≡ with_registers (put now.device column wanted (registers stage update now)) (one_chip stage update now)
+put_dr {B} stage update v now column m s bits wanted same is decoded selected e =
+    ap (λ (x : List Bool). with_registers (with_stage s x (registers stage update v)) (one_chip stage update v)) e
+    ∙ ap (λ (x : Selected). with_registers (with_stage x wanted (registers stage update v)) (one_chip stage update v)) (selects v.device m v.latch s decoded selected)
+    ∙ ap (λ (x : Column). with_registers (put v.device x wanted (registers stage update v)) (one_chip stage update v)) (sym is)
+    ∙ ap (λ (x : ChipValue B). with_registers (put x.device column wanted (registers stage update x)) (one_chip stage update x)) same
+
+-- the same where the bits are read back from the register
+pub put_back_ir : {B : Type 0} (stage update : B → List Bool) (v now : ChipValue B) (column : Column) (bits : List Bool) → v ≡ now → column ≡ Ir
+    → with_registers (record (registers stage update v) { stage = bits }) (one_chip stage update v)
+    ≡ with_registers (put now.device column (selected_bits v.device column (record (registers stage update v) { stage = bits })) (registers stage update now)) (one_chip stage update now)
+put_back_ir {B} stage update v now column bits same is =
+    put_ir stage update v now column bits _ same is (ap (λ (x : Column). selected_bits v.device x (record (registers stage update v) { stage = bits })) (sym is))
+
+pub put_back_dr : {B : Type 0} (stage update : B → List Bool) (v now : ChipValue B) (column : Column) (m : Decoded) (s : Selected) (bits : List Bool) → v ≡ now → column ≡ Dr
+    → meaning_by v.device m ≡ meaning v.device v.latch → m.selected ≡ s
+    → with_registers (with_stage s bits (registers stage update v)) (one_chip stage update v)
+    ≡ with_registers (put now.device column (selected_bits v.device column (with_stage s bits (registers stage update v))) (registers stage update now)) (one_chip stage update now)
+put_back_dr {B} stage update v now column m s bits same is decoded selected =
+    let r = registers stage update v in
+    ap (λ (x : Registers). with_registers x (one_chip stage update v)) (stage_put s bits r)
+    ∙ put_dr stage update v now column m s (stage_of s (with_stage s bits r)) _ same is decoded selected (put_bits_dr v.device r column m s bits is decoded selected)
+
+run_between : (a b x y : List Bool) (at word n : ℕ) → a ≡ x → b ≡ y → RunSet a b at word n → RunSet x y at word n
+run_between a b x y at word n old new run = subst (λ (l : List Bool). RunSet l y at word n) old (subst (λ (l : List Bool). RunSet a l at word n) new run)
+
+pub run_ir : {B : Type 0} (stage update : B → List Bool) (v now : ChipValue B) (column : Column) (bits : List Bool) (at word n : ℕ) → v ≡ now → column ≡ Ir → RunSet v.stage bits at word n
+    → RunSet (selected_bits now.device column (registers stage update now)) (selected_bits v.device column (record (registers stage update v) { stage = bits })) at word n
+run_ir {B} stage update v now column bits at word n same is run =
+    run_between v.stage bits _ _ at word n (bits_ir stage update v now column same is) (ap (λ (x : Column). selected_bits v.device x (record (registers stage update v) { stage = bits })) (sym is)) run
+
+pub run_dr : {B : Type 0} (stage update : B → List Bool) (v now : ChipValue B) (column : Column) (m : Decoded) (s : Selected) (bits : List Bool) (at word n : ℕ) → v ≡ now → column ≡ Dr
+    → meaning_by v.device m ≡ meaning v.device v.latch → m.selected ≡ s → RunSet (stage_of s (registers stage update v)) (stage_of s (with_stage s bits (registers stage update v))) at word n
+    → RunSet (selected_bits now.device column (registers stage update now)) (selected_bits v.device column (with_stage s bits (registers stage update v))) at word n
+run_dr {B} stage update v now column m s bits at word n same is decoded selected run =
+    run_between _ _ _ _ at word n (bits_dr stage update v now column m s same is decoded selected) (put_bits_dr v.device (registers stage update v) column m s bits is decoded selected) run
+
+-- a boundary register that is kept
+pub boundary_kept : {B : Type 0} (stage update : B → List Bool) (with_parts : B → List Bool → List Bool → B) (same : (b : B) → with_parts b (stage b) (update b) ≡ b)
+    (v now : ChipValue B) → v ≡ now → v.boundary ≡ with_parts now.boundary (stage v.boundary) (update v.boundary)
+boundary_kept {B} stage update with_parts same v now e =
+    sym (same v.boundary) ∙ ap (λ (x : ChipValue B). with_parts x.boundary (stage v.boundary) (update v.boundary)) e
