@@ -107,3 +107,94 @@ pub boundary_kept : {B : Type 0} (stage update : B → List Bool) (with_parts : 
     (v now : ChipValue B) → v ≡ now → v.boundary ≡ with_parts now.boundary (stage v.boundary) (update v.boundary)
 boundary_kept {B} stage update with_parts same v now e =
     sym (same v.boundary) ∙ ap (λ (x : ChipValue B). with_parts x.boundary (stage v.boundary) (update v.boundary)) e
+
+-- the device after a shift of the chosen register
+pub shifted_ir : {B : Type 0} (stage update : B → List Bool) (v now : ChipValue B) (column : Column) (bits : List Bool) (tdi : Bool) → v ≡ now → column ≡ Ir → bits ≡ after_shift v.stage tdi
+    → with_registers (record (registers stage update v) { stage = bits }) (one_chip stage update v)
+    ≡ with_registers (put now.device column (after_shift (selected_bits now.device column (registers stage update now)) tdi) (registers stage update now)) (one_chip stage update now)
+shifted_ir {B} stage update v now column bits tdi same is e =
+    put_ir stage update v now column bits _ same is (e ∙ ap (λ (x : List Bool). after_shift x tdi) (bits_ir stage update v now column same is))
+
+pub shifted_dr : {B : Type 0} (stage update : B → List Bool) (v now : ChipValue B) (column : Column) (m : Decoded) (s : Selected) (bits : List Bool) (tdi : Bool) → v ≡ now → column ≡ Dr
+    → meaning_by v.device m ≡ meaning v.device v.latch → m.selected ≡ s → bits ≡ after_shift (stage_of s (registers stage update v)) tdi
+    → with_registers (with_stage s bits (registers stage update v)) (one_chip stage update v)
+    ≡ with_registers (put now.device column (after_shift (selected_bits now.device column (registers stage update now)) tdi) (registers stage update now)) (one_chip stage update now)
+shifted_dr {B} stage update v now column m s bits tdi same is decoded selected e =
+    put_dr stage update v now column m s bits _ same is decoded selected (e ∙ ap (λ (x : List Bool). after_shift x tdi) (bits_dr stage update v now column m s same is decoded selected))
+
+-- a boundary register that a call left with these parts
+boundary_in : {B : Type 0} (stage update : B → List Bool) (v : ChipValue B) (after : B) (s u : List Bool) → stage after ≡ s → update after ≡ u
+    → with_registers (record (registers stage update v) { boundary = stage after; update = update after }) (one_chip stage update v)
+    ≡ with_registers (record (registers stage update v) { boundary = s; update = u }) (one_chip stage update v)
+boundary_in {B} stage update v after s u es eu =
+    ap (λ (x : List Bool). with_registers (record (registers stage update v) { boundary = x; update = update after }) (one_chip stage update v)) es
+    ∙ ap (λ (x : List Bool). with_registers (record (registers stage update v) { boundary = s; update = x }) (one_chip stage update v)) eu
+
+pub boundary_parts : {B : Type 0} (stage update : B → List Bool) (with_parts : B → List Bool → List Bool → B)
+    → ((b : B) (s u : List Bool) → stage (with_parts b s u) ≡ s) → ((b : B) (s u : List Bool) → update (with_parts b s u) ≡ u)
+    → (v now : ChipValue B) (after : B) (s u : List Bool) → v ≡ now → after ≡ with_parts v.boundary s u → after ≡ with_parts now.boundary (stage after) (update after)
+boundary_parts {B} stage update with_parts stage_of update_of v now after s u same is =
+    let es : stage after ≡ s = ap stage is ∙ stage_of v.boundary s u in
+    let eu : update after ≡ u = ap update is ∙ update_of v.boundary s u in
+    is ∙ ap (λ (x : List Bool). with_parts v.boundary x u) (sym es)
+    ∙ ap (λ (x : List Bool). with_parts v.boundary (stage after) x) (sym eu)
+    ∙ ap (λ (x : ChipValue B). with_parts x.boundary (stage after) (update after)) same
+
+pub shifted_boundary : {B : Type 0} (stage update : B → List Bool) (with_parts : B → List Bool → List Bool → B)
+    → ((b : B) (s u : List Bool) → stage (with_parts b s u) ≡ s) → ((b : B) (s u : List Bool) → update (with_parts b s u) ≡ u)
+    → (v now : ChipValue B) (column : Column) (m : Decoded) (after : B) (tdi : Bool) → v ≡ now → column ≡ Dr → meaning_by v.device m ≡ meaning v.device v.latch → m.selected ≡ Boundary
+    → after ≡ with_parts v.boundary (after_shift (stage v.boundary) tdi) (update v.boundary)
+    → with_registers (record (registers stage update v) { boundary = stage after; update = update after }) (one_chip stage update v)
+    ≡ with_registers (put now.device column (after_shift (selected_bits now.device column (registers stage update now)) tdi) (registers stage update now)) (one_chip stage update now)
+shifted_boundary {B} stage update with_parts stage_of update_of v now column m after tdi same column_is decoded selected is =
+    let bits = after_shift (stage v.boundary) tdi in
+    boundary_in stage update v after bits (update v.boundary) (ap stage is ∙ stage_of v.boundary bits (update v.boundary)) (ap update is ∙ update_of v.boundary bits (update v.boundary))
+    ∙ shifted_dr stage update v now column m Boundary bits tdi same column_is decoded selected refl
+
+-- the same where the bits are those that the register then has
+pub put_back_boundary : {B : Type 0} (stage update : B → List Bool) (with_parts : B → List Bool → List Bool → B) → ((b : B) (s u : List Bool) → update (with_parts b s u) ≡ u)
+    → (v now : ChipValue B) (column : Column) (m : Decoded) (after : B) → v ≡ now → column ≡ Dr → meaning_by v.device m ≡ meaning v.device v.latch → m.selected ≡ Boundary
+    → after ≡ with_parts v.boundary (stage after) (update v.boundary)
+    → with_registers (record (registers stage update v) { boundary = stage after; update = update after }) (one_chip stage update v)
+    ≡ with_registers (put now.device column (selected_bits v.device column (record (registers stage update v) { boundary = stage after; update = update after })) (registers stage update now)) (one_chip stage update now)
+put_back_boundary {B} stage update with_parts update_of v now column m after same column_is decoded selected is =
+    let eu : update after ≡ update v.boundary = ap update is ∙ update_of v.boundary (stage after) (update v.boundary) in
+    boundary_in stage update v after (stage after) (update v.boundary) refl eu
+    ∙ put_back_dr stage update v now column m Boundary (stage after) same column_is decoded selected
+    ∙ ap (λ (x : List Bool). with_registers (put now.device column (selected_bits v.device column (record (registers stage update v) { boundary = stage after; update = x })) (registers stage update now)) (one_chip stage update now)) (sym eu)
+
+pub run_boundary : {B : Type 0} (stage update : B → List Bool) (v now : ChipValue B) (column : Column) (m : Decoded) (after : B) (at word n : ℕ) → v ≡ now → column ≡ Dr
+    → meaning_by v.device m ≡ meaning v.device v.latch → m.selected ≡ Boundary → RunSet (stage v.boundary) (stage after) at word n
+    → RunSet (selected_bits now.device column (registers stage update now)) (selected_bits v.device column (record (registers stage update v) { boundary = stage after; update = update after })) at word n
+run_boundary {B} stage update v now column m after at word n same is decoded selected run =
+    run_between _ _ _ _ at word n (bits_dr stage update v now column m Boundary same is decoded selected)
+    (put_bits_dr v.device (record (registers stage update v) { update = update after }) column m Boundary (stage after) is decoded selected) run
+
+-- the same where a user register is chosen
+pub shifted_user : {B : Type 0} (stage update : B → List Bool) (v now : ChipValue B) (column : Column) (m : Decoded) (k : ℕ) (lent new after : List UserRegister) (tdi : Bool) → v ≡ now → column ≡ Dr
+    → meaning_by v.device m ≡ meaning v.device v.latch → m.selected ≡ User k → lent ≡ v.users → new ≡ with_user_stage k (after_shift (user_stage k lent) tdi) lent → after ≡ new
+    → with_registers (record (registers stage update v) { users = after }) (one_chip stage update v)
+    ≡ with_registers (put now.device column (after_shift (selected_bits now.device column (registers stage update now)) tdi) (registers stage update now)) (one_chip stage update now)
+shifted_user {B} stage update v now column m k lent new after tdi same is decoded selected mine shifted stored =
+    let users : after ≡ with_user_stage k (after_shift (user_stage k v.users) tdi) v.users = stored ∙ shifted ∙ ap (λ (us : List UserRegister). with_user_stage k (after_shift (user_stage k us) tdi) us) mine in
+    ap (λ (us : List UserRegister). with_registers (record (registers stage update v) { users = us }) (one_chip stage update v)) users
+    ∙ shifted_dr stage update v now column m (User k) (after_shift (user_stage k v.users) tdi) tdi same is decoded selected refl
+
+pub put_back_user : {B : Type 0} (stage update : B → List Bool) (v now : ChipValue B) (column : Column) (m : Decoded) (k : ℕ) (lent new after : List UserRegister) → v ≡ now → column ≡ Dr
+    → meaning_by v.device m ≡ meaning v.device v.latch → m.selected ≡ User k → lent ≡ v.users → new ≡ with_user_stage k (user_stage k new) lent → after ≡ new
+    → with_registers (record (registers stage update v) { users = after }) (one_chip stage update v)
+    ≡ with_registers (put now.device column (selected_bits v.device column (record (registers stage update v) { users = after })) (registers stage update now)) (one_chip stage update now)
+put_back_user {B} stage update v now column m k lent new after same is decoded selected mine put_in stored =
+    let bits = user_stage k new in
+    let users : after ≡ with_user_stage k bits v.users = stored ∙ put_in ∙ ap (with_user_stage k bits) mine in
+    subst (λ (us : List UserRegister). with_registers (record (registers stage update v) { users = us }) (one_chip stage update v)
+        ≡ with_registers (put now.device column (selected_bits v.device column (record (registers stage update v) { users = us })) (registers stage update now)) (one_chip stage update now))
+    (sym users) (put_back_dr stage update v now column m (User k) bits same is decoded selected)
+
+pub run_user : {B : Type 0} (stage update : B → List Bool) (v now : ChipValue B) (column : Column) (m : Decoded) (k : ℕ) (lent new after : List UserRegister) (at word n : ℕ) → v ≡ now → column ≡ Dr
+    → meaning_by v.device m ≡ meaning v.device v.latch → m.selected ≡ User k → lent ≡ v.users → RunSet (user_stage k lent) (user_stage k new) at word n → after ≡ new
+    → RunSet (selected_bits now.device column (registers stage update now)) (selected_bits v.device column (record (registers stage update v) { users = after })) at word n
+run_user {B} stage update v now column m k lent new after at word n same is decoded selected mine run stored =
+    let there : user_stage k after ≡ selected_bits v.device column (record (registers stage update v) { users = after }) =
+        bits_dr stage update (record v { users = after }) _ column m (User k) refl is decoded selected in
+    run_between _ _ _ _ at word n (ap (user_stage k) mine ∙ bits_dr stage update v now column m (User k) same is decoded selected) (ap (user_stage k) (sym stored) ∙ there) run
