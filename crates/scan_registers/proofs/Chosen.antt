@@ -1,18 +1,19 @@
 -- The register between TDI and TDO, before and after new bits are put into it.
-use Rattle.std.proofs.Common.{◌≡◌, ℕ, zero, suc, List, [], ◌∷◌, Bool, refl, sym, ap, subst, ◌∙◌}
+use Rattle.std.proofs.Common.{◌≡◌, ℕ, zero, suc, List, [], ◌∷◌, Bool, Option, unwrap_or, refl, sym, ap, subst, ◌∙◌}
 use Rattle.jt_bits.specs.Runs.{RunSet}
 use Rattle.jt_bits.specs.Shifting.{after_shift}
 use Rattle.jt_tap.specs.declared.Column.{Column}
 use Rattle.jt_tap.specs.declared.Column.TheVariants.{Dr, Ir}
 use Rattle.bsdl_device.specs.Device.{Device}
+use Rattle.device_instructions.specs.declared.Mode.{Mode}
 use Rattle.device_instructions.specs.declared.Selected.{Selected}
 use Rattle.device_instructions.specs.declared.Selected.TheVariants.{Bypass, Identification, Boundary, User}
 use Rattle.device_instructions.specs.declared.decoding.Decoded.{Decoded}
-use Rattle.device_instructions.specs.Fitting.{meaning_by}
+use Rattle.device_instructions.specs.Fitting.{meaning_by, fixed_of}
 use Rattle.device_instructions.specs.Instruction.{Meaning, meaning}
 use Rattle.device_registers.specs.declared.users.UserRegister.{UserRegister}
-use Rattle.device_registers.specs.Registers.{Registers, put, selected_bits, stage_of, with_stage, user_stage, with_user_stage}
-use Rattle.scan_registers.specs.Chips.{ChipValue, one_chip, registers, with_registers}
+use Rattle.device_registers.specs.Registers.{Registers, put, selected_bits, stage_of, with_stage, user_stage, user_latch, with_user_stage, capture_of, after_capture}
+use Rattle.scan_registers.specs.Chips.{ChipValue, one_chip, surroundings_of, registers, with_registers}
 use Rattle.scan_registers.specs.Edges.{OneChip}
 
 users_put : (k : ℕ) (bits : List Bool) (us : List UserRegister) → with_user_stage k (user_stage k (with_user_stage k bits us)) us ≡ with_user_stage k bits us
@@ -198,3 +199,41 @@ run_user {B} stage update v now column m k lent new after at word n same is deco
     let there : user_stage k after ≡ selected_bits v.device column (record (registers stage update v) { users = after }) =
         bits_dr stage update (record v { users = after }) _ column m (User k) refl is decoded selected in
     run_between _ _ _ _ at word n (ap (user_stage k) mine ∙ bits_dr stage update v now column m (User k) same is decoded selected) (ap (user_stage k) (sym stored) ∙ there) run
+
+-- the device after a capture of the chosen register
+pub captured_dr : {B : Type 0} (stage update : B → List Bool) (captured : B → Mode → List Bool) (at_reset : B → List Bool) (v now : ChipValue B) (column : Column) (m : Decoded) (s : Selected) (bits : List Bool)
+    → v ≡ now → column ≡ Dr → meaning_by v.device m ≡ meaning v.device v.latch → m.selected ≡ s
+    → bits ≡ capture_of s (meaning_by v.device m).fixed (captured v.boundary (meaning_by v.device m).mode) (registers stage update v)
+    → with_registers (with_stage s bits (registers stage update v)) (one_chip stage update v)
+    ≡ with_registers (after_capture now.device column (surroundings_of captured at_reset now) (registers stage update now)) (one_chip stage update now)
+captured_dr {B} stage update captured at_reset v now column m s bits same is decoded selected e =
+    let r = registers stage update v in
+    let by : Meaning → Selected → OneChip = λ (x : Meaning) (k : Selected). with_registers (with_stage k (capture_of k x.fixed (captured v.boundary x.mode) r) r) (one_chip stage update v) in
+    ap (λ (x : List Bool). with_registers (with_stage s x r) (one_chip stage update v)) e
+    ∙ ap (by (meaning_by v.device m)) (sym selected)
+    ∙ ap (λ (x : Meaning). by x x.selected) decoded
+    ∙ ap (λ (x : Column). with_registers (after_capture v.device x (surroundings_of captured at_reset v) r) (one_chip stage update v)) (sym is)
+    ∙ ap (λ (x : ChipValue B). with_registers (after_capture x.device column (surroundings_of captured at_reset x) (registers stage update x)) (one_chip stage update x)) same
+
+pub captured_boundary : {B : Type 0} (stage update : B → List Bool) (captured : B → Mode → List Bool) (at_reset : B → List Bool) (with_parts : B → List Bool → List Bool → B)
+    → ((b : B) (s u : List Bool) → stage (with_parts b s u) ≡ s) → ((b : B) (s u : List Bool) → update (with_parts b s u) ≡ u)
+    → (v now : ChipValue B) (column : Column) (m : Decoded) (after : B) → v ≡ now → column ≡ Dr → meaning_by v.device m ≡ meaning v.device v.latch → m.selected ≡ Boundary
+    → after ≡ with_parts v.boundary (captured v.boundary m.mode) (update v.boundary)
+    → with_registers (record (registers stage update v) { boundary = stage after; update = update after }) (one_chip stage update v)
+    ≡ with_registers (after_capture now.device column (surroundings_of captured at_reset now) (registers stage update now)) (one_chip stage update now)
+captured_boundary {B} stage update captured at_reset with_parts stage_of update_of v now column m after same column_is decoded selected is =
+    let bits = captured v.boundary m.mode in
+    boundary_in stage update v after bits (update v.boundary) (ap stage is ∙ stage_of v.boundary bits (update v.boundary)) (ap update is ∙ update_of v.boundary bits (update v.boundary))
+    ∙ captured_dr stage update captured at_reset v now column m Boundary bits same column_is decoded selected refl
+
+pub captured_user : {B : Type 0} (stage update : B → List Bool) (captured : B → Mode → List Bool) (at_reset : B → List Bool) (v now : ChipValue B) (column : Column) (m : Decoded) (k : ℕ)
+    (lent new after : List UserRegister) (fixed : Option (List Bool)) → v ≡ now → column ≡ Dr → meaning_by v.device m ≡ meaning v.device v.latch → m.selected ≡ User k → lent ≡ v.users
+    → fixed ≡ fixed_of v.device m.fixed → new ≡ with_user_stage k (unwrap_or fixed (user_latch k lent)) lent → after ≡ new
+    → with_registers (record (registers stage update v) { users = after }) (one_chip stage update v)
+    ≡ with_registers (after_capture now.device column (surroundings_of captured at_reset now) (registers stage update now)) (one_chip stage update now)
+captured_user {B} stage update captured at_reset v now column m k lent new after fixed same is decoded selected mine from taken stored =
+    let users : after ≡ with_user_stage k (unwrap_or fixed (user_latch k v.users)) v.users =
+        stored ∙ taken ∙ ap (λ (us : List UserRegister). with_user_stage k (unwrap_or fixed (user_latch k us)) us) mine in
+    ap (λ (us : List UserRegister). with_registers (record (registers stage update v) { users = us }) (one_chip stage update v)) users
+    ∙ captured_dr stage update captured at_reset v now column m (User k) (unwrap_or fixed (user_latch k v.users)) same is decoded selected
+    (ap (λ (o : Option (List Bool)). unwrap_or o (user_latch k v.users)) from)
