@@ -79,6 +79,12 @@ some_code d m bits fits is long =
 pub moved_long : (tdi : Bool) (bits moved : List Bool) → 0 < length bits → moved ≡ after_shift bits tdi → length moved ≡ length bits
 moved_long tdi bits moved some is = ap length is ∙ moved-length tdi bits some
 
+pub moved_some : {B : Type 0} (stage : B → List Bool) (with_parts : B → List Bool → List Bool → B) → ((b : B) (s u : List Bool) → stage (with_parts b s u) ≡ s)
+    → (old new : B) (tdi : Bool) (u : List Bool) → 0 < length (stage old) → new ≡ with_parts old (after_shift (stage old) tdi) u → 0 < length (stage new)
+moved_some stage with_parts stage_of old new tdi u some is =
+    let long : length (stage new) ≡ length (stage old) = moved_long tdi (stage old) (stage new) some (ap stage is ∙ stage_of old (after_shift (stage old) tdi) u) in
+    omega (arith, long, some)
+
 -- ---- the one bit of bypass, as a word
 
 zero_bits : (j : ℕ) → has_bit 0 j ≡ false

@@ -12,7 +12,7 @@ use Rattle.device_instructions.specs.declared.decoding.Decoded.{Decoded}
 use Rattle.device_instructions.specs.Fitting.{meaning_by, fixed_of}
 use Rattle.device_instructions.specs.Instruction.{Meaning, meaning}
 use Rattle.device_registers.specs.declared.users.UserRegister.{UserRegister}
-use Rattle.device_registers.specs.Registers.{Registers, put, selected_bits, stage_of, with_stage, user_stage, user_latch, with_user_stage, capture_of, after_capture}
+use Rattle.device_registers.specs.Registers.{Registers, put, selected_bits, stage_of, with_stage, user_stage, user_latch, with_user_stage, capture_of, after_capture, user_updated, update_selected, after_update}
 use Rattle.scan_registers.specs.Chips.{ChipValue, one_chip, surroundings_of, registers, with_registers}
 use Rattle.scan_registers.specs.Edges.{OneChip}
 
@@ -237,3 +237,32 @@ captured_user {B} stage update captured at_reset v now column m k lent new after
     ap (λ (us : List UserRegister). with_registers (record (registers stage update v) { users = us }) (one_chip stage update v)) users
     ∙ captured_dr stage update captured at_reset v now column m (User k) (unwrap_or fixed (user_latch k v.users)) same is decoded selected
     (ap (λ (o : Option (List Bool)). unwrap_or o (user_latch k v.users)) from)
+
+-- the device after an update of the chosen register
+updated_dr : {B : Type 0} (stage update : B → List Bool) (v now : ChipValue B) (column : Column) (m : Decoded) (s : Selected) → v ≡ now → column ≡ Dr
+    → meaning_by v.device m ≡ meaning v.device v.latch → m.selected ≡ s
+    → with_registers (update_selected s (registers stage update v)) (one_chip stage update v)
+    ≡ with_registers (after_update now.device column (registers stage update now)) (one_chip stage update now)
+updated_dr {B} stage update v now column m s same is decoded selected =
+    ap (λ (x : Selected). with_registers (update_selected x (registers stage update v)) (one_chip stage update v)) (selects v.device m v.latch s decoded selected)
+    ∙ ap (λ (x : Column). with_registers (after_update v.device x (registers stage update v)) (one_chip stage update v)) (sym is)
+    ∙ ap (λ (x : ChipValue B). with_registers (after_update x.device column (registers stage update x)) (one_chip stage update x)) same
+
+pub updated_boundary : {B : Type 0} (stage update : B → List Bool) (with_parts : B → List Bool → List Bool → B)
+    → ((b : B) (s u : List Bool) → stage (with_parts b s u) ≡ s) → ((b : B) (s u : List Bool) → update (with_parts b s u) ≡ u)
+    → (v now : ChipValue B) (column : Column) (m : Decoded) (after : B) → v ≡ now → column ≡ Dr → meaning_by v.device m ≡ meaning v.device v.latch → m.selected ≡ Boundary
+    → after ≡ with_parts v.boundary (stage v.boundary) (stage v.boundary)
+    → with_registers (record (registers stage update v) { boundary = stage after; update = update after }) (one_chip stage update v)
+    ≡ with_registers (after_update now.device column (registers stage update now)) (one_chip stage update now)
+updated_boundary {B} stage update with_parts stage_of update_of v now column m after same column_is decoded selected is =
+    let bits = stage v.boundary in
+    boundary_in stage update v after bits bits (ap stage is ∙ stage_of v.boundary bits bits) (ap update is ∙ update_of v.boundary bits bits)
+    ∙ updated_dr stage update v now column m Boundary same column_is decoded selected
+
+pub updated_user : {B : Type 0} (stage update : B → List Bool) (v now : ChipValue B) (column : Column) (m : Decoded) (k : ℕ) (lent new after : List UserRegister) → v ≡ now → column ≡ Dr
+    → meaning_by v.device m ≡ meaning v.device v.latch → m.selected ≡ User k → lent ≡ v.users → new ≡ user_updated k lent → after ≡ new
+    → with_registers (record (registers stage update v) { users = after }) (one_chip stage update v)
+    ≡ with_registers (after_update now.device column (registers stage update now)) (one_chip stage update now)
+updated_user {B} stage update v now column m k lent new after same is decoded selected mine updated stored =
+    ap (λ (us : List UserRegister). with_registers (record (registers stage update v) { users = us }) (one_chip stage update v)) (stored ∙ updated ∙ ap (user_updated k) mine)
+    ∙ updated_dr stage update v now column m (User k) same is decoded selected

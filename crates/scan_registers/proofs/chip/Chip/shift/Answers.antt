@@ -1,8 +1,8 @@
-use Rattle.std.proofs.Common.{◌≡◌, ℕ, ◌<◌, [], ◌∷◌, length, refl, sym, ap, subst, ◌∙◌}
+use Rattle.std.proofs.Common.{◌≡◌, [], ◌∷◌, length, refl, sym, ap, ◌∙◌}
 use Rattle.std.proofs.lemmas.List.{with_items_is}
 use Rattle.device_instructions.specs.declared.Selected.TheVariants.{Bypass, Identification}
 use Rattle.scan_registers.proofs.Chosen.{shifted_ir, shifted_dr, shifted_boundary, shifted_user, boundary_kept, boundary_parts}
-use Rattle.scan_registers.proofs.ChipLaws.{some_stage, some_code, moved_long, selected_there, shifted_users}
+use Rattle.scan_registers.proofs.ChipLaws.{some_stage, some_code, moved_long, moved_some, selected_there, shifted_users}
 use Rattle.scan_registers.proofs.chip.Chip.shift.Goals as goal
 
 pub shift-requires : goal.shift-requires
@@ -104,9 +104,6 @@ invariant_of-self-in-Identification g c =
 
 pub invariant_of-self-in-Boundary : goal.invariant_of-self-in-Boundary
 invariant_of-self-in-Boundary g c =
-    let old = c.self.inside.boundary in
-    let stage = ap g.B.Register.stage c.shift_in-in-Boundary.ensures.stage ∙ g.met.B.Register.stage_of old _ (g.B.Register.update_part old) in
-    let long : length (g.B.Register.stage c.shift_in-in-Boundary.new.self) ≡ length (g.B.Register.stage old) = moved_long c.args.tdi (g.B.Register.stage old) _ c.self.invariant.boundary stage in
     record {
       formed = c.self.invariant.formed;
       reset_latch = c.self.invariant.reset_latch;
@@ -117,6 +114,6 @@ invariant_of-self-in-Boundary g c =
       latch = c.self.invariant.latch;
       stage = c.self.invariant.stage;
       identification = c.self.invariant.identification;
-      boundary = subst (λ (n : ℕ). 0 < n) (sym long) c.self.invariant.boundary;
+      boundary = moved_some g.B.Register.stage g.B.Register.with_parts g.met.B.Register.stage_of c.self.inside.boundary c.shift_in-in-Boundary.new.self c.args.tdi _ c.self.invariant.boundary c.shift_in-in-Boundary.ensures.stage;
       users = c.self.invariant.users;
     }
