@@ -85,6 +85,10 @@ moved_some stage with_parts stage_of old new tdi u some is =
     let long : length (stage new) ≡ length (stage old) = moved_long tdi (stage old) (stage new) some (ap stage is ∙ stage_of old (after_shift (stage old) tdi) u) in
     omega (arith, long, some)
 
+pub parts_some : {B : Type 0} (stage : B → List Bool) (with_parts : B → List Bool → List Bool → B) → ((b : B) (s u : List Bool) → stage (with_parts b s u) ≡ s)
+    → (old new : B) (s u : List Bool) → 0 < length s → new ≡ with_parts old s u → 0 < length (stage new)
+parts_some stage with_parts stage_of old new s u some is = subst (λ (bits : List Bool). 0 < length bits) (sym (ap stage is ∙ stage_of old s u)) some
+
 -- ---- the one bit of bypass, as a word
 
 zero_bits : (j : ℕ) → has_bit 0 j ≡ false

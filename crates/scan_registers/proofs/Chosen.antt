@@ -189,7 +189,7 @@ put_back_user {B} stage update v now column m k lent new after same is decoded s
     let bits = user_stage k new in
     let users : after ≡ with_user_stage k bits v.users = stored ∙ put_in ∙ ap (with_user_stage k bits) mine in
     subst (λ (us : List UserRegister). with_registers (record (registers stage update v) { users = us }) (one_chip stage update v)
-        ≡ with_registers (put now.device column (selected_bits v.device column (record (registers stage update v) { users = us })) (registers stage update now)) (one_chip stage update now))
+    ≡ with_registers (put now.device column (selected_bits v.device column (record (registers stage update v) { users = us })) (registers stage update now)) (one_chip stage update now))
     (sym users) (put_back_dr stage update v now column m (User k) bits same is decoded selected)
 
 pub run_user : {B : Type 0} (stage update : B → List Bool) (v now : ChipValue B) (column : Column) (m : Decoded) (k : ℕ) (lent new after : List UserRegister) (at word n : ℕ) → v ≡ now → column ≡ Dr
@@ -197,7 +197,7 @@ pub run_user : {B : Type 0} (stage update : B → List Bool) (v now : ChipValue 
     → RunSet (selected_bits now.device column (registers stage update now)) (selected_bits v.device column (record (registers stage update v) { users = after })) at word n
 run_user {B} stage update v now column m k lent new after at word n same is decoded selected mine run stored =
     let there : user_stage k after ≡ selected_bits v.device column (record (registers stage update v) { users = after }) =
-        bits_dr stage update (record v { users = after }) _ column m (User k) refl is decoded selected in
+    bits_dr stage update (record v { users = after }) _ column m (User k) refl is decoded selected in
     run_between _ _ _ _ at word n (ap (user_stage k) mine ∙ bits_dr stage update v now column m (User k) same is decoded selected) (ap (user_stage k) (sym stored) ∙ there) run
 
 -- the device after a capture of the chosen register
@@ -233,7 +233,7 @@ pub captured_user : {B : Type 0} (stage update : B → List Bool) (captured : B 
     ≡ with_registers (after_capture now.device column (surroundings_of captured at_reset now) (registers stage update now)) (one_chip stage update now)
 captured_user {B} stage update captured at_reset v now column m k lent new after fixed same is decoded selected mine from taken stored =
     let users : after ≡ with_user_stage k (unwrap_or fixed (user_latch k v.users)) v.users =
-        stored ∙ taken ∙ ap (λ (us : List UserRegister). with_user_stage k (unwrap_or fixed (user_latch k us)) us) mine in
+    stored ∙ taken ∙ ap (λ (us : List UserRegister). with_user_stage k (unwrap_or fixed (user_latch k us)) us) mine in
     ap (λ (us : List UserRegister). with_registers (record (registers stage update v) { users = us }) (one_chip stage update v)) users
     ∙ captured_dr stage update captured at_reset v now column m (User k) (unwrap_or fixed (user_latch k v.users)) same is decoded selected
     (ap (λ (o : Option (List Bool)). unwrap_or o (user_latch k v.users)) from)

@@ -1,7 +1,9 @@
-use Rattle.std.proofs.Common.{◌≡◌, length, sym, ap, ◌∙◌}
+use Rattle.std.proofs.Common.{◌≡◌, length, sym, ap, subst, ◌∙◌}
 use Rattle.std.proofs.lemmas.List.{with_items_is}
+use Rattle.bsdl_device.specs.Device.{Device}
+use Rattle.device_instructions.specs.Fitting.{Fits}
 use Rattle.scan_registers.proofs.Chosen.{updated_boundary, updated_user, boundary_kept, boundary_parts}
-use Rattle.scan_registers.proofs.ChipLaws.{selected_there, updated_users}
+use Rattle.scan_registers.proofs.ChipLaws.{started_at, parts_some, selected_there, updated_users}
 use Rattle.scan_registers.proofs.chip.Chip.update.Goals as goal
 
 pub update-requires-in-User : goal.update-requires-in-User
@@ -42,3 +44,33 @@ returns-in-Ir-clause-boundary g c = boundary_kept g.B.Register.stage g.B.Registe
 
 pub returns-in-User-clause-boundary : goal.returns-in-User-clause-boundary
 returns-in-User-clause-boundary g c = boundary_kept g.B.Register.stage g.B.Register.update_part g.B.Register.with_parts g.met.B.Register.parts_same _ c.args.self.now c.self.view_is
+
+pub invariant_of-self : goal.invariant_of-self
+invariant_of-self g c = record {
+  formed = c.self.invariant.formed;
+  reset_latch = c.self.invariant.reset_latch;
+  reset_decoded = c.self.invariant.reset_decoded;
+  reset_fits = c.self.invariant.reset_fits;
+  decoded = started_at c.self.inside.device c.get.result.now c.decode-self-inside.result c.copy_from.new.self c.get.ensures c.decode-self-inside.ensures.meaning;
+  fits = subst (λ (d : Device). Fits d c.decode-self-inside.result) c.get.ensures c.decode-self-inside.ensures.fits;
+  latch = ap length c.copy_from.ensures ∙ c.self.invariant.stage;
+  stage = c.self.invariant.stage;
+  identification = c.self.invariant.identification;
+  boundary = c.self.invariant.boundary;
+  users = c.self.invariant.users;
+}
+
+pub invariant_of-self-in-Boundary : goal.invariant_of-self-in-Boundary
+invariant_of-self-in-Boundary g c = record {
+  formed = c.self.invariant.formed;
+  reset_latch = c.self.invariant.reset_latch;
+  reset_decoded = c.self.invariant.reset_decoded;
+  reset_fits = c.self.invariant.reset_fits;
+  decoded = c.self.invariant.decoded;
+  fits = c.self.invariant.fits;
+  latch = c.self.invariant.latch;
+  stage = c.self.invariant.stage;
+  identification = c.self.invariant.identification;
+  boundary = parts_some g.B.Register.stage g.B.Register.with_parts g.met.B.Register.stage_of c.self.inside.boundary c.update.new.self _ _ c.self.invariant.boundary c.update.ensures;
+  users = c.self.invariant.users;
+}
