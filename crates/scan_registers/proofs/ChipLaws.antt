@@ -1,5 +1,5 @@
 -- What a decoded instruction gives a chip.
-use Rattle.std.proofs.Common.{◌≡◌, ◌≢◌, ◌+◌, ◌-◌, ◌%◌, ◌==◌, ◌<◌, ◌≤◌, ℕ, zero, suc, true, List, [], ◌∷◌, Bool, false, length, map, Option, Some, None, unwrap_or, refl, sym, ap, subst, ◌∙◌, arith}
+use Rattle.std.proofs.Common.{◌≡◌, ◌≢◌, ◌+◌, ◌-◌, ◌%◌, ◌==◌, ◌<◌, ◌≤◌, ℕ, zero, suc, true, List, [], ◌∷◌, Bool, false, length, map, Option, Some, None, unwrap_or, refl, sym, ap, subst, ◌∙◌, arith, if◌then◌else◌}
 use Rattle.std.proofs.lemmas.List.{length-replicate}
 use Rattle.std.specs.Int.{bit_at}
 use Rattle.std.proofs.lemmas.Nat.Bits.{bit_at-zero, bit_at_lowest, bit_at-suc}
@@ -8,11 +8,11 @@ use Rattle.jt_bits.specs.Runs.{RunSet}
 use Rattle.jt_bits.specs.Words.{bit_of}
 use Rattle.bsdl_device.specs.Device.{Device}
 use Rattle.device_instructions.specs.declared.Selected.{Selected}
-use Rattle.device_instructions.specs.declared.Selected.TheVariants.{User}
+use Rattle.device_instructions.specs.declared.Selected.TheVariants.{Identification, User}
 use Rattle.device_instructions.specs.declared.decoding.Decoded.{Decoded}
 use Rattle.device_registers.specs.declared.users.UserRegister.{UserRegister}
 use Rattle.jt_bits.specs.Shifting.{after_shift}
-use Rattle.device_instructions.specs.Fitting.{Fits, FitsAt, fixed_of, meaning_by}
+use Rattle.device_instructions.specs.Fitting.{IsFormed, Fits, FitsAt, fixed_of, has_code, meaning_by}
 use Rattle.device_instructions.specs.Instruction.{meaning, reset_latch}
 use Rattle.device_registers.specs.Registers.{new_user, user_stage, user_latch, with_user_stage, user_updated}
 use Rattle.device_registers.specs.Users.{Fit, UsersFit}
@@ -65,6 +65,29 @@ put_users d m k us lent new after at word n fits is users same put run stored =
     let long : length stage ≡ f.0 = run.long ∙ ap (λ (xs : List UserRegister). length (user_stage k xs)) same ∙ stage_length d.users us k f.0 users f.1 in
     let is_new : after ≡ with_user_stage k stage us = stored ∙ put ∙ ap (with_user_stage k stage) same in
     subst (λ (xs : List UserRegister). UsersFit d.users xs) (sym is_new) (with_stage_fits d.users us k f.0 stage users f.1 long)
+
+-- a register that has a bit keeps its length in a shift
+pub some_stage : (d : Device) (bits : List Bool) → IsFormed d → length bits ≡ d.instruction_length → 0 < length bits
+some_stage d bits formed long = omega (arith, formed.instruction, long)
+
+pub some_code : (d : Device) (m : Decoded) (bits : List Bool) → Fits d m → m.selected ≡ Identification → length bits ≡ (if has_code d then 32 else 0) → 0 < length bits
+some_code d m bits fits is long =
+    let f = subst (λ (s : Selected). FitsAt d s (fixed_of d m.fixed)) is fits.it in
+    let all : length bits ≡ 32 = long ∙ ap (λ (b : Bool). if b then 32 else 0) f.3 in
+    omega (arith, all)
+
+pub moved_long : (tdi : Bool) (bits moved : List Bool) → 0 < length bits → moved ≡ after_shift bits tdi → length moved ≡ length bits
+moved_long tdi bits moved some is = ap length is ∙ moved-length tdi bits some
+
+pub moved_some : {B : Type 0} (stage : B → List Bool) (with_parts : B → List Bool → List Bool → B) → ((b : B) (s u : List Bool) → stage (with_parts b s u) ≡ s)
+    → (old new : B) (tdi : Bool) (u : List Bool) → 0 < length (stage old) → new ≡ with_parts old (after_shift (stage old) tdi) u → 0 < length (stage new)
+moved_some stage with_parts stage_of old new tdi u some is =
+    let long : length (stage new) ≡ length (stage old) = moved_long tdi (stage old) (stage new) some (ap stage is ∙ stage_of old (after_shift (stage old) tdi) u) in
+    omega (arith, long, some)
+
+pub parts_some : {B : Type 0} (stage : B → List Bool) (with_parts : B → List Bool → List Bool → B) → ((b : B) (s u : List Bool) → stage (with_parts b s u) ≡ s)
+    → (old new : B) (s u : List Bool) → 0 < length s → new ≡ with_parts old s u → 0 < length (stage new)
+parts_some stage with_parts stage_of old new s u some is = subst (λ (bits : List Bool). 0 < length bits) (sym (ap stage is ∙ stage_of old s u)) some
 
 -- ---- the one bit of bypass, as a word
 
