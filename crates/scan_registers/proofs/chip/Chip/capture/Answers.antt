@@ -3,7 +3,7 @@ use Rattle.std.proofs.lemmas.List.{with_items_is}
 use Rattle.bsdl_device.specs.Device.{Device}
 use Rattle.device_instructions.specs.Fitting.{fixed_of}
 use Rattle.device_instructions.specs.declared.Selected.TheVariants.{Bypass}
-use Rattle.scan_registers.proofs.Chosen.{captured_dr, captured_boundary, captured_user, boundary_kept, boundary_parts}
+use Rattle.scan_registers.proofs.ChosenRegister.{captured_dr, captured_boundary, captured_user, boundary_kept, boundary_parts}
 use Rattle.scan_registers.proofs.ChipLaws.{selected_there, fixed_long, captured_users}
 use Rattle.scan_registers.proofs.chip.Chip.capture.Goals as goal
 

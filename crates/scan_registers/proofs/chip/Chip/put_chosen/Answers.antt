@@ -1,7 +1,7 @@
 use Rattle.std.proofs.Common.{◌≡◌, [], ◌∷◌, length, sym, ap, ◌∙◌}
 use Rattle.std.proofs.lemmas.List.{with_items_is}
 use Rattle.device_instructions.specs.declared.Selected.TheVariants.{Bypass, Identification}
-use Rattle.scan_registers.proofs.Chosen.{put_back_ir, put_back_dr, put_back_boundary, put_back_user, run_ir, run_dr, run_boundary, run_user, boundary_kept, boundary_parts}
+use Rattle.scan_registers.proofs.ChosenRegister.{put_back_ir, put_back_dr, put_back_boundary, put_back_user, run_ir, run_dr, run_boundary, run_user, boundary_kept, boundary_parts}
 use Rattle.scan_registers.proofs.ChipLaws.{selected_there, put_users}
 use Rattle.scan_registers.proofs.chip.Chip.put_chosen.Goals as goal
 

@@ -1,7 +1,7 @@
 use Rattle.std.proofs.Common.{◌≡◌, [], ◌∷◌, length, refl, sym, ap, ◌∙◌}
 use Rattle.std.proofs.lemmas.List.{with_items_is}
 use Rattle.device_instructions.specs.declared.Selected.TheVariants.{Bypass, Identification}
-use Rattle.scan_registers.proofs.Chosen.{shifted_ir, shifted_dr, shifted_boundary, shifted_user, boundary_kept, boundary_parts}
+use Rattle.scan_registers.proofs.ChosenRegister.{shifted_ir, shifted_dr, shifted_boundary, shifted_user, boundary_kept, boundary_parts}
 use Rattle.scan_registers.proofs.ChipLaws.{some_stage, some_code, moved_long, moved_some, selected_there, shifted_users}
 use Rattle.scan_registers.proofs.chip.Chip.shift.Goals as goal
 

@@ -2,7 +2,7 @@ use Rattle.std.proofs.Common.{◌≡◌, length, sym, ap, subst, ◌∙◌}
 use Rattle.std.proofs.lemmas.List.{with_items_is}
 use Rattle.bsdl_device.specs.Device.{Device}
 use Rattle.device_instructions.specs.Fitting.{Fits}
-use Rattle.scan_registers.proofs.Chosen.{updated_boundary, updated_user, boundary_kept, boundary_parts}
+use Rattle.scan_registers.proofs.ChosenRegister.{updated_boundary, updated_user, boundary_kept, boundary_parts}
 use Rattle.scan_registers.proofs.ChipLaws.{started_at, parts_some, selected_there, updated_users}
 use Rattle.scan_registers.proofs.chip.Chip.update.Goals as goal
 
