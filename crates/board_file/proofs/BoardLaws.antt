@@ -11,9 +11,11 @@ use Rattle.board_names.specs.declared.fault.BoardFault.TheVariants as fault
 use Rattle.board_plan.specs.declared.plan.Plan.{Plan}
 use Rattle.board_library.specs.Files.{File, described, cells_at, device_at, missing_in, refused_in}
 use Rattle.board_names.specs.Files.{file_names}
-use Rattle.board_file.specs.Wiring.{Fault, BadField, UnknownFile, Bsdl, makes, wiring_of, wire_fault, net_of, member_at}
+use Rattle.board_file.specs.Wiring.{Fault, BadField, UnknownFile, Bsdl, makes, wiring_of, wire_fault, member_at}
+use Rattle.board_parts.specs.Parts.{net_of}
 use Rattle.board_plan.specs.Planned.{Wiring}
-use Rattle.board_file.specs.View.{JudgesKeys, IsUnknownFile, TellsFault, TellsBoard, PlansBoard, member_in}
+use Rattle.board_file.specs.View.{JudgesKeys, IsUnknownFile, TellsFault, TellsBoard, PlansBoard}
+use Rattle.board_parts.specs.Parts.{member_in}
 use Rattle.board_library.specs.View.{cells_in, stands_at}
 use Rattle.board_file.proofs.DescribedLaws.{Named, named_from, same_cells, same_devices, same_members}
 

@@ -13,7 +13,7 @@ use Rattle.board_library.specs.Files.{File, described, device_at, cells_at}
 use Rattle.board_names.specs.Files.{file_at}
 use Rattle.board_file.specs.Wiring.{member_at}
 use Rattle.board_library.specs.View.{stands_at, cells_in}
-use Rattle.board_file.specs.View.{member_in}
+use Rattle.board_parts.specs.Parts.{member_in}
 use Rattle.board_library.proofs.FileLaws.{found_at}
 
 -- ---- each name is among those that are distinct

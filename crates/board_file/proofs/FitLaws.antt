@@ -18,7 +18,8 @@ use Rattle.pin_nets.specs.declared.Pin.{Pin}
 use Rattle.board_library.specs.Files.{File, text_of, described, device_at, cells_at, devices_of, missing_in, refused, refused_in}
 use Rattle.board_names.specs.Files.{file_at, file_names}
 use Rattle.board_pins.specs.Pins.{no_tap, bit_of, pin_bit, bit_at, pin_at, same_pin, twice, pins_at, twice_in_nets}
-use Rattle.board_file.specs.Wiring.{Fault, TooLarge, member_of, member_at, net_of, wiring_of, large, fault_of, makes}
+use Rattle.board_file.specs.Wiring.{Fault, TooLarge, member_at, wiring_of, large, fault_of, makes}
+use Rattle.board_parts.specs.Parts.{member_of, net_of}
 use Rattle.board_plan.specs.Words.{core_of}
 use Rattle.board_plan.specs.Planned.{Member, Wiring}
 use Rattle.board_names.specs.declared.fault.BoardFault.{BoardFault}

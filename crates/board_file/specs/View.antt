@@ -1,6 +1,6 @@
 -- What the code's values stand for.
 use Rattle.std.specs.Prelude.{◌≡◌, ℕ, List, map, string_bytes, Option}
-use Rattle.std.specs.Prelude.{Some, None, option_map, Result, Ok, Err}
+use Rattle.std.specs.Prelude.{Some, None, Result, Ok, Err}
 use Rattle.bsdl_device.specs.Device as described
 use Rattle.board_names.specs.declared.fault.BoardFault.{BoardFault}
 use Rattle.board_names.specs.declared.fault.BoardFault.TheVariants as fault
@@ -11,14 +11,11 @@ use Rattle.board_library.specs.View.{stands_at}
 use Rattle.toml.specs.Data.{Members}
 use Rattle.std.specs.List.{filter_map}
 use Rattle.board_tables.specs.Fields.{name_at}
-use Rattle.board_file.specs.Wiring.{member_of, net_of, wire_fault, Fault, BadField, UnknownFile, Bsdl}
-use Rattle.board_plan.specs.Planned.{Member, Wiring}
+use Rattle.board_file.specs.Wiring.{wire_fault, Fault, BadField, UnknownFile, Bsdl}
+use Rattle.board_parts.specs.Parts.{member_in, net_of}
+use Rattle.board_plan.specs.Planned.{Wiring}
 use Rattle.board_plan.specs.View.{wiring}
 use Rattle.board_file.specs.Wiring.{UnknownPin, PinTwice, TooLarge}
-
--- what a device of the board is, given all names of files and what is described in each
-abbrev pub member_in : List (List ℕ) → List (Option described.Device) → Members → Option Member
-member_in names ds t = option_map (member_of t) (stands_at names ds t)
 
 -- ---- refusals and boards
 

@@ -4,30 +4,18 @@ use Rattle.std.specs.Option.{option_or}
 use Rattle.std.specs.Prelude.{codes, option_map, Option, Some, None, Result, Ok, Err, if◌then◌else◌}
 use Rattle.toml.specs.Data.{Members}
 use Rattle.bsdl_device.specs.Device.{Device}
-use Rattle.board_tables.specs.Fields.{text_at, name_at, tables_at}
+use Rattle.board_tables.specs.Fields.{name_at, tables_at}
 use Rattle.board_tables.specs.Faults.{unfit}
-use Rattle.pin_nets.specs.Wired.{Net}
 use Rattle.board_library.specs.Files.{File, device_at, cells_at, devices_of, missing_in, refused_in}
 use Rattle.board_names.specs.Files.{file_names}
 use Rattle.board_plan.specs.Planned.{Member, Wiring}
-use Rattle.board_plan.specs.Words.{core_of, is_update, pull_of}
-use Rattle.board_pins.specs.Pins.{pins_at, unknown_in_nets, twice_in_nets}
+use Rattle.board_parts.specs.Parts.{member_of, net_of}
+use Rattle.board_pins.specs.Pins.{unknown_in_nets, twice_in_nets}
 
--- ---- what a table says of it
-
-abbrev pub member_of : Members → Device → Member
-member_of t d = record {
-  name = name_at t;
-  device = d;
-  core = core_of (length d.cells) (text_at (codes "core") t);
-  extest_update = is_update (text_at (codes "extest") t);
-}
+-- ---- the board that the tables say
 
 abbrev pub member_at : (List ℕ → Option Device) → List File → Members → Option Member
 member_at says files t = option_map (member_of t) (device_at says files t)
-
-abbrev pub net_of : List (List ℕ) → List Device → Members → Net
-net_of names ds t = record { name = name_at t; pull = pull_of (text_at (codes "pull") t); pins = pins_at names ds t }
 
 abbrev pub wiring_of : (List ℕ → Option Device) → List File → Members → Wiring
 wiring_of says files t =

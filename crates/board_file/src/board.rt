@@ -13,10 +13,10 @@ ghost use Rattle.board_library.specs.View.{cells_in, files_of};
 ghost use Rattle.board_plan.specs.View.{wiring};
 ghost use Rattle.board_file.specs.Fits.{AreSaid, FitsTogether};
 
-use crate::plan::{plan_devices, plan_nets};
 use crate::wiring::{Miswired, check_pins};
 use board_library::{Describe, Library, cells_of, devices_of, read_files};
 use board_names::{BoardFault, distinct_files, read_table, told};
+use board_parts::{plan_devices, plan_nets};
 use board_plan::Plan;
 use board_tables::{check_fields, items_at, name_at};
 use board_words::Places;

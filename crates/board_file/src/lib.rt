@@ -2,7 +2,6 @@
 #![tactic(auto)]
 
 mod board;
-mod plan;
 mod wiring;
 
 pub use board::plan_of_text;

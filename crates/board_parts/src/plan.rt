@@ -5,8 +5,8 @@ ghost use Rattle.toml.specs.View.{table_view, items_view};
 ghost use Rattle.board_tables.specs.Fields.{tables_in, texts_in};
 ghost use Rattle.board_words.specs.View.{texts_of};
 ghost use Rattle.board_pins.specs.Pins.{pin_at};
-ghost use Rattle.board_file.specs.Wiring as spec;
-ghost use Rattle.board_file.specs.View.{member_in};
+ghost use Rattle.board_parts.specs.Parts as spec;
+ghost use Rattle.board_parts.specs.Parts.{member_in};
 ghost use Rattle.board_plan.specs.View as planned;
 
 use board_library::described_at;
@@ -19,8 +19,9 @@ use pin_nets::Pin;
 use std::alloc::{AllocError, Global};
 use toml::{Table, Value};
 
-/// The devices that are described, given all names of files and what is described in each.
-pub(crate) fn plan_devices(
+/// The devices of these tables that are described, in their order, given all names of files and what is described in
+/// each. Refused where memory runs out.
+pub fn plan_devices(
     alloc: Global,
     names: &Places<&str>,
     described: &[Option<SharedDevice>],
@@ -56,8 +57,9 @@ fn plan_device(
     })
 }
 
-/// The nets, given the names of all devices, and the devices.
-pub(crate) fn plan_nets(
+/// The nets of these tables, given the names of all devices, and the devices: of each the pins that its texts name.
+/// Refused where memory runs out.
+pub fn plan_nets(
     alloc: Global,
     names: &Places<&str>,
     devices: &[SharedDevice],

@@ -4,7 +4,7 @@ use Rattle.toml.specs.View.{items_view}
 use Rattle.board_tables.specs.Fields.{texts_in}
 use Rattle.board_words.specs.View.{texts_of}
 use Rattle.board_pins.specs.Pins.{pin_at}
-use Rattle.board_file.proofs.plan.pins_of.Given as goal
+use Rattle.board_parts.proofs.plan.pins_of.Given as goal
 
 -- the pins so far, with those to come, are all
 abbrev pub invariant-loop-pin : goal.invariant-loop-pin

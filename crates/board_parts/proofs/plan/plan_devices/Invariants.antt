@@ -3,9 +3,9 @@ use Rattle.std.specs.List.{filter_map}
 use Rattle.toml.specs.View.{items_view}
 use Rattle.board_tables.specs.Fields.{tables_in}
 use Rattle.board_words.specs.View.{texts_of}
-use Rattle.board_file.specs.View.{member_in}
+use Rattle.board_parts.specs.Parts.{member_in}
 use Rattle.board_plan.specs.View.{member}
-use Rattle.board_file.proofs.plan.plan_devices.Given as goal
+use Rattle.board_parts.proofs.plan.plan_devices.Given as goal
 
 -- the devices so far, with those to come, are all
 abbrev pub invariant-loop-device : goal.invariant-loop-device

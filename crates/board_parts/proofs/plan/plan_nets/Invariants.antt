@@ -3,8 +3,8 @@ use Rattle.toml.specs.View.{items_view}
 use Rattle.board_tables.specs.Fields.{tables_in}
 use Rattle.board_words.specs.View.{texts_of}
 use Rattle.board_plan.specs.View.{net}
-use Rattle.board_file.specs.Wiring.{net_of}
-use Rattle.board_file.proofs.plan.plan_nets.Given as goal
+use Rattle.board_parts.specs.Parts.{net_of}
+use Rattle.board_parts.proofs.plan.plan_nets.Given as goal
 
 -- the nets so far, with those to come, are all
 abbrev pub invariant-loop-net : goal.invariant-loop-net
