@@ -1,5 +1,6 @@
 -- What the words of a board file say of a device's core, of EXTEST, and of a net's pull.
-use Rattle.std.specs.Prelude.{ℕ, Bool, false, ◌==◌, List, map, replicate, reverse, codes, bytes_eq, Option, Some, None, if◌then◌else◌}
+use Rattle.std.specs.Prelude.{ℕ, Bool, false, ◌==◌, List, map, replicate, reverse, codes, bytes_eq}
+use Rattle.std.specs.Prelude.{Option, Some, None, if◌then◌else◌}
 use Rattle.pin_nets.specs.declared.Pull.{Pull}
 use Rattle.pin_nets.specs.declared.Pull.TheVariants.{Up, Down, Free}
 

@@ -1,4 +1,5 @@
-//! A board as it is wired, before power-up: its devices, its nets, and which instructions of a device have no meaning here.
+//! A board as it is wired, before power-up: its devices, its nets, and which instructions of a device have no meaning
+//! here.
 #![tactic(auto)]
 
 mod instructions;

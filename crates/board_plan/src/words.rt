@@ -6,8 +6,8 @@ use jt_bits::Bits;
 use pin_nets::Pull;
 use std::alloc::{AllocError, Global};
 
-/// The core's bits, cell 0 first: a text writes them as 0s and 1s with cell 0 rightmost; where none is given, as many 0s
-/// as there are cells. Refused where memory runs out.
+/// The core's bits, cell 0 first: a text writes them as 0s and 1s with cell 0 rightmost; where none is given, as many
+/// 0s as there are cells. Refused where memory runs out.
 pub fn core_bits(alloc: Global, cells: usize, core: Option<&str>) -> Result<Bits, AllocError>
     ensures { IfOk result (λ b. b ≡ spec.core_of cells (option_map (λ s. s.now) core.entry)) }
 {

@@ -15,8 +15,8 @@ mod at_rest;
 
 use bare_boards::bare_plan;
 use bitbang_table::Message;
-use board_plan::Plan;
 use board_meaning::Reply;
+use board_plan::Plan;
 use board_report::Snapshot;
 use bsdl::BsdlFault;
 use chip_chain::Chain;
