@@ -11,7 +11,7 @@ use Rattle.bsdl_ports.specs.Ports.{Port, Range}
 use Rattle.bsdl_ports.specs.View as view
 use Rattle.bsdl_limits.proofs.WidthLaws.{ports_named}
 use Rattle.bsdl_limits.specs.PortBits.{bit_at, bit_number, width}
-use Rattle.bsdl_fit.specs.Places.{find_port}
+use Rattle.bsdl_places.specs.Places.{find_port}
 use Rattle.bsdl_boundary.specs.Bits.{firsts}
 
 pub port_added : (bits after : List ℕ) (m next w : ℕ) (mode : PortMode) (r : Option declared_range.Range) (ws : List Word) (i : ℕ) (d : Word) (more : List Port) → i < length ws

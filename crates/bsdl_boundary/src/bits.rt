@@ -5,14 +5,14 @@ ghost use Rattle.bsdl_text.specs.View.{value};
 ghost use Rattle.bsdl_cells.specs.View.{port_name};
 ghost use Rattle.bsdl_ports.specs.Ports as port_list;
 ghost use Rattle.bsdl_ports.specs.View as ports_view;
-ghost use Rattle.bsdl_fit.specs.View.{AreAt, place_named, place as place_view};
+ghost use Rattle.bsdl_places.specs.View.{AreAt, place_named, place as place_view};
 ghost use Rattle.bsdl_limits.specs.PortBits.{bit_at, bit_number, width};
 ghost use Rattle.bsdl_boundary.specs.Bits.{firsts};
 
 use crate::ports::size_of;
 use bsdl_cells::PortName;
 use bsdl_entity::ports::{Group, Range};
-use bsdl_fit::places::{Place, Places};
+use bsdl_places::places::{Place, Places};
 use bsdl_text::numbers::Digits;
 use std::alloc::{AllocError, Global};
 

@@ -8,7 +8,7 @@ ghost use Rattle.bsdl_text.specs.View.{value};
 ghost use Rattle.bsdl_cells.specs.View as cells_view;
 ghost use Rattle.bsdl_ports.specs.Ports as port_list;
 ghost use Rattle.bsdl_device.specs.Driving.{drives as is_driver};
-ghost use Rattle.bsdl_fit.specs.View.{AreAt};
+ghost use Rattle.bsdl_places.specs.View.{AreAt};
 ghost use Rattle.bsdl_limits.specs.PortBits.{bit_number};
 ghost use Rattle.bsdl_boundary.specs.Bits.{firsts, last_of};
 ghost use Rattle.bsdl_boundary.specs.Boundary as spec;
@@ -17,7 +17,7 @@ use crate::bits::bit_of_port;
 use crate::ports::size_of;
 use bsdl_cells::{CellRow, Controlling, PortName};
 use bsdl_device::{Cell, Control3, Function};
-use bsdl_fit::places::Places;
+use bsdl_places::places::Places;
 use std::alloc::{AllocError, Global};
 use std::collections::BTreeMap;
 

@@ -11,10 +11,10 @@ use bsdl_boundary::ports::{ports_of, size_of};
 use bsdl_described::description::Description;
 use bsdl_device::{Cell, Device, Parts};
 use bsdl_entity::entity::Outline;
-use bsdl_fit::places::places_of;
 use bsdl_limits::users::users_of;
 use bsdl_opcodes::accesses::accesses_of;
 use bsdl_opcodes::patterns::{bits_of, code_of, opcodes_of, private_names_of};
+use bsdl_places::places::places_of;
 use bsdl_text::numbers::Digits;
 use std::alloc::{AllocError, Global};
 

@@ -11,11 +11,11 @@ use Rattle.std.proofs.lemmas.Slice.Eq.{bytes_eq-Decides}
 use Rattle.bsdl_text.proofs.SpellingLaws.{one_spelling}
 use Rattle.bsdl_cells.specs.Rows.{CellRow, PortName}
 use Rattle.bsdl_ports.specs.Ports.{Port}
-use Rattle.bsdl_fit.specs.declared.seat.Seat.{Seat}
+use Rattle.bsdl_places.specs.declared.seat.Seat.{Seat}
 use Rattle.bsdl_fit.specs.Drivers.{drives_below, is_below, same_place}
 use Rattle.bsdl_device.specs.Driving.{drives}
-use Rattle.bsdl_fit.specs.Places.{same_seat, seat_of}
-use Rattle.bsdl_fit.specs.View.{seat}
+use Rattle.bsdl_places.specs.Places.{same_seat, seat_of}
+use Rattle.bsdl_places.specs.View.{seat}
 
 pub same_key : (p q : ℕ) (xs ys : List ℕ) → is_eq (ordering_then (nat_cmp p q) (slice_cmp nat_cmp xs ys)) ≡ (nat_eq p q && bytes_eq xs ys)
 same_key p q xs ys =

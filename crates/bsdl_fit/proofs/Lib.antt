@@ -1,4 +1,3 @@
 pub mod DriverLaws
-pub mod PlaceLaws
 pub mod SeatLaws
 pub mod TableLaws

@@ -9,13 +9,13 @@ use Rattle.bsdl_ports.specs.Ports.{Port, Range}
 use Rattle.bsdl_limits.specs.PortBits.{bit_at, bit_number, width}
 use Rattle.bsdl_described.specs.Describing.{Description}
 use Rattle.bsdl_own_instructions.specs.Own.{is_among}
-use Rattle.bsdl_fit.specs.declared.seat.Seat.{Seat}
+use Rattle.bsdl_places.specs.declared.seat.Seat.{Seat}
 use Rattle.bsdl_fit.specs.Drivers.{drives_below}
 use Rattle.bsdl_device.specs.Driving.{drives}
 use Rattle.bsdl_fit.specs.Fits.{is_driven_below, is_internal, names_tap, port_bit, port_fits, same_bit}
-use Rattle.bsdl_fit.specs.Places.{find_port, same_seat, seat_at, seat_of}
-use Rattle.bsdl_fit.specs.View.{seat}
-use Rattle.bsdl_fit.proofs.PlaceLaws.{some_mapped}
+use Rattle.bsdl_places.specs.Places.{find_port, same_seat, seat_at, seat_of}
+use Rattle.bsdl_places.specs.View.{seat}
+use Rattle.bsdl_places.proofs.PlaceLaws.{some_mapped}
 
 abbrev seat_from : ℕ → List Port → PortName → Option (ℕ × ℕ)
 seat_from n ps name = option_and_then (seat_at name.index) (find_port n ps name.name)

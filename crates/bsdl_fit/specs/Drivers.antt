@@ -7,9 +7,9 @@ use Rattle.bsdl_device.specs.Driving.{drives}
 use Rattle.bsdl_cells.specs.Rows.{CellRow}
 use Rattle.bsdl_ports.specs.Ports.{Port}
 use Rattle.bsdl_fit.specs.declared.drivers.Drivers as declared_drivers
-use Rattle.bsdl_fit.specs.declared.seat.Seat.{Seat}
-use Rattle.bsdl_fit.specs.Places.{same_seat, seat_of}
-use Rattle.bsdl_fit.specs.View.{seat}
+use Rattle.bsdl_places.specs.declared.seat.Seat.{Seat}
+use Rattle.bsdl_places.specs.Places.{same_seat, seat_of}
+use Rattle.bsdl_places.specs.View.{seat}
 
 -- what is kept of a port bit
 abbrev pub driver_at : declared_drivers.Drivers → Seat → Option ℕ

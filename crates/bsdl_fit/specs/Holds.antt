@@ -6,10 +6,10 @@ use Rattle.std.specs.Ordering.{nat_cmp}
 use Rattle.bsdl_described.specs.Describing.{Description}
 use Rattle.bsdl_described.specs.View.{taps}
 use Rattle.bsdl_fit.specs.declared.known.Known as declared_known
-use Rattle.bsdl_fit.specs.declared.seat.Seat.{Seat}
+use Rattle.bsdl_places.specs.declared.seat.Seat.{Seat}
 use Rattle.bsdl_fit.specs.Controls.{controls_as}
 use Rattle.bsdl_fit.specs.Drivers.{driver_at, drives_below, is_below}
-use Rattle.bsdl_fit.specs.View.{AreAt}
+use Rattle.bsdl_places.specs.View.{AreAt}
 
 pub record Holds (k : declared_known.Known) (d : Description) : Type 0 where
   pub places : AreAt k.places d.ports

@@ -2,6 +2,4 @@ pub mod Controls
 pub mod Drivers
 pub mod Fits
 pub mod Holds
-pub mod Places
 pub mod Table
-pub mod View

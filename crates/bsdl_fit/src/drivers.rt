@@ -5,13 +5,13 @@ ghost use Rattle.bsdl_cells.specs.Rows as rows;
 ghost use Rattle.bsdl_cells.specs.View.{cell_row};
 ghost use Rattle.bsdl_ports.specs.Ports as port_list;
 ghost use Rattle.bsdl_text.specs.View.{value};
-ghost use Rattle.bsdl_fit.specs.declared.seat.Seat as declared_seat;
+ghost use Rattle.bsdl_places.specs.declared.seat.Seat as declared_seat;
 ghost use Rattle.bsdl_fit.specs.Drivers.{drives_below, driver_at, is_below, same_place};
-ghost use Rattle.bsdl_fit.specs.View.{AreAt};
+ghost use Rattle.bsdl_places.specs.View.{AreAt};
 
-use crate::places::{Places, seat_of};
-use crate::seat::Seat;
 use bsdl_cells::CellRow;
+use bsdl_places::places::{Places, seat_of};
+use bsdl_places::seat::Seat;
 use std::alloc::{AllocError, Global};
 use std::collections::{BTreeMap, BTreeSet};
 

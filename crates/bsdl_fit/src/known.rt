@@ -5,9 +5,9 @@ ghost use Rattle.bsdl_fit.specs.Holds.{Holds};
 
 use crate::controls::controls_of;
 use crate::drivers::{Drivers, drivers_of};
-use crate::places::{Places, places_of};
 use bsdl_described::description::{Description, Taps};
 use bsdl_entity::entity::Outline;
+use bsdl_places::places::{Places, places_of};
 use std::alloc::{AllocError, Global};
 use std::collections::BTreeSet;
 

@@ -5,8 +5,6 @@
 pub mod controls;
 pub mod drivers;
 pub mod known;
-pub mod places;
 pub mod rows;
-pub mod seat;
 pub mod table;
 pub mod unfit;

@@ -13,11 +13,11 @@ ghost use Rattle.bsdl_fit.specs.Fits as spec;
 ghost use Rattle.bsdl_fit.specs.Holds.{Holds};
 
 use crate::known::Known;
-use crate::places::seat_of;
-use crate::seat::Seat;
 use bsdl_cells::{CellRow, Controlling, PortName};
 use bsdl_described::description::Taps;
 use bsdl_device::Function;
+use bsdl_places::places::seat_of;
+use bsdl_places::seat::Seat;
 use bsdl_text::names::Word;
 use bsdl_text::numbers::Digits;
 use bsdl_text::reading::same_name;

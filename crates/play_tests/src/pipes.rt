@@ -1,11 +1,7 @@
-use direct_play::accept;
-use joined::{Event, Joined, Standing};
-use jt_board::Board;
-use plays::Ending;
+use jt_player::{Board, Ending, Event, Joined, Player, Standing, accept};
 use std::alloc::Global;
 use std::process::Abort;
 use std::test::Fail;
-use stream_player::Player;
 
 /// One bit each of two scans, of which the instruction register gives 1, then 0.
 const SCAN: &[u8] = b"SIR 2 TDI (3) TDO (1);";

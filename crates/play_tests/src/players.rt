@@ -1,10 +1,7 @@
-use direct_play::accept;
-use plays::Ending;
-use scan_vectors::Part;
+use jt_player::{Ending, Part, Player, accept};
 use std::alloc::Global;
 use std::process::Abort;
 use std::test::Fail;
-use stream_player::Player;
 
 /// A fresh player of a text.
 fn player_of(alloc: Global, text: &[u8]) -> Result<Player, Fail> {

@@ -1,17 +1,14 @@
-use direct_play::{accept, play_program};
-use jt_board::Board;
-use plays::Ending;
-use scan_vectors::Part;
+use jt_player::{Board, Code, Ending, Part, Player, SvfFault, accept, play_board};
 use std::alloc::Global;
 use std::process::Abort;
 use std::test::Fail;
-use svf_parse::{Code, SvfFault};
 
 /// How a text's program ends on a fresh board of bare devices.
 fn ending(rt: &impl Abort, alloc: Global, text: &[u8], devices: usize) -> Result<Ending, Fail> {
     let mut board = Board::bare(alloc, devices)?;
     let program = accept(alloc, text).ok().ok_or("refused")?;
-    let ending = play_program(&program, &mut board);
+    let player = Player::new(alloc, program).ok().ok_or("no memory")?;
+    let ending = play_board(player, &mut board);
     assert!(rt; !board.snapshot().tck());
     Ok(ending)
 }

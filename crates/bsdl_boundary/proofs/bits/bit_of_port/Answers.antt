@@ -3,7 +3,7 @@ use Rattle.std.specs.Prelude.{Option, option_map, option_and_then, unwrap_or, sl
 use Rattle.bsdl_cells.specs.View.{port_name}
 use Rattle.bsdl_limits.specs.PortBits.{bit_at}
 use Rattle.bsdl_ports.specs.Ports.{Range}
-use Rattle.bsdl_fit.specs.View.{place_named}
+use Rattle.bsdl_places.specs.View.{place_named}
 use Rattle.bsdl_boundary.specs.Bits.{firsts}
 use Rattle.bsdl_boundary.proofs.NumberLaws.{bit_by}
 use Rattle.bsdl_boundary.proofs.bits.bit_of_port.Goals as goal

@@ -4,7 +4,7 @@ use Rattle.std.specs.BTreeMap.{get}
 use Rattle.std.specs.Ordering.{nat_cmp}
 use Rattle.bsdl_cells.specs.View.{cell_row}
 use Rattle.bsdl_ports.specs.Ports.{Port}
-use Rattle.bsdl_fit.specs.View.{AreAt}
+use Rattle.bsdl_places.specs.View.{AreAt}
 use Rattle.bsdl_boundary.specs.Bits.{firsts, last_of}
 use Rattle.bsdl_boundary.specs.Boundary.{cell}
 use Rattle.bsdl_boundary.proofs.cells.table_of.Given as goal

@@ -3,8 +3,8 @@ use Rattle.std.specs.Prelude.{filter}
 use Rattle.bsdl_cells.specs.View.{cell_row}
 use Rattle.bsdl_ports.specs.View as ports_view
 use Rattle.bsdl_described.specs.View.{description}
-use Rattle.bsdl_fit.specs.Places.{find_port}
-use Rattle.bsdl_fit.specs.View.{AreAt}
+use Rattle.bsdl_places.specs.Places.{find_port}
+use Rattle.bsdl_places.specs.View.{AreAt}
 use Rattle.bsdl_boundary.specs.Bits.{firsts}
 use Rattle.bsdl_boundary.specs.Boundary.{cells_of}
 use Rattle.bsdl_built.proofs.device.boundary_of.Goals as goal

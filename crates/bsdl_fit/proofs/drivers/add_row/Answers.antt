@@ -2,7 +2,7 @@ use Rattle.std.proofs.Common.{◌||◌, ◌&&◌, ℕ, nat_lt, ap, sym, ◌∙�
 use Rattle.std.specs.Prelude.{option_map}
 use Rattle.bsdl_cells.specs.View.{cell_row, port_name}
 use Rattle.bsdl_fit.specs.Drivers.{driver_at, is_below, same_place}
-use Rattle.bsdl_fit.specs.View.{seat}
+use Rattle.bsdl_places.specs.View.{seat}
 use Rattle.bsdl_fit.proofs.DriverLaws.{row_drives}
 use Rattle.bsdl_fit.proofs.drivers.add_row.Goals as goal
 

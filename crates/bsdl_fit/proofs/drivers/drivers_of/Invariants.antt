@@ -2,9 +2,9 @@ use Rattle.std.proofs.Common.{◌≡◌, ◌≤◌, ℕ, List, map, take}
 use Rattle.std.specs.List.{list_any}
 use Rattle.bsdl_cells.specs.View.{cell_row}
 use Rattle.bsdl_ports.specs.Ports.{Port}
-use Rattle.bsdl_fit.specs.declared.seat.Seat.{Seat}
+use Rattle.bsdl_places.specs.declared.seat.Seat.{Seat}
 use Rattle.bsdl_fit.specs.Drivers.{driver_at, drives_below, is_below}
-use Rattle.bsdl_fit.specs.View.{AreAt}
+use Rattle.bsdl_places.specs.View.{AreAt}
 use Rattle.bsdl_fit.proofs.drivers.drivers_of.Given as goal
 
 abbrev pub invariant-loop-row : goal.invariant-loop-row

@@ -5,7 +5,7 @@ use Rattle.bsdl_cells.specs.View.{cell_row, port_name}
 use Rattle.bsdl_own_instructions.specs.Own.{is_among}
 use Rattle.bsdl_fit.specs.Drivers.{driver_at, drives_below, is_below}
 use Rattle.bsdl_device.specs.Driving.{drives}
-use Rattle.bsdl_fit.specs.View.{seat}
+use Rattle.bsdl_places.specs.View.{seat}
 use Rattle.bsdl_fit.proofs.SeatLaws.{fits_at, fits_nowhere}
 use Rattle.bsdl_fit.proofs.rows.port_fits.Goals as goal
 

@@ -4,10 +4,10 @@ use Rattle.std.specs.BTreeMap.{get_by_text}
 use Rattle.std.proofs.lemmas.Map.Text.{btree_map_updates_text}
 use Rattle.bsdl_text.specs.Words.{upper}
 use Rattle.bsdl_ports.specs.View.{range}
-use Rattle.bsdl_fit.specs.declared.places.Place.{Place}
-use Rattle.bsdl_fit.specs.View.{place_named, place}
-use Rattle.bsdl_fit.proofs.PlaceLaws.{mapped, name_put, some_mapped}
-use Rattle.bsdl_fit.proofs.places.add_name.Goals as goal
+use Rattle.bsdl_places.specs.declared.places.Place.{Place}
+use Rattle.bsdl_places.specs.View.{place_named, place}
+use Rattle.bsdl_places.proofs.PlaceLaws.{mapped, name_put, some_mapped}
+use Rattle.bsdl_places.proofs.places.add_name.Goals as goal
 
 pub returns-in_ok-insert-clause-found : goal.returns-in_ok-insert-clause-found
 returns-in_ok-insert-clause-found c = λ q.

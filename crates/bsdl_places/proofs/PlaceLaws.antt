@@ -13,7 +13,7 @@ use Rattle.bsdl_ports.specs.declared.ports.Group.{Group}
 use Rattle.bsdl_ports.specs.Ports.{Port, Range}
 use Rattle.bsdl_ports.specs.View as view
 use Rattle.bsdl_limits.proofs.WidthLaws.{ports_named}
-use Rattle.bsdl_fit.specs.Places.{at_name, find_port}
+use Rattle.bsdl_places.specs.Places.{at_name, find_port}
 
 pub or_none : {A : Type 0} (o : Option A) → option_or o None ≡ o
 or_none None = refl

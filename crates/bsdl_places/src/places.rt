@@ -9,8 +9,8 @@ ghost use Rattle.bsdl_cells.specs.View.{port_name};
 ghost use Rattle.bsdl_ports.specs.View as ports_view;
 ghost use Rattle.bsdl_ports.specs.Ports as port_list;
 ghost use Rattle.bsdl_limits.specs.PortBits.{bit_at};
-ghost use Rattle.bsdl_fit.specs.Places as spec;
-ghost use Rattle.bsdl_fit.specs.View.{AreAt, place_named, place as place_view, seat};
+ghost use Rattle.bsdl_places.specs.Places as spec;
+ghost use Rattle.bsdl_places.specs.View.{AreAt, place_named, place as place_view, seat};
 
 use crate::seat::Seat;
 use bsdl_cells::PortName;

@@ -2,9 +2,9 @@ use Rattle.std.proofs.Common.{◌≡◌, ◌+◌, ℕ, List, drop}
 use Rattle.std.specs.Option.{option_or}
 use Rattle.bsdl_ports.specs.View.{group}
 use Rattle.bsdl_limits.proofs.WidthLaws.{ports_named}
-use Rattle.bsdl_fit.specs.Places.{find_port}
-use Rattle.bsdl_fit.specs.View.{place_named}
-use Rattle.bsdl_fit.proofs.places.add_group.Given as goal
+use Rattle.bsdl_places.specs.Places.{find_port}
+use Rattle.bsdl_places.specs.View.{place_named}
+use Rattle.bsdl_places.proofs.places.add_group.Given as goal
 
 abbrev pub invariant-loop-name : goal.invariant-loop-name
 invariant-loop-name l = record {

@@ -4,10 +4,10 @@ use Rattle.std.specs.BTreeMap.{get_by_text}
 use Rattle.bsdl_text.specs.View.{value}
 use Rattle.bsdl_ports.specs.Ports.{Range, Port}
 use Rattle.bsdl_ports.specs.View.{range}
-use Rattle.bsdl_fit.specs.declared.places.Place as declared_place
-use Rattle.bsdl_fit.specs.declared.places.Places as declared_places
-use Rattle.bsdl_fit.specs.declared.seat.Seat as declared_seat
-use Rattle.bsdl_fit.specs.Places.{find_port}
+use Rattle.bsdl_places.specs.declared.places.Place as declared_place
+use Rattle.bsdl_places.specs.declared.places.Places as declared_places
+use Rattle.bsdl_places.specs.declared.seat.Seat as declared_seat
+use Rattle.bsdl_places.specs.Places.{find_port}
 
 abbrev pub place : declared_place.Place → ℕ × Option Range
 place p = (p.number, option_map range p.range)

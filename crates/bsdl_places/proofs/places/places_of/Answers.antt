@@ -3,10 +3,10 @@ use Rattle.std.specs.Option.{option_or}
 use Rattle.std.proofs.lemmas.List.{at_drop_more}
 use Rattle.bsdl_ports.specs.View as view
 use Rattle.bsdl_ports.specs.declared.ports.Group.{Group}
-use Rattle.bsdl_fit.specs.Places.{find_port}
-use Rattle.bsdl_fit.specs.View.{place_named}
-use Rattle.bsdl_fit.proofs.PlaceLaws.{group_kept}
-use Rattle.bsdl_fit.proofs.places.places_of.Goals as goal
+use Rattle.bsdl_places.specs.Places.{find_port}
+use Rattle.bsdl_places.specs.View.{place_named}
+use Rattle.bsdl_places.proofs.PlaceLaws.{group_kept}
+use Rattle.bsdl_places.proofs.places.places_of.Goals as goal
 
 pub loop-group-preserved : goal.loop-group-preserved
 loop-group-preserved c = λ q.
