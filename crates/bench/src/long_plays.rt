@@ -7,7 +7,7 @@ use plays::Ending;
 use std::alloc::{AllocError, Global};
 use std::io;
 use std::time::Instant;
-use svf_settings::Program;
+use svf_programs::Program;
 
 /// A scan of 65,536 bits, each of which is wanted, and how many bytes its play has.
 const SCAN: &[u8] = b"SDR 65536 TDI (0) TDO (0);";

@@ -9,7 +9,7 @@ use jt_tap::{Column, State};
 use scan_vectors::{Part, Part3, Vector, join, judge};
 use std::alloc::{AllocError, Global};
 use std::io;
-use svf_settings::{Action, Step};
+use svf_programs::{Action, Step};
 
 /// The bits of a header, of the data and of a trailer, of which the vector has as many as a scan may have.
 const HEADER: usize = 5;

@@ -6,7 +6,7 @@ use Rattle.bitbang_table.specs.declared.Message.TheVariants.{Lines}
 use Rattle.bitbang_table.specs.Protocol.{encode}
 use Rattle.bitbang_table.specs.Cycles.{closed_messages}
 use Rattle.svf_words.specs.declared.keywords.TrstWord.TheVariants as word
-use Rattle.svf_settings.specs.Steps.{Step, Trst}
+use Rattle.svf_programs.specs.Steps.{Step, Trst}
 use Rattle.tck_cycles.specs.Cycles.{cycles}
 
 -- What TRST ON, OFF and Z send before any cycle.

@@ -5,14 +5,14 @@ ghost use Rattle.tck_cycles.specs.Sources.{left as cycles_left};
 ghost use Rattle.bitbang_table.specs.Protocol.{encode};
 ghost use Rattle.bitbang_table.specs.declared.Message.TheVariants.{Write};
 ghost use Rattle.bitbang.specs.StepMessages.{line_message};
-ghost use Rattle.svf_settings.specs.Seen as seen;
+ghost use Rattle.svf_programs.specs.Seen as seen;
 
 use crate::begun::Begun;
 use crate::putting::put_cycles;
 use bitbang_table::Message;
 use jt_tap::State;
 use svf_parse::TrstWord;
-use svf_settings::{Action, Step};
+use svf_programs::{Action, Step};
 use tck_cycles::Source;
 
 /// A place in the bytes of a step, which may lie within a cycle. It borrows nothing.
@@ -41,9 +41,9 @@ pub struct StepBytes<'a> {
 impl<'a> StepBytes<'a> {
     ghost use Rattle.std.specs.Prelude.{◌≡◌, ◌-◌, ◌^◌, ◌++◌, true, false, drop, length, min, slice_get, take, None};
     ghost use Rattle.jt_tap.specs.Controller.{is_stable};
-    ghost use Rattle.svf_settings.specs.Legal.{IsFormed};
-    ghost use Rattle.svf_settings.specs.Laws.{IsWithin};
-    ghost use Rattle.svf_settings.specs.Seen as seen;
+    ghost use Rattle.svf_programs.specs.Legal.{IsFormed};
+    ghost use Rattle.svf_programs.specs.Sound.{IsWithin};
+    ghost use Rattle.svf_programs.specs.Seen as seen;
     ghost use Rattle.tck_cycles.specs.Cycles.{cycles};
     ghost use Rattle.bitbang.specs.StepMessages.{step_bytes};
     ghost use Rattle.bitbang.specs.Left.{Fills, behind, left, rest, whole};

@@ -10,7 +10,7 @@ use Rattle.bitbang_table.specs.Cycles.{opening}
 use Rattle.bitbang.specs.StepMessages.{step_bytes, step_messages}
 use Rattle.scan_vectors.specs.declared.part.Part.{Part}
 use Rattle.scan_vectors.specs.Vector.{judge}
-use Rattle.svf_settings.specs.Steps.{Numbered, Program, place_after}
+use Rattle.svf_programs.specs.Steps.{Numbered, Program, place_after}
 use Rattle.board_meaning.specs.Chain.{BoardState, Heard, hear}
 use Rattle.plays.specs.declared.ending.Ending.TheVariants.{Fail}
 use Rattle.plays.specs.DirectPlay.{bytes_of_full_play}

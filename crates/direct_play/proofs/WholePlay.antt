@@ -7,8 +7,8 @@ use Rattle.bitbang_table.specs.Cycles.{opening}
 use Rattle.bitbang_table.specs.Protocol.{encode}
 use Rattle.scan_vectors.specs.declared.part.Part.{Part}
 use Rattle.scan_vectors.specs.Vector.{judge}
-use Rattle.svf_settings.specs.Legal.{IsLegalProgram}
-use Rattle.svf_settings.specs.Steps.{Numbered, Program}
+use Rattle.svf_programs.specs.Legal.{IsLegalProgram}
+use Rattle.svf_programs.specs.Steps.{Numbered, Program}
 use Rattle.board_meaning.specs.Chain.{BoardState, hear}
 use Rattle.board_meaning.specs.Resting.{IsAtRest, IsRest, board_at_rest}
 use Rattle.board_meaning.specs.Sound.{AllSound, HasDevice, IsSoundBoard}

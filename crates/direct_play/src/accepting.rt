@@ -3,13 +3,14 @@
 ghost use Rattle.std.specs.Prelude.{◌≡◌, ◌≢◌, ◌+◌, ◌*◌, ◌≤◌, IfOk, IfErr, Ok, Err, length};
 ghost use Rattle.svf_parse.specs.View.{memory_fault};
 ghost use Rattle.svf_settings.specs.Reading.{Answers};
-ghost use Rattle.svf_settings.specs.Sizes.{program_of};
-ghost use Rattle.svf_settings.specs.Steps as steps;
+ghost use Rattle.svf_programs.specs.Sizes.{program_of};
+ghost use Rattle.svf_programs.specs.Steps as steps;
 ghost use Rattle.direct_play.specs.Accepting.{Accepts, Refuses};
 
 use std::alloc::Global;
 use svf_parse::{SvfFault, parse};
-use svf_settings::{Program, resolve};
+use svf_programs::Program;
+use svf_settings::resolve;
 
 /// The program of a text, or its first refusal: that of its first faulty statement by form (S1 to S6, S13, S15), or
 /// where no statement has one, that of the first statement which lacks something from those before it (S7 to S12, S14,

@@ -2,7 +2,7 @@
 
 ghost use Rattle.std.specs.Prelude.{◌≡◌};
 ghost use Rattle.byte_ends.specs.Writes.{WritesAll, flagged};
-ghost use Rattle.svf_settings.specs.Sizes.{program_of};
+ghost use Rattle.svf_programs.specs.Sizes.{program_of};
 ghost use Rattle.plays.specs.DirectPlay.{MeansFromOpening, bytes_of_full_play};
 ghost use Rattle.plays.specs.Play.{play};
 ghost use Rattle.direct_play.specs.Noting.{Notes};
@@ -12,7 +12,7 @@ use crate::stepping::{OPENING, play_opening, play_step};
 use byte_ends::{Counted, Sink};
 use jt_board::Board;
 use plays::Ending;
-use svf_settings::Program;
+use svf_programs::Program;
 
 /// Plays a program on a board as `play_program` does, and writes the bytes of the play: `Q` is the last. The flag tells
 /// that all of them were written; it is false exactly where the writer's first loss came in this call, and the play

@@ -3,15 +3,15 @@
 ghost use Rattle.std.specs.Prelude.{◌≡◌, true};
 ghost use Rattle.jt_tap.specs.Controller.{is_stable};
 ghost use Rattle.bitbang.specs.StepMessages.{step_bytes};
-ghost use Rattle.svf_settings.specs.Legal.{IsFormed};
-ghost use Rattle.svf_settings.specs.Laws.{IsWithin};
-ghost use Rattle.svf_settings.specs.Seen as seen;
+ghost use Rattle.svf_programs.specs.Legal.{IsFormed};
+ghost use Rattle.svf_programs.specs.Sound.{IsWithin};
+ghost use Rattle.svf_programs.specs.Seen as seen;
 ghost use Rattle.direct_play.specs.Noting.{Notes};
 
 use bitbang::StepBytes;
 use byte_ends::{Counted, Sink, put_all};
 use jt_tap::State;
-use svf_settings::Step;
+use svf_programs::Step;
 
 /// How many bytes are handed to a writer at once.
 const PIECE: usize = 4096;

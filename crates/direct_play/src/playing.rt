@@ -1,14 +1,14 @@
 //! A whole program, played.
 
 ghost use Rattle.std.specs.Prelude.{◌≡◌};
-ghost use Rattle.svf_settings.specs.Sizes.{program_of};
+ghost use Rattle.svf_programs.specs.Sizes.{program_of};
 ghost use Rattle.plays.specs.DirectPlay.{MeansFromOpening};
 ghost use Rattle.plays.specs.Play.{play};
 
 use crate::stepping::{play_opening, play_step};
 use jt_board::Board;
 use plays::Ending;
-use svf_settings::Program;
+use svf_programs::Program;
 
 /// Plays an accepted program on a board, whatever state any bytes left it in: the opening edge by edge, and from then
 /// on each step on whole registers.

@@ -5,8 +5,8 @@ ghost use Rattle.jt_tap.specs.Controller as controller;
 ghost use Rattle.bitbang_table.specs.Cycles.{opening};
 ghost use Rattle.scan_vectors.specs.Held.{bits};
 ghost use Rattle.scan_vectors.specs.Vector.{judge, tdis};
-ghost use Rattle.svf_settings.specs.Seen as seen;
-ghost use Rattle.svf_settings.specs.Steps as steps;
+ghost use Rattle.svf_programs.specs.Seen as seen;
+ghost use Rattle.svf_programs.specs.Steps as steps;
 ghost use Rattle.board_meaning.specs.Chain.{after_bytes, hear};
 ghost use Rattle.board_meaning.specs.Resting.{IsAtRest};
 ghost use Rattle.board_meaning.specs.Whole as whole;
@@ -17,7 +17,7 @@ use jt_board::Board;
 use jt_tap::{Column, State};
 use scan_vectors::{Part, Vector};
 use svf_parse::TrstWord;
-use svf_settings::{Action, Step};
+use svf_programs::{Action, Step};
 
 /// The bytes that open a play: TRST is released, five cycles with TMS 1 follow, and TCK, TMS and TDI are low again.
 pub(crate) const OPENING: &[u8] = b"r26262626260";

@@ -11,7 +11,7 @@ use Rattle.bitbang_table.specs.Protocol.{answer}
 use Rattle.streaming.specs.Laws.{good, history_of, stream_of, with_player}
 use Rattle.streaming.proofs.Schedules.{carry_over}
 use Rattle.every_schedule.specs.Laws.{Link}
-use Rattle.svf_settings.specs.Steps.{Program}
+use Rattle.svf_programs.specs.Steps.{Program}
 use Rattle.plays.proofs.Asks.{AllAsk, hear-asks, turns-ask}
 use Rattle.std.specs.List.{list_any}
 use Rattle.every_schedule.specs.Fair.{HasNoLose, IsFair, loses}

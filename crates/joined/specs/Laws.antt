@@ -1,7 +1,7 @@
 -- What every schedule of two bounded pipes comes to.
 use Rattle.std.specs.Prelude.{◌≡◌, true, false, ℕ, List, Some}
-use Rattle.svf_settings.specs.Legal.{IsLegalProgram}
-use Rattle.svf_settings.specs.Steps.{Program}
+use Rattle.svf_programs.specs.Legal.{IsLegalProgram}
+use Rattle.svf_programs.specs.Steps.{Program}
 use Rattle.board_meaning.specs.Chain.{BoardState}
 use Rattle.board_meaning.specs.Sound.{HasDevice, IsSoundBoard}
 use Rattle.plays.specs.declared.ending.Ending.{Ending}

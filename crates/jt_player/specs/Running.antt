@@ -6,7 +6,7 @@ use Rattle.byte_ends.specs.Counts.{CountedView}
 use Rattle.byte_ends.specs.Writes.{AppendsFront, WritesAll}
 use Rattle.byte_ends.specs.declared.counting.Broken.{Broken}
 use Rattle.svf_words.specs.declared.fault.SvfFault.{SvfFault}
-use Rattle.svf_settings.specs.Steps.{Program}
+use Rattle.svf_programs.specs.Steps.{Program}
 use Rattle.board_meaning.specs.Chain.{BoardState}
 use Rattle.board_report.specs.LeftOut.{left_out_lines}
 use Rattle.board_report.specs.Report.{report}

@@ -4,7 +4,7 @@ use Rattle.plays.specs.Endings.{texts}
 use Rattle.svf_words.specs.declared.fault.Code.{Code}
 use Rattle.svf_words.specs.declared.fault.Code.TheVariants as code
 use Rattle.svf_words.specs.declared.fault.SvfFault.{SvfFault}
-use Rattle.svf_settings.specs.Steps.{Program}
+use Rattle.svf_programs.specs.Steps.{Program}
 
 -- a refusal's number and name, without the values in brackets
 abbrev pub code_words : Code → List ℕ

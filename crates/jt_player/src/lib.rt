@@ -16,4 +16,4 @@ pub use run::{run_check, run_play};
 pub use scan_vectors::Part;
 pub use stream_player::Player;
 pub use svf_parse::{Code, SvfFault};
-pub use svf_settings::{Action, Program, Step};
+pub use svf_programs::{Action, Program, Step};

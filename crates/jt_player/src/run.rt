@@ -4,7 +4,7 @@ ghost use Rattle.std.specs.Prelude.{◌≡◌, ◌≢◌, ◌⊎◌, ◌++◌, I
 ghost use Rattle.byte_ends.specs.Writes.{WritesAll};
 ghost use Rattle.board_report.specs.LeftOut.{left_out_lines};
 ghost use Rattle.plays.specs.Play.{play};
-ghost use Rattle.svf_settings.specs.Sizes.{program_of};
+ghost use Rattle.svf_programs.specs.Sizes.{program_of};
 ghost use Rattle.jt_player.specs.Running.{Happens, IsCheckOf, IsRunOf, Run, Tells, note, played_run};
 ghost use Rattle.jt_player.specs.Showing.{accepted_line, refusal_line};
 
@@ -15,7 +15,7 @@ use jt_board::{Board, write_left_out, write_report};
 use plays::Ending;
 use std::alloc::Global;
 use svf_parse::{Code, SvfFault};
-use svf_settings::Program;
+use svf_programs::Program;
 
 /// Plays a text on a board and tells of it: to `out` a line of the bytes sent where `bytes` asks for it, the verdict
 /// and the board's report; to `err` the line of a refusal or of want of memory. Answers the exit status: 0 pass, 1

@@ -4,7 +4,7 @@ ghost use Rattle.std.specs.Prelude.{◌≡◌};
 ghost use Rattle.byte_ends.specs.Writes.{WritesAll};
 ghost use Rattle.jt_player.specs.Showing as showing;
 ghost use Rattle.jt_player.specs.Showing.{accepted_line, refusal_line};
-ghost use Rattle.svf_settings.specs.Sizes.{program_of};
+ghost use Rattle.svf_programs.specs.Sizes.{program_of};
 ghost use Rattle.plays.specs.Endings as endings;
 ghost use Rattle.plays.specs.Endings.{verdict_line};
 
@@ -13,7 +13,7 @@ use itoa::Buffer;
 use plays::Ending;
 use scan_vectors::Part;
 use svf_parse::{Code, SvfFault};
-use svf_settings::Program;
+use svf_programs::Program;
 
 /// Writes the line of a verdict.
 pub(crate) fn write_verdict<W: Sink>(ending: Ending, out: &mut Counted<W>) -> Result<(), Broken>

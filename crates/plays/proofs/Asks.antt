@@ -11,7 +11,7 @@ use Rattle.bitbang_table.specs.declared.Message.TheVariants.{Write, Ask, Quit, L
 use Rattle.board_meaning.specs.Chain.{BoardState, Heard, hear, after_message}
 use Rattle.scan_vectors.specs.declared.part.Part.{Part}
 use Rattle.scan_vectors.specs.Vector.{VectorBit, judge}
-use Rattle.svf_settings.specs.Steps.{Step, Scan, Go, Path, Run, Trst, Numbered, place_after}
+use Rattle.svf_programs.specs.Steps.{Step, Scan, Go, Path, Run, Trst, Numbered, place_after}
 use Rattle.svf_words.specs.declared.keywords.TrstWord.TheVariants.{On, Off, Z, Absent}
 use Rattle.plays.specs.declared.ending.Ending.TheVariants.{Fail}
 use Rattle.tap_paths.specs.Paths.{go, to_shift, from_exit1}

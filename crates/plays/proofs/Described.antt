@@ -13,8 +13,8 @@ use Rattle.plays.specs.declared.ending.Ending.{Ending}
 use Rattle.plays.specs.DirectPlay.{MeansFromOpening, opened_state}
 use Rattle.plays.specs.Meaning.{outcome}
 use Rattle.plays.specs.Play.{play}
-use Rattle.svf_settings.specs.Legal.{IsLegalProgram}
-use Rattle.svf_settings.specs.Steps.{Numbered, Program}
+use Rattle.svf_programs.specs.Legal.{IsLegalProgram}
+use Rattle.svf_programs.specs.Steps.{Numbered, Program}
 use Rattle.bitbang_table.specs.Cycles.{opening}
 use Rattle.board_meaning.proofs.SoundEdges.{count-bytes, sound-bytes}
 use Rattle.plays.proofs.Legality.{legal-from}

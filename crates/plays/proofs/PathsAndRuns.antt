@@ -12,7 +12,7 @@ use Rattle.pin_nets.specs.Wired.{Net}
 use Rattle.board_meaning.specs.Nets.{sees}
 use Rattle.board_meaning.specs.Chain.{hear}
 use Rattle.board_meaning.specs.Whole.{joined_bits, cut_back, capture_all, reset_member, pass, along}
-use Rattle.svf_settings.specs.Steps.{Path, Run}
+use Rattle.svf_programs.specs.Steps.{Path, Run}
 use Rattle.plays.specs.Meaning.{after_step, move_unless_there}
 use Rattle.bitbang_table.specs.Cycles.{entering, closed_messages}
 use Rattle.tck_cycles.specs.Cycles.{cycles, go_unless_there}

@@ -14,7 +14,7 @@ use Rattle.board_meaning.specs.Sound.{AllSound, HasDevice, IsSoundBoard}
 use Rattle.board_meaning.proofs.Sound.{Sound-reset}
 use Rattle.board_meaning.proofs.BytesAndMessages.{after_all-encoded}
 use Rattle.plays.proofs.PathsAndRuns.{reset-all-twice}
-use Rattle.svf_settings.specs.Steps.{Numbered}
+use Rattle.svf_programs.specs.Steps.{Numbered}
 use Rattle.plays.specs.Play.{full_play, player, turns}
 use Rattle.plays.proofs.Direct.{AllPlayed, program-law}
 use Rattle.plays.proofs.PlayLaws.{full_play_is_both_ends}

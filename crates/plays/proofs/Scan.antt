@@ -10,7 +10,7 @@ use Rattle.pin_nets.specs.Wired.{Net}
 use Rattle.board_meaning.specs.Chain.{hear}
 use Rattle.board_meaning.specs.Whole.{AtRest, joined_bits, cut_back, capture, settle, out, shift}
 use Rattle.scan_vectors.specs.Vector.{VectorBit, tdis}
-use Rattle.svf_settings.specs.Steps.{Scan}
+use Rattle.svf_programs.specs.Steps.{Scan}
 use Rattle.plays.specs.Meaning.{after_step, scan_end}
 use Rattle.tap_paths.specs.Paths.{to_shift, from_exit1, last_of}
 use Rattle.bitbang_table.specs.declared.Cycle.{Cycle}

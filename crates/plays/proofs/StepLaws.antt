@@ -13,14 +13,14 @@ use Rattle.pin_nets.specs.Wired.{Net}
 use Rattle.scan_vectors.specs.Vector.{VectorBit, tdis, judge}
 use Rattle.board_meaning.specs.Chain.{hear, is_held}
 use Rattle.board_meaning.specs.Whole.{AtRest, reset_member, out, capture, settle, along, trst_member, settled_member}
-use Rattle.svf_settings.specs.Steps.{Step, Scan, Go, Path, Run, Trst, place_after}
+use Rattle.svf_programs.specs.Steps.{Step, Scan, Go, Path, Run, Trst, place_after}
 use Rattle.svf_words.specs.declared.keywords.TrstWord.TheVariants.{On, Off, Z, Absent}
 use Rattle.plays.specs.Meaning.{after_step, move_unless_there}
 use Rattle.bitbang_table.specs.Cycles.{entering, closed_messages}
 use Rattle.bitbang.specs.StepMessages.{step_messages}
 use Rattle.tap_paths.specs.Paths.{last_of}
 use Rattle.board_meaning.specs.Resting.{board_at_rest, IsRest}
-use Rattle.svf_settings.specs.Legal.{IsPath, IsFormed, is_reset, leaves_reset}
+use Rattle.svf_programs.specs.Legal.{IsPath, IsFormed, is_reset, leaves_reset}
 use Rattle.plays.specs.Legal.{IsLegal}
 use Rattle.board_meaning.proofs.OneCycle.{Free}
 use Rattle.board_meaning.proofs.Walks.{at_rest, go-law}

@@ -7,7 +7,7 @@ use Rattle.board_meaning.specs.Whole.{AtRest}
 use Rattle.bitbang_table.specs.Cycles.{opening}
 use Rattle.board_meaning.specs.Resting.{IsAtRest}
 use Rattle.plays.specs.declared.ending.Ending.{Ending}
-use Rattle.svf_settings.specs.Steps.{Program}
+use Rattle.svf_programs.specs.Steps.{Program}
 use Rattle.plays.specs.Meaning.{outcome}
 use Rattle.plays.specs.Play.{play}
 

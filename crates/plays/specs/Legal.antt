@@ -2,10 +2,10 @@
 use Rattle.std.specs.Prelude.{◌≡◌, ◌≢◌, true, false, List, [], ◌∷◌}
 use Rattle.jt_tap.specs.declared.State.TheVariants.{Reset}
 use Rattle.board_meaning.specs.Whole.{AtRest}
-use Rattle.svf_settings.specs.Steps.{Step, Trst, Numbered}
+use Rattle.svf_programs.specs.Steps.{Step, Trst, Numbered}
 use Rattle.svf_words.specs.declared.keywords.TrstWord.TheVariants.{Absent}
 use Rattle.plays.specs.Meaning.{after_step}
-use Rattle.svf_settings.specs.Legal.{IsFormed, leaves_reset}
+use Rattle.svf_programs.specs.Legal.{IsFormed, leaves_reset}
 
 -- Legal at M: formed, and while TRST is asserted no step from RESET leaves it, and none is TRST ABSENT.
 pub record IsLegal (step : Step) (m : AtRest) : Type 0 where

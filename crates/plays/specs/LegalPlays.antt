@@ -12,13 +12,13 @@ use Rattle.plays.specs.Legal.{IsLegal, AllLegal}
 use Rattle.board_meaning.specs.Sound.{HasDevice, IsPoweredUp, IsSoundBoard, AllSound}
 use Rattle.bitbang_table.specs.Cycles.{opening}
 use Rattle.bitbang.specs.StepMessages.{step_messages}
-use Rattle.svf_settings.specs.Steps.{Step, Numbered, Program}
+use Rattle.svf_programs.specs.Steps.{Step, Numbered, Program}
 use Rattle.plays.specs.Meaning.{after_step, failure, outcome}
 use Rattle.scan_vectors.specs.Vector.{judge}
 use Rattle.board_meaning.specs.Whole.{AtRest}
 use Rattle.plays.specs.DirectPlay.{MeansFromOpening, opened_state}
 use Rattle.plays.specs.Play.{full_play, play, player, turns, wants_of}
-use Rattle.svf_settings.specs.Legal.{AllLegalFrom, IsLegalProgram}
+use Rattle.svf_programs.specs.Legal.{AllLegalFrom, IsLegalProgram}
 
 -- What a step's bytes do from rest: the board at rest that whole registers give, the same first bit that differs, at
 -- rest again and sound again.

@@ -11,7 +11,7 @@ use Rattle.board_meaning.specs.Chain.{BoardState}
 use Rattle.bsdl_device.specs.declared.Place.TheVariants.{AtUser}
 use Rattle.bsdl_device.specs.Device.{Device}
 use Rattle.board_meaning.specs.Resting.{power_up, board_at_rest}
-use Rattle.svf_settings.specs.Steps.{Step, Scan, Go, Path, Run, Trst, Numbered}
+use Rattle.svf_programs.specs.Steps.{Step, Scan, Go, Path, Run, Trst, Numbered}
 use Rattle.svf_words.specs.declared.keywords.TrstWord.TheVariants.{On, Off, Z, Absent}
 use Rattle.scan_vectors.specs.Vector.{VectorBit}
 use Rattle.board_meaning.specs.Whole.{AtRest, after_opening}
@@ -19,7 +19,7 @@ use Rattle.scan_vectors.specs.declared.part.Part.TheVariants.{Data}
 use Rattle.plays.specs.declared.ending.Ending.TheVariants.{Fail, Pass}
 use Rattle.plays.specs.Play.{full_play, turns}
 use Rattle.plays.specs.Meaning.{outcome}
-use Rattle.svf_settings.specs.Legal.{IsLegalProgram}
+use Rattle.svf_programs.specs.Legal.{IsLegalProgram}
 use Rattle.board_meaning.specs.Sound.{IsPoweredUp}
 
 -- the bare device with a TRST port, a code and a user register of three bits

@@ -8,7 +8,7 @@ use Rattle.bitbang_table.specs.declared.Message.TheVariants.{Ask, Quit}
 use Rattle.bitbang_table.specs.Protocol.{encode, read_answer}
 use Rattle.board_meaning.specs.Chain.{BoardState, hear}
 use Rattle.scan_vectors.specs.Vector.{VectorBit, judge, wanted_bits}
-use Rattle.svf_settings.specs.Steps.{Step, Scan, Numbered, Program, place_after}
+use Rattle.svf_programs.specs.Steps.{Step, Scan, Numbered, Program, place_after}
 use Rattle.plays.specs.declared.ending.Ending.{Ending}
 use Rattle.plays.specs.declared.ending.Ending.TheVariants.{Pass, Fail, BadAnswer}
 use Rattle.bitbang.specs.StepMessages.{step_messages}

@@ -1,6 +1,6 @@
 -- A player that plays its program to the end, whatever fails, and the list of all that failed.
 use Rattle.std.specs.Prelude.{Bool, ℕ, List, [], ◌∷◌, ◌++◌, map, length, drop, None, if◌then◌else◌}
-use Rattle.svf_settings.specs.Steps.{Step, Scan, Numbered}
+use Rattle.svf_programs.specs.Steps.{Step, Scan, Numbered}
 use Rattle.plays.specs.Meaning.{after_step}
 use Rattle.scan_vectors.specs.Vector.{VectorBit, differs, tdis}
 use Rattle.board_meaning.specs.Whole.{AtRest, capture, out, settle}

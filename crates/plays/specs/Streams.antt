@@ -11,7 +11,7 @@ use Rattle.plays.specs.declared.ending.Ending.TheVariants.{BadAnswer}
 use Rattle.plays.specs.Events.{Side}
 use Rattle.plays.specs.Play.{Turn, is_bad, turns, up_to_asks}
 use Rattle.plays.specs.Playing.{up_to_bad}
-use Rattle.svf_settings.specs.Steps.{Program}
+use Rattle.svf_programs.specs.Steps.{Program}
 use Rattle.plays.specs.PlayingOn.{Kind, Stops, PlaysOn, Mismatch, ending_of}
 
 -- Of the bits that differed, the first ones, and how many they were; a player that stops counts no further than to the

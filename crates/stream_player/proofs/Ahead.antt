@@ -8,7 +8,7 @@ use Rattle.std.specs.List.{list_any}
 use Rattle.bitbang_table.specs.declared.Message.{Message}
 use Rattle.bitbang_table.specs.declared.Message.TheVariants.{Quit}
 use Rattle.bitbang_table.specs.Protocol.{encode}
-use Rattle.svf_settings.specs.Steps.{Program}
+use Rattle.svf_programs.specs.Steps.{Program}
 use Rattle.plays.specs.Play.{Turn, turns, up_to_asks}
 use Rattle.plays.specs.Streams as stream
 use Rattle.plays.specs.Streams.{may_send, some_differ}

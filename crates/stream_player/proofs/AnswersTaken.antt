@@ -10,7 +10,7 @@ use Rattle.bitbang_table.specs.declared.Message.TheVariants.{Quit}
 use Rattle.bitbang.specs.declared.step_bytes.Spot.{Spot}
 use Rattle.bitbang.specs.StepMessages.{step_messages}
 use Rattle.scan_vectors.specs.Vector.{VectorBit}
-use Rattle.svf_settings.specs.Steps.{Numbered, Program, place_after}
+use Rattle.svf_programs.specs.Steps.{Numbered, Program, place_after}
 use Rattle.plays.specs.Play.{Turn, is_bad, step_turns, turns, wants_of}
 use Rattle.plays.specs.Playing.{up_to_bad}
 use Rattle.plays.specs.PlayingOn.{Mismatch}

@@ -7,7 +7,7 @@ use Rattle.bitbang_table.specs.Cycles.{opening}
 use Rattle.bitbang_table.specs.declared.Message.TheVariants.{Quit}
 use Rattle.bitbang.specs.StepMessages.{step_messages}
 use Rattle.bitbang.specs.declared.step_bytes.Spot.{Spot}
-use Rattle.svf_settings.specs.Steps.{Numbered, Program, place_after}
+use Rattle.svf_programs.specs.Steps.{Numbered, Program, place_after}
 use Rattle.plays.specs.declared.ending.Ending.TheVariants.{BadAnswer}
 use Rattle.plays.specs.Play.{Turn, step_turns, turns, wants_of}
 use Rattle.plays.specs.PlayingOn.{ending_of}

@@ -7,7 +7,7 @@ use Rattle.std.proofs.lemmas.List.{length-map}
 use Rattle.std.specs.Prelude.{◌&&◌, ◌||◌, ◌==◌, is_some, nat_le, nat_lt, if◌then◌else◌}
 use Rattle.bitbang_table.specs.declared.Message.TheVariants.{Quit}
 use Rattle.scan_vectors.specs.Vector.{VectorBit, differs}
-use Rattle.svf_settings.specs.Steps.{Program}
+use Rattle.svf_programs.specs.Steps.{Program}
 use Rattle.plays.specs.declared.ending.Ending.{Ending}
 use Rattle.plays.specs.declared.ending.Ending.TheVariants.{BadAnswer}
 use Rattle.plays.specs.Play.{Turn, is_bad, turns}

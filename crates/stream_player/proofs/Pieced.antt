@@ -9,7 +9,7 @@ use Rattle.bitbang_table.specs.declared.Message.TheVariants.{Quit}
 use Rattle.bitbang_table.specs.Protocol.{encode, value}
 use Rattle.bitbang.specs.StepMessages.{step_bytes, step_messages}
 use Rattle.bitbang.specs.declared.step_bytes.Spot.{Spot}
-use Rattle.svf_settings.specs.Steps.{Numbered, Program, place_after}
+use Rattle.svf_programs.specs.Steps.{Numbered, Program, place_after}
 use Rattle.plays.specs.Play.{Turn, step_turns, turns, wants_of}
 use Rattle.plays.specs.Streams.{StreamState, some_differ, bytes_to_send}
 use Rattle.plays.proofs.Asks.{asks}

@@ -7,9 +7,9 @@ use Rattle.bitbang_table.specs.Protocol.{encode}
 use Rattle.bitbang.specs.Left.{behind}
 use Rattle.bitbang.specs.StepMessages.{step_bytes, step_messages}
 use Rattle.bitbang.specs.declared.step_bytes.Spot.{Spot}
-use Rattle.svf_settings.specs.Laws.{AllWithin, IsWithin}
-use Rattle.svf_settings.specs.Legal.{AllLegalFrom, IsLegalAt}
-use Rattle.svf_settings.specs.Steps.{Step, Scan, Go, Path, Run, Trst, Numbered, Program, line_after, place_after}
+use Rattle.svf_programs.specs.Sound.{AllWithin, IsWithin}
+use Rattle.svf_programs.specs.Legal.{AllLegalFrom, IsLegalAt}
+use Rattle.svf_programs.specs.Steps.{Step, Scan, Go, Path, Run, Trst, Numbered, Program, line_after, place_after}
 use Rattle.tck_cycles.specs.Cycles.{cycles}
 use Rattle.plays.specs.Play.{Turn, step_turns, turns, wants_of}
 use Rattle.plays.proofs.Legality.{place-stable}

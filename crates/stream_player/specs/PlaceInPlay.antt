@@ -3,7 +3,7 @@ use Rattle.std.specs.Prelude.{ℕ, Bool, zero, suc, ◌+◌, ◌==◌, List, [],
 use Rattle.std.specs.Prelude.{if◌then◌else◌}
 use Rattle.bitbang_table.specs.declared.Message.{Message}
 use Rattle.scan_vectors.specs.Vector.{VectorBit, differs}
-use Rattle.svf_settings.specs.Steps.{Program}
+use Rattle.svf_programs.specs.Steps.{Program}
 use Rattle.plays.specs.Play.{Turn, turns}
 use Rattle.plays.specs.PlayingOn.{Mismatch, Stops}
 use Rattle.plays.specs.Streams.{Found, StreamState}

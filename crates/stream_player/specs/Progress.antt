@@ -10,9 +10,9 @@ use Rattle.bitbang.specs.Left.{behind}
 use Rattle.bitbang.specs.StepMessages.{step_bytes, step_messages}
 use Rattle.bitbang.specs.declared.step_bytes.Spot.{Spot}
 use Rattle.scan_vectors.specs.Vector.{VectorBit}
-use Rattle.svf_settings.specs.Laws.{AllWithin}
-use Rattle.svf_settings.specs.Legal.{AllLegalFrom}
-use Rattle.svf_settings.specs.Steps.{Step, Scan, Numbered, Program}
+use Rattle.svf_programs.specs.Sound.{AllWithin}
+use Rattle.svf_programs.specs.Legal.{AllLegalFrom}
+use Rattle.svf_programs.specs.Steps.{Step, Scan, Numbered, Program}
 use Rattle.tck_cycles.specs.Cycles.{cycles}
 use Rattle.plays.specs.Play.{step_turns, turns, wants_of}
 use Rattle.plays.specs.PlayingOn as playing_on

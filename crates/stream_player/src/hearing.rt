@@ -4,9 +4,9 @@ ghost use Rattle.std.specs.Prelude.{◌≡◌, ◌<◌, ◌+◌, ◌∷◌, fals
 ghost use Rattle.std.specs.Prelude.{length, option_map, slice_get};
 ghost use Rattle.scan_vectors.specs.Held.{bits};
 ghost use Rattle.scan_vectors.specs.Vector.{VectorBit, wanted_bits};
-ghost use Rattle.svf_settings.specs.Sizes.{program_of};
-ghost use Rattle.svf_settings.specs.Seen as seen;
-ghost use Rattle.svf_settings.specs.Seen.{numbered};
+ghost use Rattle.svf_programs.specs.Sizes.{program_of};
+ghost use Rattle.svf_programs.specs.Seen as seen;
+ghost use Rattle.svf_programs.specs.Seen.{numbered};
 ghost use Rattle.plays.specs.Play.{is_bad};
 ghost use Rattle.plays.specs.Streams.{hear_bytes, answers_taken};
 ghost use Rattle.plays.specs.Streams as stream;
@@ -16,7 +16,7 @@ ghost use Rattle.stream_player.specs.PlaceInPlay.{differing_bit};
 use crate::progress::{Mismatch, Progress};
 use bitbang::read_answer;
 use scan_vectors::{Vector, difference, next_wanted};
-use svf_settings::{Action, Program, Step};
+use svf_programs::{Action, Program, Step};
 
 /// Takes as many answers as are owed, up to and with the first that is none. Answers where the player stands then, and
 /// how many were taken.

@@ -1,14 +1,14 @@
 //! Giving out the bytes of a play.
 
 ghost use Rattle.std.specs.Prelude.{◌≡◌, ◌<◌, ◌+◌, ◌++◌, None, drop, length, min, take};
-ghost use Rattle.svf_settings.specs.Sizes.{program_of};
+ghost use Rattle.svf_programs.specs.Sizes.{program_of};
 ghost use Rattle.stream_player.specs.Progress.{Gives, IsReady, Stands, state_of};
 ghost use Rattle.plays.specs.Streams.{bytes_to_send};
 
 use crate::giving::give;
 use crate::progress::{OPENING, Phase, Progress, settled};
 use bitbang::{Spot, StepBytes};
-use svf_settings::Program;
+use svf_programs::Program;
 
 /// Fills the buffer from its front with bytes that wait. Answers where the player stands then, and how many they are:
 /// none only where none waits or there is no room.

@@ -1,7 +1,7 @@
 //! The player of a program.
 
 ghost use Rattle.std.specs.Prelude.{◌≡◌, ◌+◌, ◌-◌, ◌^◌, ◌↔◌, ◌++◌, IsTrue, IsOk, IfOk, length, min, take, drop};
-ghost use Rattle.svf_settings.specs.Sizes.{program_of};
+ghost use Rattle.svf_programs.specs.Sizes.{program_of};
 ghost use Rattle.plays.specs.PlayingOn.{Stops};
 ghost use Rattle.plays.specs.Streams as stream;
 ghost use Rattle.plays.specs.Streams.{new_stream, hear_bytes, answers_taken, bytes_to_send};
@@ -13,7 +13,7 @@ use crate::telling;
 use plays::Ending;
 use std::alloc::Global;
 use std::marker::Model;
-use svf_settings::Program;
+use svf_programs::Program;
 
 /// The player of one program: a pure machine that gives out the bytes of the play and takes the answers to them. It
 /// judges each answer as it comes and keeps none; up to 256 may be owed within one step.
@@ -32,7 +32,7 @@ impl Model for Player {
 
     ghost Value = { StreamState };
 
-    ghost use Rattle.svf_settings.specs.Sizes.{program_of};
+    ghost use Rattle.svf_programs.specs.Sizes.{program_of};
     ghost use Rattle.stream_player.specs.Progress.{Stands, state_of};
 
     ghost view = { λ p. state_of (program_of p.program) p.progress };

@@ -1,14 +1,14 @@
 //! Where a player stands in its play, and how it goes on to the next turn.
 
 ghost use Rattle.std.specs.Prelude.{◌≡◌, ◌≤◌, ◌<◌, ◌+◌, suc, drop, length, None, MatchOption};
-ghost use Rattle.svf_settings.specs.Sizes.{program_of};
+ghost use Rattle.svf_programs.specs.Sizes.{program_of};
 ghost use Rattle.stream_player.specs.PlaceInPlay.{state_at};
 ghost use Rattle.stream_player.specs.Progress.{IsReady, Rests, Stands, ahead, state_of};
 
 use bitbang::{Spot, StepBytes};
 use jt_tap::State;
 use scan_vectors::Part;
-use svf_settings::Program;
+use svf_programs::Program;
 use tck_cycles::place_after;
 
 /// How many bytes open a play.

@@ -1,7 +1,7 @@
 //! What a player tells: its ending, and the command in work.
 
 ghost use Rattle.std.specs.Prelude.{◌≡◌, ◌-◌, ◌^◌, min, option_map};
-ghost use Rattle.svf_settings.specs.Sizes.{program_of};
+ghost use Rattle.svf_programs.specs.Sizes.{program_of};
 ghost use Rattle.plays.specs.PlayingOn.{ending_of};
 ghost use Rattle.plays.specs.Streams as stream;
 ghost use Rattle.stream_player.specs.Progress.{Stands, is_out, mismatch, state_of};
@@ -9,7 +9,7 @@ ghost use Rattle.stream_player.specs.PlaceInPlay.{finding_of};
 
 use crate::progress::{Mismatch, Phase, Progress, settled};
 use plays::Ending;
-use svf_settings::Program;
+use svf_programs::Program;
 
 /// How the play ended, if it did.
 pub(crate) fn ended(program: &Program, p: Progress) -> Option<Ending>

@@ -10,7 +10,7 @@ use Rattle.board_meaning.specs.Chain.{BoardState}
 use Rattle.plays.specs.Events.{Event, Put, Serve, Take, Lose, Known, Side, World, by_answers, before_events as fresh_world, happens, has_room, hear_bits, put_bytes, run, served, take_answers, after_byte_taken}
 use Rattle.plays.specs.Play.{player, sent}
 use Rattle.plays.specs.Playing.{PlayerState, up_to_bad}
-use Rattle.svf_settings.specs.Steps.{Numbered, Program}
+use Rattle.svf_programs.specs.Steps.{Numbered, Program}
 use Rattle.plays.proofs.Asks.{asks, hear-asks}
 use Rattle.every_schedule.specs.Fronts.{IsFront}
 use Rattle.every_schedule.specs.Laws.{Link, full}

@@ -4,7 +4,7 @@ use Rattle.std.proofs.lemmas.List.{map-append, length-map}
 use Rattle.std.specs.Prelude.{◌==◌, is_some, if◌then◌else◌}
 use Rattle.scan_vectors.specs.Vector.{VectorBit, differs}
 use Rattle.plays.specs.Play.{Turn, is_bad, turns}
-use Rattle.svf_settings.specs.Steps.{Program}
+use Rattle.svf_programs.specs.Steps.{Program}
 use Rattle.plays.specs.PlayingOn.{Kind, Stops, PlaysOn, Mismatch, differing, failures}
 use Rattle.streaming.specs.Histories.{bits_told}
 use Rattle.streaming.specs.Laws.{FreshAgrees, HearingIsTheHistory, good, stream_of}

@@ -8,7 +8,7 @@ use Rattle.board_meaning.specs.Chain.{after_bytes, hear}
 use Rattle.board_meaning.proofs.BytesAndMessages.{after_all-encoded}
 use Rattle.plays.specs.Play.{ending_for, is_bad, sent, turns}
 use Rattle.plays.specs.Playing.{has_bad_answer}
-use Rattle.svf_settings.specs.Steps.{Numbered}
+use Rattle.svf_programs.specs.Steps.{Numbered}
 use Rattle.plays.proofs.Asks.{hear-full, sent-full, turns-ask}
 use Rattle.every_schedule.specs.Fronts.{IsFront}
 use Rattle.every_schedule.specs.Laws.{full}

@@ -7,7 +7,7 @@ use Rattle.plays.specs.Events.{Event, Known, World, by_answers, empty_pipes, bef
 use Rattle.plays.specs.Play.{is_bad, player, turns}
 use Rattle.plays.specs.Playing as playing
 use Rattle.plays.specs.Playing.{PlayerState, has_bad_answer}
-use Rattle.svf_settings.specs.Steps.{Program}
+use Rattle.svf_programs.specs.Steps.{Program}
 use Rattle.plays.specs.PlayingOn.{Kind, Stops, failures, turns_for}
 use Rattle.every_schedule.specs.Fronts.{IsFront}
 use Rattle.every_schedule.specs.Laws.{full, bytes_of_full_play}

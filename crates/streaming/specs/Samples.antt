@@ -3,7 +3,7 @@ use Rattle.std.specs.Prelude.{◌≡◌, true, ℕ, [], ◌∷◌, length, Some}
 use Rattle.scan_vectors.specs.declared.part.Part.TheVariants.{Data}
 use Rattle.plays.specs.declared.ending.Ending.TheVariants.{BadAnswer, Fail}
 use Rattle.plays.specs.Events.{World, empty_pipes, run}
-use Rattle.svf_settings.specs.Steps.{Program}
+use Rattle.svf_programs.specs.Steps.{Program}
 use Rattle.every_schedule.specs.Fair.{one_each}
 use Rattle.plays.specs.PlayingOn.{Kind, Stops, PlaysOn}
 use Rattle.every_schedule.specs.Samples.{sample, two_scans}

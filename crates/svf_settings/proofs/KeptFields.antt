@@ -6,7 +6,7 @@ use Rattle.svf_parse.specs.Judging.{Said}
 use Rattle.svf_parse.specs.Judging as said
 use Rattle.scan_vectors.specs.Fields.{Fields}
 use Rattle.svf_settings.specs.LookBack.{field_or, in_force}
-use Rattle.svf_settings.specs.Held.{field_at, len_in, part_in, tdi_of, tdo_of, mask_of}
+use Rattle.svf_programs.specs.Held.{field_at, len_in, part_in, tdi_of, tdo_of, mask_of}
 
 -- this place where the field is given there, and else the earlier one
 abbrev chosen : ℕ → Option (List Bool) → Option ℕ → ℕ

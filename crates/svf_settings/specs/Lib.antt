@@ -1,12 +1,7 @@
-pub mod Steps
-pub mod Legal
 pub mod LookBack
 pub mod Refusals
 pub mod Programs
 pub mod Running
 pub mod Held
-pub mod Seen
-pub mod Sizes
-pub mod Left
 pub mod Reading
 pub mod Laws

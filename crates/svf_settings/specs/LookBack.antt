@@ -14,7 +14,7 @@ use Rattle.svf_parse.specs.Judging.{Said}
 use Rattle.svf_parse.specs.Judging as said
 use Rattle.scan_vectors.specs.Vector.{VectorBit}
 use Rattle.scan_vectors.specs.Fields.{Fields, no_fields, vector_of}
-use Rattle.svf_settings.specs.Steps.{Step, Scan, Go, Path, Run, Trst, place_after}
+use Rattle.svf_programs.specs.Steps.{Step, Scan, Go, Path, Run, Trst, place_after}
 
 -- ---- where scans and runs end
 

@@ -6,15 +6,16 @@ use Rattle.svf_words.specs.declared.fault.Code.{Code}
 use Rattle.svf_words.specs.declared.fault.SvfFault.{SvfFault}
 use Rattle.svf_parse.specs.Judging.{Said}
 use Rattle.svf_parse.specs.View.{memory_fault}
-use Rattle.svf_settings.specs.declared.kept.Kept.{Kept}
-use Rattle.svf_settings.specs.declared.kept.KeptStep.{KeptStep}
+use Rattle.svf_programs.specs.declared.kept.Kept.{Kept}
+use Rattle.svf_programs.specs.declared.kept.KeptStep.{KeptStep}
 use Rattle.svf_settings.specs.declared.reading.Reader.{Reader}
-use Rattle.svf_settings.specs.Steps.{Program}
-use Rattle.svf_settings.specs.Sizes.{Holding, program_of}
+use Rattle.svf_programs.specs.Steps.{Program}
+use Rattle.svf_programs.specs.Sizes.{Holding, program_of}
 use Rattle.svf_settings.specs.LookBack.{settings, place, step}
 use Rattle.svf_settings.specs.Refusals.{refusal}
 use Rattle.svf_settings.specs.Programs.{steps, first_refusal}
-use Rattle.svf_settings.specs.Held.{settings_in, numbered_in, step_in}
+use Rattle.svf_programs.specs.Held.{numbered_in, step_in}
+use Rattle.svf_settings.specs.Held.{settings_in}
 
 -- a reader has the settings and the place behind these statements
 pub record IsBehind (all past : List Said) (r : Reader) : Type 0 where

@@ -14,18 +14,12 @@ use Rattle.svf_words.specs.Faults.{number}
 use Rattle.svf_parse.specs.Judging.{Said}
 use Rattle.svf_parse.specs.Judging as said
 use Rattle.scan_vectors.specs.Fields.{Fields}
-use Rattle.svf_settings.specs.Steps.{Step, Trst}
-use Rattle.svf_settings.specs.Legal.{leaves_reset}
+use Rattle.svf_programs.specs.Steps.{Step, Trst}
+use Rattle.svf_programs.specs.Legal.{leaves_reset}
+use Rattle.svf_programs.specs.Sound.{vector_limit, cycle_limit}
 use Rattle.svf_settings.specs.LookBack.{Settings, settings, cycle_count, field_or, last_of_command, runs_in, ends_in}
 use Rattle.svf_settings.specs.LookBack.{step}
 use Rattle.svf_settings.specs.LookBack.{place}
-
--- a whole vector has at most 65,536 bits, and a run at most 4,294,967,295 cycles
-abbrev pub vector_limit : ℕ
-vector_limit = 65536
-
-abbrev pub cycle_limit : ℕ
-cycle_limit = 4294967295
 
 -- S7: a scan of some bits has no TDI, and none is in force
 abbrev pub misses_tdi : Settings → Said → Bool

@@ -6,7 +6,7 @@ ghost use Rattle.svf_parse.specs.View.{memory_fault, said_of};
 ghost use Rattle.svf_parse.specs.Judging.{Said};
 ghost use Rattle.svf_settings.specs.Reading.{IsBehind, Keeps, Takes, kept_as};
 
-use crate::kept::{Kept, KeptStep};
+use svf_programs::{Kept, KeptStep};
 use crate::running::Running;
 use crate::stepping::place_after;
 use jt_tap::State;
@@ -14,7 +14,7 @@ use std::alloc::{AllocError, Global};
 use svf_parse::{Code, Statement, SvfFault};
 
 /// The settings behind some statements, and where the program rests there.
-#[derive(Debug, Clone, Copy)]
+#[derive(Drop, Clone, Copy)]
 pub(crate) struct Reader {
     pub(crate) running: Running,
     pub(crate) place: State,

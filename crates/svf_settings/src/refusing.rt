@@ -8,12 +8,14 @@ ghost use Rattle.svf_parse.specs.View.{said_of};
 ghost use Rattle.svf_parse.specs.Judging.{Said};
 ghost use Rattle.svf_parse.specs.Judging as says;
 ghost use Rattle.tap_paths.specs.Paths as paths;
-ghost use Rattle.svf_settings.specs.Legal.{is_reset};
+ghost use Rattle.svf_programs.specs.Legal.{is_reset};
+ghost use Rattle.svf_programs.specs.Sound.{vector_limit};
 ghost use Rattle.svf_settings.specs.LookBack as look;
 ghost use Rattle.svf_settings.specs.Refusals as spec;
-ghost use Rattle.svf_settings.specs.Held.{parts_in, settings_in};
+ghost use Rattle.svf_programs.specs.Held.{parts_in};
+ghost use Rattle.svf_settings.specs.Held.{settings_in};
 
-use crate::kept::{KeptPart, len_at, tdi_at};
+use svf_programs::{KeptPart, len_at, tdi_at};
 use crate::running::Running;
 use jt_bits::Bits;
 use jt_tap::State;
@@ -132,7 +134,7 @@ impl Running {
         ensures { let all = map said_of statements.now in
             let whole = spec.len_of (parts_in all header) + len + spec.len_of (parts_in all trailer) in
             result ≡ (if spec.is_held self.now.trst then Some Code.TrstHeld else if len == 0 then Some Code.EmptyScan
-            else if nat_lt spec.vector_limit whole then Some Code.TooLarge else None) }
+            else if nat_lt vector_limit whole then Some Code.TooLarge else None) }
     {
         let whole = len_of(statements, header)
             .saturating_add(len)

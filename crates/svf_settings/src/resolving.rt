@@ -3,14 +3,14 @@
 ghost use Rattle.std.specs.Prelude.{◌≡◌, ◌≢◌, ◌+◌, ◌≤◌, IfOk, IfErr, Ok, Err, length, map};
 ghost use Rattle.std.specs.List.{sum_by};
 ghost use Rattle.svf_parse.specs.Sizes.{size};
-ghost use Rattle.svf_settings.specs.Sizes.{content, program_of};
+ghost use Rattle.svf_programs.specs.Sizes.{content, program_of};
 ghost use Rattle.svf_parse.specs.View.{memory_fault, said_of};
-ghost use Rattle.svf_settings.specs.Steps as steps;
-ghost use Rattle.svf_settings.specs.Laws.{IsSound};
+ghost use Rattle.svf_programs.specs.Steps as steps;
+ghost use Rattle.svf_programs.specs.Sound.{IsSound};
 ghost use Rattle.svf_settings.specs.Programs.{Refuses, Resolves, resolution};
 ghost use Rattle.svf_settings.specs.Reading.{Answers};
 
-use crate::program::Program;
+use svf_programs::Program;
 use crate::reading::kept_steps;
 use std::alloc::Global;
 use svf_parse::{Statement, SvfFault};

@@ -5,12 +5,13 @@ ghost use Rattle.std.specs.Prelude.{option_and_then, option_map, slice_get, unwr
 ghost use Rattle.svf_parse.specs.View.{said_of};
 ghost use Rattle.svf_parse.specs.Judging.{Said};
 ghost use Rattle.svf_parse.specs.Judging as says;
-ghost use Rattle.svf_settings.specs.Steps as steps;
+ghost use Rattle.svf_programs.specs.Steps as steps;
 ghost use Rattle.svf_settings.specs.LookBack as look;
 ghost use Rattle.svf_settings.specs.Running as running;
-ghost use Rattle.svf_settings.specs.Held.{field_at, mask_of, part_in, parts_in, settings_in, step_in, tdi_of};
+ghost use Rattle.svf_programs.specs.Held.{field_at, mask_of, part_in, parts_in, step_in, tdi_of};
+ghost use Rattle.svf_settings.specs.Held.{settings_in};
 
-use crate::kept::{Kept, KeptPart, len_at, path_at};
+use svf_programs::{Kept, KeptPart, len_at, path_at};
 use crate::refusing::last_of;
 use crate::running::Running;
 use jt_bits::Bits;

@@ -1,8 +1,8 @@
 ghost use Rattle.std.specs.Prelude.{◌≡◌, true};
 ghost use Rattle.jt_tap.specs.Controller.{is_stable};
-ghost use Rattle.svf_settings.specs.Legal.{IsFormed};
-ghost use Rattle.svf_settings.specs.Laws.{IsWithin};
-ghost use Rattle.svf_settings.specs.Seen as seen;
+ghost use Rattle.svf_programs.specs.Legal.{IsFormed};
+ghost use Rattle.svf_programs.specs.Sound.{IsWithin};
+ghost use Rattle.svf_programs.specs.Seen as seen;
 
 use bitbang::StepBytes;
 use jt_bits::{Bits, HexFault};
@@ -11,7 +11,7 @@ use scan_vectors::{Part3, Vector, join};
 use std::alloc::Global;
 use std::process::Abort;
 use svf_parse::TrstWord;
-use svf_settings::{Action, Step};
+use svf_programs::{Action, Step};
 
 /// Asserts that these are the bytes of a step, also where it is resumed at any of them.
 fn assert_bytes(rt: &impl Abort, place: State, what: Action, wanted: &[u8])

@@ -1,16 +1,16 @@
 //! The cycles of steps, and sources that are resumed at each of them.
 ghost use Rattle.std.specs.Prelude.{◌≡◌, true};
 ghost use Rattle.jt_tap.specs.Controller.{is_stable};
-ghost use Rattle.svf_settings.specs.Legal.{IsFormed};
-ghost use Rattle.svf_settings.specs.Laws.{IsWithin};
-ghost use Rattle.svf_settings.specs.Seen as seen;
+ghost use Rattle.svf_programs.specs.Legal.{IsFormed};
+ghost use Rattle.svf_programs.specs.Sound.{IsWithin};
+ghost use Rattle.svf_programs.specs.Seen as seen;
 
 use jt_bits::{Bits, HexFault};
 use jt_tap::{Column, State};
 use scan_vectors::{Part3, join};
 use std::process::Abort;
 use svf_parse::TrstWord;
-use svf_settings::{Action, Step};
+use svf_programs::{Action, Step};
 use tck_cycles::{Cycle, Source, place_after};
 
 /// A cycle in which nothing is shifted.

@@ -4,7 +4,8 @@ use std::alloc::{AllocError, Global};
 use std::process::Abort;
 use std::test::Fail;
 use svf_parse::parse;
-use svf_settings::{Action, Step, resolve};
+use svf_programs::{Action, Step};
+use svf_settings::resolve;
 
 /// What a text is: how many statements it has, and its steps, or its refusal.
 fn told(alloc: Global, text: &[u8]) -> Result<String, Fail> {

@@ -5,7 +5,7 @@ use Rattle.jt_tap.specs.Controller.{is_at}
 use Rattle.tap_paths.specs.Paths.{go, to_shift, from_exit1}
 use Rattle.svf_words.specs.declared.keywords.TrstWord.TheVariants as word
 use Rattle.scan_vectors.specs.Vector.{VectorBit}
-use Rattle.svf_settings.specs.Steps.{Step, Scan, Go, Path, Run, Trst}
+use Rattle.svf_programs.specs.Steps.{Step, Scan, Go, Path, Run, Trst}
 use Rattle.bitbang_table.specs.declared.Cycle.{Cycle}
 pub use Rattle.bitbang_table.specs.Cycles.{entering, resets_held}
 

@@ -1,12 +1,12 @@
 //! Where a step comes to rest.
 
 ghost use Rattle.std.specs.Prelude.{◌≡◌};
-ghost use Rattle.svf_settings.specs.Seen as seen;
-ghost use Rattle.svf_settings.specs.Steps as steps;
+ghost use Rattle.svf_programs.specs.Seen as seen;
+ghost use Rattle.svf_programs.specs.Steps as steps;
 
 use jt_tap::State;
 use svf_parse::TrstWord;
-use svf_settings::{Action, Step};
+use svf_programs::{Action, Step};
 
 /// Where a step comes to rest that begins at this place.
 pub fn place_after(place: State, step: &Step) -> State

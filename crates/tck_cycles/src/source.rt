@@ -11,7 +11,7 @@ use arrayvec::ArrayVec;
 use bitbang_table::Cycle;
 use jt_tap::State;
 use svf_parse::TrstWord;
-use svf_settings::{Action, Step};
+use svf_programs::{Action, Step};
 
 /// A place in the cycles of a step. It borrows nothing.
 #[derive(Debug, Clone, Copy, PartialEq, Eq)]
@@ -38,9 +38,9 @@ impl<'a> Source<'a> {
     ghost use Rattle.arrayvec.specs.ArrayVec.{array_vec_len};
     ghost use Rattle.tck_cycles.specs.Middles.{middle_cycles, stayed};
     ghost use Rattle.jt_tap.specs.Controller.{is_stable};
-    ghost use Rattle.svf_settings.specs.Legal.{IsFormed};
-    ghost use Rattle.svf_settings.specs.Laws.{IsWithin};
-    ghost use Rattle.svf_settings.specs.Seen as seen;
+    ghost use Rattle.svf_programs.specs.Legal.{IsFormed};
+    ghost use Rattle.svf_programs.specs.Sound.{IsWithin};
+    ghost use Rattle.svf_programs.specs.Seen as seen;
     ghost use Rattle.tck_cycles.specs.Cycles.{cycles, entering};
     ghost use Rattle.tck_cycles.specs.Sources.{behind, left, whole};
     ghost use Rattle.std.specs.Iterator.{YieldsFirst};

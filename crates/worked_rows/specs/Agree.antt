@@ -8,7 +8,7 @@ use Rattle.bitbang_table.specs.Protocol.{encode}
 use Rattle.board_meaning.specs.Chain.{BoardState, ChipState}
 use Rattle.board_meaning.specs.Whole.{AtRest, after_opening}
 use Rattle.board_meaning.specs.Resting.{board_at_rest}
-use Rattle.svf_settings.specs.Steps.{Numbered}
+use Rattle.svf_programs.specs.Steps.{Numbered}
 use Rattle.plays.specs.Meaning.{Outcome, outcome}
 use Rattle.plays.specs.declared.ending.Ending.{Ending}
 use Rattle.plays.specs.Play.{Played, full_play, turns}

@@ -16,7 +16,7 @@ use Rattle.board_meaning.specs.Whole.{AtRest}
 use Rattle.board_meaning.specs.Resting.{power_up, board_at_rest}
 use Rattle.scan_vectors.specs.declared.part.Part.TheVariants.{Header, Data}
 use Rattle.plays.specs.declared.ending.Ending.TheVariants.{Pass, Fail}
-use Rattle.svf_settings.specs.Steps.{Go, Path, Run, Trst, Numbered}
+use Rattle.svf_programs.specs.Steps.{Go, Path, Run, Trst, Numbered}
 use Rattle.svf_words.specs.declared.keywords.TrstWord.TheVariants.{On}
 use Rattle.plays.specs.Play.{player, turns}
 use Rattle.worked_rows.specs.Samples.{bits, sample_device, with_trst, with_highz, with_intest, with_user}

@@ -18,7 +18,7 @@ use Rattle.pin_nets.specs.declared.Pull.{Pull}
 use Rattle.board_meaning.specs.Whole.{AtRest}
 use Rattle.board_meaning.specs.Resting.{power_up}
 use Rattle.scan_vectors.specs.Vector.{PartBits, join}
-use Rattle.svf_settings.specs.Steps.{Step, Scan, Numbered}
+use Rattle.svf_programs.specs.Steps.{Step, Scan, Numbered}
 
 -- the n lowest binary digits
 abbrev pub bits : ℕ → ℕ → List Bool

@@ -9,7 +9,7 @@ use Rattle.board_meaning.specs.declared.Reply.TheVariants.{Refused}
 use Rattle.board_meaning.specs.Resting.{chip_at_rest, board_at_rest}
 use Rattle.scan_vectors.specs.declared.part.Part.TheVariants.{Data}
 use Rattle.plays.specs.declared.ending.Ending.TheVariants.{Pass, Fail, Lost, BadAnswer}
-use Rattle.svf_settings.specs.Steps.{Numbered}
+use Rattle.svf_programs.specs.Steps.{Numbered}
 use Rattle.plays.specs.Play.{turns, full_play, player, ending_for}
 use Rattle.plays.specs.Events.{World, Known, Event, Put, Serve, Take, Lose, by_answers, before_events, run, moving}
 use Rattle.plays.specs.Events.{ending_of_world}

@@ -3,12 +3,12 @@ use Rattle.jt_tap.specs.Controller.{is_stable}
 use Rattle.jt_tap.specs.declared.State.{State}
 use Rattle.jt_tap.specs.declared.State.TheVariants.{Reset}
 use Rattle.bitbang.specs.StepMessages.{step_bytes}
-use Rattle.svf_settings.specs.Laws.{AllWithin}
-use Rattle.svf_settings.specs.Left.{left}
-use Rattle.svf_settings.specs.Legal.{IsFormed}
-use Rattle.svf_settings.specs.Seen.{numbered}
-use Rattle.svf_settings.specs.Sizes.{program_of}
-use Rattle.svf_settings.specs.Steps.{Numbered}
+use Rattle.svf_programs.specs.Sound.{AllWithin}
+use Rattle.svf_programs.specs.Left.{left}
+use Rattle.svf_programs.specs.Legal.{IsFormed}
+use Rattle.svf_programs.specs.Seen.{numbered}
+use Rattle.svf_programs.specs.Sizes.{program_of}
+use Rattle.svf_programs.specs.Steps.{Numbered}
 use Rattle.board_meaning.specs.Chain.{BoardState}
 use Rattle.board_meaning.specs.Resting.{IsAtRest, board_at_rest}
 use Rattle.plays.specs.declared.ending.Ending.TheVariants.{Fail, Pass}

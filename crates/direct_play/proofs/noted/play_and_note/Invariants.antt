@@ -1,7 +1,7 @@
 use Rattle.std.proofs.Common.{◌≡◌, ◌++◌, ℕ, List}
-use Rattle.svf_settings.specs.Laws.{AllWithin}
-use Rattle.svf_settings.specs.Left.{left}
-use Rattle.svf_settings.specs.Sizes.{program_of}
+use Rattle.svf_programs.specs.Sound.{AllWithin}
+use Rattle.svf_programs.specs.Left.{left}
+use Rattle.svf_programs.specs.Sizes.{program_of}
 use Rattle.board_meaning.specs.Resting.{IsAtRest, board_at_rest}
 use Rattle.board_meaning.specs.Whole.{AtRest}
 use Rattle.plays.specs.DirectPlay.{bytes_of_full_play, opened_state}

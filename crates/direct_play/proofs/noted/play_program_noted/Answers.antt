@@ -1,6 +1,6 @@
 use Rattle.std.proofs.Common.{◌<◌, ℕ, ap, subst}
 use Rattle.std.specs.Prelude.{◌==◌}
-use Rattle.svf_settings.specs.Sizes.{program_of}
+use Rattle.svf_programs.specs.Sizes.{program_of}
 use Rattle.plays.specs.DirectPlay.{bytes_of_full_play}
 use Rattle.direct_play.proofs.NotedPieces.{noted-writes}
 use Rattle.direct_play.proofs.WholePlay.{played_so}

@@ -1,7 +1,7 @@
 use Rattle.std.proofs.Common.{◌≡◌, ◌++◌, List, ℕ, length}
 use Rattle.bitbang.specs.Left.{left}
 use Rattle.bitbang.specs.StepMessages.{step_bytes}
-use Rattle.svf_settings.specs.Seen.{step}
+use Rattle.svf_programs.specs.Seen.{step}
 use Rattle.direct_play.specs.Noting.{Notes}
 use Rattle.direct_play.proofs.noting.note_step.Given as goal
 

@@ -1,6 +1,6 @@
 use Rattle.std.proofs.Common.{◌≡◌}
-use Rattle.svf_settings.specs.Left.{left}
-use Rattle.svf_settings.specs.Sizes.{program_of}
+use Rattle.svf_programs.specs.Left.{left}
+use Rattle.svf_programs.specs.Sizes.{program_of}
 use Rattle.board_meaning.specs.Resting.{IsAtRest}
 use Rattle.board_meaning.specs.Whole.{AtRest}
 use Rattle.plays.specs.DirectPlay.{opened_state}

@@ -2,7 +2,7 @@ use Rattle.std.proofs.Common.{refl, ap}
 use Rattle.byte_ends.proofs.Fronts.{WritesAll-is, WritesAll-then, WritesAll-stopped}
 use Rattle.board_report.specs.Report.{report}
 use Rattle.plays.specs.Endings.{verdict_line}
-use Rattle.svf_settings.specs.Sizes.{program_of}
+use Rattle.svf_programs.specs.Sizes.{program_of}
 use Rattle.plays.specs.Play.{play}
 use Rattle.jt_player.proofs.RunLaws.{WritesAll-like, not-ok}
 use Rattle.jt_player.proofs.run.play_and_tell.Goals as goal

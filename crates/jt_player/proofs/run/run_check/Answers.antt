@@ -1,6 +1,6 @@
 use Rattle.std.proofs.Common.{◌≡◌, refl, inl}
 use Rattle.std.specs.Prelude.{Ok, Err}
-use Rattle.svf_settings.specs.Sizes.{program_of}
+use Rattle.svf_programs.specs.Sizes.{program_of}
 use Rattle.jt_player.specs.Running.{IsCheckOf, accepted, accepted_run, no_memory_check, refused_check}
 use Rattle.jt_player.proofs.RunLaws.{happens-out, on_ok, refused-or-memory}
 use Rattle.jt_player.proofs.run.run_check.Goals as goal

@@ -1,5 +1,5 @@
 use Rattle.std.proofs.Common.{◌<◌, ℕ, refl, subst}
-use Rattle.svf_settings.specs.Sizes.{program_of}
+use Rattle.svf_programs.specs.Sizes.{program_of}
 use Rattle.plays.specs.DirectPlay.{MeansFromOpening}
 use Rattle.plays.specs.Play.{play}
 use Rattle.plays.proofs.Described.{means_from_opening}

@@ -1,7 +1,7 @@
 use Rattle.std.proofs.Common.{◌≡◌, ◌+◌, ℕ, suc, true, false, List, ◌∷◌, drop, length, slice_index_or, sym, ap, ◌∙◌, arith}
 use Rattle.std.specs.Prelude.{is_some}
-use Rattle.svf_settings.specs.Seen.{numbered}
-use Rattle.svf_settings.specs.Sizes.{program_of}
+use Rattle.svf_programs.specs.Seen.{numbered}
+use Rattle.svf_programs.specs.Sizes.{program_of}
 use Rattle.plays.specs.Streams.{hear_bytes, answers_taken}
 use Rattle.stream_player.specs.Progress.{state_of}
 use Rattle.stream_player.proofs.AnswersTaken.{asks-nothing, is-none, takes-nothing, takes-on}

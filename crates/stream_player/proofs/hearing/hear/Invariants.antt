@@ -1,5 +1,5 @@
 use Rattle.std.proofs.Common.{◌≡◌, ◌+◌, length, drop}
-use Rattle.svf_settings.specs.Sizes.{program_of}
+use Rattle.svf_programs.specs.Sizes.{program_of}
 use Rattle.plays.specs.Streams.{hear_bytes, answers_taken}
 use Rattle.stream_player.specs.Progress.{Stands, state_of}
 use Rattle.stream_player.proofs.hearing.hear.Given as goal

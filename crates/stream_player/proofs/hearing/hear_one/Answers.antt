@@ -1,7 +1,7 @@
 use Rattle.std.proofs.Common.{sym, ◌∙◌, arith}
 use Rattle.scan_vectors.specs.Held.{bits}
-use Rattle.svf_settings.specs.Seen.{numbered}
-use Rattle.svf_settings.specs.Sizes.{program_of}
+use Rattle.svf_programs.specs.Seen.{numbered}
+use Rattle.svf_programs.specs.Sizes.{program_of}
 use Rattle.stream_player.proofs.AnswersTaken.{counts-below, counts-on, counts-same}
 use Rattle.stream_player.proofs.hearing.hear_one.Goals as goal
 

@@ -1,5 +1,5 @@
 use Rattle.std.proofs.Common.{◌≡◌, ◌+◌, ◌-◌, ◌≤◌, ◌++◌, length, take, drop, None}
-use Rattle.svf_settings.specs.Sizes.{program_of}
+use Rattle.svf_programs.specs.Sizes.{program_of}
 use Rattle.plays.specs.Streams.{bytes_to_send}
 use Rattle.stream_player.specs.Progress.{Stands, state_of}
 use Rattle.stream_player.proofs.pieces.fill.Given as goal

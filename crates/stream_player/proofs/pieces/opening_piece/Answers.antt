@@ -1,7 +1,7 @@
 use Rattle.std.proofs.Common.{◌+◌, ℕ, suc, List, ◌++◌, map, drop, slice_index_or, refl, ap, ◌∙◌, arith}
 use Rattle.bitbang_table.specs.Cycles.{opening}
 use Rattle.bitbang_table.specs.Protocol.{encode}
-use Rattle.svf_settings.specs.Sizes.{program_of}
+use Rattle.svf_programs.specs.Sizes.{program_of}
 use Rattle.stream_player.proofs.Pieced.{drop-index, gives-one, opening-on, opening-state, opening-waits}
 use Rattle.stream_player.proofs.PlayerPlaces.{in-opening}
 use Rattle.stream_player.proofs.pieces.opening_piece.Goals as goal

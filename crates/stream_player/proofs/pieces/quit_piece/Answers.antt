@@ -1,7 +1,7 @@
 use Rattle.std.proofs.Common.{[], ◌∷◌, true, false, map, drop, refl, ap, ◌∙◌, arith}
 use Rattle.bitbang_table.specs.declared.Message.TheVariants.{Quit}
 use Rattle.bitbang_table.specs.Protocol.{encode, value}
-use Rattle.svf_settings.specs.Sizes.{program_of}
+use Rattle.svf_programs.specs.Sizes.{program_of}
 use Rattle.stream_player.proofs.Pieced.{gives-none, gives-one, is-over, quit-on, quit-state, quit-waits}
 use Rattle.stream_player.proofs.pieces.quit_piece.Goals as goal
 

@@ -1,5 +1,5 @@
 use Rattle.std.proofs.Common.{drop, subst}
-use Rattle.svf_settings.specs.Sizes.{program_of}
+use Rattle.svf_programs.specs.Sizes.{program_of}
 use Rattle.stream_player.specs.declared.progress.Phase.{Phase}
 use Rattle.stream_player.specs.Progress.{IsReady}
 use Rattle.stream_player.proofs.Pieced.{gives-same}

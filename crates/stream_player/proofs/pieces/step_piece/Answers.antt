@@ -1,8 +1,8 @@
 use Rattle.std.proofs.Common.{◌≡◌, ◌-◌, ◌+◌, ◌++◌, ℕ, suc, List, drop, take, length, min, sym, ap, ◌∙◌}
 use Rattle.bitbang.specs.Left.{behind, left, whole}
-use Rattle.svf_settings.specs.Seen.{numbered, step}
-use Rattle.svf_settings.specs.Sizes.{program_of}
-use Rattle.svf_settings.specs.Steps.{Numbered}
+use Rattle.svf_programs.specs.Seen.{numbered, step}
+use Rattle.svf_programs.specs.Sizes.{program_of}
+use Rattle.svf_programs.specs.Steps.{Numbered}
 use Rattle.stream_player.specs.Progress.{rest_of}
 use Rattle.stream_player.specs.PlaceInPlay.{reads, up_to_reads}
 use Rattle.stream_player.proofs.Pieced.{gives-step}

@@ -1,5 +1,5 @@
 use Rattle.std.proofs.Common.{◌≡◌}
-use Rattle.svf_settings.specs.Sizes.{program_of}
+use Rattle.svf_programs.specs.Sizes.{program_of}
 use Rattle.stream_player.specs.Progress.{Stands, ahead, state_of}
 use Rattle.stream_player.proofs.progress.settled.Given as goal
 

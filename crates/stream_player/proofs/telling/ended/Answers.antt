@@ -4,8 +4,8 @@ use Rattle.plays.specs.declared.ending.Ending.{Ending}
 use Rattle.plays.specs.PlayingOn.{ending_of}
 use Rattle.stream_player.specs.Progress.{mismatch}
 use Rattle.stream_player.specs.PlaceInPlay.{finding_of}
-use Rattle.svf_settings.specs.Seen.{numbered}
-use Rattle.svf_settings.specs.Sizes.{program_of}
+use Rattle.svf_programs.specs.Seen.{numbered}
+use Rattle.svf_programs.specs.Sizes.{program_of}
 use Rattle.stream_player.proofs.EndingLaws.{ended-bad, ended-good}
 use Rattle.stream_player.proofs.telling.ended.Goals as goal
 

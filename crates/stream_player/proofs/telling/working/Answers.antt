@@ -1,6 +1,6 @@
 use Rattle.std.proofs.Common.{◌-◌, drop, ap, subst, arith}
-use Rattle.svf_settings.specs.Seen.{numbered}
-use Rattle.svf_settings.specs.Sizes.{program_of}
+use Rattle.svf_programs.specs.Seen.{numbered}
+use Rattle.svf_programs.specs.Sizes.{program_of}
 use Rattle.plays.specs.Streams as stream
 use Rattle.stream_player.specs.Progress.{IsReady}
 use Rattle.stream_player.proofs.EndingLaws.{works-over, works-within}

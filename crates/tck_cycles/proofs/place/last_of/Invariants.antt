@@ -1,5 +1,5 @@
 use Rattle.std.proofs.Common.{◌≡◌, drop}
-use Rattle.svf_settings.specs.Steps as steps
+use Rattle.svf_programs.specs.Steps as steps
 use Rattle.tck_cycles.proofs.place.last_of.Given as goal
 
 abbrev pub invariant-loop-state : goal.invariant-loop-state

@@ -1,8 +1,8 @@
 use Rattle.std.proofs.Common.{map, None, Some, refl, sym, ◌∙◌, ap}
 use Rattle.std.specs.Prelude.{option_map}
 use Rattle.svf_parse.specs.View.{said_of}
-use Rattle.svf_settings.specs.Steps.{Step}
-use Rattle.svf_settings.specs.Held.{step_in}
+use Rattle.svf_programs.specs.Steps.{Step}
+use Rattle.svf_programs.specs.Held.{step_in}
 use Rattle.svf_settings.proofs.OneStatementMore.{taken, told_behind}
 use Rattle.svf_settings.proofs.reading.Reader.take.Goals as goal
 

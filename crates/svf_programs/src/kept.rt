@@ -4,7 +4,7 @@ ghost use Rattle.std.specs.Prelude.{◌≡◌, List, Bool, Option, map, option_m
 ghost use Rattle.svf_parse.specs.View.{said_of};
 ghost use Rattle.scan_vectors.specs.Held.{fields};
 ghost use Rattle.scan_vectors.specs.Fields.{no_fields};
-ghost use Rattle.svf_settings.specs.Held as spec;
+ghost use Rattle.svf_programs.specs.Held as spec;
 ghost use Rattle.std.specs.Prelude.{unwrap_or};
 
 use jt_bits::Bits;
@@ -15,18 +15,18 @@ use svf_parse::{Statement, TrstWord};
 /// One part of a scan's vector, by the places of the statements in which it is written. A TDI or a MASK that is not
 /// given is named by the part's own statement, which gives none.
 #[derive(Debug, Clone, Copy)]
-pub(crate) struct KeptPart {
+pub struct KeptPart {
     /// The part's own statement, which gives its length and what is wanted out.
-    pub(crate) at: u32,
+    pub at: u32,
     /// The statement that gives its TDI.
-    pub(crate) tdi: u32,
+    pub tdi: u32,
     /// The statement that gives its MASK.
-    pub(crate) mask: u32,
+    pub mask: u32,
 }
 
 /// What a step does. A path is named by its statement.
 #[derive(Debug, Drop, Clone, Copy)]
-pub(crate) enum Kept {
+pub enum Kept {
     Scan {
         column: Column,
         header: Option<KeptPart>,
@@ -46,9 +46,9 @@ pub(crate) enum Kept {
 
 /// A step, by the number of its statement.
 #[derive(Debug, Drop, Clone, Copy)]
-pub(crate) struct KeptStep {
-    pub(crate) number: u32,
-    pub(crate) what: Kept,
+pub struct KeptStep {
+    pub number: u32,
+    pub what: Kept,
 }
 
 /// The TDI that a statement gives.
@@ -82,7 +82,7 @@ fn mask_of(statement: &Statement) -> Option<&Bits>
 }
 
 /// The TDI that is written there.
-pub(crate) fn tdi_at(statements: &[Statement], at: u32) -> Option<&Bits>
+pub fn tdi_at(statements: &[Statement], at: u32) -> Option<&Bits>
     ensures { option_map {U = List Bool} (λ b. b.now) result
         ≡ spec.field_at spec.tdi_of (map said_of statements.now) at }
 {
@@ -115,7 +115,7 @@ fn mask_at(statements: &[Statement], at: u32) -> Option<&Bits>
 }
 
 /// The length of the scan that stands there.
-pub(crate) fn len_at(statements: &[Statement], at: u32) -> usize
+pub fn len_at(statements: &[Statement], at: u32) -> usize
     ensures { result ≡ spec.len_in (slice_get (map said_of statements.now) at) }
 {
     match statements.get(at as usize) {
@@ -126,7 +126,7 @@ pub(crate) fn len_at(statements: &[Statement], at: u32) -> usize
 
 impl KeptPart {
     /// The fields of the part.
-    pub(crate) fn part<'a>(&self, statements: &'a [Statement]) -> Part3<'a>
+    pub fn part<'a>(&self, statements: &'a [Statement]) -> Part3<'a>
         ensures { fields result ≡ spec.part_in (map said_of statements.now) self.now }
     {
         Part3 {
@@ -139,7 +139,7 @@ impl KeptPart {
 }
 
 /// The fields of a header or trailer, of no bits where there is none.
-pub(crate) fn part_or_none<'a>(part: Option<KeptPart>, statements: &'a [Statement]) -> Part3<'a>
+pub fn part_or_none<'a>(part: Option<KeptPart>, statements: &'a [Statement]) -> Part3<'a>
     ensures { fields result ≡ unwrap_or (spec.parts_in (map said_of statements.now) part) no_fields }
 {
     match part {
@@ -154,7 +154,7 @@ pub(crate) fn part_or_none<'a>(part: Option<KeptPart>, statements: &'a [Statemen
 }
 
 /// The states of a path, by its statement.
-pub(crate) fn path_at(statements: &[Statement], at: u32) -> &[State]
+pub fn path_at(statements: &[Statement], at: u32) -> &[State]
     ensures { result.now ≡ spec.path_of (slice_get (map said_of statements.now) at) }
 {
     match statements.get(at as usize) {

@@ -2,9 +2,9 @@
 
 ghost use Rattle.std.specs.Prelude.{◌≡◌, ◌<◌, ◌+◌, ◌^◌, length, map, slice_get, Some};
 ghost use Rattle.svf_parse.specs.View.{said_of};
-ghost use Rattle.svf_settings.specs.Held as held;
-ghost use Rattle.svf_settings.specs.Seen as seen;
-ghost use Rattle.svf_settings.specs.Laws.{IsWithin};
+ghost use Rattle.svf_programs.specs.Held as held;
+ghost use Rattle.svf_programs.specs.Seen as seen;
+ghost use Rattle.svf_programs.specs.Sound.{IsWithin};
 
 use crate::kept::{Kept, KeptStep, part_or_none, path_at};
 use crate::step::{Action, Step};
@@ -22,13 +22,13 @@ pub struct Program {
 impl Model for Program {
     ghost use Rattle.std.specs.Prelude.{map, length};
     ghost use Rattle.std.specs.List.{sum_by};
-    ghost use Rattle.svf_settings.specs.Sizes.{Holding, content};
+    ghost use Rattle.svf_programs.specs.Sizes.{Holding, content};
 
     ghost Value = { Holding };
 
     ghost use Rattle.svf_parse.specs.View.{said_of};
-    ghost use Rattle.svf_settings.specs.Held.{numbered_in};
-    ghost use Rattle.svf_settings.specs.Laws.{IsSound};
+    ghost use Rattle.svf_programs.specs.Held.{numbered_in};
+    ghost use Rattle.svf_programs.specs.Sound.{IsSound};
 
     ghost view = { λ p. record {
       statements = length p.statements.items;
@@ -42,15 +42,15 @@ impl Model for Program {
 impl Program {
     ghost use Rattle.std.specs.Prelude.{◌≡◌, ◌<◌, length, map, slice_get, Some};
     ghost use Rattle.svf_parse.specs.View.{said_of};
-    ghost use Rattle.svf_settings.specs.Held.{numbered_in};
-    ghost use Rattle.svf_settings.specs.Laws.{IsSound};
-    ghost use Rattle.svf_settings.specs.Seen.{numbered};
+    ghost use Rattle.svf_programs.specs.Held.{numbered_in};
+    ghost use Rattle.svf_programs.specs.Sound.{IsSound};
+    ghost use Rattle.svf_programs.specs.Seen.{numbered};
     ghost use Rattle.std.specs.List.{sum_by};
-    ghost use Rattle.svf_settings.specs.Sizes.{content};
-    ghost use Rattle.svf_settings.specs.Left.{left};
+    ghost use Rattle.svf_programs.specs.Sizes.{content};
+    ghost use Rattle.svf_programs.specs.Left.{left};
 
     /// The program of these statements and steps.
-    pub(crate) fn of(statements: Vec<Statement>, steps: Vec<KeptStep>) -> Program
+    pub fn of(statements: Vec<Statement>, steps: Vec<KeptStep>) -> Program
         requires { IsSound (map (numbered_in (map said_of statements.items)) steps.items) }
         ensures { result ≡ record {
           statements = length statements.items;
@@ -106,8 +106,8 @@ impl<'a> Iterator for Steps<'a> {
     type Item = Step<'a>;
 
     ghost use Rattle.std.specs.Iterator.{YieldsFirstBy, item_count};
-    ghost use Rattle.svf_settings.specs.Seen.{numbered};
-    ghost use Rattle.svf_settings.specs.Left.{left};
+    ghost use Rattle.svf_programs.specs.Seen.{numbered};
+    ghost use Rattle.svf_programs.specs.Left.{left};
 
     ghost next_gives = { YieldsFirstBy numbered left };
 

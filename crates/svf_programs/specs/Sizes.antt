@@ -2,7 +2,7 @@
 use Rattle.std.specs.Prelude.{ℕ, ◌+◌, List, length}
 use Rattle.svf_parse.specs.Judging.{Said, scan, states}
 use Rattle.svf_parse.specs.Sizes.{bits_in}
-use Rattle.svf_settings.specs.Steps.{Numbered, Program}
+use Rattle.svf_programs.specs.Steps.{Numbered, Program}
 
 -- A program, with the number of bits of fields and of states of paths that it holds for its steps.
 pub record Holding : Type 0 where

@@ -5,7 +5,7 @@ use Rattle.jt_tap.specs.Controller.{is_at, next, entered_by, is_stable}
 use Rattle.jt_tap.specs.declared.State.{State}
 use Rattle.jt_tap.specs.declared.State.TheVariants.{Reset}
 use Rattle.svf_words.specs.declared.keywords.TrstWord.TheVariants as word
-use Rattle.svf_settings.specs.Steps.{Step, Scan, Go, Path, Run, Trst, Numbered, place_after, line_after}
+use Rattle.svf_programs.specs.Steps.{Step, Scan, Go, Path, Run, Trst, Numbered, place_after, line_after}
 
 -- each state one cycle from the one before, the last one stable
 abbrev pub IsPath : State → List State → Type 0

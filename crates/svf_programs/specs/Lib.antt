@@ -1,0 +1,7 @@
+pub mod Steps
+pub mod Legal
+pub mod Sound
+pub mod Held
+pub mod Seen
+pub mod Sizes
+pub mod Left

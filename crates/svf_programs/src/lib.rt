@@ -1,0 +1,10 @@
+//! Programs of steps, as they are kept beside the statements of the Serial Vector Format that they are made of.
+#![tactic(auto)]
+
+mod kept;
+mod program;
+mod step;
+
+pub use kept::{Kept, KeptPart, KeptStep, len_at, path_at, tdi_at};
+pub use program::{Program, Steps};
+pub use step::{Action, Step};
