@@ -1,6 +1,6 @@
 //! Long plays: whole registers beside edges.
 
-use crate::{Row, Unit, print_row};
+use bench_rows::{Row, Unit, print_row};
 use direct_play::{accept, play_program, play_program_noted};
 use jt_board::{Board, Counted, Reply};
 use plays::Ending;

@@ -1,8 +1,7 @@
 //! Whole plays over pipes: the bytes of a player, and the edges of a board of a bare device.
 ghost use Rattle.std.specs.Prelude.{◌≡◌, ◌<◌};
 
-use crate::scans::digest;
-use crate::{Row, Unit, print_row};
+use bench_rows::{Row, Unit, digest, print_row};
 use direct_play::accept;
 use joined::Joined;
 use jt_board::Board;

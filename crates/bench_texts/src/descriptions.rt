@@ -1,5 +1,5 @@
 //! Device descriptions of 4 MiB, and the devices that they say.
-use crate::{Row, Unit, print_row};
+use bench_rows::{Row, Unit, print_row};
 use bsdl_device::Device;
 use std::alloc::{AllocError, Global};
 use std::io::{self, Read};

@@ -1,5 +1,5 @@
 //! Lists of bits.
-use crate::{Row, Unit, print_row};
+use bench_rows::{Row, Unit, print_row};
 use jt_bits::{Bits, first_bad};
 use std::alloc::{AllocError, Global};
 use std::io;

@@ -2,7 +2,7 @@
 ghost use Rattle.std.specs.Prelude.{◌≡◌};
 
 use crate::bits::mixed;
-use crate::{Row, Unit, print_row};
+use bench_rows::{Row, Unit, digest, print_row};
 use bitbang::StepBytes;
 use jt_bits::Bits;
 use jt_tap::{Column, State};
@@ -155,15 +155,6 @@ fn judged(vector: &Vector, out: &Bits) -> Row {
         count: TIMES * (HEADER + DATA + TRAILER),
         check,
     }
-}
-
-/// A number of all bytes in their order.
-pub(crate) fn digest(bytes: &[u8]) -> u64 {
-    let mut digest: u64 = 0;
-    for byte in bytes {
-        digest = digest.rotate_left(5) ^ u64::from(*byte);
-    }
-    digest
 }
 
 /// The bytes of a scan from IDLE to IDLE.

@@ -1,5 +1,7 @@
-//! One device, edge by edge.
-use crate::{Row, Unit, print_row};
+//! The row of the benchmark of one device, edge by edge.
+#![tactic(auto)]
+
+use bench_rows::{Row, Unit, print_row};
 use boundary::Boundary;
 use bsdl_device::{Cell, Device, Function, Names, Opcode, Parts, Pattern, Ports};
 use jt_bits::Bits;

@@ -1,6 +1,7 @@
-//! Boards of described devices with nets, byte by byte.
+//! Rows of the benchmark of boards of described devices with nets, byte by byte.
+#![tactic(auto)]
 
-use crate::{Row, Unit, print_row};
+use bench_rows::{Row, Unit, print_row};
 use jt_board::{Board, Reply};
 use std::alloc::{AllocError, Global};
 use std::io;
