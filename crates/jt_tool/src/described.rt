@@ -1,6 +1,6 @@
 //! The board that the command line asks for.
 
-use crate::input::{InputFault, read_board_file, read_text};
+use command_line::{InputFault, read_board_file, read_text};
 use jt_player::{Board, BoardFault, bsdl_names};
 use std::alloc::{AllocError, Global};
 

@@ -2,16 +2,11 @@
 #![tactic(auto)]
 
 mod described;
-mod input;
-mod request;
-mod words;
 
 use crate::described::{Unmade, make_board};
-use crate::input::{InputFault, read_text};
-use crate::request::{Request, Task, parse};
-use crate::words::command_words;
 use byte_ends::{Counted, Plain};
 use clap::error::ErrorKind as WordsFault;
+use command_line::{InputFault, Request, Task, command_words, parse, read_text};
 use jt_player::{BoardFault, run_check, run_play};
 use std::alloc::Global;
 use std::io::ErrorKind;

@@ -6,12 +6,12 @@ ghost use Rattle.svf_parse.specs.View.{memory_fault, said_of};
 ghost use Rattle.svf_parse.specs.Judging.{Said};
 ghost use Rattle.svf_settings.specs.Reading.{IsBehind, Keeps, Takes, kept_as};
 
-use svf_programs::{Kept, KeptStep};
 use crate::running::Running;
 use crate::stepping::place_after;
 use jt_tap::State;
 use std::alloc::{AllocError, Global};
 use svf_parse::{Code, Statement, SvfFault};
+use svf_programs::{Kept, KeptStep};
 
 /// The settings behind some statements, and where the program rests there.
 #[derive(Drop, Clone, Copy)]

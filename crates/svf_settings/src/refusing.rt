@@ -15,11 +15,11 @@ ghost use Rattle.svf_settings.specs.Refusals as spec;
 ghost use Rattle.svf_programs.specs.Held.{parts_in};
 ghost use Rattle.svf_settings.specs.Held.{settings_in};
 
-use svf_programs::{KeptPart, len_at, tdi_at};
 use crate::running::Running;
 use jt_bits::Bits;
 use jt_tap::State;
 use svf_parse::{Code, Statement, TrstWord, Which};
+use svf_programs::{KeptPart, len_at, tdi_at};
 
 /// A whole vector has at most so many bits.
 const VECTOR_LIMIT: usize = 65_536;

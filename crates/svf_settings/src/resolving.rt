@@ -10,10 +10,10 @@ ghost use Rattle.svf_programs.specs.Sound.{IsSound};
 ghost use Rattle.svf_settings.specs.Programs.{Refuses, Resolves, resolution};
 ghost use Rattle.svf_settings.specs.Reading.{Answers};
 
-use svf_programs::Program;
 use crate::reading::kept_steps;
 use std::alloc::Global;
 use svf_parse::{Statement, SvfFault};
+use svf_programs::Program;
 
 /// The program that statements are, or their first refusal: that of the first faulty statement, and of its own
 /// refusals the one with the lowest number (S7 to S12, S14, S15). Want of memory is S16 with statement 0; a list of

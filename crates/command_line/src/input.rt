@@ -10,8 +10,10 @@ const MOST_BYTES: u64 = 16 * 1024 * 1024 + 1;
 
 /// Why a text was not read.
 #[derive(Debug, Clone, Copy, PartialEq, Eq)]
-pub(crate) enum InputFault {
+pub enum InputFault {
+    /// It cannot be opened or read, or a board file is too long.
     Unreadable,
+    /// Memory ran out.
     NoMemory,
 }
 
@@ -26,7 +28,7 @@ impl From<io::Error> for InputFault {
 }
 
 /// Reads a board file; one of more than 16 MiB counts as unreadable.
-pub(crate) fn read_board_file<R: Files + Input + AllocGlobal>(
+pub fn read_board_file<R: Files + Input + AllocGlobal>(
     rt: &R,
     alloc: Global,
     name: &str,
@@ -39,7 +41,7 @@ pub(crate) fn read_board_file<R: Files + Input + AllocGlobal>(
 }
 
 /// Reads the named file, or standard input where none is named.
-pub(crate) fn read_text<R: Files + Input + AllocGlobal>(
+pub fn read_text<R: Files + Input + AllocGlobal>(
     rt: &R,
     alloc: Global,
     name: Option<&str>,

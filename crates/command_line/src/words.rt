@@ -35,7 +35,7 @@ impl<'a, R: Env> Env for OwnName<'a, R> {
 
 /// The words of the command line, the program's name first. A word that is not UTF-8 is an error of kind `InvalidData`,
 /// want of memory one of kind `OutOfMemory`.
-pub(crate) fn command_words<R: Env>(rt: &R, alloc: Global) -> io::Result<Vec<String>> {
+pub fn command_words<R: Env>(rt: &R, alloc: Global) -> io::Result<Vec<String>> {
     let mut words = Vec::new(alloc);
     for word in env::args(&(OwnName(rt), alloc))? {
         words.push(word)?;

@@ -5,7 +5,7 @@ use std::alloc::{AllocError, Global};
 
 /// What is done with a text.
 #[derive(Debug, Clone, Copy, PartialEq, Eq)]
-pub(crate) enum Task {
+pub enum Task {
     /// It is played, and where `bytes` is set the bytes sent are told too.
     Play { bytes: bool },
     /// It is only checked.
@@ -14,7 +14,7 @@ pub(crate) enum Task {
 
 /// What the command line asks for.
 #[derive(Debug, Clone, Copy)]
-pub(crate) struct Request<'a> {
+pub struct Request<'a> {
     /// The file of the text, `None` for standard input.
     pub svf: Option<&'a str>,
     /// The board file, `None` for one bare device.
@@ -24,7 +24,7 @@ pub(crate) struct Request<'a> {
 }
 
 /// Reads the words of a command line, of which the first is the program's name. Without any more it is `play --bytes`.
-pub(crate) fn parse<'a>(alloc: Global, words: &'a [&'a str]) -> Result<Request<'a>, Error> {
+pub fn parse<'a>(alloc: Global, words: &'a [&'a str]) -> Result<Request<'a>, Error> {
     let command = command(alloc)?;
     let matches = command.try_get_matches_from(words)?;
     Ok(request_of(&matches))
