@@ -1,4 +1,4 @@
--- What the settings that the code keeps stand for: their headers and trailers name the statements in which their fields are written.
+-- What the settings that the code keeps stand for: it names the statements in which their fields are written.
 use Rattle.std.specs.Prelude.{List}
 use Rattle.svf_parse.specs.Judging.{Said}
 use Rattle.svf_programs.specs.Held.{parts_in}
