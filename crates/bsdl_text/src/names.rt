@@ -19,10 +19,8 @@ impl Word<'_> {
     pub fn upper_name(self, alloc: Global) -> Result<String, AllocError>
         ensures { IfOk result (λ name. string_bytes name ≡ upper self.entry.text.now) }
     {
-        let mut name = String::with_capacity(alloc, self.text.len())?;
-        for byte in self.text {
-            name.push(char::from(byte.to_ascii_uppercase()))?;
-        }
+        let mut name = self.spelling(alloc)?;
+        name.make_ascii_uppercase();
         Ok(name)
     }
 

@@ -71,11 +71,12 @@ impl Seat {
         ensures { IfOk result (λ s. s ≡ seat_of nets.items (planned_member device.now)) }
     {
         let description = device.device.get();
+        let name = String::from_str(alloc, &device.name)?;
         let drivers = drivers(alloc, description.cells(), description.port_count())?;
         let boundary = Boundary::new(alloc, &device.device, &device.core, device.extest_update)?;
         let chip = Chip::new(alloc, &device.device, boundary)?;
         Ok(Seat {
-            name: String::from_str(alloc, &device.name)?,
+            name,
             chip,
             nets,
             drivers,

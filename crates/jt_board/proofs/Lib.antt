@@ -1,3 +1,4 @@
 pub mod Bares
+pub mod FormedLaws
 pub mod TextLaws
 pub mod RestLaws

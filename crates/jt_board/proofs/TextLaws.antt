@@ -9,7 +9,7 @@ use Rattle.bsdl_described.specs.Describing.{Refusal}
 use Rattle.bsdl.specs.Judging.{text_says}
 use Rattle.bsdl.specs.declared.fault.BsdlFault.{BsdlFault}
 use Rattle.bsdl.proofs.SoundLaws.{every_device}
-use Rattle.formed_devices.proofs.FormedLaws.{every_device as every_formed}
+use Rattle.jt_board.proofs.FormedLaws.{every_device as every_formed}
 use Rattle.board_file.specs.Fits.{AreSaid, FitsTogether, IsSaid}
 use Rattle.board_file.specs.View.{TellsBoard}
 use Rattle.board_plan.specs.View.{wiring}

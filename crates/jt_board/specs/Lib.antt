@@ -1,2 +1,3 @@
 pub mod FromText
+pub mod Laws
 pub mod Made

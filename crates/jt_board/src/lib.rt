@@ -3,6 +3,7 @@
 
 mod board;
 mod from_text;
+mod laws;
 mod report;
 
 pub use board::{Board, BoardFault};
@@ -11,5 +12,6 @@ pub use board_meaning::Reply;
 pub use board_report::Snapshot;
 pub use bsdl::BsdlFault;
 pub use byte_ends::{Broken, Counted};
+pub use laws::every_device_read_is_formed;
 pub use pin_nets::Level;
 pub use report::{write_left_out, write_report};

@@ -93,7 +93,6 @@ impl<B: Register> Chip<B> {
         requires cells { length (B.stage boundary) ≡ length device.now.cells }
         ensures { IfOk result (λ c. c ≡ powered device.now boundary) }
     {
-        let device = device.share()?;
         let description = device.get();
         let length = description.instruction_length();
         let reset_latch = reset_latch(alloc, description)?;
@@ -102,6 +101,7 @@ impl<B: Register> Chip<B> {
         let identification = Bits::zeros(alloc, code_length(description))?;
         let users = new_users(alloc, description.users())?;
         let decoded = decode(description, &latch);
+        let device = device.share()?;
         Ok(Chip {
             device,
             reset_latch,

@@ -23,7 +23,7 @@ const LENGTH_LIMIT: u64 = 65_536;
 const DIGITS_LIMIT: usize = 18;
 
 /// A number as it is written: digits, digits behind the point, and the exponent's sign and digits.
-#[derive(Debug, Clone, Copy)]
+#[derive(Clone, Copy)]
 struct Spelt<'a> {
     whole: &'a [u8],
     fraction: &'a [u8],
@@ -33,7 +33,7 @@ struct Spelt<'a> {
 
 /// A number as a count of units of 10^-36, of which each number within the limits has a whole count: the mantissa, and
 /// how many zeros stand behind it.
-#[derive(Debug, Clone, Copy)]
+#[derive(Clone, Copy)]
 struct Scaled {
     mantissa: u64,
     zeros: u32,

@@ -10,7 +10,7 @@ pub invariant_of-result : goal.invariant_of-result
 invariant_of-result g c =
     let d = c.in_ok-device.device in
     let described = c.get-description.result.now in
-    let same : described ≡ d = c.get-description.ensures in
+    let same : described ≡ d = c.get-description.ensures ∙ sym c.in_ok-device.ensures in
     let formed : IsFormed d = subst IsFormed (sym c.in_ok-device.ensures) c.requires.formed in
     let reset : c.in_ok-reset_latch.reset_latch ≡ reset_latch d = c.in_ok-reset_latch.ensures ∙ ap reset_latch same in
     let latch : c.in_ok-latch.latch ≡ reset_latch d = c.in_ok-latch.ensures ∙ reset in

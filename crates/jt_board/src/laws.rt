@@ -1,7 +1,6 @@
-//! Every device that is read can be made a chip.
-#![tactic(auto)]
+//! Laws of the devices of boards.
 
-ghost use Rattle.formed_devices.specs.Laws.{EveryDeviceReadIsFormed};
+ghost use Rattle.jt_board.specs.Laws.{EveryDeviceReadIsFormed};
 
 /// Every device that a text says has what a chip asks of it: instructions and a boundary register of one bit at least,
 /// a capture and a reset latch as long as instructions, codes of 32 bits, and for each own instruction of a user
