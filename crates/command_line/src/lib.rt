@@ -1,10 +1,8 @@
-//! The words of the command line, what they ask for, and the texts that they name.
+//! What the words of the command line ask for.
 #![tactic(auto)]
 
-mod input;
 mod request;
-mod words;
+mod usage;
 
-pub use input::{InputFault, read_board_file, read_text};
 pub use request::{Request, Task, parse};
-pub use words::command_words;
+pub use usage::usage_is_read;

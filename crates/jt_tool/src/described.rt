@@ -1,7 +1,7 @@
 //! The board that the command line asks for.
 
-use command_line::{InputFault, read_board_file, read_text};
 use jt_player::{Board, BoardFault, bsdl_names};
+use program_input::{InputFault, read_board_file, read_text};
 use std::alloc::{AllocError, Global};
 
 /// Why no board was made.

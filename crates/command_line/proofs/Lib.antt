@@ -1,0 +1,3 @@
+pub mod CommandLaws
+pub mod RequestLaws
+pub mod UsageRows

@@ -1,0 +1,24 @@
+-- Each row computes.
+use Rattle.std.proofs.Common.{refl}
+use Rattle.clap.proofs.OnLiterals.{clap_on_literals}
+use Rattle.command_line.specs.Usage.{UsageRows}
+
+pub usage : UsageRows
+unfolding clap_on_literals
+usage = record {
+  no_words = (refl, refl);
+  play = (refl, refl);
+  play_file = (refl, refl);
+  play_bytes = (refl, refl);
+  play_board = (refl, refl);
+  board_first = (refl, refl);
+  dashed_file = (refl, refl);
+  check = (refl, refl);
+  check_file = (refl, refl);
+  no_subcommand = refl;
+  check_tells_no_bytes = refl;
+  board_of_no_name = refl;
+  board_twice = refl;
+  two_files = refl;
+  asks_for_help = refl;
+}
