@@ -368,7 +368,7 @@ module _ (says : List ℕ → Option Device) (files : List File) where
       by rest None e = rw e rest
       by rest (Some d) e = rw e (said-name (text_at (codes "bsdl") t) d e, rest)
 
-  board_said : (t : Members) (w : Wiring) → makes says files t ≡ Ok w → AreSaid says w
+  pub board_said : (t : Members) (w : Wiring) → makes says files t ≡ Ok w → AreSaid says w
   board_said t w h = by (fault_of says files t) refl h
     where
       by : (o : Option Fault) → fault_of says files t ≡ o → answer o (wiring_of says files t) ≡ Ok w → AreSaid says w

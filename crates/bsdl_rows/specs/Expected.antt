@@ -41,36 +41,9 @@ k = Ok (record {
   has_trst = false;
 })
 
+-- the same device, whose letters outside strings are small
 abbrev pub k_lower : Result Device Refusal
-k_lower = Ok (record {
-  ports = (record { name = codes "TDI"; index = None; mode = In; is_tap = true }
-      ∷ record { name = codes "TMS"; index = None; mode = In; is_tap = true }
-      ∷ record { name = codes "TCK"; index = None; mode = In; is_tap = true }
-      ∷ record { name = codes "TDO"; index = None; mode = Out; is_tap = true }
-      ∷ record { name = codes "Q"; index = None; mode = Out; is_tap = false }
-      ∷ record { name = codes "D"; index = None; mode = In; is_tap = false } ∷ []);
-  instruction_length = 2;
-  opcodes = (record { name = codes "BYPASS"; patterns = ((Some true ∷ Some true ∷ []) ∷ []) }
-      ∷ record { name = codes "EXTEST"; patterns = ((Some false ∷ Some false ∷ []) ∷ []) }
-      ∷ record { name = codes "SAMPLE"; patterns = ((Some true ∷ Some false ∷ []) ∷ []) }
-      ∷ record { name = codes "IDCODE"; patterns = ((Some false ∷ Some true ∷ []) ∷ []) } ∷ []);
-  capture = (true ∷ false ∷ []);
-  idcode = (Some (true ∷ true ∷ true ∷ false ∷ false ∷ true ∷ true ∷ false ∷ true ∷ false ∷ true ∷ false ∷ false
-      ∷ false ∷ true ∷ false ∷ true ∷ true ∷ false ∷ false ∷ false ∷ true ∷ false ∷ false ∷ true ∷ false ∷ false
-      ∷ false ∷ false ∷ false ∷ false ∷ false ∷ []));
-  usercode = None;
-  cells = (record {
-    function = Output3;
-    port = (Some 4);
-    control = (Some (record { cell = 1; disabling = false; leaves = Z }));
-  }
-      ∷ record { function = Control; port = None; control = None }
-      ∷ record { function = Input; port = (Some 5); control = None } ∷ []);
-  private_names = ([]);
-  accesses = ([]);
-  users = ([]);
-  has_trst = false;
-})
+k_lower = k
 
 abbrev pub kt : Result Device Refusal
 kt = Ok (record {

@@ -1,3 +1,4 @@
 pub mod Steps
 pub mod RoundsEnd
 pub mod Ends
+pub mod Inside

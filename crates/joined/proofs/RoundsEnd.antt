@@ -75,7 +75,7 @@ pub carries : (program : Program) (b : BoardState) (down_room up_room : ℕ) (es
     ≡ world_of program (run (by_answers (player 256 (turns program.steps))) down_room up_room es (fresh_world b))
 carries program b down_room up_room es = carry_over Stops 256 program b down_room up_room es
 
-good-answers : (got : List Bool) → length (good (map answer got)) ≡ length got
+pub good-answers : (got : List Bool) → length (good (map answer got)) ≡ length got
 good-answers [] = refl
 good-answers (true ∷ got) = let rest = good-answers got in omega (arith, rest)
 good-answers (false ∷ got) = let rest = good-answers got in omega (arith, rest)

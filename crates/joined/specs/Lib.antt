@@ -1,3 +1,4 @@
 pub mod Joining
 pub mod Finishing
 pub mod Laws
+pub mod Inside

@@ -1,6 +1,8 @@
 //! Player and board joined by two bounded pipes.
 #![tactic(auto)]
 
+ghost use Rattle.joined.specs.Inside.{ALossNamesWhatIsInWork, FewEventsMoveSomething};
+ghost use Rattle.joined.specs.Inside.{WhatIsJoinedStaysInsideTheFullPlay};
 ghost use Rattle.joined.specs.Laws.{WhatIsJoinedEndsAsTheFullPlay, WhatIsJoinedMeansTheProgram};
 
 mod event;
@@ -20,4 +22,22 @@ pub fn what_is_joined_ends_as_the_full_play()
 /// gives exactly the verdict, and leaves exactly the registers and pin levels, of the register-level meaning.
 pub fn what_is_joined_means_the_program()
     ensures { WhatIsJoinedMeansTheProgram }
+{}
+
+/// After any events the bytes that the board took, with those in the pipe, are a front part of the full play's, and its
+/// answers a front part of the full play's answers: so no verdict is given that the full play would not give. The pipes
+/// hold exactly what was sent and not yet taken.
+pub fn what_is_joined_stays_inside_the_full_play()
+    ensures { WhatIsJoinedStaysInsideTheFullPlay }
+{}
+
+/// Over all calls of `run`, no more events move something than twice the full play's bytes, and its answers.
+pub fn few_events_move_something()
+    ensures { FewEventsMoveSomething }
+{}
+
+/// A play that was lost names the command in work: 0 until the opening is given out; then the first step that the play
+/// makes whose bytes are not all given out or whose answers are not all taken; with only `Q` left the statements plus 1.
+pub fn a_loss_names_what_is_in_work()
+    ensures { ALossNamesWhatIsInWork }
 {}

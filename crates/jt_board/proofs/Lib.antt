@@ -2,3 +2,4 @@ pub mod Bares
 pub mod FormedLaws
 pub mod TextLaws
 pub mod RestLaws
+pub mod InUse

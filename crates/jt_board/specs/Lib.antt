@@ -1,3 +1,4 @@
 pub mod FromText
+pub mod InUse
 pub mod Laws
 pub mod Made

@@ -1,8 +1,8 @@
 //! Boards by their board file and the descriptions that it names.
 
 ghost use Rattle.toml.specs.Data.{Members};
-ghost use Rattle.board_names.specs.Files.{IsBadToml, Reads};
-ghost use Rattle.board_names.specs.View.{TellsBadToml};
+ghost use Rattle.board_names.specs.Files.{IsBadToml, Reads, names_of};
+ghost use Rattle.board_names.specs.View.{TellsBadToml, TellsNames};
 ghost use Rattle.board_library.specs.View.{files_of};
 ghost use Rattle.board_file.specs.Wiring.{makes};
 ghost use Rattle.jt_board.specs.FromText.{TellsMade, said_device};
@@ -32,6 +32,18 @@ impl Describe for Bsdl {
             Err(fault) => Err(Unread::Refused(fault)),
         }
     }
+}
+
+/// The names of the descriptions that a board file asks for, in order, each once: those to hand to `Board::from_text`.
+/// Or why the file is refused, as far as that can be told without them: it is no TOML (C1), or a key is at fault (C2).
+/// Want of memory is C8.
+pub fn bsdl_names(alloc: Global, toml_text: &[u8]) -> Result<Vec<String>, BoardFault>
+    // The names that the table gives, or the first key at fault, unless memory runs out.
+    ensures told { (t : Members) → Reads toml_text.now t → TellsNames result (names_of t) }
+    // What is no TOML is refused as that, unless memory runs out.
+    ensures bad_toml { IsBadToml toml_text.now → TellsBadToml result }
+{
+    board_file::bsdl_names(alloc, toml_text)
 }
 
 impl Board {

@@ -1,10 +1,16 @@
-//! Laws of the devices of boards.
+//! Laws of the devices of boards, and of boards in use.
 
-ghost use Rattle.jt_board.specs.Laws.{EveryDeviceReadIsFormed};
+ghost use Rattle.jt_board.specs.Laws.{EveryBoardInUseIsSound, EveryDeviceReadIsFormed};
 
 /// Every device that a text says has what a chip asks of it: instructions and a boundary register of one bit at least,
 /// a capture and a reset latch as long as instructions, codes of 32 bits, and for each own instruction of a user
 /// register that register, of one bit at least and as long as what is captured there.
 pub fn every_device_read_is_formed()
     ensures { EveryDeviceReadIsFormed }
+{}
+
+/// Every board that a board file and its descriptions make, or that has 1 to 32 bare devices, has after any bytes what
+/// the laws of plays ask of it: 1 to 32 devices, of which each register that an instruction can select has a bit.
+pub fn every_board_in_use_is_sound()
+    ensures { EveryBoardInUseIsSound }
 {}

@@ -7,11 +7,11 @@ mod laws;
 mod report;
 
 pub use board::{Board, BoardFault};
-pub use board_file::bsdl_names;
 pub use board_meaning::Reply;
 pub use board_report::Snapshot;
 pub use bsdl::BsdlFault;
 pub use byte_ends::{Broken, Counted};
-pub use laws::every_device_read_is_formed;
+pub use from_text::bsdl_names;
+pub use laws::{every_board_in_use_is_sound, every_device_read_is_formed};
 pub use pin_nets::Level;
 pub use report::{write_left_out, write_report};

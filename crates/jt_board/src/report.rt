@@ -10,7 +10,8 @@ use board_report::{write_all_left_out, write_devices, write_nets};
 use byte_ends::{Broken, Counted, Sink};
 
 /// Writes the report of a board: for each device, from the one nearest TDO on, a line of its name, the word of its
-/// controller's state, the bits of its instruction, highest first, and the instruction's name, `-` where it has none.
+/// controller's state, the bits of its instruction, highest first, and the instruction's name, `-` where it has none;
+/// then for each net with a name a line of its name and its level (`Zero`, `One`, `Contend`, `Float`).
 ///
 /// `Broken` comes exactly where the writer's first failure came in this call.
 pub fn write_report<W: Sink>(board: &Board, out: &mut Counted<W>) -> Result<(), Broken>

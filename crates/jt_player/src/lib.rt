@@ -1,11 +1,13 @@
 //! A player of Serial Vector Format programs, and a simulated board that it is proved to agree with.
 #![tactic(auto)]
 
+mod headline;
 mod play;
 mod run;
 mod showing;
 
 pub use direct_play::accept;
+pub use headline::every_schedule_means_what_the_text_means;
 pub use joined::{Event, Joined, Standing, Unjoined};
 pub use jt_board::{
     Board, BoardFault, Broken, BsdlFault, Counted, Level, Reply, Snapshot, bsdl_names, write_report,

@@ -13,8 +13,8 @@ use jt_board::Board;
 use plays::Ending;
 use stream_player::Player;
 
-/// Plays a program on a board: each byte is taken by the board as soon as it is made, and each answer judged as it
-/// comes.
+/// Plays a program on a board, as if each byte were taken by the board as soon as it is made, and each answer judged as
+/// it comes. What that leads to is done on whole registers.
 ///
 /// Whatever state the board is in, the ending is that of the program's meaning over whole registers, from the state
 /// after the opening, and the board is at rest in its last state. Takes no memory.

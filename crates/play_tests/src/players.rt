@@ -67,6 +67,21 @@ fn a_byte_that_is_no_answer_ends_the_play(rt: HostRuntime) -> Result<(), Fail> {
 }
 
 #[test]
+fn a_first_byte_that_is_no_answer_ends_the_play(rt: HostRuntime) -> Result<(), Fail> {
+    let mut player = player_of(rt.alloc(), b"SIR 2 TDI (3) TDO (1);")?;
+    let mut buffer = [0; 64];
+    assert_eq!(rt; player.next_bytes(&mut buffer), 33);
+    assert_eq!(rt; player.answers(b"A"), 1);
+    let ending = Ending::BadAnswer {
+        command: 1,
+        byte: b'A',
+    };
+    assert_eq!(rt; player.ended(), Some(ending));
+    assert_next(&rt, &mut player, 64, b"");
+    Ok(())
+}
+
+#[test]
 fn the_first_bit_that_differs_is_told_once_the_step_is_over(rt: HostRuntime) -> Result<(), Fail> {
     let text =
         b"HDR 1 TDI (0) TDO (1); SDR 8 TDI (00) TDO (F0) MASK (3C); STATE RESET; STATE IDLE;";

@@ -130,7 +130,7 @@ fn checks_of_the_table(rt: HostRuntime) -> Result<(), Fail> {
     Ok(())
 }
 
-/// A writer that takes nothing: the run is broken.
+/// A writer with room for 12 bytes: the run is broken, and a front part of what it was owed was written.
 #[test]
 fn a_full_output(rt: HostRuntime) -> Result<(), Fail> {
     let mut board = Board::bare(rt.alloc(), 1)?;
@@ -151,6 +151,7 @@ fn a_full_output(rt: HostRuntime) -> Result<(), Fail> {
     );
     assert_eq!(rt; out.failures(), 1);
     assert_eq!(rt; err.failures(), 0);
+    assert_eq!(rt; &room, b"bytes r26262");
     Ok(())
 }
 

@@ -139,3 +139,8 @@ module _ {P Q : Type 0} (a : Side P) (b : Side Q) (f : P → Q) (Ok : P → Type
   run-alike [] w ok = refl
   run-alike (e ∷ es) w ok =
       ap (run b down_room up_room es) (happens-alike e w ok) ∙ run-alike es (happens a down_room up_room e w) (happens-ok e w ok)
+
+  -- and wherever events lead the first, it may be
+  pub run-ok : (es : List Event) (w : World P) → Ok w.player → Ok (run a down_room up_room es w).player
+  run-ok [] w ok = ok
+  run-ok (e ∷ es) w ok = run-ok es (happens a down_room up_room e w) (happens-ok e w ok)

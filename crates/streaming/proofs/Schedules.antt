@@ -1,16 +1,20 @@
 -- The player that keeps no answers goes, over every schedule, as the player of the laws.
-use Rattle.std.proofs.Common.{ℕ, [], ◌∷◌, refl, sym, ap, ◌∙◌}
+use Rattle.std.proofs.Common.{ℕ, List, [], ◌∷◌, refl, sym, ap, subst, ◌∙◌}
 use Rattle.bitbang_table.specs.Protocol.{answer}
-use Rattle.plays.specs.Events.{empty_pipes, run}
+use Rattle.board_meaning.specs.Chain.{BoardState}
+use Rattle.plays.specs.Events.{Event, World, before_events as fresh_world, by_answers, empty_pipes, run}
+use Rattle.plays.specs.Play.{player}
 use Rattle.plays.specs.Playing as playing
-use Rattle.plays.specs.PlayingOn.{Kind}
+use Rattle.plays.specs.Playing.{PlayerState}
+use Rattle.svf_programs.specs.Steps.{Program}
+use Rattle.plays.specs.PlayingOn.{Kind, turns_for}
 use Rattle.streaming.specs.Histories as history
 use Rattle.streaming.specs.Histories.{WasAsked}
-use Rattle.streaming.specs.Laws.{CallsGoAlike, SchedulesCarryOver, stream_of, with_player}
+use Rattle.streaming.specs.Laws.{CallsGoAlike, SchedulesCarryOver, history_of, stream_of, with_player}
 use Rattle.plays.specs.Streams as stream
 use Rattle.plays.specs.Streams.{hear_bytes}
 use Rattle.streaming.proofs.Agree.{agree, stays_asked}
-use Rattle.streaming.proofs.Alike.{IsAlike, run-alike}
+use Rattle.streaming.proofs.Alike.{IsAlike, run-alike, run-ok}
 use Rattle.streaming.proofs.Carried.{carried, side}
 use Rattle.streaming.proofs.Hearing.{fresh_agrees, hearing}
 
@@ -37,3 +41,12 @@ calls_alike kind window p asked = record {
   answers = λ bytes. ap (λ l. hear_bytes l (stream_of kind p)) ((agree kind window p asked).taken bytes)
       ∙ hearing kind p (history.answers_taken kind window p bytes);
 }
+
+-- whatever events happen, no answer was taken that was not asked for
+pub asked : (kind : Kind) (window : ℕ) (program : Program) (b : BoardState) (down_room up_room : ℕ) (es : List Event)
+    → WasAsked kind window
+    (history_of program (run (by_answers (player window (turns_for kind program.steps))) down_room up_room es (fresh_world b)).player)
+asked kind window program b down_room up_room es =
+    subst (λ (w : World PlayerState). WasAsked kind window w.player) (carried kind window program b down_room up_room es)
+    (run-ok (side kind window) (stream.side window) (stream_of kind) (WasAsked kind window) (alike kind window) down_room up_room es
+    (empty_pipes (playing.new_player program) b) ((stays_asked kind window).fresh program))

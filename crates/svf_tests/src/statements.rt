@@ -424,3 +424,13 @@ fn refusals_are_printed(rt: HostRuntime) -> Result<(), Fail> {
     );
     Ok(())
 }
+
+/// A text that is cut within its statement is refused at the statement's first token, wherever it is cut.
+#[test]
+fn a_statement_that_is_cut(rt: HostRuntime) {
+    let whole = b"SIR 2 TDI (3) TDO (1);";
+    assert_count(&rt, rt.alloc(), &whole[..0], 0);
+    for len in 1..whole.len() {
+        assert_refused(&rt, rt.alloc(), &whole[..len], 1, Code::Unclosed(0));
+    }
+}
