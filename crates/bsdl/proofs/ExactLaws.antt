@@ -20,7 +20,7 @@ use Rattle.bsdl.specs.Judging.{fault, file_says, device_or_refusal, text_says}
 use Rattle.bsdl.specs.Limited.{HasLengthIfGiven}
 use Rattle.bsdl.proofs.OnceLaws.{both, not_false}
 use Rattle.bsdl.proofs.SoundLaws.{not_empty, or_true}
-use Rattle.bsdl.proofs.LimitedLaws.{bits_len, is_long, lengths, limited}
+use Rattle.bsdl.proofs.LimitedLaws.{bits_len, is_long, lengths, every_device as every_limited}
 
 -- ---- the lengths of one name
 
@@ -196,30 +196,30 @@ rows_exact us b (r ∷ rows) there fits =
 
 -- ---- the whole
 
-exact : (d : Description) → fault d ≡ None → IsExactDevice (device d)
+abbrev AreExact : Device → Type 0
+AreExact v = AllByRecursion (λ a. IsExactAccess v.users a) v.accesses
+
+exact : (d : Description) → fault d ≡ None → AreExact (device d)
 exact d e =
     let one = both (has_bits d) _ (lengths d e) in
     let two = both (instructions_fit d) _ one.1 in
     let three = both (codes_fit d) _ two.1 in
     let four = both (list_all (access_fits d.boundary_length) d.accesses) (agree d.accesses) three.1 in
-    record {
-      limited = limited d e;
-      accesses = rows_exact (users_of d.accesses) d.boundary_length d.accesses (all_found d.accesses d.accesses four.1 (λ q there. there)) four.0;
-    }
+    rows_exact (users_of d.accesses) d.boundary_length d.accesses (all_found d.accesses d.accesses four.1 (λ q there. there)) four.0
 
-judged_exact : (d : Description) (v : Device) (o : Option Refusal) → fault d ≡ o → device_or_refusal o d ≡ Ok v → IsExactDevice v
+judged_exact : (d : Description) (v : Device) (o : Option Refusal) → fault d ≡ o → device_or_refusal o d ≡ Ok v → AreExact v
 judged_exact d v (Some r) is e = absurd cc
 judged_exact d v None is e =
     let same : device d ≡ v = cc in
     rw (sym same) (exact d is)
 
-described_exact : (x : Result Description Refusal) (v : Device) → (x >>? λ d. device_or_refusal (fault d) d) ≡ Ok v → IsExactDevice v
+described_exact : (x : Result Description Refusal) (v : Device) → (x >>? λ d. device_or_refusal (fault d) d) ≡ Ok v → AreExact v
 described_exact (Err r) v e = absurd cc
 described_exact (Ok d) v e = judged_exact d v (fault d) refl e
 
-spelt_exact : (x : Result File Refusal) (v : Device) → (x >>? file_says) ≡ Ok v → IsExactDevice v
+spelt_exact : (x : Result File Refusal) (v : Device) → (x >>? file_says) ≡ Ok v → AreExact v
 spelt_exact (Err r) v e = absurd cc
 spelt_exact (Ok f) v e = described_exact (described f) v e
 
 pub every_device : (text : List ℕ) (v : Device) → text_says text ≡ Ok v → IsExactDevice v
-every_device text v e = spelt_exact (text_form text) v e
+every_device text v e = record { limited = every_limited text v e; accesses = spelt_exact (text_form text) v e }

@@ -3,6 +3,7 @@ pub mod ExactLaws
 pub mod FormLaws
 pub mod LimitedLaws
 pub mod OnceLaws
+pub mod OrderLaws
 pub mod ReadLaws
 pub mod RowWeights
 pub mod SoundLaws

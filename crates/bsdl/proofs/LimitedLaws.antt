@@ -8,8 +8,10 @@ use Rattle.std.proofs.lemmas.Bool.Decides.{nat_tests}
 use Rattle.std.proofs.lemmas.List.{length-append, length-map}
 use Rattle.std.proofs.lemmas.List.FromFn.{length-map-range_with_len}
 use Rattle.std.proofs.lemmas.List.Sums.{sum_by-cons}
-use Rattle.bsdl_device.specs.Device.{Device, Name, Pattern}
+use Rattle.bsdl_device.specs.Device.{Device, Name, Pattern, PortBit}
+use Rattle.bsdl_text.specs.Words.{upper}
 use Rattle.bsdl_instructions.specs.Values.{OpcodeRow}
+use Rattle.bsdl_own_instructions.specs.Own.{is_among}
 use Rattle.bsdl_ports.specs.Ports.{Port, Range}
 use Rattle.bsdl_entity.specs.Entity.{File}
 use Rattle.bsdl_described.specs.Describing.{Description, Refusal, bad_capture, bad_cell, bad_id, bad_length, described, too_large, ◌>>?◌}
@@ -24,8 +26,12 @@ use Rattle.bsdl_boundary.specs.Boundary.{cell, port_bits}
 use Rattle.bsdl_built.specs.Built.{device}
 use Rattle.bsdl.specs.Form.{text_form}
 use Rattle.bsdl.specs.Judging.{fault, file_says, device_or_refusal, text_says, twice_in, unless}
-use Rattle.bsdl.specs.Limited.{HasLengthIfGiven, HasPatternsOf, IsLimitedDevice}
+use Rattle.bsdl.specs.Limited.{HasLengthIfGiven, HasPatternsOf, IsIndexWithin, IsLimitedDevice}
 use Rattle.bsdl.proofs.OnceLaws.{both, each_cell_once, holds, neither}
+use Rattle.bsdl.proofs.OrderLaws.{AreOrdered, IsOrdered, all_of_both, described_ordered, text_ordered}
+
+at_most : (n m : ℕ) → nat_le n m ≡ true → n ≤ m
+at_most n m h = grind (arith, nat_tests)
 
 -- ---- ports
 
@@ -42,6 +48,31 @@ ports_len taps (p ∷ ps) =
     let rest = ports_len taps ps in
     let here = port_len taps p in
     omega (arith, length-append (port_bits taps p) (flat_map (port_bits taps) ps), sum_by-cons (λ (q : Port). width q.range) p ps, here, rest)
+
+indices_within : (f : ℕ → PortBit) → ((i : ℕ) → (f i).index ≡ Some i) → (a n : ℕ) → a + n ≤ 65536 → AllByRecursion (λ p. IsIndexWithin 65535 p.index) (map f (range_with_len a n))
+indices_within f is a zero few = tt
+indices_within f is a (suc n) few =
+    let here : IsIndexWithin 65535 (f a).index = rw (is a) (omega (arith, few)) in
+    (here, indices_within f is (a + 1) n (omega (arith, few)))
+
+bits_within : (taps : List Name) (p : Port) → IsOrdered p.range → nat_le (highest p.range) subscript_limit ≡ true → AllByRecursion (λ b. IsIndexWithin 65535 b.index) (port_bits taps p)
+bits_within taps p runs within = by_range p.range refl runs within
+  where
+    by_range : (r : Option Range) → p.range ≡ r → IsOrdered r → nat_le (highest r) subscript_limit ≡ true → AllByRecursion (λ b. IsIndexWithin 65535 b.index) (port_bits taps p)
+    by_range None is up h = rw is (tt, tt)
+    by_range (Some r) is up h =
+        let most : r.high ≤ 65535 = at_most r.high 65535 h in
+        let rises : r.low ≤ r.high = up in
+        let name = upper p.name.text in
+        rw is
+        (indices_within (λ i. record { name = name; index = Some i; mode = p.mode; is_tap = is_among taps name }) (λ i. refl) r.low (r.high - r.low + 1) (omega (arith, most, rises)))
+
+ports_indices : (taps : List Name) (ps : List Port) → AreOrdered ps → list_all (λ p. nat_le (highest p.range) subscript_limit) ps ≡ true
+    → AllByRecursion (λ b. IsIndexWithin 65535 b.index) (flat_map (port_bits taps) ps)
+ports_indices taps [] run within = tt
+ports_indices taps (p ∷ ps) run within =
+    let parts = both (nat_le (highest p.range) subscript_limit) (list_all (λ q. nat_le (highest q.range) subscript_limit) ps) within in
+    all_of_both (λ b. IsIndexWithin 65535 b.index) (port_bits taps p) (flat_map (port_bits taps) ps) (bits_within taps p run.0 parts.0) (ports_indices taps ps run.1 parts.1)
 
 -- ---- cells
 
@@ -101,11 +132,8 @@ lengths d e =
     let names = neither (twice_in d (given_again d)) _ e in
     holds (lengths_fit d) bad_length (neither (unless (lengths_fit d) bad_length) _ names.second).first
 
-at_most : (n m : ℕ) → nat_le n m ≡ true → n ≤ m
-at_most n m h = grind (arith, nat_tests)
-
-pub limited : (d : Description) → fault d ≡ None → IsLimitedDevice (device d)
-limited d e =
+limited : (d : Description) → AreOrdered d.ports → fault d ≡ None → IsLimitedDevice (device d)
+limited d run e =
     let one = both (instructions_within d) _ (limits d e) in
     let two = both (cells_within d) _ one.1 in
     let three = both (ports_within d) (users_within d) two.1 in
@@ -114,6 +142,7 @@ limited d e =
     let ports = both (list_all (λ p. nat_le (highest p.range) subscript_limit) d.ports) (nat_le (sum_by (λ p. width p.range) d.ports) 8192) three.0 in
     let users = both (nat_le (length (users_of d.accesses)) 64) _ three.1 in
     let fits = both (has_bits d) _ (lengths d e) in
+    let bits = both (nat_le 2 d.instruction_length) (nat_le 1 d.boundary_length) fits.0 in
     let patterns = both (instructions_fit d) _ fits.1 in
     let codes = both (codes_fit d) _ patterns.1 in
     let written = both (list_all (λ r. list_all (has_len d.instruction_length) r.patterns) d.opcodes) (has_len d.instruction_length d.capture) patterns.0 in
@@ -122,6 +151,8 @@ limited d e =
     let cell_count = at_most d.boundary_length 4096 cells.0 in
     record {
       ports = omega (arith, ports_len d.taps d.ports, bit_count);
+      indices = ports_indices d.taps d.ports run ports.0;
+      two = at_most 2 d.instruction_length bits.0;
       instruction = at_most d.instruction_length 64 instructions.0;
       opcodes = omega (arith, length-map d.opcodes opcode, at_most (length d.opcodes) 256 instructions.1);
       patterns = rows_long d.instruction_length d.opcodes written.0;
@@ -133,19 +164,19 @@ limited d e =
       user_lengths = users_long (users_of d.accesses) users.1;
     }
 
-judged_limited : (d : Description) (v : Device) (o : Option Refusal) → fault d ≡ o → device_or_refusal o d ≡ Ok v → IsLimitedDevice v
-judged_limited d v (Some r) is e = absurd cc
-judged_limited d v None is e =
+judged_limited : (d : Description) (v : Device) (o : Option Refusal) → AreOrdered d.ports → fault d ≡ o → device_or_refusal o d ≡ Ok v → IsLimitedDevice v
+judged_limited d v (Some r) run is e = absurd cc
+judged_limited d v None run is e =
     let same : device d ≡ v = cc in
-    rw (sym same) (limited d is)
+    rw (sym same) (limited d run is)
 
-described_limited : (x : Result Description Refusal) (v : Device) → (x >>? λ d. device_or_refusal (fault d) d) ≡ Ok v → IsLimitedDevice v
-described_limited (Err r) v e = absurd cc
-described_limited (Ok d) v e = judged_limited d v (fault d) refl e
+described_limited : (x : Result Description Refusal) (v : Device) → ((d : Description) → x ≡ Ok d → AreOrdered d.ports) → (x >>? λ d. device_or_refusal (fault d) d) ≡ Ok v → IsLimitedDevice v
+described_limited (Err r) v run e = absurd cc
+described_limited (Ok d) v run e = judged_limited d v (fault d) (run d refl) refl e
 
-spelt_limited : (x : Result File Refusal) (v : Device) → (x >>? file_says) ≡ Ok v → IsLimitedDevice v
-spelt_limited (Err r) v e = absurd cc
-spelt_limited (Ok f) v e = described_limited (described f) v e
+spelt_limited : (x : Result File Refusal) (v : Device) → ((f : File) → x ≡ Ok f → AreOrdered f.ports) → (x >>? file_says) ≡ Ok v → IsLimitedDevice v
+spelt_limited (Err r) v run e = absurd cc
+spelt_limited (Ok f) v run e = described_limited (described f) v (described_ordered f (run f refl)) e
 
 pub every_device : (text : List ℕ) (v : Device) → text_says text ≡ Ok v → IsLimitedDevice v
-every_device text v e = spelt_limited (text_form text) v e
+every_device text v e = spelt_limited (text_form text) v (text_ordered text) e

@@ -9,10 +9,10 @@ use Rattle.bsdl_lex.specs.Cutting.{Lexeme, bad_place, cuts_of, tokens}
 use Rattle.bsdl_text.specs.Reading.{Read, fits, misfit}
 use Rattle.bsdl_instructions.specs.Values.{AccessRow, Instr, OpcodeRow}
 use Rattle.bsdl_values.specs.declared.Attribute.{Attribute}
-use Rattle.bsdl_values.specs.declared.Attribute.TheVariants.{TapScanIn, TapScanOut, TapScanMode, TapScanClock, InstructionLength, BoundaryLength, InstructionOpcode, InstructionCapture, BoundaryRegister, InstructionPrivate, RegisterAccess}
+use Rattle.bsdl_values.specs.declared.Attribute.TheVariants.{InstructionLength, BoundaryLength, InstructionOpcode, InstructionCapture, BoundaryRegister, InstructionPrivate, RegisterAccess}
 use Rattle.bsdl_values.specs.Values.{Value, absent, accesses_value, cells_value, codes_value, count, names_value, opcodes_value, pattern_value, port}
 use Rattle.bsdl_entity.specs.Entity.{File, Given, file}
-use Rattle.bsdl_described.specs.Describing.{Description, Refusal, as_accesses, as_cells, as_count, as_names, as_opcodes, as_pattern, as_port, described, is_attribute, need, too_large, value_given, ◌>>?◌}
+use Rattle.bsdl_described.specs.Describing.{Description, Refusal, as_accesses, as_cells, as_count, as_names, as_opcodes, as_pattern, described, is_attribute, taps_given, too_large, value_given, ◌>>?◌}
 use Rattle.bsdl_own_instructions.specs.Own.{is_own, own_accesses, with_own}
 use Rattle.bsdl_twice.specs.ResetOpcode.{opcode}
 use Rattle.bsdl_limits.specs.Users.{users_of}
@@ -22,6 +22,7 @@ use Rattle.bsdl.specs.Form.{read_form, text_form, text_limit, tokens_form}
 use Rattle.bsdl.specs.Judging.{fault, file_says, device_or_refusal, text_says}
 use Rattle.bsdl.specs.Small.{IsSmallDevice, access_size, opcode_size, total}
 use Rattle.bsdl.proofs.LimitedLaws.{bits_len}
+use Rattle.bsdl.proofs.OrderLaws.{needed, passed, same_ok}
 use Rattle.bsdl.proofs.Weights.{Weighs, heft, size, tokens_weigh}
 use Rattle.bsdl.proofs.RowWeights.{access_weight, instr_weight, opcode_weight, upper_len}
 use Rattle.bsdl.proofs.EntityWeights.{file_weighs, file_weight, given_weight, value_weight}
@@ -105,29 +106,19 @@ record IsWithin (n : ℕ) (d : Description) : Type 0 where
   opcodes : total opcode_weight d.opcodes ≤ n
   accesses : total access_weight d.accesses ≤ n
 
-needed : {A B : Type 0} (P : B → Type 0) (a : Attribute) (o : Option A) (g : A → Result B Refusal) → ((x : A) → o ≡ Some x → (d : B) → g x ≡ Ok d → P d) → (d : B) → (need a o >>? g) ≡ Ok d → P d
-needed P a None g each d e = absurd cc
-needed P a (Some x) g each d e = each x refl d e
-
-same_ok : {A : Type 0} (x y : A) → ◌≡◌ {A = Result A Refusal} (Ok x) (Ok y) → x ≡ y
-same_ok x y e = cc
-
 described_within : (n : ℕ) (f : File) → file_weight f ≤ n → (d : Description) → described f ≡ Ok d → IsWithin n d
 described_within n f less d e =
-    needed (IsWithin n) TapScanIn (as_port (value_given TapScanIn f.given)) _ (λ tdi is-1.
-    needed (IsWithin n) TapScanOut (as_port (value_given TapScanOut f.given)) _ (λ tdo is-2.
-    needed (IsWithin n) TapScanMode (as_port (value_given TapScanMode f.given)) _ (λ tms is-3.
-    needed (IsWithin n) TapScanClock (as_port (value_given TapScanClock f.given)) _ (λ tck is-4.
-    needed (IsWithin n) InstructionLength (as_count (value_given InstructionLength f.given)) _ (λ len is-5.
-    needed (IsWithin n) BoundaryLength (as_count (value_given BoundaryLength f.given)) _ (λ cells_len is-6.
-    needed (IsWithin n) InstructionOpcode (as_opcodes (value_given InstructionOpcode f.given)) _ (λ opcodes is-7.
-    needed (IsWithin n) InstructionCapture (as_pattern (value_given InstructionCapture f.given)) _ (λ capture is-8.
-    needed (IsWithin n) BoundaryRegister (as_cells (value_given BoundaryRegister f.given)) _ (λ cells is-9 v last.
+    passed (IsWithin n) (taps_given f.given) _ (λ taps are.
+    needed (IsWithin n) InstructionLength (as_count (value_given InstructionLength f.given)) _ (λ len is-1.
+    needed (IsWithin n) BoundaryLength (as_count (value_given BoundaryLength f.given)) _ (λ cells_len is-2.
+    needed (IsWithin n) InstructionOpcode (as_opcodes (value_given InstructionOpcode f.given)) _ (λ opcodes is-3.
+    needed (IsWithin n) InstructionCapture (as_pattern (value_given InstructionCapture f.given)) _ (λ capture is-4.
+    needed (IsWithin n) BoundaryRegister (as_cells (value_given BoundaryRegister f.given)) _ (λ cells is-5 v last.
     subst (IsWithin n) (same_ok _ v last) (record {
       names = names_within (value_given InstructionPrivate f.given) n (each InstructionPrivate);
-      opcodes = opcodes_within (value_given InstructionOpcode f.given) n opcodes (each InstructionOpcode) is-7;
+      opcodes = opcodes_within (value_given InstructionOpcode f.given) n opcodes (each InstructionOpcode) is-3;
       accesses = accesses_are opcodes.1;
-    })))))))))) d e
+    }))))))) d e
   where
     each : (a : Attribute) (v : Value) → value_given a f.given ≡ Some v → value_weight v ≤ n
     each a v is = omega (arith, less, given_within a f.given v is)

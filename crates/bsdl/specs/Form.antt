@@ -1,4 +1,5 @@
--- The form of a text: the entity that it spells, or the first byte or token that does not fit.
+-- The form of a text: the entity that it spells, or the first byte or token that does not fit (IEEE Std 1149.1-2001,
+-- Annex B.8.1).
 use Rattle.std.specs.Prelude.{ℕ, false, nat_lt, if◌then◌else◌, List, length, Option, Some, None, Result, Ok, Err}
 use Rattle.bsdl_lex.specs.Cutting.{Lexeme, tokens, bad_place, cuts_of}
 use Rattle.bsdl_text.specs.Reading.{Read, fits, misfit}

@@ -1,4 +1,5 @@
--- Judging a description that is well formed: the refusals in their order, and the device that it says.
+-- Judging a description that is well formed: the refusals in their order, and the device that it says (IEEE Std
+-- 1149.1-2001, Annex B.8).
 use Rattle.std.specs.Prelude.{ℕ, Bool, if◌then◌else◌, List, map, Option, Some, None, option_map}
 use Rattle.std.specs.Option.{option_or}
 use Rattle.std.specs.Prelude.{Result, Ok, Err, codes}

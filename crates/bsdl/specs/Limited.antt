@@ -13,8 +13,15 @@ HasLengthIfGiven n (Some bits) = length bits ≡ n
 abbrev pub HasPatternsOf : ℕ → Opcode → Type 0
 HasPatternsOf n o = AllByRecursion (λ p. length p ≡ n) o.patterns
 
+-- an index that is not left out is at most this
+abbrev pub IsIndexWithin : ℕ → Option ℕ → Type 0
+IsIndexWithin most None = Unit {0}
+IsIndexWithin most (Some index) = index ≤ most
+
 pub record IsLimitedDevice (d : Device) : Type 0 where
   pub ports : length d.ports ≤ 8192
+  pub indices : AllByRecursion (λ p. IsIndexWithin 65535 p.index) d.ports
+  pub two : 2 ≤ d.instruction_length
   pub instruction : d.instruction_length ≤ 64
   pub opcodes : length d.opcodes ≤ 256
   pub patterns : AllByRecursion (λ o. HasPatternsOf d.instruction_length o) d.opcodes

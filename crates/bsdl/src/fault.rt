@@ -1,5 +1,5 @@
 //! Why a description is refused.
-use bsdl_entity::Attribute;
+use bsdl_values::Attribute;
 use thiserror::Error;
 
 /// The refusals of a device description, the least number first. Places are counted in bytes of the text from 0.
@@ -8,14 +8,15 @@ pub enum BsdlFault {
     /// A byte at this place begins no token, or the quote of a string that its line does not close.
     #[error("B1 BadToken")]
     BadToken(usize),
-    /// The first token that does not fit stands at this place; a text within quotes that says nothing, at its first
-    /// quote.
+    /// The first token that does not fit stands at this place, or the text's length where it ends too early; a text
+    /// within quotes that says nothing, at its first quote; a range that runs the wrong way, at its second number.
     #[error("B2 BadForm")]
     BadForm(usize),
-    /// A needed attribute is missing.
+    /// The first needed attribute that is missing, in the order of docs/bsdl.md.
     #[error("B3 Missing")]
     Missing(Attribute),
-    /// A name is given twice, or the opcode that a reset loads is not IDCODE's.
+    /// The name whose second giving stands first, as it is spelt there; else IDCODE, where the opcode that a reset
+    /// loads is not IDCODE's.
     #[error("B4 Twice")]
     Twice(String),
     /// A pattern's length is not its register's, or a length is below its limit.
@@ -24,10 +25,11 @@ pub enum BsdlFault {
     /// The two rightmost bits that the instruction register captures are not 01.
     #[error("B6 BadCapture")]
     BadCapture,
-    /// The rightmost bit of the identification code is not 1.
+    /// The rightmost bit of the first identification code, as written, is not 1.
     #[error("B7 BadId")]
     BadId,
-    /// The boundary cell of this number does not fit.
+    /// The least boundary cell, of those up to 65,535, that is listed twice, missing, not below the length, or does
+    /// not fit.
     #[error("B8 BadCell")]
     BadCell(usize),
     /// A limit is passed.

@@ -16,7 +16,7 @@ const TEXT_LIMIT: usize = 4_194_304;
 
 /// The entity that a text spells, or its first refusal of B1, B2 and B9 (a text above 4 MiB, whatever it holds). Want
 /// of memory is B10; nothing is said of when it comes.
-pub fn outline_of(alloc: Global, text: &[u8]) -> Result<Outline<'_>, BsdlFault>
+pub(crate) fn outline_of(alloc: Global, text: &[u8]) -> Result<Outline<'_>, BsdlFault>
     ensures { TellsForm result (text_form text.now) }
 {
     if text.len() > TEXT_LIMIT {
@@ -34,7 +34,7 @@ pub fn outline_of(alloc: Global, text: &[u8]) -> Result<Outline<'_>, BsdlFault>
 }
 
 /// What an entity describes, or B3 with the first needed attribute that is missing. Want of memory is B10.
-pub fn description_of<'o, 't: 'o>(
+pub(crate) fn description_of<'o, 't: 'o>(
     alloc: Global,
     entity: &'o Outline<'t>,
 ) -> Result<Description<'o>, BsdlFault>

@@ -7,9 +7,9 @@ pub fn every_device_is_sound()
     ensures { EveryDeviceIsSound }
 {}
 
-/// Every device that a text says keeps the limits, whatever numbers the text names: at most 8,192 port bits, 256
-/// instructions of 64 bits, 4,096 cells, and 64 registers of its own with 4,096 bits; each opcode and what the
-/// instruction register captures are as long as that register, and codes have 32 bits.
+/// Every device that a text says keeps the limits, whatever numbers the text names: at most 8,192 port bits, with
+/// indices up to 65,535, 256 instructions of 2 to 64 bits, 4,096 cells, and 64 registers of its own with 4,096 bits;
+/// each opcode and what the instruction register captures are as long as that register, and codes have 32 bits.
 pub fn every_device_is_limited()
     ensures { EveryDeviceIsLimited }
 {}

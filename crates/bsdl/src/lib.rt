@@ -1,8 +1,9 @@
 //! What a description in BSDL says of a device (IEEE Std 1149.1-2001, Annex B).
 #![tactic(auto)]
 
+pub use bsdl_device::Device;
+pub use bsdl_values::Attribute;
 pub use fault::BsdlFault;
-pub use form::{description_of, outline_of};
 pub use reading::read;
 
 mod fault;

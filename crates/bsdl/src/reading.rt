@@ -17,20 +17,16 @@ use std::alloc::Global;
 pub fn read(alloc: Global, text: &[u8]) -> Result<Device, BsdlFault>
     ensures { Tells result (text_says text.now) }
 {
-    match outline_of(alloc, text) {
-        Ok(found) => read_entity(alloc, &found),
-        Err(fault) => Err(fault),
-    }
+    let found = outline_of(alloc, text)?;
+    read_entity(alloc, &found)
 }
 
 /// The device that an entity says.
 fn read_entity(alloc: Global, entity: &Outline<'_>) -> Result<Device, BsdlFault>
     ensures { Tells result (file_says (outline entity.now)) }
 {
-    match description_of(alloc, entity) {
-        Ok(found) => read_description(alloc, entity, &found),
-        Err(fault) => Err(fault),
-    }
+    let found = description_of(alloc, entity)?;
+    read_description(alloc, entity, &found)
 }
 
 /// The device that a description says, once it is judged.
@@ -42,11 +38,9 @@ fn read_description(
     ensures { Tells result (device_or_refusal (fault (description entity.now described.now))
         (description entity.now described.now)) }
 {
-    match judge(alloc, entity, described) {
-        Ok(()) => match device_of(alloc, entity, described) {
-            Ok(device) => Ok(device),
-            Err(_) => Err(BsdlFault::NoMemory),
-        },
-        Err(fault) => Err(fault),
+    judge(alloc, entity, described)?;
+    match device_of(alloc, entity, described) {
+        Ok(device) => Ok(device),
+        Err(_) => Err(BsdlFault::NoMemory),
     }
 }

@@ -1,4 +1,5 @@
--- The ports of a device bit by bit, and the cells of its boundary register.
+-- The ports of a device bit by bit, and the cells of its boundary register (IEEE Std 1149.1-2001, Annex B.8.3 and
+-- B.8.14).
 use Rattle.std.specs.Prelude.{ℕ, ◌+◌, ◌-◌, ◌==◌, filter, option_and_then, if◌then◌else◌, List, map}
 use Rattle.std.specs.Prelude.{None, option_map}
 use Rattle.std.specs.List.{range_with_len, flat_map}

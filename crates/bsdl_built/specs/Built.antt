@@ -1,4 +1,4 @@
--- The device that a description says.
+-- The device that a description says (IEEE Std 1149.1-2001, Annex B.8).
 use Rattle.std.specs.Prelude.{option_map, slice_get, map}
 use Rattle.std.specs.List.{flat_map}
 use Rattle.bsdl_device.specs.Device.{Device}

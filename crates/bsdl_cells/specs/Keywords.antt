@@ -1,4 +1,4 @@
--- The words of boundary cells, in any case.
+-- The words of boundary cells, in any case (IEEE Std 1149.1-2001, Annex B.8.14).
 use Rattle.std.specs.Prelude.{ℕ, Bool, true, false, List, [], ◌∷◌, codes, Option}
 use Rattle.bsdl_text.specs.Words.{stands_for}
 use Rattle.bsdl_device.specs.declared.Function.{Function}

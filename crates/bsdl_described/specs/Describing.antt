@@ -1,4 +1,5 @@
--- What a description gives as a whole: each attribute's value is that of its first giving.
+-- What a description gives as a whole: each attribute's value is that of its first giving (IEEE Std 1149.1-2001, Annex
+-- B.8.3 to B.8.14).
 use Rattle.std.specs.Prelude.{ℕ, Bool, is_some, if◌then◌else◌, List, [], ◌∷◌, Option, Some, None}
 use Rattle.std.specs.Prelude.{Result, Ok, Err, bytes_eq}
 use Rattle.bsdl_values.specs.declared.Attribute.{Attribute}
@@ -104,29 +105,32 @@ abbrev pub and_reset : Name → Option Name → List Name
 and_reset tck None = tck ∷ []
 and_reset tck (Some trst) = tck ∷ trst ∷ []
 
--- the whole description, or the first needed attribute that is missing
-abbrev pub described : File → Result Description Refusal
-described f =
+-- the TAP's ports, TRST last if there is one, or the first needed attribute that is missing
+abbrev pub taps_given : List Given → Result (List Name) Refusal
+taps_given gs =
+    let v = λ (a : Attribute). as_port (value_given a gs) in
+    need TapScanIn (v TapScanIn) >>? λ tdi.
+    need TapScanOut (v TapScanOut) >>? λ tdo.
+    need TapScanMode (v TapScanMode) >>? λ tms.
+    need TapScanClock (v TapScanClock) >>? λ tck.
+    Ok (tdi ∷ tdo ∷ tms ∷ and_reset tck (v TapScanReset))
+
+-- the description with this TAP and these lengths, or the first needed attribute with a text that is missing
+abbrev pub texts_described : File → List Name → Bool → ℕ → ℕ → Result Description Refusal
+texts_described f taps has_trst instruction_length boundary_length =
     let v = λ (a : Attribute). value_given a f.given in
     let accesses = as_accesses (v RegisterAccess) in
     let private = as_names (v InstructionPrivate) in
-    let trst = as_port (v TapScanReset) in
-    need TapScanIn (as_port (v TapScanIn)) >>? λ tdi.
-    need TapScanOut (as_port (v TapScanOut)) >>? λ tdo.
-    need TapScanMode (as_port (v TapScanMode)) >>? λ tms.
-    need TapScanClock (as_port (v TapScanClock)) >>? λ tck.
-    need InstructionLength (as_count (v InstructionLength)) >>? λ len.
-    need BoundaryLength (as_count (v BoundaryLength)) >>? λ cells_len.
     need InstructionOpcode (as_opcodes (v InstructionOpcode)) >>? λ opcodes.
     need InstructionCapture (as_pattern (v InstructionCapture)) >>? λ capture.
     need BoundaryRegister (as_cells (v BoundaryRegister)) >>? λ cells.
     Ok (record {
       ports = f.ports;
       given = f.given;
-      taps = tdi ∷ tdo ∷ tms ∷ and_reset tck trst;
-      has_trst = is_some trst;
-      instruction_length = len;
-      boundary_length = cells_len;
+      taps = taps;
+      has_trst = has_trst;
+      instruction_length = instruction_length;
+      boundary_length = boundary_length;
       opcode_start = opcodes.0;
       opcodes = opcodes.1;
       capture = capture;
@@ -137,3 +141,12 @@ described f =
       access_start = accesses.0;
       accesses = own_accesses (is_own opcodes.1 private) accesses.1;
     })
+
+-- the whole description, or the first needed attribute that is missing
+abbrev pub described : File → Result Description Refusal
+described f =
+    let v = λ (a : Attribute). value_given a f.given in
+    taps_given f.given >>? λ taps.
+    need InstructionLength (as_count (v InstructionLength)) >>? λ len.
+    need BoundaryLength (as_count (v BoundaryLength)) >>? λ cells_len.
+    texts_described f taps (is_some (as_port (v TapScanReset))) len cells_len

@@ -36,6 +36,11 @@ description o d = record {
   accesses = map rows_view.access_row d.accesses.items;
 }
 
+-- the ports that were found are those of the TAP
+abbrev pub AreTaps : Result Taps Attribute → Result (List Name) Refusal → Type 0
+AreTaps (Ok t) says = says ≡ Ok (taps t)
+AreTaps (Err a) says = says ≡ Err (missing a)
+
 -- what was found of an entity is what is described of it
 abbrev pub Describes : Outline → Result declared_description.Description Attribute → Result Description Refusal
     → Type 0

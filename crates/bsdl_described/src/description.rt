@@ -1,8 +1,11 @@
 //! A whole description.
-ghost use Rattle.std.specs.Prelude.{IfOk};
+ghost use Rattle.std.specs.Prelude.{◌≡◌, IfOk, is_some, map, option_map};
+ghost use Rattle.bsdl_text.specs.View.{value};
+ghost use Rattle.bsdl_text.specs.Words.{upper};
+ghost use Rattle.bsdl_entity.specs.GivenView.{given as given_view};
 ghost use Rattle.bsdl_entity.specs.OutlineView.{outline as outline_view};
 ghost use Rattle.bsdl_described.specs.Describing as spec;
-ghost use Rattle.bsdl_described.specs.View.{Describes};
+ghost use Rattle.bsdl_described.specs.View.{AreTaps, Describes, taps as taps_view};
 
 use crate::givings::{
     accesses_given, capture_given, cells_given, codes_given, count_given, opcodes_given,
@@ -11,6 +14,7 @@ use crate::givings::{
 use bsdl_cells::CellRow;
 use bsdl_entity::Attribute;
 use bsdl_entity::entity::Outline;
+use bsdl_entity::items::Given;
 use bsdl_instructions::names::{AccessRow, OpcodeRow, PrivateName};
 use bsdl_instructions::patterns::WrittenPattern;
 use bsdl_own_instructions::own::own_accesses;
@@ -56,17 +60,9 @@ pub fn describe<'o, 't: 'o>(
     ensures { IfOk result (λ found. Describes outline.now found (spec.described (outline_view outline.now))) }
 {
     let given = outline.given.as_slice();
-    let Some(input) = port_given(given, Attribute::TapScanIn) else {
-        return Ok(Err(Attribute::TapScanIn));
-    };
-    let Some(output) = port_given(given, Attribute::TapScanOut) else {
-        return Ok(Err(Attribute::TapScanOut));
-    };
-    let Some(mode) = port_given(given, Attribute::TapScanMode) else {
-        return Ok(Err(Attribute::TapScanMode));
-    };
-    let Some(clock) = port_given(given, Attribute::TapScanClock) else {
-        return Ok(Err(Attribute::TapScanClock));
+    let taps = match taps_given(given) {
+        Ok(taps) => taps,
+        Err(attribute) => return Ok(Err(attribute)),
     };
     let Some(instruction_length) = count_given(given, Attribute::InstructionLength) else {
         return Ok(Err(Attribute::InstructionLength));
@@ -74,6 +70,49 @@ pub fn describe<'o, 't: 'o>(
     let Some(boundary_length) = count_given(given, Attribute::BoundaryLength) else {
         return Ok(Err(Attribute::BoundaryLength));
     };
+    describe_texts(alloc, outline, taps, instruction_length, boundary_length)
+}
+
+/// The ports of the TAP, or the first needed attribute of one that is missing.
+fn taps_given<'t>(given: &[Given<'t>]) -> Result<Taps<'t>, Attribute>
+    ensures taps { AreTaps result (spec.taps_given (map given_view given.now)) }
+    ensures reset { IfOk result (λ found. option_map (λ w. upper w.text.now) found.reset
+        ≡ spec.as_port (spec.value_given Attribute.TapScanReset (map given_view given.now))) }
+{
+    let Some(input) = port_given(given, Attribute::TapScanIn) else {
+        return Err(Attribute::TapScanIn);
+    };
+    let Some(output) = port_given(given, Attribute::TapScanOut) else {
+        return Err(Attribute::TapScanOut);
+    };
+    let Some(mode) = port_given(given, Attribute::TapScanMode) else {
+        return Err(Attribute::TapScanMode);
+    };
+    let Some(clock) = port_given(given, Attribute::TapScanClock) else {
+        return Err(Attribute::TapScanClock);
+    };
+    Ok(Taps {
+        input,
+        output,
+        mode,
+        clock,
+        reset: port_given(given, Attribute::TapScanReset),
+    })
+}
+
+/// What an entity of this TAP and these lengths describes, or the first needed attribute with a text that is missing.
+fn describe_texts<'o, 't: 'o>(
+    alloc: Global,
+    outline: &'o Outline<'t>,
+    taps: Taps<'o>,
+    instruction_length: Digits<'o>,
+    boundary_length: Digits<'o>,
+) -> Result<Result<Description<'o>, Attribute>, AllocError>
+    ensures { IfOk result (λ found. Describes outline.now found (spec.texts_described (outline_view outline.now)
+        (taps_view taps.entry) (is_some taps.entry.reset) (value instruction_length.entry)
+        (value boundary_length.entry))) }
+{
+    let given = outline.given.as_slice();
     let Some((opcode_start, opcodes)) = opcodes_given(alloc, given)? else {
         return Ok(Err(Attribute::InstructionOpcode));
     };
@@ -86,13 +125,6 @@ pub fn describe<'o, 't: 'o>(
     let private_names = private_names_given(alloc, given)?;
     let (access_start, rows) = accesses_given(alloc, given)?;
     let accesses = own_accesses(alloc, &opcodes, &private_names, rows)?;
-    let taps = Taps {
-        input,
-        output,
-        mode,
-        clock,
-        reset: port_given(given, Attribute::TapScanReset),
-    };
     Ok(Ok(Description {
         taps,
         instruction_length,

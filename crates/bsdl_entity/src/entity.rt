@@ -25,7 +25,10 @@ pub struct Outline<'a> {
     pub given: Vec<Given<'a>>,
 }
 
-/// A whole description.
+/// The ports and attributes of a whole description, and the lexer at the text's end (Annex B.8.1).
+///
+/// Refuses at the first token that does not fit, `None` where the text ends too early; at the first quote of a text
+/// within quotes that says nothing; at the second number of a range that runs the wrong way; or for want of memory.
 pub fn read_entity<'a>(alloc: Global, lexer: Lexer<'a>) -> Result<(Outline<'a>, Lexer<'a>), Stop>
     ensures gives { Gives outline result (spec.file (left lexer.entry)) }
 {

@@ -195,10 +195,7 @@ pub(crate) fn items<'a>(
         if behind_word(rest, b"END").is_some() {
             return Ok((all, rest));
         }
-        let (found, more) = match item(alloc, scalars, rest) {
-            Ok(read) => read,
-            Err(stop) => return Err(stop),
-        };
+        let (found, more) = item(alloc, scalars, rest)?;
         rest = more;
         if let Some(given) = found {
             match all.push(given) {

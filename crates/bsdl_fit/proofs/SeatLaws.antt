@@ -12,7 +12,7 @@ use Rattle.bsdl_own_instructions.specs.Own.{is_among}
 use Rattle.bsdl_places.specs.declared.seat.Seat.{Seat}
 use Rattle.bsdl_fit.specs.Drivers.{drives_below}
 use Rattle.bsdl_device.specs.Driving.{drives}
-use Rattle.bsdl_fit.specs.Fits.{is_driven_below, is_internal, names_tap, port_bit, port_fits, same_bit}
+use Rattle.bsdl_fit.specs.Fits.{is_driven_below, has_no_port, names_tap, port_bit, port_fits, same_bit}
 use Rattle.bsdl_places.specs.Places.{find_port, same_seat, seat_at, seat_of}
 use Rattle.bsdl_places.specs.View.{seat}
 use Rattle.bsdl_places.proofs.PlaceLaws.{some_mapped}
@@ -203,19 +203,19 @@ driven d r a name port at = along d.cells
     along [] = refl
     along (s ∷ rows) = rw (row_below d r s a name port at) (ap (λ b. drives_below d.ports a r.number s || b) (along rows))
 
-pub fits_at : (d : Description) (r : CellRow) (a : Seat) (name : PortName) (found : Bool) → is_internal r.function ≡ false → r.port ≡ Some name → Some (seat a) ≡ seat_of d.ports name
+pub fits_at : (d : Description) (r : CellRow) (a : Seat) (name : PortName) (found : Bool) → has_no_port r.function ≡ false → r.port ≡ Some name → Some (seat a) ≡ seat_of d.ports name
     → found ≡ (not (is_among d.taps name.name) && not (drives r.function && list_any (drives_below d.ports a r.number) d.cells)) → found ≡ port_fits d r
 fits_at d r a name found outer port at is =
     let bit : is_some (port_bit d r) ≡ true = ap (λ o. is_some (option_and_then (bit_number 0 d.ports) o)) port ∙ declared d.ports name ∙ ap is_some (sym at) in
     let tap : names_tap d r.port ≡ is_among d.taps name.name = ap (names_tap d) port in
     is ∙ sym (rw (outer, bit, tap, driven d r a name port at) refl)
 
-pub fits_nowhere : (d : Description) (r : CellRow) (name : PortName) → is_internal r.function ≡ false → r.port ≡ Some name → None ≡ seat_of d.ports name → false ≡ port_fits d r
+pub fits_nowhere : (d : Description) (r : CellRow) (name : PortName) → has_no_port r.function ≡ false → r.port ≡ Some name → None ≡ seat_of d.ports name → false ≡ port_fits d r
 fits_nowhere d r name outer port at =
     let bit : is_some (port_bit d r) ≡ false = ap (λ o. is_some (option_and_then (bit_number 0 d.ports) o)) port ∙ declared d.ports name ∙ ap is_some (sym at) in
     sym (rw (outer, bit) refl)
 
-pub fits_without : (d : Description) (r : CellRow) → is_internal r.function ≡ false → r.port ≡ None → false ≡ port_fits d r
+pub fits_without : (d : Description) (r : CellRow) → has_no_port r.function ≡ false → r.port ≡ None → false ≡ port_fits d r
 fits_without d r outer port =
     let bit : is_some (port_bit d r) ≡ false = ap (λ o. is_some (option_and_then (bit_number 0 d.ports) o)) port in
     sym (rw (outer, bit) refl)

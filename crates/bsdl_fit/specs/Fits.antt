@@ -16,11 +16,11 @@ abbrev pub port_bit : Description → CellRow → Option ℕ
 port_bit d r = option_and_then (bit_number 0 d.ports) r.port
 
 -- cells without a port
-abbrev pub is_internal : Function → Bool
-is_internal Control = true
-is_internal ControlR = true
-is_internal Internal = true
-is_internal _ = false
+abbrev pub has_no_port : Function → Bool
+has_no_port Control = true
+has_no_port ControlR = true
+has_no_port Internal = true
+has_no_port _ = false
 
 abbrev pub is_control : Function → Bool
 is_control Control = true
@@ -43,7 +43,7 @@ names_tap d (Some p) = is_among d.taps p.name
 -- the port of a row fits its function: `*`, or a port bit that is no TAP's and that no lower cell drives
 abbrev pub port_fits : Description → CellRow → Bool
 port_fits d r =
-    if is_internal r.function then is_none r.port
+    if has_no_port r.function then is_none r.port
     else is_some (port_bit d r) && (not (names_tap d r.port) && not (drives r.function && is_driven_below d r))
 
 abbrev pub is_control_cell : Description → ℕ → Bool

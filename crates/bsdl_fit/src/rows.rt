@@ -50,7 +50,7 @@ fn port_fits<'a>(
     ensures { IfOk result (λ b. (d : described.Description) → Holds known.now d → number ≡ value row.now.number → b
         ≡ spec.port_fits d (cells_view.cell_row row.now)) }
 {
-    if is_internal(row.function) {
+    if has_no_port(row.function) {
         return Ok(row.port.is_none());
     }
     match row.port {
@@ -62,8 +62,8 @@ fn port_fits<'a>(
     }
 }
 
-fn is_internal(function: Function) -> bool
-    ensures { result ≡ spec.is_internal function }
+fn has_no_port(function: Function) -> bool
+    ensures { result ≡ spec.has_no_port function }
 {
     matches!(
         function,

@@ -1,4 +1,4 @@
--- What stands within the quotes of the attributes of instructions (IEEE Std 1149.1-2001, Annex B.8.9 to B.8.13).
+-- What stands within the quotes of the attributes of instructions (IEEE Std 1149.1-2001, Annex B.8.11 to B.8.13).
 use Rattle.std.specs.Prelude.{ℕ, ◌==◌, Bool, true, false, ◌||◌, if◌then◌else◌, List, [], ◌∷◌, ◌++◌, map, reverse, drop}
 use Rattle.std.specs.Prelude.{codes, Option, Some, None}
 use Rattle.std.specs.List.{list_all}

@@ -6,7 +6,7 @@ use Rattle.std.proofs.lemmas.List.Folds.{list_any-append, list_all-append}
 use Rattle.std.proofs.lemmas.Slice.Eq.{bytes_eq-Decides}
 use Rattle.std.proofs.lemmas.Bool.Decides.{nat_tests}
 use Rattle.bsdl_instructions.specs.Values.{AccessRow}
-use Rattle.bsdl_lengths.specs.Agreeing.{is_new, is_new_row, with_row_length}
+use Rattle.bsdl_lengths.specs.Agreeing.{agrees, row_agrees, with_row_length}
 use Rattle.bsdl_lengths.specs.Lengths.{differ, agree}
 
 -- a row gives this register this length
@@ -39,7 +39,7 @@ known_skip known rows r is before = record {
       list_any-append (gives q n) rows (r ∷ []) ∙ ap (λ b. list_any (gives q n) rows || (b || false)) (given_by q n r None is) ∙ or_false (list_any (gives q n) rows) ∙ before.same q n;
 }
 
-same_length : (o : Option ℕ) (n k : ℕ) → is_new o n ≡ true → (tells o k || (nat_eq n k || false)) ≡ nat_eq n k
+same_length : (o : Option ℕ) (n k : ℕ) → agrees o n ≡ true → (tells o k || (nat_eq n k || false)) ≡ nat_eq n k
 same_length None n k new = or_false (nat_eq n k)
 same_length (Some m) n k new =
     let e : m ≡ n = grind (arith, nat_tests) in
@@ -49,7 +49,7 @@ same_length (Some m) n k new =
     twice true = refl
     twice false = refl
 
-pub known_more : (known after : List ℕ → Option ℕ) (rows : List AccessRow) (r : AccessRow) (n : ℕ) → r.len ≡ Some n → is_new (known r.register) n ≡ true
+pub known_more : (known after : List ℕ → Option ℕ) (rows : List AccessRow) (r : AccessRow) (n : ℕ) → r.len ≡ Some n → agrees (known r.register) n ≡ true
     → ((q : List ℕ) → after q ≡ cond (bytes_eq r.register q) (Some n) (known q)) → Known known rows → Known after (rows ++ r ∷ [])
 known_more known after rows r n is new noted before = record {
   same = λ q k.
@@ -61,7 +61,7 @@ known_more known after rows r n is new noted before = record {
     by_test : (q : List ℕ) (k : ℕ) (b : Bool) → bytes_eq r.register q ≡ b → (tells (known q) k || ((bytes_eq r.register q && nat_eq n k) || false)) ≡ tells (cond (bytes_eq r.register q) (Some n) (known q)) k
     by_test q k true e =
         let here : r.register ≡ q = (bytes_eq-Decides r.register q).0 e in
-        let new_here : is_new (known q) n ≡ true = ap (λ (p : List ℕ). is_new (known p) n) (sym here) ∙ new in
+        let new_here : agrees (known q) n ≡ true = ap (λ (p : List ℕ). agrees (known p) n) (sym here) ∙ new in
         rw e (same_length (known q) n k new_here)
     by_test q k false e = rw e (or_false (tells (known q) k))
 
@@ -160,7 +160,7 @@ and_false : (b : Bool) → (b && false) ≡ false
 and_false true = refl
 and_false false = refl
 
-pub two_differ : (known : List ℕ → Option ℕ) (before after : List AccessRow) (r : AccessRow) (n : ℕ) → r.len ≡ Some n → is_new (known r.register) n ≡ false → Known known before
+pub two_differ : (known : List ℕ → Option ℕ) (before after : List AccessRow) (r : AccessRow) (n : ℕ) → r.len ≡ Some n → agrees (known r.register) n ≡ false → Known known before
     → false ≡ agree (before ++ r ∷ after)
 two_differ known before after r n is old k = by_known (known r.register) refl
   where
@@ -169,10 +169,10 @@ two_differ known before after r n is old k = by_known (known r.register) refl
 
     by_known : (o : Option ℕ) → known r.register ≡ o → false ≡ agree all
     by_known None e =
-        let new : is_new (known r.register) n ≡ true = ap (λ p. is_new p n) e in
+        let new : agrees (known r.register) n ≡ true = ap (λ p. agrees p n) e in
         absurd cc
     by_known (Some m) e =
-        let now : is_new (known r.register) n ≡ nat_eq m n = ap (λ p. is_new p n) e in
+        let now : agrees (known r.register) n ≡ nat_eq m n = ap (λ p. agrees p n) e in
         let other : nat_eq m n ≡ false = sym now ∙ old in
         let there : list_any (gives r.register m) before ≡ true = k.same r.register m ∙ ap (λ p. tells p m) e ∙ nat_itself m in
         let differs : list_any (differ r) all ≡ true =
@@ -182,7 +182,7 @@ two_differ known before after r n is old k = by_known (known r.register) refl
 
 -- ---- a row more
 
-pub row_known : (known after : List ℕ → Option ℕ) (rows : List AccessRow) (r : AccessRow) → is_new_row known r ≡ true → ((q : List ℕ) → after q ≡ with_row_length known r q) → Known known rows
+pub row_known : (known after : List ℕ → Option ℕ) (rows : List AccessRow) (r : AccessRow) → row_agrees known r ≡ true → ((q : List ℕ) → after q ≡ with_row_length known r q) → Known known rows
     → Known after (rows ++ r ∷ [])
 row_known known after rows r new note before = by_len r.len refl
   where
@@ -192,16 +192,16 @@ row_known known after rows r new note before = by_len r.len refl
         let k : Known known (rows ++ r ∷ []) = known_skip known rows r is before in
         record { same = λ q n. k.same q n ∙ sym (ap (λ o. tells o n) (same q)) }
     by_len (Some n) is =
-        let new_here : is_new (known r.register) n ≡ true = rw is at new in
+        let new_here : agrees (known r.register) n ≡ true = rw is at new in
         known_more known after rows r n is new_here (λ q. note q ∙ rw is refl) before
 
-pub row_differs : (known : List ℕ → Option ℕ) (before after : List AccessRow) (r : AccessRow) → is_new_row known r ≡ false → Known known before → false ≡ agree (before ++ r ∷ after)
+pub row_differs : (known : List ℕ → Option ℕ) (before after : List AccessRow) (r : AccessRow) → row_agrees known r ≡ false → Known known before → false ≡ agree (before ++ r ∷ after)
 row_differs known before after r old k = by_len r.len refl
   where
     by_len : (len : Option ℕ) → r.len ≡ len → false ≡ agree (before ++ r ∷ after)
     by_len None is =
-        let new : is_new_row known r ≡ true = rw is refl in
+        let new : row_agrees known r ≡ true = rw is refl in
         absurd cc
     by_len (Some n) is =
-        let old_here : is_new (known r.register) n ≡ false = rw is at old in
+        let old_here : agrees (known r.register) n ≡ false = rw is at old in
         two_differ known before after r n is old_here k

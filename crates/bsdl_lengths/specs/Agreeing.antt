@@ -3,17 +3,17 @@ use Rattle.std.specs.Prelude.{ℕ, ◌==◌, Bool, true, if◌then◌else◌, Li
 use Rattle.bsdl_instructions.specs.Values.{AccessRow}
 
 -- no other length is known
-abbrev pub is_new : Option ℕ → ℕ → Bool
-is_new None n = true
-is_new (Some m) n = m == n
+abbrev pub agrees : Option ℕ → ℕ → Bool
+agrees None n = true
+agrees (Some m) n = m == n
 
 -- a row says nothing else than what is known
-abbrev pub is_new_row : (List ℕ → Option ℕ) → AccessRow → Bool
-is_new_row known r = at_len r.len
+abbrev pub row_agrees : (List ℕ → Option ℕ) → AccessRow → Bool
+row_agrees known r = at_len r.len
   where
     at_len : Option ℕ → Bool
     at_len None = true
-    at_len (Some n) = is_new (known r.register) n
+    at_len (Some n) = agrees (known r.register) n
 
 -- what is known with a row
 abbrev pub with_row_length : (List ℕ → Option ℕ) → AccessRow → List ℕ → Option ℕ

@@ -1,4 +1,4 @@
--- Lengths of registers and of patterns, and what captures end in (IEEE Std 1149.1-2001, Annex B.8.7 to B.8.13).
+-- Lengths of registers and of patterns, and what captures end in (IEEE Std 1149.1-2001, Annex B.8.11 to B.8.14).
 use Rattle.std.specs.Prelude.{ℕ, nat_le, ◌==◌, Bool, true, false, not, ◌&&◌, is_some, if◌then◌else◌, List, [], ◌∷◌}
 use Rattle.std.specs.Prelude.{length, Option, Some, None, unwrap_or, bytes_eq, codes}
 use Rattle.std.specs.List.{list_any, list_all}

@@ -4,7 +4,7 @@ ghost use Rattle.std.specs.BTreeMap.{get_by_text};
 ghost use Rattle.bsdl_text.specs.Words.{upper};
 ghost use Rattle.bsdl_text.specs.View.{value};
 ghost use Rattle.bsdl_instructions.specs.View as rows_view;
-ghost use Rattle.bsdl_lengths.specs.Agreeing.{is_new, is_new_row, with_row_length};
+ghost use Rattle.bsdl_lengths.specs.Agreeing.{agrees, row_agrees, with_row_length};
 ghost use Rattle.bsdl_lengths.specs.Lengths as spec;
 
 use bsdl_instructions::names::AccessRow;
@@ -33,7 +33,7 @@ fn put_row<'a>(
     lengths: &mut BTreeMap<String, Digits<'a>>,
     row: &AccessRow<'a>,
 ) -> Result<bool, AllocError>
-    ensures known { IfOk result (λ b. b ≡ is_new_row (λ q. option_map value (get_by_text lengths.old q))
+    ensures known { IfOk result (λ b. b ≡ row_agrees (λ q. option_map value (get_by_text lengths.old q))
         (rows_view.access_row row.now)) }
     ensures noted { OnOk result ((q : List ℕ) → option_map value (get_by_text lengths.new q)
         ≡ with_row_length (λ p. option_map value (get_by_text lengths.old p)) (rows_view.access_row row.now) q) }
@@ -51,7 +51,7 @@ fn put_len<'a>(
     register: Word<'_>,
     len: Digits<'a>,
 ) -> Result<bool, AllocError>
-    ensures known { IfOk result (λ b. b ≡ is_new (option_map value
+    ensures known { IfOk result (λ b. b ≡ agrees (option_map value
         (get_by_text lengths.old (upper register.entry.text.now))) (value len.entry)) }
     ensures noted { OnOk result ((q : List ℕ) → get_by_text lengths.new q
         ≡ cond (bytes_eq (upper register.entry.text.now) q) (Some len.entry) (get_by_text lengths.old q)) }

@@ -1,6 +1,7 @@
 -- The limits of a description.
-use Rattle.std.specs.Prelude.{ℕ, nat_le, Bool, ◌&&◌, length}
+use Rattle.std.specs.Prelude.{ℕ, nat_le, Bool, ◌&&◌, List, length}
 use Rattle.std.specs.List.{list_all, sum_by}
+use Rattle.bsdl_ports.specs.Ports.{Port}
 use Rattle.bsdl_described.specs.Describing.{Description}
 use Rattle.bsdl_limits.specs.PortBits.{highest, width}
 use Rattle.bsdl_limits.specs.Users.{users_of}
@@ -15,10 +16,13 @@ instructions_within d = nat_le d.instruction_length 64 && nat_le (length d.opcod
 abbrev pub cells_within : Description → Bool
 cells_within d = nat_le d.boundary_length 4096 && list_all (λ r. nat_le r.number subscript_limit) d.cells
 
+-- no index is larger, and there are at most 8,192 port bits
+abbrev pub ports_fit : List Port → Bool
+ports_fit ps =
+    list_all (λ p. nat_le (highest p.range) subscript_limit) ps && nat_le (sum_by (λ p. width p.range) ps) 8192
+
 abbrev pub ports_within : Description → Bool
-ports_within d =
-    list_all (λ p. nat_le (highest p.range) subscript_limit) d.ports
-    && nat_le (sum_by (λ p. width p.range) d.ports) 8192
+ports_within d = ports_fit d.ports
 
 abbrev pub users_within : Description → Bool
 users_within d = nat_le (length (users_of d.accesses)) 64 && list_all (λ u. nat_le u.1 4096) (users_of d.accesses)

@@ -10,7 +10,7 @@ ghost use Rattle.bsdl_limits.specs.Limits as spec;
 ghost use Rattle.bsdl_limits.specs.PortBits.{highest};
 ghost use Rattle.bsdl_limits.specs.Users.{users_of};
 ghost use Rattle.bsdl_limits.specs.View.{Lists};
-ghost use Rattle.bsdl_limits.specs.Widths.{capped_width, ports_fit};
+ghost use Rattle.bsdl_limits.specs.Widths.{capped_width};
 
 use crate::users::Users;
 use bsdl_cells::CellRow;
@@ -65,7 +65,7 @@ fn numbers_within(rows: &[CellRow<'_>]) -> bool
 }
 
 fn ports_within(groups: &[Group<'_>]) -> bool
-    ensures { result ≡ ports_fit (ports_view.ports groups.now) }
+    ensures { result ≡ spec.ports_fit (ports_view.ports groups.now) }
 {
     few_bits(groups)
 }

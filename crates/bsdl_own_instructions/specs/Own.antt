@@ -1,4 +1,5 @@
--- Which instructions are the device's own, and the rows with those alone.
+-- Which instructions are the device's own, and the rows with those alone (IEEE Std 1149.1-2001, clause 8 and Annex
+-- B.8.13).
 use Rattle.std.specs.Prelude.{ℕ, Bool, true, false, if◌then◌else◌, List, [], ◌∷◌, filter, bytes_eq, codes}
 use Rattle.std.specs.List.{list_any}
 use Rattle.bsdl_text.specs.Words.{upper, same_name}

@@ -1,11 +1,11 @@
 //! Which instructions are the device's own: they have an opcode, and are neither the standard's nor private.
-ghost use Rattle.std.specs.Prelude.{◌≡◌, List, ℕ, map, filter, IfOk, OnOk};
+ghost use Rattle.std.specs.Prelude.{◌≡◌, ◌||◌, List, ℕ, map, filter, IfOk, OnOk, bytes_eq};
 ghost use Rattle.std.specs.List.{list_any};
 ghost use Rattle.std.specs.BTreeSet.{contains_text};
 ghost use Rattle.bsdl_text.specs.Words.{upper};
 ghost use Rattle.bsdl_instructions.specs.View as rows_view;
 ghost use Rattle.bsdl_own_instructions.specs.Own as spec;
-ghost use Rattle.bsdl_own_instructions.specs.NameSets.{contains_or, is_equal, is_own_by, opcode_named, private_named};
+ghost use Rattle.bsdl_own_instructions.specs.NameSets.{is_own_by, opcode_named, private_named};
 
 use bsdl_instructions::names::{AccessRow, Instr, OpcodeRow, PrivateName};
 use bsdl_text::names::Word;
@@ -53,7 +53,7 @@ fn private_names(alloc: Global, names: &[PrivateName<'_>]) -> Result<BTreeSet<St
 
 fn add_name(alloc: Global, names: &mut BTreeSet<String>, name: Word<'_>) -> Result<(), AllocError>
     ensures { OnOk result ((q : List ℕ) → contains_text names.new q
-        ≡ contains_or (contains_text names.old q) (is_equal (upper name.entry.text.now) q)) }
+        ≡ (contains_text names.old q || bytes_eq (upper name.entry.text.now) q)) }
 {
     let key = name.upper_name(alloc)?;
     names.insert(key)?;

@@ -1,4 +1,4 @@
--- Ports by their names, and a port bit by its port and its index.
+-- Ports by their names, and a port bit by its port and its index (IEEE Std 1149.1-2001, Annex B.8.3).
 use Rattle.std.specs.Prelude.{ℕ, suc, ◌==◌, Bool, false, ◌&&◌, if◌then◌else◌, List, [], ◌∷◌, Option, Some, None}
 use Rattle.std.specs.Prelude.{option_map, option_and_then, unwrap_or, bytes_eq}
 use Rattle.bsdl_text.specs.Words.{upper}

@@ -1,4 +1,4 @@
--- Ports that are single bits, by their names.
+-- Ports that are single bits, by their names (IEEE Std 1149.1-2001, Annex B.8.3).
 use Rattle.std.specs.Prelude.{ℕ, Bool, true, false, if◌then◌else◌, List, [], ◌∷◌, Option, Some, None, is_none}
 use Rattle.std.specs.Option.{option_or}
 use Rattle.std.specs.Prelude.{bytes_eq}

@@ -73,10 +73,7 @@ fn names<'a>(alloc: Global, lexer: Lexer<'a>) -> Result<(Vec<Word<'a>>, Lexer<'a
     ensures shorter { IfOk result (λ p. length (left p.1) < length (left lexer.entry)) }
 {
     let mut all = room_for_one(alloc)?;
-    let (first, behind) = match word(lexer) {
-        Ok(read) => read,
-        Err(stop) => return Err(stop),
-    };
+    let (first, behind) = word(lexer)?;
     match all.push(first) {
         Ok(()) => {}
         Err(_) => return Err(Stop::Memory),
@@ -86,14 +83,8 @@ fn names<'a>(alloc: Global, lexer: Lexer<'a>) -> Result<(Vec<Word<'a>>, Lexer<'a
         if !stands(rest, b',') {
             return Ok((all, rest));
         }
-        let after = match mark(rest, b',') {
-            Ok(after) => after,
-            Err(stop) => return Err(stop),
-        };
-        let (next, more) = match word(after) {
-            Ok(read) => read,
-            Err(stop) => return Err(stop),
-        };
+        let after = mark(rest, b',')?;
+        let (next, more) = word(after)?;
         match all.push(next) {
             Ok(()) => rest = more,
             Err(_) => return Err(Stop::Memory),

@@ -48,10 +48,7 @@ pub fn listed<'a, E: Entry<'a>>(
     ensures shorter { IfOk result (λ p. length (left p.1) < length (left lexer.entry)) }
 {
     let mut all = room_for_one(alloc)?;
-    let (first, behind) = match E::read(alloc, lexer) {
-        Ok(read) => read,
-        Err(stop) => return Err(stop),
-    };
+    let (first, behind) = E::read(alloc, lexer)?;
     match all.push(first) {
         Ok(()) => {}
         Err(_) => return Err(Stop::Memory),
@@ -61,17 +58,11 @@ pub fn listed<'a, E: Entry<'a>>(
         if closes(rest, close) {
             return Ok((all, rest));
         }
-        let after = match mark(rest, separator) {
-            Ok(after) => after,
-            Err(stop) => return Err(stop),
-        };
+        let after = mark(rest, separator)?;
         if closes(after, close) {
             return Ok((all, after));
         }
-        let (entry, more) = match E::read(alloc, after) {
-            Ok(read) => read,
-            Err(stop) => return Err(stop),
-        };
+        let (entry, more) = E::read(alloc, after)?;
         match all.push(entry) {
             Ok(()) => rest = more,
             Err(_) => return Err(Stop::Memory),

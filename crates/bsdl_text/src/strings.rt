@@ -15,10 +15,7 @@ pub fn joined_text<'a>(alloc: Global, lexer: Lexer<'a>) -> Result<(Vec<u8>, Lexe
     ensures shorter { IfOk result (λ p. length (left p.1) < length (left lexer.entry)) }
 {
     let mut text = Vec::new(alloc);
-    let (first, behind) = match string(lexer) {
-        Ok(read) => read,
-        Err(stop) => return Err(stop),
-    };
+    let (first, behind) = string(lexer)?;
     match text.extend_from_slice(inner(first)) {
         Ok(()) => {}
         Err(_) => return Err(Stop::Memory),
@@ -28,14 +25,8 @@ pub fn joined_text<'a>(alloc: Global, lexer: Lexer<'a>) -> Result<(Vec<u8>, Lexe
         if !stands(rest, b'&') {
             return Ok((text, rest));
         }
-        let after = match mark(rest, b'&') {
-            Ok(after) => after,
-            Err(stop) => return Err(stop),
-        };
-        let (next, more) = match string(after) {
-            Ok(read) => read,
-            Err(stop) => return Err(stop),
-        };
+        let after = mark(rest, b'&')?;
+        let (next, more) = string(after)?;
         match text.extend_from_slice(inner(next)) {
             Ok(()) => rest = more,
             Err(_) => return Err(Stop::Memory),

@@ -1,4 +1,5 @@
--- Names that a description gives twice.
+-- Names that a description gives twice: ports, attributes, opcodes and own instructions (IEEE Std 1149.1-2001, Annex
+-- B.8.3 to B.8.14).
 use Rattle.std.specs.Prelude.{ℕ, ◌==◌, nat_lt, Bool, ◌&&◌, ◌||◌, if◌then◌else◌, List, [], ◌∷◌, ◌++◌, map, filter}
 use Rattle.std.specs.Prelude.{Option, Some, None}
 use Rattle.std.specs.List.{list_any, flat_map}

@@ -1,4 +1,4 @@
--- What the attributes of an entity say (IEEE Std 1149.1-2001, Annex B.8.8 to B.8.14).
+-- What the attributes of an entity say (IEEE Std 1149.1-2001, Annex B.8.9 to B.8.14).
 use Rattle.std.specs.Prelude.{ℕ, if◌then◌else◌, List, [], ◌∷◌}
 use Rattle.bsdl_lex.specs.Cutting.{Lexeme}
 use Rattle.bsdl_text.specs.Reading.{Read, fits, ◌>>=◌, meant, joined_text, keyword, number, quoted_value}

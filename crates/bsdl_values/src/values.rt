@@ -25,11 +25,17 @@ use std::alloc::{AllocError, Global};
 /// What the text of an attribute is written in.
 #[derive(Debug, Clone, Copy, PartialEq, Eq)]
 pub enum Language {
+    /// Instructions with their opcodes, as in INSTRUCTION_OPCODE.
     Opcodes,
+    /// One pattern, as in INSTRUCTION_CAPTURE.
     Capture,
+    /// The rows of BOUNDARY_REGISTER.
     Cells,
+    /// Patterns, as in IDCODE_REGISTER and USERCODE_REGISTER.
     Codes,
+    /// Names of instructions, as in INSTRUCTION_PRIVATE.
     PrivateNames,
+    /// Registers with their instructions, as in REGISTER_ACCESS.
     Accesses,
 }
 
@@ -49,7 +55,9 @@ pub enum Value<'a> {
     Port(Word<'a>),
     /// `false`, as if the attribute were not given.
     Absent,
+    /// A number, as in INSTRUCTION_LENGTH: how many bits or cells.
     Count(Digits<'a>),
+    /// What stands within quotes.
     Text(Quoted),
 }
 
@@ -146,7 +154,7 @@ fn read_quoted<'a>(
     }
 }
 
-/// What an attribute of this port, or of another thing of this name, says, and the lexer behind it (Annex B.8.8 to
+/// What an attribute of this port, or of another thing of this name, says, and the lexer behind it (Annex B.8.9 to
 /// B.8.14).
 ///
 /// Refuses at the first token that does not fit, at the first quote of a text that says nothing, or for want of memory.

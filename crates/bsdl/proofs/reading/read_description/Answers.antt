@@ -1,5 +1,6 @@
 use Rattle.std.proofs.Common.{ap, ◌∙◌, sym}
 use Rattle.std.specs.Prelude.{Ok}
+use Rattle.std.proofs.lemmas.Result.{err_from_is_err_and}
 use Rattle.bsdl_described.specs.View.{description}
 use Rattle.bsdl.specs.Judging.{device_or_refusal}
 use Rattle.bsdl.specs.View.{refusal}
@@ -7,10 +8,12 @@ use Rattle.bsdl.proofs.ReadLaws.{refused_last}
 use Rattle.bsdl.proofs.OnceLaws.{each_cell_once}
 use Rattle.bsdl.proofs.reading.read_description.Goals as goal
 
-pub returns-in-Ok-device_of : goal.returns-in-Ok-device_of
-returns-in-Ok-device_of c =
+pub returns-in-Ok : goal.returns-in-Ok
+returns-in-Ok c =
     let d = description c.args.entity.now c.args.described.now in
-    ap (λ o. device_or_refusal o d) c.in-Ok.ensures ∙ ap Ok (sym (c.in-Ok-device_of.ensures (each_cell_once d c.in-Ok.ensures)))
+    ap (λ o. device_or_refusal o d) c.in_ok-judge.ensures ∙ ap Ok (sym (c.in-Ok.ensures (each_cell_once d c.in_ok-judge.ensures)))
 
-pub returns-in-Err : goal.returns-in-Err
-returns-in-Err c = refused_last (refusal c.in-Err.fault) (description c.args.entity.now c.args.described.now) c.in-Err.ensures
+pub returns-in_err-judge : goal.returns-in_err-judge
+returns-in_err-judge c =
+    let stop = err_from_is_err_and c.from_residual.result c.from_residual.ensures.1 in
+    rw (stop.1, stop.2) (refused_last (refusal c.in_err-judge.field-0.0) (description c.args.entity.now c.args.described.now) c.in_err-judge.ensures)

@@ -1,6 +1,7 @@
 use Rattle.std.proofs.Common.{◌≡◌, true, false, length, map, sym, ap, ◌∙◌, Some, None, arith}
 use Rattle.std.specs.Prelude.{codes, option_map}
 use Rattle.std.proofs.lemmas.List.{map-append, append-nil}
+use Rattle.std.proofs.lemmas.Result.{err_from_is_err_and}
 use Rattle.bsdl_lex.specs.Left.{left}
 use Rattle.bsdl_text.specs.Reading.{fits}
 use Rattle.bsdl_text.proofs.ListLaws.{stops_where, prepend}
@@ -16,23 +17,24 @@ returns-then-is_some-clause-gives c =
     let end : begins (codes "END") (left c.items.rest) ≡ true = sym c.behind_word.ensures.begins ∙ sym c.is_some.ensures ∙ c.if-is_some.true in
     all_items (tells c.args.scalars.now) (items (tells c.args.scalars.now) (length (left c.args.lexer)) (left c.args.lexer)) (map given c.items.all.items) c.items.invariant.0 (left c.items.rest) c.items.invariant.3 end
 
-pub returns-in-Err-clause-gives : goal.returns-in-Err-clause-gives
-returns-in-Err-clause-gives c =
+pub returns-in_err-found-clause-gives : goal.returns-in_err-found-clause-gives
+returns-in_err-found-clause-gives c =
     let more : begins (codes "END") (left c.items.rest) ≡ false = sym c.behind_word.ensures.begins ∙ sym c.is_some.ensures ∙ c.if-is_some.false in
-    stops_where c.in-Err.stop (item (tells c.args.scalars.now) (left c.items.rest)) (items (tells c.args.scalars.now) (length (left c.args.lexer)) (left c.args.lexer)) c.in-Err.ensures.gives
+    let stop = err_from_is_err_and c.from_residual.result c.from_residual.ensures.1 in
+    rw (stop.1, stop.2) (stops_where c.in_err-found.field-0.0 (item (tells c.args.scalars.now) (left c.items.rest)) (items (tells c.args.scalars.now) (length (left c.args.lexer)) (left c.args.lexer)) c.in_err-found.ensures.gives
     (λ at none. no_item (tells c.args.scalars.now) (items (tells c.args.scalars.now) (length (left c.args.lexer)) (left c.args.lexer)) (map given c.items.all.items) c.items.invariant.0 (left c.items.rest) c.items.invariant.3
-    at c.items.invariant.1 more none)
+    at c.items.invariant.1 more none))
 
-pub items-preserved-in-Ok-push : goal.items-preserved-in-Ok-push
-items-preserved-in-Ok-push c =
+pub items-preserved-in-Ok : goal.items-preserved-in-Ok
+items-preserved-in-Ok c =
     let more : begins (codes "END") (left c.items.rest) ≡ false = sym c.behind_word.ensures.begins ∙ sym c.is_some.ensures ∙ c.if-is_some.false in
     let next = one_item (tells c.args.scalars.now) (items (tells c.args.scalars.now) (length (left c.args.lexer)) (left c.args.lexer)) (map given c.items.all.items) c.items.invariant.0 (left c.items.rest) c.items.invariant.3
-    (option_map given (Some c.in-Some.given)) (left c.in-Ok.read.1) c.items.invariant.1 more (c.in-Ok.ensures.gives ∙ ap (λ o. fits (option_map given o) (left c.in-Ok.read.1)) c.in-Some.is) c.in-Ok.ensures.shorter in
-    (next.0, next.1, omega (arith, c.in-Ok.ensures.shorter, c.items.invariant.2), rw (c.in-Ok-push.ensures.items, map-append) next.2)
+    (option_map given (Some c.in-Some.given)) (left c.in_ok-found.more) c.items.invariant.1 more (c.in_ok-found.ensures.gives ∙ ap (λ o. fits (option_map given o) (left c.in_ok-found.more)) c.in-Some.is) c.in_ok-found.ensures.shorter in
+    (next.0, next.1, omega (arith, c.in_ok-found.ensures.shorter, c.items.invariant.2), rw (c.in-Ok.ensures.items, map-append) next.2)
 
 pub items-preserved : goal.items-preserved
 items-preserved c =
     let more : begins (codes "END") (left c.items.rest) ≡ false = sym c.behind_word.ensures.begins ∙ sym c.is_some.ensures ∙ c.if-is_some.false in
     let next = one_item (tells c.args.scalars.now) (items (tells c.args.scalars.now) (length (left c.args.lexer)) (left c.args.lexer)) (map given c.items.all.items) c.items.invariant.0 (left c.items.rest) c.items.invariant.3
-    None (left c.in-Ok.read.1) c.items.invariant.1 more (c.in-Ok.ensures.gives ∙ ap (λ o. fits (option_map given o) (left c.in-Ok.read.1)) c.in_default.is) c.in-Ok.ensures.shorter in
-    (next.0, next.1, omega (arith, c.in-Ok.ensures.shorter, c.items.invariant.2), next.2 ∙ ap (λ gs. prepend gs (items (tells c.args.scalars.now) next.0 (left c.in-Ok.read.1))) (append-nil (map given c.items.all.items)))
+    None (left c.in_ok-found.more) c.items.invariant.1 more (c.in_ok-found.ensures.gives ∙ ap (λ o. fits (option_map given o) (left c.in_ok-found.more)) c.in_default.is) c.in_ok-found.ensures.shorter in
+    (next.0, next.1, omega (arith, c.in_ok-found.ensures.shorter, c.items.invariant.2), next.2 ∙ ap (λ gs. prepend gs (items (tells c.args.scalars.now) next.0 (left c.in_ok-found.more))) (append-nil (map given c.items.all.items)))

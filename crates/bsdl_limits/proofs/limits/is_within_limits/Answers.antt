@@ -5,9 +5,8 @@ use Rattle.std.proofs.lemmas.List.{length-map}
 use Rattle.bsdl_text.specs.View.{value}
 use Rattle.bsdl_ports.specs.View as ports_view
 use Rattle.bsdl_described.specs.View.{description}
-use Rattle.bsdl_limits.specs.Limits.{ports_within}
+use Rattle.bsdl_limits.specs.Limits.{ports_fit, ports_within}
 use Rattle.bsdl_limits.proofs.LimitLaws.{first_fails, rest_is, users_by}
-use Rattle.bsdl_limits.specs.Widths.{ports_fit}
 use Rattle.bsdl_limits.specs.Users.{users_of}
 use Rattle.bsdl_limits.proofs.limits.is_within_limits.Goals as goal
 
