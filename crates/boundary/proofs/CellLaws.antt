@@ -1,12 +1,11 @@
 -- Cells by their place.
-use Rattle.std.proofs.Common.{◌≡◌, ℕ, zero, suc, ◌+◌, ◌<◌, ◌≤◌, Bool, true, false, ◌==◌, List, [], ◌∷◌, ◌++◌, length, take, drop, set, get_or, slice_get, Option, Some, None, if◌then◌else◌, refl, sym, ap, ◌∙◌, arith}
-use Rattle.std.proofs.Math.Seq.{drop-cons, get_or-append_right}
-use Rattle.std.proofs.lemmas.List.{take_all, drop_all, append-nil, get_or-drop, length-take}
-use Rattle.std.proofs.lemmas.Bool.Decides.{nat_tests}
-use Rattle.std.proofs.lemmas.Option.{get_or_from_slice_get}
+use Rattle.std.proofs.Common.{◌≡◌, ℕ, zero, suc, ◌+◌, ◌<◌, ◌≤◌, Bool, false, List, [], ◌∷◌, ◌++◌, length, replicate, take, drop, set, get_or, slice_get, Some, refl, sym, ap, ◌∙◌, arith}
+use Rattle.std.proofs.Math.Seq.{get_or-append_right}
+use Rattle.std.proofs.lemmas.List.{take_all, drop_all, append-nil, get_or-drop, get_or-replicate, length-take}
+use Rattle.std.proofs.lemmas.Option.{get_or_from_slice_get, unwrap_or-slice_get}
+use Rattle.jt_bits.specs.Words.{bit_of}
 use Rattle.bsdl_device.specs.declared.Cell.{Cell}
-use Rattle.bsdl_device.specs.declared.Control3.{Control3}
-use Rattle.boundary.specs.Cells.{capture_from, cell_captures, reset_from, reset_cell, disabling_value, disabling_of}
+use Rattle.boundary.specs.Cells.{capture_from, cell_captures, reset_from, reset_cell, disabling_value}
 
 pub capture-length : (cells : List Cell) (seen update core : List Bool) (from_update : Bool) → length seen ≡ length cells → length update ≡ length cells → length core ≡ length cells
     → length (capture_from cells seen from_update update core) ≡ length cells
@@ -56,30 +55,11 @@ reset_more all k j (c ∷ cs) (b ∷ us) (suc i) x u l h e = ap (λ r. reset_cel
 pub unread : (bits front : List Bool) (i : ℕ) (d : Bool) → length front ≡ i → get_or (front ++ drop i bits) i d ≡ get_or bits i d
 unread bits front i d e = get_or-append_right front (drop i bits) i d (omega arith) ∙ ap (λ n. get_or (drop i bits) n d) (omega arith) ∙ get_or-drop i bits 0 d ∙ ap (λ n. get_or bits n d) (omega arith)
 
--- ---- the disabling value, cell by cell
-disabling_at : (k : ℕ) (cells : List Cell) (i : ℕ) (x : Cell) → i < length cells → disabling_value k (drop i cells) ≡ disabling_of k (get_or cells i x).control (disabling_value k (drop (i + 1) cells))
-disabling_at k cells i x h =
-    let next : i + 1 ≡ suc i = omega arith in
-    ap (disabling_value k) (drop-cons cells i x h) ∙ ap (λ n. disabling_of k (get_or cells i x).control (disabling_value k (drop n cells))) (sym next)
-
-pub disabling_here : (k : ℕ) (cells : List Cell) (i : ℕ) (x : Cell) (t : Control3) → i < length cells → disabling_value k cells ≡ disabling_value k (drop i cells) → (get_or cells i x).control ≡ Some t
-    → t.cell ≡ k → t.disabling ≡ disabling_value k cells
-disabling_here k cells i x t h so_far is named =
-    let yes_ : (t.cell == k) ≡ true = grind (arith, nat_tests) in
-    sym (so_far ∙ disabling_at k cells i x h ∙ ap (λ (o : Option Control3). disabling_of k o (disabling_value k (drop (i + 1) cells))) is
-    ∙ ap (λ (b : Bool). if b then t.disabling else disabling_value k (drop (i + 1) cells)) yes_)
-
-pub disabling_other : (k : ℕ) (cells : List Cell) (i : ℕ) (x : Cell) (t : Control3) → i < length cells → disabling_value k cells ≡ disabling_value k (drop i cells) → (get_or cells i x).control ≡ Some t
-    → (t.cell ≡ k → ⊥) → disabling_value k cells ≡ disabling_value k (drop (i + 1) cells)
-disabling_other k cells i x t h so_far is other =
-    let no_ : (t.cell == k) ≡ false = grind (arith, nat_tests) in
-    so_far ∙ disabling_at k cells i x h ∙ ap (λ (o : Option Control3). disabling_of k o (disabling_value k (drop (i + 1) cells))) is
-    ∙ ap (λ (b : Bool). if b then t.disabling else disabling_value k (drop (i + 1) cells)) no_
-
-pub disabling_none : (k : ℕ) (cells : List Cell) (i : ℕ) (x : Cell) → i < length cells → disabling_value k cells ≡ disabling_value k (drop i cells) → (get_or cells i x).control ≡ None
-    → disabling_value k cells ≡ disabling_value k (drop (i + 1) cells)
-disabling_none k cells i x h so_far is =
-    so_far ∙ disabling_at k cells i x h ∙ ap (λ (o : Option Control3). disabling_of k o (disabling_value k (drop (i + 1) cells))) is
+-- before any cell is walked, no control cell is named
+pub none_named : (cells : List Cell) (bits : List Bool) (k : ℕ) → bits ≡ replicate (length cells) false → k < length cells → bit_of bits k ≡ disabling_value k (drop (length cells) cells)
+none_named cells bits k is h =
+    unwrap_or-slice_get bits k false ∙ ap (λ (l : List Bool). get_or l k false) is ∙ get_or-replicate (length cells) k false false h
+    ∙ ap (disabling_value k) (sym (drop_all (length cells) cells (omega arith)))
 
 pub capture_step : (cells : List Cell) (seen update core stage now new : List Bool) (f : Bool) (i : ℕ) (x : Cell) (s u c bit : Bool) → length seen ≡ length cells → length update ≡ length cells → length core ≡ length cells → length stage ≡ length cells
     → i < length cells → now ≡ take i (capture_from cells seen f update core) ++ drop i stage → new ≡ set now i bit → bit ≡ cell_captures s f u c (get_or cells i x).port (get_or cells i x).function

@@ -1,5 +1,5 @@
 -- The boundary cells of a device on the board: what they capture, what a reset gives them, what the pins drive
--- (IEEE Std 1149.1-2001, clauses 8 and 11, and Annex B for the cell table).
+-- (IEEE Std 1149.1-2001, clauses 8 and 11, and Annex B.8.14 for the cell table).
 use Rattle.std.specs.Prelude.{◌≡◌, ◌<◌, Bool, true, false, ◌&&◌, ℕ, suc, ◌==◌, List, [], ◌∷◌, length, replicate}
 use Rattle.std.specs.Prelude.{slice_get, slice_index_or, Option, Some, None, if◌then◌else◌}
 use Rattle.jt_bits.specs.Words.{bit_of}
@@ -57,6 +57,16 @@ disabling_of k None otherwise = otherwise
 abbrev pub disabling_value : ℕ → List Cell → Bool
 disabling_value k [] = false
 disabling_value k (c ∷ cs) = disabling_of k c.control (disabling_value k cs)
+
+-- bit k is the disabling value of control cell k
+pub record AreDisabling (cells : List Cell) (bits : List Bool) : Type 0 where
+  pub long : length bits ≡ length cells
+  pub each : (k : ℕ) → k < length cells → bit_of bits k ≡ disabling_value k cells
+
+-- the disabling value that a cell names is entered at the control cell that it names, if that is one of these
+pub record EntersDisabling (old new : List Bool) (control : Option Control3) : Type 0 where
+  pub long : length new ≡ length old
+  pub each : (k : ℕ) → k < length old → bit_of new k ≡ disabling_of k control (bit_of old k)
 
 abbrev pub reset_cell : List Cell → ℕ → Function → Bool → Bool
 reset_cell all k ControlR u = disabling_value k all

@@ -1,11 +1,12 @@
 //! The boundary register of a device on the board: what its cells capture, what a reset gives them, what the pins drive
-//! (IEEE Std 1149.1-2001, clauses 8 and 11, and Annex B for the cell table).
+//! (IEEE Std 1149.1-2001, clauses 8 and 11, and Annex B.8.14 for the cell table).
 #![tactic(auto)]
 
 ghost use Rattle.std.specs.Prelude.{◌≡◌, ◌<◌, ℕ, List, Bool, length, slice_get, IfOk};
 ghost use Rattle.jt_bits.specs.Words.{bit_of};
 ghost use Rattle.boundary.specs.Cells as cells;
-ghost use Rattle.boundary.specs.Cells.{AreDrivers, BoundaryValue, DrivenByCell, EntersDriver, IsWhole};
+ghost use Rattle.boundary.specs.Cells.{AreDisabling, AreDrivers, BoundaryValue, DrivenByCell, EntersDisabling};
+ghost use Rattle.boundary.specs.Cells.{EntersDriver, IsWhole};
 ghost use Rattle.boundary.specs.Sight.{CapturesBySight};
 
 use bsdl_device::{Cell, Control3, Disabled, Function};
@@ -17,10 +18,11 @@ use std::alloc::{AllocError, Global};
 use std::marker::Model;
 
 /// The cells of a device with what each was last told that its port sees, their core's bits, and the two lists of the
-/// register.
+/// register; beside them the disabling values that a reset gives.
 #[derive(Drop)]
 pub struct Boundary {
     device: SharedDevice,
+    disabling: Bits,
     core: Bits,
     extest_update: bool,
     seen: Bits,
@@ -30,7 +32,7 @@ pub struct Boundary {
 
 impl Model for Boundary {
     ghost use Rattle.std.specs.Prelude.{◌≡◌, length};
-    ghost use Rattle.boundary.specs.Cells.{BoundaryValue};
+    ghost use Rattle.boundary.specs.Cells.{AreDisabling, BoundaryValue};
 
     ghost Value = { BoundaryValue };
 
@@ -48,6 +50,7 @@ impl Model for Boundary {
       seen : length b.seen ≡ length b.device.cells;
       stage : length b.stage ≡ length b.device.cells;
       update : length b.update ≡ length b.device.cells;
+      disabling : AreDisabling b.device.cells b.disabling;
     } };
 }
 
@@ -109,7 +112,7 @@ impl Register for Boundary {
     }
 
     fn reset(&mut self) {
-        reset_all(self.device.get().cells(), &mut self.update);
+        reset_all(self.device.get().cells(), &self.disabling, &mut self.update);
     }
 
     ghost stage_of = { λ r s u. refl };
@@ -191,38 +194,50 @@ pub fn captures_what_ports_see()
 {}
 
 /// Each controlr cell takes its disabling value.
-fn reset_all(list: &[Cell], update: &mut Bits)
-    requires { length update.old ≡ length list.now }
+fn reset_all(list: &[Cell], disabling: &Bits, update: &mut Bits)
+    requires values { AreDisabling list.now disabling.now }
+    requires long { length update.old ≡ length list.now }
     ensures { update.new ≡ cells.reset_from list.now 0 list.now update.old }
 {
     for k in 0..list.len() {
-        let bit = reset_cell(list, k, list[k].function, update.get(k));
+        let bit = reset_cell(list[k].function, disabling.get(k), update.get(k));
         update.set(k, bit);
     }
 }
 
-/// What a reset gives cell `k` of this function and update bit.
-fn reset_cell(list: &[Cell], k: usize, function: Function, update: bool) -> bool
-    ensures { result ≡ cells.reset_cell list.now k function update }
+/// What a reset gives a cell of this function, disabling value and update bit.
+fn reset_cell(function: Function, disabling: bool, update: bool) -> bool
+    ensures { (all : List Cell) (k : ℕ) → cells.disabling_value k all ≡ disabling
+        → result ≡ cells.reset_cell all k function update }
 {
     match function {
-        Function::ControlR => disabling_value(list, k),
+        Function::ControlR => disabling,
         _ => update,
     }
 }
 
-/// The disabling value of control cell `k`: that of the lowest cell that names it, 0 if none does.
-fn disabling_value(list: &[Cell], k: usize) -> bool
-    ensures { result ≡ cells.disabling_value k list.now }
+/// The disabling value of each control cell: that of the lowest cell that names it, 0 if none does.
+fn disabling_values(alloc: Global, list: &[Cell]) -> Result<Bits, AllocError>
+    ensures { IfOk result (λ bits. AreDisabling list.now bits) }
 {
-    for cell in list {
-        if let Some(control) = cell.control {
-            if control.cell == k {
-                return control.disabling;
-            }
+    let mut bits = Bits::zeros(alloc, list.len())?;
+    let mut k = list.len();
+    while k > 0 {
+        k -= 1;
+        enter_disabling(&mut bits, list[k].control);
+    }
+    Ok(bits)
+}
+
+/// The control cell that a cell names takes the disabling value that it names.
+fn enter_disabling(bits: &mut Bits, control: Option<Control3>)
+    ensures { EntersDisabling bits.old bits.new control }
+{
+    if let Some(control) = control {
+        if control.cell < bits.len() {
+            bits.set(control.cell, control.disabling);
         }
     }
-    false
 }
 
 impl Boundary {
@@ -239,12 +254,14 @@ impl Boundary {
         ensures { IfOk result (λ b. b ≡ cells.powered device.now.cells core.now extest_update) }
     {
         let device = device.share()?;
+        let disabling = disabling_values(alloc, device.get().cells())?;
         let mut update = Bits::zeros(alloc, core.len())?;
-        reset_all(device.get().cells(), &mut update);
+        reset_all(device.get().cells(), &disabling, &mut update);
         let seen = Bits::zeros(alloc, core.len())?;
         let stage = Bits::zeros(alloc, core.len())?;
         Ok(Boundary {
             device,
+            disabling,
             core: core.try_clone(alloc)?,
             extest_update,
             seen,
@@ -253,14 +270,14 @@ impl Boundary {
         })
     }
 
-    /// The bits between TDI and TDO.
+    /// The bits between TDI and TDO, that of cell 0, nearest TDO, at bit 0.
     pub fn stage(&self) -> &Bits
         ensures { result.now ≡ self.now.stage }
     {
         &self.stage
     }
 
-    /// The bits that drive under EXTEST and CLAMP.
+    /// The bits that drive under EXTEST and CLAMP, that of cell 0, nearest TDO, at bit 0.
     pub fn update_stage(&self) -> &Bits
         ensures { result.now ≡ self.now.update }
     {

@@ -13,6 +13,7 @@ invariant_of-self c =
       stage = ap length c.capture_all.ensures ∙ ap (λ l. length (capture_from l i.seen c.if-self.from_update i.update i.core)) (c.cells.ensures ∙ ap (λ (d : Device). d.cells) c.get.ensures)
           ∙ capture-length i.device.cells i.seen i.update i.core c.if-self.from_update c.self.invariant.seen c.self.invariant.update c.self.invariant.core;
       update = c.self.invariant.update;
+      disabling = c.self.invariant.disabling;
     }
 
 pub returns-clause-len : goal.returns-clause-len

@@ -9,5 +9,6 @@ invariant_of-self c =
       core = c.self.invariant.core;
       seen = c.self.invariant.seen;
       stage = c.self.invariant.stage;
+      disabling = c.self.invariant.disabling;
       update = ap length c.reset_all.ensures ∙ reset-length c.cells.result.now 0 c.cells.result.now i.update ∙ c.self.invariant.update;
     }
