@@ -21,7 +21,7 @@ use bsdl_places::places::Places;
 use std::alloc::{AllocError, Global};
 use std::collections::BTreeMap;
 
-/// The cells by their numbers, where each number below the length has one row.
+/// The cells by their numbers; each number below the length has one row.
 pub fn cells_of(
     alloc: Global,
     places: &Places<'_>,
@@ -29,8 +29,9 @@ pub fn cells_of(
     rows: &[CellRow<'_>],
     len: usize,
 ) -> Result<Vec<Cell>, AllocError>
-    ensures { IfOk result (λ v. (ps : List port_list.Port) → AreAt places.now ps → bits.now ≡ firsts 0 ps
-        → ((k : ℕ) → k < len → length (filter (λ r. r.number == k) (map cells_view.cell_row rows.now)) ≡ 1) → v.items
+    requires once { (k : ℕ) → k < len
+        → length (filter (λ r. r.number == k) (map cells_view.cell_row rows.now)) ≡ 1 }
+    ensures { IfOk result (λ v. (ps : List port_list.Port) → AreAt places.now ps → bits.now ≡ firsts 0 ps → v.items
         ≡ spec.cells_of ps (map cells_view.cell_row rows.now) len) }
 {
     let table = table_of(alloc, places, bits, rows)?;

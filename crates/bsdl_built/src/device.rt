@@ -18,15 +18,15 @@ use bsdl_places::places::places_of;
 use bsdl_text::numbers::Digits;
 use std::alloc::{AllocError, Global};
 
-/// The device that a description says, where each cell below the length of the boundary register has one row.
+/// The device that a description says; each cell below the length of the boundary register has one row.
 pub fn device_of(
     alloc: Global,
     outline: &Outline<'_>,
     described: &Description<'_>,
 ) -> Result<Device, AllocError>
-    ensures { IfOk result (λ v. ((k : ℕ) → k < (description outline.now described.now).boundary_length
-        → length (filter (λ r. r.number == k) (description outline.now described.now).cells) ≡ 1) → v
-        ≡ spec.device (description outline.now described.now)) }
+    requires once { (k : ℕ) → k < (description outline.now described.now).boundary_length
+        → length (filter (λ r. r.number == k) (description outline.now described.now).cells) ≡ 1 }
+    ensures { IfOk result (λ v. v ≡ spec.device (description outline.now described.now)) }
 {
     let ports = ports_of(alloc, &described.taps, &outline.groups)?;
     let instruction_length = size_of(described.instruction_length)?;
@@ -61,8 +61,9 @@ fn boundary_of(
     outline: &Outline<'_>,
     described: &Description<'_>,
 ) -> Result<Vec<Cell>, AllocError>
-    ensures { IfOk result (λ v. ((k : ℕ) → k < (description outline.now described.now).boundary_length
-        → length (filter (λ r. r.number == k) (description outline.now described.now).cells) ≡ 1) → v.items
+    requires once { (k : ℕ) → k < (description outline.now described.now).boundary_length
+        → length (filter (λ r. r.number == k) (description outline.now described.now).cells) ≡ 1 }
+    ensures { IfOk result (λ v. v.items
         ≡ boundary.cells_of (description outline.now described.now).ports (description outline.now described.now).cells
         (description outline.now described.now).boundary_length) }
 {

@@ -8,10 +8,13 @@ use Rattle.bsdl.proofs.ReadLaws.{refused_last}
 use Rattle.bsdl.proofs.OnceLaws.{each_cell_once}
 use Rattle.bsdl.proofs.reading.read_description.Goals as goal
 
+pub device_of-requires : goal.device_of-requires
+device_of-requires c = record { once = each_cell_once (description c.args.entity.now c.args.described.now) c.in_ok-judge.ensures }
+
 pub returns-in-Ok : goal.returns-in-Ok
 returns-in-Ok c =
     let d = description c.args.entity.now c.args.described.now in
-    ap (λ o. device_or_refusal o d) c.in_ok-judge.ensures ∙ ap Ok (sym (c.in-Ok.ensures (each_cell_once d c.in_ok-judge.ensures)))
+    ap (λ o. device_or_refusal o d) c.in_ok-judge.ensures ∙ ap Ok (sym c.in-Ok.ensures)
 
 pub returns-in_err-judge : goal.returns-in_err-judge
 returns-in_err-judge c =

@@ -7,5 +7,5 @@ use Rattle.bsdl_boundary.proofs.CellLaws.{each_once}
 use Rattle.bsdl_boundary.proofs.cells.cells_of.Goals as goal
 
 pub returns : goal.returns
-returns c = λ ps at bits_are once.
-    c.in_ok-cells.ensures ∙ each_once (cell ps) (map cell_row c.args.rows.now) (get nat_cmp c.in_ok-table.table) c.args.len (c.in_ok-table.ensures ps at bits_are) once
+returns c = λ ps at bits_are.
+    c.in_ok-cells.ensures ∙ each_once (cell ps) (map cell_row c.args.rows.now) (get nat_cmp c.in_ok-table.table) c.args.len (c.in_ok-table.ensures ps at bits_are) c.requires.once
