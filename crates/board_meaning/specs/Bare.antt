@@ -1,4 +1,5 @@
--- The bare device, which has the smallest description that the standard allows, and the board of bare devices.
+-- The bare device, less than the standard asks of a component (it has no SAMPLE and no PRELOAD), and the board of bare
+-- devices.
 use Rattle.std.specs.Prelude.{true, false, ℕ, zero, suc, List, [], ◌∷◌, ◌++◌, Some, None, codes}
 use Rattle.std.specs.Fmt.{decimal}
 use Rattle.bsdl_device.specs.Device.{Name, PortBit, Device}

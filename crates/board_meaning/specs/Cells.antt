@@ -1,5 +1,5 @@
 -- A device of the chain: what its boundary cells capture, what a reset gives them, what its pins drive (IEEE Std
--- 1149.1-2001, clauses 8 and 11, and Annex B for the cell table).
+-- 1149.1-2001, clauses 8 and 11, and Annex B.8.14 for the cell table).
 use Rattle.std.specs.Prelude.{Bool, false, ◌||◌, ℕ, List, map, length, replicate, is_some, if◌then◌else◌}
 use Rattle.bsdl_device.specs.Device.{Name, Device}
 use Rattle.device_instructions.specs.Instruction.{meaning, reset_latch}

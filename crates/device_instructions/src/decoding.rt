@@ -7,6 +7,7 @@ ghost use Rattle.bsdl_device.specs.Opcodes.{matches, names_it};
 ghost use Rattle.device_instructions.specs.Instruction.{as_bypass, reads_code, instruction, meaning, meaning_of};
 ghost use Rattle.device_instructions.specs.Instruction.{look_up, standard, access_meaning};
 ghost use Rattle.std.specs.List.{find};
+ghost use Rattle.device_instructions.specs.declared.decoding.Fixed.TheVariants.{Free};
 
 use crate::{Mode, Selected};
 use bsdl_device::{Device, Opcode, Pattern, Place};
@@ -80,36 +81,25 @@ fn named(device: &Device, name: &str) -> Decoded
     }
     match name {
         "BYPASS" => BYPASSED,
-        "EXTEST" => Decoded {
-            mode: Mode::Extest,
-            selected: Selected::Boundary,
-            fixed: Fixed::Free,
-        },
-        "SAMPLE" => Decoded {
-            mode: Mode::Core,
-            selected: Selected::Boundary,
-            fixed: Fixed::Free,
-        },
-        "PRELOAD" => Decoded {
-            mode: Mode::Core,
-            selected: Selected::Boundary,
-            fixed: Fixed::Free,
-        },
-        "CLAMP" => Decoded {
-            mode: Mode::Clamp,
-            selected: Selected::Bypass,
-            fixed: Fixed::Free,
-        },
-        "HIGHZ" => Decoded {
-            mode: Mode::HighZ,
-            selected: Selected::Bypass,
-            fixed: Fixed::Free,
-        },
+        "EXTEST" => selects(Mode::Extest, Selected::Boundary),
+        "SAMPLE" | "PRELOAD" => selects(Mode::Core, Selected::Boundary),
+        "CLAMP" => selects(Mode::Clamp, Selected::Bypass),
+        "HIGHZ" => selects(Mode::HighZ, Selected::Bypass),
         "IDCODE" => idcode(device),
         "USERCODE" => usercode(device),
-        "INTEST" => BYPASSED,
-        "RUNBIST" => BYPASSED,
+        "INTEST" | "RUNBIST" => BYPASSED,
         _ => own(device, name),
+    }
+}
+
+/// The mode with the register selected, its capture fixed to nothing.
+fn selects(mode: Mode, selected: Selected) -> Decoded
+    ensures { result ≡ record { mode = mode; selected = selected; fixed = Free } }
+{
+    Decoded {
+        mode,
+        selected,
+        fixed: Fixed::Free,
     }
 }
 
@@ -174,11 +164,7 @@ fn at_place(device: &Device, k: usize, place: Place) -> Decoded
 {
     match place {
         Place::AtBypass => BYPASSED,
-        Place::AtBoundary => Decoded {
-            mode: Mode::Core,
-            selected: Selected::Boundary,
-            fixed: Fixed::Free,
-        },
+        Place::AtBoundary => selects(Mode::Core, Selected::Boundary),
         Place::AtDeviceId => idcode(device),
         Place::AtUser(u) => Decoded {
             mode: Mode::Core,

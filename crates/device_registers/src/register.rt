@@ -78,29 +78,39 @@ pub trait Register: Drop {
     fn reset(&mut self)
         ensures { self.new ≡ with_parts self.old (stage self.old) (at_reset self.old) };
 
+    /// The stage of a register with parts put in is the first of them.
     ghost stage_of: { (r : Self) (s u : List Bool) → stage (with_parts r s u) ≡ s };
 
+    /// Its update part is the second of them.
     ghost update_of: { (r : Self) (s u : List Bool) → update_part (with_parts r s u) ≡ u };
 
+    /// Of parts put in twice the second hold.
     ghost parts_twice: { (r : Self) (s u t v : List Bool) → with_parts (with_parts r s u) t v ≡ with_parts r t v };
 
+    /// To put in the parts that are there changes nothing.
     ghost parts_same: { (r : Self) → with_parts r (stage r) (update_part r) ≡ r };
 
+    /// What a capture would give does not depend on the stage.
     ghost captured_by_update: { (r : Self) (s : List Bool) (mode : TheMode)
         → captured (with_parts r s (update_part r)) mode ≡ captured r mode };
 
+    /// What a reset would give does not depend on the stage.
     ghost reset_by_update: { (r : Self) (s : List Bool) → at_reset (with_parts r s (update_part r)) ≡ at_reset r };
 
+    /// What a cell sees does not change the stage.
     ghost sees_stage: { (r : Self) (cell : ℕ) (bit : Bool) → stage (saw r cell bit) ≡ stage r };
 
+    /// What a cell sees does not change the update part.
     ghost sees_update: { (r : Self) (cell : ℕ) (bit : Bool) → update_part (saw r cell bit) ≡ update_part r };
 
     /// What a cell sees changes only what that cell captures.
     ghost sees_alone: { (r : Self) (cell : ℕ) (bit : Bool) (mode : TheMode) (i : ℕ) → i ≢ cell
         → slice_get (captured (saw r cell bit) mode) i ≡ slice_get (captured r mode) i };
 
+    /// What a cell sees does not change what a reset would give.
     ghost sees_reset: { (r : Self) (cell : ℕ) (bit : Bool) → at_reset (saw r cell bit) ≡ at_reset r };
 
+    /// A sight and a change of the parts have one result in either order.
     ghost sees_parts: { (r : Self) (cell : ℕ) (bit : Bool) (s u : List Bool)
         → with_parts (saw r cell bit) s u ≡ saw (with_parts r s u) cell bit };
 

@@ -4,7 +4,7 @@ use Rattle.std.specs.Prelude.{position, filter, count_by}
 use Rattle.std.specs.List.{list_any, position_or_len, range_with_len}
 use Rattle.std.proofs.lemmas.Bool.{cases_eq, cases_lt}
 use Rattle.std.proofs.lemmas.Bool.Decides.{nat_tests}
-use Rattle.std.proofs.lemmas.List.{append-nil, get_or-map, get_or-replicate, get_or_past, length-map, length-replicate, get_or-set_same, get_or-set_other, get_or-take, length-append, length-set, length-take, map-append, take_more}
+use Rattle.std.proofs.lemmas.List.{map-id, append-nil, get_or-map, get_or-replicate, get_or_past, length-map, length-replicate, get_or-set_same, get_or-set_other, get_or-take, length-append, length-set, length-take, map-append, take_more}
 use Rattle.std.proofs.lemmas.List.Folds.{position_or_len_push}
 use Rattle.std.proofs.lemmas.List.FromFn.{filter_of_map_range_with_len_more}
 use Rattle.std.proofs.lemmas.List.Quantifiers.{position-Some}
@@ -207,8 +207,10 @@ is_lone base p = is_none (position (has_pin p) base)
 
 lone_more : (base : List NetValue) (k : ℕ) → lone_nets base (k + 1) ≡ lone_nets base k ++ map alone (if is_lone base k then k ∷ [] else [])
 lone_more base k =
-    ap (map alone) (filter_of_map_range_with_len_more (is_lone base) (λ p. p) 0 k k (omega arith))
+    ap (λ (ps : List ℕ). map alone (filter (is_lone base) ps)) (sym (map-id (range_with_len 0 (k + 1))))
+    ∙ ap (map alone) (filter_of_map_range_with_len_more (is_lone base) (λ p. p) 0 k k (omega arith))
     ∙ map-append alone (filter (is_lone base) (map (λ p. p) (range_with_len 0 k))) (if is_lone base k then k ∷ [] else [])
+    ∙ ap (λ (ps : List ℕ). map alone (filter (is_lone base) ps) ++ map alone (if is_lone base k then k ∷ [] else [])) (map-id (range_with_len 0 k))
 
 pub lone_taken : (base : List NetValue) (k : ℕ) (old net_of : List (Option ℕ)) (nets : List NetValue) → k < length net_of → get_or net_of k None ≡ None → LoneUntil base k old net_of nets
     → LoneUntil base (k + 1) old (set net_of k (Some (length nets))) (nets ++ alone k ∷ [])

@@ -32,7 +32,7 @@ alone p = record { pull = Free; pins = p ∷ [] }
 
 -- the nets of the first n pins that are on none of these, by rising number
 abbrev pub lone_nets : List NetValue → ℕ → List NetValue
-lone_nets nets n = map alone (filter (λ p. is_none (position (has_pin p) nets)) (map (λ p. p) (range_with_len 0 n)))
+lone_nets nets n = map alone (filter (λ p. is_none (position (has_pin p) nets)) (range_with_len 0 n))
 
 -- each pin has the place of its net
 pub record HasNetOfEach (net_of : List (Option ℕ)) (nets : List NetValue) : Type 0 where

@@ -15,8 +15,11 @@ mod nets;
 /// What a pin drives.
 #[derive(Debug, Clone, Copy, PartialEq, Eq)]
 pub enum Drive {
+    /// This level, against any weak driver.
     Strong(bool),
+    /// This level, where no driver of the net is strong.
     Weak(bool),
+    /// No level.
     Nothing,
 }
 

@@ -1,4 +1,5 @@
--- The laws of a put: what a chip has already changes nothing, and of two puts the second holds.
+-- The laws of a put: what a chip has already changes nothing, and of two puts the second holds. These proof terms stand
+-- here since `impl Link` names them: there is nothing to judge.
 use Rattle.std.specs.Prelude.{◌≡◌, ℕ, zero, suc, Bool, List, [], ◌∷◌, refl}
 use Rattle.std.proofs.Common.{sym, ap, ◌∙◌}
 use Rattle.jt_tap.specs.declared.Column.{Column}

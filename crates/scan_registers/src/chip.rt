@@ -239,7 +239,7 @@ impl<B: Register> Chip<B> {
         &self.boundary
     }
 
-    /// The stage of the identification register, where the device has one.
+    /// The stage of the identification register, bit 0 nearest TDO, where the device has one (clause 12).
     pub fn id(&self) -> Option<&Bits>
         ensures { option_map {U = List Bool} (λ b. b.now) result
             ≡ (if is_coded self.now.device then Some self.now.identification else None) }
@@ -251,7 +251,8 @@ impl<B: Register> Chip<B> {
         }
     }
 
-    /// The stage and the latch of user register `k`, counted in the order in which the description first names them.
+    /// The stage and the latch of user register `k`, bit 0 nearest TDO, counted in the order in which the description
+    /// first names them; `None` past the last.
     pub fn user(&self, k: usize) -> Option<(&Bits, &Bits)>
         ensures { option_map {U = List Bool × List Bool} (λ p. (p.0.now, p.1.now)) result
             ≡ option_map (λ u. (u.stage, u.latch)) (slice_get self.now.users k) }

@@ -16,6 +16,7 @@ pub trait Link {
     /// The second is the first with these bits in the column's register, and nothing else changed.
     ghost is_put: { Self → TheColumn → List Bool → Self → Type 0 };
 
+    /// How many bits the column's register has.
     fn register_len(&self, column: Column) -> usize
         ensures { result ≡ length (register self.now column) };
 
@@ -31,8 +32,10 @@ pub trait Link {
         ensures run { RunSet (register self.old column) (register self.new column) at bits n }
         ensures put { is_put self.old column (register self.new column) self.new };
 
+    /// To put what is there changes nothing.
     ghost put_none: { (c : Self) (column : TheColumn) → is_put c column (register c column) c };
 
+    /// Of two puts the second holds.
     ghost put_twice: { (a b c : Self) (column : TheColumn) (s t : List Bool)
         → is_put a column s b → is_put b column t c → is_put a column t c };
 }
