@@ -19,6 +19,7 @@ use Rattle.plays.specs.Meaning.{after_step, move_unless_there}
 use Rattle.bitbang_table.specs.Cycles.{entering, closed_messages}
 use Rattle.bitbang.specs.StepMessages.{step_messages}
 use Rattle.tap_paths.specs.Paths.{last_of}
+use Rattle.tap_paths.specs.Stated.{IsWalk}
 use Rattle.board_meaning.specs.Resting.{board_at_rest, IsRest}
 use Rattle.svf_programs.specs.Legal.{IsPath, IsFormed, is_reset, leaves_reset}
 use Rattle.plays.specs.Legal.{IsLegal}
@@ -56,13 +57,9 @@ done-at step m answers to stable after heard said end = record {
   count = end.ready.count;
 }
 
-trip : (path : List State) (s : State) → IsPath s path → IsTrip s path
-trip [] s legal = tt
-trip (t ∷ path) s legal = (legal.0, trip path t legal.1)
-
-pub path-stable : (path : List State) (s : State) → IsPath s path → is_stable (last_of s path) ≡ true
-path-stable [] s legal = legal
-path-stable (t ∷ path) s legal = path-stable path t legal.1
+trip : (path : List State) (s : State) → IsWalk s path → IsTrip s path
+trip [] s walk = tt
+trip (t ∷ path) s walk = (walk.0, trip path t walk.1)
 
 -- a scan of a nonempty vector
 scan-done : (column : Column) (v : List VectorBit) (end place : State) (trst : Bool) (nets : List Net) (ms : List Member)
@@ -87,9 +84,9 @@ go-done to place trst nets ms here there ready =
 path-done : (path : List State) (place : State) (trst : Bool) (nets : List Net) (ms : List Member) → is_stable place ≡ true → IsPath place path
     → StaysReset place ms → IsReady trst (length ms) ms → IsDone (Path path) (at_rest place trst nets ms)
 path-done path place trst nets ms here legal kept ready =
-    let there = path-stable path place legal in
+    let (walk, there) = legal in
     done-at (Path path) (at_rest place trst nets ms) [] (last_of place path) there refl
-    (path-law path place trst nets ms here there (trip path place legal) ready.sound ready.free) refl
+    (path-law path place trst nets ms here there (trip path place walk) ready.sound ready.free) refl
     (along-rests path (length ms) (at_rest place trst nets ms) ready kept)
 
 run-done : (run end : State) (n : ℕ) (place : State) (trst : Bool) (nets : List Net) (ms : List Member) → is_stable place ≡ true

@@ -3,6 +3,7 @@ use Rattle.std.proofs.Common.{◌≡◌, ℕ, ◌<◌, Bool, true, false, cond, 
 use Rattle.std.specs.Prelude.{codes, option_map}
 use Rattle.std.specs.List.{flat_map, AllByRecursion}
 use Rattle.std.proofs.lemmas.List.Concat.{flat_map-cons}
+use Rattle.std.proofs.lemmas.Option.{same_Some}
 use Rattle.jt_tap.specs.declared.State.{State}
 use Rattle.jt_tap.specs.Words as st
 use Rattle.svf_words.specs.declared.keywords.TrstWord.{TrstWord}
@@ -15,7 +16,7 @@ use Rattle.svf_words.specs.Keywords.{command_word, scan_word, trst_word, command
 use Rattle.svf_forms.specs.Fields.{◌>>?◌, Fields, no_fields, put, Closed, over, closing, before_close, cut_at_close, joined_digits, runs, bracket, fields_say}
 use Rattle.svf_forms.specs.RunTests.{run_of}
 use Rattle.svf_forms.specs.Forms.{Form, end_dr_form, end_ir_form, frequency_form, scan_form, run_form, states_form, trst_form, port_form, form_of, one_state, one_trst, each_state, with_state, some_states, hertz, scan_of}
-use Rattle.svf_forms.specs.Grammar.{Reads, IsNumber, IsRun, AreFields, AreStates, IsForm}
+use Rattle.svf_forms.specs.Grammar.{Reads, IsNumber, IsRun, AreFields, AreStates, IsForm, FormsAreReadAsTheyAreWritten}
 use Rattle.svf_forms.proofs.StateLists.{some_read}
 use Rattle.svf_forms.proofs.FieldLaws.{with_digits, with_digits-nil, next_run, ended_runs, opened, all_fields, field_put}
 use Rattle.svf_words.proofs.KeywordLaws.{command_read, field_read, field_found, state_read, state_found, trst_read, trst_found}
@@ -280,3 +281,20 @@ form_read ws (run_form r) h = read_as ws (run_form r) h.0 h.1 command.RunTest h.
 form_read ws (states_form ss) h = read_as ws (states_form ss) h.0 h.1 command.State h.2 h.3 (ap (option_map states_form) (some_read ss h.1 h.4 (states_read h.1 ss h.5)))
 form_read ws (trst_form t) h = read_as ws (trst_form t) h.0 (h.1 ∷ []) command.Trst h.2 h.3 (ap (option_map trst_form) (one_trst_read h.1 t h.4))
 form_read ws port_form h = elim h.3 [ inl pio ↦ read_as ws port_form h.0 h.1 command.Pio h.2 pio refl | inr map ↦ read_as ws port_form h.0 h.1 command.PioMap h.2 map refl ]
+
+-- ---- both ways
+
+same_head : {A : Type 0} (x y : A) (xs ys : List A) → x ∷ xs ≡ y ∷ ys → x ≡ y
+same_head x y xs ys e = cc
+
+same_tail : {A : Type 0} (x y : A) (xs ys : List A) → x ∷ xs ≡ y ∷ ys → xs ≡ ys
+same_tail x y xs ys e = cc
+
+pub forms_are_read : FormsAreReadAsTheyAreWritten
+forms_are_read k xs c f word = (
+  λ written.
+      let is = form_read (k ∷ xs) f written in
+      let one : Some c ≡ Some is.command = sym (command_read k c word) ∙ ap command_of (same_head k is.word xs is.rest is.split) ∙ is.known in
+      (λ i. form_of (same_Some c is.command one i) (same_tail k is.word xs is.rest is.split i)) ∙ is.form,
+  λ read. form_found k xs c f word read,
+)

@@ -10,7 +10,7 @@ use Rattle.svf_words.specs.Keywords.{state_of, trst_of}
 use Rattle.svf_forms.specs.Fields.{Fields, no_fields, cut_at_close, fields_say}
 use Rattle.svf_forms.specs.RunTests.{Run, run_of}
 
--- a statement as it is written: each number and each field as its digits
+-- a statement as it is written: each number as its word, with point and exponent, and each field as its digits
 pub data Form : Type 0 where
   end_dr_form : State → Form
   end_ir_form : State → Form

@@ -1,5 +1,5 @@
 -- The grammar of one statement: which words are which form. Nothing here reads from left to right.
-use Rattle.std.specs.Prelude.{◌≡◌, ℕ, ◌<◌, ◌⊎◌, IsSome, true, false, List, [], ◌∷◌, ◌++◌, length, codes}
+use Rattle.std.specs.Prelude.{◌≡◌, ◌↔◌, ℕ, ◌<◌, ◌⊎◌, IsSome, true, false, List, [], ◌∷◌, ◌++◌, length, codes}
 use Rattle.std.specs.Prelude.{Option, Some, None}
 use Rattle.std.specs.List.{flat_map, AllByRecursion}
 use Rattle.jt_tap.specs.declared.State.{State}
@@ -12,7 +12,7 @@ use Rattle.svf_words.specs.Keywords.{command_word, scan_word, field_word, clock_
 use Rattle.svf_forms.specs.Fields.{Fields, no_fields, put}
 use Rattle.svf_forms.specs.RunTests.{Run}
 use Rattle.svf_forms.specs.Forms.{Form, end_dr_form, end_ir_form, frequency_form, scan_form, run_form, states_form}
-use Rattle.svf_forms.specs.Forms.{trst_form, port_form}
+use Rattle.svf_forms.specs.Forms.{trst_form, port_form, form_of}
 
 -- the word is this keyword, in any case
 abbrev pub Reads : Word → List ℕ → Type 0
@@ -102,6 +102,11 @@ IsForm ws (states_form ss) = (k : Word) × (xs : List Word) × (ws ≡ k ∷ xs)
     × AreStates xs ss
 IsForm ws (trst_form t) = (k w : Word) × (ws ≡ k ∷ w ∷ []) × Reads k (codes "TRST") × Reads w (trst_word t)
 IsForm ws port_form = (k : Word) × (xs : List Word) × (ws ≡ k ∷ xs) × (Reads k (codes "PIO") ⊎ Reads k (codes "PIOMAP"))
+
+-- The law that the words behind a command are read as a form exactly where all of them have it.
+abbrev pub FormsAreReadAsTheyAreWritten : Type 0
+FormsAreReadAsTheyAreWritten = (k : Word) (xs : List Word) (c : Command) (f : Form) → Reads k (command_word c)
+    → IsForm (k ∷ xs) f ↔ (form_of c xs ≡ Some f)
 
 -- the first word is a command's
 abbrev pub HasCommand : List Word → Type 0

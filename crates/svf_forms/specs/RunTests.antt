@@ -5,7 +5,7 @@ use Rattle.svf_words.specs.declared.keywords.Clock.{Clock}
 use Rattle.svf_words.specs.Words.{Word, reads, is_number}
 use Rattle.svf_words.specs.Keywords.{state_of, clock_of}
 
--- a RUNTEST as it is written: each number as its digits
+-- a RUNTEST as it is written: each number as its word
 pub record Run : Type 0 where
   pub run : Option State
   pub count : Option (Word × Clock)

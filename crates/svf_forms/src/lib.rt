@@ -6,4 +6,5 @@
 
 pub mod fields;
 pub mod forms;
+pub mod laws;
 pub mod run_test;

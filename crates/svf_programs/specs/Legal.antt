@@ -1,16 +1,17 @@
 -- Which steps are legal where they begin, and which programs are.
 use Rattle.std.specs.Prelude.{◌≡◌, ◌≢◌, ◌<◌, Bool, true, false, not, ◌&&◌, List, [], ◌∷◌, length}
 use Rattle.std.specs.List.{list_all}
-use Rattle.jt_tap.specs.Controller.{is_at, next, entered_by, is_stable}
+use Rattle.jt_tap.specs.Controller.{is_at, is_stable}
 use Rattle.jt_tap.specs.declared.State.{State}
 use Rattle.jt_tap.specs.declared.State.TheVariants.{Reset}
 use Rattle.svf_words.specs.declared.keywords.TrstWord.TheVariants as word
+use Rattle.tap_paths.specs.Paths.{last_of}
+use Rattle.tap_paths.specs.Stated.{IsWalk}
 use Rattle.svf_programs.specs.Steps.{Step, Scan, Go, Path, Run, Trst, Numbered, place_after, line_after}
 
 -- each state one cycle from the one before, the last one stable
 abbrev pub IsPath : State → List State → Type 0
-IsPath s [] = is_stable s ≡ true
-IsPath s (t ∷ path) = (next s (entered_by t) ≡ t) × IsPath t path
+IsPath s path = IsWalk s path × (is_stable (last_of s path) ≡ true)
 
 abbrev pub is_reset : State → Bool
 is_reset s = is_at Reset s

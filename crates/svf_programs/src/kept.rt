@@ -12,7 +12,7 @@ use jt_tap::{Column, State};
 use scan_vectors::Part3;
 use svf_parse::{Statement, TrstWord};
 
-/// One part of a scan's vector, by the places of the statements in which it is written. A TDI or a MASK that is not
+/// One part of a scan's vector, by the places, counted from 0, of the statements in which it is written. A TDI or a MASK that is not
 /// given is named by the part's own statement, which gives none.
 #[derive(Debug, Clone, Copy)]
 pub struct KeptPart {
@@ -24,9 +24,10 @@ pub struct KeptPart {
     pub mask: u32,
 }
 
-/// What a step does. A path is named by its statement.
+/// What a step does, by the places of statements, counted from 0.
 #[derive(Debug, Drop, Clone, Copy)]
 pub enum Kept {
+    /// A scan of a column: a whole vector of header, body and trailer, and the state in which it ends.
     Scan {
         column: Column,
         header: Option<KeptPart>,
@@ -34,20 +35,26 @@ pub enum Kept {
         trailer: Option<KeptPart>,
         end: State,
     },
+    /// The default path to a stable state.
     Go(State),
+    /// The path that the statement at this place names.
     Path(u32),
+    /// So many cycles in a run state, and then the default path to the end.
     Run {
         run: State,
         cycles: u64,
         end: State,
     },
+    /// The line TRST.
     Trst(TrstWord),
 }
 
 /// A step, by the number of its statement.
 #[derive(Debug, Drop, Clone, Copy)]
 pub struct KeptStep {
+    /// The statement's number, counted from 1.
     pub number: u32,
+    /// What the step does.
     pub what: Kept,
 }
 

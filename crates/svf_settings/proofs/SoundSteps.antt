@@ -94,10 +94,6 @@ within m n e = grind (arith, nat_tests)
 
 -- ---- a step
 
-path_of_walk : (s : State) (path : List State) → IsWalk s path → is_stable (last_of s path) ≡ true → IsPath s path
-path_of_walk s [] w e = e
-path_of_walk s (t ∷ path) w e = (w.0, path_of_walk t path w.1 e)
-
 -- a step that leaves RESET or says that there is no TRST is not made while TRST is held
 legal : (at : State) (line : Bool) (x : Step) → IsFormed at x → line && needs_release (Some x) ≡ false → IsLegalAt at line x
 legal at line (Scan c v end) f e = record { formed = f; stays = λ h _. freed line _ e h; not_absent = λ h q. cc }
@@ -154,7 +150,7 @@ good st at (said.states []) d i c = tt
 good st at (said.states (s ∷ [])) d i c = record { legal = legal at (is_held st.trst) (Go s) (not_false _ c.stable) c.free; within = tt }
 good st at (said.states (s ∷ t ∷ path)) d i c =
     let w = walks at (s ∷ t ∷ path) (not_some _ c.joined) in
-    record { legal = legal at (is_held st.trst) (Path (s ∷ t ∷ path)) (path_of_walk at (s ∷ t ∷ path) w (not_false _ c.stable)) c.free; within = tt }
+    record { legal = legal at (is_held st.trst) (Path (s ∷ t ∷ path)) (w, not_false _ c.stable) c.free; within = tt }
 good st at (said.trst w) d i c = record { legal = legal at (is_held st.trst) (Trst w) tt c.free; within = tt }
 
 -- ---- all steps

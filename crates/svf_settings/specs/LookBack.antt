@@ -1,4 +1,5 @@
--- What holds at a statement of the Serial Vector Format (revision E), by looking back at the statements before it.
+-- What holds at a statement of the Serial Vector Format (revision E), by looking back at the statements before it. How
+-- TDI and MASK are taken over from one scan to the next is the project's own reading.
 -- `before` has these, the nearest first: each definition looks at the nearest one, and else further back.
 use Rattle.std.specs.Prelude.{ℕ, ◌==◌, Bool, true, false, max, List, [], ◌∷◌, Option, Some, None, unwrap_or}
 use Rattle.std.specs.Prelude.{if◌then◌else◌}

@@ -20,6 +20,7 @@ use jt_bits::Bits;
 use jt_tap::State;
 use svf_parse::{Code, Statement, TrstWord, Which};
 use svf_programs::{KeptPart, len_at, tdi_at};
+use tap_paths::last_of;
 
 /// A whole vector has at most so many bits.
 const VECTOR_LIMIT: usize = 65_536;
@@ -284,15 +285,4 @@ fn are_reset(path: &[State]) -> bool
     ensures { result ≡ list_all is_reset path.now }
 {
     path.iter().all(|state| is_reset_state(*state))
-}
-
-/// The last state of a path, or where it begins.
-pub(crate) fn last_of(place: State, path: &[State]) -> State
-    ensures { result ≡ paths.last_of place path.now }
-{
-    let mut last = place;
-    for state in path {
-        last = *state;
-    }
-    last
 }

@@ -11,12 +11,12 @@ ghost use Rattle.svf_settings.specs.Running as running;
 ghost use Rattle.svf_programs.specs.Held.{field_at, mask_of, part_in, parts_in, step_in, tdi_of};
 ghost use Rattle.svf_settings.specs.Held.{settings_in};
 
-use crate::refusing::last_of;
 use crate::running::Running;
 use jt_bits::Bits;
 use jt_tap::{Column, State};
 use svf_parse::{Statement, TrstWord, Which};
 use svf_programs::{Kept, KeptPart, len_at, path_at};
+use tap_paths::last_of;
 
 impl Running {
     /// The step that a statement makes, which stands at this place of the statements.

@@ -1,5 +1,5 @@
 -- The keywords, each of which a word reads in any case.
-use Rattle.std.specs.Prelude.{ℕ, List, [], ◌∷◌, codes, Option, find}
+use Rattle.std.specs.Prelude.{◌≡◌, ◌↔◌, true, ℕ, List, [], ◌∷◌, codes, Option, Some, find}
 use Rattle.jt_tap.specs.declared.State.{State}
 use Rattle.jt_tap.specs.declared.State.TheVariants.{Reset, Idle, DrSelect, DrCapture, DrShift, DrExit1, DrPause}
 use Rattle.jt_tap.specs.declared.State.TheVariants.{DrExit2, DrUpdate, IrSelect, IrCapture, IrShift, IrExit1, IrPause}
@@ -73,3 +73,7 @@ all_states =
 
 unfoldable pub state_of : Word → Option State
 state_of w = find (states.reads w) all_states
+
+-- The law that a word is read as a keyword exactly where it is that keyword in any case.
+abbrev pub IsReadInAnyCase : {K : Type 0} → (K → List ℕ) → (Word → Option K) → Type 0
+IsReadInAnyCase {K} spelling read = (w : Word) (k : K) → (reads w (spelling k) ≡ true) ↔ (read w ≡ Some k)

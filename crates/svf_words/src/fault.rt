@@ -29,7 +29,8 @@ pub enum Code {
     /// Hexadecimal digits have a 1 beyond the length.
     #[error("S6 TooWide")]
     TooWide,
-    /// A scan has no TDI, and none stands before it.
+    /// A scan of some bits gives no TDI and takes none over: its command's previous statement has none in force, or
+    /// another length.
     #[error("S7 MissingTdi")]
     MissingTdi,
     /// An unstable state where a stable one is needed.
@@ -38,7 +39,7 @@ pub enum Code {
     /// Two states of a path are more than one clock apart.
     #[error("S9 BadPath")]
     BadPath,
-    /// A step leaves RESET while TRST is held.
+    /// While TRST is held, a step enters a state other than RESET, or TRST is said to be absent.
     #[error("S10 TrstHeld")]
     TrstHeld,
     /// TRST is used where it was said to be absent.

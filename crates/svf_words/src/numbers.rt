@@ -50,6 +50,7 @@ pub fn period(word: &[u8]) -> Result<u64, Code>
     if number.mantissa == 0 {
         return Err(Code::BadNumber);
     }
+    // From 10^48 units on a period is at most a picosecond; below 10^30 units it is above 10^18 ps.
     if number.zeros >= 48 {
         return Ok(1);
     }
@@ -76,6 +77,7 @@ pub fn time(word: &[u8]) -> Result<u64, Code>
     if number.mantissa == 0 {
         return Ok(0);
     }
+    // 10^42 units are 10^18 ps.
     if number.zeros > 42 {
         return Err(Code::TooLarge);
     }
@@ -135,7 +137,8 @@ fn whole(mantissa: u64, zeros: u32) -> Option<u128>
 
 /// The length of a scan in bits.
 ///
-/// Refused are a word that is not decimal digits alone (S5), and more than 18 digits or more than 65,536 bits (S15).
+/// Refused are a word that is not decimal digits alone (S5), and more than 18 digits or more than 65,536 bits (S15). An
+/// empty word, which no text has, is 0.
 pub fn length(word: &[u8]) -> Result<usize, Code>
     ensures { result ≡ spec.len_says word.now }
 {

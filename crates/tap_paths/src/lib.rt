@@ -5,7 +5,7 @@ ghost use Rattle.std.specs.Prelude.{◌≡◌, ◌↔◌, ◌+◌, ◌<◌, ◌�
 ghost use Rattle.arrayvec.specs.ArrayVec.{array_vec_len};
 ghost use Rattle.jt_tap.specs.Controller.{is_stable};
 ghost use Rattle.tap_paths.specs.Paths as spec;
-ghost use Rattle.tap_paths.specs.Paths.{DefaultPathsLead, Leads};
+ghost use Rattle.tap_paths.specs.Paths.{DefaultPathsLead, PathsToShiftLead, PathsFromExit1Lead, Leads};
 ghost use Rattle.tap_paths.specs.Stated as stated;
 ghost use Rattle.jt_tap.specs.Controller.{Arrow};
 
@@ -44,6 +44,9 @@ fn default_path(from: State, to: State) -> ArrayVec<State, 8>
 
 /// The default path from a stable state (asked) to the Shift state of a column (Serial Vector Format, revision E, SDR
 /// and SIR): from RESET over IDLE, from a pause over its update.
+///
+/// That a scan leaves a pause over its update, even the pause of its own column, is the project's own choice: other
+/// players continue a scan from its own pause.
 pub fn to_shift(from: State, column: Column) -> ArrayVec<State, 8>
     requires { is_stable from ≡ true }
     ensures path { result.items ≡ spec.to_shift from column }
@@ -199,7 +202,20 @@ fn follows(before: State, state: State) -> bool
     tms_of(before, state).is_some()
 }
 
+/// The last state of a path, or where it begins if it is empty.
+pub fn last_of(from: State, path: &[State]) -> State
+    ensures { result ≡ spec.last_of from path.now }
+{
+    let mut last = from;
+    for state in path {
+        last = *state;
+    }
+    last
+}
+
 /// Every default path leads by arrows of the state diagram from its first state to its last.
 pub fn default_paths_lead()
-    ensures { DefaultPathsLead }
+    ensures between { DefaultPathsLead }
+    ensures to_shift { PathsToShiftLead }
+    ensures from_exit1 { PathsFromExit1Lead }
 {}

@@ -7,6 +7,7 @@ ghost use Rattle.svf_programs.specs.Steps as steps;
 use jt_tap::State;
 use svf_parse::TrstWord;
 use svf_programs::{Action, Step};
+use tap_paths::last_of;
 
 /// Where a step comes to rest that begins at this place.
 pub fn place_after(place: State, step: &Step) -> State
@@ -20,15 +21,4 @@ pub fn place_after(place: State, step: &Step) -> State
         Action::Trst(TrstWord::On) => State::Reset,
         Action::Trst(_) => place,
     }
-}
-
-/// The last state of a path, or where it begins.
-fn last_of(place: State, path: &[State]) -> State
-    ensures { result ≡ steps.last_of place path.now }
-{
-    let mut last = place;
-    for state in path {
-        last = *state;
-    }
-    last
 }
