@@ -37,7 +37,8 @@ pub fn few_events_move_something()
 {}
 
 /// A play that was lost names the command in work: 0 until the opening is given out; then the first step that the play
-/// makes whose bytes are not all given out or whose answers are not all taken; with only `Q` left the statements plus 1.
+/// makes whose bytes are not all given out or whose answers are not all taken; with only `Q` left the statements plus
+/// 1.
 pub fn a_loss_names_what_is_in_work()
     ensures { ALossNamesWhatIsInWork }
 {}

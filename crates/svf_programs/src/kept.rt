@@ -12,8 +12,8 @@ use jt_tap::{Column, State};
 use scan_vectors::Part3;
 use svf_parse::{Statement, TrstWord};
 
-/// One part of a scan's vector, by the places, counted from 0, of the statements in which it is written. A TDI or a MASK that is not
-/// given is named by the part's own statement, which gives none.
+/// One part of a scan's vector, by the places, counted from 0, of the statements in which it is written. A TDI or a
+/// MASK that is not given is named by the part's own statement, which gives none.
 #[derive(Debug, Clone, Copy)]
 pub struct KeptPart {
     /// The part's own statement, which gives its length and what is wanted out.

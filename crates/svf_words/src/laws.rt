@@ -20,8 +20,8 @@ pub fn numbers_are_read_as_they_are_written()
     ensures { ReadsWhatIsWritten }
 {}
 
-/// A word is read as a keyword exactly where it is that keyword, in any case: a command, the name of a field, a clock, a
-/// word of TRST, a state.
+/// A word is read as a keyword exactly where it is that keyword, in any case: a command, the name of a field, a clock,
+/// a word of TRST, a state.
 pub fn keywords_are_read_in_any_case()
     ensures commands { IsReadInAnyCase command_word command_of }
     ensures fields { IsReadInAnyCase field_word field_of }
