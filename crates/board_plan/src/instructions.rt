@@ -21,7 +21,9 @@ pub fn left_out(device: &Device, k: usize) -> Option<&str>
     None
 }
 
-fn is_left_out(device: &Device, name: &str) -> bool
+/// Whether an instruction with this name, in upper case, has no meaning of its own here, so that it stands for BYPASS:
+/// the standard's INTEST and RUNBIST, and the private ones of the device (clause 8).
+pub fn is_left_out(device: &Device, name: &str) -> bool
     ensures { result ≡ spec.is_left_out device.now name.now }
 {
     name == "INTEST" || name == "RUNBIST" || device.is_private(name)

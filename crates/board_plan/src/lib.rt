@@ -7,7 +7,7 @@ mod numbers;
 mod plan;
 mod words;
 
-pub use instructions::left_out;
+pub use instructions::{is_left_out, left_out};
 pub use numbers::number_nets;
 pub use plan::{Plan, PlannedDevice, PlannedNet};
 pub use words::{core_bits, is_update, pull_of};

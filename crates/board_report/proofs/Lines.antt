@@ -1,12 +1,11 @@
 -- A report that grows line by line, and bits that are written from the highest down.
-use Rattle.std.proofs.Common.{◌≡◌, ◌≤◌, length, Bool, ℕ, zero, suc, ◌+◌, List, [], ◌∷◌, ◌++◌, take, drop, map, reverse, sym, ap, ◌∙◌, arith, refl, get_or, option_map, Option, None, Some}
-use Rattle.std.specs.Prelude.{slice_get}
+use Rattle.std.proofs.Common.{◌≡◌, ◌≤◌, length, Bool, true, false, ℕ, zero, suc, ◌+◌, List, [], ◌∷◌, ◌++◌, take, drop, map, reverse, sym, ap, ◌∙◌, arith, refl, get_or, option_map, Option, None, Some}
+use Rattle.std.specs.Prelude.{slice_get, flat_map}
 use Rattle.std.proofs.lemmas.Option.{get_or_from_slice_get, none-some, same_Some}
 use Rattle.std.specs.List.{filter}
-use Rattle.std.proofs.lemmas.List.{length-map}
-use Rattle.std.proofs.lemmas.List.Sums.{count_by-le-length, length-filter}
 use Rattle.bsdl_device.specs.Device.{Device, Opcode}
-use Rattle.board_plan.specs.LeftOut.{is_left_out, left_out}
+use Rattle.board_plan.specs.LeftOut.{is_left_out}
+use Rattle.board_report.specs.LeftOut.{left_out_line, name_lines}
 use Rattle.pin_nets.specs.declared.Level.{Level}
 use Rattle.pin_nets.specs.declared.Pull.TheVariants.{Free}
 use Rattle.pin_nets.specs.Wired.{Net}
@@ -51,15 +50,18 @@ net_said ms nets k name l named is = by (slice_get nets k) refl
 
 -- ---- instructions that are left out
 
-pub found_left_out : (d e : Device) (k : ℕ) (o : Option (List ℕ)) (name : List ℕ) → e ≡ d → o ≡ slice_get (left_out e) k → o ≡ Some name → slice_get (left_out d) k ≡ Some name
-found_left_out d e k o name same is some = sym (ap (λ (x : Device). slice_get (left_out x) k) same) ∙ sym is ∙ some
+-- of an opcode row
+abbrev pub row_lines : List ℕ → Device → Opcode → List ℕ
+row_lines device d o = name_lines device d o.name
 
--- there are no more of them than opcode rows
-pub few_left_out : (d e : Device) (rows : List Opcode) (k : ℕ) → e ≡ d → rows ≡ e.opcodes → length rows ≤ k → length (left_out d) ≤ k
-few_left_out d e rows k same are h =
-    let many : length (left_out d) ≤ length (map (λ (o : Opcode). o.name) d.opcodes) = few (is_left_out d) (map (λ (o : Opcode). o.name) d.opcodes) in
-    let long : length rows ≡ length d.opcodes = ap length are ∙ ap (λ (x : Device). length x.opcodes) same in
-    omega (arith, many, long, h, length-map d.opcodes (λ (o : Opcode). o.name))
+-- the lines of the rows, one after another, are those of the instructions that are left out
+pub lines_by_rows : (device : List ℕ) (d : Device) (rows : List Opcode)
+    → flat_map (row_lines device d) rows ≡ flat_map (left_out_line device) (filter (is_left_out d) (map (λ (o : Opcode). o.name) rows))
+lines_by_rows device d [] = refl
+lines_by_rows device d (o ∷ rows) = by (is_left_out d o.name) refl (lines_by_rows device d rows)
   where
-    few : (test : List ℕ → Bool) (names : List (List ℕ)) → length (filter test names) ≤ length names
-    few test names = let counted = length-filter test names in omega (arith, counted, count_by-le-length test names)
+    by : (b : Bool) → is_left_out d o.name ≡ b
+        → flat_map (row_lines device d) rows ≡ flat_map (left_out_line device) (filter (is_left_out d) (map (λ (o : Opcode). o.name) rows))
+        → flat_map (row_lines device d) (o ∷ rows) ≡ flat_map (left_out_line device) (filter (is_left_out d) (map (λ (o : Opcode). o.name) (o ∷ rows)))
+    by true is rest = rw is (ap (λ (l : List ℕ). left_out_line device o.name ++ l) rest)
+    by false is rest = rw is rest

@@ -4,13 +4,13 @@ ghost use Rattle.std.specs.Prelude.{◌≡◌, ◌++◌, flat_map};
 ghost use Rattle.byte_ends.specs.Writes.{WritesAll};
 ghost use Rattle.board_report.specs.Report.{device_line, digit, digits, instruction_part, level_line, net_line};
 ghost use Rattle.board_report.specs.Report as spec;
-ghost use Rattle.board_report.specs.LeftOut.{device_lines, left_out_line};
+ghost use Rattle.board_report.specs.LeftOut.{device_lines, left_out_line, name_lines};
 ghost use Rattle.board_report.specs.Report.{level_word as said_level};
 ghost use Rattle.board_meaning.specs.Chain.{members};
 ghost use Rattle.chip_seats.specs.Seats.{chip_state};
 ghost use Rattle.device_instructions.specs.Instruction.{instruction};
 
-use board_plan::left_out;
+use board_plan::is_left_out;
 use byte_ends::{Broken, Counted, Sink, put_all};
 use chip_chain::{Chain, Seat};
 use jt_bits::Bits;
@@ -35,11 +35,20 @@ fn write_instructions<W: Sink>(seat: &Seat, out: &mut Counted<W>) -> Result<(), 
     requires { out.old.failures ≡ 0 }
     ensures { WritesAll W.contents out.old out.new (device_lines (chip_state seat.now)) result }
 {
-    for k in 0..seat.device().opcodes().len() {
-        let Some(name) = left_out(seat.device(), k) else {
-            return Ok(());
-        };
-        write_instruction_line(seat.name(), name, out)?;
+    let opcodes = seat.device().opcodes();
+    for opcode in opcodes {
+        write_if_left_out(seat, opcode.name(), out)?;
+    }
+    Ok(())
+}
+
+/// Writes the line of an instruction, if it stands for BYPASS.
+fn write_if_left_out<W: Sink>(seat: &Seat, name: &str, out: &mut Counted<W>) -> Result<(), Broken>
+    requires { out.old.failures ≡ 0 }
+    ensures { WritesAll W.contents out.old out.new (name_lines seat.now.name seat.now.chip.device name.now) result }
+{
+    if is_left_out(seat.device(), name) {
+        return write_instruction_line(seat.name(), name, out);
     }
     Ok(())
 }

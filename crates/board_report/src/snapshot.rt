@@ -94,7 +94,7 @@ impl<'a> Snapshot<'a> {
         self.chain.seat(i).latch()
     }
 
-    /// Its instruction stage, the shift register in the IR column.
+    /// Its instruction stage, the shift register in the IR column, bit 0 nearest TDO.
     pub fn stage(&self, i: usize) -> &'a Bits
         requires { i < length self.now.chips }
         ensures { option_map (λ c. c.member.registers.stage) (slice_get self.now.chips i) ≡ Some result.now }
@@ -102,7 +102,7 @@ impl<'a> Snapshot<'a> {
         self.chain.seat(i).stage()
     }
 
-    /// The shift stage of its boundary register; cell 0 is the one nearest TDO.
+    /// The shift stage of its boundary register, bit 0 that of cell 0, nearest TDO.
     pub fn boundary(&self, i: usize) -> &'a Bits
         requires { i < length self.now.chips }
         ensures { option_map (λ c. c.member.registers.boundary) (slice_get self.now.chips i) ≡ Some result.now }
@@ -110,7 +110,7 @@ impl<'a> Snapshot<'a> {
         self.chain.seat(i).boundary()
     }
 
-    /// The update stage of its boundary register.
+    /// The update stage of its boundary register, bit 0 that of cell 0, nearest TDO.
     pub fn boundary_update(&self, i: usize) -> &'a Bits
         requires { i < length self.now.chips }
         ensures { option_map (λ c. c.member.registers.update) (slice_get self.now.chips i) ≡ Some result.now }
@@ -135,7 +135,7 @@ impl<'a> Snapshot<'a> {
         self.chain.seat(i).instruction()
     }
 
-    /// Its identification register; `None` where its description has no code.
+    /// Its identification register, bit 0 nearest TDO; `None` where its description has no code.
     pub fn id(&self, i: usize) -> Option<&'a Bits>
         requires { i < length self.now.chips }
         ensures { option_map (λ c. id_of c.member) (slice_get self.now.chips i)
@@ -144,8 +144,8 @@ impl<'a> Snapshot<'a> {
         self.chain.seat(i).id()
     }
 
-    /// The stage and the latch of its user register `k`, counted in the order in which its description first names
-    /// them; `None` past the last.
+    /// The stage and the latch of its user register `k`, bit 0 nearest TDO, counted in the order in which its
+    /// description first names them; `None` past the last.
     pub fn user(&self, i: usize, k: usize) -> Option<(&'a Bits, &'a Bits)>
         requires { i < length self.now.chips }
         ensures { option_map (λ c. user_of c.member k) (slice_get self.now.chips i)

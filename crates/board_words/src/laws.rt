@@ -1,4 +1,4 @@
-//! What the definitions of the tables say of each other.
+//! What holds of every text of a pin.
 ghost use Rattle.board_words.specs.PinTexts.{PinsAreReadAsSpelt};
 
 /// A text is read as a pin exactly where it spells that pin: a device's name, a point, a port's name and, where the

@@ -11,7 +11,7 @@ ghost use Rattle.chip_seats.specs.Wires.{IsWired};
 
 mod at_rest;
 
-use chip_seats::{Seat, Wiring, rise};
+use chip_seats::{Seat, Wiring};
 use jt_tap::Work;
 use pin_nets::Level;
 use std::marker::Model;
@@ -156,7 +156,7 @@ fn rise_all(seats: &mut [Seat], wiring: &Wiring, tms: bool, tdi: bool)
 {
     for i in 0..seats.len() {
         let before = tdi_of(seats, i + 1, tdi);
-        rise(&mut seats[i], wiring, tms, before);
+        seats[i].rise(wiring, tms, before);
     }
 }
 

@@ -66,11 +66,15 @@ left-part (x ∷ xs) ys (suc i) h = left-part xs ys i (omega arith)
 pub net_there : (ns : List Net) (net : ℕ) → net < length ns → net < length (all_nets ns)
 net_there ns net h = omega (arith, length-numbered 0 ns, length-append (with_pin_numbers 0 ns) (Rattle.pin_nets.specs.Places.lone_nets (with_pin_numbers 0 ns) (length (all_pins ns))), h)
 
+pub net_put : (drives : List Drive) (ns : List Net) (net : ℕ) (l : Level) → net < length ns → option_map (level drives) (slice_get (all_nets ns) net) ≡ Some l
+    → option_map (level drives) (slice_get (with_pin_numbers 0 ns) net) ≡ Some l
+net_put drives ns net l h is =
+    let below : net < length (with_pin_numbers 0 ns) = omega (arith, length-numbered 0 ns, h) in
+    sym (ap (option_map (level drives)) (left-part (with_pin_numbers 0 ns) _ net below)) ∙ is
+
 pub net_level : (f : Pin → Drive) (drives : List Drive) (ns : List Net) (net : ℕ) (l : Level) → net < length ns → drives ≡ map f (all_pins ns)
     → option_map (level drives) (slice_get (all_nets ns) net) ≡ Some l → option_map (shown f) (slice_get ns net) ≡ Some l
-net_level f drives ns net l h e is =
-    let below : net < length (with_pin_numbers 0 ns) = omega (arith, length-numbered 0 ns, h) in
-    sym (numbered-level f drives 0 ns net e) ∙ sym (ap (option_map (level drives)) (left-part (with_pin_numbers 0 ns) _ net below)) ∙ is
+net_level f drives ns net l h e is = sym (numbered-level f drives 0 ns net e) ∙ net_put drives ns net l h is
 
 -- one more pin is put
 pub put_more : (f : Pin → Drive) (pins : List Pin) (old ds : List Drive) (i : ℕ) (d : Drive) (x : Pin) → length old ≡ length pins

@@ -1,4 +1,5 @@
--- What is done to a device of a chain at rest, without TCK.
+-- What is done to a device of a chain at rest, without TCK. The proof terms among it stand here since `impl Link` names
+-- them: there is nothing to judge in them.
 use Rattle.std.specs.Prelude.{◌≡◌, Bool, true, ℕ, List, refl}
 use Rattle.std.proofs.Common.{◌∙◌}
 use Rattle.jt_tap.specs.declared.Column.{Column}

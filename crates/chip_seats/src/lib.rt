@@ -7,6 +7,5 @@ mod seat;
 mod wiring;
 
 pub use build::all_seats;
-pub use seat::at_rest::capture;
-pub use seat::{Seat, rise};
+pub use seat::Seat;
 pub use wiring::Wiring;

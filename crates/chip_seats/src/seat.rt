@@ -17,7 +17,7 @@ ghost use Rattle.chip_seats.specs.Seats.{AreBelow, IsKept, IsSighted, captures_b
 ghost use Rattle.chip_seats.specs.Seats.{member_of, with_seen};
 ghost use Rattle.chip_seats.specs.Telling.{IsAt, TellsAll, TellsCell, sight};
 
-pub(crate) mod at_rest;
+mod at_rest;
 
 use crate::wiring::Wiring;
 use board_plan::PlannedDevice;
@@ -118,7 +118,7 @@ impl Seat {
         self.chip.instruction()
     }
 
-    /// Its instruction stage, the shift register in the IR column.
+    /// Its instruction stage, the shift register in the IR column, bit 0 nearest TDO.
     pub fn stage(&self) -> &Bits
         ensures { result.now ≡ self.now.chip.stage }
     {
@@ -132,7 +132,7 @@ impl Seat {
         self.chip.bypass()
     }
 
-    /// Its identification register, where its description has a code.
+    /// Its identification register, bit 0 nearest TDO, where its description has a code.
     pub fn id(&self) -> Option<&Bits>
         ensures { option_map {U = List Bool} (λ b. b.now) result
             ≡ (if has_code self.now.chip.device then Some self.now.chip.identification else None) }
@@ -140,22 +140,22 @@ impl Seat {
         self.chip.id()
     }
 
-    /// The shift stage of its boundary register; cell 0 is the one nearest TDO.
+    /// The shift stage of its boundary register, bit 0 that of cell 0, nearest TDO.
     pub fn boundary(&self) -> &Bits
         ensures { result.now ≡ self.now.chip.boundary.stage }
     {
         self.chip.boundary().stage()
     }
 
-    /// The update stage of its boundary register.
+    /// The update stage of its boundary register, bit 0 that of cell 0, nearest TDO.
     pub fn boundary_update(&self) -> &Bits
         ensures { result.now ≡ self.now.chip.boundary.update }
     {
         self.chip.boundary().update_stage()
     }
 
-    /// The stage and the latch of its user register `k`, counted in the order in which the description first names
-    /// them.
+    /// The stage and the latch of its user register `k`, bit 0 nearest TDO, counted in the order in which the
+    /// description first names them; `None` past the last.
     pub fn user(&self, k: usize) -> Option<(&Bits, &Bits)>
         ensures { option_map {U = List Bool × List Bool} (λ p. (p.0.now, p.1.now)) result
             ≡ option_map (λ u. (u.stage, u.latch)) (slice_get self.now.chip.users k) }
@@ -231,8 +231,35 @@ impl Seat {
         }
     }
 
+    /// Each cell with a port is told what the port sees.
+    fn tell(&mut self, wiring: &Wiring)
+        requires below { AreBelow (length wiring.now.nets) self.old.nets }
+        ensures same { self.new ≡ with_seen self.new.chip.boundary.seen self.old }
+        ensures whole { cells.IsWhole self.new.chip.boundary }
+        ensures told { TellsAll wiring.now self.old self.new }
+    {
+        for k in 0..self.cells() {
+            self.tell_cell(k, wiring);
+        }
+    }
+
+    /// A rising edge: the boundary register captures the levels before the edge.
+    pub fn rise(&mut self, wiring: &Wiring, tms: bool, tdi: bool)
+        requires below { AreBelow (length wiring.now.nets) self.old.nets }
+        ensures kept { IsKept self.old self.new }
+        ensures trst { self.new.chip.trst ≡ self.old.chip.trst }
+        ensures chip { (place : ℕ) (ms : List Member) → IsAt wiring.now place ms self.old
+            → chip_state self.new ≡ chain.rise self.old.chip.trst tms tdi (sight wiring.now ms place)
+            (chip_state self.old) }
+    {
+        if self.captures_boundary() {
+            self.tell(wiring);
+        }
+        self.rise_told(tms, tdi);
+    }
+
     /// A rising edge, once the cells were told what their ports see.
-    fn rise(&mut self, tms: bool, tdi: bool)
+    fn rise_told(&mut self, tms: bool, tdi: bool)
         ensures kept { IsKept self.old self.new }
         ensures trst { self.new.chip.trst ≡ self.old.chip.trst }
         ensures chip { (sees : ℕ → Bool) → IsSighted sees self.old
@@ -258,33 +285,6 @@ impl Seat {
             ≡ (if trst then chain.assert_trst (chip_state self.old) else chip_state self.old) }
     {
         self.chip.trst(trst);
-    }
-}
-
-/// A rising edge of one device: its boundary register captures the levels before the edge.
-pub fn rise(seat: &mut Seat, wiring: &Wiring, tms: bool, tdi: bool)
-    requires below { AreBelow (length wiring.now.nets) seat.old.nets }
-    ensures kept { IsKept seat.old seat.new }
-    ensures trst { seat.new.chip.trst ≡ seat.old.chip.trst }
-    ensures chip { (place : ℕ) (ms : List Member) → IsAt wiring.now place ms seat.old
-        → chip_state seat.new ≡ chain.rise seat.old.chip.trst tms tdi (sight wiring.now ms place)
-        (chip_state seat.old) }
-{
-    if seat.captures_boundary() {
-        tell(seat, wiring);
-    }
-    seat.rise(tms, tdi);
-}
-
-/// Each cell with a port is told what the port sees.
-fn tell(seat: &mut Seat, wiring: &Wiring)
-    requires below { AreBelow (length wiring.now.nets) seat.old.nets }
-    ensures same { seat.new ≡ with_seen seat.new.chip.boundary.seen seat.old }
-    ensures whole { cells.IsWhole seat.new.chip.boundary }
-    ensures told { TellsAll wiring.now seat.old seat.new }
-{
-    for k in 0..seat.cells() {
-        seat.tell_cell(k, wiring);
     }
 }
 

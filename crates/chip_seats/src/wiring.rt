@@ -5,6 +5,7 @@ ghost use Rattle.pin_nets.specs.declared.Drive.{Drive as TheDrive};
 ghost use Rattle.pin_nets.specs.declared.Drive.TheVariants as driving;
 ghost use Rattle.pin_nets.specs.declared.Pin.{Pin as ThePin};
 ghost use Rattle.pin_nets.specs.Levels as levels;
+ghost use Rattle.board_plan.specs.PinNumbers.{with_pin_numbers};
 ghost use Rattle.board_plan.specs.Planned.{all_pins};
 ghost use Rattle.board_plan.specs.View.{net as planned_net};
 ghost use Rattle.board_meaning.specs.Nets.{pin_drive};
@@ -72,10 +73,12 @@ impl Wiring {
         self.nets[net].name.as_str()
     }
 
-    /// The level of a net, if what was last put to each pin is what the pin drives.
+    /// The level of a net by what was last put to its pins, which is by what they drive where that was put to each.
     pub fn level(&self, net: usize) -> Level
         requires { net < length self.now.nets }
-        ensures { (f : ThePin → TheDrive) → self.now.drives ≡ map f (all_pins self.now.nets)
+        ensures put { option_map (levels.level self.now.drives) (slice_get (with_pin_numbers 0 self.now.nets) net)
+            ≡ Some result }
+        ensures driven { (f : ThePin → TheDrive) → self.now.drives ≡ map f (all_pins self.now.nets)
             → option_map (λ n. levels.level_of (levels.pull_drive n.pull ∷ map f n.pins)) (slice_get self.now.nets net)
             ≡ Some result }
     {

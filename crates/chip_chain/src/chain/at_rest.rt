@@ -14,7 +14,7 @@ ghost use Rattle.scan_vectors.specs.Held.{bits};
 ghost use Rattle.scan_vectors.specs.Vector.{judge, tdis};
 
 use super::Chain;
-use chip_seats::{Seat, Wiring, capture};
+use chip_seats::{Seat, Wiring};
 use jt_tap::{Column, State};
 use scan_vectors::{Part, Vector};
 use whole_chain::{judge_chain, shift_chain};
@@ -87,7 +87,7 @@ fn capture_all(seats: &mut [Seat], wiring: &Wiring, column: Column)
     ensures { EachFrom (CapturesAt wiring.now column) 0 seats.old seats.new }
 {
     for seat in seats.iter_mut() {
-        capture(seat, wiring, column);
+        seat.capture(wiring, column);
     }
 }
 

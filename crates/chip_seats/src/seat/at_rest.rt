@@ -11,7 +11,7 @@ ghost use Rattle.jt_tap.specs.declared.State.TheVariants.{Reset};
 ghost use Rattle.jt_tap.specs.declared.Work.TheVariants.{Captures};
 ghost use Rattle.device_instructions.specs.Instruction.{meaning};
 
-use super::{Seat, tell};
+use super::Seat;
 use crate::wiring::Wiring;
 use jt_tap::{Column, State};
 use scan_registers::{Link, Selected};
@@ -51,8 +51,23 @@ impl Seat {
         column == Column::Dr && self.chip.selected() == Selected::Boundary
     }
 
+    /// The column's register captures; the boundary register takes the levels before.
+    pub fn capture(&mut self, wiring: &Wiring, column: Column)
+        requires below { AreBelow (length wiring.now.nets) self.old.nets }
+        ensures kept { IsKept self.old self.new }
+        ensures trst { self.new.chip.trst ≡ self.old.chip.trst }
+        ensures chip { (place : ℕ) (ms : List Member) → IsAt wiring.now place ms self.old
+            → chip_state self.new ≡ as_member (capture_member column (sight wiring.now ms place) (member_of self.old))
+            (chip_state self.old) }
+    {
+        if self.captures_boundary_of(column) {
+            self.tell(wiring);
+        }
+        self.capture_told(column);
+    }
+
     /// The column's register captures, once the cells were told what their ports see.
-    fn capture(&mut self, column: Column)
+    fn capture_told(&mut self, column: Column)
         ensures kept { IsKept self.old self.new }
         ensures trst { self.new.chip.trst ≡ self.old.chip.trst }
         ensures chip { (sees : ℕ → Bool) → IsSightedFor column sees self.old
@@ -117,19 +132,4 @@ impl Seat {
         self.tell_trst(true);
         self.stand(State::Reset);
     }
-}
-
-/// The column's register of one device captures; its boundary register takes the levels before.
-pub fn capture(seat: &mut Seat, wiring: &Wiring, column: Column)
-    requires below { AreBelow (length wiring.now.nets) seat.old.nets }
-    ensures kept { IsKept seat.old seat.new }
-    ensures trst { seat.new.chip.trst ≡ seat.old.chip.trst }
-    ensures chip { (place : ℕ) (ms : List Member) → IsAt wiring.now place ms seat.old
-        → chip_state seat.new ≡ as_member (capture_member column (sight wiring.now ms place) (member_of seat.old))
-        (chip_state seat.old) }
-{
-    if seat.captures_boundary_of(column) {
-        tell(seat, wiring);
-    }
-    seat.capture(column);
 }

@@ -10,7 +10,7 @@ pub returns-in-Some : goal.returns-in-Some
 returns-in-Some c = λ place ms at net.
     let found = net_found (the_view c.self.inside) c.args.self.now c.args.k c.index.result.now c.self.view_is c.self.invariant.nets c.requires.cell c.index.ensures in
     let first = ap (λ o. unwrap_or o None) (sym net ∙ found) ∙ c.in-Some.is in
-    c.reads.ensures ∙ seen_on_net c.args.wiring.now place c.args.port c.in-Some.net ms c.level.result (c.level.ensures _ at.drives) first
+    c.reads.ensures ∙ seen_on_net c.args.wiring.now place c.args.port c.in-Some.net ms c.level.result (c.level.ensures.driven _ at.drives) first
 
 pub returns-in-None : goal.returns-in-None
 returns-in-None c = λ place ms at net.

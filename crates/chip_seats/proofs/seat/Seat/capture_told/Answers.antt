@@ -5,7 +5,7 @@ use Rattle.chip_seats.specs.AtRest.{IsSightedFor, as_member}
 use Rattle.chip_seats.specs.Seats.{SeatValue, chip_state, member_of}
 use Rattle.chip_seats.specs.contracts.seat.Seat.{the_view}
 use Rattle.chip_seats.proofs.EdgeLaws.{captures}
-use Rattle.chip_seats.proofs.seat.Seat.capture.Goals as goal
+use Rattle.chip_seats.proofs.seat.Seat.capture_told.Goals as goal
 
 pub returns-clause-chip : goal.returns-clause-chip
 returns-clause-chip c =

@@ -4,7 +4,7 @@ use Rattle.board_meaning.specs.Chain as chain
 use Rattle.chip_seats.specs.Seats.{IsSighted, SeatValue, chip_state}
 use Rattle.chip_seats.specs.contracts.seat.Seat.{the_view}
 use Rattle.chip_seats.proofs.EdgeLaws.{rises}
-use Rattle.chip_seats.proofs.seat.Seat.rise.Goals as goal
+use Rattle.chip_seats.proofs.seat.Seat.rise_told.Goals as goal
 
 pub returns-clause-chip : goal.returns-clause-chip
 returns-clause-chip c =
