@@ -35,7 +35,7 @@ met = record {
     (
       asserted _ (refl, refl) refl (λ e. cc),
       (
-        asserted _ (refl, (refl, refl)) refl (λ e. cc),
+        asserted _ ((refl, (refl, tt)), refl) refl (λ e. cc),
         (
           asserted _ refl refl (λ e. cc),
           (
@@ -45,7 +45,7 @@ met = record {
               (
                 released _ _ (omega arith, refl),
                 (
-                  released _ _ (refl, (refl, (refl, (refl, (refl, refl))))),
+                  released _ _ ((refl, (refl, (refl, (refl, (refl, tt))))), refl),
                   (
                     released _ _ (refl, refl),
                     (

@@ -61,6 +61,9 @@ trip : (path : List State) (s : State) → IsWalk s path → IsTrip s path
 trip [] s walk = tt
 trip (t ∷ path) s walk = (walk.0, trip path t walk.1)
 
+pub path-stable : (path : List State) (s : State) → IsPath s path → is_stable (last_of s path) ≡ true
+path-stable path s legal = legal.1
+
 -- a scan of a nonempty vector
 scan-done : (column : Column) (v : List VectorBit) (end place : State) (trst : Bool) (nets : List Net) (ms : List Member)
     → is_stable place ≡ true → is_stable end ≡ true → 0 < length v → 0 < length ms → IsReady trst (length ms) ms
