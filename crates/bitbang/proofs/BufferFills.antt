@@ -1,8 +1,10 @@
 -- A buffer that is filled by pieces.
 use Rattle.std.proofs.Common.{◌≡◌, ℕ, zero, suc, ◌+◌, ◌*◌, ◌-◌, ◌<◌, ◌≤◌, Bool, List, [], ◌∷◌, ◌++◌, length, take, drop, replicate, refl, sym, ap, ◌∙◌, append_assoc, arith, length-append, length-drop, Option, None}
-use Rattle.std.specs.Prelude.{slice_get}
+use Rattle.std.specs.List.{range_with_len}
+use Rattle.std.specs.Prelude.{map, slice_get}
 use Rattle.std.proofs.Math.Seq.{drop-append_seam, drop-append-add, take-length}
-use Rattle.std.proofs.lemmas.List.{append-nil, drop-drop, take-append-drop, length-replicate, replicate-append-replicate}
+use Rattle.std.proofs.lemmas.List.{append-nil, drop-drop, take-append-drop, replicate-append-replicate}
+use Rattle.std.proofs.lemmas.List.FromFn.{map-range_with_len_more}
 use Rattle.std.proofs.lemmas.List.Sums.{count_by-le-length}
 use borrow.Rule.Slice.PartMut.{put_mid}
 use Rattle.bitbang_table.specs.declared.Cycle.{Cycle}
@@ -107,17 +109,22 @@ bytes-append (c ∷ cs) ds =
     bytes_more c (cs ++ ds) ∙ ap (λ l. bytes_of_cycle c ++ l) (bytes-append cs ds)
     ∙ sym (append_assoc (bytes_of_cycle c) (bytes_of cs) (bytes_of ds)) ∙ ap (λ l. l ++ bytes_of ds) (sym (bytes_more c cs))
 
-pub most-bytes : (n : ℕ) (c : Cycle) → length (bytes_of (replicate n c)) ≤ 3 * n
-most-bytes n c =
-    omega (arith, length-bytes (replicate n c), length-replicate n c, count_by-le-length {X = Cycle} (λ x. x.read) (replicate n c))
+pub most-bytes : (cs : List Cycle) → length (bytes_of cs) ≤ 3 * length cs
+most-bytes cs = omega (arith, length-bytes cs, count_by-le-length {X = Cycle} (λ x. x.read) cs)
 
-pub some-bytes : (n : ℕ) (c : Cycle) → 0 < n → 0 < length (bytes_of (replicate n c))
-some-bytes n c h = omega (arith, h, length-bytes (replicate n c), length-replicate n c)
+pub some-bytes : (cs : List Cycle) → 0 < length cs → 0 < length (bytes_of cs)
+some-bytes cs h = omega (arith, h, length-bytes cs)
+
+last-bytes : (cs : List Cycle) (c : Cycle) → bytes_of (cs ++ c ∷ []) ≡ bytes_of cs ++ bytes_of_cycle c
+last-bytes cs c = bytes-append cs (c ∷ []) ∙ ap (λ l. bytes_of cs ++ l) (bytes_more c [] ∙ append-nil (bytes_of_cycle c))
 
 pub once-more : (n : ℕ) (c : Cycle) → bytes_of (replicate (n + 1) c) ≡ bytes_of (replicate n c) ++ bytes_of_cycle c
-once-more n c =
-    ap bytes_of (sym (replicate-append-replicate n 1 c)) ∙ bytes-append (replicate n c) (c ∷ [])
-    ∙ ap (λ l. bytes_of (replicate n c) ++ l) (bytes_more c [] ∙ append-nil (bytes_of_cycle c))
+once-more n c = ap bytes_of (sym (replicate-append-replicate n 1 c)) ∙ last-bytes (replicate n c) c
+
+pub next-shift : (f : ℕ → Cycle) (n : ℕ) → bytes_of (map f (range_with_len 0 (n + 1))) ≡ bytes_of (map f (range_with_len 0 n)) ++ bytes_of_cycle (f n)
+next-shift f n =
+    let end : 0 + n ≡ n = omega arith in
+    ap bytes_of (map-range_with_len_more f 0 n n end) ∙ last-bytes (map f (range_with_len 0 n)) (f n)
 
 -- one more cycle is put behind those that are there
 pub put-more : (front piece buffer old after : List ℕ) (n m : ℕ) → n ≡ length front → m ≡ n + length piece → buffer ≡ front ++ drop n old
@@ -131,11 +138,11 @@ put-more front piece buffer old after n m counted behind is put =
     put ∙ (λ i. head i ++ piece ++ tail i)
 
 -- whole cycles at the front of what is left
-pub cycles-first : (line : Option ℕ) (b : Begun) (cs later : List Cycle) (cl : Bool) (n : ℕ) (c : Cycle) → line ≡ None → slice_get (rest b) 0 ≡ None
-    → cs ≡ replicate n c ++ later → bytes_left line b cs cl ≡ bytes_of (replicate n c) ++ bytes_left line b later cl
-cycles-first line b cs later cl n c e f is =
+pub cycles-first : (line : Option ℕ) (b : Begun) (cs first later : List Cycle) (cl : Bool) → line ≡ None → slice_get (rest b) 0 ≡ None
+    → cs ≡ first ++ later → bytes_left line b cs cl ≡ bytes_of first ++ bytes_left line b later cl
+cycles-first line b cs first later cl e f is =
     later_left line b cs cl e f
     ∙ ap (λ ds. bytes_of ds ++ closing cl) is
-    ∙ ap (λ l. l ++ closing cl) (bytes-append (replicate n c) later)
-    ∙ append_assoc (bytes_of (replicate n c)) (bytes_of later) (closing cl)
-    ∙ ap (λ l. bytes_of (replicate n c) ++ l) (sym (later_left line b later cl e f))
+    ∙ ap (λ l. l ++ closing cl) (bytes-append first later)
+    ∙ append_assoc (bytes_of first) (bytes_of later) (closing cl)
+    ∙ ap (λ l. bytes_of first ++ l) (sym (later_left line b later cl e f))

@@ -1,9 +1,11 @@
 //! Putting the bytes of cycles into a buffer.
 
 ghost use Rattle.std.specs.Prelude.{◌≡◌, ◌≤◌, ◌+◌, ◌*◌, ◌++◌, drop, length, replicate, take};
+ghost use Rattle.tck_cycles.specs.Shifts.{shift_cycles};
 ghost use Rattle.bitbang.specs.Left.{bytes_of, bytes_of_cycle};
 
 use bitbang_table::{Cycle, Message, encode};
+use tck_cycles::Shifts;
 
 /// Puts the bytes of a cycle, so many times, to the front of a buffer. Answers how many bytes they are.
 pub(crate) fn put_cycles(cycle: Cycle, times: usize, buffer: &mut [u8]) -> usize
@@ -14,6 +16,20 @@ pub(crate) fn put_cycles(cycle: Cycle, times: usize, buffer: &mut [u8]) -> usize
     let mut count = 0;
     for _i in 0..times {
         count = put_cycle(cycle, buffer, count);
+    }
+    count
+}
+
+/// Puts the bytes of cycles that shift, one after another, to the front of a buffer. Answers how many bytes they are.
+pub(crate) fn put_shifts(shifts: Shifts, buffer: &mut [u8]) -> usize
+    requires few { shifts.len ≤ 64 }
+    requires room { 3 * shifts.len ≤ length buffer.old }
+    ensures count { result ≡ length (bytes_of (shift_cycles shifts)) }
+    ensures filled { buffer.new ≡ bytes_of (shift_cycles shifts) ++ drop result buffer.old }
+{
+    let mut count = 0;
+    for j in 0..shifts.len {
+        count = put_cycle(shifts.cycle(j), buffer, count);
     }
     count
 }

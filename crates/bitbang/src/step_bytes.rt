@@ -8,7 +8,7 @@ ghost use Rattle.bitbang.specs.StepMessages.{line_message};
 ghost use Rattle.svf_programs.specs.Seen as seen;
 
 use crate::begun::Begun;
-use crate::putting::put_cycles;
+use crate::putting::{put_cycles, put_shifts};
 use bitbang_table::Message;
 use jt_tap::State;
 use svf_parse::TrstWord;
@@ -39,7 +39,8 @@ pub struct StepBytes<'a> {
 }
 
 impl<'a> StepBytes<'a> {
-    ghost use Rattle.std.specs.Prelude.{◌≡◌, ◌-◌, ◌^◌, ◌++◌, true, false, drop, length, min, slice_get, take, None};
+    ghost use Rattle.std.specs.Prelude.{◌≡◌, ◌≤◌, ◌-◌, ◌^◌, ◌++◌, true, false, drop, length, min, slice_get, take};
+    ghost use Rattle.std.specs.Prelude.{None};
     ghost use Rattle.jt_tap.specs.Controller.{is_stable};
     ghost use Rattle.svf_programs.specs.Legal.{IsFormed};
     ghost use Rattle.svf_programs.specs.Sound.{IsWithin};
@@ -159,8 +160,21 @@ impl<'a> StepBytes<'a> {
         if self.is_within() || buffer.len() < 3 {
             return self.fill_one(buffer);
         }
-        let most = buffer.len() as u64 / 3;
-        let (cycle, times) = self.source.next_alike(most);
+        let shifts = self.source.next_shifts(buffer.len() as u64 / 3);
+        if shifts.len > 0 {
+            return put_shifts(shifts, buffer);
+        }
+        self.fill_alike(buffer)
+    }
+
+    /// The same where what is next is no part of a cycle, and there is room for one.
+    fn fill_alike(&mut self, buffer: &mut [u8]) -> usize
+        requires between { (self.old.line ≡ None) × (slice_get (rest self.old.begun) 0 ≡ None) }
+        requires room { 3 ≤ length buffer.old }
+        ensures fills { Fills (left self.old) buffer.old buffer.new (left self.new) result }
+        ensures whole { whole self.new ≡ whole self.old }
+    {
+        let (cycle, times) = self.source.next_alike(buffer.len() as u64 / 3);
         if times == 0 {
             return self.fill_one(buffer);
         }

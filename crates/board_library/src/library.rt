@@ -1,11 +1,13 @@
 //! The descriptions that a board file names, each read once.
-ghost use Rattle.std.specs.Prelude.{◌≡◌, map, option_map, option_copied, IfOk, OnOk, length, None, ◌++◌, ◌∷◌, []};
+ghost use Rattle.std.specs.Prelude.{◌≡◌, ℕ, List, Option, map, option_map, option_copied, IfOk, OnOk, length, None};
+ghost use Rattle.std.specs.Prelude.{◌++◌, ◌∷◌, []};
 ghost use Rattle.toml.specs.View.{table_view, items_view};
 ghost use Rattle.board_tables.specs.Fields.{tables_in};
 ghost use Rattle.board_words.specs.View.{texts_of};
 ghost use Rattle.bsdl_device.specs.Device as described;
 ghost use Rattle.board_library.specs.Files as spec;
 ghost use Rattle.std.specs.List.{filter_map};
+ghost use Rattle.std.specs.Option.{option_or};
 ghost use Rattle.board_library.specs.View.{Describes, IsRead, IsReading, IsFirstRefusal, device_in, missing_with};
 ghost use Rattle.board_library.specs.View.{refused_with, files_of, stands_at, cells_in};
 
@@ -85,11 +87,35 @@ pub fn read_files<'t, 'f, R: Describe>(
         missing: None,
         refused: None,
     };
-    for name in names {
-        let reading = read_named(alloc, reader, files, &places, name)?;
-        note(&mut library, name, reading)?;
-    }
+    read_all(alloc, reader, files, &places, names, &mut library)?;
     Ok(library)
+}
+
+/// Notes what stands in the file of each of these names, given the places of all files.
+fn read_all<'t, R: Describe>(
+    alloc: Global,
+    reader: &R,
+    files: &[(&str, &[u8])],
+    places: &Places<&str>,
+    names: &[&'t str],
+    library: &mut Library<'t, R::Fault>,
+) -> Result<(), AllocError>
+    requires { texts_of places.now ≡ map (λ f. f.0.now) files.now }
+    ensures devices { OnOk result (library.new.devices.items ≡ library.old.devices.items
+        ++ map (spec.described R.says (files_of files.now)) (texts_of names.now)) }
+    ensures missing { OnOk result (option_map (λ n. n.now) library.new.missing
+        ≡ option_or (option_map (λ n. n.now) library.old.missing)
+        (spec.missing_in (files_of files.now) (texts_of names.now))) }
+    ensures refused { OnOk result ((whole : Option (List ℕ))
+        → IsFirstRefusal R.refuses library.old.refused
+        (spec.refused_in R.says (files_of files.now) (texts_of names.now)) whole
+        → IsFirstRefusal R.refuses library.new.refused None whole) }
+{
+    for name in names {
+        let reading = read_named(alloc, reader, files, places, name)?;
+        note(library, name, reading)?;
+    }
+    Ok(())
 }
 
 /// Notes what stands in the file of a name.

@@ -1,13 +1,12 @@
 -- What a port bit sees of its net: the net's level, by counting its drivers. This simulation's own model of the wiring.
-use Rattle.std.specs.Prelude.{Bool, ◌&&◌, ℕ, ◌==◌, List, [], ◌∷◌, map, slice_get, find, option_map, unwrap_or}
-use Rattle.std.specs.List.{list_any}
+use Rattle.std.specs.Prelude.{Bool, ℕ, List, [], ◌∷◌, map, slice_get, find, option_map, unwrap_or}
 use Rattle.pin_nets.specs.declared.Drive.{Drive}
 use Rattle.pin_nets.specs.declared.Drive.TheVariants.{Nothing}
 use Rattle.pin_nets.specs.declared.Level.{Level}
 use Rattle.pin_nets.specs.declared.Pin.{Pin}
 use Rattle.pin_nets.specs.declared.Pull.TheVariants.{Free}
 use Rattle.pin_nets.specs.Levels.{level_of, pull_drive, reads}
-use Rattle.pin_nets.specs.Wired.{Net}
+use Rattle.pin_nets.specs.Wired.{Net, joins}
 use Rattle.board_meaning.specs.Cells.{Member, drive}
 
 abbrev pub pin_drive : List Member → Pin → Drive
@@ -16,13 +15,6 @@ pin_drive ms pin = unwrap_or (option_map (λ m. drive m pin.port) (slice_get ms 
 -- the level of a net, its pull among its drivers
 abbrev pub level : List Member → Net → Level
 level ms net = level_of (pull_drive net.pull ∷ map (pin_drive ms) net.pins)
-
--- whether one of these pins is this port bit of the device at a place
-abbrev pub has_pin : (place port : ℕ) → List Pin → Bool
-has_pin place port pins = list_any (λ (pin : Pin). (pin.device == place) && (pin.port == port)) pins
-
-abbrev pub joins : ℕ → ℕ → Net → Bool
-joins device port net = has_pin device port net.pins
 
 -- a port bit that is a net by itself
 abbrev pub lone_net : ℕ → ℕ → Net

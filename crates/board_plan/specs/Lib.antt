@@ -3,3 +3,4 @@ pub mod PinNumbers
 pub mod Words
 pub mod LeftOut
 pub mod View
+pub mod CellNets

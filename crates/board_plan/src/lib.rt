@@ -2,11 +2,13 @@
 //! here.
 #![tactic(auto)]
 
+mod cells;
 mod instructions;
 mod numbers;
 mod plan;
 mod words;
 
+pub use cells::cell_nets;
 pub use instructions::{is_left_out, left_out};
 pub use numbers::number_nets;
 pub use plan::{Plan, PlannedDevice, PlannedNet};

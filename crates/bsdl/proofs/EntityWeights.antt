@@ -1,6 +1,6 @@
 -- What an entity gives weighs no more than its tokens.
 use Rattle.std.proofs.Common.{◌≡◌, ◌≤◌, ℕ, zero, suc, ◌+◌, ◌-◌, Bool, true, false, List, [], ◌∷◌, length, drop, arith}
-use Rattle.std.specs.Prelude.{Option, Some, None, codes, pred, ◌&&◌, ◌==◌, not, if◌then◌else◌}
+use Rattle.std.specs.Prelude.{Option, Some, None, codes, pred, ◌&&◌, ◌||◌, ◌==◌, not, if◌then◌else◌}
 use Rattle.bsdl_device.specs.Device.{Name}
 use Rattle.bsdl_lex.specs.Cutting.{Lexeme}
 use Rattle.bsdl_text.specs.Marks.{closing, colon, comma, opening, semi}
@@ -17,7 +17,7 @@ use Rattle.bsdl_values.specs.Keywords.{truth_of}
 use Rattle.bsdl_ports.specs.Ports.{Port, Range, in_order, is_scalar, kind_of_port, ordered, port_group, ports, range, upto}
 use Rattle.bsdl_values.specs.Values.{Value, absent, accesses_value, cells_value, codes_value, count, first_start, length_value, names_value, opcodes_value, pattern_value, port, quoted, text_in, truth, value_of}
 use Rattle.bsdl_values.specs.Passing.{brackets, past_closing, past_semi}
-use Rattle.bsdl_entity.specs.Entity.{File, Given, and_given, any_word, attribute, attribute_form, end_of_text, ending, file, generic, is_tap, item, items, nothing, owner, with_value, value_behind}
+use Rattle.bsdl_entity.specs.Entity.{File, Given, and_given, any_word, attribute, attribute_form, attribute_item, end_of_text, ending, file, generic, heading, is_tap, item, items, nothing, owner, owner_clause, with_value, value_behind}
 use Rattle.bsdl.specs.Small.{total}
 use Rattle.bsdl.proofs.Weights.{Weighs, bind, choose, dropped, heft, joined_text_weighs, joined_weighs, keyword_weighs, listed_weighs, meant_weighs, one_weighs, quoted_value_weighs, size, weaker}
 use Rattle.bsdl.proofs.RowWeights.{access_weighs, access_weight, name_weighs, opcode_weighs, opcode_weight, rows_weigh}
@@ -136,15 +136,20 @@ behind_weighs a name ts =
     bind (λ _. 0) value_weight (size ts) (size ts) (this_word (codes "IS") ts) _ (keyword_weighs _ ts)
     (λ i f less. weaker value_weight (size f) (size ts) (value_of a name f) (omega (arith, less)) (value_weighs a name f))
 
+clause_weighs : (is_port : List ℕ → Bool) (a : Attribute) (ts : List Lexeme) → Weighs (λ _. 0) (size ts) (owner_clause is_port a ts)
+clause_weighs is_port a ts =
+    bind (λ _. 0) (λ _. 0) (size ts) (size ts) (this_word (codes "OF") ts) _ (keyword_weighs _ ts)
+    (λ k b less. bind (λ _. 0) (λ _. 0) (size b) (size ts) (owner is_port a b) _ (owner_weighs is_port a b)
+    (λ n c less-2. bind (λ t. heft t.text) (λ _. 0) (size c) (size ts) (mark colon c) _ (one_weighs _ c)
+    (λ m d less-3. bind (λ t. heft t.text) (λ _. 0) (size d) (size ts) (word d) _ (one_weighs _ d)
+    (λ class e last. omega (arith, less, less-2, less-3, last)))))
+
 form_weighs : (is_port : List ℕ → Bool) (name : Lexeme) (a : Attribute) (ts : List Lexeme) → Weighs some_weight (size ts) (attribute_form is_port name a ts)
 form_weighs is_port name a ts =
-    bind (λ _. 0) some_weight (size ts) (size ts) (this_word (codes "OF") ts) _ (keyword_weighs _ ts)
-    (λ k b less. bind (λ _. 0) some_weight (size b) (size ts) (owner is_port a b) _ (owner_weighs is_port a b)
-    (λ n c less-2. bind (λ t. heft t.text) some_weight (size c) (size ts) (mark colon c) _ (one_weighs _ c)
-    (λ m d less-3. bind (λ t. heft t.text) some_weight (size d) (size ts) (word d) _ (one_weighs _ d)
-    (λ class e less-4. bind value_weight some_weight (size e) (size ts) (value_behind a _ e) _ (behind_weighs a _ e)
-    (λ v g less-5. bind (λ t. heft t.text) some_weight (size g) (size ts) (mark semi g) _ (one_weighs _ g)
-    (λ s h last. omega (arith, less, less-2, less-3, less-4, less-5, last, said_weighs name a v)))))))
+    bind (λ _. 0) some_weight (size ts) (size ts) (owner_clause is_port a ts) _ (clause_weighs is_port a ts)
+    (λ n e less. bind value_weight some_weight (size e) (size ts) (value_behind a _ e) _ (behind_weighs a _ e)
+    (λ v g less-2. bind (λ t. heft t.text) some_weight (size g) (size ts) (mark semi g) _ (one_weighs _ g)
+    (λ s h last. omega (arith, less, less-2, last, said_weighs name a v))))
 
 nothing_weighs : (n : ℕ) (r : Read Bool) → Weighs (λ _. 0) n r → Weighs some_weight n (nothing r)
 nothing_weighs n r here = bind (λ _. 0) some_weight n n r _ here (λ b rest less. omega (arith, less))
@@ -153,15 +158,17 @@ attribute_weighs : (is_port : List ℕ → Bool) (name : Lexeme) (o : Option Att
 attribute_weighs is_port name None ts = nothing_weighs (size ts) (past_semi ts) (semi_weighs ts)
 attribute_weighs is_port name (Some a) ts = form_weighs is_port name a ts
 
+named_weighs : (is_port : List ℕ → Bool) (ts : List Lexeme) → Weighs some_weight (size ts) (attribute_item is_port ts)
+named_weighs is_port ts =
+    bind (λ _. 0) some_weight (size ts) (size ts) (this_word (codes "ATTRIBUTE") ts) _ (keyword_weighs _ ts)
+    (λ k a less. bind (λ t. heft t.text) some_weight (size a) (size ts) (word a) _ (one_weighs _ a)
+    (λ name b more. weaker some_weight (size b) (size ts) (attribute is_port name (attribute_of name.text) b) (omega (arith, less, more)) (attribute_weighs is_port name (attribute_of name.text) b)))
+
 item_weighs : (is_port : List ℕ → Bool) (ts : List Lexeme) → Weighs some_weight (size ts) (item is_port ts)
 item_weighs is_port ts =
-    let passed : Weighs some_weight (size ts) (nothing (past_semi (drop 1 ts))) =
-    nothing_weighs (size ts) (past_semi (drop 1 ts)) (weaker (λ _. 0) (size (drop 1 ts)) (size ts) (past_semi (drop 1 ts)) (dropped ts) (semi_weighs (drop 1 ts))) in
-    choose some_weight (size ts) (begins (codes "USE") ts) _ _ passed
-    (choose some_weight (size ts) (begins (codes "CONSTANT") ts) _ _ passed
-    (bind (λ _. 0) some_weight (size ts) (size ts) (this_word (codes "ATTRIBUTE") ts) _ (keyword_weighs _ ts)
-    (λ k a less. bind (λ t. heft t.text) some_weight (size a) (size ts) (word a) _ (one_weighs _ a)
-    (λ name b more. weaker some_weight (size b) (size ts) (attribute is_port name (attribute_of name.text) b) (omega (arith, less, more)) (attribute_weighs is_port name (attribute_of name.text) b)))))
+    choose some_weight (size ts) (begins (codes "USE") ts || begins (codes "CONSTANT") ts) _ _
+    (nothing_weighs (size ts) (past_semi (drop 1 ts)) (weaker (λ _. 0) (size (drop 1 ts)) (size ts) (past_semi (drop 1 ts)) (dropped ts) (semi_weighs (drop 1 ts))))
+    (named_weighs is_port ts)
 
 and_weighs : (g : Option Given) (gs : List Given) → total given_weight (and_given g gs) ≤ some_weight g + total given_weight gs
 and_weighs None gs = omega arith
@@ -251,13 +258,17 @@ ending_weighs ts =
 abbrev pub file_weight : File → ℕ
 file_weight f = total given_weight f.given
 
+heading_weighs : (ts : List Lexeme) → Weighs (λ _. 0) (size ts) (heading ts)
+heading_weighs ts =
+    bind (λ _. 0) (λ _. 0) (size ts) (size ts) (this_word (codes "ENTITY") ts) _ (keyword_weighs _ ts)
+    (λ k a less. bind (λ t. heft t.text) (λ _. 0) (size a) (size ts) (word a) _ (one_weighs _ a)
+    (λ name b less-2. bind (λ _. 0) (λ _. 0) (size b) (size ts) (this_word (codes "IS") b) _ (keyword_weighs _ b)
+    (λ i c last. weaker (λ _. 0) (size c) (size ts) (generic c) (omega (arith, less, less-2, last)) (generic_weighs c))))
+
 pub file_weighs : (ts : List Lexeme) → Weighs file_weight (size ts) (file ts)
 file_weighs ts =
-    bind (λ _. 0) file_weight (size ts) (size ts) (this_word (codes "ENTITY") ts) _ (keyword_weighs _ ts)
-    (λ k a less. bind (λ t. heft t.text) file_weight (size a) (size ts) (word a) _ (one_weighs _ a)
-    (λ name b less-2. bind (λ _. 0) file_weight (size b) (size ts) (this_word (codes "IS") b) _ (keyword_weighs _ b)
-    (λ i c less-3. bind (λ _. 0) file_weight (size c) (size ts) (generic c) _ (generic_weighs c)
-    (λ g d less-4. bind (λ _. 0) file_weight (size d) (size ts) (ports d) _ (ports_weigh d)
-    (λ ps e less-5. bind (total given_weight) file_weight (size e) (size ts) (items (is_scalar ps) (length e) e) _ (items_weigh (is_scalar ps) (length e) e)
-    (λ gs f less-6. bind (λ _. 0) file_weight (size f) (size ts) (ending f) _ (ending_weighs f)
-    (λ o h last. omega (arith, less, less-2, less-3, less-4, less-5, less-6, last))))))))
+    bind (λ _. 0) file_weight (size ts) (size ts) (heading ts) _ (heading_weighs ts)
+    (λ g d less. bind (λ _. 0) file_weight (size d) (size ts) (ports d) _ (ports_weigh d)
+    (λ ps e less-2. bind (total given_weight) file_weight (size e) (size ts) (items (is_scalar ps) (length e) e) _ (items_weigh (is_scalar ps) (length e) e)
+    (λ gs f less-3. bind (λ _. 0) file_weight (size f) (size ts) (ending f) _ (ending_weighs f)
+    (λ o h last. omega (arith, less, less-2, less-3, last)))))

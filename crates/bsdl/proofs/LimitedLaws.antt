@@ -20,7 +20,7 @@ use Rattle.bsdl_lengths.specs.Lengths.{captures_one, codes_fit, ends_in_one, has
 use Rattle.bsdl_limits.specs.Limits.{cells_within, instructions_within, is_within_limits, ports_within, subscript_limit, users_within}
 use Rattle.bsdl_limits.specs.PortBits.{highest, width}
 use Rattle.bsdl_limits.specs.Users.{users_of}
-use Rattle.bsdl_twice.specs.ResetOpcode.{opcode}
+use Rattle.bsdl_opcodes.specs.ResetOpcode.{opcode}
 use Rattle.bsdl_twice.specs.Twice.{given_again}
 use Rattle.bsdl_boundary.specs.Boundary.{cell, port_bits}
 use Rattle.bsdl_built.specs.Built.{device}

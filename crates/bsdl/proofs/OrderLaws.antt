@@ -7,10 +7,10 @@ use Rattle.bsdl_lex.specs.Cutting.{Lexeme, bad_place, cuts_of, tokens}
 use Rattle.bsdl_text.specs.Marks.{closing, colon, comma, opening, semi}
 use Rattle.bsdl_text.specs.Reading.{Read, fits, misfit, ◌>>=◌, further, joined_by, keyword, mark, number, refused_at, separated, stands, word}
 use Rattle.bsdl_ports.specs.Keywords.{is_rising, is_vector, mode_of, this_word}
-use Rattle.bsdl_ports.specs.Ports.{Port, Range, concat, in_order, is_scalar, kind_of_port, ordered, port_group, ports, range, upto}
+use Rattle.bsdl_ports.specs.Ports.{Port, Range, concat, is_scalar, kind_of_port, ordered, port_group, ports, range, upto}
 use Rattle.bsdl_values.specs.declared.Attribute.{Attribute}
 use Rattle.bsdl_values.specs.declared.Attribute.TheVariants.{InstructionLength, BoundaryLength, InstructionOpcode, InstructionCapture, BoundaryRegister}
-use Rattle.bsdl_entity.specs.Entity.{File, ending, file, generic, items}
+use Rattle.bsdl_entity.specs.Entity.{File, ending, file, heading, items}
 use Rattle.bsdl_described.specs.Describing.{Description, Refusal, as_cells, as_count, as_opcodes, as_pattern, described, need, taps_given, too_large, value_given, ◌>>?◌}
 use Rattle.bsdl.specs.Form.{read_form, text_form, text_limit, tokens_form}
 
@@ -107,10 +107,8 @@ HasOrdered f = AreOrdered f.ports
 
 file_read : (ts : List Lexeme) → Reads HasOrdered (file ts)
 file_read ts =
-    behind HasOrdered (this_word (codes "ENTITY") ts) _ (λ k a. behind HasOrdered (word a) _
-    (λ name b. behind HasOrdered (this_word (codes "IS") b) _ (λ i c. behind HasOrdered (generic c) _
-    (λ g d. bind AreOrdered HasOrdered (ports d) _ (ports_read d)
-    (λ ps e here. behind HasOrdered (items (is_scalar ps) (length e) e) _ (λ gs f. behind HasOrdered (ending f) _ (λ o h. here)))))))
+    behind HasOrdered (heading ts) _ (λ g d. bind AreOrdered HasOrdered (ports d) _ (ports_read d)
+    (λ ps e here. behind HasOrdered (items (is_scalar ps) (length e) e) _ (λ gs f. behind HasOrdered (ending f) _ (λ o h. here))))
 
 pub same_ok : {A : Type 0} (x y : A) → ◌≡◌ {A = Result A Refusal} (Ok x) (Ok y) → x ≡ y
 same_ok x y e = cc

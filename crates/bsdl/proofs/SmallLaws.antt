@@ -14,7 +14,7 @@ use Rattle.bsdl_values.specs.Values.{Value, absent, accesses_value, cells_value,
 use Rattle.bsdl_entity.specs.Entity.{File, Given, file}
 use Rattle.bsdl_described.specs.Describing.{Description, Refusal, as_accesses, as_cells, as_count, as_names, as_opcodes, as_pattern, described, is_attribute, taps_given, too_large, value_given, ◌>>?◌}
 use Rattle.bsdl_own_instructions.specs.Own.{is_own, own_accesses, with_own}
-use Rattle.bsdl_twice.specs.ResetOpcode.{opcode}
+use Rattle.bsdl_opcodes.specs.ResetOpcode.{opcode}
 use Rattle.bsdl_limits.specs.Users.{users_of}
 use Rattle.bsdl_opcodes.specs.Accesses.{access, accesses_of_row}
 use Rattle.bsdl_built.specs.Built.{device}

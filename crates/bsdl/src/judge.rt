@@ -18,8 +18,8 @@ use bsdl_lengths::ends::{captures_one, ends_in_one};
 use bsdl_lengths::lengths::lengths_fit;
 use bsdl_limits::limits::is_within_limits;
 use bsdl_limits::users::users_of;
+use bsdl_opcodes::reset_opcode::resets_to_idcode;
 use bsdl_twice::again::given_again;
-use bsdl_twice::reset_opcode::resets_to_idcode;
 use std::alloc::Global;
 
 /// The first refusal of B4 to B9 of a description that is well formed, if there is one. Want of memory is B10; nothing

@@ -4,7 +4,7 @@ use Rattle.std.specs.List.{flat_map}
 use Rattle.bsdl_device.specs.Device.{Device}
 use Rattle.bsdl_device.specs.Opcodes.{x_as_0}
 use Rattle.bsdl_described.specs.Describing.{Description}
-use Rattle.bsdl_twice.specs.ResetOpcode.{opcode}
+use Rattle.bsdl_opcodes.specs.ResetOpcode.{opcode}
 use Rattle.bsdl_limits.specs.Users.{users_of}
 use Rattle.bsdl_opcodes.specs.Accesses.{accesses_of_row}
 use Rattle.bsdl_boundary.specs.Boundary.{port_bits, cells_of}

@@ -1,7 +1,7 @@
 -- The outer form of a description: the entity's ports and attributes in order (IEEE Std 1149.1-2001, Annex B.8.1 to
 -- B.8.8).
-use Rattle.std.specs.Prelude.{ℕ, zero, suc, Bool, true, false, ◌&&◌, not, if◌then◌else◌, List, [], ◌∷◌, length, drop}
-use Rattle.std.specs.Prelude.{codes, Option, Some, None}
+use Rattle.std.specs.Prelude.{ℕ, zero, suc, Bool, true, false, ◌&&◌, ◌||◌, not, if◌then◌else◌, List, [], ◌∷◌, length}
+use Rattle.std.specs.Prelude.{drop, codes, Option, Some, None}
 use Rattle.bsdl_lex.specs.Cutting.{Lexeme}
 use Rattle.bsdl_text.specs.Words.{upper}
 use Rattle.bsdl_text.specs.Reading.{Read, fits, misfit, ◌>>=◌, refused_at, word, mark}
@@ -46,11 +46,16 @@ with_value g v = Some g
 abbrev pub value_behind : Attribute → Name → List Lexeme → Read Value
 value_behind a name ts = this_word (codes "IS") ts >>= λ i f. value_of a name f
 
+-- of name : word
+abbrev pub owner_clause : (List ℕ → Bool) → Attribute → List Lexeme → Read Lexeme
+owner_clause is_port a ts =
+    this_word (codes "OF") ts >>= λ k b. owner is_port a b >>= λ n c. mark colon c >>= λ m d. word d >>=
+    λ class e. fits n e
+
 -- of name : word is value ;
 abbrev pub attribute_form : (List ℕ → Bool) → Lexeme → Attribute → List Lexeme → Read (Option Given)
 attribute_form is_port name a ts =
-    this_word (codes "OF") ts >>= λ k b. owner is_port a b >>= λ n c. mark colon c >>= λ m d. word d >>= λ class e.
-    value_behind a (upper n.text) e >>= λ v g. mark semi g >>=
+    owner_clause is_port a ts >>= λ n e. value_behind a (upper n.text) e >>= λ v g. mark semi g >>=
     λ s h. fits (with_value (record { name = name; attribute = a; value = v }) v) h
 
 abbrev pub nothing : Read Bool → Read (Option Given)
@@ -61,13 +66,17 @@ abbrev pub attribute : (List ℕ → Bool) → Lexeme → Option Attribute → L
 attribute is_port name None ts = nothing (past_semi ts)
 attribute is_port name (Some a) ts = attribute_form is_port name a ts
 
--- use tokens ; constant tokens ; attribute name tokens ;
+-- attribute name tokens ;
+abbrev pub attribute_item : (List ℕ → Bool) → List Lexeme → Read (Option Given)
+attribute_item is_port ts =
+    this_word (codes "ATTRIBUTE") ts >>= λ k a. word a >>=
+    λ name b. attribute is_port name (attribute_of name.text) b
+
+-- use tokens ; constant tokens ; or an attribute
 abbrev pub item : (List ℕ → Bool) → List Lexeme → Read (Option Given)
 item is_port ts =
-    if begins (codes "USE") ts then nothing (past_semi (drop 1 ts))
-    else if begins (codes "CONSTANT") ts then nothing (past_semi (drop 1 ts))
-    else this_word (codes "ATTRIBUTE") ts >>= λ k a. word a >>=
-    λ name b. attribute is_port name (attribute_of name.text) b
+    if begins (codes "USE") ts || begins (codes "CONSTANT") ts then nothing (past_semi (drop 1 ts))
+    else attribute_item is_port ts
 
 -- what says something
 abbrev pub and_given : Option Given → List Given → List Given
@@ -108,9 +117,13 @@ ending ts =
     this_word (codes "END") ts >>= λ k a. any_word a >>= λ v b. any_word b >>= λ w c. mark semi c >>=
     λ s d. end_of_text d
 
+-- entity name is [generic]
+abbrev pub heading : List Lexeme → Read Bool
+heading ts =
+    this_word (codes "ENTITY") ts >>= λ k a. word a >>= λ name b. this_word (codes "IS") b >>= λ i c. generic c
+
 -- entity name is [generic] port {item} end [word] [word] ;
 abbrev pub file : List Lexeme → Read File
 file ts =
-    this_word (codes "ENTITY") ts >>= λ k a. word a >>= λ name b. this_word (codes "IS") b >>= λ i c. generic c >>=
-    λ g d. ports d >>= λ ps e.
-    items (is_scalar ps) (length e) e >>= λ gs f. ending f >>= λ o h. fits (record { ports = ps; given = gs }) h
+    heading ts >>= λ g d. ports d >>= λ ps e. items (is_scalar ps) (length e) e >>= λ gs f. ending f >>=
+    λ o h. fits (record { ports = ps; given = gs }) h

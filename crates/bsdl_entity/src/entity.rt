@@ -32,14 +32,22 @@ pub struct Outline<'a> {
 pub fn read_entity<'a>(alloc: Global, lexer: Lexer<'a>) -> Result<(Outline<'a>, Lexer<'a>), Stop>
     ensures gives { Gives outline result (spec.file (left lexer.entry)) }
 {
-    let (_entity, rest) = keyword(lexer, &ENTITY)?;
-    let (_name, rest) = word(rest)?;
-    let (_is, rest) = keyword(rest, &IS)?;
-    let rest = generic(rest)?;
+    let rest = heading(lexer)?;
     let (groups, rest) = read_ports(alloc, rest)?;
     let (given, rest) = attributes(alloc, &groups, rest)?;
     let rest = ending(rest)?;
     Ok((Outline { groups, given }, rest))
+}
+
+/// `entity name is [generic]`, and the lexer behind it.
+fn heading<'a>(lexer: Lexer<'a>) -> Result<Lexer<'a>, Stop>
+    ensures passes { Passes result (spec.heading (left lexer.entry)) }
+    ensures misfit { StopsAtMisfit result }
+{
+    let (_entity, rest) = keyword(lexer, &ENTITY)?;
+    let (_name, rest) = word(rest)?;
+    let (_is, rest) = keyword(rest, &IS)?;
+    generic(rest)
 }
 
 /// `end [word] [word] ;`, behind which nothing stands.

@@ -1,8 +1,8 @@
 //! The attributes of an entity.
-ghost use Rattle.std.specs.Prelude.{◌≡◌, ◌<◌, ◌≤◌, length, map, drop, option_map, is_some, IfOk, IfSome};
+ghost use Rattle.std.specs.Prelude.{◌≡◌, ◌<◌, ◌≤◌, ◌||◌, length, map, drop, codes, option_map, is_some, IfOk, IfSome};
 ghost use Rattle.bsdl_instructions.specs.Values.{begins};
 ghost use Rattle.bsdl_lex.specs.Left.{left};
-ghost use Rattle.bsdl_text.specs.View.{Gives, Passes};
+ghost use Rattle.bsdl_text.specs.View.{Gives};
 ghost use Rattle.bsdl_text.specs.WordView.{word_lexeme};
 ghost use Rattle.bsdl_entity.specs.Attributes.{attribute_of};
 ghost use Rattle.bsdl_text.specs.Words.{upper};
@@ -65,6 +65,23 @@ fn owner<'a>(
     }
 }
 
+/// `of name : word`, its name that of what an attribute is of.
+fn owner_clause<'a>(
+    alloc: Global,
+    scalars: &BTreeMap<String, bool>,
+    attribute: Attribute,
+    lexer: Lexer<'a>,
+) -> Result<(Word<'a>, Lexer<'a>), Stop>
+    ensures gives { Gives word_lexeme result (spec.owner_clause (tells scalars.now) attribute (left lexer.entry)) }
+    ensures shorter { IfOk result (λ p. length (left p.1) < length (left lexer.entry)) }
+{
+    let (_of, rest) = keyword(lexer, &OF)?;
+    let (owner, rest) = owner(alloc, scalars, attribute, rest)?;
+    let rest = mark(rest, b':')?;
+    let (_class, rest) = word(rest)?;
+    Ok((owner, rest))
+}
+
 /// What stands behind an attribute's name: `of name : word is value ;`.
 fn attribute_form<'a>(
     alloc: Global,
@@ -77,10 +94,7 @@ fn attribute_form<'a>(
         (spec.attribute_form (tells scalars.now) (word_lexeme name.entry) attribute (left lexer.entry)) }
     ensures shorter { IfOk result (λ p. length (left p.1) < length (left lexer.entry)) }
 {
-    let (_of, rest) = keyword(lexer, &OF)?;
-    let (owner, rest) = owner(alloc, scalars, attribute, rest)?;
-    let rest = mark(rest, b':')?;
-    let (_class, rest) = word(rest)?;
+    let (owner, rest) = owner_clause(alloc, scalars, attribute, lexer)?;
     let (value, rest) = value_behind(alloc, attribute, owner, rest)?;
     let rest = mark(rest, b';')?;
     Ok((said(name, attribute, value), rest))
@@ -145,7 +159,22 @@ fn named(word: &[u8]) -> Option<Attribute>
     stands_for(&ATTRIBUTES, word)
 }
 
-/// What an item says, where it says something: `use tokens ;`, `constant tokens ;` or `attribute name tokens ;`.
+/// What an attribute says, where it says something: `attribute name tokens ;`.
+fn attribute_item<'a>(
+    alloc: Global,
+    scalars: &BTreeMap<String, bool>,
+    lexer: Lexer<'a>,
+) -> Result<(Option<Given<'a>>, Lexer<'a>), Stop>
+    ensures gives { Gives (option_map given_view.given) result
+        (spec.attribute_item (tells scalars.now) (left lexer.entry)) }
+    ensures shorter { IfOk result (λ p. length (left p.1) < length (left lexer.entry)) }
+{
+    let (_attribute, rest) = keyword(lexer, &ATTRIBUTE)?;
+    let (name, rest) = word(rest)?;
+    attribute(alloc, scalars, name, rest)
+}
+
+/// What an item says, where it says something: an attribute does, `use tokens ;` and `constant tokens ;` do not.
 fn item<'a>(
     alloc: Global,
     scalars: &BTreeMap<String, bool>,
@@ -154,17 +183,26 @@ fn item<'a>(
     ensures gives { Gives (option_map given_view.given) result (spec.item (tells scalars.now) (left lexer.entry)) }
     ensures shorter { IfOk result (λ p. length (left p.1) < length (left lexer.entry)) }
 {
-    if let Some(behind) = behind_word(lexer, b"USE") {
-        let rest = past_semi(behind)?;
-        return Ok((None, rest));
+    match behind_unread(lexer) {
+        Some(behind) => {
+            let rest = past_semi(behind)?;
+            Ok((None, rest))
+        }
+        None => attribute_item(alloc, scalars, lexer),
     }
-    if let Some(behind) = behind_word(lexer, b"CONSTANT") {
-        let rest = past_semi(behind)?;
-        return Ok((None, rest));
+}
+
+/// The lexer behind `use` or `constant`, where one of them stands next: what it says is passed over.
+fn behind_unread<'a>(lexer: Lexer<'a>) -> Option<Lexer<'a>>
+    ensures begins { is_some result
+        ≡ (begins (codes "USE") (left lexer.entry) || begins (codes "CONSTANT") (left lexer.entry)) }
+    ensures behind { IfSome result (λ l. left l ≡ drop 1 (left lexer.entry)) }
+    ensures shorter { IfSome result (λ l. length (left l) < length (left lexer.entry)) }
+{
+    match behind_word(lexer, b"USE") {
+        Some(behind) => Some(behind),
+        None => behind_word(lexer, b"CONSTANT"),
     }
-    let (_attribute, rest) = keyword(lexer, &ATTRIBUTE)?;
-    let (name, rest) = word(rest)?;
-    attribute(alloc, scalars, name, rest)
 }
 
 /// The lexer behind this word, where it stands next.

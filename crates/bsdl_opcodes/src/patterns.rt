@@ -3,7 +3,7 @@ ghost use Rattle.std.specs.Prelude.{◌≡◌, map, option_map, slice_get, IfOk}
 ghost use Rattle.bsdl_device.specs.Opcodes.{x_as_0 as bits_of_pattern};
 ghost use Rattle.bsdl_instructions.specs.Values.{bit};
 ghost use Rattle.bsdl_instructions.specs.View as rows_view;
-ghost use Rattle.bsdl_twice.specs.ResetOpcode.{opcode};
+ghost use Rattle.bsdl_opcodes.specs.ResetOpcode.{opcode};
 
 use bsdl_device::{Names, Opcode, Pattern};
 use bsdl_instructions::names::{OpcodeRow, PrivateName};

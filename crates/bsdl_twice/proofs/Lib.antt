@@ -1,2 +1,1 @@
-pub mod MatchLaws
 pub mod SpotLaws

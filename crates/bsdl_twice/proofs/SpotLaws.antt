@@ -76,7 +76,3 @@ repeat_step test all rest first after n so_far then_is = by_test (test n) refl
         let now : after ≡ first = then_is ∙ rw is refl in
         let whole : either first (earliest (filter test rest)) ≡ earliest (filter test all) = rw is at so_far in
         rw now whole
-
-pub earliest_of_four : (ks ls ms ns : List Naming) → earliest (ks ++ (ls ++ (ms ++ ns))) ≡ either (earliest ks) (either (earliest ls) (either (earliest ms) (earliest ns)))
-earliest_of_four ks ls ms ns =
-    earliest_of ks (ls ++ (ms ++ ns)) ∙ ap (either (earliest ks)) (earliest_of ls (ms ++ ns) ∙ ap (either (earliest ls)) (earliest_of ms ns))

@@ -1,4 +1,3 @@
-pub mod ResetOpcode
 pub mod Spots
 pub mod Twice
 pub mod View

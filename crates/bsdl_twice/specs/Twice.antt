@@ -53,8 +53,13 @@ opcode_names d = map (λ r. inside d.opcode_start r.name) d.opcodes
 abbrev pub own_names : Description → List Naming
 own_names d = map (λ i. inside d.access_start i.name) (flat_map (λ r. r.instrs) d.accesses)
 
+-- what is given again in the text itself, and in the texts within quotes
+abbrev pub repeated_outside : Description → List Naming
+repeated_outside d = repeated (port_names d) ++ repeated (attribute_names d)
+
+abbrev pub repeated_inside : Description → List Naming
+repeated_inside d = repeated (opcode_names d) ++ repeated (own_names d)
+
 -- the first name that is given again
 abbrev pub given_again : Description → Option Naming
-given_again d =
-    earliest (repeated (port_names d) ++ (repeated (attribute_names d)
-    ++ (repeated (opcode_names d) ++ repeated (own_names d))))
+given_again d = earliest (repeated_outside d ++ repeated_inside d)

@@ -1,7 +1,6 @@
 //! The first name that a description gives again.
 ghost use Rattle.std.specs.Prelude.{◌≡◌, ◌++◌, map, option_map, IfOk, OnOk};
 ghost use Rattle.std.specs.List.{flat_map};
-ghost use Rattle.bsdl_entity.specs.OutlineView.{outline as outline_view};
 ghost use Rattle.bsdl_ports.specs.View as ports_view;
 ghost use Rattle.bsdl_entity.specs.GivenView.{given as given_view};
 ghost use Rattle.bsdl_instructions.specs.View as rows_view;
@@ -160,6 +159,31 @@ fn own_again(
     first_again(alloc, &names)
 }
 
+/// The first name that is given again in the text itself: of a port, or of an attribute.
+fn outside_again(alloc: Global, outline: &Outline<'_>) -> Result<Option<Again>, AllocError>
+    ensures { IfOk result (λ o. option_map again o ≡ spec.earliest
+        (spec.repeated (map (λ p. spec.outside p.name) (ports_view.ports outline.now.groups.items))
+        ++ spec.repeated (map (λ g. spec.outside g.name) (map given_view outline.now.given.items)))) }
+{
+    let port = port_again(alloc, &outline.groups)?;
+    let attribute = attribute_again(alloc, &outline.given)?;
+    Ok(earlier_again(port, attribute))
+}
+
+/// The first name that is given again within quotes: of an instruction with an opcode, or of an own instruction with a
+/// register.
+fn inside_again(alloc: Global, described: &Description<'_>) -> Result<Option<Again>, AllocError>
+    ensures { IfOk result (λ o. option_map again o ≡ spec.earliest
+        (spec.repeated (map (λ r. spec.inside described.now.opcode_start r.name)
+        (map rows_view.opcode_row described.now.opcodes.items))
+        ++ spec.repeated (map (λ i. spec.inside described.now.access_start i.name)
+        (flat_map (λ r. r.instrs) (map rows_view.access_row described.now.accesses.items))))) }
+{
+    let opcode = opcode_again(alloc, described.opcode_start, &described.opcodes)?;
+    let own = own_again(alloc, described.access_start, &described.accesses)?;
+    Ok(earlier_again(opcode, own))
+}
+
 /// The first name that is given again: of a port, of an attribute, of an instruction with an opcode, or of an own
 /// instruction with a register; equal but for case.
 pub fn given_again(
@@ -169,9 +193,7 @@ pub fn given_again(
 ) -> Result<Option<Again>, AllocError>
     ensures { IfOk result (λ o. option_map again o ≡ spec.given_again (description outline.now described.now)) }
 {
-    let ports = port_again(alloc, &outline.groups)?;
-    let attribute = attribute_again(alloc, &outline.given)?;
-    let opcode = opcode_again(alloc, described.opcode_start, &described.opcodes)?;
-    let own = own_again(alloc, described.access_start, &described.accesses)?;
-    Ok(earlier_again(ports, earlier_again(attribute, earlier_again(opcode, own))))
+    let outside = outside_again(alloc, outline)?;
+    let inside = inside_again(alloc, described)?;
+    Ok(earlier_again(outside, inside))
 }

@@ -6,13 +6,14 @@ use Rattle.bsdl_device.specs.Device.{Device}
 use Rattle.bsdl_device.specs.declared.Cell.{Cell}
 use Rattle.pin_nets.specs.declared.Drive.TheVariants.{Nothing}
 use Rattle.pin_nets.specs.declared.Pin.{Pin}
-use Rattle.pin_nets.specs.Wired.{Net}
+use Rattle.pin_nets.specs.Wired.{Net, joins}
 use Rattle.board_plan.specs.Planned.{all_pins}
 use Rattle.board_meaning.specs.Cells.{Member, drive}
 use Rattle.board_meaning.specs.Chain as chain
 use Rattle.board_meaning.specs.Chain.{ChipState, members, rise_all, tdi_before}
-use Rattle.board_meaning.specs.Nets.{joins, pin_drive, sees}
-use Rattle.chip_seats.specs.Seats.{AllTold, AreBelow, IsKept, SeatValue, cell_net, chip_state, first_net, may_drive_anew, member_of}
+use Rattle.board_meaning.specs.Nets.{pin_drive, sees}
+use Rattle.board_plan.specs.CellNets.{cell_net, first_net}
+use Rattle.chip_seats.specs.Seats.{AllTold, AreBelow, IsKept, SeatValue, chip_state, may_drive_anew, member_of}
 use Rattle.chip_chain.specs.Sweeping.{EachFrom, Falls, Rises, TakesTrst}
 use Rattle.chip_seats.specs.Wires.{AreSeated, AreWired, IsWired, WiringValue}
 use Rattle.chip_seats.proofs.EdgeLaws.{fall_drives, rise_drives}

@@ -8,11 +8,12 @@ use Rattle.pin_nets.specs.declared.Drive.TheVariants.{Nothing}
 use Rattle.pin_nets.specs.declared.Level.{Level}
 use Rattle.pin_nets.specs.declared.Pin.{Pin}
 use Rattle.pin_nets.specs.Levels.{level_of, pull_drive, reads}
-use Rattle.pin_nets.specs.Wired.{Net}
+use Rattle.pin_nets.specs.Wired.{Net, joins}
 use Rattle.boundary.specs.Sight.{SeesItsPorts}
 use Rattle.board_meaning.specs.Cells.{Member, drive}
-use Rattle.board_meaning.specs.Nets.{joins, level, lone_net, pin_drive, sees}
-use Rattle.chip_seats.specs.Seats.{SeatValue, first_net}
+use Rattle.board_meaning.specs.Nets.{level, lone_net, pin_drive, sees}
+use Rattle.board_plan.specs.CellNets.{first_net}
+use Rattle.chip_seats.specs.Seats.{SeatValue}
 use Rattle.chip_seats.specs.Wires.{WiringValue}
 
 -- ---- the first net is the one that is found

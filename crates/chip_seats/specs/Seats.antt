@@ -1,23 +1,19 @@
 -- A device at its place in the chain, as the code keeps it: its chip round a boundary register, and the net of each
 -- cell.
-use Rattle.std.specs.Prelude.{◌≡◌, ◌<◌, ℕ, suc, Bool, true, false, List, [], ◌∷◌, slice_get, option_and_then, Option}
-use Rattle.std.specs.Prelude.{Some, None, if◌then◌else◌}
+use Rattle.std.specs.Prelude.{◌≡◌, ◌<◌, ℕ, Bool, true, false, List, slice_get, Option, Some}
 use Rattle.std.specs.List.{AllByRecursion}
 use Rattle.jt_tap.specs.declared.Column.TheVariants.{Dr}
 use Rattle.jt_tap.specs.declared.Work.{Work}
 use Rattle.jt_tap.specs.declared.Work.TheVariants.{Resets, Captures, Updates}
 use Rattle.jt_tap.specs.Controller.{work}
-use Rattle.bsdl_device.specs.declared.Cell.{Cell}
 use Rattle.device_instructions.specs.declared.Selected.{Selected}
 use Rattle.device_instructions.specs.declared.Selected.TheVariants.{Boundary}
 use Rattle.scan_registers.specs.Chips.{ChipValue, registers}
 use Rattle.device_instructions.specs.Instruction.{meaning}
-use Rattle.pin_nets.specs.Wired.{Net}
 use Rattle.boundary.specs.Cells.{BoundaryValue, IsWhole}
 use Rattle.boundary.specs.Sight.{SeesItsPorts}
 use Rattle.board_meaning.specs.Cells.{Member}
 use Rattle.board_meaning.specs.Chain.{ChipState}
-use Rattle.board_meaning.specs.Nets.{joins}
 
 pub record SeatValue : Type 0 where
   pub name : List ℕ
@@ -41,15 +37,6 @@ chip_state s = record { member = member_of s; state = s.chip.state; tdo = s.chip
 -- What a boundary's cells were told of their ports is no part of the meaning.
 abbrev pub with_seen : List Bool → SeatValue → SeatValue
 with_seen seen s = record s { chip = record s.chip { boundary = record s.chip.boundary { seen = seen } } }
-
--- the first net, from net n on, that joins a port bit of the device at a place
-abbrev pub first_net : (place port n : ℕ) → List Net → Option ℕ
-first_net place port n [] = None
-first_net place port n (x ∷ xs) = if joins place port x then Some n else first_net place port (suc n) xs
-
--- the net of a cell's port
-abbrev pub cell_net : List Net → ℕ → Cell → Option ℕ
-cell_net nets place c = option_and_then (λ p. first_net place p 0 nets) c.port
 
 -- each net is one of so many
 abbrev pub AreBelow : ℕ → List (Option ℕ) → Type 0

@@ -5,7 +5,8 @@ use Rattle.boundary.specs.Sight.{SeesItsPorts}
 use Rattle.board_plan.specs.Planned.{all_pins}
 use Rattle.board_meaning.specs.Cells.{Member}
 use Rattle.board_meaning.specs.Nets.{pin_drive, sees}
-use Rattle.chip_seats.specs.Seats.{SeatValue, cell_net, member_of}
+use Rattle.board_plan.specs.CellNets.{cell_net}
+use Rattle.chip_seats.specs.Seats.{SeatValue, member_of}
 use Rattle.chip_seats.specs.Wires.{WiringValue}
 
 -- Of these devices this one stands at this place, wired to these nets, and what was put to the nets last is what each

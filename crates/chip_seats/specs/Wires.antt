@@ -9,7 +9,8 @@ use Rattle.pin_nets.specs.Wired.{Net}
 use Rattle.board_plan.specs.PinNumbers.{with_pin_numbers}
 use Rattle.board_plan.specs.Planned.{all_pins}
 use Rattle.board_meaning.specs.Nets.{pin_drive}
-use Rattle.chip_seats.specs.Seats.{SeatValue, cell_net, member_of}
+use Rattle.board_plan.specs.CellNets.{cell_net}
+use Rattle.chip_seats.specs.Seats.{SeatValue, member_of}
 
 -- the nets, and what each of their pins drives, net after net
 pub record WiringValue : Type 0 where

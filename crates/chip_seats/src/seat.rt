@@ -8,12 +8,13 @@ ghost use Rattle.device_instructions.specs.Instruction.{instruction, meaning};
 ghost use Rattle.pin_nets.specs.Levels as levels;
 ghost use Rattle.pin_nets.specs.declared.Drive.TheVariants as driving;
 ghost use Rattle.boundary.specs.Cells as cells;
+ghost use Rattle.board_plan.specs.CellNets.{first_net};
 ghost use Rattle.board_plan.specs.View.{member as planned_member};
 ghost use Rattle.board_meaning.specs.Cells.{Member};
 ghost use Rattle.board_meaning.specs.Cells as meant;
 ghost use Rattle.board_meaning.specs.Chain as chain;
 ghost use Rattle.chip_seats.specs.Building.{seat_of};
-ghost use Rattle.chip_seats.specs.Seats.{AreBelow, IsKept, IsSighted, captures_boundary, chip_state, first_net};
+ghost use Rattle.chip_seats.specs.Seats.{AreBelow, IsKept, IsSighted, captures_boundary, chip_state};
 ghost use Rattle.chip_seats.specs.Seats.{member_of, with_seen};
 ghost use Rattle.chip_seats.specs.Telling.{IsAt, TellsAll, TellsCell, sight};
 

@@ -1,9 +1,9 @@
 -- Worked numbers.
 use Rattle.std.proofs.Common.{◌≡◌, true, false, [], codes, Some, None, refl, lit≤}
-use Rattle.svf_words.specs.Numbers.{numeral_of}
+use Rattle.svf_numbers.specs.Numbers.{numeral_of}
 use Rattle.svf_words.specs.Words.{Word}
-use Rattle.svf_words.specs.Written as written
-use Rattle.svf_words.proofs.WrittenLaws.{reads_what_is_written}
+use Rattle.svf_numbers.specs.Written as written
+use Rattle.svf_numbers.proofs.WrittenLaws.{reads_what_is_written}
 use Rattle.settings_rows.specs.NumberRows.{number, WritesNone, NumberRows}
 
 none : (w : Word) → numeral_of w ≡ None → WritesNone w

@@ -1,8 +1,8 @@
 -- Worked numbers: words, and the numbers that they write.
 use Rattle.std.specs.Prelude.{ℕ, Bool, true, false, List, [], codes}
-use Rattle.svf_words.specs.Numbers.{Numeral}
+use Rattle.svf_numbers.specs.Numbers.{Numeral}
 use Rattle.svf_words.specs.Words.{Word}
-use Rattle.svf_words.specs.Written.{Writes}
+use Rattle.svf_numbers.specs.Written.{Writes}
 
 abbrev pub number : (whole fraction : List ℕ) (negative : Bool) (exponent : List ℕ) → Numeral
 number whole fraction negative exponent =

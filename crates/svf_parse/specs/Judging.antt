@@ -15,7 +15,7 @@ use Rattle.svf_words.specs.Words.{Word}
 use Rattle.svf_words.specs.Faults.{lower_code}
 use Rattle.svf_forms.specs.Fields.{Fields}
 use Rattle.svf_forms.specs.RunTests.{Run}
-use Rattle.svf_words.specs.Numbers.{period_says, time_says, count_says, len_says, len_value}
+use Rattle.svf_numbers.specs.Numbers.{period_says, time_says, count_says, len_says, len_value}
 use Rattle.svf_forms.specs.Forms.{Form, end_dr_form, end_ir_form, frequency_form, scan_form, run_form, states_form}
 use Rattle.svf_forms.specs.Forms.{trst_form, port_form}
 

@@ -3,7 +3,7 @@ ghost use Rattle.std.specs.Prelude.{◌≡◌, Some, None, Ok, IfOk, Option, Lis
 ghost use Rattle.svf_parse.specs.Judging as spec;
 ghost use Rattle.svf_forms.specs.Forms.{scan_form};
 ghost use Rattle.svf_words.specs.Words.{Word};
-ghost use Rattle.svf_words.specs.Numbers as numbers_spec;
+ghost use Rattle.svf_numbers.specs.Numbers as numbers_spec;
 ghost use Rattle.svf_forms.specs.View as view;
 ghost use Rattle.svf_forms.specs.View.{fields, bytes_of};
 ghost use Rattle.svf_parse.specs.View.{Gives, said_of};
@@ -18,9 +18,9 @@ use std::alloc::Global;
 use svf_forms::fields::Fields;
 use svf_forms::forms::Written;
 use svf_forms::run_test::Run;
+use svf_numbers::{count, length, length_value, period, time};
 use svf_words::Code;
 use svf_words::keywords::{Clock, Which};
-use svf_words::numbers::{count, length, length_value, period, time};
 
 /// The statement, or the refusal with the lowest number among its own.
 pub(crate) fn form_says(alloc: Global, form: Written<'_>) -> Result<Statement, Refusal>

@@ -8,7 +8,6 @@ use Rattle.jt_tap.specs.declared.Column.TheVariants.{Dr, Ir}
 use Rattle.jt_tap.specs.declared.State.{State}
 use Rattle.jt_tap.specs.declared.State.TheVariants.{Reset}
 use Rattle.jt_tap.specs.Controller.{is_stable}
-use Rattle.tap_paths.specs.Stated.{IsWalk}
 use Rattle.tap_paths.proofs.StatedPaths.{walks}
 use Rattle.svf_words.specs.declared.fault.Code.{Code}
 use Rattle.svf_words.specs.declared.fault.Code.TheVariants as code
@@ -19,9 +18,8 @@ use Rattle.svf_parse.specs.Judging.{Said}
 use Rattle.svf_parse.specs.Judging as said
 use Rattle.scan_vectors.specs.Fields.{Fields, no_fields, vector_of}
 use Rattle.scan_vectors.proofs.Places.{length-vector}
-use Rattle.tap_paths.specs.Paths.{last_of}
 use Rattle.svf_programs.specs.Steps.{Step, Scan, Go, Path, Run, Trst, Numbered, place_after, line_after}
-use Rattle.svf_programs.specs.Legal.{IsPath, IsFormed, IsLegalAt, AllLegalFrom, IsLegalProgram}
+use Rattle.svf_programs.specs.Legal.{IsFormed, IsLegalAt, AllLegalFrom, IsLegalProgram}
 use Rattle.svf_settings.specs.LookBack.{Settings, settings, step, place, in_force, cycle_count, runs_in, ends_in, trst_word, dr_end, ir_end}
 use Rattle.svf_programs.specs.Sound.{vector_limit}
 use Rattle.svf_settings.specs.Refusals.{refusal_at, refusal, misses_tdi, is_unstable, is_broken, is_stopped, uses_absent, is_empty, is_too_slow, is_too_large, is_held, needs_release, len_of}

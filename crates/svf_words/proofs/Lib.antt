@@ -1,5 +1,1 @@
-pub mod Digits
 pub mod KeywordLaws
-pub mod MeasureLaws
-pub mod NumberLaws
-pub mod WrittenLaws

@@ -7,8 +7,10 @@ use Rattle.std.proofs.Math.ListN.{drop_of_length-le}
 use Rattle.std.proofs.lemmas.Bool.Decides.{nat_tests}
 use Rattle.std.proofs.Math.Seq.{drop-append-add, drop-append_seam}
 use Rattle.std.proofs.lemmas.List.{drop-append-le, drop-drop, drop-replicate, length-drop, length-map, length-replicate, replicate-append-replicate}
-use Rattle.std.proofs.lemmas.Option.{slice_get_read, slice_get_past}
-use Rattle.scan_vectors.specs.Vector.{VectorBit}
+use Rattle.std.proofs.lemmas.Option.{same_Some, slice_get_read, slice_get_past}
+use Rattle.std.specs.List.{range_with_len}
+use Rattle.scan_vectors.specs.Held.{wanted_of}
+use Rattle.scan_vectors.specs.Vector.{VectorBit, tdis}
 use Rattle.scan_vectors.proofs.Places.{get-left, get-right}
 use Rattle.bitbang_table.specs.declared.Cycle.{Cycle}
 use Rattle.tck_cycles.specs.Cycles.{entering, scan_cycles}
@@ -51,6 +53,22 @@ scan_at (v ∷ w ∷ vs) zero r t e f =
 scan_at (v ∷ w ∷ vs) (suc i) r t e f =
     let n : length (v ∷ w ∷ vs) - suc i ≡ length (w ∷ vs) - i = omega arith in
     scan_at (w ∷ vs) i r t e (f ∙ ap (λ m. nat_eq m 1) n)
+
+counts : (care want : Bool) → is_some (wanted_of care want) ≡ care
+counts true want = refl
+counts false want = refl
+
+-- a bit that is not the last
+pub shift_at : (vs : List VectorBit) (i : ℕ) (t care want : Bool) → suc i < length vs → slice_get (tdis vs) i ≡ Some t
+    → option_map {U = Option Bool} (λ b. b.wanted) (slice_get vs i) ≡ Some (wanted_of care want)
+    → slice_get (scan_cycles vs) i ≡ Some (record { tms = false; tdi = t; read = care })
+shift_at [] i t care want h e f = absurd (omega (arith, h))
+shift_at (v ∷ []) i t care want h e f = absurd (omega (arith, h))
+shift_at (v ∷ w ∷ vs) zero t care want h e f =
+    let tdi : v.tdi ≡ t = cc in
+    let read : is_some v.wanted ≡ care = ap is_some (same_Some v.wanted (wanted_of care want) f) ∙ counts care want in
+    λ k. Some (record { tms = false; tdi = tdi k; read = read k })
+shift_at (v ∷ w ∷ vs) (suc i) t care want h e f = shift_at (w ∷ vs) i t care want (omega (arith, h)) e f
 
 -- ---- lists
 
@@ -162,6 +180,17 @@ first_left [] zero = refl
 first_left [] (suc i) = refl
 first_left (x ∷ xs) zero = refl
 first_left (x ∷ xs) (suc i) = first_left xs i
+
+-- what is left begins with what stands at the next places
+pub taken : {A : Type 0} (f : ℕ → A) (xs : List A) (i k n : ℕ) → ((j : ℕ) → k ≤ j → j < k + n → slice_get xs (i + j) ≡ Some (f j))
+    → drop (i + k) xs ≡ map f (range_with_len k n) ++ drop (i + (k + n)) xs
+taken f xs i k zero each = let same : i + k ≡ i + (k + 0) = omega arith in ap (λ m. drop m xs) same
+taken f xs i k (suc n) each =
+    let next : i + k + 1 ≡ i + (k + 1) = omega arith in
+    let end : i + (k + 1 + n) ≡ i + (k + suc n) = omega arith in
+    let later = taken f xs i (k + 1) n (λ j low high. each j (omega (arith, low)) (omega (arith, high))) in
+    left_some xs (i + k) (f k) (each k (omega arith) (omega arith))
+    ∙ ap (λ m. f k ∷ drop m xs) next ∙ ap (λ l. f k ∷ l) later ∙ ap (λ m. f k ∷ map f (range_with_len (k + 1) n) ++ drop m xs) end
 
 -- ---- cycles that are alike
 

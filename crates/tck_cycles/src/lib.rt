@@ -7,8 +7,10 @@
 mod cycle;
 mod middle;
 mod place;
+mod shifts;
 mod source;
 
 pub use bitbang_table::Cycle;
 pub use place::place_after;
+pub use shifts::Shifts;
 pub use source::{Source, Spot};

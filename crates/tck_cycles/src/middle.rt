@@ -1,11 +1,13 @@
 //! The cycles of a step between its paths.
 
-ghost use Rattle.std.specs.Prelude.{◌≡◌, ◌<◌, ◌-◌, ◌==◌, length, map, replicate, slice_get, Some, Bool, count_by};
-ghost use Rattle.std.specs.Prelude.{drop, option_map};
+ghost use Rattle.std.specs.Prelude.{◌≡◌, ◌<◌, ◌≤◌, ◌+◌, ◌-◌, ◌==◌, ℕ, length, map, replicate, slice_get, Some, Bool};
+ghost use Rattle.std.specs.Prelude.{count_by, drop, option_map};
 ghost use Rattle.scan_vectors.specs.Held.{bits};
 ghost use Rattle.tck_cycles.specs.Cycles as spec;
+ghost use Rattle.tck_cycles.specs.Shifts.{shift_cycle};
 
 use crate::cycle::walk;
+use crate::shifts::Shifts;
 use bitbang_table::Cycle;
 use jt_tap::State;
 use scan_vectors::Vector;
@@ -22,8 +24,9 @@ pub(crate) enum Middle<'a> {
 }
 
 impl<'a> Middle<'a> {
-    ghost use Rattle.std.specs.Prelude.{◌≡◌, ◌<◌, length, slice_get, Some, count_by, drop};
+    ghost use Rattle.std.specs.Prelude.{◌≡◌, ◌<◌, ◌≤◌, ◌+◌, ℕ, length, slice_get, Some, count_by, drop};
     ghost use Rattle.tck_cycles.specs.Middles.{middle_cycles, stayed};
+    ghost use Rattle.tck_cycles.specs.Shifts.{shift_cycle};
 
     /// How many cycles there are.
     pub(crate) fn len(&self) -> u64
@@ -54,6 +57,19 @@ impl<'a> Middle<'a> {
         match self {
             Middle::Stay(state, _) => walk(*state),
             _ => Cycle::default(),
+        }
+    }
+
+    /// Cycles that shift, from a place on, none where what stands there shifts nothing or is the last cycle of a scan.
+    pub(crate) fn shifts(&self, at: u64) -> Shifts
+        ensures few { result.len ≤ 64 }
+        ensures inside { 0 < result.len → at + result.len ≤ length (middle_cycles self.now) }
+        ensures cycles { (j : ℕ) → j < result.len
+            → slice_get (middle_cycles self.now) (at + j) ≡ Some (shift_cycle result j) }
+    {
+        match self {
+            Middle::Vector(vector) => vector_shifts(vector, at as usize),
+            _ => Shifts::none(),
         }
     }
 
@@ -99,6 +115,27 @@ fn bit_cycle(vector: &Vector, at: usize) -> Option<Cycle>
         tdi,
         read: wanted.is_some(),
     })
+}
+
+/// Cycles that shift bits of a vector from a place on, up to where a part of it ends, none of which is the last one.
+fn vector_shifts(vector: &Vector, at: usize) -> Shifts
+    ensures few { result.len ≤ 64 }
+    ensures inside { 0 < result.len → at + result.len ≤ length (spec.scan_cycles (bits vector.now)) }
+    ensures cycles { (j : ℕ) → j < result.len
+        → slice_get (spec.scan_cycles (bits vector.now)) (at + j) ≡ Some (shift_cycle result j) }
+{
+    let before_last = vector.len().saturating_sub(1).saturating_sub(at);
+    if before_last == 0 {
+        return Shifts::none();
+    }
+    let tdi = vector.tdi_run(at);
+    let wanted = vector.wanted_run(at);
+    let len = tdi.len.min(wanted.len).min(before_last);
+    Shifts {
+        tdi: tdi.bits,
+        read: wanted.care,
+        len: len as u64,
+    }
 }
 
 /// Whether a bit of a vector is its last one, on which TMS is 1.

@@ -7,6 +7,7 @@ ghost use Rattle.jt_tap.specs.Controller.{is_stable};
 ghost use Rattle.tck_cycles.specs.Cycles as spec;
 
 use crate::middle::{Middle, path_cycle};
+use crate::shifts::Shifts;
 use arrayvec::ArrayVec;
 use bitbang_table::Cycle;
 use jt_tap::State;
@@ -33,8 +34,8 @@ pub struct Source<'a> {
 }
 
 impl<'a> Source<'a> {
-    ghost use Rattle.std.specs.Prelude.{[], ◌≡◌, ◌≤◌, ◌<◌, ◌+◌, ◌^◌, ◌++◌, map, true, length, slice_get, count_by};
-    ghost use Rattle.std.specs.Prelude.{drop, replicate};
+    ghost use Rattle.std.specs.Prelude.{[], ◌≡◌, ◌≤◌, ◌<◌, ◌+◌, ◌^◌, ◌++◌, ℕ, map, true, length, slice_get, Some};
+    ghost use Rattle.std.specs.Prelude.{count_by, drop, replicate};
     ghost use Rattle.arrayvec.specs.ArrayVec.{array_vec_len};
     ghost use Rattle.tck_cycles.specs.Middles.{middle_cycles, stayed};
     ghost use Rattle.jt_tap.specs.Controller.{is_stable};
@@ -42,6 +43,7 @@ impl<'a> Source<'a> {
     ghost use Rattle.svf_programs.specs.Sound.{IsWithin};
     ghost use Rattle.svf_programs.specs.Seen as seen;
     ghost use Rattle.tck_cycles.specs.Cycles.{cycles, entering};
+    ghost use Rattle.tck_cycles.specs.Shifts.{shift_cycle, shift_cycles};
     ghost use Rattle.tck_cycles.specs.Sources.{behind, left, whole};
     ghost use Rattle.std.specs.Iterator.{YieldsFirst};
 
@@ -173,6 +175,34 @@ impl<'a> Source<'a> {
         let times = times.min(most);
         self.at += times;
         (cycle, times)
+    }
+
+    /// The next cycles of a scan, as many as are known at once and at most as many as are asked for. They are behind
+    /// then. There are none where the next cycle shifts nothing, is the last of a scan, or is none.
+    pub fn next_shifts(&mut self, most: u64) -> Shifts
+        ensures gives { left self.old ≡ shift_cycles result ++ left self.new }
+        ensures most { result.len ≤ most }
+        ensures few { result.len ≤ 64 }
+        ensures whole { whole self.new ≡ whole self.old }
+    {
+        let shifts = self.shifts();
+        let len = shifts.len.min(most);
+        self.at += len;
+        Shifts { len, ..shifts }
+    }
+
+    /// The cycles of a scan from where the source stands, as many as are known at once.
+    fn shifts(&self) -> Shifts
+        ensures few { result.len ≤ 64 }
+        ensures fits { 0 < result.len → self.now.at + result.len < 2 ^ 64 }
+        ensures cycles { (j : ℕ) → j < result.len
+            → slice_get (whole self.now) (self.now.at + j) ≡ Some (shift_cycle result j) }
+    {
+        let lead = self.lead.len() as u64;
+        if self.at < lead {
+            return Shifts::none();
+        }
+        self.middle.shifts(self.at - lead)
     }
 
     /// The cycle at which the source stands, and how often it comes from there at once, as far as it is known.

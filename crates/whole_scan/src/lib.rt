@@ -1,5 +1,5 @@
-//! What comes out of a scan, judged without TCK: register by register, and a word of up to 64 bits at a time (Serial
-//! Vector Format, revision E, SDR and SIR).
+//! What comes out of a scan, judged without TCK, a word of up to 64 bits at a time (Serial Vector Format, revision E,
+//! SDR and SIR).
 #![tactic(auto)]
 
 ghost use Rattle.std.specs.Prelude.{◌≡◌, ◌+◌, ◌<◌, ◌≤◌, List, Bool, length, drop, IfOk};
@@ -7,7 +7,7 @@ ghost use Rattle.scan_vectors.specs.Vector.{judge, tdis};
 ghost use Rattle.scan_vectors.specs.Held.{bits};
 ghost use Rattle.whole_scan.specs.Pieces.{Begins, AsJudged};
 
-use jt_bits::{Bits, first_bad_bit};
+use jt_bits::first_bad_bit;
 use scan_vectors::{Part, Vector};
 
 /// Judges a word that comes out as the bits of a vector from `at` on, its lowest first: `Ok` with how many of its `len`
@@ -25,28 +25,6 @@ pub fn judge_word(vector: &Vector, at: usize, word: u64, len: usize) -> Result<u
         Some(bad) if bad < count => Err(vector.part(at + bad)),
         _ => Ok(count),
     }
-}
-
-/// The least bit of a vector, from bit `at` on, whose wanted value differs from the register that comes out there.
-pub fn judge_register(vector: &Vector, at: usize, register: &Bits) -> Option<(Part, usize)>
-    requires { at ≤ length (bits vector.now) }
-    ensures { result ≡ judge (drop at (bits vector.now)) register.now }
-{
-    let end = (vector.len() - at).min(register.len());
-    let mut done = 0;
-    while done < end {
-        let free = vector.unwanted(at + done).min(end - done);
-        if free > 0 {
-            done += free;
-            continue;
-        }
-        let few = (end - done).min(64);
-        match judge_word(vector, at + done, register.word_at(done), few) {
-            Ok(count) => done += count,
-            Err(bad) => return Some(bad),
-        }
-    }
-    None
 }
 
 /// The least bit of a vector, from bit `at` on, whose wanted value differs from the vector's own TDI, which comes out

@@ -1,4 +1,5 @@
 use Rattle.std.proofs.Common.{ℕ, List, ◌++◌, drop, length, replicate, ap, ◌∙◌, sym, arith, length-append}
+use Rattle.std.proofs.lemmas.List.{length-replicate}
 use Rattle.bitbang.specs.Left.{bytes_of, bytes_of_cycle}
 use Rattle.bitbang.proofs.BufferFills.{most-bytes, once-more, put-more}
 use Rattle.bitbang.proofs.putting.put_cycles.Goals as goal
@@ -6,7 +7,8 @@ use Rattle.bitbang.proofs.putting.put_cycles.Goals as goal
 pub put_cycle-count-requires : goal.put_cycle-count-requires
 put_cycle-count-requires c =
     let i = c.loop-i.invariant in
-    omega (arith, i.count, c.loop-i.auto.buffer, most-bytes c.loop-i._i c.args.cycle)
+    let cycles = replicate c.loop-i._i c.args.cycle in
+    omega (arith, i.count, c.loop-i.auto.buffer, most-bytes cycles, length-replicate c.loop-i._i c.args.cycle)
 
 pub loop-i-preserved : goal.loop-i-preserved
 loop-i-preserved c =

@@ -1,6 +1,6 @@
 use Rattle.std.proofs.Common.{◌≡◌, map, take}
 use Rattle.bsdl_instructions.specs.View.{opcode_row}
-use Rattle.bsdl_twice.specs.ResetOpcode.{opcode}
+use Rattle.bsdl_opcodes.specs.ResetOpcode.{opcode}
 use Rattle.bsdl_opcodes.proofs.patterns.opcodes_of.Given as goal
 
 abbrev pub invariant-loop-row : goal.invariant-loop-row

@@ -5,8 +5,9 @@ use Rattle.bsdl_device.specs.Device.{Device}
 use Rattle.board_plan.specs.Planned.{HasCore}
 use Rattle.board_plan.specs.View.{member as planned_member, net as planned_net}
 use Rattle.board_plan.specs.Planned as planned
-use Rattle.chip_seats.specs.Building.{PortsFit}
-use Rattle.chip_seats.proofs.BuildLaws.{all_at, planned_at, ports_fit, seat_push, seats_end}
+use Rattle.board_plan.specs.CellNets.{PortsFit}
+use Rattle.board_plan.proofs.CellLaws.{ports_fit}
+use Rattle.chip_seats.proofs.BuildLaws.{all_at, planned_at, seat_push, seats_end}
 use Rattle.chip_seats.proofs.build.all_seats.Goals as goal
 
 pub cell_nets-requires : goal.cell_nets-requires

@@ -1,0 +1,27 @@
+use Rattle.std.proofs.Common.{◌∙◌, [], sym, ap, subst, drop, option_map, Bor, List, ℕ, ◌+◌}
+use Rattle.std.specs.Option.{option_or}
+use Rattle.std.proofs.Math.ListN.{get_or}
+use Rattle.board_words.specs.View.{texts_of}
+use Rattle.board_library.specs.Files.{described, missing_in, refused_in}
+use Rattle.board_library.specs.View.{files_of, IsFirstRefusal}
+use Rattle.board_library.proofs.LibraryLaws.{described_there, missing_there, refused_there, texts_from, devices_more}
+use Rattle.board_library.proofs.library.read_all.Goals as goal
+
+pub loop-name-preserved : goal.loop-name-preserved
+loop-name-preserved g c =
+    let says = g.R.Describe.says in
+    let refuses = g.R.Describe.refuses in
+    let files = files_of c.args.files.now in
+    let none : Bor (List ℕ) = record { ref_ptr = (0, 0); now = [] } in
+    let names : List (Bor (List ℕ)) = c.args.names.now in
+    let k = c.loop-name.name-index in
+    let name : Bor (List ℕ) = get_or names k none in
+    let more = texts_of (drop (k + 1) names) in
+    let read = c.in_ok-reading.ensures in
+    let next = texts_from names k none c.loop-name-test.true in
+    let before = c.loop-name.library in
+    record {
+      devices = rw c.in_ok-note.ensures.devices (devices_more (described says files) before.devices.items _ name.now _ more _ next (described_there says refuses files name.now c.in_ok-reading.reading read) c.loop-name.invariant.devices);
+      missing = rw c.in_ok-note.ensures.missing (missing_there says refuses files before.missing name c.in_ok-reading.reading more read ∙ ap (λ r. option_or (option_map (λ n. n.now) before.missing) (missing_in files r)) (sym next) ∙ c.loop-name.invariant.missing);
+      refused = λ whole first. rw c.in_ok-note.ensures.refused (refused_there says refuses files before.refused name.now c.in_ok-reading.reading more whole read (subst (λ r. IsFirstRefusal refuses before.refused (refused_in says files r) whole) next (c.loop-name.invariant.refused whole first)));
+    }

@@ -1,7 +1,0 @@
-use Rattle.std.proofs.Common.{map, sym, ◌∙◌}
-use Rattle.bsdl_instructions.specs.Values.{bit}
-use Rattle.bsdl_twice.proofs.MatchLaws.{written_match}
-use Rattle.bsdl_twice.proofs.reset_opcode.is_match.Goals as goal
-
-pub returns : goal.returns
-returns c = c.digits_match.ensures ∙ sym (written_match (map bit c.args.pattern.now) (map bit c.args.latch.now))

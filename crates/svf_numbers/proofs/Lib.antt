@@ -1,0 +1,4 @@
+pub mod Digits
+pub mod MeasureLaws
+pub mod NumberLaws
+pub mod WrittenLaws
