@@ -1,1 +1,2 @@
 pub mod UserLaws
+pub mod DataLaws

@@ -1,3 +1,4 @@
 pub mod Registers
 pub mod Plain
 pub mod Users
+pub mod Data

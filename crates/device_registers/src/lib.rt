@@ -2,10 +2,12 @@
 //! it, and the user registers.
 #![tactic(auto)]
 
+mod data;
 mod plain;
 mod register;
 pub mod users;
 
+pub use data::DataRegisters;
 pub use plain::Plain;
 pub use register::Register;
 pub use users::UserRegister;

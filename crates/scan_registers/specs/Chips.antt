@@ -1,11 +1,12 @@
 -- A chip round any boundary register, as its parts and as one device.
-use Rattle.std.specs.Prelude.{◌≡◌, Bool, false, List, [], ◌∷◌, map, Option, None, if◌then◌else◌}
+use Rattle.std.specs.Prelude.{◌≡◌, Bool, false, List, [], ◌∷◌, length, map, Option, None, if◌then◌else◌}
 use Rattle.jt_tap.specs.declared.Column.{Column}
 use Rattle.jt_tap.specs.declared.State.{State}
 use Rattle.jt_tap.specs.declared.State.TheVariants.{Reset}
 use Rattle.bsdl_device.specs.Device.{Device}
 use Rattle.device_instructions.specs.declared.Mode.{Mode}
 use Rattle.device_registers.specs.declared.users.UserRegister.{UserRegister}
+use Rattle.device_registers.specs.Data.{Lengths}
 use Rattle.device_registers.specs.Registers.{Registers, Surroundings, put, zeros, new_user}
 use Rattle.scan_registers.specs.Edges.{OneChip}
 use Rattle.device_instructions.specs.Fitting.{has_code}
@@ -74,3 +75,11 @@ pub record IsPut {B : Type 0} (stage update : B → List Bool) (with_parts : B �
   pub chip : one_chip stage update new
       ≡ with_registers (put old.device column bits (registers stage update old)) (one_chip stage update old)
   pub boundary : new.boundary ≡ with_parts old.boundary (stage new.boundary) (update new.boundary)
+
+-- how many bits the data registers of a device have
+abbrev pub lengths_in : Device → Lengths
+lengths_in d = record {
+  identification = if has_code d then 32 else 0;
+  boundary = length d.cells;
+  users = map (λ n. (n, n)) d.users;
+}

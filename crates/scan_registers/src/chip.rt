@@ -21,8 +21,7 @@ use device_instructions::{
     Decoded, Mode, Selected, SharedDevice, code_length, decode, fixed_bits, has_code,
     instruction_of, reset_latch,
 };
-use device_registers::Register;
-use device_registers::users::{self, UserRegister, new_users};
+use device_registers::{DataRegisters, Register};
 use jt_bits::Bits;
 use jt_tap::{Column, State, Work};
 use std::alloc::{AllocError, Global};
@@ -42,18 +41,15 @@ pub struct Chip<B: Register> {
     trst: bool,
     latch: Bits,
     stage: Bits,
-    bypass: bool,
-    identification: Bits,
-    boundary: B,
-    users: Vec<UserRegister>,
+    registers: DataRegisters<B>,
 }
 
 impl<B: Register> Model for Chip<B> {
-    ghost use Rattle.std.specs.Prelude.{◌≡◌, ◌<◌, true, length, if◌then◌else◌};
-    ghost use Rattle.scan_registers.specs.Chips.{ChipValue};
-    ghost use Rattle.device_instructions.specs.Fitting.{IsFormed, Fits, has_code, meaning_by};
+    ghost use Rattle.std.specs.Prelude.{◌≡◌, length};
+    ghost use Rattle.scan_registers.specs.Chips.{ChipValue, lengths_in};
+    ghost use Rattle.device_instructions.specs.Fitting.{IsFormed, Fits, meaning_by};
     ghost use Rattle.device_instructions.specs.Instruction as named;
-    ghost use Rattle.device_registers.specs.Users.{UsersFit};
+    ghost use Rattle.device_registers.specs.Data.{lengths_of};
 
     ghost Value = { ChipValue B };
 
@@ -64,10 +60,10 @@ impl<B: Register> Model for Chip<B> {
       trst = c.trst;
       latch = c.latch;
       stage = c.stage;
-      bypass = c.bypass;
-      identification = c.identification;
-      boundary = c.boundary;
-      users = c.users.items;
+      bypass = c.registers.bypass;
+      identification = c.registers.identification;
+      boundary = c.registers.boundary;
+      users = c.registers.users.items;
     } };
 
     ghost invariant = { λ c. record {
@@ -79,9 +75,7 @@ impl<B: Register> Model for Chip<B> {
       fits : Fits c.device c.decoded;
       latch : length c.latch ≡ c.device.instruction_length;
       stage : length c.stage ≡ c.device.instruction_length;
-      identification : length c.identification ≡ (if has_code c.device then 32 else 0);
-      boundary : 0 < length (B.stage c.boundary);
-      users : UsersFit c.device.users c.users.items;
+      lengths : lengths_of B.stage c.registers ≡ lengths_in c.device;
     } };
 }
 
@@ -98,8 +92,12 @@ impl<B: Register> Chip<B> {
         let reset_latch = reset_latch(alloc, description)?;
         let latch = reset_latch.try_clone(alloc)?;
         let stage = Bits::zeros(alloc, length)?;
-        let identification = Bits::zeros(alloc, code_length(description))?;
-        let users = new_users(alloc, description.users())?;
+        let registers = DataRegisters::new(
+            alloc,
+            code_length(description),
+            description.users(),
+            boundary,
+        )?;
         let decoded = decode(description, &latch);
         let device = device.share()?;
         Ok(Chip {
@@ -112,10 +110,7 @@ impl<B: Register> Chip<B> {
             trst: false,
             latch,
             stage,
-            bypass: false,
-            identification,
-            boundary,
-            users,
+            registers,
         })
     }
 
@@ -173,7 +168,7 @@ impl<B: Register> Chip<B> {
         requires { cell < length (B.stage self.old.boundary) }
         ensures { self.new ≡ record self.old { boundary = B.saw self.old.boundary cell bit } }
     {
-        self.boundary.see(cell, bit);
+        self.registers.boundary.see(cell, bit);
     }
 
     /// The description.
@@ -229,14 +224,14 @@ impl<B: Register> Chip<B> {
     pub fn bypass(&self) -> bool
         ensures { result ≡ self.now.bypass }
     {
-        self.bypass
+        self.registers.bypass
     }
 
     /// The boundary register, cell 0 nearest TDO (clause 11).
     pub fn boundary(&self) -> &B
         ensures { result.now ≡ self.now.boundary }
     {
-        &self.boundary
+        &self.registers.boundary
     }
 
     /// The stage of the identification register, bit 0 nearest TDO, where the device has one (clause 12).
@@ -245,7 +240,7 @@ impl<B: Register> Chip<B> {
             ≡ (if is_coded self.now.device then Some self.now.identification else None) }
     {
         if has_code(self.device.get()) {
-            Some(&self.identification)
+            Some(&self.registers.identification)
         } else {
             None
         }
@@ -257,7 +252,7 @@ impl<B: Register> Chip<B> {
         ensures { option_map {U = List Bool × List Bool} (λ p. (p.0.now, p.1.now)) result
             ≡ option_map (λ u. (u.stage, u.latch)) (slice_get self.now.users k) }
     {
-        match self.users.get(k) {
+        match self.registers.users.get(k) {
             Some(user) => Some((&user.stage, &user.latch)),
             None => None,
         }
@@ -280,21 +275,11 @@ impl<B: Register> Chip<B> {
     {
         match column {
             Column::Ir => self.stage.copy_from(self.device.get().capture()),
-            Column::Dr => match self.decoded.selected {
-                Selected::Bypass => self.bypass = false,
-                Selected::Identification => {
-                    copy_fixed(
-                        &mut self.identification,
-                        fixed_bits(self.device.get(), self.decoded.fixed),
-                    )
-                }
-                Selected::Boundary => self.boundary.capture(self.decoded.mode),
-                Selected::User(k) => users::capture(
-                    &mut self.users,
-                    k,
-                    fixed_bits(self.device.get(), self.decoded.fixed),
-                ),
-            },
+            Column::Dr => self.registers.capture(
+                self.decoded.selected,
+                self.decoded.mode,
+                fixed_bits(self.device.get(), self.decoded.fixed),
+            ),
         }
     }
 
@@ -311,16 +296,7 @@ impl<B: Register> Chip<B> {
             Column::Ir => {
                 self.stage.shift_in(tdi);
             }
-            Column::Dr => match self.decoded.selected {
-                Selected::Bypass => self.bypass = tdi,
-                Selected::Identification => {
-                    self.identification.shift_in(tdi);
-                }
-                Selected::Boundary => {
-                    self.boundary.shift_in(tdi);
-                }
-                Selected::User(k) => users::shift(&mut self.users, k, tdi),
-            },
+            Column::Dr => self.registers.shift_in(self.decoded.selected, tdi),
         }
     }
 
@@ -338,11 +314,7 @@ impl<B: Register> Chip<B> {
                 self.latch.copy_from(&self.stage);
                 self.decoded = decode(self.device.get(), &self.latch);
             }
-            Column::Dr => match self.decoded.selected {
-                Selected::Boundary => self.boundary.update(),
-                Selected::User(k) => users::update(&mut self.users, k),
-                _ => {}
-            },
+            Column::Dr => self.registers.update(self.decoded.selected),
         }
     }
 
@@ -356,7 +328,7 @@ impl<B: Register> Chip<B> {
     {
         self.latch.copy_from(&self.reset_latch);
         self.decoded = self.reset_decoded;
-        self.boundary.reset();
+        self.registers.boundary.reset();
     }
 
     /// The controller stands in this state, and TDO is not driven, as after a falling edge in a state that does not
@@ -374,12 +346,7 @@ impl<B: Register> Chip<B> {
     {
         match column {
             Column::Ir => self.stage.len(),
-            Column::Dr => match self.decoded.selected {
-                Selected::Bypass => 1,
-                Selected::Identification => self.identification.len(),
-                Selected::Boundary => self.boundary.len(),
-                Selected::User(k) => users::len(&self.users, k),
-            },
+            Column::Dr => self.registers.len(self.decoded.selected),
         }
     }
 
@@ -390,12 +357,7 @@ impl<B: Register> Chip<B> {
     {
         match column {
             Column::Ir => self.stage.word_at(i),
-            Column::Dr => match self.decoded.selected {
-                Selected::Bypass => bypass_word(self.bypass, i),
-                Selected::Identification => self.identification.word_at(i),
-                Selected::Boundary => self.boundary.word_at(i),
-                Selected::User(k) => users::word_at(&self.users, k, i),
-            },
+            Column::Dr => self.registers.word_at(self.decoded.selected, i),
         }
     }
 
@@ -418,12 +380,7 @@ impl<B: Register> Chip<B> {
     {
         match column {
             Column::Ir => self.stage.put_run(at, bits, n),
-            Column::Dr => match self.decoded.selected {
-                Selected::Bypass => put_bypass(&mut self.bypass, at, bits, n),
-                Selected::Identification => self.identification.put_run(at, bits, n),
-                Selected::Boundary => self.boundary.put_run(at, bits, n),
-                Selected::User(k) => users::put_run(&mut self.users, k, at, bits, n),
-            },
+            Column::Dr => self.registers.put_run(self.decoded.selected, at, bits, n),
         }
     }
 
@@ -433,12 +390,7 @@ impl<B: Register> Chip<B> {
     {
         match self.state.work() {
             Work::Shifts(Column::Ir) => Some(self.stage.get(0)),
-            Work::Shifts(Column::Dr) => match self.decoded.selected {
-                Selected::Bypass => Some(self.bypass),
-                Selected::Identification => Some(self.identification.get(0)),
-                Selected::Boundary => Some(self.boundary.get(0)),
-                Selected::User(k) => users::first_bit(&self.users, k),
-            },
+            Work::Shifts(Column::Dr) => Some(self.registers.first_bit(self.decoded.selected)),
             _ => None,
         }
     }
@@ -469,31 +421,4 @@ impl<B: Register> Link for Chip<B> {
 
     ghost put_twice = { λ a b c column s t h k. put_both B.stage B.update_part B.with_parts B.parts_twice a b c column
         s t h k };
-}
-
-/// A register takes the bits, if there are some.
-fn copy_fixed(register: &mut Bits, bits: Option<&Bits>)
-    requires { (b : List Bool) → option_map {U = List Bool} (λ x. x.now) bits ≡ Some b
-        → length b ≡ length register.old }
-    ensures { register.new ≡ unwrap_or (option_map {U = List Bool} (λ x. x.now) bits.entry) register.old }
-{
-    if let Some(other) = bits {
-        register.copy_from(other);
-    }
-}
-
-/// The one bit of a bypass register from place `i` on.
-fn bypass_word(bypass: bool, i: usize) -> u64
-    ensures { (j : ℕ) → j < 64 → has_bit result j ≡ bit_of (bypass ∷ []) (i + j) }
-{
-    if i == 0 && bypass { 1 } else { 0 }
-}
-
-/// Makes the one bit of a bypass register the lowest of `bits`.
-fn put_bypass(bypass: &mut bool, at: usize, bits: u64, n: usize)
-    requires some { 0 < n }
-    requires inside { at + n ≤ 1 }
-    ensures { RunSet (bypass.old ∷ []) (bypass.new ∷ []) at bits n }
-{
-    *bypass = bits % 2 == 1;
 }

@@ -1,5 +1,5 @@
 use Rattle.scan_registers.proofs.ChipLaws.{selected_there}
 use Rattle.scan_registers.proofs.chip.Chip.chosen_len.Goals as goal
 
-pub len-requires-in-User : goal.len-requires-in-User
-len-requires-in-User g c = selected_there c.self.inside.device c.self.inside.decoded c.in-User.k c.self.inside.users.items c.deref.result.now c.self.invariant.fits c.in-User.is c.self.invariant.users c.deref.ensures.value
+pub len-requires-in-Dr : goal.len-requires-in-Dr
+len-requires-in-Dr g c = selected_there c.self.inside.device c.self.inside.decoded _ c.self.invariant.formed c.self.invariant.fits c.self.invariant.lengths

@@ -1,9 +1,9 @@
-use Rattle.std.proofs.Common.{◌≡◌, false, length, sym, ap, subst, ◌∙◌, arith, if◌then◌else◌}
+use Rattle.std.proofs.Common.{◌≡◌, false, length, sym, ap, subst, ◌∙◌}
 use Rattle.std.proofs.lemmas.List.{length-replicate}
 use Rattle.bsdl_device.specs.Device.{Device}
-use Rattle.device_instructions.specs.Fitting.{IsFormed, Fits, has_code}
+use Rattle.device_instructions.specs.Fitting.{IsFormed, Fits}
 use Rattle.device_instructions.specs.Instruction.{reset_latch}
-use Rattle.scan_registers.proofs.ChipLaws.{started, started_at, users_start}
+use Rattle.scan_registers.proofs.ChipLaws.{started, started_at, lengths_at_start}
 use Rattle.scan_registers.proofs.chip.Chip.new.Goals as goal
 
 pub invariant_of-result : goal.invariant_of-result
@@ -16,7 +16,7 @@ invariant_of-result g c =
     let latch : c.in_ok-latch.latch ≡ reset_latch d = c.in_ok-latch.ensures ∙ reset in
     let many : c.instruction_length-length.result ≡ d.instruction_length = c.instruction_length-length.ensures ∙ ap (λ (x : Device). x.instruction_length) same in
     let fits : Fits d c.decode-decoded.result = subst (λ (x : Device). Fits x c.decode-decoded.result) same c.decode-decoded.ensures.fits in
-    let cells = ap (λ (x : Device). length x.cells) c.in_ok-device.ensures in
+    let parts = c.in_ok-registers.ensures in
     record {
       formed = formed;
       reset_latch = reset;
@@ -26,7 +26,6 @@ invariant_of-result g c =
       fits = fits;
       latch = ap length latch ∙ formed.reset;
       stage = ap length c.in_ok-stage.ensures ∙ length-replicate c.instruction_length-length.result false ∙ many;
-      identification = ap length c.in_ok-identification.ensures ∙ length-replicate c.code_length.result false ∙ c.code_length.ensures ∙ ap (λ (x : Device). if has_code x then 32 else 0) same;
-      boundary = omega (arith, c.requires.cells, c.requires.formed.cells);
-      users = users_start d.users c.users.result.now c.in_ok-users.users.items (c.users.ensures ∙ ap (λ (x : Device). x.users) same) c.in_ok-users.ensures;
+      lengths = lengths_at_start g.B.Register.stage d described c.in_ok-registers.registers c.code_length.result c.args.boundary c.users.result.now same c.code_length.ensures c.users.ensures
+          (c.requires.cells ∙ ap (λ (x : Device). length x.cells) (sym c.in_ok-device.ensures)) parts.1 parts.2 parts.3;
     }

@@ -1,6 +1,6 @@
-use Rattle.scan_registers.proofs.ChipLaws.{bypass_one, bypass_zero, bypass_past}
-use Rattle.scan_registers.proofs.chip.bypass_word.Goals.{else-i-eq0-via-then-i-eq0+else-bypass, else-i-eq0-via-else-i-eq0}
-use Rattle.scan_registers.proofs.chip.bypass_word.Goals as goal
+use Rattle.device_registers.proofs.DataLaws.{bypass_one, bypass_zero, bypass_past}
+use Rattle.device_registers.proofs.data.bypass_word.Goals.{else-i-eq0-via-then-i-eq0+else-bypass, else-i-eq0-via-else-i-eq0}
+use Rattle.device_registers.proofs.data.bypass_word.Goals as goal
 
 pub returns-then-bypass : goal.returns-then-bypass
 returns-then-bypass c = λ j h. bypass_one c.args.bypass c.args.i j c.if-i-eq0.true c.if-bypass.true
