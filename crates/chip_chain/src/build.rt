@@ -7,7 +7,8 @@ ghost use Rattle.chip_chain.specs.Chains.{chain_of};
 
 use crate::chain::Chain;
 use board_plan::Plan;
-use chip_seats::{Wiring, all_seats};
+use board_wiring::Wiring;
+use chip_seats::{all_seats, refresh};
 use std::alloc::{AllocError, Global};
 
 impl Chain {
@@ -20,7 +21,7 @@ impl Chain {
         let Plan { devices, nets } = plan;
         let seats = all_seats(alloc, &devices, &nets)?;
         let mut wiring = Wiring::new(alloc, nets)?;
-        wiring.refresh(&seats);
+        refresh(&mut wiring, &seats);
         Ok(Chain::of(seats, wiring))
     }
 }

@@ -13,7 +13,8 @@ use Rattle.board_plan.specs.declared.plan.PlannedDevice.{PlannedDevice}
 use Rattle.board_meaning.specs.Nets.{pin_drive}
 use Rattle.chip_seats.specs.Building.{seat_of, seats_of}
 use Rattle.chip_seats.specs.Seats.{AllTold, SeatValue, member_of}
-use Rattle.chip_seats.specs.Wires.{AreSeated, AreWired, IsWired, WiringValue}
+use Rattle.board_wiring.specs.Wires.{WiringValue}
+use Rattle.chip_seats.specs.Wires.{AreSeated, AreWired, IsWired}
 
 -- ---- pins are port bits
 

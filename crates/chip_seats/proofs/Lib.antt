@@ -1,5 +1,5 @@
 pub mod EdgeLaws
 pub mod DriveLaws
-pub mod LevelLaws
+pub mod PutLaws
 pub mod TellLaws
 pub mod BuildLaws

@@ -14,7 +14,7 @@ use Rattle.board_meaning.specs.Cells.{Member, drive}
 use Rattle.board_meaning.specs.Nets.{level, lone_net, pin_drive, sees}
 use Rattle.board_plan.specs.CellNets.{first_net}
 use Rattle.chip_seats.specs.Seats.{SeatValue}
-use Rattle.chip_seats.specs.Wires.{WiringValue}
+use Rattle.board_wiring.specs.Wires.{WiringValue}
 
 -- ---- the first net is the one that is found
 

@@ -7,7 +7,7 @@ use Rattle.board_meaning.specs.Cells.{Member}
 use Rattle.board_meaning.specs.Nets.{pin_drive, sees}
 use Rattle.board_plan.specs.CellNets.{cell_net}
 use Rattle.chip_seats.specs.Seats.{SeatValue, member_of}
-use Rattle.chip_seats.specs.Wires.{WiringValue}
+use Rattle.board_wiring.specs.Wires.{WiringValue}
 
 -- Of these devices this one stands at this place, wired to these nets, and what was put to the nets last is what each
 -- pin drives.

@@ -4,8 +4,8 @@
 
 mod build;
 mod seat;
-mod wiring;
+mod wires;
 
 pub use build::all_seats;
 pub use seat::Seat;
-pub use wiring::Wiring;
+pub use wires::refresh;

@@ -20,8 +20,8 @@ ghost use Rattle.chip_seats.specs.Telling.{IsAt, TellsAll, TellsCell, sight};
 
 mod at_rest;
 
-use crate::wiring::Wiring;
 use board_plan::PlannedDevice;
+use board_wiring::Wiring;
 use boundary::{Boundary, Drive, drivers};
 use bsdl_device::Device;
 use jt_bits::Bits;

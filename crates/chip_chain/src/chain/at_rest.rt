@@ -14,7 +14,8 @@ ghost use Rattle.scan_vectors.specs.Held.{bits};
 ghost use Rattle.scan_vectors.specs.Vector.{judge, tdis};
 
 use super::Chain;
-use chip_seats::{Seat, Wiring};
+use board_wiring::Wiring;
+use chip_seats::{Seat, refresh};
 use jt_tap::{Column, State};
 use scan_vectors::{Part, Vector};
 use whole_chain::{judge_chain, shift_chain};
@@ -99,7 +100,7 @@ fn update_wired(seats: &mut [Seat], wiring: &mut Wiring, column: Column)
     ensures nets { wiring.new.nets ≡ wiring.old.nets }
 {
     update_all(seats, column);
-    wiring.refresh(seats);
+    refresh(wiring, seats);
 }
 
 /// A reset of all devices, and what they drive from then on is put to the nets.
@@ -110,7 +111,7 @@ fn reset_wired(seats: &mut [Seat], wiring: &mut Wiring)
     ensures nets { wiring.new.nets ≡ wiring.old.nets }
 {
     reset_all(seats);
-    wiring.refresh(seats);
+    refresh(wiring, seats);
 }
 
 /// TRST is asserted to all devices at rest in a state, and what they drive from then on is put to the nets.
@@ -121,7 +122,7 @@ fn assert_trst_wired(seats: &mut [Seat], wiring: &mut Wiring, rests: State)
     ensures nets { wiring.new.nets ≡ wiring.old.nets }
 {
     assert_trst_all(seats, rests);
-    wiring.refresh(seats);
+    refresh(wiring, seats);
 }
 
 /// TRST is asserted to all devices at rest in a state.

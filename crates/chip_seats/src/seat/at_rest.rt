@@ -12,7 +12,7 @@ ghost use Rattle.jt_tap.specs.declared.Work.TheVariants.{Captures};
 ghost use Rattle.device_instructions.specs.Instruction.{meaning};
 
 use super::Seat;
-use crate::wiring::Wiring;
+use board_wiring::Wiring;
 use jt_tap::{Column, State};
 use scan_registers::{Link, Selected};
 

@@ -6,7 +6,7 @@ use Rattle.board_plan.specs.Planned.{all_pins}
 use Rattle.board_plan.specs.View.{net as planned_net}
 use Rattle.board_plan.specs.PinNumbers.{with_pin_numbers}
 use Rattle.board_plan.proofs.NumberLaws.{numbered_below, numbered_once}
-use Rattle.chip_seats.proofs.wiring.Wiring.new.Goals as goal
+use Rattle.board_wiring.proofs.wiring.Wiring.new.Goals as goal
 
 pub build-requires-clause-once : goal.build-requires-clause-once
 build-requires-clause-once c =

@@ -1,6 +1,6 @@
 //! The nets of a board, with what was last put to them.
 
-ghost use Rattle.std.specs.Prelude.{◌≡◌, ◌<◌, ◌∷◌, map, length, slice_get, option_map, replicate, Some, IfOk};
+ghost use Rattle.std.specs.Prelude.{◌≡◌, ◌<◌, ◌∷◌, map, length, slice_get, slice_set, option_map, replicate, Some, IfOk};
 ghost use Rattle.pin_nets.specs.declared.Drive.{Drive as TheDrive};
 ghost use Rattle.pin_nets.specs.declared.Drive.TheVariants as driving;
 ghost use Rattle.pin_nets.specs.declared.Pin.{Pin as ThePin};
@@ -8,13 +8,10 @@ ghost use Rattle.pin_nets.specs.Levels as levels;
 ghost use Rattle.board_plan.specs.PinNumbers.{with_pin_numbers};
 ghost use Rattle.board_plan.specs.Planned.{all_pins};
 ghost use Rattle.board_plan.specs.View.{net as planned_net};
-ghost use Rattle.board_meaning.specs.Nets.{pin_drive};
-ghost use Rattle.chip_seats.specs.Seats.{member_of};
-ghost use Rattle.chip_seats.specs.Wires.{AreSeated, WiringValue};
+ghost use Rattle.board_wiring.specs.Wires.{WiringValue};
 
-use crate::seat::Seat;
 use board_plan::{PlannedNet, number_nets};
-use pin_nets::{Level, Nets, Pin};
+use pin_nets::{Drive, Level, Nets, Pin};
 use std::alloc::{AllocError, Global};
 use std::marker::Model;
 
@@ -31,7 +28,7 @@ impl Model for Wiring {
     ghost use Rattle.std.specs.Prelude.{◌≡◌, map, length};
     ghost use Rattle.board_plan.specs.Planned.{all_pins};
     ghost use Rattle.board_plan.specs.View.{net as planned_net};
-    ghost use Rattle.chip_seats.specs.Wires.{WiringValue, all_nets};
+    ghost use Rattle.board_wiring.specs.Wires.{WiringValue, all_nets};
 
     ghost Value = { WiringValue };
 
@@ -85,26 +82,27 @@ impl Wiring {
         self.levels.level(net)
     }
 
-    /// What each pin drives is put to its net.
-    pub fn refresh(&mut self, seats: &[Seat])
-        requires { AreSeated (length seats.now) (all_pins self.old.nets) }
-        ensures { self.new ≡ record self.old {
-          drives = map (pin_drive (map member_of seats.now))
-              (all_pins self.old.nets);
-        } }
+    /// How many pins the nets have.
+    pub fn pin_count(&self) -> usize
+        ensures count { result ≡ length (all_pins self.now.nets) }
+        ensures drives { result ≡ length self.now.drives }
     {
-        put_all(&mut self.levels, &self.pins, seats);
+        self.pins.len()
     }
-}
 
-/// Puts what these pins drive, by their order.
-fn put_all(levels: &mut Nets, pins: &[Pin], seats: &[Seat])
-    requires long { length levels.old.drives ≡ length pins.now }
-    requires seated { AreSeated (length seats.now) pins.now }
-    ensures { levels.new ≡ record levels.old { drives = map (pin_drive (map member_of seats.now)) pins.now } }
-{
-    for k in 0..pins.len() {
-        let pin = pins[k];
-        levels.put(k, seats[pin.device].drive(pin.port));
+    /// Pin `k` of the nets, one net after another.
+    pub fn pin(&self, k: usize) -> Pin
+        requires { k < length (all_pins self.now.nets) }
+        ensures { slice_get (all_pins self.now.nets) k ≡ Some result }
+    {
+        self.pins[k]
+    }
+
+    /// Pin `k` drives this from now on.
+    pub fn put(&mut self, k: usize, drive: Drive)
+        requires { k < length (all_pins self.old.nets) }
+        ensures { self.new ≡ record self.old { drives = slice_set self.old.drives k drive } }
+    {
+        self.levels.put(k, drive);
     }
 }

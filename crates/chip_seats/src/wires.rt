@@ -1,0 +1,24 @@
+//! What the pins of a board drive is put to its nets.
+
+ghost use Rattle.std.specs.Prelude.{◌≡◌, map, length};
+ghost use Rattle.board_plan.specs.Planned.{all_pins};
+ghost use Rattle.board_meaning.specs.Nets.{pin_drive};
+ghost use Rattle.chip_seats.specs.Seats.{member_of};
+ghost use Rattle.chip_seats.specs.Wires.{AreSeated};
+
+use crate::seat::Seat;
+use board_wiring::Wiring;
+
+/// What each pin drives is put to its net.
+pub fn refresh(wiring: &mut Wiring, seats: &[Seat])
+    requires { AreSeated (length seats.now) (all_pins wiring.old.nets) }
+    ensures { wiring.new ≡ record wiring.old {
+      drives = map (pin_drive (map member_of seats.now))
+          (all_pins wiring.old.nets);
+    } }
+{
+    for k in 0..wiring.pin_count() {
+        let pin = wiring.pin(k);
+        wiring.put(k, seats[pin.device].drive(pin.port));
+    }
+}
