@@ -1,7 +1,8 @@
 -- How many bits ports have.
-use Rattle.std.proofs.Common.{◌≡◌, ℕ, ◌+◌, ◌≤◌, ◌<◌, min, Bool, true, false, ◌&&◌, List, [], ◌∷◌, map, length, drop, get_or, refl, sym, ap, ◌∙◌, arith}
+use Rattle.std.proofs.Common.{◌≡◌, ◌≢◌, ℕ, ◌+◌, ◌*◌, ◌≤◌, ◌<◌, min, Bool, true, false, ◌&&◌, List, [], ◌∷◌, map, length, drop, get_or, refl, sym, ap, ◌∙◌, arith}
 use Rattle.std.specs.Prelude.{Option, Some, None, option_map, nat_le}
 use Rattle.std.specs.List.{list_all, sum_by}
+use Rattle.std.proofs.Math.Nat.{add_comm, mul-zero, mul-suc}
 use Rattle.std.proofs.lemmas.Bool.Decides.{nat_tests}
 use Rattle.std.proofs.lemmas.List.{at_drop_more}
 use Rattle.std.proofs.lemmas.List.Sums.{sum_by-append, sum_by-cons}
@@ -26,8 +27,30 @@ total ps = sum_by (λ p. capped_width p.range) ps
 pub capped_more : (count w s : ℕ) → min (min (count + w) 8193 + s) 8193 ≡ min (count + (w + s)) 8193
 capped_more count w s = grind arith
 
-pub one_more : (mode : PortMode) (r : Option declared_range.Range) (w : Word) (ws : List Word) → total (ports_named mode r (w ∷ ws)) ≡ capped_width (option_map view.range r) + total (ports_named mode r ws)
+one_more : (mode : PortMode) (r : Option declared_range.Range) (w : Word) (ws : List Word) → total (ports_named mode r (w ∷ ws)) ≡ capped_width (option_map view.range r) + total (ports_named mode r ws)
 one_more mode r w ws = sum_by-cons (λ (p : Port). capped_width p.range) (record { name = word_lexeme w; mode = mode; range = option_map view.range r }) (ports_named mode r ws)
+
+-- the ports of a group have equally many bits, and the same highest index
+pub named_total : (mode : PortMode) (r : Option declared_range.Range) (ws : List Word) → total (ports_named mode r ws) ≡ capped_width (option_map view.range r) * length ws
+named_total mode r [] = sym (mul-zero (capped_width (option_map view.range r)))
+named_total mode r (w ∷ ws) =
+    let width = capped_width (option_map view.range r) in
+    one_more mode r w ws ∙ ap (λ (n : ℕ). width + n) (named_total mode r ws) ∙ add_comm width (width * length ws) ∙ sym (mul-suc width (length ws))
+
+pub named_within : (mode : PortMode) (r : Option declared_range.Range) (ws : List Word) → length ws ≢ 0
+    → list_all (λ p. nat_le (highest p.range) subscript_limit) (ports_named mode r ws) ≡ nat_le (highest (option_map view.range r)) subscript_limit
+named_within mode r [] some = absurd (some refl)
+named_within mode r (w ∷ []) some = and_true (nat_le (highest (option_map view.range r)) subscript_limit)
+  where
+    and_true : (b : Bool) → (b && true) ≡ b
+    and_true true = refl
+    and_true false = refl
+named_within mode r (w ∷ v ∷ ws) some =
+    ap (λ (b : Bool). nat_le (highest (option_map view.range r)) subscript_limit && b) (named_within mode r (v ∷ ws) (λ e. absurd (omega (arith, e)))) ∙ and_same (nat_le (highest (option_map view.range r)) subscript_limit)
+  where
+    and_same : (b : Bool) → (b && b) ≡ b
+    and_same true = refl
+    and_same false = refl
 
 pub groups_more : (g : Group) (gs : List Group) → total (view.ports (g ∷ gs)) ≡ total (view.group g) + total (view.ports gs)
 groups_more g gs = sum_by-append (λ (p : Port). capped_width p.range) (view.group g) (view.ports gs)
@@ -61,14 +84,6 @@ ports_by ps = by_test (list_all (λ p. nat_le (highest p.range) subscript_limit)
 
 -- ---- the count, one port and one group more
 
-pub name_counted : (mode : PortMode) (r : Option declared_range.Range) (ws : List Word) (i : ℕ) (d : Word) (count w next : ℕ) → i < length ws → w ≡ capped_width (option_map view.range r)
-    → next ≡ min (count + w) 8193 → min (next + total (ports_named mode r (drop (i + 1) ws))) 8193 ≡ min (count + total (ports_named mode r (drop i ws))) 8193
-name_counted mode r ws i d count w next h width_is next_is =
-    let rest = total (ports_named mode r (drop (i + 1) ws)) in
-    let whole : total (ports_named mode r (drop i ws)) ≡ w + rest =
-    at_drop_more (λ xs. total (ports_named mode r xs)) ws i d h ∙ one_more mode r (get_or ws i d) (drop (i + 1) ws) ∙ ap (λ (n : ℕ). n + rest) (sym width_is) in
-    ap (λ (n : ℕ). min (n + rest) 8193) next_is ∙ capped_more count w rest ∙ ap (λ (n : ℕ). min (count + n) 8193) (sym whole)
-
 pub group_counted : (gs : List Group) (i : ℕ) (g : Group) (count next : ℕ) → i < length gs → g ≡ get_or gs i g → next ≡ min (count + total (view.group g)) 8193
     → min (next + total (view.ports (drop (i + 1) gs))) 8193 ≡ min (count + total (view.ports (drop i gs))) 8193
 group_counted gs i g count next h is next_is =
@@ -79,3 +94,7 @@ group_counted gs i g count next h is next_is =
 
 pub is_counted : (count total : ℕ) → count ≤ 8193 → min (count + 0) 8193 ≡ min total 8193 → count ≡ min total 8193
 is_counted count total small e = omega arith
+
+pub counted : (before product total bits added result : ℕ) → product ≡ total → bits ≡ min product 18446744073709551615 → added ≡ min (before + bits) 18446744073709551615
+    → result ≡ min added 8193 → result ≡ min (before + total) 8193
+counted before product total bits added result product_is bits_is added_is result_is = omega arith

@@ -88,16 +88,11 @@ fn highs_within(groups: &[Group<'_>]) -> bool
     true
 }
 
+/// Whether no index of a group's ports is above 65,535.
 fn high_within(group: &Group<'_>) -> bool
     ensures { result ≡ list_all (λ p. nat_le (highest p.range) spec.subscript_limit) (ports_view.group group.now) }
 {
-    let within = is_range_within(group.range);
-    for _name in &group.names {
-        if !within {
-            return false;
-        }
-    }
-    true
+    group.names.is_empty() || is_range_within(group.range)
 }
 
 fn is_range_within(range: Option<Range<'_>>) -> bool
@@ -120,16 +115,13 @@ fn bit_count(groups: &[Group<'_>]) -> usize
     count
 }
 
+/// With the port bits of a group, at most 8,193.
 fn with_group(before: usize, group: &Group<'_>) -> usize
     requires { before ≤ 8193 }
     ensures { result ≡ min (before + sum_by (λ p. capped_width p.range) (ports_view.group group.now)) 8193 }
 {
-    let width = width_of(group.range);
-    let mut count = before;
-    for _name in &group.names {
-        count = (count + width).min(8193);
-    }
-    count
+    let bits = width_of(group.range).saturating_mul(group.names.len());
+    before.saturating_add(bits).min(8193)
 }
 
 /// How many bits a port of this range has, where no index is above 65,535.
