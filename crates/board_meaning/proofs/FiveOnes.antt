@@ -25,10 +25,6 @@ states-rise : (tdi : Bool) (sight : ℕ → ℕ → Bool) (k : ℕ) (cs : List C
 states-rise tdi sight k [] = refl
 states-rise tdi sight k (c ∷ cs) = ap (λ r. next c.state true ∷ r) (states-rise tdi sight (suc k) cs)
 
--- a low byte moves no controller, whatever TCK was
-abbrev lowered_board : BoardState → BoardState
-lowered_board b = after_message (Write false true false) b
-
 states-low : (tck : Bool) (b : BoardState) → states (after_levels tck false true false b) ≡ states b.chips
 states-low true b = states-fall b.chips
 states-low false b = refl

@@ -1,5 +1,5 @@
 -- A device with a sound description powers up sound.
-use Rattle.std.proofs.Common.{◌≡◌, ◌≤◌, ap, Bool, true, false, ℕ, zero, suc, ◌<◌, List, [], ◌∷◌, ◌++◌, length, map, replicate, refl, sym, subst, arith, Some, None}
+use Rattle.std.proofs.Common.{◌≡◌, ap, Bool, true, false, ℕ, zero, suc, ◌<◌, List, [], ◌∷◌, ◌++◌, length, map, replicate, refl, sym, subst, arith, Some, None}
 use Rattle.std.proofs.lemmas.List.{length-replicate}
 use Rattle.std.specs.Prelude.{Option, unwrap_or, is_some, ◌||◌, if◌then◌else◌, bytes_eq}
 use Rattle.std.specs.List.{AllByRecursion, list_any}
@@ -14,7 +14,7 @@ use Rattle.board_meaning.specs.Cells.{powered}
 use Rattle.board_meaning.specs.Chain.{members}
 use Rattle.board_meaning.specs.Resting.{chip_at_rest}
 use Rattle.board_meaning.specs.Bare.{bare, bare_from, bare_name}
-use Rattle.board_meaning.specs.Sound.{HasBit, IsChain, IsThere, IsSoundFor, AllSound}
+use Rattle.board_meaning.specs.Sound.{HasBit, IsThere, IsSoundFor, AllSound}
 use Rattle.bsdl_device.specs.Sound.{HasBitIfGiven, IsSoundAccess, IsSoundDevice, user_length}
 use Rattle.board_meaning.specs.Laws.{BareBoardsAreSound, SoundDescriptionsPowerUpSound}
 
@@ -131,13 +131,3 @@ bare_sound n = bares-sound 1 n
 bares-count : (k n : ℕ) → length (map (chip_at_rest Reset) (bare_from k n)) ≡ n
 bares-count k zero = refl
 bares-count k (suc n) = ap (λ m. suc m) (bares-count (suc k) n)
-
--- a board of 1 to 32 bare devices
-pub bare_chain : (n : ℕ) → (n ≡ 0 → ⊥) → n ≤ 32 → IsChain (map (chip_at_rest Reset) (bare_from 1 n))
-bare_chain n some most =
-    let count = bares-count 1 n in
-    record { some = subst (λ (k : ℕ). 0 < k) (sym count) (above n some); most = subst (λ (k : ℕ). k ≤ 32) (sym count) most; sound = bares-sound 1 n }
-  where
-    above : (n : ℕ) → (n ≡ 0 → ⊥) → 0 < n
-    above zero some = absurd (some refl)
-    above (suc n) some = omega arith

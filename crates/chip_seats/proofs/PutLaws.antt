@@ -1,5 +1,5 @@
 -- Pins put one after another.
-use Rattle.std.proofs.Common.{subst, ◌≡◌, ◌<◌, ◌≤◌, ℕ, zero, suc, ◌+◌, List, [], ◌∷◌, ◌++◌, length, map, take, drop, set, slice_get, Option, Some, option_map, unwrap_or, refl, sym, ap, ◌∙◌, arith}
+use Rattle.std.proofs.Common.{subst, ◌≡◌, ◌<◌, ℕ, zero, suc, ◌+◌, List, [], ◌∷◌, ◌++◌, length, map, take, drop, set, slice_get, Option, Some, option_map, unwrap_or, sym, ap, ◌∙◌, arith}
 use Rattle.std.proofs.lemmas.Option.{slice_get-map}
 use Rattle.pin_nets.specs.declared.Drive.{Drive}
 use Rattle.pin_nets.specs.declared.Drive.TheVariants.{Nothing}
@@ -29,17 +29,6 @@ put_more f pins old ds i d x long e at is =
     one (p ∷ pins) [] i long at = absurd (omega (arith, long))
     one (p ∷ pins) (o ∷ old) zero long at = ap (λ (q : Pin). f q ∷ old) (sym (one_pin p x at))
     one (p ∷ pins) (o ∷ old) (suc i) long at = ap (λ (r : List Drive). f p ∷ r) (one pins old i (omega (arith, long)) at)
-
-pub put_whole : (f : Pin → Drive) (pins : List Pin) (old ds : List Drive) (i : ℕ) → length old ≡ length pins → ds ≡ map f (take i pins) ++ drop i old → length pins ≤ i → ds ≡ map f pins
-put_whole f pins old ds i long e h = e ∙ by pins old i long h
-  where
-    by : (pins : List Pin) (old : List Drive) (i : ℕ) → length old ≡ length pins → length pins ≤ i → map f (take i pins) ++ drop i old ≡ map f pins
-    by [] [] zero long h = refl
-    by [] [] (suc i) long h = refl
-    by [] (o ∷ old) i long h = absurd (omega (arith, long))
-    by (p ∷ pins) [] i long h = absurd (omega (arith, long))
-    by (p ∷ pins) (o ∷ old) zero long h = absurd (omega arith)
-    by (p ∷ pins) (o ∷ old) (suc i) long h = ap (λ (r : List Drive). f p ∷ r) (by pins old i (omega (arith, long)) (omega arith))
 
 -- what a pin drives, by its seat
 pub pin_by_seat : (seats : List SeatValue) (pin : Pin) (s : SeatValue) (d : Drive) → slice_get seats pin.device ≡ Some s → d ≡ drive (member_of s) pin.port → d ≡ pin_drive (map member_of seats) pin

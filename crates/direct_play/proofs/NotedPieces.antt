@@ -1,6 +1,6 @@
 -- What is noted of one piece after another.
 use Rattle.std.proofs.Common.{◌≡◌, ◌≢◌, ℕ, zero, suc, ◌≤◌, List, [], ◌++◌, Bool, true, false, Option, refl, sym, ap, subst, ◌∙◌, inl, inr, arith}
-use Rattle.std.specs.Prelude.{Result, Ok, Err, ◌==◌, ◌⊎◌}
+use Rattle.std.specs.Prelude.{◌==◌, ◌⊎◌}
 use Rattle.std.specs.Io.KnownBytes.{Appends}
 use Rattle.std.proofs.KnownBytes.{Appends-nil, Appends-trans}
 use Rattle.byte_ends.specs.Counts.{CountedView}
@@ -18,22 +18,6 @@ Notes-none contents a most =
       front = λ one. record { sent = []; rest = []; split = refl; appends = nothing };
       most = most;
     }
-
--- a call that writes all, of a writer that lost nothing
-pub Notes-of : {W A E : Type 0} {contents : W → Option (List ℕ)} {a b : CountedView W} {xs : List ℕ} {result : Result A E}
-    → a.failures ≡ 0 → WritesAll contents a b xs result → Notes contents a b xs
-Notes-of {contents = contents} {a = a} {b = b} {xs = xs} {result = Ok x} none one = record {
-  kept = λ lost. absurd (lost none);
-  whole = λ e f. one.whole;
-  front = λ e. one.front;
-  most = omega (arith, one.ok.0 refl);
-}
-Notes-of {contents = contents} {a = a} {b = b} {xs = xs} {result = Err e} none one = record {
-  kept = λ lost. absurd (lost none);
-  whole = λ e f. let bad : 0 ≡ 1 = sym f ∙ one.broken.0 refl in absurd (cc);
-  front = λ e. one.front;
-  most = omega (arith, one.broken.0 refl);
-}
 
 -- one piece, and then another
 pub Notes-then : {W : Type 0} {contents : W → Option (List ℕ)} {a b c : CountedView W} {xs ys : List ℕ} → Notes contents a b xs → Notes contents b c ys

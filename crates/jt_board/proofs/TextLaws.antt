@@ -64,7 +64,3 @@ told_fault f (Err e) h = h
 pub told_board : (p : Plan) (b : BoardState) (said : Result planned.Wiring Fault) → TellsBoard IsWhyRefused (Ok p) said → b ≡ board_of (wiring p) → TellsMade (Ok b) said
 told_board p b (Ok w) h is = let same : w ≡ wiring p = cc in is ∙ ap board_of (sym same)
 told_board p b (Err e) h is = absurd cc
-
-pub told_memory : (said : Result planned.Wiring Fault) → TellsMade (Err fault.NoMemory) said
-told_memory (Ok w) = tt
-told_memory (Err e) = tt

@@ -139,9 +139,6 @@ length-moved_line column tdi ms =
     let J = joined_bits column ms in
     omega (arith, length-drop 1 (J ++ tdi ∷ []), length-append J (tdi ∷ []))
 
-given-any : (column : Column) (tdi : Bool) (m : Member) (ms : List Member) → given (shift_state column) true (m ∷ ms) ≡ given (shift_state column) tdi (m ∷ ms)
-given-any column tdi m ms = refl
-
 begins : (column : Column) (t : Bool) (ts : List Bool) (m : Member) (ms : List Member) → Full column (m ∷ ms)
     → given (shift_state column) true (m ∷ ms) ∷ (moved_line column t (m ∷ ms) ++ ts) ≡ joined_bits column (m ∷ ms) ++ t ∷ ts
 begins column t ts m ms full =

@@ -11,7 +11,7 @@ use Rattle.bitbang.specs.declared.step_bytes.Spot.{Spot}
 use Rattle.bitbang.specs.StepMessages.{step_messages}
 use Rattle.scan_vectors.specs.Vector.{VectorBit}
 use Rattle.svf_programs.specs.Steps.{Numbered, Program, place_after}
-use Rattle.plays.specs.Play.{Turn, is_bad, step_turns, turns, wants_of}
+use Rattle.plays.specs.Play.{Turn, is_bad, step_turns, wants_of}
 use Rattle.plays.specs.Playing.{up_to_bad}
 use Rattle.plays.specs.PlayingOn.{Mismatch}
 use Rattle.plays.specs.Streams as stream
@@ -274,9 +274,6 @@ takes-on program p q byte bytes stands good some then_stands taken_one bad_one =
 -- nothing is owed, or a byte that was no answer was taken
 pub takes-nothing : (program : Program) (p : Progress) (bytes : List ℕ) → Stands program.steps p → p.bad ≡ None → p.owed ≡ 0 → answers_taken 256 (state_of program p) bytes ≡ []
 takes-nothing program p bytes stands good none = takes-none (state_of program p) bytes (owed-so program p stands good ∙ none)
-
-pub takes-bad : (program : Program) (p : Progress) (bytes : List ℕ) → is_some p.bad ≡ true → answers_taken 256 (state_of program p) bytes ≡ []
-takes-bad program p bytes bad = takes-none (state_of program p) bytes (bad-owes (state_of program p) bad)
 
 -- a step without a vector asks for nothing
 pub asks-nothing : (program : Program) (p : Progress) (s : Numbered) → Stands program.steps p → slice_get program.steps p.at ≡ Some s → vector_bits s.what ≡ []
