@@ -1,4 +1,4 @@
-//! The nets between the pins of a board, with what was last put to each pin (IEEE Std 1149.1-2001, clause 11 drives them).
+//! The nets of a board by their names, with what was last put to each of their pins, and so their levels.
 #![tactic(auto)]
 
 mod wiring;

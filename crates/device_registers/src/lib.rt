@@ -1,5 +1,5 @@
 //! The registers of one device (IEEE Std 1149.1-2001, clauses 7 and 9 to 12): the boundary register, as a chip needs
-//! it, and the user registers.
+//! it, the user registers, and all data registers together, of which an instruction selects one.
 #![tactic(auto)]
 
 mod data;
