@@ -1,6 +1,7 @@
 //! The nets of a board, with what was last put to them.
 
-ghost use Rattle.std.specs.Prelude.{◌≡◌, ◌<◌, ◌∷◌, map, length, slice_get, slice_set, option_map, replicate, Some, IfOk};
+ghost use Rattle.std.specs.Prelude.{◌≡◌, ◌<◌, ◌∷◌, map, length, slice_get, slice_set, option_map, replicate, Some};
+ghost use Rattle.std.specs.Prelude.{IfOk};
 ghost use Rattle.pin_nets.specs.declared.Drive.{Drive as TheDrive};
 ghost use Rattle.pin_nets.specs.declared.Drive.TheVariants as driving;
 ghost use Rattle.pin_nets.specs.declared.Pin.{Pin as ThePin};
