@@ -1,5 +1,5 @@
 -- What a decoded instruction gives a chip.
-use Rattle.std.proofs.Common.{◌≡◌, ◌<◌, ◌≤◌, ℕ, zero, suc, true, List, [], ◌∷◌, Bool, false, length, map, slice_get, Option, Some, option_map, refl, sym, ap, subst, ◌∙◌, arith, if◌then◌else◌}
+use Rattle.std.proofs.Common.{◌≡◌, ◌<◌, ℕ, List, [], ◌∷◌, Bool, false, length, map, slice_get, Option, Some, option_map, refl, sym, ap, subst, ◌∙◌, arith, if◌then◌else◌}
 use Rattle.bsdl_device.specs.Device.{Device}
 use Rattle.device_instructions.specs.declared.Selected.{Selected}
 use Rattle.device_instructions.specs.declared.Selected.TheVariants.{Bypass, Identification, Boundary, User}
@@ -7,17 +7,16 @@ use Rattle.device_instructions.specs.declared.decoding.Decoded.{Decoded}
 use Rattle.device_instructions.specs.Fitting.{IsFormed, Fits, FitsAt, fixed_of, has_code, meaning_by}
 use Rattle.device_instructions.specs.Instruction.{meaning, reset_latch}
 use Rattle.std.proofs.lemmas.List.{length-replicate}
+use Rattle.std.proofs.lemmas.Option.{slice_get-map}
 use Rattle.device_registers.specs.declared.data.DataRegisters.{DataRegisters}
 use Rattle.device_registers.specs.declared.users.UserRegister.{UserRegister}
 use Rattle.device_registers.specs.Data.{Lengths, IsThere, FixedFits, lengths_of}
 use Rattle.device_registers.specs.Registers.{new_user, zeros}
 use Rattle.scan_registers.specs.Chips.{lengths_in}
 
+-- the lengths of a user register, by its place
 twice : (ns : List ℕ) (k n : ℕ) → slice_get ns k ≡ Some n → slice_get (map {B = ℕ × ℕ} (λ m. (m, m)) ns) k ≡ Some (n, n)
-twice [] zero n e = cc
-twice [] (suc k) n e = cc
-twice (m ∷ ns) zero n e = ap (λ (o : Option ℕ). option_map (λ (x : ℕ). (x, x)) o) e
-twice (m ∷ ns) (suc k) n e = twice ns k n e
+twice ns k n e = slice_get-map {B = ℕ × ℕ} (λ m. (m, m)) ns k ∙ ap (λ (o : Option ℕ). option_map {U = ℕ × ℕ} (λ m. (m, m)) o) e
 
 -- the selected register is there
 pub selected_there : (d : Device) (m : Decoded) (l : Lengths) → IsFormed d → Fits d m → l ≡ lengths_in d → IsThere l m.selected
