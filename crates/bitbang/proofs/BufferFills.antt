@@ -84,10 +84,6 @@ filled-part n m w all buffer old ys some fits filled piece =
     ∙ sym (append_assoc (take n all) (take m (drop n all)) (drop (n + m) old))
     ∙ ap (λ l. l ++ drop (n + m) old) (take-more n m all)
 
--- the front of a filled buffer
-pub filled-first : (n : ℕ) (all buffer old : List ℕ) → n ≤ length all → buffer ≡ take n all ++ drop n old → take n buffer ≡ take n all
-filled-first n all buffer old some filled = ap (take n) filled ∙ filled_front all (drop n old) n some
-
 -- the front of what was left was put to the front
 pub fills-front : (before buffer after now front : List ℕ) (count : ℕ) → before ≡ front ++ now → count ≡ length front → count ≤ length buffer
     → after ≡ front ++ drop count buffer → 0 < count → Fills before buffer after now count

@@ -1,5 +1,5 @@
 -- The board or its first fault, from what each part of the judgement says.
-use Rattle.std.proofs.Common.{◌≡◌, ℕ, List, [], map, codes, string_bytes, Option, Some, None, option_map, Result, Ok, Err, IfOk, refl, ap, sym, ◌∙◌, subst}
+use Rattle.std.proofs.Common.{◌≡◌, ℕ, List, [], map, codes, string_bytes, Option, Some, None, option_map, Result, Ok, Err, refl, ap, sym, ◌∙◌, subst}
 use Rattle.std.specs.Option.{option_or}
 use Rattle.std.specs.List.{filter_map}
 use Rattle.toml.specs.Data.{Members}
@@ -18,9 +18,6 @@ use Rattle.board_file.specs.View.{JudgesKeys, IsUnknownFile, TellsFault, TellsBo
 use Rattle.board_parts.specs.Parts.{member_in}
 use Rattle.board_library.specs.View.{cells_in, stands_at}
 use Rattle.board_file.proofs.DescribedLaws.{Named, named_from, same_cells, same_devices, same_members}
-
-pub of_ok : {A E : Type 0} (P : A → Type 0) (r : Result A E) (x : A) → IfOk r P → r ≡ Ok x → P x
-of_ok P r x h e = subst (λ r. IfOk r P) e h
 
 abbrev made : Option Fault → Wiring → Result Wiring Fault
 made o w = elim o [ None ↦ Ok w | Some f ↦ Err f ]

@@ -1,5 +1,5 @@
 -- A device with a sound description powers up sound.
-use Rattle.std.proofs.Common.{◌≡◌, ap, Bool, true, false, ℕ, zero, suc, ◌<◌, List, [], ◌∷◌, ◌++◌, length, map, replicate, refl, sym, subst, arith, Some, None}
+use Rattle.std.proofs.Common.{◌≡◌, Bool, true, false, ℕ, zero, suc, ◌<◌, List, [], ◌∷◌, ◌++◌, length, map, replicate, refl, sym, subst, arith, Some, None}
 use Rattle.std.proofs.lemmas.List.{length-replicate}
 use Rattle.std.specs.Prelude.{Option, unwrap_or, is_some, ◌||◌, if◌then◌else◌, bytes_eq}
 use Rattle.std.specs.List.{AllByRecursion, list_any}
@@ -127,7 +127,3 @@ bares-sound k (suc n) = (powered_sound (bare_name k) bare (false ∷ []) false b
 
 pub bare_sound : BareBoardsAreSound
 bare_sound n = bares-sound 1 n
-
-bares-count : (k n : ℕ) → length (map (chip_at_rest Reset) (bare_from k n)) ≡ n
-bares-count k zero = refl
-bares-count k (suc n) = ap (λ m. suc m) (bares-count (suc k) n)

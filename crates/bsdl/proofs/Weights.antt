@@ -1,5 +1,5 @@
 -- What reading gives weighs no more than the tokens that it takes, and tokens no more than their text.
-use Rattle.std.proofs.Common.{◌≡◌, ◌≤◌, ℕ, zero, suc, ◌+◌, ◌-◌, Bool, true, false, List, [], ◌∷◌, length, take, drop, refl, ap, arith}
+use Rattle.std.proofs.Common.{◌≡◌, ◌≤◌, ℕ, zero, suc, ◌+◌, ◌-◌, Bool, true, false, List, [], ◌∷◌, length, drop, refl, ap, arith}
 use Rattle.std.specs.Prelude.{Option, Some, None, if◌then◌else◌}
 use Rattle.std.proofs.lemmas.List.{length-append, length-drop, length-take-le}
 use Rattle.bsdl_lex.specs.Cutting.{Lexeme, bad_place, cuts_of, tokens}
@@ -40,9 +40,6 @@ meant_weighs w n (Some x) place rest each = each x refl
 pub keyword_weighs : {A : Type 0} (meaning : List ℕ → Option A) (ts : List Lexeme) → Weighs (λ _. 0) (size ts) (keyword meaning ts)
 keyword_weighs meaning [] = tt
 keyword_weighs meaning (t ∷ ts) = meant_weighs (λ _. 0) (heft t.text + size ts) (meaning t.text) t.start ts (λ x is. omega arith)
-
-pub refused_weighs : {A : Type 0} (w : A → ℕ) (n : ℕ) (ts : List Lexeme) → Weighs w n (refused_at ts)
-refused_weighs w n ts = tt
 
 pub dropped : (ts : List Lexeme) → size (drop 1 ts) ≤ size ts
 dropped [] = omega arith

@@ -1,27 +1,12 @@
 -- Port bits by the first bits of ports.
-use Rattle.std.proofs.Common.{◌≡◌, ◌<◌, ◌≤◌, ℕ, suc, ◌+◌, ◌-◌, Bool, true, false, List, [], ◌∷◌, ◌++◌, append_assoc, length, drop, refl, sym, ap, ◌∙◌, arith}
+use Rattle.std.proofs.Common.{◌≡◌, ◌≤◌, ℕ, suc, ◌+◌, ◌-◌, Bool, true, false, List, [], ◌∷◌, refl, sym, ap, ◌∙◌, arith}
 use Rattle.std.specs.Prelude.{Option, Some, None, option_map, option_and_then, unwrap_or, slice_get, bytes_eq}
-use Rattle.std.proofs.lemmas.List.{at_drop_more}
-use Rattle.bsdl_device.specs.declared.PortMode.{PortMode}
 use Rattle.bsdl_text.specs.Words.{upper}
-use Rattle.bsdl_text.specs.declared.names.Word.{Word}
 use Rattle.bsdl_cells.specs.Rows.{PortName}
-use Rattle.bsdl_ports.specs.declared.ports.Range as declared_range
 use Rattle.bsdl_ports.specs.Ports.{Port, Range}
-use Rattle.bsdl_ports.specs.View as view
-use Rattle.bsdl_limits.proofs.WidthLaws.{ports_named}
 use Rattle.bsdl_limits.specs.PortBits.{bit_at, bit_number, width}
 use Rattle.bsdl_places.specs.Places.{find_port}
 use Rattle.bsdl_boundary.specs.Bits.{firsts}
-
-pub port_added : (bits after : List ℕ) (m next w : ℕ) (mode : PortMode) (r : Option declared_range.Range) (ws : List Word) (i : ℕ) (d : Word) (more : List Port) → i < length ws
-    → w ≡ width (option_map view.range r) → after ≡ bits ++ m ∷ [] → next ≡ m + w
-    → after ++ firsts next (ports_named mode r (drop (i + 1) ws) ++ more) ≡ bits ++ firsts m (ports_named mode r (drop i ws) ++ more)
-port_added bits after m next w mode r ws i d more h width_is after_is next_is =
-    let rest = ports_named mode r (drop (i + 1) ws) ++ more in
-    let step : next ≡ m + width (option_map view.range r) = next_is ∙ ap (λ (n : ℕ). m + n) width_is in
-    ap (λ xs. xs ++ firsts next rest) after_is ∙ append_assoc bits (m ∷ []) (firsts next rest) ∙ ap (λ (n : ℕ). bits ++ m ∷ firsts n rest) step
-    ∙ sym (at_drop_more (λ xs. bits ++ firsts m (ports_named mode r xs ++ more)) ws i d h)
 
 -- the port of a name and its first bit
 abbrev bit_from : Option ℕ → List ℕ → ℕ → ℕ × Option Range → Option ℕ

@@ -1,10 +1,9 @@
 -- Bits of ports as they are kept, and places in lists.
-use Rattle.std.proofs.Common.{◌≡◌, ℕ, zero, suc, ◌+◌, ◌<◌, ◌≤◌, Bool, true, false, cond, List, [], ◌∷◌, ◌++◌, map, take, length, length-append, append_assoc, refl, ap, ◌∙◌, arith, ◌-◌}
+use Rattle.std.proofs.Common.{◌≡◌, ℕ, zero, suc, ◌+◌, ◌<◌, ◌≤◌, Bool, false, cond, List, [], ◌∷◌, ◌++◌, map, length, length-append, append_assoc, refl, ap, ◌∙◌, arith, ◌-◌}
 use Rattle.std.specs.Prelude.{Option, Some, None, slice_get, string_bytes, not, position, option_map}
 use Rattle.std.specs.List.{list_any, prefix_len, AllByRecursion, range_with_len}
 use Rattle.std.proofs.lemmas.List.{length-map}
 use Rattle.std.proofs.lemmas.Bool.Decides.{nat_tests}
-use Rattle.std.proofs.lemmas.Option.{none-some, same_Some}
 use Rattle.std.proofs.lemmas.List.FromFn.{map-range_with_len_more}
 use Rattle.bsdl_device.specs.declared.port_bits.Port.{Port}
 use Rattle.bsdl_device.specs.declared.port_bits.Indices.{Indices}
@@ -95,14 +94,6 @@ prefix_len_map test f (x ∷ xs) = ap (λ k. cond (test (f x)) (1 + k) 0) (prefi
 
 pub position_more : {A : Type 0} (p : A → Bool) (x : A) (xs : List A) → p x ≡ false → position p (x ∷ xs) ≡ option_map (λ k. suc k) (position p xs)
 position_more p x xs fails = rw fails (grind (arith, nat_tests))
-
-pub first_at : {A : Type 0} (p : A → Bool) (xs : List A) (i : ℕ) (x : A) → list_any p (take i xs) ≡ false → slice_get xs i ≡ Some x → p x ≡ true → position p xs ≡ Some i
-first_at p [] i x none is passes = absurd (none-some x is)
-first_at p (y ∷ ys) zero x none is passes =
-    let here : p y ≡ true = ap p (same_Some y x is) ∙ passes in
-    rw here (grind (arith, nat_tests))
-first_at p (y ∷ ys) (suc i) x none is passes =
-    position_more p y ys (any_head p y (take i ys) none) ∙ ap (λ o. option_map (λ k. suc k) o) (first_at p ys i x (any_tail p y (take i ys) none) is passes)
 
 pub first_none : {A : Type 0} (p : A → Bool) (xs : List A) → list_any p xs ≡ false → position p xs ≡ None
 first_none p [] none = refl

@@ -214,8 +214,3 @@ pub fits_nowhere : (d : Description) (r : CellRow) (name : PortName) → has_no_
 fits_nowhere d r name outer port at =
     let bit : is_some (port_bit d r) ≡ false = ap (λ o. is_some (option_and_then (bit_number 0 d.ports) o)) port ∙ declared d.ports name ∙ ap is_some (sym at) in
     sym (rw (outer, bit) refl)
-
-pub fits_without : (d : Description) (r : CellRow) → has_no_port r.function ≡ false → r.port ≡ None → false ≡ port_fits d r
-fits_without d r outer port =
-    let bit : is_some (port_bit d r) ≡ false = ap (λ o. is_some (option_and_then (bit_number 0 d.ports) o)) port in
-    sym (rw (outer, bit) refl)

@@ -4,14 +4,11 @@ use Rattle.std.proofs.lemmas.List.{append-nil, append_assoc}
 use Rattle.bsdl_lex.specs.Cutting.{Lexeme}
 use Rattle.bsdl_text.specs.Reading.{Read, fits, misfit, ◌>>=◌}
 use Rattle.bsdl_device.specs.Device.{Pattern}
-use Rattle.bsdl_instructions.specs.Values.{are_digits, pattern_of, digits_on, pattern}
+use Rattle.bsdl_instructions.specs.Values.{are_digits, pattern_of, digits_on}
 
 -- digits that were read, and then those that stand on
 abbrev pub then_on : List ℕ → Read (List ℕ) → Read Pattern
 then_on before r = r >>= λ ds rest. fits (pattern_of (before ++ ds)) rest
-
-pub first_digits : (ts : List Lexeme) (t : Lexeme) (rest : List Lexeme) → ts ≡ t ∷ rest → are_digits t ≡ true → pattern ts ≡ then_on t.text (digits_on rest)
-first_digits ts t rest stands is = ap pattern stands ∙ rw is refl
 
 regrouped : (before text : List ℕ) (r : Read (List ℕ)) → then_on before (r >>= λ ds rest. fits (text ++ ds) rest) ≡ then_on (before ++ text) r
 regrouped before text (fits ds rest) = ap (λ xs. fits (pattern_of xs) rest) (sym (append_assoc before text ds))

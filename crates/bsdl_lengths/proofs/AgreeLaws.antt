@@ -22,9 +22,6 @@ tells (Some m) n = nat_eq m n
 pub record Known (known : List ℕ → Option ℕ) (rows : List AccessRow) : Type 0 where
   pub same : (q : List ℕ) (n : ℕ) → list_any (gives q n) rows ≡ tells (known q) n
 
-pub none_known : Known (λ q. None) []
-none_known = record { same = λ q n. refl }
-
 -- a row's part in what rows give
 given_by : (q : List ℕ) (k : ℕ) (r : AccessRow) (len : Option ℕ) → r.len ≡ len → gives q k r ≡ (is_some len && (bytes_eq r.register q && nat_eq (unwrap_or len 0) k))
 given_by q k r len is = rw is refl

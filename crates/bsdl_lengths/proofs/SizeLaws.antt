@@ -24,10 +24,6 @@ sized p None n is =
     grind (arith, nat_tests)
 sized p (Some m) n is = ap (λ k. has_len k (view.pattern p)) is.1
 
-pub all_sized : (ps : List WrittenPattern) (s : Option ℕ) (n : ℕ) → IsSize s n → list_all (is_len s) (map view.pattern ps) ≡ list_all (has_len n) (map view.pattern ps)
-all_sized [] s n is = refl
-all_sized (p ∷ ps) s n is = rw (sized p s n is, all_sized ps s n is) refl
-
 pub instr_sized : (i : Instr) (s : Option ℕ) (n : ℕ) → IsSize s n → captures_are s (view.instr i) ≡ captures_fit n (view.instr i)
 instr_sized i s n is = by_captures i.captures
   where

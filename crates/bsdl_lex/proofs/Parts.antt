@@ -93,9 +93,6 @@ pub none_behind : (body : List ℕ) → get_or (body ++ []) (length body) 0 ≡ 
 none_behind [] = refl
 none_behind (b ∷ body) = none_behind body
 
-quote_ends : (after : List ℕ) → Ends is_within (34 ∷ after)
-quote_ends after = refl
-
 pub text_front : (body after : List ℕ) → AllPass is_within body → front false 34 (body ++ 34 ∷ after) ≡ Token kind.Text (length body + 1)
 text_front body after all =
     let len : prefix_len is_within (body ++ 34 ∷ after) ≡ length body = prefix_len-append is_within body (34 ∷ after) all refl in

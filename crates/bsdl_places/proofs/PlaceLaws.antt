@@ -1,18 +1,12 @@
 -- Ports by their names, one more.
-use Rattle.std.proofs.Common.{◌≡◌, ℕ, suc, ◌+◌, Bool, true, false, cond, List, [], ◌∷◌, ◌++◌, length, map, refl, sym, ap, ◌∙◌, arith}
+use Rattle.std.proofs.Common.{◌≡◌, ℕ, suc, ◌+◌, Bool, true, false, cond, List, [], ◌∷◌, ◌++◌, length, refl, sym, ap, ◌∙◌, arith}
 use Rattle.std.specs.Option.{option_or}
 use Rattle.std.specs.Prelude.{Option, Some, None, is_some, option_map, bytes_eq}
-use Rattle.std.proofs.lemmas.List.{length-map}
 use Rattle.std.proofs.lemmas.Slice.Eq.{bytes_eq-Decides}
-use Rattle.bsdl_device.specs.declared.PortMode.{PortMode}
 use Rattle.bsdl_text.specs.Words.{upper}
-use Rattle.bsdl_text.specs.WordView.{word_lexeme}
-use Rattle.bsdl_text.specs.declared.names.Word.{Word}
-use Rattle.bsdl_ports.specs.declared.ports.Range as declared_range
 use Rattle.bsdl_ports.specs.declared.ports.Group.{Group}
 use Rattle.bsdl_ports.specs.Ports.{Port, Range}
 use Rattle.bsdl_ports.specs.View as view
-use Rattle.bsdl_limits.proofs.WidthLaws.{ports_named}
 use Rattle.bsdl_places.specs.Places.{at_name, find_port}
 
 pub or_none : {A : Type 0} (o : Option A) → option_or o None ≡ o
@@ -31,14 +25,6 @@ one_port n p ps q = by_test (bytes_eq (upper p.name.text) q) refl
     by_test true is = rw is refl
     by_test false is = rw is refl
 
-pub port_kept : (before after : List ℕ → Option (ℕ × Option Range)) (n next : ℕ) (p : Port) (ps : List Port) (q : List ℕ) → next ≡ n + 1
-    → ((q : List ℕ) → after q ≡ option_or (before q) (at_name (upper p.name.text) (n, p.range) q))
-    → option_or (after q) (find_port next ps q) ≡ option_or (before q) (find_port n (p ∷ ps) q)
-port_kept before after n next p ps q is step =
-    let e : next ≡ suc n = omega arith in
-    ap (λ (k : ℕ). option_or (after q) (find_port k ps q)) e ∙ ap (λ o. option_or o (find_port (suc n) ps q)) (step q)
-    ∙ or_assoc (before q) (at_name (upper p.name.text) (n, p.range) q) (find_port (suc n) ps q) ∙ ap (option_or (before q)) (sym (one_port n p ps q))
-
 pub ports_both : (n : ℕ) (ps more : List Port) (q : List ℕ) → find_port n (ps ++ more) q ≡ option_or (find_port n ps q) (find_port (n + length ps) more q)
 ports_both n [] more q = ap (λ (k : ℕ). find_port k more q) (omega arith)
 ports_both n (p ∷ ps) more q =
@@ -53,9 +39,6 @@ pub group_kept : (before after : List ℕ → Option (ℕ × Option Range)) (n n
 group_kept before after n next g gs q is step =
     ap (λ (k : ℕ). option_or (after q) (find_port k (view.ports gs) q)) is ∙ ap (λ o. option_or o (find_port (n + length (view.group g)) (view.ports gs) q)) (step q)
     ∙ or_assoc (before q) (find_port n (view.group g) q) (find_port (n + length (view.group g)) (view.ports gs) q) ∙ ap (option_or (before q)) (sym (ports_both n (view.group g) (view.ports gs) q))
-
-pub named_len : (mode : PortMode) (r : Option declared_range.Range) (ws : List Word) → length (ports_named mode r ws) ≡ length ws
-named_len mode r ws = length-map (map word_lexeme ws) (λ n. record { name = n; mode = mode; range = option_map view.range r }) ∙ length-map ws word_lexeme
 
 -- a name that is put where it is new
 pub name_put : (before : List ℕ → Option (ℕ × Option Range)) (key name q : List ℕ) (x : ℕ × Option Range) → key ≡ name → is_some (before key) ≡ false
@@ -74,13 +57,6 @@ name_put before key name q x same new = by_test (bytes_eq key q) refl
     by_test false is =
         let there : bytes_eq name q ≡ false = ap (λ (n : List ℕ). bytes_eq n q) (sym same) ∙ is in
         rw (is, there) (sym (or_none (before q)))
-
-pub name_known : (before : List ℕ → Option (ℕ × Option Range)) (key name q : List ℕ) (x : ℕ × Option Range) → key ≡ name → is_some (before key) ≡ true → before q ≡ option_or (before q) (at_name name x q)
-name_known before key name q x same known = by_test (bytes_eq name q) refl
-  where
-    some_is : (o : Option (ℕ × Option Range)) → is_some o ≡ true → o ≡ option_or o (Some x)
-    some_is None e = absurd cc
-    some_is (Some y) e = refl
 
     by_test : (b : Bool) → bytes_eq name q ≡ b → before q ≡ option_or (before q) (at_name name x q)
     by_test true is =

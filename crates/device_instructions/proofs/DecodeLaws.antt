@@ -112,12 +112,6 @@ find_at test xs i x h =
     let next : i + 1 ≡ suc i = omega arith in
     ap (find test) (drop-cons xs i x h) ∙ ap (λ n. if test (get_or xs i x) then Some (get_or xs i x) else find test (drop n xs)) (sym next)
 
-pub row_found : (test : Opcode → Bool) (xs : List Opcode) (i : ℕ) (x : Opcode) → i < length xs → find test xs ≡ find test (drop i xs) → test (get_or xs i x) ≡ true → find test xs ≡ Some (get_or xs i x)
-row_found test xs i x h so_far is = so_far ∙ find_at test xs i x h ∙ chosen_if _ true _ _ is
-
-pub row_passed : (test : Opcode → Bool) (xs : List Opcode) (i : ℕ) (x : Opcode) → i < length xs → find test xs ≡ find test (drop i xs) → test (get_or xs i x) ≡ false → find test xs ≡ find test (drop (i + 1) xs)
-row_passed test xs i x h so_far is = so_far ∙ find_at test xs i x h ∙ chosen_if _ false _ _ is
-
 -- the register of an own instruction
 pub user_there : (d : Device) (k u : ℕ) (o : Option Access) → access_at d k ≡ o → option_map (λ a. a.place) o ≡ Some (AtUser u) → IsFormed d → FitsAt d (User u) (option_and_then (λ a. a.captures) o)
 user_there d k u None e is formed = absurd (impossible is)

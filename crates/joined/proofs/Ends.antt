@@ -16,7 +16,7 @@ use Rattle.plays.specs.Playing.{PlayerState}
 use Rattle.plays.specs.PlayingOn.{Stops}
 use Rattle.plays.specs.Streams as stream
 use Rattle.plays.specs.Streams.{StreamState, new_stream}
-use Rattle.plays.proofs.Asks.{asks, hear-asks, hear-full, sent-full, turns-ask}
+use Rattle.plays.proofs.Asks.{hear-asks, hear-full, sent-full, turns-ask}
 use Rattle.plays.proofs.Described.{means_from_opening}
 use Rattle.every_schedule.proofs.HonestLinks.{ending-full, none-bad-any, told-bits}
 use Rattle.every_schedule.proofs.Quits.{full-quits, turns-no-quit}

@@ -4,11 +4,11 @@ use Rattle.std.specs.Prelude.{Option, Some, None}
 use Rattle.bitbang_table.specs.declared.Message.{Message}
 use Rattle.bitbang_table.specs.Protocol.{decode}
 use Rattle.board_file.proofs.FitLaws.{board_fits, board_said}
-use Rattle.board_meaning.specs.Chain.{BoardState, after_byte, after_bytes, after_message}
+use Rattle.board_meaning.specs.Chain.{BoardState, after_byte, after_bytes}
 use Rattle.board_meaning.specs.Sound.{IsChain}
 use Rattle.board_meaning.proofs.SoundEdges.{IsChain-told}
 use Rattle.jt_board.specs.FromText.{said_device}
-use Rattle.jt_board.specs.InUse.{IsInUse, IsMade, bare, described}
+use Rattle.jt_board.specs.InUse.{IsMade, bare, described}
 use Rattle.jt_board.specs.Laws.{EveryBoardInUseIsSound}
 use Rattle.jt_board.proofs.Bares.{bare_is, bare_sound, sound_chain}
 use Rattle.jt_board.proofs.TextLaws.{sound_wiring}

@@ -16,7 +16,6 @@ use Rattle.board_plan.specs.View.{wiring}
 use Rattle.board_file.specs.Wiring.{Fault}
 use Rattle.board_plan.specs.Planned as planned
 use Rattle.board_names.specs.declared.fault.BoardFault.{BoardFault}
-use Rattle.board_names.specs.declared.fault.BoardFault.TheVariants as fault
 use Rattle.board_plan.specs.declared.plan.Plan.{Plan}
 use Rattle.board_meaning.specs.Chain.{BoardState}
 use Rattle.chip_seats.specs.Building.{IsReady}

@@ -133,12 +133,6 @@ short_push nets x short h = record {
   each = λ n y is. ⊎_elim (λ a. short.each n y a) (λ b. subst (λ (z : NetValue). length z.pins < 2 ^ 60) b.1 h) (slice_push nets x n y is);
 }
 
-pub short_none : AreShort []
-short_none = record { each = λ n x is. absurd (impossible x is) }
-  where
-    impossible : (x : NetValue) → None ≡ Some x → ⊥
-    impossible x e = cc
-
 pub once_push : (nets : List NetValue) (x : NetValue) → IsOnce nets → ((p : ℕ) → times p x ≤ 1) → ((p n : ℕ) (y : NetValue) → 0 < times p x → slice_get nets n ≡ Some y → times p y ≡ 0) → IsOnce (nets ++ x ∷ [])
 once_push nets x once single free = record {
   alone = λ p n y is. ⊎_elim (λ a. once.alone p n y a) (λ b. subst (λ (z : NetValue). times p z ≤ 1) b.1 (single p)) (slice_push nets x n y is);
@@ -173,9 +167,6 @@ free_named whole part k are h once p has = by (position (has_pin p) part) refl
         let none = once.apart p k m (get_or whole k nobody) (get_or whole m nobody) (λ e. omega (arith, found.0)) (slice_get-get_or whole k nobody h) (slice_get-get_or whole m nobody (omega (arith, found.0))) some in
         absurd (omega (arith, none, also))
 
-pub marked_none : (net_of : List (Option ℕ)) → AllNone net_of → HasNetOfEach net_of []
-marked_none net_of none = record { each = λ p h. none.each p h }
-
 -- ---- pins on no net
 
 one_pin : (p q : ℕ) → has_pin p (alone q) ≡ true → q ≡ p
@@ -191,16 +182,6 @@ pub record LoneUntil (base : List NetValue) (k : ℕ) (old net_of : List (Option
   pub lone : AddsLoneNets base k net_of nets
   pub long : length net_of ≡ length old
   pub ahead : (p : ℕ) → k ≤ p → position (has_pin p) nets ≡ position (has_pin p) base
-
-no_lone : (base : List NetValue) → base ≡ base ++ lone_nets base 0
-no_lone base = sym (append-nil base)
-
-pub lone_none : (base : List NetValue) (net_of : List (Option ℕ)) → HasNetOfEach net_of base → IsOnce base → AreShort base → LoneUntil base 0 net_of net_of base
-lone_none base net_of marked once short = record {
-  lone = record { nets = no_lone base; marked = marked; once = once; short = short };
-  long = refl;
-  ahead = λ p h. refl;
-}
 
 abbrev is_lone : List NetValue → ℕ → Bool
 is_lone base p = is_none (position (has_pin p) base)

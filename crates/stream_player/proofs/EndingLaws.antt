@@ -3,7 +3,6 @@ use Rattle.std.proofs.Common.{◌≡◌, ◌⊎◌, Bool, true, false, ℕ, zero
 use Rattle.std.proofs.Math.Seq.{take-append-add}
 use Rattle.std.specs.Prelude.{◌||◌, is_some, option_map, slice_get, if◌then◌else◌}
 use Rattle.jt_tap.specs.declared.State.TheVariants.{Reset}
-use Rattle.bitbang_table.specs.Cycles.{opening}
 use Rattle.bitbang_table.specs.declared.Message.TheVariants.{Quit}
 use Rattle.bitbang.specs.StepMessages.{step_messages}
 use Rattle.bitbang.specs.declared.step_bytes.Spot.{Spot}

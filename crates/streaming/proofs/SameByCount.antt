@@ -261,12 +261,6 @@ split (suc n) (g ∷ got) x e = one (is_bad g) refl e (split n got x)
         of (here a b) = here (ap (λ b. if b then Some g else find is_bad (take n got)) q ∙ a) (omega (arith, b, ap length longer))
         of (later a b c d) = later (ap (λ b. if b then Some g else find is_bad (take n got)) q ∙ a) b (omega (arith, c, ap length longer)) (omega (arith, d))
 
-take-all : (n : ℕ) (got : List ℕ) → length got ≤ n → take n got ≡ got
-take-all zero [] le = refl
-take-all zero (g ∷ got) le = absurd (omega arith)
-take-all (suc n) [] le = refl
-take-all (suc n) (g ∷ got) le = ap (λ l. g ∷ l) (take-all n got (omega arith))
-
 -- A bad answer that was asked for ends the play at the command that it belongs to.
 pub ends-bad : (window : ℕ) (ts : List Turn) → AllAsk ts → (got : List ℕ) (x : ℕ) → find is_bad got ≡ Some x
     → length (bits_told got) ≤ asks (sent window ts (bits_told got)) → ending_for ts got ≡ Some (BadAnswer (command_at ts (length (good got))) x)

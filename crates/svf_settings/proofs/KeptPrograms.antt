@@ -1,16 +1,13 @@
 -- What is answered, and the program that is kept.
-use Rattle.std.proofs.Common.{◌≡◌, ◌≢◌, ◌<◌, ℕ, zero, suc, List, [], ◌∷◌, map, length, reverse, refl, sym, ap, subst, ◌∙◌, get_or, Option, Some, None, Ok, Err, ◌+◌, ◌≤◌, arith, lit≤, length-append, drop, add-one}
-use Rattle.std.specs.Prelude.{slice_get, Result, IfOk, IfErr}
+use Rattle.std.proofs.Common.{◌≡◌, ◌≢◌, ℕ, List, [], ◌∷◌, map, length, reverse, refl, sym, ap, subst, ◌∙◌, Option, Some, None, Ok, Err, ◌+◌, ◌≤◌, arith, lit≤, length-append}
+use Rattle.std.specs.Prelude.{Result, IfOk, IfErr}
 use Rattle.std.proofs.lemmas.List.{length-map, length-reverse}
-use Rattle.std.proofs.lemmas.Option.{slice_get_read}
 use Rattle.svf_words.specs.declared.fault.SvfFault.{SvfFault}
 use Rattle.svf_parse.specs.Judging.{Said}
 use Rattle.svf_parse.specs.View.{memory_fault}
-use Rattle.svf_programs.specs.declared.kept.KeptStep.{KeptStep}
 use Rattle.svf_programs.specs.Steps.{Step, Numbered, Program}
 use Rattle.svf_settings.specs.Programs.{Resolves, Refuses, resolution, first_refusal, unless, program, steps, step_made}
-use Rattle.svf_programs.specs.Held.{step_in, numbered_in}
-use Rattle.svf_programs.specs.Sound.{IsWithin, AllWithin, IsSound}
+use Rattle.svf_programs.specs.Sound.{IsSound}
 use Rattle.svf_settings.specs.Reading.{Answers}
 use Rattle.svf_programs.specs.Sizes.{Holding, content, program_of}
 use Rattle.svf_settings.specs.LookBack.{settings, step}

@@ -113,11 +113,6 @@ pub state_found : (w : Word) (s : State) → state_of w ≡ Some s → reads w (
 unfolding state_of
 state_found w s e = found_passes (λ s. reads w (states.word s)) all_states s e
 
--- the end's keyword is no state
-pub end_is_no_state : (k : Word) → reads k (codes "ENDSTATE") ≡ true → state_of k ≡ None
-unfolding state_of
-end_is_no_state k h = ap (found_by states.word all_states) (lowered k (codes "ENDSTATE") h)
-
 -- what a reader of state words answers, by what it ensures
 pub same_state : (w : Word) (r : Option State) → IfSome r (λ s. states.IsWordOf s w) → ((s : State) → states.IsWordOf s w → r ≡ Some s) → r ≡ state_of w
 same_state w (Some s) found only = sym (state_read w s ((bytes_eq-Decides (lower w) (lower (states.word s))).1 found))

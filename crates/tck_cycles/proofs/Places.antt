@@ -1,5 +1,5 @@
 -- The cycles of a step, place by place.
-use Rattle.std.proofs.Common.{◌≡◌, ℕ, zero, suc, ◌+◌, ◌-◌, ◌<◌, ◌≤◌, Bool, true, false, List, [], ◌∷◌, ◌++◌, map, drop, length, replicate, get_or, nat_eq, refl, sym, ap, ◌∙◌, arith, Option, Some, None, is_some, length-append, append_assoc, add-one, lit≤, if◌then◌else◌, cond, zero-add}
+use Rattle.std.proofs.Common.{◌≡◌, ℕ, zero, suc, ◌+◌, ◌-◌, ◌<◌, ◌≤◌, Bool, true, false, List, [], ◌∷◌, ◌++◌, map, drop, length, replicate, nat_eq, refl, sym, ap, ◌∙◌, arith, Option, Some, None, is_some, length-append, append_assoc, add-one, lit≤, if◌then◌else◌, cond, zero-add}
 use Rattle.std.specs.Prelude.{slice_get, option_map, count_by}
 use Rattle.std.specs.Int.{from_bool}
 use Rattle.std.proofs.lemmas.List.Sums.{sum_by-append, sum_by-cons, count_by-le-length}
@@ -7,7 +7,7 @@ use Rattle.std.proofs.Math.ListN.{drop_of_length-le}
 use Rattle.std.proofs.lemmas.Bool.Decides.{nat_tests}
 use Rattle.std.proofs.Math.Seq.{drop-append-add, drop-append_seam}
 use Rattle.std.proofs.lemmas.List.{drop-append-le, drop-drop, drop-replicate, length-drop, length-map, length-replicate, replicate-append-replicate}
-use Rattle.std.proofs.lemmas.Option.{same_Some, slice_get_read, slice_get_past}
+use Rattle.std.proofs.lemmas.Option.{same_Some}
 use Rattle.std.specs.List.{range_with_len}
 use Rattle.scan_vectors.specs.Held.{wanted_of}
 use Rattle.scan_vectors.specs.Vector.{VectorBit, tdis}
@@ -77,16 +77,10 @@ get_mapped f [] i x e = absurd (cc)
 get_mapped f (y ∷ xs) zero x e = let same : y ≡ x = cc in rw same refl
 get_mapped f (y ∷ xs) (suc i) x e = get_mapped f xs i x e
 
-pub mapped_at : {A B : Type 0} (f : A → B) (xs : List A) (i : ℕ) (x : A) → i < length xs → x ≡ get_or xs i x → slice_get (map f xs) i ≡ Some (f x)
-mapped_at f xs i x h e = get_mapped f xs i x (slice_get_read xs (length xs) i x refl h e)
-
 pub get-replicate : {A : Type 0} (n : ℕ) (x : A) (i : ℕ) → i < n → slice_get (replicate n x) i ≡ Some x
 get-replicate zero x i h = absurd (omega arith)
 get-replicate (suc n) x zero h = refl
 get-replicate (suc n) x (suc i) h = get-replicate n x i (omega arith)
-
-pub none-replicate : {A : Type 0} (n : ℕ) (x : A) (i : ℕ) → n ≤ i → slice_get (replicate n x) i ≡ None
-none-replicate n x i h = slice_get_past (replicate n x) i (rw length-replicate h)
 
 pub mapped : {A B : Type 0} (f : A → B) (xs : List A) (i : ℕ) → slice_get (map f xs) i ≡ option_map f (slice_get xs i)
 mapped f [] i = refl

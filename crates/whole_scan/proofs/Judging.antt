@@ -158,12 +158,3 @@ judged_more vs out at done n all so_far more =
     let e : (at + done) + n ≡ at + (done + n) = omega arith in
     so_far ∙ more ∙ ap (λ (l : List VectorBit). judge l (drop n (drop done out))) (drop-drop n (at + done) vs ∙ ap (λ (k : ℕ). drop k vs) e)
     ∙ ap (judge (drop (at + (done + n)) vs)) (drop-drop n done out)
-
-pub judged_none : (vs : List VectorBit) (out : List Bool) (at : ℕ) → judge (drop at vs) out ≡ judge (drop (at + 0) vs) (drop 0 out)
-judged_none vs out at =
-    let e : at + 0 ≡ at = omega arith in
-    rw e (whole out)
-  where
-    whole : (out : List Bool) → judge (drop at vs) out ≡ judge (drop at vs) (drop 0 out)
-    whole [] = refl
-    whole (b ∷ out) = refl

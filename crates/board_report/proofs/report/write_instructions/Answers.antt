@@ -1,4 +1,4 @@
-use Rattle.std.proofs.Common.{◌≡◌, ℕ, filter, map, ◌+◌, ◌<◌, ◌++◌, List, length, refl, sym, drop, take, get_or, ap, ◌∙◌, subst, arith}
+use Rattle.std.proofs.Common.{ℕ, filter, map, ◌+◌, ◌++◌, List, refl, sym, drop, take, ap, ◌∙◌, subst, arith}
 use Rattle.std.proofs.lemmas.List.{take_all}
 use Rattle.std.specs.Prelude.{flat_map}
 use Rattle.std.specs.Io.KnownBytes.{Appends}

@@ -1,4 +1,4 @@
-use Rattle.std.proofs.Common.{◌≡◌, false, Option, ap, ◌∙◌, codes}
+use Rattle.std.proofs.Common.{false, Option, ap, ◌∙◌, codes}
 use Rattle.std.specs.Prelude.{bytes_eq, Bool}
 use Rattle.std.specs.Option.{option_map_or}
 use Rattle.clap.specs.Words.{Text, found_of}

@@ -1,5 +1,5 @@
 use Rattle.std.proofs.Common.{◌≡◌, option_map, sym, ap, ◌∙◌, codes}
-use Rattle.clap.specs.Words.{found_of, first_of, rows_of, subcommand_rows_of}
+use Rattle.clap.specs.Words.{found_of, first_of, rows_of}
 use Rattle.clap.proofs.WalkLemmas.{first_value-rows}
 use Rattle.command_line.specs.Asking.{asked_by}
 use Rattle.command_line.proofs.RequestLaws.{met}

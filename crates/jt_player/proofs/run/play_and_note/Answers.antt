@@ -1,7 +1,7 @@
 use Rattle.std.proofs.Common.{true, false, refl, sym, ap}
 use Rattle.std.proofs.KnownBytes.{Appends-nil}
 use Rattle.std.specs.Prelude.{codes, is_ok, is_err}
-use Rattle.byte_ends.specs.Writes.{WritesAll, flagged}
+use Rattle.byte_ends.specs.Writes.{flagged}
 use Rattle.byte_ends.proofs.Fronts.{WritesAll-is, WritesAll-then, WritesAll-stopped, WritesAll-done}
 use Rattle.svf_programs.specs.Sizes.{program_of}
 use Rattle.plays.specs.DirectPlay.{bytes_of_full_play}

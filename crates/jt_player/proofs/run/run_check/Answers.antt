@@ -1,5 +1,4 @@
 use Rattle.std.proofs.Common.{◌≡◌, refl, inl}
-use Rattle.std.specs.Prelude.{Ok, Err}
 use Rattle.svf_programs.specs.Sizes.{program_of}
 use Rattle.jt_player.specs.Running.{IsCheckOf, accepted, accepted_run, no_memory_check, refused_check}
 use Rattle.jt_player.proofs.RunLaws.{happens-out, on_ok, refused-or-memory}

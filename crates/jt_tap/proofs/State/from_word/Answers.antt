@@ -1,4 +1,4 @@
-use Rattle.std.proofs.Common.{IfSome, ◌∙◌}
+use Rattle.std.proofs.Common.{◌∙◌}
 use Rattle.jt_tap.specs.declared.TheConstants.{STATES}
 use Rattle.jt_tap.proofs.WordLaws.{IfSome-find, find-word}
 use Rattle.jt_tap.proofs.State.from_word.Goals as goal

@@ -1,6 +1,6 @@
 use Rattle.std.proofs.Common.{◌≡◌, ◌-◌, ◌+◌, ◌++◌, ℕ, suc, List, drop, take, length, min, sym, ap, ◌∙◌}
 use Rattle.bitbang.specs.Left.{behind, left, whole}
-use Rattle.svf_programs.specs.Seen.{numbered, step}
+use Rattle.svf_programs.specs.Seen.{numbered}
 use Rattle.svf_programs.specs.Sizes.{program_of}
 use Rattle.svf_programs.specs.Steps.{Numbered}
 use Rattle.stream_player.specs.Progress.{rest_of}

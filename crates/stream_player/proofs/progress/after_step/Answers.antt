@@ -1,7 +1,7 @@
 use Rattle.std.proofs.Common.{◌≡◌, ◌<◌, ◌+◌, ◌-◌, ℕ, suc, true, false, List, [], drop, length, sym, ap, subst, ◌∙◌, arith, None}
 use Rattle.std.specs.Prelude.{is_some}
 use Rattle.bitbang.specs.Left.{left}
-use Rattle.svf_programs.specs.Seen.{numbered, step}
+use Rattle.svf_programs.specs.Seen.{numbered}
 use Rattle.svf_programs.specs.Sizes.{program_of}
 use Rattle.svf_programs.specs.Steps.{Numbered, place_after}
 use Rattle.jt_tap.specs.declared.State.{State}

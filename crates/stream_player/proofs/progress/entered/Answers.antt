@@ -1,6 +1,6 @@
 use Rattle.std.proofs.Common.{suc, drop, sym, ap, subst, ◌∙◌}
 use Rattle.bitbang.specs.Left.{behind}
-use Rattle.svf_programs.specs.Seen.{numbered, step}
+use Rattle.svf_programs.specs.Seen.{numbered}
 use Rattle.svf_programs.specs.Sizes.{program_of}
 use Rattle.stream_player.specs.Progress.{Stands, state_of}
 use Rattle.stream_player.proofs.Steps.{cut, enters, enters-same, first}
