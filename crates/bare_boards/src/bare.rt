@@ -1,8 +1,6 @@
 //! The bare device, and the plan of a board of bare devices.
 
-ghost use Rattle.std.specs.Prelude.{◌≡◌, [], ◌∷◌, ◌≤◌, true, false, Some, map, codes, string_bytes, IfOk};
-ghost use Rattle.bsdl_device.specs.Device as described;
-ghost use Rattle.bsdl_device.specs.declared.port_bits.Port.{Port as ThePort};
+ghost use Rattle.std.specs.Prelude.{◌≡◌, [], ◌∷◌, ◌≤◌, true, false, Some, map, string_bytes, IfOk};
 ghost use Rattle.board_plan.specs.View.{member, wiring};
 ghost use Rattle.board_meaning.specs.Bare.{bare};
 ghost use Rattle.bare_boards.specs.Bares.{bare_at, bare_planned, bare_wiring, two_bits};

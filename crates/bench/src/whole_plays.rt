@@ -1,5 +1,5 @@
 //! Whole plays over pipes: the bytes of a player, and the edges of a board of a bare device.
-ghost use Rattle.std.specs.Prelude.{◌≡◌, ◌<◌};
+ghost use Rattle.std.specs.Prelude.{◌<◌};
 
 use bench_rows::{Row, Unit, digest, print_row};
 use direct_play::accept;

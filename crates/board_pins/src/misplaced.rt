@@ -1,5 +1,5 @@
 //! Texts that name no pin, and pins that stand twice.
-ghost use Rattle.std.specs.Prelude.{◌≡◌, map, option_map, ◌++◌, ◌∷◌, [], not, true, IfOk, None, length};
+ghost use Rattle.std.specs.Prelude.{◌≡◌, option_map, ◌++◌, ◌∷◌, [], not, true, IfOk, None};
 ghost use Rattle.std.specs.List.{list_any, filter_map};
 ghost use Rattle.toml.specs.View.{items_view};
 ghost use Rattle.board_tables.specs.Fields.{tables_in, texts_in};

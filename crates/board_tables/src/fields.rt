@@ -1,5 +1,5 @@
 //! The first key of a board file that is at fault.
-ghost use Rattle.std.specs.Prelude.{◌≡◌, drop, [], ◌∷◌, ◌++◌, OnOk, IfErr};
+ghost use Rattle.std.specs.Prelude.{◌≡◌, drop, [], ◌∷◌, ◌++◌, OnOk};
 ghost use Rattle.toml.specs.View.{table_view, items_view};
 ghost use Rattle.board_tables.specs.Fields as fields;
 ghost use Rattle.board_tables.specs.Fields.{tables_in};

@@ -1,7 +1,7 @@
 //! Which values fit the keys of a board file.
 ghost use Rattle.std.specs.Prelude.{◌≡◌, ◌==◌, ◌||◌, ◌&&◌, map, bytes_eq};
 ghost use Rattle.std.specs.List.{list_all, list_any};
-ghost use Rattle.toml.specs.View.{view, array_view};
+ghost use Rattle.toml.specs.View.{view};
 ghost use Rattle.board_tables.specs.Fields as fields;
 ghost use Rattle.board_tables.specs.Keys as spec;
 ghost use Rattle.board_words.specs.View.{texts_of};

@@ -2,7 +2,7 @@
 //! (IEEE Std 1149.1-2001, clauses 8 and 11, and Annex B.8.14 for the cell table).
 #![tactic(auto)]
 
-ghost use Rattle.std.specs.Prelude.{◌≡◌, ◌<◌, ℕ, List, Bool, length, slice_get, IfOk};
+ghost use Rattle.std.specs.Prelude.{◌≡◌, ◌<◌, ℕ, List, length, IfOk};
 ghost use Rattle.jt_bits.specs.Words.{bit_of};
 ghost use Rattle.boundary.specs.Cells as cells;
 ghost use Rattle.boundary.specs.Cells.{AreDisabling, AreDrivers, BoundaryValue, DrivenByCell, EntersDisabling};

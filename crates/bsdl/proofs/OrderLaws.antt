@@ -7,11 +7,13 @@ use Rattle.bsdl_lex.specs.Cutting.{Lexeme, bad_place, cuts_of, tokens}
 use Rattle.bsdl_text.specs.Marks.{closing, colon, comma, opening, semi}
 use Rattle.bsdl_text.specs.Reading.{Read, fits, misfit, ◌>>=◌, further, joined_by, keyword, mark, number, refused_at, separated, stands, word}
 use Rattle.bsdl_ports.specs.Keywords.{is_rising, is_vector, mode_of, this_word}
-use Rattle.bsdl_ports.specs.Ports.{Port, Range, concat, is_scalar, kind_of_port, ordered, port_group, ports, range, upto}
+use Rattle.bsdl_scalars.specs.Scalars.{is_scalar}
+use Rattle.bsdl_ports.specs.Ports.{Port, Range, concat, kind_of_port, ordered, port_group, ports, range, upto}
 use Rattle.bsdl_values.specs.declared.Attribute.{Attribute}
 use Rattle.bsdl_values.specs.declared.Attribute.TheVariants.{InstructionLength, BoundaryLength, InstructionOpcode, InstructionCapture, BoundaryRegister}
 use Rattle.bsdl_entity.specs.Entity.{File, ending, file, heading, items}
-use Rattle.bsdl_described.specs.Describing.{Description, Refusal, as_cells, as_count, as_opcodes, as_pattern, described, need, taps_given, too_large, value_given, ◌>>?◌}
+use Rattle.bsdl_givings.specs.Givings.{as_cells, as_count, as_opcodes, as_pattern, value_given}
+use Rattle.bsdl_described.specs.Describing.{Description, Refusal, described, need, taps_given, too_large, ◌>>?◌}
 use Rattle.bsdl.specs.Form.{read_form, text_form, text_limit, tokens_form}
 
 abbrev pub IsOrdered : Option Range → Type 0

@@ -12,7 +12,8 @@ use Rattle.bsdl_values.specs.declared.Attribute.{Attribute}
 use Rattle.bsdl_values.specs.declared.Attribute.TheVariants.{InstructionLength, BoundaryLength, InstructionOpcode, InstructionCapture, BoundaryRegister, InstructionPrivate, RegisterAccess}
 use Rattle.bsdl_values.specs.Values.{Value, absent, accesses_value, cells_value, codes_value, count, names_value, opcodes_value, pattern_value, port}
 use Rattle.bsdl_entity.specs.Entity.{File, Given, file}
-use Rattle.bsdl_described.specs.Describing.{Description, Refusal, as_accesses, as_cells, as_count, as_names, as_opcodes, as_pattern, described, is_attribute, taps_given, too_large, value_given, ◌>>?◌}
+use Rattle.bsdl_givings.specs.Givings.{as_accesses, as_cells, as_count, as_names, as_opcodes, as_pattern, is_attribute, value_given}
+use Rattle.bsdl_described.specs.Describing.{Description, Refusal, described, taps_given, too_large, ◌>>?◌}
 use Rattle.bsdl_own_instructions.specs.Own.{is_own, own_accesses, with_own}
 use Rattle.bsdl_opcodes.specs.ResetOpcode.{opcode}
 use Rattle.bsdl_limits.specs.Users.{users_of}

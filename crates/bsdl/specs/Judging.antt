@@ -8,7 +8,8 @@ use Rattle.bsdl_device.specs.Device.{Device}
 use Rattle.bsdl_entity.specs.Entity.{File}
 use Rattle.bsdl_built.specs.Built.{device}
 use Rattle.bsdl_opcodes.specs.ResetOpcode.{opcode, resets_to_idcode}
-use Rattle.bsdl_twice.specs.Twice.{Naming, given_again}
+use Rattle.bsdl_namings.specs.Namings.{Naming}
+use Rattle.bsdl_twice.specs.Twice.{given_again}
 use Rattle.bsdl_lengths.specs.Lengths.{captures_one, ends_in_one, lengths_fit}
 use Rattle.bsdl_fit.specs.Fits.{unfit_cell}
 use Rattle.bsdl_limits.specs.Limits.{is_within_limits}

@@ -2,7 +2,7 @@
 //! 1149.1-2001, Annex B.8.14).
 #![tactic(auto)]
 
-ghost use Rattle.std.specs.Prelude.{◌≡◌, ◌<◌, ◌≤◌, length, option_map, IfOk};
+ghost use Rattle.std.specs.Prelude.{◌<◌, ◌≤◌, length, option_map, IfOk};
 ghost use Rattle.bsdl_lex.specs.Left.{left};
 ghost use Rattle.bsdl_text.specs.View as text_view;
 ghost use Rattle.bsdl_text.specs.View.{Gives, StopsAtMisfit};

@@ -1,7 +1,7 @@
 -- What a description gives as a whole: each attribute's value is that of its first giving (IEEE Std 1149.1-2001, Annex
 -- B.8.3 to B.8.14).
-use Rattle.std.specs.Prelude.{ℕ, Bool, is_some, if◌then◌else◌, List, [], ◌∷◌, Option, Some, None}
-use Rattle.std.specs.Prelude.{Result, Ok, Err, bytes_eq}
+use Rattle.std.specs.Prelude.{ℕ, Bool, is_some, List, [], ◌∷◌, Option, Some, None}
+use Rattle.std.specs.Prelude.{Result, Ok, Err}
 use Rattle.bsdl_values.specs.declared.Attribute.{Attribute}
 use Rattle.bsdl_values.specs.declared.Attribute.TheVariants.{TapScanIn, TapScanOut, TapScanMode, TapScanClock}
 use Rattle.bsdl_values.specs.declared.Attribute.TheVariants.{TapScanReset, InstructionLength, BoundaryLength}
@@ -13,10 +13,7 @@ use Rattle.bsdl_instructions.specs.Values.{OpcodeRow, AccessRow}
 use Rattle.bsdl_own_instructions.specs.Own.{is_own, own_accesses}
 use Rattle.bsdl_cells.specs.Rows.{CellRow}
 use Rattle.bsdl_ports.specs.Ports.{Port}
-use Rattle.bsdl_values.specs.Values.{Value, port, count, pattern_value, codes_value, names_value}
-use Rattle.bsdl_values.specs.Values.{opcodes_value, accesses_value, cells_value}
 use Rattle.bsdl_entity.specs.Entity.{File, Given}
-use Rattle.bsdl_entity.specs.Attributes.{attribute_word}
 
 -- why a description is refused; a place is counted in bytes from 0
 pub data Refusal : Type 0 where
@@ -29,47 +26,6 @@ pub data Refusal : Type 0 where
   bad_id : Refusal
   bad_cell : ℕ → Refusal
   too_large : Refusal
-
-abbrev pub is_attribute : Attribute → Attribute → Bool
-is_attribute a b = bytes_eq (attribute_word a) (attribute_word b)
-
--- the value of the first giving of an attribute
-abbrev pub value_given : Attribute → List Given → Option Value
-value_given a [] = None
-value_given a (g ∷ gs) = if is_attribute a g.attribute then Some g.value else value_given a gs
-
-abbrev pub as_port : Option Value → Option Name
-as_port (Some (port name)) = Some name
-as_port _ = None
-
-abbrev pub as_count : Option Value → Option ℕ
-as_count (Some (count n)) = Some n
-as_count _ = None
-
-abbrev pub as_pattern : Option Value → Option Pattern
-as_pattern (Some (pattern_value p)) = Some p
-as_pattern _ = None
-
-abbrev pub as_codes : Option Value → List Pattern
-as_codes (Some (codes_value ps)) = ps
-as_codes _ = []
-
-abbrev pub as_names : Option Value → List Name
-as_names (Some (names_value ns)) = ns
-as_names _ = []
-
--- rows, and where their text begins
-abbrev pub as_opcodes : Option Value → Option (ℕ × List OpcodeRow)
-as_opcodes (Some (opcodes_value start rows)) = Some (start, rows)
-as_opcodes _ = None
-
-abbrev pub as_accesses : Option Value → ℕ × List AccessRow
-as_accesses (Some (accesses_value start rows)) = (start, rows)
-as_accesses _ = (0, [])
-
-abbrev pub as_cells : Option Value → Option (List CellRow)
-as_cells (Some (cells_value rows)) = Some rows
-as_cells _ = None
 
 -- ---- what is needed
 

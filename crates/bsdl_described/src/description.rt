@@ -4,17 +4,18 @@ ghost use Rattle.bsdl_text.specs.View.{value};
 ghost use Rattle.bsdl_text.specs.Words.{upper};
 ghost use Rattle.bsdl_entity.specs.GivenView.{given as given_view};
 ghost use Rattle.bsdl_entity.specs.OutlineView.{outline as outline_view};
+ghost use Rattle.bsdl_givings.specs.Givings as givings;
 ghost use Rattle.bsdl_described.specs.Describing as spec;
 ghost use Rattle.bsdl_described.specs.View.{AreTaps, Describes, taps as taps_view};
 
-use crate::givings::{
-    accesses_given, capture_given, cells_given, codes_given, count_given, opcodes_given,
-    port_given, private_names_given,
-};
 use bsdl_cells::CellRow;
 use bsdl_entity::Attribute;
 use bsdl_entity::entity::Outline;
 use bsdl_entity::items::Given;
+use bsdl_givings::givings::{
+    accesses_given, capture_given, cells_given, codes_given, count_given, opcodes_given,
+    port_given, private_names_given,
+};
 use bsdl_instructions::names::{AccessRow, OpcodeRow, PrivateName};
 use bsdl_instructions::patterns::WrittenPattern;
 use bsdl_own_instructions::own::own_accesses;
@@ -77,7 +78,7 @@ pub fn describe<'o, 't: 'o>(
 fn taps_given<'t>(given: &[Given<'t>]) -> Result<Taps<'t>, Attribute>
     ensures taps { AreTaps result (spec.taps_given (map given_view given.now)) }
     ensures reset { IfOk result (λ found. option_map (λ w. upper w.text.now) found.reset
-        ≡ spec.as_port (spec.value_given Attribute.TapScanReset (map given_view given.now))) }
+        ≡ givings.as_port (givings.value_given Attribute.TapScanReset (map given_view given.now))) }
 {
     let Some(input) = port_given(given, Attribute::TapScanIn) else {
         return Err(Attribute::TapScanIn);

@@ -3,4 +3,3 @@
 #![tactic(auto)]
 
 pub mod description;
-pub mod givings;

@@ -3,12 +3,11 @@ ghost use Rattle.std.specs.Prelude.{◌≡◌, ◌+◌, ◌++◌, ◌∷◌, ◌
 ghost use Rattle.std.specs.Prelude.{bytes_eq, cond, length, map, option_and_then, option_map, slice_get, string_bytes};
 ghost use Rattle.std.specs.Prelude.{IfOk, IfSome, OnOk};
 ghost use Rattle.std.specs.BTreeMap.{get_by_text};
-ghost use Rattle.std.specs.List.{AllByRecursion};
-ghost use Rattle.std.specs.Str.{str_eq_ignore_ascii_case, str_to_ascii_lowercase};
+ghost use Rattle.std.specs.Str.{str_to_ascii_lowercase};
 ghost use Rattle.bsdl_device.specs.declared.port_bits.BitPlace as declared_place;
-ghost use Rattle.bsdl_device.specs.Found.{AreFirst, number_at, number_named};
-ghost use Rattle.bsdl_device.specs.Ports.{bits_of, bit_number, is_bit, same_index};
-ghost use Rattle.bsdl_device.specs.View.{IsPlaced, pair, placed, places, port_bit};
+ghost use Rattle.bsdl_device.specs.Found.{AreFirst, number_at};
+ghost use Rattle.bsdl_device.specs.Ports.{bits_of, bit_number};
+ghost use Rattle.bsdl_device.specs.View.{pair, placed, places, port_bit};
 
 use crate::PortMode;
 use crate::numbers::Numbers;

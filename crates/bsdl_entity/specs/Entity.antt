@@ -9,7 +9,8 @@ use Rattle.bsdl_text.specs.Marks.{semi, colon}
 use Rattle.bsdl_device.specs.Device.{Name}
 use Rattle.bsdl_instructions.specs.Values.{begins}
 use Rattle.bsdl_ports.specs.Keywords.{this_word}
-use Rattle.bsdl_ports.specs.Ports.{Port, ports, is_scalar}
+use Rattle.bsdl_scalars.specs.Scalars.{is_scalar}
+use Rattle.bsdl_ports.specs.Ports.{Port, ports}
 use Rattle.bsdl_values.specs.declared.Attribute.{Attribute}
 use Rattle.bsdl_values.specs.declared.Attribute.TheVariants.{TapScanIn, TapScanOut, TapScanMode, TapScanClock}
 use Rattle.bsdl_values.specs.declared.Attribute.TheVariants.{TapScanReset}

@@ -9,11 +9,11 @@ ghost use Rattle.bsdl_text.specs.Words.{upper};
 ghost use Rattle.bsdl_values.specs.View.{value as value_view};
 ghost use Rattle.bsdl_entity.specs.Entity as spec;
 ghost use Rattle.bsdl_entity.specs.GivenView as given_view;
-ghost use Rattle.bsdl_ports.specs.Scalars.{tells};
+ghost use Rattle.bsdl_scalars.specs.Scalars.{tells};
 
 use crate::keywords::{ATTRIBUTE, ATTRIBUTES, IS, OF};
 use bsdl_lex::Lexer;
-use bsdl_ports::scalars::is_scalar;
+use bsdl_scalars::scalars::is_scalar;
 use bsdl_text::names::Word;
 use bsdl_text::reading::{Stop, keyword, mark, same_name, stands_for, word};
 use bsdl_values::Attribute;

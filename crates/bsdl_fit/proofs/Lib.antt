@@ -1,3 +1,2 @@
-pub mod DriverLaws
 pub mod SeatLaws
 pub mod TableLaws

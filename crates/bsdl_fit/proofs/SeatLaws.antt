@@ -10,7 +10,7 @@ use Rattle.bsdl_limits.specs.PortBits.{bit_at, bit_number, width}
 use Rattle.bsdl_described.specs.Describing.{Description}
 use Rattle.bsdl_own_instructions.specs.Own.{is_among}
 use Rattle.bsdl_places.specs.declared.seat.Seat.{Seat}
-use Rattle.bsdl_fit.specs.Drivers.{drives_below}
+use Rattle.bsdl_cell_maps.specs.Drivers.{drives_below}
 use Rattle.bsdl_device.specs.Driving.{drives}
 use Rattle.bsdl_fit.specs.Fits.{is_driven_below, has_no_port, names_tap, port_bit, port_fits, same_bit}
 use Rattle.bsdl_places.specs.Places.{find_port, same_seat, seat_at, seat_of}

@@ -7,7 +7,7 @@ use Rattle.std.proofs.lemmas.List.Elements.{filter-append}
 use Rattle.bsdl_cells.specs.Rows.{CellRow}
 use Rattle.bsdl_described.specs.Describing.{Description}
 use Rattle.bsdl_fit.specs.Fits as fits
-use Rattle.bsdl_fit.specs.Table.{alone, is_fit, only_row_fits, with_row}
+use Rattle.bsdl_cell_maps.specs.Table.{alone, is_fit, only_row_fits, with_row}
 
 alone_more : (test : CellRow → Bool) (rows : List CellRow) (r : CellRow) → alone test (rows ++ r ∷ []) ≡ with_row (alone test rows) (test r)
 alone_more test [] r = refl

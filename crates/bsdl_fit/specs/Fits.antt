@@ -11,6 +11,7 @@ use Rattle.bsdl_described.specs.Describing.{Description}
 use Rattle.bsdl_own_instructions.specs.Own.{is_among}
 use Rattle.bsdl_limits.specs.Limits.{subscript_limit}
 use Rattle.bsdl_limits.specs.PortBits.{bit_number}
+use Rattle.bsdl_cell_maps.specs.Controls.{is_control}
 
 abbrev pub port_bit : Description → CellRow → Option ℕ
 port_bit d r = option_and_then (bit_number 0 d.ports) r.port
@@ -21,11 +22,6 @@ has_no_port Control = true
 has_no_port ControlR = true
 has_no_port Internal = true
 has_no_port _ = false
-
-abbrev pub is_control : Function → Bool
-is_control Control = true
-is_control ControlR = true
-is_control _ = false
 
 abbrev pub same_bit : Option ℕ → Option ℕ → Bool
 same_bit (Some a) (Some b) = a == b

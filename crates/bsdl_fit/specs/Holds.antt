@@ -7,8 +7,8 @@ use Rattle.bsdl_described.specs.Describing.{Description}
 use Rattle.bsdl_described.specs.View.{taps}
 use Rattle.bsdl_fit.specs.declared.known.Known as declared_known
 use Rattle.bsdl_places.specs.declared.seat.Seat.{Seat}
-use Rattle.bsdl_fit.specs.Controls.{controls_as}
-use Rattle.bsdl_fit.specs.Drivers.{driver_at, drives_below, is_below}
+use Rattle.bsdl_cell_maps.specs.Controls.{controls_as}
+use Rattle.bsdl_cell_maps.specs.Drivers.{driver_at, drives_below, is_below}
 use Rattle.bsdl_places.specs.View.{AreAt}
 
 pub record Holds (k : declared_known.Known) (d : Description) : Type 0 where

@@ -3,8 +3,8 @@ ghost use Rattle.std.specs.Prelude.{IfOk};
 ghost use Rattle.bsdl_described.specs.View.{description};
 ghost use Rattle.bsdl_fit.specs.Holds.{Holds};
 
-use crate::controls::controls_of;
-use crate::drivers::{Drivers, drivers_of};
+use bsdl_cell_maps::controls::controls_of;
+use bsdl_cell_maps::drivers::{Drivers, drivers_of};
 use bsdl_described::description::{Description, Taps};
 use bsdl_entity::entity::Outline;
 use bsdl_places::places::{Places, places_of};

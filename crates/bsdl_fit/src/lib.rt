@@ -2,9 +2,6 @@
 //! B.8.14).
 #![tactic(auto)]
 
-pub mod controls;
-pub mod drivers;
 pub mod known;
 pub mod rows;
-pub mod table;
 pub mod unfit;

@@ -8,7 +8,7 @@ ghost use Rattle.bsdl_cells.specs.View as cells_view;
 ghost use Rattle.bsdl_own_instructions.specs.Own.{is_among};
 ghost use Rattle.bsdl_described.specs.Describing as described;
 ghost use Rattle.bsdl_described.specs.View.{taps as taps_view};
-ghost use Rattle.bsdl_fit.specs.Drivers.{driver_at, is_below};
+ghost use Rattle.bsdl_cell_maps.specs.Drivers.{driver_at, is_below};
 ghost use Rattle.bsdl_fit.specs.Fits as spec;
 ghost use Rattle.bsdl_fit.specs.Holds.{Holds};
 

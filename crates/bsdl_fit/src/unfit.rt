@@ -9,11 +9,11 @@ ghost use Rattle.bsdl_described.specs.Describing as described;
 ghost use Rattle.bsdl_described.specs.View.{description};
 ghost use Rattle.bsdl_fit.specs.Fits as spec;
 ghost use Rattle.bsdl_fit.specs.Holds.{Holds};
-ghost use Rattle.bsdl_fit.specs.Table as cells;
+ghost use Rattle.bsdl_cell_maps.specs.Table as cells;
 
 use crate::known::{Known, known_of};
 use crate::rows::row_fits;
-use crate::table::Table;
+use bsdl_cell_maps::table::Table;
 use bsdl_cells::CellRow;
 use bsdl_described::description::Description;
 use bsdl_entity::entity::Outline;

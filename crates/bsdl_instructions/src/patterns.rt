@@ -1,5 +1,5 @@
 //! Patterns of 0, 1 and X.
-ghost use Rattle.std.specs.Prelude.{◌≡◌, ◌<◌, List, length, map, IfOk};
+ghost use Rattle.std.specs.Prelude.{◌≡◌, ◌<◌, length, map, IfOk};
 ghost use Rattle.bsdl_lex.specs.Left.{left};
 ghost use Rattle.bsdl_text.specs.View.{Gives};
 ghost use Rattle.bsdl_instructions.specs.Values as spec;

@@ -1,5 +1,5 @@
 //! Lengths of registers and of patterns.
-ghost use Rattle.std.specs.Prelude.{◌≡◌, ◌&&◌, ℕ, List, map, option_map, unwrap_or, is_some, ◌==◌, IfOk};
+ghost use Rattle.std.specs.Prelude.{◌≡◌, ◌&&◌, ℕ, map, option_map, unwrap_or, is_some, ◌==◌, IfOk};
 ghost use Rattle.std.specs.List.{list_all};
 ghost use Rattle.bsdl_text.specs.View.{value};
 ghost use Rattle.bsdl_entity.specs.declared.entity.Outline.{Outline};

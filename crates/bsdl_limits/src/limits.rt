@@ -1,5 +1,5 @@
 //! The limits of a description.
-ghost use Rattle.std.specs.Prelude.{◌≡◌, ◌+◌, ◌&&◌, ℕ, List, map, min, nat_le, length, option_map, ◌≤◌, ◌<◌};
+ghost use Rattle.std.specs.Prelude.{◌≡◌, ◌+◌, ◌&&◌, map, min, nat_le, length, option_map, ◌≤◌, ◌<◌};
 ghost use Rattle.std.specs.List.{list_all, sum_by};
 ghost use Rattle.bsdl_text.specs.View.{value};
 ghost use Rattle.bsdl_cells.specs.View.{cell_row};

@@ -1,9 +1,8 @@
 //! The registers that a device's own instructions select.
-ghost use Rattle.std.specs.Prelude.{◌≡◌, ◌++◌, ℕ, List, Bool, map, option_map, unwrap_or, if◌then◌else◌, None, IfOk};
+ghost use Rattle.std.specs.Prelude.{◌≡◌, ◌++◌, ℕ, List, map, option_map, unwrap_or, if◌then◌else◌, None, IfOk};
 ghost use Rattle.bsdl_device.specs.Opcodes.{x_as_0 as bits_of_pattern};
 ghost use Rattle.std.specs.Prelude.{OnOk};
 ghost use Rattle.std.specs.List.{flat_map};
-ghost use Rattle.bsdl_device.specs.Device as device;
 ghost use Rattle.bsdl_text.specs.Words.{upper};
 ghost use Rattle.bsdl_instructions.specs.View as rows_view;
 ghost use Rattle.bsdl_device.specs.declared.Place.TheVariants.{AtUser};

@@ -1,6 +1,5 @@
 //! Which instructions are the device's own: they have an opcode, and are neither the standard's nor private.
 ghost use Rattle.std.specs.Prelude.{◌≡◌, ◌||◌, List, ℕ, map, filter, IfOk, OnOk, bytes_eq};
-ghost use Rattle.std.specs.List.{list_any};
 ghost use Rattle.std.specs.BTreeSet.{contains_text};
 ghost use Rattle.bsdl_text.specs.Words.{upper};
 ghost use Rattle.bsdl_instructions.specs.View as rows_view;

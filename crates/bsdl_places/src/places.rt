@@ -1,14 +1,12 @@
 //! Ports by their names, and port bits.
 ghost use Rattle.std.specs.Prelude.{◌≡◌, ◌+◌, ℕ, List, length, option_map, option_and_then, IfOk, OnOk, Some};
 ghost use Rattle.std.specs.Option.{option_or};
-ghost use Rattle.std.specs.BTreeMap.{get_by_text};
 ghost use Rattle.bsdl_text.specs.Words.{upper};
 ghost use Rattle.bsdl_text.specs.View.{value};
 ghost use Rattle.bsdl_text.specs.Numbers.{significant};
 ghost use Rattle.bsdl_cells.specs.View.{port_name};
 ghost use Rattle.bsdl_ports.specs.View as ports_view;
 ghost use Rattle.bsdl_ports.specs.Ports as port_list;
-ghost use Rattle.bsdl_limits.specs.PortBits.{bit_at};
 ghost use Rattle.bsdl_places.specs.Places as spec;
 ghost use Rattle.bsdl_places.specs.View.{AreAt, place_named, place as place_view, seat};
 

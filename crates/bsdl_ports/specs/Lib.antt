@@ -1,4 +1,3 @@
 pub mod Keywords
 pub mod Ports
-pub mod Scalars
 pub mod View

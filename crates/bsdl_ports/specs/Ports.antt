@@ -1,9 +1,7 @@
 -- The ports that an entity declares (IEEE Std 1149.1-2001, Annex B.8.3).
-use Rattle.std.specs.Prelude.{ℕ, nat_le, min, max, Bool, true, false, if◌then◌else◌, List, [], ◌∷◌, ◌++◌, map, codes}
+use Rattle.std.specs.Prelude.{ℕ, nat_le, min, max, Bool, if◌then◌else◌, List, [], ◌∷◌, ◌++◌, map, codes}
 use Rattle.std.specs.Prelude.{Option, Some, None}
-use Rattle.std.specs.List.{find}
 use Rattle.bsdl_lex.specs.Cutting.{Lexeme}
-use Rattle.bsdl_text.specs.Words.{same_name}
 use Rattle.bsdl_text.specs.Reading.{Read, fits, ◌>>=◌, refused_at, word, mark, stands, keyword, number, joined_by}
 use Rattle.bsdl_text.specs.Reading.{separated}
 use Rattle.bsdl_text.specs.Marks.{comma, opening, closing, semi, colon}
@@ -60,15 +58,3 @@ ports ts =
     this_word (codes "PORT") ts >>= λ p a. mark opening a >>= λ m b. separated port_group semi (stands closing) b >>=
     λ groups c. mark closing c >>= λ k d.
     mark semi d >>= λ s e. fits (concat groups) e
-
--- a declared port that is a single bit
-abbrev pub range_of : Option Port → Option (Option Range)
-range_of None = None
-range_of (Some p) = Some p.range
-
-abbrev pub is_single : Option (Option Range) → Bool
-is_single (Some None) = true
-is_single _ = false
-
-abbrev pub is_scalar : List Port → List ℕ → Bool
-is_scalar ps name = is_single (range_of (find (λ p. same_name p.name.text name) ps))

@@ -1,7 +1,5 @@
-//! The port list of an entity: its groups of ports with their ranges, and which ports are single bits (BSDL: IEEE Std
-//! 1149.1-2001, Annex B.8.3).
+//! The port list of an entity: its groups of ports with their ranges (BSDL: IEEE Std 1149.1-2001, Annex B.8.3).
 #![tactic(auto)]
 
 mod keywords;
 pub mod ports;
-pub mod scalars;

@@ -1,5 +1,5 @@
 //! The ports of an entity.
-ghost use Rattle.std.specs.Prelude.{◌≡◌, ◌<◌, List, length, map, option_map, nat_le, min, max, IfOk};
+ghost use Rattle.std.specs.Prelude.{◌≡◌, ◌<◌, List, length, map, option_map, IfOk};
 ghost use Rattle.bsdl_lex.specs.Left.{left};
 ghost use Rattle.bsdl_text.specs.Reading as reading;
 ghost use Rattle.bsdl_text.specs.View.{Gives, StopsAtMisfit};

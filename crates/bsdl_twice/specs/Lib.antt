@@ -1,3 +1,1 @@
-pub mod Spots
 pub mod Twice
-pub mod View

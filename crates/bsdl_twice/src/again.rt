@@ -6,15 +6,16 @@ ghost use Rattle.bsdl_entity.specs.GivenView.{given as given_view};
 ghost use Rattle.bsdl_instructions.specs.View as rows_view;
 ghost use Rattle.bsdl_text.specs.WordView.{word_lexeme};
 ghost use Rattle.bsdl_described.specs.View.{description};
+ghost use Rattle.bsdl_namings.specs.Namings as namings;
 ghost use Rattle.bsdl_twice.specs.Twice as spec;
-ghost use Rattle.bsdl_twice.specs.View.{again, naming};
+ghost use Rattle.bsdl_namings.specs.View.{again, naming};
 
-use crate::naming::{Again, Naming, Spot, earlier_again, first_again};
 use bsdl_described::description::Description;
 use bsdl_entity::entity::Outline;
 use bsdl_entity::items::Given;
 use bsdl_entity::ports::Group;
 use bsdl_instructions::names::{AccessRow, Instr, OpcodeRow};
+use bsdl_namings::naming::{Again, Naming, Spot, earlier_again, first_again};
 use bsdl_text::names::Word;
 use std::alloc::{AllocError, Global};
 
@@ -119,16 +120,16 @@ fn add_instrs<'a>(
 }
 
 fn port_again(alloc: Global, groups: &[Group<'_>]) -> Result<Option<Again>, AllocError>
-    ensures { IfOk result (λ o. option_map again o ≡ spec.earliest
-        (spec.repeated (map (λ p. spec.outside p.name) (ports_view.ports groups.now)))) }
+    ensures { IfOk result (λ o. option_map again o ≡ namings.earliest
+        (namings.repeated (map (λ p. spec.outside p.name) (ports_view.ports groups.now)))) }
 {
     let names = port_names(alloc, groups)?;
     first_again(alloc, &names)
 }
 
 fn attribute_again<'a>(alloc: Global, given: &[Given<'a>]) -> Result<Option<Again>, AllocError>
-    ensures { IfOk result (λ o. option_map again o ≡ spec.earliest
-        (spec.repeated (map (λ g. spec.outside g.name) (map given_view given.now)))) }
+    ensures { IfOk result (λ o. option_map again o ≡ namings.earliest
+        (namings.repeated (map (λ g. spec.outside g.name) (map given_view given.now)))) }
 {
     let names = attribute_names(alloc, given)?;
     first_again(alloc, &names)
@@ -139,8 +140,8 @@ fn opcode_again(
     start: usize,
     rows: &[OpcodeRow<'_>],
 ) -> Result<Option<Again>, AllocError>
-    ensures { IfOk result (λ o. option_map again o ≡ spec.earliest
-        (spec.repeated (map (λ r. spec.inside start r.name) (map rows_view.opcode_row rows.now)))) }
+    ensures { IfOk result (λ o. option_map again o ≡ namings.earliest
+        (namings.repeated (map (λ r. spec.inside start r.name) (map rows_view.opcode_row rows.now)))) }
 {
     let names = opcode_names(alloc, start, rows)?;
     first_again(alloc, &names)
@@ -151,8 +152,8 @@ fn own_again(
     start: usize,
     rows: &[AccessRow<'_>],
 ) -> Result<Option<Again>, AllocError>
-    ensures { IfOk result (λ o. option_map again o ≡ spec.earliest
-        (spec.repeated (map (λ i. spec.inside start i.name)
+    ensures { IfOk result (λ o. option_map again o ≡ namings.earliest
+        (namings.repeated (map (λ i. spec.inside start i.name)
         (flat_map (λ r. r.instrs) (map rows_view.access_row rows.now))))) }
 {
     let names = own_names(alloc, start, rows)?;
@@ -161,9 +162,9 @@ fn own_again(
 
 /// The first name that is given again in the text itself: of a port, or of an attribute.
 fn outside_again(alloc: Global, outline: &Outline<'_>) -> Result<Option<Again>, AllocError>
-    ensures { IfOk result (λ o. option_map again o ≡ spec.earliest
-        (spec.repeated (map (λ p. spec.outside p.name) (ports_view.ports outline.now.groups.items))
-        ++ spec.repeated (map (λ g. spec.outside g.name) (map given_view outline.now.given.items)))) }
+    ensures { IfOk result (λ o. option_map again o ≡ namings.earliest
+        (namings.repeated (map (λ p. spec.outside p.name) (ports_view.ports outline.now.groups.items))
+        ++ namings.repeated (map (λ g. spec.outside g.name) (map given_view outline.now.given.items)))) }
 {
     let port = port_again(alloc, &outline.groups)?;
     let attribute = attribute_again(alloc, &outline.given)?;
@@ -173,10 +174,10 @@ fn outside_again(alloc: Global, outline: &Outline<'_>) -> Result<Option<Again>, 
 /// The first name that is given again within quotes: of an instruction with an opcode, or of an own instruction with a
 /// register.
 fn inside_again(alloc: Global, described: &Description<'_>) -> Result<Option<Again>, AllocError>
-    ensures { IfOk result (λ o. option_map again o ≡ spec.earliest
-        (spec.repeated (map (λ r. spec.inside described.now.opcode_start r.name)
+    ensures { IfOk result (λ o. option_map again o ≡ namings.earliest
+        (namings.repeated (map (λ r. spec.inside described.now.opcode_start r.name)
         (map rows_view.opcode_row described.now.opcodes.items))
-        ++ spec.repeated (map (λ i. spec.inside described.now.access_start i.name)
+        ++ namings.repeated (map (λ i. spec.inside described.now.access_start i.name)
         (flat_map (λ r. r.instrs) (map rows_view.access_row described.now.accesses.items))))) }
 {
     let opcode = opcode_again(alloc, described.opcode_start, &described.opcodes)?;

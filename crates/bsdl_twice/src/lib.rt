@@ -2,4 +2,3 @@
 #![tactic(auto)]
 
 pub mod again;
-pub mod naming;

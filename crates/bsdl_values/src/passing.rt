@@ -1,5 +1,5 @@
 //! Tokens that are passed over.
-ghost use Rattle.std.specs.Prelude.{◌≡◌, ◌<◌, length, true, IfOk};
+ghost use Rattle.std.specs.Prelude.{◌<◌, length, IfOk};
 ghost use Rattle.bsdl_lex.specs.Left.{left};
 ghost use Rattle.bsdl_text.specs.View.{Passes, StopsAtMisfit};
 ghost use Rattle.bsdl_values.specs.Passing as spec;

@@ -1,5 +1,5 @@
 //! What attributes say.
-ghost use Rattle.std.specs.Prelude.{◌≡◌, ◌<◌, ◌≤◌, List, length, map, option_map, IfOk};
+ghost use Rattle.std.specs.Prelude.{◌≡◌, ◌<◌, length, map, option_map, IfOk};
 ghost use Rattle.bsdl_lex.specs.Left.{left};
 ghost use Rattle.bsdl_text.specs.Reading.{quoted_value};
 ghost use Rattle.bsdl_text.specs.View.{Gives, StopsAtMisfit};

@@ -1,7 +1,7 @@
 // A reader, a writer or an end that notes its first loss, and writing all of a text through one.
-ghost use Rattle.std.specs.Prelude.{◌≡◌, ℕ, ◌≤◌, ◌↔◌, false, true, IsTrue, IsOk, IsErr, OnOk, flat_map, is_ok};
+ghost use Rattle.std.specs.Prelude.{◌≡◌, ◌≤◌, false, IsTrue, flat_map, is_ok};
 ghost use Rattle.std.specs.Io.{ReadsAtMost, WritesAtMost};
-ghost use Rattle.std.specs.Io.KnownBytes.{Appends, Keeps, ReadConsumes, WriteAppends};
+ghost use Rattle.std.specs.Io.KnownBytes.{Keeps, ReadConsumes, WriteAppends};
 ghost use Rattle.byte_ends.specs.Counts.{CountedView, lost_after, flushed_after, ended_after};
 ghost use Rattle.byte_ends.specs.Writes.{PutsAll, WritesAll};
 

@@ -1,5 +1,5 @@
 // The readers and writers that a proof can follow from call to call.
-ghost use Rattle.std.specs.Prelude.{ℕ, List, Option, Result};
+ghost use Rattle.std.specs.Prelude.{ℕ, List, Result};
 ghost use Rattle.std.specs.Io.{ReadsAtMost, WritesAtMost};
 ghost use Rattle.std.specs.Io.KnownBytes.{Keeps, ReadConsumes, WriteAppends};
 ghost use Rattle.std.specs.declared.io.Error.{Error};

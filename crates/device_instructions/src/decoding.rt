@@ -4,8 +4,8 @@ ghost use Rattle.std.specs.Prelude.{◌≡◌, ℕ, List, Bool, Some, option_map
 ghost use Rattle.std.specs.List.{list_all};
 ghost use Rattle.device_instructions.specs.Fitting.{Fits, IsFormed, fixed_of, meaning_by};
 ghost use Rattle.bsdl_device.specs.Opcodes.{matches, names_it};
-ghost use Rattle.device_instructions.specs.Instruction.{as_bypass, reads_code, instruction, meaning, meaning_of};
-ghost use Rattle.device_instructions.specs.Instruction.{look_up, standard, access_meaning};
+ghost use Rattle.device_instructions.specs.Instruction.{reads_code, instruction, meaning, meaning_of};
+ghost use Rattle.device_instructions.specs.Instruction.{look_up, access_meaning};
 ghost use Rattle.std.specs.List.{find};
 ghost use Rattle.device_instructions.specs.declared.decoding.Fixed.TheVariants.{Free};
 

@@ -1,6 +1,6 @@
 //! What a reset gives.
 
-ghost use Rattle.std.specs.Prelude.{◌≡◌, Bool, List, IfOk, option_map, if◌then◌else◌};
+ghost use Rattle.std.specs.Prelude.{◌≡◌, IfOk, option_map, if◌then◌else◌};
 ghost use Rattle.bsdl_device.specs.Opcodes.{idcode_opcode, x_as_0};
 ghost use Rattle.bsdl_device.specs.Device.{Pattern as ThePattern};
 ghost use Rattle.device_instructions.specs.Fitting.{has_code as is_coded};

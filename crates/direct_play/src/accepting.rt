@@ -1,6 +1,6 @@
 //! Which texts are accepted, and as which programs.
 
-ghost use Rattle.std.specs.Prelude.{◌≡◌, ◌≢◌, ◌+◌, ◌*◌, ◌≤◌, IfOk, IfErr, Ok, Err, length};
+ghost use Rattle.std.specs.Prelude.{◌≢◌, ◌+◌, ◌*◌, ◌≤◌, IfOk, IfErr, Ok, Err, length};
 ghost use Rattle.svf_parse.specs.View.{memory_fault};
 ghost use Rattle.svf_settings.specs.Reading.{Answers};
 ghost use Rattle.svf_programs.specs.Sizes.{program_of};

@@ -1,6 +1,6 @@
 //! Player and board joined by two bounded pipes.
 
-ghost use Rattle.std.specs.Prelude.{◌≡◌, ◌≤◌, ◌<◌, ℕ, Some, map, MatchResult};
+ghost use Rattle.std.specs.Prelude.{◌≡◌, ◌<◌, Some, map, MatchResult};
 ghost use Rattle.plays.specs.Events.{empty_pipes, moving, run};
 ghost use Rattle.plays.specs.PlayingOn.{Stops};
 ghost use Rattle.plays.specs.Streams.{new_stream};

@@ -1,6 +1,6 @@
 //! The two pipes, and what each event does to them.
 
-ghost use Rattle.std.specs.Prelude.{◌≡◌, ◌≤◌, ◌<◌, ◌+◌, ◌-◌, ℕ, Bool, [], min, length, take, map, is_some, nat_lt};
+ghost use Rattle.std.specs.Prelude.{◌≡◌, ◌<◌, ◌+◌, ◌-◌, min, length, take, map, is_some, nat_lt};
 ghost use Rattle.std.specs.Prelude.{false, unwrap_or, Some, MatchResult};
 ghost use Rattle.bitbang_table.specs.Protocol.{decode};
 ghost use Rattle.plays.specs.Events.{empty_pipes, happens, has_room, bytes_moved, moving, put_bytes, run, served};

@@ -1,10 +1,10 @@
 //! Lists of bits: the registers and vectors of a scan chain.
 #![tactic(auto)]
 
-ghost use Rattle.std.specs.Prelude.{◌≡◌, ◌+◌, ◌*◌, ◌%◌, ◌<◌, ◌≤◌, ℕ, true, false, length, replicate, slice_get};
+ghost use Rattle.std.specs.Prelude.{◌≡◌, ◌+◌, ◌*◌, ◌<◌, ◌≤◌, ℕ, true, false, length, replicate, slice_get};
 ghost use Rattle.std.specs.Prelude.{slice_set, IfOk};
 ghost use Rattle.jt_bits.specs.Lengths.{resized};
-ghost use Rattle.jt_bits.specs.Packed.{has_bit, packed_bit, bits_in_words, FewWords};
+ghost use Rattle.jt_bits.specs.Packed.{has_bit, bits_in_words, FewWords};
 ghost use Rattle.jt_bits.specs.Runs.{RunSet, copied};
 ghost use Rattle.jt_bits.specs.Shifting.{after_shift};
 ghost use Rattle.jt_bits.specs.Words.{bit_of, word_of, word_from, is_bad_at, is_bad_bit, IsFirst};

@@ -3,7 +3,6 @@
 ghost use Rattle.std.specs.Prelude.{◌≡◌, ◌<◌, ◌++◌, ℕ, [], ◌∷◌, None, length, map, slice_index, IfOk, OnOk};
 ghost use Rattle.pin_nets.specs.Levels.{four, counts_of, pull_drive};
 ghost use Rattle.pin_nets.specs.Places.{AddsLoneNets, AllNone, AreShort, EntersPins, HasNetOfEach, IsOnce, alone};
-ghost use Rattle.pin_nets.specs.Places.{lone_nets};
 ghost use Rattle.pin_nets.specs.Building.{HasPinsBelow, built, net_value};
 
 use crate::nets::{Net, Nets};

@@ -1,15 +1,14 @@
 //! One device, edge by edge.
 
-ghost use Rattle.std.specs.Prelude.{◌≡◌, ◌+◌, ◌<◌, ◌≤◌, ℕ, [], ◌∷◌, true, Bool, List, None, Some, length, option_map};
-ghost use Rattle.std.specs.Prelude.{slice_get, unwrap_or, if◌then◌else◌, IfOk};
+ghost use Rattle.std.specs.Prelude.{◌≡◌, ◌+◌, ◌<◌, ◌≤◌, ℕ, Bool, List, None, Some, length, option_map};
+ghost use Rattle.std.specs.Prelude.{slice_get, if◌then◌else◌, IfOk};
 ghost use Rattle.jt_bits.specs.Packed.{has_bit};
 ghost use Rattle.jt_bits.specs.Runs.{RunSet};
 ghost use Rattle.jt_bits.specs.Words.{bit_of};
 ghost use Rattle.jt_tap.specs.Controller.{work};
-ghost use Rattle.device_instructions.specs.declared.Mode.{Mode as TheMode};
 ghost use Rattle.scan_registers.specs.Chips.{ChipValue, one_chip, surroundings_of, powered, registers, with_registers};
 ghost use Rattle.jt_bits.specs.Shifting.{after_shift};
-ghost use Rattle.scan_registers.specs.Edges.{OneChip, rise, fall, after_trst, after_rise, after_fall};
+ghost use Rattle.scan_registers.specs.Edges.{rise, fall, after_trst};
 ghost use Rattle.scan_registers.specs.Edges.{tdo_after};
 ghost use Rattle.device_instructions.specs.Fitting.{IsFormed, meaning_by, has_code as is_coded};
 ghost use Rattle.device_instructions.specs.Instruction.{instruction, meaning};

@@ -4,7 +4,7 @@
 //! out each bit from them.
 #![tactic(auto)]
 
-ghost use Rattle.std.specs.Prelude.{◌≡◌, ◌+◌, ◌<◌, ◌^◌, length, not};
+ghost use Rattle.std.specs.Prelude.{◌≡◌, ◌+◌, ◌<◌, ◌^◌, length};
 ghost use Rattle.scan_vectors.specs.Vector as spec;
 ghost use Rattle.scan_vectors.specs.Fields.{vector_of};
 ghost use Rattle.scan_vectors.specs.Held.{bits, fields};

@@ -1,5 +1,5 @@
 //! The parts of a RUNTEST.
-ghost use Rattle.std.specs.Prelude.{◌≡◌, List, ℕ, option_map};
+ghost use Rattle.std.specs.Prelude.{◌≡◌, option_map};
 ghost use Rattle.svf_words.specs.Words.{Word, words_left};
 ghost use Rattle.svf_forms.specs.RunTests as spec;
 ghost use Rattle.svf_forms.specs.View as view;

@@ -1,6 +1,6 @@
 //! Numbers with a point and an exponent, exactly.
 ghost use Rattle.std.specs.Prelude.{◌≡◌, ◌≢◌, ◌+◌, ◌*◌, ◌^◌, ◌%◌, ◌<◌, ◌≤◌, List, ℕ, Bool, true, length, min, Ok, Err};
-ghost use Rattle.std.specs.Prelude.{MatchResult, MatchOption, IfSome, IfOk, option_map, ⊤};
+ghost use Rattle.std.specs.Prelude.{MatchResult, MatchOption, IfSome, option_map, ⊤};
 ghost use Rattle.std.specs.List.{list_all, prefix_len};
 ghost use Rattle.std.specs.Int.{div_ceil};
 ghost use Rattle.std.specs.Char.{is_ascii_digit};

@@ -1,5 +1,5 @@
 //! What a statement says that is written in a form.
-ghost use Rattle.std.specs.Prelude.{◌≡◌, Some, None, Ok, IfOk, Option, List, Bool, option_map};
+ghost use Rattle.std.specs.Prelude.{◌≡◌, Some, None, Ok, IfOk, Option, option_map};
 ghost use Rattle.svf_parse.specs.Judging as spec;
 ghost use Rattle.svf_forms.specs.Forms.{scan_form};
 ghost use Rattle.svf_words.specs.Words.{Word};

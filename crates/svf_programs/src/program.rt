@@ -1,6 +1,6 @@
 //! A program that was accepted.
 
-ghost use Rattle.std.specs.Prelude.{◌≡◌, ◌<◌, ◌+◌, ◌^◌, length, map, slice_get, Some};
+ghost use Rattle.std.specs.Prelude.{◌≡◌, ◌<◌, ◌+◌, length, map, slice_get, Some};
 ghost use Rattle.svf_parse.specs.View.{said_of};
 ghost use Rattle.svf_programs.specs.Held as held;
 ghost use Rattle.svf_programs.specs.Seen as seen;

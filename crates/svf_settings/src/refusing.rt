@@ -1,13 +1,12 @@
 //! Why a statement is refused at the settings there.
 
-ghost use Rattle.std.specs.Prelude.{◌≡◌, ◌+◌, ◌*◌, ◌==◌, ◌&&◌, Bool, List, Option, Some, None, [], map, not, nat_lt};
-ghost use Rattle.std.specs.Prelude.{option_map, if◌then◌else◌, unwrap_or, is_some};
+ghost use Rattle.std.specs.Prelude.{◌≡◌, ◌+◌, ◌*◌, ◌==◌, ◌&&◌, Bool, List, Option, Some, None, map, nat_lt};
+ghost use Rattle.std.specs.Prelude.{option_map, if◌then◌else◌, unwrap_or};
 ghost use Rattle.std.specs.Int.{div_ceil};
 ghost use Rattle.std.specs.List.{list_all};
 ghost use Rattle.svf_parse.specs.View.{said_of};
 ghost use Rattle.svf_parse.specs.Judging.{Said};
 ghost use Rattle.svf_parse.specs.Judging as says;
-ghost use Rattle.tap_paths.specs.Paths as paths;
 ghost use Rattle.svf_programs.specs.Legal.{is_reset};
 ghost use Rattle.svf_programs.specs.Sound.{vector_limit};
 ghost use Rattle.svf_settings.specs.LookBack as look;

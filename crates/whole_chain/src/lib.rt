@@ -2,13 +2,13 @@
 //! take what stays in (IEEE Std 1149.1-2001, clause 9).
 #![tactic(auto)]
 
-ghost use Rattle.std.specs.Prelude.{◌≡◌, ◌+◌, ◌<◌, ◌≤◌, ◌^◌, ℕ, [], Bool, List, length, drop, map, slice_get};
+ghost use Rattle.std.specs.Prelude.{◌≡◌, ◌+◌, ◌<◌, ◌≤◌, ◌^◌, ℕ, [], length, drop, map, slice_get};
 ghost use Rattle.std.specs.Prelude.{slice_index_or, Some};
 ghost use Rattle.jt_bits.specs.Packed.{has_bit};
 ghost use Rattle.jt_bits.specs.Words.{bit_of};
 ghost use Rattle.scan_vectors.specs.Vector.{judge, tdis};
 ghost use Rattle.scan_vectors.specs.Held.{bits};
-ghost use Rattle.whole_chain.specs.Rows.{before, joined_registers, left, out, IsCutBack};
+ghost use Rattle.whole_chain.specs.Rows.{before, left, out, IsCutBack};
 
 use jt_tap::Column;
 use scan_registers::Link;

@@ -1,5 +1,5 @@
 use Rattle.bsdl_ports.specs.View.{ports}
-use Rattle.bsdl_ports.proofs.ScalarLaws.{tells_all}
+use Rattle.bsdl_scalars.proofs.ScalarLaws.{tells_all}
 use Rattle.bsdl_entity.proofs.entity.attributes.Goals as goal
 
 pub returns-in-Ok : goal.returns-in-Ok

@@ -8,7 +8,7 @@ use Rattle.bsdl_text.proofs.ListLaws.{stops_where, prepend}
 use Rattle.bsdl_instructions.specs.Values.{begins}
 use Rattle.bsdl_entity.specs.Entity.{item, items}
 use Rattle.bsdl_entity.specs.GivenView.{given}
-use Rattle.bsdl_ports.specs.Scalars.{tells}
+use Rattle.bsdl_scalars.specs.Scalars.{tells}
 use Rattle.bsdl_entity.proofs.ItemLaws.{all_items, no_item, one_item}
 use Rattle.bsdl_entity.proofs.items.items.Goals as goal
 

@@ -3,7 +3,7 @@ use Rattle.std.specs.Prelude.{not, option_map}
 use Rattle.std.specs.List.{list_any}
 use Rattle.bsdl_cells.specs.View.{cell_row, port_name}
 use Rattle.bsdl_own_instructions.specs.Own.{is_among}
-use Rattle.bsdl_fit.specs.Drivers.{driver_at, drives_below, is_below}
+use Rattle.bsdl_cell_maps.specs.Drivers.{driver_at, drives_below, is_below}
 use Rattle.bsdl_device.specs.Driving.{drives}
 use Rattle.bsdl_places.specs.View.{seat}
 use Rattle.bsdl_fit.proofs.SeatLaws.{fits_at, fits_nowhere}

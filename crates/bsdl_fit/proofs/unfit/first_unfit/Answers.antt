@@ -2,7 +2,7 @@ use Rattle.std.proofs.Common.{nat_lt, ap, sym, ◌∙◌}
 use Rattle.std.specs.Prelude.{not}
 use Rattle.std.specs.BTreeMap.{get}
 use Rattle.std.specs.Ordering.{nat_cmp}
-use Rattle.bsdl_fit.specs.Table.{is_fit}
+use Rattle.bsdl_cell_maps.specs.Table.{is_fit}
 use Rattle.bsdl_fit.proofs.TableLaws.{find_next}
 use Rattle.bsdl_fit.proofs.unfit.first_unfit.Goals as goal
 

@@ -3,7 +3,7 @@ use Rattle.std.specs.Prelude.{not}
 use Rattle.std.specs.BTreeMap.{get}
 use Rattle.std.specs.List.{find, range_with_len}
 use Rattle.std.specs.Ordering.{nat_cmp}
-use Rattle.bsdl_fit.specs.Table.{is_fit}
+use Rattle.bsdl_cell_maps.specs.Table.{is_fit}
 use Rattle.bsdl_fit.proofs.unfit.first_unfit.Given as goal
 
 abbrev pub invariant-loop-number : goal.invariant-loop-number

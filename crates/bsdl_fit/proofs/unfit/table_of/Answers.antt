@@ -3,7 +3,7 @@ use Rattle.std.proofs.lemmas.List.{take_all, take_more, map-append}
 use Rattle.bsdl_cells.specs.View.{cell_row}
 use Rattle.bsdl_cells.specs.declared.CellRow.{CellRow}
 use Rattle.bsdl_fit.specs.Fits.{row_fits}
-use Rattle.bsdl_fit.specs.Table.{only_row_fits, with_row}
+use Rattle.bsdl_cell_maps.specs.Table.{only_row_fits, with_row}
 use Rattle.bsdl_fit.proofs.TableLaws.{kept_more}
 use Rattle.bsdl_fit.proofs.unfit.table_of.Goals as goal
 

@@ -5,7 +5,7 @@ use Rattle.bsdl_cells.specs.View.{cell_row}
 use Rattle.bsdl_described.specs.Describing.{Description}
 use Rattle.bsdl_fit.specs.Fits.{row_fits}
 use Rattle.bsdl_fit.specs.Holds.{Holds}
-use Rattle.bsdl_fit.specs.Table.{only_row_fits}
+use Rattle.bsdl_cell_maps.specs.Table.{only_row_fits}
 use Rattle.bsdl_fit.proofs.unfit.table_of.Given as goal
 
 abbrev pub invariant-loop-row : goal.invariant-loop-row

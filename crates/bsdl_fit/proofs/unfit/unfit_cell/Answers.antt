@@ -6,7 +6,7 @@ use Rattle.std.specs.Ordering.{nat_cmp}
 use Rattle.bsdl_cells.specs.View.{cell_row}
 use Rattle.bsdl_described.specs.View.{description}
 use Rattle.bsdl_fit.specs.Fits as fits
-use Rattle.bsdl_fit.specs.Table.{is_fit, only_row_fits}
+use Rattle.bsdl_cell_maps.specs.Table.{is_fit, only_row_fits}
 use Rattle.bsdl_fit.proofs.TableLaws.{end_by, find_same, fit_by}
 use Rattle.bsdl_fit.proofs.unfit.unfit_cell.Goals as goal
 

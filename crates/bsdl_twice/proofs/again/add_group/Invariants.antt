@@ -4,7 +4,7 @@ use Rattle.bsdl_ports.specs.Ports.{Port}
 use Rattle.bsdl_ports.specs.View.{range}
 use Rattle.bsdl_text.specs.WordView.{word_lexeme}
 use Rattle.bsdl_twice.specs.Twice.{outside}
-use Rattle.bsdl_twice.specs.View.{naming}
+use Rattle.bsdl_namings.specs.View.{naming}
 use Rattle.bsdl_twice.proofs.again.add_group.Given as goal
 
 abbrev pub invariant-loop-name : goal.invariant-loop-name

@@ -1,7 +1,7 @@
 use Rattle.std.proofs.Common.{◌≡◌, map, take}
 use Rattle.bsdl_entity.specs.GivenView.{given}
 use Rattle.bsdl_twice.specs.Twice.{outside}
-use Rattle.bsdl_twice.specs.View.{naming}
+use Rattle.bsdl_namings.specs.View.{naming}
 use Rattle.bsdl_twice.proofs.again.attribute_names.Given as goal
 
 abbrev pub invariant-loop-giving : goal.invariant-loop-giving

@@ -1,10 +1,11 @@
 use Rattle.std.proofs.Common.{sym, ap, ◌∙◌}
 use Rattle.std.specs.Prelude.{option_map}
 use Rattle.bsdl_described.specs.View.{description}
-use Rattle.bsdl_twice.specs.Twice.{earliest, repeated_inside, repeated_outside}
-use Rattle.bsdl_twice.specs.Spots.{either}
-use Rattle.bsdl_twice.specs.View.{again}
-use Rattle.bsdl_twice.proofs.SpotLaws.{earliest_of}
+use Rattle.bsdl_namings.specs.Namings.{earliest}
+use Rattle.bsdl_twice.specs.Twice.{repeated_inside, repeated_outside}
+use Rattle.bsdl_namings.specs.Spots.{either}
+use Rattle.bsdl_namings.specs.View.{again}
+use Rattle.bsdl_namings.proofs.SpotLaws.{earliest_of}
 use Rattle.bsdl_twice.proofs.again.given_again.Goals as goal
 
 pub returns : goal.returns

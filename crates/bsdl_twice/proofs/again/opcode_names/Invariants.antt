@@ -1,7 +1,7 @@
 use Rattle.std.proofs.Common.{◌≡◌, map, take}
 use Rattle.bsdl_instructions.specs.View.{opcode_row}
 use Rattle.bsdl_twice.specs.Twice.{inside}
-use Rattle.bsdl_twice.specs.View.{naming}
+use Rattle.bsdl_namings.specs.View.{naming}
 use Rattle.bsdl_twice.proofs.again.opcode_names.Given as goal
 
 abbrev pub invariant-loop-row : goal.invariant-loop-row

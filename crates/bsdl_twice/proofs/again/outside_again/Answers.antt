@@ -2,10 +2,11 @@ use Rattle.std.proofs.Common.{◌≡◌, ap, sym, ◌∙◌, map}
 use Rattle.std.specs.Prelude.{option_map}
 use Rattle.bsdl_ports.specs.View as ports_view
 use Rattle.bsdl_entity.specs.GivenView as given_view
-use Rattle.bsdl_twice.specs.Twice.{earliest, repeated, outside}
-use Rattle.bsdl_twice.specs.Spots.{either}
-use Rattle.bsdl_twice.specs.View.{again}
-use Rattle.bsdl_twice.proofs.SpotLaws.{earliest_of}
+use Rattle.bsdl_namings.specs.Namings.{earliest, repeated}
+use Rattle.bsdl_twice.specs.Twice.{outside}
+use Rattle.bsdl_namings.specs.Spots.{either}
+use Rattle.bsdl_namings.specs.View.{again}
+use Rattle.bsdl_namings.proofs.SpotLaws.{earliest_of}
 use Rattle.bsdl_twice.proofs.again.outside_again.Goals as goal
 
 pub returns : goal.returns

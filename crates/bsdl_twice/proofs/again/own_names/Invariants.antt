@@ -2,7 +2,7 @@ use Rattle.std.proofs.Common.{◌≡◌, ◌++◌, map, drop}
 use Rattle.std.specs.List.{flat_map}
 use Rattle.bsdl_instructions.specs.View.{access_row}
 use Rattle.bsdl_twice.specs.Twice.{inside}
-use Rattle.bsdl_twice.specs.View.{naming}
+use Rattle.bsdl_namings.specs.View.{naming}
 use Rattle.bsdl_twice.proofs.again.own_names.Given as goal
 
 abbrev pub invariant-loop-row : goal.invariant-loop-row

@@ -1,7 +1,7 @@
 use Rattle.std.proofs.Common.{◌≡◌, ◌++◌, map, drop}
 use Rattle.bsdl_ports.specs.View.{ports}
 use Rattle.bsdl_twice.specs.Twice.{outside}
-use Rattle.bsdl_twice.specs.View.{naming}
+use Rattle.bsdl_namings.specs.View.{naming}
 use Rattle.bsdl_twice.proofs.again.port_names.Given as goal
 
 abbrev pub invariant-loop-group : goal.invariant-loop-group

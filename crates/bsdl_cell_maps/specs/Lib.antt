@@ -1,0 +1,3 @@
+pub mod Controls
+pub mod Drivers
+pub mod Table

@@ -1,0 +1,3 @@
+pub mod Namings
+pub mod Spots
+pub mod View

@@ -1,0 +1,30 @@
+-- Names at their places, and those that are given again (IEEE Std 1149.1-2001, Annex B.8.3 to B.8.14).
+use Rattle.std.specs.Prelude.{ℕ, ◌==◌, nat_lt, Bool, ◌&&◌, ◌||◌, if◌then◌else◌, List, [], ◌∷◌, filter}
+use Rattle.std.specs.Prelude.{Option, Some, None}
+use Rattle.std.specs.List.{list_any}
+use Rattle.bsdl_text.specs.Words.{same_name}
+use Rattle.bsdl_namings.specs.declared.naming.Spot.{Spot}
+
+-- Places are in order by the token, then by the byte within its text.
+abbrev pub stands_before : Spot → Spot → Bool
+stands_before p q = nat_lt p.outer q.outer || (p.outer == q.outer && nat_lt p.within q.within)
+
+-- a name that is given at a place
+pub record Naming : Type 0 where
+  pub name : List ℕ
+  pub spot : Spot
+
+-- one of the same name stands before
+abbrev pub is_repeated : List Naming → Naming → Bool
+is_repeated all n = list_any (λ m. same_name m.name n.name && stands_before m.spot n.spot) all
+
+abbrev pub repeated : List Naming → List Naming
+repeated all = filter (is_repeated all) all
+
+abbrev pub earlier : Naming → Option Naming → Naming
+earlier n None = n
+earlier n (Some m) = if stands_before m.spot n.spot then m else n
+
+abbrev pub earliest : List Naming → Option Naming
+earliest [] = None
+earliest (n ∷ ns) = Some (earlier n (earliest ns))
