@@ -14,6 +14,8 @@ use Rattle.bsdl_own_instructions.specs.Own.{is_own, own_accesses}
 use Rattle.bsdl_cells.specs.Rows.{CellRow}
 use Rattle.bsdl_ports.specs.Ports.{Port}
 use Rattle.bsdl_entity.specs.Entity.{File, Given}
+use Rattle.bsdl_givings.specs.Givings.{value_given, as_port, as_count, as_pattern, as_codes, as_names, as_opcodes}
+use Rattle.bsdl_givings.specs.Givings.{as_accesses, as_cells}
 
 -- why a description is refused; a place is counted in bytes from 0
 pub data Refusal : Type 0 where
