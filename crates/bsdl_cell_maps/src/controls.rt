@@ -4,7 +4,6 @@ ghost use Rattle.std.specs.List.{list_any};
 ghost use Rattle.std.specs.BTreeSet.{contains_by};
 ghost use Rattle.std.specs.Ordering.{nat_cmp};
 ghost use Rattle.bsdl_cells.specs.View.{cell_row};
-ghost use Rattle.bsdl_cell_maps.specs.Controls.{controls_as};
 ghost use Rattle.bsdl_cell_maps.specs.Controls as spec;
 
 use bsdl_cells::CellRow;
@@ -15,7 +14,7 @@ use std::collections::BTreeSet;
 /// The numbers of the cells that control others; numbers above 65,536 count as 65,536.
 pub fn controls_of(alloc: Global, rows: &[CellRow<'_>]) -> Result<BTreeSet<usize>, AllocError>
     ensures { IfOk result (λ s. (n : ℕ) → n ≤ 65535 → contains_by (nat_cmp n) s
-        ≡ list_any (controls_as n) (map cell_row rows.now)) }
+        ≡ list_any (spec.controls_as n) (map cell_row rows.now)) }
 {
     let mut controls = BTreeSet::new(alloc);
     for row in rows {
@@ -26,7 +25,7 @@ pub fn controls_of(alloc: Global, rows: &[CellRow<'_>]) -> Result<BTreeSet<usize
 
 fn add_row(controls: &mut BTreeSet<usize>, row: &CellRow<'_>) -> Result<(), AllocError>
     ensures { OnOk result ((n : ℕ) → n ≤ 65535 → contains_by (nat_cmp n) controls.new
-        ≡ contains_by (nat_cmp n) controls.old || controls_as n (cell_row row.now)) }
+        ≡ contains_by (nat_cmp n) controls.old || spec.controls_as n (cell_row row.now)) }
 {
     if is_control(row.function) {
         controls.insert(row.number.up_to(65_536))?;
