@@ -58,12 +58,6 @@ name_put before key name q x same new = by_test (bytes_eq key q) refl
         let there : bytes_eq name q ≡ false = ap (λ (n : List ℕ). bytes_eq n q) (sym same) ∙ is in
         rw (is, there) (sym (or_none (before q)))
 
-    by_test : (b : Bool) → bytes_eq name q ≡ b → before q ≡ option_or (before q) (at_name name x q)
-    by_test true is =
-        let here : key ≡ q = same ∙ (bytes_eq-Decides name q).0 is in
-        rw is (some_is (before q) (ap (λ (k : List ℕ). is_some (before k)) (sym here) ∙ known))
-    by_test false is = rw is (sym (or_none (before q)))
-
 pub mapped : {A B : Type 0} (f : A → B) (b : Bool) (x : A) (o : Option A) → option_map f (cond b (Some x) o) ≡ cond b (Some (f x)) (option_map f o)
 mapped f true x o = refl
 mapped f false x o = refl
