@@ -42,7 +42,7 @@ pub struct Naming<'a> {
 }
 
 /// The earlier of two.
-pub fn earlier<'a>(one: Option<Naming<'a>>, other: Option<Naming<'a>>) -> Option<Naming<'a>>
+fn earlier<'a>(one: Option<Naming<'a>>, other: Option<Naming<'a>>) -> Option<Naming<'a>>
     ensures { option_map naming result ≡ either (option_map naming one.entry) (option_map naming other.entry) }
 {
     match (one, other) {
@@ -157,7 +157,7 @@ fn stands_before(spots: &BTreeMap<String, Spot>, key: &str, spot: Spot) -> bool
 }
 
 /// The first of these that has the same name, in any case, before it.
-pub fn first_repeat<'a>(
+fn first_repeat<'a>(
     alloc: Global,
     names: &[Naming<'a>],
 ) -> Result<Option<Naming<'a>>, AllocError>
