@@ -157,10 +157,7 @@ fn stands_before(spots: &BTreeMap<String, Spot>, key: &str, spot: Spot) -> bool
 }
 
 /// The first of these that has the same name, in any case, before it.
-fn first_repeat<'a>(
-    alloc: Global,
-    names: &[Naming<'a>],
-) -> Result<Option<Naming<'a>>, AllocError>
+fn first_repeat<'a>(alloc: Global, names: &[Naming<'a>]) -> Result<Option<Naming<'a>>, AllocError>
     ensures { IfOk result (λ o. option_map naming o ≡ spec.earliest (spec.repeated (map naming names.now))) }
 {
     let spots = first_spots(alloc, names)?;
