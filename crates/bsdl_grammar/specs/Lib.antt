@@ -1,0 +1,5 @@
+pub mod Entity
+pub mod Laws
+pub mod Lists
+pub mod Ports
+pub mod Quoted
