@@ -2,12 +2,14 @@
 use Rattle.std.proofs.Common.{◌≡◌, ℕ, ◌≤◌, Bool, true, false, cond, List, [], ◌∷◌, ◌++◌, length, Some, None, refl, sym, ap, subst, ◌∙◌, append_assoc, inl, inr, arith}
 use Rattle.std.specs.Prelude.{codes, drop}
 use Rattle.std.specs.List.{AllByRecursion}
-use Rattle.std.proofs.lemmas.List.{length-append}
+use Rattle.std.proofs.lemmas.List.{append-nil, length-append}
 use Rattle.bsdl_lex.specs.Bytes.{begins_word}
 use Rattle.bsdl_lex.specs.Cutting.{Lexeme, tokens, bad_place, cuts_of}
 use Rattle.bsdl_text.specs.Marks.{semi}
 use Rattle.bsdl_text.specs.Reading.{Read, fits, misfit, ◌>>=◌, word, mark, is_word_kind}
-use Rattle.bsdl_instructions.specs.Values.{begins}
+use Rattle.bsdl_instructions.specs.Values.{begins, rows, pattern, opcode_row, private_name, access_row}
+use Rattle.bsdl_cells.specs.Rows.{cell_row}
+use Rattle.bsdl_values.specs.Values.{value_of}
 use Rattle.bsdl_ports.specs.Keywords.{this_word}
 use Rattle.bsdl_ports.specs.Ports.{Port, ports}
 use Rattle.bsdl_scalars.specs.Scalars.{is_scalar}
@@ -15,11 +17,18 @@ use Rattle.bsdl_values.specs.Passing.{brackets}
 use Rattle.bsdl_entity.specs.Entity.{Given, items, File, generic, any_word, end_of_text, ending, heading, file}
 use Rattle.bsdl_grammar.specs.Lists.{IsMark, IsWord, IsToken, Spells}
 use Rattle.bsdl_grammar.specs.Entity.{all_given, IsGeneric, IsHeading, IsEnding, IsFile, SpellsEntity}
-use Rattle.bsdl_grammar.specs.Laws.{TokensAreReadAsTheySpell, TextsAreReadAsTheySpell, EntitiesAreOne}
+use Rattle.bsdl_grammar.specs.Quoted.{AreRows, IsPattern, IsOpcodeRow, IsPrivateName, IsAccessRow, IsCellRow}
+use Rattle.bsdl_grammar.specs.Ports.{IsPorts}
+use Rattle.bsdl_grammar.specs.Values.{IsValue}
+use Rattle.bsdl_grammar.specs.Laws.{IsReadBy, PortsAreRead, ValuesAreRead, EntitiesAreRead, OpcodesAreRead, PatternsAreRead, CodesAreRead, PrivateNamesAreRead, AccessesAreRead, CellsAreRead, TextsAreRead, EntitiesAreOne}
 use Rattle.bsdl_grammar.proofs.Steps.{Found, Finds, AreTokens, bound, same_read, joined_split, front_tokens, back_tokens, mark_found, mark_is, word_kind, word_is, word_found, word_read, this_found}
 use Rattle.bsdl_grammar.proofs.PortReads.{ports_found, ports_read}
 use Rattle.bsdl_grammar.proofs.PassingReads.{brackets_found, brackets_read}
-use Rattle.bsdl_grammar.proofs.TextReads.{text_tokens, cuts_read, cuts_found}
+use Rattle.bsdl_grammar.proofs.TextReads.{text_tokens, cuts_read, cuts_found, within_is_read}
+use Rattle.bsdl_grammar.proofs.PatternReads.{exact_found}
+use Rattle.bsdl_grammar.proofs.InstructionReads.{patterns_exact, pattern_exact, opcodes_exact, names_exact, accesses_exact}
+use Rattle.bsdl_grammar.proofs.CellReads.{cells_exact}
+use Rattle.bsdl_grammar.proofs.ValueReads.{attribute_value_found, attribute_value_read}
 use Rattle.bsdl_grammar.proofs.ItemReads.{other_word, items_found, items_read}
 
 -- ---- the heading
@@ -232,10 +241,38 @@ file_read ts f h all_tokens =
 
 -- ---- laws
 
-pub tokens_are_read : TokensAreReadAsTheySpell
-tokens_are_read ts f all_tokens = (λ h. file_read ts f h all_tokens, file_found ts f)
+-- what a reader finds and reads is what the grammar says
+read_by : {A : Type 0} (reader : List Lexeme → Read A) (Is : A → List Lexeme → Type 0) → Finds reader Is → ((ts : List Lexeme) (x : A) → Is x ts → AreTokens ts → reader (ts ++ []) ≡ fits x []) → IsReadBy reader Is
+read_by reader Is finds reads ts x all_tokens = (λ h. ap reader (sym (append-nil ts)) ∙ reads ts x h all_tokens, exact_found reader Is finds ts x)
 
-pub texts_are_read : TextsAreReadAsTheySpell
+pub ports_are_read : PortsAreRead
+ports_are_read = read_by ports IsPorts ports_found (λ ts ps h all_tokens. ports_read ts ps [] h all_tokens tt)
+
+pub values_are_read : ValuesAreRead
+values_are_read a name = read_by (value_of a name) (IsValue a name) (attribute_value_found a name) (λ ts v h all_tokens. attribute_value_read a name ts v [] h all_tokens refl)
+
+pub entities_are_read : EntitiesAreRead
+entities_are_read ts f all_tokens = (λ h. file_read ts f h all_tokens, file_found ts f)
+
+pub opcodes_are_read : OpcodesAreRead
+opcodes_are_read = within_is_read (rows opcode_row) (AreRows IsOpcodeRow) opcodes_exact
+
+pub patterns_are_read : PatternsAreRead
+patterns_are_read = within_is_read pattern IsPattern pattern_exact
+
+pub codes_are_read : CodesAreRead
+codes_are_read = within_is_read (rows pattern) (AreRows IsPattern) patterns_exact
+
+pub private_names_are_read : PrivateNamesAreRead
+private_names_are_read = within_is_read (rows private_name) (AreRows IsPrivateName) names_exact
+
+pub accesses_are_read : AccessesAreRead
+accesses_are_read = within_is_read (rows access_row) (AreRows IsAccessRow) accesses_exact
+
+pub cells_are_read : CellsAreRead
+cells_are_read = within_is_read (rows cell_row) (AreRows IsCellRow) cells_exact
+
+pub texts_are_read : TextsAreRead
 texts_are_read text f = (reads, λ h. (tokens (cuts_of false text), cuts_found false text h.0, file_found (tokens (cuts_of false text)) f h.1))
   where
     reads : SpellsEntity text f → (bad_place (cuts_of false text) ≡ None) × (file (tokens (cuts_of false text)) ≡ fits f [])

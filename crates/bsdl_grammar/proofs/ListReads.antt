@@ -74,11 +74,11 @@ module _ {A : Type 0} (item : List Lexeme → Read A) (Item : A → List Lexeme 
     further_found (suc n) ts xs rest e =
         closed_by (closes ts) ts (mark separator ts >>= λ m a. cond (closes a) (fits [] a) (item a >>= λ x more. further item separator closes n more >>= λ xs after. fits (x ∷ xs) after)) xs rest e
         (λ f.
-          let b = bound (mark separator ts) (λ m a. cond (closes a) (fits [] a) (item a >>= λ x more. further item separator closes n more >>= λ xs after. fits (x ∷ xs) after)) xs rest f in
-          let m = mark_found separator ts b.x b.more b.first in
-          subst (λ us. Found (AreMore Item separator (IsMarkOrNothing separator)) xs us rest) (sym m.0)
-          (behind_by (closes b.more) b.x b.more (item b.more >>= λ x more. further item separator closes n more >>= λ xs after. fits (x ∷ xs) after) xs rest m.1 b.next
-          (entry_found item Item separator (IsMarkOrNothing separator) (further item separator closes n) finds (further_found n) b.more xs rest)))
+        let b = bound (mark separator ts) (λ m a. cond (closes a) (fits [] a) (item a >>= λ x more. further item separator closes n more >>= λ xs after. fits (x ∷ xs) after)) xs rest f in
+        let m = mark_found separator ts b.x b.more b.first in
+        subst (λ us. Found (AreMore Item separator (IsMarkOrNothing separator)) xs us rest) (sym m.0)
+        (behind_by (closes b.more) b.x b.more (item b.more >>= λ x more. further item separator closes n more >>= λ xs after. fits (x ∷ xs) after) xs rest m.1 b.next
+        (entry_found item Item separator (IsMarkOrNothing separator) (further item separator closes n) finds (further_found n) b.more xs rest)))
 
     pub separated_found : Finds (separated item separator closes) (IsList Item separator)
     separated_found ts xs rest e = entry_found item Item separator (IsMarkOrNothing separator) (λ a. further item separator closes (length a) a) finds (λ us. further_found (length us) us) ts xs rest e

@@ -8,7 +8,8 @@ use Rattle.bsdl_text.specs.Marks.{opening, closing, semi}
 use Rattle.bsdl_text.specs.Reading.{Read, fits, mark, is_mark_of}
 use Rattle.bsdl_values.specs.Passing.{brackets, past_closing, past_semi}
 use Rattle.bsdl_grammar.specs.Lists.{IsMark}
-use Rattle.bsdl_grammar.specs.Entity.{IsNoSemi, IsPassedOver, Matches, none, other, pair, IsInBrackets}
+use Rattle.bsdl_grammar.specs.Values.{Matches, none, other, pair, IsInBrackets}
+use Rattle.bsdl_grammar.specs.Entity.{IsNoSemi, IsPassedOver}
 use Rattle.bsdl_grammar.proofs.Steps.{Found, Finds, bound, same_read, mark_found, mark_is, is_mark}
 use Rattle.bsdl_grammar.proofs.PortReads.{other_mark}
 

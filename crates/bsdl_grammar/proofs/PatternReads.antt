@@ -31,8 +31,8 @@ module _ {A : Type 0} (item : List Lexeme → Read A) (Item : A → List Lexeme 
     rows_exact last some = record {
       found = exact_found_rows;
       read = λ ts xs tokens h.
-        ap (rows item) (sym (append-nil ts)) ∙ separated_read item Item Before comma reads behind is_over (λ s us m. refl)
-        (λ x front us h t. let p = some x front h in subst (λ vs. is_over (vs ++ us) ≡ false) (sym p.2) refl) ts xs [] h tokens refl last;
+          ap (rows item) (sym (append-nil ts)) ∙ separated_read item Item Before comma reads behind is_over (λ s us m. refl)
+          (λ x front us h t. let p = some x front h in subst (λ vs. is_over (vs ++ us) ≡ false) (sym p.2) refl) ts xs [] h tokens refl last;
     }
       where
         exact_found_rows : (ts : List Lexeme) (xs : List A) → rows item ts ≡ fits xs [] → AreRows Item xs ts

@@ -7,6 +7,8 @@ use Rattle.bsdl_lex.specs.Gaps.{Part, white, comment, token, Divides, IsPart, to
 use Rattle.bsdl_lex.proofs.Cuttings.{tokens_are_cut}
 use Rattle.bsdl_text.specs.Reading.{Read, fits, misfit, complete, quoted_value}
 use Rattle.bsdl_grammar.specs.Lists.{IsToken}
+use Rattle.bsdl_grammar.specs.Quoted.{SpellsWithin}
+use Rattle.bsdl_grammar.specs.Laws.{IsReadWithin}
 use Rattle.bsdl_grammar.proofs.Steps.{AreTokens}
 
 -- ---- each token of a text that is a word begins with a letter
@@ -67,18 +69,16 @@ complete_found None (fits y (t ∷ ts)) x e = absurd cc
 complete_found None (misfit at) x e = absurd cc
 complete_found (Some place) r x e = absurd cc
 
-pub record SaidWithin {A : Type 0} (Says : A → List Lexeme → Type 0) (x : A) (text : List ℕ) : Type 0 where
-  pub within : List Lexeme
-  pub are : TokensOf true text within
-  pub say : Says x within
-
 module _ {A : Type 0} (item : List Lexeme → Read A) (Says : A → List Lexeme → Type 0) (exact : Exact item Says) where
-  pub value_found : (text : List ℕ) (x : A) → quoted_value item text ≡ Some x → SaidWithin Says x text
+  pub value_found : (text : List ℕ) (x : A) → quoted_value item text ≡ Some x → SpellsWithin Says x text
   value_found text x e =
       let c = complete_found (bad_place (cuts_of true text)) (item (tokens (cuts_of true text))) x e in
-      record { within = tokens (cuts_of true text); are = cuts_found true text c.0; say = exact.found (tokens (cuts_of true text)) x c.1 }
+      (tokens (cuts_of true text), cuts_found true text c.0, exact.found (tokens (cuts_of true text)) x c.1)
 
-  pub value_read : (text : List ℕ) (ts : List Lexeme) (x : A) → TokensOf true text ts → Says x ts → quoted_value item text ≡ Some x
-  value_read text ts x are say =
-      let c = cuts_read true text ts are in
-      rw (c.whole, c.are, exact.read ts x (text_tokens true text ts are) say) refl
+  pub value_read : (text : List ℕ) (x : A) → SpellsWithin Says x text → quoted_value item text ≡ Some x
+  value_read text x h =
+      let c = cuts_read true text h.0 h.1 in
+      rw (c.whole, c.are, exact.read h.0 x (text_tokens true text h.0 h.1) h.2) refl
+
+  pub within_is_read : IsReadWithin item Says
+  within_is_read text x = (value_read text x, value_found text x)

@@ -13,7 +13,7 @@ use Rattle.bsdl_values.specs.Passing.{brackets}
 use Rattle.bsdl_values.specs.Values.{Value, port, absent, count, pattern_value, codes_value, names_value, opcodes_value, accesses_value, cells_value, first_start, quoted, truth, length_value, value_of}
 use Rattle.bsdl_grammar.specs.Lists.{IsOneString, IsChain}
 use Rattle.bsdl_grammar.specs.Quoted.{IsQuoted, AreRows, IsPattern, IsOpcodeRow, IsPrivateName, IsAccessRow, IsCellRow}
-use Rattle.bsdl_grammar.specs.Entity.{IsTruth, IsCount, IsValue}
+use Rattle.bsdl_grammar.specs.Values.{IsTruth, IsCount, IsValue}
 use Rattle.bsdl_grammar.proofs.Steps.{Found, Finds, Reads, AreTokens, Anything, bound, same_read, string_found, string_read, keyword_found}
 use Rattle.bsdl_grammar.proofs.ListReads.{joined_found, joined_read}
 use Rattle.bsdl_grammar.proofs.PassingReads.{brackets_found, brackets_read}
@@ -55,14 +55,14 @@ module _ {A : Type 0} (item : List Lexeme → Read A) (Says : A → List Lexeme 
       let w = value_found item Says exact (text_within b2.x) x (ap (quoted_value item) s.0 ∙ m.0) in
       let split : ts ≡ f.front ++ rest = f.split ∙ ap (λ (us : List Lexeme). f.front ++ us) (s.1 ∙ m.1) in
       record {
-        found = record { front = f.front; split = split; is = (b2.x, w.within, f.is, w.are, w.say) };
+        found = record { front = f.front; split = split; is = (b2.x, f.is, w) };
         start = ap first_start split ∙ same_start b2.x f.front rest f.is;
       }
 
   quoted_read : (front : List Lexeme) (x : A) (rest : List Lexeme) → IsQuoted Says x front → AreTokens front → stands 38 rest ≡ false → quoted item (front ++ rest) ≡ fits x rest
   quoted_read front x rest h tokens none =
-      let here : joined_by string 38 (front ++ rest) ≡ fits h.0 rest = joined_read string IsOneString Anything 38 one_string_read (λ s ts m. tt) front h.0 rest h.2 tokens none tt in
-      let value : quoted_value item (text_within h.0) ≡ Some x = value_read item Says exact (text_within h.0) h.1 x h.3 h.4 in
+      let here : joined_by string 38 (front ++ rest) ≡ fits h.0 rest = joined_read string IsOneString Anything 38 one_string_read (λ s ts m. tt) front h.0 rest h.1 tokens none tt in
+      let value : quoted_value item (text_within h.0) ≡ Some x = value_read item Says exact (text_within h.0) x h.2 in
       rw (here, value) refl
 
   -- a value that a text within quotes says, at the place where it begins
@@ -87,7 +87,7 @@ module _ {A : Type 0} (item : List Lexeme → Read A) (Says : A → List Lexeme 
 
     said_read : (front : List Lexeme) (v : Value) (rest : List Lexeme) → IsSaid v front → AreTokens front → stands 38 rest ≡ false → said (front ++ rest) ≡ fits v rest
     said_read front v rest h tokens none =
-        let start : first_start (front ++ rest) ≡ first_start front = same_start h.1.0 front rest h.1.2 in
+        let start : first_start (front ++ rest) ≡ first_start front = same_start h.1.0 front rest h.1.1 in
         let whole : said (front ++ rest) ≡ fits (made (first_start (front ++ rest)) h.0) rest = rw (quoted_read front h.0 rest h.1 tokens none) refl in
         whole ∙ ap (λ (n : ℕ). fits (made n h.0) rest) start ∙ ap (λ (u : Value). fits u rest) (sym h.2)
 

@@ -3,3 +3,4 @@ pub mod Laws
 pub mod Lists
 pub mod Ports
 pub mod Quoted
+pub mod Values

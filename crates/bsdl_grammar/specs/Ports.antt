@@ -28,7 +28,8 @@ IsRange r ts =
 abbrev pub IsKind : Option Range → List Lexeme → Type 0
 IsKind None ts = (bit : Lexeme) × (ts ≡ bit ∷ []) × StandsFor is_vector false bit
 IsKind (Some r) ts =
-    (vector : Lexeme) × (range : List Lexeme) × (ts ≡ vector ∷ range) × StandsFor is_vector true vector × IsRange r range
+    (vector : Lexeme) × (range : List Lexeme) × (ts ≡ vector ∷ range) × StandsFor is_vector true vector
+    × IsRange r range
 
 -- name {, name} : mode kind
 abbrev pub IsGroup : List Port → List Lexeme → Type 0

@@ -13,11 +13,14 @@ use Rattle.bsdl_cells.specs.Keywords.{function_of, disabled_of, safe_of, bit_of}
 use Rattle.bsdl_cells.specs.Rows.{PortName, CellRow}
 use Rattle.bsdl_grammar.specs.Lists.{IsMark, IsWord, Spells, StandsFor, IsOneString, IsChain, IsList}
 
--- strings joined by `&`, the text of which is tokens that say this
+-- a text within quotes says this: it is tokens and gaps to its end, and the tokens are so
+abbrev pub SpellsWithin : {A : Type 0} → (A → List Lexeme → Type 0) → A → List ℕ → Type 0
+SpellsWithin Says x text = (ts : List Lexeme) × TokensOf true text ts × Says x ts
+
+-- strings joined by `&`, the text of which says this
 abbrev pub IsQuoted : {A : Type 0} → (A → List Lexeme → Type 0) → A → List Lexeme → Type 0
 IsQuoted Says x ts =
-    (strings within : List Lexeme) × IsChain IsOneString 38 strings ts × TokensOf true (text_within strings) within
-    × Says x within
+    (strings : List Lexeme) × IsChain IsOneString 38 strings ts × SpellsWithin Says x (text_within strings)
 
 -- item {, item} [,]
 abbrev pub AreRows : {A : Type 0} → (A → List Lexeme → Type 0) → List A → List Lexeme → Type 0
@@ -67,8 +70,8 @@ IsInstr i ts = (capture : List Lexeme) × (ts ≡ i.name ∷ capture) × IsWord 
 abbrev pub IsLength : List ℕ → Option ℕ → List Lexeme → Type 0
 IsLength name None ts = (ts ≡ []) × (is_public name ≡ true)
 IsLength name (Some n) ts =
-    (opener number closer : Lexeme) × (ts ≡ opener ∷ number ∷ closer ∷ []) × IsMark 91 opener × StandsFor whole_number n number
-    × IsMark 93 closer
+    (opener number closer : Lexeme) × (ts ≡ opener ∷ number ∷ closer ∷ []) × IsMark 91 opener
+    × StandsFor whole_number n number × IsMark 93 closer
 
 -- register [length] ( instr {, instr} [,] )
 abbrev pub IsAccessRow : AccessRow → List Lexeme → Type 0

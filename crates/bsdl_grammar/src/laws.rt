@@ -1,18 +1,32 @@
 //! What holds of all lists of tokens and of all texts.
-ghost use Rattle.bsdl_grammar.specs.Laws.{EntitiesAreOne, TextsAreReadAsTheySpell, TokensAreReadAsTheySpell};
+ghost use Rattle.bsdl_grammar.specs.Laws.{PortsAreRead, ValuesAreRead, EntitiesAreRead, TextsAreRead, EntitiesAreOne};
+ghost use Rattle.bsdl_grammar.specs.Laws.{OpcodesAreRead, PatternsAreRead, CodesAreRead, PrivateNamesAreRead};
+ghost use Rattle.bsdl_grammar.specs.Laws.{AccessesAreRead, CellsAreRead};
 
-/// The tokens of a description are read as an entity exactly where all of them spell it by the grammar, which reads
-/// nothing from left to right.
-pub fn tokens_are_read_as_they_spell()
-    ensures { TokensAreReadAsTheySpell }
+/// Tokens are read as a port list, the value of an attribute or an entity exactly where all of them are one by the
+/// grammar, in which nothing reads from left to right.
+pub fn tokens_are_read()
+    ensures ports { PortsAreRead }
+    ensures values { ValuesAreRead }
+    ensures entities { EntitiesAreRead }
 {}
 
-/// So it is with texts: a text spells an entity where it is tokens and gaps to its end, and the tokens spell it.
-pub fn texts_are_read_as_they_spell()
-    ensures { TextsAreReadAsTheySpell }
+/// And so are texts within quotes, in each of their languages.
+pub fn quoted_texts_are_read()
+    ensures opcodes { OpcodesAreRead }
+    ensures patterns { PatternsAreRead }
+    ensures codes { CodesAreRead }
+    ensures private_names { PrivateNamesAreRead }
+    ensures accesses { AccessesAreRead }
+    ensures cells { CellsAreRead }
+{}
+
+/// And so are whole texts, which are tokens and gaps to their end.
+pub fn texts_are_read()
+    ensures { TextsAreRead }
 {}
 
 /// A text spells at most one entity.
-pub fn texts_spell_one_entity()
+pub fn a_text_spells_one_entity()
     ensures { EntitiesAreOne }
 {}

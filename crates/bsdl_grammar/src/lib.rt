@@ -3,4 +3,4 @@
 
 mod laws;
 
-pub use laws::{texts_are_read_as_they_spell, texts_spell_one_entity, tokens_are_read_as_they_spell};
+pub use laws::{a_text_spells_one_entity, quoted_texts_are_read, texts_are_read, tokens_are_read};
