@@ -1,34 +1,23 @@
 -- A file is read as it is written.
-use Rattle.std.proofs.Common.{◌≡◌, ℕ, ◌≤◌, Bool, true, false, cond, List, [], ◌∷◌, ◌++◌, length, Some, None, refl, sym, ap, subst, ◌∙◌, append_assoc, inl, inr, arith}
+use Rattle.std.proofs.Common.{◌≡◌, ℕ, ◌≤◌, Bool, true, false, cond, List, [], ◌∷◌, ◌++◌, length, Some, refl, sym, ap, subst, ◌∙◌, append_assoc, inl, inr, arith}
 use Rattle.std.specs.Prelude.{codes, drop}
 use Rattle.std.specs.List.{AllByRecursion}
-use Rattle.std.proofs.lemmas.List.{append-nil, length-append}
+use Rattle.std.proofs.lemmas.List.{length-append}
 use Rattle.bsdl_lex.specs.Bytes.{begins_word}
-use Rattle.bsdl_lex.specs.Cutting.{Lexeme, tokens, bad_place, cuts_of}
+use Rattle.bsdl_lex.specs.Cutting.{Lexeme, tokens}
 use Rattle.bsdl_text.specs.Marks.{semi}
 use Rattle.bsdl_text.specs.Reading.{Read, fits, misfit, ◌>>=◌, word, mark, is_word_kind}
-use Rattle.bsdl_instructions.specs.Values.{begins, rows, pattern, opcode_row, private_name, access_row}
-use Rattle.bsdl_cells.specs.Rows.{cell_row}
-use Rattle.bsdl_values.specs.Values.{value_of}
+use Rattle.bsdl_instructions.specs.Values.{begins}
 use Rattle.bsdl_ports.specs.Keywords.{this_word}
 use Rattle.bsdl_ports.specs.Ports.{Port, ports}
 use Rattle.bsdl_scalars.specs.Scalars.{is_scalar}
 use Rattle.bsdl_values.specs.Passing.{brackets}
 use Rattle.bsdl_entity.specs.Entity.{Given, items, File, generic, any_word, end_of_text, ending, heading, file}
 use Rattle.bsdl_grammar.specs.Lists.{IsMark, IsWord, IsToken, Spells}
-use Rattle.bsdl_grammar.specs.Entity.{all_given, IsGeneric, IsHeading, IsEnding, IsFile, SpellsEntity}
-use Rattle.bsdl_grammar.specs.Quoted.{AreRows, IsPattern, IsOpcodeRow, IsPrivateName, IsAccessRow, IsCellRow}
-use Rattle.bsdl_grammar.specs.Ports.{IsPorts}
-use Rattle.bsdl_grammar.specs.Values.{IsValue}
-use Rattle.bsdl_grammar.specs.Laws.{IsReadBy, PortsAreRead, ValuesAreRead, EntitiesAreRead, OpcodesAreRead, PatternsAreRead, CodesAreRead, PrivateNamesAreRead, AccessesAreRead, CellsAreRead, TextsAreRead, EntitiesAreOne}
+use Rattle.bsdl_grammar.specs.Entity.{all_given, IsGeneric, IsHeading, IsEnding, IsFile}
 use Rattle.bsdl_grammar.proofs.Steps.{Found, Finds, AreTokens, bound, same_read, joined_split, front_tokens, back_tokens, mark_found, mark_is, word_kind, word_is, word_found, word_read, this_found}
 use Rattle.bsdl_grammar.proofs.PortReads.{ports_found, ports_read}
 use Rattle.bsdl_grammar.proofs.PassingReads.{brackets_found, brackets_read}
-use Rattle.bsdl_grammar.proofs.TextReads.{text_tokens, cuts_read, cuts_found, within_is_read}
-use Rattle.bsdl_grammar.proofs.PatternReads.{exact_found}
-use Rattle.bsdl_grammar.proofs.InstructionReads.{patterns_exact, pattern_exact, opcodes_exact, names_exact, accesses_exact}
-use Rattle.bsdl_grammar.proofs.CellReads.{cells_exact}
-use Rattle.bsdl_grammar.proofs.ValueReads.{attribute_value_found, attribute_value_read}
 use Rattle.bsdl_grammar.proofs.ItemReads.{other_word, items_found, items_read}
 
 -- ---- the heading
@@ -200,23 +189,23 @@ behind_items ps gs f = ending f >>= λ o h. fits (record { ports = ps; given = g
 abbrev behind_ports : List Port → List Lexeme → Read File
 behind_ports ps e = items (is_scalar ps) (length e) e >>= behind_items ps
 
-file_found : (ts : List Lexeme) (f : File) → file ts ≡ fits f [] → IsFile f ts
-file_found ts f e =
-    let b1 = bound (heading ts) (λ g d. ports d >>= behind_ports) f [] e in
+pub file_found : (ts : List Lexeme) (f : File) (rest : List Lexeme) → file ts ≡ fits f rest → IsFile f ts
+file_found ts f rest e =
+    let b1 = bound (heading ts) (λ g d. ports d >>= behind_ports) f rest e in
     let h = heading_found ts b1.x b1.more b1.first in
-    let b2 = bound (ports b1.more) behind_ports f [] b1.next in
+    let b2 = bound (ports b1.more) behind_ports f rest b1.next in
     let p = ports_found b1.more b2.x b2.more b2.first in
-    let b3 = bound (items (is_scalar b2.x) (length b2.more) b2.more) (behind_items b2.x) f [] b2.next in
+    let b3 = bound (items (is_scalar b2.x) (length b2.more) b2.more) (behind_items b2.x) f rest b2.next in
     let i = items_found (is_scalar b2.x) (length b2.more) b2.more b3.x b3.more b3.first in
-    let b4 = bound (ending b3.more) (λ o after. fits (record { ports = b2.x; given = b3.x }) after) f [] b3.next in
+    let b4 = bound (ending b3.more) (λ o after. fits (record { ports = b2.x; given = b3.x }) after) f rest b3.next in
     let n = ending_found b3.more b4.x b4.more b4.first in
-    let s = same_read (record { ports = b2.x; given = b3.x }) f b4.more [] b4.next in
+    let s = same_read (record { ports = b2.x; given = b3.x }) f b4.more rest b4.next in
     let split : ts ≡ h.front ++ (p.front ++ (i.front ++ b3.more)) =
     h.split ∙ ap (λ (us : List Lexeme). h.front ++ us) (p.split ∙ ap (λ (us : List Lexeme). p.front ++ us) i.split) in
     let g = i.is in
     subst (λ x. IsFile x ts) s.0 (h.front, p.front, i.front, b3.more, g.0, split, h.is, p.is, g.1, g.2, n.0)
 
-file_read : (ts : List Lexeme) (f : File) → IsFile f ts → AreTokens ts → file ts ≡ fits f []
+pub file_read : (ts : List Lexeme) (f : File) → IsFile f ts → AreTokens ts → file ts ≡ fits f []
 file_read ts f h all_tokens =
     let front = h.0 in
     let ported = h.1 in
@@ -238,50 +227,3 @@ file_read ts f h all_tokens =
     let ending_is : ending last ≡ fits true [] = ending_read last n (back_tokens listed last behind) in
     let whole : file (front ++ (ported ++ (listed ++ last))) ≡ fits (record { ports = f.ports; given = all_given os }) [] = rw (heading_is, ports_are, items_are, ending_is) refl in
     ap file h.5 ∙ whole ∙ ap (λ (gs : List Given). fits (record { ports = f.ports; given = gs }) []) (sym h.9)
-
--- ---- laws
-
--- what a reader finds and reads is what the grammar says
-read_by : {A : Type 0} (reader : List Lexeme → Read A) (Is : A → List Lexeme → Type 0) → Finds reader Is → ((ts : List Lexeme) (x : A) → Is x ts → AreTokens ts → reader (ts ++ []) ≡ fits x []) → IsReadBy reader Is
-read_by reader Is finds reads ts x all_tokens = (λ h. ap reader (sym (append-nil ts)) ∙ reads ts x h all_tokens, exact_found reader Is finds ts x)
-
-pub ports_are_read : PortsAreRead
-ports_are_read = read_by ports IsPorts ports_found (λ ts ps h all_tokens. ports_read ts ps [] h all_tokens tt)
-
-pub values_are_read : ValuesAreRead
-values_are_read a name = read_by (value_of a name) (IsValue a name) (attribute_value_found a name) (λ ts v h all_tokens. attribute_value_read a name ts v [] h all_tokens refl)
-
-pub entities_are_read : EntitiesAreRead
-entities_are_read ts f all_tokens = (λ h. file_read ts f h all_tokens, file_found ts f)
-
-pub opcodes_are_read : OpcodesAreRead
-opcodes_are_read = within_is_read (rows opcode_row) (AreRows IsOpcodeRow) opcodes_exact
-
-pub patterns_are_read : PatternsAreRead
-patterns_are_read = within_is_read pattern IsPattern pattern_exact
-
-pub codes_are_read : CodesAreRead
-codes_are_read = within_is_read (rows pattern) (AreRows IsPattern) patterns_exact
-
-pub private_names_are_read : PrivateNamesAreRead
-private_names_are_read = within_is_read (rows private_name) (AreRows IsPrivateName) names_exact
-
-pub accesses_are_read : AccessesAreRead
-accesses_are_read = within_is_read (rows access_row) (AreRows IsAccessRow) accesses_exact
-
-pub cells_are_read : CellsAreRead
-cells_are_read = within_is_read (rows cell_row) (AreRows IsCellRow) cells_exact
-
-pub texts_are_read : TextsAreRead
-texts_are_read text f = (reads, λ h. (tokens (cuts_of false text), cuts_found false text h.0, file_found (tokens (cuts_of false text)) f h.1))
-  where
-    reads : SpellsEntity text f → (bad_place (cuts_of false text) ≡ None) × (file (tokens (cuts_of false text)) ≡ fits f [])
-    reads h =
-        let c = cuts_read false text h.0 h.1 in
-        (c.whole, ap file c.are ∙ file_read h.0 f h.2 (text_tokens false text h.0 h.1))
-
-pub entities_are_one : EntitiesAreOne
-entities_are_one text f g h k =
-    let a = (texts_are_read text f).0 h in
-    let b = (texts_are_read text g).0 k in
-    (same_read f g [] [] (sym a.1 ∙ b.1)).0

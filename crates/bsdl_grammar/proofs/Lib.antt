@@ -6,6 +6,7 @@ pub mod ListReads
 pub mod PassingReads
 pub mod PatternReads
 pub mod PortReads
+pub mod ReadLaws
 pub mod Steps
 pub mod TextReads
 pub mod ValueReads

@@ -1,8 +1,7 @@
 -- The outer form of a description: its ports and its attributes in order (IEEE Std 1149.1-2001, Annex B.8.1 to B.8.8).
-use Rattle.std.specs.Prelude.{◌≡◌, ℕ, ◌≤◌, ◌⊎◌, Bool, true, false, List, [], ◌∷◌, ◌++◌, length, codes, Option, None}
+use Rattle.std.specs.Prelude.{◌≡◌, ℕ, ◌≤◌, ◌⊎◌, Bool, true, List, [], ◌∷◌, ◌++◌, length, codes, Option, None}
 use Rattle.std.specs.List.{AllByRecursion}
 use Rattle.bsdl_lex.specs.Cutting.{Lexeme}
-use Rattle.bsdl_lex.specs.Gaps.{TokensOf}
 use Rattle.bsdl_text.specs.Words.{upper}
 use Rattle.bsdl_text.specs.Marks.{semi, colon}
 use Rattle.bsdl_scalars.specs.Scalars.{is_scalar}
@@ -88,7 +87,3 @@ IsFile f ts =
     (heading ports items ending : List Lexeme) × (gs : List (Option Given))
     × (ts ≡ heading ++ (ports ++ (items ++ ending))) × IsHeading heading × IsPorts f.ports ports
     × AreItems (is_scalar f.ports) gs items × (f.given ≡ all_given gs) × IsEnding ending
-
--- a text spells an entity: it is tokens and gaps to its end, and the tokens are a file
-abbrev pub SpellsEntity : List ℕ → File → Type 0
-SpellsEntity text f = (ts : List Lexeme) × TokensOf false text ts × IsFile f ts

@@ -1,5 +1,6 @@
 //! What holds of all lists of tokens and of all texts.
-ghost use Rattle.bsdl_grammar.specs.Laws.{PortsAreRead, ValuesAreRead, EntitiesAreRead, TextsAreRead, EntitiesAreOne};
+ghost use Rattle.bsdl_grammar.specs.Laws.{PortsAreRead, ValuesAreRead, EntitiesAreRead, TextsAreRead, DevicesAreRead};
+ghost use Rattle.bsdl_grammar.specs.Laws.{EntitiesAreOne, DevicesAreOne};
 ghost use Rattle.bsdl_grammar.specs.Laws.{OpcodesAreRead, PatternsAreRead, CodesAreRead, PrivateNamesAreRead};
 ghost use Rattle.bsdl_grammar.specs.Laws.{AccessesAreRead, CellsAreRead};
 
@@ -21,12 +22,14 @@ pub fn quoted_texts_are_read()
     ensures cells { CellsAreRead }
 {}
 
-/// And so are whole texts, which are tokens and gaps to their end.
+/// And so are whole texts: as an entity exactly where they spell it, and as a device exactly where they describe it.
 pub fn texts_are_read()
-    ensures { TextsAreRead }
+    ensures entities { TextsAreRead }
+    ensures devices { DevicesAreRead }
 {}
 
-/// A text spells at most one entity.
+/// A text spells at most one entity, and describes at most one device.
 pub fn a_text_spells_one_entity()
-    ensures { EntitiesAreOne }
+    ensures entity { EntitiesAreOne }
+    ensures device { DevicesAreOne }
 {}

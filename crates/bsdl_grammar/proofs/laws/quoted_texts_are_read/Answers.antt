@@ -1,4 +1,4 @@
-use Rattle.bsdl_grammar.proofs.FileReads.{opcodes_are_read, patterns_are_read, codes_are_read, private_names_are_read, accesses_are_read, cells_are_read}
+use Rattle.bsdl_grammar.proofs.ReadLaws.{opcodes_are_read, patterns_are_read, codes_are_read, private_names_are_read, accesses_are_read, cells_are_read}
 use Rattle.bsdl_grammar.proofs.laws.quoted_texts_are_read.Goals as goal
 
 pub returns : goal.returns

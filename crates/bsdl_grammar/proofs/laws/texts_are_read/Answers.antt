@@ -1,5 +1,5 @@
-use Rattle.bsdl_grammar.proofs.FileReads.{texts_are_read}
+use Rattle.bsdl_grammar.proofs.ReadLaws.{texts_are_read, devices_are_read}
 use Rattle.bsdl_grammar.proofs.laws.texts_are_read.Goals as goal
 
 pub returns : goal.returns
-returns c = texts_are_read
+returns c = record { entities = texts_are_read; devices = devices_are_read }

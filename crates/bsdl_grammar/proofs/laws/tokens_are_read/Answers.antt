@@ -1,4 +1,4 @@
-use Rattle.bsdl_grammar.proofs.FileReads.{ports_are_read, values_are_read, entities_are_read}
+use Rattle.bsdl_grammar.proofs.ReadLaws.{ports_are_read, values_are_read, entities_are_read}
 use Rattle.bsdl_grammar.proofs.laws.tokens_are_read.Goals as goal
 
 pub returns : goal.returns
