@@ -7,6 +7,7 @@ pub mod PassingReads
 pub mod PatternReads
 pub mod PortReads
 pub mod ReadLaws
+pub mod RefusalLaws
 pub mod Steps
 pub mod TextReads
 pub mod ValueReads

@@ -96,10 +96,10 @@ spelt text f e =
     let h = form_by text f (nat_lt text_limit (length text)) (bad_place (cuts_of false text)) refl refl e in
     (h.small, tokens (cuts_of false text), cuts_found false text h.whole, file_found (tokens (cuts_of false text)) f h.rest h.read)
 
-not_large : (text : List ℕ) → length text ≤ text_limit → nat_lt text_limit (length text) ≡ false
+pub not_large : (text : List ℕ) → length text ≤ text_limit → nat_lt text_limit (length text) ≡ false
 not_large text h = grind (arith, nat_tests)
 
-read_as : (text : List ℕ) (f : File) → SpellsEntity text f → text_form text ≡ Ok f
+pub read_as : (text : List ℕ) (f : File) → SpellsEntity text f → text_form text ≡ Ok f
 read_as text f h =
     let c = cuts_read false text h.1 h.2 in
     rw (not_large text h.0, c.whole, c.are, file_read h.1 f h.3 (text_tokens false text h.1 h.2)) refl

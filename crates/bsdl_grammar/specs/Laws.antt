@@ -1,5 +1,5 @@
 -- Laws over all lists of tokens and all texts, which public functions ensure.
-use Rattle.std.specs.Prelude.{◌≡◌, ℕ, ◌↔◌, List, [], Some, Ok}
+use Rattle.std.specs.Prelude.{◌≡◌, ℕ, ◌<◌, ◌↔◌, List, [], length, Some, Ok, Err}
 use Rattle.std.specs.List.{AllByRecursion}
 use Rattle.bsdl_lex.specs.Cutting.{Lexeme}
 use Rattle.bsdl_text.specs.Reading.{Read, fits, quoted_value}
@@ -10,7 +10,8 @@ use Rattle.bsdl_ports.specs.Ports.{ports}
 use Rattle.bsdl_values.specs.declared.Attribute.{Attribute}
 use Rattle.bsdl_values.specs.Values.{value_of}
 use Rattle.bsdl_entity.specs.Entity.{File, file}
-use Rattle.bsdl.specs.Form.{text_form}
+use Rattle.bsdl_described.specs.Describing.{bad_token, bad_form, too_large}
+use Rattle.bsdl.specs.Form.{text_limit, text_form}
 use Rattle.bsdl.specs.Judging.{text_says}
 use Rattle.bsdl_grammar.specs.Lists.{IsToken}
 use Rattle.bsdl_grammar.specs.Ports.{IsPorts}
@@ -18,7 +19,7 @@ use Rattle.bsdl_grammar.specs.Quoted.{SpellsWithin, AreRows, IsPattern, IsOpcode
 use Rattle.bsdl_grammar.specs.Quoted.{IsCellRow}
 use Rattle.bsdl_grammar.specs.Values.{IsValue}
 use Rattle.bsdl_grammar.specs.Entity.{IsFile}
-use Rattle.bsdl_grammar.specs.Texts.{SpellsEntity, Describes}
+use Rattle.bsdl_grammar.specs.Texts.{SpellsEntity, Describes, HasBadByte, SpellsNothing}
 
 -- ---- tokens
 
@@ -76,3 +77,19 @@ EntitiesAreOne = (text : List ℕ) (f g : File) → SpellsEntity text f → Spel
 -- a text describes one device
 abbrev pub DevicesAreOne : Type 0
 DevicesAreOne = (text : List ℕ) (d e : Device) → Describes text d → Describes text e → d ≡ e
+
+-- ---- refusals
+
+-- a text is refused as too large exactly where it has more than 4 MiB
+abbrev pub LargeIsRefused : Type 0
+LargeIsRefused = (text : List ℕ) → (text_limit < length text) ↔ (text_form text ≡ Err too_large)
+
+-- and for a token exactly where a byte begins none
+abbrev pub BadByteIsRefused : Type 0
+BadByteIsRefused =
+    (text : List ℕ) (place : ℕ) → HasBadByte text place ↔ (text_form text ≡ Err (bad_token place))
+
+-- and for its form exactly where its tokens are no file
+abbrev pub NothingIsRefused : Type 0
+NothingIsRefused =
+    (text : List ℕ) → SpellsNothing text ↔ ((place : ℕ) × (text_form text ≡ Err (bad_form place)))

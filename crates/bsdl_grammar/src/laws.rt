@@ -1,6 +1,7 @@
 //! What holds of all lists of tokens and of all texts.
 ghost use Rattle.bsdl_grammar.specs.Laws.{PortsAreRead, ValuesAreRead, EntitiesAreRead, TextsAreRead, DevicesAreRead};
 ghost use Rattle.bsdl_grammar.specs.Laws.{EntitiesAreOne, DevicesAreOne};
+ghost use Rattle.bsdl_grammar.specs.Laws.{LargeIsRefused, BadByteIsRefused, NothingIsRefused};
 ghost use Rattle.bsdl_grammar.specs.Laws.{OpcodesAreRead, PatternsAreRead, CodesAreRead, PrivateNamesAreRead};
 ghost use Rattle.bsdl_grammar.specs.Laws.{AccessesAreRead, CellsAreRead};
 
@@ -32,4 +33,12 @@ pub fn texts_are_read()
 pub fn a_text_spells_one_entity()
     ensures entity { EntitiesAreOne }
     ensures device { DevicesAreOne }
+{}
+
+/// Every other text is refused: for its size, for its first byte that begins no token, or for its form, where its
+/// tokens are no entity by the grammar.
+pub fn other_texts_are_refused()
+    ensures size { LargeIsRefused }
+    ensures byte { BadByteIsRefused }
+    ensures form { NothingIsRefused }
 {}

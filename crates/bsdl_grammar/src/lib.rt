@@ -3,4 +3,7 @@
 
 mod laws;
 
-pub use laws::{a_text_spells_one_entity, quoted_texts_are_read, texts_are_read, tokens_are_read};
+pub use laws::{
+    a_text_spells_one_entity, other_texts_are_refused, quoted_texts_are_read, texts_are_read,
+    tokens_are_read,
+};
