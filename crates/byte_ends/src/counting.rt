@@ -1,4 +1,4 @@
-// A reader, a writer or an end that notes its first loss, and writing all of a text through one.
+//! A reader, a writer or an end that notes its first loss, and writing all of a text through one.
 ghost use Rattle.std.specs.Prelude.{◌≡◌, ◌≤◌, false, IsTrue, flat_map, is_ok};
 ghost use Rattle.std.specs.Io.{ReadsAtMost, WritesAtMost};
 ghost use Rattle.std.specs.Io.KnownBytes.{Keeps, ReadConsumes, WriteAppends};
