@@ -23,7 +23,7 @@ impl Table {
         }
     }
 
-    /// A row of this number more.
+    /// A row of this number more. Refuses for want of memory alone.
     pub fn put(&mut self, number: usize, fits: bool) -> Result<(), AllocError>
         ensures { OnOk result ((n : ℕ) → get nat_cmp self.new.cells n
             ≡ (if number == n then spec.with_row (get nat_cmp self.old.cells n) fits
