@@ -1,8 +1,7 @@
-use Rattle.std.proofs.Common.{◌≡◌, ◌+◌, ◌-◌, ◌∙◌, arith}
+use Rattle.std.proofs.Common.{◌-◌, arith}
 use Rattle.scan_vectors.specs.Held.{fields}
 use Rattle.scan_vectors.proofs.Places.{length-vector}
 use Rattle.scan_vectors.proofs.Words.{header_unwanted, body_unwanted, trailer_unwanted}
-use Rattle.scan_vectors.proofs.Parts.{in_first, in_second, in_third, unwanted_len}
 use Rattle.scan_vectors.proofs.vector.Vector.unwanted.Goals as goal
 
 pub returns-then-i-self-clause-inside : goal.returns-then-i-self-clause-inside
@@ -39,28 +38,3 @@ pub returns-else-i-self-2-clause-bits : goal.returns-else-i-self-2-clause-bits
 returns-else-i-self-2-clause-bits c =
     let v = c.args.self.now in let r = c.unwanted-else-i-self-2 in
     trailer_unwanted (fields v.header) (fields v.body) (fields v.trailer) c.args.i (c.args.i - v.header.len - v.body.len) _ (omega arith) (omega (arith, r.ensures.inside)) (λ j h. r.ensures.bits j (omega (arith, h)))
-
-pub returns-then-i-self-clause-len : goal.returns-then-i-self-clause-len
-returns-then-i-self-clause-len c =
-    let v = c.args.self.now in
-    let i = c.args.i in
-    let there = in_first v.header.len v.body.len i _ _ _ c.if-i-self.true in
-    unwanted_len v i (v.header.len - i) (in_first v.header.len v.body.len i _ _ _ c.if-i-self.true) c.unwanted.result (fields v.header).tdo there c.unwanted.ensures.len
-
-pub returns-then-i-self-2-clause-len : goal.returns-then-i-self-2-clause-len
-returns-then-i-self-2-clause-len c =
-    let v = c.args.self.now in
-    let i = c.args.i in
-    let rest : v.header.len + v.body.len - i ≡ v.body.len - (i - v.header.len) = omega arith in
-    let there = in_second v.header.len v.body.len i _ _ _ (omega arith) (omega arith) in
-    unwanted_len v i (v.body.len - (i - v.header.len)) (in_second v.header.len v.body.len i _ _ _ (omega arith) (omega arith) ∙ rest)
-    c.unwanted-then-i-self-2.result (fields v.body).tdo there c.unwanted-then-i-self-2.ensures.len
-
-pub returns-else-i-self-2-clause-len : goal.returns-else-i-self-2-clause-len
-returns-else-i-self-2-clause-len c =
-    let v = c.args.self.now in
-    let i = c.args.i in
-    let rest : v.header.len + v.body.len + v.trailer.len - i ≡ v.trailer.len - (i - v.header.len - v.body.len) = omega arith in
-    let there = in_third v.header.len v.body.len i _ _ _ (omega arith) (omega arith) in
-    unwanted_len v i (v.trailer.len - (i - v.header.len - v.body.len)) (in_third v.header.len v.body.len i _ _ _ (omega arith) (omega arith) ∙ rest)
-    c.unwanted-else-i-self-2.result (fields v.trailer).tdo there c.unwanted-else-i-self-2.ensures.len

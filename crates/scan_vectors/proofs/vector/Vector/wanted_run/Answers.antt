@@ -1,8 +1,7 @@
-use Rattle.std.proofs.Common.{◌≡◌, ◌+◌, ◌-◌, ◌∙◌, arith}
+use Rattle.std.proofs.Common.{◌-◌, arith}
 use Rattle.scan_vectors.specs.Held.{fields}
 use Rattle.scan_vectors.proofs.Places.{length-vector}
 use Rattle.scan_vectors.proofs.Words.{header_wanted, body_wanted, trailer_wanted}
-use Rattle.scan_vectors.proofs.Parts.{in_first, in_second, in_third, run_len}
 use Rattle.scan_vectors.proofs.vector.Vector.wanted_run.Goals as goal
 
 pub returns-then-i-self-clause-inside : goal.returns-then-i-self-clause-inside
@@ -44,25 +43,3 @@ pub returns-else-i-self-2-clause-some : goal.returns-else-i-self-2-clause-some
 returns-else-i-self-2-clause-some c =
     let v = c.args.self.now in
     let n = length-vector (fields v.header) (fields v.body) (fields v.trailer) in omega (arith, n, c.wanted_run-else-i-self-2.ensures.len)
-
-pub returns-then-i-self-clause-len : goal.returns-then-i-self-clause-len
-returns-then-i-self-clause-len c =
-    let v = c.args.self.now in
-    let i = c.args.i in
-    run_len v i (v.header.len - i) (in_first v.header.len v.body.len i _ _ _ c.if-i-self.true) c.wanted_run.result.len c.wanted_run.ensures.len
-
-pub returns-then-i-self-2-clause-len : goal.returns-then-i-self-2-clause-len
-returns-then-i-self-2-clause-len c =
-    let v = c.args.self.now in
-    let i = c.args.i in
-    let rest : v.header.len + v.body.len - i ≡ v.body.len - (i - v.header.len) = omega arith in
-    run_len v i (v.body.len - (i - v.header.len)) (in_second v.header.len v.body.len i _ _ _ (omega arith) (omega arith) ∙ rest)
-    c.wanted_run-then-i-self-2.result.len c.wanted_run-then-i-self-2.ensures.len
-
-pub returns-else-i-self-2-clause-len : goal.returns-else-i-self-2-clause-len
-returns-else-i-self-2-clause-len c =
-    let v = c.args.self.now in
-    let i = c.args.i in
-    let rest : v.header.len + v.body.len + v.trailer.len - i ≡ v.trailer.len - (i - v.header.len - v.body.len) = omega arith in
-    run_len v i (v.trailer.len - (i - v.header.len - v.body.len)) (in_third v.header.len v.body.len i _ _ _ (omega arith) (omega arith) ∙ rest)
-    c.wanted_run-else-i-self-2.result.len c.wanted_run-else-i-self-2.ensures.len
