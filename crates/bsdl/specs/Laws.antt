@@ -19,6 +19,6 @@ EveryDeviceIsLimited = (text : List ℕ) (d : Device) → text_says text ≡ Ok 
 abbrev pub EveryDeviceIsExact : Type 0
 EveryDeviceIsExact = (text : List ℕ) (d : Device) → text_says text ≡ Ok d → IsExactDevice d
 
--- in every device that a text says, what no limit bounds stands in the text
+-- in every device that a text says, the lists that no limit bounds are no longer than the text
 abbrev pub EveryDeviceIsSmall : Type 0
 EveryDeviceIsSmall = (text : List ℕ) (d : Device) → text_says text ≡ Ok d → IsSmallDevice (length text) d

@@ -21,9 +21,10 @@ pub fn every_device_is_exact()
     ensures { EveryDeviceIsExact }
 {}
 
-/// What no limit bounds in a device stands in its text: there are at most as many private names, patterns of
-/// instructions, and own instructions as the text has bytes, and so it is with the bytes of their names and the bits of
-/// the patterns and of what is captured.
+/// The lists of a device that no limit bounds, its text bounds. The name of each port bit has at most as many bytes as
+/// the text. There are at most as many private names, patterns of all instructions, and own instructions as the text
+/// has bytes. All private names together have at most as many bytes; so have the names of all instructions together
+/// with the bits of their patterns, and the names of all own instructions together with the bits that they capture.
 pub fn every_device_is_small()
     ensures { EveryDeviceIsSmall }
 {}
