@@ -1,3 +1,5 @@
+pub mod BitLaws
+pub mod CellLaws
 pub mod EntityWeights
 pub mod ExactLaws
 pub mod FormLaws
