@@ -2,6 +2,7 @@ pub mod BitLaws
 pub mod CellLaws
 pub mod EntityWeights
 pub mod ExactLaws
+pub mod FitLaws
 pub mod FormLaws
 pub mod LimitedLaws
 pub mod OnceLaws

@@ -11,6 +11,7 @@ use Rattle.bsdl_described.specs.Describing.{Description}
 use Rattle.bsdl_boundary.specs.Boundary.{port_bits}
 use Rattle.bsdl.specs.Judging.{text_says}
 use Rattle.bsdl.specs.Exact.{IsExactDevice}
+use Rattle.bsdl.specs.FitCells.{HasFitCells}
 use Rattle.bsdl.specs.Limited.{IsLimitedDevice}
 use Rattle.bsdl.specs.RowCells.{HasRowCells, text_described}
 use Rattle.bsdl.specs.Small.{IsSmallDevice}
@@ -41,3 +42,7 @@ PinsFindTheBitsOfRows = (taps : List Name) (ps : List Port) (x : List ℕ) (i : 
 abbrev pub EveryCellHasThePortThatItsRowNames : Type 0
 EveryCellHasThePortThatItsRowNames = (text : List ℕ) (v : Device) → text_says text ≡ Ok v
     → (d : Description) × (text_described text ≡ Ok d) × HasRowCells d v
+
+-- in every device that a text says, each cell fits
+abbrev pub EveryCellFitsItsDevice : Type 0
+EveryCellFitsItsDevice = (text : List ℕ) (d : Device) → text_says text ≡ Ok d → HasFitCells d

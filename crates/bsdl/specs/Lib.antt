@@ -1,4 +1,5 @@
 pub mod Exact
+pub mod FitCells
 pub mod Form
 pub mod Judging
 pub mod Laws

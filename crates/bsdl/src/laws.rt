@@ -1,5 +1,5 @@
 //! What holds of all texts.
-ghost use Rattle.bsdl.specs.Laws.{EveryCellHasThePortThatItsRowNames, PinsFindTheBitsOfRows};
+ghost use Rattle.bsdl.specs.Laws.{EveryCellFitsItsDevice, EveryCellHasThePortThatItsRowNames, PinsFindTheBitsOfRows};
 ghost use Rattle.bsdl.specs.Laws.{EveryDeviceIsExact, EveryDeviceIsLimited, EveryDeviceIsSmall, EveryDeviceIsSound};
 
 /// Every device that a text says is sound: each register that an instruction can select has a bit, and so has what it
@@ -43,4 +43,12 @@ pub fn pins_find_the_bits_of_rows()
 /// There are no other cells, and each has one row.
 pub fn every_cell_has_the_port_that_its_row_names()
     ensures { EveryCellHasThePortThatItsRowNames }
+{}
+
+/// In every device that a text says, each cell fits: a control cell or an internal one has no port, and each other has
+/// a port bit that the device has and that is not the TAP's. No two cells drive one port bit. OUTPUT3 and BIDIR cells
+/// have a control, which is a control cell of the device; an OUTPUT2 cell may have one, or be its own; no other cell
+/// has a control.
+pub fn every_cell_fits_its_device()
+    ensures { EveryCellFitsItsDevice }
 {}
