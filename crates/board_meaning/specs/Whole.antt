@@ -1,6 +1,6 @@
 -- The register meaning: a board at rest, and capture, shift, update and reset of all devices at once (IEEE Std
--- 1149.1-2001, clauses 6, 7 and 9), without TCK and TDO. Of the states other than the resting place it knows those that a stated
--- path names.
+-- 1149.1-2001, clauses 6, 7 and 9), without TCK and TDO. Of the states other than the resting place it knows those
+-- that a stated path names.
 use Rattle.std.specs.Prelude.{Bool, true, false, ℕ, suc, List, [], ◌∷◌, ◌++◌, map, length, take, drop, if◌then◌else◌}
 use Rattle.jt_tap.specs.declared.Column.{Column}
 use Rattle.jt_tap.specs.declared.Column.TheVariants.{Dr, Ir}

@@ -1,0 +1,12 @@
+pub mod CellReads
+pub mod FileReads
+pub mod InstructionReads
+pub mod ItemReads
+pub mod ListReads
+pub mod PassingReads
+pub mod PatternReads
+pub mod PortReads
+pub mod ReadLaws
+pub mod Steps
+pub mod TextReads
+pub mod ValueReads
