@@ -11,7 +11,7 @@ use device_instructions::SharedDevice;
 use jt_bits::Bits;
 use std::alloc::{AllocError, Global};
 
-/// So many bare devices, named U1, U2 and so on, whose cores are 0.
+/// So many bare devices, named U1, U2 and so on, whose cores are 0. Refuses for want of memory alone.
 pub fn bare_plan(alloc: Global, n: usize) -> Result<Plan, AllocError>
     requires { n ≤ 32 }
     ensures { IfOk result (λ p. wiring p ≡ bare_wiring n) }

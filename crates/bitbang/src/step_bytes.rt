@@ -167,7 +167,7 @@ impl<'a> StepBytes<'a> {
         self.fill_alike(buffer)
     }
 
-    /// The same where what is next is no part of a cycle, and there is room for one.
+    /// The same where no cycle is begun and no line is owed, and there is room for a cycle.
     fn fill_alike(&mut self, buffer: &mut [u8]) -> usize
         requires between { (self.old.line ≡ None) × (slice_get (rest self.old.begun) 0 ≡ None) }
         requires room { 3 ≤ length buffer.old }

@@ -12,8 +12,9 @@ use Rattle.bitbang_table.specs.Protocol.{cycle_messages}
 abbrev pub entering : State → Cycle
 entering s = record { tms = entered_by s; tdi = false; read = false }
 
-abbrev pub resets_held : List Cycle
-resets_held = replicate 5 (entering Reset)
+-- five cycles with TMS 1, which lead every controller to RESET
+abbrev pub five_resets : List Cycle
+five_resets = replicate 5 (entering Reset)
 
 -- a step that has cycles is closed by a low byte
 abbrev pub closed_messages : List Cycle → List Message
@@ -22,4 +23,4 @@ closed_messages (c ∷ cs) = flat_map cycle_messages (c ∷ cs) ++ Write false f
 
 -- TRST released and five cycles with TMS 1
 abbrev pub opening : List Message
-opening = Lines false false ∷ closed_messages resets_held
+opening = Lines false false ∷ closed_messages five_resets

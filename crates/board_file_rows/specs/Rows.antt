@@ -5,8 +5,8 @@ use Rattle.pin_nets.specs.declared.Pull.TheVariants.{Up, Down, Free}
 use Rattle.board_names.specs.Files.{names_of}
 use Rattle.board_file.specs.Wiring.{Fault, BadField, UnknownFile, Bsdl, UnknownPin, PinTwice, TooLarge, large}
 use Rattle.board_plan.specs.LeftOut.{left_out}
-use Rattle.board_file_rows.specs.Samples.{Shown, k, ki, shows, pin, tables, file, device, cored, net, pulled, one_net}
-use Rattle.board_file_rows.specs.Samples.{with_pins, text_member}
+use Rattle.board_file_rows.specs.Samples.{Shown, k, ki, kr, shows, pin, tables, file, device, cored, net, pulled}
+use Rattle.board_file_rows.specs.Samples.{one_net, with_pins, text_member}
 
 abbrev u1 : List ℕ → Members
 u1 f = device (codes "U1") f
@@ -69,6 +69,7 @@ BoardRows =
     ≡ Ok (codes "k" ∷ codes "p" ∷ []))
     -- instructions that are left out
     × (left_out ki ≡ codes "INTEST" ∷ [])
+    × (left_out kr ≡ codes "RUNBIST" ∷ [])
     × (left_out k ≡ [])
     × (left_out (record k { private_names = codes "SAMPLE" ∷ codes "NOROW" ∷ codes "BYPASS" ∷ [] })
     ≡ codes "BYPASS" ∷ codes "SAMPLE" ∷ [])

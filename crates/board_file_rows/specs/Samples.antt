@@ -67,6 +67,9 @@ kh = device_with (codes "HIGHZ") (q_cell Output2 false)
 abbrev pub ki : Device
 ki = device_with (codes "INTEST") (q_cell Output3 true)
 
+abbrev pub kr : Device
+kr = device_with (codes "RUNBIST") (q_cell Output3 true)
+
 -- what the texts say; any other text is refused
 abbrev pub says : List ℕ → Option Device
 says text =

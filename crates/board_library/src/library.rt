@@ -66,7 +66,7 @@ pub struct Library<'t, F> {
     pub refused: Option<F>,
 }
 
-/// Reads the files of these names, each once.
+/// Reads the files of these names, each once. Refuses for want of memory alone.
 pub fn read_files<'t, 'f, R: Describe>(
     alloc: Global,
     reader: &R,
@@ -211,7 +211,8 @@ pub fn described_at<'r>(
     }
 }
 
-/// The number of cells of each device, where its description is there and not refused.
+/// The number of cells of each device, where its description is there and not refused. Refuses for want of memory
+/// alone.
 pub fn cells_of(
     alloc: Global,
     names: &Places<&str>,
@@ -239,7 +240,7 @@ fn count_of(device: Option<&SharedDevice>) -> Option<usize>
     }
 }
 
-/// The devices of the board that are described.
+/// The devices of the board that are described. Refuses for want of memory alone.
 pub fn devices_of(
     alloc: Global,
     names: &Places<&str>,

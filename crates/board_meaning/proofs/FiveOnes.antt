@@ -8,7 +8,7 @@ use Rattle.board_meaning.specs.Nets.{sees}
 use Rattle.bitbang_table.specs.declared.Message.TheVariants.{Write, Lines}
 use Rattle.board_meaning.specs.Chain.{ChipState, BoardState, fall, rise_all, members, after_levels, after_message, hear}
 use Rattle.board_meaning.specs.Whole.{AtRest, reset_member}
-use Rattle.bitbang_table.specs.Cycles.{resets_held, closed_messages, opening}
+use Rattle.bitbang_table.specs.Cycles.{five_resets, closed_messages, opening}
 use Rattle.board_meaning.specs.Resting.{chip_at_rest, board_at_rest}
 
 abbrev pub states : List ChipState → List State
@@ -104,7 +104,7 @@ five-states b released =
 
 -- Five cycles with TMS 1 and TRST released: from every board to rest in RESET, nothing answered.
 pub five-ones : (b : BoardState) → b.trst ≡ false
-    → hear (closed_messages resets_held) b ≡ record { answers = []; board = board_at_rest (reset_from_here b) }
+    → hear (closed_messages five_resets) b ≡ record { answers = []; board = board_at_rest (reset_from_here b) }
 five-ones b released =
     λ i. record {
       answers = [];

@@ -20,7 +20,7 @@ use Rattle.board_meaning.specs.Nets.{sees}
 use Rattle.bitbang_table.specs.declared.Message.TheVariants.{Lines, Write}
 use Rattle.board_meaning.specs.Chain.{ChipState, BoardState, is_held, assert_trst, rise, fall, rise_all, tdi_before, members, after_message, hear}
 use Rattle.board_meaning.specs.Whole.{reset_member, after_opening, settled_member, trst_asserted, trst_member}
-use Rattle.bitbang_table.specs.Cycles.{resets_held, closed_messages, opening}
+use Rattle.bitbang_table.specs.Cycles.{five_resets, closed_messages, opening}
 use Rattle.board_meaning.specs.Resting.{chip_at_rest, board_at_rest}
 use Rattle.board_meaning.proofs.Walks.{at_rest}
 
@@ -134,7 +134,7 @@ chain-map trst [] = refl
 chain-map trst (c ∷ cs) = ap (λ r. through trst c ∷ r) (chain-map trst cs)
 
 pub ones-through : (trst : Bool) (nets : List Net) (cs : List ChipState) → AllQuiet cs
-    → hear (closed_messages resets_held) (board false trst nets cs) ≡ record { answers = []; board = board false trst nets (map (through trst) cs) }
+    → hear (closed_messages five_resets) (board false trst nets cs) ≡ record { answers = []; board = board false trst nets (map (through trst) cs) }
 ones-through trst nets cs quiet =
     let U : List ChipState → List ChipState = map (up trst) in
     let c1 = U cs in
@@ -211,7 +211,7 @@ asserted-quiet place (m ∷ ms) stable = (asserted-quiet-one m.device.has_trst p
 
 -- From rest, the bytes of TRST ON reset a device with a TRST port at once, and settle and reset any other.
 pub trst-on-law : (place : State) (trst : Bool) (nets : List Net) (ms : List Member) → is_stable place ≡ true
-    → hear (Lines true false ∷ closed_messages resets_held) (board_at_rest (at_rest place trst nets ms))
+    → hear (Lines true false ∷ closed_messages five_resets) (board_at_rest (at_rest place trst nets ms))
     ≡ record { answers = []; board = board_at_rest (trst_asserted (at_rest place trst nets ms)) }
 trst-on-law place trst nets ms stable =
     ones-through true nets (map assert_trst (map (chip_at_rest place) ms)) (asserted-quiet place ms stable)

@@ -12,7 +12,7 @@ use Rattle.board_meaning.specs.Sound.{IsSound, IsSoundBoard}
 use Rattle.bsdl_device.specs.Sound.{IsSoundDevice}
 use Rattle.board_meaning.specs.Whole.{AtRest, arrive, after_opening, reset_member, settle}
 use Rattle.tap_paths.specs.Paths.{go}
-use Rattle.bitbang_table.specs.Cycles.{closed_messages, opening, resets_held, entering}
+use Rattle.bitbang_table.specs.Cycles.{closed_messages, opening, five_resets, entering}
 use Rattle.board_meaning.specs.Resting.{board_at_rest}
 
 -- nothing was answered, and the board is at rest in m
@@ -31,7 +31,7 @@ EndsInReset heard = (m : AtRest) × (heard ≡ quietly_at m) × IsReset m
 
 -- Five cycles with TMS 1 and TRST released bring every board to rest in RESET in all devices.
 abbrev pub FiveOnesRest : Type 0
-FiveOnesRest = (b : BoardState) → b.trst ≡ false → EndsInReset (hear (closed_messages resets_held) b)
+FiveOnesRest = (b : BoardState) → b.trst ≡ false → EndsInReset (hear (closed_messages five_resets) b)
 
 -- The opening brings every board, in mid-scan too, to rest in RESET with TRST released.
 abbrev pub OpeningRests : Type 0

@@ -1,5 +1,6 @@
 -- The register meaning: a board at rest, and capture, shift, update and reset of all devices at once (IEEE Std
--- 1149.1-2001, clauses 6, 7 and 9, without TCK, TDO or states other than the resting place).
+-- 1149.1-2001, clauses 6, 7 and 9), without TCK and TDO. Of the states other than the resting place it knows those
+-- that a stated path names.
 use Rattle.std.specs.Prelude.{Bool, true, false, ℕ, suc, List, [], ◌∷◌, ◌++◌, map, length, take, drop, if◌then◌else◌}
 use Rattle.jt_tap.specs.declared.Column.{Column}
 use Rattle.jt_tap.specs.declared.Column.TheVariants.{Dr, Ir}
@@ -13,7 +14,8 @@ use Rattle.board_meaning.specs.Cells.{Member, surroundings}
 use Rattle.pin_nets.specs.Wired.{Net}
 use Rattle.board_meaning.specs.Nets.{sees}
 
--- A board at rest. The place is RESET, IDLE, DRPAUSE or IRPAUSE; in a pause an update of its column is pending.
+-- A board at rest. The place is RESET, IDLE, DRPAUSE or IRPAUSE, but amid a stated path; in a pause an update of its
+-- column is pending.
 pub record AtRest : Type 0 where
   pub place : State
   pub trst : Bool

@@ -52,7 +52,7 @@ fn names_in<F>(alloc: Global, table: &Table) -> Result<Vec<String>, BoardFault<F
     }
 }
 
-/// The names of the devices' descriptions, each once.
+/// The names of the devices' descriptions, each once. Refuses for want of memory alone.
 pub fn distinct_files<'t>(
     alloc: Global,
     devices: &'t [Value],

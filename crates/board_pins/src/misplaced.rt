@@ -14,7 +14,7 @@ use pin_nets::Pin;
 use std::alloc::{AllocError, Global};
 use toml::Value;
 
-/// The first text among the pins of all nets that names no pin.
+/// The first text among the pins of all nets that names no pin. Refuses for want of memory alone.
 pub fn first_unknown<'t>(
     alloc: Global,
     names: &Places<&str>,
@@ -53,7 +53,7 @@ fn unknown_in<'t>(
     Ok(None)
 }
 
-/// The first text among the pins of all nets whose pin stands before it.
+/// The first text among the pins of all nets whose pin stands before it. Refuses for want of memory alone.
 pub fn first_twice<'t>(
     alloc: Global,
     names: &Places<&str>,

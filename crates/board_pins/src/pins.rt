@@ -10,7 +10,8 @@ use device_instructions::SharedDevice;
 use pin_nets::Pin;
 use std::alloc::{AllocError, Global};
 
-/// The pin that a text names, given the names of all devices, and the devices.
+/// The pin that a text names, given the names of all devices, and the devices. `None` where the text has another form,
+/// or names no device, no port bit, or a port of the TAP. Refuses for want of memory alone.
 #[tactic(auto, unfolding(crate::specs::Pins::pin_at))]
 pub fn find_pin(
     alloc: Global,

@@ -1,3 +1,4 @@
 pub mod BitLaws
 pub mod NumberLaws
+pub mod LeftOutLaws
 pub mod CellLaws

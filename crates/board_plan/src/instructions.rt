@@ -28,3 +28,9 @@ pub fn is_left_out(device: &Device, name: &str) -> bool
 {
     name == "INTEST" || name == "RUNBIST" || device.is_private(name)
 }
+
+/// An instruction that is left out does what BYPASS does, whatever else the description says of it: it selects the
+/// bypass register, and leaves the pins to the core.
+pub fn left_out_means_bypass()
+    ensures { spec.LeftOutMeansBypass }
+{}

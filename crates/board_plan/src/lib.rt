@@ -9,7 +9,7 @@ mod plan;
 mod words;
 
 pub use cells::cell_nets;
-pub use instructions::{is_left_out, left_out};
+pub use instructions::{is_left_out, left_out, left_out_means_bypass};
 pub use numbers::number_nets;
 pub use plan::{Plan, PlannedDevice, PlannedNet};
 pub use words::{core_bits, is_update, pull_of};

@@ -11,7 +11,7 @@ use pin_nets::{NetSpec, Pin};
 use std::alloc::{AllocError, Global};
 
 /// The nets by the numbers of their pins, each pin with its place in `pins`: the pins of all nets, net after net, come
-/// behind those that are there. Refused where memory runs out.
+/// behind those that are there. Refused where memory runs out; some of them may stand there then.
 pub fn number_nets(
     alloc: Global,
     nets: &[PlannedNet],

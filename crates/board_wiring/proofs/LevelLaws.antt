@@ -1,5 +1,5 @@
 -- Levels of numbered nets are those of the nets.
-use Rattle.std.proofs.Common.{◌≡◌, ◌<◌, ℕ, zero, suc, ◌+◌, List, [], ◌∷◌, ◌++◌, length, map, drop, get_or, slice_get, Some, option_map, refl, sym, ap, ◌∙◌, arith}
+use Rattle.std.proofs.Common.{◌≡◌, ◌<◌, ℕ, zero, suc, ◌+◌, List, [], ◌∷◌, ◌++◌, length, map, drop, get_or, slice_get, slice_set, Some, option_map, refl, sym, ap, ◌∙◌, arith}
 use Rattle.std.specs.List.{range_with_len}
 use Rattle.std.proofs.Math.Seq.{drop-cons}
 use Rattle.std.proofs.lemmas.List.{get_or-drop, length-drop, length-append, length-map, map-append}
@@ -72,3 +72,9 @@ net_put drives ns net l h is =
 pub net_level : (f : Pin → Drive) (drives : List Drive) (ns : List Net) (net : ℕ) (l : Level) → net < length ns → drives ≡ map f (all_pins ns)
     → option_map (level drives) (slice_get (all_nets ns) net) ≡ Some l → option_map (shown f) (slice_get ns net) ≡ Some l
 net_level f drives ns net l h e is = sym (numbered-level f drives 0 ns net e) ∙ net_put drives ns net l h is
+
+-- what is there, put there again, changes nothing
+pub set-same : {A : Type 0} (xs : List A) (i : ℕ) (x : A) → slice_get xs i ≡ Some x → slice_set xs i x ≡ xs
+set-same [] i x e = absurd (cc)
+set-same (y ∷ ys) zero x e = ap (λ z. z ∷ ys) (sym (cc))
+set-same (y ∷ ys) (suc i) x e = ap (λ zs. y ∷ zs) (set-same ys i x e)

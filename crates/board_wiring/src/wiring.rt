@@ -1,7 +1,7 @@
 //! The nets of a board, with what was last put to them.
 
 ghost use Rattle.std.specs.Prelude.{◌≡◌, ◌<◌, ◌∷◌, map, length, slice_get, slice_set, option_map, replicate, Some};
-ghost use Rattle.std.specs.Prelude.{IfOk};
+ghost use Rattle.std.specs.Prelude.{IfOk, true};
 ghost use Rattle.pin_nets.specs.declared.Drive.{Drive as TheDrive};
 ghost use Rattle.pin_nets.specs.declared.Drive.TheVariants as driving;
 ghost use Rattle.pin_nets.specs.declared.Pin.{Pin as ThePin};
@@ -99,11 +99,21 @@ impl Wiring {
         self.pins[k]
     }
 
-    /// Pin `k` drives this from now on.
+    /// Pin `k` drives this from now on. It is put to its net only where it is not what was last put there.
     pub fn put(&mut self, k: usize, drive: Drive)
         requires { k < length (all_pins self.old.nets) }
         ensures { self.new ≡ record self.old { drives = slice_set self.old.drives k drive } }
     {
+        if is_same(self.levels.drive(k), drive) {
+            return;
+        }
         self.levels.put(k, drive);
     }
+}
+
+/// Whether two pins drive the same.
+fn is_same(one: Drive, other: Drive) -> bool
+    ensures { result ≡ true → one ≡ other }
+{
+    one == other
 }

@@ -41,7 +41,7 @@ impl<K: Ord + Copy> Places<K> {
         }
     }
 
-    /// Adds a key behind the others, also where it is there already.
+    /// Adds a key behind the others, also where it is there already. Refuses for want of memory alone.
     pub fn push(&mut self, key: K) -> Result<(), AllocError>
         ensures pushed { OnOk result (self.new ≡ self.old ++ key ∷ []) }
         ensures err { OnErr result (self.new ≡ self.old) }
@@ -98,7 +98,7 @@ impl<'t> Places<&'t str> {
         self.place_of(text).is_some()
     }
 
-    /// Adds a text, if it is not there yet.
+    /// Adds a text, if it is not there yet. Refuses for want of memory alone.
     #[tactic(auto, using(crate::proofs::TextLaws::list_any_map, crate::proofs::TextLaws::map_with))]
     pub fn add(&mut self, text: &'t str) -> Result<(), AllocError>
         ensures added { OnOk result (texts_of self.new ≡ with_name (texts_of self.old) text.now) }

@@ -243,7 +243,7 @@ fn enter_disabling(bits: &mut Bits, control: Option<Control3>)
 impl Boundary {
     /// The boundary register of a device at power-up: every bit 0, but for the controlr cells of the update stage,
     /// which have their disabling values. `core` has a bit for each cell; with `extest_update` a capture under EXTEST
-    /// takes the update stage in place of the core's bits.
+    /// takes the update stage in place of the core's bits. Refuses for want of memory alone.
     pub fn new(
         alloc: Global,
         device: &SharedDevice,
@@ -295,9 +295,7 @@ impl Boundary {
             Mode::Core => drive_of(self.device.get().cells(), &self.core, port),
         }
     }
-}
 
-impl Boundary {
     /// The cells, cell 0 nearest TDO; each of the four lists has a bit for each of them.
     pub fn cells(&self) -> &[Cell]
         ensures cells { result.now ≡ self.now.cells }
@@ -337,7 +335,8 @@ pub fn a_driving_cell_drives_its_port()
     ensures { DrivenByCell }
 {}
 
-/// For each of the first `ports` port bits the cell that drives it: the lowest that may.
+/// For each of the first `ports` port bits the cell that drives it: the lowest that may. Refuses for want of memory
+/// alone.
 pub fn drivers(alloc: Global, list: &[Cell], ports: usize) -> Result<Vec<Option<usize>>, AllocError>
     ensures long { IfOk result (λ v. length v.items ≡ ports) }
     ensures drivers { IfOk result (λ v. AreDrivers list.now v.items) }

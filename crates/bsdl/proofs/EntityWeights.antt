@@ -1,7 +1,8 @@
 -- What an entity gives weighs no more than its tokens.
-use Rattle.std.proofs.Common.{◌≡◌, ◌≤◌, ℕ, zero, suc, ◌+◌, ◌-◌, Bool, true, false, List, [], ◌∷◌, length, drop, arith}
+use Rattle.std.proofs.Common.{◌≡◌, ◌≤◌, ℕ, zero, suc, ◌+◌, Bool, true, false, List, [], ◌∷◌, ◌++◌, length, drop, map, arith}
 use Rattle.std.specs.Prelude.{Option, Some, None, codes, pred, ◌&&◌, ◌||◌, ◌==◌, not, if◌then◌else◌}
 use Rattle.bsdl_device.specs.Device.{Name}
+use Rattle.bsdl_device.specs.declared.PortMode.{PortMode}
 use Rattle.bsdl_lex.specs.Cutting.{Lexeme}
 use Rattle.bsdl_text.specs.Marks.{closing, colon, comma, opening, semi}
 use Rattle.bsdl_text.specs.Reading.{Read, fits, misfit, is_mark_of, joined_by, joined_text, keyword, separated, mark, number, quoted_value, refused_at, stands, word}
@@ -15,7 +16,7 @@ use Rattle.bsdl_entity.specs.Attributes.{attribute_of}
 use Rattle.bsdl_ports.specs.Keywords.{is_rising, is_vector, mode_of, this_word}
 use Rattle.bsdl_values.specs.Keywords.{truth_of}
 use Rattle.bsdl_scalars.specs.Scalars.{is_scalar}
-use Rattle.bsdl_ports.specs.Ports.{Port, Range, in_order, kind_of_port, ordered, port_group, ports, range, upto}
+use Rattle.bsdl_ports.specs.Ports.{Port, Range, concat, in_order, kind_of_port, ordered, port_group, ports, range, upto}
 use Rattle.bsdl_values.specs.Values.{Value, absent, accesses_value, cells_value, codes_value, count, first_start, length_value, names_value, opcodes_value, pattern_value, port, quoted, text_in, truth, value_of}
 use Rattle.bsdl_values.specs.Passing.{brackets, past_closing, past_semi}
 use Rattle.bsdl_entity.specs.Entity.{File, Given, and_given, any_word, attribute, attribute_form, attribute_item, end_of_text, ending, file, generic, heading, is_tap, item, items, nothing, owner, owner_clause, with_value, value_behind}
@@ -208,22 +209,37 @@ kind_weighs ts =
     bind (λ _. 0) (λ _. 0) (size ts) (size ts) (keyword is_vector ts) _ (keyword_weighs _ ts)
     (λ vector a less. choose (λ _. 0) (size ts) vector (range a) (fits None a) (weaker (λ _. 0) (size a) (size ts) (range a) (omega (arith, less)) (range_weighs a)) (omega (arith, less)))
 
-group_weighs : (ts : List Lexeme) → Weighs (λ _. 0) (size ts) (port_group ts)
-group_weighs ts =
-    bind (total (λ t. heft t.text)) (λ _. 0) (size ts) (size ts) (joined_by word comma ts) _ (joined_weighs (λ t. heft t.text) word comma (λ us. one_weighs _ us) ts)
-    (λ names a less. bind (λ t. heft t.text) (λ _. 0) (size a) (size ts) (mark colon a) _ (one_weighs _ a)
-    (λ m b less-2. bind (λ _. 0) (λ _. 0) (size b) (size ts) (keyword mode_of b) _ (keyword_weighs _ b)
-    (λ mode c less-3. bind (λ _. 0) (λ _. 0) (size c) (size ts) (kind_of_port c) _ (kind_weighs c)
-    (λ r d last. omega (arith, less, less-2, less-3, last)))))
+abbrev pub port_weight : Port → ℕ
+port_weight p = heft p.name.text
 
-ports_weigh : (ts : List Lexeme) → Weighs (λ _. 0) (size ts) (ports ts)
+names_weigh : (names : List Lexeme) (mode : PortMode) (r : Option Range) → total port_weight (map (λ n. record { name = n; mode = mode; range = r }) names) ≡ total (λ t. heft t.text) names
+names_weigh [] mode r = omega arith
+names_weigh (n ∷ names) mode r = omega (arith, names_weigh names mode r)
+
+group_weighs : (ts : List Lexeme) → Weighs (total port_weight) (size ts) (port_group ts)
+group_weighs ts =
+    bind (total (λ t. heft t.text)) (total port_weight) (size ts) (size ts) (joined_by word comma ts) _ (joined_weighs (λ t. heft t.text) word comma (λ us. one_weighs _ us) ts)
+    (λ names a less. bind (λ t. heft t.text) (total port_weight) (size a) (size ts) (mark colon a) _ (one_weighs _ a)
+    (λ m b less-2. bind (λ _. 0) (total port_weight) (size b) (size ts) (keyword mode_of b) _ (keyword_weighs _ b)
+    (λ mode c less-3. bind (λ _. 0) (total port_weight) (size c) (size ts) (kind_of_port c) _ (kind_weighs c)
+    (λ r d last. omega (arith, less, less-2, less-3, last, names_weigh names mode r)))))
+
+pub total_append : {A : Type 0} (measure : A → ℕ) (xs ys : List A) → total measure (xs ++ ys) ≡ total measure xs + total measure ys
+total_append measure [] ys = omega arith
+total_append measure (x ∷ xs) ys = omega (arith, total_append measure xs ys)
+
+groups_weigh : (groups : List (List Port)) → total port_weight (concat groups) ≡ total (total port_weight) groups
+groups_weigh [] = omega arith
+groups_weigh (g ∷ groups) = omega (arith, total_append port_weight g (concat groups), groups_weigh groups)
+
+ports_weigh : (ts : List Lexeme) → Weighs (total port_weight) (size ts) (ports ts)
 ports_weigh ts =
-    bind (λ _. 0) (λ _. 0) (size ts) (size ts) (this_word (codes "PORT") ts) _ (keyword_weighs _ ts)
-    (λ p a less. bind (λ t. heft t.text) (λ _. 0) (size a) (size ts) (mark opening a) _ (one_weighs _ a)
-    (λ m b less-2. bind (total (λ (g : List Port). 0)) (λ _. 0) (size b) (size ts) (separated port_group semi (stands closing) b) _ (listed_weighs (λ _. 0) port_group semi (stands closing) group_weighs b)
-    (λ groups c less-3. bind (λ t. heft t.text) (λ _. 0) (size c) (size ts) (mark closing c) _ (one_weighs _ c)
-    (λ k d less-4. bind (λ t. heft t.text) (λ _. 0) (size d) (size ts) (mark semi d) _ (one_weighs _ d)
-    (λ s e last. omega (arith, less, less-2, less-3, less-4, last))))))
+    bind (λ _. 0) (total port_weight) (size ts) (size ts) (this_word (codes "PORT") ts) _ (keyword_weighs _ ts)
+    (λ p a less. bind (λ t. heft t.text) (total port_weight) (size a) (size ts) (mark opening a) _ (one_weighs _ a)
+    (λ m b less-2. bind (total (total port_weight)) (total port_weight) (size b) (size ts) (separated port_group semi (stands closing) b) _ (listed_weighs (total port_weight) port_group semi (stands closing) group_weighs b)
+    (λ groups c less-3. bind (λ t. heft t.text) (total port_weight) (size c) (size ts) (mark closing c) _ (one_weighs _ c)
+    (λ k d less-4. bind (λ t. heft t.text) (total port_weight) (size d) (size ts) (mark semi d) _ (one_weighs _ d)
+    (λ s e last. omega (arith, less, less-2, less-3, less-4, last, groups_weigh groups))))))
 
 -- ---- a file
 
@@ -257,7 +273,7 @@ ending_weighs ts =
     (λ s d last. weaker (λ _. 0) (size d) (size ts) (end_of_text d) (omega (arith, less, less-2, less-3, last)) (end_weighs d)))))
 
 abbrev pub file_weight : File → ℕ
-file_weight f = total given_weight f.given
+file_weight f = total port_weight f.ports + total given_weight f.given
 
 heading_weighs : (ts : List Lexeme) → Weighs (λ _. 0) (size ts) (heading ts)
 heading_weighs ts =
@@ -269,7 +285,7 @@ heading_weighs ts =
 pub file_weighs : (ts : List Lexeme) → Weighs file_weight (size ts) (file ts)
 file_weighs ts =
     bind (λ _. 0) file_weight (size ts) (size ts) (heading ts) _ (heading_weighs ts)
-    (λ g d less. bind (λ _. 0) file_weight (size d) (size ts) (ports d) _ (ports_weigh d)
+    (λ g d less. bind (total port_weight) file_weight (size d) (size ts) (ports d) _ (ports_weigh d)
     (λ ps e less-2. bind (total given_weight) file_weight (size e) (size ts) (items (is_scalar ps) (length e) e) _ (items_weigh (is_scalar ps) (length e) e)
     (λ gs f less-3. bind (λ _. 0) file_weight (size f) (size ts) (ending f) _ (ending_weighs f)
     (λ o h last. omega (arith, less, less-2, less-3, last)))))

@@ -1,5 +1,8 @@
+pub mod BitLaws
+pub mod CellLaws
 pub mod EntityWeights
 pub mod ExactLaws
+pub mod FitLaws
 pub mod FormLaws
 pub mod LimitedLaws
 pub mod OnceLaws

@@ -1,7 +1,6 @@
 -- Every device that a text says keeps the limits.
 use Rattle.std.proofs.Common.{◌≡◌, ◌<◌, ◌≤◌, ℕ, zero, suc, ◌+◌, ◌-◌, true, false, List, [], ◌∷◌, length, map, refl, sym, ◌∙◌, arith}
 use Rattle.bsdl_device.specs.Opcodes.{x_as_0}
-use Rattle.std.specs.Option.{option_or}
 use Rattle.std.specs.Prelude.{Option, Some, None, Result, Ok, Err, option_map, unwrap_or, nat_le, slice_get}
 use Rattle.std.specs.List.{AllByRecursion, flat_map, list_all, range_with_len, sum_by}
 use Rattle.std.proofs.lemmas.Bool.Decides.{nat_tests}
@@ -14,10 +13,10 @@ use Rattle.bsdl_instructions.specs.Values.{OpcodeRow}
 use Rattle.bsdl_own_instructions.specs.Own.{is_among}
 use Rattle.bsdl_ports.specs.Ports.{Port, Range}
 use Rattle.bsdl_entity.specs.Entity.{File}
-use Rattle.bsdl_described.specs.Describing.{Description, Refusal, bad_capture, bad_cell, bad_id, bad_length, described, too_large, ◌>>?◌}
-use Rattle.bsdl_fit.specs.Fits.{rows_numbered, unfit_cell}
-use Rattle.bsdl_lengths.specs.Lengths.{captures_one, codes_fit, ends_in_one, has_bits, has_len, instructions_fit, lengths_fit}
-use Rattle.bsdl_limits.specs.Limits.{cells_within, instructions_within, is_within_limits, ports_within, subscript_limit, users_within}
+use Rattle.bsdl_described.specs.Describing.{Description, Refusal, bad_length, described, ◌>>?◌}
+use Rattle.bsdl_fit.specs.Fits.{rows_numbered}
+use Rattle.bsdl_lengths.specs.Lengths.{codes_fit, has_bits, has_len, instructions_fit, lengths_fit}
+use Rattle.bsdl_limits.specs.Limits.{cells_within, instructions_within, ports_within, subscript_limit, users_within}
 use Rattle.bsdl_limits.specs.PortBits.{highest, width}
 use Rattle.bsdl_limits.specs.Users.{users_of}
 use Rattle.bsdl_opcodes.specs.ResetOpcode.{opcode}
@@ -27,7 +26,7 @@ use Rattle.bsdl_built.specs.Built.{device}
 use Rattle.bsdl.specs.Form.{text_form}
 use Rattle.bsdl.specs.Judging.{fault, file_says, device_or_refusal, text_says, twice_in, unless}
 use Rattle.bsdl.specs.Limited.{HasLengthIfGiven, HasPatternsOf, IsIndexWithin, IsLimitedDevice}
-use Rattle.bsdl.proofs.OnceLaws.{both, each_cell_once, holds, neither}
+use Rattle.bsdl.proofs.OnceLaws.{both, each_cell_once, holds, limits, neither}
 use Rattle.bsdl.proofs.OrderLaws.{AreOrdered, IsOrdered, all_of_both, described_ordered, text_ordered}
 
 at_most : (n m : ℕ) → nat_le n m ≡ true → n ≤ m
@@ -35,7 +34,7 @@ at_most n m h = grind (arith, nat_tests)
 
 -- ---- ports
 
-port_len : (taps : List Name) (p : Port) → length (port_bits taps p) ≡ width p.range
+pub port_len : (taps : List Name) (p : Port) → length (port_bits taps p) ≡ width p.range
 port_len taps p = by_range p.range refl
   where
     by_range : (r : Option Range) → p.range ≡ r → length (port_bits taps p) ≡ width p.range
@@ -76,7 +75,7 @@ ports_indices taps (p ∷ ps) run within =
 
 -- ---- cells
 
-cells_len : (d : Description) (a n : ℕ) → ((k : ℕ) → a ≤ k → k < a + n → length (rows_numbered d k) ≡ 1)
+pub cells_len : (d : Description) (a n : ℕ) → ((k : ℕ) → a ≤ k → k < a + n → length (rows_numbered d k) ≡ 1)
     → length (flat_map (λ k. map (cell d.ports) (rows_numbered d k)) (range_with_len a n)) ≡ n
 cells_len d a zero once = refl
 cells_len d a (suc n) once =
@@ -118,14 +117,6 @@ users_long (u ∷ us) fits =
     (here, users_long us parts.1)
 
 -- ---- the whole
-
-limits : (d : Description) → fault d ≡ None → is_within_limits d ≡ true
-limits d e =
-    let names = neither (twice_in d (given_again d)) _ e in
-    let lengths = neither (unless (lengths_fit d) bad_length) _ names.second in
-    let ends = neither (option_or (unless (captures_one d.capture) bad_capture) (unless (ends_in_one d.idcodes) bad_id)) _ lengths.second in
-    let cells = neither (option_map bad_cell (unfit_cell d)) (unless (is_within_limits d) too_large) ends.second in
-    holds (is_within_limits d) too_large cells.second
 
 pub lengths : (d : Description) → fault d ≡ None → lengths_fit d ≡ true
 lengths d e =

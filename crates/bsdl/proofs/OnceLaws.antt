@@ -50,7 +50,7 @@ none_found f a (suc n) k e low high = by_test (f a) refl (λ rest above. none_fo
         let later : find f (range_with_len a (suc n)) ≡ find f (range_with_len (a + 1) n) = rw is refl in
         by_place (nat_eq a k) refl is (rest (sym later ∙ e))
 
-at_least : (n : ℕ) (rows : List CellRow) → n ≤ fold (λ m r. max m (suc r.number)) n rows
+pub at_least : (n : ℕ) (rows : List CellRow) → n ≤ fold (λ m r. max m (suc r.number)) n rows
 at_least n [] = omega arith
 at_least n (r ∷ rows) =
     let more = at_least (max n (suc r.number)) rows in
@@ -67,18 +67,34 @@ pub not_false : (b : Bool) → not b ≡ false → b ≡ true
 not_false true e = refl
 not_false false e = absurd cc
 
-pub each_cell_once : (d : Description) → fault d ≡ None → (k : ℕ) → k < d.boundary_length → length (rows_numbered d k) ≡ 1
-each_cell_once d e k h =
+-- of the cells up to 65,535 none is unfit
+pub each_fits : (d : Description) → fault d ≡ None → (k : ℕ) → k < 65536 → k < cells_end d → is_fit d k ≡ true
+each_fits d e k small listed =
     let names = neither (twice_in d (given_again d)) _ e in
     let lengths = neither (unless (lengths_fit d) bad_length) _ names.second in
     let ends = neither (option_or (unless (captures_one d.capture) bad_capture) (unless (ends_in_one d.idcodes) bad_id)) _ lengths.second in
     let cells = neither (option_map bad_cell (unfit_cell d)) (unless (is_within_limits d) too_large) ends.second in
     let unfit : unfit_cell d ≡ None = none_mapped (unfit_cell d) cells.first in
-    let limits : is_within_limits d ≡ true = holds (is_within_limits d) too_large cells.second in
-    let behind = (both (instructions_within d) (cells_within d && (ports_within d && users_within d)) limits).1 in
+    let inside : k < 0 + min 65536 (cells_end d) = omega (arith, small, listed) in
+    not_false (is_fit d k) (none_found (λ n. not (is_fit d n)) 0 (min 65536 (cells_end d)) k unfit (omega arith) inside)
+
+-- no limit is passed
+pub limits : (d : Description) → fault d ≡ None → is_within_limits d ≡ true
+limits d e =
+    let names = neither (twice_in d (given_again d)) _ e in
+    let lengths = neither (unless (lengths_fit d) bad_length) _ names.second in
+    let ends = neither (option_or (unless (captures_one d.capture) bad_capture) (unless (ends_in_one d.idcodes) bad_id)) _ lengths.second in
+    let cells = neither (option_map bad_cell (unfit_cell d)) (unless (is_within_limits d) too_large) ends.second in
+    holds (is_within_limits d) too_large cells.second
+
+pub cell_fits : (d : Description) → fault d ≡ None → (k : ℕ) → k < d.boundary_length → is_fit d k ≡ true
+cell_fits d e k h =
+    let behind = (both (instructions_within d) (cells_within d && (ports_within d && users_within d)) (limits d e)).1 in
     let within = (both (cells_within d) (ports_within d && users_within d) behind).0 in
     let few : nat_le d.boundary_length 4096 ≡ true = (both (nat_le d.boundary_length 4096) _ within).0 in
     let small : d.boundary_length ≤ 4096 = grind (arith, nat_tests, few) in
     let reach : d.boundary_length ≤ cells_end d = at_least d.boundary_length d.cells in
-    let inside : k < 0 + min 65536 (cells_end d) = omega arith in
-    one_listed d k h (not_false (is_fit d k) (none_found (λ n. not (is_fit d n)) 0 (min 65536 (cells_end d)) k unfit (omega arith) inside))
+    each_fits d e k (omega (arith, h, small)) (omega (arith, h, reach))
+
+pub each_cell_once : (d : Description) → fault d ≡ None → (k : ℕ) → k < d.boundary_length → length (rows_numbered d k) ≡ 1
+each_cell_once d e k h = one_listed d k h (cell_fits d e k h)

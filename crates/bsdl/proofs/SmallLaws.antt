@@ -1,12 +1,14 @@
 -- Every device that a text says has no more than stands in the text.
-use Rattle.std.proofs.Common.{◌≡◌, ◌≤◌, ℕ, ◌+◌, ◌-◌, Bool, true, false, List, [], ◌∷◌, ◌++◌, length, map, refl, ap, subst, arith}
+use Rattle.std.proofs.Common.{◌≡◌, ◌≤◌, ℕ, ◌+◌, ◌-◌, Bool, true, false, List, [], ◌∷◌, length, map, refl, ap, subst, arith}
 use Rattle.std.specs.Prelude.{Option, Some, None, Result, Ok, Err, filter, nat_lt}
-use Rattle.std.specs.List.{flat_map}
+use Rattle.std.specs.List.{AllByRecursion, flat_map, range_with_len}
 use Rattle.std.proofs.lemmas.List.{length-append, length-map}
-use Rattle.bsdl_device.specs.Device.{Device, Name}
+use Rattle.bsdl_device.specs.Device.{Device, Name, PortBit}
 use Rattle.bsdl_device.specs.declared.Place.{Place}
 use Rattle.bsdl_lex.specs.Cutting.{Lexeme, bad_place, cuts_of, tokens}
 use Rattle.bsdl_text.specs.Reading.{Read, fits, misfit}
+use Rattle.bsdl_text.specs.Words.{upper}
+use Rattle.bsdl_ports.specs.Ports.{Port, Range}
 use Rattle.bsdl_instructions.specs.Values.{AccessRow, Instr, OpcodeRow}
 use Rattle.bsdl_values.specs.declared.Attribute.{Attribute}
 use Rattle.bsdl_values.specs.declared.Attribute.TheVariants.{InstructionLength, BoundaryLength, InstructionOpcode, InstructionCapture, BoundaryRegister, InstructionPrivate, RegisterAccess}
@@ -14,19 +16,20 @@ use Rattle.bsdl_values.specs.Values.{Value, absent, accesses_value, cells_value,
 use Rattle.bsdl_entity.specs.Entity.{File, Given, file}
 use Rattle.bsdl_givings.specs.Givings.{as_accesses, as_cells, as_count, as_names, as_opcodes, as_pattern, is_attribute, value_given}
 use Rattle.bsdl_described.specs.Describing.{Description, Refusal, described, taps_given, too_large, ◌>>?◌}
-use Rattle.bsdl_own_instructions.specs.Own.{is_own, own_accesses, with_own}
+use Rattle.bsdl_own_instructions.specs.Own.{is_among, is_own, own_accesses, with_own}
 use Rattle.bsdl_opcodes.specs.ResetOpcode.{opcode}
 use Rattle.bsdl_limits.specs.Users.{users_of}
 use Rattle.bsdl_opcodes.specs.Accesses.{access, accesses_of_row}
+use Rattle.bsdl_boundary.specs.Boundary.{port_bits}
 use Rattle.bsdl_built.specs.Built.{device}
 use Rattle.bsdl.specs.Form.{read_form, text_form, text_limit, tokens_form}
 use Rattle.bsdl.specs.Judging.{fault, file_says, device_or_refusal, text_says}
 use Rattle.bsdl.specs.Small.{IsSmallDevice, access_size, opcode_size, total}
 use Rattle.bsdl.proofs.LimitedLaws.{bits_len}
-use Rattle.bsdl.proofs.OrderLaws.{needed, passed, same_ok}
+use Rattle.bsdl.proofs.OrderLaws.{all_of_both, needed, passed, same_ok}
 use Rattle.bsdl.proofs.Weights.{Weighs, heft, size, tokens_weigh}
 use Rattle.bsdl.proofs.RowWeights.{access_weight, instr_weight, opcode_weight, upper_len}
-use Rattle.bsdl.proofs.EntityWeights.{file_weighs, file_weight, given_weight, value_weight}
+use Rattle.bsdl.proofs.EntityWeights.{file_weighs, file_weight, given_weight, port_weight, total_append, value_weight}
 
 -- ---- what is given of an attribute
 
@@ -103,6 +106,7 @@ own_within own (row ∷ rows) = omega (arith, with_own_within row (filter own ro
 -- ---- a description
 
 record IsWithin (n : ℕ) (d : Description) : Type 0 where
+  ports : total port_weight d.ports ≤ n
   names : total heft d.private_names ≤ n
   opcodes : total opcode_weight d.opcodes ≤ n
   accesses : total access_weight d.accesses ≤ n
@@ -116,6 +120,7 @@ described_within n f less d e =
     needed (IsWithin n) InstructionCapture (as_pattern (value_given InstructionCapture f.given)) _ (λ capture is-4.
     needed (IsWithin n) BoundaryRegister (as_cells (value_given BoundaryRegister f.given)) _ (λ cells is-5 v last.
     subst (IsWithin n) (same_ok _ v last) (record {
+      ports = omega (arith, less);
       names = names_within (value_given InstructionPrivate f.given) n (each InstructionPrivate);
       opcodes = opcodes_within (value_given InstructionOpcode f.given) n opcodes (each InstructionOpcode) is-3;
       accesses = accesses_are opcodes.1;
@@ -146,10 +151,6 @@ sizes_within : (rows : List OpcodeRow) → total opcode_size (map opcode rows) �
 sizes_within [] = omega arith
 sizes_within (r ∷ rows) = omega (arith, sizes_within rows, lengths r.patterns, upper_len r.name.text)
 
-total_append : {A : Type 0} (measure : A → ℕ) (xs ys : List A) → total measure (xs ++ ys) ≡ total measure xs + total measure ys
-total_append measure [] ys = omega arith
-total_append measure (x ∷ xs) ys = omega (arith, total_append measure xs ys)
-
 instrs_counted : (is : List Instr) → length is ≤ total instr_weight is
 instrs_counted [] = omega arith
 instrs_counted (i ∷ is) = omega (arith, instrs_counted is)
@@ -178,8 +179,32 @@ accesses_within us (r ∷ rows) =
     let here : total access_size (accesses_of_row us r) ≤ total instr_weight r.instrs = row_within _ _ r.instrs in
     omega (arith, accesses_within us rows, total_append access_size (accesses_of_row us r) (flat_map (accesses_of_row us) rows), here)
 
+-- all bits of a port have its name
+bits_named : (n : ℕ) (f : ℕ → PortBit) → ((i : ℕ) → length (f i).name ≤ n) → (is : List ℕ) → AllByRecursion (λ p. length p.name ≤ n) (map f is)
+bits_named n f each [] = tt
+bits_named n f each (i ∷ is) = (each i, bits_named n f each is)
+
+port_named : (n : ℕ) (taps : List Name) (p : Port) → port_weight p ≤ n → AllByRecursion (λ b. length b.name ≤ n) (port_bits taps p)
+port_named n taps p less = by_range p.range refl
+  where
+    short : length (upper p.name.text) ≤ n
+    short = omega (arith, upper_len p.name.text, less)
+
+    by_range : (r : Option Range) → p.range ≡ r → AllByRecursion (λ b. length b.name ≤ n) (port_bits taps p)
+    by_range None is = rw is (short, tt)
+    by_range (Some r) is =
+        let name = upper p.name.text in
+        rw is
+        (bits_named n (λ i. record { name = name; index = Some i; mode = p.mode; is_tap = is_among taps name }) (λ i. short) (range_with_len r.low (r.high - r.low + 1)))
+
+ports_named : (n : ℕ) (taps : List Name) (ps : List Port) → total port_weight ps ≤ n → AllByRecursion (λ b. length b.name ≤ n) (flat_map (port_bits taps) ps)
+ports_named n taps [] less = tt
+ports_named n taps (p ∷ ps) less =
+    all_of_both (λ b. length b.name ≤ n) (port_bits taps p) (flat_map (port_bits taps) ps) (port_named n taps p (omega (arith, less))) (ports_named n taps ps (omega (arith, less)))
+
 device_small : (n : ℕ) (d : Description) → IsWithin n d → IsSmallDevice n (device d)
 device_small n d within = record {
+  port_names = ports_named n d.taps d.ports within.ports;
   private_names = omega (arith, counted d.private_names, within.names);
   private_bytes = omega (arith, lengths d.private_names, within.names);
   patterns = omega (arith, patterns_within d.opcodes, within.opcodes);

@@ -1,7 +1,9 @@
 pub mod Exact
+pub mod FitCells
 pub mod Form
 pub mod Judging
 pub mod Laws
 pub mod Limited
+pub mod RowCells
 pub mod Small
 pub mod View

@@ -1,5 +1,5 @@
--- What no text can pass, whatever numbers it names. All else in a device stands in the text: names, how many patterns
--- a row has, and what own instructions capture.
+-- What no text can pass, whatever numbers it names. The lists that are left out here, the text bounds: names, how many
+-- patterns an instruction has, private names, and own instructions with what they capture.
 use Rattle.std.specs.Prelude.{◌≡◌, ℕ, ◌≤◌, Bool, List, length, Option, Some, None}
 use Rattle.std.specs.List.{AllByRecursion}
 use Rattle.bsdl_device.specs.Device.{Device, Opcode}

@@ -1,5 +1,7 @@
--- What no limit bounds stands in the text: names, how many patterns a row has, and what own instructions capture.
+-- The lists of a device that no limit bounds, its text bounds: the names of ports and instructions, the patterns of
+-- instructions, the private names, and the own instructions with what they capture.
 use Rattle.std.specs.Prelude.{ℕ, ◌+◌, ◌≤◌, Bool, List, [], ◌∷◌, length, Option, Some, None}
+use Rattle.std.specs.List.{AllByRecursion}
 use Rattle.bsdl_device.specs.Device.{Access, Device, Opcode}
 
 -- the sum of a measure
@@ -22,6 +24,8 @@ access_size a = length a.instruction + bits_given a.captures
 
 -- at most so many entries, and so many bytes and bits, of each of these
 pub record IsSmallDevice (most : ℕ) (d : Device) : Type 0 where
+  -- each name by itself, since all bits of a port have the one name that is written
+  pub port_names : AllByRecursion (λ p. length p.name ≤ most) d.ports
   pub private_names : length d.private_names ≤ most
   pub private_bytes : total length d.private_names ≤ most
   pub patterns : total (λ o. length o.patterns) d.opcodes ≤ most

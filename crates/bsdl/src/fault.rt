@@ -19,7 +19,8 @@ pub enum BsdlFault {
     /// loads is not IDCODE's.
     #[error("B4 Twice")]
     Twice(String),
-    /// A pattern's length is not its register's, or a length is below its limit.
+    /// A pattern's length is not its register's, a register of the device's own has two lengths, or a length is below
+    /// its limit.
     #[error("B5 BadLength")]
     BadLength,
     /// The two rightmost bits that the instruction register captures are not 01.

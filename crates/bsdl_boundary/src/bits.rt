@@ -23,7 +23,8 @@ struct Firsts {
     next: usize,
 }
 
-/// The numbers of the first bits of ports.
+/// The numbers of the first bits of ports. Refuses for want of memory, and where a number is 2^64 or more, which
+/// nothing that is judged has.
 pub fn firsts_of(alloc: Global, groups: &[Group<'_>]) -> Result<Vec<usize>, AllocError>
     ensures { IfOk result (λ bits. bits.items ≡ firsts 0 (ports_view.ports groups.now)) }
 {
@@ -71,7 +72,8 @@ fn width_of(range: Option<Range<'_>>) -> Result<usize, AllocError>
     }
 }
 
-/// The number of the port bit that a row names, where it is declared.
+/// The number of the port bit that a row names, where it is declared. Refuses for want of memory, and where a number is
+/// 2^64 or more, which nothing that is judged has.
 pub fn bit_of_port(
     alloc: Global,
     places: &Places<'_>,

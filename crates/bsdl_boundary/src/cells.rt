@@ -21,7 +21,8 @@ use bsdl_places::places::Places;
 use std::alloc::{AllocError, Global};
 use std::collections::BTreeMap;
 
-/// The cells by their numbers; each number below the length has one row.
+/// The cells by their numbers; each number below the length has one row. Refuses for want of memory, and where a number
+/// is 2^64 or more, which nothing that is judged has.
 pub fn cells_of(
     alloc: Global,
     places: &Places<'_>,

@@ -18,7 +18,8 @@ use bsdl_text::names::Word;
 use bsdl_text::numbers::Digits;
 use std::alloc::{AllocError, Global};
 
-/// The ports of an entity.
+/// The ports of an entity. Refuses for want of memory, and where a number is 2^64 or more, which nothing that is judged
+/// has.
 pub fn ports_of(alloc: Global, taps: &Taps<'_>, groups: &[Group<'_>]) -> Result<Ports, AllocError>
     ensures { IfOk result (λ p. p ≡ flat_map (spec.port_bits (taps_view taps.now)) (ports_view.ports groups.now)) }
 {

@@ -18,7 +18,8 @@ use bsdl_places::places::places_of;
 use bsdl_text::numbers::Digits;
 use std::alloc::{AllocError, Global};
 
-/// The device that a description says; each cell below the length of the boundary register has one row.
+/// The device that a description says; each cell below the length of the boundary register has one row. Refuses for
+/// want of memory, and where a number is 2^64 or more, which nothing that is judged has.
 pub fn device_of(
     alloc: Global,
     outline: &Outline<'_>,

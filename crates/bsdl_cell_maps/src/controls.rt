@@ -11,7 +11,8 @@ use bsdl_device::Function;
 use std::alloc::{AllocError, Global};
 use std::collections::BTreeSet;
 
-/// The numbers of the cells that control others; numbers above 65,536 count as 65,536.
+/// The numbers of the cells that control others; numbers above 65,536 count as 65,536. Refuses for want of memory
+/// alone.
 pub fn controls_of(alloc: Global, rows: &[CellRow<'_>]) -> Result<BTreeSet<usize>, AllocError>
     ensures { IfOk result (λ s. (n : ℕ) → n ≤ 65535 → contains_by (nat_cmp n) s
         ≡ list_any (spec.controls_as n) (map cell_row rows.now)) }

@@ -21,7 +21,7 @@ pub struct Drivers<'a> {
     pub lowest: BTreeMap<(usize, &'a [u8]), usize>,
 }
 
-/// The lowest cells that drive port bits.
+/// The lowest cells that drive port bits. Refuses for want of memory alone.
 pub fn drivers_of<'a>(
     alloc: Global,
     places: &Places<'_>,

@@ -1,5 +1,5 @@
 //! The cells of a boundary register by their numbers.
-ghost use Rattle.std.specs.Prelude.{◌≡◌, ◌==◌, ℕ, nat_lt, if◌then◌else◌, OnOk, None};
+ghost use Rattle.std.specs.Prelude.{◌≡◌, ◌==◌, ℕ, nat_lt, if◌then◌else◌, OnOk, OnErr, None};
 ghost use Rattle.std.specs.BTreeMap.{get};
 ghost use Rattle.std.specs.Ordering.{nat_cmp};
 ghost use Rattle.bsdl_cell_maps.specs.Table as spec;
@@ -23,11 +23,12 @@ impl Table {
         }
     }
 
-    /// A row of this number more.
+    /// A row of this number more. Refuses for want of memory alone.
     pub fn put(&mut self, number: usize, fits: bool) -> Result<(), AllocError>
-        ensures { OnOk result ((n : ℕ) → get nat_cmp self.new.cells n
+        ensures put { OnOk result ((n : ℕ) → get nat_cmp self.new.cells n
             ≡ (if number == n then spec.with_row (get nat_cmp self.old.cells n) fits
             else get nat_cmp self.old.cells n)) }
+        ensures err { OnErr result ((n : ℕ) → get nat_cmp self.new.cells n ≡ get nat_cmp self.old.cells n) }
     {
         let alone = self.cells.get(&number).is_none();
         self.cells.insert(number, alone && fits)?;

@@ -53,7 +53,7 @@ pub struct Description<'a> {
     pub accesses: Vec<AccessRow<'a>>,
 }
 
-/// What an entity describes, or the first needed attribute that is missing.
+/// What an entity describes, or the first needed attribute that is missing. Refuses for want of memory alone.
 pub fn describe<'o, 't: 'o>(
     alloc: Global,
     outline: &'o Outline<'t>,

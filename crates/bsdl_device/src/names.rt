@@ -39,7 +39,7 @@ impl Names {
         }
     }
 
-    /// These names and another behind them.
+    /// These names and another behind them. Refuses for want of memory alone.
     pub fn with(mut self, name: String) -> Result<Names, AllocError>
         ensures { IfOk result (λ n. n ≡ self ++ string_bytes name ∷ []) }
     {

@@ -83,7 +83,7 @@ impl Ports {
         }
     }
 
-    /// These ports and another behind them: one bit, or one for each of its indices.
+    /// These ports and another behind them: one bit, or one for each of its indices. Refuses for want of memory alone.
     pub fn with(mut self, port: Port, indices: Option<Indices>) -> Result<Ports, AllocError>
         requires { IfSome indices (λ i. i.low + i.len < 2 ^ 64) }
         ensures { IfOk result (λ p. p ≡ self ++ bits_of (string_bytes port.name) port.mode port.is_tap

@@ -20,7 +20,7 @@ pub struct Known<'t, 'o> {
     pub taps: Taps<'o>,
 }
 
-/// What is known of a description.
+/// What is known of a description. Refuses for want of memory alone.
 pub fn known_of<'t, 'o>(
     alloc: Global,
     outline: &Outline<'t>,

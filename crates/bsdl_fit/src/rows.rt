@@ -23,7 +23,7 @@ use bsdl_text::numbers::Digits;
 use bsdl_text::reading::same_name;
 use std::alloc::{AllocError, Global};
 
-/// Whether the row of a cell of this number fits.
+/// Whether the row of a cell of this number fits. Refuses for want of memory alone.
 pub fn row_fits<'a>(
     alloc: Global,
     known: &Known<'_, 'a>,

@@ -20,7 +20,7 @@ use bsdl_entity::entity::Outline;
 use std::alloc::{AllocError, Global};
 
 /// The least cell, of those up to 65,535, that is listed twice, missing or not below the length, or whose port,
-/// function or control does not fit.
+/// function or control does not fit. Refuses for want of memory alone.
 pub fn unfit_cell(
     alloc: Global,
     outline: &Outline<'_>,

@@ -1,4 +1,4 @@
--- What an attribute's first giving says (IEEE Std 1149.1-2001, Annex B.8.3 to B.8.14).
+-- What an attribute's first giving says (IEEE Std 1149.1-2001, Annex B.8.9 to B.8.14).
 use Rattle.std.specs.Prelude.{ℕ, Bool, if◌then◌else◌, List, [], ◌∷◌, Option, Some, None, bytes_eq}
 use Rattle.bsdl_values.specs.declared.Attribute.{Attribute}
 use Rattle.bsdl_device.specs.Device.{Name, Pattern}

@@ -96,7 +96,7 @@ fn rows_in<'a, E: Entry<'a>>(alloc: Global, text: &'a [u8]) -> Result<Vec<E>, Al
     }
 }
 
-/// The opcodes, and where their text begins.
+/// The opcodes, and where their text begins. Refuses for want of memory alone.
 pub fn opcodes_given<'a>(
     alloc: Global,
     given: &'a [Given<'_>],
@@ -117,7 +117,7 @@ pub fn opcodes_given<'a>(
     }
 }
 
-/// The rows of the boundary register.
+/// The rows of the boundary register. Refuses for want of memory alone.
 pub fn cells_given<'a>(
     alloc: Global,
     given: &'a [Given<'_>],
@@ -134,7 +134,7 @@ pub fn cells_given<'a>(
     }
 }
 
-/// The patterns of a code register; none where it is not given.
+/// The patterns of a code register; none where it is not given. Refuses for want of memory alone.
 pub fn codes_given(
     alloc: Global,
     given: &[Given<'_>],
@@ -152,7 +152,7 @@ pub fn codes_given(
     }
 }
 
-/// The names of the private instructions; none where they are not given.
+/// The names of the private instructions; none where they are not given. Refuses for want of memory alone.
 pub fn private_names_given<'a>(
     alloc: Global,
     given: &'a [Given<'_>],
@@ -169,7 +169,8 @@ pub fn private_names_given<'a>(
     }
 }
 
-/// The registers, and where their text begins; none at place 0 where they are not given.
+/// The registers, and where their text begins; none at place 0 where they are not given. Refuses for want of memory
+/// alone.
 pub fn accesses_given<'a>(
     alloc: Global,
     given: &'a [Given<'_>],
@@ -189,7 +190,7 @@ pub fn accesses_given<'a>(
     }
 }
 
-/// What the instruction register captures.
+/// What the instruction register captures. Refuses for want of memory alone.
 pub fn capture_given(
     alloc: Global,
     given: &[Given<'_>],

@@ -16,8 +16,8 @@ use bsdl_text::numbers::Digits;
 use bsdl_text::reading::same_name;
 use std::alloc::{AllocError, Global};
 
-/// Whether every length fits: instructions have two bits at least, the boundary register one, codes 32; patterns are
-/// as long as their registers, and a register of the device's own has one length.
+/// Whether every length fits: instructions have two bits at least, the boundary register one, codes 32; patterns are as
+/// long as their registers, and a register of the device's own has one length. Refuses for want of memory alone.
 pub fn lengths_fit(alloc: Global, described: &Description<'_>) -> Result<bool, AllocError>
     ensures { IfOk result (λ b. (o : Outline) → b ≡ spec.lengths_fit (description o described.now)) }
 {

@@ -20,7 +20,7 @@ pub struct Users<'a> {
     pub numbers: BTreeMap<String, usize>,
 }
 
-/// The registers that rows name.
+/// The registers that rows name. Refuses for want of memory alone.
 pub fn users_of<'a>(alloc: Global, rows: &[AccessRow<'a>]) -> Result<Users<'a>, AllocError>
     ensures { IfOk result (λ u. Lists u (spec.users_of (map rows_view.access_row rows.now))) }
 {

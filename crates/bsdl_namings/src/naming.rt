@@ -82,7 +82,7 @@ pub fn earlier_again(one: Option<Again>, other: Option<Again>) -> Option<Again>
     }
 }
 
-/// The first of these that has the same name, in any case, before it, as it is spelt.
+/// The first of these that has the same name, in any case, before it, as it is spelt. Refuses for want of memory alone.
 pub fn first_again(alloc: Global, names: &[Naming<'_>]) -> Result<Option<Again>, AllocError>
     ensures { IfOk result (λ o. option_map again o ≡ spec.earliest (spec.repeated (map naming names.now))) }
 {

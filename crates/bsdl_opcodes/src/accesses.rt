@@ -19,7 +19,7 @@ use bsdl_text::reading::same_name;
 use jt_bits::Bits;
 use std::alloc::{AllocError, Global};
 
-/// The device's own instructions with the registers that they select.
+/// The device's own instructions with the registers that they select. Refuses for want of memory alone.
 pub fn accesses_of(
     alloc: Global,
     users: &Users<'_>,

@@ -11,7 +11,7 @@ use bsdl_instructions::patterns::WrittenPattern;
 use jt_bits::Bits;
 use std::alloc::{AllocError, Global};
 
-/// The bits of a pattern, the rightmost first, X as 0.
+/// The bits of a pattern, the rightmost first, X as 0. Refuses for want of memory alone.
 pub fn bits_of(alloc: Global, pattern: &WrittenPattern) -> Result<Bits, AllocError>
     ensures { IfOk result (λ b. b ≡ bits_of_pattern (rows_view.pattern pattern.now)) }
 {
@@ -23,7 +23,7 @@ pub fn bits_of(alloc: Global, pattern: &WrittenPattern) -> Result<Bits, AllocErr
     Ok(bits)
 }
 
-/// The first code, where there is one.
+/// The first code, where there is one. Refuses for want of memory alone.
 pub fn code_of(alloc: Global, codes: &[WrittenPattern]) -> Result<Option<Bits>, AllocError>
     ensures { IfOk result (λ o. o ≡ option_map bits_of_pattern (slice_get (map rows_view.pattern codes.now) 0)) }
 {
@@ -33,7 +33,7 @@ pub fn code_of(alloc: Global, codes: &[WrittenPattern]) -> Result<Option<Bits>, 
     }
 }
 
-/// The opcodes of the instructions, in the order of their rows.
+/// The opcodes of the instructions, in the order of their rows. Refuses for want of memory alone.
 pub fn opcodes_of(alloc: Global, rows: &[OpcodeRow<'_>]) -> Result<Vec<Opcode>, AllocError>
     ensures { IfOk result (λ v. v.items ≡ map opcode (map rows_view.opcode_row rows.now)) }
 {
@@ -86,7 +86,7 @@ fn bit_of(digit: u8) -> Option<bool>
     }
 }
 
-/// The names of the private instructions, in upper case.
+/// The names of the private instructions, in upper case. Refuses for want of memory alone.
 pub fn private_names_of(alloc: Global, names: &[PrivateName<'_>]) -> Result<Names, AllocError>
     ensures { IfOk result (λ n. n ≡ map rows_view.private_name names.now) }
 {

@@ -110,7 +110,7 @@ fn own_instrs<'a>(
     Ok(own)
 }
 
-/// The rows that have own instructions, with those alone.
+/// The rows that have own instructions, with those alone. Refuses for want of memory alone.
 pub fn own_accesses<'a>(
     alloc: Global,
     opcodes: &[OpcodeRow<'a>],

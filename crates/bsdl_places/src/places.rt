@@ -33,7 +33,7 @@ pub struct Places<'a> {
     next: usize,
 }
 
-/// The ports of an entity by their names.
+/// The ports of an entity by their names. Refuses for want of memory alone.
 pub fn places_of<'a>(alloc: Global, groups: &[Group<'a>]) -> Result<Places<'a>, AllocError>
     ensures { IfOk result (λ p. AreAt p (ports_view.ports groups.now)) }
 {
@@ -96,7 +96,7 @@ fn add_name<'a>(
     Ok(())
 }
 
-/// The port bit that a row of the boundary register names, where it is declared.
+/// The port bit that a row of the boundary register names, where it is declared. Refuses for want of memory alone.
 pub fn seat_of<'a>(
     alloc: Global,
     places: &Places<'_>,

@@ -15,7 +15,7 @@ pub struct Word<'a> {
 }
 
 impl Word<'_> {
-    /// The word in upper case.
+    /// The word in upper case. Refuses for want of memory alone.
     pub fn upper_name(self, alloc: Global) -> Result<String, AllocError>
         ensures { IfOk result (λ name. string_bytes name ≡ upper self.entry.text.now) }
     {
@@ -24,7 +24,7 @@ impl Word<'_> {
         Ok(name)
     }
 
-    /// The word as it is spelt.
+    /// The word as it is spelt. Refuses for want of memory alone.
     pub fn spelling(self, alloc: Global) -> Result<String, AllocError>
         ensures { IfOk result (λ name. string_bytes name ≡ self.entry.text.now) }
     {

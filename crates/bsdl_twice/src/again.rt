@@ -186,7 +186,7 @@ fn inside_again(alloc: Global, described: &Description<'_>) -> Result<Option<Aga
 }
 
 /// The first name that is given again: of a port, of an attribute, of an instruction with an opcode, or of an own
-/// instruction with a register; equal but for case.
+/// instruction with a register; equal but for case. Refuses for want of memory alone.
 pub fn given_again(
     alloc: Global,
     outline: &Outline<'_>,

@@ -61,7 +61,7 @@ pub enum Value<'a> {
     Text(Quoted),
 }
 
-/// What a text within quotes says as rows: `None` where it says nothing.
+/// What a text within quotes says as rows: `None` where it says nothing. Refuses for want of memory alone.
 pub fn rows_of<'a, E: Entry<'a>>(
     alloc: Global,
     text: &'a [u8],
@@ -84,7 +84,7 @@ pub fn rows_of<'a, E: Entry<'a>>(
     }
 }
 
-/// What a text within quotes says as one entry: `None` where it says nothing.
+/// What a text within quotes says as one entry: `None` where it says nothing. Refuses for want of memory alone.
 pub fn entry_of<'a, E: Entry<'a>>(alloc: Global, text: &'a [u8]) -> Result<Option<E>, AllocError>
     ensures { IfOk result (λ o. option_map E.seen o ≡ quoted_value E.says text.now) }
 {

@@ -1,6 +1,6 @@
 -- Writing all of a piece, by as many calls as its writer wants.
-use Rattle.std.specs.Prelude.{◌≡◌, ◌↔◌, ℕ, suc, Bool, true, false, List, [], ◌++◌, drop, Option, Result, Ok, Err, IsOk}
-use Rattle.std.specs.Prelude.{IsErr, OnOk}
+use Rattle.std.specs.Prelude.{◌≡◌, ◌↔◌, ℕ, suc, Bool, true, false, List, [], ◌∷◌, ◌++◌, drop, Option, Result}
+use Rattle.std.specs.Prelude.{Ok, Err, IsOk, IsErr, OnOk}
 use Rattle.std.specs.Io.KnownBytes.{Appends}
 use Rattle.byte_ends.specs.Counts.{CountedView, is_lost}
 
@@ -34,3 +34,13 @@ pub data PutsAll {S E : Type 0} (puts : S → List ℕ → Result ℕ E → S �
       → PutsAll puts s piece false t
   some_put : (s : S) (piece : List ℕ) (n : ℕ) (t : S) (whole : Bool) (u : S) → puts s piece (Ok (suc n)) t
       → PutsAll puts t (drop (suc n) piece) whole u → PutsAll puts s piece whole u
+
+-- Pieces that are written one after another, each by its own calls, from one state of a writer to another. The flag is
+-- true where all of them were, and false where one was lost; none follows a lost one.
+pub data PutsEach {S E : Type 0} (puts : S → List ℕ → Result ℕ E → S → Type 0) : S → List (List ℕ) → Bool → S
+    → Type 0 where
+  no_piece : (s : S) → PutsEach puts s [] true s
+  piece_lost : (s : S) (piece : List ℕ) (pieces : List (List ℕ)) (t : S) → PutsAll puts s piece false t
+      → PutsEach puts s (piece ∷ pieces) false t
+  piece_put : (s : S) (piece : List ℕ) (pieces : List (List ℕ)) (t : S) (whole : Bool) (u : S)
+      → PutsAll puts s piece true t → PutsEach puts t pieces whole u → PutsEach puts s (piece ∷ pieces) whole u

@@ -1,4 +1,4 @@
-// Readers and writers of `std` as a source and a sink, and a source and a sink as one end.
+//! Readers and writers of `std` as a source and a sink, and a source and a sink as one end.
 ghost use Rattle.std.specs.Prelude.{◌≡◌, ⊤};
 ghost use Rattle.std.specs.Io.{ReadsAtMost, WritesAtMost};
 ghost use Rattle.std.specs.Io.KnownBytes.{Keeps, ReadConsumes, WriteAppends};

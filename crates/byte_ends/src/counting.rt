@@ -1,9 +1,9 @@
-// A reader, a writer or an end that notes its first loss, and writing all of a text through one.
-ghost use Rattle.std.specs.Prelude.{◌≡◌, ◌≤◌, false, IsTrue, flat_map, is_ok};
+//! A reader, a writer or an end that notes its first loss, and writing all of a text through one.
+ghost use Rattle.std.specs.Prelude.{◌≡◌, ◌≤◌, false, IsTrue, flat_map, is_ok, map};
 ghost use Rattle.std.specs.Io.{ReadsAtMost, WritesAtMost};
 ghost use Rattle.std.specs.Io.KnownBytes.{Keeps, ReadConsumes, WriteAppends};
 ghost use Rattle.byte_ends.specs.Counts.{CountedView, lost_after, flushed_after, ended_after};
-ghost use Rattle.byte_ends.specs.Writes.{PutsAll, WritesAll};
+ghost use Rattle.byte_ends.specs.Writes.{PutsAll, PutsEach, WritesAll};
 
 use crate::ends::{End, Sink, Source};
 use std::io;
@@ -213,6 +213,9 @@ pub fn put_pieces<W: Sink>(out: &mut Counted<W>, pieces: &[&[u8]]) -> Result<(),
     requires { out.old.failures ≡ 0 }
     ensures writes { WritesAll W.contents out.old out.new (flat_map (λ piece. piece.now) pieces.now) result }
     ensures at_end { out.new.at_end ≡ out.old.at_end }
+
+    // What the writer was asked, piece by piece.
+    ensures calls { PutsEach W.puts out.old.inner (map (λ piece. piece.now) pieces.now) (is_ok result) out.new.inner }
 {
     for piece in pieces {
         put_all(out, piece)?;

@@ -1,4 +1,4 @@
-// The readers and writers that a proof can follow from call to call.
+//! The readers and writers that a proof can follow from call to call.
 ghost use Rattle.std.specs.Prelude.{ℕ, List, Result};
 ghost use Rattle.std.specs.Io.{ReadsAtMost, WritesAtMost};
 ghost use Rattle.std.specs.Io.KnownBytes.{Keeps, ReadConsumes, WriteAppends};

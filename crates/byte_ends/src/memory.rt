@@ -1,4 +1,4 @@
-// A source and a sink over memory.
+//! A source and a sink over memory.
 ghost use Rattle.std.specs.Prelude.{◌≡◌, ◌++◌, min, length, take, drop, ⊤, Ok, MatchResult};
 ghost use Rattle.std.specs.IoError.{error_kind};
 ghost use Rattle.std.specs.declared.io.ErrorKind.TheVariants.{OutOfMemory};

@@ -1,4 +1,4 @@
-// A socket as an end.
+//! A socket as an end.
 ghost use Rattle.std.specs.Prelude.{⊤};
 
 use crate::ends::{End, Sink, Source};

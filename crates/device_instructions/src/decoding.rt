@@ -13,7 +13,8 @@ use crate::{Mode, Selected};
 use bsdl_device::{Device, Opcode, Pattern, Place};
 use jt_bits::Bits;
 
-/// The list that an identification or user register's capture is fixed to, as a place of the description.
+/// The list that the capture of the identification register, or of a register of the device's own, is fixed to, as a
+/// place of the description.
 #[derive(Debug, Clone, Copy, PartialEq, Eq)]
 pub enum Fixed {
     /// Nothing fixed.
@@ -22,7 +23,7 @@ pub enum Fixed {
     Idcode,
     /// The user code.
     Usercode,
-    /// What stands behind CAPTURES in this row of REGISTER_ACCESS, if anything does.
+    /// What the own instruction at this place of `Device::accesses` captures, if that is fixed.
     Access(usize),
 }
 
@@ -41,7 +42,7 @@ const BYPASSED: Decoded = Decoded {
 };
 
 /// What the instruction in a latch does (clause 8): that of the name by which the device's opcodes know it, and BYPASS
-/// where none does, where the name is private, or where the device lacks what it names.
+/// where none does, where the name is private, INTEST or RUNBIST, or where the device lacks what it names.
 pub fn decode(device: &Device, latch: &Bits) -> Decoded
     requires { IsFormed device.now }
     ensures meaning { meaning_by device.now result ≡ meaning device.now latch.now }

@@ -24,7 +24,7 @@ impl Model for SharedDevice {
 }
 
 impl SharedDevice {
-    /// Takes a description over, to be shared.
+    /// Takes a description over, to be shared. Refuses for want of memory alone.
     pub fn new(alloc: Global, device: Device) -> Result<SharedDevice, AllocError>
         ensures { IfOk result (λ s. s ≡ device) }
     {
@@ -33,7 +33,7 @@ impl SharedDevice {
         })
     }
 
-    /// One more that shares the same description, of which no copy is made.
+    /// One more that shares the same description, of which no copy is made. Refuses for want of memory alone.
     pub fn share(&self) -> Result<SharedDevice, AllocError>
         ensures { IfOk result (λ s. s ≡ self.now) }
     {

@@ -31,7 +31,7 @@ pub struct DataRegisters<B: Register> {
 
 impl<B: Register> DataRegisters<B> {
     /// Round a boundary register: an identification register of `code` bits and user registers of these lengths, all
-    /// bits 0.
+    /// bits 0. Refuses for want of memory alone.
     pub fn new(
         alloc: Global,
         code: usize,

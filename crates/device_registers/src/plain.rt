@@ -28,7 +28,7 @@ impl Model for Plain {
 }
 
 impl Plain {
-    /// `n` bits that are 0, twice.
+    /// `n` bits that are 0, twice. Refuses for want of memory alone.
     pub fn new(alloc: Global, n: usize) -> Result<Plain, AllocError>
         ensures { IfOk result (λ p. p ≡ record { stage = replicate n false; update = replicate n false }) }
     {

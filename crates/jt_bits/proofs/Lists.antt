@@ -147,7 +147,7 @@ get_or-part : (bits : List Bool) (m j : ℕ) → j < 64 → get_or (take 64 (dro
 get_or-part bits m j h = get_or-take 64 (drop m bits) j false h ∙ get_or-drop m bits j false
 
 pub has_bit-word : (bits : List Bool) (k j : ℕ) → j < 64 → has_bit (word_of bits k) j ≡ get_or bits (64 * k + j) false
-unfolding has_bit word_of
+unfolding has_bit word_of word_from
 has_bit-word bits k j h =
     let part = take 64 (drop (64 * k) bits) in
     ap (λ (n : ℕ). n == 1) (number_bit part j) ∙ test_one (get_or part j false) ∙ get_or-part bits (64 * k) j h

@@ -19,7 +19,7 @@ use Rattle.hex.specs.declared.error.FromHexError.TheVariants.{OddLength, Invalid
 use Rattle.hex.proofs.Pairs.{decode_pairs-ok_pair}
 use Rattle.jt_bits.specs.Hex.{is_white, is_bad, bits_of, four_bits, binary}
 use Rattle.jt_bits.specs.Lengths.{resized}
-use Rattle.jt_bits.specs.Words.{number, word_of}
+use Rattle.jt_bits.specs.Words.{number, word_of, word_from}
 use Rattle.jt_bits.proofs.HexLaws.{binary-push, binary-none, white_bits, digit_bits}
 
 -- ---- digits
@@ -355,7 +355,7 @@ number_resized n bits =
 -- the next word of a text
 pub piece_word : (digits rest text : List ℕ) (value k : ℕ) → value ≡ number (binary digits) → binary digits ≡ resized 64 (binary rest) → binary rest ≡ drop (64 * k) (binary text)
     → value ≡ word_of (binary text) k
-unfolding word_of
+unfolding word_of word_from
 piece_word digits rest text value k is spelled at =
     is ∙ ap number spelled ∙ number_resized 64 (binary rest) ∙ ap (λ (b : List Bool). number (take 64 b)) at
 

@@ -55,7 +55,7 @@ pub struct Layout<'a> {
 }
 
 impl Bits {
-    /// `len` bits that are 0.
+    /// `len` bits that are 0. Refuses for want of memory alone.
     pub fn zeros(alloc: Global, len: usize) -> Result<Bits, AllocError>
         ensures { IfOk result (λ b. b ≡ replicate len false) }
     {
@@ -66,7 +66,7 @@ impl Bits {
         })
     }
 
-    /// `len` bits that are 1.
+    /// `len` bits that are 1. Refuses for want of memory alone.
     pub fn ones(alloc: Global, len: usize) -> Result<Bits, AllocError>
         ensures { IfOk result (λ b. b ≡ replicate len true) }
     {
@@ -77,7 +77,7 @@ impl Bits {
         })
     }
 
-    /// A second list of the same bits.
+    /// A second list of the same bits. Refuses for want of memory alone.
     pub fn try_clone(&self, alloc: Global) -> Result<Bits, AllocError>
         ensures { IfOk result (λ b. b ≡ self.now) }
     {
@@ -88,7 +88,7 @@ impl Bits {
         })
     }
 
-    /// A list of the lowest `len` bits; those that this list does not have are 0.
+    /// A list of the lowest `len` bits; those that this list does not have are 0. Refuses for want of memory alone.
     pub fn resized(&self, alloc: Global, len: usize) -> Result<Bits, AllocError>
         ensures { IfOk result (λ b. b ≡ resized len self.now) }
     {

@@ -14,7 +14,7 @@ use std::io::ErrorKind;
 use std::process::ExitCode;
 use std::{fmt, io};
 
-/// A verdict was given and is a pass, or help was asked for.
+/// Help was asked for, and given.
 const DONE: u8 = 0;
 /// The input or the command line was refused.
 const REFUSED: u8 = 2;

@@ -18,7 +18,8 @@ pub struct NetSpec {
 
 impl Nets {
     /// These nets over so many pins, each of which drives nothing. A pin on none of them is a net by itself, without a
-    /// pull, after the others, by rising number. No pin stands twice, and each is below the count.
+    /// pull, after the others, by rising number. No pin stands twice, and each is below the count. Refuses for want of
+    /// memory alone.
     pub fn build(alloc: Global, pins: usize, nets: &[NetSpec]) -> Result<Nets, AllocError>
         requires once { IsOnce (map net_value nets.now) }
         requires below { HasPinsBelow pins (map net_value nets.now) }

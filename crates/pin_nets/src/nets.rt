@@ -70,6 +70,14 @@ impl Nets {
         }
     }
 
+    /// What a pin drives.
+    pub fn drive(&self, pin: usize) -> Drive
+        requires { pin < length self.now.drives }
+        ensures { slice_get self.now.drives pin ≡ Some result }
+    {
+        self.drives[pin]
+    }
+
     /// The level of a net.
     pub fn level(&self, net: usize) -> Level
         requires { net < length self.now.nets }

@@ -1,5 +1,5 @@
 -- One program of every kind of step, and one device with every kind of register: the premises of the laws can be met.
--- And two plays where one of them fails: the laws need them.
+-- And three plays where one of them fails: the laws need it.
 use Rattle.std.specs.Prelude.{◌≡◌, true, false, List, [], ◌∷◌, map, replicate, Some, None, codes}
 use Rattle.std.specs.List.{AllByRecursion}
 use Rattle.jt_tap.specs.declared.Column.TheVariants.{Dr, Ir}

@@ -10,14 +10,15 @@ use scan_vectors::Part;
 pub enum Ending {
     /// Every bit that was wanted came out.
     Pass,
-    /// The first scan of which a wanted bit did not come out, and the part and place of the least such bit.
+    /// The first scan of which a wanted bit did not come out, and the part of the least such bit with its place there,
+    /// counted from 0.
     Fail {
         command: usize,
         part: Part,
         bit: usize,
     },
-    /// The connection was lost while this command was in work: 0 during the opening, and the count of statements plus 1
-    /// once every step was sent and answered.
+    /// The connection was lost while this command was in work: 0 until the opening is given out, and the count of
+    /// statements plus 1 once `Q` alone is left, after a failing step too.
     Lost {
         command: usize,
     },

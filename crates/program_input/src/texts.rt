@@ -40,7 +40,8 @@ pub fn read_board_file<R: Files + Input + AllocGlobal>(
     Ok(text)
 }
 
-/// Reads the named file, or standard input where none is named.
+/// Reads the named file, or standard input where none is named: all of it, or its first 16 MiB and one byte, which
+/// each reader of a text refuses as too long.
 pub fn read_text<R: Files + Input + AllocGlobal>(
     rt: &R,
     alloc: Global,

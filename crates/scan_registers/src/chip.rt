@@ -80,7 +80,7 @@ impl<B: Register> Model for Chip<B> {
 
 impl<B: Register> Chip<B> {
     /// The device at power-up, round a boundary register of a bit for each of its cells: in RESET with its reset
-    /// instruction, all else 0.
+    /// instruction, all else 0. Refuses for want of memory alone.
     pub fn new(alloc: Global, device: &SharedDevice, boundary: B) -> Result<Chip<B>, AllocError>
         requires formed { IsFormed device.now }
         requires cells { length (B.stage boundary) ≡ length device.now.cells }
@@ -113,7 +113,8 @@ impl<B: Register> Chip<B> {
         })
     }
 
-    /// A rising edge of TCK: the state's capture or shift, and then the move to the next state.
+    /// A rising edge of TCK: the state's capture or shift, and then the move to the next state. A device that TRST
+    /// holds in RESET stays as it is (clause 6).
     pub fn rise(&mut self, tms: bool, tdi: bool)
         ensures chip { one_chip B.stage B.update_part self.new
             ≡ rise tms tdi (surroundings_of B.captured B.at_reset self.old) (one_chip B.stage B.update_part self.old) }
@@ -146,7 +147,8 @@ impl<B: Register> Chip<B> {
         self.tdo = self.first_bit();
     }
 
-    /// TRST is asserted or released.
+    /// TRST is asserted or released. Where it is asserted, a device with a TRST port is reset at once and stands in
+    /// RESET, its TDO undriven (clauses 4 and 6).
     pub fn trst(&mut self, trst: bool)
         ensures chip { one_chip B.stage B.update_part self.new
             ≡ after_trst trst (surroundings_of B.captured B.at_reset self.old)

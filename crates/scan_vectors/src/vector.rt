@@ -15,11 +15,11 @@ pub struct Vector<'a> {
 
 impl<'a> Vector<'a> {
     ghost use Rattle.std.specs.Prelude.{◌≡◌, ◌+◌, ◌<◌, ◌≤◌, ◌^◌, Bool, Option, Some, None, ℕ, length, slice_get};
-    ghost use Rattle.std.specs.Prelude.{option_map};
+    ghost use Rattle.std.specs.Prelude.{option_map, is_some, min, if◌then◌else◌};
     ghost use Rattle.jt_bits.specs.Packed.{has_bit};
     ghost use Rattle.scan_vectors.specs.declared.part.Part as declared;
     ghost use Rattle.scan_vectors.specs.Fields.{vector_of};
-    ghost use Rattle.scan_vectors.specs.Held.{bits, fields, wanted_of};
+    ghost use Rattle.scan_vectors.specs.Held.{bits, fields, left_in_part, tdo_there, wanted_of};
     ghost use Rattle.scan_vectors.specs.Vector.{tdis};
 
     pub(crate) fn of(header: Part3<'a>, body: Part3<'a>, trailer: Part3<'a>) -> Vector<'a>
@@ -60,6 +60,7 @@ impl<'a> Vector<'a> {
         requires { i < length (bits self.now) }
         ensures some { 0 < result.len }
         ensures few { result.len ≤ 64 }
+        ensures len { result.len ≡ min 64 (left_in_part self.now i) }
         ensures inside { i + result.len ≤ length (bits self.now) }
         ensures bits { (j : ℕ) → j < result.len
             → slice_get (tdis (bits self.now)) (i + j) ≡ Some (has_bit result.bits j) }
@@ -78,6 +79,7 @@ impl<'a> Vector<'a> {
         requires { i < length (bits self.now) }
         ensures some { 0 < result.len }
         ensures few { result.len ≤ 64 }
+        ensures len { result.len ≡ min 64 (left_in_part self.now i) }
         ensures inside { i + result.len ≤ length (bits self.now) }
         ensures bits { (j : ℕ) → j < result.len
             → option_map {U = Option Bool} (λ b. b.wanted) (slice_get (bits self.now) (i + j))
@@ -96,6 +98,7 @@ impl<'a> Vector<'a> {
     pub fn unwanted(&self, i: usize) -> usize
         requires { i < length (bits self.now) }
         ensures inside { i + result ≤ length (bits self.now) }
+        ensures len { result ≡ (if is_some (tdo_there self.now i) then 0 else left_in_part self.now i) }
         ensures bits { (j : ℕ) → j < result
             → option_map {U = Option Bool} (λ b. b.wanted) (slice_get (bits self.now) (i + j)) ≡ Some None }
     {

@@ -87,9 +87,9 @@ impl Player {
         telling::ended(&self.program, self.progress)
     }
 
-    /// The command in work: 0 during the opening, then the statement of the first step not yet sent and answered, and
-    /// afterwards the count of statements plus 1 (or the largest number, where that is more). A step that sends
-    /// nothing is never in work.
+    /// The command in work: 0 until the opening is given out, then the statement of the first step not yet sent and
+    /// answered, and once `Q` alone is left, after a failing step too, the count of statements plus 1 (or the largest
+    /// number, where that is more). A step that sends nothing is never in work.
     pub fn working(&self) -> usize
         ensures { result ≡ min (stream.working self.now) (2 ^ 64 - 1) }
     {

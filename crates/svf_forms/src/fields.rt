@@ -25,7 +25,7 @@ pub struct Fields {
 }
 
 /// The fields that the words up to the `;` are: each a name and digits between brackets, at most once. There are none
-/// where the words are anything else. Memory is taken for the digits.
+/// where the words are anything else. Memory is taken for the digits. Refuses for want of memory alone.
 pub fn fields_of(alloc: Global, words: Lexer<'_>) -> Result<Option<Fields>, AllocError>
     ensures { IfOk result (λ o. option_map fields o ≡ fields_say no_fields (cut_at_close (words_left words.entry))) }
 {

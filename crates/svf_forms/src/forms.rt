@@ -35,7 +35,7 @@ pub enum Written<'a> {
 }
 
 /// The form that the words after a command have, up to the `;`. There is none where they do not fit the command. Memory
-/// is taken for the digits of fields and for the states of a path.
+/// is taken for the digits of fields and for the states of a path. Refuses for want of memory alone.
 pub fn form_of<'a>(
     alloc: Global,
     command: Command,

@@ -17,7 +17,7 @@ use svf_programs::Program;
 
 /// The program that statements are, or their first refusal: that of the first faulty statement, and of its own
 /// refusals the one with the lowest number (S7 to S12, S14, S15). Want of memory is S16 with statement 0; a list of
-/// 2^32 - 1 statements or more wants it too, since a step names a statement by 32 bits.
+/// 2^32 statements or more wants it too, since a step names a statement by 32 bits.
 ///
 /// The program keeps the statements, so beside them memory is taken for the steps alone.
 pub fn resolve(alloc: Global, statements: Vec<Statement>) -> Result<Program, SvfFault>

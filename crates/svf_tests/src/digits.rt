@@ -53,6 +53,28 @@ fn refusals(rt: HostRuntime) {
     assert_refused(&rt, rt.alloc(), b"FF FG H", 4, HexFault::BadDigit(4));
 }
 
+fn assert_shown(rt: &impl Abort, alloc: Global, fault: HexFault, wanted: &str) -> Result<(), Fail> {
+    assert_eq!(rt; format!(in alloc; "{}", fault)?.as_str(), wanted);
+    Ok(())
+}
+
+#[test]
+fn refusals_are_shown(rt: HostRuntime) -> Result<(), Fail> {
+    assert_shown(&rt, rt.alloc(), HexFault::NoMemory, "memory")?;
+    assert_shown(
+        &rt,
+        rt.alloc(),
+        HexFault::BadDigit(12),
+        "byte 12 is no hexadecimal digit",
+    )?;
+    assert_shown(
+        &rt,
+        rt.alloc(),
+        HexFault::TooWide,
+        "the digits have a 1 beyond the length",
+    )
+}
+
 #[test]
 fn bit_0_is_the_lowest(rt: HostRuntime) -> Result<(), Fail> {
     let Ok(bits) = Bits::from_hex(rt.alloc(), b"06", 5) else {

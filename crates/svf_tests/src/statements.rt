@@ -418,10 +418,32 @@ fn refusals_are_printed(rt: HostRuntime) -> Result<(), Fail> {
         code: Code::NoMemory,
     };
     assert_eq!(rt; format!(in rt.alloc(); "{}", memory)?.as_str(), "memory");
-    assert_eq!(rt;
-        format!(in rt.alloc(); "{}", Code::TrstAbsent)?.as_str(),
-        "S11 TrstAbsent"
-    );
+    let shown: [(Code, &str); 16] = [
+        (Code::BadByte(6), "S1 BadByte"),
+        (Code::Unclosed(0), "S2 Unclosed"),
+        (Code::UnknownCommand, "S3 UnknownCommand"),
+        (Code::BadForm, "S4 BadForm"),
+        (Code::BadNumber, "S5 BadNumber"),
+        (Code::TooWide, "S6 TooWide"),
+        (Code::MissingTdi, "S7 MissingTdi"),
+        (Code::BadState, "S8 BadState"),
+        (Code::BadPath, "S9 BadPath"),
+        (Code::TrstHeld, "S10 TrstHeld"),
+        (Code::TrstAbsent, "S11 TrstAbsent"),
+        (Code::EmptyScan, "S12 EmptyScan"),
+        (Code::Unsupported, "S13 Unsupported"),
+        (Code::TooSlow, "S14 TooSlow"),
+        (Code::TooLarge, "S15 TooLarge"),
+        (Code::NoMemory, "S16 NoMemory"),
+    ];
+    assert_shown(&rt, rt.alloc(), &shown)
+}
+
+/// Asserts that each refusal is shown as its number and its name.
+fn assert_shown(rt: &impl Abort, alloc: Global, rows: &[(Code, &str)]) -> Result<(), Fail> {
+    for (code, shown) in rows {
+        assert_eq!(rt; format!(in alloc; "{}", *code)?.as_str(), *shown);
+    }
     Ok(())
 }
 

@@ -203,14 +203,11 @@ fn follows(before: State, state: State) -> bool
 }
 
 /// The last state of a path, or where it begins if it is empty.
+#[tactic(auto, using(crate::proofs::StatedPaths::ends_last))]
 pub fn last_of(from: State, path: &[State]) -> State
     ensures { result ≡ spec.last_of from path.now }
 {
-    let mut last = from;
-    for state in path {
-        last = *state;
-    }
-    last
+    path.last().copied().unwrap_or(from)
 }
 
 /// Every default path leads by arrows of the state diagram from its first state to its last.

@@ -7,7 +7,7 @@ use Rattle.svf_words.specs.declared.keywords.TrstWord.TheVariants as word
 use Rattle.scan_vectors.specs.Vector.{VectorBit}
 use Rattle.svf_programs.specs.Steps.{Step, Scan, Go, Path, Run, Trst}
 use Rattle.bitbang_table.specs.declared.Cycle.{Cycle}
-pub use Rattle.bitbang_table.specs.Cycles.{entering, resets_held}
+pub use Rattle.bitbang_table.specs.Cycles.{entering, five_resets}
 
 -- one cycle a bit, TMS 1 on the last
 abbrev pub scan_cycles : List VectorBit → List Cycle
@@ -26,5 +26,5 @@ cycles place (Go s) = map entering (go place s)
 cycles place (Path path) = map entering path
 cycles place (Run run n end) =
     map entering (go_unless_there place run) ++ replicate n (entering run) ++ map entering (go_unless_there run end)
-cycles place (Trst word.On) = resets_held
+cycles place (Trst word.On) = five_resets
 cycles place (Trst w) = []

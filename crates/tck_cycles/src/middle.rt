@@ -4,7 +4,9 @@ ghost use Rattle.std.specs.Prelude.{◌≡◌, ◌<◌, ◌≤◌, ◌+◌, ◌-
 ghost use Rattle.std.specs.Prelude.{count_by, drop, option_map};
 ghost use Rattle.scan_vectors.specs.Held.{bits};
 ghost use Rattle.tck_cycles.specs.Cycles as spec;
+ghost use Rattle.tck_cycles.specs.Middles.{shifts_from};
 ghost use Rattle.tck_cycles.specs.Shifts.{shift_cycle};
+ghost use Rattle.tck_cycles.specs.declared.middle.Middle.TheVariants as middle;
 
 use crate::cycle::walk;
 use crate::shifts::Shifts;
@@ -25,7 +27,7 @@ pub(crate) enum Middle<'a> {
 
 impl<'a> Middle<'a> {
     ghost use Rattle.std.specs.Prelude.{◌≡◌, ◌<◌, ◌≤◌, ◌+◌, ℕ, length, slice_get, Some, count_by, drop};
-    ghost use Rattle.tck_cycles.specs.Middles.{middle_cycles, stayed};
+    ghost use Rattle.tck_cycles.specs.Middles.{middle_cycles, shifts_from, stayed};
     ghost use Rattle.tck_cycles.specs.Shifts.{shift_cycle};
 
     /// How many cycles there are.
@@ -62,6 +64,7 @@ impl<'a> Middle<'a> {
 
     /// Cycles that shift, from a place on, none where what stands there shifts nothing or is the last cycle of a scan.
     pub(crate) fn shifts(&self, at: u64) -> Shifts
+        ensures many { result.len ≡ shifts_from self.now at }
         ensures few { result.len ≤ 64 }
         ensures inside { 0 < result.len → at + result.len ≤ length (middle_cycles self.now) }
         ensures cycles { (j : ℕ) → j < result.len
@@ -119,6 +122,7 @@ fn bit_cycle(vector: &Vector, at: usize) -> Option<Cycle>
 
 /// Cycles that shift bits of a vector from a place on, up to where a part of it ends, none of which is the last one.
 fn vector_shifts(vector: &Vector, at: usize) -> Shifts
+    ensures many { result.len ≡ shifts_from (middle.Vector vector.now) at }
     ensures few { result.len ≤ 64 }
     ensures inside { 0 < result.len → at + result.len ≤ length (spec.scan_cycles (bits vector.now)) }
     ensures cycles { (j : ℕ) → j < result.len

@@ -35,16 +35,16 @@ pub struct Source<'a> {
 
 impl<'a> Source<'a> {
     ghost use Rattle.std.specs.Prelude.{[], ◌≡◌, ◌≤◌, ◌<◌, ◌+◌, ◌^◌, ◌++◌, ℕ, map, true, length, slice_get, Some};
-    ghost use Rattle.std.specs.Prelude.{count_by, drop, replicate};
+    ghost use Rattle.std.specs.Prelude.{count_by, drop, min, replicate};
     ghost use Rattle.arrayvec.specs.ArrayVec.{array_vec_len};
-    ghost use Rattle.tck_cycles.specs.Middles.{middle_cycles, stayed};
+    ghost use Rattle.tck_cycles.specs.Middles.{middle_cycles, stayed, stays_from};
     ghost use Rattle.jt_tap.specs.Controller.{is_stable};
     ghost use Rattle.svf_programs.specs.Legal.{IsFormed};
     ghost use Rattle.svf_programs.specs.Sound.{IsWithin};
     ghost use Rattle.svf_programs.specs.Seen as seen;
     ghost use Rattle.tck_cycles.specs.Cycles.{cycles, entering};
     ghost use Rattle.tck_cycles.specs.Shifts.{shift_cycle, shift_cycles};
-    ghost use Rattle.tck_cycles.specs.Sources.{behind, left, whole};
+    ghost use Rattle.tck_cycles.specs.Sources.{alike_at_once, behind, in_middle, left, shifts_at_once, whole};
     ghost use Rattle.std.specs.Iterator.{YieldsFirst};
 
     /// The cycles of a step from a resting place. Takes no memory.
@@ -168,6 +168,7 @@ impl<'a> Source<'a> {
         requires { 0 < most }
         ensures gives { left self.old ≡ replicate result.1 result.0 ++ left self.new }
         ensures most { result.1 ≤ most }
+        ensures many { result.1 ≡ min most (alike_at_once self.old) }
         ensures none { result.1 ≡ 0 → left self.old ≡ [] }
         ensures whole { whole self.new ≡ whole self.old }
     {
@@ -182,6 +183,7 @@ impl<'a> Source<'a> {
     pub fn next_shifts(&mut self, most: u64) -> Shifts
         ensures gives { left self.old ≡ shift_cycles result ++ left self.new }
         ensures most { result.len ≤ most }
+        ensures many { result.len ≡ min most (shifts_at_once self.old) }
         ensures few { result.len ≤ 64 }
         ensures whole { whole self.new ≡ whole self.old }
     {
@@ -193,6 +195,7 @@ impl<'a> Source<'a> {
 
     /// The cycles of a scan from where the source stands, as many as are known at once.
     fn shifts(&self) -> Shifts
+        ensures many { result.len ≡ shifts_at_once self.now }
         ensures few { result.len ≤ 64 }
         ensures fits { 0 < result.len → self.now.at + result.len < 2 ^ 64 }
         ensures cycles { (j : ℕ) → j < result.len
@@ -208,6 +211,7 @@ impl<'a> Source<'a> {
     /// The cycle at which the source stands, and how often it comes from there at once, as far as it is known.
     fn alike(&self) -> (Cycle, u64)
         ensures gives { left self.now ≡ replicate result.1 result.0 ++ drop (self.now.at + result.1) (whole self.now) }
+        ensures many { result.1 ≡ alike_at_once self.now }
         ensures none { result.1 ≡ 0 → left self.now ≡ [] }
         ensures fits { 0 < result.1 → self.now.at + result.1 < 2 ^ 64 }
     {
@@ -226,6 +230,7 @@ impl<'a> Source<'a> {
         ensures gives { 0 < result
             → left self.now
             ≡ replicate result (stayed self.now.middle) ++ drop (self.now.at + result) (whole self.now) }
+        ensures many { result ≡ in_middle stays_from self.now }
         ensures fits { 0 < result → self.now.at + result < 2 ^ 64 }
     {
         let lead = self.lead.len() as u64;

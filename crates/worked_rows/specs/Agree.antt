@@ -43,18 +43,19 @@ place DrPause = 2
 place IrPause = 3
 place _ = 4
 
-abbrev pub undriven : Option Bool → ℕ
-undriven None = 0
-undriven (Some b) = 1
+-- whether TDO is driven
+abbrev pub driven : Option Bool → ℕ
+driven None = 0
+driven (Some b) = 1
 
 abbrev pub flat_chips : List ChipState → List ℕ
 flat_chips [] = []
-flat_chips (c ∷ cs) = place c.state ∷ undriven c.tdo ∷ flat_registers c.member.registers ++ flat_chips cs
+flat_chips (c ∷ cs) = place c.state ∷ driven c.tdo ∷ flat_registers c.member.registers ++ flat_chips cs
 
 abbrev pub flat_board : BoardState → List ℕ
 flat_board b = number b.tck ∷ number b.trst ∷ flat_chips b.chips
 
--- the row's ending by both meanings, the same registers, and the player's own words for the play's answers
+-- the bytes of the play, its ending by both meanings, and the same board at the end
 abbrev pub Row : AtRest → List Numbered → (bytes : List ℕ) → Ending → Type 0
 Row m steps bytes ending =
     (map encode (played m steps).messages ≡ bytes)

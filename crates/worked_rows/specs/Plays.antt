@@ -45,7 +45,7 @@ abbrev pub opposed_drivers : Pull → AtRest
 opposed_drivers pull = power_up (net pull (pin_q 0 ∷ pin_q 1 ∷ pin_d 0 ∷ []))
     (with_core sample_device 0 ∷ with_core sample_device 0 ∷ [])
 
--- the board of the boundary and nets: core 011, core 001, HIGHZ
+-- a device with this core, its pin Q alone on net N
 abbrev pub with_q : Device → ℕ → AtRest
 with_q device core = power_up (net Free (pin_q 0 ∷ [])) (with_core device core ∷ [])
 
@@ -119,7 +119,7 @@ pub record PlayRows : Type 0 where
   pub highz : Row (with_q with_highz 1) (sir 1 (tdi 2 1) ∷ []) (codes "r262626262600426260404152626040Q") Pass
   pub highz_level : net_levels (played (with_q with_highz 1) (sir 1 (tdi 2 1) ∷ [])).board ≡ Float ∷ []
   pub intest : instruction with_intest (bits 2 1) ≡ Some (codes "INTEST")
-  -- the simulation's own rows
+  -- chains and user registers
   pub two_ks : Row (plain (sample_device ∷ sample_device ∷ [])) (sir 1 (tdi 4 7) ∷ sdr 2 (tdo 4 0 8) ∷ [])
       (codes "r26262626260042626040415151526260402604040R40R40R42R626040Q") Pass
   pub user : Row (plain (with_user ∷ [])) (sir 1 (tdi 2 1) ∷ sdr 2 (tdo 4 9 0) ∷ sdr 3 (tdo 4 0 9) ∷ [])

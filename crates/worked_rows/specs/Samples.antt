@@ -1,4 +1,5 @@
--- The devices of the worked rows, written out as a reader of their texts would give them.
+-- The devices of the worked rows. No meaning looks at a port's mode, which is IN here for all; that a device has a TRST
+-- port is told by has_trst alone.
 use Rattle.std.specs.Prelude.{Bool, true, false, ℕ, zero, suc, ◌/◌, ◌%◌, ◌==◌, List, [], ◌∷◌, map, replicate, length}
 use Rattle.std.specs.Prelude.{Some, None, codes}
 use Rattle.jt_tap.specs.declared.Column.TheVariants.{Dr, Ir}

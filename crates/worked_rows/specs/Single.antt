@@ -49,14 +49,14 @@ abbrev pub one_by_one : ℕ → List Event
 one_by_one zero = []
 one_by_one (suc n) = Put 1 ∷ Serve 1 ∷ Take 1 ∷ one_by_one n
 
--- from mid-scan, TCK high, after the bytes of the opening on a broken-off play
+-- from power-up into a scan of the data registers that breaks off, TCK high: one bit was shifted in
 abbrev pub broken_off : BoardState
 broken_off =
-    (hear (turns_messages ++ Write true false true ∷ [])
+    (hear (into_shift ++ Write true false true ∷ [])
     (board_at_rest (plain (with_trst ∷ sample_device ∷ [])))).board
   where
-    turns_messages : List Message
-    turns_messages = Write true false false ∷ Write false false false ∷ Write true true false ∷ Write false true false
+    into_shift : List Message
+    into_shift = Write true false false ∷ Write false false false ∷ Write true true false ∷ Write false true false
         ∷ Write true false false ∷ Write false false false ∷ Write true false false ∷ Write false false true ∷ []
 
 pub record EdgeRows : Type 0 where

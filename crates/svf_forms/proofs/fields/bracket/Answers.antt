@@ -6,11 +6,11 @@ use Rattle.svf_forms.proofs.fields.bracket.Goals.{in_default-via-in-Some+else-is
 
 pub returns-in-Some-clause-found : goal.returns-in-Some-clause-found
 returns-in-Some-clause-found c =
-    rw (sym (opened c.in-Some.word.now (words_left c.in-Some.after) (words_left c.args.words) c.in-Some.ensures (sym c.if-is_open.ensures))) c.runs.ensures.found
+    rw (sym (opened c.in-Some.word.now (words_left c.in-Some.after) (words_left c.args.words) c.in-Some.ensures.word (sym c.if-is_open.ensures))) c.runs.ensures.found
 
 pub returns-in_default-clause-found : goal.returns-in_default-clause-found
 returns-in_default-clause-found c =
     elim c.in_default.branch [
-      | in_default-via-in-Some+else-is_open w ↦ not_opened w.in-Some.word.now (words_left w.in-Some.after) (words_left c.args.words) w.in-Some.ensures (sym w.if-is_open.ensures)
-      | in_default-via-in_default w ↦ no_bracket (words_left c.args.words) w.in_default.ensures
+      | in_default-via-in-Some+else-is_open w ↦ not_opened w.in-Some.word.now (words_left w.in-Some.after) (words_left c.args.words) w.in-Some.ensures.word (sym w.if-is_open.ensures)
+      | in_default-via-in_default w ↦ no_bracket (words_left c.args.words) w.in_default.ensures.word
     ]

@@ -6,20 +6,20 @@ use Rattle.svf_forms.proofs.fields.runs.Goals as goal
 
 pub returns-then-is_close-clause-found : goal.returns-then-is_close-clause-found
 returns-then-is_close-clause-found c =
-    ended_runs c.loop-word.digits.items c.in-Some.word.now (words_left c.in-Some.after) (words_left c.loop-word.rest) (runs (cut_at_close (words_left c.args.words))) c.in-Some.ensures (sym c.if-is_close.ensures) c.loop-word.invariant.0
+    ended_runs c.loop-word.digits.items c.in-Some.word.now (words_left c.in-Some.after) (words_left c.loop-word.rest) (runs (cut_at_close (words_left c.args.words))) c.in-Some.ensures.word (sym c.if-is_close.ensures) c.loop-word.invariant.0
 
 pub returns-then-is_open-clause-found : goal.returns-then-is_open-clause-found
 returns-then-is_open-clause-found c =
-    broken_runs c.loop-word.digits.items c.in-Some.word.now (words_left c.in-Some.after) (words_left c.loop-word.rest) (runs (cut_at_close (words_left c.args.words))) c.in-Some.ensures (sym c.if-is_close.ensures) (sym c.if-is_open.ensures) c.loop-word.invariant.0
+    broken_runs c.loop-word.digits.items c.in-Some.word.now (words_left c.in-Some.after) (words_left c.loop-word.rest) (runs (cut_at_close (words_left c.args.words))) c.in-Some.ensures.word (sym c.if-is_close.ensures) (sym c.if-is_open.ensures) c.loop-word.invariant.0
 
 pub loop-word-preserved : goal.loop-word-preserved
 loop-word-preserved c =
-    let shorter : length (words_left c.loop-word.rest) ≡ length (words_left c.in-Some.after) + 1 = omega (arith, ap length c.in-Some.ensures) in (
+    let shorter : length (words_left c.loop-word.rest) ≡ length (words_left c.in-Some.after) + 1 = omega (arith, ap length c.in-Some.ensures.word) in (
       rw c.in_ok-extend_from_slice.ensures.items
-          (next_run c.loop-word.digits.items c.in-Some.word.now (words_left c.in-Some.after) (words_left c.loop-word.rest) (runs (cut_at_close (words_left c.args.words))) c.in-Some.ensures (sym c.if-is_close.ensures) (sym c.if-is_open.ensures) c.loop-word.invariant.0),
+          (next_run c.loop-word.digits.items c.in-Some.word.now (words_left c.in-Some.after) (words_left c.loop-word.rest) (runs (cut_at_close (words_left c.args.words))) c.in-Some.ensures.word (sym c.if-is_close.ensures) (sym c.if-is_open.ensures) c.loop-word.invariant.0),
       omega (arith, shorter, c.loop-word.invariant.1),
     )
 
 pub returns-clause-found : goal.returns-clause-found
 returns-clause-found c =
-    unended_runs c.loop-word.digits.items (words_left c.loop-word.rest) (runs (cut_at_close (words_left c.args.words))) c.in_default.ensures c.loop-word.invariant.0
+    unended_runs c.loop-word.digits.items (words_left c.loop-word.rest) (runs (cut_at_close (words_left c.args.words))) c.in_default.ensures.word c.loop-word.invariant.0

@@ -6,17 +6,17 @@ use Rattle.svf_forms.proofs.forms.some_states.Goals as goal
 
 pub returns-in_default-state_of : goal.returns-in_default-state_of
 returns-in_default-state_of c =
-    sym (no_state c.loop-word.all.items c.in-Some.word.now (words_left c.loop-word.rest) (words_left c.in-Some.after) (words_left c.args.words) c.in-Some.ensures (sym c.in_default-state_of.ensures) c.loop-word.invariant)
+    sym (no_state c.loop-word.all.items c.in-Some.word.now (words_left c.loop-word.rest) (words_left c.in-Some.after) (words_left c.args.words) c.in-Some.ensures.word (sym c.in_default-state_of.ensures) c.loop-word.invariant)
 
 pub loop-word-preserved : goal.loop-word-preserved
 loop-word-preserved c =
     rw c.in_ok-push.ensures.items
-    (one_more c.loop-word.all.items c.in-Some.word.now (words_left c.loop-word.rest) (words_left c.in-Some.after) c.in-Some-state_of.state (each_state (words_left c.args.words)) c.in-Some.ensures c.in-Some-state_of.ensures c.loop-word.invariant)
+    (one_more c.loop-word.all.items c.in-Some.word.now (words_left c.loop-word.rest) (words_left c.in-Some.after) c.in-Some-state_of.state (each_state (words_left c.args.words)) c.in-Some.ensures.word c.in-Some-state_of.ensures c.loop-word.invariant)
 
 pub returns-then-is_empty : goal.returns-then-is_empty
 returns-then-is_empty c =
-    sym (no_states c.loop-word.all.items (words_left c.args.words) (empty_list c.loop-word.all.items (vec_len c.loop-word.all) (sym c.loop-word.all.ok.0) c.if-is_empty.ensures) (all_read c.loop-word.all.items (words_left c.loop-word.rest) (words_left c.args.words) c.in_default.ensures c.loop-word.invariant))
+    sym (no_states c.loop-word.all.items (words_left c.args.words) (empty_list c.loop-word.all.items (vec_len c.loop-word.all) (sym c.loop-word.all.ok.0) c.if-is_empty.ensures) (all_read c.loop-word.all.items (words_left c.loop-word.rest) (words_left c.args.words) c.in_default.ensures.word c.loop-word.invariant))
 
 pub returns-else-is_empty : goal.returns-else-is_empty
 returns-else-is_empty c =
-    sym (some_read c.loop-word.all.items (words_left c.args.words) (filled_list c.loop-word.all.items (vec_len c.loop-word.all) (sym c.loop-word.all.ok.0) c.if-is_empty.ensures) (all_read c.loop-word.all.items (words_left c.loop-word.rest) (words_left c.args.words) c.in_default.ensures c.loop-word.invariant))
+    sym (some_read c.loop-word.all.items (words_left c.args.words) (filled_list c.loop-word.all.items (vec_len c.loop-word.all) (sym c.loop-word.all.ok.0) c.if-is_empty.ensures) (all_read c.loop-word.all.items (words_left c.loop-word.rest) (words_left c.args.words) c.in_default.ensures.word c.loop-word.invariant))

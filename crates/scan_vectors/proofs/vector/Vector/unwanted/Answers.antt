@@ -12,7 +12,7 @@ returns-then-i-self-clause-inside c =
 pub returns-then-i-self-clause-bits : goal.returns-then-i-self-clause-bits
 returns-then-i-self-clause-bits c =
     let v = c.args.self.now in let r = c.unwanted in
-    header_unwanted (fields v.header) (fields v.body) (fields v.trailer) c.args.i r.result r.ensures.inside r.ensures.bits
+    header_unwanted (fields v.header) (fields v.body) (fields v.trailer) c.args.i _ (omega (arith, r.ensures.inside)) (λ j h. r.ensures.bits j (omega (arith, h)))
 
 pub returns-then-i-self-2-clause-inside : goal.returns-then-i-self-2-clause-inside
 returns-then-i-self-2-clause-inside c =
@@ -22,7 +22,7 @@ returns-then-i-self-2-clause-inside c =
 pub returns-then-i-self-2-clause-bits : goal.returns-then-i-self-2-clause-bits
 returns-then-i-self-2-clause-bits c =
     let v = c.args.self.now in let r = c.unwanted-then-i-self-2 in
-    body_unwanted (fields v.header) (fields v.body) (fields v.trailer) c.args.i (c.args.i - v.header.len) r.result (omega arith) r.ensures.inside r.ensures.bits
+    body_unwanted (fields v.header) (fields v.body) (fields v.trailer) c.args.i (c.args.i - v.header.len) _ (omega arith) (omega (arith, r.ensures.inside)) (λ j h. r.ensures.bits j (omega (arith, h)))
 
 pub unwanted-requires-else-i-self-2 : goal.unwanted-requires-else-i-self-2
 unwanted-requires-else-i-self-2 c =
@@ -37,4 +37,4 @@ returns-else-i-self-2-clause-inside c =
 pub returns-else-i-self-2-clause-bits : goal.returns-else-i-self-2-clause-bits
 returns-else-i-self-2-clause-bits c =
     let v = c.args.self.now in let r = c.unwanted-else-i-self-2 in
-    trailer_unwanted (fields v.header) (fields v.body) (fields v.trailer) c.args.i (c.args.i - v.header.len - v.body.len) r.result (omega arith) r.ensures.inside r.ensures.bits
+    trailer_unwanted (fields v.header) (fields v.body) (fields v.trailer) c.args.i (c.args.i - v.header.len - v.body.len) _ (omega arith) (omega (arith, r.ensures.inside)) (λ j h. r.ensures.bits j (omega (arith, h)))

@@ -12,7 +12,7 @@ returns-then-i-self-clause-inside c =
 pub returns-then-i-self-clause-bits : goal.returns-then-i-self-clause-bits
 returns-then-i-self-clause-bits c =
     let v = c.args.self.now in let r = c.wanted_run in
-    header_wanted (fields v.header) (fields v.body) (fields v.trailer) c.args.i 0 r.result.bits r.result.care r.result.len (omega (arith, r.ensures.len)) (omega (arith, r.ensures.len)) r.ensures.bits
+    header_wanted (fields v.header) (fields v.body) (fields v.trailer) c.args.i 0 r.result.bits r.result.care _ (omega (arith, r.ensures.len)) (omega (arith, r.ensures.len)) r.ensures.bits
 
 pub returns-then-i-self-2-clause-inside : goal.returns-then-i-self-2-clause-inside
 returns-then-i-self-2-clause-inside c =
@@ -22,7 +22,7 @@ returns-then-i-self-2-clause-inside c =
 pub returns-then-i-self-2-clause-bits : goal.returns-then-i-self-2-clause-bits
 returns-then-i-self-2-clause-bits c =
     let v = c.args.self.now in let r = c.wanted_run-then-i-self-2 in
-    body_wanted (fields v.header) (fields v.body) (fields v.trailer) c.args.i (c.args.i - v.header.len) r.result.bits r.result.care r.result.len (omega (arith, r.ensures.len)) (omega arith) (omega (arith, r.ensures.len)) r.ensures.bits
+    body_wanted (fields v.header) (fields v.body) (fields v.trailer) c.args.i (c.args.i - v.header.len) r.result.bits r.result.care _ (omega (arith, r.ensures.len)) (omega arith) (omega (arith, r.ensures.len)) r.ensures.bits
 
 pub returns-else-i-self-2-clause-inside : goal.returns-else-i-self-2-clause-inside
 returns-else-i-self-2-clause-inside c =
@@ -32,7 +32,7 @@ returns-else-i-self-2-clause-inside c =
 pub returns-else-i-self-2-clause-bits : goal.returns-else-i-self-2-clause-bits
 returns-else-i-self-2-clause-bits c =
     let v = c.args.self.now in let r = c.wanted_run-else-i-self-2 in let n = length-vector (fields v.header) (fields v.body) (fields v.trailer) in
-    trailer_wanted (fields v.header) (fields v.body) (fields v.trailer) c.args.i (c.args.i - v.header.len - v.body.len) r.result.bits r.result.care r.result.len (omega (arith, r.ensures.len)) (omega arith) (omega (arith, n, r.ensures.len)) r.ensures.bits
+    trailer_wanted (fields v.header) (fields v.body) (fields v.trailer) c.args.i (c.args.i - v.header.len - v.body.len) r.result.bits r.result.care _ (omega (arith, r.ensures.len)) (omega arith) (omega (arith, n, r.ensures.len)) r.ensures.bits
 
 pub wanted_run-requires-else-i-self-2 : goal.wanted_run-requires-else-i-self-2
 wanted_run-requires-else-i-self-2 c =
