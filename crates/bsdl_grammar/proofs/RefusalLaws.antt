@@ -11,7 +11,7 @@ use Rattle.bsdl_described.specs.Describing.{bad_token, bad_form, too_large}
 use Rattle.bsdl.specs.Form.{read_form, text_limit, text_form}
 use Rattle.bsdl_grammar.specs.Entity.{IsFile}
 use Rattle.bsdl_grammar.specs.Texts.{SpellsEntity, HasBadByte, SpellsNothing}
-use Rattle.bsdl_grammar.specs.Laws.{LargeIsRefused, BadByteIsRefused, NothingIsRefused}
+use Rattle.bsdl_grammar.specs.Laws.{LargeIsRefused, BadByteIsRefused, NothingIsRefused, EachIsTold}
 use Rattle.bsdl_grammar.proofs.TextReads.{text_tokens, cuts_read}
 use Rattle.bsdl_grammar.proofs.FileReads.{file_found, file_read}
 use Rattle.bsdl_grammar.proofs.ReadLaws.{not_large, read_as}
@@ -122,3 +122,12 @@ bad_byte_is_refused text place = (bad_told text place, λ e. bad_only text place
 
 pub nothing_is_refused : NothingIsRefused
 nothing_is_refused text = (λ h. let t = nothing_told text h in (t.place, t.told), λ e. nothing_only text e.0 e.1 (sort_of text))
+
+told_by : (text : List ℕ) → Sort text → (text_limit < length text) ⊎ (((place : ℕ) × HasBadByte text place) ⊎ (SpellsNothing text ⊎ ((f : File) × SpellsEntity text f)))
+told_by text (large h) = inl h
+told_by text (bad_byte place h) = inr (inl (place, h))
+told_by text (nothing h) = inr (inr (inl h))
+told_by text (entity f h) = inr (inr (inr (f, h)))
+
+pub each_is_told : EachIsTold
+each_is_told text = told_by text (sort_of text)

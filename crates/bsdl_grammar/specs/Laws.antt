@@ -1,5 +1,5 @@
 -- Laws over all lists of tokens and all texts, which public functions ensure.
-use Rattle.std.specs.Prelude.{◌≡◌, ℕ, ◌<◌, ◌↔◌, List, [], length, Some, Ok, Err}
+use Rattle.std.specs.Prelude.{◌≡◌, ℕ, ◌<◌, ◌↔◌, ◌⊎◌, List, [], length, Some, Ok, Err}
 use Rattle.std.specs.List.{AllByRecursion}
 use Rattle.bsdl_lex.specs.Cutting.{Lexeme}
 use Rattle.bsdl_text.specs.Reading.{Read, fits, quoted_value}
@@ -93,3 +93,9 @@ BadByteIsRefused =
 abbrev pub NothingIsRefused : Type 0
 NothingIsRefused =
     (text : List ℕ) → SpellsNothing text ↔ ((place : ℕ) × (text_form text ≡ Err (bad_form place)))
+
+-- each text is one of these, or spells an entity
+abbrev pub EachIsTold : Type 0
+EachIsTold =
+    (text : List ℕ) → (text_limit < length text) ⊎
+    (((place : ℕ) × HasBadByte text place) ⊎ (SpellsNothing text ⊎ ((f : File) × SpellsEntity text f)))

@@ -1,7 +1,7 @@
 //! What holds of all lists of tokens and of all texts.
 ghost use Rattle.bsdl_grammar.specs.Laws.{PortsAreRead, ValuesAreRead, EntitiesAreRead, TextsAreRead, DevicesAreRead};
 ghost use Rattle.bsdl_grammar.specs.Laws.{EntitiesAreOne, DevicesAreOne};
-ghost use Rattle.bsdl_grammar.specs.Laws.{LargeIsRefused, BadByteIsRefused, NothingIsRefused};
+ghost use Rattle.bsdl_grammar.specs.Laws.{LargeIsRefused, BadByteIsRefused, NothingIsRefused, EachIsTold};
 ghost use Rattle.bsdl_grammar.specs.Laws.{OpcodesAreRead, PatternsAreRead, CodesAreRead, PrivateNamesAreRead};
 ghost use Rattle.bsdl_grammar.specs.Laws.{AccessesAreRead, CellsAreRead};
 
@@ -41,4 +41,5 @@ pub fn other_texts_are_refused()
     ensures size { LargeIsRefused }
     ensures byte { BadByteIsRefused }
     ensures form { NothingIsRefused }
+    ensures each { EachIsTold }
 {}
