@@ -4,7 +4,7 @@ ghost use Rattle.std.specs.List.{flat_map};
 ghost use Rattle.bsdl_device.specs.View.{pair};
 ghost use Rattle.bsdl_device.specs.Ports.{bits_of};
 ghost use Rattle.bsdl_text.specs.Words.{upper};
-ghost use Rattle.bsdl_text.specs.View.{value};
+ghost use Rattle.bsdl_numbers.specs.Numbers.{value};
 ghost use Rattle.bsdl_ports.specs.View as ports_view;
 ghost use Rattle.bsdl_own_instructions.specs.Own.{is_among};
 ghost use Rattle.bsdl_described.specs.View.{taps as taps_view};
@@ -15,7 +15,7 @@ use bsdl_device::{Indices, Port, PortMode, Ports};
 use bsdl_entity::ports::{Group, Range};
 use bsdl_fit::rows::names_tap;
 use bsdl_text::names::Word;
-use bsdl_text::numbers::Digits;
+use bsdl_numbers::Digits;
 use std::alloc::{AllocError, Global};
 
 /// The ports of an entity. Refuses for want of memory, and where a number is 2^64 or more, which nothing that is judged

@@ -1,6 +1,6 @@
 //! A whole device.
 ghost use Rattle.std.specs.Prelude.{◌≡◌, ◌<◌, ◌==◌, ℕ, filter, length, map, IfOk};
-ghost use Rattle.bsdl_text.specs.View.{value};
+ghost use Rattle.bsdl_numbers.specs.Numbers.{value};
 ghost use Rattle.bsdl_described.specs.View.{description};
 ghost use Rattle.bsdl_boundary.specs.Boundary as boundary;
 ghost use Rattle.bsdl_built.specs.Built as spec;
@@ -15,7 +15,7 @@ use bsdl_limits::users::users_of;
 use bsdl_opcodes::accesses::accesses_of;
 use bsdl_opcodes::patterns::{bits_of, code_of, opcodes_of, private_names_of};
 use bsdl_places::places::places_of;
-use bsdl_text::numbers::Digits;
+use bsdl_numbers::Digits;
 use std::alloc::{AllocError, Global};
 
 /// The device that a description says; each cell below the length of the boundary register has one row. Refuses for

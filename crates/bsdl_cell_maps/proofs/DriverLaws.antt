@@ -8,7 +8,7 @@ use Rattle.std.proofs.lemmas.Bool.{cases_order}
 use Rattle.std.proofs.lemmas.Bool.Decides.{nat_tests}
 use Rattle.std.proofs.lemmas.Map.Text.{is_eq-slice_cmp}
 use Rattle.std.proofs.lemmas.Slice.Eq.{bytes_eq-Decides}
-use Rattle.bsdl_text.proofs.SpellingLaws.{one_spelling}
+use Rattle.bsdl_numbers.proofs.SpellingLaws.{one_spelling}
 use Rattle.bsdl_cells.specs.Rows.{CellRow, PortName}
 use Rattle.bsdl_ports.specs.Ports.{Port}
 use Rattle.bsdl_places.specs.declared.seat.Seat.{Seat}

@@ -14,7 +14,7 @@ use bsdl_device::{Disabled, Function};
 use bsdl_lex::Lexer;
 use bsdl_text::lists::Entry;
 use bsdl_text::names::Word;
-use bsdl_text::numbers::Digits;
+use bsdl_numbers::Digits;
 use bsdl_text::reading::{Stop, keyword, mark, number, stands, word};
 use std::alloc::Global;
 

@@ -1,6 +1,6 @@
 //! A whole description.
 ghost use Rattle.std.specs.Prelude.{◌≡◌, IfOk, is_some, map, option_map};
-ghost use Rattle.bsdl_text.specs.View.{value};
+ghost use Rattle.bsdl_numbers.specs.Numbers.{value};
 ghost use Rattle.bsdl_text.specs.Words.{upper};
 ghost use Rattle.bsdl_entity.specs.GivenView.{given as given_view};
 ghost use Rattle.bsdl_entity.specs.OutlineView.{outline as outline_view};
@@ -20,7 +20,7 @@ use bsdl_instructions::names::{AccessRow, OpcodeRow, PrivateName};
 use bsdl_instructions::patterns::WrittenPattern;
 use bsdl_own_instructions::own::own_accesses;
 use bsdl_text::names::Word;
-use bsdl_text::numbers::Digits;
+use bsdl_numbers::Digits;
 use std::alloc::{AllocError, Global};
 
 /// The ports of the TAP.

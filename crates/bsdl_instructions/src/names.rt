@@ -12,7 +12,7 @@ use crate::patterns::{WrittenPattern, bracketed, digits_of};
 use bsdl_lex::Lexer;
 use bsdl_text::lists::Entry;
 use bsdl_text::names::Word;
-use bsdl_text::numbers::Digits;
+use bsdl_numbers::Digits;
 use bsdl_text::reading::{Stop, mark, number, same_name, stands, word};
 use std::alloc::Global;
 

@@ -1,7 +1,7 @@
 //! Lengths of registers and of patterns.
 ghost use Rattle.std.specs.Prelude.{◌≡◌, ◌&&◌, ℕ, map, option_map, unwrap_or, is_some, ◌==◌, IfOk};
 ghost use Rattle.std.specs.List.{list_all};
-ghost use Rattle.bsdl_text.specs.View.{value};
+ghost use Rattle.bsdl_numbers.specs.Numbers.{value};
 ghost use Rattle.bsdl_entity.specs.declared.entity.Outline.{Outline};
 ghost use Rattle.bsdl_instructions.specs.View as rows_view;
 ghost use Rattle.bsdl_described.specs.View.{description};
@@ -12,7 +12,7 @@ use crate::agreeing::agree;
 use bsdl_described::description::Description;
 use bsdl_instructions::names::{AccessRow, Instr, OpcodeRow};
 use bsdl_instructions::patterns::WrittenPattern;
-use bsdl_text::numbers::Digits;
+use bsdl_numbers::Digits;
 use bsdl_text::reading::same_name;
 use std::alloc::{AllocError, Global};
 

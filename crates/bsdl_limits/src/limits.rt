@@ -1,7 +1,7 @@
 //! The limits of a description.
 ghost use Rattle.std.specs.Prelude.{◌≡◌, ◌+◌, ◌&&◌, map, min, nat_le, length, option_map, ◌≤◌, ◌<◌};
 ghost use Rattle.std.specs.List.{list_all, sum_by};
-ghost use Rattle.bsdl_text.specs.View.{value};
+ghost use Rattle.bsdl_numbers.specs.Numbers.{value};
 ghost use Rattle.bsdl_cells.specs.View.{cell_row};
 ghost use Rattle.bsdl_entity.specs.declared.entity.Outline as declared_outline;
 ghost use Rattle.bsdl_ports.specs.View as ports_view;
@@ -17,7 +17,7 @@ use bsdl_cells::CellRow;
 use bsdl_described::description::Description;
 use bsdl_entity::entity::Outline;
 use bsdl_entity::ports::{Group, Range};
-use bsdl_text::numbers::Digits;
+use bsdl_numbers::Digits;
 
 /// Whether a description keeps the limits: instructions of 64 bits, 256 of them; 4,096 cells; 8,192 port bits; 64
 /// registers of the device's own with 4,096 bits; indices and numbers of cells up to 65,535.

@@ -2,14 +2,14 @@
 ghost use Rattle.std.specs.Prelude.{ℕ, ◌∷◌, ◌++◌, List, [], map, IfOk, OnOk, if◌then◌else◌};
 ghost use Rattle.bsdl_device.specs.Device.{Name};
 ghost use Rattle.bsdl_text.specs.Words.{upper};
-ghost use Rattle.bsdl_text.specs.View.{value};
+ghost use Rattle.bsdl_numbers.specs.Numbers.{value};
 ghost use Rattle.bsdl_instructions.specs.View as rows_view;
 ghost use Rattle.bsdl_limits.specs.Users as spec;
 ghost use Rattle.bsdl_limits.specs.View.{Lists};
 
 use bsdl_instructions::names::AccessRow;
 use bsdl_text::names::Word;
-use bsdl_text::numbers::Digits;
+use bsdl_numbers::Digits;
 use std::alloc::{AllocError, Global};
 use std::collections::BTreeMap;
 

@@ -1,7 +1,7 @@
 -- What places of the code stand for.
 use Rattle.std.specs.Prelude.{◌≡◌, ℕ, List, Option, option_map}
 use Rattle.std.specs.BTreeMap.{get_by_text}
-use Rattle.bsdl_text.specs.View.{value}
+use Rattle.bsdl_numbers.specs.Numbers.{value}
 use Rattle.bsdl_ports.specs.Ports.{Range, Port}
 use Rattle.bsdl_ports.specs.View.{range}
 use Rattle.bsdl_places.specs.declared.places.Place as declared_place

@@ -1,8 +1,8 @@
 //! Port bits.
 ghost use Rattle.std.specs.Prelude.{◌≡◌};
-ghost use Rattle.bsdl_text.specs.Numbers.{significant};
+ghost use Rattle.bsdl_numbers.specs.Numbers.{significant};
 
-use bsdl_text::numbers::Digits;
+use bsdl_numbers::Digits;
 
 /// A port bit by the number of its port and its index, 0 where it has none. The index has no zeros before it.
 #[derive(Debug, Clone, Copy)]

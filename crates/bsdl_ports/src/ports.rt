@@ -13,7 +13,7 @@ use bsdl_device::PortMode;
 use bsdl_lex::Lexer;
 use bsdl_text::lists::{Entry, listed, room_for_one};
 use bsdl_text::names::Word;
-use bsdl_text::numbers::Digits;
+use bsdl_numbers::Digits;
 use bsdl_text::reading::{Stop, keyword, mark, number, stands, word};
 use std::alloc::Global;
 use std::cmp::Ordering;

@@ -1,6 +1,5 @@
 pub mod Laws
 pub mod Marks
-pub mod Numbers
 pub mod Reading
 pub mod View
 pub mod WordView

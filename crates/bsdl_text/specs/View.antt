@@ -1,17 +1,11 @@
 -- What a reader of the code answers, beside what the tokens say.
 use Rattle.std.specs.Prelude.{◌≡◌, ⊤, ℕ, Bool, List, Result, Ok, Err, Option, Some, None}
-use Rattle.std.specs.Str.Parse.{digits_value}
 use Rattle.bsdl_lex.specs.declared.Lexer.{Lexer}
 use Rattle.bsdl_text.specs.declared.reading.Stop.{Stop}
 use Rattle.bsdl_text.specs.declared.reading.Stop.TheVariants as stop
-use Rattle.bsdl_text.specs.declared.numbers.Digits.{Digits}
 use Rattle.bsdl_lex.specs.Cutting.{Lexeme}
 use Rattle.bsdl_text.specs.Reading.{Read, fits, misfit, stands, is_over}
 use Rattle.bsdl_lex.specs.Left.{left}
-
--- the value of a number
-abbrev pub value : Digits → ℕ
-value n = digits_value 10 n.digits.now
 
 -- unless memory ran out, the misfit is that of the definition
 abbrev pub Stops : {Y : Type 0} → Stop → Read Y → Type 0

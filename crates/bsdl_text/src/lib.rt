@@ -6,6 +6,5 @@
 pub mod laws;
 pub mod lists;
 pub mod names;
-pub mod numbers;
 pub mod reading;
 pub mod strings;

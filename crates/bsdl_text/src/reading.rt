@@ -5,6 +5,7 @@ ghost use Rattle.std.specs.Char.{is_ascii_digit};
 ghost use Rattle.std.specs.Str.{str_eq_ignore_ascii_case};
 ghost use Rattle.std.proofs.Common.{Bor};
 ghost use Rattle.bsdl_lex.specs.Left.{left, lexeme};
+ghost use Rattle.bsdl_numbers.specs.Numbers.{value};
 ghost use Rattle.bsdl_text.specs.WordView.{word_lexeme};
 ghost use Rattle.bsdl_text.specs.Reading as spec;
 ghost use Rattle.bsdl_text.specs.Words as words;
@@ -12,8 +13,8 @@ ghost use Rattle.bsdl_text.specs.View as view;
 ghost use Rattle.bsdl_text.specs.View.{Gives, Passes, StopsAtMisfit};
 
 use crate::names::Word;
-use crate::numbers::Digits;
 use bsdl_lex::{Kind, Lexer, Token};
+use bsdl_numbers::Digits;
 
 /// Why reading stops.
 #[derive(Debug, Drop, Clone, Copy, PartialEq, Eq)]
@@ -108,7 +109,7 @@ pub fn closes(lexer: Lexer<'_>, close: Option<u8>) -> bool
 
 /// Digits alone, and the lexer behind them.
 pub fn number<'a>(lexer: Lexer<'a>) -> Result<(Digits<'a>, Lexer<'a>), Stop>
-    ensures gives { Gives view.value result (spec.number (left lexer.entry)) }
+    ensures gives { Gives value result (spec.number (left lexer.entry)) }
     ensures shorter { IfOk result (λ p. length (left p.1) < length (left lexer.entry)) }
     ensures misfit { StopsAtMisfit result }
 {

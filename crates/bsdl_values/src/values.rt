@@ -17,7 +17,7 @@ use bsdl_instructions::patterns::WrittenPattern;
 use bsdl_lex::{Lexer, bad_byte};
 use bsdl_text::lists::{Entry, listed};
 use bsdl_text::names::Word;
-use bsdl_text::numbers::Digits;
+use bsdl_numbers::Digits;
 use bsdl_text::reading::{Stop, is_over, keyword, number};
 use bsdl_text::strings::joined_text;
 use std::alloc::{AllocError, Global};

@@ -27,8 +27,6 @@ pub fn accept(alloc: Global, text: &[u8]) -> Result<Program, SvfFault>
     // It is small: steps, bits of fields and states of paths together are at most four for each byte of the text.
     ensures small { IfOk result (λ p. length p.steps + p.held ≤ 4 * length text.now) }
 {
-    match parse(alloc, text) {
-        Ok(statements) => resolve(alloc, statements),
-        Err(fault) => Err(fault),
-    }
+    let statements = parse(alloc, text)?;
+    resolve(alloc, statements)
 }

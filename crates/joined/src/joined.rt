@@ -59,10 +59,8 @@ impl Joined {
             (λ j. j ≡ record { world = empty_pipes player board; down_room = down; up_room = up })
             (λ back. (back.player ≡ player) × (back.board ≡ board)) }
     {
-        match Pipes::new(alloc, player, board, down, up) {
-            Ok(pipes) => Ok(Joined { pipes }),
-            Err(back) => Err(back),
-        }
+        let pipes = Pipes::new(alloc, player, board, down, up)?;
+        Ok(Joined { pipes })
     }
 
     /// What a list of events does: how many of them moved something, and how the play stands then. After an end or a

@@ -1,4 +1,4 @@
-use Rattle.bsdl_text.proofs.SpellingLaws.{significant_again}
+use Rattle.bsdl_numbers.proofs.SpellingLaws.{significant_again}
 use Rattle.bsdl_places.proofs.places.seat_at.Goals as goal
 
 pub seat_within-requires : goal.seat_within-requires

@@ -4,7 +4,7 @@ ghost use Rattle.std.specs.Char.{is_ascii_digit};
 ghost use Rattle.std.specs.List.{list_all};
 ghost use Rattle.std.specs.Ordering.{nat_cmp};
 ghost use Rattle.std.specs.Str.Parse.{digits_value};
-ghost use Rattle.bsdl_text.specs.Numbers.{significant};
+ghost use Rattle.bsdl_numbers.specs.Numbers.{significant};
 
 use std::cmp::Ordering;
 

@@ -6,8 +6,8 @@ use Rattle.std.specs.Char.{is_ascii_digit, digit_value}
 use Rattle.std.specs.Str.Parse.{digits_value, digits_value_after}
 use Rattle.std.proofs.lemmas.Bool.{cases_order}
 use Rattle.std.proofs.lemmas.Bool.Decides.{nat_tests}
-use Rattle.bsdl_text.specs.Numbers.{significant}
-use Rattle.bsdl_text.proofs.NumberLaws.{and_true, digit_low, digit_high, digit_is}
+use Rattle.bsdl_numbers.specs.Numbers.{significant}
+use Rattle.bsdl_numbers.proofs.NumberLaws.{and_true, digit_low, digit_high, digit_is}
 
 below_ten : (c : ℕ) → is_ascii_digit c ≡ true → digit_value c ≤ 9
 below_ten c h = omega (arith, digit_is c (digit_low c h) (digit_high c h), digit_high c h)

@@ -1,7 +1,7 @@
 use Rattle.std.proofs.Common.{◌≡◌, ◌-◌, length, take}
 use Rattle.std.specs.Ordering.{nat_cmp}
 use Rattle.std.specs.Str.Parse.{digits_value}
-use Rattle.bsdl_text.proofs.numbers.compare_places.Given as goal
+use Rattle.bsdl_numbers.proofs.digits.compare_places.Given as goal
 
 -- the numbers without their last places
 abbrev pub invariant-loop-left : goal.invariant-loop-left

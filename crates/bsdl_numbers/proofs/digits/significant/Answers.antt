@@ -1,5 +1,5 @@
-use Rattle.bsdl_text.proofs.SpellingLaws.{significant_again, significant_digits, significant_value}
-use Rattle.bsdl_text.proofs.numbers.significant.Goals as goal
+use Rattle.bsdl_numbers.proofs.SpellingLaws.{significant_again, significant_digits, significant_value}
+use Rattle.bsdl_numbers.proofs.digits.significant.Goals as goal
 
 pub returns-clause-all : goal.returns-clause-all
 returns-clause-all c = rw c.behind_zeros.ensures (significant_digits c.args.digits.now c.requires)

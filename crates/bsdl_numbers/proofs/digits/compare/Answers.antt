@@ -1,7 +1,7 @@
 use Rattle.std.proofs.Common.{◌<◌, arith, length}
 use Rattle.std.proofs.lemmas.Bool.Decides.{nat_tests}
-use Rattle.bsdl_text.proofs.SpellingLaws.{longer_is_larger}
-use Rattle.bsdl_text.proofs.numbers.compare.Goals as goal
+use Rattle.bsdl_numbers.proofs.SpellingLaws.{longer_is_larger}
+use Rattle.bsdl_numbers.proofs.digits.compare.Goals as goal
 
 pub returns-in-Less : goal.returns-in-Less
 returns-in-Less c =

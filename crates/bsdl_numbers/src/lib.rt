@@ -1,0 +1,7 @@
+//! Whole numbers of any length, as a device description writes them (BSDL: IEEE Std 1149.1-2001, Annex B): compared, cut
+//! to a limit and taken as a `usize` without ever being larger than their digits.
+#![tactic(auto)]
+
+mod digits;
+
+pub use digits::Digits;
