@@ -5,7 +5,7 @@ use Rattle.bsdl_text.specs.Words.{upper}
 use Rattle.bsdl_cells.specs.Rows.{PortName}
 use Rattle.bsdl_ports.specs.Ports.{Port, Range}
 use Rattle.bsdl_limits.specs.PortBits.{bit_at, bit_number, width}
-use Rattle.bsdl_places.specs.Places.{find_port}
+use Rattle.bsdl_port_names.specs.NamedPorts.{find_port}
 use Rattle.bsdl_boundary.specs.Bits.{firsts}
 
 -- the port of a name and its first bit

@@ -5,14 +5,14 @@ ghost use Rattle.bsdl_numbers.specs.Numbers.{value};
 ghost use Rattle.bsdl_cells.specs.View.{port_name};
 ghost use Rattle.bsdl_ports.specs.Ports as port_list;
 ghost use Rattle.bsdl_ports.specs.View as ports_view;
-ghost use Rattle.bsdl_places.specs.View.{AreAt, place_named, place as place_view};
+ghost use Rattle.bsdl_port_names.specs.View.{AreNamed, port_named, numbered_port as port_view};
 ghost use Rattle.bsdl_limits.specs.PortBits.{bit_at, bit_number, width};
 ghost use Rattle.bsdl_boundary.specs.Bits.{firsts};
 
 use crate::ports::size_of;
 use bsdl_cells::PortName;
 use bsdl_entity::ports::{Group, Range};
-use bsdl_places::places::{Place, Places};
+use bsdl_port_names::named_ports::{NumberedPort, NamedPorts};
 use bsdl_numbers::Digits;
 use std::alloc::{AllocError, Global};
 
@@ -76,44 +76,44 @@ fn width_of(range: Option<Range<'_>>) -> Result<usize, AllocError>
 /// 2^64 or more, which nothing that is judged has.
 pub fn bit_of_port(
     alloc: Global,
-    places: &Places<'_>,
+    named: &NamedPorts<'_>,
     bits: &[usize],
     port: PortName<'_>,
 ) -> Result<Option<usize>, AllocError>
-    ensures { IfOk result (λ o. (ps : List port_list.Port) → AreAt places.now ps → bits.now ≡ firsts 0 ps → o
+    ensures { IfOk result (λ o. (ps : List port_list.Port) → AreNamed named.now ps → bits.now ≡ firsts 0 ps → o
         ≡ bit_number 0 ps (port_name port.entry)) }
 {
     let key = port.name.upper_name(alloc)?;
-    let found = bit_named(places, bits, key.as_str(), port.index)?;
+    let found = bit_named(named, bits, key.as_str(), port.index)?;
     Ok(found)
 }
 
 fn bit_named(
-    places: &Places<'_>,
+    named: &NamedPorts<'_>,
     bits: &[usize],
     name: &str,
     index: Option<Digits<'_>>,
 ) -> Result<Option<usize>, AllocError>
     ensures { IfOk result (λ o. o ≡ option_and_then
         (λ x. option_map (λ k. unwrap_or (slice_get bits.now x.0) 0 + k) (bit_at x.1 (option_map value index.entry)))
-        (place_named places.now name.now)) }
+        (port_named named.now name.now)) }
 {
-    match places.by_name.get(name) {
-        Some(place) => bit_in(*place, bits, index),
+    match named.by_name.get(name) {
+        Some(port) => bit_in(*port, bits, index),
         None => Ok(None),
     }
 }
 
 fn bit_in(
-    place: Place<'_>,
+    port: NumberedPort<'_>,
     bits: &[usize],
     index: Option<Digits<'_>>,
 ) -> Result<Option<usize>, AllocError>
-    ensures { IfOk result (λ o. o ≡ option_map (λ k. unwrap_or (slice_get bits.now (place_view place.entry).0) 0 + k)
-        (bit_at (place_view place.entry).1 (option_map value index.entry))) }
+    ensures { IfOk result (λ o. o ≡ option_map (λ k. unwrap_or (slice_get bits.now (port_view port.entry).0) 0 + k)
+        (bit_at (port_view port.entry).1 (option_map value index.entry))) }
 {
-    let first = first_bit(bits, place.number);
-    match offset(place.range, index)? {
+    let first = first_bit(bits, port.number);
+    match offset(port.range, index)? {
         Some(offset) => {
             let number = first.checked_add(offset).ok_or(AllocError)?;
             Ok(Some(number))

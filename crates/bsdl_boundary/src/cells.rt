@@ -8,7 +8,7 @@ ghost use Rattle.bsdl_numbers.specs.Numbers.{value};
 ghost use Rattle.bsdl_cells.specs.View as cells_view;
 ghost use Rattle.bsdl_ports.specs.Ports as port_list;
 ghost use Rattle.bsdl_device.specs.Driving.{drives as is_driver};
-ghost use Rattle.bsdl_places.specs.View.{AreAt};
+ghost use Rattle.bsdl_port_names.specs.View.{AreNamed};
 ghost use Rattle.bsdl_limits.specs.PortBits.{bit_number};
 ghost use Rattle.bsdl_boundary.specs.Bits.{firsts, last_of};
 ghost use Rattle.bsdl_boundary.specs.Boundary as spec;
@@ -17,7 +17,7 @@ use crate::bits::bit_of_port;
 use crate::ports::size_of;
 use bsdl_cells::{CellRow, Controlling, PortName};
 use bsdl_device::{Cell, Control3, Function};
-use bsdl_places::places::Places;
+use bsdl_port_names::named_ports::NamedPorts;
 use std::alloc::{AllocError, Global};
 use std::collections::BTreeMap;
 
@@ -25,17 +25,17 @@ use std::collections::BTreeMap;
 /// is 2^64 or more, which nothing that is judged has.
 pub fn cells_of(
     alloc: Global,
-    places: &Places<'_>,
+    named: &NamedPorts<'_>,
     bits: &[usize],
     rows: &[CellRow<'_>],
     len: usize,
 ) -> Result<Vec<Cell>, AllocError>
     requires once { (k : ℕ) → k < len
         → length (filter (λ r. r.number == k) (map cells_view.cell_row rows.now)) ≡ 1 }
-    ensures { IfOk result (λ v. (ps : List port_list.Port) → AreAt places.now ps → bits.now ≡ firsts 0 ps → v.items
+    ensures { IfOk result (λ v. (ps : List port_list.Port) → AreNamed named.now ps → bits.now ≡ firsts 0 ps → v.items
         ≡ spec.cells_of ps (map cells_view.cell_row rows.now) len) }
 {
-    let table = table_of(alloc, places, bits, rows)?;
+    let table = table_of(alloc, named, bits, rows)?;
     let cells = listed(alloc, &table, len)?;
     Ok(cells)
 }
@@ -43,17 +43,17 @@ pub fn cells_of(
 /// The last cell of each number.
 fn table_of(
     alloc: Global,
-    places: &Places<'_>,
+    named: &NamedPorts<'_>,
     bits: &[usize],
     rows: &[CellRow<'_>],
 ) -> Result<BTreeMap<usize, Cell>, AllocError>
-    ensures { IfOk result (λ t. (ps : List port_list.Port) → AreAt places.now ps → bits.now ≡ firsts 0 ps → (n : ℕ)
+    ensures { IfOk result (λ t. (ps : List port_list.Port) → AreNamed named.now ps → bits.now ≡ firsts 0 ps → (n : ℕ)
         → get nat_cmp t n ≡ last_of (map (spec.cell ps)
         (filter (λ r. r.number == n) (map cells_view.cell_row rows.now)))) }
 {
     let mut table = BTreeMap::new(alloc);
     for row in rows {
-        add_row(alloc, &mut table, places, bits, row)?;
+        add_row(alloc, &mut table, named, bits, row)?;
     }
     Ok(table)
 }
@@ -61,16 +61,16 @@ fn table_of(
 fn add_row(
     alloc: Global,
     table: &mut BTreeMap<usize, Cell>,
-    places: &Places<'_>,
+    named: &NamedPorts<'_>,
     bits: &[usize],
     row: &CellRow<'_>,
 ) -> Result<(), AllocError>
-    ensures { OnOk result ((ps : List port_list.Port) → AreAt places.now ps → bits.now ≡ firsts 0 ps → (n : ℕ)
+    ensures { OnOk result ((ps : List port_list.Port) → AreNamed named.now ps → bits.now ≡ firsts 0 ps → (n : ℕ)
         → get nat_cmp table.new n ≡ (if value row.now.number == n
         then Some (spec.cell ps (cells_view.cell_row row.now)) else get nat_cmp table.old n)) }
 {
     let number = size_of(row.number)?;
-    let cell = cell_of(alloc, places, bits, row)?;
+    let cell = cell_of(alloc, named, bits, row)?;
     table.insert(number, cell)?;
     Ok(())
 }
@@ -78,14 +78,14 @@ fn add_row(
 /// The cell of a row; its control counts where it drives.
 fn cell_of(
     alloc: Global,
-    places: &Places<'_>,
+    named: &NamedPorts<'_>,
     bits: &[usize],
     row: &CellRow<'_>,
 ) -> Result<Cell, AllocError>
-    ensures { IfOk result (λ c. (ps : List port_list.Port) → AreAt places.now ps → bits.now ≡ firsts 0 ps → c
+    ensures { IfOk result (λ c. (ps : List port_list.Port) → AreNamed named.now ps → bits.now ≡ firsts 0 ps → c
         ≡ spec.cell ps (cells_view.cell_row row.now)) }
 {
-    let port = port_of(alloc, places, bits, row.port)?;
+    let port = port_of(alloc, named, bits, row.port)?;
     let control = control_of(row.function, row.control)?;
     let function = row.function;
     Ok(Cell {
@@ -97,15 +97,15 @@ fn cell_of(
 
 fn port_of(
     alloc: Global,
-    places: &Places<'_>,
+    named: &NamedPorts<'_>,
     bits: &[usize],
     port: Option<PortName<'_>>,
 ) -> Result<Option<usize>, AllocError>
-    ensures { IfOk result (λ o. (ps : List port_list.Port) → AreAt places.now ps → bits.now ≡ firsts 0 ps → o
+    ensures { IfOk result (λ o. (ps : List port_list.Port) → AreNamed named.now ps → bits.now ≡ firsts 0 ps → o
         ≡ option_and_then (bit_number 0 ps) (option_map cells_view.port_name port.entry)) }
 {
     match port {
-        Some(port) => bit_of_port(alloc, places, bits, port),
+        Some(port) => bit_of_port(alloc, named, bits, port),
         None => Ok(None),
     }
 }

@@ -14,7 +14,7 @@ use bsdl_entity::entity::Outline;
 use bsdl_limits::users::users_of;
 use bsdl_opcodes::accesses::accesses_of;
 use bsdl_opcodes::patterns::{bits_of, code_of, opcodes_of, private_names_of};
-use bsdl_places::places::places_of;
+use bsdl_port_names::named_ports::named_ports_of;
 use bsdl_numbers::Digits;
 use std::alloc::{AllocError, Global};
 
@@ -68,10 +68,10 @@ fn boundary_of(
         ≡ boundary.cells_of (description outline.now described.now).ports (description outline.now described.now).cells
         (description outline.now described.now).boundary_length) }
 {
-    let places = places_of(alloc, &outline.groups)?;
+    let named = named_ports_of(alloc, &outline.groups)?;
     let firsts = firsts_of(alloc, &outline.groups)?;
     let len = size_of(described.boundary_length)?;
-    let cells = cells_of(alloc, &places, &firsts, &described.cells, len)?;
+    let cells = cells_of(alloc, &named, &firsts, &described.cells, len)?;
     Ok(cells)
 }
 

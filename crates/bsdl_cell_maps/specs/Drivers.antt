@@ -7,12 +7,12 @@ use Rattle.bsdl_device.specs.Driving.{drives}
 use Rattle.bsdl_cells.specs.Rows.{CellRow}
 use Rattle.bsdl_ports.specs.Ports.{Port}
 use Rattle.bsdl_cell_maps.specs.declared.drivers.Drivers as declared_drivers
-use Rattle.bsdl_places.specs.declared.seat.Seat.{Seat}
-use Rattle.bsdl_places.specs.Places.{same_seat, seat_of}
-use Rattle.bsdl_places.specs.View.{seat}
+use Rattle.bsdl_port_names.specs.declared.port_index.PortIndex.{PortIndex}
+use Rattle.bsdl_port_names.specs.NamedPorts.{same_port_index, port_index_of}
+use Rattle.bsdl_port_names.specs.View.{port_index}
 
 -- what is kept of a port bit
-abbrev pub driver_at : declared_drivers.Drivers → Seat → Option ℕ
+abbrev pub driver_at : declared_drivers.Drivers → PortIndex → Option ℕ
 driver_at d s =
     get (λ x y. ordering_then (nat_cmp x.0 y.0) (slice_cmp nat_cmp x.1.now y.1.now)) d.lowest (s.port, s.index.digits)
 
@@ -20,10 +20,11 @@ abbrev pub is_below : Option ℕ → ℕ → Bool
 is_below None n = false
 is_below (Some k) n = nat_lt k n
 
-abbrev pub same_place : Seat → Seat → Bool
-same_place a b = a.port == b.port && bytes_eq a.index.digits.now b.index.digits.now
+abbrev pub same_key : PortIndex → PortIndex → Bool
+same_key a b = a.port == b.port && bytes_eq a.index.digits.now b.index.digits.now
 
 -- a row drives this port bit below a cell
-abbrev pub drives_below : List Port → Seat → ℕ → CellRow → Bool
+abbrev pub drives_below : List Port → PortIndex → ℕ → CellRow → Bool
 drives_below ps s n r =
-    nat_lt r.number n && (drives r.function && same_seat (option_and_then (seat_of ps) r.port) (Some (seat s)))
+    nat_lt r.number n && (drives r.function
+    && same_port_index (option_and_then (port_index_of ps) r.port) (Some (port_index s)))

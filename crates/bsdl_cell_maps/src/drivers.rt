@@ -4,13 +4,13 @@ ghost use Rattle.std.specs.List.{list_any};
 ghost use Rattle.bsdl_cells.specs.Rows as rows;
 ghost use Rattle.bsdl_cells.specs.View.{cell_row};
 ghost use Rattle.bsdl_ports.specs.Ports as port_list;
-ghost use Rattle.bsdl_places.specs.declared.seat.Seat as declared_seat;
-ghost use Rattle.bsdl_cell_maps.specs.Drivers.{drives_below, driver_at, is_below, same_place};
-ghost use Rattle.bsdl_places.specs.View.{AreAt};
+ghost use Rattle.bsdl_port_names.specs.declared.port_index.PortIndex as declared_port_index;
+ghost use Rattle.bsdl_cell_maps.specs.Drivers.{drives_below, driver_at, is_below, same_key};
+ghost use Rattle.bsdl_port_names.specs.View.{AreNamed};
 
 use bsdl_cells::CellRow;
-use bsdl_places::places::{Places, seat_of};
-use bsdl_places::seat::Seat;
+use bsdl_port_names::named_ports::{NamedPorts, port_index_of};
+use bsdl_port_names::port_index::PortIndex;
 use std::alloc::{AllocError, Global};
 use std::collections::{BTreeMap, BTreeSet};
 
@@ -24,17 +24,17 @@ pub struct Drivers<'a> {
 /// The lowest cells that drive port bits. Refuses for want of memory alone.
 pub fn drivers_of<'a>(
     alloc: Global,
-    places: &Places<'_>,
+    named: &NamedPorts<'_>,
     rows: &[CellRow<'a>],
 ) -> Result<Drivers<'a>, AllocError>
-    ensures { IfOk result (λ d. (ps : List port_list.Port) → AreAt places.now ps → (s : declared_seat.Seat) (n : ℕ)
-        → n ≤ 65536 → is_below (driver_at d s) n ≡ list_any (drives_below ps s n) (map cell_row rows.now)) }
+    ensures { IfOk result (λ d. (ps : List port_list.Port) → AreNamed named.now ps
+        → (s : declared_port_index.PortIndex) (n : ℕ) → n ≤ 65536 → is_below (driver_at d s) n ≡ list_any (drives_below ps s n) (map cell_row rows.now)) }
 {
     let mut drivers = Drivers {
         lowest: BTreeMap::new(alloc),
     };
     for row in rows {
-        add_row(alloc, &mut drivers, places, row)?;
+        add_row(alloc, &mut drivers, named, row)?;
     }
     Ok(drivers)
 }
@@ -42,20 +42,20 @@ pub fn drivers_of<'a>(
 fn add_row<'a>(
     alloc: Global,
     drivers: &mut Drivers<'a>,
-    places: &Places<'_>,
+    named: &NamedPorts<'_>,
     row: &CellRow<'a>,
 ) -> Result<(), AllocError>
-    ensures { OnOk result ((ps : List port_list.Port) → AreAt places.now ps → (s : declared_seat.Seat) (n : ℕ)
-        → n ≤ 65536 → is_below (driver_at drivers.new s) n ≡ is_below (driver_at drivers.old s) n
-        || drives_below ps s n (cell_row row.now)) }
+    ensures { OnOk result ((ps : List port_list.Port) → AreNamed named.now ps
+        → (s : declared_port_index.PortIndex) (n : ℕ) → n ≤ 65536
+        → is_below (driver_at drivers.new s) n ≡ is_below (driver_at drivers.old s) n || drives_below ps s n (cell_row row.now)) }
 {
     if !row.function.drives() {
         return Ok(());
     }
     match row.port {
-        Some(port) => match seat_of(alloc, places, port)? {
-            Some(seat) => {
-                add_driver(drivers, seat, row.number.up_to(65_536))?;
+        Some(port) => match port_index_of(alloc, named, port)? {
+            Some(port_index) => {
+                add_driver(drivers, port_index, row.number.up_to(65_536))?;
                 Ok(())
             }
             None => Ok(()),
@@ -66,35 +66,35 @@ fn add_row<'a>(
 
 fn add_driver<'a>(
     drivers: &mut Drivers<'a>,
-    seat: Seat<'a>,
+    port_index: PortIndex<'a>,
     number: usize,
 ) -> Result<(), AllocError>
-    ensures { OnOk result ((s : declared_seat.Seat) (n : ℕ) → is_below (driver_at drivers.new s) n
-        ≡ is_below (driver_at drivers.old s) n || (same_place seat.entry s && nat_lt number n)) }
+    ensures { OnOk result ((s : declared_port_index.PortIndex) (n : ℕ) → is_below (driver_at drivers.new s) n
+        ≡ is_below (driver_at drivers.old s) n || (same_key port_index.entry s && nat_lt number n)) }
 {
-    let lowest = drivers.lowest_with(seat, number);
+    let lowest = drivers.lowest_with(port_index, number);
     drivers
         .lowest
-        .insert((seat.port, seat.index.digits), lowest)?;
+        .insert((port_index.port, port_index.index.digits), lowest)?;
     Ok(())
 }
 
 impl<'a> Drivers<'a> {
     /// The lowest cell that drives a port bit, where this one drives it too.
-    fn lowest_with(&self, seat: Seat<'a>, number: usize) -> usize
-        ensures { (n : ℕ) → nat_lt result n ≡ is_below (driver_at self.now seat.entry) n || nat_lt number n }
+    fn lowest_with(&self, port_index: PortIndex<'a>, number: usize) -> usize
+        ensures { (n : ℕ) → nat_lt result n ≡ is_below (driver_at self.now port_index.entry) n || nat_lt number n }
     {
-        match self.lowest.get(&(seat.port, seat.index.digits)) {
+        match self.lowest.get(&(port_index.port, port_index.index.digits)) {
             Some(known) => (*known).min(number),
             None => number,
         }
     }
 
     /// Whether a cell below this one drives a port bit.
-    pub fn is_driven_below(&self, seat: Seat<'a>, number: usize) -> bool
-        ensures { result ≡ is_below (driver_at self.now seat.entry) number }
+    pub fn is_driven_below(&self, port_index: PortIndex<'a>, number: usize) -> bool
+        ensures { result ≡ is_below (driver_at self.now port_index.entry) number }
     {
-        match self.lowest.get(&(seat.port, seat.index.digits)) {
+        match self.lowest.get(&(port_index.port, port_index.index.digits)) {
             Some(lowest) => *lowest < number,
             None => false,
         }

@@ -1,2 +1,2 @@
-pub mod SeatLaws
+pub mod PortIndexLaws
 pub mod TableLaws

@@ -6,14 +6,14 @@ use Rattle.std.specs.Ordering.{nat_cmp}
 use Rattle.bsdl_described.specs.Describing.{Description}
 use Rattle.bsdl_described.specs.View.{taps}
 use Rattle.bsdl_fit.specs.declared.known.Known as declared_known
-use Rattle.bsdl_places.specs.declared.seat.Seat.{Seat}
+use Rattle.bsdl_port_names.specs.declared.port_index.PortIndex.{PortIndex}
 use Rattle.bsdl_cell_maps.specs.Controls.{controls_as}
 use Rattle.bsdl_cell_maps.specs.Drivers.{driver_at, drives_below, is_below}
-use Rattle.bsdl_places.specs.View.{AreAt}
+use Rattle.bsdl_port_names.specs.View.{AreNamed}
 
 pub record Holds (k : declared_known.Known) (d : Description) : Type 0 where
-  pub places : AreAt k.places d.ports
-  pub drivers : (s : Seat) (n : ℕ) → n ≤ 65536 → is_below (driver_at k.drivers s) n
+  pub named : AreNamed k.named d.ports
+  pub drivers : (s : PortIndex) (n : ℕ) → n ≤ 65536 → is_below (driver_at k.drivers s) n
       ≡ list_any (drives_below d.ports s n) d.cells
   pub controls : (n : ℕ) → n ≤ 65535 → contains_by (nat_cmp n) k.controls ≡ list_any (controls_as n) d.cells
   pub taps_are : taps k.taps ≡ d.taps

@@ -7,14 +7,14 @@ use bsdl_cell_maps::controls::controls_of;
 use bsdl_cell_maps::drivers::{Drivers, drivers_of};
 use bsdl_described::description::{Description, Taps};
 use bsdl_entity::entity::Outline;
-use bsdl_places::places::{Places, places_of};
+use bsdl_port_names::named_ports::{NamedPorts, named_ports_of};
 use std::alloc::{AllocError, Global};
 use std::collections::BTreeSet;
 
 /// The ports by their names, the lowest drivers, the controls and the ports of the TAP.
 #[derive(Debug, Drop)]
 pub struct Known<'t, 'o> {
-    pub places: Places<'t>,
+    pub named: NamedPorts<'t>,
     pub drivers: Drivers<'o>,
     pub controls: BTreeSet<usize>,
     pub taps: Taps<'o>,
@@ -28,11 +28,11 @@ pub fn known_of<'t, 'o>(
 ) -> Result<Known<'t, 'o>, AllocError>
     ensures { IfOk result (λ k. Holds k (description outline.now described.now)) }
 {
-    let places = places_of(alloc, &outline.groups)?;
-    let drivers = drivers_of(alloc, &places, &described.cells)?;
+    let named = named_ports_of(alloc, &outline.groups)?;
+    let drivers = drivers_of(alloc, &named, &described.cells)?;
     let controls = controls_of(alloc, &described.cells)?;
     Ok(Known {
-        places,
+        named,
         drivers,
         controls,
         taps: described.taps,

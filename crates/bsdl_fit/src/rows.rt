@@ -16,8 +16,8 @@ use crate::known::Known;
 use bsdl_cells::{CellRow, Controlling, PortName};
 use bsdl_described::description::Taps;
 use bsdl_device::Function;
-use bsdl_places::places::seat_of;
-use bsdl_places::seat::Seat;
+use bsdl_port_names::named_ports::port_index_of;
+use bsdl_port_names::port_index::PortIndex;
 use bsdl_text::names::Word;
 use bsdl_numbers::Digits;
 use bsdl_text::reading::same_name;
@@ -54,8 +54,8 @@ fn port_fits<'a>(
         return Ok(row.port.is_none());
     }
     match row.port {
-        Some(port) => match seat_of(alloc, &known.places, port)? {
-            Some(seat) => Ok(seat_fits(known, row.function, port, seat, number)),
+        Some(port) => match port_index_of(alloc, &known.named, port)? {
+            Some(port_index) => Ok(port_index_fits(known, row.function, port, port_index, number)),
             None => Ok(false),
         },
         None => Ok(false),
@@ -72,28 +72,28 @@ fn has_no_port(function: Function) -> bool
 }
 
 /// Whether a port bit is no TAP's, and no lower cell drives it.
-fn seat_fits<'a>(
+fn port_index_fits<'a>(
     known: &Known<'_, 'a>,
     function: Function,
     port: PortName<'_>,
-    seat: Seat<'a>,
+    port_index: PortIndex<'a>,
     number: usize,
 ) -> bool
     ensures { result ≡ (not (is_among (taps_view known.now.taps) (upper port.entry.name.text.now))
-        && not (driving.drives function && is_below (driver_at known.now.drivers seat.entry) number)) }
+        && not (driving.drives function && is_below (driver_at known.now.drivers port_index.entry) number)) }
 {
-    !names_tap(&known.taps, port.name.text) && !drives_again(known, function, seat, number)
+    !names_tap(&known.taps, port.name.text) && !drives_again(known, function, port_index, number)
 }
 
 fn drives_again<'a>(
     known: &Known<'_, 'a>,
     function: Function,
-    seat: Seat<'a>,
+    port_index: PortIndex<'a>,
     number: usize,
 ) -> bool
-    ensures { result ≡ (driving.drives function && is_below (driver_at known.now.drivers seat.entry) number) }
+    ensures { result ≡ (driving.drives function && is_below (driver_at known.now.drivers port_index.entry) number) }
 {
-    function.drives() && known.drivers.is_driven_below(seat, number)
+    function.drives() && known.drivers.is_driven_below(port_index, number)
 }
 
 /// Whether a port of this name is one of the TAP's.

@@ -3,7 +3,7 @@ use Rattle.std.specs.Prelude.{Option, option_map, option_and_then, unwrap_or, sl
 use Rattle.bsdl_cells.specs.View.{port_name}
 use Rattle.bsdl_limits.specs.PortBits.{bit_at}
 use Rattle.bsdl_ports.specs.Ports.{Range}
-use Rattle.bsdl_places.specs.View.{place_named}
+use Rattle.bsdl_port_names.specs.View.{port_named}
 use Rattle.bsdl_boundary.specs.Bits.{firsts}
 use Rattle.bsdl_boundary.proofs.NumberLaws.{bit_by}
 use Rattle.bsdl_boundary.proofs.bits.bit_of_port.Goals as goal
@@ -12,6 +12,6 @@ pub returns : goal.returns
 returns c = λ ps at bits_are.
     let name = port_name c.args.port in
     let by = λ (bits : List ℕ) (x : ℕ × Option Range). option_map (λ k. unwrap_or (slice_get bits x.0) 0 + k) (bit_at x.1 name.index) in
-    c.in_ok-found.ensures ∙ ap (λ (bits : List ℕ). option_and_then (by bits) (place_named c.args.places.now c.as_str.result.now)) bits_are
-    ∙ ap (λ (q : List ℕ). option_and_then (by (firsts 0 ps)) (place_named c.args.places.now q)) (c.as_str.ensures.value ∙ c.in_ok-key.ensures)
+    c.in_ok-found.ensures ∙ ap (λ (bits : List ℕ). option_and_then (by bits) (port_named c.args.named.now c.as_str.result.now)) bits_are
+    ∙ ap (λ (q : List ℕ). option_and_then (by (firsts 0 ps)) (port_named c.args.named.now q)) (c.as_str.ensures.value ∙ c.in_ok-key.ensures)
     ∙ ap (option_and_then (by (firsts 0 ps))) (at name.name) ∙ sym (bit_by ps name)

@@ -7,8 +7,8 @@ use Rattle.bsdl_ports.specs.View as ports_view
 use Rattle.bsdl_entity.specs.declared.entity.Outline.{Outline}
 use Rattle.bsdl_described.specs.declared.description.Description as declared_description
 use Rattle.bsdl_described.specs.View.{description}
-use Rattle.bsdl_places.specs.Places.{find_port}
-use Rattle.bsdl_places.specs.View.{AreAt}
+use Rattle.bsdl_port_names.specs.NamedPorts.{find_port}
+use Rattle.bsdl_port_names.specs.View.{AreNamed}
 use Rattle.bsdl_boundary.specs.Bits.{firsts}
 use Rattle.bsdl_boundary.specs.Boundary.{cells_of}
 use Rattle.bsdl_built.proofs.device.boundary_of.Goals as goal
@@ -26,7 +26,7 @@ cells_of-requires c = record {
 pub returns : goal.returns
 returns c =
     let d = description c.args.outline.now c.args.described.now in
-    let at : AreAt c.in_ok-places.places d.ports = λ q. c.in_ok-places.ensures q ∙ ap (λ gs. find_port 0 (ports_view.ports gs) q) c.deref.ensures.value in
+    let at : AreNamed c.in_ok-named.named d.ports = λ q. c.in_ok-named.ensures q ∙ ap (λ gs. find_port 0 (ports_view.ports gs) q) c.deref.ensures.value in
     let bits : c.deref-3.result.now ≡ firsts 0 d.ports = c.deref-3.ensures.value ∙ c.in_ok-firsts.ensures ∙ ap (λ gs. firsts 0 (ports_view.ports gs)) c.deref-2.ensures.value in
     let rows : map cell_row c.deref-4.result.now ≡ d.cells = ap (map cell_row) c.deref-4.ensures.value in
     c.in_ok-cells.ensures d.ports at bits ∙ ap (λ rs. cells_of d.ports rs c.in_ok-len.len) rows ∙ ap (λ (n : ℕ). cells_of d.ports d.cells n) c.in_ok-len.ensures.value

@@ -10,7 +10,7 @@ use Rattle.bsdl_cell_maps.proofs.drivers.add_driver.Goals as goal
 pub returns : goal.returns
 returns c = λ s n.
     let old = λ (p : ℕ) (ds : List ℕ). get_by (λ y. ordering_then (nat_cmp p y.0) (slice_cmp nat_cmp ds y.1.now)) c.args.drivers.now.lowest in
-    let seat = c.args.seat in
+    let port_index = c.args.port_index in
     let lowest = c.lowest_with-lowest.result in
-    ap (λ o. is_below o n) (c.in_ok-insert.ensures.updates.0 (s.port, s.index.digits) ∙ ap (λ (b : Bool). cond b (Some lowest) (driver_at c.args.drivers.now s)) (same_key seat.port s.port seat.index.digits.now s.index.digits.now))
-    ∙ driver_put old seat.port s.port seat.index.digits.now s.index.digits.now lowest c.args.number n c.lowest_with-lowest.ensures
+    ap (λ o. is_below o n) (c.in_ok-insert.ensures.updates.0 (s.port, s.index.digits) ∙ ap (λ (b : Bool). cond b (Some lowest) (driver_at c.args.drivers.now s)) (same_key port_index.port s.port port_index.index.digits.now s.index.digits.now))
+    ∙ driver_put old port_index.port s.port port_index.index.digits.now s.index.digits.now lowest c.args.number n c.lowest_with-lowest.ensures

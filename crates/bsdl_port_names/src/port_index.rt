@@ -6,7 +6,7 @@ use bsdl_numbers::Digits;
 
 /// A port bit by the number of its port and its index, 0 where it has none. The index has no zeros before it.
 #[derive(Debug, Clone, Copy)]
-pub struct Seat<'a> {
+pub struct PortIndex<'a> {
     pub port: usize,
     pub index: Digits<'a>,
     pub ghost starts: { significant index.digits.now ≡ index.digits.now },

@@ -7,7 +7,7 @@ use Rattle.bsdl_text.specs.Words.{upper}
 use Rattle.bsdl_ports.specs.declared.ports.Group.{Group}
 use Rattle.bsdl_ports.specs.Ports.{Port, Range}
 use Rattle.bsdl_ports.specs.View as view
-use Rattle.bsdl_places.specs.Places.{at_name, find_port}
+use Rattle.bsdl_port_names.specs.NamedPorts.{at_name, find_port}
 
 pub or_none : {A : Type 0} (o : Option A) → option_or o None ≡ o
 or_none None = refl

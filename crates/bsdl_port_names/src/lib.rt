@@ -2,5 +2,5 @@
 //! and B.8.14).
 #![tactic(auto)]
 
-pub mod places;
-pub mod seat;
+pub mod named_ports;
+pub mod port_index;

@@ -1,0 +1,2 @@
+pub mod NamedPorts
+pub mod View
