@@ -28,7 +28,8 @@ pub fn drivers_of<'a>(
     rows: &[CellRow<'a>],
 ) -> Result<Drivers<'a>, AllocError>
     ensures { IfOk result (λ d. (ps : List port_list.Port) → AreNamed named.now ps
-        → (s : declared_port_index.PortIndex) (n : ℕ) → n ≤ 65536 → is_below (driver_at d s) n ≡ list_any (drives_below ps s n) (map cell_row rows.now)) }
+        → (s : declared_port_index.PortIndex) (n : ℕ) → n ≤ 65536
+        → is_below (driver_at d s) n ≡ list_any (drives_below ps s n) (map cell_row rows.now)) }
 {
     let mut drivers = Drivers {
         lowest: BTreeMap::new(alloc),
@@ -47,7 +48,8 @@ fn add_row<'a>(
 ) -> Result<(), AllocError>
     ensures { OnOk result ((ps : List port_list.Port) → AreNamed named.now ps
         → (s : declared_port_index.PortIndex) (n : ℕ) → n ≤ 65536
-        → is_below (driver_at drivers.new s) n ≡ is_below (driver_at drivers.old s) n || drives_below ps s n (cell_row row.now)) }
+        → is_below (driver_at drivers.new s) n
+        ≡ is_below (driver_at drivers.old s) n || drives_below ps s n (cell_row row.now)) }
 {
     if !row.function.drives() {
         return Ok(());
