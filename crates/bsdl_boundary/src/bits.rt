@@ -12,8 +12,8 @@ ghost use Rattle.bsdl_boundary.specs.Bits.{firsts};
 use crate::ports::size_of;
 use bsdl_cells::PortName;
 use bsdl_entity::ports::{Group, Range};
-use bsdl_port_names::named_ports::{NumberedPort, NamedPorts};
 use bsdl_numbers::Digits;
+use bsdl_port_names::named_ports::{NamedPorts, NumberedPort};
 use std::alloc::{AllocError, Global};
 
 /// The number of the first bit of each port so far, and that of the next.

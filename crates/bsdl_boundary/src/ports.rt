@@ -14,8 +14,8 @@ use bsdl_described::description::Taps;
 use bsdl_device::{Indices, Port, PortMode, Ports};
 use bsdl_entity::ports::{Group, Range};
 use bsdl_fit::rows::names_tap;
-use bsdl_text::names::Word;
 use bsdl_numbers::Digits;
+use bsdl_text::names::Word;
 use std::alloc::{AllocError, Global};
 
 /// The ports of an entity. Refuses for want of memory, and where a number is 2^64 or more, which nothing that is judged

@@ -12,10 +12,10 @@ use bsdl_described::description::Description;
 use bsdl_device::{Cell, Device, Parts};
 use bsdl_entity::entity::Outline;
 use bsdl_limits::users::users_of;
+use bsdl_numbers::Digits;
 use bsdl_opcodes::accesses::accesses_of;
 use bsdl_opcodes::patterns::{bits_of, code_of, opcodes_of, private_names_of};
 use bsdl_port_names::named_ports::named_ports_of;
-use bsdl_numbers::Digits;
 use std::alloc::{AllocError, Global};
 
 /// The device that a description says; each cell below the length of the boundary register has one row. Refuses for

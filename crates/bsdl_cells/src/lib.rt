@@ -12,9 +12,9 @@ ghost use Rattle.bsdl_cells.specs.View as view;
 use crate::keywords::{BITS, DISABLED, FUNCTIONS, SAFE};
 use bsdl_device::{Disabled, Function};
 use bsdl_lex::Lexer;
+use bsdl_numbers::Digits;
 use bsdl_text::lists::Entry;
 use bsdl_text::names::Word;
-use bsdl_numbers::Digits;
 use bsdl_text::reading::{Stop, keyword, mark, number, stands, word};
 use std::alloc::Global;
 

@@ -18,9 +18,9 @@ use bsdl_givings::givings::{
 };
 use bsdl_instructions::names::{AccessRow, OpcodeRow, PrivateName};
 use bsdl_instructions::patterns::WrittenPattern;
+use bsdl_numbers::Digits;
 use bsdl_own_instructions::own::own_accesses;
 use bsdl_text::names::Word;
-use bsdl_numbers::Digits;
 use std::alloc::{AllocError, Global};
 
 /// The ports of the TAP.

@@ -16,10 +16,10 @@ use crate::known::Known;
 use bsdl_cells::{CellRow, Controlling, PortName};
 use bsdl_described::description::Taps;
 use bsdl_device::Function;
+use bsdl_numbers::Digits;
 use bsdl_port_names::named_ports::port_index_of;
 use bsdl_port_names::port_index::PortIndex;
 use bsdl_text::names::Word;
-use bsdl_numbers::Digits;
 use bsdl_text::reading::same_name;
 use std::alloc::{AllocError, Global};
 

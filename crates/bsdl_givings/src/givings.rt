@@ -19,9 +19,9 @@ use bsdl_entity::items::Given;
 use bsdl_entity::values::{Language, Value, entry_of, rows_of};
 use bsdl_instructions::names::{AccessRow, OpcodeRow, PrivateName};
 use bsdl_instructions::patterns::WrittenPattern;
+use bsdl_numbers::Digits;
 use bsdl_text::lists::Entry;
 use bsdl_text::names::Word;
-use bsdl_numbers::Digits;
 use std::alloc::{AllocError, Global};
 
 /// The word of an attribute.

@@ -10,9 +10,9 @@ ghost use Rattle.bsdl_instructions.specs.View as view;
 
 use crate::patterns::{WrittenPattern, bracketed, digits_of};
 use bsdl_lex::Lexer;
+use bsdl_numbers::Digits;
 use bsdl_text::lists::Entry;
 use bsdl_text::names::Word;
-use bsdl_numbers::Digits;
 use bsdl_text::reading::{Stop, mark, number, same_name, stands, word};
 use std::alloc::Global;
 

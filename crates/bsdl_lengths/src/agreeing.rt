@@ -8,8 +8,8 @@ ghost use Rattle.bsdl_lengths.specs.Agreeing.{agrees, row_agrees, with_row_lengt
 ghost use Rattle.bsdl_lengths.specs.Lengths as spec;
 
 use bsdl_instructions::names::AccessRow;
-use bsdl_text::names::Word;
 use bsdl_numbers::Digits;
+use bsdl_text::names::Word;
 use std::alloc::{AllocError, Global};
 use std::cmp::Ordering;
 use std::collections::BTreeMap;

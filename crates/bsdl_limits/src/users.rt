@@ -8,8 +8,8 @@ ghost use Rattle.bsdl_limits.specs.Users as spec;
 ghost use Rattle.bsdl_limits.specs.View.{Lists};
 
 use bsdl_instructions::names::AccessRow;
-use bsdl_text::names::Word;
 use bsdl_numbers::Digits;
+use bsdl_text::names::Word;
 use std::alloc::{AllocError, Global};
 use std::collections::BTreeMap;
 

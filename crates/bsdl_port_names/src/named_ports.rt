@@ -13,8 +13,8 @@ ghost use Rattle.bsdl_port_names.specs.View.{AreNamed, port_named, numbered_port
 use crate::port_index::PortIndex;
 use bsdl_cells::PortName;
 use bsdl_entity::ports::{Group, Range};
-use bsdl_text::names::Word;
 use bsdl_numbers::Digits;
+use bsdl_text::names::Word;
 use std::alloc::{AllocError, Global};
 use std::cmp::Ordering;
 use std::collections::BTreeMap;
@@ -109,7 +109,11 @@ pub fn port_index_of<'a>(
     Ok(port_index_named(named, key.as_str(), port.index))
 }
 
-fn port_index_named<'a>(named: &NamedPorts<'_>, name: &str, index: Option<Digits<'a>>) -> Option<PortIndex<'a>>
+fn port_index_named<'a>(
+    named: &NamedPorts<'_>,
+    name: &str,
+    index: Option<Digits<'a>>,
+) -> Option<PortIndex<'a>>
     ensures { option_map port_index result ≡ option_and_then (spec.port_index_at (option_map value index.entry))
         (port_named named.now name.now) }
 {
@@ -132,7 +136,11 @@ fn port_index_at<'a>(port: NumberedPort<'_>, index: Option<Digits<'a>>) -> Optio
     }
 }
 
-fn port_index_within<'a>(number: usize, range: Range<'_>, index: Digits<'a>) -> Option<PortIndex<'a>>
+fn port_index_within<'a>(
+    number: usize,
+    range: Range<'_>,
+    index: Digits<'a>,
+) -> Option<PortIndex<'a>>
     requires { significant index.digits.now ≡ index.digits.now }
     ensures { option_map port_index result ≡ spec.port_index_at (Some (value index.entry))
         (number, Some (ports_view.range range.entry)) }
