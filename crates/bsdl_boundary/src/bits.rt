@@ -1,7 +1,7 @@
 //! The numbers of port bits.
 ghost use Rattle.std.specs.Prelude.{◌≡◌, ◌+◌, ◌++◌, ◌∷◌, [], List, Some, option_map, option_and_then, unwrap_or};
 ghost use Rattle.std.specs.Prelude.{slice_get, IfOk, OnOk};
-ghost use Rattle.bsdl_numbers.specs.Numbers.{value};
+ghost use Rattle.bsdl_numbers.specs.View.{value};
 ghost use Rattle.bsdl_cells.specs.View.{port_name};
 ghost use Rattle.bsdl_ports.specs.Ports as port_list;
 ghost use Rattle.bsdl_ports.specs.View as ports_view;

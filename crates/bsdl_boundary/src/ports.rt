@@ -4,7 +4,7 @@ ghost use Rattle.std.specs.List.{flat_map};
 ghost use Rattle.bsdl_device.specs.View.{pair};
 ghost use Rattle.bsdl_device.specs.Ports.{bits_of};
 ghost use Rattle.bsdl_text.specs.Words.{upper};
-ghost use Rattle.bsdl_numbers.specs.Numbers.{value};
+ghost use Rattle.bsdl_numbers.specs.View.{value};
 ghost use Rattle.bsdl_ports.specs.View as ports_view;
 ghost use Rattle.bsdl_own_instructions.specs.Own.{is_among};
 ghost use Rattle.bsdl_described.specs.View.{taps as taps_view};

@@ -1,6 +1,6 @@
 //! A whole device.
 ghost use Rattle.std.specs.Prelude.{◌≡◌, ◌<◌, ◌==◌, ℕ, filter, length, map, IfOk};
-ghost use Rattle.bsdl_numbers.specs.Numbers.{value};
+ghost use Rattle.bsdl_numbers.specs.View.{value};
 ghost use Rattle.bsdl_described.specs.View.{description};
 ghost use Rattle.bsdl_boundary.specs.Boundary as boundary;
 ghost use Rattle.bsdl_built.specs.Built as spec;

@@ -1,7 +1,7 @@
 -- What rows of cells of the code stand for.
 use Rattle.std.specs.Prelude.{option_map}
 use Rattle.bsdl_text.specs.Words.{upper}
-use Rattle.bsdl_numbers.specs.Numbers.{value}
+use Rattle.bsdl_numbers.specs.View.{value}
 use Rattle.bsdl_device.specs.declared.Control3.{Control3}
 use Rattle.bsdl_cells.specs.declared.PortName as declared_port
 use Rattle.bsdl_cells.specs.declared.Controlling as declared_control

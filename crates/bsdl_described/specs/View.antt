@@ -1,6 +1,6 @@
 -- What a description of the code stands for.
 use Rattle.std.specs.Prelude.{◌≡◌, List, ◌∷◌, map, option_map, is_some, Result, Ok, Err}
-use Rattle.bsdl_numbers.specs.Numbers.{value}
+use Rattle.bsdl_numbers.specs.View.{value}
 use Rattle.bsdl_text.specs.Words.{upper}
 use Rattle.bsdl_instructions.specs.View as rows_view
 use Rattle.bsdl_cells.specs.View.{cell_row}

@@ -1,6 +1,6 @@
 //! A whole description.
 ghost use Rattle.std.specs.Prelude.{◌≡◌, IfOk, is_some, map, option_map};
-ghost use Rattle.bsdl_numbers.specs.Numbers.{value};
+ghost use Rattle.bsdl_numbers.specs.View.{value};
 ghost use Rattle.bsdl_text.specs.Words.{upper};
 ghost use Rattle.bsdl_entity.specs.GivenView.{given as given_view};
 ghost use Rattle.bsdl_entity.specs.OutlineView.{outline as outline_view};

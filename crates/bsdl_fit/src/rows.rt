@@ -3,7 +3,7 @@ ghost use Rattle.std.specs.Prelude.{◌≡◌, ◌≤◌, ◌&&◌, ℕ, List, n
 ghost use Rattle.std.specs.List.{list_any};
 ghost use Rattle.bsdl_device.specs.Driving as driving;
 ghost use Rattle.bsdl_text.specs.Words.{upper};
-ghost use Rattle.bsdl_numbers.specs.Numbers.{value};
+ghost use Rattle.bsdl_numbers.specs.View.{value};
 ghost use Rattle.bsdl_cells.specs.View as cells_view;
 ghost use Rattle.bsdl_own_instructions.specs.Own.{is_among};
 ghost use Rattle.bsdl_described.specs.Describing as described;

@@ -3,7 +3,7 @@ ghost use Rattle.std.specs.Prelude.{◌≡◌, ◌≤◌, ◌==◌, ℕ, suc, ma
 ghost use Rattle.std.specs.List.{find, fold, range_with_len};
 ghost use Rattle.std.specs.BTreeMap.{get};
 ghost use Rattle.std.specs.Ordering.{nat_cmp};
-ghost use Rattle.bsdl_numbers.specs.Numbers.{value};
+ghost use Rattle.bsdl_numbers.specs.View.{value};
 ghost use Rattle.bsdl_cells.specs.View.{cell_row};
 ghost use Rattle.bsdl_described.specs.Describing as described;
 ghost use Rattle.bsdl_described.specs.View.{description};

@@ -1,7 +1,7 @@
 //! What the first giving of an attribute says.
 ghost use Rattle.std.specs.Prelude.{◌≡◌, ℕ, List, map, option_map, unwrap_or, [], IfOk};
 ghost use Rattle.bsdl_text.specs.Reading.{quoted_value};
-ghost use Rattle.bsdl_numbers.specs.Numbers.{value as number_value};
+ghost use Rattle.bsdl_numbers.specs.View.{value as number_value};
 ghost use Rattle.bsdl_text.specs.Words.{upper};
 ghost use Rattle.bsdl_instructions.specs.Values as rows;
 ghost use Rattle.bsdl_instructions.specs.View as rows_view;

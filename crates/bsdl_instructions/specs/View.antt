@@ -1,7 +1,7 @@
 -- What values of the code stand for.
 use Rattle.std.specs.Prelude.{option_map, map, reverse}
 use Rattle.bsdl_text.specs.Words.{upper}
-use Rattle.bsdl_numbers.specs.Numbers.{value}
+use Rattle.bsdl_numbers.specs.View.{value}
 use Rattle.bsdl_text.specs.WordView.{word_lexeme}
 use Rattle.bsdl_instructions.specs.declared.patterns.WrittenPattern as declared_pattern
 use Rattle.bsdl_instructions.specs.declared.names.OpcodeRow as declared_opcodes

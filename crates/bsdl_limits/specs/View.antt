@@ -1,7 +1,7 @@
 -- What the registers of the code stand for.
 use Rattle.std.specs.Prelude.{◌≡◌, ℕ, List, map}
 use Rattle.std.specs.BTreeMap.{get_by_text}
-use Rattle.bsdl_numbers.specs.Numbers.{value}
+use Rattle.bsdl_numbers.specs.View.{value}
 use Rattle.bsdl_device.specs.Device.{Name}
 use Rattle.bsdl_limits.specs.declared.users.Users as declared_users
 use Rattle.bsdl_limits.specs.Users.{user_number}

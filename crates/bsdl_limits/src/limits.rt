@@ -1,7 +1,7 @@
 //! The limits of a description.
 ghost use Rattle.std.specs.Prelude.{◌≡◌, ◌+◌, ◌&&◌, map, min, nat_le, length, option_map, ◌≤◌, ◌<◌};
 ghost use Rattle.std.specs.List.{list_all, sum_by};
-ghost use Rattle.bsdl_numbers.specs.Numbers.{value};
+ghost use Rattle.bsdl_numbers.specs.View.{value};
 ghost use Rattle.bsdl_cells.specs.View.{cell_row};
 ghost use Rattle.bsdl_entity.specs.declared.entity.Outline as declared_outline;
 ghost use Rattle.bsdl_ports.specs.View as ports_view;

@@ -2,7 +2,7 @@
 ghost use Rattle.std.specs.Prelude.{ℕ, ◌∷◌, ◌++◌, List, [], map, IfOk, OnOk, if◌then◌else◌};
 ghost use Rattle.bsdl_device.specs.Device.{Name};
 ghost use Rattle.bsdl_text.specs.Words.{upper};
-ghost use Rattle.bsdl_numbers.specs.Numbers.{value};
+ghost use Rattle.bsdl_numbers.specs.View.{value};
 ghost use Rattle.bsdl_instructions.specs.View as rows_view;
 ghost use Rattle.bsdl_limits.specs.Users as spec;
 ghost use Rattle.bsdl_limits.specs.View.{Lists};

@@ -1,11 +1,5 @@
--- Whole numbers of any length, by their digits.
+-- Digits of numbers of any length.
 use Rattle.std.specs.Prelude.{ℕ, ◌==◌, if◌then◌else◌, List, [], ◌∷◌}
-use Rattle.std.specs.Str.Parse.{digits_value}
-use Rattle.bsdl_numbers.specs.declared.digits.Digits.{Digits}
-
--- the value of a number
-abbrev pub value : Digits → ℕ
-value n = digits_value 10 n.digits.now
 
 -- without zeros before the others; 0 has none
 abbrev pub significant : List ℕ → List ℕ

@@ -1,7 +1,7 @@
 -- What the ports and port bits of the code stand for.
 use Rattle.std.specs.Prelude.{◌≡◌, ℕ, List, Option, option_map}
 use Rattle.std.specs.BTreeMap.{get_by_text}
-use Rattle.bsdl_numbers.specs.Numbers.{value}
+use Rattle.bsdl_numbers.specs.View.{value}
 use Rattle.bsdl_ports.specs.Ports.{Range, Port}
 use Rattle.bsdl_ports.specs.View.{range}
 use Rattle.bsdl_port_names.specs.declared.named_ports.NumberedPort as declared_numbered_port

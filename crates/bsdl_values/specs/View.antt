@@ -2,7 +2,7 @@
 use Rattle.std.specs.Prelude.{ℕ, Bool, List, [], unwrap_or, is_some}
 use Rattle.bsdl_text.specs.Reading.{quoted_value}
 use Rattle.bsdl_text.specs.Words.{upper}
-use Rattle.bsdl_numbers.specs.Numbers.{value as number_value}
+use Rattle.bsdl_numbers.specs.View.{value as number_value}
 use Rattle.bsdl_instructions.specs.Values.{rows, pattern, opcode_row, private_name, access_row}
 use Rattle.bsdl_cells.specs.Rows.{cell_row}
 use Rattle.bsdl_values.specs.declared.values.Language.{Language}

@@ -1,6 +1,6 @@
 use Rattle.std.proofs.Common.{◌≡◌, ◌<◌, ℕ, nat_eq, List, length, map, ap, sym, ◌∙◌}
 use Rattle.std.specs.Prelude.{filter}
-use Rattle.bsdl_numbers.specs.Numbers.{value}
+use Rattle.bsdl_numbers.specs.View.{value}
 use Rattle.bsdl_cells.specs.declared.CellRow as declared_row
 use Rattle.bsdl_cells.specs.View.{cell_row}
 use Rattle.bsdl_ports.specs.View as ports_view

@@ -1,5 +1,5 @@
 use Rattle.std.proofs.Common.{◌≡◌, map, take}
-use Rattle.bsdl_numbers.specs.Numbers.{value}
+use Rattle.bsdl_numbers.specs.View.{value}
 use Rattle.bsdl_built.proofs.device.lengths_of.Given as goal
 
 abbrev pub invariant-loop-length : goal.invariant-loop-length

@@ -3,7 +3,7 @@ use Rattle.std.specs.Prelude.{option_map}
 use Rattle.std.specs.BTreeMap.{get_by_text}
 use Rattle.std.proofs.Math.Seq.{drop-cons}
 use Rattle.std.proofs.lemmas.List.{take_all, take-append-drop, take_more, map-append}
-use Rattle.bsdl_numbers.specs.Numbers.{value}
+use Rattle.bsdl_numbers.specs.View.{value}
 use Rattle.bsdl_instructions.specs.View.{access_row}
 use Rattle.bsdl_instructions.specs.declared.names.AccessRow.{AccessRow}
 use Rattle.bsdl_lengths.specs.Lengths.{agree}

@@ -1,7 +1,7 @@
 use Rattle.std.proofs.Common.{map, take}
 use Rattle.std.specs.Prelude.{option_map}
 use Rattle.std.specs.BTreeMap.{get_by_text}
-use Rattle.bsdl_numbers.specs.Numbers.{value}
+use Rattle.bsdl_numbers.specs.View.{value}
 use Rattle.bsdl_instructions.specs.View.{access_row}
 use Rattle.bsdl_lengths.proofs.AgreeLaws.{Known}
 use Rattle.bsdl_lengths.proofs.agreeing.agree.Given as goal

@@ -2,7 +2,7 @@ use Rattle.std.proofs.Common.{◌≡◌, ◌&&◌, true, false, ℕ, ap, sym, �
 use Rattle.std.specs.Prelude.{nat_le}
 use Rattle.std.specs.List.{list_all}
 use Rattle.std.proofs.lemmas.List.{length-map}
-use Rattle.bsdl_numbers.specs.Numbers.{value}
+use Rattle.bsdl_numbers.specs.View.{value}
 use Rattle.bsdl_ports.specs.View as ports_view
 use Rattle.bsdl_described.specs.View.{description}
 use Rattle.bsdl_limits.specs.Limits.{ports_fit, ports_within}

@@ -3,7 +3,7 @@ use Rattle.std.specs.Prelude.{string_bytes, bytes_eq, is_some, Some}
 use Rattle.std.specs.BTreeMap.{get_by_text}
 use Rattle.std.proofs.lemmas.List.{map-append, length-map}
 use Rattle.std.proofs.lemmas.Map.Text.{btree_map_updates_text}
-use Rattle.bsdl_numbers.specs.Numbers.{value}
+use Rattle.bsdl_numbers.specs.View.{value}
 use Rattle.bsdl_text.specs.Words.{upper}
 use Rattle.bsdl_limits.proofs.UserLaws.{added_known, added_new}
 use Rattle.bsdl_limits.proofs.users.add_user.Goals as goal
