@@ -26,8 +26,9 @@ use Rattle.streaming.specs.Histories as history
 use Rattle.streaming.specs.Histories.{WasAsked}
 use Rattle.streaming.specs.Laws.{history_of, stream_of}
 use Rattle.streaming.proofs.Agree.{agree, ask-count, counts, quit-byte}
-use Rattle.joined.specs.Finishing.{IsReached, ended_of, is_over}
-use Rattle.joined.specs.Joining.{JoinedState, side}
+use Rattle.joined.specs.Finishing.{IsReached}
+use Rattle.bounded_pipes.specs.Standing.{ended_of, is_over}
+use Rattle.bounded_pipes.specs.Joining.{JoinedState, side}
 use Rattle.joined.specs.Laws.{MeansAfter, WhatIsJoinedEndsAsTheFullPlay, WhatIsJoinedMeansTheProgram, joined_after}
 use Rattle.joined.proofs.RoundsEnd.{carries, link}
 

@@ -24,7 +24,7 @@ use Rattle.streaming.specs.Laws.{history_of}
 use Rattle.streaming.proofs.Agree.{agree}
 use Rattle.streaming.proofs.Schedules.{asked}
 use Rattle.joined.specs.Inside.{ALossNamesWhatIsInWork, FewEventsMoveSomething, WhatIsJoinedStaysInsideTheFullPlay}
-use Rattle.joined.specs.Joining.{side}
+use Rattle.bounded_pipes.specs.Joining.{side}
 use Rattle.joined.specs.Laws.{joined_after}
 use Rattle.joined.proofs.RoundsEnd.{carries, good-answers, link, world_of}
 

@@ -1,4 +1,3 @@
-pub mod Steps
 pub mod RoundsEnd
 pub mod Ends
 pub mod Inside

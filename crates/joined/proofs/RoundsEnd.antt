@@ -23,8 +23,9 @@ use Rattle.every_schedule.proofs.Progress.{fair-moves, moving-total, total-bound
 use Rattle.every_schedule.proofs.Quits.{played_of, sent-eager}
 use Rattle.every_schedule.proofs.Runs.{run-append}
 use Rattle.every_schedule.proofs.SafetyLaws.{is-play, reached}
-use Rattle.joined.specs.Finishing.{IsReached, is_over}
-use Rattle.joined.specs.Joining.{JoinedState, side}
+use Rattle.joined.specs.Finishing.{IsReached}
+use Rattle.bounded_pipes.specs.Standing.{is_over}
+use Rattle.bounded_pipes.specs.Joining.{JoinedState, side}
 
 -- bytes given out, bytes taken, answers taken
 abbrev pub sum_of : World StreamState → ℕ

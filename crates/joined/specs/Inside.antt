@@ -12,8 +12,8 @@ use Rattle.plays.specs.Streams.{StreamState, new_stream}
 use Rattle.every_schedule.specs.Fronts.{IsFront}
 use Rattle.every_schedule.specs.InWork.{IsInWork, turns_made}
 use Rattle.every_schedule.specs.Sides.{answers_to_bytes}
-use Rattle.joined.specs.Finishing.{ended_of}
-use Rattle.joined.specs.Joining.{side}
+use Rattle.bounded_pipes.specs.Standing.{ended_of}
+use Rattle.bounded_pipes.specs.Joining.{side}
 use Rattle.joined.specs.Laws.{joined_after}
 
 -- the bytes that the board took over these events

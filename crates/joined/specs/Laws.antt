@@ -10,8 +10,8 @@ use Rattle.plays.specs.Events.{Event, World, empty_pipes, run}
 use Rattle.plays.specs.Play.{play}
 use Rattle.plays.specs.PlayingOn.{Stops}
 use Rattle.plays.specs.Streams.{StreamState, new_stream}
-use Rattle.joined.specs.Finishing.{ended_of}
-use Rattle.joined.specs.Joining.{JoinedState, side}
+use Rattle.bounded_pipes.specs.Standing.{ended_of}
+use Rattle.bounded_pipes.specs.Joining.{JoinedState, side}
 
 -- the world that events lead to, from a fresh player and a board with empty pipes
 abbrev pub joined_after : Program → BoardState → (down_room up_room : ℕ) → List Event → World StreamState

@@ -1,4 +1,3 @@
-pub mod Joining
 pub mod Finishing
 pub mod Laws
 pub mod Inside

@@ -4,12 +4,14 @@ ghost use Rattle.std.specs.Prelude.{◌≡◌, ◌<◌, Some, map, MatchResult};
 ghost use Rattle.plays.specs.Events.{empty_pipes, moving, run};
 ghost use Rattle.plays.specs.PlayingOn.{Stops};
 ghost use Rattle.plays.specs.Streams.{new_stream};
-ghost use Rattle.joined.specs.Finishing.{IsFinished, ended_of};
-ghost use Rattle.joined.specs.Joining.{event_of, side};
+ghost use Rattle.joined.specs.Finishing.{IsFinished};
+ghost use Rattle.bounded_pipes.specs.Standing.{ended_of};
+ghost use Rattle.bounded_pipes.specs.Joining.{event_of, side};
 ghost use Rattle.joined.specs.Laws.{MeansAfter};
 
-use crate::event::{Event, Standing};
-use crate::pipes::Pipes;
+use crate::finishing;
+use crate::standing::Standing;
+use bounded_pipes::{Event, Pipes, Unjoined};
 use jt_board::Board;
 use plays::Ending;
 use std::alloc::Global;
@@ -24,22 +26,13 @@ pub struct Joined {
 
 impl Model for Joined {
     ghost use Rattle.joined.specs.Finishing.{IsReached};
-    ghost use Rattle.joined.specs.Joining.{JoinedState};
+    ghost use Rattle.bounded_pipes.specs.Joining.{JoinedState};
 
     ghost Value = { JoinedState };
 
     ghost view = { λ j. j.pipes };
 
     ghost invariant = { λ j. IsReached j.pipes };
-}
-
-/// Player and board that were not joined, for want of memory.
-#[derive(Drop)]
-pub struct Unjoined {
-    /// The player, as it was handed over.
-    pub player: Player,
-    /// The board, as it was handed over.
-    pub board: Board,
 }
 
 impl Joined {
@@ -93,7 +86,7 @@ impl Joined {
         ensures ending { ended_of self.new.world ≡ Some result }
         ensures means { MeansAfter self.old self.new.world }
     {
-        self.pipes.finish()
+        finishing::finish(&mut self.pipes)
     }
 
     /// The board, as the events left it.

@@ -5,12 +5,13 @@ ghost use Rattle.joined.specs.Inside.{ALossNamesWhatIsInWork, FewEventsMoveSomet
 ghost use Rattle.joined.specs.Inside.{WhatIsJoinedStaysInsideTheFullPlay};
 ghost use Rattle.joined.specs.Laws.{WhatIsJoinedEndsAsTheFullPlay, WhatIsJoinedMeansTheProgram};
 
-mod event;
+mod finishing;
 mod joined;
-mod pipes;
+mod standing;
 
-pub use event::{Event, Standing};
-pub use joined::{Joined, Unjoined};
+pub use bounded_pipes::{Event, Unjoined};
+pub use joined::Joined;
+pub use standing::Standing;
 
 /// Once the board took `Q`, the play was not lost, and it has the full play's ending and board, whatever the order of
 /// events and the room of the pipes.

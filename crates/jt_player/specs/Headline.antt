@@ -8,7 +8,7 @@ use Rattle.plays.specs.DirectPlay.{MeansFromOpening}
 use Rattle.plays.specs.Events.{Event}
 use Rattle.plays.specs.Play.{play}
 use Rattle.direct_play.specs.Accepting.{Accepts}
-use Rattle.joined.specs.Finishing.{ended_of}
+use Rattle.bounded_pipes.specs.Standing.{ended_of}
 use Rattle.joined.specs.Laws.{joined_after}
 
 -- For every accepted text, every board in use, every room of the two pipes and every order of events: a play that ends

@@ -5,11 +5,10 @@ ghost use Rattle.std.specs.Prelude.{false, unwrap_or, Some, MatchResult};
 ghost use Rattle.bitbang_table.specs.Protocol.{decode};
 ghost use Rattle.plays.specs.Events.{empty_pipes, happens, has_room, bytes_moved, moving, put_bytes, run, served};
 ghost use Rattle.plays.specs.Events.{take_answers};
-ghost use Rattle.joined.specs.Finishing.{IsFinished, IsReached, ended_of, is_over};
-ghost use Rattle.joined.specs.Joining.{event_of, serve_one, side};
+ghost use Rattle.bounded_pipes.specs.Joining.{event_of, serve_one, side};
+ghost use Rattle.bounded_pipes.specs.Standing.{ended_of, is_over};
 
 use crate::event::Event;
-use crate::joined::Unjoined;
 use bitbang_table::{Message, decode};
 use circular_buffer::HeapCircularBuffer;
 use jt_board::{Board, Reply};
@@ -18,9 +17,10 @@ use std::alloc::Global;
 use std::marker::Model;
 use stream_player::Player;
 
-/// Player and board with two bounded pipes between them, in whatever state.
+/// Player and board with two bounded pipes between them, in whatever state. Contracts see the world of the two and how
+/// much each pipe has room for.
 #[derive(Drop)]
-pub(crate) struct Pipes {
+pub struct Pipes {
     player: Player,
     board: Board,
     down: HeapCircularBuffer<u8>,
@@ -30,7 +30,7 @@ pub(crate) struct Pipes {
 }
 
 impl Model for Pipes {
-    ghost use Rattle.joined.specs.Joining.{AreAnswers, JoinedState, world_between};
+    ghost use Rattle.bounded_pipes.specs.Joining.{AreAnswers, JoinedState, world_between};
 
     ghost Value = { JoinedState };
 
@@ -39,12 +39,22 @@ impl Model for Pipes {
     ghost invariant = { λ j. AreAnswers j.up.items };
 }
 
+/// Player and board that were not joined, for want of memory.
+#[derive(Drop)]
+pub struct Unjoined {
+    /// The player, as it was handed over.
+    pub player: Player,
+    /// The board, as it was handed over.
+    pub board: Board,
+}
+
 /// The most bytes that are put into a pipe at once.
 const PIECE: usize = 64;
 
 impl Pipes {
-    /// Empty pipes between a player and a board. For want of memory both come back.
-    pub(crate) fn new(
+    /// Empty pipes between a player and a board, with room for `down` bytes and `up` answers. It takes all its memory
+    /// before it takes anything over: for want of memory both come back.
+    pub fn new(
         alloc: Global,
         player: Player,
         board: Board,
@@ -187,7 +197,7 @@ impl Pipes {
     }
 
     /// What an event does. Answers whether it moved something.
-    pub(crate) fn happen(&mut self, event: Event) -> bool
+    fn happen(&mut self, event: Event) -> bool
         ensures moved { result
             ≡ nat_lt 0 (bytes_moved side self.old.down_room self.old.up_room (event_of event) self.old.world) }
         ensures world { self.new ≡ record self.old {
@@ -209,7 +219,7 @@ impl Pipes {
     }
 
     /// A whole schedule. Answers how many of its events moved something.
-    pub(crate) fn run(&mut self, events: &[Event]) -> u64
+    pub fn run(&mut self, events: &[Event]) -> u64
         ensures moved { result
             ≡ moving side self.old.down_room self.old.up_room (map event_of events.now) self.old.world }
         ensures world { self.new ≡ record self.old {
@@ -227,21 +237,21 @@ impl Pipes {
     }
 
     /// Whether the play has ended or was lost.
-    pub(crate) fn is_over(&self) -> bool
+    pub fn is_over(&self) -> bool
         ensures { result ≡ is_over self.now.world }
     {
         self.quit || self.lost
     }
 
     /// Whether the play was lost.
-    pub(crate) fn is_lost(&self) -> bool
+    pub fn is_lost(&self) -> bool
         ensures { result ≡ self.now.world.lost }
     {
         self.lost
     }
 
     /// How the play ended, if it did.
-    pub(crate) fn ended(&self) -> Option<Ending>
+    pub fn ended(&self) -> Option<Ending>
         ensures { result ≡ ended_of self.now.world }
     {
         if self.lost {
@@ -252,44 +262,17 @@ impl Pipes {
     }
 
     /// The board.
-    pub(crate) fn board(&self) -> &Board
+    pub fn board(&self) -> &Board
         ensures { result.now ≡ self.now.world.board }
     {
         &self.board
     }
 
     /// The board, given up.
-    pub(crate) fn into_board(self) -> Board
+    pub fn into_board(self) -> Board
         ensures { result ≡ self.world.board }
     {
         let Pipes { board, .. } = self;
         board
-    }
-
-    /// Goes on, without a loss, until the play has ended. Answers how it ended.
-    pub(crate) fn finish(&mut self) -> Ending
-        requires { IsReached self.old }
-        ensures finished { IsFinished self.old self.new }
-        ensures ending { ended_of self.new.world ≡ Some result }
-    {
-        self.go_on();
-        match self.ended() {
-            Some(ending) => ending,
-            None => unreachable!(),
-        }
-    }
-
-    /// Goes on, without a loss, until the play has ended.
-    fn go_on(&mut self)
-        requires { IsReached self.old }
-        ensures { IsFinished self.old self.new }
-    {
-        while !self.is_over() {
-            self.run(&[
-                Event::Put(usize::MAX),
-                Event::Serve(usize::MAX),
-                Event::Take(usize::MAX),
-            ]);
-        }
     }
 }

@@ -1,7 +1,7 @@
 use Rattle.std.proofs.Common.{◌≡◌, ◌+◌, ◌≤◌, map, drop}
 use Rattle.plays.specs.Events.{moving, run}
-use Rattle.joined.specs.Joining.{event_of, side}
-use Rattle.joined.proofs.pipes.Pipes.run.Given as goal
+use Rattle.bounded_pipes.specs.Joining.{event_of, side}
+use Rattle.bounded_pipes.proofs.pipes.Pipes.run.Given as goal
 
 abbrev pub invariant-loop-i : goal.invariant-loop-i
 invariant-loop-i l = record {

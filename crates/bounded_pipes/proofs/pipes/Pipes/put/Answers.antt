@@ -1,8 +1,8 @@
 use Rattle.std.proofs.Common.{ap, ◌∙◌, arith, min, ◌-◌}
 use Rattle.plays.specs.Events.{put_bytes}
-use Rattle.joined.specs.Joining.{JoinedState, side}
-use Rattle.joined.proofs.Steps.{put-keeps}
-use Rattle.joined.proofs.pipes.Pipes.put.Goals as goal
+use Rattle.bounded_pipes.specs.Joining.{JoinedState, side}
+use Rattle.bounded_pipes.proofs.Steps.{put-keeps}
+use Rattle.bounded_pipes.proofs.pipes.Pipes.put.Goals as goal
 
 pub loop-count-preserved : goal.loop-count-preserved
 loop-count-preserved c =

@@ -1,6 +1,6 @@
 use Rattle.std.proofs.Common.{◌≡◌, ◌-◌, ◌+◌, ◌≤◌, length}
 use Rattle.plays.specs.Events.{served}
-use Rattle.joined.proofs.pipes.Pipes.serve.Given as goal
+use Rattle.bounded_pipes.proofs.pipes.Pipes.serve.Given as goal
 
 abbrev pub invariant-loop-count : goal.invariant-loop-count
 invariant-loop-count l = record {

@@ -9,7 +9,7 @@ use Rattle.bitbang_table.specs.Protocol.{decode}
 use Rattle.plays.specs.Events.{World, has_room, put_bytes, served, take_answers, after_byte_taken}
 use Rattle.plays.specs.Streams.{StreamState}
 use Rattle.stream_player.proofs.BufferFills.{waiting-more}
-use Rattle.joined.specs.Joining.{serve_one, side}
+use Rattle.bounded_pipes.specs.Joining.{serve_one, side}
 
 abbrev Pipes : Type 0
 Pipes = World StreamState

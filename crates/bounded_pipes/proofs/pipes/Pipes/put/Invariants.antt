@@ -1,7 +1,7 @@
 use Rattle.std.proofs.Common.{◌≡◌, ◌-◌, ◌+◌, ◌≤◌, length}
 use Rattle.plays.specs.Events.{put_bytes}
-use Rattle.joined.specs.Joining.{side}
-use Rattle.joined.proofs.pipes.Pipes.put.Given as goal
+use Rattle.bounded_pipes.specs.Joining.{side}
+use Rattle.bounded_pipes.proofs.pipes.Pipes.put.Given as goal
 
 abbrev pub invariant-loop-count : goal.invariant-loop-count
 invariant-loop-count l = record {

@@ -1,7 +1,7 @@
 use Rattle.std.proofs.Common.{◌≡◌, ◌-◌, ◌+◌, ◌≤◌, length}
 use Rattle.plays.specs.Events.{take_answers}
-use Rattle.joined.specs.Joining.{side}
-use Rattle.joined.proofs.pipes.Pipes.take.Given as goal
+use Rattle.bounded_pipes.specs.Joining.{side}
+use Rattle.bounded_pipes.proofs.pipes.Pipes.take.Given as goal
 
 abbrev pub invariant-loop-count : goal.invariant-loop-count
 invariant-loop-count l = record {

@@ -4,8 +4,8 @@ use Rattle.std.specs.Prelude.{if◌then◌else◌}
 use Rattle.bitbang_table.specs.Protocol.{answer, decode}
 use Rattle.circular_buffer.specs.Buffer.{Buffer}
 use Rattle.board_meaning.specs.Chain.{BoardState}
-use Rattle.joined.specs.declared.event.Event as declared
-use Rattle.joined.specs.declared.event.Event.TheVariants as happening
+use Rattle.bounded_pipes.specs.declared.event.Event as declared
+use Rattle.bounded_pipes.specs.declared.event.Event.TheVariants as happening
 use Rattle.plays.specs.Events.{Event, Put, Serve, Take, Lose, Side, World, has_room, after_byte_taken as taken_byte}
 use Rattle.plays.specs.Streams as stream
 use Rattle.plays.specs.Streams.{StreamState}
