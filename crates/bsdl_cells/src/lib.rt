@@ -4,7 +4,7 @@
 
 ghost use Rattle.std.specs.Prelude.{◌<◌, ◌≤◌, length, option_map, IfOk};
 ghost use Rattle.bsdl_lex.specs.Left.{left};
-ghost use Rattle.bsdl_text.specs.View as text_view;
+ghost use Rattle.bsdl_numbers.specs.View as number_view;
 ghost use Rattle.bsdl_text.specs.View.{Gives, StopsAtMisfit};
 ghost use Rattle.bsdl_cells.specs.Rows as spec;
 ghost use Rattle.bsdl_cells.specs.View as view;
@@ -92,7 +92,7 @@ fn cell_port<'a>(lexer: Lexer<'a>) -> Result<(Option<PortName<'a>>, Lexer<'a>), 
 
 /// The index of a port, where one stands between brackets.
 fn port_index<'a>(lexer: Lexer<'a>) -> Result<(Option<Digits<'a>>, Lexer<'a>), Stop>
-    ensures gives { Gives (option_map text_view.value) result (spec.port_index (left lexer.entry)) }
+    ensures gives { Gives (option_map number_view.value) result (spec.port_index (left lexer.entry)) }
     ensures no_longer { IfOk result (λ p. length (left p.1) ≤ length (left lexer.entry)) }
     ensures misfit { StopsAtMisfit result }
 {

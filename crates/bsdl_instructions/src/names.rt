@@ -2,7 +2,7 @@
 ghost use Rattle.std.specs.Prelude.{◌≡◌, ◌<◌, ◌≤◌, length, option_map, IfOk};
 ghost use Rattle.bsdl_lex.specs.Left.{left};
 ghost use Rattle.bsdl_text.specs.WordView.{word_lexeme};
-ghost use Rattle.bsdl_text.specs.View as text_view;
+ghost use Rattle.bsdl_numbers.specs.View as number_view;
 ghost use Rattle.bsdl_text.specs.View.{Gives, StopsAtMisfit};
 ghost use Rattle.bsdl_instructions.specs.Values as spec;
 ghost use Rattle.bsdl_device.specs.Device as device;
@@ -122,7 +122,7 @@ fn register_len<'a>(
     name: Word<'a>,
     lexer: Lexer<'a>,
 ) -> Result<(Option<Digits<'a>>, Lexer<'a>), Stop>
-    ensures gives { Gives (option_map text_view.value) result
+    ensures gives { Gives (option_map number_view.value) result
         (spec.register_len (word_lexeme name.entry) (left lexer.entry)) }
     ensures no_longer { IfOk result (λ p. length (left p.1) ≤ length (left lexer.entry)) }
     ensures misfit { StopsAtMisfit result }

@@ -3,7 +3,7 @@ ghost use Rattle.std.specs.Prelude.{◌≡◌, ◌<◌, List, length, map, optio
 ghost use Rattle.bsdl_lex.specs.Left.{left};
 ghost use Rattle.bsdl_text.specs.Reading as reading;
 ghost use Rattle.bsdl_text.specs.View.{Gives, StopsAtMisfit};
-ghost use Rattle.bsdl_text.specs.View as text_view;
+ghost use Rattle.bsdl_numbers.specs.View as number_view;
 ghost use Rattle.bsdl_text.specs.WordView.{word_lexeme};
 ghost use Rattle.bsdl_ports.specs.Ports as spec;
 ghost use Rattle.bsdl_ports.specs.View as view;
@@ -126,7 +126,7 @@ fn up_to<'a>(
     is_rising: bool,
     lexer: Lexer<'a>,
 ) -> Result<(Range<'a>, Lexer<'a>), Stop>
-    ensures gives { Gives view.range result (spec.upto (text_view.value first.entry) is_rising (left lexer.entry)) }
+    ensures gives { Gives view.range result (spec.upto (number_view.value first.entry) is_rising (left lexer.entry)) }
     ensures shorter { IfOk result (λ p. length (left p.1) < length (left lexer.entry)) }
     ensures misfit { StopsAtMisfit result }
 {
@@ -139,8 +139,8 @@ fn up_to<'a>(
 
 /// The range of two numbers, where they run this way.
 fn in_order<'a>(first: Digits<'a>, second: Digits<'a>, is_rising: bool) -> Option<Range<'a>>
-    ensures { option_map view.range result ≡ spec.in_order (text_view.value first.entry)
-        (text_view.value second.entry) is_rising }
+    ensures { option_map view.range result ≡ spec.in_order (number_view.value first.entry)
+        (number_view.value second.entry) is_rising }
 {
     match (first.compare(second), is_rising) {
         (Ordering::Less, false) | (Ordering::Greater, true) => None,
