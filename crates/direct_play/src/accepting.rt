@@ -27,6 +27,8 @@ pub fn accept(alloc: Global, text: &[u8]) -> Result<Program, SvfFault>
     // It is small: steps, bits of fields and states of paths together are at most four for each byte of the text.
     ensures small { IfOk result (λ p. length p.steps + p.held ≤ 4 * length text.now) }
 {
-    let statements = parse(alloc, text)?;
-    resolve(alloc, statements)
+    match parse(alloc, text) {
+        Ok(statements) => resolve(alloc, statements),
+        Err(fault) => Err(fault),
+    }
 }

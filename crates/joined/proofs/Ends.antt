@@ -1,5 +1,5 @@
 -- Once `Q` was taken, the player that keeps no answers tells the full play's ending.
-use Rattle.std.proofs.Common.{◌≡◌, Bool, true, false, ◌||◌, ℕ, ◌+◌, ◌-◌, ◌==◌, List, ◌++◌, map, length, take, refl, sym, ap, ◌∙◌, subst, arith, count_by, Some, None, append-nil}
+use Rattle.std.proofs.Common.{◌≡◌, Bool, true, false, ◌||◌, ℕ, ◌-◌, ◌==◌, List, ◌++◌, map, length, take, refl, sym, ap, ◌∙◌, subst, arith, count_by, Some, None, append-nil}
 use Rattle.std.proofs.Math.Seq.{take-length}
 use Rattle.std.proofs.lemmas.List.{length-map}
 use Rattle.std.specs.Prelude.{◌^◌, min, if◌then◌else◌}

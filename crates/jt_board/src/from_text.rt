@@ -61,7 +61,10 @@ impl Board {
         // What is no TOML is refused as that, unless memory runs out.
         ensures bad_toml { IsBadToml toml_text.now → TellsBadToml result }
     {
-        let plan = plan_of_text(alloc, &Bsdl, toml_text, files)?;
+        let plan = match plan_of_text(alloc, &Bsdl, toml_text, files) {
+            Ok(plan) => plan,
+            Err(fault) => return Err(fault),
+        };
         match Board::powered_up(alloc, plan) {
             Ok(board) => Ok(board),
             Err(_) => Err(BoardFault::NoMemory),

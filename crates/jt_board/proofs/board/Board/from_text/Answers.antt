@@ -6,10 +6,10 @@ pub returns-in-Err-clause-told : goal.returns-in-Err-clause-told
 returns-in-Err-clause-told c = λ t reads. told_fault c.in-Err.fault _ (c.in-Err.ensures.told t reads)
 
 pub powered_up-requires-clause-ready : goal.powered_up-requires-clause-ready
-powered_up-requires-clause-ready c = ready_wiring (wiring c.in_ok-plan.plan) c.in_ok-plan.ensures.fits c.in_ok-plan.ensures.said
+powered_up-requires-clause-ready c = ready_wiring (wiring c.in-Ok.plan) c.in-Ok.ensures.fits c.in-Ok.ensures.said
 
 pub powered_up-requires-clause-sound : goal.powered_up-requires-clause-sound
-powered_up-requires-clause-sound c = sound_wiring (wiring c.in_ok-plan.plan) c.in_ok-plan.ensures.fits c.in_ok-plan.ensures.said
+powered_up-requires-clause-sound c = sound_wiring (wiring c.in-Ok.plan) c.in-Ok.ensures.fits c.in-Ok.ensures.said
 
-pub returns-in_ok-plan-in-Ok-clause-told : goal.returns-in_ok-plan-in-Ok-clause-told
-returns-in_ok-plan-in-Ok-clause-told c = λ t reads. told_board c.in_ok-plan.plan c.in_ok-plan-in-Ok.board _ (c.in_ok-plan.ensures.told t reads) c.in_ok-plan-in-Ok.ensures
+pub returns-in-Ok-powered_up-clause-told : goal.returns-in-Ok-powered_up-clause-told
+returns-in-Ok-powered_up-clause-told c = λ t reads. told_board c.in-Ok.plan c.in-Ok-powered_up.board _ (c.in-Ok.ensures.told t reads) c.in-Ok-powered_up.ensures
