@@ -12,7 +12,7 @@ use Rattle.bsdl_numbers.proofs.SpellingLaws.{one_spelling}
 use Rattle.bsdl_cells.specs.Rows.{CellRow, PortName}
 use Rattle.bsdl_ports.specs.Ports.{Port}
 use Rattle.bsdl_port_names.specs.declared.port_index.PortIndex.{PortIndex}
-use Rattle.bsdl_cell_maps.specs.Drivers.{drives_below, is_below, same_key}
+use Rattle.bsdl_cell_maps.specs.Drivers.{drives_below, is_below, same_bit}
 use Rattle.bsdl_device.specs.Driving.{drives}
 use Rattle.bsdl_port_names.specs.NamedPorts.{same_port_index, port_index_of}
 use Rattle.bsdl_port_names.specs.View.{port_index}
@@ -51,7 +51,7 @@ driver_put old p q xs ys lowest number n least = by_test (nat_eq p q && bytes_eq
 
 -- ---- port bits by their digits
 
-pub port_indices_same : (a b : PortIndex) → same_key a b ≡ same_port_index (Some (port_index a)) (Some (port_index b))
+pub port_indices_same : (a b : PortIndex) → same_bit a b ≡ same_port_index (Some (port_index a)) (Some (port_index b))
 port_indices_same a b = ap (λ t. nat_eq a.port b.port && t) by_index
   where
     xs : List ℕ
@@ -80,7 +80,7 @@ capped_lt : (v n : ℕ) → n ≤ 65536 → nat_lt (min v 65536) n ≡ nat_lt v 
 capped_lt v n few = grind (arith, nat_tests)
 
 pub row_drives : (ps : List Port) (a s : PortIndex) (n : ℕ) (r : CellRow) (name : PortName) → n ≤ 65536 → r.port ≡ Some name → drives r.function ≡ true → Some (port_index a) ≡ port_index_of ps name
-    → (same_key a s && nat_lt (min r.number 65536) n) ≡ drives_below ps s n r
+    → (same_bit a s && nat_lt (min r.number 65536) n) ≡ drives_below ps s n r
 row_drives ps a s n r name few port driving at =
     let here : option_and_then (port_index_of ps) r.port ≡ Some (port_index a) = ap (option_and_then (port_index_of ps)) port ∙ sym at in
     rw (port_indices_same a s, capped_lt r.number n few, driving, here) (swapped (same_port_index (Some (port_index a)) (Some (port_index s))) (nat_lt r.number n))

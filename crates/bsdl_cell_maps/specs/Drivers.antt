@@ -20,8 +20,8 @@ abbrev pub is_below : Option ℕ → ℕ → Bool
 is_below None n = false
 is_below (Some k) n = nat_lt k n
 
-abbrev pub same_key : PortIndex → PortIndex → Bool
-same_key a b = a.port == b.port && bytes_eq a.index.digits.now b.index.digits.now
+abbrev pub same_bit : PortIndex → PortIndex → Bool
+same_bit a b = a.port == b.port && bytes_eq a.index.digits.now b.index.digits.now
 
 -- a row drives this port bit below a cell
 abbrev pub drives_below : List Port → PortIndex → ℕ → CellRow → Bool

@@ -5,7 +5,7 @@ ghost use Rattle.bsdl_cells.specs.Rows as rows;
 ghost use Rattle.bsdl_cells.specs.View.{cell_row};
 ghost use Rattle.bsdl_ports.specs.Ports as port_list;
 ghost use Rattle.bsdl_port_names.specs.declared.port_index.PortIndex as declared_port_index;
-ghost use Rattle.bsdl_cell_maps.specs.Drivers.{drives_below, driver_at, is_below, same_key};
+ghost use Rattle.bsdl_cell_maps.specs.Drivers.{drives_below, driver_at, is_below, same_bit};
 ghost use Rattle.bsdl_port_names.specs.View.{AreNamed};
 
 use bsdl_cells::CellRow;
@@ -72,7 +72,7 @@ fn add_driver<'a>(
     number: usize,
 ) -> Result<(), AllocError>
     ensures { OnOk result ((s : declared_port_index.PortIndex) (n : ℕ) → is_below (driver_at drivers.new s) n
-        ≡ is_below (driver_at drivers.old s) n || (same_key port_index.entry s && nat_lt number n)) }
+        ≡ is_below (driver_at drivers.old s) n || (same_bit port_index.entry s && nat_lt number n)) }
 {
     let lowest = drivers.lowest_with(port_index, number);
     drivers
