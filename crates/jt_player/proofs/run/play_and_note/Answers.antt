@@ -1,4 +1,4 @@
-use Rattle.std.proofs.Common.{true, false, refl, sym, ap}
+use Rattle.std.proofs.Common.{refl, sym, ap}
 use Rattle.std.proofs.KnownBytes.{Appends-nil}
 use Rattle.std.specs.Prelude.{codes, is_ok, is_err}
 use Rattle.byte_ends.specs.Writes.{flagged}
