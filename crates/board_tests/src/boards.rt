@@ -246,6 +246,14 @@ fn made(alloc: Global, toml: &str) -> Result<Vec<u8>, AllocError> {
     Ok(shown.into_inner())
 }
 
+/// Asserts what is made of each board file.
+fn assert_made(rt: &impl Abort, alloc: Global, rows: &[(&str, &str)]) -> Result<(), AllocError> {
+    for (toml, wanted) in rows {
+        assert_eq!(rt; made(alloc, toml)?.as_slice(), wanted.as_bytes());
+    }
+    Ok(())
+}
+
 #[test]
 fn boards_of_board_files(rt: HostRuntime) -> Result<(), Fail> {
     let rows = [
@@ -281,9 +289,7 @@ fn boards_of_board_files(rt: HostRuntime) -> Result<(), Fail> {
         ("", "C2 BadField device"),
         ("[[device", "C1 BadToml "),
     ];
-    for (toml, wanted) in rows {
-        assert_eq!(rt; made(rt.alloc(), toml)?.as_slice(), wanted.as_bytes());
-    }
+    assert_made(&rt, rt.alloc(), &rows)?;
     let mut many = String::new(rt.alloc());
     for i in 0..33 {
         many.push_str(format!(in rt.alloc(); "[[device]]\nname='U{i}'\nbsdl='k'\n")?.as_str())?;

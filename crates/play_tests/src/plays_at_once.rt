@@ -47,8 +47,17 @@ fn scans_end_as_they_mean(rt: HostRuntime) -> Result<(), Fail> {
             Ending::Pass,
         ),
     ];
+    assert_endings(&rt, rt.alloc(), &rows)
+}
+
+/// Asserts how each text's program ends on a fresh board of so many bare devices.
+fn assert_endings(
+    rt: &impl Abort,
+    alloc: Global,
+    rows: &[(&[u8], usize, Ending)],
+) -> Result<(), Fail> {
     for (text, devices, wanted) in rows {
-        assert_eq!(rt; ending(&rt, rt.alloc(), text, devices)?, wanted);
+        assert_eq!(rt; ending(rt, alloc, text, *devices)?, *wanted);
     }
     Ok(())
 }
@@ -63,8 +72,18 @@ fn each_pass_names_its_own_refusals(rt: HostRuntime) -> Result<(), Fail> {
         (b"SDR 0; STATE DRCAPTURE;", 1, Code::EmptyScan),
         (b"HDR 1 TDI (0); SDR 65536 TDI (0);", 2, Code::TooLarge),
     ];
+    assert_refused(&rt, rt.alloc(), &rows)
+}
+
+/// Asserts at which statement each text is refused, and how.
+fn assert_refused(
+    rt: &impl Abort,
+    alloc: Global,
+    rows: &[(&[u8], usize, Code)],
+) -> Result<(), Fail> {
     for (text, statement, code) in rows {
-        let fault = accept(rt.alloc(), text).err().ok_or("accepted")?;
+        let (statement, code) = (*statement, *code);
+        let fault = accept(alloc, text).err().ok_or("accepted")?;
         assert_eq!(rt; fault, SvfFault { statement, code });
     }
     Ok(())

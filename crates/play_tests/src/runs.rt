@@ -30,6 +30,21 @@ fn checked(rt: &impl Abort, alloc: Global, text: &[u8]) -> Result<(Vec<u8>, Vec<
     Ok((out.into_inner(), err.into_inner(), status))
 }
 
+/// Asserts what the run of each text over so many devices writes, tells and ends with.
+fn assert_runs(
+    rt: &impl Abort,
+    alloc: Global,
+    rows: &[(&[u8], usize, &[u8], &[u8], u8)],
+) -> Result<(), Fail> {
+    for (text, devices, out, err, status) in rows {
+        let (wrote, told, ended) = ran(rt, alloc, text, *devices, true)?;
+        assert_eq!(rt; wrote.as_slice(), *out);
+        assert_eq!(rt; told.as_slice(), *err);
+        assert_eq!(rt; ended, *status);
+    }
+    Ok(())
+}
+
 #[test]
 fn runs_of_the_table(rt: HostRuntime) -> Result<(), Fail> {
     let rows: [(&[u8], usize, &[u8], &[u8], u8); 9] = [
@@ -92,12 +107,7 @@ fn runs_of_the_table(rt: HostRuntime) -> Result<(), Fail> {
         ),
         (b"STATE IDLE", 1, b"", b"svf S2 Unclosed statement 1\n", 2),
     ];
-    for (text, devices, out, err, status) in rows {
-        let (wrote, told, ended) = ran(&rt, rt.alloc(), text, devices, true)?;
-        assert_eq!(rt; wrote.as_slice(), out);
-        assert_eq!(rt; told.as_slice(), err);
-        assert_eq!(rt; ended, status);
-    }
+    assert_runs(&rt, rt.alloc(), &rows)?;
     let (wrote, _, _) = ran(&rt, rt.alloc(), b"STATE RESET;", 1, false)?;
     assert_eq!(rt; wrote.as_slice(), b"pass\nU1 RESET 11 BYPASS\n".as_slice());
     Ok(())
@@ -121,11 +131,20 @@ fn checks_of_the_table(rt: HostRuntime) -> Result<(), Fail> {
             2,
         ),
     ];
+    assert_checks(&rt, rt.alloc(), &rows)
+}
+
+/// Asserts what the check of each text writes, tells and ends with.
+fn assert_checks(
+    rt: &impl Abort,
+    alloc: Global,
+    rows: &[(&[u8], &[u8], &[u8], u8)],
+) -> Result<(), Fail> {
     for (text, out, err, status) in rows {
-        let (wrote, told, ended) = checked(&rt, rt.alloc(), text)?;
-        assert_eq!(rt; wrote.as_slice(), out);
-        assert_eq!(rt; told.as_slice(), err);
-        assert_eq!(rt; ended, status);
+        let (wrote, told, ended) = checked(rt, alloc, text)?;
+        assert_eq!(rt; wrote.as_slice(), *out);
+        assert_eq!(rt; told.as_slice(), *err);
+        assert_eq!(rt; ended, *status);
     }
     Ok(())
 }
