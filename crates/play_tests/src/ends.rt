@@ -7,6 +7,7 @@ use std::alloc::Global;
 use std::io;
 use std::io::{Error, ErrorKind, Read, Write};
 use std::net::{Net, OpenListener, OpenStream, TcpListener, TcpStream};
+use std::process::Abort;
 use std::test::Fail;
 
 /// How a call of a faulty reader or writer goes.
@@ -96,25 +97,31 @@ impl Sink for Faulty {
     }
 }
 
+/// How each call goes, the piece, and how many losses there are then.
+const WRITES: &[(Call, &[u8], u32)] = &[
+    (Call::Moves(2), b"ab", 0),
+    (Call::Moves(1), b"ab", 0),
+    (Call::Moves(0), b"ab", 1),
+    (Call::Fails, b"ab", 1),
+    (Call::Fails, b"", 0),
+];
+
 #[test]
 fn a_write_counts_where_it_fails_or_takes_none_of_a_piece(rt: HostRuntime) {
-    // the call, the piece, and how many losses there are then
-    let cases: [(Call, &[u8], u32); 5] = [
-        (Call::Moves(2), b"ab", 0),
-        (Call::Moves(1), b"ab", 0),
-        (Call::Moves(0), b"ab", 1),
-        (Call::Fails, b"ab", 1),
-        (Call::Fails, b"", 0),
-    ];
-    for (call, piece, losses) in cases {
-        let mut out = Counted::new(Faulty::new(rt.alloc(), [call, call, call, call]));
-        let first = out.put(piece);
-        assert_eq!(rt; out.failures(), losses);
-        let second = out.write(piece);
-        assert_eq!(rt; first.is_ok(), second.is_ok());
-        assert_eq!(rt; out.failures(), losses);
-        assert!(rt; !out.at_end());
+    for (call, piece, losses) in WRITES {
+        assert_losses(&rt, rt.alloc(), *call, piece, *losses);
     }
+}
+
+/// Asserts how many losses there are after one write whose call goes so, and after a second.
+fn assert_losses(rt: &impl Abort, alloc: Global, call: Call, piece: &[u8], losses: u32) {
+    let mut out = Counted::new(Faulty::new(alloc, [call; 4]));
+    let first = out.put(piece);
+    assert_eq!(rt; out.failures(), losses);
+    let second = out.write(piece);
+    assert_eq!(rt; first.is_ok(), second.is_ok());
+    assert_eq!(rt; out.failures(), losses);
+    assert!(rt; !out.at_end());
 }
 
 #[test]
@@ -131,21 +138,34 @@ fn a_flush_counts_where_it_fails(rt: HostRuntime) {
 
 #[test]
 fn at_end_is_whether_the_first_loss_was_the_end_of_input(rt: HostRuntime) {
-    let mut byte = [0];
     let end_first = [Call::Moves(1), Call::Moves(0), Call::Fails, Call::Moves(1)];
-    let mut input = Counted::new(Faulty::new(rt.alloc(), end_first));
-    for (failures, at_end) in [(0, false), (1, true), (1, true), (1, true)] {
-        let _ = input.hear(&mut byte);
-        assert_eq!(rt; input.failures(), failures);
-        assert_eq!(rt; input.at_end(), at_end);
-    }
-
+    let told = [(0, false), (1, true), (1, true), (1, true)];
+    assert_heard(&rt, rt.alloc(), end_first, &told);
     let failed_first = [Call::Moves(1), Call::Fails, Call::Moves(0), Call::Moves(1)];
-    let mut input = Counted::new(Faulty::new(rt.alloc(), failed_first));
-    for failures in [0, 1, 1, 1] {
+    let told = [(0, false), (1, false), (1, false), (1, false)];
+    assert_heard(&rt, rt.alloc(), failed_first, &told);
+    assert_read(&rt, rt.alloc(), failed_first, &told);
+}
+
+/// Asserts the losses after each of some calls of `hear`, and whether the first was the end of input.
+fn assert_heard(rt: &impl Abort, alloc: Global, calls: [Call; 4], told: &[(u32, bool)]) {
+    let mut byte = [0];
+    let mut input = Counted::new(Faulty::new(alloc, calls));
+    for (failures, at_end) in told {
+        let _ = input.hear(&mut byte);
+        assert_eq!(rt; input.failures(), *failures);
+        assert_eq!(rt; input.at_end(), *at_end);
+    }
+}
+
+/// The same of calls of `read`.
+fn assert_read(rt: &impl Abort, alloc: Global, calls: [Call; 4], told: &[(u32, bool)]) {
+    let mut byte = [0];
+    let mut input = Counted::new(Faulty::new(alloc, calls));
+    for (failures, at_end) in told {
         let _ = input.read(&mut byte);
-        assert_eq!(rt; input.failures(), failures);
-        assert!(rt; !input.at_end());
+        assert_eq!(rt; input.failures(), *failures);
+        assert_eq!(rt; input.at_end(), *at_end);
     }
 }
 
@@ -160,59 +180,87 @@ fn a_read_into_no_room_counts_nothing(rt: HostRuntime) {
     }
 }
 
+/// How the calls go, what is taken of "abc", and whether that is all.
+const PIECES: &[([Call; 4], &[u8], bool)] = &[
+    (
+        [Call::Moves(1), Call::Moves(1), Call::Moves(1), Call::Fails],
+        b"abc",
+        true,
+    ),
+    (
+        [Call::Moves(2), Call::Moves(9), Call::Fails, Call::Fails],
+        b"abc",
+        true,
+    ),
+    (
+        [Call::Moves(1), Call::Moves(1), Call::Fails, Call::Moves(1)],
+        b"ab",
+        false,
+    ),
+    (
+        [
+            Call::Moves(1),
+            Call::Moves(0),
+            Call::Moves(1),
+            Call::Moves(1),
+        ],
+        b"a",
+        false,
+    ),
+    (
+        [Call::Fails, Call::Moves(1), Call::Moves(1), Call::Moves(1)],
+        b"",
+        false,
+    ),
+];
+
 #[test]
 fn put_all_stops_at_the_first_loss(rt: HostRuntime) {
-    let one = Call::Moves(1);
-    // the calls, what is taken of "abc", and whether that is all
-    let cases: [([Call; 4], &[u8], bool); 5] = [
-        ([one, one, one, Call::Fails], b"abc", true),
-        ([Call::Moves(2), Call::Moves(9), one, one], b"abc", true),
-        ([one, one, Call::Fails, one], b"ab", false),
-        ([one, Call::Moves(0), one, one], b"a", false),
-        ([Call::Fails, one, one, one], b"", false),
-    ];
-    for (calls, taken, is_whole) in cases {
-        let mut out = Counted::new(Faulty::new(rt.alloc(), calls));
-        let outcome = put_all(&mut out, b"abc");
-        assert_eq!(rt; outcome, if is_whole { Ok(()) } else { Err(Broken) });
-        assert_eq!(rt; out.failures(), u32::from(!is_whole));
-        assert_eq!(rt; out.into_inner().taken.as_slice(), taken);
+    for (calls, taken, is_whole) in PIECES {
+        assert_taken(&rt, rt.alloc(), *calls, taken, *is_whole);
     }
 }
 
+/// Asserts what is taken of "abc" by these calls.
+fn assert_taken(rt: &impl Abort, alloc: Global, calls: [Call; 4], taken: &[u8], is_whole: bool) {
+    let mut out = Counted::new(Faulty::new(alloc, calls));
+    let outcome = put_all(&mut out, b"abc");
+    assert_eq!(rt; outcome, if is_whole { Ok(()) } else { Err(Broken) });
+    assert_eq!(rt; out.failures(), u32::from(!is_whole));
+    assert_eq!(rt; out.into_inner().taken.as_slice(), taken);
+}
+
 #[test]
-fn memory_and_both_hand_on_their_bytes(rt: HostRuntime) -> Result<(), Fail> {
+fn memory_and_both_hand_on_their_bytes(rt: HostRuntime) {
     let reader: &[u8] = b"01";
     let writer = Vec::new(rt.alloc());
     let mut end = Counted::new(Both { reader, writer });
-    put_all(&mut end, b"RQ")?;
+    assert_eq!(rt; put_all(&mut end, b"RQ"), Ok(()));
     let mut buffer = [b'-'; 4];
-    assert_eq!(rt; end.hear(&mut buffer)?, 2);
+    assert_eq!(rt; end.hear(&mut buffer).ok(), Some(2));
     assert_eq!(rt; buffer, *b"01--");
-    end.put_through()?;
+    assert!(rt; end.put_through().is_ok());
     assert_eq!(rt; end.failures(), 0);
-    assert_eq!(rt; end.hear(&mut buffer)?, 0);
+    assert_eq!(rt; end.hear(&mut buffer).ok(), Some(0));
     assert!(rt; end.at_end());
     let Both { reader, writer } = end.into_inner();
     assert!(rt; reader.is_empty());
     assert_eq!(rt; writer.as_slice(), b"RQ".as_slice());
-    Ok(())
 }
 
 #[test]
-fn plain_hands_on_what_std_reads_and_writes(rt: HostRuntime) -> Result<(), Fail> {
+fn plain_hands_on_what_std_reads_and_writes(rt: HostRuntime) {
     let mut out = Counted::new(Plain(Vec::new(rt.alloc())));
-    put_all(&mut out, b"PASS\n")?;
-    out.put_through()?;
+    assert_eq!(rt; put_all(&mut out, b"PASS\n"), Ok(()));
+    assert!(rt; out.put_through().is_ok());
     let Plain(bytes) = out.into_inner();
     assert_eq!(rt; bytes.as_slice(), b"PASS\n".as_slice());
 
     let text: &[u8] = b"ab";
     let mut byte = [0];
     let mut input = Counted::new(Plain(text));
-    assert_eq!(rt; input.hear(&mut byte)?, 1);
+    assert_eq!(rt; input.hear(&mut byte).ok(), Some(1));
     assert_eq!(rt; byte[0], b'a');
-    Ok(())
 }
 
 /// `Plain` promises nothing of a call's relation, so its calls are counted: each write and each flush is one of the

@@ -41,6 +41,21 @@ impl Both {
         }
     }
 
+    /// Copies a run of bits of another list into both.
+    fn copy(&mut self, rt: &impl Abort, at: usize, from: &Both, from_at: usize, count: usize) {
+        assert!(rt; at <= self.bits.len() && count <= self.bits.len() - at);
+        assert!(rt; from_at <= from.bits.len() && count <= from.bits.len() - from_at);
+        self.bits.copy_bits(at, &from.bits, from_at, count);
+        for (bit, copied) in self
+            .list
+            .iter_mut()
+            .skip(at)
+            .zip(from.list.iter().skip(from_at).take(count))
+        {
+            *bit = *copied;
+        }
+    }
+
     fn assert_same(&self, rt: &impl Abort) {
         assert_list(rt, &self.bits, &self.list);
     }
@@ -70,7 +85,7 @@ fn assert_list(rt: &impl Abort, bits: &Bits, list: &[bool]) {
     assert_eq!(rt; bits.word(usize::MAX), 0);
 }
 
-const LENGTHS: [usize; 7] = [0, 1, 63, 64, 65, 128, 65536];
+const LENGTHS: &[usize] = &[0, 1, 63, 64, 65, 128, 65536];
 
 #[test]
 fn zeros_shifted_to_ones(rt: HostRuntime) -> Result<(), Fail> {
@@ -89,33 +104,50 @@ fn zeros_shifted_to_ones(rt: HostRuntime) -> Result<(), Fail> {
 #[test]
 fn read_and_shifted(rt: HostRuntime) -> Result<(), Fail> {
     for n in LENGTHS {
-        let mut both = Both::mixed(&rt, rt.alloc(), n)?;
-        both.assert_same(&rt);
-        both.shift(&rt, 70);
-        both.assert_same(&rt);
-        let mut copy = both.bits.try_clone(rt.alloc())?;
-        assert_list(&rt, &copy, &both.list);
-        both.shift(&rt, 67);
-        assert!(rt; copy.len() == both.bits.len());
-        copy.copy_from(&both.bits);
-        assert_list(&rt, &copy, &both.list);
-        let ones = Vec::from_elem(rt.alloc(), true, n)?;
-        assert_list(&rt, &Bits::ones(rt.alloc(), n)?, &ones);
+        assert_read_and_shifted(&rt, rt.alloc(), *n)?;
     }
+    Ok(())
+}
+
+/// Asserts that a list of so many bits, its copies and ones are what a plain list is.
+fn assert_read_and_shifted(rt: &impl Abort, alloc: Global, n: usize) -> Result<(), AllocError> {
+    let mut both = Both::mixed(rt, alloc, n)?;
+    both.assert_same(rt);
+    both.shift(rt, 70);
+    both.assert_same(rt);
+    let mut copy = both.bits.try_clone(alloc)?;
+    assert_list(rt, &copy, &both.list);
+    both.shift(rt, 67);
+    assert!(rt; copy.len() == both.bits.len());
+    copy.copy_from(&both.bits);
+    assert_list(rt, &copy, &both.list);
+    let ones = Vec::from_elem(alloc, true, n)?;
+    assert_list(rt, &Bits::ones(alloc, n)?, &ones);
     Ok(())
 }
 
 #[test]
 fn resized(rt: HostRuntime) -> Result<(), Fail> {
     for n in LENGTHS {
-        let mut both = Both::mixed(&rt, rt.alloc(), n)?;
+        let mut both = Both::mixed(&rt, rt.alloc(), *n)?;
         both.shift(&rt, 70);
-        for len in [0, n / 2, n, n + 100] {
-            let other = both.bits.resized(rt.alloc(), len)?;
-            let mut list = both.list.to_vec(rt.alloc())?;
-            list.resize(len, false)?;
-            assert_list(&rt, &other, &list);
-        }
+        assert_resized(&rt, rt.alloc(), &both, &[0, *n / 2, *n, *n + 100])?;
+    }
+    Ok(())
+}
+
+/// Asserts what a list is that is cut or filled to each of these lengths.
+fn assert_resized(
+    rt: &impl Abort,
+    alloc: Global,
+    both: &Both,
+    lengths: &[usize],
+) -> Result<(), AllocError> {
+    for len in lengths {
+        let other = both.bits.resized(alloc, *len)?;
+        let mut list = both.list.to_vec(alloc)?;
+        list.resize(*len, false)?;
+        assert_list(rt, &other, &list);
     }
     Ok(())
 }
@@ -123,27 +155,19 @@ fn resized(rt: HostRuntime) -> Result<(), Fail> {
 #[test]
 fn runs_are_copied(rt: HostRuntime) -> Result<(), Fail> {
     for n in LENGTHS {
+        let n = *n;
         let mut from = Both::mixed(&rt, rt.alloc(), n)?;
         from.shift(&rt, 70);
-        for (at, from_at, count) in [
+        for (at, from_at, count) in &[
             (n / 4, n / 3, n / 2),
             (0, 0, n),
             (n, 0, 0),
             (n / 2, 0, n / 3),
-        ] {
+        ][..]
+        {
             let mut to = Both::mixed(&rt, rt.alloc(), n)?;
             to.shift(&rt, 3);
-            assert!(rt; at <= to.bits.len() && count <= to.bits.len() - at);
-            assert!(rt; from_at <= from.bits.len() && count <= from.bits.len() - from_at);
-            to.bits.copy_bits(at, &from.bits, from_at, count);
-            for (bit, copied) in to
-                .list
-                .iter_mut()
-                .skip(at)
-                .zip(from.list.iter().skip(from_at).take(count))
-            {
-                *bit = *copied;
-            }
+            to.copy(&rt, *at, &from, *from_at, *count);
             to.assert_same(&rt);
         }
     }
@@ -153,9 +177,9 @@ fn runs_are_copied(rt: HostRuntime) -> Result<(), Fail> {
 #[test]
 fn the_first_bad_bit(rt: HostRuntime) -> Result<(), Fail> {
     for n in LENGTHS {
-        let mut got = Both::mixed(&rt, rt.alloc(), n)?;
+        let mut got = Both::mixed(&rt, rt.alloc(), *n)?;
         got.shift(&rt, 70);
-        assert_first_bad(&rt, rt.alloc(), &got.bits, n)?;
+        assert_first_bad(&rt, rt.alloc(), &got.bits, *n)?;
     }
     Ok(())
 }
@@ -189,19 +213,25 @@ fn assert_bad(rt: &impl Abort, got: &Bits, want: &Bits, mask: &Bits, first: Opti
 #[test]
 fn digits_there_and_back(rt: HostRuntime) -> Result<(), Fail> {
     for n in LENGTHS {
-        let mut both = Both::mixed(&rt, rt.alloc(), n)?;
-        both.shift(&rt, 70);
-        let mut text = Vec::new(rt.alloc());
-        for k in (0..n.div_ceil(4)).rev() {
-            text.push(both.bits.hex_digit(k))?;
-            if k % 5 == 0 {
-                text.push(b' ')?;
-            }
-        }
-        let Ok(back) = Bits::from_hex(rt.alloc(), &text, n) else {
-            return Err(Fail::from("no value"));
-        };
-        assert_list(&rt, &back, &both.list);
+        assert_there_and_back(&rt, rt.alloc(), *n)?;
     }
+    Ok(())
+}
+
+/// Asserts that the digits of a list of so many bits, with spaces between, are read as the list.
+fn assert_there_and_back(rt: &impl Abort, alloc: Global, n: usize) -> Result<(), Fail> {
+    let mut both = Both::mixed(rt, alloc, n)?;
+    both.shift(rt, 70);
+    let mut text = Vec::new(alloc);
+    for k in (0..n.div_ceil(4)).rev() {
+        text.push(both.bits.hex_digit(k))?;
+        if k % 5 == 0 {
+            text.push(b' ')?;
+        }
+    }
+    let Ok(back) = Bits::from_hex(alloc, &text, n) else {
+        return Err(Fail::from("no value"));
+    };
+    assert_list(rt, &back, &both.list);
     Ok(())
 }

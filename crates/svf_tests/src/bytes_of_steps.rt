@@ -24,12 +24,17 @@ fn assert_bytes(rt: &impl Abort, place: State, what: Action, wanted: &[u8])
     for (at, byte) in wanted.iter().enumerate() {
         let mut resumed = StepBytes::resume(place, &step, bytes.spot());
         assert_eq!(rt; resumed.left(), (wanted.len() - at) as u64);
-        assert_eq!(rt; resumed.next(), Some(*byte));
-        assert_eq!(rt; bytes.peek(), Some(*byte));
-        assert_eq!(rt; bytes.next(), Some(*byte));
+        assert_next(rt, &mut resumed, Some(*byte));
+        assert_next(rt, &mut bytes, Some(*byte));
     }
     assert_eq!(rt; bytes.left(), 0);
-    assert_eq!(rt; bytes.next(), None);
+    assert_next(rt, &mut bytes, None);
+}
+
+/// Asserts which byte comes next, seen before it is taken and taken.
+fn assert_next(rt: &impl Abort, bytes: &mut StepBytes, wanted: Option<u8>) {
+    assert_eq!(rt; bytes.peek(), wanted);
+    assert_eq!(rt; bytes.next(), wanted);
 }
 
 #[test]

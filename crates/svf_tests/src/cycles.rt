@@ -22,6 +22,12 @@ fn bit(tms: bool, tdi: bool, read: bool) -> Cycle {
     Cycle { tms, tdi, read }
 }
 
+/// Asserts which cycle comes next, seen before it is taken and taken.
+fn assert_next(rt: &impl Abort, source: &mut Source, wanted: Option<Cycle>) {
+    assert_eq!(rt; source.peek(), wanted);
+    assert_eq!(rt; source.next(), wanted);
+}
+
 /// Asserts that these are the cycles of a step, also where it is resumed at any of them, and where it comes to rest.
 fn assert_cycles(rt: &impl Abort, place: State, what: Action, wanted: &[Cycle], rests: State)
     requires rests { is_stable place ≡ true }
@@ -33,12 +39,11 @@ fn assert_cycles(rt: &impl Abort, place: State, what: Action, wanted: &[Cycle], 
     for (at, cycle) in wanted.iter().enumerate() {
         let mut resumed = Source::resume(place, &step, source.spot());
         assert_eq!(rt; resumed.left(), (wanted.len() - at) as u64);
-        assert_eq!(rt; resumed.next(), Some(*cycle));
-        assert_eq!(rt; source.peek(), Some(*cycle));
-        assert_eq!(rt; source.next(), Some(*cycle));
+        assert_next(rt, &mut resumed, Some(*cycle));
+        assert_next(rt, &mut source, Some(*cycle));
     }
     assert_eq!(rt; source.left(), 0);
-    assert_eq!(rt; source.next(), None);
+    assert_next(rt, &mut source, None);
     assert_eq!(rt; place_after(place, &step), rests);
 }
 

@@ -104,36 +104,36 @@ fn frequencies_that_are_refused(rt: HostRuntime) {
     );
 }
 
+/// A RUNTEST, and its count, its least and its longest time.
+const RUNS: &[(&[u8], Option<u32>, Option<u64>, Option<u64>)] = &[
+    (
+        b"RUNTEST 1.5E1 TCK 1.00E-003 SEC;",
+        Some(15),
+        Some(1_000_000_000),
+        None,
+    ),
+    (
+        b"RUNTEST IDLE 5 TCK 1E-6 SEC MAXIMUM 1E-3 SEC ENDSTATE IRPAUSE;",
+        Some(5),
+        Some(1_000_000),
+        Some(1_000_000_000),
+    ),
+    (b"RUNTEST 4294967295 TCK;", Some(u32::MAX), None, None),
+    (
+        b"RUNTEST 1E6 SEC;",
+        None,
+        Some(1_000_000_000_000_000_000),
+        None,
+    ),
+    (b"RUNTEST 0.00000000000000001E-18 SEC;", None, Some(1), None),
+    (b"RUNTEST 0 TCK 0 SEC;", Some(0), Some(0), None),
+];
+
 #[test]
 fn runs(rt: HostRuntime) {
-    let alloc = rt.alloc();
-    assert_eq!(rt;
-        run(alloc, b"RUNTEST 1.5E1 TCK 1.00E-003 SEC;"),
-        Some((Some(15), Some(1_000_000_000), None))
-    );
-    assert_eq!(rt;
-        run(
-            alloc,
-            b"RUNTEST IDLE 5 TCK 1E-6 SEC MAXIMUM 1E-3 SEC ENDSTATE IRPAUSE;"
-        ),
-        Some((Some(5), Some(1_000_000), Some(1_000_000_000)))
-    );
-    assert_eq!(rt;
-        run(alloc, b"RUNTEST 4294967295 TCK;"),
-        Some((Some(u32::MAX), None, None))
-    );
-    assert_eq!(rt;
-        run(alloc, b"RUNTEST 1E6 SEC;"),
-        Some((None, Some(1_000_000_000_000_000_000), None))
-    );
-    assert_eq!(rt;
-        run(alloc, b"RUNTEST 0.00000000000000001E-18 SEC;"),
-        Some((None, Some(1), None))
-    );
-    assert_eq!(rt;
-        run(alloc, b"RUNTEST 0 TCK 0 SEC;"),
-        Some((Some(0), Some(0), None))
-    );
+    for (text, count, least, longest) in RUNS {
+        assert_eq!(rt; run(rt.alloc(), text), Some((*count, *least, *longest)));
+    }
 }
 
 #[test]
@@ -395,6 +395,26 @@ fn as_long_a_text_as_there_may_be(rt: HostRuntime) -> Result<(), Fail> {
     Ok(())
 }
 
+/// Each refusal, and its number and name.
+const SHOWN: &[(Code, &str)] = &[
+    (Code::BadByte(6), "S1 BadByte"),
+    (Code::Unclosed(0), "S2 Unclosed"),
+    (Code::UnknownCommand, "S3 UnknownCommand"),
+    (Code::BadForm, "S4 BadForm"),
+    (Code::BadNumber, "S5 BadNumber"),
+    (Code::TooWide, "S6 TooWide"),
+    (Code::MissingTdi, "S7 MissingTdi"),
+    (Code::BadState, "S8 BadState"),
+    (Code::BadPath, "S9 BadPath"),
+    (Code::TrstHeld, "S10 TrstHeld"),
+    (Code::TrstAbsent, "S11 TrstAbsent"),
+    (Code::EmptyScan, "S12 EmptyScan"),
+    (Code::Unsupported, "S13 Unsupported"),
+    (Code::TooSlow, "S14 TooSlow"),
+    (Code::TooLarge, "S15 TooLarge"),
+    (Code::NoMemory, "S16 NoMemory"),
+];
+
 #[test]
 fn refusals_are_printed(rt: HostRuntime) -> Result<(), Fail> {
     let wide = SvfFault {
@@ -418,25 +438,7 @@ fn refusals_are_printed(rt: HostRuntime) -> Result<(), Fail> {
         code: Code::NoMemory,
     };
     assert_eq!(rt; format!(in rt.alloc(); "{}", memory)?.as_str(), "memory");
-    let shown: [(Code, &str); 16] = [
-        (Code::BadByte(6), "S1 BadByte"),
-        (Code::Unclosed(0), "S2 Unclosed"),
-        (Code::UnknownCommand, "S3 UnknownCommand"),
-        (Code::BadForm, "S4 BadForm"),
-        (Code::BadNumber, "S5 BadNumber"),
-        (Code::TooWide, "S6 TooWide"),
-        (Code::MissingTdi, "S7 MissingTdi"),
-        (Code::BadState, "S8 BadState"),
-        (Code::BadPath, "S9 BadPath"),
-        (Code::TrstHeld, "S10 TrstHeld"),
-        (Code::TrstAbsent, "S11 TrstAbsent"),
-        (Code::EmptyScan, "S12 EmptyScan"),
-        (Code::Unsupported, "S13 Unsupported"),
-        (Code::TooSlow, "S14 TooSlow"),
-        (Code::TooLarge, "S15 TooLarge"),
-        (Code::NoMemory, "S16 NoMemory"),
-    ];
-    assert_shown(&rt, rt.alloc(), &shown)
+    assert_shown(&rt, rt.alloc(), SHOWN)
 }
 
 /// Asserts that each refusal is shown as its number and its name.

@@ -25,23 +25,47 @@ fn told(alloc: Global, text: &[u8]) -> Result<String, Fail> {
     Ok(lines)
 }
 
-/// A vector: for each bit its part, what is shifted in, and what is wanted out.
-fn shown_vector(alloc: Global, vector: &Vector) -> Result<String, AllocError> {
+/// The part of each bit of a vector, and its place there.
+fn shown_parts(alloc: Global, vector: &Vector) -> Result<String, AllocError> {
     let mut parts = String::new(alloc);
-    let mut tdi = String::new(alloc);
-    let mut wanted = String::new(alloc);
     for at in 0..vector.len() {
-        let (bit, wants) = vector.bit(at);
         let (part, place) = vector.part(at);
         parts.push_str(format!(in alloc; "{part:?}{place} ")?.as_str())?;
+    }
+    Ok(parts)
+}
+
+/// What is shifted in of a vector.
+fn shown_tdi(alloc: Global, vector: &Vector) -> Result<String, AllocError> {
+    let mut tdi = String::new(alloc);
+    for at in 0..vector.len() {
+        let (bit, _) = vector.bit(at);
         tdi.push(if bit { '1' } else { '0' })?;
+    }
+    Ok(tdi)
+}
+
+/// What is wanted out of a vector.
+fn shown_wanted(alloc: Global, vector: &Vector) -> Result<String, AllocError> {
+    let mut wanted = String::new(alloc);
+    for at in 0..vector.len() {
+        let (_, wants) = vector.bit(at);
         wanted.push(match wants {
             None => 'x',
             Some(false) => '0',
             Some(true) => '1',
         })?;
     }
-    format!(in alloc; "{parts}{tdi} {wanted}")
+    Ok(wanted)
+}
+
+/// A vector: for each bit its part, what is shifted in, and what is wanted out.
+fn shown_vector(alloc: Global, vector: &Vector) -> Result<String, AllocError> {
+    let mut shown = shown_parts(alloc, vector)?;
+    shown.push_str(shown_tdi(alloc, vector)?.as_str())?;
+    shown.push(' ')?;
+    shown.push_str(shown_wanted(alloc, vector)?.as_str())?;
+    Ok(shown)
 }
 
 fn shown_path(alloc: Global, path: &[State]) -> Result<String, AllocError> {

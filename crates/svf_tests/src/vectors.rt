@@ -1,8 +1,9 @@
 ghost use Rattle.std.specs.Prelude.{◌≡◌};
 
 use jt_bits::{Bits, HexFault};
-use scan_vectors::{Part, Part3, join, judge};
+use scan_vectors::{Part, Part3, Vector, join, judge};
 use std::alloc::AllocError;
+use std::process::Abort;
 
 /// A part of some bits with all of these fields.
 fn part<'a>(len: usize, tdi: &'a Bits, tdo: &'a Bits) -> Part3<'a>
@@ -22,16 +23,21 @@ fn the_least_bit_that_differs(rt: HostRuntime) -> Result<(), AllocError> {
     let header = part(1, &zeros, &zeros);
     let vector = join(header, part(2, &zeros, &zeros), header);
     let mut out = Bits::zeros(rt.alloc(), vector.len())?;
-    assert_eq!(rt; vector.len(), 4);
     assert!(rt; out.len() == 4);
-    assert_eq!(rt; judge(&vector, &out), None);
+    assert_judged(&rt, &vector, &out, None);
     out.set(3, true);
-    assert_eq!(rt; judge(&vector, &out), Some((Part::Trailer, 0)));
+    assert_judged(&rt, &vector, &out, Some((Part::Trailer, 0)));
     out.set(2, true);
-    assert_eq!(rt; judge(&vector, &out), Some((Part::Data, 1)));
+    assert_judged(&rt, &vector, &out, Some((Part::Data, 1)));
     out.set(0, true);
-    assert_eq!(rt; judge(&vector, &out), Some((Part::Header, 0)));
+    assert_judged(&rt, &vector, &out, Some((Part::Header, 0)));
     Ok(())
+}
+
+/// Asserts which bit is told where these come out.
+fn assert_judged(rt: &impl Abort, vector: &Vector, out: &Bits, wanted: Option<(Part, usize)>) {
+    assert!(rt; out.len() == vector.len());
+    assert_eq!(rt; judge(vector, out), wanted);
 }
 
 #[test]
@@ -51,12 +57,18 @@ fn bits_that_are_not_written(rt: HostRuntime) -> Result<(), HexFault> {
         mask: Some(&five),
     };
     let vector = join(nothing, body, nothing);
-    assert!(rt; vector.len() == 65_536);
     // what is shifted in and wanted out beyond the one bit written is 0, and the mask is 0 but at the bits 0 and 2
-    assert_eq!(rt; vector.bit(0), (true, Some(true)));
-    assert_eq!(rt; vector.bit(1), (false, None));
-    assert_eq!(rt; vector.bit(2), (false, Some(false)));
-    assert_eq!(rt; vector.bit(65_535), (false, None));
+    assert_bit(&rt, &vector, 0, (true, Some(true)));
+    assert_bit(&rt, &vector, 1, (false, None));
+    assert_bit(&rt, &vector, 2, (false, Some(false)));
+    assert_bit(&rt, &vector, 65_535, (false, None));
+    assert!(rt; vector.len() == 65_536);
     assert_eq!(rt; vector.part(65_535), (Part::Data, 65_535));
     Ok(())
+}
+
+/// Asserts what is shifted in at a place, and what is wanted out there.
+fn assert_bit(rt: &impl Abort, vector: &Vector, at: usize, wanted: (bool, Option<bool>)) {
+    assert!(rt; at < vector.len());
+    assert_eq!(rt; vector.bit(at), wanted);
 }
