@@ -120,50 +120,58 @@ fn told(alloc: Global, text: &str) -> Result<String, Fail> {
     Ok(line)
 }
 
-/// A board of U1 with one net of these pins.
-fn wired(alloc: Global, pins: &str) -> Result<String, Fail> {
-    let text = format!(in alloc; "{U1}[[net]]\nname = \"N\"\npins = [{pins}]\n")?;
-    told(alloc, text.as_str())
+/// The text of a board of U1 with one net of these pins.
+fn wired(alloc: Global, pins: &str) -> Result<String, AllocError> {
+    format!(in alloc; "{U1}[[net]]\nname = \"N\"\npins = [{pins}]\n")
 }
+
+/// A text, and what it is told to be.
+const TOLD: &[(&str, &str)] = &[
+    ("device = ", "C1 BadToml"),
+    ("", "C2 BadField device"),
+    (
+        "[[device]]\nbsdl = \"k\"\nname = \"1\"\n",
+        "C2 BadField name",
+    ),
+    (
+        "[[device]]\nname = \"U1\"\nbsdl = \"none\"\n",
+        "C3 UnknownFile none",
+    ),
+    ("[[device]]\nname = \"U1\"\nbsdl = \"bad\"\n", "C4 Bsdl 6"),
+];
+
+/// The pins of a net, and what a board of U1 with that net is told to be.
+const WIRED: &[(&str, &str)] = &[
+    ("\"U1.TDI\"", "C5 UnknownPin U1.TDI"),
+    ("\"U1.Q\", \"u1.q\"", "C5 UnknownPin u1.q"),
+    ("\"U1.Q\", \"U1.q\"", "C6 PinTwice U1.q"),
+    (
+        "\"U1.A(99999999999999999999)\"",
+        "C5 UnknownPin U1.A(99999999999999999999)",
+    ),
+    ("\"U1.A(0002)\", \"U1.vcc\"", "made"),
+];
 
 #[test]
 fn refusals(rt: HostRuntime) -> Result<(), Fail> {
-    let alloc = rt.alloc();
-    assert_eq!(&rt; told(alloc, "device = ")?.as_str(), "C1 BadToml");
-    assert_eq!(&rt; told(alloc, "")?.as_str(), "C2 BadField device");
-    assert_eq!(&rt;
-        told(alloc, "[[device]]\nbsdl = \"k\"\nname = \"1\"\n")?.as_str(),
-        "C2 BadField name"
-    );
-    assert_eq!(&rt;
-        told(alloc, "[[device]]\nname = \"U1\"\nbsdl = \"none\"\n")?.as_str(),
-        "C3 UnknownFile none"
-    );
-    assert_eq!(&rt;
-        told(alloc, "[[device]]\nname = \"U1\"\nbsdl = \"bad\"\n")?.as_str(),
-        "C4 Bsdl 6"
-    );
-    assert_eq!(&rt;
-        wired(alloc, "\"U1.TDI\"")?.as_str(),
-        "C5 UnknownPin U1.TDI"
-    );
-    assert_eq!(&rt;
-        wired(alloc, "\"U1.Q\", \"u1.q\"")?.as_str(),
-        "C5 UnknownPin u1.q"
-    );
-    assert_eq!(&rt;
-        wired(alloc, "\"U1.Q\", \"U1.q\"")?.as_str(),
-        "C6 PinTwice U1.q"
-    );
-    assert_eq!(&rt;
-        wired(alloc, "\"U1.A(99999999999999999999)\"")?.as_str(),
-        "C5 UnknownPin U1.A(99999999999999999999)"
-    );
-    assert_eq!(&rt;
-        wired(alloc, "\"U1.A(0002)\", \"U1.vcc\"")?.as_str(),
-        "made"
-    );
+    for (text, wanted) in TOLD {
+        assert_told(&rt, rt.alloc(), text, wanted)?;
+    }
+    for (pins, wanted) in WIRED {
+        assert_wired(&rt, rt.alloc(), pins, wanted)?;
+    }
     Ok(())
+}
+
+fn assert_told(rt: &impl Abort, alloc: Global, text: &str, wanted: &str) -> Result<(), Fail> {
+    let told = told(alloc, text)?;
+    assert_eq!(rt; told.as_str(), wanted);
+    Ok(())
+}
+
+fn assert_wired(rt: &impl Abort, alloc: Global, pins: &str, wanted: &str) -> Result<(), Fail> {
+    let text = wired(alloc, pins)?;
+    assert_told(rt, alloc, text.as_str(), wanted)
 }
 
 const TWO: &str = "[[device]]
@@ -220,21 +228,19 @@ fn many(alloc: Global, devices: usize, nets: usize) -> Result<String, AllocError
     Ok(text)
 }
 
+/// How many devices and nets there are, and what the board is told to be.
+const MANY: &[(usize, usize, &str)] = &[
+    (32, 4_096, "made"),
+    (33, 0, "C7 TooLarge"),
+    (1, 4_097, "C7 TooLarge"),
+];
+
 #[test]
 fn limits(rt: HostRuntime) -> Result<(), Fail> {
-    let alloc = rt.alloc();
-    assert_eq!(&rt;
-        told(alloc, many(alloc, 32, 4_096)?.as_str())?.as_str(),
-        "made"
-    );
-    assert_eq!(&rt;
-        told(alloc, many(alloc, 33, 0)?.as_str())?.as_str(),
-        "C7 TooLarge"
-    );
-    assert_eq!(&rt;
-        told(alloc, many(alloc, 1, 4_097)?.as_str())?.as_str(),
-        "C7 TooLarge"
-    );
+    for (devices, nets, wanted) in MANY {
+        let text = many(rt.alloc(), *devices, *nets)?;
+        assert_told(&rt, rt.alloc(), text.as_str(), wanted)?;
+    }
     Ok(())
 }
 

@@ -146,21 +146,32 @@ fn reading(state: State) -> u8 {
     }
 }
 
+/// How many devices a bare board may have, at its least and at its most, and how many it may not.
+const SIZES: &[usize] = &[1, 2, 32];
+
+const NO_SIZES: &[usize] = &[0, 33, usize::MAX];
+
 #[test]
 fn boards_of_every_size(rt: HostRuntime) -> Result<(), Fail> {
-    for n in [1, 2, 32] {
-        let mut board = Board::bare(rt.alloc(), n)?;
-        assert_eq!(rt; board.snapshot().devices(), n);
-        let fresh = shown(&rt, rt.alloc(), &board)?;
-        for byte in b"r26262626260" {
-            assert_eq!(rt; board.byte(*byte), Reply::Nothing);
-        }
-        let opened = shown(&rt, rt.alloc(), &board)?;
-        assert_eq!(rt; fresh.as_slice(), opened.as_slice());
+    for n in SIZES {
+        assert_opens(&rt, rt.alloc(), *n)?;
     }
-    for n in [0, 33, usize::MAX] {
-        assert!(rt; matches!(Board::bare(rt.alloc(), n), Err(BoardFault::TooLarge)));
+    for n in NO_SIZES {
+        assert!(rt; matches!(Board::bare(rt.alloc(), *n), Err(BoardFault::TooLarge)));
     }
+    Ok(())
+}
+
+/// Asserts that a board has so many devices, and is after the opening as it powered up.
+fn assert_opens(rt: &impl Abort, alloc: Global, n: usize) -> Result<(), Fail> {
+    let mut board = Board::bare(alloc, n)?;
+    assert_eq!(rt; board.snapshot().devices(), n);
+    let fresh = shown(rt, alloc, &board)?;
+    for byte in b"r26262626260".as_slice() {
+        assert_eq!(rt; board.byte(*byte), Reply::Nothing);
+    }
+    let opened = shown(rt, alloc, &board)?;
+    assert_eq!(rt; fresh.as_slice(), opened.as_slice());
     Ok(())
 }
 

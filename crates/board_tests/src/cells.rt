@@ -67,56 +67,64 @@ fn assert_drives(rt: &impl Abort, register: &Boundary, rows: &[(usize, Mode, Dri
     }
 }
 
+/// What ports drive in modes at first, with 0 in every update bit.
+const AT_FIRST: &[(usize, Mode, Drive)] = &[
+    (0, Mode::Core, Drive::Strong(true)),
+    (0, Mode::Extest, Drive::Nothing),
+    (1, Mode::Core, Drive::Nothing),
+    (2, Mode::Core, Drive::Strong(false)),
+    (2, Mode::Clamp, Drive::Weak(true)),
+    (2, Mode::HighZ, Drive::Nothing),
+];
+
+/// What they drive once cells 1 and 4 were updated to 1.
+const UPDATED: &[(usize, Mode, Drive)] = &[
+    (0, Mode::Extest, Drive::Strong(false)),
+    (2, Mode::Extest, Drive::Strong(true)),
+];
+
+/// What they drive after a reset, which sets the controlr cell to its disabling value.
+const RESET: &[(usize, Mode, Drive)] = &[(2, Mode::Clamp, Drive::Weak(true))];
+
+/// The bits that are shifted in, the first of them to cell 0.
+const SHIFTED: &[bool] = &[false, true, false, false, true];
+
 #[test]
 fn drives_in_each_mode(rt: HostRuntime) -> Result<(), Fail> {
     let mut register = register(&rt, rt.alloc(), false)?;
-    assert_drives(
-        &rt,
-        &register,
-        &[
-            (0, Mode::Core, Drive::Strong(true)),
-            (0, Mode::Extest, Drive::Nothing),
-            (1, Mode::Core, Drive::Nothing),
-            (2, Mode::Core, Drive::Strong(false)),
-            (2, Mode::Clamp, Drive::Weak(true)),
-            (2, Mode::HighZ, Drive::Nothing),
-        ],
-    );
-    for bit in [false, true, false, false, true] {
+    assert_drives(&rt, &register, AT_FIRST);
+    for bit in SHIFTED {
         assert!(rt; register.len() > 0);
-        register.shift_in(bit);
+        register.shift_in(*bit);
     }
     register.update();
     assert_eq!(rt; digits(register.update_stage()), (b'1', b'2'));
-    assert_drives(
-        &rt,
-        &register,
-        &[
-            (0, Mode::Extest, Drive::Strong(false)),
-            (2, Mode::Extest, Drive::Strong(true)),
-        ],
-    );
+    assert_drives(&rt, &register, UPDATED);
     register.reset();
     assert_eq!(rt; digits(register.update_stage()), (b'1', b'A'));
-    assert_drives(&rt, &register, &[(2, Mode::Clamp, Drive::Weak(true))]);
+    assert_drives(&rt, &register, RESET);
     Ok(())
 }
 
 #[test]
 fn captures(rt: HostRuntime) -> Result<(), Fail> {
-    for extest_update in [false, true] {
-        let mut register = register(&rt, rt.alloc(), extest_update)?;
-        assert!(rt; register.len() > 2);
-        register.see(2, true);
-        register.capture(Mode::Core);
-        assert_eq!(rt; digits(register.stage()), (b'0', b'7'));
-        register.capture(Mode::Extest);
-        let wanted = if extest_update {
-            (b'0', b'C')
-        } else {
-            (b'0', b'7')
-        };
-        assert_eq!(rt; digits(register.stage()), wanted);
-    }
+    assert_captured(&rt, rt.alloc(), false, (b'0', b'7'))?;
+    assert_captured(&rt, rt.alloc(), true, (b'0', b'C'))
+}
+
+/// Asserts what EXTEST captures, by the core or by the update stage, where the input's port was seen at 1.
+fn assert_captured(
+    rt: &impl Abort,
+    alloc: Global,
+    extest_update: bool,
+    wanted: (u8, u8),
+) -> Result<(), Fail> {
+    let mut register = register(rt, alloc, extest_update)?;
+    assert!(rt; register.len() > 2);
+    register.see(2, true);
+    register.capture(Mode::Core);
+    assert_eq!(rt; digits(register.stage()), (b'0', b'7'));
+    register.capture(Mode::Extest);
+    assert_eq!(rt; digits(register.stage()), wanted);
     Ok(())
 }

@@ -34,38 +34,63 @@ fn cell(function: Function, control: Option<Control3>) -> Cell {
     }
 }
 
-/// The device, with a TRST port or a user register where asked.
-fn device(alloc: Global, has_trst: bool, has_user: bool) -> Result<Device, Fail> {
+/// BYPASS 11, EXTEST 00, SAMPLE or LOAD 01, and IDCODE 10.
+fn opcodes(alloc: Global, has_user: bool) -> Result<Vec<Opcode>, AllocError> {
     let mut opcodes = Vec::with_capacity(alloc, 4)?;
     opcodes.push(opcode(alloc, "BYPASS", true, true)?)?;
     opcodes.push(opcode(alloc, "EXTEST", false, false)?)?;
     opcodes.push(opcode(alloc, if has_user { "LOAD" } else { "SAMPLE" }, true, false)?)?;
     opcodes.push(opcode(alloc, "IDCODE", false, true)?)?;
-    let mut cells = Vec::with_capacity(alloc, 3)?;
+    Ok(opcodes)
+}
+
+/// An output, its control and an input.
+fn cells(alloc: Global) -> Result<Vec<Cell>, AllocError> {
     let control = Control3 {
         cell: 1,
         disabling: false,
         leaves: Disabled::Z,
     };
+    let mut cells = Vec::with_capacity(alloc, 3)?;
     cells.push(cell(Function::Output3, Some(control)))?;
     cells.push(cell(Function::Control, None))?;
     cells.push(cell(Function::Input, None))?;
+    Ok(cells)
+}
+
+/// The row of LOAD, where there is a user register.
+fn accesses(alloc: Global, has_user: bool) -> Result<Vec<Access>, AllocError> {
     let mut accesses = Vec::new(alloc);
-    let mut users = Vec::new(alloc);
     if has_user {
         accesses.push(Access::new(name(alloc, "LOAD")?, Place::AtUser(0), None))?;
+    }
+    Ok(accesses)
+}
+
+/// The lengths of the user registers.
+fn users(alloc: Global, has_user: bool) -> Result<Vec<usize>, AllocError> {
+    let mut users = Vec::new(alloc);
+    if has_user {
         users.push(4)?;
     }
-    let Ok(idcode) = Bits::from_hex(alloc, b"01234567", 32) else {
-        return Err(Fail::from("no code"));
-    };
-    let Ok(capture) = Bits::from_hex(alloc, b"1", 2) else {
-        return Err(Fail::from("no capture"));
-    };
+    Ok(users)
+}
+
+fn bits(alloc: Global, digits: &[u8], len: usize) -> Result<Bits, Fail> {
+    Bits::from_hex(alloc, digits, len).map_err(|_| Fail::from("no value"))
+}
+
+/// The device, with a TRST port or a user register where asked.
+fn device(alloc: Global, has_trst: bool, has_user: bool) -> Result<Device, Fail> {
+    let users = users(alloc, has_user)?;
+    let cells = cells(alloc)?;
+    let capture = bits(alloc, b"1", 2)?;
+    let idcode = bits(alloc, b"01234567", 32)?;
+    let accesses = accesses(alloc, has_user)?;
     Ok(Device::new(Parts {
+        opcodes: opcodes(alloc, has_user)?,
         ports: Ports::new(alloc),
         instruction_length: 2,
-        opcodes,
         capture,
         idcode: Some(idcode),
         usercode: None,

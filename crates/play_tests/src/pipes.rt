@@ -1,4 +1,5 @@
-use jt_player::{Board, Ending, Event, Joined, Player, Standing, accept};
+use crate::players::player_of;
+use jt_player::{Board, Ending, Event, Joined, Standing};
 use std::alloc::Global;
 use std::process::Abort;
 use std::test::Fail;
@@ -14,9 +15,8 @@ fn joined(
     board: Board,
     room: usize,
 ) -> Result<Joined, Fail> {
-    assert!(rt; room > 0);
-    let program = accept(alloc, text).ok().ok_or("refused")?;
-    let player = Player::new(alloc, program).ok().ok_or("no memory")?;
+    let player = player_of(alloc, text)?;
+    assert!(rt; room > 0 && player.is_fresh());
     Ok(
         Joined::new(alloc, player, board, room, room)
             .ok()

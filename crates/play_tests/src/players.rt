@@ -4,7 +4,7 @@ use std::process::Abort;
 use std::test::Fail;
 
 /// A fresh player of a text.
-fn player_of(alloc: Global, text: &[u8]) -> Result<Player, Fail> {
+pub(crate) fn player_of(alloc: Global, text: &[u8]) -> Result<Player, Fail> {
     let program = accept(alloc, text).ok().ok_or("refused")?;
     Ok(Player::new(alloc, program).ok().ok_or("no memory")?)
 }

@@ -1,13 +1,14 @@
-use jt_player::{Board, Code, Ending, Part, Player, SvfFault, accept, play_board};
+use crate::players::player_of;
+use jt_player::{Board, Code, Ending, Part, SvfFault, accept, play_board};
 use std::alloc::Global;
 use std::process::Abort;
 use std::test::Fail;
 
 /// How a text's program ends on a fresh board of bare devices.
 fn ending(rt: &impl Abort, alloc: Global, text: &[u8], devices: usize) -> Result<Ending, Fail> {
+    let player = player_of(alloc, text)?;
     let mut board = Board::bare(alloc, devices)?;
-    let program = accept(alloc, text).ok().ok_or("refused")?;
-    let player = Player::new(alloc, program).ok().ok_or("no memory")?;
+    assert!(rt; player.is_fresh());
     let ending = play_board(player, &mut board);
     assert!(rt; !board.snapshot().tck());
     Ok(ending)

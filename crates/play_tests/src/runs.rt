@@ -1,5 +1,6 @@
+use crate::players::player_of;
 use byte_ends::{Counted, Plain};
-use jt_player::{Board, Ending, Player, accept, play_board, run_check, run_play};
+use jt_player::{Board, Ending, play_board, run_check, run_play};
 use std::alloc::Global;
 use std::process::Abort;
 use std::test::Fail;
@@ -176,15 +177,12 @@ fn a_full_output(rt: HostRuntime) -> Result<(), Fail> {
 
 #[test]
 fn a_play_on_a_used_board(rt: HostRuntime) -> Result<(), Fail> {
+    let player = player_of(rt.alloc(), b"SIR 6 TDI (3F) TDO (15); STATE DRPAUSE;")?;
+    assert!(rt; player.is_fresh());
     let mut board = Board::bare(rt.alloc(), 3)?;
-    for byte in b"04260404151" {
+    for byte in b"04260404151".as_slice() {
         let _ = board.byte(*byte);
     }
-    let program = accept(rt.alloc(), b"SIR 6 TDI (3F) TDO (15); STATE DRPAUSE;")
-        .ok()
-        .ok_or("refused")?;
-    let player = Player::new(rt.alloc(), program).ok().ok_or("no memory")?;
-    assert!(rt; player.is_fresh());
     assert_eq!(rt; play_board(player, &mut board), Ending::Pass);
     assert!(rt; !board.snapshot().tck());
     Ok(())
