@@ -1,54 +1,29 @@
 //! A register of five cells: output3 on port 0, its control, input on port 1, a controlr cell, and output2 on port 2
 //! that the controlr cell disables by 1, with a pull to 1.
+use crate::descriptions::device;
 use boundary::{Boundary, Drive};
-use bsdl_device::{Cell, Control3, Device, Disabled, Function, Names, Parts, Ports};
 use jt_bits::Bits;
 use scan_registers::{Mode, Register, SharedDevice};
-use std::alloc::{AllocError, Global};
+use std::alloc::Global;
 use std::process::Abort;
 use std::test::Fail;
 
-fn cell(function: Function, port: Option<usize>, control: Option<(usize, bool, Disabled)>) -> Cell {
-    let control = match control {
-        Some((cell, disabling, leaves)) => Some(Control3 {
-            cell,
-            disabling,
-            leaves,
-        }),
-        None => None,
-    };
-    Cell {
-        function,
-        port,
-        control,
-    }
-}
-
-fn device(alloc: Global) -> Result<Device, AllocError> {
-    let mut cells = Vec::with_capacity(alloc, 5)?;
-    cells.push(cell(Function::Output3, Some(0), Some((1, false, Disabled::Z))))?;
-    cells.push(cell(Function::Control, None, None))?;
-    cells.push(cell(Function::Input, Some(1), None))?;
-    cells.push(cell(Function::ControlR, None, None))?;
-    cells.push(cell(Function::Output2, Some(2), Some((3, true, Disabled::Pull1))))?;
-    Ok(Device::new(Parts {
-        ports: Ports::new(alloc),
-        instruction_length: 2,
-        opcodes: Vec::new(alloc),
-        capture: Bits::zeros(alloc, 2)?,
-        idcode: None,
-        usercode: None,
-        cells,
-        private_names: Names::new(alloc),
-        accesses: Vec::new(alloc),
-        users: Vec::new(alloc),
-        has_trst: false,
-    }))
-}
+const FIVE_CELLS: &str = "entity C is
+  port (Q : out bit; D : in bit; E : out bit; TDI, TMS, TCK : in bit; TDO : out bit);
+  attribute TAP_SCAN_IN of TDI : signal is true; attribute TAP_SCAN_MODE of TMS : signal is true;
+  attribute TAP_SCAN_OUT of TDO : signal is true; attribute TAP_SCAN_CLOCK of TCK : signal is (1.0e6, BOTH);
+  attribute INSTRUCTION_LENGTH of C : entity is 2;
+  attribute INSTRUCTION_OPCODE of C : entity is \"BYPASS (11), EXTEST (00)\";
+  attribute INSTRUCTION_CAPTURE of C : entity is \"01\";
+  attribute BOUNDARY_LENGTH of C : entity is 5;
+  attribute BOUNDARY_REGISTER of C : entity is
+    \"0 (BC_1, Q, output3, X, 1, 0, Z), 1 (BC_1, *, control, 0), 2 (BC_1, D, input, X),\" &
+    \"3 (BC_1, *, controlr, 1), 4 (BC_1, E, output2, X, 3, 1, PULL1)\";
+end;";
 
 /// The register with core bits 1, 1, 0, 0, 0.
 fn register(rt: &impl Abort, alloc: Global, extest_update: bool) -> Result<Boundary, Fail> {
-    let shared = SharedDevice::new(alloc, device(alloc)?)?;
+    let shared = SharedDevice::new(alloc, device(alloc, FIVE_CELLS)?)?;
     let Ok(core) = Bits::from_hex(alloc, b"03", 5) else {
         return Err(Fail::from("no core"));
     };

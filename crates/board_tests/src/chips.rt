@@ -1,114 +1,30 @@
-//! One chip, edge by edge. The device has an identification code 01234567, three cells, and the instructions BYPASS 11,
-//! EXTEST 00, IDCODE 10 and SAMPLE or LOAD 01, of which LOAD selects a user register of four bits.
-use bsdl_device::{
-    Access, Cell, Control3, Device, Disabled, Function, Names, Opcode, Parts, Pattern, Place, Ports,
-};
-use jt_bits::Bits;
+//! One chip, edge by edge. The device K has an identification code 01234567, three cells, and the instructions BYPASS 11,
+//! EXTEST 00, IDCODE 10 and SAMPLE 01. KT has a TRST port too, and KU the instruction LOAD in place of SAMPLE, which
+//! selects a user register of four bits.
+use crate::descriptions::{K, device};
 use jt_tap::State;
 use scan_registers::{Chip, Plain, SharedDevice, is_formed};
-use std::alloc::{AllocError, Global};
+use std::alloc::Global;
 use std::process::Abort;
 use std::test::Fail;
 
-fn name(alloc: Global, text: &str) -> Result<String, AllocError> {
-    let mut name = String::new(alloc);
-    name.push_str(text)?;
-    Ok(name)
-}
+/// K as it stands, by a piece of its description and what stands in its place.
+const AS_IT_STANDS: (&str, &str) = ("entity", "entity");
+/// KT.
+const WITH_TRST: (&str, &str) = (
+    ");\n  use STD_1149_1_2001.all;",
+    "; TRST : in bit); use STD_1149_1_2001.all; attribute TAP_SCAN_RESET of TRST : signal is true;",
+);
+/// KU.
+const WITH_LOAD: (&str, &str) = (
+    "SAMPLE (01), IDCODE (10)\";",
+    "LOAD (01), IDCODE (10)\"; attribute REGISTER_ACCESS of K : entity is \"DATA[4] (LOAD)\";",
+);
 
-/// An instruction of one opcode, its lowest bit first.
-fn opcode(alloc: Global, text: &str, low: bool, high: bool) -> Result<Opcode, AllocError> {
-    let mut bits = Vec::with_capacity(alloc, 2)?;
-    bits.push(Some(low))?;
-    bits.push(Some(high))?;
-    let mut patterns = Vec::with_capacity(alloc, 1)?;
-    patterns.push(Pattern::new(bits))?;
-    Ok(Opcode::new(name(alloc, text)?, patterns))
-}
-
-fn cell(function: Function, control: Option<Control3>) -> Cell {
-    Cell {
-        function,
-        port: None,
-        control,
-    }
-}
-
-/// BYPASS 11, EXTEST 00, SAMPLE or LOAD 01, and IDCODE 10.
-fn opcodes(alloc: Global, has_user: bool) -> Result<Vec<Opcode>, AllocError> {
-    let mut opcodes = Vec::with_capacity(alloc, 4)?;
-    opcodes.push(opcode(alloc, "BYPASS", true, true)?)?;
-    opcodes.push(opcode(alloc, "EXTEST", false, false)?)?;
-    opcodes.push(opcode(alloc, if has_user { "LOAD" } else { "SAMPLE" }, true, false)?)?;
-    opcodes.push(opcode(alloc, "IDCODE", false, true)?)?;
-    Ok(opcodes)
-}
-
-/// An output, its control and an input.
-fn cells(alloc: Global) -> Result<Vec<Cell>, AllocError> {
-    let control = Control3 {
-        cell: 1,
-        disabling: false,
-        leaves: Disabled::Z,
-    };
-    let mut cells = Vec::with_capacity(alloc, 3)?;
-    cells.push(cell(Function::Output3, Some(control)))?;
-    cells.push(cell(Function::Control, None))?;
-    cells.push(cell(Function::Input, None))?;
-    Ok(cells)
-}
-
-/// The row of LOAD, where there is a user register.
-fn accesses(alloc: Global, has_user: bool) -> Result<Vec<Access>, AllocError> {
-    let mut accesses = Vec::new(alloc);
-    if has_user {
-        accesses.push(Access::new(name(alloc, "LOAD")?, Place::AtUser(0), None))?;
-    }
-    Ok(accesses)
-}
-
-/// The lengths of the user registers.
-fn users(alloc: Global, has_user: bool) -> Result<Vec<usize>, AllocError> {
-    let mut users = Vec::new(alloc);
-    if has_user {
-        users.push(4)?;
-    }
-    Ok(users)
-}
-
-fn bits(alloc: Global, digits: &[u8], len: usize) -> Result<Bits, Fail> {
-    Bits::from_hex(alloc, digits, len).map_err(|_| Fail::from("no value"))
-}
-
-/// The device, with a TRST port or a user register where asked.
-fn device(alloc: Global, has_trst: bool, has_user: bool) -> Result<Device, Fail> {
-    let users = users(alloc, has_user)?;
-    let cells = cells(alloc)?;
-    let capture = bits(alloc, b"1", 2)?;
-    let idcode = bits(alloc, b"01234567", 32)?;
-    let accesses = accesses(alloc, has_user)?;
-    Ok(Device::new(Parts {
-        opcodes: opcodes(alloc, has_user)?,
-        ports: Ports::new(alloc),
-        instruction_length: 2,
-        capture,
-        idcode: Some(idcode),
-        usercode: None,
-        cells,
-        private_names: Names::new(alloc),
-        accesses,
-        users,
-        has_trst,
-    }))
-}
-
-fn chip(
-    rt: &impl Abort,
-    alloc: Global,
-    has_trst: bool,
-    has_user: bool,
-) -> Result<Chip<Plain>, Fail> {
-    let device = device(alloc, has_trst, has_user)?;
+/// A chip of the device K with one piece of its description replaced.
+fn chip(rt: &impl Abort, alloc: Global, change: (&str, &str)) -> Result<Chip<Plain>, Fail> {
+    let text = K.replace(alloc, change.0, change.1)?;
+    let device = device(alloc, text.as_str())?;
     assert!(rt; is_formed(&device));
     assert!(rt; device.cells().len() == 3);
     let shared = SharedDevice::new(alloc, device)?;
@@ -152,7 +68,7 @@ fn assert_instruction(rt: &impl Abort, chip: &Chip<Plain>, wanted: &str) {
 
 #[test]
 fn the_code_is_shifted_out(rt: HostRuntime) -> Result<(), Fail> {
-    let mut chip = chip(&rt, rt.alloc(), false, false)?;
+    let mut chip = chip(&rt, rt.alloc(), AS_IT_STANDS)?;
     assert_instruction(&rt, &chip, "IDCODE");
     edges(&mut chip, &[false, true, false]);
     rise(&mut chip, false);
@@ -172,7 +88,7 @@ fn the_code_is_shifted_out(rt: HostRuntime) -> Result<(), Fail> {
 
 #[test]
 fn trst_holds_a_device_that_has_it(rt: HostRuntime) -> Result<(), Fail> {
-    let mut chip = chip(&rt, rt.alloc(), true, false)?;
+    let mut chip = chip(&rt, rt.alloc(), WITH_TRST)?;
     edges(&mut chip, &[false, true, false, false]);
     assert_tdo(&rt, &chip, State::DrShift, Some(true));
     chip.trst(true);
@@ -187,7 +103,7 @@ fn trst_holds_a_device_that_has_it(rt: HostRuntime) -> Result<(), Fail> {
 
 #[test]
 fn the_latch_changes_on_falling_edges(rt: HostRuntime) -> Result<(), Fail> {
-    let mut chip = chip(&rt, rt.alloc(), false, false)?;
+    let mut chip = chip(&rt, rt.alloc(), AS_IT_STANDS)?;
     edges(&mut chip, &[false, true, true, false, true, false]);
     assert_latch(&rt, &chip, State::IrPause, b'2', b'1');
     edges(&mut chip, &[true]);
@@ -207,7 +123,7 @@ fn the_latch_changes_on_falling_edges(rt: HostRuntime) -> Result<(), Fail> {
 
 #[test]
 fn a_user_register_keeps_what_it_is_given(rt: HostRuntime) -> Result<(), Fail> {
-    let mut chip = chip(&rt, rt.alloc(), false, true)?;
+    let mut chip = chip(&rt, rt.alloc(), WITH_LOAD)?;
     edges(&mut chip, &[false, true, true, false, true, true]);
     assert_instruction(&rt, &chip, "LOAD");
     edges(&mut chip, &[true, false, false, false, false, true, true]);

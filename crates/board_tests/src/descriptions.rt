@@ -6,7 +6,7 @@ use std::process::Abort;
 use std::test::Fail;
 
 /// A device of one output with its control and one input.
-const K: &str = "entity K is
+pub(crate) const K: &str = "entity K is
   generic (PHYSICAL_PIN_MAP : string := \"DIP\");
   port (TDI, TMS, TCK : in bit; TDO : out bit;
         Q : out bit; D : in bit);
@@ -29,7 +29,7 @@ const K: &str = "entity K is
 end K;";
 
 /// The bare device: the TAP alone, and one cell.
-const P: &str = "entity P is port (TDI, TMS, TCK : in bit; TDO : out bit);
+pub(crate) const P: &str = "entity P is port (TDI, TMS, TCK : in bit; TDO : out bit);
   attribute TAP_SCAN_IN of TDI : signal is true; attribute TAP_SCAN_MODE of TMS : signal is true;
   attribute TAP_SCAN_OUT of TDO : signal is true; attribute TAP_SCAN_CLOCK of TCK : signal is (1.0e6, BOTH);
   attribute INSTRUCTION_LENGTH of P : entity is 2;
@@ -38,6 +38,14 @@ const P: &str = "entity P is port (TDI, TMS, TCK : in bit; TDO : out bit);
   attribute BOUNDARY_LENGTH of P : entity is 1;
   attribute BOUNDARY_REGISTER of P : entity is \"0 (BC_1, *, internal, X)\";
 end;";
+
+/// The device that a text says.
+pub(crate) fn device(alloc: Global, text: &str) -> Result<Device, Fail> {
+    match read(alloc, text.as_bytes()) {
+        Ok(device) => Ok(device),
+        Err(_) => Err(Fail::from("no device")),
+    }
+}
 
 // ---- what is told of a text
 

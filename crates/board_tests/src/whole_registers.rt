@@ -1,43 +1,20 @@
 //! A scan of whole registers, through two bypass bits.
 ghost use Rattle.std.specs.Prelude.{◌≡◌};
 
-use bsdl_device::{Cell, Device, Function, Names, Parts, Ports};
+use crate::descriptions::{P, device};
 use jt_bits::{Bits, HexFault};
 use jt_tap::Column;
 use scan_registers::{Chip, Plain, SharedDevice, is_formed};
 use scan_vectors::{Part, Part3, join};
-use std::alloc::{AllocError, Global};
+use std::alloc::Global;
 use std::test::Fail;
 use whole_chain::{judge_chain, shift_chain};
 
-/// A device without a code, so that its reset instruction selects bypass.
-fn device(alloc: Global) -> Result<Device, AllocError> {
-    let mut cells = Vec::with_capacity(alloc, 1)?;
-    cells.push(Cell {
-        function: Function::Internal,
-        port: None,
-        control: None,
-    })?;
-    Ok(Device::new(Parts {
-        ports: Ports::new(alloc),
-        instruction_length: 2,
-        opcodes: Vec::new(alloc),
-        capture: Bits::zeros(alloc, 2)?,
-        idcode: None,
-        usercode: None,
-        cells,
-        private_names: Names::new(alloc),
-        accesses: Vec::new(alloc),
-        users: Vec::new(alloc),
-        has_trst: false,
-    }))
-}
-
-/// Two chips whose bypass bits are 0.
+/// Two chips whose bypass bits are 0, without a code, so that their reset instruction selects bypass.
 fn chain(alloc: Global) -> Result<Vec<Chip<Plain>>, Fail> {
     let mut chain = Vec::with_capacity(alloc, 2)?;
     for _ in 0..2u8 {
-        let device = device(alloc)?;
+        let device = device(alloc, P)?;
         if !is_formed(&device) {
             return Err(Fail::from("not formed"));
         }

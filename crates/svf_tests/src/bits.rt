@@ -62,27 +62,47 @@ impl Both {
 }
 
 fn assert_list(rt: &impl Abort, bits: &Bits, list: &[bool]) {
-    assert_eq!(rt; bits.len(), list.len());
-    let layout = bits.layout();
-    assert!(rt; bits.packed() == layout.words && bits.start() == layout.start);
-    assert_eq!(rt; layout.words.len(), list.len().div_ceil(64));
-    let room = layout.words.len().wrapping_mul(64);
+    assert_packed(rt, bits, list.len());
     for (i, wanted) in list.iter().enumerate() {
-        assert!(rt; i < bits.len() && room > 0);
-        assert_eq!(rt; bits.get(i), *wanted);
-        let place = layout.start.wrapping_add(i) % room;
-        let word = layout.words.get(place / 64).copied().unwrap_or(0);
-        assert_eq!(rt; word >> (place % 64) & 1 == 1, *wanted);
+        assert_bit(rt, bits, i, *wanted);
     }
     for (k, part) in list.chunks(64).enumerate() {
-        let mut wanted = 0;
-        for bit in part.iter().rev() {
-            wanted = wanted << 1 | u64::from(*bit);
-        }
-        assert_eq!(rt; bits.word(k), wanted);
+        assert_eq!(rt; bits.word(k), word_of(part));
     }
     assert_eq!(rt; bits.word(list.len().div_ceil(64)), 0);
     assert_eq!(rt; bits.word(usize::MAX), 0);
+}
+
+/// As few words as hold the length, by each reader of them.
+fn assert_packed(rt: &impl Abort, bits: &Bits, len: usize) {
+    let layout = bits.layout();
+    assert!(rt; bits.packed() == layout.words && bits.start() == layout.start);
+    assert_eq!(rt; layout.words.len(), len.div_ceil(64));
+    assert_eq!(rt; bits.len(), len);
+}
+
+/// Bit i of the list, and the bit that many after the start of the packed ones.
+fn assert_bit(rt: &impl Abort, bits: &Bits, i: usize, wanted: bool) {
+    assert!(rt; i < bits.len());
+    assert_eq!(rt; bits.get(i), wanted);
+    let layout = bits.layout();
+    assert_eq!(rt;
+        packed_bit(layout.words, layout.start.wrapping_add(i)),
+        wanted
+    );
+}
+
+fn packed_bit(words: &[u64], at: usize) -> bool {
+    let place = at % words.len().wrapping_mul(64).max(1);
+    let word = words.get(place / 64).copied().unwrap_or(0);
+    word >> (place % 64) & 1 == 1
+}
+
+/// The bits of a word, the lowest first.
+fn word_of(part: &[bool]) -> u64 {
+    part.iter()
+        .rev()
+        .fold(0, |word, bit| word << 1 | u64::from(*bit))
 }
 
 const LENGTHS: &[usize] = &[0, 1, 63, 64, 65, 128, 65536];

@@ -1,0 +1,150 @@
+"""Tries the wrong bodies of different functions of a crate in one check.
+
+A function is proved from its own body and from the contracts of those that it calls, so a wrong body is refused at its own function, whatever
+the bodies of others are. A check of the crate with a wrong body in each of several functions tells of each whether it is refused there, and
+not for a function that it calls. What such a check leaves open goes into the next: a second wrong body of the same function, and a
+function that calls one that is refused. What no such check tells, as an edit outside of bodies or one that is proved, goes to rt as it is.
+"""
+
+import os
+import re
+import shutil
+import tempfile
+import typing
+
+# What this takes of rt: its own way to try edits, to read and apply one, and to check a crate.
+NEEDED = ("must_fail_all", "read_edit", "checked", "unread", "rtlib")
+HEAD = re.compile(r"( *)(?:pub(?:\([a-z]+\))? )?(?:const )?fn (\w+)")
+# An impl block's type and then its trait, or a trait: so rattle names what stands in it.
+OWNER = re.compile(r"(?:pub )?(?:impl(?:<.*?>)? (?=(?:.* for )?(\w+))(?:(\w+)(?:<.*>)? for )?|trait (\w+))")
+# What rattle says of a function whose own goals are refused; one that is right, and calls such a one, has no proof since "it calls" it.
+REFUSED = re.compile(r"not proved|no proof: expected answers in \S+; `search` did not prove .*")
+# What it says of a stored answer where an edit took a name away: that alone says little of the contract.
+NAMES = re.compile(r"\./proofs/\S+ error: (`[^`]*`: )*((record|module) `|.*(has no field|is not in scope|has no `|was not admitted))")
+
+
+class Function(typing.NamedTuple):
+    """A function by the file and the lines of its body, its modules, and its name with that of its type before it."""
+
+    file: str
+    lines: range
+    modules: tuple
+    own: tuple
+
+    def path(self):
+        """How the function's name ends in a report, where a method stands in the module of its type."""
+        return "::".join(self.own if len(self.own) > 1 else [*self.modules, *self.own])
+
+    def is_in(self, line):
+        """Whether a line of a report is on this function, or on a closure in it."""
+        modules = r"(?:\w+::)*" if len(self.own) > 1 else "".join(f"{it}::" for it in self.modules)
+        own = "::".join(self.own)
+        return re.match(rf"fn \w+::{modules}(?:{own}|fn::{own}::\S*): ", line)
+
+    def says(self, line):
+        """Whether a line of a report is on a goal of this function, by its place in the file or in what stands written of its proof."""
+        path = self.path().replace("::", "/")
+        found = re.match(rf"note: {re.escape(self.file)}:(\d+):|\./proofs/(?:\S*/)?{path}/\S+ error: ", line)
+        return found and (not found[1] or int(found[1]) - 1 in self.lines)
+
+
+def function_at(file, lines, at):
+    """The function of a file whose body holds a line."""
+    for top in range(at, -1, -1):
+        head = HEAD.match(lines[top])
+        end = next((it for it in range(top, len(lines)) if lines[it] == head[1] + "}"), top) if head else top
+        if end <= at:
+            continue
+        opens = next((it for it in range(top, end) if lines[it] == head[1] + "{" or it == top and lines[it].endswith(" {")), end)
+        above = next((OWNER.match(lines[it]) for it in range(top, -1, -1) if head[1] and re.match(r"\S", lines[it]) and OWNER.match(lines[it])), None)
+        modules = [it for it in file[len("src/") : -len(".rt")].split("/") if it not in ("lib", "main", "mod")]
+        owner = ["".join(it or "" for it in above.groups())] if above else []
+        return Function(file, range(top, end), (*modules,), (*owner, head[2])) if opens < at else None
+    return None
+
+
+def function_of(rt, crate, edit):
+    """The one function whose body an edit changes, if it changes no more."""
+    texts, why = rt.read_edit(edit, crate.folder)
+    found = set()
+    for file, text in (texts or {}).items():
+        with open(f"{crate.folder}/{file}", encoding="utf-8") as it:
+            old, new = it.read().split("\n"), text.split("\n")
+        changed = [it for it, (one, other) in enumerate(zip(old, new)) if one != other]
+        is_body = file.startswith("src/") and len(old) == len(new)
+        found |= {function_at(file, old, it) for it in changed} if is_body else {None}
+    return found.pop() if len(found) == 1 else None
+
+
+def joined(rt, crate, edits, room):
+    """The texts of the crate under all of the edits that still can be applied, and which these are."""
+    for part in rt.rtlib.PARTS:
+        if os.path.isdir(f"{crate.folder}/{part}"):
+            shutil.copytree(f"{crate.folder}/{part}", f"{room}/{part}")
+    all_texts, applied = {}, []
+    for edit in edits:
+        texts, why = rt.read_edit(edit, room)
+        if why:
+            continue
+        applied.append(edit)
+        all_texts.update(texts)
+        for file, text in texts.items():
+            with open(f"{room}/{file}", "w", encoding="utf-8") as it:
+                it.write(text)
+    return all_texts, applied
+
+
+def said_of(function, lines):
+    """What rattle says of a function that is refused by its own goals, and whether it may be so once those that it calls are proved."""
+    ends = [it.split(": ", 1)[1] for it in lines if function.is_in(it)]
+    waits = any("it calls" in it for it in ends)
+    refused = next((it for it in ends if REFUSED.fullmatch(it) and "it calls" not in it), None)
+    if not refused and not any(it.startswith("not proved") for it in ends):
+        return None, waits
+    own = [it for it in lines if function.says(it)]
+    goal = next((it for it in own if not NAMES.match(it)), None)
+    if own and not goal:
+        return f"(only where a proof file names what the edit took away, so this says little of the contract) {own[0]}", False
+    return goal or refused, waits and not goal
+
+
+def refused_together(rt, crate, functions, flags, kept):
+    """Checks the crate with a wrong body in each of these functions. Returns what is said of each that is refused at its own function, and
+    which may be so in a later check."""
+    with tempfile.TemporaryDirectory(prefix="rt-edits-") as room:
+        texts, applied = joined(rt, crate, functions, room)
+    only = [word for it in applied for word in ("--only", functions[it].path())]
+    ran = rt.checked(crate, texts, [*flags, *only], kept)
+    if ran.returncode == 2:  # a path that names no function
+        ran = rt.checked(crate, texts, flags, kept)
+    lines = ran.stdout.split("\n")
+    if ran.returncode != 1 or rt.rtlib.STALE.search(ran.stdout) or any(rt.unread(it, texts) for it in lines):
+        return {}, set()
+    said = {it: said_of(functions[it], lines) for it in applied}
+    refused = {it: text for it, (text, _) in said.items() if text}
+    return refused, {it for it in functions if it not in said or said[it][1]}
+
+
+def try_together(rt):
+    """Has rt try the wrong bodies of different functions in one check."""
+    one_by_one = rt.must_fail_all
+
+    def must_fail_all(crate, edits, flags):
+        told = {}
+        functions = {it: function_of(rt, crate, it) for it in edits}
+        left = {it: function for it, function in functions.items() if function}
+        with tempfile.TemporaryDirectory(prefix="rt-edits-") as kept:
+            while left:
+                first = {}
+                for edit, function in left.items():
+                    first.setdefault(function.path(), edit)
+                refused, later = refused_together(rt, crate, {it: left[it] for it in first.values()}, flags, kept)
+                for edit, text in refused.items():
+                    told[edit] = True, f"must-fail {crate.name}/{os.path.basename(edit)}: refused, as it must be: {text[:160]}"
+                tried = {it for it in first.values() if not refused or it not in later}
+                left = {it: function for it, function in left.items() if it not in tried}
+        alone = [it for it in edits if it not in told]
+        told.update(zip(alone, one_by_one(crate, alone, flags)))
+        return [told[it] for it in edits]
+
+    rt.must_fail_all = must_fail_all
