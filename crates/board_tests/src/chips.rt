@@ -2,6 +2,7 @@
 //! EXTEST 00, IDCODE 10 and SAMPLE 01. KT has a TRST port too, and KU the instruction LOAD in place of SAMPLE, which
 //! selects a user register of four bits.
 use crate::descriptions::{K, device};
+use bsdl_device::Device;
 use jt_tap::State;
 use scan_registers::{Chip, Plain, SharedDevice, is_formed};
 use std::alloc::Global;
@@ -21,14 +22,17 @@ const WITH_LOAD: (&str, &str) = (
     "LOAD (01), IDCODE (10)\"; attribute REGISTER_ACCESS of K : entity is \"DATA[4] (LOAD)\";",
 );
 
-/// A chip of the device K with one piece of its description replaced.
+/// The device K with one piece of its description replaced.
+fn changed(alloc: Global, change: (&str, &str)) -> Result<Device, Fail> {
+    device(alloc, K.replace(alloc, change.0, change.1)?.as_str())
+}
+
+/// A chip of that device.
 fn chip(rt: &impl Abort, alloc: Global, change: (&str, &str)) -> Result<Chip<Plain>, Fail> {
-    let text = K.replace(alloc, change.0, change.1)?;
-    let device = device(alloc, text.as_str())?;
-    assert!(rt; is_formed(&device));
-    assert!(rt; device.cells().len() == 3);
-    let shared = SharedDevice::new(alloc, device)?;
-    Ok(Chip::new(alloc, &shared, Plain::new(alloc, 3)?)?)
+    let boundary = Plain::new(alloc, 3)?;
+    let shared = SharedDevice::new(alloc, changed(alloc, change)?)?;
+    assert!(rt; is_formed(shared.get()) && shared.get().cells().len() == 3);
+    Ok(Chip::new(alloc, &shared, boundary)?)
 }
 
 /// A rising edge with this TMS and TDI 1.

@@ -10,17 +10,20 @@ use std::alloc::Global;
 use std::test::Fail;
 use whole_chain::{judge_chain, shift_chain};
 
-/// Two chips whose bypass bits are 0, without a code, so that their reset instruction selects bypass.
+/// A chip whose bypass bit is 0, without a code, so that its reset instruction selects bypass.
+fn chip(alloc: Global) -> Result<Chip<Plain>, Fail> {
+    let boundary = Plain::new(alloc, 1)?;
+    let shared = SharedDevice::new(alloc, device(alloc, P)?)?;
+    if !is_formed(shared.get()) || shared.get().cells().len() != 1 {
+        return Err(Fail::from("not formed"));
+    }
+    Ok(Chip::new(alloc, &shared, boundary)?)
+}
+
 fn chain(alloc: Global) -> Result<Vec<Chip<Plain>>, Fail> {
     let mut chain = Vec::with_capacity(alloc, 2)?;
     for _ in 0..2u8 {
-        let device = device(alloc, P)?;
-        if !is_formed(&device) {
-            return Err(Fail::from("not formed"));
-        }
-        let shared = SharedDevice::new(alloc, device)?;
-        let boundary = Plain::new(alloc, shared.get().cells().len())?;
-        chain.push(Chip::new(alloc, &shared, boundary)?)?;
+        chain.push(chip(alloc)?)?;
     }
     Ok(chain)
 }
@@ -44,7 +47,6 @@ fn of<'a>(tdi: &'a Bits, tdo: &'a Bits) -> Part3<'a>
 #[test]
 fn a_scan_of_three_bits_through_two_bypass_bits(rt: HostRuntime) -> Result<(), Fail> {
     let alloc = rt.alloc();
-    let mut chain = chain(alloc)?;
     let nothing = Part3 {
         len: 0,
         tdi: None,
@@ -55,6 +57,7 @@ fn a_scan_of_three_bits_through_two_bypass_bits(rt: HostRuntime) -> Result<(), F
     let tdi = field(alloc, b"3")?;
     let right = field(alloc, b"4")?;
     let wrong = field(alloc, b"6")?;
+    let mut chain = chain(alloc)?;
     let vector = join(nothing, of(&tdi, &right), nothing);
     assert_eq!(rt; judge_chain(&chain, Column::Dr, &vector), None);
     assert_eq!(rt;
