@@ -48,18 +48,27 @@ class Function(typing.NamedTuple):
         return found and (not found[1] or int(found[1]) - 1 in self.lines)
 
 
+def line_from(lines, top, text):
+    """The first line from one on that is this text, or one past the last."""
+    return next((it for it in range(top, len(lines)) if lines[it] == text), len(lines))
+
+
+def owner_of(lines, top):
+    """What rattle names a method after: the type of the impl block that it stands in, with the trait, or its trait."""
+    block = next(it for it in map(OWNER.match, reversed(lines[:top])) if it)
+    return "".join(it or "" for it in block.groups())
+
+
 def function_at(file, lines, at):
     """The function of a file whose body holds a line."""
+    modules = tuple(it for it in file[len("src/") : -len(".rt")].split("/") if it not in ("lib", "main", "mod"))
     for top in range(at, -1, -1):
         head = HEAD.match(lines[top])
-        end = next((it for it in range(top, len(lines)) if lines[it] == head[1] + "}"), top) if head else top
-        if end <= at:
-            continue
-        opens = next((it for it in range(top, end) if lines[it] == head[1] + "{" or it == top and lines[it].endswith(" {")), end)
-        above = next((OWNER.match(lines[it]) for it in range(top, -1, -1) if head[1] and re.match(r"\S", lines[it]) and OWNER.match(lines[it])), None)
-        modules = [it for it in file[len("src/") : -len(".rt")].split("/") if it not in ("lib", "main", "mod")]
-        owner = ["".join(it or "" for it in above.groups())] if above else []
-        return Function(file, range(top, end), (*modules,), (*owner, head[2])) if opens < at else None
+        end = line_from(lines, top, head[1] + "}") if head else 0
+        if at < end:
+            opens = top if lines[top].endswith(" {") else line_from(lines, top, head[1] + "{")
+            own = (owner_of(lines, top), head[2]) if head[1] else (head[2],)
+            return Function(file, range(top, end), modules, own) if opens < at else None
     return None
 
 

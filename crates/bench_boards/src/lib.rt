@@ -37,22 +37,25 @@ const SHIFTS: usize = 100_000;
 const UPDATES: usize = 10_000;
 
 /// How many devices a ring has, and the names of its rows.
-const RINGS: [(usize, &str, &str); 3] = [
+const RINGS: &[(usize, &str, &str)] = &[
     (1, "shift_1", "update_1"),
     (8, "shift_8", "update_8"),
     (32, "shift_32", "update_32"),
 ];
 
 pub fn rows(rt: &HostRuntime) -> io::Result<()> {
-    let alloc = rt.alloc();
     for (devices, shift, update) in RINGS {
-        let Some(mut board) = ring(alloc, devices)? else {
-            return rt.println("bench: a ring is refused");
-        };
-        print_row(rt, shift, Unit::Byte, || Ok(shifted(&mut board)))?;
-        print_row(rt, update, Unit::Byte, || Ok(updated(&mut board)))?;
+        rows_of_ring(rt, *devices, shift, update)?;
     }
     Ok(())
+}
+
+fn rows_of_ring(rt: &HostRuntime, devices: usize, shift: &str, update: &str) -> io::Result<()> {
+    let Some(mut board) = ring(rt.alloc(), devices)? else {
+        return rt.println("bench: a ring is refused");
+    };
+    print_row(rt, shift, Unit::Byte, || Ok(shifted(&mut board)))?;
+    print_row(rt, update, Unit::Byte, || Ok(updated(&mut board)))
 }
 
 /// So many devices in a ring, the outputs of each on the inputs of the next.

@@ -1,4 +1,5 @@
 //! Device descriptions of 4 MiB, and the devices that they say.
+use crate::programs::milliseconds;
 use bench_rows::{Row, Unit, print_row};
 use bsdl_device::Device;
 use std::alloc::{AllocError, Global};
@@ -133,7 +134,7 @@ pub fn tell_device(rt: &HostRuntime) -> io::Result<()> {
         .read_to_end(&mut text)?;
     let start = Instant::now(rt)?;
     let found = bsdl::read(rt.alloc(), &text);
-    let time = start.elapsed(rt)?.as_millis();
+    let time = milliseconds(rt, &start);
     match found {
         Ok(device) => {
             let (ports, cells) = (device.port_count(), device.cells().len());

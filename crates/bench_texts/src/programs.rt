@@ -2,7 +2,7 @@
 use std::alloc::Global;
 use std::io::{self, Read};
 use std::time::Instant;
-use svf_parse::parse;
+use svf_parse::{Statement, parse};
 use svf_settings::resolve;
 
 /// A text has at most 16 MiB.
@@ -15,13 +15,22 @@ fn text(rt: &HostRuntime) -> io::Result<Vec<u8, Global>> {
     Ok(text)
 }
 
+/// The milliseconds since then, 0 where the clock cannot be read: what was made meanwhile is not dropped for it.
+pub(crate) fn milliseconds(rt: &HostRuntime, start: &Instant) -> u128 {
+    match start.elapsed(rt) {
+        Ok(time) => time.as_millis(),
+        Err(_) => 0,
+    }
+}
+
 /// Reads a text from standard input, and tells how many statements it has, and the milliseconds that `parse` took.
 pub fn tell_statements(rt: &HostRuntime) -> io::Result<()> {
     let text = text(rt)?;
     let start = Instant::now(rt)?;
-    match parse(rt.alloc(), &text) {
+    let found = parse(rt.alloc(), &text);
+    let parsed = milliseconds(rt, &start);
+    match found {
         Ok(statements) => {
-            let parsed = start.elapsed(rt)?.as_millis();
             let count = statements.len();
             rt.println(format_args!("{count} statements parse {parsed} ms"))
         }
@@ -34,19 +43,31 @@ pub fn tell_statements(rt: &HostRuntime) -> io::Result<()> {
 pub fn tell_program(rt: &HostRuntime) -> io::Result<()> {
     let text = text(rt)?;
     let start = Instant::now(rt)?;
-    let statements = match parse(rt.alloc(), &text) {
-        Ok(statements) => statements,
-        Err(fault) => return rt.println(fault),
-    };
-    let parsed = start.elapsed(rt)?.as_millis();
-    let start = Instant::now(rt)?;
-    let program = match resolve(rt.alloc(), statements) {
-        Ok(program) => program,
-        Err(fault) => return rt.println(fault),
-    };
-    let resolved = start.elapsed(rt)?.as_millis();
-    let (statements, steps) = (program.statements(), program.len());
-    rt.println(format_args!(
-        "{statements} statements {steps} steps parse {parsed} ms resolve {resolved} ms"
-    ))
+    match parse(rt.alloc(), &text) {
+        Ok(statements) => {
+            let parsed = milliseconds(rt, &start);
+            tell_resolved(rt, statements, &start, parsed)
+        }
+        Err(fault) => rt.println(fault),
+    }
+}
+
+/// Tells what statements come to, and the milliseconds that they took, and since then.
+fn tell_resolved(
+    rt: &HostRuntime,
+    statements: Vec<Statement, Global>,
+    start: &Instant,
+    parsed: u128,
+) -> io::Result<()> {
+    let found = resolve(rt.alloc(), statements);
+    let resolved = milliseconds(rt, start).saturating_sub(parsed);
+    match found {
+        Ok(program) => {
+            let (statements, steps) = (program.statements(), program.len());
+            rt.println(format_args!(
+                "{statements} statements {steps} steps parse {parsed} ms resolve {resolved} ms"
+            ))
+        }
+        Err(fault) => rt.println(fault),
+    }
 }

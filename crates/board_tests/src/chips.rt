@@ -1,6 +1,6 @@
-//! One chip, edge by edge. The device K has an identification code 01234567, three cells, and the instructions BYPASS 11,
-//! EXTEST 00, IDCODE 10 and SAMPLE 01. KT has a TRST port too, and KU the instruction LOAD in place of SAMPLE, which
-//! selects a user register of four bits.
+//! One chip, edge by edge. The device K has an identification code 01234567, three cells, and the instructions BYPASS
+//! 11, EXTEST 00, IDCODE 10 and SAMPLE 01. KT has a TRST port too, and KU the instruction LOAD in place of SAMPLE,
+//! which selects a user register of four bits.
 use crate::descriptions::{K, device};
 use bsdl_device::Device;
 use jt_tap::State;
