@@ -35,16 +35,20 @@ class Function(typing.NamedTuple):
         """How the function's name ends in a report, where a method stands in the module of its type."""
         return "::".join(self.own if len(self.own) > 1 else [*self.modules, *self.own])
 
+    def pattern(self, mark):
+        """The same as a pattern, with this mark between its words. A type may go on by what an impl block is for alone."""
+        words = self.path().split("::")
+        return rf"{words[0]}(?:\+[\w+]+)?{mark}{words[1]}" if len(self.own) > 1 else mark.join(words)
+
     def is_in(self, line):
         """Whether a line of a report is on this function, or on a closure in it."""
         modules = r"(?:\w+::)*" if len(self.own) > 1 else "".join(f"{it}::" for it in self.modules)
-        own = "::".join(self.own)
+        own = self.pattern("::") if len(self.own) > 1 else self.own[0]
         return re.match(rf"fn \w+::{modules}(?:{own}|fn::{own}::\S*): ", line)
 
     def says(self, line):
         """Whether a line of a report is on a goal of this function, by its place in the file or in what stands written of its proof."""
-        path = self.path().replace("::", "/")
-        found = re.match(rf"note: {re.escape(self.file)}:(\d+):|\./proofs/(?:\S*/)?{path}/\S+ error: ", line)
+        found = re.match(rf"note: {re.escape(self.file)}:(\d+):|\./proofs/(?:\S*/)?{self.pattern('/')}/\S+ error: ", line)
         return found and (not found[1] or int(found[1]) - 1 in self.lines)
 
 
