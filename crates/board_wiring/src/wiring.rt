@@ -1,7 +1,7 @@
 //! The nets of a board, with what was last put to them.
 
 ghost use Rattle.std.specs.Prelude.{◌≡◌, ◌<◌, ◌∷◌, map, length, slice_get, slice_set, option_map, replicate, Some};
-ghost use Rattle.std.specs.Prelude.{IfOk, true};
+ghost use Rattle.std.specs.Prelude.{IfOk, ◌≢◌, true, false};
 ghost use Rattle.pin_nets.specs.declared.Drive.{Drive as TheDrive};
 ghost use Rattle.pin_nets.specs.declared.Drive.TheVariants as driving;
 ghost use Rattle.pin_nets.specs.declared.Pin.{Pin as ThePin};
@@ -113,7 +113,8 @@ impl Wiring {
 
 /// Whether two pins drive the same.
 fn is_same(one: Drive, other: Drive) -> bool
-    ensures { result ≡ true → one ≡ other }
+    ensures same { result ≡ true → one ≡ other }
+    ensures differ { result ≡ false → one ≢ other }
 {
     one == other
 }
