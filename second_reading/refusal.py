@@ -1,0 +1,15 @@
+"""The one way in which the readings refuse an input."""
+
+from __future__ import annotations
+
+
+class Refusal(Exception):
+    """A refused input.
+
+    `str()` is the line that the program prints.  `value` is what the refusal names besides: a place, a name,
+    a key, a pin or a cell's number, which the program does not print.
+    """
+
+    def __init__(self, line: str, value=None):
+        super().__init__(line)
+        self.value = value
