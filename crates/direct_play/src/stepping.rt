@@ -11,6 +11,7 @@ ghost use Rattle.board_meaning.specs.Chain.{after_bytes, hear};
 ghost use Rattle.board_meaning.specs.Resting.{IsAtRest};
 ghost use Rattle.board_meaning.specs.Whole as whole;
 ghost use Rattle.board_meaning.specs.Whole.{AtRest};
+ghost use Rattle.jt_board.specs.Resting.{IsResting};
 ghost use Rattle.plays.specs.Meaning as meaning;
 
 use jt_board::Board;
@@ -39,9 +40,10 @@ fn take_all(board: &mut Board, bytes: &[u8])
     }
 }
 
-/// Plays a step on a board at rest. Answers the first wanted bit that came out otherwise, by its part and its place
-/// there.
+/// Plays a step on a board at rest (asked). Answers the first wanted bit that came out otherwise, by its part and its
+/// place there.
 pub(crate) fn play_step(step: &Step<'_>, board: &mut Board) -> Option<(Part, usize)>
+    requires { IsResting board.old }
     ensures board { (m : AtRest) → IsAtRest board.old m
         → IsAtRest board.new (meaning.after_step (seen.step step.now.what) m) }
     ensures judged { (m : AtRest) → IsAtRest board.old m → result ≡ meaning.failure (seen.step step.now.what) m }
@@ -63,9 +65,10 @@ pub(crate) fn play_step(step: &Step<'_>, board: &mut Board) -> Option<(Part, usi
     None
 }
 
-/// Scans a whole vector, from rest to rest: what is pending is made, the registers capture, what comes out is judged,
-/// and the registers take what stays in.
+/// Scans a whole vector, from rest (asked) to rest: what is pending is made, the registers capture, what comes out is
+/// judged, and the registers take what stays in.
 fn scan(column: Column, vector: &Vector, end: State, board: &mut Board) -> Option<(Part, usize)>
+    requires { IsResting board.old }
     ensures board { (m : AtRest) → IsAtRest board.old m
         → IsAtRest board.new (meaning.scan_end column end
         (whole.shift column (tdis (bits vector.now)) (whole.capture column (whole.settle m)))) }
@@ -83,6 +86,7 @@ fn scan(column: Column, vector: &Vector, end: State, board: &mut Board) -> Optio
 
 /// A scan ends: one that ends in its own pause rests there with the update pending.
 fn end_scan(column: Column, end: State, board: &mut Board)
+    requires { IsResting board.old }
     ensures { (m : AtRest) → IsAtRest board.old m → IsAtRest board.new (meaning.scan_end column end m) }
 {
     if is_at(end, pause(column)) {
@@ -95,6 +99,7 @@ fn end_scan(column: Column, end: State, board: &mut Board)
 
 /// Goes to a stable state by the default path.
 fn move_to(state: State, board: &mut Board)
+    requires { IsResting board.old }
     ensures { (m : AtRest) → IsAtRest board.old m → IsAtRest board.new (meaning.move_to state m) }
 {
     board.settle();
@@ -103,6 +108,7 @@ fn move_to(state: State, board: &mut Board)
 
 /// Goes to a stable state, unless the board rests there.
 fn move_unless_there(state: State, board: &mut Board)
+    requires { IsResting board.old }
     ensures { (m : AtRest) → IsAtRest board.old m → IsAtRest board.new (meaning.move_unless_there state m) }
 {
     if is_at(board.place(), state) {
@@ -113,6 +119,7 @@ fn move_unless_there(state: State, board: &mut Board)
 
 /// Drives the line TRST.
 fn set_trst(word: TrstWord, board: &mut Board)
+    requires { IsResting board.old }
     ensures { (m : AtRest) → IsAtRest board.old m → IsAtRest board.new (meaning.after_step (steps.Trst word) m) }
 {
     match word {

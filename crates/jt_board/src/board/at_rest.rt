@@ -7,22 +7,24 @@ ghost use Rattle.board_meaning.specs.Whole as whole;
 ghost use Rattle.board_meaning.specs.Whole.{AtRest};
 ghost use Rattle.scan_vectors.specs.Held.{bits, fields};
 ghost use Rattle.scan_vectors.specs.Vector.{judge, tdis};
+ghost use Rattle.jt_board.specs.Resting.{IsResting};
 
 use super::Board;
 use jt_tap::{Column, State, Work};
 use scan_vectors::{Part, Part3, Vector, join};
 
 impl Board {
-    /// The state in which the controllers of a board at rest stand. Of a board that is not at rest nothing is said.
+    /// The state in which the controllers of a board at rest (asked) stand.
     pub fn place(&self) -> State
+        requires { IsResting self.now }
         ensures { (m : AtRest) → IsAtRest self.now m → result ≡ m.place }
     {
         self.chain.seat(0).state()
     }
 
-    /// Of a board at rest in a pause the update that is pending is made. Of a board that is not at rest nothing is
-    /// said.
+    /// Of a board at rest (asked) in a pause the update that is pending is made.
     pub fn settle(&mut self)
+        requires { IsResting self.old }
         ensures { (m : AtRest) → IsAtRest self.old m → IsAtRest self.new (whole.settle m) }
     {
         match self.place() {
@@ -32,59 +34,60 @@ impl Board {
         }
     }
 
-    /// Of a board at rest the column's register of every device captures, each from the levels before. Of a board that
-    /// is not at rest nothing is said.
+    /// Of a board at rest (asked) the column's register of every device captures, each from the levels before.
     pub fn capture(&mut self, column: Column)
+        requires { IsResting self.old }
         ensures { (m : AtRest) → IsAtRest self.old m → IsAtRest self.new (whole.capture column m) }
     {
         self.chain.capture(column);
     }
 
     /// The least bit of a vector whose wanted value differs from what comes out of the column's registers of a board
-    /// at rest when the vector is shifted in, by its part and its place there. Of a board that is not at rest nothing
-    /// is said.
+    /// at rest (asked) when the vector is shifted in, by its part and its place there.
     pub fn judge(&self, column: Column, vector: &Vector) -> Option<(Part, usize)>
+        requires { IsResting self.now }
         ensures { (m : AtRest) → IsAtRest self.now m
             → result ≡ judge (bits vector.now) (whole.out column (tdis (bits vector.now)) m) }
     {
         self.chain.judge(column, vector)
     }
 
-    /// A whole vector is shifted through the column's registers of a board at rest. Of a board that is not at rest
-    /// nothing is said.
+    /// A whole vector is shifted through the column's registers of a board at rest (asked).
     pub fn shift(&mut self, column: Column, vector: &Vector)
+        requires { IsResting self.old }
         ensures { (m : AtRest) → IsAtRest self.old m
             → IsAtRest self.new (whole.shift column (tdis (bits vector.now)) m) }
     {
         self.chain.shift(column, vector);
     }
 
-    /// Of a board at rest the column's register of every device updates. Of a board that is not at rest nothing is
-    /// said.
+    /// Of a board at rest (asked) the column's register of every device updates.
     pub fn update(&mut self, column: Column)
+        requires { IsResting self.old }
         ensures { (m : AtRest) → IsAtRest self.old m → IsAtRest self.new (whole.update column m) }
     {
         self.chain.update(column);
     }
 
-    /// Every device of a board at rest is reset, as in RESET. Of a board that is not at rest nothing is said.
+    /// Every device of a board at rest (asked) is reset, as in RESET.
     pub fn reset(&mut self)
+        requires { IsResting self.old }
         ensures { (m : AtRest) → IsAtRest self.old m → IsAtRest self.new (whole.reset_all m) }
     {
         self.chain.reset();
     }
 
-    /// A board at rest stands in this state, and has done nothing there yet. Of a board that is not at rest nothing is
-    /// said.
+    /// A board at rest (asked) stands in this state, and has done nothing there yet.
     pub fn stand(&mut self, state: State)
+        requires { IsResting self.old }
         ensures { (m : AtRest) → IsAtRest self.old m → IsAtRest self.new (record m { place = state }) }
     {
         self.chain.stand(state);
     }
 
-    /// A board at rest arrives in a stable state: it is reset in RESET, and captures in a pause. Of a board that is
-    /// not at rest nothing is said.
+    /// A board at rest (asked) arrives in a stable state: it is reset in RESET, and captures in a pause.
     pub fn arrive(&mut self, state: State)
+        requires { IsResting self.old }
         ensures { (m : AtRest) → IsAtRest self.old m → IsAtRest self.new (whole.arrive state m) }
     {
         match state {
@@ -96,25 +99,28 @@ impl Board {
         self.stand(state);
     }
 
-    /// TRST is asserted on a board at rest: a device without the port settles, and every device is reset and stands in
-    /// RESET. Of a board that is not at rest nothing is said.
+    /// TRST is asserted on a board at rest (asked): a device without the port settles, and every device is reset and
+    /// stands in RESET.
     pub fn assert_trst(&mut self)
+        requires { IsResting self.old }
         ensures { (m : AtRest) → IsAtRest self.old m → IsAtRest self.new (whole.trst_asserted m) }
     {
         let place = self.place();
         self.chain.assert_trst(place);
     }
 
-    /// TRST is released on a board at rest. Of a board that is not at rest nothing is said.
+    /// TRST is released on a board at rest (asked).
     pub fn release_trst(&mut self)
+        requires { IsResting self.old }
         ensures { (m : AtRest) → IsAtRest self.old m → IsAtRest self.new (record m { trst = false }) }
     {
         self.chain.tell_trst(false);
     }
 
-    /// A board at rest goes along a path, and does in each of its states what the state does; what it shifts in is 0.
-    /// Of a board that is not at rest nothing is said.
+    /// A board at rest (asked) goes along a path, and does in each of its states what the state does; what it shifts in
+    /// is 0.
     pub fn along(&mut self, path: &[State])
+        requires { IsResting self.old }
         ensures { (m : AtRest) → IsAtRest self.old m → IsAtRest self.new (whole.along path.now m) }
     {
         for state in path {
@@ -123,8 +129,9 @@ impl Board {
         }
     }
 
-    /// A board at rest does what the devices do in a state; what it shifts in is 0.
+    /// A board at rest (asked) does what the devices do in a state; what it shifts in is 0.
     fn work(&mut self, work: Work)
+        requires { IsResting self.old }
         ensures { (m : AtRest) → IsAtRest self.old m → IsAtRest self.new (whole.pass work m) }
     {
         match work {
