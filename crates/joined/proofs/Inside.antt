@@ -1,5 +1,5 @@
 -- What the laws of every schedule say of the player that knows all answers, said of the one that keeps none.
-use Rattle.std.proofs.Common.{◌≡◌, Bool, true, ℕ, ◌+◌, ◌-◌, List, [], ◌∷◌, ◌++◌, map, length, take, drop, refl, sym, ap, ◌∙◌, subst, arith, length-append, Some, None}
+use Rattle.std.proofs.Common.{◌≡◌, ◌⊎◌, inl, inr, Bool, true, ◌||◌, ℕ, ◌+◌, ◌-◌, ◌<◌, List, [], ◌∷◌, ◌++◌, map, length, take, drop, refl, sym, ap, ◌∙◌, subst, arith, length-append, Some, None}
 use Rattle.std.specs.Prelude.{◌≤◌, ◌^◌, min, nat_lt, if◌then◌else◌}
 use Rattle.std.proofs.Math.Seq.{drop-append_seam}
 use Rattle.bitbang_table.specs.Protocol.{encode}
@@ -14,19 +14,21 @@ use Rattle.plays.specs.Streams as stream
 use Rattle.plays.specs.Streams.{StreamState, new_stream}
 use Rattle.every_schedule.specs.Fronts.{IsFront}
 use Rattle.every_schedule.specs.InWork.{IsInWork, turns_made}
+use Rattle.every_schedule.specs.Laws.{IsOpen}
 use Rattle.every_schedule.specs.Sides.{answers_to_bytes}
-use Rattle.every_schedule.proofs.Ends.{moving_bounded}
+use Rattle.every_schedule.proofs.Ends.{moving_bounded, something_can_move}
 use Rattle.every_schedule.proofs.HonestLinks.{none-bad-any, told-bits}
-use Rattle.every_schedule.proofs.Losses.{a_loss_names}
+use Rattle.every_schedule.proofs.Losses.{a_loss_names, lost_by_a_lose}
 use Rattle.every_schedule.proofs.Runs.{run-append}
 use Rattle.every_schedule.proofs.SafetyLaws.{every_schedule_inside}
 use Rattle.streaming.specs.Laws.{history_of}
 use Rattle.streaming.proofs.Agree.{agree}
 use Rattle.streaming.proofs.Schedules.{asked}
-use Rattle.joined.specs.Inside.{ALossNamesWhatIsInWork, FewEventsMoveSomething, WhatIsJoinedStaysInsideTheFullPlay}
+use Rattle.joined.specs.Inside.{ALossNamesWhatIsInWork, FewEventsMoveSomething, OnlyALoseLoses, SomethingCanMoveUntilItIsOver, WhatIsJoinedStaysInsideTheFullPlay}
 use Rattle.bounded_pipes.specs.Joining.{side}
+use Rattle.bounded_pipes.specs.Standing.{is_over}
 use Rattle.joined.specs.Laws.{joined_after}
-use Rattle.joined.proofs.RoundsEnd.{carries, good-answers, link, world_of}
+use Rattle.joined.proofs.RoundsEnd.{carries, good-answers, link, neither, world_of}
 
 module _ (program : Program) (b : BoardState) (down_room up_room : ℕ) where
   abbrev at : List Event → World StreamState
@@ -102,6 +104,43 @@ pub few_move : FewEventsMoveSomething
 few_move program b down_room up_room es =
     let bounded = moving_bounded (link down_room up_room) program.steps b es in
     omega (arith, bounded, moving-same program b down_room up_room [] es)
+
+pub can_move : SomethingCanMoveUntilItIsOver
+can_move program b down_room up_room es down_some up_some going =
+    let k = known program b down_room up_room es in
+    let is = same program b down_room up_room es in
+    let has-room : IsOpen (link down_room up_room) = record { window = omega arith; down_room = down_some; up_room = up_some } in
+    let not-over = neither k.quit k.lost (ap is_over (sym is) ∙ going) in
+    carried (something_can_move (link down_room up_room) has-room program.steps b es not-over.0 not-over.1)
+  where
+    moves : Event → ℕ
+    moves e = bytes_moved (by_answers (player 256 (turns program.steps))) down_room up_room e (known program b down_room up_room es)
+
+    moves_here : Event → ℕ
+    moves_here e = bytes_moved side down_room up_room e (joined_after program b down_room up_room es)
+
+    here : (e : Event) → 0 < moves e → 0 < moves_here e
+    here e some = subst (λ (n : ℕ). 0 < n) (sym (moved-same program b down_room up_room es e)) some
+
+    carried : (0 < moves (Put 1)) ⊎ (0 < moves (Serve 1)) ⊎ (0 < moves (Take 1))
+        → (0 < moves_here (Put 1)) ⊎ (0 < moves_here (Serve 1)) ⊎ (0 < moves_here (Take 1))
+    carried (inl p) = inl (here (Put 1) p)
+    carried (inr (inl s)) = inr (inl (here (Serve 1) s))
+    carried (inr (inr t)) = inr (inr (here (Take 1) t))
+
+pub lost_by : OnlyALoseLoses
+lost_by program b down_room up_room es lost =
+    let is = same program b down_room up_room es in
+    let gone = ap (λ (w : World StreamState). w.lost) (sym is) ∙ lost in
+    let at = lost_by_a_lose (link down_room up_room) program.steps b es gone in
+    let was = same program b down_room up_room at.before in
+    record {
+      before = at.before;
+      later = at.later;
+      split = at.split;
+      going = ap is_over was ∙ (λ i. at.going i || at.unlost i);
+      stands = is ∙ ap (world_of program) at.stands ∙ (λ i. record (sym was i) { lost = true });
+    }
 
 pub inside : WhatIsJoinedStaysInsideTheFullPlay
 inside program b down_room up_room es =

@@ -84,6 +84,10 @@ good-answers (false ∷ got) = let rest = good-answers got in omega (arith, rest
 sum-same : (program : Program) (k : World Known) → sum_of (world_of program k) ≡ total k
 sum-same program k = omega (arith, good-answers k.player.got)
 
+pub neither : (q l : Bool) → (q || l) ≡ false → (q ≡ false) × (l ≡ false)
+neither true l e = absurd (cc)
+neither false l e = (refl, e)
+
 module _ (program : Program) (b : BoardState) (down_room up_room : ℕ) where
   abbrev start : World StreamState
   start = empty_pipes (new_stream Stops program) b
@@ -115,16 +119,12 @@ module _ (program : Program) (b : BoardState) (down_room up_room : ℕ) where
         kept = refl;
       }
 
-  not-either : (q l : Bool) → (q || l) ≡ false → (q ≡ false) × (l ≡ false)
-  not-either true l e = absurd (cc)
-  not-either false l e = (refl, e)
-
   pub round-adds : (es : List Event) (n : ℕ) → 0 < n → 0 < down_room → 0 < up_room → is_over (at es) ≡ false
       → sum_of (at es) < sum_of (run side down_room up_room (a_round n) (at es))
   round-adds es n some down_some up_some going =
       let k = known es in
       let same = carries program b down_room up_room es in
-      let parts = not-either k.quit k.lost (ap is_over (sym same) ∙ going) in
+      let parts = neither k.quit k.lost (ap is_over (sym same) ∙ going) in
       let r = reached (link down_room up_room) program.steps b es in
       let S = sent 256 (turns program.steps) in
       let f = full Stops program.steps b in

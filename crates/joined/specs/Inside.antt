@@ -1,18 +1,19 @@
--- What holds of every joined play after any events: it stays inside the full play, few of its events move something,
--- and a loss names the command in work.
-use Rattle.std.specs.Prelude.{◌≡◌, true, ℕ, ◌+◌, ◌*◌, ◌-◌, ◌^◌, ◌≤◌, List, ◌++◌, length, drop, min, Some}
+-- What holds of every joined play after any events: it stays inside the full play, something can move until it is over,
+-- few of its events move something, only a loss of the connection loses it, and then it names the command in work.
+use Rattle.std.specs.Prelude.{◌≡◌, ◌⊎◌, true, false, ℕ, ◌+◌, ◌*◌, ◌-◌, ◌^◌, ◌<◌, ◌≤◌, List, ◌∷◌, ◌++◌, length, drop, min}
+use Rattle.std.specs.Prelude.{Some}
 use Rattle.svf_programs.specs.Steps.{Program}
 use Rattle.board_meaning.specs.Chain.{BoardState, after_bytes}
 use Rattle.plays.specs.declared.ending.Ending.TheVariants.{Lost}
 use Rattle.plays.specs.DirectPlay.{bytes_of_full_play}
-use Rattle.plays.specs.Events.{Event, World, empty_pipes, moving, taken_over}
+use Rattle.plays.specs.Events.{Event, Put, Serve, Take, Lose, World, bytes_moved, empty_pipes, moving, taken_over}
 use Rattle.plays.specs.Play.{play, turns}
 use Rattle.plays.specs.PlayingOn.{Stops}
 use Rattle.plays.specs.Streams.{StreamState, new_stream}
 use Rattle.every_schedule.specs.Fronts.{IsFront}
 use Rattle.every_schedule.specs.InWork.{IsInWork, turns_made}
 use Rattle.every_schedule.specs.Sides.{answers_to_bytes}
-use Rattle.bounded_pipes.specs.Standing.{ended_of}
+use Rattle.bounded_pipes.specs.Standing.{ended_of, is_over}
 use Rattle.bounded_pipes.specs.Joining.{side}
 use Rattle.joined.specs.Laws.{joined_after}
 
@@ -40,11 +41,35 @@ WhatIsJoinedStaysInsideTheFullPlay = (program : Program) (b : BoardState) (down_
     → IsInsideTheFullPlay program b down_room up_room (taken_by_board program b down_room up_room es)
     (joined_after program b down_room up_room es)
 
+-- While a joined play has neither ended nor been lost, one byte or one answer more can move, if both pipes have room for
+-- one at least.
+abbrev pub SomethingCanMoveUntilItIsOver : Type 0
+SomethingCanMoveUntilItIsOver = (program : Program) (b : BoardState) (down_room up_room : ℕ) (es : List Event)
+    → 0 < down_room → 0 < up_room
+    → let w = joined_after program b down_room up_room es in
+    is_over w ≡ false
+    → (0 < bytes_moved side down_room up_room (Put 1) w) ⊎ (0 < bytes_moved side down_room up_room (Serve 1) w)
+    ⊎ (0 < bytes_moved side down_room up_room (Take 1) w)
+
 -- No more events move something than twice the full play's bytes, and its answers.
 abbrev pub FewEventsMoveSomething : Type 0
 FewEventsMoveSomething = (program : Program) (b : BoardState) (down_room up_room : ℕ) (es : List Event)
     → moving side down_room up_room es (empty_pipes (new_stream Stops program) b)
     ≤ 2 * length (bytes_of_full_play program b) + length (play program b).answers
+
+-- A joined play that was lost was lost by the first Lose, which came before the board took `Q`; it stands as it stood
+-- then.
+pub record IsLostByALose (program : Program) (b : BoardState) (down_room up_room : ℕ) (es : List Event) : Type 0 where
+  pub before : List Event
+  pub later : List Event
+  pub split : es ≡ before ++ Lose ∷ later
+  pub going : is_over (joined_after program b down_room up_room before) ≡ false
+  pub stands : joined_after program b down_room up_room es
+      ≡ record (joined_after program b down_room up_room before) { lost = true }
+
+abbrev pub OnlyALoseLoses : Type 0
+OnlyALoseLoses = (program : Program) (b : BoardState) (down_room up_room : ℕ) (es : List Event)
+    → (joined_after program b down_room up_room es).lost ≡ true → IsLostByALose program b down_room up_room es
 
 -- A play that was lost names the command in work, or the largest number where it is more: of the turns that the full
 -- play makes the first of which a byte was not given out or an answer not taken.

@@ -1,8 +1,8 @@
 //! Player and board joined by two bounded pipes.
 #![tactic(auto)]
 
-ghost use Rattle.joined.specs.Inside.{ALossNamesWhatIsInWork, FewEventsMoveSomething};
-ghost use Rattle.joined.specs.Inside.{WhatIsJoinedStaysInsideTheFullPlay};
+ghost use Rattle.joined.specs.Inside.{ALossNamesWhatIsInWork, FewEventsMoveSomething, OnlyALoseLoses};
+ghost use Rattle.joined.specs.Inside.{SomethingCanMoveUntilItIsOver, WhatIsJoinedStaysInsideTheFullPlay};
 ghost use Rattle.joined.specs.Laws.{WhatIsJoinedEndsAsTheFullPlay, WhatIsJoinedMeansTheProgram};
 
 mod finishing;
@@ -32,9 +32,20 @@ pub fn what_is_joined_stays_inside_the_full_play()
     ensures { WhatIsJoinedStaysInsideTheFullPlay }
 {}
 
+/// While a play has neither ended nor been lost, an event that puts, serves or takes one byte moves it. So `finish`
+/// always has something to do.
+pub fn something_can_move_until_it_is_over()
+    ensures { SomethingCanMoveUntilItIsOver }
+{}
+
 /// Over all calls of `run`, no more events move something than twice the full play's bytes, and its answers.
 pub fn few_events_move_something()
     ensures { FewEventsMoveSomething }
+{}
+
+/// A play is lost only by a loss of the connection before the board took `Q`, and stands as it stood then.
+pub fn only_a_lose_loses()
+    ensures { OnlyALoseLoses }
 {}
 
 /// A play that was lost names the command in work: 0 until the opening is given out; then the first step that the play
