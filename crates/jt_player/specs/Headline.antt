@@ -26,3 +26,10 @@ abbrev pub DirectPlayMeansWhatTheTextMeans : Type 0
 DirectPlayMeansWhatTheTextMeans = (text : List ℕ) (program : Program) → Accepts text program
     → (start : BoardState) → IsInUse start
     → MeansFromOpening program start (play program start).ending (play program start).board
+
+-- What a play leaves after whatever events, a loss among them, is a board in use again: so a new play on it means what
+-- its own text means, from its own opening.
+abbrev pub WhatEventsLeaveIsInUse : Type 0
+WhatEventsLeaveIsInUse = (program : Program) (start : BoardState) → IsInUse start
+    → (down_room up_room : ℕ) (events : List Event)
+    → IsInUse (joined_after program start down_room up_room events).board

@@ -1,10 +1,14 @@
--- The lines of a refusal and of an accepted text.
+-- The lines of refusals and of an accepted text.
 use Rattle.std.specs.Prelude.{ℕ, List, [], ◌∷◌, codes, decimal, length}
 use Rattle.plays.specs.Endings.{texts}
 use Rattle.svf_words.specs.declared.fault.Code.{Code}
 use Rattle.svf_words.specs.declared.fault.Code.TheVariants as code
 use Rattle.svf_words.specs.declared.fault.SvfFault.{SvfFault}
 use Rattle.svf_programs.specs.Steps.{Program}
+use Rattle.board_names.specs.declared.fault.BoardFault.{BoardFault}
+use Rattle.board_names.specs.declared.fault.BoardFault.TheVariants as board
+use Rattle.bsdl.specs.declared.fault.BsdlFault.{BsdlFault}
+use Rattle.bsdl.specs.declared.fault.BsdlFault.TheVariants as bsdl
 
 -- a refusal's number and name, without the values in brackets
 abbrev pub code_words : Code → List ℕ
@@ -34,3 +38,40 @@ abbrev pub accepted_line : Program → List ℕ
 accepted_line p =
     texts (codes "accepted " ∷ decimal p.statements ∷ codes " statements " ∷ decimal (length p.steps)
     ∷ codes " steps\n" ∷ [])
+
+-- why a description is refused, as a line says it: the number and the name, without the values in brackets
+abbrev pub bsdl_words : BsdlFault → List ℕ
+bsdl_words (bsdl.BadToken place) = codes "bsdl B1 BadToken"
+bsdl_words (bsdl.BadForm place) = codes "bsdl B2 BadForm"
+bsdl_words (bsdl.Missing attribute) = codes "bsdl B3 Missing"
+bsdl_words (bsdl.Twice name) = codes "bsdl B4 Twice"
+bsdl_words bsdl.BadLength = codes "bsdl B5 BadLength"
+bsdl_words bsdl.BadCapture = codes "bsdl B6 BadCapture"
+bsdl_words bsdl.BadId = codes "bsdl B7 BadId"
+bsdl_words (bsdl.BadCell number) = codes "bsdl B8 BadCell"
+bsdl_words bsdl.TooLarge = codes "bsdl B9 TooLarge"
+bsdl_words bsdl.NoMemory = codes "bsdl B10 NoMemory"
+
+-- Why a board is not made, as a line says it: a refused description (C4) is told by its own refusal, and want of memory
+-- (C8) as that.
+abbrev pub board_words : BoardFault BsdlFault → List ℕ
+board_words board.BadToml = codes "board C1 BadToml"
+board_words (board.BadField key) = codes "board C2 BadField"
+board_words (board.UnknownFile name) = codes "board C3 UnknownFile"
+board_words (board.Bsdl fault) = bsdl_words fault
+board_words (board.UnknownPin text) = codes "board C5 UnknownPin"
+board_words (board.PinTwice text) = codes "board C6 PinTwice"
+board_words board.TooLarge = codes "board C7 TooLarge"
+board_words board.NoMemory = codes "memory"
+
+-- the line of a board that is not made, and the exit status: 2 refused, 4 want of memory
+abbrev pub board_refusal_line : BoardFault BsdlFault → List ℕ
+board_refusal_line fault = texts (board_words fault ∷ codes "\n" ∷ [])
+
+abbrev pub board_refusal_status : BoardFault BsdlFault → ℕ
+board_refusal_status board.NoMemory = 4
+board_refusal_status _ = 2
+
+-- the line of a file that cannot be read
+abbrev pub unreadable_line : List ℕ → List ℕ
+unreadable_line name = texts (codes "file " ∷ name ∷ codes "\n" ∷ [])

@@ -8,6 +8,7 @@ ghost use Rattle.svf_programs.specs.Sizes.{program_of};
 ghost use Rattle.jt_player.specs.Running.{Happens, IsCheckOf, IsRunOf, Run, Tells, note, played_run};
 ghost use Rattle.jt_player.specs.Showing.{accepted_line, refusal_line};
 
+use crate::refusing::refuse_memory;
 use crate::showing::{write_accepted, write_refusal, write_verdict};
 use byte_ends::{Broken, Counted, Sink, put_all};
 use direct_play::{accept, play_program, play_program_noted};
@@ -155,13 +156,4 @@ fn refuse<E: Sink>(fault: SvfFault, err: &mut Counted<E>) -> Result<u8, Broken>
     }
     write_refusal(fault, err)?;
     Ok(2)
-}
-
-/// Writes that memory ran out.
-fn refuse_memory<E: Sink>(err: &mut Counted<E>) -> Result<u8, Broken>
-    requires { err.old.failures ≡ 0 }
-    ensures { Tells E.contents err.old err.new (codes "memory\n") 4 result }
-{
-    put_all(err, b"memory\n")?;
-    Ok(4)
 }

@@ -1,7 +1,7 @@
 //! The board that the command line asks for.
 
 use jt_player::{Board, BoardFault, bsdl_names};
-use program_input::{InputFault, read_board_file, read_text};
+use program_input::{InputFault, read_board_file, read_description};
 use std::alloc::{AllocError, Global};
 
 /// Why no board was made.
@@ -41,7 +41,7 @@ pub(crate) fn make_board(
     let names = bsdl_names(alloc, &board_file)?;
     let mut texts = Vec::with_capacity(alloc, names.len())?;
     for name in &names {
-        match read_text(rt, alloc, Some(name.as_str())) {
+        match read_description(rt, alloc, name.as_str()) {
             Ok(text) => keep(&mut texts, text)?,
             Err(fault) => return Err(unread(alloc, name.as_str(), fault)),
         }

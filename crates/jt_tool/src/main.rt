@@ -7,7 +7,7 @@ use crate::described::{Unmade, make_board};
 use byte_ends::{Counted, Plain};
 use clap::error::ErrorKind as WordsFault;
 use command_line::{Request, Task, parse};
-use jt_player::{BoardFault, run_check, run_play};
+use jt_player::{refuse_file, refuse_memory, run_check, run_play};
 use program_input::{InputFault, command_words, read_text};
 use std::alloc::Global;
 use std::io::ErrorKind;
@@ -72,11 +72,7 @@ fn run_text(rt: &HostRuntime, alloc: Global, request: &Request<'_>) -> u8 {
     };
     let text = match read_text(rt, alloc, request.svf) {
         Ok(text) => text,
-        Err(InputFault::Unreadable) => {
-            let name = request.svf.unwrap_or("-");
-            return tell_line(rt, format_args!("file {name}"), REFUSED);
-        }
-        Err(InputFault::NoMemory) => return tell_line(rt, "memory", MEMORY),
+        Err(fault) => return refuse_text(rt, request.svf.unwrap_or("-"), fault),
     };
     let mut out = Counted::new(Plain(io::writer(rt)));
     let mut err = Counted::new(Plain(rt.stderr()));
@@ -89,16 +85,22 @@ fn run_text(rt: &HostRuntime, alloc: Global, request: &Request<'_>) -> u8 {
 
 /// Tells why no board was made. Answers the exit status.
 fn refuse_board(rt: &HostRuntime, fault: &Unmade) -> u8 {
-    match fault {
-        Unmade::Unreadable(name) => tell_line(rt, format_args!("file {name}"), REFUSED),
-        Unmade::Refused(BoardFault::NoMemory) => tell_line(rt, "memory", MEMORY),
-        Unmade::Refused(BoardFault::Bsdl(fault)) => tell_line(
-            rt,
-            format_args!("bsdl {fault}"),
-            REFUSED,
-        ),
-        Unmade::Refused(fault) => tell_line(rt, format_args!("board {fault}"), REFUSED),
-    }
+    let mut err = Counted::new(Plain(rt.stderr()));
+    let status = match fault {
+        Unmade::Unreadable(name) => refuse_file(name, &mut err),
+        Unmade::Refused(fault) => jt_player::refuse_board(fault, &mut err),
+    };
+    status.unwrap_or(BROKEN)
+}
+
+/// Tells that no text of a program was read. Answers the exit status.
+fn refuse_text(rt: &HostRuntime, name: &str, fault: InputFault) -> u8 {
+    let mut err = Counted::new(Plain(rt.stderr()));
+    let status = match fault {
+        InputFault::Unreadable => refuse_file(name, &mut err),
+        InputFault::NoMemory => refuse_memory(&mut err),
+    };
+    status.unwrap_or(BROKEN)
 }
 
 /// Writes a line to standard error. Answers this status, or that the line was lost.

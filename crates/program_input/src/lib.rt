@@ -4,5 +4,5 @@
 mod texts;
 mod words;
 
-pub use texts::{InputFault, read_board_file, read_text};
+pub use texts::{InputFault, read_board_file, read_description, read_text};
 pub use words::command_words;

@@ -1,4 +1,4 @@
-//! The text of a program, from a file or standard input.
+//! The texts that are read: a program, a board file, descriptions of devices.
 
 use std::alloc::Global;
 use std::io::{ErrorKind, Read};
@@ -7,6 +7,8 @@ use std::{fs, io};
 
 /// A text has at most 16 MiB; one byte more is read, so that a longer one is refused and not cut.
 const MOST_BYTES: u64 = 16 * 1024 * 1024 + 1;
+/// A description of a device has at most 4 MiB; one byte more is read, so that a longer one is refused and not cut.
+const MOST_DESCRIPTION_BYTES: u64 = 4 * 1024 * 1024 + 1;
 
 /// Why a text was not read.
 #[derive(Debug, Clone, Copy, PartialEq, Eq)]
@@ -40,8 +42,22 @@ pub fn read_board_file<R: Files + Input + AllocGlobal>(
     Ok(text)
 }
 
-/// Reads the named file, or standard input where none is named: all of it, or its first 16 MiB and one byte, which
-/// each reader of a text refuses as too long.
+/// Reads a description of a device: all of it, or its first 4 MiB and one byte, which the reader of descriptions refuses
+/// as too long.
+pub fn read_description<R: Files + Input + AllocGlobal>(
+    rt: &R,
+    alloc: Global,
+    name: &str,
+) -> Result<Vec<u8>, InputFault> {
+    let mut text = Vec::new(alloc);
+    fs::open(rt, name)?
+        .take(MOST_DESCRIPTION_BYTES)
+        .read_to_end(&mut text)?;
+    Ok(text)
+}
+
+/// Reads the text of a program, from the named file, or from standard input where none is named: all of it, or its first
+/// 16 MiB and one byte, which the reader of programs refuses as too long.
 pub fn read_text<R: Files + Input + AllocGlobal>(
     rt: &R,
     alloc: Global,
