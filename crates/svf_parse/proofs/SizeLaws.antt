@@ -27,8 +27,8 @@ use Rattle.svf_words.specs.declared.keywords.Which.TheVariants as which
 use Rattle.svf_words.specs.Words.{Word, Groups, last, group, with_word, with_token, groups_of}
 use Rattle.svf_forms.specs.Fields.{Fields, no_fields, if_none, put}
 use Rattle.svf_words.specs.Keywords.{scan_word}
-use Rattle.svf_forms.specs.Forms.{Form, end_dr_form, end_ir_form, frequency_form, scan_form, run_form, states_form, trst_form, port_form}
-use Rattle.svf_parse.specs.Judging.{◌>>=◌, Said, end_dr, end_ir, frequency, states, trst, cycles_say, both, form_says, scan_says, scan_with, run_says, run_with, bits_written, bits, given}
+use Rattle.svf_forms.specs.Forms.{Form, end_dr_form, end_ir_form, frequency_form, scan_form, run_test_form, states_form, trst_form, port_form}
+use Rattle.svf_parse.specs.Judging.{◌>>=◌, Said, end_dr, end_ir, frequency, states, trst, cycles_say, both, form_says, scan_says, scan_with, run_test_says, run_test_with, bits_written, bits, given}
 use Rattle.svf_numbers.specs.Numbers.{period_says, time_says}
 use Rattle.svf_forms.specs.Grammar.{Reads, AreStates, IsField, AreFields, IsForm}
 use Rattle.svf_parse.specs.Spelling.{EachSpells, closed_by, TextSpells}
@@ -234,7 +234,7 @@ scan_fits which fs n =
     omega (arith, tdi, tdo, mask, smask)
 
 form_fits : (ws : List Word) (f : Form) (s : Said) → IsForm ws f → form_says f ≡ Ok s → size s ≤ 4 * total ws
-unfolding run_says
+unfolding run_test_says
 form_fits ws (end_dr_form st) s h says = one_fits h.0 (codes "ENDDR") ws (h.1 ∷ []) s h.2 h.3 (omega arith) (size_said (end_dr st) s says)
 form_fits ws (end_ir_form st) s h says = one_fits h.0 (codes "ENDIR") ws (h.1 ∷ []) s h.2 h.3 (omega arith) (size_said (end_ir st) s says)
 form_fits ws (frequency_form None) s h says = one_fits h.0 (codes "FREQUENCY") ws [] s h.1 h.2 (omega arith) (size_said (frequency None) s says)
@@ -252,8 +252,8 @@ form_fits ws (scan_form which w fs) s h says =
     let bound = scan_fits which fs n.0 in
     let is = ap size n.1 in
     omega (arith, command, digits, all, others, bound, is)
-form_fits ws (run_form r) s h says =
-    let p = made_by (both (given cycles_say r.count) (both (given time_says r.min) (given time_says r.max))) (run_with r) s says in
+form_fits ws (run_test_form r) s h says =
+    let p = made_by (both (given cycles_say r.count) (both (given time_says r.min) (given time_says r.max))) (run_test_with r) s says in
     one_fits h.0 (codes "RUNTEST") ws h.1 s h.2 h.3 (omega arith) (ap size (sym p.1))
 form_fits ws (states_form ss) s h says =
     let k = h.0 in
