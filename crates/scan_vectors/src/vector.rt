@@ -14,12 +14,12 @@ pub struct Vector<'a> {
 }
 
 impl<'a> Vector<'a> {
-    ghost use Rattle.std.specs.Prelude.{◌≡◌, ◌+◌, ◌<◌, ◌≤◌, ◌^◌, Bool, Option, Some, None, ℕ, length, slice_get};
+    ghost use Rattle.std.specs.Prelude.{◌≡◌, ◌+◌, ◌-◌, ◌<◌, ◌≤◌, ◌^◌, Bool, Option, Some, None, ℕ, length, slice_get};
     ghost use Rattle.std.specs.Prelude.{option_map, is_some, min, if◌then◌else◌};
     ghost use Rattle.jt_bits.specs.Packed.{has_bit};
     ghost use Rattle.scan_vectors.specs.declared.part.Part as declared;
     ghost use Rattle.scan_vectors.specs.Fields.{vector_of};
-    ghost use Rattle.scan_vectors.specs.Held.{bits, fields, left_in_part, tdo_there, wanted_of};
+    ghost use Rattle.scan_vectors.specs.Held.{Stands, bits, fields, left_in_part, tdo_there, wanted_of};
     ghost use Rattle.scan_vectors.specs.Vector.{tdis};
 
     pub(crate) fn of(header: Part3<'a>, body: Part3<'a>, trailer: Part3<'a>) -> Vector<'a>
@@ -46,13 +46,8 @@ impl<'a> Vector<'a> {
         ensures { option_map {U = Bool × Option Bool} (λ b. (b.tdi, b.wanted)) (slice_get (bits self.now) i)
             ≡ Some result }
     {
-        if i < self.header.len {
-            self.header.bit(i)
-        } else if i - self.header.len < self.body.len {
-            self.body.bit(i - self.header.len)
-        } else {
-            self.trailer.bit(i - self.header.len - self.body.len)
-        }
+        let (_, part, place) = self.find(i);
+        part.bit(place)
     }
 
     /// What is shifted in as bit `i` and as the bits behind it, up to the end of the part or 64 bits.
@@ -65,13 +60,8 @@ impl<'a> Vector<'a> {
         ensures bits { (j : ℕ) → j < result.len
             → slice_get (tdis (bits self.now)) (i + j) ≡ Some (has_bit result.bits j) }
     {
-        if i < self.header.len {
-            self.header.tdi_run(i)
-        } else if i - self.header.len < self.body.len {
-            self.body.tdi_run(i - self.header.len)
-        } else {
-            self.trailer.tdi_run(i - self.header.len - self.body.len)
-        }
+        let (_, part, place) = self.find(i);
+        part.tdi_run(place)
     }
 
     /// What is wanted out as bit `i` and as the bits behind it, up to the end of the part or 64 bits.
@@ -85,13 +75,8 @@ impl<'a> Vector<'a> {
             → option_map {U = Option Bool} (λ b. b.wanted) (slice_get (bits self.now) (i + j))
             ≡ Some (wanted_of (has_bit result.care j) (has_bit result.bits j)) }
     {
-        if i < self.header.len {
-            self.header.wanted_run(i)
-        } else if i - self.header.len < self.body.len {
-            self.body.wanted_run(i - self.header.len)
-        } else {
-            self.trailer.wanted_run(i - self.header.len - self.body.len)
-        }
+        let (_, part, place) = self.find(i);
+        part.wanted_run(place)
     }
 
     /// How many bits from bit `i` on are not wanted because their part has no TDO: up to the end of the part, or none.
@@ -102,13 +87,8 @@ impl<'a> Vector<'a> {
         ensures bits { (j : ℕ) → j < result
             → option_map {U = Option Bool} (λ b. b.wanted) (slice_get (bits self.now) (i + j)) ≡ Some None }
     {
-        if i < self.header.len {
-            self.header.unwanted(i)
-        } else if i - self.header.len < self.body.len {
-            self.body.unwanted(i - self.header.len)
-        } else {
-            self.trailer.unwanted(i - self.header.len - self.body.len)
-        }
+        let (_, part, place) = self.find(i);
+        part.unwanted(place)
     }
 
     /// The part in which bit `i` stands, and its place there.
@@ -117,12 +97,29 @@ impl<'a> Vector<'a> {
         ensures { option_map {U = declared.Part × ℕ} (λ b. (b.part, b.place)) (slice_get (bits self.now) i)
             ≡ Some result }
     {
+        let (part, _, place) = self.find(i);
+        (part, place)
+    }
+
+    /// The part in which bit `i` stands, with its fields, and the bit's place there.
+    fn find(&self, i: usize) -> (Part, &Part3<'a>, usize)
+        requires { i < length (bits self.now) }
+        ensures inside { result.2 < result.1.now.len }
+        ensures left { left_in_part self.now i ≡ result.1.now.len - result.2 }
+        ensures whole { i + (result.1.now.len - result.2) ≤ length (bits self.now) }
+        ensures tdo { tdo_there self.now i ≡ (fields result.1.now).tdo }
+        ensures bits { Stands (bits self.now) i result.0 (fields result.1.now) result.2 }
+    {
         if i < self.header.len {
-            (Part::Header, i)
+            (Part::Header, &self.header, i)
         } else if i - self.header.len < self.body.len {
-            (Part::Data, i - self.header.len)
+            (Part::Data, &self.body, i - self.header.len)
         } else {
-            (Part::Trailer, i - self.header.len - self.body.len)
+            (
+                Part::Trailer,
+                &self.trailer,
+                i - self.header.len - self.body.len,
+            )
         }
     }
 }

@@ -14,13 +14,13 @@ use Rattle.svf_words.specs.declared.keywords.FieldName.{FieldName}
 use Rattle.svf_words.specs.Words.{Word, reads, is_open, is_close, is_number}
 use Rattle.svf_words.specs.Keywords.{command_word, scan_word, trst_word, command_of, field_of, state_of}
 use Rattle.svf_forms.specs.Fields.{◌>>?◌, Fields, no_fields, put, Closed, over, closing, before_close, cut_at_close, joined_digits, runs, bracket, fields_say}
-use Rattle.svf_forms.specs.RunTests.{run_of}
-use Rattle.svf_forms.specs.Forms.{Form, end_dr_form, end_ir_form, frequency_form, scan_form, run_form, states_form, trst_form, port_form, form_of, one_state, one_trst, each_state, with_state, some_states, hertz, scan_of}
+use Rattle.svf_forms.specs.RunTests.{run_test_of}
+use Rattle.svf_forms.specs.Forms.{Form, end_dr_form, end_ir_form, frequency_form, scan_form, run_test_form, states_form, trst_form, port_form, form_of, one_state, one_trst, each_state, with_state, some_states, hertz, scan_of}
 use Rattle.svf_forms.specs.Grammar.{Reads, IsNumber, IsRun, AreFields, AreStates, IsForm, FormsAreReadAsTheyAreWritten}
 use Rattle.svf_forms.proofs.StateLists.{some_read}
 use Rattle.svf_forms.proofs.FieldLaws.{with_digits, with_digits-nil, next_run, ended_runs, opened, all_fields, field_put}
 use Rattle.svf_words.proofs.KeywordLaws.{command_read, field_read, field_found, state_read, state_found, trst_read, trst_found}
-use Rattle.svf_forms.proofs.RunLaws.{run_found, run_read}
+use Rattle.svf_forms.proofs.RunTestLaws.{run_test_found, run_test_read}
 
 -- ---- lists of states
 
@@ -224,8 +224,8 @@ form_found k xs command.Frequency f word e =
     subst (IsForm (k ∷ xs)) o.2 (hertz_found k xs o.0 word o.1)
 form_found k xs (command.Scan which) f word e = scan_found k which xs f word e
 form_found k xs command.RunTest f word e =
-    let o = option_some run_form (run_of xs) f e in
-    subst (IsForm (k ∷ xs)) o.2 (k, xs, refl, word, run_found xs o.0 o.1)
+    let o = option_some run_test_form (run_test_of xs) f e in
+    subst (IsForm (k ∷ xs)) o.2 (k, xs, refl, word, run_test_found xs o.0 o.1)
 form_found k xs command.State f word e =
     let o = option_some states_form (some_states xs) f e in
     let s = filled xs o.0 o.1 in
@@ -277,7 +277,7 @@ form_read ws (end_ir_form s) h = read_as ws (end_ir_form s) h.0 (h.1 ∷ []) com
 form_read ws (frequency_form None) h = read_as ws (frequency_form None) h.0 [] command.Frequency h.1 h.2 (ap (option_map frequency_form) no_hertz)
 form_read ws (frequency_form (Some n)) h = read_as ws (frequency_form (Some n)) h.0 (n ∷ h.1 ∷ []) command.Frequency h.2 h.3 (ap (option_map frequency_form) (hertz_read n h.1 h.4 h.5))
 form_read ws (scan_form which n fs) h = read_as ws (scan_form which n fs) h.0 (n ∷ h.1) (command.Scan which) h.3 h.4 (scan_read which n h.1 fs h.5 (fields_read h.1 h.2 no_fields fs h.6))
-form_read ws (run_form r) h = read_as ws (run_form r) h.0 h.1 command.RunTest h.2 h.3 (ap (option_map run_form) (run_read h.1 r h.4))
+form_read ws (run_test_form r) h = read_as ws (run_test_form r) h.0 h.1 command.RunTest h.2 h.3 (ap (option_map run_test_form) (run_test_read h.1 r h.4))
 form_read ws (states_form ss) h = read_as ws (states_form ss) h.0 h.1 command.State h.2 h.3 (ap (option_map states_form) (some_read ss h.1 h.4 (states_read h.1 ss h.5)))
 form_read ws (trst_form t) h = read_as ws (trst_form t) h.0 (h.1 ∷ []) command.Trst h.2 h.3 (ap (option_map trst_form) (one_trst_read h.1 t h.4))
 form_read ws port_form h = elim h.3 [ inl pio ↦ read_as ws port_form h.0 h.1 command.Pio h.2 pio refl | inr map ↦ read_as ws port_form h.0 h.1 command.PioMap h.2 map refl ]

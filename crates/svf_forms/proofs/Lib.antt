@@ -1,4 +1,4 @@
 pub mod FieldLaws
 pub mod FormLaws
-pub mod RunLaws
+pub mod RunTestLaws
 pub mod StateLists

@@ -8,7 +8,7 @@ use Rattle.svf_words.specs.declared.keywords.Command.TheVariants as command
 use Rattle.svf_words.specs.Words.{Word, reads, is_number}
 use Rattle.svf_words.specs.Keywords.{state_of, trst_of}
 use Rattle.svf_forms.specs.Fields.{Fields, no_fields, cut_at_close, fields_say}
-use Rattle.svf_forms.specs.RunTests.{Run, run_of}
+use Rattle.svf_forms.specs.RunTests.{RunTest, run_test_of}
 
 -- a statement as it is written: each number as its word, with point and exponent, and each field as its digits
 pub data Form : Type 0 where
@@ -16,7 +16,7 @@ pub data Form : Type 0 where
   end_ir_form : State → Form
   frequency_form : Option Word → Form
   scan_form : Which → Word → Fields → Form
-  run_form : Run → Form
+  run_test_form : RunTest → Form
   states_form : List State → Form
   trst_form : TrstWord → Form
   port_form : Form
@@ -66,7 +66,7 @@ form_of command.EndDr ws = option_map end_dr_form (one_state ws)
 form_of command.EndIr ws = option_map end_ir_form (one_state ws)
 form_of command.Frequency ws = option_map frequency_form (hertz ws)
 form_of (command.Scan which) ws = scan_of which ws
-form_of command.RunTest ws = option_map run_form (run_of ws)
+form_of command.RunTest ws = option_map run_test_form (run_test_of ws)
 form_of command.State ws = option_map states_form (some_states ws)
 form_of command.Trst ws = option_map trst_form (one_trst ws)
 form_of command.Pio ws = Some port_form

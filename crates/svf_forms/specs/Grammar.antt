@@ -10,8 +10,8 @@ use Rattle.svf_words.specs.declared.keywords.Clock.{Clock}
 use Rattle.svf_words.specs.Words.{Word, reads, is_open, is_close, is_number}
 use Rattle.svf_words.specs.Keywords.{command_word, scan_word, field_word, clock_word, trst_word}
 use Rattle.svf_forms.specs.Fields.{Fields, no_fields, put}
-use Rattle.svf_forms.specs.RunTests.{Run}
-use Rattle.svf_forms.specs.Forms.{Form, end_dr_form, end_ir_form, frequency_form, scan_form, run_form, states_form}
+use Rattle.svf_forms.specs.RunTests.{RunTest}
+use Rattle.svf_forms.specs.Forms.{Form, end_dr_form, end_ir_form, frequency_form, scan_form, run_test_form, states_form}
 use Rattle.svf_forms.specs.Forms.{trst_form, port_form, form_of}
 
 -- the word is this keyword, in any case
@@ -76,11 +76,11 @@ IsEnd None ws = ws ≡ []
 IsEnd (Some s) ws = (k w : Word) × (ws ≡ k ∷ w ∷ []) × Reads k (codes "ENDSTATE") × Reads w (states.word s)
 
 -- a count or a time is given, and a maximum only with a time
-abbrev pub IsWhole : Run → Type 0
+abbrev pub IsWhole : RunTest → Type 0
 IsWhole r = (IsSome r.count ⊎ IsSome r.min) × (IsSome r.max → IsSome r.min)
 
 -- the words are these parts in order
-abbrev pub IsRunTest : List Word → Run → Type 0
+abbrev pub IsRunTest : List Word → RunTest → Type 0
 IsRunTest ws r =
     (state count time maximum end : List Word) × (ws ≡ state ++ (count ++ (time ++ (maximum ++ end))))
     × IsState r.run state × IsCount r.count count × IsTime r.min time × IsMaximum r.max maximum × IsEnd r.end end
@@ -97,7 +97,7 @@ IsForm ws (frequency_form (Some n)) = (k u : Word) × (ws ≡ k ∷ n ∷ u ∷ 
 IsForm ws (scan_form which n fs) =
     (k : Word) × (xs : List Word) × (given : List (FieldName × List ℕ)) × (ws ≡ k ∷ n ∷ xs) × Reads k (scan_word which)
     × IsNumber n × AreFields xs given no_fields fs
-IsForm ws (run_form r) = (k : Word) × (xs : List Word) × (ws ≡ k ∷ xs) × Reads k (codes "RUNTEST") × IsRunTest xs r
+IsForm ws (run_test_form r) = (k : Word) × (xs : List Word) × (ws ≡ k ∷ xs) × Reads k (codes "RUNTEST") × IsRunTest xs r
 IsForm ws (states_form ss) = (k : Word) × (xs : List Word) × (ws ≡ k ∷ xs) × Reads k (codes "STATE") × (0 < length ss)
     × AreStates xs ss
 IsForm ws (trst_form t) = (k w : Word) × (ws ≡ k ∷ w ∷ []) × Reads k (codes "TRST") × Reads w (trst_word t)

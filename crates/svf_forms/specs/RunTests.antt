@@ -6,7 +6,7 @@ use Rattle.svf_words.specs.Words.{Word, reads, is_number}
 use Rattle.svf_words.specs.Keywords.{state_of, clock_of}
 
 -- a RUNTEST as it is written: each number as its word
-pub record Run : Type 0 where
+pub record RunTest : Type 0 where
   pub run : Option State
   pub count : Option (Word × Clock)
   pub min : Option Word
@@ -55,25 +55,27 @@ take_end (k ∷ []) = (None, k ∷ [])
 take_end (k ∷ w ∷ ws) = if reads k (codes "ENDSTATE") then state_or (state_of w) ws (k ∷ w ∷ ws) else (None, k ∷ w ∷ ws)
 
 -- a RUNTEST gives a count or a time, a maximum only behind a time, and nothing is left
-abbrev pub whole_run : Option State → Option (Word × Clock) → Option Word → Option Word → Option State → List Word
-    → Option Run
-whole_run run count min max end (w ∷ ws) = None
-whole_run run None None max end [] = None
-whole_run run (Some c) None max end [] = Some (record { run = run; count = Some c; min = None; max = max; end = end })
-whole_run run count (Some n) max end [] = Some (record { run = run; count = count; min = Some n; max = max; end = end })
+abbrev pub whole_run_test : Option State → Option (Word × Clock) → Option Word → Option Word → Option State → List Word
+    → Option RunTest
+whole_run_test run count min max end (w ∷ ws) = None
+whole_run_test run None None max end [] = None
+whole_run_test run (Some c) None max end [] =
+    Some (record { run = run; count = Some c; min = None; max = max; end = end })
+whole_run_test run count (Some n) max end [] =
+    Some (record { run = run; count = count; min = Some n; max = max; end = end })
 
 -- the maximum stands only behind a time
 abbrev pub maximum_behind : Option Word → List Word → Option Word × List Word
 maximum_behind None ws = (None, ws)
 maximum_behind (Some n) ws = take_maximum ws
 
-abbrev pub run_behind : Option State × List Word → Option Run
-run_behind s =
+abbrev pub run_test_behind : Option State × List Word → Option RunTest
+run_test_behind s =
     let c = take_count s.1 in
     let t = take_time c.1 in
     let m = maximum_behind t.0 t.1 in
     let e = take_end m.1 in
-    whole_run s.0 c.0 t.0 m.0 e.0 e.1
+    whole_run_test s.0 c.0 t.0 m.0 e.0 e.1
 
-unfoldable pub run_of : List Word → Option Run
-run_of ws = run_behind (take_state ws)
+unfoldable pub run_test_of : List Word → Option RunTest
+run_test_of ws = run_test_behind (take_state ws)

@@ -2,12 +2,12 @@
 use Rattle.std.specs.Prelude.{ℕ, List, Option, option_map}
 use Rattle.std.specs.Global.{Vec}
 use Rattle.svf_forms.specs.declared.fields.Fields as declared
-use Rattle.svf_forms.specs.declared.run_test.Run as run_test
+use Rattle.svf_forms.specs.declared.run_test.RunTest as declared_run_test
 use Rattle.svf_forms.specs.declared.forms.Written.{Written}
 use Rattle.svf_forms.specs.declared.forms.Written.TheVariants as written
 use Rattle.svf_forms.specs.Fields.{Fields}
-use Rattle.svf_forms.specs.RunTests.{Run}
-use Rattle.svf_forms.specs.Forms.{Form, end_dr_form, end_ir_form, frequency_form, scan_form, run_form, states_form}
+use Rattle.svf_forms.specs.RunTests.{RunTest}
+use Rattle.svf_forms.specs.Forms.{Form, end_dr_form, end_ir_form, frequency_form, scan_form, run_test_form, states_form}
 use Rattle.svf_forms.specs.Forms.{trst_form, port_form}
 
 -- the digits of fields, without where they lie in memory
@@ -17,8 +17,8 @@ bytes_of o = option_map (λ v. v.items) o
 abbrev pub fields : declared.Fields → Fields
 fields f = record { tdi = bytes_of f.tdi; tdo = bytes_of f.tdo; mask = bytes_of f.mask; smask = bytes_of f.smask }
 
-abbrev pub run : run_test.Run → Run
-run r = record {
+abbrev pub run_test : declared_run_test.RunTest → RunTest
+run_test r = record {
   run = r.run;
   count = option_map (λ c. (c.0.now, c.1)) r.count;
   min = option_map (λ w. w.now) r.min;
@@ -31,7 +31,7 @@ form (written.EndDr s) = end_dr_form s
 form (written.EndIr s) = end_ir_form s
 form (written.Frequency n) = frequency_form (option_map (λ w. w.now) n)
 form (written.Scan which len fs) = scan_form which len.now (fields fs)
-form (written.RunTest r) = run_form (run r)
+form (written.RunTest r) = run_test_form (run_test r)
 form (written.States v) = states_form v.items
 form (written.Trst t) = trst_form t
 form written.Port = port_form

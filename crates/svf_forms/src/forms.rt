@@ -6,7 +6,7 @@ ghost use Rattle.svf_forms.specs.Forms as spec;
 ghost use Rattle.svf_forms.specs.View as view;
 
 use crate::fields::{Fields, fields_of};
-use crate::run_test::{Run, run_of};
+use crate::run_test::{RunTest, run_test_of};
 use jt_tap::State;
 use std::alloc::{AllocError, Global};
 use svf_lex::Lexer;
@@ -25,7 +25,7 @@ pub enum Written<'a> {
     /// `HDR`, `HIR`, `TDR`, `TIR`, `SDR` or `SIR`, its length and its fields.
     Scan(Which, &'a [u8], Fields),
     /// `RUNTEST` and its parts.
-    RunTest(Run<'a>),
+    RunTest(RunTest<'a>),
     /// `STATE` and its states, at least one.
     States(Vec<State>),
     /// `TRST` and its word.
@@ -44,31 +44,13 @@ pub fn form_of<'a>(
     ensures { IfOk result (λ o. option_map view.form o ≡ spec.form_of command (words_left words.entry)) }
 {
     let form = match command {
-        Command::EndDr => match one_state(words) {
-            Some(state) => Some(Written::EndDr(state)),
-            None => None,
-        },
-        Command::EndIr => match one_state(words) {
-            Some(state) => Some(Written::EndIr(state)),
-            None => None,
-        },
-        Command::Frequency => match hertz(words) {
-            Some(number) => Some(Written::Frequency(number)),
-            None => None,
-        },
+        Command::EndDr => one_state(words).map(|state| Written::EndDr(state)),
+        Command::EndIr => one_state(words).map(|state| Written::EndIr(state)),
+        Command::Frequency => hertz(words).map(|number| Written::Frequency(number)),
         Command::Scan(which) => scan_of(alloc, which, words)?,
-        Command::RunTest => match run_of(words) {
-            Some(run) => Some(Written::RunTest(run)),
-            None => None,
-        },
-        Command::State => match some_states(alloc, words)? {
-            Some(states) => Some(Written::States(states)),
-            None => None,
-        },
-        Command::Trst => match one_trst(words) {
-            Some(word) => Some(Written::Trst(word)),
-            None => None,
-        },
+        Command::RunTest => run_test_of(words).map(|test| Written::RunTest(test)),
+        Command::State => some_states(alloc, words)?.map(|states| Written::States(states)),
+        Command::Trst => one_trst(words).map(|word| Written::Trst(word)),
         Command::Pio | Command::PioMap => Some(Written::Port),
     };
     Ok(form)

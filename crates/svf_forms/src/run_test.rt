@@ -12,7 +12,7 @@ use svf_words::words::{is_number, next_word, reads};
 
 /// A RUNTEST as it is written: each number as its word.
 #[derive(Debug, Drop, Clone, Copy)]
-pub struct Run<'a> {
+pub struct RunTest<'a> {
     /// The state to run in.
     pub run: Option<State>,
     /// The number of cycles, and the clock that counts them.
@@ -27,9 +27,9 @@ pub struct Run<'a> {
 
 /// The RUNTEST that the words are: `[state] [number TCK or SCK] [number SEC [MAXIMUM number SEC]] [ENDSTATE state]`,
 /// with at least one of the count and the first time.
-#[tactic(auto, unfolding(crate::specs::RunTests::run_of))]
-pub fn run_of(words: Lexer<'_>) -> Option<Run<'_>>
-    ensures { option_map view.run result ≡ spec.run_of (words_left words.entry) }
+#[tactic(auto, unfolding(crate::specs::RunTests::run_test_of))]
+pub fn run_test_of(words: Lexer<'_>) -> Option<RunTest<'_>>
+    ensures { option_map view.run_test result ≡ spec.run_test_of (words_left words.entry) }
 {
     let (run, words) = take_state(words);
     let (count, words) = take_count(words);
@@ -39,7 +39,7 @@ pub fn run_of(words: Lexer<'_>) -> Option<Run<'_>>
     if next_word(words).is_some() || (count.is_none() && min.is_none()) {
         return None;
     }
-    Some(Run {
+    Some(RunTest {
         run,
         count,
         min,

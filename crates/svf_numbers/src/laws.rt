@@ -6,7 +6,7 @@ ghost use Rattle.svf_numbers.specs.Written.{ReadsWhatIsWritten};
 /// that, times the frequency, is at least a second, refused for 0 hertz (S5) and above 10^18 ps (S15); a time the least
 /// whole number of picoseconds that is not below it, refused above 10^18 ps (S15); a count the number itself, refused
 /// where it is not whole (S5) and from 2^32 on (S15).
-pub fn periods_and_times_are_least()
+pub fn measures_are_exact()
     ensures period { PeriodsAreLeast }
     ensures time { TimesAreLeast }
     ensures count { CountsAreWhole }

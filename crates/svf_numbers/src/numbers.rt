@@ -17,10 +17,13 @@ const PICOSECONDS_LIMIT: u128 = 1_000_000_000_000_000_000;
 const COUNT_LIMIT: u128 = 4_294_967_295;
 
 /// A scan has at most so many bits.
-const LENGTH_LIMIT: u64 = 65_536;
+const LENGTH_LIMIT: usize = 65_536;
 
-/// A number has at most so many digits before its exponent, and an exponent up to this in either direction.
+/// A number has at most so many digits before its exponent.
 const DIGITS_LIMIT: usize = 18;
+
+/// An exponent is at most this, in either direction.
+const EXPONENT_LIMIT: u32 = 18;
 
 /// A number as it is written: digits, digits behind the point, and the exponent's sign and digits.
 #[derive(Clone, Copy)]
@@ -145,14 +148,9 @@ pub fn length(word: &[u8]) -> Result<usize, Code>
     if !are_digits(word) {
         return Err(Code::BadNumber);
     }
-    if word.len() > DIGITS_LIMIT {
-        return Err(Code::TooLarge);
-    }
-    let value = digits_after(0, word);
-    if value > LENGTH_LIMIT {
-        Err(Code::TooLarge)
-    } else {
-        Ok(value as usize)
+    match length_value(word) {
+        Some(length) if length <= LENGTH_LIMIT => Ok(length),
+        _ => Err(Code::TooLarge),
     }
 }
 
@@ -182,7 +180,7 @@ fn number_value(word: &[u8]) -> Result<Scaled, Code>
         return Err(Code::TooLarge);
     }
     let exponent = capped_value(spelt.exponent);
-    if exponent > 18 {
+    if exponent > EXPONENT_LIMIT {
         return Err(Code::TooLarge);
     }
     let whole = digits_after(0, spelt.whole);
@@ -300,14 +298,14 @@ fn digits_after(start: u64, digits: &[u8]) -> u64
     value
 }
 
-/// The number that the digits write, or 19 where it is above.
+/// The number that the digits write, or the first one above the limit of exponents where it is above that.
 fn capped_value(digits: &[u8]) -> u32
     requires { list_all is_ascii_digit digits.now ≡ true }
     ensures { result ≡ min 19 (digits_value 10 digits.now) }
 {
     let mut value = 0;
     for byte in digits {
-        value = (value * 10 + u32::from(*byte - b'0')).min(19);
+        value = (value * 10 + u32::from(*byte - b'0')).min(EXPONENT_LIMIT + 1);
     }
     value
 }

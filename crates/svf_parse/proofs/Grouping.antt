@@ -8,30 +8,30 @@ use Rattle.svf_lex.specs.declared.LexFault.{LexFault}
 use Rattle.svf_lex.specs.Cutting.{Lexeme, items_of}
 use Rattle.svf_words.specs.declared.fault.Code.TheVariants as code
 use Rattle.svf_words.specs.declared.fault.SvfFault.{SvfFault}
-use Rattle.svf_words.specs.Words.{Word, Parts, last, group, with_word, with_token, parts_of, first_words}
+use Rattle.svf_words.specs.Words.{Word, Groups, last, group, with_word, with_token, groups_of, first_words}
 use Rattle.svf_parse.specs.declared.fault.Stop.{Stop}
 use Rattle.svf_parse.specs.declared.fault.Stop.TheVariants as stop
 use Rattle.svf_parse.specs.declared.statement.Statement.{Statement}
 use Rattle.svf_parse.specs.View.{said_of, Stops}
 use Rattle.svf_parse.specs.Judging.{◌>>=◌, Said}
-use Rattle.svf_parse.specs.Reading.{statement_says, parts_say, text_says, at_statement, within_limit, lex_code}
+use Rattle.svf_parse.specs.Reading.{statement_says, groups_say, text_says, at_statement, within_limit, lex_code}
 
--- words before parts
-abbrev pub with_words : List Word → Parts → Parts
-with_words [] parts = parts
-with_words (w ∷ ws) parts = with_word w (with_words ws parts)
+-- words before groups
+abbrev pub with_words : List Word → Groups → Groups
+with_words [] groups = groups
+with_words (w ∷ ws) groups = with_word w (with_words ws groups)
 
-pub with_words-push : (ws : List Word) (w : Word) (parts : Parts) → with_words (ws ++ w ∷ []) parts ≡ with_words ws (with_word w parts)
-with_words-push [] w parts = refl
-with_words-push (x ∷ ws) w parts = ap (with_word x) (with_words-push ws w parts)
+pub with_words-push : (ws : List Word) (w : Word) (groups : Groups) → with_words (ws ++ w ∷ []) groups ≡ with_words ws (with_word w groups)
+with_words-push [] w groups = refl
+with_words-push (x ∷ ws) w groups = ap (with_word x) (with_words-push ws w groups)
 
 pub with_words-last : (ws rest : List Word) (fault : Option LexFault) → with_words ws (last rest fault) ≡ last (ws ++ rest) fault
 with_words-last [] rest fault = refl
 with_words-last (w ∷ ws) rest fault = ap (with_word w) (with_words-last ws rest fault)
 
-pub with_words-group : (ws rest : List Word) (parts : Parts) → with_words ws (group rest parts) ≡ group (ws ++ rest) parts
-with_words-group [] rest parts = refl
-with_words-group (w ∷ ws) rest parts = ap (with_word w) (with_words-group ws rest parts)
+pub with_words-group : (ws rest : List Word) (groups : Groups) → with_words ws (group rest groups) ≡ group (ws ++ rest) groups
+with_words-group [] rest groups = refl
+with_words-group (w ∷ ws) rest groups = ap (with_word w) (with_words-group ws rest groups)
 
 -- statements that were read, before those that are read next
 abbrev pub in_front : List Said → Result (List Said) SvfFault → Result (List Said) SvfFault
@@ -49,31 +49,31 @@ in_front-nil (Ok ss) = refl
 abbrev pub group_says : ℕ → List Word → Result Said SvfFault
 group_says n ws = at_statement n (within_limit n (statement_says ws))
 
-pub empty_group : (n : ℕ) (ws : List Word) (parts : Parts) → ws ≡ [] → parts_say n (group ws parts) ≡ parts_say n parts
-unfolding parts_say
-empty_group n ws parts e = rw e refl
+pub empty_group : (n : ℕ) (ws : List Word) (groups : Groups) → ws ≡ [] → groups_say n (group ws groups) ≡ groups_say n groups
+unfolding groups_say
+empty_group n ws groups e = rw e refl
 
-opened : (n : ℕ) (ws : List Word) (parts : Parts) → (ws ≡ [] → ⊥) → parts_say n (group ws parts) ≡ (group_says n ws >>= λ s. parts_say (n + 1) parts >>= λ ss. Ok (s ∷ ss))
-unfolding parts_say
-opened n [] parts some = absurd (some refl)
-opened n (w ∷ ws) parts some = refl
+opened : (n : ℕ) (ws : List Word) (groups : Groups) → (ws ≡ [] → ⊥) → groups_say n (group ws groups) ≡ (group_says n ws >>= λ s. groups_say (n + 1) groups >>= λ ss. Ok (s ∷ ss))
+unfolding groups_say
+opened n [] groups some = absurd (some refl)
+opened n (w ∷ ws) groups some = refl
 
-pub said_group : (front : List Said) (n : ℕ) (ws : List Word) (parts : Parts) (s : Said) → (ws ≡ [] → ⊥) → group_says n ws ≡ Ok s
-    → in_front front (parts_say n (group ws parts)) ≡ in_front (front ++ s ∷ []) (parts_say (n + 1) parts)
-said_group front n ws parts s some says =
-    ap (in_front front) (opened n ws parts some ∙ ap (λ (r : Result Said SvfFault). r >>= λ s. parts_say (n + 1) parts >>= λ ss. Ok (s ∷ ss)) says) ∙ regroup front s (parts_say (n + 1) parts)
+pub said_group : (front : List Said) (n : ℕ) (ws : List Word) (groups : Groups) (s : Said) → (ws ≡ [] → ⊥) → group_says n ws ≡ Ok s
+    → in_front front (groups_say n (group ws groups)) ≡ in_front (front ++ s ∷ []) (groups_say (n + 1) groups)
+said_group front n ws groups s some says =
+    ap (in_front front) (opened n ws groups some ∙ ap (λ (r : Result Said SvfFault). r >>= λ s. groups_say (n + 1) groups >>= λ ss. Ok (s ∷ ss)) says) ∙ regroup front s (groups_say (n + 1) groups)
 
-pub refused_group : (front : List Said) (n : ℕ) (ws : List Word) (parts : Parts) (f : SvfFault) → (ws ≡ [] → ⊥) → group_says n ws ≡ Err f
-    → in_front front (parts_say n (group ws parts)) ≡ Err f
-refused_group front n ws parts f some says =
-    ap (in_front front) (opened n ws parts some ∙ ap (λ (r : Result Said SvfFault). r >>= λ s. parts_say (n + 1) parts >>= λ ss. Ok (s ∷ ss)) says)
+pub refused_group : (front : List Said) (n : ℕ) (ws : List Word) (groups : Groups) (f : SvfFault) → (ws ≡ [] → ⊥) → group_says n ws ≡ Err f
+    → in_front front (groups_say n (group ws groups)) ≡ Err f
+refused_group front n ws groups f some says =
+    ap (in_front front) (opened n ws groups some ∙ ap (λ (r : Result Said SvfFault). r >>= λ s. groups_say (n + 1) groups >>= λ ss. Ok (s ∷ ss)) says)
 
-pub at_last : (front : List Said) (n : ℕ) (ws : List Word) → in_front front (parts_say n (last ws None)) ≡ Ok front
-unfolding parts_say
+pub at_last : (front : List Said) (n : ℕ) (ws : List Word) → in_front front (groups_say n (last ws None)) ≡ Ok front
+unfolding groups_say
 at_last front n ws = ap (λ (x : List Said). Ok x) (append-nil front)
 
-pub at_broken : (front : List Said) (n : ℕ) (ws : List Word) (e : LexFault) → in_front front (parts_say n (last ws (Some e))) ≡ Err (record { statement = n; code = lex_code e })
-unfolding parts_say
+pub at_broken : (front : List Said) (n : ℕ) (ws : List Word) (e : LexFault) → in_front front (groups_say n (last ws (Some e))) ≡ Err (record { statement = n; code = lex_code e })
+unfolding groups_say
 at_broken front n ws e = refl
 
 filled : (n : ℕ) → nat_eq (suc n) 0 ≡ false
@@ -87,29 +87,29 @@ more_test n = grind (arith, nat_tests)
 abbrev Items : Type 0
 Items = List (Result Lexeme LexFault)
 
-pub at_fault : (start items more : Items) (ws : List Word) (item : Result Lexeme LexFault) (e : LexFault) → parts_of start ≡ with_words ws (parts_of items) → items ≡ item ∷ more → item ≡ Err e
-    → (xs : List Word) × (parts_of start ≡ last xs (Some e))
+pub at_fault : (start items more : Items) (ws : List Word) (item : Result Lexeme LexFault) (e : LexFault) → groups_of start ≡ with_words ws (groups_of items) → items ≡ item ∷ more → item ≡ Err e
+    → (xs : List Word) × (groups_of start ≡ last xs (Some e))
 at_fault start items more ws item e so_far split is =
-    (ws ++ [], so_far ∙ ap (λ (xs : Items). with_words ws (parts_of xs)) (split ∙ ap (λ (i : Result Lexeme LexFault). i ∷ more) is) ∙ with_words-last ws [] (Some e))
+    (ws ++ [], so_far ∙ ap (λ (xs : Items). with_words ws (groups_of xs)) (split ∙ ap (λ (i : Result Lexeme LexFault). i ∷ more) is) ∙ with_words-last ws [] (Some e))
 
-pub at_over : (start items : Items) (ws : List Word) → parts_of start ≡ with_words ws (parts_of items) → items ≡ [] → (xs : List Word) × (parts_of start ≡ last xs None)
-at_over start items ws so_far split = (ws ++ [], so_far ∙ ap (λ (xs : Items). with_words ws (parts_of xs)) split ∙ with_words-last ws [] None)
+pub at_over : (start items : Items) (ws : List Word) → groups_of start ≡ with_words ws (groups_of items) → items ≡ [] → (xs : List Word) × (groups_of start ≡ last xs None)
+at_over start items ws so_far split = (ws ++ [], so_far ∙ ap (λ (xs : Items). with_words ws (groups_of xs)) split ∙ with_words-last ws [] None)
 
-pub at_semi : (start items more : Items) (ws : List Word) (k : Kind) (text : List ℕ) (place : ℕ) → parts_of start ≡ with_words ws (parts_of items) → items ≡ Ok (record { kind = k; text = text; start = place }) ∷ more → k ≡ kind.Semi
-    → parts_of start ≡ group ws (parts_of more)
+pub at_semi : (start items more : Items) (ws : List Word) (k : Kind) (text : List ℕ) (place : ℕ) → groups_of start ≡ with_words ws (groups_of items) → items ≡ Ok (record { kind = k; text = text; start = place }) ∷ more → k ≡ kind.Semi
+    → groups_of start ≡ group ws (groups_of more)
 at_semi start items more ws k text place so_far split is =
-    so_far ∙ ap (λ (xs : Items). with_words ws (parts_of xs)) split ∙ ap (λ (j : Kind). with_words ws (with_token j text (parts_of more))) is ∙ with_words-group ws [] (parts_of more) ∙ ap (λ (xs : List Word). group xs (parts_of more)) (append-nil ws)
+    so_far ∙ ap (λ (xs : Items). with_words ws (groups_of xs)) split ∙ ap (λ (j : Kind). with_words ws (with_token j text (groups_of more))) is ∙ with_words-group ws [] (groups_of more) ∙ ap (λ (xs : List Word). group xs (groups_of more)) (append-nil ws)
 
-other_token : (k : Kind) (text : List ℕ) (parts : Parts) → (k ≡ kind.Semi → ⊥) → with_token k text parts ≡ with_word text parts
-other_token kind.Semi text parts other = absurd (other refl)
-other_token kind.Run text parts other = refl
-other_token kind.Open text parts other = refl
-other_token kind.Close text parts other = refl
+other_token : (k : Kind) (text : List ℕ) (groups : Groups) → (k ≡ kind.Semi → ⊥) → with_token k text groups ≡ with_word text groups
+other_token kind.Semi text groups other = absurd (other refl)
+other_token kind.Run text groups other = refl
+other_token kind.Open text groups other = refl
+other_token kind.Close text groups other = refl
 
-pub at_word : (start items more : Items) (ws : List Word) (k : Kind) (text : List ℕ) (place : ℕ) → parts_of start ≡ with_words ws (parts_of items) → items ≡ Ok (record { kind = k; text = text; start = place }) ∷ more → (k ≡ kind.Semi → ⊥)
-    → parts_of start ≡ with_words (ws ++ text ∷ []) (parts_of more)
+pub at_word : (start items more : Items) (ws : List Word) (k : Kind) (text : List ℕ) (place : ℕ) → groups_of start ≡ with_words ws (groups_of items) → items ≡ Ok (record { kind = k; text = text; start = place }) ∷ more → (k ≡ kind.Semi → ⊥)
+    → groups_of start ≡ with_words (ws ++ text ∷ []) (groups_of more)
 at_word start items more ws k text place so_far split other =
-    so_far ∙ ap (λ (xs : Items). with_words ws (parts_of xs)) split ∙ ap (with_words ws) (other_token k text (parts_of more) other) ∙ sym (with_words-push ws text (parts_of more))
+    so_far ∙ ap (λ (xs : Items). with_words ws (groups_of xs)) split ∙ ap (with_words ws) (other_token k text (groups_of more) other) ∙ sym (with_words-push ws text (groups_of more))
 
 pub some_words : (b : Bool) (ws : List Word) → b ≡ nat_eq (length ws) 0 → b ≡ false → (w : Word) × (xs : List Word) × (ws ≡ w ∷ xs)
 some_words b [] is other = absurd cc
@@ -125,32 +125,32 @@ pushed ws w = sym (rw length-append (more_test (length ws)))
 -- ---- one group more of a text, where `all` was read before it
 
 -- how many groups are closed
-abbrev pub group_count : Parts → ℕ
+abbrev pub group_count : Groups → ℕ
 group_count (last ws fault) = 0
-group_count (group ws parts) = suc (group_count parts)
+group_count (group ws groups) = suc (group_count groups)
 
-module _ (all : List Statement) (n : ℕ) (parts : Parts) (total : Result (List Said) SvfFault) (so_far : in_front (map said_of all) (parts_say n parts) ≡ total) where
-  pub told_over : (ws : List Word) → parts ≡ last ws None → total ≡ Ok (map said_of all)
-  told_over ws is = sym so_far ∙ ap (λ (p : Parts). in_front (map said_of all) (parts_say n p)) is ∙ at_last (map said_of all) n ws
+module _ (all : List Statement) (n : ℕ) (groups : Groups) (total : Result (List Said) SvfFault) (so_far : in_front (map said_of all) (groups_say n groups) ≡ total) where
+  pub told_over : (ws : List Word) → groups ≡ last ws None → total ≡ Ok (map said_of all)
+  told_over ws is = sym so_far ∙ ap (λ (p : Groups). in_front (map said_of all) (groups_say n p)) is ∙ at_last (map said_of all) n ws
 
-  pub told_broken : (ws : List Word) (e : LexFault) → parts ≡ last ws (Some e) → total ≡ Err (record { statement = n; code = lex_code e })
-  told_broken ws e is = sym so_far ∙ ap (λ (p : Parts). in_front (map said_of all) (parts_say n p)) is ∙ at_broken (map said_of all) n ws e
+  pub told_broken : (ws : List Word) (e : LexFault) → groups ≡ last ws (Some e) → total ≡ Err (record { statement = n; code = lex_code e })
+  told_broken ws e is = sym so_far ∙ ap (λ (p : Groups). in_front (map said_of all) (groups_say n p)) is ∙ at_broken (map said_of all) n ws e
 
-  pub told_empty : (after : Parts) → parts ≡ group [] after → in_front (map said_of all) (parts_say n after) ≡ total
-  told_empty after is = sym (ap (λ (p : Parts). in_front (map said_of all) (parts_say n p)) is ∙ ap (in_front (map said_of all)) (empty_group n [] after refl)) ∙ so_far
+  pub told_empty : (after : Groups) → groups ≡ group [] after → in_front (map said_of all) (groups_say n after) ≡ total
+  told_empty after is = sym (ap (λ (p : Groups). in_front (map said_of all) (groups_say n p)) is ∙ ap (in_front (map said_of all)) (empty_group n [] after refl)) ∙ so_far
 
-  pub told_said : (w : Word) (ws : List Word) (after : Parts) (x : Statement) → parts ≡ group (w ∷ ws) after → group_says n (first_words parts) ≡ Ok (said_of x)
-      → in_front (map said_of (all ++ x ∷ [])) (parts_say (n + 1) after) ≡ total
+  pub told_said : (w : Word) (ws : List Word) (after : Groups) (x : Statement) → groups ≡ group (w ∷ ws) after → group_says n (first_words groups) ≡ Ok (said_of x)
+      → in_front (map said_of (all ++ x ∷ [])) (groups_say (n + 1) after) ≡ total
   told_said w ws after x is says =
-      let says' : group_says n (w ∷ ws) ≡ Ok (said_of x) = ap (λ (p : Parts). group_says n (first_words p)) (sym is) ∙ says in
-      ap (λ (front : List Said). in_front front (parts_say (n + 1) after)) (map-append said_of all (x ∷ []))
-      ∙ sym (said_group (map said_of all) n (w ∷ ws) after (said_of x) (λ e. cc) says') ∙ ap (λ (p : Parts). in_front (map said_of all) (parts_say n p)) (sym is) ∙ so_far
+      let says' : group_says n (w ∷ ws) ≡ Ok (said_of x) = ap (λ (p : Groups). group_says n (first_words p)) (sym is) ∙ says in
+      ap (λ (front : List Said). in_front front (groups_say (n + 1) after)) (map-append said_of all (x ∷ []))
+      ∙ sym (said_group (map said_of all) n (w ∷ ws) after (said_of x) (λ e. cc) says') ∙ ap (λ (p : Groups). in_front (map said_of all) (groups_say n p)) (sym is) ∙ so_far
 
-  pub told_refused : (w : Word) (ws : List Word) (after : Parts) (e : Stop) → parts ≡ group (w ∷ ws) after → Stops e (group_says n (first_words parts)) → Stops e total
+  pub told_refused : (w : Word) (ws : List Word) (after : Groups) (e : Stop) → groups ≡ group (w ∷ ws) after → Stops e (group_says n (first_words groups)) → Stops e total
   told_refused w ws after stop.Memory is stops = tt
   told_refused w ws after (stop.Fault f) is stops =
-      let says' : group_says n (w ∷ ws) ≡ Err f = ap (λ (p : Parts). group_says n (first_words p)) (sym is) ∙ stops in
-      sym so_far ∙ ap (λ (p : Parts). in_front (map said_of all) (parts_say n p)) is ∙ refused_group (map said_of all) n (w ∷ ws) after f (λ e. cc) says'
+      let says' : group_says n (w ∷ ws) ≡ Err f = ap (λ (p : Groups). group_says n (first_words p)) (sym is) ∙ stops in
+      sym so_far ∙ ap (λ (p : Groups). in_front (map said_of all) (groups_say n p)) is ∙ refused_group (map said_of all) n (w ∷ ws) after f (λ e. cc) says'
 
 -- ---- the limit of a text
 
@@ -164,6 +164,6 @@ pub long_text : (text : List ℕ) → 16777216 < length text → text_says text 
 unfolding text_says
 long_text text h = rw (is_above 16777216 (length text) h) refl
 
-pub short_text : (text : List ℕ) → length text ≤ 16777216 → text_says text ≡ parts_say 1 (parts_of (items_of text))
+pub short_text : (text : List ℕ) → length text ≤ 16777216 → text_says text ≡ groups_say 1 (groups_of (items_of text))
 unfolding text_says
 short_text text h = rw (is_within 16777216 (length text) h) refl

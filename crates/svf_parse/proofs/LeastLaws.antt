@@ -8,10 +8,10 @@ use Rattle.svf_words.specs.declared.keywords.Clock.TheVariants as clock
 use Rattle.svf_words.specs.Words.{Word}
 use Rattle.svf_words.specs.Faults.{number, lower_code}
 use Rattle.svf_forms.specs.Fields.{Fields}
-use Rattle.svf_forms.specs.RunTests.{Run}
+use Rattle.svf_forms.specs.RunTests.{RunTest}
 use Rattle.svf_numbers.specs.Numbers.{period_says, time_says, count_says, len_says, len_value}
-use Rattle.svf_forms.specs.Forms.{Form, end_dr_form, end_ir_form, frequency_form, scan_form, run_form, states_form, trst_form, port_form}
-use Rattle.svf_parse.specs.Judging.{◌>>=◌, checked, both, given, is_misspelt, is_wider, field_fault, clock_fault, cycles_say, scan_says, scan_with, run_says, run_with, frequency, form_says}
+use Rattle.svf_forms.specs.Forms.{Form, end_dr_form, end_ir_form, frequency_form, scan_form, run_test_form, states_form, trst_form, port_form}
+use Rattle.svf_parse.specs.Judging.{◌>>=◌, checked, both, given, is_misspelt, is_wider, field_fault, clock_fault, cycles_say, scan_says, scan_with, run_test_says, run_test_with, frequency, form_says}
 use Rattle.svf_parse.specs.Least.{GivenHas, FrequencyHas, TimeHas, LengthHas, FieldHas, CountHas, Has}
 
 -- what is told of the refusals that H names
@@ -149,10 +149,10 @@ least_scan w fs =
 least_cycles : (p : Word × Clock) → Least (cycles_say p) (CountHas p)
 least_cycles p = least_checked _ _ _ _ (least_clock p.1) (least_one (count_says p.0))
 
-least_run : (r : Run) → Least (run_says r) (Has (run_form r))
-unfolding run_says
-least_run r =
-    least_then _ (run_with r) _ (least_both _ _ _ _ (least_given cycles_say CountHas r.count least_cycles) (least_both _ _ _ _ (least_given time_says TimeHas r.min (λ w. least_one (time_says w))) (least_given time_says TimeHas r.max (λ w. least_one (time_says w)))))
+least_run_test : (r : RunTest) → Least (run_test_says r) (Has (run_test_form r))
+unfolding run_test_says
+least_run_test r =
+    least_then _ (run_test_with r) _ (least_both _ _ _ _ (least_given cycles_say CountHas r.count least_cycles) (least_both _ _ _ _ (least_given time_says TimeHas r.min (λ w. least_one (time_says w))) (least_given time_says TimeHas r.max (λ w. least_one (time_says w)))))
 
 never : {A : Type 0} (x : A) → Least (Ok x) (λ c. ⊥)
 never x = record { says = λ c e. absurd cc; least = λ c d e f. absurd f; none = λ y d e f. f }
@@ -162,7 +162,7 @@ least_form (end_dr_form s) = never _
 least_form (end_ir_form s) = never _
 least_form (frequency_form n) = least_then (given period_says n) (λ p. frequency p) _ (least_given period_says FrequencyHas n (λ w. least_one (period_says w)))
 least_form (scan_form which w fs) = least_then (scan_says w fs) (scan_with which fs) _ (least_scan w fs)
-least_form (run_form r) = least_run r
+least_form (run_test_form r) = least_run_test r
 least_form (states_form ss) = never _
 least_form (trst_form t) = never _
 least_form port_form = record { says = λ c e. (let p : code.Unsupported ≡ c = cc in sym p); least = λ c d e f. let p : code.Unsupported ≡ c = cc in same_number c d (sym p ∙ sym f); none = λ x d e f. absurd cc }

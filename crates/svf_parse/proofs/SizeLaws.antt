@@ -24,11 +24,11 @@ use Rattle.svf_words.specs.declared.keywords.FieldName.{FieldName}
 use Rattle.svf_words.specs.declared.keywords.FieldName.TheVariants.{Tdi, Tdo, Mask, Smask}
 use Rattle.svf_words.specs.declared.keywords.Which.{Which}
 use Rattle.svf_words.specs.declared.keywords.Which.TheVariants as which
-use Rattle.svf_words.specs.Words.{Word, Parts, last, group, with_word, with_token, parts_of}
+use Rattle.svf_words.specs.Words.{Word, Groups, last, group, with_word, with_token, groups_of}
 use Rattle.svf_forms.specs.Fields.{Fields, no_fields, if_none, put}
 use Rattle.svf_words.specs.Keywords.{scan_word}
-use Rattle.svf_forms.specs.Forms.{Form, end_dr_form, end_ir_form, frequency_form, scan_form, run_form, states_form, trst_form, port_form}
-use Rattle.svf_parse.specs.Judging.{◌>>=◌, Said, end_dr, end_ir, frequency, states, trst, cycles_say, both, form_says, scan_says, scan_with, run_says, run_with, bits_written, bits, given}
+use Rattle.svf_forms.specs.Forms.{Form, end_dr_form, end_ir_form, frequency_form, scan_form, run_test_form, states_form, trst_form, port_form}
+use Rattle.svf_parse.specs.Judging.{◌>>=◌, Said, end_dr, end_ir, frequency, states, trst, cycles_say, both, form_says, scan_says, scan_with, run_test_says, run_test_with, bits_written, bits, given}
 use Rattle.svf_numbers.specs.Numbers.{period_says, time_says}
 use Rattle.svf_forms.specs.Grammar.{Reads, AreStates, IsField, AreFields, IsForm}
 use Rattle.svf_parse.specs.Spelling.{EachSpells, closed_by, TextSpells}
@@ -60,35 +60,35 @@ slices_fit text from (Ok t ∷ more) h le =
     omega (arith, rest, behind)
 slices_fit text from (Err e ∷ more) h le = omega arith
 
-abbrev part_total : Parts → ℕ
-part_total (last ws fault) = total ws
-part_total (group ws parts) = total ws + part_total parts
+abbrev groups_total : Groups → ℕ
+groups_total (last ws fault) = total ws
+groups_total (group ws groups) = total ws + groups_total groups
 
-word_more : (w : Word) (parts : Parts) → part_total (with_word w parts) ≡ length w + part_total parts
+word_more : (w : Word) (groups : Groups) → groups_total (with_word w groups) ≡ length w + groups_total groups
 word_more w (last ws fault) = total-cons w ws
-word_more w (group ws parts) = let more = total-cons w ws in omega (arith, more)
+word_more w (group ws groups) = let more = total-cons w ws in omega (arith, more)
 
-token_more : (k : Kind) (w : Word) (parts : Parts) → part_total (with_token k w parts) ≤ length w + part_total parts
-token_more kind.Semi w parts = omega arith
-token_more kind.Run w parts = let is = word_more w parts in omega (arith, is)
-token_more kind.Open w parts = let is = word_more w parts in omega (arith, is)
-token_more kind.Close w parts = let is = word_more w parts in omega (arith, is)
+token_more : (k : Kind) (w : Word) (groups : Groups) → groups_total (with_token k w groups) ≤ length w + groups_total groups
+token_more kind.Semi w groups = omega arith
+token_more kind.Run w groups = let is = word_more w groups in omega (arith, is)
+token_more kind.Open w groups = let is = word_more w groups in omega (arith, is)
+token_more kind.Close w groups = let is = word_more w groups in omega (arith, is)
 
 -- the words of statements are tokens
-words_fit : (given : List (Result Lexeme LexFault)) → part_total (parts_of given) ≤ item_total given
+words_fit : (given : List (Result Lexeme LexFault)) → groups_total (groups_of given) ≤ item_total given
 words_fit [] = omega arith
 words_fit (Ok t ∷ more) =
     let rest = words_fit more in
-    let one = token_more t.kind t.text (parts_of more) in
+    let one = token_more t.kind t.text (groups_of more) in
     omega (arith, rest, one)
 words_fit (Err e ∷ more) = omega arith
 
 abbrev group_total : List (List Word) → ℕ
 group_total gs = sum_by (λ ws. total ws) gs
 
-groups_are_parts : (gs : List (List Word)) → part_total (closed_by gs (last [] None)) ≡ group_total gs
-groups_are_parts [] = refl
-groups_are_parts (g ∷ gs) = ap (λ k. total g + k) (groups_are_parts gs) ∙ sym (sum_by-cons (λ ws. total ws) g gs)
+closed_total : (gs : List (List Word)) → groups_total (closed_by gs (last [] None)) ≡ group_total gs
+closed_total [] = refl
+closed_total (g ∷ gs) = ap (λ k. total g + k) (closed_total gs) ∙ sym (sum_by-cons (λ ws. total ws) g gs)
 
 -- ---- the bits of fields
 
@@ -234,7 +234,7 @@ scan_fits which fs n =
     omega (arith, tdi, tdo, mask, smask)
 
 form_fits : (ws : List Word) (f : Form) (s : Said) → IsForm ws f → form_says f ≡ Ok s → size s ≤ 4 * total ws
-unfolding run_says
+unfolding run_test_says
 form_fits ws (end_dr_form st) s h says = one_fits h.0 (codes "ENDDR") ws (h.1 ∷ []) s h.2 h.3 (omega arith) (size_said (end_dr st) s says)
 form_fits ws (end_ir_form st) s h says = one_fits h.0 (codes "ENDIR") ws (h.1 ∷ []) s h.2 h.3 (omega arith) (size_said (end_ir st) s says)
 form_fits ws (frequency_form None) s h says = one_fits h.0 (codes "FREQUENCY") ws [] s h.1 h.2 (omega arith) (size_said (frequency None) s says)
@@ -252,8 +252,8 @@ form_fits ws (scan_form which w fs) s h says =
     let bound = scan_fits which fs n.0 in
     let is = ap size n.1 in
     omega (arith, command, digits, all, others, bound, is)
-form_fits ws (run_form r) s h says =
-    let p = made_by (both (given cycles_say r.count) (both (given time_says r.min) (given time_says r.max))) (run_with r) s says in
+form_fits ws (run_test_form r) s h says =
+    let p = made_by (both (given cycles_say r.count) (both (given time_says r.min) (given time_says r.max))) (run_test_with r) s says in
     one_fits h.0 (codes "RUNTEST") ws h.1 s h.2 h.3 (omega arith) (ap size (sym p.1))
 form_fits ws (states_form ss) s h says =
     let k = h.0 in
@@ -287,7 +287,7 @@ small_text text ss h =
     let tokens = h.0 in
     let gs = h.1 in
     let statements = each_fits gs ss h.6 in
-    let words : group_total gs ≡ part_total (parts_of tokens) = sym (groups_are_parts gs) ∙ ap part_total (sym h.5) in
+    let words : group_total gs ≡ groups_total (groups_of tokens) = sym (closed_total gs) ∙ ap groups_total (sym h.5) in
     let tokens_fit = words_fit tokens in
     let slices : item_total tokens ≡ item_total (items_of text) = ap item_total (sym ((lexer_gives text tokens).0 h.4)) in
     let fit = slices_fit text 0 (items_of text) (slices_in_order text) (omega arith) in

@@ -14,9 +14,9 @@ use Rattle.svf_words.specs.declared.keywords.Clock.TheVariants as clock
 use Rattle.svf_words.specs.Words.{Word}
 use Rattle.svf_words.specs.Faults.{lower_code}
 use Rattle.svf_forms.specs.Fields.{Fields}
-use Rattle.svf_forms.specs.RunTests.{Run}
+use Rattle.svf_forms.specs.RunTests.{RunTest}
 use Rattle.svf_numbers.specs.Numbers.{period_says, time_says, count_says, len_says, len_value}
-use Rattle.svf_forms.specs.Forms.{Form, end_dr_form, end_ir_form, frequency_form, scan_form, run_form, states_form}
+use Rattle.svf_forms.specs.Forms.{Form, end_dr_form, end_ir_form, frequency_form, scan_form, run_test_form, states_form}
 use Rattle.svf_forms.specs.Forms.{trst_form, port_form}
 
 -- a statement, without where it lies in memory
@@ -95,12 +95,12 @@ clock_fault clock.Sck = Some code.Unsupported
 abbrev pub cycles_say : Word × Clock → Result ℕ Code
 cycles_say c = checked (clock_fault c.1) (count_says c.0)
 
-abbrev pub run_with : Run → Option ℕ × (Option ℕ × Option ℕ) → Said
-run_with r p = run_test r.run p.0 p.1.0 p.1.1 r.end
+abbrev pub run_test_with : RunTest → Option ℕ × (Option ℕ × Option ℕ) → Said
+run_test_with r p = run_test r.run p.0 p.1.0 p.1.1 r.end
 
-unfoldable pub run_says : Run → Result Said Code
-run_says r = both (given cycles_say r.count) (both (given time_says r.min) (given time_says r.max)) >>= λ p. Ok
-    (run_with r p)
+unfoldable pub run_test_says : RunTest → Result Said Code
+run_test_says r = both (given cycles_say r.count) (both (given time_says r.min) (given time_says r.max)) >>= λ p. Ok
+    (run_test_with r p)
 
 -- ---- each form
 
@@ -109,7 +109,7 @@ form_says (end_dr_form s) = Ok (end_dr s)
 form_says (end_ir_form s) = Ok (end_ir s)
 form_says (frequency_form n) = given period_says n >>= λ p. Ok (frequency p)
 form_says (scan_form which w fs) = scan_says w fs >>= λ n. Ok (scan_with which fs n)
-form_says (run_form r) = run_says r
+form_says (run_test_form r) = run_test_says r
 form_says (states_form ss) = Ok (states ss)
 form_says (trst_form t) = Ok (trst t)
 form_says port_form = Err code.Unsupported

@@ -7,7 +7,7 @@ use Rattle.svf_words.specs.declared.keywords.Clock.TheVariants as clock
 use Rattle.svf_words.specs.Words.{Word}
 use Rattle.svf_words.specs.Faults.{number}
 use Rattle.svf_numbers.specs.Numbers.{period_says, time_says, count_says, len_says, len_value}
-use Rattle.svf_forms.specs.Forms.{Form, end_dr_form, end_ir_form, frequency_form, scan_form, run_form, states_form}
+use Rattle.svf_forms.specs.Forms.{Form, end_dr_form, end_ir_form, frequency_form, scan_form, run_test_form, states_form}
 use Rattle.svf_forms.specs.Forms.{trst_form, port_form}
 use Rattle.svf_parse.specs.Judging.{Said, is_misspelt, is_wider, form_says}
 
@@ -43,7 +43,7 @@ Has (frequency_form n) c = GivenHas FrequencyHas n c
 Has (scan_form which w fs) c =
     GivenHas (FieldHas (len_value w)) fs.tdi c ⊎ (GivenHas (FieldHas (len_value w)) fs.tdo c
     ⊎ (GivenHas (FieldHas (len_value w)) fs.mask c ⊎ (GivenHas (FieldHas (len_value w)) fs.smask c ⊎ LengthHas w c)))
-Has (run_form r) c = GivenHas CountHas r.count c ⊎ (GivenHas TimeHas r.min c ⊎ GivenHas TimeHas r.max c)
+Has (run_test_form r) c = GivenHas CountHas r.count c ⊎ (GivenHas TimeHas r.min c ⊎ GivenHas TimeHas r.max c)
 Has (states_form ss) c = ⊥
 Has (trst_form t) c = ⊥
 Has port_form c = c ≡ code.Unsupported

@@ -7,7 +7,7 @@ use Rattle.svf_words.specs.declared.fault.Code.{Code}
 use Rattle.svf_words.specs.declared.fault.Code.TheVariants as code
 use Rattle.svf_words.specs.declared.fault.SvfFault.{SvfFault}
 use Rattle.svf_words.specs.declared.keywords.Command.{Command}
-use Rattle.svf_words.specs.Words.{Word, Parts, last, group, parts_of}
+use Rattle.svf_words.specs.Words.{Word, Groups, last, group, groups_of}
 use Rattle.svf_words.specs.Keywords.{command_of}
 use Rattle.svf_forms.specs.Forms.{form_of}
 use Rattle.svf_parse.specs.Judging.{◌>>=◌, Said, form_says}
@@ -46,16 +46,16 @@ at_statement n (Err c) = Err (record { statement = n; code = c })
 abbrev pub within_limit : ℕ → Result Said Code → Result Said Code
 within_limit n says = says >>= λ s. if nat_lt statement_limit n then Err code.TooLarge else Ok s
 
--- what the parts say from statement n on: a group without words is no statement
-unfoldable pub parts_say : ℕ → Parts → Result (List Said) SvfFault
-parts_say n (last ws None) = Ok []
-parts_say n (last ws (Some e)) = Err (record { statement = n; code = lex_code e })
-parts_say n (group [] parts) = parts_say n parts
-parts_say n (group (w ∷ ws) parts) =
-    at_statement n (within_limit n (statement_says (w ∷ ws))) >>= λ s. parts_say (n + 1) parts >>= λ ss. Ok (s ∷ ss)
+-- what the groups say from statement n on: a group without words is no statement
+unfoldable pub groups_say : ℕ → Groups → Result (List Said) SvfFault
+groups_say n (last ws None) = Ok []
+groups_say n (last ws (Some e)) = Err (record { statement = n; code = lex_code e })
+groups_say n (group [] groups) = groups_say n groups
+groups_say n (group (w ∷ ws) groups) =
+    at_statement n (within_limit n (statement_says (w ∷ ws))) >>= λ s. groups_say (n + 1) groups >>= λ ss. Ok (s ∷ ss)
 
 -- what a text says
 unfoldable pub text_says : List ℕ → Result (List Said) SvfFault
 text_says text =
     if nat_lt text_limit (length text) then Err (record { statement = 0; code = code.TooLarge })
-    else parts_say 1 (parts_of (items_of text))
+    else groups_say 1 (groups_of (items_of text))

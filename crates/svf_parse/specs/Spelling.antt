@@ -7,7 +7,7 @@ use Rattle.svf_lex.specs.Lexed.{Lexes}
 use Rattle.svf_words.specs.declared.fault.Code.{Code}
 use Rattle.svf_words.specs.declared.fault.Code.TheVariants as code
 use Rattle.svf_words.specs.declared.fault.SvfFault.{SvfFault}
-use Rattle.svf_words.specs.Words.{Word, Parts, last, group, parts_of}
+use Rattle.svf_words.specs.Words.{Word, Groups, last, group, groups_of}
 use Rattle.svf_forms.specs.Forms.{Form}
 use Rattle.svf_forms.specs.Grammar.{IsForm, HasCommand}
 use Rattle.svf_parse.specs.Judging.{Said, form_says}
@@ -31,10 +31,10 @@ EachSpells ([] ∷ gs) ss = EachSpells gs ss
 EachSpells ((w ∷ ws) ∷ gs) [] = ⊥
 EachSpells ((w ∷ ws) ∷ gs) (s ∷ ss) = Spells (w ∷ ws) s × EachSpells gs ss
 
--- groups, each closed by a `;`, and then these parts
-abbrev pub closed_by : List (List Word) → Parts → Parts
-closed_by [] parts = parts
-closed_by (g ∷ gs) parts = group g (closed_by gs parts)
+-- groups, each closed by a `;`, and then these groups
+abbrev pub closed_by : List (List Word) → Groups → Groups
+closed_by [] groups = groups
+closed_by (g ∷ gs) groups = group g (closed_by gs groups)
 
 -- The text spells these statements: its tokens are cut at each `;`, each group that has words spells one, and nothing
 -- stands after the last `;`.
@@ -42,28 +42,28 @@ abbrev pub TextSpells : List ℕ → List Said → Type 0
 TextSpells text ss =
     (tokens : List (Result Lexeme LexFault)) × (gs : List (List Word)) × (length text ≤ text_limit)
     × (length ss ≤ statement_limit)
-    × Lexes text tokens × (parts_of tokens ≡ closed_by gs (last [] None)) × EachSpells gs ss
+    × Lexes text tokens × (groups_of tokens ≡ closed_by gs (last [] None)) × EachSpells gs ss
 
 -- the refusal of the statement behind these
 abbrev pub fault_behind : List Said → Code → SvfFault
 fault_behind ss c = record { statement = length ss + 1; code = c }
 
--- The first refusal of parts: what stands before it spells statements, and then the text is faulty before another `;`,
+-- The first refusal of groups: what stands before it spells statements, and then the text is faulty before another `;`,
 -- or the next group with words has the refusal, or that group is a statement too many.
-pub data FirstRefusal (parts : Parts) (f : SvfFault) : Type 0 where
+pub data FirstRefusal (groups : Groups) (f : SvfFault) : Type 0 where
   at_end : (gs : List (List Word)) (ws : List Word) (ss : List Said) (e : LexFault)
-      → parts ≡ closed_by gs (last ws (Some e)) → EachSpells gs ss
-      → length ss ≤ statement_limit → f ≡ fault_behind ss (lex_code e) → FirstRefusal parts f
-  in_words : (gs : List (List Word)) (w : Word) (ws : List Word) (after : Parts) (ss : List Said) (c : Code)
-      → parts ≡ closed_by gs (group (w ∷ ws) after) → EachSpells gs ss
-      → length ss ≤ statement_limit → Refuses (w ∷ ws) c → f ≡ fault_behind ss c → FirstRefusal parts f
-  past_limit : (gs : List (List Word)) (w : Word) (ws : List Word) (after : Parts) (ss : List Said) (s : Said)
-      → parts ≡ closed_by gs (group (w ∷ ws) after) → EachSpells gs ss
-      → length ss ≡ statement_limit → Spells (w ∷ ws) s → f ≡ fault_behind ss code.TooLarge → FirstRefusal parts f
+      → groups ≡ closed_by gs (last ws (Some e)) → EachSpells gs ss
+      → length ss ≤ statement_limit → f ≡ fault_behind ss (lex_code e) → FirstRefusal groups f
+  in_words : (gs : List (List Word)) (w : Word) (ws : List Word) (after : Groups) (ss : List Said) (c : Code)
+      → groups ≡ closed_by gs (group (w ∷ ws) after) → EachSpells gs ss
+      → length ss ≤ statement_limit → Refuses (w ∷ ws) c → f ≡ fault_behind ss c → FirstRefusal groups f
+  past_limit : (gs : List (List Word)) (w : Word) (ws : List Word) (after : Groups) (ss : List Said) (s : Said)
+      → groups ≡ closed_by gs (group (w ∷ ws) after) → EachSpells gs ss
+      → length ss ≡ statement_limit → Spells (w ∷ ws) s → f ≡ fault_behind ss code.TooLarge → FirstRefusal groups f
 
 -- the first refusal of a text
 abbrev pub TextRefuses : List ℕ → SvfFault → Type 0
 TextRefuses text f =
     ((text_limit < length text) × (f ≡ record { statement = 0; code = code.TooLarge }))
     ⊎ ((length text ≤ text_limit) × (tokens : List (Result Lexeme LexFault)) × Lexes text tokens
-    × FirstRefusal (parts_of tokens) f)
+    × FirstRefusal (groups_of tokens) f)

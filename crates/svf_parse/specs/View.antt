@@ -13,7 +13,7 @@ use Rattle.svf_parse.specs.declared.statement.Statement.{Statement}
 use Rattle.svf_parse.specs.declared.statement.Statement.TheVariants as statement
 use Rattle.svf_parse.specs.declared.text.Group.{Group}
 use Rattle.svf_parse.specs.declared.text.Group.TheVariants.{Over, Broken, Empty, Words}
-use Rattle.svf_words.specs.Words.{Word, Parts, last, group, parts_of}
+use Rattle.svf_words.specs.Words.{Word, Groups, last, group, groups_of}
 use Rattle.svf_parse.specs.Judging.{Said, end_dr, end_ir, frequency, scan, states, trst}
 use Rattle.svf_parse.specs.Judging as judging
 
@@ -56,8 +56,8 @@ Parses (Ok v) says = says ≡ Ok (map said_of v.items)
 Parses (Err f) says = f ≢ memory_fault → says ≡ Err f
 
 -- what stands at a lexer: the text's end, a fault, or a group of words and the lexer behind it
-abbrev pub IsGroup : Group → Parts → Type 0
-IsGroup Over parts = (ws : List Word) × (parts ≡ last ws None)
-IsGroup (Broken e) parts = (ws : List Word) × (parts ≡ last ws (Some e))
-IsGroup (Empty after) parts = parts ≡ group [] (parts_of (left after))
-IsGroup (Words after) parts = (w : Word) × (ws : List Word) × (parts ≡ group (w ∷ ws) (parts_of (left after)))
+abbrev pub IsGroup : Group → Groups → Type 0
+IsGroup Over groups = (ws : List Word) × (groups ≡ last ws None)
+IsGroup (Broken e) groups = (ws : List Word) × (groups ≡ last ws (Some e))
+IsGroup (Empty after) groups = groups ≡ group [] (groups_of (left after))
+IsGroup (Words after) groups = (w : Word) × (ws : List Word) × (groups ≡ group (w ∷ ws) (groups_of (left after)))

@@ -17,7 +17,7 @@ use jt_bits::{Bits, has_one_beyond};
 use std::alloc::Global;
 use svf_forms::fields::Fields;
 use svf_forms::forms::Written;
-use svf_forms::run_test::Run;
+use svf_forms::run_test::RunTest;
 use svf_numbers::{count, length, length_value, period, time};
 use svf_words::Code;
 use svf_words::keywords::{Clock, Which};
@@ -35,7 +35,7 @@ pub(crate) fn form_says(alloc: Global, form: Written<'_>) -> Result<Statement, R
             Err(code) => Err(Refusal::Code(code)),
         },
         Written::Scan(which, len, fields) => scan(alloc, which, len, fields),
-        Written::RunTest(run) => run_test(run),
+        Written::RunTest(test) => run_test(test),
         Written::States(states) => Ok(Statement::States(states)),
         Written::Trst(word) => Ok(Statement::Trst(word)),
         Written::Port => Err(Refusal::Code(Code::Unsupported)),
@@ -154,18 +154,18 @@ fn bits(alloc: Global, len: usize, digits: &Option<Vec<u8>>) -> Result<Option<Bi
 
 // ---- runs
 
-#[tactic(auto, unfolding(crate::specs::Judging::run_says))]
-fn run_test(run: Run<'_>) -> Result<Statement, Refusal>
-    ensures { Gives said_of result (spec.run_says (view.run run.entry)) }
+#[tactic(auto, unfolding(crate::specs::Judging::run_test_says))]
+fn run_test(test: RunTest<'_>) -> Result<Statement, Refusal>
+    ensures { Gives said_of result (spec.run_test_says (view.run_test test.entry)) }
 {
-    let times = both(given_time(run.min), given_time(run.max));
-    match both(given_cycles(run.count), times) {
+    let times = both(given_time(test.min), given_time(test.max));
+    match both(given_cycles(test.count), times) {
         Ok((count, (min_ps, max_ps))) => Ok(Statement::RunTest {
-            run: run.run,
+            run: test.run,
             count,
             min_ps,
             max_ps,
-            end: run.end,
+            end: test.end,
         }),
         Err(code) => Err(Refusal::Code(code)),
     }

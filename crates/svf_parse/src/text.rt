@@ -3,9 +3,9 @@ ghost use Rattle.std.specs.Prelude.{◌≡◌, ◌*◌, ◌≤◌, length, map, 
 ghost use Rattle.std.specs.List.{sum_by};
 ghost use Rattle.svf_lex.specs.Left.{left};
 ghost use Rattle.svf_parse.specs.Judging.{Said};
-ghost use Rattle.svf_words.specs.Words.{words_left, parts_of};
+ghost use Rattle.svf_words.specs.Words.{words_left, groups_of};
 ghost use Rattle.svf_parse.specs.Reading as spec;
-ghost use Rattle.svf_parse.specs.Reading.{text_says, parts_say, at_statement, within_limit, statement_says};
+ghost use Rattle.svf_parse.specs.Reading.{text_says, groups_say, at_statement, within_limit, statement_says};
 ghost use Rattle.svf_parse.specs.Spelling.{TextSpells, TextRefuses};
 ghost use Rattle.svf_parse.specs.Sizes.{size};
 ghost use Rattle.svf_parse.specs.View.{Gives, Tells, Parses, IsGroup, said_of, memory_fault};
@@ -76,7 +76,7 @@ fn read(alloc: Global, text: &[u8]) -> Result<Vec<Statement>, SvfFault>
 }
 
 fn statements(alloc: Global, text: Lexer<'_>) -> Result<Vec<Statement>, Stop>
-    ensures { Tells (λ v. map said_of v.items) result (parts_say 1 (parts_of (left text.entry))) }
+    ensures { Tells (λ v. map said_of v.items) result (groups_say 1 (groups_of (left text.entry))) }
 {
     let mut all = Vec::new(alloc);
     let mut lexer = text;
@@ -153,7 +153,7 @@ fn lex_code(fault: LexFault) -> Code
 
 /// The next statement's tokens, up to its `;`.
 fn next_group(lexer: Lexer<'_>) -> Group<'_>
-    ensures { IsGroup result (parts_of (left lexer.entry)) }
+    ensures { IsGroup result (groups_of (left lexer.entry)) }
 {
     let mut after = lexer;
     let mut is_empty = true;

@@ -1,12 +1,24 @@
 -- The fields in force at a scan, by the statements in which they are written.
 use Rattle.std.proofs.Common.{◌≡◌, ℕ, Bool, List, Option, Some, None, refl, ap, ◌∙◌, if◌then◌else◌, is_some}
-use Rattle.std.specs.Prelude.{slice_get, option_and_then, unwrap_or}
+use Rattle.std.specs.Prelude.{slice_get, option_and_then, option_map, unwrap_or}
 use Rattle.svf_words.specs.declared.keywords.Which.{Which}
 use Rattle.svf_parse.specs.Judging.{Said}
 use Rattle.svf_parse.specs.Judging as said
 use Rattle.scan_vectors.specs.Fields.{Fields}
 use Rattle.svf_settings.specs.LookBack.{field_or, in_force}
-use Rattle.svf_programs.specs.Held.{field_at, len_in, part_in, tdi_of, tdo_of, mask_of}
+use Rattle.svf_programs.specs.Held.{field_at, len_in, part_in, parts_in, tdi_of, tdo_of, mask_of}
+use Rattle.svf_programs.specs.declared.kept.KeptPart.{KeptPart}
+
+-- where a kept part has its fields from
+pub tdi_kept : (all : List Said) (part : Option KeptPart)
+    → option_and_then (field_at tdi_of all) (option_map (λ p. p.tdi) part) ≡ option_and_then (λ f. f.tdi) (parts_in all part)
+tdi_kept all None = refl
+tdi_kept all (Some p) = refl
+
+pub mask_kept : (all : List Said) (part : Option KeptPart)
+    → option_and_then (field_at mask_of all) (option_map (λ p. p.mask) part) ≡ option_and_then (λ f. f.mask) (parts_in all part)
+mask_kept all None = refl
+mask_kept all (Some p) = refl
 
 -- this place where the field is given there, and else the earlier one
 abbrev chosen : ℕ → Option (List Bool) → Option ℕ → ℕ

@@ -53,10 +53,14 @@ run_end (_ ∷ before) = run_end before
 
 -- ---- time
 
--- the period of TCK in picoseconds: a microsecond where no frequency is given
+-- the period of TCK in picoseconds where no frequency is given: that of 1 MHz
+abbrev pub default_period : ℕ
+default_period = 1000000
+
+-- the period of TCK in picoseconds
 abbrev pub period : List Said → ℕ
-period [] = 1000000
-period (said.frequency p ∷ before) = unwrap_or p 1000000
+period [] = default_period
+period (said.frequency p ∷ before) = unwrap_or p default_period
 period (_ ∷ before) = period before
 
 -- the cycles of a RUNTEST: at least its count, and at least its least time

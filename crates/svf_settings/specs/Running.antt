@@ -5,7 +5,7 @@ use Rattle.svf_words.specs.declared.keywords.Which.TheVariants.{Hdr, Hir, Tdr, T
 use Rattle.svf_parse.specs.Judging.{Said}
 use Rattle.svf_parse.specs.Judging as said
 use Rattle.scan_vectors.specs.Fields.{Fields}
-use Rattle.svf_settings.specs.LookBack.{Settings, settings, in_force, last_of_command, runs_in, ends_in}
+use Rattle.svf_settings.specs.LookBack.{Settings, settings, default_period, in_force, last_of_command, runs_in, ends_in}
 
 abbrev pub with_scan : Which → Fields → Settings → Settings
 with_scan Hdr f st = record st { hdr = Some f }
@@ -18,7 +18,7 @@ with_scan Sir f st = record st { sir = Some f }
 abbrev pub next : Settings → Said → Settings
 next st (said.end_dr s) = record st { dr_end = s }
 next st (said.end_ir s) = record st { ir_end = s }
-next st (said.frequency p) = record st { period = unwrap_or p 1000000 }
+next st (said.frequency p) = record st { period = unwrap_or p default_period }
 next st (said.scan which n tdi tdo mask smask) = with_scan which (in_force n tdi tdo mask (last_of_command which st)) st
 next st (said.run_test run count min max end) =
     record st { run_state = runs_in run st.run_state; run_end = ends_in run end st.run_end }

@@ -106,10 +106,10 @@ fn push_made(steps: &mut Vec<KeptStep>, number: u32, made: Option<Kept>) -> Resu
 {
     match made {
         None => Ok(()),
-        Some(what) => match steps.push(KeptStep { number, what }) {
-            Ok(()) => Ok(()),
-            Err(_) => Err(AllocError),
-        },
+        Some(what) => {
+            steps.push(KeptStep { number, what })?;
+            Ok(())
+        }
     }
 }
 

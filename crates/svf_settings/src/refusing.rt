@@ -117,10 +117,8 @@ impl Running {
             ≡ look.field_or (λ f. f.tdi) len None
             (look.last_of_command which (settings_in (map said_of statements.now) self.now)) }
     {
-        match self.last(which) {
-            Some(part) if len_at(statements, part.at) == len => tdi_at(statements, part.tdi),
-            _ => None,
-        }
+        let part = self.last_as_long(statements, which, len)?;
+        tdi_at(statements, part.tdi)
     }
 
     /// The refusal of a scan of a register, which has a TDI if it has bits.

@@ -42,8 +42,6 @@ fn read(alloc: Global, statements: Vec<Statement>) -> Result<Program, SvfFault>
     ensures answers { Answers result (resolution (map said_of statements.items)) }
     ensures held { IfOk result (λ p. p.held ≡ sum_by content (map said_of statements.items)) }
 {
-    match kept_steps(alloc, statements.as_slice()) {
-        Ok(steps) => Ok(Program::of(statements, steps)),
-        Err(fault) => Err(fault),
-    }
+    let steps = kept_steps(alloc, statements.as_slice())?;
+    Ok(Program::of(statements, steps))
 }

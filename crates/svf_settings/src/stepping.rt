@@ -1,21 +1,21 @@
 //! What a statement makes and sets at the settings there.
 
 ghost use Rattle.std.specs.Prelude.{◌≡◌, ℕ, Bool, List, Option, Some, None, if◌then◌else◌, is_some, map};
-ghost use Rattle.std.specs.Prelude.{option_and_then, option_map, slice_get, unwrap_or};
+ghost use Rattle.std.specs.Prelude.{option_map, slice_get, unwrap_or};
 ghost use Rattle.svf_parse.specs.View.{said_of};
 ghost use Rattle.svf_parse.specs.Judging.{Said};
 ghost use Rattle.svf_parse.specs.Judging as says;
 ghost use Rattle.svf_programs.specs.Steps as steps;
 ghost use Rattle.svf_settings.specs.LookBack as look;
 ghost use Rattle.svf_settings.specs.Running as running;
-ghost use Rattle.svf_programs.specs.Held.{field_at, mask_of, part_in, parts_in, step_in, tdi_of};
+ghost use Rattle.svf_programs.specs.Held.{part_in, step_in};
 ghost use Rattle.svf_settings.specs.Held.{settings_in};
 
-use crate::running::Running;
+use crate::running::{DEFAULT_PERIOD, Running};
 use jt_bits::Bits;
 use jt_tap::{Column, State};
 use svf_parse::{Statement, TrstWord, Which};
-use svf_programs::{Kept, KeptPart, len_at, path_at};
+use svf_programs::{Kept, KeptPart, path_at};
 use tap_paths::last_of;
 
 impl Running {
@@ -104,11 +104,11 @@ impl Running {
             → part_in all result
             ≡ look.in_force len tdi.now tdo mask.now (look.last_of_command which (settings_in all self.now)) }
     {
-        let previous = self.last(which);
+        let earlier = self.last_as_long(statements, which, len);
         KeptPart {
             at: index,
-            tdi: written_or(index, tdi, tdi_before(statements, previous, len)),
-            mask: written_or(index, mask, mask_before(statements, previous, len)),
+            tdi: written_or(index, tdi, earlier.map(|part| part.tdi)),
+            mask: written_or(index, mask, earlier.map(|part| part.mask)),
         }
     }
 
@@ -133,7 +133,7 @@ impl Running {
                 ..*self
             },
             Statement::Frequency(period) => Running {
-                period: period.unwrap_or(1_000_000),
+                period: period.unwrap_or(DEFAULT_PERIOD),
                 ..*self
             },
             Statement::Scan {
@@ -201,28 +201,6 @@ fn written_or(index: u32, field: &Option<Bits>, earlier: Option<u32>) -> u32
         index
     } else {
         earlier.unwrap_or(index)
-    }
-}
-
-/// Where the TDI stands that a scan of this length takes over.
-fn tdi_before(statements: &[Statement], previous: Option<KeptPart>, len: usize) -> Option<u32>
-    ensures { let all = map said_of statements.now in
-        option_and_then (field_at tdi_of all) result ≡ look.field_or (λ f. f.tdi) len None (parts_in all previous) }
-{
-    match previous {
-        Some(part) if len_at(statements, part.at) == len => Some(part.tdi),
-        _ => None,
-    }
-}
-
-/// Where the MASK stands that a scan of this length takes over.
-fn mask_before(statements: &[Statement], previous: Option<KeptPart>, len: usize) -> Option<u32>
-    ensures { let all = map said_of statements.now in
-        option_and_then (field_at mask_of all) result ≡ look.field_or (λ f. f.mask) len None (parts_in all previous) }
-{
-    match previous {
-        Some(part) if len_at(statements, part.at) == len => Some(part.mask),
-        _ => None,
     }
 }
 

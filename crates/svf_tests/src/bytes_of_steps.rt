@@ -1,3 +1,4 @@
+//! The bytes of steps, also where they are resumed at any of them.
 ghost use Rattle.std.specs.Prelude.{◌≡◌, true};
 ghost use Rattle.jt_tap.specs.Controller.{is_stable};
 ghost use Rattle.svf_programs.specs.Legal.{IsFormed};
@@ -80,10 +81,10 @@ fn the_longest_run(rt: HostRuntime) {
         },
     };
     let mut bytes = StepBytes::of(State::DrPause, &step);
-    // two cycles lead there and three away
-    assert_eq!(rt; bytes.left(), 2 * (2 + 1 + 4_294_967_295 + 3) + 1);
+    // three cycles lead there (EXIT2, UPDATE and IDLE) and three away
+    assert_eq!(rt; bytes.left(), 2 * (3 + 4_294_967_295 + 3) + 1);
     assert_eq!(rt; bytes.next(), Some(b'2'));
-    assert_eq!(rt; bytes.left(), 2 * (2 + 1 + 4_294_967_295 + 3));
+    assert_eq!(rt; bytes.left(), 2 * (3 + 4_294_967_295 + 3));
 }
 
 #[test]

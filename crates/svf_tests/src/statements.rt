@@ -1,3 +1,4 @@
+//! The statements that texts spell, and the refusals of texts that spell none.
 use jt_bits::Bits;
 use jt_tap::{Column, State};
 use std::alloc::Global;

@@ -1,3 +1,4 @@
+//! The steps that statements come to, and the refusals of statements that come to none.
 use jt_tap::State;
 use scan_vectors::Vector;
 use std::alloc::{AllocError, Global};

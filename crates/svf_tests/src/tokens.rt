@@ -1,3 +1,4 @@
+//! The tokens of texts, and the faults that they end in.
 use std::process::Abort;
 use std::test::Fail;
 use svf_lex::{Kind, LexFault, Lexer};

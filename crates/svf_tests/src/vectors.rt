@@ -1,3 +1,4 @@
+//! Whole vectors, bit by bit, and the least bit that differs.
 ghost use Rattle.std.specs.Prelude.{◌≡◌};
 
 use jt_bits::{Bits, HexFault};

@@ -14,33 +14,33 @@ abbrev pub Word : Type 0
 Word = List ℕ
 
 -- groups of words, each closed by a `;`, and what stands after the last one: it is empty, or the text is faulty there
-pub data Parts : Type 0 where
-  last : List Word → Option LexFault → Parts
-  group : List Word → Parts → Parts
+pub data Groups : Type 0 where
+  last : List Word → Option LexFault → Groups
+  group : List Word → Groups → Groups
 
--- a word before these parts
-abbrev pub with_word : Word → Parts → Parts
+-- a word before these groups
+abbrev pub with_word : Word → Groups → Groups
 with_word w (last ws fault) = last (w ∷ ws) fault
-with_word w (group ws parts) = group (w ∷ ws) parts
+with_word w (group ws groups) = group (w ∷ ws) groups
 
-abbrev pub with_token : Kind → Word → Parts → Parts
-with_token kind.Semi w parts = group [] parts
-with_token k w parts = with_word w parts
+abbrev pub with_token : Kind → Word → Groups → Groups
+with_token kind.Semi w groups = group [] groups
+with_token k w groups = with_word w groups
 
 -- tokens are cut at each `;`
-abbrev pub parts_of : List (Result Lexeme LexFault) → Parts
-parts_of [] = last [] None
-parts_of (Err e ∷ items) = last [] (Some e)
-parts_of (Ok t ∷ items) = with_token t.kind t.text (parts_of items)
+abbrev pub groups_of : List (Result Lexeme LexFault) → Groups
+groups_of [] = last [] None
+groups_of (Err e ∷ items) = last [] (Some e)
+groups_of (Ok t ∷ items) = with_token t.kind t.text (groups_of items)
 
 -- the words up to the first `;`
-abbrev pub first_words : Parts → List Word
+abbrev pub first_words : Groups → List Word
 first_words (last ws fault) = ws
-first_words (group ws parts) = ws
+first_words (group ws groups) = ws
 
 -- the words that are left of the statement at a lexer
 unfoldable pub words_left : Lexer → List Word
-words_left lexer = first_words (parts_of (left lexer))
+words_left lexer = first_words (groups_of (left lexer))
 
 -- a word in lower case
 abbrev pub lower : List ℕ → List ℕ

@@ -29,8 +29,8 @@ pub enum Code {
     /// Hexadecimal digits have a 1 beyond the length.
     #[error("S6 TooWide")]
     TooWide,
-    /// A scan of some bits gives no TDI and takes none over: its command has no previous statement, or one that has
-    /// none in force, or another length.
+    /// A scan of some bits gives no TDI and takes none over: its command has no previous statement, or one of another
+    /// length.
     #[error("S7 MissingTdi")]
     MissingTdi,
     /// An unstable state where a stable one is needed.

@@ -7,7 +7,7 @@ use bitbang_table::Cycle;
 use jt_tap::State;
 
 /// The cycle that enters a state.
-pub(crate) fn walk(state: State) -> Cycle
+pub(crate) fn entering(state: State) -> Cycle
     ensures { result ≡ spec.entering state }
 {
     Cycle {

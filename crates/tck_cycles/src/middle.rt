@@ -8,7 +8,7 @@ ghost use Rattle.tck_cycles.specs.Middles.{shifts_from};
 ghost use Rattle.tck_cycles.specs.Shifts.{shift_cycle};
 ghost use Rattle.tck_cycles.specs.declared.middle.Middle.TheVariants as middle;
 
-use crate::cycle::walk;
+use crate::cycle::entering;
 use crate::shifts::Shifts;
 use bitbang_table::Cycle;
 use jt_tap::State;
@@ -57,7 +57,7 @@ impl<'a> Middle<'a> {
         ensures { result ≡ stayed self.now }
     {
         match self {
-            Middle::Stay(state, _) => walk(*state),
+            Middle::Stay(state, _) => entering(*state),
             _ => Cycle::default(),
         }
     }
@@ -93,7 +93,7 @@ pub(crate) fn path_cycle(path: &[State], at: u64) -> Option<Cycle>
     ensures { result ≡ slice_get (map spec.entering path.now) at }
 {
     match path.get(at as usize) {
-        Some(state) => Some(walk(*state)),
+        Some(state) => Some(entering(*state)),
         None => None,
     }
 }
@@ -102,7 +102,11 @@ pub(crate) fn path_cycle(path: &[State], at: u64) -> Option<Cycle>
 fn stay_cycle(state: State, cycles: u64, at: u64) -> Option<Cycle>
     ensures { result ≡ slice_get (replicate cycles (spec.entering state)) at }
 {
-    if at < cycles { Some(walk(state)) } else { None }
+    if at < cycles {
+        Some(entering(state))
+    } else {
+        None
+    }
 }
 
 /// The cycle that shifts a bit of a vector, if there is one.

@@ -72,6 +72,7 @@ impl<'a> Source<'a> {
             ),
             Action::Path(path) => {
                 let middle = Middle::Path(path);
+                // For the proof alone: a path has fewer than 2^64 cycles.
                 let _cycles = middle.len();
                 Source::made(ArrayVec::new(), middle, ArrayVec::new())
             }

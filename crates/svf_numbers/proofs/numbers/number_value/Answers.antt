@@ -13,11 +13,11 @@ digits_after-mantissa-requires-clause-room c =
 pub returns-then-spelt-clause-value : goal.returns-then-spelt-clause-value
 returns-then-spelt-clause-value c =
     number_is c.args.word.now _ c.digits_after-whole.result c.capped_value-exponent.result c.digits_after-mantissa.result c.in-Some.ensures.value c.if-spelt-gt-DIGITS_LIMIT.false
-    c.capped_value-exponent.ensures c.if-exponent-gt18.false c.digits_after-whole.ensures.value c.digits_after-mantissa.ensures.value
+    c.capped_value-exponent.ensures c.if-exponent-gt-EXPONENT_LIMIT.false c.digits_after-whole.ensures.value c.digits_after-mantissa.ensures.value
     ∙ ap (λ (b : Bool). Ok (c.digits_after-mantissa.result * 10 ^ (if b then 36 - length c.in-Some.spelt.fraction.now - c.capped_value-exponent.result else 36 - length c.in-Some.spelt.fraction.now + c.capped_value-exponent.result))) c.if-spelt.true
 
 pub returns-else-spelt-clause-value : goal.returns-else-spelt-clause-value
 returns-else-spelt-clause-value c =
     number_is c.args.word.now _ c.digits_after-whole.result c.capped_value-exponent.result c.digits_after-mantissa.result c.in-Some.ensures.value c.if-spelt-gt-DIGITS_LIMIT.false
-    c.capped_value-exponent.ensures c.if-exponent-gt18.false c.digits_after-whole.ensures.value c.digits_after-mantissa.ensures.value
+    c.capped_value-exponent.ensures c.if-exponent-gt-EXPONENT_LIMIT.false c.digits_after-whole.ensures.value c.digits_after-mantissa.ensures.value
     ∙ ap (λ (b : Bool). Ok (c.digits_after-mantissa.result * 10 ^ (if b then 36 - length c.in-Some.spelt.fraction.now - c.capped_value-exponent.result else 36 - length c.in-Some.spelt.fraction.now + c.capped_value-exponent.result))) c.if-spelt.false

@@ -2,7 +2,7 @@ use Rattle.std.proofs.Common.{◌≡◌, ap, ◌∙◌, List, [], ◌∷◌, ◌
 use Rattle.svf_lex.specs.declared.Token.{Token}
 use Rattle.svf_lex.specs.declared.LexFault.{LexFault}
 use Rattle.svf_lex.specs.Left.{left, seen}
-use Rattle.svf_words.specs.Words.{Word, parts_of, group}
+use Rattle.svf_words.specs.Words.{Word, groups_of, group}
 use Rattle.svf_parse.proofs.Grouping.{at_over, at_fault, at_semi, at_word, some_words, pushed}
 use Rattle.svf_parse.proofs.text.next_group.Goals as goal
 
@@ -20,7 +20,7 @@ returns-in-Semi-2 c =
       p.0,
       p.1,
       at_semi (left c.args.lexer) (left c.loop-fault.after) (left c.next.new.self) c.loop-fault.invariant.0 c.in-Some-Ok.token.kind c.in-Some-Ok.token.text.now c.in-Some-Ok.token.start c.loop-fault.invariant.1 split c.in-Semi-2.is
-          ∙ ap (λ (ws : List Word). group ws (parts_of (left c.next.new.self))) p.2,
+          ∙ ap (λ (ws : List Word). group ws (groups_of (left c.next.new.self))) p.2,
     )
 
 pub loop-fault-preserved : goal.loop-fault-preserved

@@ -1,45 +1,12 @@
-use Rattle.std.proofs.Common.{◌-◌, arith}
-use Rattle.scan_vectors.specs.Held.{fields}
-use Rattle.scan_vectors.proofs.Places.{length-vector}
-use Rattle.scan_vectors.proofs.Words.{header_tdi, body_tdi, trailer_tdi}
+use Rattle.std.proofs.Common.{arith}
+use Rattle.scan_vectors.specs.Held.{bits, fields}
+use Rattle.scan_vectors.proofs.Words.{tdi_run as in_part}
 use Rattle.scan_vectors.proofs.vector.Vector.tdi_run.Goals as goal
 
-pub returns-then-i-self-clause-inside : goal.returns-then-i-self-clause-inside
-returns-then-i-self-clause-inside c =
-    let v = c.args.self.now in
-    let n = length-vector (fields v.header) (fields v.body) (fields v.trailer) in omega (arith, n, c.tdi_run.ensures.len)
+pub returns-clause-inside : goal.returns-clause-inside
+returns-clause-inside c = omega (arith, c.find-place.ensures.whole, c.tdi_run.ensures.len)
 
-pub returns-then-i-self-clause-bits : goal.returns-then-i-self-clause-bits
-returns-then-i-self-clause-bits c =
-    let v = c.args.self.now in let r = c.tdi_run in
-    header_tdi (fields v.header) (fields v.body) (fields v.trailer) c.args.i 0 r.result.bits 0 _ (omega (arith, r.ensures.len)) (omega (arith, r.ensures.len)) r.ensures.bits
-
-pub returns-then-i-self-2-clause-inside : goal.returns-then-i-self-2-clause-inside
-returns-then-i-self-2-clause-inside c =
-    let v = c.args.self.now in
-    let n = length-vector (fields v.header) (fields v.body) (fields v.trailer) in omega (arith, n, c.tdi_run-then-i-self-2.ensures.len)
-
-pub returns-then-i-self-2-clause-bits : goal.returns-then-i-self-2-clause-bits
-returns-then-i-self-2-clause-bits c =
-    let v = c.args.self.now in let r = c.tdi_run-then-i-self-2 in
-    body_tdi (fields v.header) (fields v.body) (fields v.trailer) c.args.i (c.args.i - v.header.len) r.result.bits 0 _ (omega (arith, r.ensures.len)) (omega arith) (omega (arith, r.ensures.len)) r.ensures.bits
-
-pub returns-else-i-self-2-clause-inside : goal.returns-else-i-self-2-clause-inside
-returns-else-i-self-2-clause-inside c =
-    let v = c.args.self.now in
-    let n = length-vector (fields v.header) (fields v.body) (fields v.trailer) in omega (arith, n, c.tdi_run-else-i-self-2.ensures.len)
-
-pub returns-else-i-self-2-clause-bits : goal.returns-else-i-self-2-clause-bits
-returns-else-i-self-2-clause-bits c =
-    let v = c.args.self.now in let r = c.tdi_run-else-i-self-2 in let n = length-vector (fields v.header) (fields v.body) (fields v.trailer) in
-    trailer_tdi (fields v.header) (fields v.body) (fields v.trailer) c.args.i (c.args.i - v.header.len - v.body.len) r.result.bits 0 _ (omega (arith, r.ensures.len)) (omega arith) (omega (arith, n, r.ensures.len)) r.ensures.bits
-
-pub tdi_run-requires-else-i-self-2 : goal.tdi_run-requires-else-i-self-2
-tdi_run-requires-else-i-self-2 c =
-    let v = c.args.self.now in
-    let n = length-vector (fields v.header) (fields v.body) (fields v.trailer) in omega (arith, n)
-
-pub returns-else-i-self-2-clause-some : goal.returns-else-i-self-2-clause-some
-returns-else-i-self-2-clause-some c =
-    let v = c.args.self.now in
-    let n = length-vector (fields v.header) (fields v.body) (fields v.trailer) in omega (arith, n, c.tdi_run-else-i-self-2.ensures.len)
+pub returns-clause-bits : goal.returns-clause-bits
+returns-clause-bits c =
+    let f = c.find-place in let r = c.tdi_run in
+    in_part (bits c.args.self.now) c.args.i f.result.0 (fields f.result.1.now) f.result.2 _ (omega (arith, f.ensures.inside, r.ensures.len)) f.ensures.bits r.result.bits (omega (arith, r.ensures.len)) r.ensures.bits

@@ -1,5 +1,5 @@
 use Rattle.svf_numbers.proofs.MeasureLaws.{counts_are_whole, periods_are_least, times_are_least}
-use Rattle.svf_numbers.proofs.laws.periods_and_times_are_least.Goals as goal
+use Rattle.svf_numbers.proofs.laws.measures_are_exact.Goals as goal
 
 pub returns-clause-period : goal.returns-clause-period
 returns-clause-period c = periods_are_least

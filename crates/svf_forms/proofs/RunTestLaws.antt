@@ -10,7 +10,7 @@ use Rattle.jt_tap.specs.Words as states
 use Rattle.svf_words.specs.declared.keywords.Clock.{Clock}
 use Rattle.svf_words.specs.Words.{Word, lower, reads, is_number}
 use Rattle.svf_words.specs.Keywords.{state_of, clock_of}
-use Rattle.svf_forms.specs.RunTests.{Run, state_or, count_or, maximum_or, take_state, take_count, take_time, take_maximum, take_end, whole_run, maximum_behind, run_behind, run_of}
+use Rattle.svf_forms.specs.RunTests.{RunTest, state_or, count_or, maximum_or, take_state, take_count, take_time, take_maximum, take_end, whole_run_test, maximum_behind, run_test_behind, run_test_of}
 use Rattle.svf_forms.specs.Grammar.{Reads, IsNumber, IsState, IsCount, IsTime, IsMaximum, IsEnd, IsRunTest}
 use Rattle.svf_words.proofs.KeywordLaws.{lowered, state_read, state_found, clock_read, clock_found, seconds_are_no_clock}
 
@@ -122,7 +122,7 @@ end_taken [] = record { words = []; is = refl; split = refl }
 end_taken (k ∷ []) = record { words = []; is = refl; split = refl }
 end_taken (k ∷ w ∷ ws) = end_by k w ws (reads k (codes "ENDSTATE")) (state_of w) refl refl
 
-pub record WholeFound (run : Option State) (count : Option (Word × Clock)) (min max : Option Word) (end : Option State) (rest : List Word) (r : Run) : Type 0 where
+pub record WholeFound (run : Option State) (count : Option (Word × Clock)) (min max : Option Word) (end : Option State) (rest : List Word) (r : RunTest) : Type 0 where
   pub run-is : run ≡ r.run
   pub count-is : count ≡ r.count
   pub min-is : min ≡ r.min
@@ -131,7 +131,7 @@ pub record WholeFound (run : Option State) (count : Option (Word × Clock)) (min
   pub nothing : rest ≡ []
   pub some : IsSome count ⊎ IsSome min
 
-whole_found : (run : Option State) (count : Option (Word × Clock)) (min max : Option Word) (end : Option State) (rest : List Word) (r : Run) → whole_run run count min max end rest ≡ Some r → WholeFound run count min max end rest r
+whole_found : (run : Option State) (count : Option (Word × Clock)) (min max : Option Word) (end : Option State) (rest : List Word) (r : RunTest) → whole_run_test run count min max end rest ≡ Some r → WholeFound run count min max end rest r
 whole_found run count min max end (w ∷ ws) r e = absurd cc
 whole_found run None None max end [] r e = absurd cc
 whole_found run (Some c) None max end [] r e =
@@ -141,9 +141,9 @@ whole_found run count (Some n) max end [] r e =
     let is : record { run = run; count = count; min = Some n; max = max; end = end } ≡ r = cc in
     record { run-is = ap (λ x. x.run) is; count-is = ap (λ x. x.count) is; min-is = ap (λ x. x.min) is; max-is = ap (λ x. x.max) is; end-is = ap (λ x. x.end) is; nothing = refl; some = inr refl }
 
-pub run_found : (ws : List Word) (r : Run) → run_of ws ≡ Some r → IsRunTest ws r
-unfolding run_of
-run_found ws r e =
+pub run_test_found : (ws : List Word) (r : RunTest) → run_test_of ws ≡ Some r → IsRunTest ws r
+unfolding run_test_of
+run_test_found ws r e =
     let s = take_state ws in
     let c = take_count s.1 in
     let t = take_time c.1 in
@@ -268,15 +268,15 @@ state_first None ws rest h u = subst (λ (x : List Word). take_state (x ++ rest)
 state_first (Some s) ws rest h u = subst (λ (x : List Word). take_state (x ++ rest) ≡ (Some s, rest)) (sym h.1) (rw (state_read h.0 s h.2) refl)
 
 whole : (run : Option State) (count : Option (Word × Clock)) (min max : Option Word) (end : Option State) → IsSome count ⊎ IsSome min
-    → whole_run run count min max end [] ≡ Some (record { run = run; count = count; min = min; max = max; end = end })
+    → whole_run_test run count min max end [] ≡ Some (record { run = run; count = count; min = min; max = max; end = end })
 whole run (Some c) None max end some = refl
 whole run count (Some n) max end some = refl
 whole run None None max end (inl x) = absurd (let y : IsSome {T = Word × Clock} None = x in cc)
 whole run None None max end (inr x) = absurd (let y : IsSome {T = Word} None = x in cc)
 
-pub run_read : (ws : List Word) (r : Run) → IsRunTest ws r → run_of ws ≡ Some r
-unfolding run_of
-run_read ws r h =
+pub run_test_read : (ws : List Word) (r : RunTest) → IsRunTest ws r → run_test_of ws ≡ Some r
+unfolding run_test_of
+run_test_read ws r h =
     let a = h.0 in
     let b = h.1 in
     let t = h.2 in
@@ -288,4 +288,4 @@ run_read ws r h =
     let time = time_read r.min t (m ++ d) h.8 unread in
     let maximum = behind_read r.min r.max r.end m d h.9 h.10 h.11.1 in
     let end = end_read r.end d h.10 in
-    ap (λ (x : List Word). run_behind (take_state x)) h.5 ∙ ap run_behind state ∙ rw (count, time, maximum, end) (whole r.run r.count r.min r.max r.end h.11.0)
+    ap (λ (x : List Word). run_test_behind (take_state x)) h.5 ∙ ap run_test_behind state ∙ rw (count, time, maximum, end) (whole r.run r.count r.min r.max r.end h.11.0)
