@@ -6,7 +6,7 @@ use Rattle.jt_bits.specs.Packed.{has_bit}
 use Rattle.scan_vectors.specs.declared.part.Part.{Part}
 use Rattle.scan_vectors.specs.Vector.{VectorBit, tdis}
 use Rattle.scan_vectors.specs.Fields.{Fields}
-use Rattle.scan_vectors.specs.Held.{field_bit, wanted_bit, wanted_of, part_bit, Stands}
+use Rattle.scan_vectors.specs.Held.{field_bit, wanted_bit, wanted_of, part_bit, HoldsPartFrom}
 
 pub zero_bits : (j : ℕ) → has_bit 0 j ≡ false
 unfolding has_bit
@@ -36,7 +36,7 @@ get-tdi (v ∷ vs) zero = refl
 get-tdi (v ∷ vs) (suc i) = get-tdi vs i
 
 -- bit i stands at place k of the part
-pub stands_there : (vs : List VectorBit) (i : ℕ) (p : Part) (f : Fields) (k : ℕ) → k < f.len → Stands vs i p f k → slice_get vs i ≡ Some (part_bit p f k)
+pub stands_there : (vs : List VectorBit) (i : ℕ) (p : Part) (f : Fields) (k : ℕ) → k < f.len → HoldsPartFrom vs i p f k → slice_get vs i ≡ Some (part_bit p f k)
 stands_there vs i p f k inside stands =
     ap (slice_get vs) (sym (add-zero i)) ∙ stands 0 (omega arith) ∙ ap (λ m. Some (part_bit p f m)) (add-zero k)
 
@@ -44,7 +44,7 @@ abbrev wanted_at : List VectorBit → ℕ → Option (Option Bool)
 wanted_at vs i = option_map {U = Option Bool} (λ (b : VectorBit). b.wanted) (slice_get vs i)
 
 -- a run inside one part, whose places there begin at k
-module _ (vs : List VectorBit) (i : ℕ) (p : Part) (f : Fields) (k len : ℕ) (inside : k + len ≤ f.len) (stands : Stands vs i p f k) where
+module _ (vs : List VectorBit) (i : ℕ) (p : Part) (f : Fields) (k len : ℕ) (inside : k + len ≤ f.len) (stands : HoldsPartFrom vs i p f k) where
   pub tdi_run : (word : ℕ) → len ≤ 64 → ((j : ℕ) → j < 64 → has_bit word j ≡ field_bit false f.tdi (k + j))
       → (j : ℕ) → j < len → slice_get (tdis vs) (i + j) ≡ Some (has_bit word j)
   tdi_run word few is j h =

@@ -19,7 +19,7 @@ impl<'a> Vector<'a> {
     ghost use Rattle.jt_bits.specs.Packed.{has_bit};
     ghost use Rattle.scan_vectors.specs.declared.part.Part as declared;
     ghost use Rattle.scan_vectors.specs.Fields.{vector_of};
-    ghost use Rattle.scan_vectors.specs.Held.{Stands, bits, fields, left_in_part, tdo_there, wanted_of};
+    ghost use Rattle.scan_vectors.specs.Held.{HoldsPartFrom, bits, fields, left_in_part, tdo_there, wanted_of};
     ghost use Rattle.scan_vectors.specs.Vector.{tdis};
 
     pub(crate) fn of(header: Part3<'a>, body: Part3<'a>, trailer: Part3<'a>) -> Vector<'a>
@@ -108,7 +108,7 @@ impl<'a> Vector<'a> {
         ensures left { left_in_part self.now i ≡ result.1.now.len - result.2 }
         ensures whole { i + (result.1.now.len - result.2) ≤ length (bits self.now) }
         ensures tdo { tdo_there self.now i ≡ (fields result.1.now).tdo }
-        ensures bits { Stands (bits self.now) i result.0 (fields result.1.now) result.2 }
+        ensures bits { HoldsPartFrom (bits self.now) i result.0 (fields result.1.now) result.2 }
     {
         if i < self.header.len {
             (Part::Header, &self.header, i)
