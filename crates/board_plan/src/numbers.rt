@@ -10,26 +10,25 @@ use crate::plan::PlannedNet;
 use pin_nets::{NetSpec, Pin};
 use std::alloc::{AllocError, Global};
 
-/// The nets by the numbers of their pins, each pin with its place in `pins`: the pins of all nets, net after net, come
-/// behind those that are there. Refused where memory runs out; some of them may stand there then.
+/// The nets by the numbers of their pins, and the pins of all nets, net after net, each at its number. Refused where
+/// memory runs out.
 pub fn number_nets(
     alloc: Global,
     nets: &[PlannedNet],
-    pins: &mut Vec<Pin>,
-) -> Result<Vec<NetSpec>, AllocError>
-    ensures nets { IfOk result
-        (λ v. map net_value v.items ≡ with_pin_numbers (length pins.old.items) (map planned_net nets.now)) }
-    ensures pins { OnOk result (pins.new.items ≡ pins.old.items ++ all_pins (map planned_net nets.now)) }
+) -> Result<(Vec<NetSpec>, Vec<Pin>), AllocError>
+    ensures nets { IfOk result (λ p. map net_value p.0.items ≡ with_pin_numbers 0 (map planned_net nets.now)) }
+    ensures pins { IfOk result (λ p. p.1.items ≡ all_pins (map planned_net nets.now)) }
 {
+    let mut pins = Vec::new(alloc);
     let mut specs = Vec::with_capacity(alloc, nets.len())?;
     for net in nets {
-        let numbers = number_pins(alloc, &net.pins, pins)?;
+        let numbers = number_pins(alloc, &net.pins, &mut pins)?;
         specs.push(NetSpec {
             pins: numbers,
             pull: net.pull,
         })?;
     }
-    Ok(specs)
+    Ok((specs, pins))
 }
 
 /// The numbers of more pins.

@@ -21,19 +21,10 @@ pub fn core_bits(alloc: Global, cells: usize, core: Option<&str>) -> Result<Bits
 fn written_bits(alloc: Global, text: &[u8]) -> Result<Bits, AllocError>
     ensures { IfOk result (λ b. b ≡ map (λ c. c == 49) (reverse text.now)) }
 {
-    let mut digits = text.to_vec(alloc)?;
-    digits.reverse();
-    bits_of(alloc, &digits)
-}
-
-/// The bits that 0s and 1s write, in their order.
-#[tactic(auto, using(crate::proofs::BitLaws::all_shifted))]
-fn bits_of(alloc: Global, digits: &[u8]) -> Result<Bits, AllocError>
-    ensures { IfOk result (λ b. b ≡ map (λ c. c == 49) digits.now) }
-{
-    let mut bits = Bits::zeros(alloc, digits.len())?;
-    for digit in digits {
-        bits.shift_in(*digit == b'1');
+    let len = text.len();
+    let mut bits = Bits::zeros(alloc, len)?;
+    for i in 0..len {
+        bits.set(i, text[len - 1 - i] == b'1');
     }
     Ok(bits)
 }

@@ -50,8 +50,7 @@ impl Wiring {
           drives = replicate (length (all_pins (map planned_net nets.items))) driving.Nothing;
         }) }
     {
-        let mut pins = Vec::new(alloc);
-        let specs = number_nets(alloc, &nets, &mut pins)?;
+        let (specs, pins) = number_nets(alloc, &nets)?;
         let levels = Nets::build(alloc, pins.len(), &specs)?;
         Ok(Wiring { nets, pins, levels })
     }

@@ -84,8 +84,7 @@ pub fn bit_of_port(
         ≡ bit_number 0 ps (port_name port.entry)) }
 {
     let key = port.name.upper_name(alloc)?;
-    let found = bit_named(named, bits, key.as_str(), port.index)?;
-    Ok(found)
+    bit_named(named, bits, key.as_str(), port.index)
 }
 
 fn bit_named(

@@ -36,8 +36,7 @@ pub fn cells_of(
         ≡ spec.cells_of ps (map cells_view.cell_row rows.now) len) }
 {
     let table = table_of(alloc, named, bits, rows)?;
-    let cells = listed(alloc, &table, len)?;
-    Ok(cells)
+    listed(alloc, &table, len)
 }
 
 /// The last cell of each number.

@@ -71,8 +71,7 @@ fn boundary_of(
     let named = named_ports_of(alloc, &outline.groups)?;
     let firsts = firsts_of(alloc, &outline.groups)?;
     let len = size_of(described.boundary_length)?;
-    let cells = cells_of(alloc, &named, &firsts, &described.cells, len)?;
-    Ok(cells)
+    cells_of(alloc, &named, &firsts, &described.cells, len)
 }
 
 fn lengths_of(alloc: Global, lengths: &[Digits<'_>]) -> Result<Vec<usize>, AllocError>

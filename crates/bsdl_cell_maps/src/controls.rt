@@ -6,6 +6,7 @@ ghost use Rattle.std.specs.Ordering.{nat_cmp};
 ghost use Rattle.bsdl_cells.specs.View.{cell_row};
 ghost use Rattle.bsdl_cell_maps.specs.Controls as spec;
 
+use crate::ABOVE_SUBSCRIPTS;
 use bsdl_cells::CellRow;
 use bsdl_device::Function;
 use std::alloc::{AllocError, Global};
@@ -29,7 +30,7 @@ fn add_row(controls: &mut BTreeSet<usize>, row: &CellRow<'_>) -> Result<(), Allo
         ≡ contains_by (nat_cmp n) controls.old || spec.controls_as n (cell_row row.now)) }
 {
     if is_control(row.function) {
-        controls.insert(row.number.up_to(65_536))?;
+        controls.insert(row.number.up_to(ABOVE_SUBSCRIPTS))?;
     }
     Ok(())
 }

@@ -8,11 +8,12 @@ ghost use Rattle.bsdl_port_names.specs.declared.port_index.PortIndex as declared
 ghost use Rattle.bsdl_cell_maps.specs.Drivers.{drives_below, driver_at, is_below, same_bit};
 ghost use Rattle.bsdl_port_names.specs.View.{AreNamed};
 
+use crate::ABOVE_SUBSCRIPTS;
 use bsdl_cells::CellRow;
 use bsdl_port_names::named_ports::{NamedPorts, port_index_of};
 use bsdl_port_names::port_index::PortIndex;
 use std::alloc::{AllocError, Global};
-use std::collections::{BTreeMap, BTreeSet};
+use std::collections::BTreeMap;
 
 /// The lowest cell that drives each port bit, by the number of the port and the digits of the index; numbers above
 /// 65,536 count as 65,536.
@@ -57,7 +58,7 @@ fn add_row<'a>(
     match row.port {
         Some(port) => match port_index_of(alloc, named, port)? {
             Some(port_index) => {
-                add_driver(drivers, port_index, row.number.up_to(65_536))?;
+                add_driver(drivers, port_index, row.number.up_to(ABOVE_SUBSCRIPTS))?;
                 Ok(())
             }
             None => Ok(()),

@@ -94,8 +94,7 @@ fn generic<'a>(lexer: Lexer<'a>) -> Result<Lexer<'a>, Stop>
     match behind_word(lexer, b"GENERIC") {
         Some(behind) => {
             let rest = brackets(behind)?;
-            let rest = mark(rest, b';')?;
-            Ok(rest)
+            mark(rest, b';')
         }
         None => Ok(lexer),
     }

@@ -16,6 +16,7 @@ use crate::known::Known;
 use bsdl_cells::{CellRow, Controlling, PortName};
 use bsdl_described::description::Taps;
 use bsdl_device::Function;
+use bsdl_limits::limits::{ABOVE_SUBSCRIPTS, SUBSCRIPT_LIMIT};
 use bsdl_numbers::Digits;
 use bsdl_port_names::named_ports::port_index_of;
 use bsdl_port_names::port_index::PortIndex;
@@ -136,7 +137,8 @@ fn control_fits(
         },
         Function::Output2 => match control {
             Some(control) => {
-                control.cell.up_to(65_536) == number || is_control_cell(known, control.cell)
+                control.cell.up_to(ABOVE_SUBSCRIPTS) == number
+                    || is_control_cell(known, control.cell)
             }
             None => true,
         },
@@ -148,6 +150,6 @@ fn control_fits(
 fn is_control_cell(known: &Known<'_, '_>, cell: Digits<'_>) -> bool
     ensures { (d : described.Description) → Holds known.now d → result ≡ spec.is_control_cell d (value cell.entry) }
 {
-    let number = cell.up_to(65_536);
-    number <= 65_535 && known.controls.contains(&number)
+    let number = cell.up_to(ABOVE_SUBSCRIPTS);
+    number <= SUBSCRIPT_LIMIT && known.controls.contains(&number)
 }

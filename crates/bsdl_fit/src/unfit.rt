@@ -17,6 +17,7 @@ use bsdl_cell_maps::table::Table;
 use bsdl_cells::CellRow;
 use bsdl_described::description::Description;
 use bsdl_entity::entity::Outline;
+use bsdl_limits::limits::{ABOVE_SUBSCRIPTS, SUBSCRIPT_LIMIT};
 use std::alloc::{AllocError, Global};
 
 /// The least cell, of those up to 65,535, that is listed twice, missing or not below the length, or whose port,
@@ -30,7 +31,7 @@ pub fn unfit_cell(
 {
     let known = known_of(alloc, outline, described)?;
     let table = table_of(alloc, &known, &described.cells)?;
-    let length = described.boundary_length.up_to(65_536);
+    let length = described.boundary_length.up_to(ABOVE_SUBSCRIPTS);
     let end = cells_end(length, &described.cells);
     Ok(first_unfit(&table, length, end))
 }
@@ -62,8 +63,8 @@ fn add_row<'a>(
         then cells.with_row (get nat_cmp table.old.cells n) (spec.row_fits d (cell_row row.now))
         else get nat_cmp table.old.cells n)) }
 {
-    let number = row.number.up_to(65_536);
-    if number > 65_535 {
+    let number = row.number.up_to(ABOVE_SUBSCRIPTS);
+    if number > SUBSCRIPT_LIMIT {
         return Ok(());
     }
     let fits = row_fits(alloc, known, row, number)?;
@@ -78,7 +79,7 @@ fn cells_end(length: usize, rows: &[CellRow<'_>]) -> usize
 {
     let mut end = length;
     for row in rows {
-        end = end.max(row.number.up_to(65_535) + 1);
+        end = end.max(row.number.up_to(SUBSCRIPT_LIMIT) + 1);
     }
     end
 }
@@ -87,10 +88,5 @@ fn first_unfit(table: &Table, length: usize, end: usize) -> Option<usize>
     ensures { result ≡ find (λ n. not (cells.is_fit (nat_lt n length) (get nat_cmp table.now.cells n)))
         (range_with_len 0 end) }
 {
-    for number in 0..end {
-        if !table.is_fit(number, length) {
-            return Some(number);
-        }
-    }
-    None
+    (0..end).find(|number| !table.is_fit(*number, length))
 }

@@ -1,16 +1,34 @@
 -- What an attribute's first giving says (IEEE Std 1149.1-2001, Annex B.8.9 to B.8.14).
-use Rattle.std.specs.Prelude.{ℕ, Bool, if◌then◌else◌, List, [], ◌∷◌, Option, Some, None, bytes_eq}
+use Rattle.std.specs.Prelude.{ℕ, Bool, true, false, if◌then◌else◌, List, [], ◌∷◌, Option, Some, None}
 use Rattle.bsdl_values.specs.declared.Attribute.{Attribute}
+use Rattle.bsdl_values.specs.declared.Attribute.TheVariants.{TapScanIn, TapScanOut, TapScanMode, TapScanClock}
+use Rattle.bsdl_values.specs.declared.Attribute.TheVariants.{TapScanReset, InstructionLength, BoundaryLength}
+use Rattle.bsdl_values.specs.declared.Attribute.TheVariants.{InstructionOpcode, InstructionCapture, BoundaryRegister}
+use Rattle.bsdl_values.specs.declared.Attribute.TheVariants.{IdcodeRegister, UsercodeRegister, InstructionPrivate}
+use Rattle.bsdl_values.specs.declared.Attribute.TheVariants.{RegisterAccess}
 use Rattle.bsdl_device.specs.Device.{Name, Pattern}
 use Rattle.bsdl_instructions.specs.Values.{OpcodeRow, AccessRow}
 use Rattle.bsdl_cells.specs.Rows.{CellRow}
 use Rattle.bsdl_values.specs.Values.{Value, port, count, pattern_value, codes_value, names_value}
 use Rattle.bsdl_values.specs.Values.{opcodes_value, accesses_value, cells_value}
 use Rattle.bsdl_entity.specs.Entity.{Given}
-use Rattle.bsdl_entity.specs.Attributes.{attribute_word}
 
 abbrev pub is_attribute : Attribute → Attribute → Bool
-is_attribute a b = bytes_eq (attribute_word a) (attribute_word b)
+is_attribute TapScanIn TapScanIn = true
+is_attribute TapScanOut TapScanOut = true
+is_attribute TapScanMode TapScanMode = true
+is_attribute TapScanClock TapScanClock = true
+is_attribute TapScanReset TapScanReset = true
+is_attribute InstructionLength InstructionLength = true
+is_attribute BoundaryLength BoundaryLength = true
+is_attribute InstructionOpcode InstructionOpcode = true
+is_attribute InstructionCapture InstructionCapture = true
+is_attribute BoundaryRegister BoundaryRegister = true
+is_attribute IdcodeRegister IdcodeRegister = true
+is_attribute UsercodeRegister UsercodeRegister = true
+is_attribute InstructionPrivate InstructionPrivate = true
+is_attribute RegisterAccess RegisterAccess = true
+is_attribute _ _ = false
 
 -- the value of the first giving of an attribute
 abbrev pub value_given : Attribute → List Given → Option Value

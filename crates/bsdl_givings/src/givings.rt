@@ -7,7 +7,6 @@ ghost use Rattle.bsdl_instructions.specs.Values as rows;
 ghost use Rattle.bsdl_instructions.specs.View as rows_view;
 ghost use Rattle.bsdl_cells.specs.Rows as cell_rows;
 ghost use Rattle.bsdl_cells.specs.View as cells_view;
-ghost use Rattle.bsdl_entity.specs.Attributes.{attribute_word};
 ghost use Rattle.bsdl_entity.specs.GivenView.{given as given_view};
 ghost use Rattle.bsdl_values.specs.View.{value as value_view};
 ghost use Rattle.bsdl_values.specs.Values as values;
@@ -24,32 +23,11 @@ use bsdl_text::lists::Entry;
 use bsdl_text::names::Word;
 use std::alloc::{AllocError, Global};
 
-/// The word of an attribute.
-pub fn attribute_word(attribute: Attribute) -> &'static [u8]
-    ensures { result.now ≡ attribute_word attribute }
-{
-    match attribute {
-        Attribute::TapScanIn => b"TAP_SCAN_IN",
-        Attribute::TapScanOut => b"TAP_SCAN_OUT",
-        Attribute::TapScanMode => b"TAP_SCAN_MODE",
-        Attribute::TapScanClock => b"TAP_SCAN_CLOCK",
-        Attribute::TapScanReset => b"TAP_SCAN_RESET",
-        Attribute::InstructionLength => b"INSTRUCTION_LENGTH",
-        Attribute::BoundaryLength => b"BOUNDARY_LENGTH",
-        Attribute::InstructionOpcode => b"INSTRUCTION_OPCODE",
-        Attribute::InstructionCapture => b"INSTRUCTION_CAPTURE",
-        Attribute::BoundaryRegister => b"BOUNDARY_REGISTER",
-        Attribute::IdcodeRegister => b"IDCODE_REGISTER",
-        Attribute::UsercodeRegister => b"USERCODE_REGISTER",
-        Attribute::InstructionPrivate => b"INSTRUCTION_PRIVATE",
-        Attribute::RegisterAccess => b"REGISTER_ACCESS",
-    }
-}
-
+/// Whether two attributes are the same.
 fn is_attribute(one: Attribute, other: Attribute) -> bool
     ensures { result ≡ spec.is_attribute one other }
 {
-    attribute_word(one) == attribute_word(other)
+    one == other
 }
 
 /// What the first giving of an attribute says.

@@ -30,7 +30,8 @@ impl<'a> Entry<'a> for WrittenPattern {
     }
 }
 
-/// A pattern, whose digits may have white space between them.
+/// A pattern, whose digits may have white space between them. Refuses at the next token where it is no digits of a
+/// pattern, or at the text's end, and for want of memory.
 pub fn digits_of<'a>(alloc: Global, lexer: Lexer<'a>) -> Result<(WrittenPattern, Lexer<'a>), Stop>
     ensures gives { Gives view.pattern result (spec.pattern (left lexer.entry)) }
     ensures shorter { IfOk result (λ p. length (left p.1) < length (left lexer.entry)) }
@@ -66,7 +67,8 @@ fn are_digits(text: &[u8]) -> bool
         .all(|byte| matches!(*byte, b'0' | b'1' | b'X' | b'x'))
 }
 
-/// Entries between brackets.
+/// Entries between brackets. Refuses where the list of them does, at the next token where a bracket is missing, or at
+/// the text's end, and for want of memory.
 pub fn bracketed<'a, E: Entry<'a>>(
     alloc: Global,
     lexer: Lexer<'a>,

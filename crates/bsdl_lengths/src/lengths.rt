@@ -33,8 +33,7 @@ pub fn lengths_fit(alloc: Global, described: &Description<'_>) -> Result<bool, A
     if !accesses_fit(&described.accesses, described.boundary_length.size()) {
         return Ok(false);
     }
-    let agreed = agree(alloc, &described.accesses)?;
-    Ok(agreed)
+    agree(alloc, &described.accesses)
 }
 
 /// Whether instructions have two bits at least, and the boundary register one.

@@ -83,7 +83,6 @@ impl<'a> Lexer<'a> {
     #[tactic(auto, unfolding(crate::specs::Left::left))]
     pub fn next(self) -> Option<(Token<'a>, Lexer<'a>)>
         ensures tokens { MatchOption result (left self.entry ≡ []) (λ p. left self.entry ≡ lexeme p.0 ∷ left p.1) }
-        ensures few { length (left self.entry) < 2 ^ 64 }
     {
         match first_token(self.source, self.quoted, self.at) {
             Some(Ok(token)) => {

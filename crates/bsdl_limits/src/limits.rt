@@ -19,6 +19,33 @@ use bsdl_entity::entity::Outline;
 use bsdl_entity::ports::{Group, Range};
 use bsdl_numbers::Digits;
 
+/// The bits of an instruction, at most.
+const INSTRUCTION_BITS: usize = 64;
+
+/// The instructions that have opcodes, at most.
+const INSTRUCTIONS: usize = 256;
+
+/// The cells of the boundary register, at most.
+const CELLS: usize = 4_096;
+
+/// The bits of ports, at most.
+const PORT_BITS: usize = 8_192;
+
+/// One bit too many: no more of them are counted.
+const ABOVE_PORT_BITS: usize = 8_193;
+
+/// The registers of the device's own, at most.
+const USER_REGISTERS: usize = 64;
+
+/// The bits of a register of the device's own, at most.
+const USER_REGISTER_BITS: usize = 4_096;
+
+/// The largest index of a port, and the largest number of a row of the boundary register.
+pub const SUBSCRIPT_LIMIT: usize = 65_535;
+
+/// One more than the largest: what is larger counts as this.
+pub const ABOVE_SUBSCRIPTS: usize = 65_536;
+
 /// Whether a description keeps the limits: instructions of 64 bits, 256 of them; 4,096 cells; 8,192 port bits; 64
 /// registers of the device's own with 4,096 bits; indices and numbers of cells up to 65,535.
 pub fn is_within_limits(
@@ -44,20 +71,30 @@ pub fn is_within_limits(
 fn instructions_within(described: &Description<'_>) -> bool
     ensures { (o : declared_outline.Outline) → result ≡ spec.instructions_within (description o described.now) }
 {
-    described.instruction_length.up_to(65) <= 64 && described.opcodes.len() <= 256
+    is_at_most(described.instruction_length, INSTRUCTION_BITS)
+        && described.opcodes.len() <= INSTRUCTIONS
+}
+
+fn is_at_most(number: Digits<'_>, most: usize) -> bool
+    ensures { result ≡ nat_le (value number.entry) most }
+{
+    match number.size() {
+        Some(size) => size <= most,
+        None => false,
+    }
 }
 
 fn cells_within(described: &Description<'_>) -> bool
     ensures { (o : declared_outline.Outline) → result ≡ spec.cells_within (description o described.now) }
 {
-    described.boundary_length.up_to(4097) <= 4096 && numbers_within(&described.cells)
+    is_at_most(described.boundary_length, CELLS) && numbers_within(&described.cells)
 }
 
 fn numbers_within(rows: &[CellRow<'_>]) -> bool
     ensures { result ≡ list_all (λ r. nat_le r.number spec.subscript_limit) (map cell_row rows.now) }
 {
     for row in rows {
-        if row.number.up_to(65_536) > 65_535 {
+        if !is_at_most(row.number, SUBSCRIPT_LIMIT) {
             return false;
         }
     }
@@ -74,7 +111,7 @@ fn few_bits(groups: &[Group<'_>]) -> bool
     ensures { result ≡ (list_all (λ p. nat_le (highest p.range) spec.subscript_limit) (ports_view.ports groups.now)
         && nat_le (sum_by (λ p. capped_width p.range) (ports_view.ports groups.now)) 8192) }
 {
-    highs_within(groups) && bit_count(groups) <= 8192
+    highs_within(groups) && bit_count(groups) <= PORT_BITS
 }
 
 fn highs_within(groups: &[Group<'_>]) -> bool
@@ -99,7 +136,7 @@ fn is_range_within(range: Option<Range<'_>>) -> bool
     ensures { result ≡ nat_le (highest (option_map ports_view.range range.entry)) spec.subscript_limit }
 {
     match range {
-        Some(range) => range.high.up_to(65_536) <= 65_535,
+        Some(range) => is_at_most(range.high, SUBSCRIPT_LIMIT),
         None => true,
     }
 }
@@ -121,7 +158,7 @@ fn with_group(before: usize, group: &Group<'_>) -> usize
     ensures { result ≡ min (before + sum_by (λ p. capped_width p.range) (ports_view.group group.now)) 8193 }
 {
     let bits = width_of(group.range).saturating_mul(group.names.len());
-    before.saturating_add(bits).min(8193)
+    before.saturating_add(bits).min(ABOVE_PORT_BITS)
 }
 
 /// How many bits a port of this range has, where no index is above 65,535.
@@ -131,8 +168,8 @@ fn width_of(range: Option<Range<'_>>) -> usize
 {
     match range {
         Some(range) => {
-            let high = range.high.up_to(65_536);
-            let low = range.low.up_to(65_536);
+            let high = range.high.up_to(ABOVE_SUBSCRIPTS);
+            let low = range.low.up_to(ABOVE_SUBSCRIPTS);
             high.saturating_sub(low) + 1
         }
         None => 1,
@@ -142,14 +179,14 @@ fn width_of(range: Option<Range<'_>>) -> usize
 fn users_within(lengths: &[Digits<'_>]) -> bool
     ensures { result ≡ (nat_le (length lengths.now) 64 && list_all (λ n. nat_le n 4096) (map value lengths.now)) }
 {
-    lengths.len() <= 64 && are_lengths_within(lengths)
+    lengths.len() <= USER_REGISTERS && are_lengths_within(lengths)
 }
 
 fn are_lengths_within(lengths: &[Digits<'_>]) -> bool
     ensures { result ≡ list_all (λ n. nat_le n 4096) (map value lengths.now) }
 {
     for length in lengths {
-        if length.up_to(4097) > 4096 {
+        if !is_at_most(*length, USER_REGISTER_BITS) {
             return false;
         }
     }

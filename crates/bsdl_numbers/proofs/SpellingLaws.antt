@@ -1,7 +1,10 @@
 -- A number has one spelling without zeros before it, and the one with more digits is larger.
-use Rattle.std.proofs.Common.{◌≡◌, ℕ, ◌+◌, ◌*◌, ◌<◌, ◌≤◌, Bool, true, false, cond, List, [], ◌∷◌, length, refl, ap, sym, ◌∙◌, inl, inr, arith}
+use Rattle.std.proofs.Common.{Less, Equal, Greater, ◌≡◌, ℕ, suc, ◌+◌, ◌-◌, ◌*◌, ◌<◌, ◌≤◌, Bool, true, false, cond, List, [], ◌∷◌, length, drop, refl, ap, sym, subst, ◌∙◌, inl, inr, arith}
 use Rattle.std.specs.Prelude.{◌==◌}
-use Rattle.std.specs.List.{list_all}
+use Rattle.std.specs.List.{list_all, prefix_len}
+use Rattle.std.specs.Ordering.{nat_cmp}
+use Rattle.std.specs.Cmp.{nat_cmp_is}
+use Rattle.std.specs.Cmp.Lexicographic.{slice_cmp}
 use Rattle.std.specs.Char.{is_ascii_digit, digit_value}
 use Rattle.std.specs.Str.Parse.{digits_value, digits_value_after}
 use Rattle.std.proofs.lemmas.Bool.{cases_order}
@@ -113,3 +116,40 @@ one_spelling xs ys all other same =
     let one = significant_digits xs all in
     let two = significant_digits ys other in
     (same_from 0 0 (significant xs) (significant ys) (same_length (significant xs) (significant ys) one two (significant_again xs) (significant_again ys) values) one two values).digits
+
+-- numbers of as many digits each compare as their digits do, from the first on
+pub same_length_cmp : (n : ℕ) (xs ys : List ℕ) → length xs ≡ length ys → list_all is_ascii_digit xs ≡ true → list_all is_ascii_digit ys ≡ true
+    → slice_cmp nat_cmp xs ys ≡ nat_cmp (digits_value_after 10 n xs) (digits_value_after 10 n ys)
+same_length_cmp n [] [] len all other = nat_cmp_is n n Equal refl
+same_length_cmp n [] (y ∷ ys) len all other = absurd (omega arith)
+same_length_cmp n (x ∷ xs) [] len all other = absurd (omega arith)
+same_length_cmp n (x ∷ xs) (y ∷ ys) len all other =
+    let one = and_true (is_ascii_digit x) (list_all is_ascii_digit xs) all in
+    let two = and_true (is_ascii_digit y) (list_all is_ascii_digit ys) other in
+    let value : digit_value x ≡ x - 48 = digit_is x (digit_low x one.0) (digit_high x one.0) in
+    let other_value : digit_value y ≡ y - 48 = digit_is y (digit_low y two.0) (digit_high y two.0) in
+    let low : 48 ≤ x = digit_low x one.0 in
+    let other_low : 48 ≤ y = digit_low y two.0 in
+    elim (cases_order x y) [
+      | inl e ↦ subst (λ z. slice_cmp nat_cmp (x ∷ xs) (z ∷ ys) ≡ nat_cmp (digits_value_after 10 n (x ∷ xs)) (digits_value_after 10 n (z ∷ ys))) e
+          (rw (sym (nat_cmp_is x x Equal refl)) (same_length_cmp (n * 10 + digit_value x) xs ys (omega arith) one.1 two.1))
+      | inr apart ↦ elim apart [
+        | inl below ↦
+            let less = stays_below (n * 10 + digit_value x) (n * 10 + digit_value y) xs ys (omega arith) (omega arith) one.1 in
+            rw (sym (nat_cmp_is x y Less below)) (nat_cmp_is (digits_value_after 10 n (x ∷ xs)) (digits_value_after 10 n (y ∷ ys)) Less less)
+        | inr above ↦
+            let less = stays_below (n * 10 + digit_value y) (n * 10 + digit_value x) ys xs (omega arith) (omega arith) two.1 in
+            rw (sym (nat_cmp_is x y Greater above)) (nat_cmp_is (digits_value_after 10 n (x ∷ xs)) (digits_value_after 10 n (y ∷ ys)) Greater less)
+      ]
+    ]
+
+-- without as many digits as there are zeros before the others
+pub behind_zeros : (ds : List ℕ) → drop (prefix_len (λ d. d == 48) ds) ds ≡ significant ds
+behind_zeros [] = refl
+behind_zeros (d ∷ ds) = by_test (d == 48) (behind_zeros ds)
+  where
+    by_test : (b : Bool) → drop (prefix_len (λ c. c == 48) ds) ds ≡ significant ds → drop (cond b (1 + prefix_len (λ c. c == 48) ds) 0) (d ∷ ds) ≡ cond b (significant ds) (d ∷ ds)
+    by_test true rest =
+        let more : 1 + prefix_len (λ c. c == 48) ds ≡ suc (prefix_len (λ c. c == 48) ds) = omega arith in
+        rw more rest
+    by_test false rest = refl

@@ -1,7 +1,7 @@
 //! Whole numbers of any length.
-ghost use Rattle.std.specs.Prelude.{◌≡◌, ◌≤◌, ◌^◌, ◌<◌, ◌+◌, ◌-◌, ◌*◌, true, min, length, take, drop, SomeIff};
+ghost use Rattle.std.specs.Prelude.{◌≡◌, ◌==◌, ◌≤◌, ◌^◌, ◌<◌, ◌+◌, ◌-◌, ◌*◌, true, min, length, take, SomeIff};
 ghost use Rattle.std.specs.Char.{is_ascii_digit};
-ghost use Rattle.std.specs.List.{list_all};
+ghost use Rattle.std.specs.List.{list_all, prefix_len};
 ghost use Rattle.std.specs.Ordering.{nat_cmp};
 ghost use Rattle.std.specs.Str.Parse.{digits_value};
 ghost use Rattle.bsdl_numbers.specs.Numbers.{significant};
@@ -35,7 +35,6 @@ impl<'a> Digits<'a> {
 
     /// The number, or `most` where it is larger.
     pub fn up_to(self, most: usize) -> usize
-        requires { most < 2 ^ 32 }
         ensures { result ≡ min (digits_value 10 self.entry.digits.now) most }
     {
         up_to(self.digits, most as u128) as usize
@@ -75,17 +74,13 @@ fn behind_zeros(digits: &[u8]) -> &[u8]
 /// How many zeros stand before the other digits.
 fn zeros(digits: &[u8]) -> usize
     ensures within { result ≤ length digits.now }
-    ensures digits { drop result digits.now ≡ significant digits.now }
+    ensures value { result ≡ prefix_len (λ d. d == 48) digits.now }
 {
-    for i in 0..digits.len() {
-        if digits[i] != b'0' {
-            return i;
-        }
-    }
-    digits.len()
+    digits.iter().take_while(|digit| **digit == b'0').count()
 }
 
-/// How two numbers without zeros before them compare: the one with more digits is larger.
+/// How two numbers without zeros before them compare: the one with more digits is larger, and of as many digits each
+/// the one whose first digit that differs is.
 fn compare(one: &[u8], other: &[u8]) -> Ordering
     requires one { list_all is_ascii_digit one.now ≡ true }
     requires other { list_all is_ascii_digit other.now ≡ true }
@@ -95,38 +90,8 @@ fn compare(one: &[u8], other: &[u8]) -> Ordering
 {
     match one.len().cmp(&other.len()) {
         Ordering::Less => Ordering::Less,
-        Ordering::Equal => compare_places(one, other),
+        Ordering::Equal => one.cmp(other),
         Ordering::Greater => Ordering::Greater,
-    }
-}
-
-/// How the numbers of two rows of digits compare: from the highest place on, with zeros before the shorter one.
-fn compare_places(one: &[u8], other: &[u8]) -> Ordering
-    requires one { list_all is_ascii_digit one.now ≡ true }
-    requires other { list_all is_ascii_digit other.now ≡ true }
-    ensures { result ≡ nat_cmp (digits_value 10 one.now) (digits_value 10 other.now) }
-{
-    let mut order = Ordering::Equal;
-    let mut left = one.len().max(other.len());
-    while left > 0 {
-        left -= 1;
-        let (digit, other_digit) = (digit_at(one, left), digit_at(other, left));
-        order = order.then(digit.cmp(&other_digit));
-    }
-    order
-}
-
-/// The digit with so many places behind it, or 0 before the first.
-fn digit_at(digits: &[u8], place: usize) -> u8
-    requires { list_all is_ascii_digit digits.now ≡ true }
-    ensures small { result ≤ 9 }
-    ensures value { digits_value 10 (take (length digits.now - place) digits.now)
-        ≡ digits_value 10 (take (length digits.now - (place + 1)) digits.now) * 10 + result }
-{
-    if place < digits.len() {
-        digit_of(digits, digits.len() - 1 - place)
-    } else {
-        0
     }
 }
 

@@ -1,6 +1,6 @@
 -- Rows with own instructions, one row more; and which instructions are own.
-use Rattle.std.proofs.Common.{◌≡◌, ◌<◌, ℕ, Bool, true, false, nat_eq, List, [], ◌∷◌, ◌++◌, length, refl, sym, ap, ◌∙◌, String, Global, arith}
-use Rattle.std.specs.Prelude.{bytes_eq, filter, if◌then◌else◌, not}
+use Rattle.std.proofs.Common.{◌≡◌, ◌<◌, ℕ, Bool, nat_eq, List, [], ◌∷◌, ◌++◌, length, refl, sym, ap, ◌∙◌, String, Global, arith}
+use Rattle.std.specs.Prelude.{◌&&◌, bytes_eq, filter, not}
 use Rattle.std.proofs.lemmas.List.{append-nil}
 use Rattle.std.specs.BTreeSet.{BTreeSet, contains_text}
 use Rattle.std.proofs.Math.Path.{fun_ext}
@@ -54,10 +54,9 @@ among [] q = refl
 among (n ∷ names) q = rw (same_either_way n q, among names q) refl
 
 own_by : (with_opcode private opcode standard named : Bool) → with_opcode ≡ opcode → private ≡ named
-    → (if with_opcode then (if standard then false else not private) else false) ≡ (if opcode then (if standard then false else if named then false else true) else false)
-own_by true true o standard n e f = rw (sym e, sym f) refl
-own_by true false o standard n e f = rw (sym e, sym f) refl
-own_by false private o standard n e f = rw (sym e) refl
+    → with_opcode && (not standard && not private) ≡ opcode && (not standard && not named)
+own_by with_opcode private opcode standard named e f =
+    ap (λ (b : Bool). b && (not standard && not private)) e ∙ ap (λ (b : Bool). opcode && (not standard && not b)) f
 
 pub own_test : (s p : BTreeSet (String Global)) (rows : List OpcodeRow) (names : List Name) → ((q : List ℕ) → contains_text s q ≡ opcode_named rows q) → ((q : List ℕ) → contains_text p q ≡ private_named names q)
     → (λ (i : Instr). is_own_by s p i.name.text) ≡ is_own rows names

@@ -1,5 +1,5 @@
 -- Sets of names.
-use Rattle.std.specs.Prelude.{ℕ, Bool, false, not, if◌then◌else◌, List, bytes_eq}
+use Rattle.std.specs.Prelude.{ℕ, Bool, ◌&&◌, not, List, bytes_eq}
 use Rattle.std.specs.List.{list_any}
 use Rattle.std.specs.BTreeSet.{BTreeSet, contains_text}
 use Rattle.std.proofs.Common.{String, Global}
@@ -19,5 +19,5 @@ private_named names q = list_any (λ n. bytes_eq n q) names
 -- an instruction of the device's own, by the names that have opcodes and the private ones
 abbrev pub is_own_by : BTreeSet (String Global) → BTreeSet (String Global) → List ℕ → Bool
 is_own_by with_opcode private name =
-    if contains_text with_opcode (upper name) then (if is_among standard_names (upper name) then false
-    else not (contains_text private (upper name))) else false
+    contains_text with_opcode (upper name)
+    && (not (is_among standard_names (upper name)) && not (contains_text private (upper name)))

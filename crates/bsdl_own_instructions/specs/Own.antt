@@ -1,6 +1,6 @@
 -- Which instructions are the device's own, and the rows with those alone (IEEE Std 1149.1-2001, clause 8 and Annex
 -- B.8.13).
-use Rattle.std.specs.Prelude.{ℕ, Bool, true, false, if◌then◌else◌, List, [], ◌∷◌, filter, bytes_eq, codes}
+use Rattle.std.specs.Prelude.{ℕ, Bool, ◌&&◌, not, List, [], ◌∷◌, filter, bytes_eq, codes}
 use Rattle.std.specs.List.{list_any}
 use Rattle.bsdl_text.specs.Words.{upper, same_name}
 use Rattle.bsdl_device.specs.Device.{Name}
@@ -21,8 +21,8 @@ has_opcode rows name = list_any (λ r. same_name r.name.text name) rows
 -- an instruction of the device's own: it has an opcode, and is neither the standard's nor private
 abbrev pub is_own : List OpcodeRow → List Name → Instr → Bool
 is_own rows private i =
-    if has_opcode rows i.name.text then (if is_among standard_names (upper i.name.text) then false
-    else if is_among private (upper i.name.text) then false else true) else false
+    has_opcode rows i.name.text
+    && (not (is_among standard_names (upper i.name.text)) && not (is_among private (upper i.name.text)))
 
 -- the own instructions of each row; a row without any is left out
 abbrev pub with_own : AccessRow → List Instr → List AccessRow → List AccessRow

@@ -28,10 +28,6 @@ impl Word<'_> {
     pub fn spelling(self, alloc: Global) -> Result<String, AllocError>
         ensures { IfOk result (λ name. string_bytes name ≡ self.entry.text.now) }
     {
-        let mut name = String::with_capacity(alloc, self.text.len())?;
-        for byte in self.text {
-            name.push(char::from(*byte))?;
-        }
-        Ok(name)
+        String::from_str(alloc, str::from_utf8(self.text).unwrap())
     }
 }

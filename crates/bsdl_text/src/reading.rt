@@ -25,7 +25,7 @@ pub enum Stop {
     Misfit(Option<usize>),
 }
 
-/// A word, and the lexer behind it.
+/// A word, and the lexer behind it. Refuses at the next token where it is none, or at the text's end.
 pub fn word<'a>(lexer: Lexer<'a>) -> Result<(Word<'a>, Lexer<'a>), Stop>
     ensures gives { Gives word_lexeme result (spec.word (left lexer.entry)) }
     ensures shorter { IfOk result (λ p. length (left p.1) < length (left lexer.entry)) }
@@ -46,7 +46,7 @@ pub fn word<'a>(lexer: Lexer<'a>) -> Result<(Word<'a>, Lexer<'a>), Stop>
     }
 }
 
-/// A string, and the lexer behind it.
+/// A string, and the lexer behind it. Refuses at the next token where it is none, or at the text's end.
 pub fn string<'a>(lexer: Lexer<'a>) -> Result<(Token<'a>, Lexer<'a>), Stop>
     ensures gives { Gives lexeme result (spec.string (left lexer.entry)) }
     ensures shorter { IfOk result (λ p. length (left p.1) < length (left lexer.entry)) }
@@ -61,7 +61,7 @@ pub fn string<'a>(lexer: Lexer<'a>) -> Result<(Token<'a>, Lexer<'a>), Stop>
     }
 }
 
-/// The lexer behind this mark.
+/// The lexer behind this mark. Refuses at the next token where it is another, or at the text's end.
 pub fn mark<'a>(lexer: Lexer<'a>, byte: u8) -> Result<Lexer<'a>, Stop>
     ensures passes { Passes result (spec.mark byte (left lexer.entry)) }
     ensures shorter { IfOk result (λ l. length (left l) < length (left lexer.entry)) }
@@ -107,7 +107,8 @@ pub fn closes(lexer: Lexer<'_>, close: Option<u8>) -> bool
     }
 }
 
-/// Digits alone, and the lexer behind them.
+/// Digits alone, and the lexer behind them. Refuses at the next token where it is not digits alone, or at the text's
+/// end.
 pub fn number<'a>(lexer: Lexer<'a>) -> Result<(Digits<'a>, Lexer<'a>), Stop>
     ensures gives { Gives value result (spec.number (left lexer.entry)) }
     ensures shorter { IfOk result (λ p. length (left p.1) < length (left lexer.entry)) }
@@ -131,7 +132,8 @@ fn are_digits(text: &[u8]) -> bool
     text.iter().all(|byte| byte.is_ascii_digit())
 }
 
-/// What the next token stands for in a table of words, in any case, and the lexer behind it.
+/// What the next token stands for in a table of words, in any case, and the lexer behind it. Refuses at the next token
+/// where it stands for nothing, or at the text's end.
 pub fn keyword<'a, A: Copy>(lexer: Lexer<'a>, table: &[(&[u8], A)]) -> Result<(A, Lexer<'a>), Stop>
     ensures gives { Gives (λ a. a) result (spec.keyword
         (words.stands_for (map {A = Bor (List ℕ) × A} (λ row. (row.0.now, row.1)) table.now)) (left lexer.entry)) }

@@ -9,7 +9,8 @@ use crate::reading::{Stop, mark, stands, string};
 use bsdl_lex::{Lexer, Token};
 use std::alloc::Global;
 
-/// The text of a string, or of several joined by `&`, and the lexer behind them.
+/// The text of a string, or of several joined by `&`, and the lexer behind them. Refuses at the next token where it is
+/// no string, first or behind an `&`, or at the text's end, and for want of memory.
 pub fn joined_text<'a>(alloc: Global, lexer: Lexer<'a>) -> Result<(Vec<u8>, Lexer<'a>), Stop>
     ensures gives { Gives (λ v. v.items) result (spec.joined_text (left lexer.entry)) }
     ensures shorter { IfOk result (λ p. length (left p.1) < length (left lexer.entry)) }

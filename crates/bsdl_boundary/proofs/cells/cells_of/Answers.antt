@@ -1,4 +1,5 @@
 use Rattle.std.proofs.Common.{map, ◌∙◌}
+use Rattle.std.proofs.lemmas.Result.{IfOk-weaker}
 use Rattle.std.specs.BTreeMap.{get}
 use Rattle.std.specs.Ordering.{nat_cmp}
 use Rattle.bsdl_cells.specs.View.{cell_row}
@@ -7,5 +8,5 @@ use Rattle.bsdl_boundary.proofs.CellLaws.{each_once}
 use Rattle.bsdl_boundary.proofs.cells.cells_of.Goals as goal
 
 pub returns : goal.returns
-returns c = λ ps at bits_are.
-    c.in_ok-cells.ensures ∙ each_once (cell ps) (map cell_row c.args.rows.now) (get nat_cmp c.in_ok-table.table) c.args.len (c.in_ok-table.ensures ps at bits_are) c.requires.once
+returns c = IfOk-weaker c.listed.result _ _ (λ cells listed ps at bits_are.
+    listed ∙ each_once (cell ps) (map cell_row c.args.rows.now) (get nat_cmp c.in_ok-table.table) c.args.len (c.in_ok-table.ensures ps at bits_are) c.requires.once) c.listed.ensures

@@ -1,5 +1,6 @@
 use Rattle.std.proofs.Common.{◌≡◌, ◌<◌, ℕ, nat_eq, List, length, map, ap, sym, ◌∙◌}
 use Rattle.std.specs.Prelude.{filter}
+use Rattle.std.proofs.lemmas.Result.{IfOk-weaker}
 use Rattle.bsdl_numbers.specs.View.{value}
 use Rattle.bsdl_cells.specs.declared.CellRow as declared_row
 use Rattle.bsdl_cells.specs.View.{cell_row}
@@ -29,4 +30,4 @@ returns c =
     let at : AreNamed c.in_ok-named.named d.ports = λ q. c.in_ok-named.ensures q ∙ ap (λ gs. find_port 0 (ports_view.ports gs) q) c.deref.ensures.value in
     let bits : c.deref-3.result.now ≡ firsts 0 d.ports = c.deref-3.ensures.value ∙ c.in_ok-firsts.ensures ∙ ap (λ gs. firsts 0 (ports_view.ports gs)) c.deref-2.ensures.value in
     let rows : map cell_row c.deref-4.result.now ≡ d.cells = ap (map cell_row) c.deref-4.ensures.value in
-    c.in_ok-cells.ensures d.ports at bits ∙ ap (λ rs. cells_of d.ports rs c.in_ok-len.len) rows ∙ ap (λ (n : ℕ). cells_of d.ports d.cells n) c.in_ok-len.ensures.value
+    IfOk-weaker c.cells_of.result _ _ (λ cells listed. listed d.ports at bits ∙ ap (λ rs. cells_of d.ports rs c.in_ok-len.len) rows ∙ ap (λ (n : ℕ). cells_of d.ports d.cells n) c.in_ok-len.ensures.value) c.cells_of.ensures

@@ -1,5 +1,6 @@
 use Rattle.std.proofs.Common.{ap, sym, ◌∙◌, map}
 use Rattle.std.specs.List.{list_all}
+use Rattle.std.proofs.lemmas.Result.{IfOk-weaker}
 use Rattle.bsdl_instructions.specs.View.{access_row}
 use Rattle.bsdl_described.specs.View.{description}
 use Rattle.bsdl_lengths.specs.Lengths.{access_fits, agree}
@@ -18,7 +19,7 @@ returns-then-not-codes_fit c = λ o.
     first_fails _ _ (sym (c.if-not-codes_fit.ensures o)) ∙ rest_is _ _ (sym (c.if-not-instructions_fit.ensures o)) ∙ rest_is _ _ (sym (c.if-not-has_bits.ensures o))
 
 pub returns : goal.returns
-returns c = λ o.
-    c.in_ok-agreed.ensures ∙ ap (λ rows. agree (map access_row rows)) c.deref-2.ensures.value
+returns c = IfOk-weaker c.agree.result _ _ (λ b agreed o.
+    agreed ∙ ap (λ rows. agree (map access_row rows)) c.deref-2.ensures.value
     ∙ rest_is _ _ (ap (λ rows. list_all (access_fits (description o c.args.described.now).boundary_length) (map access_row rows)) (sym c.deref.ensures.value) ∙ sym (c.if-not-accesses_fit.ensures _ c.size.ensures))
-    ∙ rest_is _ _ (sym (c.if-not-codes_fit.ensures o)) ∙ rest_is _ _ (sym (c.if-not-instructions_fit.ensures o)) ∙ rest_is _ _ (sym (c.if-not-has_bits.ensures o))
+    ∙ rest_is _ _ (sym (c.if-not-codes_fit.ensures o)) ∙ rest_is _ _ (sym (c.if-not-instructions_fit.ensures o)) ∙ rest_is _ _ (sym (c.if-not-has_bits.ensures o))) c.agree.ensures
