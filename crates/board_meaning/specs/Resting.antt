@@ -20,7 +20,7 @@ board_at_rest m = record { tck = false; trst = m.trst; nets = m.nets; chips = ma
 abbrev pub power_up : List Net → List Member → AtRest
 power_up nets ms = record { place = Reset; trst = false; nets = nets; members = ms }
 
--- TCK is low, every controller stands in the place, registers and TRST line are the same.
+-- TCK is low, every controller stands in the place, no TDO is driven, registers and TRST line are the same.
 abbrev pub IsAtRest : BoardState → AtRest → Type 0
 IsAtRest b m = b ≡ board_at_rest m
 

@@ -1,6 +1,6 @@
 -- The boundary cells of a device on the board: what they capture, what a reset gives them, what the pins drive
 -- (IEEE Std 1149.1-2001, clauses 8 and 11, and Annex B.8.14 for the cell table).
-use Rattle.std.specs.Prelude.{◌≡◌, ◌<◌, Bool, true, false, ◌&&◌, ℕ, suc, ◌==◌, List, [], ◌∷◌, length, replicate}
+use Rattle.std.specs.Prelude.{◌≡◌, ◌<◌, Bool, true, false, ◌&&◌, ℕ, suc, ◌==◌, List, [], ◌∷◌, length}
 use Rattle.std.specs.Prelude.{slice_get, slice_index_or, Option, Some, None, if◌then◌else◌}
 use Rattle.jt_bits.specs.Words.{bit_of}
 use Rattle.bsdl_device.specs.Driving.{drives}
@@ -13,6 +13,7 @@ use Rattle.bsdl_device.specs.declared.Function.TheVariants.{Input, Clock, Observ
 use Rattle.bsdl_device.specs.declared.Function.TheVariants.{ControlR, Internal}
 use Rattle.device_instructions.specs.declared.Mode.{Mode}
 use Rattle.device_instructions.specs.declared.Mode.TheVariants.{Extest, Clamp, HighZ}
+use Rattle.device_registers.specs.Registers.{zeros}
 use Rattle.pin_nets.specs.declared.Drive.{Drive}
 use Rattle.pin_nets.specs.declared.Drive.TheVariants.{Strong, Weak, Nothing}
 
@@ -157,9 +158,6 @@ pub record IsWhole (b : BoundaryValue) : Type 0 where
   pub seen : length b.seen ≡ length b.cells
   pub stage : length b.stage ≡ length b.cells
   pub update : length b.update ≡ length b.cells
-
-abbrev pub zeros : ℕ → List Bool
-zeros n = replicate n false
 
 -- At power-up every bit is 0, but for the controlr update cells.
 abbrev pub powered : List Cell → (core : List Bool) → (extest_update : Bool) → BoundaryValue

@@ -290,8 +290,7 @@ impl Boundary {
     {
         match mode {
             Mode::HighZ => Drive::Nothing,
-            Mode::Extest => drive_of(self.device.get().cells(), &self.update, port),
-            Mode::Clamp => drive_of(self.device.get().cells(), &self.update, port),
+            Mode::Extest | Mode::Clamp => drive_of(self.device.get().cells(), &self.update, port),
             Mode::Core => drive_of(self.device.get().cells(), &self.core, port),
         }
     }
@@ -313,12 +312,12 @@ impl Boundary {
             Mode::Extest | Mode::Clamp => &self.update,
             Mode::Core => &self.core,
         };
-        driven(self.device.get().cells(), bits, driver)
+        drive_of_cell(self.device.get().cells(), bits, driver)
     }
 }
 
 /// What the driving cell drives under the bits in force.
-fn driven(list: &[Cell], bits: &Bits, driver: Option<usize>) -> Drive
+fn drive_of_cell(list: &[Cell], bits: &Bits, driver: Option<usize>) -> Drive
     ensures { result ≡ cells.drive_of_driver bits.now driver list.now }
 {
     match driver {

@@ -227,9 +227,8 @@ impl Pipes {
         } }
     {
         let mut moved = 0;
-        for i in 0..events.len() {
-            let event = events[i];
-            if self.happen(event) {
+        for event in events {
+            if self.happen(*event) {
                 moved += 1;
             }
         }

@@ -30,8 +30,11 @@ pub enum Fixed {
 /// What an instruction does.
 #[derive(Debug, Clone, Copy)]
 pub struct Decoded {
+    /// How it drives the pins.
     pub mode: Mode,
+    /// The register that it puts between TDI and TDO.
     pub selected: Selected,
+    /// What that register captures, where this is fixed.
     pub fixed: Fixed,
 }
 
@@ -53,7 +56,7 @@ pub fn decode(device: &Device, latch: &Bits) -> Decoded
     }
     match row_of(device.opcodes(), latch) {
         None => BYPASSED,
-        Some(row) => named(device, row.name()),
+        Some(row) => meaning_of_name(device, row.name()),
     }
 }
 
@@ -72,7 +75,7 @@ pub fn instruction_of<'a>(device: &'a Device, latch: &Bits) -> Option<&'a str>
 }
 
 /// What the instruction of a name does.
-fn named(device: &Device, name: &str) -> Decoded
+fn meaning_of_name(device: &Device, name: &str) -> Decoded
     requires { IsFormed device.now }
     ensures meaning { meaning_by device.now result ≡ meaning_of device.now (Some name.now) }
     ensures fits { Fits device.now result }
@@ -145,9 +148,7 @@ fn own(device: &Device, name: &str) -> Decoded
         ≡ look_up name.now (map (access_meaning device.now) device.now.accesses) }
     ensures fits { Fits device.now result }
 {
-    let accesses = device.accesses();
-    for k in 0..accesses.len() {
-        let access = &accesses[k];
+    for (k, access) in device.accesses().iter().enumerate() {
         if name == access.instruction() {
             return at_place(device, k, access.place());
         }

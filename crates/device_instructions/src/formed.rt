@@ -27,7 +27,7 @@ pub fn is_formed(device: &Device) -> bool
     if !is_long(device.idcode(), CODE) || !is_long(device.usercode(), CODE) {
         return false;
     }
-    accesses_fit(device, device.accesses())
+    accesses_fit(device)
 }
 
 /// Whether these bits, if there are some, are so many.
@@ -52,12 +52,12 @@ fn resets_whole(device: &Device) -> bool
     }
 }
 
-fn accesses_fit(device: &Device, accesses: &[Access]) -> bool
-    requires { accesses.now ≡ device.now.accesses }
+/// Whether each access to a user register names one that is there, and captures as many bits.
+fn accesses_fit(device: &Device) -> bool
     ensures fits { IsTrue result → AllFit device.now }
     ensures needed { AllFit device.now → IsTrue result }
 {
-    for access in accesses {
+    for access in device.accesses() {
         if !access_fits(device, access) {
             return false;
         }

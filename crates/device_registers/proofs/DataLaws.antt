@@ -11,7 +11,7 @@ use Rattle.device_instructions.specs.declared.Selected.TheVariants.{User}
 use Rattle.device_registers.specs.declared.users.UserRegister.{UserRegister}
 use Rattle.device_registers.specs.Data.{Lengths, IsThere, FixedFits}
 use Rattle.device_registers.specs.Registers.{user_stage, user_latch, with_user_stage, user_updated}
-use Rattle.device_registers.specs.Users.{Fit}
+use Rattle.device_registers.specs.Users.{HasUser}
 use Rattle.device_registers.proofs.UserLaws.{moved-length}
 
 -- the lengths of user registers
@@ -25,15 +25,15 @@ nothing : (k : ℕ) (p : ℕ × ℕ) → slice_get {X = ℕ × ℕ} [] k ≡ Som
 nothing zero p e = cc
 nothing (suc k) p e = cc
 
-fit_of : (us : List UserRegister) (k n : ℕ) → slice_get (lens us) k ≡ Some (n, n) → 0 < n → Fit us k
-fit_of [] k n e some = absurd (nothing k (n, n) e)
-fit_of (u ∷ us) zero n e some =
+has_user : (us : List UserRegister) (k n : ℕ) → slice_get (lens us) k ≡ Some (n, n) → 0 < n → HasUser us k
+has_user [] k n e some = absurd (nothing k (n, n) e)
+has_user (u ∷ us) zero n e some =
     let both = pair_of (length u.stage, length u.latch) (n, n) e in
     let stage : length u.stage ≡ n = ap (λ (p : ℕ × ℕ). p.0) both in
     let latch : length u.latch ≡ n = ap (λ (p : ℕ × ℕ). p.1) both in
     record { there = omega arith; some = omega (arith, stage, some); same = stage ∙ sym latch }
-fit_of (u ∷ us) (suc k) n e some =
-    let f = fit_of us k n e some in
+has_user (u ∷ us) (suc k) n e some =
+    let f = has_user us k n e some in
     record { there = omega (arith, f.there); some = f.some; same = f.same }
 
 stage_is : (us : List UserRegister) (k n m : ℕ) → slice_get (lens us) k ≡ Some (n, m) → length (user_stage k us) ≡ n
@@ -52,10 +52,10 @@ updated_lens (u ∷ us) zero same = ap (λ (n : ℕ). (length u.stage, n) ∷ le
 updated_lens (u ∷ us) (suc k) same = ap (λ (r : List (ℕ × ℕ)). (length u.stage, length u.latch) ∷ r) (updated_lens us k same)
 
 -- the selected user register is there
-pub selected_there : (l : Lengths) (s : Selected) (k : ℕ) (us lent : List UserRegister) → IsThere l s → s ≡ User k → l.users ≡ lens us → lent ≡ us → Fit lent k
+pub selected_there : (l : Lengths) (s : Selected) (k : ℕ) (us lent : List UserRegister) → IsThere l s → s ≡ User k → l.users ≡ lens us → lent ≡ us → HasUser lent k
 selected_there l s k us lent there is lengths same =
     let t = subst (λ (x : Selected). IsThere l x) is there in
-    subst (λ (xs : List UserRegister). Fit xs k) (sym same) (fit_of us k t.0 (ap (λ (r : List (ℕ × ℕ)). slice_get r k) (sym lengths) ∙ t.1) t.2)
+    subst (λ (xs : List UserRegister). HasUser xs k) (sym same) (has_user us k t.0 (ap (λ (r : List (ℕ × ℕ)). slice_get r k) (sym lengths) ∙ t.1) t.2)
 
 -- what it is fixed to capture has its length
 pub fixed_long : (l : Lengths) (s : Selected) (k : ℕ) (us lent : List UserRegister) (fixed : Option (List Bool)) → FixedFits l s fixed → s ≡ User k → l.users ≡ lens us → lent ≡ us
@@ -69,7 +69,7 @@ either_long None other n h long = long
 either_long (Some b) other n h long = h b refl
 
 -- a capture keeps the lengths
-pub captured_lens : (k : ℕ) (us lent new after : List UserRegister) (fixed : Option (List Bool)) → Fit lent k → ((b : List Bool) → fixed ≡ Some b → length b ≡ length (user_stage k lent)) → lent ≡ us
+pub captured_lens : (k : ℕ) (us lent new after : List UserRegister) (fixed : Option (List Bool)) → HasUser lent k → ((b : List Bool) → fixed ≡ Some b → length b ≡ length (user_stage k lent)) → lent ≡ us
     → new ≡ with_user_stage k (unwrap_or fixed (user_latch k lent)) lent → after ≡ new → lens after ≡ lens us
 captured_lens k us lent new after fixed fit long same captured stored =
     ap lens (stored ∙ captured)
@@ -77,11 +77,11 @@ captured_lens k us lent new after fixed fit long same captured stored =
     ∙ ap lens same
 
 -- so does a shift
-pub shifted_lens : (k : ℕ) (us lent new after : List UserRegister) (tdi : Bool) → Fit lent k → lent ≡ us → new ≡ with_user_stage k (after_shift (user_stage k lent) tdi) lent → after ≡ new → lens after ≡ lens us
+pub shifted_lens : (k : ℕ) (us lent new after : List UserRegister) (tdi : Bool) → HasUser lent k → lent ≡ us → new ≡ with_user_stage k (after_shift (user_stage k lent) tdi) lent → after ≡ new → lens after ≡ lens us
 shifted_lens k us lent new after tdi fit same shifted stored =
     ap lens (stored ∙ shifted) ∙ put_lens lent k (after_shift (user_stage k lent) tdi) (moved-length tdi (user_stage k lent) fit.some) ∙ ap lens same
 
-pub updated_users_lens : (k : ℕ) (us lent new after : List UserRegister) → Fit lent k → lent ≡ us → new ≡ user_updated k lent → after ≡ new → lens after ≡ lens us
+pub updated_users_lens : (k : ℕ) (us lent new after : List UserRegister) → HasUser lent k → lent ≡ us → new ≡ user_updated k lent → after ≡ new → lens after ≡ lens us
 updated_users_lens k us lent new after fit same updated stored = ap lens (stored ∙ updated) ∙ updated_lens lent k fit.same ∙ ap lens same
 
 pub run_lens : (k : ℕ) (us lent new after : List UserRegister) (at word n : ℕ) → lent ≡ us → new ≡ with_user_stage k (user_stage k new) lent → RunSet (user_stage k lent) (user_stage k new) at word n → after ≡ new

@@ -26,10 +26,11 @@ pub record Surroundings : Type 0 where
   pub captures : Mode → List Bool
   pub at_reset : List Bool
 
--- At power-up each user register has its length, all bits 0.
+-- n bits, all 0
 abbrev pub zeros : ℕ → List Bool
 zeros n = replicate n false
 
+-- At power-up each user register has its length, all bits 0.
 abbrev pub new_user : ℕ → UserRegister
 new_user n = record { stage = zeros n; latch = zeros n }
 

@@ -5,7 +5,7 @@
 mod data;
 mod plain;
 mod register;
-pub mod users;
+mod users;
 
 pub use data::DataRegisters;
 pub use plain::Plain;

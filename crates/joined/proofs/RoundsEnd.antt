@@ -10,7 +10,7 @@ use Rattle.plays.specs.Streams.{StreamState, new_stream}
 use Rattle.bitbang_table.specs.Protocol.{answer}
 use Rattle.streaming.specs.Laws.{good, history_of, stream_of, with_player}
 use Rattle.streaming.proofs.Schedules.{carry_over}
-use Rattle.every_schedule.specs.Laws.{Link}
+use Rattle.every_schedule.specs.Laws.{Connection}
 use Rattle.svf_programs.specs.Steps.{Program}
 use Rattle.plays.proofs.Asks.{AllAsk, hear-asks, turns-ask}
 use Rattle.std.specs.List.{list_any}
@@ -65,7 +65,7 @@ within (t ∷ ts) b all = one (judge t.wants (hear t.messages b).answers) (withi
       answers = omega (arith, long);
     }
 
-abbrev pub link : ℕ → ℕ → Link
+abbrev pub link : ℕ → ℕ → Connection
 link down_room up_room = record { kind = Stops; window = 256; down_room = down_room; up_room = up_room }
 
 -- the player, as what is known of it says

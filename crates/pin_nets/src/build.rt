@@ -6,7 +6,7 @@ ghost use Rattle.pin_nets.specs.Places.{AddsLoneNets, AllNone, AreShort, EntersP
 ghost use Rattle.pin_nets.specs.Building.{HasPinsBelow, built, net_value};
 
 use crate::nets::{Net, Nets};
-use crate::{Drive, Pull, listed, pull_counts};
+use crate::{Drive, Pull, pull_counts, row_of_counts};
 use std::alloc::{AllocError, Global};
 
 /// A net as a board has it: its pins by number, and its pull.
@@ -112,7 +112,7 @@ fn start_counts(alloc: Global, nets: &[Net]) -> Result<Vec<[usize; 4]>, AllocErr
 {
     let mut counts = Vec::with_capacity(alloc, nets.len())?;
     for net in nets {
-        counts.push(listed(pull_counts(net.pull)))?;
+        counts.push(row_of_counts(pull_counts(net.pull)))?;
     }
     Ok(counts)
 }

@@ -87,7 +87,7 @@ fn pull_counts(pull: Pull) -> Counts
 }
 
 /// The numbers where a driver of the second kind takes the place of one of the first.
-fn moved(counts: Counts, old: Drive, new: Drive) -> Counts
+fn with_replaced(counts: Counts, old: Drive, new: Drive) -> Counts
     requires there { Has old counts }
     requires few { IsFew counts }
     ensures { Replaces counts result old new }
@@ -128,7 +128,7 @@ fn with(counts: Counts, drive: Drive) -> Counts
 }
 
 /// Four numbers by their names.
-fn named(counts: &[usize; 4]) -> Counts
+fn counts_of_row(counts: &[usize; 4]) -> Counts
     ensures { four result ≡ counts.now }
 {
     Counts {
@@ -140,7 +140,7 @@ fn named(counts: &[usize; 4]) -> Counts
 }
 
 /// The four numbers in a row.
-fn listed(counts: Counts) -> [usize; 4]
+fn row_of_counts(counts: Counts) -> [usize; 4]
     ensures { result ≡ four counts }
 {
     [

@@ -4,7 +4,10 @@ ghost use Rattle.std.specs.Prelude.{◌≡◌, ◌≢◌, ◌↔◌, ◌<◌, Is
 ghost use Rattle.pin_nets.specs.Levels as levels;
 ghost use Rattle.pin_nets.specs.Levels.{four, net_counts};
 
-use crate::{Counts, Drive, Level, Pull, differ, level_of, listed, moved, named, reads};
+use crate::{
+    Counts, Drive, Level, Pull, counts_of_row, differ, level_of, reads, row_of_counts,
+    with_replaced,
+};
 use std::marker::Model;
 
 /// A net: its pull, and its pins.
@@ -62,9 +65,9 @@ impl Nets {
         match self.net_of[pin] {
             None => false,
             Some(net) => {
-                let before = named(&self.counts[net]);
-                let after = moved(before, old, drive);
-                self.counts[net] = listed(after);
+                let before = counts_of_row(&self.counts[net]);
+                let after = with_replaced(before, old, drive);
+                self.counts[net] = row_of_counts(after);
                 differ(level_of(before), level_of(after))
             }
         }
@@ -83,7 +86,7 @@ impl Nets {
         requires { net < length self.now.nets }
         ensures { option_map (levels.level self.now.drives) (slice_get self.now.nets net) ≡ Some result }
     {
-        level_of(named(&self.counts[net]))
+        level_of(counts_of_row(&self.counts[net]))
     }
 
     /// What the ports on a net see: Contend reads 0, Float reads 1.

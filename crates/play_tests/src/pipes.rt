@@ -4,7 +4,7 @@ use std::alloc::Global;
 use std::process::Abort;
 use std::test::Fail;
 
-/// One bit each of two scans, of which the instruction register gives 1, then 0.
+/// One scan of two bits, for which the instruction register gives 1, then 0.
 const SCAN: &[u8] = b"SIR 2 TDI (3) TDO (1);";
 
 /// A text's player joined to a board by pipes of this room.

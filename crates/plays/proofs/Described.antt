@@ -8,7 +8,7 @@ use Rattle.board_meaning.specs.Chain.{BoardState, ChipState, hear, members}
 use Rattle.board_meaning.specs.Whole.{AtRest}
 use Rattle.board_meaning.specs.Resting.{IsAtRest, power_up, board_at_rest, chip_at_rest}
 use Rattle.board_meaning.specs.Sound.{AllSound, IsSound, HasDevice, IsPoweredUp, IsSoundBoard}
-use Rattle.plays.specs.LegalPlays.{EveryDescribedBoardPlaysLegalPrograms, EveryLegalProgramMeansFromOpening, IsOpened, PlaysAsItMeans, TheStateAtRestIsOne, met_again}
+use Rattle.plays.specs.LegalPlays.{EveryDescribedBoardPlaysLegalPrograms, EveryLegalProgramMeansFromOpening, IsOpened, PlaysAsItMeans, TheStateAtRestIsOne, powered_up_after}
 use Rattle.plays.specs.declared.ending.Ending.{Ending}
 use Rattle.plays.specs.DirectPlay.{MeansFromOpening, opened_state}
 use Rattle.plays.specs.Meaning.{outcome}
@@ -54,7 +54,7 @@ count-standing p (m ∷ ms) = ap (λ n. suc n) (count-standing p ms)
 
 pub described : EveryDescribedBoardPlaysLegalPrograms
 described nets ms bytes all some =
-    let b = met_again nets ms bytes in
+    let b = powered_up_after nets ms bytes in
     let start = board_at_rest (power_up nets ms) in
     let sound : IsSoundBoard b = sound-bytes bytes start (described-sound ms all) in
     let devices : HasDevice b = subst (λ (n : ℕ). 0 < n) (sym (count-bytes bytes start ∙ count-standing Reset ms)) some in

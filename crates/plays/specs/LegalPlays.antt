@@ -67,15 +67,15 @@ abbrev pub TheStateAtRestIsOne : Type 0
 TheStateAtRestIsOne = (b : BoardState) (m n : AtRest) → HasDevice b → IsAtRest b m → IsAtRest b n → m ≡ n
 
 -- a board as it powers up, after some bytes
-abbrev pub met_again : List Net → List Member → List ℕ → BoardState
-met_again nets ms bytes = after_bytes bytes (board_at_rest (power_up nets ms))
+abbrev pub powered_up_after : List Net → List Member → List ℕ → BoardState
+powered_up_after nets ms bytes = after_bytes bytes (board_at_rest (power_up nets ms))
 
 -- On every board of at least one device, all of sound descriptions, after any bytes, every legal program plays as it
 -- means.
 abbrev pub EveryDescribedBoardPlaysLegalPrograms : Type 0
 EveryDescribedBoardPlaysLegalPrograms = (nets : List Net) (ms : List Member) (bytes : List ℕ)
     → AllByRecursion (λ d. IsPoweredUp d) ms → 0 < length ms
-    → let b = met_again nets ms bytes in
+    → let b = powered_up_after nets ms bytes in
     IsOpened b (opened_state b)
     × ((steps : List Numbered) → IsLegalProgram steps → PlaysAsItMeans steps b (opened_state b))
 

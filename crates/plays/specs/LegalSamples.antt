@@ -61,8 +61,8 @@ pub record PremisesCanBeMet : Type 0 where
   pub devices : AllByRecursion (λ d. IsPoweredUp d) mixed
 
 -- the board of these members, and the state at rest to which an opening brings it
-abbrev pub board_of : List Member → BoardState
-board_of ms = board_at_rest (power_up [] ms)
+abbrev pub board_without_nets : List Member → BoardState
+board_without_nets ms = board_at_rest (power_up [] ms)
 
 abbrev pub opened_of : List Member → AtRest
 opened_of ms = after_opening (power_up [] ms)
@@ -82,9 +82,9 @@ abbrev pub states : BoardState → List State
 states b = map (λ c. c.state) b.chips
 
 pub record PremisesAreNeeded : Type 0 where
-  pub no_device_by_edges : (full_play (turns lone_scan) (board_of [])).ending ≡ Fail 1 Data 0
+  pub no_device_by_edges : (full_play (turns lone_scan) (board_without_nets [])).ending ≡ Fail 1 Data 0
   pub no_device_by_registers : (outcome lone_scan (opened_of [])).ending ≡ Pass
-  pub empty_by_edges : (full_play (turns lone_scan) (board_of empty_capture)).ending ≡ Fail 1 Data 0
+  pub empty_by_edges : (full_play (turns lone_scan) (board_without_nets empty_capture)).ending ≡ Fail 1 Data 0
   pub empty_by_registers : (outcome lone_scan (opened_of empty_capture)).ending ≡ Pass
-  pub held_by_edges : states (full_play (turns move_under_trst) (board_of mixed)).board ≡ Reset ∷ Idle ∷ []
+  pub held_by_edges : states (full_play (turns move_under_trst) (board_without_nets mixed)).board ≡ Reset ∷ Idle ∷ []
   pub held_by_registers : (outcome move_under_trst (opened_of mixed)).after.place ≡ Idle

@@ -1,10 +1,7 @@
 //! One device, edge by edge.
 
-ghost use Rattle.std.specs.Prelude.{◌≡◌, ◌+◌, ◌<◌, ◌≤◌, ℕ, Bool, List, None, Some, length, option_map};
+ghost use Rattle.std.specs.Prelude.{◌≡◌, ◌<◌, ℕ, Bool, List, None, Some, length, option_map};
 ghost use Rattle.std.specs.Prelude.{slice_get, if◌then◌else◌, IfOk};
-ghost use Rattle.jt_bits.specs.Packed.{has_bit};
-ghost use Rattle.jt_bits.specs.Runs.{RunSet};
-ghost use Rattle.jt_bits.specs.Words.{bit_of};
 ghost use Rattle.jt_tap.specs.Controller.{work};
 ghost use Rattle.scan_registers.specs.Chips.{ChipValue, one_chip, surroundings_of, powered, registers, with_registers};
 ghost use Rattle.jt_bits.specs.Shifting.{after_shift};
@@ -334,55 +331,11 @@ impl<B: Register> Chip<B> {
 
     /// The controller stands in this state, and TDO is not driven, as after a falling edge in a state that does not
     /// shift.
-    pub fn rest(&mut self, state: State)
+    pub fn stand(&mut self, state: State)
         ensures { self.new ≡ record self.old { state = state; tdo = None } }
     {
         self.state = state;
         self.tdo = None;
-    }
-
-    /// How many bits the column's register has.
-    pub fn chosen_len(&self, column: Column) -> usize
-        ensures { result ≡ length (selected_bits self.now.device column (registers B.stage B.update_part self.now)) }
-    {
-        match column {
-            Column::Ir => self.stage.len(),
-            Column::Dr => self.registers.len(self.decoded.selected),
-        }
-    }
-
-    /// The bits of the column's register from place `i` on as a number, 64 of them, bit `i` lowest; missing ones are 0.
-    pub fn chosen_word(&self, column: Column, i: usize) -> u64
-        ensures { (j : ℕ) → j < 64 → has_bit result j
-            ≡ bit_of (selected_bits self.now.device column (registers B.stage B.update_part self.now)) (i + j) }
-    {
-        match column {
-            Column::Ir => self.stage.word_at(i),
-            Column::Dr => self.registers.word_at(self.decoded.selected, i),
-        }
-    }
-
-    /// Makes the `n` bits of the column's register from `at` on those of `bits`, its lowest first, and keeps all else.
-    pub fn put_chosen(&mut self, column: Column, at: usize, bits: u64, n: usize)
-        requires some { 0 < n }
-        requires few { n ≤ 64 }
-        requires inside { at + n
-            ≤ length (selected_bits self.old.device column (registers B.stage B.update_part self.old)) }
-        ensures run { RunSet (selected_bits self.old.device column (registers B.stage B.update_part self.old))
-            (selected_bits self.new.device column (registers B.stage B.update_part self.new)) at bits n }
-        ensures chip { one_chip B.stage B.update_part self.new
-            ≡ with_registers
-            (put self.old.device column
-            (selected_bits self.new.device column (registers B.stage B.update_part self.new))
-            (registers B.stage B.update_part self.old))
-            (one_chip B.stage B.update_part self.old) }
-        ensures boundary { self.new.boundary
-            ≡ B.with_parts self.old.boundary (B.stage self.new.boundary) (B.update_part self.new.boundary) }
-    {
-        match column {
-            Column::Ir => self.stage.put_run(at, bits, n),
-            Column::Dr => self.registers.put_run(self.decoded.selected, at, bits, n),
-        }
     }
 
     /// What TDO shows from a falling edge on: bit 0 of the selected register in a Shift state.
@@ -407,15 +360,24 @@ impl<B: Register> Link for Chip<B> {
     ghost is_put = { λ c column bits d. IsPut B.stage B.update_part B.with_parts column bits c d };
 
     fn register_len(&self, column: Column) -> usize {
-        self.chosen_len(column)
+        match column {
+            Column::Ir => self.stage.len(),
+            Column::Dr => self.registers.len(self.decoded.selected),
+        }
     }
 
     fn register_word(&self, column: Column, i: usize) -> u64 {
-        self.chosen_word(column, i)
+        match column {
+            Column::Ir => self.stage.word_at(i),
+            Column::Dr => self.registers.word_at(self.decoded.selected, i),
+        }
     }
 
     fn put_register(&mut self, column: Column, at: usize, bits: u64, n: usize) {
-        self.put_chosen(column, at, bits, n);
+        match column {
+            Column::Ir => self.stage.put_run(at, bits, n),
+            Column::Dr => self.registers.put_run(self.decoded.selected, at, bits, n),
+        }
     }
 
     ghost put_none = { λ c column. put_nothing B.stage B.update_part B.with_parts B.parts_same c column };

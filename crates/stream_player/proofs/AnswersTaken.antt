@@ -22,7 +22,7 @@ use Rattle.stream_player.specs.declared.progress.Mismatch as declared
 use Rattle.stream_player.specs.declared.progress.Phase.{Phase}
 use Rattle.stream_player.specs.declared.progress.Phase.TheVariants.{Opening, Within, Over}
 use Rattle.stream_player.specs.declared.progress.Progress.{Progress}
-use Rattle.stream_player.specs.Progress.{InPhase, InStep, IsOver, Stands, gone, mismatch, standing_at, state_of, vector_bits}
+use Rattle.stream_player.specs.Progress.{InPhase, InStep, IsOver, IsProgressOf, mismatch, standing_at, state_of, vector_bits}
 use Rattle.stream_player.specs.PlaceInPlay.{PlaceInPlay, differing_bit, state_at}
 use Rattle.stream_player.proofs.Ahead.{ahead, owes}
 use Rattle.stream_player.proofs.Ends.{hears, quits, quits-behind}
@@ -36,7 +36,7 @@ asks-take : (n : ℕ) (ms : List Message) → asks (take n ms) ≤ asks ms
 asks-take n ms = omega (arith, asks-split n ms)
 
 -- how many answers are owed, as the fields say
-module _ (program : Program) (p : Progress) (stands : Stands program.steps p) (good : p.bad ≡ None) where
+module _ (program : Program) (p : Progress) (stands : IsProgressOf program.steps p) (good : p.bad ≡ None) where
   over-owes : (out : Bool) → p.phase ≡ Over out → stream.owed 256 (state_of program p) ≡ 0
   over-owes out is = by (is_some p.failed) refl
     where
@@ -80,7 +80,7 @@ module _ (program : Program) (p : Progress) (stands : Stands program.steps p) (g
       by (Over out) is = over-owes out is ∙ sym (is-over program p out is stands).owed
 
 -- a step is at work where answers are owed
-pub where-owed : (program : Program) (p : Progress) (stands : Stands program.steps p) → 0 < p.owed → (spot : Spot) × (p.phase ≡ Within spot)
+pub where-owed : (program : Program) (p : Progress) (stands : IsProgressOf program.steps p) → 0 < p.owed → (spot : Spot) × (p.phase ≡ Within spot)
 where-owed program p stands some = by p.phase refl
   where
     by : (phase : Phase) → p.phase ≡ phase → (spot : Spot) × (p.phase ≡ Within spot)
@@ -139,7 +139,7 @@ next-of (suc n) (v ∷ vs) less =
     let one-more : suc n + 1 ≡ suc (n + 1) = omega arith in
     record { first = rest.first; others = rest.others; is = rest.is; then_is = ap (λ k. drop k (v ∷ vs)) one-more ∙ rest.then_is }
 
-module _ (program : Program) (p : Progress) (spot : Spot) (is : p.phase ≡ Within spot) (stands : Stands program.steps p) (good : p.bad ≡ None)
+module _ (program : Program) (p : Progress) (spot : Spot) (is : p.phase ≡ Within spot) (stands : IsProgressOf program.steps p) (good : p.bad ≡ None)
     (some : 0 < p.owed) (byte : ℕ) (bit : Bool) (said : (byte == 49) ≡ bit) (answers : is_bad byte ≡ false) (j : ℕ) (f : Option declared.Mismatch)
     (judged : IsJudged p (in-step program p spot is stands).step.number (vector_bits (in-step program p spot is stands).step.what) bit j f) where
   abbrev i : InStep spot (drop p.at program.steps) p
@@ -167,7 +167,7 @@ module _ (program : Program) (p : Progress) (spot : Spot) (is : p.phase ≡ With
   judged-next false e none = (judged-then (none-of p.failed e)).0
   judged-next true e none = let clash : false ≡ true = ap is_some (sym none ∙ (judged.kept e).1) ∙ e in absurd (cc)
 
-  pub hears-on : Stands program.steps next
+  pub hears-on : IsProgressOf program.steps next
   hears-on = record {
     rests = stands.rests;
     phase = subst (InPhase (drop p.at program.steps) next) (sym is) in-next;
@@ -221,7 +221,7 @@ wanted-most (b ∷ v) = by (is_some b.wanted) (wanted-most v)
     by false le = omega (arith, le)
 
 -- A bit was judged by the code, of the step at work: so the answer is heard.
-module _ (program : Program) (p r : Progress) (stands : Stands program.steps p) (good : p.bad ≡ None) (some : 0 < p.owed) (byte : ℕ) (bit : Bool)
+module _ (program : Program) (p r : Progress) (stands : IsProgressOf program.steps p) (good : p.bad ≡ None) (some : 0 < p.owed) (byte : ℕ) (bit : Bool)
     (told : read_answer byte ≡ Some bit) (s : Numbered) (first : slice_get program.steps p.at ≡ Some s) (v : List VectorBit) (scans : vector_bits s.what ≡ v)
     (kept : is_some p.failed ≡ true → r ≡ p) (rest : r ≡ record p { judged = r.judged; failed = r.failed })
     (one : p.failed ≡ None → (w : VectorBit) (ws : List VectorBit) → filter (λ v. is_some v.wanted) (drop p.judged v) ≡ w ∷ ws
@@ -243,8 +243,8 @@ module _ (program : Program) (p r : Progress) (stands : Stands program.steps p) 
   abbrev counted : Progress → Progress
   counted x = record x { heard = x.heard + 1; owed = x.owed - 1 }
 
-  pub counts-on : Stands program.steps (counted r)
-  counts-on = subst (Stands program.steps) (sym (ap counted rest))
+  pub counts-on : IsProgressOf program.steps (counted r)
+  counts-on = subst (IsProgressOf program.steps) (sym (ap counted rest))
       (hears-on program p at.0 at.1 stands good some byte bit (reads-bit byte bit told).0 (reads-bit byte bit told).1 r.judged r.failed so-judged)
 
   pub counts-same : state_of program (counted r) ≡ hear byte (state_of program p)
@@ -264,7 +264,7 @@ is-none None e = refl
 is-none (Some x) e = absurd (cc)
 
 -- an answer is heard, and then those that are left
-pub takes-on : (program : Program) (p q : Progress) (byte : ℕ) (bytes : List ℕ) → Stands program.steps p → p.bad ≡ None → 0 < p.owed → Stands program.steps q
+pub takes-on : (program : Program) (p q : Progress) (byte : ℕ) (bytes : List ℕ) → IsProgressOf program.steps p → p.bad ≡ None → 0 < p.owed → IsProgressOf program.steps q
     → (is_bad byte ≡ false → (q.owed + 1 ≡ p.owed) × (q.bad ≡ None)) → (is_bad byte ≡ true → q.bad ≡ Some byte)
     → answers_taken 256 (state_of program p) (byte ∷ bytes) ≡ byte ∷ answers_taken 256 (state_of program q) bytes
 takes-on program p q byte bytes stands good some then_stands taken_one bad_one =
@@ -272,11 +272,11 @@ takes-on program p q byte bytes stands good some then_stands taken_one bad_one =
     (λ e. owed-so program q then_stands (taken_one e).1 ∙ omega (arith, (taken_one e).0)) (λ e. bad-owes (state_of program q) (ap is_some (bad_one e)))
 
 -- nothing is owed, or a byte that was no answer was taken
-pub takes-nothing : (program : Program) (p : Progress) (bytes : List ℕ) → Stands program.steps p → p.bad ≡ None → p.owed ≡ 0 → answers_taken 256 (state_of program p) bytes ≡ []
+pub takes-nothing : (program : Program) (p : Progress) (bytes : List ℕ) → IsProgressOf program.steps p → p.bad ≡ None → p.owed ≡ 0 → answers_taken 256 (state_of program p) bytes ≡ []
 takes-nothing program p bytes stands good none = takes-none (state_of program p) bytes (owed-so program p stands good ∙ none)
 
 -- a step without a vector asks for nothing
-pub asks-nothing : (program : Program) (p : Progress) (s : Numbered) → Stands program.steps p → slice_get program.steps p.at ≡ Some s → vector_bits s.what ≡ []
+pub asks-nothing : (program : Program) (p : Progress) (s : Numbered) → IsProgressOf program.steps p → slice_get program.steps p.at ≡ Some s → vector_bits s.what ≡ []
     → 0 < p.owed → ⊥
 asks-nothing program p s stands first none some =
     let at = where-owed program p stands some in

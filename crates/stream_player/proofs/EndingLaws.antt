@@ -1,5 +1,5 @@
 -- What a player tells of its play.
-use Rattle.std.proofs.Common.{◌≡◌, ◌⊎◌, Bool, true, false, ℕ, zero, suc, ◌+◌, ◌-◌, ◌<◌, List, [], ◌∷◌, length, take, drop, refl, sym, ap, ◌∙◌, arith, inl, inr, Some, None}
+use Rattle.std.proofs.Common.{◌≡◌, ◌⊎◌, Bool, true, false, ℕ, zero, suc, ◌+◌, ◌<◌, List, [], ◌∷◌, length, take, drop, refl, sym, ap, ◌∙◌, arith, inl, inr, Some, None}
 use Rattle.std.proofs.Math.Seq.{take-append-add}
 use Rattle.std.specs.Prelude.{◌||◌, is_some, option_map, slice_get, if◌then◌else◌}
 use Rattle.jt_tap.specs.declared.State.TheVariants.{Reset}
@@ -15,7 +15,7 @@ use Rattle.every_schedule.proofs.Quits.{has_quit, quit-append, turns-no-quit}
 use Rattle.stream_player.specs.declared.progress.Phase.{Phase}
 use Rattle.stream_player.specs.declared.progress.Phase.TheVariants.{Opening, Within, Over}
 use Rattle.stream_player.specs.declared.progress.Progress.{Progress}
-use Rattle.stream_player.specs.Progress.{IsOver, Stands, gone, is_out, mismatch, present, rest_of, standing_at, state_of}
+use Rattle.stream_player.specs.Progress.{IsOver, IsProgressOf, gone, is_out, mismatch, first_step_length, rest_of, standing_at, state_of}
 use Rattle.bitbang_table.specs.Protocol.{value}
 use Rattle.stream_player.specs.PlaceInPlay.{finding_of}
 use Rattle.stream_player.proofs.Ahead.{ahead}
@@ -25,7 +25,7 @@ use Rattle.stream_player.proofs.Pieced.{fair-end, first, gone-end, is-over, none
 use Rattle.stream_player.proofs.Steps.{cut, same-first}
 use Rattle.stream_player.proofs.PlayerPlaces.{gone-is, in-opening, in-step, is-in, later, no-elements, opens, turn, within}
 
-module _ (program : Program) (p : Progress) (out : Bool) (is : p.phase ≡ Over out) (stands : Stands program.steps p) where
+module _ (program : Program) (p : Progress) (out : Bool) (is : p.phase ≡ Over out) (stands : IsProgressOf program.steps p) where
   one-out : has_quit (take (value out) (Quit ∷ [])) ≡ out
   one-out = by out
     where
@@ -45,7 +45,7 @@ module _ (program : Program) (p : Progress) (out : Bool) (is : p.phase ≡ Over 
           let none = i.passed (none-of p.failed e) in
           let nothing = turns-end program p out is stands ∙ ap (step_turns p.place) none.0 in
           let g : gone (drop p.at program.steps) p ≡ value out =
-          gone-end program p out is stands ∙ ap (λ (l : List Numbered). present p.place l + value out) none.0 ∙ omega arith in
+          gone-end program p out is stands ∙ ap (λ (l : List Numbered). first_step_length p.place l + value out) none.0 ∙ omega arith in
           (λ k. has_quit (take (g k) (quits program (standing_at program.steps p) (fair-end program p out is stands) nothing k))) ∙ one-out
       by true e =
           let some = i.stopped e in
@@ -54,7 +54,7 @@ module _ (program : Program) (p : Progress) (out : Bool) (is : p.phase ≡ Over 
           let rest = step_turns (place_after p.place some.0.what) some.1 in
           let here = turns-end program p out is stands ∙ ap (step_turns p.place) some.2 in
           let g : gone (drop p.at program.steps) p ≡ length ms + value out =
-          gone-end program p out is stands ∙ ap (λ (l : List Numbered). present p.place l + value out) some.2 in
+          gone-end program p out is stands ∙ ap (λ (l : List Numbered). first_step_length p.place l + value out) some.2 in
           (λ k. has_quit (take (g k) (quits-behind program (standing_at program.steps p) (fair-end program p out is stands) t rest here some.3
           (stops-is program p out is stands true e) k)))
           ∙ ap has_quit (take-append-add ms (Quit ∷ []) (value out))
@@ -77,10 +77,10 @@ module _ (program : Program) (p : Progress) (out : Bool) (is : p.phase ≡ Over 
           let t : Turn = record { command = some.0.number; messages = ms; wants = wants_of some.0.what } in
           works-stopped program (standing_at program.steps p) (fair-end program p out is stands) t (step_turns (place_after p.place some.0.what) some.1)
           (turns-end program p out is stands ∙ ap (step_turns p.place) some.2)
-          (omega (arith, gone-end program p out is stands, ap (present p.place) some.2)) some.3 (stops-is program p out is stands true e)
+          (omega (arith, gone-end program p out is stands, ap (first_step_length p.place) some.2)) some.3 (stops-is program p out is stands true e)
 
 -- how it ends where no answer was bad
-pub ended-good : (program : Program) (p : Progress) → Stands program.steps p → p.bad ≡ None → stream.ending_of_stream 256 (state_of program p)
+pub ended-good : (program : Program) (p : Progress) → IsProgressOf program.steps p → p.bad ≡ None → stream.ending_of_stream 256 (state_of program p)
     ≡ (if is_out p.phase then Some (ending_of (finding_of (option_map mismatch p.failed)).list) else None)
 ended-good program p stands good = by p.phase refl
   where
@@ -103,7 +103,7 @@ ended-good program p stands good = by p.phase refl
         ∙ ap (λ (b : Bool). if b then Some (ending_of (finding_of s.failed).list) else None) (quit-out program p out is stands)
 
 -- the step at work
-module _ (program : Program) (p : Progress) (spot : Spot) (is : p.phase ≡ Within spot) (stands : Stands program.steps p) (s : Numbered)
+module _ (program : Program) (p : Progress) (spot : Spot) (is : p.phase ≡ Within spot) (stands : IsProgressOf program.steps p) (s : Numbered)
     (first_is : slice_get program.steps p.at ≡ Some s) where
   same : s ≡ (in-step program p spot is stands).step
   same = same-first (drop p.at program.steps) s _ (drop (suc p.at) program.steps) (in-step program p spot is stands).later
@@ -136,7 +136,7 @@ module _ (program : Program) (p : Progress) (spot : Spot) (is : p.phase ≡ With
         | None ↦ stream.ending_of_stream 256 (record (state_of program p) { bad = None })
       ]) ∙ ap (λ (x : Numbered). Some (BadAnswer x.number byte)) (sym same)
 
-pub ended-bad : (program : Program) (p : Progress) → Stands program.steps p → (s : Numbered) → slice_get program.steps p.at ≡ Some s → (byte : ℕ)
+pub ended-bad : (program : Program) (p : Progress) → IsProgressOf program.steps p → (s : Numbered) → slice_get program.steps p.at ≡ Some s → (byte : ℕ)
     → p.bad ≡ Some byte → stream.ending_of_stream 256 (state_of program p) ≡ Some (BadAnswer s.number byte)
 ended-bad program p stands s first_is byte e = by p.phase refl
   where

@@ -17,13 +17,13 @@ use Rattle.stream_player.specs.declared.progress.Mismatch as declared
 use Rattle.stream_player.specs.declared.progress.Phase.{Phase}
 use Rattle.stream_player.specs.declared.progress.Phase.TheVariants.{Opening, Within, Over}
 use Rattle.stream_player.specs.declared.progress.Progress.{Progress}
-use Rattle.stream_player.specs.Progress.{Gives, InPhase, InStep, IsOver, IsReady, Stands, gone, mismatch, over, present, rest_of, standing_at, state_of}
+use Rattle.stream_player.specs.Progress.{Gives, InPhase, InStep, IsOver, HasWorkLeft, IsProgressOf, gone, mismatch, over, first_step_length, rest_of, standing_at, state_of}
 use Rattle.stream_player.specs.PlaceInPlay.{PlaceInPlay, finding_of, messages_in, reads, state_at, up_to_reads}
 use Rattle.stream_player.proofs.Ahead.{ahead, stops_at, waits}
 use Rattle.stream_player.proofs.Ends.{quits, quits-behind}
 use Rattle.stream_player.proofs.TurnPlaces.{IsIn, Waits, waits-so}
 use Rattle.stream_player.proofs.Window.{asks-split, in-bytes, up-to-all}
-use Rattle.stream_player.proofs.PlayerPlaces.{map-some, no-elements, stops-some, in-opening, in-step, is-in, left-is, opens, over-is, turn, later, within}
+use Rattle.stream_player.proofs.PlayerPlaces.{map-some, no-elements, stops-some, in-opening, in-step, is-in, left-is, opens, over-is, turn, later}
 
 -- of what the window lets through
 pub through-front : (n : ℕ) (l : List ℕ) (k : ℕ) → n ≤ length (up_to_reads l k) → take n (up_to_reads l k) ≡ take n l
@@ -84,7 +84,7 @@ given-more program s n =
     (λ k. record (state_at program s) { given = same k })
 
 -- nothing is given out
-pub gives-none : (program : Program) (p : Progress) (buffer : List ℕ) → Stands program.steps p → p.bad ≡ None
+pub gives-none : (program : Program) (p : Progress) (buffer : List ℕ) → IsProgressOf program.steps p → p.bad ≡ None
     → (0 < length buffer → bytes_to_send 256 (state_of program p) ≡ []) → Gives program p buffer buffer p 0
 gives-none program p buffer stands good none = record {
   stands = stands;
@@ -97,7 +97,7 @@ gives-none program p buffer stands good none = record {
 }
 
 -- one byte is given out
-pub gives-one : (program : Program) (p next : Progress) (buffer after : List ℕ) (b : ℕ) (more : List ℕ) → Stands program.steps next → next.bad ≡ None
+pub gives-one : (program : Program) (p next : Progress) (buffer after : List ℕ) (b : ℕ) (more : List ℕ) → IsProgressOf program.steps next → next.bad ≡ None
     → state_of program next ≡ record (state_of program p) { given = (state_of program p).given + 1 }
     → bytes_to_send 256 (state_of program p) ≡ b ∷ more → 0 < length buffer → after ≡ set buffer 0 b → Gives program p buffer after next 1
 gives-one program p next [] after b more stands good state waits room is = absurd (omega (arith, room))
@@ -112,7 +112,7 @@ gives-one program p next (x ∷ xs) after b more stands good state waits room is
 }
 
 -- the opening
-module _ (program : Program) (p : Progress) (n : ℕ) (is : p.phase ≡ Opening n) (stands : Stands program.steps p) where
+module _ (program : Program) (p : Progress) (n : ℕ) (is : p.phase ≡ Opening n) (stands : IsProgressOf program.steps p) where
   abbrev pub start : PlaceInPlay
   start = record { over = 0; gone = n; heard = 0; failed = None; bad = None }
 
@@ -141,7 +141,7 @@ module _ (program : Program) (p : Progress) (n : ℕ) (is : p.phase ≡ Opening 
             ∙ sym (drop-map encode n opening)),
       )
 
-  pub opening-on : n < length opening → Stands program.steps (record p { phase = Opening (n + 1) })
+  pub opening-on : n < length opening → IsProgressOf program.steps (record p { phase = Opening (n + 1) })
   opening-on less =
       let i = in-opening program p n is stands in
       record { rests = stands.rests; phase = record { some = omega (arith, less); at = i.at; place = i.place; heard = i.heard; owed = i.owed; failed = i.failed; bad = i.bad } }
@@ -155,7 +155,7 @@ module _ (program : Program) (p : Progress) (n : ℕ) (is : p.phase ≡ Opening 
       ∙ (λ k. record (sym (opens program p n is stands) k) { given = (sym (opens program p n is stands) k).given + 1 })
 
 -- a step
-module _ (program : Program) (p : Progress) (spot : Spot) (is : p.phase ≡ Within spot) (stands : Stands program.steps p) (good : p.bad ≡ None) where
+module _ (program : Program) (p : Progress) (spot : Spot) (is : p.phase ≡ Within spot) (stands : IsProgressOf program.steps p) (good : p.bad ≡ None) where
   abbrev rest : List Numbered
   rest = drop p.at program.steps
 
@@ -204,7 +204,7 @@ module _ (program : Program) (p : Progress) (spot : Spot) (is : p.phase ≡ With
       ap (λ (ph : Phase). gone rest (record p { phase = ph })) is,
     )
 
-    step-on : Stands program.steps next
+    step-on : IsProgressOf program.steps next
     step-on = record {
       rests = stands.rests;
       phase = record {
@@ -229,7 +229,7 @@ module _ (program : Program) (p : Progress) (spot : Spot) (is : p.phase ≡ With
         ∙ (λ k. let s = state_at program (record (standing_at program.steps p) { over = sym (over-is program p spot is stands) k }) in
         record s { given = s.given + count })
 
-    nothing : (w : StepWaits) → length (up_to_reads left (256 - p.owed)) ≡ 0 → IsReady rest p (Within spot) → bytes_to_send 256 (state_of program p) ≡ []
+    nothing : (w : StepWaits) → length (up_to_reads left (256 - p.owed)) ≡ 0 → HasWorkLeft rest p (Within spot) → bytes_to_send 256 (state_of program p) ≡ []
     nothing w none ready = by p.owed refl
       where
         by : (o : ℕ) → p.owed ≡ o → bytes_to_send 256 (state_of program p) ≡ []
@@ -238,7 +238,7 @@ module _ (program : Program) (p : Progress) (spot : Spot) (is : p.phase ≡ With
             let more : 0 < p.owed = ready empty in absurd (omega (arith, e))
         by (suc o) e = w.waits ∙ (λ k. no-elements (up_to_reads left (256 - p.owed)) none k ++ w.none (omega (arith, e)) k)
 
-    pub gives-step : (count ≡ 0 → IsReady rest p (Within spot)) → Gives program p buffer after next count
+    pub gives-step : (count ≡ 0 → HasWorkLeft rest p (Within spot)) → Gives program p buffer after next count
     gives-step ready =
         let w = in-bytes-left in
         let through = up_to_reads left (256 - p.owed) in
@@ -260,14 +260,14 @@ none-of None e = refl
 none-of (Some m) e = absurd (cc)
 
 -- the end
-module _ (program : Program) (p : Progress) (out : Bool) (is : p.phase ≡ Over out) (stands : Stands program.steps p) where
+module _ (program : Program) (p : Progress) (out : Bool) (is : p.phase ≡ Over out) (stands : IsProgressOf program.steps p) where
   abbrev pub is-over : IsOver (drop p.at program.steps) p
   is-over = subst (InPhase (drop p.at program.steps) p) is stands.phase
 
   pub over-end : over p ≡ suc p.at
   over-end = ap (λ (ph : Phase). elim ph [ Opening n ↦ 0 | Within spot ↦ suc p.at | Over out ↦ suc p.at ]) is
 
-  pub gone-end : gone (drop p.at program.steps) p ≡ present p.place (drop p.at program.steps) + value out
+  pub gone-end : gone (drop p.at program.steps) p ≡ first_step_length p.place (drop p.at program.steps) + value out
   gone-end = ap (λ (ph : Phase). gone (drop p.at program.steps) (record p { phase = ph })) is
 
   pub turns-end : drop (over p) (turns program.steps) ≡ step_turns p.place (drop p.at program.steps)
@@ -292,7 +292,7 @@ module _ (program : Program) (p : Progress) (out : Bool) (is : p.phase ≡ Over 
       by false e =
           let none = is-over.passed (none-of p.failed e) in
           let nothing : drop (over p) (turns program.steps) ≡ [] = turns-end ∙ ap (step_turns p.place) none.0 in
-          let g : gone (drop p.at program.steps) p ≡ value out = gone-end ∙ ap (λ (l : List Numbered). present p.place l + value out) none.0 ∙ omega arith in
+          let g : gone (drop p.at program.steps) p ≡ value out = gone-end ∙ ap (λ (l : List Numbered). first_step_length p.place l + value out) none.0 ∙ omega arith in
           (λ k. drop (g k) (quits program (standing_at program.steps p) fair-end nothing k))
       by true e =
           let some = is-over.stopped e in
@@ -300,7 +300,7 @@ module _ (program : Program) (p : Progress) (out : Bool) (is : p.phase ≡ Over 
           let t : Turn = record { command = some.0.number; messages = ms; wants = wants_of some.0.what } in
           let here : drop (over p) (turns program.steps) ≡ t ∷ step_turns (place_after p.place some.0.what) some.1 =
           turns-end ∙ ap (step_turns p.place) some.2 in
-          let g : gone (drop p.at program.steps) p ≡ length ms + value out = gone-end ∙ ap (λ (l : List Numbered). present p.place l + value out) some.2 in
+          let g : gone (drop p.at program.steps) p ≡ length ms + value out = gone-end ∙ ap (λ (l : List Numbered). first_step_length p.place l + value out) some.2 in
           (λ k. drop (g k) (quits-behind program (standing_at program.steps p) fair-end t _ here some.3 (stops-is true e) k))
           ∙ drop-append-add ms (Quit ∷ []) (value out)
 
@@ -308,7 +308,7 @@ module _ (program : Program) (p : Progress) (out : Bool) (is : p.phase ≡ Over 
   quit-waits = waits program (standing_at program.steps p) fair-end is-over.bad ∙ ap (map encode) ahead-end
 
   -- `Q` is given out
-  pub quit-on : Stands program.steps (record p { phase = Over true })
+  pub quit-on : IsProgressOf program.steps (record p { phase = Over true })
   quit-on = record {
     rests = stands.rests;
     phase = record { passed = is-over.passed; stopped = is-over.stopped; owed = is-over.owed; bad = is-over.bad };
@@ -316,7 +316,7 @@ module _ (program : Program) (p : Progress) (out : Bool) (is : p.phase ≡ Over 
 
   pub quit-state : out ≡ false → state_of program (record p { phase = Over true }) ≡ record (state_of program p) { given = (state_of program p).given + 1 }
   quit-state none =
-      let P = present p.place (drop p.at program.steps) in
+      let P = first_step_length p.place (drop p.at program.steps) in
       let g : P + value true ≡ gone (drop p.at program.steps) p + 1 = omega (arith, gone-end, ap value none) in
       (λ k. state_at program (record (standing_at program.steps p) { over = suc p.at; gone = g k }))
       ∙ given-more program (record (standing_at program.steps p) { over = suc p.at }) 1

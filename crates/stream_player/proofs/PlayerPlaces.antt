@@ -17,7 +17,7 @@ use Rattle.stream_player.specs.declared.progress.Mismatch as declared
 use Rattle.stream_player.specs.declared.progress.Phase.{Phase}
 use Rattle.stream_player.specs.declared.progress.Phase.TheVariants.{Opening, Within, Over}
 use Rattle.stream_player.specs.declared.progress.Progress.{Progress}
-use Rattle.stream_player.specs.Progress.{InOpening, InPhase, InStep, Stands, gone, mismatch, over, present, rest_of, standing_at, state_of}
+use Rattle.stream_player.specs.Progress.{InOpening, InPhase, InStep, IsProgressOf, gone, mismatch, over, first_step_length, rest_of, standing_at, state_of}
 use Rattle.stream_player.specs.PlaceInPlay.{finding_of, reads, state_at}
 use Rattle.stream_player.proofs.Ahead.{map-take, stops_at}
 use Rattle.stream_player.proofs.TurnPlaces.{IsIn, over-now, reached}
@@ -55,7 +55,7 @@ pub no-elements : {A : Type 0} (l : List A) → length l ≡ 0 → l ≡ []
 no-elements [] e = refl
 no-elements (x ∷ l) e = absurd (omega (arith, e))
 
-module _ (program : Program) (p : Progress) (spot : Spot) (is : p.phase ≡ Within spot) (stands : Stands program.steps p) where
+module _ (program : Program) (p : Progress) (spot : Spot) (is : p.phase ≡ Within spot) (stands : IsProgressOf program.steps p) where
   abbrev pub rest : List Numbered
   rest = drop p.at program.steps
 
@@ -76,10 +76,10 @@ module _ (program : Program) (p : Progress) (spot : Spot) (is : p.phase ≡ With
   over-is = ap (λ (ph : Phase). elim ph [ Opening n ↦ 0 | Within spot ↦ suc p.at | Over out ↦ suc p.at ]) is
 
   pub gone-is : gone rest p ≡ length turn.messages - length (rest_of p.place rest spot)
-  gone-is = ap (λ (ph : Phase). gone rest (record p { phase = ph })) is ∙ ap (λ (n : ℕ). n - length (rest_of p.place rest spot)) (ap (present p.place) in-step.is)
+  gone-is = ap (λ (ph : Phase). gone rest (record p { phase = ph })) is ∙ ap (λ (n : ℕ). n - length (rest_of p.place rest spot)) (ap (first_step_length p.place) in-step.is)
 
   pub within : length (rest_of p.place rest spot) ≤ length turn.messages
-  within = omega (arith, in-step.some, ap (present p.place) in-step.is)
+  within = omega (arith, in-step.some, ap (first_step_length p.place) in-step.is)
 
   asked : asks (take (gone rest p) turn.messages) ≡ p.heard + p.owed
   asked = sym (reads-asks (take (gone rest p) turn.messages)) ∙ ap reads (sym (map-take (gone rest p) turn.messages)) ∙ in-step.asked
@@ -117,7 +117,7 @@ module _ (program : Program) (p : Progress) (spot : Spot) (is : p.phase ≡ With
     not-bad = no-byte p.bad (λ some. let more = in-step.bad some in omega (arith, nothing))
 
     -- the play ends behind a step that failed
-    pub stops-here : is_some p.failed ≡ true → Stands program.steps (record p { phase = Over false })
+    pub stops-here : is_some p.failed ≡ true → IsProgressOf program.steps (record p { phase = Over false })
     stops-here some = record {
       rests = stands.rests;
       phase = record {
@@ -130,7 +130,7 @@ module _ (program : Program) (p : Progress) (spot : Spot) (is : p.phase ≡ With
 
     pub stops-same : state_of program (record p { phase = Over false }) ≡ state_of program p
     stops-same =
-        let g : present p.place rest + 0 ≡ gone rest p = omega (arith, all-gone, ap (present p.place) in-step.is) in
+        let g : first_step_length p.place rest + 0 ≡ gone rest p = omega (arith, all-gone, ap (first_step_length p.place) in-step.is) in
         (λ k. state_at program (record (standing_at program.steps p) { over = sym over-is k; gone = g k }))
 
     -- or the next step begins
@@ -142,7 +142,7 @@ module _ (program : Program) (p : Progress) (spot : Spot) (is : p.phase ≡ With
         ∙ over-now program (standing_at program.steps p) turn later p.owed is-in all-gone nothing
 
 -- the opening
-module _ (program : Program) (p : Progress) (n : ℕ) (is : p.phase ≡ Opening n) (stands : Stands program.steps p) where
+module _ (program : Program) (p : Progress) (n : ℕ) (is : p.phase ≡ Opening n) (stands : IsProgressOf program.steps p) where
   abbrev pub in-opening : InOpening n p
   in-opening = subst (InPhase (drop p.at program.steps) p) is stands.phase
 

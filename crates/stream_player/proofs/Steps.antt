@@ -1,5 +1,5 @@
 -- The fields of a player from one turn to the next.
-use Rattle.std.proofs.Common.{◌≡◌, Bool, true, false, ℕ, zero, suc, ◌+◌, ◌-◌, ◌<◌, List, [], ◌∷◌, length, take, drop, refl, sym, ap, subst, ◌∙◌, arith, Some, None}
+use Rattle.std.proofs.Common.{◌≡◌, Bool, true, false, ℕ, zero, suc, ◌+◌, ◌<◌, List, [], ◌∷◌, length, take, drop, refl, sym, ap, subst, ◌∙◌, arith, Some, None}
 use Rattle.std.proofs.lemmas.List.{length-map}
 use Rattle.std.specs.Prelude.{filter, is_some, slice_get}
 use Rattle.jt_tap.specs.declared.State.{State}
@@ -15,7 +15,7 @@ use Rattle.plays.specs.Play.{Turn, step_turns, turns, wants_of}
 use Rattle.plays.proofs.Legality.{place-stable}
 use Rattle.stream_player.specs.declared.progress.Phase.TheVariants.{Within}
 use Rattle.stream_player.specs.declared.progress.Progress.{Progress}
-use Rattle.stream_player.specs.Progress.{InStep, Rests, Stands, gone, state_of, vector_bits}
+use Rattle.stream_player.specs.Progress.{InStep, Rests, IsProgressOf, gone, state_of, vector_bits}
 use Rattle.stream_player.specs.PlaceInPlay.{reads, state_at}
 
 -- the step at a place stands first of those from there on
@@ -89,7 +89,7 @@ module _ (spot : Spot) (at : ℕ) (place : State) (s : Numbered) (later : List N
       }
 
 pub enters : (steps : List Numbered) (spot : Spot) (at : ℕ) (place : State) (s : Numbered) (later : List Numbered) → Rests steps at place
-    → drop at steps ≡ s ∷ later → behind spot (cycles place s.what) ≡ step_bytes place s.what → Stands steps (start spot at place)
+    → drop at steps ≡ s ∷ later → behind spot (cycles place s.what) ≡ step_bytes place s.what → IsProgressOf steps (start spot at place)
 enters steps spot at place s later r e all = record {
   rests = r;
   phase = subst (λ (l : List Numbered). InStep spot l (start spot at place)) (sym e) (begins spot at place s later all);

@@ -30,10 +30,10 @@ mismatch m = record { command = m.command; part = m.part; place = m.bit }
 abbrev pub over : Progress → ℕ
 over p = elim p.phase [ Opening n ↦ 0 | Within spot ↦ suc p.at | Over out ↦ suc p.at ]
 
--- the messages of the first of these steps
-abbrev pub present : State → List Numbered → ℕ
-present place [] = 0
-present place (s ∷ ss) = length (step_messages place s.what)
+-- how many messages the first of these steps has
+abbrev pub first_step_length : State → List Numbered → ℕ
+first_step_length place [] = 0
+first_step_length place (s ∷ ss) = length (step_messages place s.what)
 
 -- what is left behind a spot of the first of these steps
 abbrev pub rest_of : State → List Numbered → Spot → List ℕ
@@ -44,8 +44,8 @@ rest_of place (s ∷ ss) spot = behind spot (cycles place s.what)
 abbrev pub gone : List Numbered → Progress → ℕ
 gone rest p = elim p.phase [
   | Opening n ↦ n
-  | Within spot ↦ present p.place rest - length (rest_of p.place rest spot)
-  | Over out ↦ present p.place rest + value out
+  | Within spot ↦ first_step_length p.place rest - length (rest_of p.place rest spot)
+  | Over out ↦ first_step_length p.place rest + value out
 ]
 
 abbrev pub standing_at : List Numbered → Progress → PlaceInPlay
@@ -90,7 +90,7 @@ pub record InStep (spot : Spot) (rest : List Numbered) (p : Progress) : Type 0 w
   pub later : List Numbered
   pub is : rest ≡ step ∷ later
   pub left : rest_of p.place rest spot ≡ drop (gone rest p) (step_bytes p.place step.what)
-  pub some : length (rest_of p.place rest spot) ≤ present p.place rest
+  pub some : length (rest_of p.place rest spot) ≤ first_step_length p.place rest
   pub asked : reads (take (gone rest p) (step_bytes p.place step.what)) ≡ p.heard + p.owed
   pub allowed : p.owed ≤ 256
   pub judged : p.failed ≡ None
@@ -115,13 +115,13 @@ InPhase rest p phase = elim phase [
 ]
 
 -- the fields of a player of these steps
-pub record Stands (steps : List Numbered) (p : Progress) : Type 0 where
+pub record IsProgressOf (steps : List Numbered) (p : Progress) : Type 0 where
   pub rests : Rests steps p.at p.place
   pub phase : InPhase (drop p.at steps) p p.phase
 
 -- something is to be done before another turn begins: a byte to give out, or an answer to hear
-abbrev pub IsReady : List Numbered → Progress → Phase → Type 0
-IsReady rest p phase = elim phase [
+abbrev pub HasWorkLeft : List Numbered → Progress → Phase → Type 0
+HasWorkLeft rest p phase = elim phase [
   | Opening n ↦ n < length opening
   | Within spot ↦ (rest_of p.place rest spot ≡ []) → 0 < p.owed
   | Over out ↦ Unit {0}
@@ -135,7 +135,7 @@ ahead steps p = elim p.phase [ Opening n ↦ length steps + 2 | Within spot ↦ 
 -- no room or nothing waits.
 pub record Gives (program : Program) (p : Progress) (buffer after : List ℕ) (next : Progress)
     (count : ℕ) : Type 0 where
-  pub stands : Stands program.steps next
+  pub stands : IsProgressOf program.steps next
   pub good : next.bad ≡ None
   pub state : state_of program next ≡ record (state_of program p) { given = (state_of program p).given + count }
   pub some : count ≤ length (bytes_to_send 256 (state_of program p))

@@ -10,7 +10,7 @@ ghost use Rattle.svf_programs.specs.Seen.{numbered};
 ghost use Rattle.plays.specs.Play.{is_bad};
 ghost use Rattle.plays.specs.Streams.{hear_bytes, answers_taken};
 ghost use Rattle.plays.specs.Streams as stream;
-ghost use Rattle.stream_player.specs.Progress.{Stands, mismatch, state_of, vector_bits};
+ghost use Rattle.stream_player.specs.Progress.{IsProgressOf, mismatch, state_of, vector_bits};
 ghost use Rattle.stream_player.specs.PlaceInPlay.{differing_bit};
 
 use crate::progress::{Mismatch, Progress};
@@ -21,8 +21,8 @@ use svf_programs::{Action, Program, Step};
 /// Takes as many answers as are owed, up to and with the first that is none. Answers where the player stands then, and
 /// how many were taken.
 pub(crate) fn hear(program: &Program, p: Progress, bytes: &[u8]) -> (Progress, usize)
-    requires { Stands program.now.steps p }
-    ensures stands { Stands program.now.steps result.0 }
+    requires { IsProgressOf program.now.steps p }
+    ensures stands { IsProgressOf program.now.steps result.0 }
     ensures count { result.1 ≡ length (answers_taken 256 (state_of (program_of program.now) p) bytes.now) }
     ensures state { state_of (program_of program.now) result.0
         ≡ hear_bytes (answers_taken 256 (state_of (program_of program.now) p) bytes.now)
@@ -72,12 +72,12 @@ fn hear_one(
     p: Progress,
     byte: u8,
 ) -> Progress
-    requires stands { Stands program.now.steps p }
+    requires stands { IsProgressOf program.now.steps p }
     requires first { slice_get program.now.steps p.at ≡ Some (numbered step.now) }
     requires scans { vector_bits (seen.step step.now.what) ≡ bits vector.now }
     requires good { p.bad ≡ None }
     requires owed { 0 < p.owed }
-    ensures stands { Stands program.now.steps result }
+    ensures stands { IsProgressOf program.now.steps result }
     ensures state { state_of (program_of program.now) result ≡ stream.hear byte (state_of (program_of program.now) p) }
     ensures at { result.at ≡ p.at }
     ensures taken { is_bad byte ≡ false → (result.owed + 1 ≡ p.owed) × (result.bad ≡ None) }
@@ -89,7 +89,7 @@ fn hear_one(
         let bad = Some(byte);
         return Progress { bad, ..p };
     };
-    let p = judged(step.number, vector, p, bit);
+    let p = after_judging(step.number, vector, p, bit);
     Progress {
         heard: p.heard + 1,
         owed: p.owed - 1,
@@ -98,7 +98,7 @@ fn hear_one(
 }
 
 /// Judges one bit by the next wanted one, unless a bit differed before.
-fn judged(command: usize, vector: &Vector<'_>, p: Progress, bit: bool) -> Progress
+fn after_judging(command: usize, vector: &Vector<'_>, p: Progress, bit: bool) -> Progress
     ensures kept { is_some p.failed ≡ true → result ≡ p }
     ensures rest { result ≡ record p { judged = result.judged; failed = result.failed } }
     ensures judged { p.failed ≡ None → (w : VectorBit) (ws : List VectorBit)

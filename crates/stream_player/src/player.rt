@@ -33,11 +33,11 @@ impl Model for Player {
     ghost Value = { StreamState };
 
     ghost use Rattle.svf_programs.specs.Sizes.{program_of};
-    ghost use Rattle.stream_player.specs.Progress.{Stands, state_of};
+    ghost use Rattle.stream_player.specs.Progress.{IsProgressOf, state_of};
 
     ghost view = { λ p. state_of (program_of p.program) p.progress };
 
-    ghost invariant = { λ p. Stands p.program.steps p.progress };
+    ghost invariant = { λ p. IsProgressOf p.program.steps p.progress };
 }
 
 impl Player {

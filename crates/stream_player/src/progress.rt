@@ -3,7 +3,7 @@
 ghost use Rattle.std.specs.Prelude.{◌≡◌, ◌≤◌, ◌<◌, ◌+◌, suc, drop, length, None, MatchOption};
 ghost use Rattle.svf_programs.specs.Sizes.{program_of};
 ghost use Rattle.stream_player.specs.PlaceInPlay.{state_at};
-ghost use Rattle.stream_player.specs.Progress.{IsReady, Rests, Stands, ahead, state_of};
+ghost use Rattle.stream_player.specs.Progress.{HasWorkLeft, IsProgressOf, Rests, ahead, state_of};
 
 use bitbang::{Spot, StepBytes};
 use jt_tap::State;
@@ -11,7 +11,7 @@ use scan_vectors::Part;
 use svf_programs::Program;
 use tck_cycles::place_after;
 
-/// How many bytes open a play.
+/// The bytes that open a play.
 pub(crate) const OPENING: &[u8; 12] = b"r26262626260";
 
 /// A wanted bit that did not come out: the statement of its step, counted from 1, its part of the vector and its place
@@ -102,9 +102,9 @@ impl Progress {
 }
 
 /// The start of the step with this place in the order of the steps; behind the last one, the end of the play.
-pub(crate) fn entered(program: &Program, at: usize, place: State) -> Progress
+pub(crate) fn start_of_step(program: &Program, at: usize, place: State) -> Progress
     requires rests { Rests program.now.steps at place }
-    ensures stands { Stands program.now.steps result }
+    ensures stands { IsProgressOf program.now.steps result }
     ensures same { state_of (program_of program.now) result
         ≡ state_at (program_of program.now)
         (record { over = suc at; gone = 0; heard = 0; failed = None; bad = None }) }
@@ -121,15 +121,15 @@ pub(crate) fn entered(program: &Program, at: usize, place: State) -> Progress
 
 /// The next turn, where nothing of the present one is left to be done: all its bytes are out, and all its answers are
 /// there.
-pub(crate) fn advanced(program: &Program, p: Progress) -> Option<Progress>
-    requires stands { Stands program.now.steps p }
-    ensures { MatchOption result (IsReady (drop p.at program.now.steps) p p.phase)
-        (λ next. Stands program.now.steps next
+pub(crate) fn next_turn(program: &Program, p: Progress) -> Option<Progress>
+    requires stands { IsProgressOf program.now.steps p }
+    ensures { MatchOption result (HasWorkLeft (drop p.at program.now.steps) p p.phase)
+        (λ next. IsProgressOf program.now.steps next
         × (state_of (program_of program.now) next ≡ state_of (program_of program.now) p)
         × (ahead program.now.steps next < ahead program.now.steps p)) }
 {
     match p.phase {
-        Phase::Opening(n) if n == OPENING.len() => Some(entered(program, 0, State::Reset)),
+        Phase::Opening(n) if n == OPENING.len() => Some(start_of_step(program, 0, State::Reset)),
         Phase::Within(spot) if p.owed == 0 => after_step(program, p, spot),
         _ => None,
     }
@@ -137,11 +137,11 @@ pub(crate) fn advanced(program: &Program, p: Progress) -> Option<Progress>
 
 /// What follows a step of which no answer is owed, once all its bytes are out.
 fn after_step(program: &Program, p: Progress, spot: Spot) -> Option<Progress>
-    requires stands { Stands program.now.steps p }
+    requires stands { IsProgressOf program.now.steps p }
     requires is { p.phase ≡ Phase.Within spot }
     requires nothing { p.owed ≡ 0 }
-    ensures { MatchOption result (IsReady (drop p.at program.now.steps) p p.phase)
-        (λ next. Stands program.now.steps next
+    ensures { MatchOption result (HasWorkLeft (drop p.at program.now.steps) p p.phase)
+        (λ next. IsProgressOf program.now.steps next
         × (state_of (program_of program.now) next ≡ state_of (program_of program.now) p)
         × (ahead program.now.steps next < ahead program.now.steps p)) }
 {
@@ -157,18 +157,18 @@ fn after_step(program: &Program, p: Progress, spot: Spot) -> Option<Progress>
             ..p
         });
     }
-    Some(entered(program, p.at + 1, place_after(p.place, &step)))
+    Some(start_of_step(program, p.at + 1, place_after(p.place, &step)))
 }
 
 /// The turn that is next at work: the present one, or where nothing of it is left to be done, one behind it.
-pub(crate) fn settled(program: &Program, p: Progress) -> Progress
-    requires { Stands program.now.steps p }
-    ensures stands { Stands program.now.steps result }
+pub(crate) fn turn_at_work(program: &Program, p: Progress) -> Progress
+    requires { IsProgressOf program.now.steps p }
+    ensures stands { IsProgressOf program.now.steps result }
     ensures same { state_of (program_of program.now) result ≡ state_of (program_of program.now) p }
-    ensures ready { IsReady (drop result.at program.now.steps) result result.phase }
+    ensures ready { HasWorkLeft (drop result.at program.now.steps) result result.phase }
 {
     let mut p = p;
-    while let Some(next) = advanced(program, p) {
+    while let Some(next) = next_turn(program, p) {
         p = next;
     }
     p

@@ -4,16 +4,16 @@ ghost use Rattle.std.specs.Prelude.{◌≡◌, ◌-◌, ◌^◌, min, option_map
 ghost use Rattle.svf_programs.specs.Sizes.{program_of};
 ghost use Rattle.plays.specs.PlayingOn.{ending_of};
 ghost use Rattle.plays.specs.Streams as stream;
-ghost use Rattle.stream_player.specs.Progress.{Stands, is_out, mismatch, state_of};
+ghost use Rattle.stream_player.specs.Progress.{IsProgressOf, is_out, mismatch, state_of};
 ghost use Rattle.stream_player.specs.PlaceInPlay.{finding_of};
 
-use crate::progress::{Mismatch, Phase, Progress, settled};
+use crate::progress::{Mismatch, Phase, Progress, turn_at_work};
 use plays::Ending;
 use svf_programs::Program;
 
 /// How the play ended, if it did.
 pub(crate) fn ended(program: &Program, p: Progress) -> Option<Ending>
-    requires { Stands program.now.steps p }
+    requires { IsProgressOf program.now.steps p }
     ensures { result ≡ stream.ending_of_stream 256 (state_of (program_of program.now) p) }
 {
     if let Some(byte) = p.bad {
@@ -50,10 +50,10 @@ fn verdict(failed: Option<Mismatch>) -> Ending
 
 /// The command in work, or the largest number where it is more.
 pub(crate) fn working(program: &Program, p: Progress) -> usize
-    requires { Stands program.now.steps p }
+    requires { IsProgressOf program.now.steps p }
     ensures { result ≡ min (stream.working (state_of (program_of program.now) p)) (2 ^ 64 - 1) }
 {
-    let p = settled(program, p);
+    let p = turn_at_work(program, p);
     match p.phase {
         Phase::Opening(_) => 0,
         Phase::Within(_) => program.step(p.at).number,

@@ -13,7 +13,7 @@ use Rattle.plays.specs.Playing.{PlayerState, up_to_bad}
 use Rattle.svf_programs.specs.Steps.{Numbered, Program}
 use Rattle.plays.proofs.Asks.{asks, hear-asks}
 use Rattle.every_schedule.specs.Fronts.{IsFront}
-use Rattle.every_schedule.specs.Laws.{Link, full}
+use Rattle.every_schedule.specs.Laws.{Connection, full}
 use Rattle.plays.specs.PlayingOn.{Kind, turns_for}
 use Rattle.every_schedule.proofs.Fronts.{front-trans}
 use Rattle.every_schedule.proofs.HonestLinks.{none-bad-any, told-bits}
@@ -118,12 +118,12 @@ taken-one true (suc (suc k)) some = refl
 taken-one false (suc zero) some = refl
 taken-one false (suc (suc k)) some = refl
 
-abbrev pub link : Kind → (window down_room up_room : ℕ) → Link
-link kind window down_room up_room = record { kind = kind; window = window; down_room = down_room; up_room = up_room }
+abbrev pub connection : Kind → (window down_room up_room : ℕ) → Connection
+connection kind window down_room up_room = record { kind = kind; window = window; down_room = down_room; up_room = up_room }
 
 module _ (kind : Kind) (window : ℕ) (program : Program) (b : BoardState) (down_room up_room : ℕ) where
-  abbrev l : Link
-  l = link kind window down_room up_room
+  abbrev l : Connection
+  l = connection kind window down_room up_room
 
   abbrev steps : List Numbered
   steps = program.steps
@@ -251,4 +251,4 @@ pub carried : (kind : Kind) (window : ℕ) (program : Program) (b : BoardState) 
     → run (side kind window) down_room up_room es (world_of program (fresh_world b))
     ≡ world_of program (run (by_answers (player window (turns_for kind program.steps))) down_room up_room es (fresh_world b))
 carried kind window program b down_room up_room es =
-    run-same kind window program b down_room up_room es [] [] (fresh_world b) (from-fresh (link kind window down_room up_room) program.steps b)
+    run-same kind window program b down_room up_room es [] [] (fresh_world b) (from-fresh (connection kind window down_room up_room) program.steps b)

@@ -83,7 +83,7 @@ pub fn shift_chain<L: Link>(chain: &mut [L], column: Column, vector: &Vector)
     ensures { IsCutBack (λ c. L.register c column) (λ c stage d. L.is_put c column stage d)
         (left (bits vector.now) (map (λ c. L.register c column) chain.old)) chain.old chain.new }
 {
-    let mut from = settled(
+    let mut from = spot_in_its_link(
         chain,
         column,
         Spot {
@@ -102,14 +102,14 @@ pub fn shift_chain<L: Link>(chain: &mut [L], column: Column, vector: &Vector)
                 link: from.link,
                 bit: from.bit + count,
             };
-            from = settled(chain, column, next);
+            from = spot_in_its_link(chain, column, next);
             done += count;
         }
     }
 }
 
 /// The same bit, counted from the link in whose register it stands.
-fn settled<L: Link>(chain: &[L], column: Column, spot: Spot) -> Spot
+fn spot_in_its_link<L: Link>(chain: &[L], column: Column, spot: Spot) -> Spot
     requires { spot.link ≤ length chain.now }
     ensures within { result.link ≤ length chain.now }
     ensures same { before (map (λ c. L.register c column) chain.now) result.link + result.bit

@@ -5,6 +5,7 @@ use Rattle.jt_tap.specs.declared.State.TheVariants.{Idle, DrSelect, DrCapture, D
 use Rattle.jt_tap.specs.declared.State.TheVariants.{IrPause, Reset}
 use Rattle.bsdl_device.specs.Device.{Device}
 use Rattle.pin_nets.specs.declared.Pull.{Pull}
+use Rattle.board_meaning.specs.Bare.{bare}
 use Rattle.board_meaning.specs.Nets.{level}
 use Rattle.pin_nets.specs.declared.Level.{Level}
 use Rattle.pin_nets.specs.declared.Level.TheVariants.{Zero, One, Contend, Float}
@@ -20,7 +21,7 @@ use Rattle.svf_programs.specs.Steps.{Go, Path, Run, Trst, Numbered}
 use Rattle.svf_words.specs.declared.keywords.TrstWord.TheVariants.{On}
 use Rattle.plays.specs.Play.{player, turns}
 use Rattle.worked_rows.specs.Samples.{bits, sample_device, with_trst, with_highz, with_intest, with_user}
-use Rattle.worked_rows.specs.Samples.{with_fixed_user, bare_device, plain, with_core, pin_q, pin_d, net, tdi, tdo}
+use Rattle.worked_rows.specs.Samples.{with_fixed_user, plain, with_core, pin_q, pin_d, net, tdi, tdo}
 use Rattle.worked_rows.specs.Samples.{mask, sir}
 use Rattle.worked_rows.specs.Samples.{sdr, sdr_to, hdr_sdr, step}
 use Rattle.worked_rows.specs.Agree.{Row, played}
@@ -131,12 +132,12 @@ pub record PlayRows : Type 0 where
   pub user_fixed : Row (plain (with_fixed_user ∷ [])) (sir 1 (tdi 2 1) ∷ sdr 2 (tdo 4 9 5) ∷ sdr 3 (tdo 4 9 5) ∷ [])
       (codes "r2626262626004262604041526260402604041R50R40R43R7260402604041R50R40R43R726040Q") Pass
   -- the bare device
-  pub bare_ir : Row (plain (bare_device ∷ [])) (step 1 (Go IrPause) ∷ step 2 (Go Idle) ∷ [])
+  pub bare_ir : Row (plain (bare ∷ [])) (step 1 (Go IrPause) ∷ step 2 (Go Idle) ∷ [])
       (codes "r2626262626004262604260402626040Q") Pass
-  pub bare_latch : latches (played (plain (bare_device ∷ [])) (step 1 (Go IrPause) ∷ step 2 (Go Idle) ∷ [])).board
+  pub bare_latch : latches (played (plain (bare ∷ [])) (step 1 (Go IrPause) ∷ step 2 (Go Idle) ∷ [])).board
       ≡ bits 2 1 ∷ []
-  pub bare_name : instruction bare_device (bits 2 1) ≡ None
-  pub bare_dr : Row (plain (bare_device ∷ bare_device ∷ [])) (step 1 (Go DrPause) ∷ [])
+  pub bare_name : instruction bare (bits 2 1) ≡ None
+  pub bare_dr : Row (plain (bare ∷ bare ∷ [])) (step 1 (Go DrPause) ∷ [])
       (codes "r2626262626004260426040Q") Pass
   pub run_test : Row (plain (sample_device ∷ []))
       (step 1 (Run DrPause 2 Idle) ∷ step 2 (Run Reset 2 Reset) ∷ step 3 (Run Reset 0 Reset)

@@ -5,7 +5,6 @@ use Rattle.std.specs.Prelude.{Some, None, codes}
 use Rattle.jt_tap.specs.declared.Column.TheVariants.{Dr, Ir}
 use Rattle.jt_tap.specs.declared.State.{State}
 use Rattle.jt_tap.specs.declared.State.TheVariants.{Idle}
-use Rattle.board_meaning.specs.Bare.{bare}
 use Rattle.bsdl_device.specs.Device.{Pattern, PortBit, Opcode, Access, Device}
 use Rattle.bsdl_device.specs.declared.PortMode.TheVariants.{In}
 use Rattle.bsdl_device.specs.declared.Function.TheVariants.{Input, Output2, Output3, Control}
@@ -85,10 +84,6 @@ with_user = device_with (rows_with (codes "LOAD")) q_cell
 abbrev pub with_fixed_user : Device
 with_fixed_user = device_with (rows_with (codes "LOAD")) q_cell
     (record { instruction = codes "LOAD"; place = AtUser 0; captures = Some (bits 4 5) } ∷ []) (4 ∷ []) false
-
--- the bare device
-abbrev pub bare_device : Device
-bare_device = bare
 
 abbrev pub with_core : Device → ℕ → Member
 with_core d core = powered (codes "U") d (bits (length d.cells) core) false

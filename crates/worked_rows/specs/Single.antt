@@ -4,6 +4,7 @@ use Rattle.std.specs.Prelude.{Option, Some, None, bytes_eq}
 use Rattle.jt_tap.specs.declared.State.TheVariants.{Reset, Idle, DrShift, IrPause, IrUpdate}
 use Rattle.bitbang_table.specs.declared.Message.{Message}
 use Rattle.bitbang_table.specs.declared.Message.TheVariants.{Write}
+use Rattle.board_meaning.specs.Bare.{bare}
 use Rattle.board_meaning.specs.Chain.{ChipState, BoardState, rise, fall, assert_trst, hear, reply, after_byte}
 use Rattle.board_meaning.specs.declared.Reply.TheVariants.{Refused}
 use Rattle.board_meaning.specs.Resting.{chip_at_rest, board_at_rest}
@@ -11,9 +12,10 @@ use Rattle.scan_vectors.specs.declared.part.Part.TheVariants.{Data}
 use Rattle.plays.specs.declared.ending.Ending.TheVariants.{Pass, Fail, Lost, BadAnswer}
 use Rattle.svf_programs.specs.Steps.{Numbered}
 use Rattle.plays.specs.Play.{turns, full_play, player, ending_for}
-use Rattle.plays.specs.Events.{World, Known, Event, Put, Serve, Take, Lose, by_answers, before_events, run, moving}
+use Rattle.plays.specs.Events.{World, Known, Put, Serve, Take, Lose, by_answers, before_events, run, moving}
 use Rattle.plays.specs.Events.{ending_of_world}
-use Rattle.worked_rows.specs.Samples.{bits, sample_device, with_trst, bare_device, plain, with_core, tdo, sir}
+use Rattle.every_schedule.specs.Fair.{one_each}
+use Rattle.worked_rows.specs.Samples.{bits, sample_device, with_trst, plain, with_core, tdo, sir}
 use Rattle.worked_rows.specs.Agree.{meant, flat_board}
 
 abbrev pub up : Bool → ChipState → ChipState
@@ -45,10 +47,6 @@ ir_scan = sir 1 (tdo 2 3 1) ∷ []
 abbrev pub start : World Known
 start = before_events (board_at_rest (plain (sample_device ∷ [])))
 
-abbrev pub one_by_one : ℕ → List Event
-one_by_one zero = []
-one_by_one (suc n) = Put 1 ∷ Serve 1 ∷ Take 1 ∷ one_by_one n
-
 -- from power-up into a scan of the data registers that breaks off, TCK high: one bit was shifted in
 abbrev pub broken_off : BoardState
 broken_off =
@@ -76,21 +74,21 @@ pub record EdgeRows : Type 0 where
   pub third_rise_latch : (up true (cycled (true ∷ true ∷ true ∷ true ∷ []) paused)).member.registers.latch ≡ bits 2 1
   pub third_fall_latch : (cycled (true ∷ true ∷ true ∷ true ∷ true ∷ []) paused).member.registers.latch ≡ bits 2 2
   -- a byte off the table
-  pub refused : reply 0x5a (board_at_rest (plain (bare_device ∷ []))) ≡ Refused 0x5a
-  pub refused_board : after_byte 0x5a (board_at_rest (plain (bare_device ∷ [])))
-      ≡ board_at_rest (plain (bare_device ∷ []))
+  pub refused : reply 0x5a (board_at_rest (plain (bare ∷ []))) ≡ Refused 0x5a
+  pub refused_board : after_byte 0x5a (board_at_rest (plain (bare ∷ [])))
+      ≡ board_at_rest (plain (bare ∷ []))
   pub byte_by_byte : ending_of_world 1 (turns ir_scan)
-      (run (by_answers (player 1 (turns ir_scan))) 1 1 (one_by_one 34) start)
+      (run (by_answers (player 1 (turns ir_scan))) 1 1 (one_each 34) start)
       ≡ Some Pass
   pub byte_by_byte_wide : ending_of_world 1 (turns ir_scan)
-      (run (by_answers (player 256 (turns ir_scan))) 1 1 (one_by_one 34) start) ≡ Some Pass
+      (run (by_answers (player 256 (turns ir_scan))) 1 1 (one_each 34) start) ≡ Some Pass
   pub byte_by_byte_not_yet : ending_of_world 1 (turns ir_scan)
-      (run (by_answers (player 256 (turns ir_scan))) 1 1 (one_by_one 33) start) ≡ None
+      (run (by_answers (player 256 (turns ir_scan))) 1 1 (one_each 33) start) ≡ None
   pub byte_by_byte_board : bytes_eq
-      (flat_board (run (by_answers (player 256 (turns ir_scan))) 1 1 (one_by_one 34) start).board)
+      (flat_board (run (by_answers (player 256 (turns ir_scan))) 1 1 (one_each 34) start).board)
       (flat_board (board_at_rest (meant (plain (sample_device ∷ [])) ir_scan).after)) ≡ true
   pub lost_after_an_answer : ending_of_world 1 (turns ir_scan)
-      (run (by_answers (player 1 (turns ir_scan))) 1 1 (one_by_one 26 ++ Lose ∷ []) start) ≡ Some (Lost 1)
+      (run (by_answers (player 1 (turns ir_scan))) 1 1 (one_each 26 ++ Lose ∷ []) start) ≡ Some (Lost 1)
   pub lost_before_quit : ending_of_world 0 (turns [])
       (run (by_answers (player 256 (turns []))) 64 64 (Put 12 ∷ Serve 12 ∷ Put 1 ∷ Lose ∷ []) start) ≡ Some (Lost 1)
   pub lost_at_once : ending_of_world 1 (turns ir_scan)
@@ -99,7 +97,7 @@ pub record EdgeRows : Type 0 where
       (run (by_answers (player 256 (turns ir_scan))) 64 64 (Put 64 ∷ Serve 64 ∷ Take 1 ∷ Take 1 ∷ Lose ∷ []) start)
       ≡ Some (Lost 2)
   -- 34 bytes each way and 2 answers
-  pub byte_by_byte_moves : moving (by_answers (player 1 (turns ir_scan))) 1 1 (one_by_one 34) start ≡ 70
+  pub byte_by_byte_moves : moving (by_answers (player 1 (turns ir_scan))) 1 1 (one_each 34) start ≡ 70
   pub lost_first_moves : moving (by_answers (player 256 (turns ir_scan))) 64 64 (Lose ∷ Put 5 ∷ []) start ≡ 0
   pub two_events_move : moving (by_answers (player 256 (turns ir_scan))) 64 64 (Put 64 ∷ Serve 3 ∷ []) start ≡ 2
   pub serve_three : (run (by_answers (player 256 (turns ir_scan))) 64 64 (Put 64 ∷ Serve 3 ∷ []) start).board.tck

@@ -26,15 +26,15 @@ impl Link for Seat {
     ghost is_put = { λ s column bits t. IsPutInto column bits s t };
 
     fn register_len(&self, column: Column) -> usize {
-        self.chip.chosen_len(column)
+        self.chip.register_len(column)
     }
 
     fn register_word(&self, column: Column, i: usize) -> u64 {
-        self.chip.chosen_word(column, i)
+        self.chip.register_word(column, i)
     }
 
     fn put_register(&mut self, column: Column, at: usize, bits: u64, n: usize) {
-        self.chip.put_chosen(column, at, bits, n);
+        self.chip.put_register(column, at, bits, n);
     }
 
     ghost put_none = { λ s column. puts_nothing s column };
@@ -101,7 +101,7 @@ impl Seat {
         ensures trst { self.new.chip.trst ≡ self.old.chip.trst }
         ensures chip { chip_state self.new ≡ chip_at_rest state (member_of self.old) }
     {
-        self.chip.rest(state);
+        self.chip.stand(state);
     }
 
     /// A device that rests in a pause makes the update that is pending.

@@ -8,18 +8,18 @@ pub returns-then-eq-clause-meaning : goal.returns-then-eq-clause-meaning
 returns-then-eq-clause-meaning c =
     let d = c.args.device.now in
     let name = c.args.name.now in
-    let x = c.index-accesses-k.result in
+    let x = c.access-item.result in
     let here : bytes_eq name (get_or d.accesses c.loop-k.k x).instruction ≡ true =
-    ap (λ (a : Access). bytes_eq name a.instruction) (sym (c.index-accesses-k.is ∙ ap (λ (xs : List Access). get_or xs c.loop-k.k x) c.accesses-accesses.ensures))
+    ap (λ (a : Access). bytes_eq name a.instruction) (sym (c.access-item.is ∙ ap (λ (xs : List Access). get_or xs c.loop-k.k x) c.accesses-access-items.ensures))
     ∙ ap (bytes_eq name) (sym c.instruction.ensures) ∙ sym c.if-eq.ensures in
-    own_found d name c.loop-k.k x _ (omega (arith, c.loop-k-test.true, ap length c.accesses-accesses.ensures)) c.loop-k.invariant here c.at_place.ensures.meaning
+    own_found d name c.loop-k.k x _ (omega (arith, c.loop-k-test.true, ap length c.accesses-access-items.ensures)) c.loop-k.invariant here c.at_place.ensures.meaning
 
 pub loop-k-preserved : goal.loop-k-preserved
 loop-k-preserved c =
     let d = c.args.device.now in
     let name = c.args.name.now in
-    let x = c.index-accesses-k.result in
+    let x = c.access-item.result in
     let here : bytes_eq name (get_or d.accesses c.loop-k.k x).instruction ≡ false =
-    ap (λ (a : Access). bytes_eq name a.instruction) (sym (c.index-accesses-k.is ∙ ap (λ (xs : List Access). get_or xs c.loop-k.k x) c.accesses-accesses.ensures))
+    ap (λ (a : Access). bytes_eq name a.instruction) (sym (c.access-item.is ∙ ap (λ (xs : List Access). get_or xs c.loop-k.k x) c.accesses-access-items.ensures))
     ∙ ap (bytes_eq name) (sym c.instruction.ensures) ∙ sym c.if-eq.ensures in
-    passed_at d name d.accesses c.loop-k.k x (omega (arith, c.loop-k-test.true, ap length c.accesses-accesses.ensures)) c.loop-k.invariant here
+    passed_at d name d.accesses c.loop-k.k x (omega (arith, c.loop-k-test.true, ap length c.accesses-access-items.ensures)) c.loop-k.invariant here

@@ -4,4 +4,4 @@ use Rattle.device_instructions.specs.Fitting.{AccessFits}
 use Rattle.device_instructions.proofs.formed.accesses_fit.Given as goal
 
 abbrev pub invariant-loop-access : goal.invariant-loop-access
-invariant-loop-access l = (k : ℕ) (a : Access) → k < l.access-index → slice_get l.accesses k ≡ Some a → AccessFits l.device a
+invariant-loop-access l = (k : ℕ) (a : Access) → k < l.access-index → slice_get l.device.accesses k ≡ Some a → AccessFits l.device a

@@ -1,4 +1,4 @@
-use Rattle.std.proofs.Common.{◌≡◌, ◌<◌, ◌+◌, ◌-◌, ℕ, suc, true, false, List, [], drop, length, sym, ap, subst, ◌∙◌, arith, None}
+use Rattle.std.proofs.Common.{◌≡◌, ◌<◌, ◌+◌, ◌-◌, ℕ, suc, List, [], drop, length, sym, ap, subst, ◌∙◌, arith, None}
 use Rattle.std.specs.Prelude.{is_some}
 use Rattle.bitbang.specs.Left.{left}
 use Rattle.svf_programs.specs.Seen.{numbered}
@@ -7,7 +7,7 @@ use Rattle.svf_programs.specs.Steps.{Numbered, place_after}
 use Rattle.jt_tap.specs.declared.State.{State}
 use Rattle.stream_player.specs.declared.progress.Phase.{Phase}
 use Rattle.stream_player.specs.declared.progress.Phase.TheVariants.{Opening, Within, Over}
-use Rattle.stream_player.specs.Progress.{IsReady, Rests, ahead, rest_of}
+use Rattle.stream_player.specs.Progress.{HasWorkLeft, Rests, ahead, rest_of}
 use Rattle.stream_player.specs.PlaceInPlay.{state_at}
 use Rattle.stream_player.proofs.Steps.{below, cut, first, length-below, next-rests, none-first, some-first}
 use Rattle.stream_player.proofs.PlayerPlaces.{passes-same, stops-here, stops-same}
@@ -32,7 +32,7 @@ returns-then-is_some c =
     let s = numbered c.step-step.result in
     let rest : rest_of p.place (drop p.at steps) c.args.spot ≡ left c.resume.result =
     ap (λ (l : List Numbered). rest_of p.place l c.args.spot) (cut steps p.at s c.step-step.ensures) ∙ sym c.resume.ensures.bytes in
-    subst (IsReady (drop p.at steps) p) (sym c.requires.is)
+    subst (HasWorkLeft (drop p.at steps) p) (sym c.requires.is)
     (λ none. absurd (some-first (left c.resume.result) (sym (ap is_some c.peek.ensures) ∙ sym c.is_some.ensures ∙ c.if-is_some.true) (sym rest ∙ none)))
 
 pub returns-then-is_some-2 : goal.returns-then-is_some-2
@@ -58,8 +58,8 @@ overflow_add-p c =
     let less = below steps c.args.p.at s (drop (suc c.args.p.at) steps) (cut steps c.args.p.at s c.step-step.ensures) in
     omega (arith, less, c.len.ensures.count)
 
-pub entered-requires : goal.entered-requires
-entered-requires c =
+pub start_of_step-requires : goal.start_of_step-requires
+start_of_step-requires c =
     let steps = c.args.program.now.steps in
     let s = numbered c.step-step.result in
     let next : suc c.args.p.at ≡ c.args.p.at + 1 = omega arith in record {
@@ -83,9 +83,9 @@ returns c =
     let next : p.at + 1 ≡ suc p.at = omega arith in
     let fewer : length (drop (p.at + 1) steps) + 1 < length steps - p.at + 1 =
     omega (arith, length-below steps p.at s (drop (suc p.at) steps) here, ap (λ (n : ℕ). length (drop n steps)) next) in (
-      c.entered.ensures.stands,
-      c.entered.ensures.same
+      c.start_of_step.ensures.stands,
+      c.start_of_step.ensures.same
           ∙ ap (λ (n : ℕ). state_at program (record { over = suc n; gone = 0; heard = 0; failed = None; bad = None })) next
           ∙ passes-same program p c.args.spot c.requires.is c.requires.stands none c.requires.nothing (sym c.is_some-2.ensures ∙ c.if-is_some-2.false),
-      omega (arith, more, c.entered.ensures.fewer, fewer),
+      omega (arith, more, c.start_of_step.ensures.fewer, fewer),
     )

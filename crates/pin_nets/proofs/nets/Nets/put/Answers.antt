@@ -27,8 +27,8 @@ index_mut-requires-in-Some c =
     let on : OnNet pin nets c.in-Some.net = on_some pin nets c.in-Some.net c.self.invariant.placed.once at in
     omega (arith, on.inside, ap length c.self.invariant.counts, length-map nets (λ y. four (net_counts ds y)), c.self.inside.counts.ok.0)
 
-pub moved-after-requires-clause-there : goal.moved-after-requires-clause-there
-moved-after-requires-clause-there c =
+pub with_replaced-after-requires-clause-there : goal.with_replaced-after-requires-clause-there
+with_replaced-after-requires-clause-there c =
     let ds = c.self.inside.drives.items in
     let nets = c.self.inside.nets.items in
     let pin = c.args.pin in
@@ -36,12 +36,12 @@ moved-after-requires-clause-there c =
     let at = pin_at c.self.inside.net_of.items nets pin c.index.result.now _ c.self.invariant.placed (omega (arith, in_, c.self.invariant.long)) c.index.ensures c.in-Some.is in
     let on : OnNet pin nets c.in-Some.net = on_some pin nets c.in-Some.net c.self.invariant.placed.once at in
     let x = get_or nets c.in-Some.net nobody in
-    let before : c.named-before.result ≡ net_counts ds x = before_is ds nets c.self.inside.counts.items c.in-Some.net c.index-in-Some.result.now c.named-before.result c.self.invariant.counts on.inside c.index-in-Some.ensures c.named-before.ensures in
+    let before : c.counts_of_row-before.result ≡ net_counts ds x = before_is ds nets c.self.inside.counts.items c.in-Some.net c.index-in-Some.result.now c.counts_of_row-before.result c.self.invariant.counts on.inside c.index-in-Some.ensures c.counts_of_row-before.ensures in
     let old : c.index-old.result.now ≡ drive_at ds pin = old_is ds pin c.index-old.result.now in_ c.index-old.ensures in
-    has_before ds pin x c.index-old.result.now c.named-before.result in_ on.once old before
+    has_before ds pin x c.index-old.result.now c.counts_of_row-before.result in_ on.once old before
 
-pub moved-after-requires-clause-few : goal.moved-after-requires-clause-few
-moved-after-requires-clause-few c =
+pub with_replaced-after-requires-clause-few : goal.with_replaced-after-requires-clause-few
+with_replaced-after-requires-clause-few c =
     let ds = c.self.inside.drives.items in
     let nets = c.self.inside.nets.items in
     let pin = c.args.pin in
@@ -49,9 +49,9 @@ moved-after-requires-clause-few c =
     let at = pin_at c.self.inside.net_of.items nets pin c.index.result.now _ c.self.invariant.placed (omega (arith, in_, c.self.invariant.long)) c.index.ensures c.in-Some.is in
     let on : OnNet pin nets c.in-Some.net = on_some pin nets c.in-Some.net c.self.invariant.placed.once at in
     let x = get_or nets c.in-Some.net nobody in
-    let before : c.named-before.result ≡ net_counts ds x = before_is ds nets c.self.inside.counts.items c.in-Some.net c.index-in-Some.result.now c.named-before.result c.self.invariant.counts on.inside c.index-in-Some.ensures c.named-before.ensures in
+    let before : c.counts_of_row-before.result ≡ net_counts ds x = before_is ds nets c.self.inside.counts.items c.in-Some.net c.index-in-Some.result.now c.counts_of_row-before.result c.self.invariant.counts on.inside c.index-in-Some.ensures c.counts_of_row-before.ensures in
     let old : c.index-old.result.now ≡ drive_at ds pin = old_is ds pin c.index-old.result.now in_ c.index-old.ensures in
-    few_before ds nets c.in-Some.net c.named-before.result c.self.invariant.short on.inside before
+    few_before ds nets c.in-Some.net c.counts_of_row-before.result c.self.invariant.short on.inside before
 
 pub invariant_of-self : goal.invariant_of-self
 invariant_of-self c =
@@ -76,16 +76,16 @@ invariant_of-self-in-Some c =
     let at = pin_at c.self.inside.net_of.items nets pin c.index.result.now _ c.self.invariant.placed (omega (arith, in_, c.self.invariant.long)) c.index.ensures c.in-Some.is in
     let on : OnNet pin nets c.in-Some.net = on_some pin nets c.in-Some.net c.self.invariant.placed.once at in
     let x = get_or nets c.in-Some.net nobody in
-    let before : c.named-before.result ≡ net_counts ds x = before_is ds nets c.self.inside.counts.items c.in-Some.net c.index-in-Some.result.now c.named-before.result c.self.invariant.counts on.inside c.index-in-Some.ensures c.named-before.ensures in
+    let before : c.counts_of_row-before.result ≡ net_counts ds x = before_is ds nets c.self.inside.counts.items c.in-Some.net c.index-in-Some.result.now c.counts_of_row-before.result c.self.invariant.counts on.inside c.index-in-Some.ensures c.counts_of_row-before.ensures in
     let old : c.index-old.result.now ≡ drive_at ds pin = old_is ds pin c.index-old.result.now in_ c.index-old.ensures in
-    let move = moved_as c.named-before.result c.moved-after.result (net_counts ds x) c.index-old.result.now (drive_at ds pin) c.args.drive before old c.moved-after.ensures in
+    let move = moved_as c.counts_of_row-before.result c.with_replaced-after.result (net_counts ds x) c.index-old.result.now (drive_at ds pin) c.args.drive before old c.with_replaced-after.ensures in
     record {
       long = c.self.invariant.long ∙ sym (length-set ds pin c.args.drive);
       placed = c.self.invariant.placed;
       short = c.self.invariant.short;
       counts =
-          ap (λ (cs : List (List ℕ)). set cs c.in-Some.net c.listed.result) c.self.invariant.counts ∙ ap (set (kept ds nets) c.in-Some.net) c.listed.ensures
-          ∙ kept_on ds pin c.args.drive nets c.in-Some.net in_ on c.moved-after.result move;
+          ap (λ (cs : List (List ℕ)). set cs c.in-Some.net c.row_of_counts.result) c.self.invariant.counts ∙ ap (set (kept ds nets) c.in-Some.net) c.row_of_counts.ensures
+          ∙ kept_on ds pin c.args.drive nets c.in-Some.net in_ on c.with_replaced-after.result move;
     }
 
 pub returns-in-None-clause-changed : goal.returns-in-None-clause-changed
@@ -107,14 +107,14 @@ returns-in-Some-clause-changed c =
     let at = pin_at c.self.inside.net_of.items nets pin c.index.result.now _ c.self.invariant.placed (omega (arith, in_, c.self.invariant.long)) c.index.ensures c.in-Some.is in
     let on : OnNet pin nets c.in-Some.net = on_some pin nets c.in-Some.net c.self.invariant.placed.once at in
     let x = get_or nets c.in-Some.net nobody in
-    let before : c.named-before.result ≡ net_counts ds x = before_is ds nets c.self.inside.counts.items c.in-Some.net c.index-in-Some.result.now c.named-before.result c.self.invariant.counts on.inside c.index-in-Some.ensures c.named-before.ensures in
+    let before : c.counts_of_row-before.result ≡ net_counts ds x = before_is ds nets c.self.inside.counts.items c.in-Some.net c.index-in-Some.result.now c.counts_of_row-before.result c.self.invariant.counts on.inside c.index-in-Some.ensures c.counts_of_row-before.ensures in
     let old : c.index-old.result.now ≡ drive_at ds pin = old_is ds pin c.index-old.result.now in_ c.index-old.ensures in
-    let move = moved_as c.named-before.result c.moved-after.result (net_counts ds x) c.index-old.result.now (drive_at ds pin) c.args.drive before old c.moved-after.ensures in
+    let move = moved_as c.counts_of_row-before.result c.with_replaced-after.result (net_counts ds x) c.index-old.result.now (drive_at ds pin) c.args.drive before old c.with_replaced-after.ensures in
     let m = c.in-Some.net in
     let view = ap all_levels c.self.view_is in
     let new = set ds pin c.args.drive in
     let was : c.level_of.result ≡ level ds x = c.level_of.ensures ∙ ap level_by before in
-    let is : c.level_of-in-Some.result ≡ level new x = c.level_of-in-Some.ensures ∙ ap level_by (counted ds pin c.args.drive nets m in_ on c.moved-after.result move) in (
+    let is : c.level_of-in-Some.result ≡ level new x = c.level_of-in-Some.ensures ∙ ap level_by (counted ds pin c.args.drive nets m in_ on c.with_replaced-after.result move) in (
       λ t e. c.differ.ensures.0 t (was ∙ level_same ds pin c.args.drive nets m in_ on (view ∙ e) ∙ sym is),
       λ differs. c.differ.ensures.1 (λ same. differs (sym view ∙ levels_same ds pin c.args.drive nets m in_ on (sym was ∙ same ∙ is))),
     )
