@@ -1,3 +1,4 @@
+use crate::descriptions::K;
 use byte_ends::Counted;
 use jt_bits::Bits;
 use jt_board::{Board, BoardFault, Reply, Snapshot, write_report};
@@ -64,10 +65,22 @@ fn device_shown(
     bits_shown(rt, snapshot.boundary(i), shown)?;
     bits_shown(rt, snapshot.boundary_update(i), shown)?;
     shown.push(u8::from(snapshot.bypass(i)))?;
+    match snapshot.id(i) {
+        Some(id) => bits_shown(rt, id, shown)?,
+        None => shown.push(3)?,
+    }
+    for k in 0..usize::MAX {
+        let Some((stage, latch)) = snapshot.user(i, k) else {
+            break;
+        };
+        bits_shown(rt, stage, shown)?;
+        bits_shown(rt, latch, shown)?;
+    }
+    shown.push(3)?;
     shown.extend_from_slice(snapshot.instruction(i).unwrap_or("-").as_bytes())
 }
 
-/// Every part of a snapshot.
+/// Every part of a snapshot, as bytes.
 fn shown(rt: &impl Abort, alloc: Global, board: &Board) -> Result<Vec<u8>, AllocError> {
     let snapshot = board.snapshot();
     let mut shown = Vec::new(alloc);
@@ -75,6 +88,12 @@ fn shown(rt: &impl Abort, alloc: Global, board: &Board) -> Result<Vec<u8>, Alloc
     shown.push(u8::from(snapshot.trst()))?;
     for i in 0..snapshot.devices() {
         device_shown(rt, &snapshot, i, &mut shown)?;
+    }
+    for k in 0..snapshot.nets() {
+        assert!(rt; k < snapshot.nets());
+        let (name, level) = snapshot.net(k);
+        shown.extend_from_slice(name.as_bytes())?;
+        shown.extend_from_slice(format!(in alloc; "{level:?}")?.as_bytes())?;
     }
     Ok(shown)
 }
@@ -181,7 +200,7 @@ fn assert_opens(rt: &impl Abort, alloc: Global, n: usize) -> Result<(), Fail> {
 fn registers_of_a_device(rt: HostRuntime) -> Result<(), Fail> {
     let alloc = rt.alloc();
     let mut board = Board::bare(alloc, 1)?;
-    let powered_up = b"\x00\x00U1RESET\x01\x01\x02\x00\x00\x02\x00\x02\x00\x02\x00BYPASS";
+    let powered_up = b"\x00\x00U1RESET\x01\x01\x02\x00\x00\x02\x00\x02\x00\x02\x00\x03\x03BYPASS";
     assert_shown(&rt, alloc, &board, powered_up)?;
     cycles(&mut board, b"01100");
     bytes(&mut board, b"0426");
@@ -190,10 +209,10 @@ fn registers_of_a_device(rt: HostRuntime) -> Result<(), Fail> {
     cycles(&mut board, b"100");
     bytes(&mut board, b"37");
     cycles(&mut board, b"0");
-    let in_pause = b"\x00\x00U1DRPAUSE\x00\x00\x02\x00\x00\x02\x01\x02\x00\x02\x00EXTEST";
+    let in_pause = b"\x00\x00U1DRPAUSE\x00\x00\x02\x00\x00\x02\x01\x02\x00\x02\x00\x03\x03EXTEST";
     assert_shown(&rt, alloc, &board, in_pause)?;
     cycles(&mut board, b"11");
-    let updated = b"\x00\x00U1DRUPDATE\x00\x00\x02\x00\x00\x02\x01\x02\x01\x02\x00EXTEST";
+    let updated = b"\x00\x00U1DRUPDATE\x00\x00\x02\x00\x00\x02\x01\x02\x01\x02\x00\x03\x03EXTEST";
     assert_shown(&rt, alloc, &board, updated)?;
     Ok(())
 }
@@ -221,20 +240,6 @@ fn faults_shown(rt: HostRuntime) -> Result<(), Fail> {
     assert_eq!(rt; format!(in rt.alloc(); "{fault}")?.as_str(), "C8 NoMemory");
     Ok(())
 }
-
-/// A device of one output with its control and one input.
-const K: &str = "entity K is
-  port (TDI, TMS, TCK : in bit; TDO : out bit; Q : out bit; D : in bit);
-  attribute TAP_SCAN_IN of TDI : signal is true; attribute TAP_SCAN_MODE of TMS : signal is true;
-  attribute TAP_SCAN_OUT of TDO : signal is true; attribute TAP_SCAN_CLOCK of TCK : signal is (10.0e6, BOTH);
-  attribute INSTRUCTION_LENGTH of K : entity is 2;
-  attribute INSTRUCTION_OPCODE of K : entity is \"BYPASS (11), EXTEST (00), SAMPLE (01), IDCODE (10)\";
-  attribute INSTRUCTION_CAPTURE of K : entity is \"01\";
-  attribute IDCODE_REGISTER of K : entity is \"00000001001000110100010101100111\";
-  attribute BOUNDARY_LENGTH of K : entity is 3;
-  attribute BOUNDARY_REGISTER of K : entity is
-    \"0 (BC_1, Q, output3, X, 1, 0, Z), 1 (BC_1, *, control, 0), 2 (BC_1, D, input, X)\";
-end K;";
 
 /// The report of a fresh board of devices K, or its refusal with what it holds.
 fn made(alloc: Global, toml: &str) -> Result<Vec<u8>, AllocError> {
