@@ -20,7 +20,8 @@ pub trait Entry<'a>: Drop {
     /// An entry as contracts see it.
     ghost seen: { Self → Seen };
 
-    /// What tokens say in an entry's place: the entry at their front and the tokens behind it, or where they do not fit.
+    /// What tokens say in an entry's place: the entry at their front and the tokens behind it, or where they do not
+    /// fit.
     ghost says: { List Lexeme → Read Seen };
 
     /// The entry that stands next, and the lexer behind it. Refuses at the first token that does not fit, or at the

@@ -1,7 +1,7 @@
 -- What holds of every joined play after any events: it stays inside the full play, something can move until it is over,
 -- few of its events move something, only a loss of the connection loses it, and then it names the command in work.
-use Rattle.std.specs.Prelude.{◌≡◌, ◌⊎◌, true, false, ℕ, ◌+◌, ◌*◌, ◌-◌, ◌^◌, ◌<◌, ◌≤◌, List, ◌∷◌, ◌++◌, length, drop, min}
-use Rattle.std.specs.Prelude.{Some}
+use Rattle.std.specs.Prelude.{◌≡◌, ◌⊎◌, true, false, ℕ, ◌+◌, ◌*◌, ◌-◌, ◌^◌, ◌<◌, ◌≤◌, List, ◌∷◌, ◌++◌, length, drop}
+use Rattle.std.specs.Prelude.{min, Some}
 use Rattle.svf_programs.specs.Steps.{Program}
 use Rattle.board_meaning.specs.Chain.{BoardState, after_bytes}
 use Rattle.plays.specs.declared.ending.Ending.TheVariants.{Lost}
@@ -41,7 +41,7 @@ WhatIsJoinedStaysInsideTheFullPlay = (program : Program) (b : BoardState) (down_
     → IsInsideTheFullPlay program b down_room up_room (taken_by_board program b down_room up_room es)
     (joined_after program b down_room up_room es)
 
--- While a joined play has neither ended nor been lost, one byte or one answer more can move, if both pipes have room for
+-- While a joined play has neither ended nor been lost, one byte or one answer more can move, if each pipe has room for
 -- one at least.
 abbrev pub SomethingCanMoveUntilItIsOver : Type 0
 SomethingCanMoveUntilItIsOver = (program : Program) (b : BoardState) (down_room up_room : ℕ) (es : List Event)

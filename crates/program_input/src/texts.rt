@@ -42,8 +42,8 @@ pub fn read_board_file<R: Files + Input + AllocGlobal>(
     Ok(text)
 }
 
-/// Reads a description of a device: all of it, or its first 4 MiB and one byte, which the reader of descriptions refuses
-/// as too long.
+/// Reads a description of a device: all of it, or its first 4 MiB and one byte, which the reader of descriptions
+/// refuses as too long.
 pub fn read_description<R: Files + Input + AllocGlobal>(
     rt: &R,
     alloc: Global,
@@ -56,8 +56,8 @@ pub fn read_description<R: Files + Input + AllocGlobal>(
     Ok(text)
 }
 
-/// Reads the text of a program, from the named file, or from standard input where none is named: all of it, or its first
-/// 16 MiB and one byte, which the reader of programs refuses as too long.
+/// Reads the text of a program, from the named file, or from standard input where none is named: all of it, or its
+/// first 16 MiB and one byte, which the reader of programs refuses as too long.
 pub fn read_text<R: Files + Input + AllocGlobal>(
     rt: &R,
     alloc: Global,
