@@ -6,14 +6,15 @@ not for a function that it calls. What such a check leaves open goes into the ne
 function that calls one that is refused. What no such check tells, as an edit outside of bodies or one that is proved, goes to rt as it is.
 """
 
+import contextlib
 import os
 import re
 import shutil
 import tempfile
 import typing
 
-# What this takes of rt: its own way to try edits, to read and apply one, and to check a crate.
-NEEDED = ("must_fail_all", "read_edit", "checked", "unread", "rtlib")
+# What this takes of rt: how it reads and applies an edit, and checks a crate.
+NEEDED = ("read_edit", "checked", "unread", "rtlib")
 HEAD = re.compile(r"( *)(?:pub(?:\([a-z]+\))? )?(?:const )?fn (\w+)")
 # An impl block's type and then its trait, or a trait: so rattle names what stands in it.
 OWNER = re.compile(r"(?:pub )?(?:impl(?:<.*?>)? (?=(?:.* for )?(\w+))(?:(\w+)(?:<.*>)? for )?|trait (\w+))")
@@ -138,26 +139,90 @@ def refused_together(rt, crate, functions, flags, kept):
     return refused, {it for it in functions if it not in said or said[it][1]}
 
 
-def try_together(rt):
-    """Has rt try the wrong bodies of different functions in one check."""
+def refused_in_turns(rt, crate, functions, flags, start):
+    """Checks the crate with wrong bodies of different functions, until each was in a check that could tell of it. Each check begins with what start
+    gives. Returns what to say of each that is refused at its own function."""
+    told, left = {}, dict(functions)
+    while left:
+        first = {}
+        for edit, function in left.items():
+            first.setdefault(function.path(), edit)
+        with start() as kept:
+            refused, later = refused_together(rt, crate, {it: left[it] for it in first.values()}, flags, kept)
+        for edit, text in refused.items():
+            told[edit] = f"must-fail {crate.name}/{os.path.basename(edit)}: refused, as it must be: {text[:160]}"
+        tried = {it for it in first.values() if not refused or it not in later}
+        left = {it: function for it, function in left.items() if it not in tried}
+    return told
+
+
+def functions_of(rt, crate, edits):
+    """Of the edits that change the body of one function alone, that function."""
+    found = {it: function_of(rt, crate, it) for it in edits}
+    return {it: function for it, function in found.items() if function}
+
+
+def try_lists_together(rt):
+    """Has an rt that is given the edits of a crate as a list try those of different functions in one check."""
     one_by_one = rt.must_fail_all
 
     def must_fail_all(crate, edits, flags):
-        told = {}
-        functions = {it: function_of(rt, crate, it) for it in edits}
-        left = {it: function for it, function in functions.items() if function}
         with tempfile.TemporaryDirectory(prefix="rt-edits-") as kept:
-            while left:
-                first = {}
-                for edit, function in left.items():
-                    first.setdefault(function.path(), edit)
-                refused, later = refused_together(rt, crate, {it: left[it] for it in first.values()}, flags, kept)
-                for edit, text in refused.items():
-                    told[edit] = True, f"must-fail {crate.name}/{os.path.basename(edit)}: refused, as it must be: {text[:160]}"
-                tried = {it for it in first.values() if not refused or it not in later}
-                left = {it: function for it, function in left.items() if it not in tried}
+            start = lambda: contextlib.nullcontext(kept)
+            told = refused_in_turns(rt, crate, functions_of(rt, crate, edits), flags, start)
+        results = {it: (True, text) for it, text in told.items()}
         alone = [it for it in edits if it not in told]
-        told.update(zip(alone, one_by_one(crate, alone, flags)))
-        return [told[it] for it in edits]
+        results.update(zip(alone, one_by_one(crate, alone, flags)))
+        return [results[it] for it in edits]
 
     rt.must_fail_all = must_fail_all
+
+
+def try_tasks_together(rt):
+    """Has an rt that makes a task of each edit, over what a check of the crate as it stands proved (its seed), try those of different functions
+    in one check before: an edit's own task then has nothing to do where that check told of it."""
+    one_by_one = rt.add_edits
+
+    def add_edits(tasks, crate, edits, first, waits, is_well, *others, **named):
+        own, seed, together = {}, (crate.name, "seed"), (crate.name, "edits", "together")
+        results, known = one_by_one(own, crate, edits, first, waits, is_well, *others, **named)
+
+        def try_all(given, jobs):
+            room, left = given[seed], [it for number, it in enumerate(edits) if number not in known()]
+            if not room or not is_well(given, len(left)):
+                return {}
+
+            @contextlib.contextmanager
+            def start():
+                with tempfile.TemporaryDirectory(dir=room) as over:
+                    rt.linked(f"{room}/seed", f"{over}/seed")
+                    yield f"{over}/seed"
+
+            with contextlib.suppress(OSError, shutil.Error):
+                return refused_in_turns(rt, crate, functions_of(rt, crate, left), ["--jobs", "1"], start)
+            return {}
+
+        def told_or(edit, call):
+            said = lambda given: given[together].get(edit)
+            return lambda given, jobs: (rt.REFUSED, said(given)) if said(given) else call(given, jobs)
+
+        if seed in own:
+            tasks[seed] = own.pop(seed)
+            for number, edit in enumerate(edits):
+                after, lines, needs, call = own[crate.name, "edits", number]
+                tasks[together] = after, lines, needs, try_all
+                own[crate.name, "edits", number] = [*after, together], lines, needs, told_or(edit, call)
+        tasks.update(own)
+        return results, known
+
+    rt.add_edits = add_edits
+
+
+def try_together(rt):
+    """Has rt try the wrong bodies of different functions in one check, where it has what this takes of it."""
+    if not all(hasattr(rt, it) for it in NEEDED):
+        return
+    if hasattr(rt, "must_fail_all"):
+        try_lists_together(rt)
+    elif all(hasattr(rt, it) for it in ("add_edits", "linked", "REFUSED")):
+        try_tasks_together(rt)
