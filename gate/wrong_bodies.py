@@ -6,7 +6,6 @@ not for a function that it calls. What such a check leaves open goes into the ne
 function that calls one that is refused. What no such check tells, as an edit outside of bodies or one that is proved, goes to rt as it is.
 """
 
-import contextlib
 import os
 import re
 import shutil
@@ -139,27 +138,22 @@ def refused_together(rt, crate, functions, flags, kept):
     return refused, {it for it in functions if it not in said or said[it][1]}
 
 
-def refused_in_turns(rt, crate, functions, flags, start):
-    """Checks the crate with wrong bodies of different functions, until each was in a check that could tell of it. Each check begins with what start
-    gives. Returns what to say of each that is refused at its own function."""
-    told, left = {}, dict(functions)
-    while left:
-        first = {}
-        for edit, function in left.items():
-            first.setdefault(function.path(), edit)
-        with start() as kept:
+def refused_in_turns(rt, crate, edits, flags):
+    """Checks the crate with wrong bodies of different functions, until each of these was in a check that could tell of it. Returns what to say of
+    each that is refused at its own function."""
+    functions = {it: function_of(rt, crate, it) for it in edits}
+    told, left = {}, {it: function for it, function in functions.items() if function}
+    with tempfile.TemporaryDirectory(prefix="rt-edits-") as kept:
+        while left:
+            first = {}
+            for edit, function in left.items():
+                first.setdefault(function.path(), edit)
             refused, later = refused_together(rt, crate, {it: left[it] for it in first.values()}, flags, kept)
-        for edit, text in refused.items():
-            told[edit] = f"must-fail {crate.name}/{os.path.basename(edit)}: refused, as it must be: {text[:160]}"
-        tried = {it for it in first.values() if not refused or it not in later}
-        left = {it: function for it, function in left.items() if it not in tried}
+            for edit, text in refused.items():
+                told[edit] = f"must-fail {crate.name}/{os.path.basename(edit)}: refused, as it must be: {text[:160]}"
+            tried = {it for it in first.values() if not refused or it not in later}
+            left = {it: function for it, function in left.items() if it not in tried}
     return told
-
-
-def functions_of(rt, crate, edits):
-    """Of the edits that change the body of one function alone, that function."""
-    found = {it: function_of(rt, crate, it) for it in edits}
-    return {it: function for it, function in found.items() if function}
 
 
 def try_lists_together(rt):
@@ -167,9 +161,7 @@ def try_lists_together(rt):
     one_by_one = rt.must_fail_all
 
     def must_fail_all(crate, edits, flags):
-        with tempfile.TemporaryDirectory(prefix="rt-edits-") as kept:
-            start = lambda: contextlib.nullcontext(kept)
-            told = refused_in_turns(rt, crate, functions_of(rt, crate, edits), flags, start)
+        told = refused_in_turns(rt, crate, edits, flags)
         results = {it: (True, text) for it, text in told.items()}
         alone = [it for it in edits if it not in told]
         results.update(zip(alone, one_by_one(crate, alone, flags)))
@@ -179,39 +171,34 @@ def try_lists_together(rt):
 
 
 def try_tasks_together(rt):
-    """Has an rt that makes a task of each edit, over what a check of the crate as it stands proved (its seed), try those of different functions
-    in one check before: an edit's own task then has nothing to do where that check told of it."""
+    """Has an rt that makes a task of each edit try those of different functions in one check before: an edit's own task then has nothing to do
+    where that check told of it. What rt begins its own tries with (the seed, what a check of the crate as it stands proved) is made where it is needed."""
     one_by_one = rt.add_edits
 
     def add_edits(tasks, crate, edits, first, waits, is_well, *others, **named):
-        own, seed, together = {}, (crate.name, "seed"), (crate.name, "edits", "together")
+        own, together = {}, (crate.name, "edits", "together")
         results, known = one_by_one(own, crate, edits, first, waits, is_well, *others, **named)
 
         def try_all(given, jobs):
-            room, left = given[seed], [it for number, it in enumerate(edits) if number not in known()]
-            if not room or not is_well(given, len(left)):
+            left = [it for number, it in enumerate(edits) if number not in known()]
+            if not left or not is_well(given, len(left)):
                 return {}
-
-            @contextlib.contextmanager
-            def start():
-                with tempfile.TemporaryDirectory(dir=room) as over:
-                    rt.linked(f"{room}/seed", f"{over}/seed")
-                    yield f"{over}/seed"
-
-            with contextlib.suppress(OSError, shutil.Error):
-                return refused_in_turns(rt, crate, functions_of(rt, crate, left), ["--jobs", "1"], start)
-            return {}
+            return refused_in_turns(rt, crate, left, ["--jobs", "1"])
 
         def told_or(edit, call):
             said = lambda given: given[together].get(edit)
-            return lambda given, jobs: (rt.REFUSED, said(given)) if said(given) else call(given, jobs)
+            return lambda given, jobs: (rt.REFUSED, said(given), True) if said(given) else call(given, jobs)
 
-        if seed in own:
-            tasks[seed] = own.pop(seed)
-            for number, edit in enumerate(edits):
-                after, lines, needs, call = own[crate.name, "edits", number]
-                tasks[together] = after, lines, needs, try_all
-                own[crate.name, "edits", number] = [*after, together], lines, needs, told_or(edit, call)
+        def seed_or(call):
+            is_told = lambda given: all(number in known() or it in given[together] for number, it in enumerate(edits))
+            return lambda given, jobs: "" if is_told(given) else call(given, jobs)
+
+        for key, (after, lines, needs, call) in own.items():
+            if key[1] == "seed":
+                own[key] = [*after, together], lines, needs, seed_or(call)
+            elif key[1] == "edits":
+                tasks.setdefault(together, ([*waits], lines, needs, try_all))
+                own[key] = [*after, together], lines, needs, told_or(edits[key[2]], call)
         tasks.update(own)
         return results, known
 
@@ -224,5 +211,5 @@ def try_together(rt):
         return
     if hasattr(rt, "must_fail_all"):
         try_lists_together(rt)
-    elif all(hasattr(rt, it) for it in ("add_edits", "linked", "REFUSED")):
+    elif all(hasattr(rt, it) for it in ("add_edits", "REFUSED")):
         try_tasks_together(rt)
