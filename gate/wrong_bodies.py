@@ -9,6 +9,7 @@ function that calls one that is refused. What no such check tells, as an edit ou
 import os
 import re
 import shutil
+import sys
 import tempfile
 import typing
 
@@ -207,9 +208,10 @@ def try_tasks_together(rt):
 
 def try_together(rt):
     """Has rt try the wrong bodies of different functions in one check, where it has what this takes of it."""
-    if not all(hasattr(rt, it) for it in NEEDED):
-        return
-    if hasattr(rt, "must_fail_all"):
+    has = lambda *names: all(hasattr(rt, it) for it in names)
+    if has(*NEEDED, "must_fail_all"):
         try_lists_together(rt)
-    elif all(hasattr(rt, it) for it in ("add_edits", "REFUSED")):
+    elif has(*NEEDED, "add_edits", "REFUSED"):
         try_tasks_together(rt)
+    else:
+        print("gate/rt: this kit's rt tries each wrong body on its own, which takes longer", file=sys.stderr)
