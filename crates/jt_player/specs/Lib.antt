@@ -1,3 +1,4 @@
 pub mod Showing
 pub mod Running
 pub mod Headline
+pub mod Linking

@@ -44,7 +44,7 @@ pub fn run_play<W: Sink, E: Sink>(
             let _ = board.devices();
             play_and_tell(&program, board, bytes, out)
         }
-        Err(fault) => refuse(fault, err),
+        Err(fault) => refuse_text(fault, err),
     }
 }
 
@@ -68,7 +68,7 @@ pub fn run_check<W: Sink, E: Sink>(
 {
     match accept(alloc, svf) {
         Ok(program) => tell_accepted(&program, board, out),
-        Err(fault) => refuse(fault, err),
+        Err(fault) => refuse_text(fault, err),
     }
 }
 
@@ -145,8 +145,10 @@ fn play_and_note<W: Sink>(
     Ok(ending)
 }
 
-/// Writes the line of a refusal, or that memory ran out. Answers the exit status of either.
-fn refuse<E: Sink>(fault: SvfFault, err: &mut Counted<E>) -> Result<u8, Broken>
+/// Writes the line of a text that is refused, or `memory`. Answers the exit status: 2 refused, 4 want of memory.
+///
+/// `Broken` comes exactly where the writer's first failure came in this call.
+pub fn refuse_text<E: Sink>(fault: SvfFault, err: &mut Counted<E>) -> Result<u8, Broken>
     requires { err.old.failures ≡ 0 }
     ensures { ((fault.code ≡ Code.NoMemory) × Tells E.contents err.old err.new (codes "memory\n") 4 result)
         ⊎ ((fault.code ≢ Code.NoMemory) × Tells E.contents err.old err.new (refusal_line fault) 2 result) }

@@ -90,7 +90,8 @@ pub(crate) fn write_accepted<W: Sink>(program: &Program, out: &mut Counted<W>) -
     )
 }
 
-fn hex_byte(byte: u8) -> [u8; 2]
+/// Two lower-case hexadecimal digits.
+pub(crate) fn hex_byte(byte: u8) -> [u8; 2]
     ensures { result ≡ endings.hex_byte byte }
 {
     let digits = b"0123456789abcdef";

@@ -2,15 +2,20 @@
 #![tactic(auto)]
 
 mod described;
+mod links;
 
 use crate::described::{Unmade, make_board};
-use byte_ends::{Counted, Plain};
+use crate::links::{accept, connect, listen, pair};
+use byte_ends::{Broken, Counted, Plain};
 use clap::error::ErrorKind as WordsFault;
-use command_line::{Request, Task, parse};
-use jt_player::{refuse_file, refuse_memory, run_check, run_play};
+use command_line::{Request, Server, Serving, Task, parse};
+use jt_player::{Board, Ending, Program, Served, accept as accept_text, refuse_file, refuse_memory};
+use jt_player::{refuse_text, run_check, run_loop, run_over, run_play, run_serve, tell_listening};
+use jt_player::{tell_played, tell_served, tell_verdict, write_report};
 use program_input::{InputFault, command_words, read_text};
 use std::alloc::Global;
 use std::io::ErrorKind;
+use std::net::TcpListener;
 use std::process::ExitCode;
 use std::{fmt, io};
 
@@ -22,6 +27,8 @@ const REFUSED: u8 = 2;
 const BROKEN: u8 = 3;
 /// Memory ran out.
 const MEMORY: u8 = 4;
+/// How a play ends whose server was not reached.
+const UNREACHED: Ending = Ending::Lost { command: 0 };
 
 fn main(rt: HostRuntime) -> ExitCode {
     let alloc = rt.alloc();
@@ -42,7 +49,7 @@ fn run(rt: &HostRuntime, alloc: Global, args: &[String]) -> u8 {
         }
     }
     match parse(alloc, &words) {
-        Ok(request) => run_text(rt, alloc, &request),
+        Ok(request) => run_request(rt, alloc, &request),
         Err(fault) => refuse_words(rt, &fault),
     }
 }
@@ -64,23 +71,129 @@ fn refuse_words<R: Print + Eprint>(rt: &R, fault: &clap::Error) -> u8 {
     }
 }
 
-/// Plays or checks a text on the board that is asked for, which is made before the text is read.
-fn run_text(rt: &HostRuntime, alloc: Global, request: &Request<'_>) -> u8 {
-    let mut board = match make_board(rt, alloc, request.board) {
-        Ok(board) => board,
-        Err(fault) => return refuse_board(rt, &fault),
-    };
+/// Does what is asked for. A board is made before a text is read.
+fn run_request(rt: &HostRuntime, alloc: Global, request: &Request<'_>) -> u8 {
+    if let Task::Connect(server) = request.task {
+        return match read_program(rt, alloc, request.svf) {
+            Ok(program) => play_on_server(rt, alloc, program, server),
+            Err(status) => status,
+        };
+    }
+    match make_board(rt, alloc, request.board) {
+        Ok(board) => run_board(rt, alloc, request, board),
+        Err(fault) => refuse_board(rt, &fault),
+    }
+}
+
+/// Does with a board what is asked for.
+fn run_board(rt: &HostRuntime, alloc: Global, request: &Request<'_>, mut board: Board) -> u8 {
+    if let Task::Serve(serving) = request.task {
+        return serve(rt, &mut board, serving).unwrap_or(BROKEN);
+    }
+    if request.task == Task::Loop {
+        return match read_program(rt, alloc, request.svf) {
+            Ok(program) => loop_over_socket(rt, alloc, program, &mut board),
+            Err(status) => status,
+        };
+    }
     let text = match read_text(rt, alloc, request.svf) {
         Ok(text) => text,
-        Err(fault) => return refuse_text(rt, request.svf.unwrap_or("-"), fault),
+        Err(fault) => return refuse_input(rt, request.svf.unwrap_or("-"), fault),
     };
     let mut out = Counted::new(Plain(io::writer(rt)));
     let mut err = Counted::new(Plain(rt.stderr()));
     let status = match request.task {
         Task::Play { bytes } => run_play(alloc, &text, &mut board, bytes, &mut out, &mut err),
-        Task::Check => run_check(alloc, &text, &board, &mut out, &mut err),
+        _ => run_check(alloc, &text, &board, &mut out, &mut err),
     };
     status.unwrap_or(BROKEN)
+}
+
+/// Reads and accepts a text. Else tells why not, and answers the exit status: no connection is opened then.
+fn read_program(rt: &HostRuntime, alloc: Global, name: Option<&str>) -> Result<Program, u8> {
+    let text = match read_text(rt, alloc, name) {
+        Ok(text) => text,
+        Err(fault) => return Err(refuse_input(rt, name.unwrap_or("-"), fault)),
+    };
+    match accept_text(alloc, &text) {
+        Ok(program) => Ok(program),
+        Err(fault) => {
+            let mut err = Counted::new(Plain(rt.stderr()));
+            Err(refuse_text(fault, &mut err).unwrap_or(BROKEN))
+        }
+    }
+}
+
+/// Plays a program on a server. One that cannot be reached loses the play before its first command. Answers the exit
+/// status.
+fn play_on_server(rt: &HostRuntime, alloc: Global, program: Program, server: Server<'_>) -> u8 {
+    let mut out = Counted::new(Plain(io::writer(rt)));
+    let status = match connect(rt, server) {
+        Ok(mut link) => run_over(
+            alloc,
+            program,
+            &mut link.reader,
+            &mut link.writer,
+            &mut out,
+        ),
+        Err(_) => tell_verdict(UNREACHED, &mut out),
+    };
+    status.unwrap_or(BROKEN)
+}
+
+/// Plays a program on a board over a connection of the program with itself. Answers the exit status.
+fn loop_over_socket(rt: &HostRuntime, alloc: Global, program: Program, board: &mut Board) -> u8 {
+    let mut out = Counted::new(Plain(io::writer(rt)));
+    let status = match pair(rt) {
+        Ok((mut player_end, mut board_end)) => run_loop(
+            alloc,
+            program,
+            &mut player_end,
+            &mut board_end,
+            board,
+            &mut out,
+        ),
+        Err(_) => tell_played(UNREACHED, board, &mut out),
+    };
+    status.unwrap_or(BROKEN)
+}
+
+/// Serves a board to clients, one after another, and tells how each ended and how the board then stands. Answers the
+/// exit status: the greatest that one of them ended with.
+fn serve(rt: &HostRuntime, board: &mut Board, serving: Serving) -> Result<u8, Broken> {
+    let status = match listen(rt, serving.port) {
+        Ok(listener) => {
+            tell_listening(serving.port, &mut Counted::new(Plain(rt.stderr())))?;
+            serve_clients(rt, &listener, board, serving)?
+        }
+        Err(_) => tell_served(Served::Broken, &mut Counted::new(Plain(io::writer(rt))))?,
+    };
+    write_report(board, &mut Counted::new(Plain(io::writer(rt))))?;
+    Ok(status)
+}
+
+fn serve_clients(
+    rt: &HostRuntime,
+    listener: &TcpListener,
+    board: &mut Board,
+    serving: Serving,
+) -> Result<u8, Broken> {
+    let mut worst = DONE;
+    for _ in 0..serving.connections {
+        let mut out = Counted::new(Plain(io::writer(rt)));
+        let status = match accept(listener, serving.timeout) {
+            Ok(mut link) => run_serve(
+                board,
+                &mut link.reader,
+                &mut link.writer,
+                serving.at_most,
+                &mut out,
+            )?,
+            Err(_) => tell_served(Served::Broken, &mut out)?,
+        };
+        worst = worst.max(status);
+    }
+    Ok(worst)
 }
 
 /// Tells why no board was made. Answers the exit status.
@@ -94,7 +207,7 @@ fn refuse_board(rt: &HostRuntime, fault: &Unmade) -> u8 {
 }
 
 /// Tells that no text of a program was read. Answers the exit status.
-fn refuse_text(rt: &HostRuntime, name: &str, fault: InputFault) -> u8 {
+fn refuse_input(rt: &HostRuntime, name: &str, fault: InputFault) -> u8 {
     let mut err = Counted::new(Plain(rt.stderr()));
     let status = match fault {
         InputFault::Unreadable => refuse_file(name, &mut err),

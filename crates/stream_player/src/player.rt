@@ -69,6 +69,31 @@ impl Player {
         count
     }
 
+    /// Fills the buffer as `next_bytes` does, and gives nothing out: a link shows its bytes to a writer first, and gives
+    /// out those that were taken.
+    pub fn show_bytes(&self, buffer: &mut [u8]) -> usize
+        ensures count { result ≡ min (length buffer.old) (length (bytes_to_send 256 self.now)) }
+        ensures bytes { buffer.new ≡ take result (bytes_to_send 256 self.now) ++ drop result buffer.old }
+    {
+        if self.progress.bad.is_none() {
+            let (_, count) = fill(&self.program, self.progress, buffer);
+            return count;
+        }
+        0
+    }
+
+    /// How many answers are owed: those to the `R`s that were given out, without the answers taken; none once the play
+    /// has ended.
+    pub fn owed(&self) -> usize
+        ensures { result ≡ stream.owed 256 self.now }
+    {
+        let is_bad = self.progress.bad.is_some();
+        if is_bad {
+            return 0;
+        }
+        self.progress.owed
+    }
+
     /// Takes answers, the bytes that came back for the `R`s that were given out: as many as are owed, up to and with
     /// the first that is neither `0` nor `1`, which ends the play. Answers how many were taken.
     pub fn answers(&mut self, bytes: &[u8]) -> usize

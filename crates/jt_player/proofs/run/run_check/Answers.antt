@@ -20,5 +20,5 @@ pub returns-in-Err : goal.returns-in-Err
 returns-in-Err g c =
     let before = c.args.board.now in
     let told = refused-or-memory g.W.Write.contents g.E.Write.contents c.args.svf.now before (IsCheckOf c.args.svf.now before) no_memory_check refused_check
-    c.in-Err.fault c.args.out.now c.args.err.now c.refuse.new.err c.refuse.result c.requires.out_whole c.in-Err.ensures.refused c.refuse.ensures in
+    c.in-Err.fault c.args.out.now c.args.err.now c.refuse_text.new.err c.refuse_text.result c.requires.out_whole c.in-Err.ensures.refused c.refuse_text.ensures in
     (told.run, told.is, told.happens)

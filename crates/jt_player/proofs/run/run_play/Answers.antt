@@ -26,5 +26,5 @@ pub returns-in-Err : goal.returns-in-Err
 returns-in-Err g c =
     let before = c.args.board.now in
     let told = refused-or-memory g.W.Write.contents g.E.Write.contents c.args.svf.now before (IsRunOf c.args.svf.now c.args.bytes before) no_memory refused
-    c.in-Err.fault c.args.out.now c.args.err.now c.refuse.new.err c.refuse.result c.requires.out_whole c.in-Err.ensures.refused c.refuse.ensures in
+    c.in-Err.fault c.args.out.now c.args.err.now c.refuse_text.new.err c.refuse_text.result c.requires.out_whole c.in-Err.ensures.refused c.refuse_text.ensures in
     (told.run, told.is, told.happens)

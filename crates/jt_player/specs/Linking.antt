@@ -1,0 +1,25 @@
+-- What is told of a play over a connection, and of a board that was served.
+use Rattle.std.specs.Prelude.{ℕ, List, [], ◌∷◌, codes, decimal}
+use Rattle.plays.specs.Endings.{hex_byte, texts}
+use Rattle.play_links.specs.declared.serving.Served.{Served}
+use Rattle.play_links.specs.declared.serving.Served.TheVariants.{Quit, Closed, Refused, Bound, Broken}
+
+-- the line of how serving ended; a refused byte is told by two lower-case hexadecimal digits
+abbrev pub served_line : Served → List ℕ
+served_line Quit = codes "quit\n"
+served_line Closed = codes "closed\n"
+served_line (Refused byte) = texts (codes "refused " ∷ hex_byte byte ∷ codes "\n" ∷ [])
+served_line Bound = codes "bound\n"
+served_line Broken = codes "broken\n"
+
+-- its exit status: 0 the client ended it, 2 it sent a byte that is refused, 3 it was cut short
+abbrev pub served_status : Served → ℕ
+served_status Quit = 0
+served_status Closed = 0
+served_status (Refused byte) = 2
+served_status Bound = 3
+served_status Broken = 3
+
+-- the line of a server that takes connections
+abbrev pub listening_line : (port : ℕ) → List ℕ
+listening_line port = texts (codes "listening on 127.0.0.1:" ∷ decimal port ∷ codes "\n" ∷ [])

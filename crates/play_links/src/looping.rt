@@ -1,0 +1,214 @@
+//! Both ends of a connection, in turn and in one thread.
+
+ghost use Rattle.std.specs.Prelude.{◌≡◌, ◌<◌, ◌≤◌, ◌+◌, length, None};
+ghost use Rattle.every_schedule.specs.Fronts.{IsFront};
+ghost use Rattle.plays.specs.Streams as stream;
+ghost use Rattle.play_links.specs.Turns.{GivesAll, HearsWhole, ServesTurn, SomeTurn, TakesTurn, fits_stream, Loops};
+ghost use Rattle.play_links.specs.Loops.{LoopsOver};
+ghost use Rattle.plays.specs.PlayingOn.{Stops};
+ghost use Rattle.plays.specs.Streams.{new_stream};
+ghost use Rattle.std.specs.Prelude.{not};
+
+use crate::serving::{Served, take_bytes};
+use byte_ends::{Counted, End, Sink, Source, put_all};
+use jt_board::Board;
+use stream_player::Player;
+use plays::Ending;
+
+/// The most bytes that go one way in a turn.
+const TURN: usize = 1024;
+
+/// Gives out so many of the bytes that may be sent.
+fn give_out(player: &mut Player, n: usize)
+    requires few { n ≤ 1024 }
+    requires wait { n ≤ length (stream.bytes_to_send 256 player.old) }
+    ensures { player.new ≡ record player.old { given = player.old.given + n } }
+{
+    let mut scratch = [0; TURN];
+    player.next_bytes(&mut scratch[..n]);
+}
+
+/// Writes a piece of what may be sent, over writes that take only some of it, and gives out what the writer took.
+/// Answers whether all was written.
+fn give_all<W: Sink>(writer: &mut Counted<W>, player: &mut Player, piece: &[u8]) -> bool
+    requires unlost { writer.old.failures ≡ 0 }
+    requires few { length piece.now ≤ 1024 }
+    requires front { IsFront piece.now (stream.bytes_to_send 256 player.old) }
+    ensures { GivesAll W.puts writer.old writer.new piece.now player.old player.new result }
+{
+    let mut rest = piece;
+    while !rest.is_empty() {
+        match writer.put(rest) {
+            Ok(0) | Err(_) => return false,
+            Ok(n) => {
+                give_out(player, n);
+                rest = &rest[n..];
+            }
+        }
+    }
+    true
+}
+
+/// Fills a buffer, over reads that give only some of it. Answers whether it is full.
+fn hear_all<R: Source>(reader: &mut Counted<R>, buffer: &mut [u8]) -> bool
+    requires { reader.old.failures ≡ 0 }
+    ensures { HearsWhole R.hears reader.old reader.new buffer.new result }
+{
+    let mut filled = 0;
+    while filled < buffer.len() {
+        match reader.hear(&mut buffer[filled..]) {
+            Ok(0) | Err(_) => return false,
+            Ok(n) => filled += n,
+        }
+    }
+    true
+}
+
+/// Whether what a board answered to a turn fits the player: as many answers as are owed, and a `Q` exactly where the
+/// player sent it.
+fn fits(player: &Player, answers: usize, stop: Option<Served>) -> bool
+    ensures { result ≡ fits_stream player.now answers stop }
+{
+    let stopped = match stop {
+        None => player.ended().is_none(),
+        Some(Served::Quit) => player.ended().is_some(),
+        Some(_) => false,
+    };
+    answers == player.owed() && stopped
+}
+
+/// The board's part of a turn: reads a buffer full, lets the board take it, and writes the answers, if they fit the
+/// player. Answers whether all was kept.
+fn serve_turn<B: End>(
+    end: &mut Counted<B>,
+    board: &mut Board,
+    player: &Player,
+    bytes: &mut [u8],
+    answers: &mut [u8],
+) -> bool
+    requires unlost { end.old.failures ≡ 0 }
+    requires room { length bytes.old ≤ length answers.old }
+    ensures { ServesTurn B.puts B.hears end.old end.new board.old board.new player.now (length bytes.old) result }
+{
+    if !hear_all(end, bytes) {
+        return false;
+    }
+    let (count, stop) = take_bytes(board, bytes, answers);
+    if !fits(player, count, stop) {
+        return false;
+    }
+    if put_all(end, &answers[..count]).is_err() {
+        return false;
+    }
+    true
+}
+
+/// The player's part of a turn: reads the answers that are owed, and lets the player take them. Answers whether all
+/// came.
+fn take_back<P: Source>(end: &mut Counted<P>, player: &mut Player, back: &mut [u8]) -> bool
+    requires unlost { end.old.failures ≡ 0 }
+    requires owed { length back.old ≡ stream.owed 256 player.old }
+    ensures { TakesTurn P.hears end.old end.new player.old player.new result }
+{
+    if !hear_all(end, back) {
+        return false;
+    }
+    player.answers(back);
+    true
+}
+
+/// The player's part of a turn, with room for all answers that may be owed.
+fn take_turn<P: Source>(end: &mut Counted<P>, player: &mut Player) -> bool
+    requires { end.old.failures ≡ 0 }
+    ensures { TakesTurn P.hears end.old end.new player.old player.new result }
+{
+    let mut back = [0; TURN];
+    let owed = player.owed().min(TURN);
+    take_back(end, player, &mut back[..owed])
+}
+
+/// The board's part of a turn, with room for all answers.
+fn answer_turn<B: End>(
+    end: &mut Counted<B>,
+    board: &mut Board,
+    player: &Player,
+    bytes: &mut [u8],
+) -> bool
+    requires unlost { end.old.failures ≡ 0 }
+    requires few { length bytes.old ≤ 1024 }
+    ensures { ServesTurn B.puts B.hears end.old end.new board.old board.new player.now (length bytes.old) result }
+{
+    let mut answers = [0; TURN];
+    serve_turn(end, board, player, bytes, &mut answers)
+}
+
+/// One turn. Answers whether it was kept.
+fn turn<P: End, B: End>(
+    player_end: &mut Counted<P>,
+    board_end: &mut Counted<B>,
+    player: &mut Player,
+    board: &mut Board,
+) -> bool
+    requires player_end { player_end.old.failures ≡ 0 }
+    requires board_end { board_end.old.failures ≡ 0 }
+    requires going { stream.ending_of_stream 256 player.old ≡ None }
+    requires unowed { stream.owed 256 player.old ≡ 0 }
+    ensures { SomeTurn P.puts P.hears B.puts B.hears player_end.old player_end.new board_end.old board_end.new board.old board.new player.old player.new result }
+{
+    let mut bytes = [0; TURN];
+    let count = player.show_bytes(&mut bytes);
+    if !give_all(player_end, player, &bytes[..count]) {
+        return false;
+    }
+    if !answer_turn(board_end, board, player, &mut bytes[..count]) {
+        return false;
+    }
+    if player.ended().is_some() {
+        return true;
+    }
+    take_turn(player_end, player)
+}
+
+/// Turns until the play has ended or one was lost. Answers whether it has ended.
+fn go_on<P: End, B: End>(
+    player_end: &mut Counted<P>,
+    board_end: &mut Counted<B>,
+    player: &mut Player,
+    board: &mut Board,
+) -> bool
+    requires player_end { player_end.old.failures ≡ 0 }
+    requires board_end { board_end.old.failures ≡ 0 }
+    requires fresh { player.old ≡ new_stream Stops player.old.program }
+    ensures { Loops P.puts P.hears B.puts B.hears player_end.old player_end.new board_end.old board_end.new player.old.program board.old board.new player.new (not result) }
+{
+    while player.ended().is_none() {
+        if !turn(player_end, board_end, player, board) {
+            return false;
+        }
+    }
+    true
+}
+
+/// Plays a fresh player's program on a board over the two ends of one connection, in turn and in one thread. What an
+/// end reads that the other did not write shows by what the board does with it, and loses the play.
+pub fn loop_over<P: End, B: End>(
+    player_end: &mut Counted<P>,
+    board_end: &mut Counted<B>,
+    player: Player,
+    board: &mut Board,
+) -> Ending
+    requires player_end { player_end.old.failures ≡ 0 }
+    requires board_end { board_end.old.failures ≡ 0 }
+    requires fresh { player ≡ new_stream Stops player.program }
+    ensures { LoopsOver P.puts P.hears B.puts B.hears player_end.old player_end.new board_end.old board_end.new player.program board.old board.new result }
+{
+    let mut player = player;
+    if !go_on(player_end, board_end, &mut player, board) {
+        let command = player.working();
+        return Ending::Lost { command };
+    }
+    match player.ended() {
+        Some(ending) => ending,
+        None => unreachable!(),
+    }
+}

@@ -1,0 +1,114 @@
+//! The player's end of a connection.
+
+ghost use Rattle.std.specs.Prelude.{◌≡◌, ◌<◌, ◌≤◌, [], None, length};
+ghost use Rattle.every_schedule.specs.Fronts.{IsFront};
+ghost use Rattle.plays.specs.PlayingOn.{Stops};
+ghost use Rattle.plays.specs.Streams as stream;
+ghost use Rattle.plays.specs.Streams.{new_stream};
+ghost use Rattle.play_links.specs.Calls.{Goes, IsCall, IsHeard, IsPut};
+ghost use Rattle.play_links.specs.Links.{PlaysOver};
+ghost use Rattle.std.specs.Prelude.{not};
+
+use byte_ends::{Counted, Sink, Source};
+use stream_player::Player;
+use plays::Ending;
+
+/// The most bytes that are handed to a writer, or asked of a reader, at once.
+const PIECE: usize = 1024;
+
+/// Hands a writer a piece of what may be sent, and gives out what it took. Answers whether the call was kept.
+fn put<W: Sink>(writer: &mut Counted<W>, player: &mut Player, piece: &mut [u8]) -> bool
+    requires unlost { writer.old.failures ≡ 0 }
+    requires some { 0 < length piece.old }
+    requires front { IsFront piece.old (stream.bytes_to_send 256 player.old) }
+    ensures { IsPut W.puts W.contents writer.old writer.new piece.old player.old player.new result }
+{
+    match writer.put(piece) {
+        Ok(0) | Err(_) => false,
+        Ok(n) => {
+            player.next_bytes(&mut piece[..n]);
+            true
+        }
+    }
+}
+
+/// Reads some of the answers that are owed, as many as the buffer has room for, and lets the player take them. Answers
+/// whether the call was kept.
+fn hear<R: Source>(reader: &mut Counted<R>, player: &mut Player, buffer: &mut [u8]) -> bool
+    requires unlost { reader.old.failures ≡ 0 }
+    requires some { 0 < length buffer.old }
+    requires most { length buffer.old ≤ stream.owed 256 player.old }
+    ensures { IsHeard R.hears R.remaining reader.old reader.new player.old player.new result }
+{
+    match reader.hear(buffer) {
+        Ok(0) | Err(_) => false,
+        Ok(n) => {
+            player.answers(&buffer[..n]);
+            true
+        }
+    }
+}
+
+/// The next call of a play: a put where something may be sent, and else a read. Answers whether it was kept.
+fn call<R: Source, W: Sink>(
+    reader: &mut Counted<R>,
+    writer: &mut Counted<W>,
+    player: &mut Player,
+) -> bool
+    requires reader { reader.old.failures ≡ 0 }
+    requires writer { writer.old.failures ≡ 0 }
+    requires going { stream.ending_of_stream 256 player.old ≡ None }
+    ensures { IsCall W.puts R.hears W.contents R.remaining writer.old writer.new reader.old reader.new player.old player.new result }
+{
+    let mut piece = [0; PIECE];
+    let count = player.show_bytes(&mut piece);
+    if count > 0 {
+        return put(writer, player, &mut piece[..count]);
+    }
+    let owed = player.owed().min(PIECE);
+    hear(reader, player, &mut piece[..owed])
+}
+
+/// Calls until the play has ended or one was lost. Answers whether it has ended.
+fn go_on<R: Source, W: Sink>(
+    reader: &mut Counted<R>,
+    writer: &mut Counted<W>,
+    player: &mut Player,
+) -> bool
+    requires reader { reader.old.failures ≡ 0 }
+    requires writer { writer.old.failures ≡ 0 }
+    requires fresh { player.old ≡ new_stream Stops player.old.program }
+    ensures { Goes W.puts R.hears W.contents R.remaining writer.old writer.new reader.old reader.new player.old.program player.new (not result) }
+{
+    while player.ended().is_none() {
+        if !call(reader, writer, player) {
+            return false;
+        }
+    }
+    true
+}
+
+/// Plays a fresh player's program over a reader and a writer of which no call was lost.
+///
+/// What may be sent is written before anything is read, and no more answers are read than are owed. A call that is
+/// lost ends the play: the bytes that went out are then a front part of the play's.
+pub fn play_over<R: Source, W: Sink>(
+    reader: &mut Counted<R>,
+    writer: &mut Counted<W>,
+    player: Player,
+) -> Ending
+    requires reader { reader.old.failures ≡ 0 }
+    requires writer { writer.old.failures ≡ 0 }
+    requires fresh { player ≡ new_stream Stops player.program }
+    ensures { PlaysOver W.puts R.hears W.contents R.remaining writer.old writer.new reader.old reader.new player.program result }
+{
+    let mut player = player;
+    if !go_on(reader, writer, &mut player) {
+        let command = player.working();
+        return Ending::Lost { command };
+    }
+    match player.ended() {
+        Some(ending) => ending,
+        None => unreachable!(),
+    }
+}
