@@ -1,6 +1,6 @@
 -- Commands with an argument or a subcommand more.
-use Rattle.std.proofs.Common.{◌≡◌, false, Result, Ok, Err, ap, ◌∙◌}
-use Rattle.std.specs.Prelude.{IfOk}
+use Rattle.std.proofs.Common.{◌≡◌, Bool, false, Result, Ok, Err, ap, ◌∙◌}
+use Rattle.std.specs.Prelude.{IfOk, ◌||◌}
 use Rattle.clap.specs.Words.{AddsArg, AddsSubcommand, App, Rule, Shape, app_of, rule_of, shape_of, with_rule, with_subcommand}
 use Rattle.clap.specs.declared.builder.arg.Arg.{Arg}
 use Rattle.clap.specs.declared.builder.command.Command.{Command}
@@ -21,3 +21,12 @@ pub with_last_command : {E : Type 0} (old sub : Command) (app : App) (s : Shape)
     → IfOk new (λ c. app_of c ≡ with_subcommand app s)
 with_last_command old sub app s (Ok new) adds local shape was = with_command old sub new app s adds local shape was
 with_last_command old sub app s (Err e) adds local shape was = tt
+
+-- no argument of a command is global
+pub no_globals : (old new : Command) (a : Arg) → AddsArg old a new → a.global ≡ false → (out-Command old).has_globals ≡ false → (out-Command new).has_globals ≡ false
+no_globals old new a adds local was = adds.globals ∙ ap (λ (b : Bool). b || a.global) was ∙ local
+
+pub last_no_globals : {E : Type 0} (old : Command) (a : Arg) (new : Result Command E) → IfOk new (λ c. AddsArg old a c) → a.global ≡ false → (out-Command old).has_globals ≡ false
+    → IfOk new (λ c. (out-Command c).has_globals ≡ false)
+last_no_globals old a (Ok new) adds local was = no_globals old new a adds local was
+last_no_globals old a (Err e) adds local was = tt

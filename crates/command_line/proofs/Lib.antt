@@ -1,3 +1,4 @@
 pub mod CommandLaws
+pub mod NumberLaws
 pub mod RequestLaws
 pub mod UsageRows

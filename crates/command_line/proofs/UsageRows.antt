@@ -21,4 +21,16 @@ usage = record {
   board_twice = refl;
   two_files = refl;
   asks_for_help = refl;
+  loop_file = (refl, refl);
+  serve = (refl, refl);
+  serve_bounds = (refl, refl);
+  connect = (refl, refl);
+  connect_host = (refl, refl);
+  loop_tells_no_bytes = refl;
+  serve_without_board = refl;
+  connect_without_port = refl;
+  no_port = refl;
+  no_such_port = refl;
+  a_word_for_a_port = refl;
+  too_many_bytes = refl;
 }

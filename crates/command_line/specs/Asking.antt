@@ -1,12 +1,17 @@
 -- What the words of a command line ask for. What a command with these arguments takes of its words is clap's own
 -- specification.
-use Rattle.std.specs.Prelude.{Bool, true, false, List, [], ◌∷◌, Option, Some, None, codes, bytes_eq, if◌then◌else◌}
+use Rattle.std.specs.Prelude.{ℕ, ◌-◌, ◌^◌, Bool, true, false, List, [], ◌∷◌, Option, Some, None, codes, bytes_eq}
+use Rattle.std.specs.Prelude.{if◌then◌else◌, option_and_then, unwrap_or}
 use Rattle.std.specs.Option.{option_map_or}
+use Rattle.std.specs.Str.Parse.{digits_value, without_leading_plus}
 use Rattle.clap.specs.Simple.{new_shape}
-use Rattle.clap.specs.Words.{App, Row, Rule, Shape, Text, first_of, new_app, new_rule, subcommand_of, with_subcommand}
+use Rattle.clap.specs.ValueTests.{is_unsigned_in}
+use Rattle.clap.specs.Words.{App, Row, Rule, Shape, Text, first_of, new_app, new_rule, one_of, subcommand_of}
+use Rattle.clap.specs.Words.{with_subcommand}
+use Rattle.clap.specs.declared.builder.value_parser.ValueParser.{ValueParser}
+use Rattle.clap.specs.declared.builder.value_parser.ValueParser.TheVariants as vp
 use Rattle.clap.specs.declared.builder.action.ArgAction.TheVariants.{Set, SetTrue}
-use Rattle.command_line.specs.declared.request.Task.{Task}
-use Rattle.command_line.specs.declared.request.Task.TheVariants as task
+use Rattle.command_line.specs.declared.request.Serving.{Serving}
 
 -- `[FILE]`
 abbrev pub svf : Rule
@@ -28,28 +33,152 @@ play = record (new_shape (codes "play")) { rules = svf ∷ board ∷ bytes ∷ [
 abbrev pub check : Shape
 check = record (new_shape (codes "check")) { rules = svf ∷ board ∷ [] }
 
+-- `loop [FILE] [--board BOARD]`
+abbrev pub loop : Shape
+loop = record (new_shape (codes "loop")) { rules = svf ∷ board ∷ [] }
+
+-- the numbers that are taken: ports, bytes of a connection, connections, and seconds of waiting
+abbrev pub ports : ValueParser
+ports = vp.Unsigned 1 65535
+
+abbrev pub byte_counts : ValueParser
+byte_counts = vp.Unsigned 0 1000000000000
+
+abbrev pub connection_counts : ValueParser
+connection_counts = vp.Unsigned 1 1000000
+
+abbrev pub waits : ValueParser
+waits = vp.Unsigned 1 86400
+
+-- `--board BOARD`, which must be named where a board is served
+abbrev pub served_board : Rule
+served_board = record board { required = true }
+
+-- `--port PORT`, which must be named
+abbrev pub port : Rule
+port = record (new_rule (codes "port")) {
+  long = Some (codes "port");
+  action = Some Set;
+  required = true;
+  parser = Some ports;
+}
+
+-- `[--at-most BYTES]`
+abbrev pub at_most : Rule
+at_most = record (new_rule (codes "at-most")) {
+  long = Some (codes "at-most");
+  action = Some Set;
+  parser = Some byte_counts;
+}
+
+-- `[--connections COUNT]`
+abbrev pub connections : Rule
+connections = record (new_rule (codes "connections")) {
+  long = Some (codes "connections");
+  action = Some Set;
+  parser = Some connection_counts;
+}
+
+-- `[--timeout SECONDS]`
+abbrev pub timeout : Rule
+timeout = record (new_rule (codes "timeout")) {
+  long = Some (codes "timeout");
+  action = Some Set;
+  parser = Some waits;
+}
+
+-- `[--host HOST]`
+abbrev pub host : Rule
+host = record (new_rule (codes "host")) { long = Some (codes "host"); action = Some Set }
+
+-- `serve --board BOARD --port PORT [--at-most BYTES] [--connections COUNT] [--timeout SECONDS]`
+abbrev pub serve : Shape
+serve = record (new_shape (codes "serve")) {
+  rules = served_board ∷ port ∷ at_most ∷ connections ∷ timeout ∷ [];
+}
+
+-- `connect [FILE] --port PORT [--host HOST] [--timeout SECONDS]`
+abbrev pub connect : Shape
+connect = record (new_shape (codes "connect")) { rules = svf ∷ port ∷ host ∷ timeout ∷ [] }
+
 -- the program's command line
 abbrev pub jt_tool : App
-jt_tool = with_subcommand (with_subcommand (new_app (codes "jt_tool")) play) check
+jt_tool = with_subcommand (with_subcommand (with_subcommand (with_subcommand (with_subcommand (new_app (codes "jt_tool"))
+    play) check) loop) serve) connect
+
+-- a server that is played on
+pub record Host : Type 0 where
+  pub host : Text
+  pub port : ℕ
+  pub timeout : Option ℕ
+
+-- what is done with a text or a board
+pub data Action : Type 0 where
+  plays : (bytes : Bool) → Action
+  checks : Action
+  loops : Action
+  serves : Serving → Action
+  connects : Host → Action
 
 -- what is asked for: the file of the program and the board file, where they are named, and what is done
 pub record Asked : Type 0 where
   pub svf : Option Text
   pub board : Option Text
-  pub task : Task
+  pub task : Action
 
 -- whether a flag stands among the arguments
 abbrev pub is_given : Text → List Row → Bool
 is_given flag rows = option_map_or (λ t. bytes_eq t (codes "true")) (first_of flag rows) false
 
+-- the number that a text writes, if it is one of so many bits
+abbrev pub number : (bits : ℕ) → Text → Option ℕ
+number bits text =
+    if is_unsigned_in 0 (2 ^ bits - 1) text then Some (digits_value 10 (without_leading_plus text)) else None
+
+-- the number that is given by this name
+abbrev pub number_of : (bits : ℕ) → Text → List Row → Option ℕ
+number_of bits name rows = option_and_then (number bits) (one_of name rows)
+
+abbrev pub port_of : List Row → ℕ
+port_of rows = unwrap_or (number_of 16 (codes "port") rows) 0
+
+-- what holds where an argument is not given: a billion bytes, one connection, this machine
+abbrev pub at_most_of : List Row → ℕ
+at_most_of rows = unwrap_or (number_of 64 (codes "at-most") rows) 1000000000
+
+abbrev pub connections_of : List Row → ℕ
+connections_of rows = unwrap_or (number_of 32 (codes "connections") rows) 1
+
+abbrev pub host_of : List Row → Text
+host_of rows = unwrap_or (first_of (codes "host") rows) (codes "127.0.0.1")
+
+-- nothing is waited for longer than so many seconds, where they are given
+abbrev pub timeout_of : List Row → Option ℕ
+timeout_of rows = number_of 32 (codes "timeout") rows
+
+abbrev pub serving_of : List Row → Serving
+serving_of rows = record {
+  port = port_of rows;
+  at_most = at_most_of rows;
+  connections = connections_of rows;
+  timeout = timeout_of rows;
+}
+
+abbrev pub server_of : List Row → Host
+server_of rows = record { host = host_of rows; port = port_of rows; timeout = timeout_of rows }
+
 -- what is done by this subcommand with these arguments
-abbrev pub task_of : Text → List Row → Task
+abbrev pub task_of : Text → List Row → Action
 task_of name rows =
-    if bytes_eq name (codes "check") then task.Check else task.Play (is_given (codes "bytes") rows)
+    if bytes_eq name (codes "check") then checks
+    else if bytes_eq name (codes "loop") then loops
+    else if bytes_eq name (codes "serve") then serves (serving_of rows)
+    else if bytes_eq name (codes "connect") then connects (server_of rows)
+    else plays (is_given (codes "bytes") rows)
 
 -- what a subcommand and its arguments ask for; without any the bytes are told too
 abbrev pub asked_by : Option (Text × List Row) → Asked
-asked_by None = record { svf = None; board = None; task = task.Play true }
+asked_by None = record { svf = None; board = None; task = plays true }
 asked_by (Some found) = record {
   svf = first_of (codes "svf") found.1;
   board = first_of (codes "board") found.1;

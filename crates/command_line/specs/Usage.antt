@@ -2,9 +2,7 @@
 use Rattle.std.specs.Prelude.{◌≡◌, true, false, List, [], ◌∷◌, Option, Some, None, codes}
 use Rattle.clap.specs.Words.{Kinds, Text, fault_of}
 use Rattle.clap.specs.declared.error.kind.ErrorKind.TheVariants as kind
-use Rattle.command_line.specs.Asking.{Asked, asked, jt_tool}
-use Rattle.command_line.specs.declared.request.Task.{Task}
-use Rattle.command_line.specs.declared.request.Task.TheVariants as task
+use Rattle.command_line.specs.Asking.{Action, Asked, asked, checks, connects, jt_tool, loops, plays, serves}
 
 -- the command line is taken, and asks for this
 abbrev pub Asks : List Text → Asked → Type 0
@@ -15,7 +13,7 @@ abbrev pub IsRefused : List Text → Kinds → Type 0
 IsRefused words kinds = fault_of jt_tool (codes "jt_tool" ∷ words) ≡ kinds
 
 -- a file, a board file, and what is done
-abbrev pub request : Option Text → Option Text → Task → Asked
+abbrev pub request : Option Text → Option Text → Action → Asked
 request svf board what = record { svf = svf; board = board; task = what }
 
 abbrev pub file : Text
@@ -25,22 +23,44 @@ abbrev pub board : Text
 board = codes "b.toml"
 
 pub record UsageRows : Type 0 where
-  pub no_words : Asks [] (request None None (task.Play true))
-  pub play : Asks (codes "play" ∷ []) (request None None (task.Play false))
-  pub play_file : Asks (codes "play" ∷ file ∷ []) (request (Some file) None (task.Play false))
-  pub play_bytes : Asks (codes "play" ∷ file ∷ codes "--bytes" ∷ []) (request (Some file) None (task.Play true))
+  pub no_words : Asks [] (request None None (plays true))
+  pub play : Asks (codes "play" ∷ []) (request None None (plays false))
+  pub play_file : Asks (codes "play" ∷ file ∷ []) (request (Some file) None (plays false))
+  pub play_bytes : Asks (codes "play" ∷ file ∷ codes "--bytes" ∷ []) (request (Some file) None (plays true))
   pub play_board : Asks (codes "play" ∷ file ∷ codes "--board" ∷ board ∷ [])
-      (request (Some file) (Some board) (task.Play false))
+      (request (Some file) (Some board) (plays false))
   pub board_first : Asks (codes "play" ∷ codes "--board=b.toml" ∷ file ∷ [])
-      (request (Some file) (Some board) (task.Play false))
+      (request (Some file) (Some board) (plays false))
   pub dashed_file : Asks (codes "play" ∷ codes "--" ∷ codes "-a.svf" ∷ [])
-      (request (Some (codes "-a.svf")) None (task.Play false))
-  pub check : Asks (codes "check" ∷ []) (request None None task.Check)
+      (request (Some (codes "-a.svf")) None (plays false))
+  pub check : Asks (codes "check" ∷ []) (request None None checks)
   pub check_file : Asks (codes "check" ∷ file ∷ codes "--board" ∷ board ∷ [])
-      (request (Some file) (Some board) task.Check)
+      (request (Some file) (Some board) checks)
   pub no_subcommand : IsRefused (file ∷ []) (kind.UnknownArgument ∷ kind.InvalidSubcommand ∷ [])
   pub check_tells_no_bytes : IsRefused (codes "check" ∷ codes "--bytes" ∷ []) (kind.UnknownArgument ∷ [])
   pub board_of_no_name : IsRefused (codes "play" ∷ codes "--board" ∷ []) (kind.InvalidValue ∷ [])
   pub board_twice : IsRefused (codes "play" ∷ codes "--board=b" ∷ codes "--board=b" ∷ []) (kind.ArgumentConflict ∷ [])
   pub two_files : IsRefused (codes "play" ∷ file ∷ file ∷ []) (kind.UnknownArgument ∷ [])
   pub asks_for_help : IsRefused (codes "--help" ∷ []) (kind.DisplayHelp ∷ [])
+  pub loop_file : Asks (codes "loop" ∷ file ∷ codes "--board=b.toml" ∷ []) (request (Some file) (Some board) loops)
+  pub serve : Asks (codes "serve" ∷ codes "--board=b.toml" ∷ codes "--port" ∷ codes "5555" ∷ [])
+      (request None (Some board)
+      (serves (record { port = 5555; at_most = 1000000000; connections = 1; timeout = None })))
+  pub serve_bounds : Asks
+      (codes "serve" ∷ codes "--port=1" ∷ codes "--at-most=0" ∷ codes "--connections=1000" ∷ codes "--timeout=86400"
+      ∷ codes "--board=b.toml" ∷ [])
+      (request None (Some board)
+      (serves (record { port = 1; at_most = 0; connections = 1000; timeout = Some 86400 })))
+  pub connect : Asks (codes "connect" ∷ file ∷ codes "--port=65535" ∷ [])
+      (request (Some file) None (connects (record { host = codes "127.0.0.1"; port = 65535; timeout = None })))
+  pub connect_host : Asks (codes "connect" ∷ codes "--port=5555" ∷ codes "--host=bench" ∷ codes "--timeout=1" ∷ [])
+      (request None None (connects (record { host = codes "bench"; port = 5555; timeout = Some 1 })))
+  pub loop_tells_no_bytes : IsRefused (codes "loop" ∷ codes "--bytes" ∷ []) (kind.UnknownArgument ∷ [])
+  pub serve_without_board : IsRefused (codes "serve" ∷ codes "--port=5555" ∷ []) (kind.MissingRequiredArgument ∷ [])
+  pub connect_without_port : IsRefused (codes "connect" ∷ file ∷ []) (kind.MissingRequiredArgument ∷ [])
+  pub no_port : IsRefused (codes "connect" ∷ codes "--port=0" ∷ []) (kind.ValueValidation ∷ [])
+  pub no_such_port : IsRefused (codes "connect" ∷ codes "--port=65536" ∷ []) (kind.ValueValidation ∷ [])
+  pub a_word_for_a_port : IsRefused (codes "connect" ∷ codes "--port=x" ∷ []) (kind.ValueValidation ∷ [])
+  pub too_many_bytes : IsRefused
+      (codes "serve" ∷ codes "--board=b.toml" ∷ codes "--port=1" ∷ codes "--at-most=1000000000001" ∷ [])
+      (kind.ValueValidation ∷ [])

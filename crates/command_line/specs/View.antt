@@ -1,7 +1,25 @@
 -- A request of the code, as what it asks for.
 use Rattle.std.specs.Prelude.{option_map}
-use Rattle.command_line.specs.Asking.{Asked}
+use Rattle.command_line.specs.Asking as asking
+use Rattle.command_line.specs.Asking.{Action, Asked, Host}
 use Rattle.command_line.specs.declared.request.Request.{Request}
+use Rattle.command_line.specs.declared.request.Server.{Server}
+use Rattle.command_line.specs.declared.request.Task.{Task}
+use Rattle.command_line.specs.declared.request.Task.TheVariants.{Play, Check, Loop, Serve, Connect}
+
+abbrev pub server_view : Server → Host
+server_view s = record { host = s.host.now; port = s.port; timeout = s.timeout }
+
+abbrev pub action_of : Task → Action
+action_of (Play bytes) = asking.plays bytes
+action_of Check = asking.checks
+action_of Loop = asking.loops
+action_of (Serve how) = asking.serves how
+action_of (Connect server) = asking.connects (server_view server)
 
 abbrev pub asked_of : Request → Asked
-asked_of r = record { svf = option_map (λ s. s.now) r.svf; board = option_map (λ s. s.now) r.board; task = r.task }
+asked_of r = record {
+  svf = option_map (λ s. s.now) r.svf;
+  board = option_map (λ s. s.now) r.board;
+  task = action_of r.task;
+}

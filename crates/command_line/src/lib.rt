@@ -4,5 +4,5 @@
 mod request;
 mod usage;
 
-pub use request::{Request, Task, parse};
+pub use request::{Request, Server, Serving, Task, parse};
 pub use usage::usage_is_read;

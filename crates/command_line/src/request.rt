@@ -5,18 +5,64 @@ ghost use Rattle.clap.specs.declared.builder.command.Command.TheViews.{out-Comma
 ghost use Rattle.clap.specs.Words.{FailsBy, app_of, fault_of, found_of, rows_of, rule_of, shape_of};
 ghost use Rattle.clap.specs.Words.{subcommand_rows_of};
 ghost use Rattle.command_line.specs.Asking as spec;
-ghost use Rattle.command_line.specs.View.{asked_of};
+ghost use Rattle.command_line.specs.View.{action_of, asked_of, server_view};
 
+use clap::builder::ValueParser;
 use clap::{Arg, ArgAction, ArgMatches, Command, Error};
 use std::alloc::{AllocError, Global};
 
-/// What is done with a text.
-#[derive(Debug, Clone, Copy, PartialEq, Eq)]
-pub enum Task {
-    /// It is played, and where `bytes` is set the bytes sent are told too.
+/// A port is a number from 1.
+const LEAST_PORT: u64 = 1;
+/// It has 16 bits.
+const MOST_PORT: u64 = 65_535;
+/// The most bytes that may be taken of one connection.
+const MOST_BYTES: u64 = 1_000_000_000_000;
+/// The bytes that are taken of one connection at most where nothing is said of them.
+const USUAL_BYTES: u64 = 1_000_000_000;
+/// The most connections that are served one after another.
+const MOST_CONNECTIONS: u64 = 1_000_000;
+/// The most seconds that a call may wait for the peer: a day.
+const MOST_SECONDS: u64 = 86_400;
+/// The host that is played on where none is named: this machine.
+const THIS_HOST: &str = "127.0.0.1";
+
+/// What is done with a text, or with a board.
+#[derive(Debug, Clone, Copy)]
+pub enum Task<'a> {
+    /// The text is played, and where `bytes` is set the bytes sent are told too.
     Play { bytes: bool },
-    /// It is only checked.
+    /// The text is only checked.
     Check,
+    /// The text is played over a connection of the program with itself.
+    Loop,
+    /// The board is served to clients.
+    Serve(Serving),
+    /// The text is played on a server.
+    Connect(Server<'a>),
+}
+
+/// How a board is served.
+#[derive(Debug, Clone, Copy)]
+pub struct Serving {
+    /// The port of this machine that clients connect to, 1 to 65,535.
+    pub port: u16,
+    /// The most bytes that are taken of one connection, 0 to 1,000,000,000,000.
+    pub at_most: u64,
+    /// The connections that are served, one after another, 1 to 1,000,000.
+    pub connections: u32,
+    /// The seconds that a read or a write waits for the client at most, 1 to 86,400; `None` for as long as it takes.
+    pub timeout: Option<u32>,
+}
+
+/// A server that a text is played on.
+#[derive(Debug, Clone, Copy)]
+pub struct Server<'a> {
+    /// Its name or address.
+    pub host: &'a str,
+    /// Its port, 1 to 65,535.
+    pub port: u16,
+    /// The seconds that a call waits for the server at most, 1 to 86,400; `None` for as long as it takes.
+    pub timeout: Option<u32>,
 }
 
 /// What the command line asks for.
@@ -26,14 +72,19 @@ pub struct Request<'a> {
     pub svf: Option<&'a str>,
     /// The board file, `None` for one bare device.
     pub board: Option<&'a str>,
-    /// What is done with it.
-    pub task: Task,
+    /// What is done.
+    pub task: Task<'a>,
 }
 
 /// Reads the words of a command line, of which the first is the program's name. Without any more it is `play --bytes`.
 ///
-/// Refused are words that the command line `play [FILE] [--board BOARD] [--bytes]`, or `check` without the last, does
-/// not take; a call for help comes as such an error too.
+/// The command line is one of
+/// - `play [FILE] [--board BOARD] [--bytes]`, `check [FILE] [--board BOARD]`, `loop [FILE] [--board BOARD]`,
+/// - `serve --board BOARD --port PORT [--at-most BYTES] [--connections COUNT] [--timeout SECONDS]`,
+/// - `connect [FILE] --port PORT [--host HOST] [--timeout SECONDS]`.
+///
+/// Refused are words that none of these takes, and a number that is not in its range; a call for help comes as such an
+/// error too.
 pub fn parse<'a>(alloc: Global, words: &'a [&'a str]) -> Result<Request<'a>, Error>
     // What the words ask for.
     ensures asked { IfOk result (λ r. asked_of r ≡ spec.asked (map (λ w. w.now) words.now)) }
@@ -63,15 +114,82 @@ fn request_of<'a>(matches: &ArgMatches<'a>) -> Request<'a>
 }
 
 /// What the subcommand of a name does.
-fn task_of(name: &str, found: &ArgMatches<'_>) -> Task
-    ensures { result ≡ spec.task_of name.now (rows_of (found_of found.now)) }
+fn task_of<'a>(name: &str, found: &ArgMatches<'a>) -> Task<'a>
+    ensures { action_of result ≡ spec.task_of name.now (rows_of (found_of found.now)) }
 {
-    if name == "check" {
-        return Task::Check;
+    match name {
+        "check" => Task::Check,
+        "loop" => Task::Loop,
+        "serve" => Task::Serve(serving_of(found)),
+        "connect" => Task::Connect(server_of(found)),
+        _ => Task::Play {
+            bytes: is_given(found, "bytes"),
+        },
     }
-    Task::Play {
-        bytes: is_given(found, "bytes"),
+}
+
+fn serving_of(found: &ArgMatches<'_>) -> Serving
+    ensures { result ≡ spec.serving_of (rows_of (found_of found.now)) }
+{
+    Serving {
+        port: port_of(found),
+        at_most: bytes_of(found),
+        connections: connections_of(found),
+        timeout: timeout_of(found),
     }
+}
+
+fn server_of<'a>(found: &ArgMatches<'a>) -> Server<'a>
+    ensures { server_view result ≡ spec.server_of (rows_of (found_of found.now)) }
+{
+    Server {
+        host: host_of(found),
+        port: port_of(found),
+        timeout: timeout_of(found),
+    }
+}
+
+fn host_of<'a>(found: &ArgMatches<'a>) -> &'a str
+    ensures { result.now ≡ spec.host_of (rows_of (found_of found.now)) }
+{
+    match found.get_str("host") {
+        Some(host) => host,
+        None => THIS_HOST,
+    }
+}
+
+/// The port; 0 where none is given, which no command line is taken without.
+fn port_of(found: &ArgMatches<'_>) -> u16
+    ensures { result ≡ spec.port_of (rows_of (found_of found.now)) }
+{
+    match found.get_one::<u16>("port") {
+        Some(port) => port,
+        None => 0,
+    }
+}
+
+fn bytes_of(found: &ArgMatches<'_>) -> u64
+    ensures { result ≡ spec.at_most_of (rows_of (found_of found.now)) }
+{
+    match found.get_one::<u64>("at-most") {
+        Some(bytes) => bytes,
+        None => USUAL_BYTES,
+    }
+}
+
+fn connections_of(found: &ArgMatches<'_>) -> u32
+    ensures { result ≡ spec.connections_of (rows_of (found_of found.now)) }
+{
+    match found.get_one::<u32>("connections") {
+        Some(connections) => connections,
+        None => 1,
+    }
+}
+
+fn timeout_of(found: &ArgMatches<'_>) -> Option<u32>
+    ensures { result ≡ spec.timeout_of (rows_of (found_of found.now)) }
+{
+    found.get_one::<u32>("timeout")
 }
 
 /// Whether a flag is given: its text is then `true`, and else `false`.
@@ -89,10 +207,16 @@ fn command<'a>(alloc: Global) -> Result<Command<'a>, AllocError>
 {
     let play = play_command(alloc)?;
     let check = check_command(alloc)?;
+    let round = loop_command(alloc)?;
+    let serve = serve_command(alloc)?;
+    let connect = connect_command(alloc)?;
     Command::new(alloc, "jt_tool")
         .about("Plays Serial Vector Format programs on a simulated boundary-scan board")
         .subcommand(play)?
-        .subcommand(check)
+        .subcommand(check)?
+        .subcommand(round)?
+        .subcommand(serve)?
+        .subcommand(connect)
 }
 
 fn play_command<'a>(alloc: Global) -> Result<Command<'a>, AllocError>
@@ -116,6 +240,45 @@ fn check_command<'a>(alloc: Global) -> Result<Command<'a>, AllocError>
         )
         .arg(svf_arg(alloc))?
         .arg(board_arg(alloc))
+}
+
+fn loop_command<'a>(alloc: Global) -> Result<Command<'a>, AllocError>
+    ensures shape { IfOk result (λ c. shape_of c ≡ spec.loop) }
+    ensures local { IfOk result (λ c. (out-Command c).has_globals ≡ false) }
+{
+    Command::new(alloc, "loop")
+        .about(
+            "Plays a program over a socket of this machine, and prints the verdict and the board's report",
+        )
+        .arg(svf_arg(alloc))?
+        .arg(board_arg(alloc))
+}
+
+fn serve_command<'a>(alloc: Global) -> Result<Command<'a>, AllocError>
+    ensures shape { IfOk result (λ c. shape_of c ≡ spec.serve) }
+    ensures local { IfOk result (λ c. (out-Command c).has_globals ≡ false) }
+{
+    Command::new(alloc, "serve")
+        .about("Serves a board to clients on 127.0.0.1, by OpenOCD's remote_bitbang protocol")
+        .arg(served_board_arg(alloc))?
+        .arg(port_arg(alloc))?
+        .arg(at_most_arg(alloc))?
+        .arg(connections_arg(alloc))?
+        .arg(timeout_arg(alloc))
+}
+
+fn connect_command<'a>(alloc: Global) -> Result<Command<'a>, AllocError>
+    ensures shape { IfOk result (λ c. shape_of c ≡ spec.connect) }
+    ensures local { IfOk result (λ c. (out-Command c).has_globals ≡ false) }
+{
+    Command::new(alloc, "connect")
+        .about(
+            "Plays a program on a server of OpenOCD's remote_bitbang protocol, and prints the verdict",
+        )
+        .arg(svf_arg(alloc))?
+        .arg(port_arg(alloc))?
+        .arg(host_arg(alloc))?
+        .arg(timeout_arg(alloc))
 }
 
 fn bytes_arg<'a>(alloc: Global) -> Arg<'a>
@@ -145,4 +308,72 @@ fn svf_arg<'a>(alloc: Global) -> Arg<'a>
     Arg::new(alloc, "svf").action(ArgAction::Set).help(
         "The file of the program; standard input where none is named",
     )
+}
+
+fn served_board_arg<'a>(alloc: Global) -> Arg<'a>
+    ensures rule { rule_of result ≡ spec.served_board }
+    ensures local { result.global ≡ false }
+{
+    Arg::new(alloc, "board")
+        .long("board")
+        .required(true)
+        .action(ArgAction::Set)
+        .help("The board file")
+}
+
+fn port_arg<'a>(alloc: Global) -> Arg<'a>
+    ensures rule { rule_of result ≡ spec.port }
+    ensures local { result.global ≡ false }
+{
+    Arg::new(alloc, "port")
+        .long("port")
+        .required(true)
+        .action(ArgAction::Set)
+        .value_parser(ValueParser::Unsigned(LEAST_PORT, MOST_PORT))
+        .help("The port, 1 to 65535")
+}
+
+fn at_most_arg<'a>(alloc: Global) -> Arg<'a>
+    ensures rule { rule_of result ≡ spec.at_most }
+    ensures local { result.global ≡ false }
+{
+    Arg::new(alloc, "at-most")
+        .long("at-most")
+        .action(ArgAction::Set)
+        .value_parser(ValueParser::Unsigned(0, MOST_BYTES))
+        .help("The most bytes that are taken of one connection; 1000000000 where none are named")
+}
+
+fn connections_arg<'a>(alloc: Global) -> Arg<'a>
+    ensures rule { rule_of result ≡ spec.connections }
+    ensures local { result.global ≡ false }
+{
+    Arg::new(alloc, "connections")
+        .long("connections")
+        .action(ArgAction::Set)
+        .value_parser(ValueParser::Unsigned(1, MOST_CONNECTIONS))
+        .help("The connections that are served, one after another; 1 where none are named")
+}
+
+fn timeout_arg<'a>(alloc: Global) -> Arg<'a>
+    ensures rule { rule_of result ≡ spec.timeout }
+    ensures local { result.global ≡ false }
+{
+    Arg::new(alloc, "timeout")
+        .long("timeout")
+        .action(ArgAction::Set)
+        .value_parser(ValueParser::Unsigned(1, MOST_SECONDS))
+        .help(
+            "The seconds after which a peer that says nothing is lost; never where none are named",
+        )
+}
+
+fn host_arg<'a>(alloc: Global) -> Arg<'a>
+    ensures rule { rule_of result ≡ spec.host }
+    ensures local { result.global ≡ false }
+{
+    Arg::new(alloc, "host")
+        .long("host")
+        .action(ArgAction::Set)
+        .help("The server's name or address; 127.0.0.1 where none is named")
 }

@@ -8,9 +8,9 @@ mod refusing;
 mod run;
 mod showing;
 
+pub use byte_ends::{Both, End, Sink, Source};
 pub use direct_play::accept;
 pub use headline::{every_schedule_means_what_the_text_means, what_events_leave_is_in_use};
-pub use byte_ends::{Both, End, Sink, Source};
 pub use joined::{Event, Joined, Standing, Unjoined};
 pub use jt_board::{
     Board, BoardFault, Broken, BsdlFault, Counted, Level, Reply, Snapshot, bsdl_names, write_report,

@@ -41,7 +41,7 @@ pub fn run_over<R: Source, W: Sink, O: Sink>(
     requires out_whole { out.old.failures ≡ 0 }
     ensures { (ending : end.Ending)
         × PlaysOver W.puts R.hears W.contents R.remaining writer.old writer.new reader.old reader.new
-            (program_of program) ending
+        (program_of program) ending
         × Tells O.contents out.old out.new (verdict_line ending) (status_of ending) result }
 {
     let ending = play_over(reader, writer, fresh_player(alloc, program));
@@ -66,7 +66,7 @@ pub fn run_loop<P: End, B: End, O: Sink>(
     requires out_whole { out.old.failures ≡ 0 }
     ensures { (ending : end.Ending)
         × LoopsOver P.puts P.hears B.puts B.hears player_end.old player_end.new board_end.old board_end.new
-            (program_of program) board.old board.new ending
+        (program_of program) board.old board.new ending
         × Tells O.contents out.old out.new (verdict_line ending ++ report board.new) (status_of ending) result }
 {
     let ending = loop_over(player_end, board_end, fresh_player(alloc, program), board);
@@ -89,7 +89,7 @@ pub fn run_serve<R: Source, W: Sink, O: Sink>(
     requires out_whole { out.old.failures ≡ 0 }
     ensures { (served : serving.Served)
         × ServesOver W.puts R.hears W.contents R.remaining writer.old writer.new reader.old reader.new board.old
-            board.new max_bytes served
+        board.new max_bytes served
         × Tells O.contents out.old out.new (served_line served) (served_status served) result }
 {
     let served = serve_over(reader, writer, board, max_bytes);
@@ -133,11 +133,7 @@ pub fn tell_played<O: Sink>(
 }
 
 /// Writes the line of a verdict and the report of a board.
-fn write_played<O: Sink>(
-    ending: Ending,
-    board: &Board,
-    out: &mut Counted<O>,
-) -> Result<(), Broken>
+fn write_played<O: Sink>(ending: Ending, board: &Board, out: &mut Counted<O>) -> Result<(), Broken>
     requires { out.old.failures ≡ 0 }
     ensures { WritesAll O.contents out.old out.new (verdict_line ending ++ report board.now) result }
 {

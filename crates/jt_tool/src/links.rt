@@ -1,6 +1,5 @@
 //! The connections of the program: as a client, as a server, and with itself.
 
-use byte_ends::Counted;
 use command_line::Server;
 use std::io;
 use std::io::ErrorKind;
@@ -11,9 +10,10 @@ use std::time::Duration;
 const ANY_PORT: u16 = 0;
 
 /// A connection, read and written by a handle each.
+#[derive(Drop)]
 pub(crate) struct Link {
-    pub(crate) reader: Counted<TcpStream>,
-    pub(crate) writer: Counted<TcpStream>,
+    pub(crate) reader: TcpStream,
+    pub(crate) writer: TcpStream,
 }
 
 impl Link {
@@ -24,8 +24,8 @@ impl Link {
         stream.set_read_timeout(timeout)?;
         stream.set_write_timeout(timeout)?;
         Ok(Link {
-            reader: Counted::new(stream.try_clone()?),
-            writer: Counted::new(stream),
+            reader: stream.try_clone()?,
+            writer: stream,
         })
     }
 }
@@ -62,13 +62,13 @@ pub(crate) fn accept(listener: &TcpListener, timeout: Option<u32>) -> io::Result
 }
 
 /// Both ends of one connection of the program with itself: the player's, and the board's.
-pub(crate) fn pair(rt: &HostRuntime) -> io::Result<(Counted<TcpStream>, Counted<TcpStream>)> {
+pub(crate) fn pair(rt: &HostRuntime) -> io::Result<(TcpStream, TcpStream)> {
     let listener = listen(rt, ANY_PORT)?;
     let player_end = TcpStream::connect(rt, listener.local_addr()?)?;
     let (board_end, _) = listener.accept()?;
     player_end.set_nodelay(true)?;
     board_end.set_nodelay(true)?;
-    Ok((Counted::new(player_end), Counted::new(board_end)))
+    Ok((player_end, board_end))
 }
 
 fn duration(seconds: u32) -> Duration {

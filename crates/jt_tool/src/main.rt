@@ -9,9 +9,11 @@ use crate::links::{accept, connect, listen, pair};
 use byte_ends::{Broken, Counted, Plain};
 use clap::error::ErrorKind as WordsFault;
 use command_line::{Request, Server, Serving, Task, parse};
-use jt_player::{Board, Ending, Program, Served, accept as accept_text, refuse_file, refuse_memory};
-use jt_player::{refuse_text, run_check, run_loop, run_over, run_play, run_serve, tell_listening};
-use jt_player::{tell_played, tell_served, tell_verdict, write_report};
+use jt_player::{
+    Board, Ending, Program, Served, accept as accept_text, refuse_file, refuse_memory, refuse_text,
+    run_check, run_loop, run_over, run_play, run_serve, tell_listening, tell_played, tell_served,
+    tell_verdict, write_report,
+};
 use program_input::{InputFault, command_words, read_text};
 use std::alloc::Global;
 use std::io::ErrorKind;
@@ -87,24 +89,33 @@ fn run_request(rt: &HostRuntime, alloc: Global, request: &Request<'_>) -> u8 {
 
 /// Does with a board what is asked for.
 fn run_board(rt: &HostRuntime, alloc: Global, request: &Request<'_>, mut board: Board) -> u8 {
-    if let Task::Serve(serving) = request.task {
-        return serve(rt, &mut board, serving).unwrap_or(BROKEN);
-    }
-    if request.task == Task::Loop {
-        return match read_program(rt, alloc, request.svf) {
+    match request.task {
+        Task::Serve(serving) => serve(rt, &mut board, serving).unwrap_or(BROKEN),
+        Task::Loop => match read_program(rt, alloc, request.svf) {
             Ok(program) => loop_over_socket(rt, alloc, program, &mut board),
             Err(status) => status,
-        };
+        },
+        task => run_text(rt, alloc, request.svf, task, &mut board),
     }
-    let text = match read_text(rt, alloc, request.svf) {
+}
+
+/// Plays a text on a board, or checks it.
+fn run_text(
+    rt: &HostRuntime,
+    alloc: Global,
+    name: Option<&str>,
+    task: Task<'_>,
+    board: &mut Board,
+) -> u8 {
+    let text = match read_text(rt, alloc, name) {
         Ok(text) => text,
-        Err(fault) => return refuse_input(rt, request.svf.unwrap_or("-"), fault),
+        Err(fault) => return refuse_input(rt, name.unwrap_or("-"), fault),
     };
     let mut out = Counted::new(Plain(io::writer(rt)));
     let mut err = Counted::new(Plain(rt.stderr()));
-    let status = match request.task {
-        Task::Play { bytes } => run_play(alloc, &text, &mut board, bytes, &mut out, &mut err),
-        _ => run_check(alloc, &text, &board, &mut out, &mut err),
+    let status = match task {
+        Task::Play { bytes } => run_play(alloc, &text, board, bytes, &mut out, &mut err),
+        _ => run_check(alloc, &text, board, &mut out, &mut err),
     };
     status.unwrap_or(BROKEN)
 }
@@ -129,13 +140,11 @@ fn read_program(rt: &HostRuntime, alloc: Global, name: Option<&str>) -> Result<P
 fn play_on_server(rt: &HostRuntime, alloc: Global, program: Program, server: Server<'_>) -> u8 {
     let mut out = Counted::new(Plain(io::writer(rt)));
     let status = match connect(rt, server) {
-        Ok(mut link) => run_over(
-            alloc,
-            program,
-            &mut link.reader,
-            &mut link.writer,
-            &mut out,
-        ),
+        Ok(link) => {
+            let mut reader = Counted::new(link.reader);
+            let mut writer = Counted::new(link.writer);
+            run_over(alloc, program, &mut reader, &mut writer, &mut out)
+        }
         Err(_) => tell_verdict(UNREACHED, &mut out),
     };
     status.unwrap_or(BROKEN)
@@ -145,14 +154,18 @@ fn play_on_server(rt: &HostRuntime, alloc: Global, program: Program, server: Ser
 fn loop_over_socket(rt: &HostRuntime, alloc: Global, program: Program, board: &mut Board) -> u8 {
     let mut out = Counted::new(Plain(io::writer(rt)));
     let status = match pair(rt) {
-        Ok((mut player_end, mut board_end)) => run_loop(
-            alloc,
-            program,
-            &mut player_end,
-            &mut board_end,
-            board,
-            &mut out,
-        ),
+        Ok((player, server)) => {
+            let mut player_end = Counted::new(player);
+            let mut board_end = Counted::new(server);
+            run_loop(
+                alloc,
+                program,
+                &mut player_end,
+                &mut board_end,
+                board,
+                &mut out,
+            )
+        }
         Err(_) => tell_played(UNREACHED, board, &mut out),
     };
     status.unwrap_or(BROKEN)
@@ -172,6 +185,7 @@ fn serve(rt: &HostRuntime, board: &mut Board, serving: Serving) -> Result<u8, Br
     Ok(status)
 }
 
+/// Serves as many clients as are wanted. Answers the greatest exit status that one of them ended with.
 fn serve_clients(
     rt: &HostRuntime,
     listener: &TcpListener,
@@ -180,20 +194,28 @@ fn serve_clients(
 ) -> Result<u8, Broken> {
     let mut worst = DONE;
     for _ in 0..serving.connections {
-        let mut out = Counted::new(Plain(io::writer(rt)));
-        let status = match accept(listener, serving.timeout) {
-            Ok(mut link) => run_serve(
-                board,
-                &mut link.reader,
-                &mut link.writer,
-                serving.at_most,
-                &mut out,
-            )?,
-            Err(_) => tell_served(Served::Broken, &mut out)?,
-        };
+        let status = serve_client(rt, listener, board, serving)?;
         worst = worst.max(status);
     }
     Ok(worst)
+}
+
+/// Waits for a client and serves it. Answers the exit status.
+fn serve_client(
+    rt: &HostRuntime,
+    listener: &TcpListener,
+    board: &mut Board,
+    serving: Serving,
+) -> Result<u8, Broken> {
+    let mut out = Counted::new(Plain(io::writer(rt)));
+    match accept(listener, serving.timeout) {
+        Ok(link) => {
+            let mut reader = Counted::new(link.reader);
+            let mut writer = Counted::new(link.writer);
+            run_serve(board, &mut reader, &mut writer, serving.at_most, &mut out)
+        }
+        Err(_) => tell_served(Served::Broken, &mut out),
+    }
 }
 
 /// Tells why no board was made. Answers the exit status.

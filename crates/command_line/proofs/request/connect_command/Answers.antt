@@ -1,0 +1,15 @@
+use Rattle.std.proofs.Common.{◌≡◌, ap, ◌∙◌, codes}
+use Rattle.clap.specs.Simple.{app_of_fields}
+use Rattle.clap.specs.Words.{app_of, new_app, with_rule}
+use Rattle.command_line.specs.Asking.{host, port, svf, timeout}
+use Rattle.command_line.proofs.CommandLaws.{with_argument, with_last_argument}
+use Rattle.command_line.proofs.request.connect_command.Goals as goal
+
+pub returns-clause-shape : goal.returns-clause-shape
+returns-clause-shape c =
+    let none = new_app (codes "connect") in
+    let named : app_of c.about.result ≡ none = ap app_of_fields c.about.ensures ∙ c.new.ensures.app in
+    let arg0 = with_argument c.about.result c.in_ok-arg.field-0 c.svf_arg.result (none) svf c.in_ok-arg.ensures c.svf_arg.ensures.local c.svf_arg.ensures.rule named in
+    let arg1 = with_argument c.in_ok-arg.field-0 c.in_ok-arg-2.field-0 c.port_arg.result (with_rule (none) svf) port c.in_ok-arg-2.ensures c.port_arg.ensures.local c.port_arg.ensures.rule arg0 in
+    let arg2 = with_argument c.in_ok-arg-2.field-0 c.in_ok-arg-3.field-0 c.host_arg.result (with_rule (with_rule (none) svf) port) host c.in_ok-arg-3.ensures c.host_arg.ensures.local c.host_arg.ensures.rule arg1 in
+    with_last_argument c.in_ok-arg-3.field-0 c.timeout_arg.result (with_rule (with_rule (with_rule (none) svf) port) host) timeout c.arg-4.result c.arg-4.ensures c.timeout_arg.ensures.local c.timeout_arg.ensures.rule arg2

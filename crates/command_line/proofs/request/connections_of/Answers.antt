@@ -1,0 +1,24 @@
+use Rattle.std.proofs.Common.{List, Result, ◌≡◌, ℕ, Option, Some, None, arith, ap, ◌∙◌, codes}
+use Rattle.std.specs.Prelude.{option_and_then, unwrap_or}
+use Rattle.std.specs.Str.Parse.{ExplainsUnsignedError, HasUnsignedDigitsIfOk, ParsesUnsigned}
+use Rattle.clap.specs.Words.{found_of, one_text, rows_of}
+use Rattle.clap.proofs.WalkLemmas.{one_text-rows}
+use Rattle.command_line.specs.Asking.{number, number_of}
+use Rattle.command_line.proofs.NumberLaws.{number-read}
+use Rattle.command_line.proofs.request.connections_of.Goals as goal
+
+pub returns-in-Some : goal.returns-in-Some
+returns-in-Some c =
+    let found = found_of c.args.found.now in
+    let read : Some c.in-Some.connections ≡ number_of 32 (codes "connections") (rows_of found) =
+    number-read _ (λ bs r. ParsesUnsigned 32 10 bs r × ExplainsUnsignedError 10 bs r × HasUnsignedDigitsIfOk bs r) 32 (λ u x g. g.0) (omega arith) (omega arith) (one_text found (codes "connections")) (Some c.in-Some.connections) c.in-Some.ensures.none c.in-Some.ensures.value
+    ∙ ap (option_and_then (number 32)) (one_text-rows found (codes "connections")) in
+    ap (λ (o : Option ℕ). unwrap_or o 1) read
+
+pub returns-in-None : goal.returns-in-None
+returns-in-None c =
+    let found = found_of c.args.found.now in
+    let read : None ≡ number_of 32 (codes "connections") (rows_of found) =
+    number-read _ (λ bs r. ParsesUnsigned 32 10 bs r × ExplainsUnsignedError 10 bs r × HasUnsignedDigitsIfOk bs r) 32 (λ u x g. g.0) (omega arith) (omega arith) (one_text found (codes "connections")) None c.in-None.ensures.none c.in-None.ensures.value
+    ∙ ap (option_and_then (number 32)) (one_text-rows found (codes "connections")) in
+    ap (λ (o : Option ℕ). unwrap_or o 1) read
