@@ -1,19 +1,18 @@
 //! Both ends of a connection, in turn and in one thread.
 
-ghost use Rattle.std.specs.Prelude.{◌≡◌, ◌<◌, ◌≤◌, ◌+◌, length, None};
+ghost use Rattle.std.specs.Prelude.{◌≡◌, ◌<◌, ◌≤◌, ◌+◌, length, not, None};
 ghost use Rattle.every_schedule.specs.Fronts.{IsFront};
-ghost use Rattle.plays.specs.Streams as stream;
-ghost use Rattle.play_links.specs.Turns.{GivesAll, HearsWhole, ServesTurn, SomeTurn, TakesTurn, fits_stream, Loops};
-ghost use Rattle.play_links.specs.Loops.{LoopsOver};
 ghost use Rattle.plays.specs.PlayingOn.{Stops};
+ghost use Rattle.plays.specs.Streams as stream;
 ghost use Rattle.plays.specs.Streams.{new_stream};
-ghost use Rattle.std.specs.Prelude.{not};
+ghost use Rattle.play_links.specs.Loops.{LoopsOver};
+ghost use Rattle.play_links.specs.Turns.{GivesAll, HearsWhole, Loops, ServesTurn, SomeTurn, TakesTurn, fits_stream};
 
 use crate::serving::{Served, take_bytes};
 use byte_ends::{Counted, End, Sink, Source, put_all};
 use jt_board::Board;
-use stream_player::Player;
 use plays::Ending;
+use stream_player::Player;
 
 /// The most bytes that go one way in a turn.
 const TURN: usize = 1024;
@@ -189,8 +188,13 @@ fn go_on<P: End, B: End>(
     true
 }
 
-/// Plays a fresh player's program on a board over the two ends of one connection, in turn and in one thread. What an
-/// end reads that the other did not write shows by what the board does with it, and loses the play.
+/// Plays a fresh player's program on a board over the two ends of one connection of which no call was lost, in turn and
+/// in one thread. Answers how the play ended.
+///
+/// In a turn at most 1,024 bytes go out at the player's end, as many are read at the board's end and taken, and their
+/// answers go back. The play is [`Ending::Lost`] at a call that fails, writes 0 bytes or meets the end of input, and
+/// where what the board read does not fit what the player wrote: it refuses a byte, meets a `Q` too early or none, or
+/// has fewer or more answers than the player is owed. The answers of that turn are not taken, and no call follows.
 pub fn loop_over<P: End, B: End>(
     player_end: &mut Counted<P>,
     board_end: &mut Counted<B>,
