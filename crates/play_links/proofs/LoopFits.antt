@@ -14,7 +14,7 @@ use Rattle.every_schedule.specs.Fronts.{IsFront}
 use Rattle.every_schedule.proofs.Fronts.{front-take}
 use Rattle.every_schedule.proofs.Quits.{has_quit, quit-append, quit-last, turns-no-quit}
 use Rattle.plays.specs.declared.ending.Ending.{Ending}
-use Rattle.plays.specs.Play.{play, sent, turns}
+use Rattle.plays.specs.Play.{sent, turns}
 use Rattle.plays.specs.Playing.{PlayerState, has_bad_answer, new_player}
 use Rattle.plays.specs.PlayingOn.{Stops}
 use Rattle.plays.proofs.Asks.{asks, hear-asks}

@@ -17,7 +17,7 @@ use Rattle.board_meaning.specs.Chain.{BoardState}
 use Rattle.byte_ends.specs.Writes.{AppendsFront, PutsAll, WritesAll}
 use Rattle.std.specs.Io.KnownBytes.{Appends, Consumes, ReadConsumes, WriteAppends}
 use Rattle.std.proofs.KnownBytes.{Appends-nil, Appends-trans, Consumes-nil, Consumes-trans}
-use Rattle.std.specs.Prelude.{◌&&◌, ◌||◌, Err, IsOk, is_err, is_ok}
+use Rattle.std.specs.Prelude.{◌&&◌, ◌||◌, Err, is_err, is_ok}
 use Rattle.play_links.proofs.CallSteps.{kept-end, lost-appends, lost-consumes, lost-counts, not-ended, some-kept, some-not-end}
 
 and-left : (a b : Bool) → (a && b) ≡ true → a ≡ true
