@@ -1,19 +1,18 @@
 //! Both ends of a connection, in turn and in one thread.
 
-ghost use Rattle.std.specs.Prelude.{◌≡◌, ◌<◌, ◌≤◌, ◌+◌, length, None};
+ghost use Rattle.std.specs.Prelude.{◌≡◌, ◌<◌, ◌≤◌, ◌+◌, length, not, None};
 ghost use Rattle.every_schedule.specs.Fronts.{IsFront};
-ghost use Rattle.plays.specs.Streams as stream;
-ghost use Rattle.play_links.specs.Turns.{GivesAll, HearsWhole, ServesTurn, SomeTurn, TakesTurn, fits_stream, Loops};
-ghost use Rattle.play_links.specs.Loops.{LoopsOver};
 ghost use Rattle.plays.specs.PlayingOn.{Stops};
+ghost use Rattle.plays.specs.Streams as stream;
 ghost use Rattle.plays.specs.Streams.{new_stream};
-ghost use Rattle.std.specs.Prelude.{not};
+ghost use Rattle.play_links.specs.Loops.{LoopsOver};
+ghost use Rattle.play_links.specs.Turns.{GivesAll, HearsWhole, Loops, ServesTurn, SomeTurn, TakesTurn, fits_stream};
 
 use crate::serving::{Served, take_bytes};
 use byte_ends::{Counted, End, Sink, Source, put_all};
 use jt_board::Board;
-use stream_player::Player;
 use plays::Ending;
+use stream_player::Player;
 
 /// The most bytes that go one way in a turn.
 const TURN: usize = 1024;
@@ -34,7 +33,7 @@ fn give_all<W: Sink>(writer: &mut Counted<W>, player: &mut Player, piece: &[u8])
     requires unlost { writer.old.failures ≡ 0 }
     requires few { length piece.now ≤ 1024 }
     requires front { IsFront piece.now (stream.bytes_to_send 256 player.old) }
-    ensures { GivesAll W.puts writer.old writer.new piece.now player.old player.new result }
+    ensures { GivesAll W.puts W.contents writer.old writer.new piece.now player.old player.new result }
 {
     let mut rest = piece;
     while !rest.is_empty() {
@@ -52,7 +51,7 @@ fn give_all<W: Sink>(writer: &mut Counted<W>, player: &mut Player, piece: &[u8])
 /// Fills a buffer, over reads that give only some of it. Answers whether it is full.
 fn hear_all<R: Source>(reader: &mut Counted<R>, buffer: &mut [u8]) -> bool
     requires { reader.old.failures ≡ 0 }
-    ensures { HearsWhole R.hears reader.old reader.new buffer.new result }
+    ensures { HearsWhole R.hears R.remaining reader.old reader.new buffer.new result }
 {
     let mut filled = 0;
     while filled < buffer.len() {
@@ -88,7 +87,8 @@ fn serve_turn<B: End>(
 ) -> bool
     requires unlost { end.old.failures ≡ 0 }
     requires room { length bytes.old ≤ length answers.old }
-    ensures { ServesTurn B.puts B.hears end.old end.new board.old board.new player.now (length bytes.old) result }
+    ensures { ServesTurn B.puts B.hears B.contents B.remaining end.old end.new board.old board.new player.now
+        (length bytes.old) result }
 {
     if !hear_all(end, bytes) {
         return false;
@@ -108,7 +108,7 @@ fn serve_turn<B: End>(
 fn take_back<P: Source>(end: &mut Counted<P>, player: &mut Player, back: &mut [u8]) -> bool
     requires unlost { end.old.failures ≡ 0 }
     requires owed { length back.old ≡ stream.owed 256 player.old }
-    ensures { TakesTurn P.hears end.old end.new player.old player.new result }
+    ensures { TakesTurn P.hears P.remaining end.old end.new player.old player.new result }
 {
     if !hear_all(end, back) {
         return false;
@@ -120,7 +120,7 @@ fn take_back<P: Source>(end: &mut Counted<P>, player: &mut Player, back: &mut [u
 /// The player's part of a turn, with room for all answers that may be owed.
 fn take_turn<P: Source>(end: &mut Counted<P>, player: &mut Player) -> bool
     requires { end.old.failures ≡ 0 }
-    ensures { TakesTurn P.hears end.old end.new player.old player.new result }
+    ensures { TakesTurn P.hears P.remaining end.old end.new player.old player.new result }
 {
     let mut back = [0; TURN];
     let owed = player.owed().min(TURN);
@@ -136,7 +136,8 @@ fn answer_turn<B: End>(
 ) -> bool
     requires unlost { end.old.failures ≡ 0 }
     requires few { length bytes.old ≤ 1024 }
-    ensures { ServesTurn B.puts B.hears end.old end.new board.old board.new player.now (length bytes.old) result }
+    ensures { ServesTurn B.puts B.hears B.contents B.remaining end.old end.new board.old board.new player.now
+        (length bytes.old) result }
 {
     let mut answers = [0; TURN];
     serve_turn(end, board, player, bytes, &mut answers)
@@ -153,7 +154,8 @@ fn turn<P: End, B: End>(
     requires board_end { board_end.old.failures ≡ 0 }
     requires going { stream.ending_of_stream 256 player.old ≡ None }
     requires unowed { stream.owed 256 player.old ≡ 0 }
-    ensures { SomeTurn P.puts P.hears B.puts B.hears player_end.old player_end.new board_end.old board_end.new board.old board.new player.old player.new result }
+    ensures { SomeTurn P.puts P.hears B.puts B.hears P.contents P.remaining B.contents B.remaining player_end.old
+        player_end.new board_end.old board_end.new board.old board.new player.old player.new result }
 {
     let mut bytes = [0; TURN];
     let count = player.show_bytes(&mut bytes);
@@ -179,7 +181,8 @@ fn go_on<P: End, B: End>(
     requires player_end { player_end.old.failures ≡ 0 }
     requires board_end { board_end.old.failures ≡ 0 }
     requires fresh { player.old ≡ new_stream Stops player.old.program }
-    ensures { Loops P.puts P.hears B.puts B.hears player_end.old player_end.new board_end.old board_end.new player.old.program board.old board.new player.new (not result) }
+    ensures { Loops P.puts P.hears B.puts B.hears P.contents P.remaining B.contents B.remaining player_end.old
+        player_end.new board_end.old board_end.new player.old.program board.old board.new player.new (not result) }
 {
     while player.ended().is_none() {
         if !turn(player_end, board_end, player, board) {
@@ -189,8 +192,13 @@ fn go_on<P: End, B: End>(
     true
 }
 
-/// Plays a fresh player's program on a board over the two ends of one connection, in turn and in one thread. What an
-/// end reads that the other did not write shows by what the board does with it, and loses the play.
+/// Plays a fresh player's program on a board over the two ends of one connection of which no call was lost, in turn and
+/// in one thread. Answers how the play ended.
+///
+/// In a turn at most 1,024 bytes go out at the player's end, as many are read at the board's end and taken, and their
+/// answers go back. The play is [`Ending::Lost`] at a call that fails, writes 0 bytes or meets the end of input, and
+/// where what the board read does not fit what the player wrote: it refuses a byte, meets a `Q` too early or none, or
+/// has fewer or more answers than the player is owed. The answers of that turn are not taken, and no call follows.
 pub fn loop_over<P: End, B: End>(
     player_end: &mut Counted<P>,
     board_end: &mut Counted<B>,
@@ -200,7 +208,8 @@ pub fn loop_over<P: End, B: End>(
     requires player_end { player_end.old.failures ≡ 0 }
     requires board_end { board_end.old.failures ≡ 0 }
     requires fresh { player ≡ new_stream Stops player.program }
-    ensures { LoopsOver P.puts P.hears B.puts B.hears player_end.old player_end.new board_end.old board_end.new player.program board.old board.new result }
+    ensures { LoopsOver P.puts P.hears B.puts B.hears P.contents P.remaining B.contents B.remaining player_end.old
+        player_end.new board_end.old board_end.new player.program board.old board.new result }
 {
     let mut player = player;
     if !go_on(player_end, board_end, &mut player, board) {

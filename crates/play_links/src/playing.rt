@@ -1,17 +1,16 @@
 //! The player's end of a connection.
 
-ghost use Rattle.std.specs.Prelude.{◌≡◌, ◌<◌, ◌≤◌, [], None, length};
+ghost use Rattle.std.specs.Prelude.{◌≡◌, ◌<◌, ◌≤◌, [], None, length, not};
 ghost use Rattle.every_schedule.specs.Fronts.{IsFront};
 ghost use Rattle.plays.specs.PlayingOn.{Stops};
 ghost use Rattle.plays.specs.Streams as stream;
 ghost use Rattle.plays.specs.Streams.{new_stream};
 ghost use Rattle.play_links.specs.Calls.{Goes, IsCall, IsHeard, IsPut};
 ghost use Rattle.play_links.specs.Links.{PlaysOver};
-ghost use Rattle.std.specs.Prelude.{not};
 
 use byte_ends::{Counted, Sink, Source};
-use stream_player::Player;
 use plays::Ending;
+use stream_player::Player;
 
 /// The most bytes that are handed to a writer, or asked of a reader, at once.
 const PIECE: usize = 1024;
@@ -58,7 +57,8 @@ fn call<R: Source, W: Sink>(
     requires reader { reader.old.failures ≡ 0 }
     requires writer { writer.old.failures ≡ 0 }
     requires going { stream.ending_of_stream 256 player.old ≡ None }
-    ensures { IsCall W.puts R.hears W.contents R.remaining writer.old writer.new reader.old reader.new player.old player.new result }
+    ensures { IsCall W.puts R.hears W.contents R.remaining writer.old writer.new reader.old reader.new player.old
+        player.new result }
 {
     let mut piece = [0; PIECE];
     let count = player.show_bytes(&mut piece);
@@ -78,7 +78,8 @@ fn go_on<R: Source, W: Sink>(
     requires reader { reader.old.failures ≡ 0 }
     requires writer { writer.old.failures ≡ 0 }
     requires fresh { player.old ≡ new_stream Stops player.old.program }
-    ensures { Goes W.puts R.hears W.contents R.remaining writer.old writer.new reader.old reader.new player.old.program player.new (not result) }
+    ensures { Goes W.puts R.hears W.contents R.remaining writer.old writer.new reader.old reader.new
+        player.old.program player.new (not result) }
 {
     while player.ended().is_none() {
         if !call(reader, writer, player) {
@@ -88,10 +89,11 @@ fn go_on<R: Source, W: Sink>(
     true
 }
 
-/// Plays a fresh player's program over a reader and a writer of which no call was lost.
+/// Plays a fresh player's program over a reader and a writer of which no call was lost. Answers how the play ended.
 ///
-/// What may be sent is written before anything is read, and no more answers are read than are owed. A call that is
-/// lost ends the play: the bytes that went out are then a front part of the play's.
+/// What may be sent is written before anything is read, and no more answers are read than are owed. A call that fails,
+/// writes 0 bytes or meets the end of input ends the play as [`Ending::Lost`], with the command in work, and no call
+/// follows it: what went out is then a front part of the play's bytes.
 pub fn play_over<R: Source, W: Sink>(
     reader: &mut Counted<R>,
     writer: &mut Counted<W>,
@@ -100,7 +102,8 @@ pub fn play_over<R: Source, W: Sink>(
     requires reader { reader.old.failures ≡ 0 }
     requires writer { writer.old.failures ≡ 0 }
     requires fresh { player ≡ new_stream Stops player.program }
-    ensures { PlaysOver W.puts R.hears W.contents R.remaining writer.old writer.new reader.old reader.new player.program result }
+    ensures { PlaysOver W.puts R.hears W.contents R.remaining writer.old writer.new reader.old reader.new
+        player.program result }
 {
     let mut player = player;
     if !go_on(reader, writer, &mut player) {
