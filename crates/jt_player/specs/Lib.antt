@@ -2,3 +2,4 @@ pub mod Showing
 pub mod Running
 pub mod Headline
 pub mod Linking
+pub mod Stopping

@@ -7,6 +7,7 @@ mod play;
 mod refusing;
 mod run;
 mod showing;
+mod stop;
 
 pub use byte_ends::{Both, End, Sink, Source};
 pub use direct_play::accept;
@@ -20,7 +21,8 @@ pub use linking::{
 };
 pub use play::{play_board, play_noted};
 pub use play_links::{
-    Served, a_loop_over_linked_ends_means_the_program,
+    Served, a_loop_over_linked_ends_is_lost_only_by_a_lost_call,
+    a_loop_over_linked_ends_means_the_program,
     a_loss_over_an_honest_link_names_what_is_in_work, an_end_is_whole,
     an_honest_end_is_the_full_plays, an_honest_end_means_the_program,
     an_honest_link_stays_inside_the_full_play, an_honest_play_served_is_the_full_play,
@@ -30,6 +32,7 @@ pub use plays::Ending;
 pub use refusing::{refuse_board, refuse_file, refuse_memory};
 pub use run::{refuse_text, run_check, run_play};
 pub use scan_vectors::Part;
+pub use stop::Stop;
 pub use stream_player::Player;
 pub use svf_parse::{Code, SvfFault};
 pub use svf_programs::{Action, Program, Step};
