@@ -7,6 +7,8 @@
 #[cfg(test)]
 mod ends;
 #[cfg(test)]
+mod links;
+#[cfg(test)]
 mod pipes;
 #[cfg(test)]
 mod players;

@@ -1,0 +1,210 @@
+//! Plays over readers and writers that are lost at each byte, and boards that are served.
+
+use crate::players::player_of;
+use jt_player::{
+    Board, Both, Counted, Ending, Part, Served, Stop, loop_over, play_over, serve_over,
+};
+use std::alloc::Global;
+use std::process::Abort;
+use std::test::Fail;
+
+/// A scan of two bits, both wanted.
+const SCAN: &[u8] = b"SIR 2 TDI (3) TDO (1);";
+/// What its play sends to one bare device, and what that answers.
+const SENT: &[u8] = b"r2626262626004262604041R53R726040Q";
+
+const ANSWERS: &[u8] = b"10";
+
+/// Plays the scan: the writer is lost after `k` bytes, of which it takes `piece` a call. Answers the ending and the
+/// bytes that went out.
+fn played(
+    alloc: Global,
+    k: usize,
+    piece: usize,
+    answers: &[u8],
+) -> Result<(Ending, Vec<u8>), Fail> {
+    let mut writer = Counted::new(Stop::new(Vec::new(alloc), k, piece.max(1)));
+    let mut reader = Counted::new(answers);
+    let player = player_of(alloc, SCAN)?;
+    if !player.is_fresh() {
+        return Err("a used player")?;
+    }
+    let ending = play_over(&mut reader, &mut writer, player);
+    let stop = writer.into_inner();
+    Ok((ending, stop.inner))
+}
+
+/// Serves these bytes to a board, `max_bytes` of them at most. Answers how that ended and what the board wrote.
+fn served(alloc: Global, board: &mut Board, bytes: &[u8], max_bytes: u64) -> (Served, Vec<u8>) {
+    let mut writer = Counted::new(Vec::new(alloc));
+    let mut reader = Counted::new(bytes);
+    let served = serve_over(&mut reader, &mut writer, board, max_bytes);
+    (served, writer.into_inner())
+}
+
+/// The command that a loss after so many bytes names: the opening's 12, the scan's 21, and `Q`.
+fn in_work(k: usize) -> usize {
+    match k {
+        0..12 => 0,
+        12..33 => 1,
+        _ => 2,
+    }
+}
+
+#[test]
+fn a_loss_at_each_byte_names_the_command_and_leaves_a_board_that_plays_on(
+    rt: HostRuntime,
+) -> Result<(), Fail> {
+    let alloc = rt.alloc();
+    for k in 0..35 {
+        for piece in [1, 3, 64] {
+            let (ending, bytes) = played(alloc, k, piece, ANSWERS)?;
+            let wanted = if k < SENT.len() {
+                Ending::Lost {
+                    command: in_work(k),
+                }
+            } else {
+                Ending::Pass
+            };
+            assert_eq!(rt; ending, wanted);
+            assert_eq!(rt; bytes.as_slice(), &SENT[..k.min(SENT.len())]);
+            let mut board = Board::bare(alloc, 1)?;
+            let (served_by, _) = served(alloc, &mut board, &bytes, 1000);
+            let wanted = if k < SENT.len() {
+                Served::Closed
+            } else {
+                Served::Quit
+            };
+            assert_eq!(rt; served_by, wanted);
+            let (served_by, answers) = served(alloc, &mut board, SENT, 1000);
+            assert_eq!(rt; served_by, Served::Quit);
+            assert_eq!(rt; answers.as_slice(), ANSWERS);
+            let (ending, _) = played(alloc, 1000, piece, &answers)?;
+            assert_eq!(rt; ending, Ending::Pass);
+        }
+    }
+    Ok(())
+}
+
+#[test]
+fn what_answers_a_play_is_told(rt: HostRuntime) -> Result<(), Fail> {
+    let lost = Ending::Lost { command: 1 };
+    let fail = |bit| Ending::Fail {
+        command: 1,
+        part: Part::Data,
+        bit,
+    };
+    let bad = Ending::BadAnswer {
+        command: 1,
+        byte: b'x',
+    };
+    let cases: [(&[u8], Ending, usize); 5] = [
+        (b"", lost, 33),
+        (b"1", lost, 33),
+        (b"00", fail(0), 34),
+        (b"11", fail(1), 34),
+        (b"1x", bad, 33),
+    ];
+    for (answers, wanted, count) in cases {
+        let (ending, bytes) = played(rt.alloc(), 1000, 64, answers)?;
+        assert_eq!(rt; ending, wanted);
+        assert_eq!(rt; bytes.as_slice(), &SENT[..count]);
+    }
+    Ok(())
+}
+
+#[test]
+fn how_serving_ends_is_told(rt: HostRuntime) -> Result<(), Fail> {
+    let cases: [(&[u8], u64, Served, &[u8]); 6] = [
+        (SENT, 1000, Served::Quit, ANSWERS),
+        (b"R", 1000, Served::Closed, b"1"),
+        (b"RZR", 1000, Served::Refused(b'Z'), b"1"),
+        (b"Z", 1000, Served::Refused(b'Z'), b""),
+        (SENT, 0, Served::Bound, b""),
+        (SENT, 12, Served::Bound, b""),
+    ];
+    for (bytes, max_bytes, wanted, answers) in cases {
+        let mut board = Board::bare(rt.alloc(), 1)?;
+        let (ended, wrote) = served(rt.alloc(), &mut board, bytes, max_bytes);
+        assert_eq!(rt; ended, wanted);
+        assert_eq!(rt; wrote.as_slice(), answers);
+    }
+    Ok(())
+}
+
+#[test]
+fn a_read_or_a_write_that_fails_breaks_serving(rt: HostRuntime) -> Result<(), Fail> {
+    let mut board = Board::bare(rt.alloc(), 1)?;
+    let mut writer = Counted::new(Vec::new(rt.alloc()));
+    let mut reader = Counted::new(Stop::new(SENT, 1, 1));
+    assert_eq!(rt;
+        serve_over(&mut reader, &mut writer, &mut board, 1000),
+        Served::Broken
+    );
+    assert_eq!(rt; writer.into_inner().len(), 0);
+    let mut writer = Counted::new(Stop::new(Vec::new(rt.alloc()), 1, 1));
+    let mut reader = Counted::new(SENT);
+    assert_eq!(rt;
+        serve_over(&mut reader, &mut writer, &mut board, 1000),
+        Served::Broken
+    );
+    let stop = writer.into_inner();
+    assert_eq!(rt; stop.inner.as_slice(), &ANSWERS[..1]);
+    Ok(())
+}
+
+#[test]
+fn a_bound_is_kept_and_the_rest_can_be_taken_later(rt: HostRuntime) -> Result<(), Fail> {
+    let mut board = Board::bare(rt.alloc(), 1)?;
+    let mut writer = Counted::new(Vec::new(rt.alloc()));
+    let mut reader = Counted::new(SENT);
+    assert_eq!(rt;
+        serve_over(&mut reader, &mut writer, &mut board, 12),
+        Served::Bound
+    );
+    let (ended, wrote) = served(rt.alloc(), &mut board, reader.into_inner(), 22);
+    assert_eq!(rt; ended, Served::Quit);
+    assert_eq!(rt; wrote.as_slice(), ANSWERS);
+    Ok(())
+}
+
+/// Plays the scan over two ends of memory: the board's end holds `down`, the player's `up`, and the board's end is lost
+/// after `k` bytes that it writes.
+fn looped(alloc: Global, down: &[u8], up: &[u8], k: usize) -> Result<Ending, Fail> {
+    let mut player_end = Counted::new(Both {
+        reader: up,
+        writer: Vec::new(alloc),
+    });
+    let mut board_end = Counted::new(Both {
+        reader: down,
+        writer: Stop::new(Vec::new(alloc), k, 1),
+    });
+    let mut board = Board::bare(alloc, 1)?;
+    let player = player_of(alloc, SCAN)?;
+    if !player.is_fresh() {
+        return Err("a used player")?;
+    }
+    Ok(loop_over(&mut player_end, &mut board_end, player, &mut board))
+}
+
+#[test]
+fn a_loop_shows_what_its_ends_did_not_write(rt: HostRuntime) -> Result<(), Fail> {
+    let alloc = rt.alloc();
+    let lost = Ending::Lost { command: 1 };
+    assert_eq!(rt; looped(alloc, SENT, ANSWERS, 1000)?, Ending::Pass);
+    assert_eq!(rt; looped(alloc, SENT, b"1", 1000)?, lost);
+    assert_eq!(rt; looped(alloc, SENT, ANSWERS, 1)?, lost);
+    assert_eq!(rt;
+        looped(alloc, b"r2626262626004262604041R53Z726040Q", ANSWERS, 1000)?,
+        lost
+    );
+    assert_eq!(rt;
+        looped(alloc, b"r2626262626004262604041R530726040Q", ANSWERS, 1000)?,
+        lost
+    );
+    assert_eq!(rt;
+        looped(alloc, b"r2626262626004262604041R53R72604QQ", ANSWERS, 1000)?,
+        lost
+    );
+    Ok(())
+}
