@@ -201,7 +201,7 @@ static void serve(int fd) {
 			if (in[k] >= '0' && in[k] <= '7') edge(in[k] >> 2 & 1, in[k] >> 1 & 1, in[k] & 1);
 			else if (in[k] == 'R') answers[given++] = (char)('0' + chip[0].tdo);
 			else if (in[k] == 'Q') ended = 1;
-			else if (in[k] != 'r') fail("a byte of no meaning here");
+			else if (!strchr("rBb", in[k])) fail("a byte of no meaning here");
 		}
 		for (size_t done = 0; done < given;) {
 			ssize_t m = send(fd, answers + done, given - done, MSG_NOSIGNAL);
