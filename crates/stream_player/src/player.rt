@@ -69,8 +69,8 @@ impl Player {
         count
     }
 
-    /// Fills the buffer as `next_bytes` does, and gives nothing out: a link shows its bytes to a writer first, and gives
-    /// out those that were taken.
+    /// Fills the buffer as `next_bytes` does, and gives nothing out: a link shows its bytes to a writer first, and
+    /// gives out those that were taken.
     pub fn show_bytes(&self, buffer: &mut [u8]) -> usize
         ensures count { result ≡ min (length buffer.old) (length (bytes_to_send 256 self.now)) }
         ensures bytes { buffer.new ≡ take result (bytes_to_send 256 self.now) ++ drop result buffer.old }
