@@ -104,8 +104,8 @@ connect = record (new_shape (codes "connect")) { rules = svf ∷ port ∷ host �
 -- the program's command line
 abbrev pub jt_tool : App
 jt_tool =
-    with_subcommand (with_subcommand (with_subcommand (with_subcommand (with_subcommand (new_app (codes "jt_tool")) play)
-    check) loop) serve) connect
+    with_subcommand (with_subcommand (with_subcommand (with_subcommand
+    (with_subcommand (new_app (codes "jt_tool")) play) check) loop) serve) connect
 
 -- a server that is played on
 pub record Host : Type 0 where
