@@ -66,7 +66,7 @@ pub fn run_loop<P: End, B: End, O: Sink>(
     requires out_whole { out.old.failures ≡ 0 }
     ensures { (ending : end.Ending)
         × LoopsOver P.puts P.hears B.puts B.hears P.contents P.remaining B.contents B.remaining player_end.old
-            player_end.new board_end.old board_end.new (program_of program) board.old board.new ending
+        player_end.new board_end.old board_end.new (program_of program) board.old board.new ending
         × Tells O.contents out.old out.new (verdict_line ending ++ report board.new) (status_of ending) result }
 {
     let ending = loop_over(player_end, board_end, fresh_player(alloc, program), board);
