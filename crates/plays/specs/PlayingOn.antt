@@ -1,10 +1,11 @@
 -- A player that plays its program to the end, whatever fails, and the list of all that failed.
-use Rattle.std.specs.Prelude.{Bool, ℕ, List, [], ◌∷◌, ◌++◌, map, length, drop, None, if◌then◌else◌}
+use Rattle.std.specs.Prelude.{Bool, ℕ, List, [], ◌∷◌, ◌++◌, map, length, drop, None}
 use Rattle.svf_programs.specs.Steps.{Step, Scan, Numbered}
 use Rattle.plays.specs.Meaning.{after_step}
-use Rattle.scan_vectors.specs.Vector.{VectorBit, differs, tdis}
+use Rattle.scan_vectors.specs.Vector.{VectorBit, tdis}
 use Rattle.board_meaning.specs.Whole.{AtRest, capture, out, settle}
-use Rattle.scan_vectors.specs.declared.part.Part.{Part}
+pub use Rattle.scan_vectors.specs.Failures.{differing}
+pub use Rattle.scan_vectors.specs.declared.failures.Mismatch.{Mismatch}
 use Rattle.plays.specs.declared.ending.Ending.{Ending}
 use Rattle.plays.specs.declared.ending.Ending.TheVariants.{Pass, Fail}
 use Rattle.plays.specs.Play.{Turn, turns}
@@ -27,19 +28,6 @@ abbrev pub turns_for : Kind → List Numbered → List Turn
 turns_for Stops steps = turns steps
 turns_for PlaysOn steps = map unjudged (turns steps)
 
--- a wanted bit that did not come out
-pub record Mismatch : Type 0 where
-  pub command : ℕ
-  pub part : Part
-  pub place : ℕ
-
--- every bit whose wanted value differs from what came out
-abbrev pub differing : ℕ → List VectorBit → List Bool → List Mismatch
-differing command (v ∷ vs) (b ∷ bits) =
-    let rest = differing command vs bits in
-    if differs v.wanted b then record { command = command; part = v.part; place = v.place } ∷ rest else rest
-differing command _ _ = []
-
 -- Of all answers, those that differ, by command and then by place in the whole vector.
 abbrev pub failures : List Turn → List Bool → List Mismatch
 failures [] got = []
@@ -47,7 +35,7 @@ failures (t ∷ ts) got = differing t.command t.wants got ++ failures ts (drop (
 
 abbrev pub ending_of : List Mismatch → Ending
 ending_of [] = Pass
-ending_of (f ∷ fs) = Fail f.command f.part f.place
+ending_of (f ∷ fs) = Fail f.command f.part f.bit
 
 -- Over whole registers: every step, and all that differs.
 pub record OutcomeOfAll : Type 0 where

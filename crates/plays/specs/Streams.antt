@@ -5,6 +5,7 @@ use Rattle.std.specs.List.{list_any}
 use Rattle.bitbang_table.specs.declared.Message.{Message}
 use Rattle.bitbang_table.specs.declared.Message.TheVariants.{Quit}
 use Rattle.bitbang_table.specs.Protocol.{answer, encode}
+pub use Rattle.scan_vectors.specs.Failures.{Found, most_listed, none_found}
 use Rattle.scan_vectors.specs.Vector.{VectorBit, differs}
 use Rattle.plays.specs.declared.ending.Ending.{Ending}
 use Rattle.plays.specs.declared.ending.Ending.TheVariants.{BadAnswer}
@@ -14,15 +15,11 @@ use Rattle.plays.specs.Playing.{up_to_bad}
 use Rattle.svf_programs.specs.Steps.{Program}
 use Rattle.plays.specs.PlayingOn.{Kind, Stops, PlaysOn, Mismatch, ending_of}
 
--- Of the bits that differed, the first ones, and how many they were; a player that stops counts no further than to the
--- first.
-pub record Found : Type 0 where
-  pub list : List Mismatch
-  pub total : ℕ
-
+-- Of all failures a player that stops keeps the first and counts no further; one that plays on counts all and lists the
+-- first ones.
 abbrev pub most_kept : Kind → ℕ
 most_kept Stops = 1
-most_kept PlaysOn = 256
+most_kept PlaysOn = most_listed
 
 abbrev pub count_kept : Kind → ℕ → ℕ
 count_kept Stops n = min 1 n
@@ -52,7 +49,7 @@ new_stream kind program = record {
   kind = kind;
   given = 0;
   answered = 0;
-  found = record { list = []; total = 0 };
+  found = none_found;
   bad = None;
 }
 
@@ -73,7 +70,7 @@ all_wanted (t ∷ ts) = map (λ v. record { command = t.command; bit = v }) t.wa
 abbrev pub mismatch_of : List Wanted → Bool → List Mismatch
 mismatch_of [] b = []
 mismatch_of (w ∷ ws) b = if differs w.bit.wanted b
-    then record { command = w.command; part = w.bit.part; place = w.bit.place } ∷ [] else []
+    then record { command = w.command; part = w.bit.part; bit = w.bit.place } ∷ [] else []
 
 -- the command that an answer belongs to, by its place among all answers
 abbrev pub command_at : List Turn → ℕ → ℕ

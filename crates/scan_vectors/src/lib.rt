@@ -10,10 +10,12 @@ ghost use Rattle.scan_vectors.specs.Fields.{vector_of};
 ghost use Rattle.scan_vectors.specs.Held.{bits, fields};
 
 use jt_bits::Bits;
+pub use failures::{Failures, Mismatch};
 pub use judging::{difference, next_wanted};
 pub use part::{Part, Part3, TdiRun, WantedRun};
 pub use vector::Vector;
 
+mod failures;
 mod judging;
 mod part;
 mod vector;

@@ -46,7 +46,7 @@ failing-turn command (v ∷ vs) ws [] = sym (failing-none ws)
 failing-turn command (v ∷ vs) ws (g ∷ got) = one (differs v.wanted g) (failing-turn command vs ws got)
   where
     m : Mismatch
-    m = record { command = command; part = v.part; place = v.place }
+    m = record { command = command; part = v.part; bit = v.place }
 
     one : (d : Bool)
         → failing (map (λ v. record { command = command; bit = v }) vs ++ ws) got ≡ differing command vs got ++ failing ws (drop (length vs) got)

@@ -12,6 +12,10 @@ vector_limit = 65536
 abbrev pub cycle_limit : ℕ
 cycle_limit = 4294967295
 
+-- steps of a program: a statement makes one at most, and is named by 32 bits
+abbrev pub step_limit : ℕ
+step_limit = 4294967295
+
 -- a step is within the limits
 abbrev pub IsWithin : Step → Type 0
 IsWithin (Scan column v end) = length v ≤ vector_limit
@@ -27,3 +31,8 @@ AllWithin steps = AllByRecursion (λ s. IsWithin s.what) steps
 pub record IsSound (steps : List Numbered) : Type 0 where
   pub legal : IsLegalProgram steps
   pub within : AllWithin steps
+
+-- sound, and so few steps that all their wanted bits are fewer than 2^64
+pub record IsKept (steps : List Numbered) : Type 0 where
+  pub sound : IsSound steps
+  pub few : length steps ≤ step_limit

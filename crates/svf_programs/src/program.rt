@@ -28,7 +28,7 @@ impl Model for Program {
 
     ghost use Rattle.svf_parse.specs.View.{said_of};
     ghost use Rattle.svf_programs.specs.Held.{numbered_in};
-    ghost use Rattle.svf_programs.specs.Sound.{IsSound};
+    ghost use Rattle.svf_programs.specs.Sound.{IsKept};
 
     ghost view = { λ p. record {
       statements = length p.statements.items;
@@ -36,22 +36,23 @@ impl Model for Program {
       held = sum_by content (map said_of p.statements.items);
     } };
 
-    ghost invariant = { λ p. IsSound (map (numbered_in (map said_of p.statements.items)) p.steps.items) };
+    ghost invariant = { λ p. IsKept (map (numbered_in (map said_of p.statements.items)) p.steps.items) };
 }
 
 impl Program {
-    ghost use Rattle.std.specs.Prelude.{◌≡◌, ◌<◌, length, map, slice_get, Some};
+    ghost use Rattle.std.specs.Prelude.{◌≡◌, ◌<◌, ◌≤◌, length, map, slice_get, Some};
     ghost use Rattle.svf_parse.specs.View.{said_of};
     ghost use Rattle.svf_programs.specs.Held.{numbered_in};
-    ghost use Rattle.svf_programs.specs.Sound.{IsSound};
+    ghost use Rattle.svf_programs.specs.Sound.{IsSound, step_limit};
     ghost use Rattle.svf_programs.specs.Seen.{numbered};
     ghost use Rattle.std.specs.List.{sum_by};
     ghost use Rattle.svf_programs.specs.Sizes.{content};
     ghost use Rattle.svf_programs.specs.Left.{left};
 
-    /// The program of these statements and steps.
+    /// The program of these statements and steps, which are sound (asked) and fewer than 2^32 (asked).
     pub fn of(statements: Vec<Statement>, steps: Vec<KeptStep>) -> Program
-        requires { IsSound (map (numbered_in (map said_of statements.items)) steps.items) }
+        requires sound { IsSound (map (numbered_in (map said_of statements.items)) steps.items) }
+        requires few { length steps.items ≤ step_limit }
         ensures { result ≡ record {
           statements = length statements.items;
           steps = map (numbered_in (map said_of statements.items)) steps.items;
@@ -72,6 +73,7 @@ impl Program {
     pub fn len(&self) -> usize
         ensures count { result ≡ length self.now.steps }
         ensures sound { IsSound self.now.steps }
+        ensures few { length self.now.steps ≤ step_limit }
     {
         self.steps.len()
     }

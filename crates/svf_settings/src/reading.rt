@@ -4,6 +4,7 @@ ghost use Rattle.std.specs.Prelude.{◌≡◌, ◌++◌, ◌+◌, ◌<◌, ◌�
 ghost use Rattle.std.specs.Prelude.{length, slice_get};
 ghost use Rattle.svf_parse.specs.View.{memory_fault, said_of};
 ghost use Rattle.svf_parse.specs.Judging.{Said};
+ghost use Rattle.svf_programs.specs.Sound.{step_limit};
 ghost use Rattle.svf_settings.specs.Reading.{IsBehind, Keeps, Takes, kept_as};
 
 use crate::running::Running;
@@ -67,7 +68,8 @@ impl Reader {
 
 /// The steps of statements, or their first refusal.
 pub(crate) fn kept_steps(alloc: Global, statements: &[Statement]) -> Result<Vec<KeptStep>, SvfFault>
-    ensures { Keeps (map said_of statements.now) result }
+    ensures keeps { Keeps (map said_of statements.now) result }
+    ensures few { IfOk result (λ steps. length steps.items ≤ step_limit) }
 {
     let mut steps = Vec::new(alloc);
     let mut reader = Reader::first();

@@ -7,11 +7,11 @@ use Rattle.svf_settings.proofs.FirstRefusals.{before, refused_at}
 use Rattle.svf_settings.proofs.reading.kept_steps.Goals as goal
 
 pub loop-index-init : goal.loop-index-init
-loop-index-init c = record {
+loop-index-init c = (record {
   behind = c.first-reader.ensures (map said_of c.args.statements.now);
   fine = refl;
   kept_are = rw c.new-steps.ensures.items refl;
-}
+}, omega arith)
 
 pub take-requires : goal.take-requires
 take-requires c =
@@ -26,8 +26,8 @@ returns-in-Err c = λ _.
     let at = said_at c.args.statements.now k c.index-statements-index.result c.loop-index-test.true c.index-statements-index.is in
     let l = length_before all k s at in
     let here = (rw c.in-Some.is at c.place_of.ensures.found).0 in
-    let taken = c.take.ensures (before k all) c.loop-index.invariant.behind (l ∙ sym here) in
-    refused_at all (before k all) k (k + 1) s c.in-Err.code (before_more all k s at) c.loop-index.invariant.fine (rw c.in-Err.is at taken) (ap (λ (m : ℕ). m + 1) (sym l))
+    let taken = c.take.ensures (before k all) c.loop-index.invariant.0.behind (l ∙ sym here) in
+    refused_at all (before k all) k (k + 1) s c.in-Err.code (before_more all k s at) c.loop-index.invariant.0.fine (rw c.in-Err.is at taken) (ap (λ (m : ℕ). m + 1) (sym l))
     ∙ ap (λ (f : SvfFault). Some f) (sym c.fault_at.ensures)
 
 pub loop-index-preserved : goal.loop-index-preserved
@@ -38,6 +38,6 @@ loop-index-preserved c =
     let at = said_at c.args.statements.now k c.index-statements-index.result c.loop-index-test.true c.index-statements-index.is in
     let l = length_before all k s at in
     let here = (rw c.in-Some.is at c.place_of.ensures.found).0 in
-    let taken = c.take.ensures (before k all) c.loop-index.invariant.behind (l ∙ sym here) in
-    rw (c.in-Ok-push_made.ensures, here)
-    (after_more all k s c.in-Ok.behind c.in-Ok.made c.loop-index.steps.items at c.loop-index.invariant.fine c.loop-index.invariant.kept_are (rw c.in-Ok.is at taken))
+    let taken = c.take.ensures (before k all) c.loop-index.invariant.0.behind (l ∙ sym here) in
+    (rw (c.in-Ok-push_made.ensures, here)
+    (after_more all k s c.in-Ok.behind c.in-Ok.made c.loop-index.steps.items at c.loop-index.invariant.0.fine c.loop-index.invariant.0.kept_are (rw c.in-Ok.is at taken)), omega (arith, c.place_of.ensures.found))
