@@ -9,8 +9,8 @@ ghost use Rattle.scan_vectors.specs.Vector as spec;
 ghost use Rattle.scan_vectors.specs.Fields.{vector_of};
 ghost use Rattle.scan_vectors.specs.Held.{bits, fields};
 
-use jt_bits::Bits;
 pub use failures::{Failures, Mismatch};
+use jt_bits::Bits;
 pub use judging::{difference, next_wanted};
 pub use part::{Part, Part3, TdiRun, WantedRun};
 pub use vector::Vector;
