@@ -1,7 +1,7 @@
 -- What is answered, and the program that is kept.
-use Rattle.std.proofs.Common.{◌≡◌, ◌≢◌, ℕ, List, [], ◌∷◌, map, length, reverse, refl, sym, ap, subst, ◌∙◌, Option, Some, None, Ok, Err, ◌+◌, ◌≤◌, arith, lit≤, length-append}
+use Rattle.std.proofs.Common.{◌≡◌, ◌≢◌, ℕ, List, [], ◌∷◌, map, length, reverse, take, min, refl, sym, ap, subst, ◌∙◌, Option, Some, None, Ok, Err, ◌+◌, ◌≤◌, arith, lit≤, length-append}
 use Rattle.std.specs.Prelude.{Result, IfOk, IfErr}
-use Rattle.std.proofs.lemmas.List.{length-map, length-reverse}
+use Rattle.std.proofs.lemmas.List.{length-map, length-reverse, length-take}
 use Rattle.svf_words.specs.declared.fault.SvfFault.{SvfFault}
 use Rattle.svf_parse.specs.Judging.{Said}
 use Rattle.svf_parse.specs.View.{memory_fault}
@@ -15,7 +15,7 @@ use Rattle.svf_parse.specs.Sizes.{size}
 use Rattle.svf_parse.specs.Judging as said
 use Rattle.std.specs.List.{sum_by}
 use Rattle.std.proofs.lemmas.List.Sums.{sum_by-cons}
-use Rattle.svf_settings.proofs.FirstRefusals.{resolves_is_function, refuses_is_function, accepted_is_sound}
+use Rattle.svf_settings.proofs.FirstRefusals.{before, resolves_is_function, refuses_is_function, accepted_is_sound}
 
 pub answers_found : (all : List Said) (r : Result Holding SvfFault) → Answers r (resolution all) → IfOk r (λ p. Resolves all (program_of p))
 answers_found all (Ok p) e = (resolves_is_function all (program_of p)).1 e
@@ -56,6 +56,9 @@ few_steps [] = lit≤ tt
 few_steps (s ∷ past) =
     let made = step_made (length past + 1) (step (settings past) s) in
     omega (arith, few_steps past, one_step (length past + 1) (step (settings past) s), length-append (steps past) made)
+
+pub few_before : (all : List Said) (k : ℕ) → length (steps (before k all)) ≤ k
+few_before all k = omega (arith, few_steps (before k all), length-reverse (take k all), length-take k all)
 
 sized : (s : Said) → size s ≡ 1 + content s
 sized (said.end_dr s) = refl

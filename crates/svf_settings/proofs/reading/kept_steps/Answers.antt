@@ -1,7 +1,10 @@
-use Rattle.std.proofs.Common.{◌+◌, ℕ, map, refl, sym, ap, ◌∙◌}
+use Rattle.std.proofs.Common.{◌+◌, ℕ, map, length, refl, sym, ap, ◌∙◌, arith}
 use Rattle.std.specs.Prelude.{Some}
 use Rattle.svf_words.specs.declared.fault.SvfFault.{SvfFault}
+use Rattle.std.proofs.lemmas.List.{length-map}
 use Rattle.svf_parse.specs.View.{said_of}
+use Rattle.svf_programs.specs.Held.{numbered_in}
+use Rattle.svf_settings.proofs.KeptPrograms.{few_before}
 use Rattle.svf_settings.proofs.OneStatementMore.{after_more, before_more, length_before, said_at}
 use Rattle.svf_settings.proofs.FirstRefusals.{before, refused_at}
 use Rattle.svf_settings.proofs.reading.kept_steps.Goals as goal
@@ -18,8 +21,8 @@ take-requires c =
     let here = (rw c.in-Some.is at c.place_of.ensures.found).0 in
     rw here (said_at c.args.statements.now c.loop-index.index c.index-statements-index.result c.loop-index-test.true c.index-statements-index.is)
 
-pub returns-in-Err : goal.returns-in-Err
-returns-in-Err c = λ _.
+pub returns-in-Err-clause-keeps : goal.returns-in-Err-clause-keeps
+returns-in-Err-clause-keeps c = λ _.
     let all = map said_of c.args.statements.now in
     let k = c.loop-index.index in
     let s = said_of c.index-statements-index.result in
@@ -40,4 +43,10 @@ loop-index-preserved c =
     let here = (rw c.in-Some.is at c.place_of.ensures.found).0 in
     let taken = c.take.ensures (before k all) c.loop-index.invariant.0.behind (l ∙ sym here) in
     (rw (c.in-Ok-push_made.ensures, here)
-    (after_more all k s c.in-Ok.behind c.in-Ok.made c.loop-index.steps.items at c.loop-index.invariant.0.fine c.loop-index.invariant.0.kept_are (rw c.in-Ok.is at taken)), omega (arith, c.place_of.ensures.found))
+    (after_more all k s c.in-Ok.behind c.in-Ok.made c.loop-index.steps.items at c.loop-index.invariant.0.fine c.loop-index.invariant.0.kept_are (rw c.in-Ok.is at taken)), omega (arith, (rw c.in-Some.is at c.place_of.ensures.found).1, here))
+
+pub returns-clause-few : goal.returns-clause-few
+returns-clause-few c =
+    let all = map said_of c.args.statements.now in
+    let kept = c.loop-index.steps.items in
+    omega (arith, c.loop-index.invariant.1, few_before all c.loop-index.index, ap length c.loop-index.invariant.0.kept_are, length-map kept (numbered_in all))
