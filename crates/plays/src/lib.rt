@@ -3,10 +3,12 @@
 #![tactic(auto)]
 
 mod ending;
+mod kind;
 mod laws;
 mod legal;
 
 pub use ending::Ending;
+pub use kind::Kind;
 pub use laws::{
     steps_ask_for_their_bits, the_empty_program_rests_every_board, the_full_play_is_both_ends,
     the_player_grows_by_answers,
