@@ -10,11 +10,14 @@ use Rattle.svf_settings.proofs.FirstRefusals.{before, refused_at}
 use Rattle.svf_settings.proofs.reading.kept_steps.Goals as goal
 
 pub loop-index-init : goal.loop-index-init
-loop-index-init c = (record {
-  behind = c.first-reader.ensures (map said_of c.args.statements.now);
-  fine = refl;
-  kept_are = rw c.new-steps.ensures.items refl;
-}, omega arith)
+loop-index-init c = (
+  record {
+    behind = c.first-reader.ensures (map said_of c.args.statements.now);
+    fine = refl;
+    kept_are = rw c.new-steps.ensures.items refl;
+  },
+  omega arith,
+)
 
 pub take-requires : goal.take-requires
 take-requires c =
@@ -41,9 +44,11 @@ loop-index-preserved c =
     let at = said_at c.args.statements.now k c.index-statements-index.result c.loop-index-test.true c.index-statements-index.is in
     let l = length_before all k s at in
     let here = (rw c.in-Some.is at c.place_of.ensures.found).0 in
-    let taken = c.take.ensures (before k all) c.loop-index.invariant.0.behind (l ∙ sym here) in
-    (rw (c.in-Ok-push_made.ensures, here)
-    (after_more all k s c.in-Ok.behind c.in-Ok.made c.loop-index.steps.items at c.loop-index.invariant.0.fine c.loop-index.invariant.0.kept_are (rw c.in-Ok.is at taken)), omega (arith, (rw c.in-Some.is at c.place_of.ensures.found).1, here))
+    let taken = c.take.ensures (before k all) c.loop-index.invariant.0.behind (l ∙ sym here) in (
+      rw (c.in-Ok-push_made.ensures, here)
+          (after_more all k s c.in-Ok.behind c.in-Ok.made c.loop-index.steps.items at c.loop-index.invariant.0.fine c.loop-index.invariant.0.kept_are (rw c.in-Ok.is at taken)),
+      omega (arith, (rw c.in-Some.is at c.place_of.ensures.found).1, here),
+    )
 
 pub returns-clause-few : goal.returns-clause-few
 returns-clause-few c =
