@@ -25,17 +25,21 @@ board = record (new_rule (codes "board")) { long = Some (codes "board"); action 
 abbrev pub bytes : Rule
 bytes = record (new_rule (codes "bytes")) { long = Some (codes "bytes"); action = Some SetTrue }
 
--- `play [FILE] [--board BOARD] [--bytes]`
+-- `[--all]`
+abbrev pub all : Rule
+all = record (new_rule (codes "all")) { long = Some (codes "all"); action = Some SetTrue }
+
+-- `play [FILE] [--board BOARD] [--bytes] [--all]`
 abbrev pub play : Shape
-play = record (new_shape (codes "play")) { rules = svf ∷ board ∷ bytes ∷ [] }
+play = record (new_shape (codes "play")) { rules = svf ∷ board ∷ bytes ∷ all ∷ [] }
 
 -- `check [FILE] [--board BOARD]`
 abbrev pub check : Shape
 check = record (new_shape (codes "check")) { rules = svf ∷ board ∷ [] }
 
--- `loop [FILE] [--board BOARD]`
+-- `loop [FILE] [--board BOARD] [--all]`
 abbrev pub loop : Shape
-loop = record (new_shape (codes "loop")) { rules = svf ∷ board ∷ [] }
+loop = record (new_shape (codes "loop")) { rules = svf ∷ board ∷ all ∷ [] }
 
 -- the numbers that are taken: ports, bytes of a connection, connections, and seconds of waiting
 abbrev pub ports : ValueParser
@@ -97,9 +101,9 @@ serve = record (new_shape (codes "serve")) {
   rules = served_board ∷ port ∷ at_most ∷ connections ∷ timeout ∷ [];
 }
 
--- `connect [FILE] --port PORT [--host HOST] [--timeout SECONDS]`
+-- `connect [FILE] --port PORT [--host HOST] [--timeout SECONDS] [--all]`
 abbrev pub connect : Shape
-connect = record (new_shape (codes "connect")) { rules = svf ∷ port ∷ host ∷ timeout ∷ [] }
+connect = record (new_shape (codes "connect")) { rules = svf ∷ port ∷ host ∷ timeout ∷ all ∷ [] }
 
 -- the program's command line
 abbrev pub jt_tool : App
@@ -113,13 +117,13 @@ pub record Host : Type 0 where
   pub port : ℕ
   pub timeout : Option ℕ
 
--- what is done with a text or a board
+-- what is done with a text or a board: whether the bytes are told, and whether all failures are
 pub data Action : Type 0 where
-  plays : (bytes : Bool) → Action
+  plays : (bytes all : Bool) → Action
   checks : Action
-  loops : Action
+  loops : (all : Bool) → Action
   serves : Serving → Action
-  connects : Host → Action
+  connects : Host → (all : Bool) → Action
 
 -- what is asked for: the file of the program and the board file, where they are named, and what is done
 pub record Asked : Type 0 where
@@ -172,14 +176,14 @@ server_of rows = record { host = host_of rows; port = port_of rows; timeout = ti
 abbrev pub task_of : Text → List Row → Action
 task_of name rows =
     if bytes_eq name (codes "check") then checks
-    else if bytes_eq name (codes "loop") then loops
+    else if bytes_eq name (codes "loop") then loops (is_given (codes "all") rows)
     else if bytes_eq name (codes "serve") then serves (serving_of rows)
-    else if bytes_eq name (codes "connect") then connects (server_of rows)
-    else plays (is_given (codes "bytes") rows)
+    else if bytes_eq name (codes "connect") then connects (server_of rows) (is_given (codes "all") rows)
+    else plays (is_given (codes "bytes") rows) (is_given (codes "all") rows)
 
 -- what a subcommand and its arguments ask for; without any the bytes are told too
 abbrev pub asked_by : Option (Text × List Row) → Asked
-asked_by None = record { svf = None; board = None; task = plays true }
+asked_by None = record { svf = None; board = None; task = plays true false }
 asked_by (Some found) = record {
   svf = first_of (codes "svf") found.1;
   board = first_of (codes "board") found.1;

@@ -11,11 +11,11 @@ abbrev pub server_view : Server → Host
 server_view s = record { host = s.host.now; port = s.port; timeout = s.timeout }
 
 abbrev pub action_of : Task → Action
-action_of (Play bytes) = asking.plays bytes
+action_of (Play bytes all) = asking.plays bytes all
 action_of Check = asking.checks
-action_of Loop = asking.loops
+action_of (Loop all) = asking.loops all
 action_of (Serve how) = asking.serves how
-action_of (Connect server) = asking.connects (server_view server)
+action_of (Connect server all) = asking.connects (server_view server) all
 
 abbrev pub asked_of : Request → Asked
 asked_of r = record {

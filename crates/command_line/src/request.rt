@@ -29,16 +29,17 @@ const THIS_HOST: &str = "127.0.0.1";
 /// What is done with a text, or with a board.
 #[derive(Debug, Clone, Copy)]
 pub enum Task<'a> {
-    /// The text is played, and where `bytes` is set the bytes sent are told too.
-    Play { bytes: bool },
+    /// The text is played, and where `bytes` is set the bytes sent are told too. Where `all` is set it is played to the
+    /// end, and all bits that fail are told.
+    Play { bytes: bool, all: bool },
     /// The text is only checked.
     Check,
-    /// The text is played over a connection of the program with itself.
-    Loop,
+    /// The text is played over a connection of the program with itself; `all` as for `Play`.
+    Loop { all: bool },
     /// The board is served to clients.
     Serve(Serving),
-    /// The text is played on a server.
-    Connect(Server<'a>),
+    /// The text is played on a server; `all` as for `Play`.
+    Connect { server: Server<'a>, all: bool },
 }
 
 /// How a board is served.
@@ -79,9 +80,10 @@ pub struct Request<'a> {
 /// Reads the words of a command line, of which the first is the program's name. Without any more it is `play --bytes`.
 ///
 /// The command line is one of
-/// - `play [FILE] [--board BOARD] [--bytes]`, `check [FILE] [--board BOARD]`, `loop [FILE] [--board BOARD]`,
+/// - `play [FILE] [--board BOARD] [--bytes] [--all]`, `check [FILE] [--board BOARD]`,
+/// - `loop [FILE] [--board BOARD] [--all]`,
 /// - `serve --board BOARD --port PORT [--at-most BYTES] [--connections COUNT] [--timeout SECONDS]`,
-/// - `connect [FILE] --port PORT [--host HOST] [--timeout SECONDS]`.
+/// - `connect [FILE] --port PORT [--host HOST] [--timeout SECONDS] [--all]`.
 ///
 /// Refused are words that none of these takes, and a number that is not in its range; a call for help comes as such an
 /// error too.
@@ -108,7 +110,10 @@ fn request_of<'a>(matches: &ArgMatches<'a>) -> Request<'a>
         None => Request {
             svf: None,
             board: None,
-            task: Task::Play { bytes: true },
+            task: Task::Play {
+                bytes: true,
+                all: false,
+            },
         },
     }
 }
@@ -119,11 +124,17 @@ fn task_of<'a>(name: &str, found: &ArgMatches<'a>) -> Task<'a>
 {
     match name {
         "check" => Task::Check,
-        "loop" => Task::Loop,
+        "loop" => Task::Loop {
+            all: is_given(found, "all"),
+        },
         "serve" => Task::Serve(serving_of(found)),
-        "connect" => Task::Connect(server_of(found)),
+        "connect" => Task::Connect {
+            server: server_of(found),
+            all: is_given(found, "all"),
+        },
         _ => Task::Play {
             bytes: is_given(found, "bytes"),
+            all: is_given(found, "all"),
         },
     }
 }
@@ -227,7 +238,8 @@ fn play_command<'a>(alloc: Global) -> Result<Command<'a>, AllocError>
         .about("Plays a program in process, and prints the verdict and the board's report")
         .arg(svf_arg(alloc))?
         .arg(board_arg(alloc))?
-        .arg(bytes_arg(alloc))
+        .arg(bytes_arg(alloc))?
+        .arg(all_arg(alloc))
 }
 
 fn check_command<'a>(alloc: Global) -> Result<Command<'a>, AllocError>
@@ -251,7 +263,8 @@ fn loop_command<'a>(alloc: Global) -> Result<Command<'a>, AllocError>
             "Plays a program over a socket of this machine, and prints the verdict and the board's report",
         )
         .arg(svf_arg(alloc))?
-        .arg(board_arg(alloc))
+        .arg(board_arg(alloc))?
+        .arg(all_arg(alloc))
 }
 
 fn serve_command<'a>(alloc: Global) -> Result<Command<'a>, AllocError>
@@ -278,7 +291,8 @@ fn connect_command<'a>(alloc: Global) -> Result<Command<'a>, AllocError>
         .arg(svf_arg(alloc))?
         .arg(port_arg(alloc))?
         .arg(host_arg(alloc))?
-        .arg(timeout_arg(alloc))
+        .arg(timeout_arg(alloc))?
+        .arg(all_arg(alloc))
 }
 
 fn bytes_arg<'a>(alloc: Global) -> Arg<'a>
@@ -289,6 +303,16 @@ fn bytes_arg<'a>(alloc: Global) -> Arg<'a>
         .long("bytes")
         .action(ArgAction::SetTrue)
         .help("Also prints the bytes sent")
+}
+
+fn all_arg<'a>(alloc: Global) -> Arg<'a>
+    ensures rule { rule_of result ≡ spec.all }
+    ensures local { result.global ≡ false }
+{
+    Arg::new(alloc, "all")
+        .long("all")
+        .action(ArgAction::SetTrue)
+        .help("Plays to the end, and prints the first 256 bits that fail and how many do")
 }
 
 fn board_arg<'a>(alloc: Global) -> Arg<'a>

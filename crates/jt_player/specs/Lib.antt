@@ -1,4 +1,5 @@
 pub mod Showing
+pub mod Kinds
 pub mod Running
 pub mod Headline
 pub mod Linking

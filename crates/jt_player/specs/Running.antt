@@ -10,16 +10,17 @@ use Rattle.svf_programs.specs.Steps.{Program}
 use Rattle.board_meaning.specs.Chain.{BoardState}
 use Rattle.board_report.specs.LeftOut.{left_out_lines}
 use Rattle.board_report.specs.Report.{report}
-use Rattle.plays.specs.DirectPlay.{MeansFromOpening, bytes_of_full_play}
-use Rattle.plays.specs.Endings.{status_of, verdict_line}
-use Rattle.plays.specs.Play.{play}
+use Rattle.every_schedule.specs.Laws.{bytes_of_full_play, full}
+use Rattle.plays.specs.Endings.{status_of}
+use Rattle.plays.specs.PlayingOn.{Kind}
 use Rattle.direct_play.specs.Accepting.{Accepts, Refuses}
-use Rattle.jt_player.specs.Showing.{accepted_line, refusal_line}
+use Rattle.jt_player.specs.Kinds.{MeansAsPlayed, ending_in, found_in}
+use Rattle.jt_player.specs.Showing.{accepted_line, ending_lines, refusal_line}
 
 -- what a play tells first: the bytes that were sent, where they are asked for
-abbrev pub note : Bool → Program → BoardState → List ℕ
-note true program before = codes "bytes " ++ bytes_of_full_play program before ++ codes "\n"
-note false program before = []
+abbrev pub note : Kind → Bool → Program → BoardState → List ℕ
+note kind true program before = codes "bytes " ++ bytes_of_full_play kind program.steps before ++ codes "\n"
+note kind false program before = []
 
 -- what a run tells its output and its errors, its exit status, and the board that it leaves
 pub record Run : Type 0 where
@@ -28,14 +29,16 @@ pub record Run : Type 0 where
   pub status : ℕ
   pub board : BoardState
 
--- A program was played: its bytes where they are asked for, the line of its verdict, and the report of the board.
-abbrev pub played_run : Bool → Program → BoardState → Run
-played_run bytes program before = let p = play program before in record {
-  out = note bytes program before ++ verdict_line p.ending ++ report p.board;
-  err = [];
-  status = status_of p.ending;
-  board = p.board;
-}
+-- A program was played: its bytes where they are asked for, how it ended, and the report of the board.
+abbrev pub played_run : Kind → Bool → Program → BoardState → Run
+played_run kind bytes program before =
+    let ending = ending_in kind program before in
+    let board = (full kind program.steps before).board in record {
+      out = note kind bytes program before ++ ending_lines kind ending (found_in kind program before) ++ report board;
+      err = [];
+      status = status_of ending;
+      board = board;
+    }
 
 -- the text was refused
 abbrev pub refused_run : SvfFault → BoardState → Run
@@ -46,12 +49,11 @@ abbrev pub memory_run : BoardState → Run
 memory_run before = record { out = []; err = codes "memory\n"; status = 4; board = before }
 
 -- The runs of a text on a board: its program, played as it means over whole registers; its refusal; or want of memory.
-pub data IsRunOf (text : List ℕ) (bytes : Bool) (before : BoardState) : Run → Type 0 where
-  played : (program : Program) → Accepts text program
-      → MeansFromOpening program before (play program before).ending (play program before).board
-      → IsRunOf text bytes before (played_run bytes program before)
-  refused : (fault : SvfFault) → Refuses text fault → IsRunOf text bytes before (refused_run fault before)
-  no_memory : IsRunOf text bytes before (memory_run before)
+pub data IsRunOf (kind : Kind) (text : List ℕ) (bytes : Bool) (before : BoardState) : Run → Type 0 where
+  played : (program : Program) → Accepts text program → MeansAsPlayed kind program before
+      → IsRunOf kind text bytes before (played_run kind bytes program before)
+  refused : (fault : SvfFault) → Refuses text fault → IsRunOf kind text bytes before (refused_run fault before)
+  no_memory : IsRunOf kind text bytes before (memory_run before)
 
 -- A text was checked, and is accepted as a program: it is told of, and each instruction of the board that stands for
 -- BYPASS.

@@ -1,6 +1,10 @@
--- The lines of refusals and of an accepted text.
-use Rattle.std.specs.Prelude.{ℕ, List, [], ◌∷◌, codes, decimal, length}
-use Rattle.plays.specs.Endings.{texts}
+-- The lines of endings, of refusals and of an accepted text.
+use Rattle.std.specs.Prelude.{ℕ, List, [], ◌∷◌, ◌++◌, codes, decimal, flat_map, length}
+use Rattle.plays.specs.Endings.{texts, verdict_line}
+use Rattle.plays.specs.PlayingOn.{Kind, Mismatch, PlaysOn}
+use Rattle.plays.specs.declared.ending.Ending.{Ending}
+use Rattle.plays.specs.declared.ending.Ending.TheVariants.{Fail}
+use Rattle.scan_vectors.specs.Failures.{Found}
 use Rattle.svf_words.specs.declared.fault.Code.{Code}
 use Rattle.svf_words.specs.declared.fault.Code.TheVariants as code
 use Rattle.svf_words.specs.declared.fault.SvfFault.{SvfFault}
@@ -9,6 +13,21 @@ use Rattle.board_names.specs.declared.fault.BoardFault.{BoardFault}
 use Rattle.board_names.specs.declared.fault.BoardFault.TheVariants as board
 use Rattle.bsdl.specs.declared.fault.BsdlFault.{BsdlFault}
 use Rattle.bsdl.specs.declared.fault.BsdlFault.TheVariants as bsdl
+
+-- the line of a wanted bit that did not come out
+abbrev pub mismatch_line : Mismatch → List ℕ
+mismatch_line m = verdict_line (Fail m.command m.part m.bit)
+
+-- the line of how many there were
+abbrev pub total_line : ℕ → List ℕ
+total_line total = texts (codes "failures " ∷ decimal total ∷ codes "\n" ∷ [])
+
+-- What is told of a play by how it ended and what it found. One that stops tells its verdict. One that plays on tells
+-- the failures that are listed, one a line, and how many there were; where there is none it passes, and where it was
+-- lost or got a byte that is no answer it tells that alone.
+abbrev pub ending_lines : Kind → Ending → Found → List ℕ
+ending_lines PlaysOn (Fail command part bit) f = flat_map mismatch_line f.list ++ total_line f.total
+ending_lines kind ending f = verdict_line ending
 
 -- a refusal's number and name, without the values in brackets
 abbrev pub code_words : Code → List ℕ

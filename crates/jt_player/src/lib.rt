@@ -17,20 +17,20 @@ pub use jt_board::{
     Board, BoardFault, Broken, BsdlFault, Counted, Level, Reply, Snapshot, bsdl_names, write_report,
 };
 pub use linking::{
-    run_loop, run_over, run_serve, tell_listening, tell_played, tell_served, tell_verdict,
+    run_loop, run_over, run_serve, tell_listening, tell_served, tell_unplayed, tell_verdict,
 };
-pub use play::{play_board, play_noted};
+pub use play::{play_board, play_board_all, play_noted};
 pub use play_links::{
     Served, a_loop_over_linked_ends_is_lost_only_by_a_lost_call,
     a_loop_over_linked_ends_means_the_program, a_loss_over_an_honest_link_names_what_is_in_work,
     an_end_is_whole, an_honest_end_is_the_full_plays, an_honest_end_means_the_program,
     an_honest_link_stays_inside_the_full_play, an_honest_play_served_is_the_full_play,
-    linked_ends_are_honest, loop_over, play_over, serve_over,
+    linked_ends_are_honest, loop_over, loop_over_all, play_over, play_over_all, serve_over,
 };
-pub use plays::Ending;
+pub use plays::{Ending, Kind};
 pub use refusing::{refuse_board, refuse_file, refuse_memory};
-pub use run::{refuse_text, run_check, run_play};
-pub use scan_vectors::Part;
+pub use run::{refuse_text, run_check, run_play, run_play_all};
+pub use scan_vectors::{Failures, Mismatch, Part};
 pub use stop::Stop;
 pub use stream_player::Player;
 pub use svf_parse::{Code, SvfFault};

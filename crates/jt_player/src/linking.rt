@@ -3,8 +3,8 @@
 ghost use Rattle.std.specs.Prelude.{◌≡◌, ◌++◌};
 ghost use Rattle.board_report.specs.Report.{report};
 ghost use Rattle.byte_ends.specs.Writes.{WritesAll};
-ghost use Rattle.play_links.specs.Links.{PlaysOver};
-ghost use Rattle.play_links.specs.Loops.{LoopsOver};
+ghost use Rattle.play_links.specs.Links.{PlaysAllOver};
+ghost use Rattle.play_links.specs.Loops.{LoopsAllOver};
 ghost use Rattle.play_links.specs.Serves.{ServesOver};
 ghost use Rattle.plays.specs.Endings.{status_of, verdict_line};
 ghost use Rattle.plays.specs.PlayingOn.{Stops};
@@ -14,23 +14,28 @@ ghost use Rattle.plays.specs.declared.ending.Ending as end;
 ghost use Rattle.play_links.specs.declared.serving.Served as serving;
 ghost use Rattle.jt_player.specs.Linking.{listening_line, served_line, served_status};
 ghost use Rattle.jt_player.specs.Running.{Tells};
+ghost use Rattle.jt_player.specs.Showing.{ending_lines};
+ghost use Rattle.scan_vectors.specs.Failures.{Found, found};
 
-use crate::showing::{hex_byte, write_verdict};
+use crate::showing::{hex_byte, write_ending, write_verdict};
 use byte_ends::{Broken, Counted, End, Sink, Source, put_all, put_pieces};
 use itoa::Buffer;
 use jt_board::{Board, write_report};
-use play_links::{Served, loop_over, play_over, serve_over};
-use plays::Ending;
+use play_links::{Served, loop_over_all, play_over_all, serve_over};
+use plays::{Ending, Kind};
+use scan_vectors::Failures;
 use std::alloc::Global;
 use stream_player::Player;
 use svf_programs::Program;
 
-/// Plays a program over a reader and a writer, and writes the line of its verdict to `out`. Answers the
-/// exit status: 0 pass, 1 fail, 3 a lost connection or a byte that is no answer.
+/// Plays a program over a reader and a writer by a player of this kind, and writes to `out` the line of its verdict, or
+/// of one that plays on all that failed. Answers the exit status: 0 pass, 1 fail, 3 a lost connection or a byte that is
+/// no answer.
 ///
 /// `Broken` comes exactly where the first failure of `out` came in this call.
 pub fn run_over<R: Source, W: Sink, O: Sink>(
     alloc: Global,
+    kind: Kind,
     program: Program,
     reader: &mut Counted<R>,
     writer: &mut Counted<W>,
@@ -39,22 +44,23 @@ pub fn run_over<R: Source, W: Sink, O: Sink>(
     requires reader { reader.old.failures ≡ 0 }
     requires writer { writer.old.failures ≡ 0 }
     requires out_whole { out.old.failures ≡ 0 }
-    ensures { (ending : end.Ending)
-        × PlaysOver W.puts R.hears W.contents R.remaining writer.old writer.new reader.old reader.new
-        (program_of program) ending
-        × Tells O.contents out.old out.new (verdict_line ending) (status_of ending) result }
+    ensures { (ending : end.Ending) × (all : Found)
+        × PlaysAllOver W.puts R.hears W.contents R.remaining writer.old writer.new reader.old reader.new kind
+        (program_of program) ending all
+        × Tells O.contents out.old out.new (ending_lines kind ending all) (status_of ending) result }
 {
-    let ending = play_over(reader, writer, fresh_player(alloc, program));
-    tell_verdict(ending, out)
+    let (ending, failures) = play_over_all(reader, writer, fresh_player(alloc, kind, program));
+    tell_ending(kind, ending, &failures, out)
 }
 
-/// Plays a program on a board over the two ends of one connection, and writes to `out` the line of the
-/// verdict and the board's report. Answers the exit status: 0 pass, 1 fail, 3 a lost connection or a byte that is no
-/// answer.
+/// Plays a program on a board over the two ends of one connection by a player of this kind, and writes to `out` the line
+/// of its verdict, or of one that plays on all that failed, and the board's report. Answers the exit status: 0 pass, 1
+/// fail, 3 a lost connection or a byte that is no answer.
 ///
 /// `Broken` comes exactly where the first failure of `out` came in this call.
 pub fn run_loop<P: End, B: End, O: Sink>(
     alloc: Global,
+    kind: Kind,
     program: Program,
     player_end: &mut Counted<P>,
     board_end: &mut Counted<B>,
@@ -64,13 +70,15 @@ pub fn run_loop<P: End, B: End, O: Sink>(
     requires player_end { player_end.old.failures ≡ 0 }
     requires board_end { board_end.old.failures ≡ 0 }
     requires out_whole { out.old.failures ≡ 0 }
-    ensures { (ending : end.Ending)
-        × LoopsOver P.puts P.hears B.puts B.hears P.contents P.remaining B.contents B.remaining player_end.old
-        player_end.new board_end.old board_end.new (program_of program) board.old board.new ending
-        × Tells O.contents out.old out.new (verdict_line ending ++ report board.new) (status_of ending) result }
+    ensures { (ending : end.Ending) × (all : Found)
+        × LoopsAllOver P.puts P.hears B.puts B.hears P.contents P.remaining B.contents B.remaining player_end.old
+        player_end.new board_end.old board_end.new kind (program_of program) board.old board.new ending all
+        × Tells O.contents out.old out.new (ending_lines kind ending all ++ report board.new) (status_of ending)
+        result }
 {
-    let ending = loop_over(player_end, board_end, fresh_player(alloc, program), board);
-    tell_played(ending, board, out)
+    let player = fresh_player(alloc, kind, program);
+    let (ending, failures) = loop_over_all(player_end, board_end, player, board);
+    tell_played(kind, ending, &failures, board, out)
 }
 
 /// Serves a board over a reader and a writer, taking so many bytes at most, and writes to `out` the line of how it
@@ -96,8 +104,17 @@ pub fn run_serve<R: Source, W: Sink, O: Sink>(
     tell_served(served, out)
 }
 
-/// A player of a program, of which nothing was played yet.
-fn fresh_player(alloc: Global, program: Program) -> Player
+/// A player of this kind, of which nothing was played yet.
+fn fresh_player(alloc: Global, kind: Kind, program: Program) -> Player
+    ensures { result ≡ new_stream kind (program_of program) }
+{
+    match kind {
+        Kind::Stops => stopping_player(alloc, program),
+        Kind::PlaysOn => Player::new_all(program),
+    }
+}
+
+fn stopping_player(alloc: Global, program: Program) -> Player
     ensures { result ≡ new_stream Stops (program_of program) }
 {
     match Player::new(alloc, program) {
@@ -117,10 +134,63 @@ pub fn tell_verdict<O: Sink>(ending: Ending, out: &mut Counted<O>) -> Result<u8,
     Ok(ending.status())
 }
 
-/// Writes the line of a verdict and the report of a board. Answers the exit status of the ending.
+/// Writes how a play of this kind ended: the line of its verdict, or of one that plays on all that failed. Answers the
+/// exit status of the ending.
 ///
 /// `Broken` comes exactly where the writer's first failure came in this call.
-pub fn tell_played<O: Sink>(
+fn tell_ending<O: Sink>(
+    kind: Kind,
+    ending: Ending,
+    failures: &Failures,
+    out: &mut Counted<O>,
+) -> Result<u8, Broken>
+    requires { out.old.failures ≡ 0 }
+    ensures { Tells O.contents out.old out.new (ending_lines kind ending (found failures.now)) (status_of ending)
+        result }
+{
+    write_ending(kind, ending, failures, out)?;
+    Ok(ending.status())
+}
+
+/// Writes how a play of this kind ended, and the report of a board. Answers the exit status of the ending.
+///
+/// `Broken` comes exactly where the writer's first failure came in this call.
+fn tell_played<O: Sink>(
+    kind: Kind,
+    ending: Ending,
+    failures: &Failures,
+    board: &Board,
+    out: &mut Counted<O>,
+) -> Result<u8, Broken>
+    requires { out.old.failures ≡ 0 }
+    ensures { Tells O.contents out.old out.new (ending_lines kind ending (found failures.now) ++ report board.now)
+        (status_of ending) result }
+{
+    write_played(kind, ending, failures, board, out)?;
+    Ok(ending.status())
+}
+
+/// Writes how a play of this kind ended, and the report of a board.
+fn write_played<O: Sink>(
+    kind: Kind,
+    ending: Ending,
+    failures: &Failures,
+    board: &Board,
+    out: &mut Counted<O>,
+) -> Result<(), Broken>
+    requires { out.old.failures ≡ 0 }
+    ensures { WritesAll O.contents out.old out.new
+        (ending_lines kind ending (found failures.now) ++ report board.now) result }
+{
+    write_ending(kind, ending, failures, out)?;
+    write_report(board, out)
+}
+
+/// Writes the line of a verdict and the report of a board on which nothing was played. Answers the exit status of the
+/// ending.
+///
+/// `Broken` comes exactly where the writer's first failure came in this call.
+pub fn tell_unplayed<O: Sink>(
     ending: Ending,
     board: &Board,
     out: &mut Counted<O>,
@@ -128,17 +198,7 @@ pub fn tell_played<O: Sink>(
     requires { out.old.failures ≡ 0 }
     ensures { Tells O.contents out.old out.new (verdict_line ending ++ report board.now) (status_of ending) result }
 {
-    write_played(ending, board, out)?;
-    Ok(ending.status())
-}
-
-/// Writes the line of a verdict and the report of a board.
-fn write_played<O: Sink>(ending: Ending, board: &Board, out: &mut Counted<O>) -> Result<(), Broken>
-    requires { out.old.failures ≡ 0 }
-    ensures { WritesAll O.contents out.old out.new (verdict_line ending ++ report board.now) result }
-{
-    write_verdict(ending, out)?;
-    write_report(board, out)
+    tell_played(Kind::Stops, ending, &Failures::new(), board, out)
 }
 
 /// Writes the line of how serving a board ended: `quit`, `closed`, `refused 5a`, `bound` or `broken`. Answers the exit

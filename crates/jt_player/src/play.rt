@@ -2,16 +2,22 @@
 
 ghost use Rattle.std.specs.Prelude.{◌≡◌};
 ghost use Rattle.byte_ends.specs.Writes.{WritesAll, flagged};
+ghost use Rattle.every_schedule.specs.Laws.{bytes_of_full_play as bytes_of, full};
 ghost use Rattle.plays.specs.DirectPlay.{MeansFromOpening, bytes_of_full_play};
 ghost use Rattle.plays.specs.Play.{play};
 ghost use Rattle.plays.specs.PlayingOn.{Stops};
 ghost use Rattle.plays.specs.Streams.{new_stream};
+ghost use Rattle.scan_vectors.specs.Failures.{found};
+ghost use Rattle.svf_programs.specs.Sizes.{program_of};
+ghost use Rattle.jt_player.specs.Kinds.{MeansAsPlayed, ending_in, found_by, found_in};
 
 use byte_ends::{Counted, Sink};
-use direct_play::{play_program, play_program_noted};
+use direct_play::{play_program, play_program_all, play_program_all_noted, play_program_noted};
 use jt_board::Board;
-use plays::Ending;
+use plays::{Ending, Kind};
+use scan_vectors::{Failures, Mismatch};
 use stream_player::Player;
+use svf_programs::Program;
 
 /// Plays a program on a board, as if each byte were taken by the board as soon as it is made, and each answer judged as
 /// it comes. What that leads to is done on whole registers.
@@ -48,4 +54,69 @@ pub fn play_noted<W: Sink>(
         (flagged result.1) }
 {
     play_program_noted(player.program(), board, out)
+}
+
+/// Plays the program of a fresh player on a board as `play_board` does, by the player's kind, and answers what it found
+/// too. One that plays on finds every wanted bit that the program's meaning over whole registers, from the state after
+/// the opening, does not give, by command and then by place; the board is then at rest where the whole program leaves
+/// it. One that stops finds the first alone. Takes no memory.
+pub fn play_board_all(player: Player, board: &mut Board) -> (Ending, Failures)
+    requires { player ≡ new_stream player.kind player.program }
+    ensures ending { result.0 ≡ ending_in player.kind player.program board.old }
+    ensures found { found result.1 ≡ found_in player.kind player.program board.old }
+    ensures board { board.new ≡ (full player.kind player.program.steps board.old).board }
+    ensures meaning { MeansAsPlayed player.kind player.program board.old }
+{
+    play_kind(player.kind(), player.program(), board)
+}
+
+/// Plays a program on a board by a player of this kind.
+pub(crate) fn play_kind(kind: Kind, program: &Program, board: &mut Board) -> (Ending, Failures)
+    ensures ending { result.0 ≡ ending_in kind (program_of program.now) board.old }
+    ensures found { found result.1 ≡ found_in kind (program_of program.now) board.old }
+    ensures board { board.new ≡ (full kind program.now.steps board.old).board }
+    ensures meaning { MeansAsPlayed kind (program_of program.now) board.old }
+{
+    match kind {
+        Kind::Stops => {
+            let ending = play_program(program, board);
+            (ending, first_alone(ending))
+        }
+        Kind::PlaysOn => play_program_all(program, board),
+    }
+}
+
+/// Plays a program on a board by a player of this kind, and writes the bytes of the play. The flag tells that all of
+/// them were written.
+pub(crate) fn play_kind_noted<W: Sink>(
+    kind: Kind,
+    program: &Program,
+    board: &mut Board,
+    out: &mut Counted<W>,
+) -> (Ending, Failures, bool)
+    requires { out.old.failures ≡ 0 }
+    ensures ending { result.0 ≡ ending_in kind (program_of program.now) board.old }
+    ensures found { found result.1 ≡ found_in kind (program_of program.now) board.old }
+    ensures board { board.new ≡ (full kind program.now.steps board.old).board }
+    ensures writes { WritesAll W.contents out.old out.new (bytes_of kind program.now.steps board.old)
+        (flagged result.2) }
+{
+    match kind {
+        Kind::Stops => {
+            let (ending, noted) = play_program_noted(program, board, out);
+            (ending, first_alone(ending), noted)
+        }
+        Kind::PlaysOn => play_program_all_noted(program, board, out),
+    }
+}
+
+/// What a player that stops has found.
+fn first_alone(ending: Ending) -> Failures
+    ensures { found result ≡ found_by ending }
+{
+    let mut failures = Failures::new();
+    if let Ending::Fail { command, part, bit } = ending {
+        failures.note(Mismatch { command, part, bit });
+    }
+    failures
 }

@@ -3,17 +3,22 @@
 ghost use Rattle.std.specs.Prelude.{◌≡◌, ◌≢◌, ◌⊎◌, ◌++◌, IfOk, OnOk, codes};
 ghost use Rattle.byte_ends.specs.Writes.{WritesAll};
 ghost use Rattle.board_report.specs.LeftOut.{left_out_lines};
-ghost use Rattle.plays.specs.Play.{play};
+ghost use Rattle.every_schedule.specs.Laws.{full};
+ghost use Rattle.plays.specs.PlayingOn.{PlaysOn, Stops};
+ghost use Rattle.scan_vectors.specs.Failures.{found};
 ghost use Rattle.svf_programs.specs.Sizes.{program_of};
+ghost use Rattle.jt_player.specs.Kinds.{ending_in, found_in};
 ghost use Rattle.jt_player.specs.Running.{Happens, IsCheckOf, IsRunOf, Run, Tells, note, played_run};
 ghost use Rattle.jt_player.specs.Showing.{accepted_line, refusal_line};
 
+use crate::play::{play_kind, play_kind_noted};
 use crate::refusing::refuse_memory;
-use crate::showing::{write_accepted, write_refusal, write_verdict};
+use crate::showing::{write_accepted, write_ending, write_refusal};
 use byte_ends::{Broken, Counted, Sink, put_all};
-use direct_play::{accept, play_program, play_program_noted};
+use direct_play::accept;
 use jt_board::{Board, write_left_out, write_report};
-use plays::Ending;
+use plays::{Ending, Kind};
+use scan_vectors::Failures;
 use std::alloc::Global;
 use svf_parse::{Code, SvfFault};
 use svf_programs::Program;
@@ -34,7 +39,44 @@ pub fn run_play<W: Sink, E: Sink>(
 ) -> Result<u8, Broken>
     requires out_whole { out.old.failures ≡ 0 }
     requires err_whole { err.old.failures ≡ 0 }
-    ensures { (run : Run) × IsRunOf svf.now bytes board.old run
+    ensures { (run : Run) × IsRunOf Stops svf.now bytes board.old run
+        × Happens W.contents E.contents run board.old board.new out.old out.new err.old err.new result }
+{
+    run_kind(alloc, Kind::Stops, svf, board, bytes, out, err)
+}
+
+/// Plays a text on a board to its end, whatever fails, and tells of it as `run_play` does, but for the verdict: the
+/// wanted bits that did not come out, the first 256 of them one a line, and how many there were; `pass` where there
+/// was none.
+pub fn run_play_all<W: Sink, E: Sink>(
+    alloc: Global,
+    svf: &[u8],
+    board: &mut Board,
+    bytes: bool,
+    out: &mut Counted<W>,
+    err: &mut Counted<E>,
+) -> Result<u8, Broken>
+    requires out_whole { out.old.failures ≡ 0 }
+    requires err_whole { err.old.failures ≡ 0 }
+    ensures { (run : Run) × IsRunOf PlaysOn svf.now bytes board.old run
+        × Happens W.contents E.contents run board.old board.new out.old out.new err.old err.new result }
+{
+    run_kind(alloc, Kind::PlaysOn, svf, board, bytes, out, err)
+}
+
+/// Plays a text on a board by a player of this kind, and tells of it.
+fn run_kind<W: Sink, E: Sink>(
+    alloc: Global,
+    kind: Kind,
+    svf: &[u8],
+    board: &mut Board,
+    bytes: bool,
+    out: &mut Counted<W>,
+    err: &mut Counted<E>,
+) -> Result<u8, Broken>
+    requires out_whole { out.old.failures ≡ 0 }
+    requires err_whole { err.old.failures ≡ 0 }
+    ensures { (run : Run) × IsRunOf kind svf.now bytes board.old run
         × Happens W.contents E.contents run board.old board.new out.old out.new err.old err.new result }
 {
     match accept(alloc, svf) {
@@ -42,7 +84,7 @@ pub fn run_play<W: Sink, E: Sink>(
             // For the proof alone: what the types keep of a program's steps and of a board's devices.
             let _ = program.len();
             let _ = board.devices();
-            play_and_tell(&program, board, bytes, out)
+            play_and_tell(kind, &program, board, bytes, out)
         }
         Err(fault) => refuse_text(fault, err),
     }
@@ -100,49 +142,53 @@ fn write_check<W: Sink>(
     write_left_out(board, out)
 }
 
-/// Plays and writes the bytes, the verdict and the report. Answers the exit status of the ending.
+/// Plays and writes the bytes, how it ended and the report. Answers the exit status of the ending.
 fn play_and_tell<W: Sink>(
+    kind: Kind,
     program: &Program,
     board: &mut Board,
     bytes: bool,
     out: &mut Counted<W>,
 ) -> Result<u8, Broken>
     requires none_lost { out.old.failures ≡ 0 }
-    ensures writes { WritesAll W.contents out.old out.new (played_run bytes (program_of program.now) board.old).out
-        result }
-    ensures status { IfOk result (λ status. status ≡ (played_run bytes (program_of program.now) board.old).status) }
-    ensures left { OnOk result (board.new ≡ (play (program_of program.now) board.old).board) }
-    ensures board { (board.new ≡ board.old) ⊎ (board.new ≡ (play (program_of program.now) board.old).board) }
+    ensures writes { WritesAll W.contents out.old out.new
+        (played_run kind bytes (program_of program.now) board.old).out result }
+    ensures status { IfOk result (λ status. status
+        ≡ (played_run kind bytes (program_of program.now) board.old).status) }
+    ensures left { OnOk result (board.new ≡ (full kind program.now.steps board.old).board) }
+    ensures board { (board.new ≡ board.old) ⊎ (board.new ≡ (full kind program.now.steps board.old).board) }
 {
-    let ending = play_and_note(program, board, bytes, out)?;
-    write_verdict(ending, out)?;
+    let (ending, failures) = play_and_note(kind, program, board, bytes, out)?;
+    write_ending(kind, ending, &failures, out)?;
     write_report(board, out)?;
     Ok(ending.status())
 }
 
 /// Plays, and writes the line of the bytes sent where they are asked for.
 fn play_and_note<W: Sink>(
+    kind: Kind,
     program: &Program,
     board: &mut Board,
     bytes: bool,
     out: &mut Counted<W>,
-) -> Result<Ending, Broken>
+) -> Result<(Ending, Failures), Broken>
     requires none_lost { out.old.failures ≡ 0 }
-    ensures writes { WritesAll W.contents out.old out.new (note bytes (program_of program.now) board.old) result }
-    ensures ending { IfOk result (λ ending. ending ≡ (play (program_of program.now) board.old).ending) }
-    ensures left { OnOk result (board.new ≡ (play (program_of program.now) board.old).board) }
-    ensures board { (board.new ≡ board.old) ⊎ (board.new ≡ (play (program_of program.now) board.old).board) }
+    ensures writes { WritesAll W.contents out.old out.new (note kind bytes (program_of program.now) board.old) result }
+    ensures ending { IfOk result (λ r. r.0 ≡ ending_in kind (program_of program.now) board.old) }
+    ensures found { IfOk result (λ r. found r.1 ≡ found_in kind (program_of program.now) board.old) }
+    ensures left { OnOk result (board.new ≡ (full kind program.now.steps board.old).board) }
+    ensures board { (board.new ≡ board.old) ⊎ (board.new ≡ (full kind program.now.steps board.old).board) }
 {
     if !bytes {
-        return Ok(play_program(program, board));
+        return Ok(play_kind(kind, program, board));
     }
     put_all(out, b"bytes ")?;
-    let (ending, noted) = play_program_noted(program, board, out);
+    let (ending, failures, noted) = play_kind_noted(kind, program, board, out);
     if !noted {
         return Err(Broken);
     }
     put_all(out, b"\n")?;
-    Ok(ending)
+    Ok((ending, failures))
 }
 
 /// Writes the line of a text that is refused, or `memory`. Answers the exit status: 2 refused, 4 want of memory.

@@ -1,17 +1,18 @@
 //! The lines that a run shows.
 
-ghost use Rattle.std.specs.Prelude.{◌≡◌};
+ghost use Rattle.std.specs.Prelude.{◌≡◌, ◌++◌, flat_map};
 ghost use Rattle.byte_ends.specs.Writes.{WritesAll};
 ghost use Rattle.jt_player.specs.Showing as showing;
-ghost use Rattle.jt_player.specs.Showing.{accepted_line, refusal_line};
+ghost use Rattle.jt_player.specs.Showing.{accepted_line, ending_lines, mismatch_line, refusal_line, total_line};
+ghost use Rattle.scan_vectors.specs.Failures.{found};
 ghost use Rattle.svf_programs.specs.Sizes.{program_of};
 ghost use Rattle.plays.specs.Endings as endings;
 ghost use Rattle.plays.specs.Endings.{verdict_line};
 
 use byte_ends::{Broken, Counted, Sink, put_all, put_pieces};
 use itoa::Buffer;
-use plays::Ending;
-use scan_vectors::Part;
+use plays::{Ending, Kind};
+use scan_vectors::{Failures, Mismatch, Part};
 use svf_parse::{Code, SvfFault};
 use svf_programs::Program;
 
@@ -51,6 +52,53 @@ pub(crate) fn write_verdict<W: Sink>(ending: Ending, out: &mut Counted<W>) -> Re
             ],
         ),
     }
+}
+
+/// Writes how a play of this kind ended: the line of its verdict, or all failures that are listed and how many there
+/// were.
+pub(crate) fn write_ending<W: Sink>(
+    kind: Kind,
+    ending: Ending,
+    failures: &Failures,
+    out: &mut Counted<W>,
+) -> Result<(), Broken>
+    requires { out.old.failures ≡ 0 }
+    ensures { WritesAll W.contents out.old out.new (ending_lines kind ending (found failures.now)) result }
+{
+    match (kind, ending) {
+        (Kind::PlaysOn, Ending::Fail { .. }) => write_failures(failures, out),
+        _ => write_verdict(ending, out),
+    }
+}
+
+/// Writes a line for each failure that is listed, and how many there were.
+fn write_failures<W: Sink>(failures: &Failures, out: &mut Counted<W>) -> Result<(), Broken>
+    requires { out.old.failures ≡ 0 }
+    ensures { WritesAll W.contents out.old out.new
+        (flat_map mismatch_line failures.now.list.items ++ total_line failures.now.total) result }
+{
+    write_mismatches(failures.list.as_slice(), out)?;
+    let mut number = Buffer::new();
+    put_pieces(
+        out,
+        &[
+            b"failures ",
+            number.format(failures.total).as_bytes(),
+            b"\n",
+        ],
+    )
+}
+
+/// Writes a line for each wanted bit that did not come out.
+fn write_mismatches<W: Sink>(list: &[Mismatch], out: &mut Counted<W>) -> Result<(), Broken>
+    requires { out.old.failures ≡ 0 }
+    ensures { WritesAll W.contents out.old out.new (flat_map mismatch_line list.now) result }
+{
+    for mismatch in list {
+        let Mismatch { command, part, bit } = *mismatch;
+        write_verdict(Ending::Fail { command, part, bit }, out)?;
+    }
+    Ok(())
 }
 
 /// Writes the line of a refusal.

@@ -10,9 +10,9 @@ use byte_ends::{Broken, Counted, Plain};
 use clap::error::ErrorKind as WordsFault;
 use command_line::{Request, Server, Serving, Task, parse};
 use jt_player::{
-    Board, Ending, Program, Served, accept as accept_text, refuse_file, refuse_memory, refuse_text,
-    run_check, run_loop, run_over, run_play, run_serve, tell_listening, tell_played, tell_served,
-    tell_verdict, write_report,
+    Board, Ending, Kind, Program, Served, accept as accept_text, refuse_file, refuse_memory,
+    refuse_text, run_check, run_loop, run_over, run_play, run_play_all, run_serve, tell_listening,
+    tell_served, tell_unplayed, tell_verdict, write_report,
 };
 use program_input::{InputFault, command_words, read_text};
 use std::alloc::Global;
@@ -75,9 +75,9 @@ fn refuse_words<R: Print + Eprint>(rt: &R, fault: &clap::Error) -> u8 {
 
 /// Does what is asked for. A board is made before a text is read.
 fn run_request(rt: &HostRuntime, alloc: Global, request: &Request<'_>) -> u8 {
-    if let Task::Connect(server) = request.task {
+    if let Task::Connect { server, all } = request.task {
         return match read_program(rt, alloc, request.svf) {
-            Ok(program) => play_on_server(rt, alloc, program, server),
+            Ok(program) => play_on_server(rt, alloc, kind_of(all), program, server),
             Err(status) => status,
         };
     }
@@ -91,8 +91,8 @@ fn run_request(rt: &HostRuntime, alloc: Global, request: &Request<'_>) -> u8 {
 fn run_board(rt: &HostRuntime, alloc: Global, request: &Request<'_>, mut board: Board) -> u8 {
     match request.task {
         Task::Serve(serving) => serve(rt, &mut board, serving).unwrap_or(BROKEN),
-        Task::Loop => match read_program(rt, alloc, request.svf) {
-            Ok(program) => loop_over_socket(rt, alloc, program, &mut board),
+        Task::Loop { all } => match read_program(rt, alloc, request.svf) {
+            Ok(program) => loop_over_socket(rt, alloc, kind_of(all), program, &mut board),
             Err(status) => status,
         },
         task => run_text(rt, alloc, request.svf, task, &mut board),
@@ -114,7 +114,12 @@ fn run_text(
     let mut out = Counted::new(Plain(io::writer(rt)));
     let mut err = Counted::new(Plain(rt.stderr()));
     let status = match task {
-        Task::Play { bytes } => run_play(alloc, &text, board, bytes, &mut out, &mut err),
+        Task::Play { bytes, all: false } => {
+            run_play(alloc, &text, board, bytes, &mut out, &mut err)
+        }
+        Task::Play { bytes, all: true } => {
+            run_play_all(alloc, &text, board, bytes, &mut out, &mut err)
+        }
         _ => run_check(alloc, &text, board, &mut out, &mut err),
     };
     status.unwrap_or(BROKEN)
@@ -135,15 +140,26 @@ fn read_program(rt: &HostRuntime, alloc: Global, name: Option<&str>) -> Result<P
     }
 }
 
+/// The kind of player that is asked for: one that tells all failures plays on.
+fn kind_of(all: bool) -> Kind {
+    if all { Kind::PlaysOn } else { Kind::Stops }
+}
+
 /// Plays a program on a server. One that cannot be reached loses the play before its first command. Answers the exit
 /// status.
-fn play_on_server(rt: &HostRuntime, alloc: Global, program: Program, server: Server<'_>) -> u8 {
+fn play_on_server(
+    rt: &HostRuntime,
+    alloc: Global,
+    kind: Kind,
+    program: Program,
+    server: Server<'_>,
+) -> u8 {
     let mut out = Counted::new(Plain(io::writer(rt)));
     let status = match connect(rt, server) {
         Ok(link) => {
             let mut reader = Counted::new(link.reader);
             let mut writer = Counted::new(link.writer);
-            run_over(alloc, program, &mut reader, &mut writer, &mut out)
+            run_over(alloc, kind, program, &mut reader, &mut writer, &mut out)
         }
         Err(_) => tell_verdict(UNREACHED, &mut out),
     };
@@ -151,7 +167,13 @@ fn play_on_server(rt: &HostRuntime, alloc: Global, program: Program, server: Ser
 }
 
 /// Plays a program on a board over a connection of the program with itself. Answers the exit status.
-fn loop_over_socket(rt: &HostRuntime, alloc: Global, program: Program, board: &mut Board) -> u8 {
+fn loop_over_socket(
+    rt: &HostRuntime,
+    alloc: Global,
+    kind: Kind,
+    program: Program,
+    board: &mut Board,
+) -> u8 {
     let mut out = Counted::new(Plain(io::writer(rt)));
     let status = match pair(rt) {
         Ok((player, server)) => {
@@ -159,6 +181,7 @@ fn loop_over_socket(rt: &HostRuntime, alloc: Global, program: Program, board: &m
             let mut board_end = Counted::new(server);
             run_loop(
                 alloc,
+                kind,
                 program,
                 &mut player_end,
                 &mut board_end,
@@ -166,7 +189,7 @@ fn loop_over_socket(rt: &HostRuntime, alloc: Global, program: Program, board: &m
                 &mut out,
             )
         }
-        Err(_) => tell_played(UNREACHED, board, &mut out),
+        Err(_) => tell_unplayed(UNREACHED, board, &mut out),
     };
     status.unwrap_or(BROKEN)
 }

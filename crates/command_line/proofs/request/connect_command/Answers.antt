@@ -1,7 +1,7 @@
 use Rattle.std.proofs.Common.{◌≡◌, ap, ◌∙◌, codes}
 use Rattle.clap.specs.Simple.{app_of_fields}
 use Rattle.clap.specs.Words.{app_of, new_app, with_rule}
-use Rattle.command_line.specs.Asking.{host, port, svf, timeout}
+use Rattle.command_line.specs.Asking.{all, host, port, svf, timeout}
 use Rattle.command_line.proofs.CommandLaws.{with_argument, with_last_argument}
 use Rattle.command_line.proofs.request.connect_command.Goals as goal
 
@@ -12,4 +12,5 @@ returns-clause-shape c =
     let arg0 = with_argument c.about.result c.in_ok-arg.field-0 c.svf_arg.result (none) svf c.in_ok-arg.ensures c.svf_arg.ensures.local c.svf_arg.ensures.rule named in
     let arg1 = with_argument c.in_ok-arg.field-0 c.in_ok-arg-2.field-0 c.port_arg.result (with_rule (none) svf) port c.in_ok-arg-2.ensures c.port_arg.ensures.local c.port_arg.ensures.rule arg0 in
     let arg2 = with_argument c.in_ok-arg-2.field-0 c.in_ok-arg-3.field-0 c.host_arg.result (with_rule (with_rule (none) svf) port) host c.in_ok-arg-3.ensures c.host_arg.ensures.local c.host_arg.ensures.rule arg1 in
-    with_last_argument c.in_ok-arg-3.field-0 c.timeout_arg.result (with_rule (with_rule (with_rule (none) svf) port) host) timeout c.arg-4.result c.arg-4.ensures c.timeout_arg.ensures.local c.timeout_arg.ensures.rule arg2
+    let arg3 = with_argument c.in_ok-arg-3.field-0 c.in_ok-arg-4.field-0 c.timeout_arg.result (with_rule (with_rule (with_rule (none) svf) port) host) timeout c.in_ok-arg-4.ensures c.timeout_arg.ensures.local c.timeout_arg.ensures.rule arg2 in
+    with_last_argument c.in_ok-arg-4.field-0 c.all_arg.result (with_rule (with_rule (with_rule (with_rule (none) svf) port) host) timeout) all c.arg-5.result c.arg-5.ensures c.all_arg.ensures.local c.all_arg.ensures.rule arg3

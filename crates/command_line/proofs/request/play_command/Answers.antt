@@ -1,7 +1,7 @@
 use Rattle.std.proofs.Common.{◌≡◌, ap, ◌∙◌, codes}
 use Rattle.clap.specs.Simple.{app_of_fields}
 use Rattle.clap.specs.Words.{app_of, new_app, with_rule}
-use Rattle.command_line.specs.Asking.{board, bytes, svf}
+use Rattle.command_line.specs.Asking.{all, board, bytes, svf}
 use Rattle.command_line.proofs.CommandLaws.{with_argument, with_last_argument}
 use Rattle.command_line.proofs.request.play_command.Goals as goal
 
@@ -11,4 +11,5 @@ returns-clause-shape c =
     let named : app_of c.about.result ≡ none = ap app_of_fields c.about.ensures ∙ c.new.ensures.app in
     let one = with_argument c.about.result c.in_ok-arg.field-0 c.svf_arg.result none svf c.in_ok-arg.ensures c.svf_arg.ensures.local c.svf_arg.ensures.rule named in
     let two = with_argument c.in_ok-arg.field-0 c.in_ok-arg-2.field-0 c.board_arg.result (with_rule none svf) board c.in_ok-arg-2.ensures c.board_arg.ensures.local c.board_arg.ensures.rule one in
-    with_last_argument c.in_ok-arg-2.field-0 c.bytes_arg.result (with_rule (with_rule none svf) board) bytes c.arg-3.result c.arg-3.ensures c.bytes_arg.ensures.local c.bytes_arg.ensures.rule two
+    let three = with_argument c.in_ok-arg-2.field-0 c.in_ok-arg-3.field-0 c.bytes_arg.result (with_rule (with_rule none svf) board) bytes c.in_ok-arg-3.ensures c.bytes_arg.ensures.local c.bytes_arg.ensures.rule two in
+    with_last_argument c.in_ok-arg-3.field-0 c.all_arg.result (with_rule (with_rule (with_rule none svf) board) bytes) all c.arg-4.result c.arg-4.ensures c.all_arg.ensures.local c.all_arg.ensures.rule three

@@ -1,0 +1,38 @@
+-- A play of either kind, each byte taken at once: how it ends, what it finds, and what it means.
+use Rattle.std.specs.Prelude.{List, [], ◌∷◌}
+use Rattle.board_meaning.specs.Chain.{BoardState}
+use Rattle.every_schedule.specs.AllFailures.{MeansAllFromOpening}
+use Rattle.every_schedule.specs.Laws.{full}
+use Rattle.plays.specs.declared.ending.Ending.{Ending}
+use Rattle.plays.specs.declared.ending.Ending.TheVariants.{Fail}
+use Rattle.plays.specs.DirectPlay.{MeansFromOpening}
+use Rattle.plays.specs.Play.{play, turns}
+use Rattle.plays.specs.PlayingOn.{Kind, Mismatch, PlaysOn, Stops, ending_of, failures}
+use Rattle.plays.specs.Streams.{found_of}
+use Rattle.scan_vectors.specs.Failures.{Found, none_found}
+use Rattle.svf_programs.specs.Steps.{Program}
+
+-- every wanted bit of a program that does not come out, where it is played to the end
+abbrev pub all_failures : Program → BoardState → List Mismatch
+all_failures program before = failures (turns program.steps) (full PlaysOn program.steps before).answers
+
+-- what a player of this kind keeps of them
+abbrev pub found_in : Kind → Program → BoardState → Found
+found_in kind program before = found_of kind (all_failures program before)
+
+abbrev pub ending_in : Kind → Program → BoardState → Ending
+ending_in Stops program before = (play program before).ending
+ending_in PlaysOn program before = ending_of (all_failures program before)
+
+-- what a player has found that stopped so
+abbrev pub found_by : Ending → Found
+found_by (Fail command part bit) =
+    record { list = record { command = command; part = part; bit = bit } ∷ []; total = 1 }
+found_by ending = none_found
+
+-- It is what the program means over whole registers, from the state after the opening.
+abbrev pub MeansAsPlayed : Kind → Program → BoardState → Type 0
+MeansAsPlayed Stops program before =
+    MeansFromOpening program before (play program before).ending (play program before).board
+MeansAsPlayed PlaysOn program before =
+    MeansAllFromOpening program.steps before (all_failures program before) (full PlaysOn program.steps before).board
