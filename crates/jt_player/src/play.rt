@@ -2,10 +2,7 @@
 
 ghost use Rattle.std.specs.Prelude.{◌≡◌};
 ghost use Rattle.byte_ends.specs.Writes.{WritesAll, flagged};
-ghost use Rattle.every_schedule.specs.Laws.{bytes_of_full_play as bytes_of, full};
-ghost use Rattle.plays.specs.DirectPlay.{MeansFromOpening, bytes_of_full_play};
-ghost use Rattle.plays.specs.Play.{play};
-ghost use Rattle.plays.specs.PlayingOn.{Stops};
+ghost use Rattle.every_schedule.specs.Laws.{bytes_of_full_play, full};
 ghost use Rattle.plays.specs.Streams.{new_stream};
 ghost use Rattle.scan_vectors.specs.Failures.{found};
 ghost use Rattle.svf_programs.specs.Sizes.{program_of};
@@ -19,18 +16,33 @@ use scan_vectors::{Failures, Mismatch};
 use stream_player::Player;
 use svf_programs::Program;
 
-/// Plays a program on a board, as if each byte were taken by the board as soon as it is made, and each answer judged as
-/// it comes. What that leads to is done on whole registers.
+/// Plays the program of a fresh player on a board, as if each byte were taken by the board as soon as it is made, and
+/// each answer judged as it comes. What that leads to is done on whole registers.
 ///
 /// Whatever state the board is in, the ending is that of the program's meaning over whole registers, from the state
-/// after the opening, and the board is at rest in its last state. Takes no memory.
+/// after the opening, and the board is at rest in its last state: of a player that stops, the state after its first
+/// failing step. Takes no memory.
 pub fn play_board(player: Player, board: &mut Board) -> Ending
-    requires { player ≡ new_stream Stops player.program }
-    ensures ending { result ≡ (play player.program board.old).ending }
-    ensures board { board.new ≡ (play player.program board.old).board }
-    ensures meaning { MeansFromOpening player.program board.old result board.new }
+    requires { player ≡ new_stream player.kind player.program }
+    ensures ending { result ≡ ending_in player.kind player.program board.old }
+    ensures board { board.new ≡ (full player.kind player.program.steps board.old).board }
+    ensures meaning { MeansAsPlayed player.kind player.program board.old }
 {
-    play_program(player.program(), board)
+    let (ending, _) = play_board_all(player, board);
+    ending
+}
+
+/// Plays the program of a fresh player on a board as `play_board` does, and answers what it found too. One that plays on
+/// finds every wanted bit that does not come out, by command and then by place in the whole vector: the first 256 of
+/// them, and how many they are. One that stops finds the first alone. Takes no memory.
+pub fn play_board_all(player: Player, board: &mut Board) -> (Ending, Failures)
+    requires { player ≡ new_stream player.kind player.program }
+    ensures ending { result.0 ≡ ending_in player.kind player.program board.old }
+    ensures found { found result.1 ≡ found_in player.kind player.program board.old }
+    ensures board { board.new ≡ (full player.kind player.program.steps board.old).board }
+    ensures meaning { MeansAsPlayed player.kind player.program board.old }
+{
+    play_kind(player.kind(), player.program(), board)
 }
 
 /// Plays a program on a board as `play_board` does, and writes the bytes that the player sends. The flag tells that all
@@ -41,33 +53,20 @@ pub fn play_noted<W: Sink>(
     board: &mut Board,
     out: &mut Counted<W>,
 ) -> (Ending, bool)
-    requires fresh { player ≡ new_stream Stops player.program }
+    requires fresh { player ≡ new_stream player.kind player.program }
     requires none_lost { out.old.failures ≡ 0 }
 
     // The play.
-    ensures ending { result.0 ≡ (play player.program board.old).ending }
-    ensures board { board.new ≡ (play player.program board.old).board }
-    ensures meaning { MeansFromOpening player.program board.old result.0 board.new }
-
-    // What was written of it.
-    ensures writes { WritesAll W.contents out.old out.new (bytes_of_full_play player.program board.old)
-        (flagged result.1) }
-{
-    play_program_noted(player.program(), board, out)
-}
-
-/// Plays the program of a fresh player on a board as `play_board` does, by the player's kind, and answers what it found
-/// too. One that plays on finds every wanted bit that the program's meaning over whole registers, from the state after
-/// the opening, does not give, by command and then by place; the board is then at rest where the whole program leaves
-/// it. One that stops finds the first alone. Takes no memory.
-pub fn play_board_all(player: Player, board: &mut Board) -> (Ending, Failures)
-    requires { player ≡ new_stream player.kind player.program }
     ensures ending { result.0 ≡ ending_in player.kind player.program board.old }
-    ensures found { found result.1 ≡ found_in player.kind player.program board.old }
     ensures board { board.new ≡ (full player.kind player.program.steps board.old).board }
     ensures meaning { MeansAsPlayed player.kind player.program board.old }
+
+    // What was written of it.
+    ensures writes { WritesAll W.contents out.old out.new
+        (bytes_of_full_play player.kind player.program.steps board.old) (flagged result.1) }
 {
-    play_kind(player.kind(), player.program(), board)
+    let (ending, _, noted) = play_kind_noted(player.kind(), player.program(), board, out);
+    (ending, noted)
 }
 
 /// Plays a program on a board by a player of this kind.
@@ -98,7 +97,8 @@ pub(crate) fn play_kind_noted<W: Sink>(
     ensures ending { result.0 ≡ ending_in kind (program_of program.now) board.old }
     ensures found { found result.1 ≡ found_in kind (program_of program.now) board.old }
     ensures board { board.new ≡ (full kind program.now.steps board.old).board }
-    ensures writes { WritesAll W.contents out.old out.new (bytes_of kind program.now.steps board.old)
+    ensures meaning { MeansAsPlayed kind (program_of program.now) board.old }
+    ensures writes { WritesAll W.contents out.old out.new (bytes_of_full_play kind program.now.steps board.old)
         (flagged result.2) }
 {
     match kind {

@@ -5,6 +5,8 @@
 #![tactic(auto)]
 
 #[cfg(test)]
+mod all_failures;
+#[cfg(test)]
 mod ends;
 #[cfg(test)]
 mod links;

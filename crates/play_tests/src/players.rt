@@ -9,6 +9,12 @@ pub(crate) fn player_of(alloc: Global, text: &[u8]) -> Result<Player, Fail> {
     Ok(Player::new(alloc, program).ok().ok_or("no memory")?)
 }
 
+/// A fresh player of a text that plays on.
+pub(crate) fn all_player_of(alloc: Global, text: &[u8]) -> Result<Player, Fail> {
+    let program = accept(alloc, text).ok().ok_or("refused")?;
+    Ok(Player::new_all(program))
+}
+
 /// Asserts that these are the next bytes, up to the room.
 fn assert_next(rt: &impl Abort, player: &mut Player, room: usize, wanted: &[u8]) {
     let mut buffer = [0; 2000];

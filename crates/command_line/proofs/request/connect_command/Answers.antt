@@ -1,8 +1,11 @@
-use Rattle.std.proofs.Common.{◌≡◌, ap, ◌∙◌, codes}
+use Rattle.std.proofs.Common.{◌≡◌, false, ap, ◌∙◌, codes}
 use Rattle.clap.specs.Simple.{app_of_fields}
 use Rattle.clap.specs.Words.{app_of, new_app, with_rule}
 use Rattle.command_line.specs.Asking.{all, host, port, svf, timeout}
-use Rattle.command_line.proofs.CommandLaws.{with_argument, with_last_argument}
+use Rattle.clap.specs.declared.builder.command.Command.TheViews.{out-Command}
+use Rattle.clap.specs.declared.builder.command.Command.{Command}
+use Rattle.clap.specs.declared.builder.command.Command.TheOpen.{Command-F}
+use Rattle.command_line.proofs.CommandLaws.{last_no_globals, no_globals, with_argument, with_last_argument}
 use Rattle.command_line.proofs.request.connect_command.Goals as goal
 
 pub returns-clause-shape : goal.returns-clause-shape
@@ -14,3 +17,12 @@ returns-clause-shape c =
     let arg2 = with_argument c.in_ok-arg-2.field-0 c.in_ok-arg-3.field-0 c.host_arg.result (with_rule (with_rule (none) svf) port) host c.in_ok-arg-3.ensures c.host_arg.ensures.local c.host_arg.ensures.rule arg1 in
     let arg3 = with_argument c.in_ok-arg-3.field-0 c.in_ok-arg-4.field-0 c.timeout_arg.result (with_rule (with_rule (with_rule (none) svf) port) host) timeout c.in_ok-arg-4.ensures c.timeout_arg.ensures.local c.timeout_arg.ensures.rule arg2 in
     with_last_argument c.in_ok-arg-4.field-0 c.all_arg.result (with_rule (with_rule (with_rule (with_rule (none) svf) port) host) timeout) all c.arg-5.result c.arg-5.ensures c.all_arg.ensures.local c.all_arg.ensures.rule arg3
+
+pub returns-clause-local : goal.returns-clause-local
+returns-clause-local c =
+    let named : (out-Command c.about.result).has_globals ≡ false = ap (λ (f : Command-F Command). f.has_globals) c.about.ensures ∙ c.new.ensures.local in
+    let l0 = no_globals c.about.result c.in_ok-arg.field-0 c.svf_arg.result c.in_ok-arg.ensures c.svf_arg.ensures.local named in
+    let l1 = no_globals c.in_ok-arg.field-0 c.in_ok-arg-2.field-0 c.port_arg.result c.in_ok-arg-2.ensures c.port_arg.ensures.local l0 in
+    let l2 = no_globals c.in_ok-arg-2.field-0 c.in_ok-arg-3.field-0 c.host_arg.result c.in_ok-arg-3.ensures c.host_arg.ensures.local l1 in
+    let l3 = no_globals c.in_ok-arg-3.field-0 c.in_ok-arg-4.field-0 c.timeout_arg.result c.in_ok-arg-4.ensures c.timeout_arg.ensures.local l2 in
+    last_no_globals c.in_ok-arg-4.field-0 c.all_arg.result c.arg-5.result c.arg-5.ensures c.all_arg.ensures.local l3
