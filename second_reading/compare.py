@@ -21,6 +21,7 @@ CASES = 450
 LONGEST_PLAY = 60_000  # bits and cycles; a longer program is checked and not played
 TIMEOUT = 60
 BOARD_FILE = "board.toml"
+WORDS = {"check": ["check"], "play": ["play", "--bytes"], "play to the end": ["play", "--bytes", "--all"]}
 
 
 def toml(value) -> str:
@@ -50,18 +51,19 @@ def expected(case: Case) -> dict[str, program.Answer]:
     try:
         board, its_program = program.read(*case)
     except Refusal as refusal:
-        return dict.fromkeys(("check", "play"), program.refused(refusal))
+        return dict.fromkeys(WORDS, program.refused(refusal))
     answers = {"check": program.check(board, its_program)}
     lengths = (len(getattr(step, "vector", ())) + getattr(step, "cycles", 0) for step in its_program.steps)
     if sum(lengths) <= LONGEST_PLAY:
         answers["play"] = program.play(board, its_program)
+        if answers["play"].status:  # a play that passes is the same to the end
+            answers["play to the end"] = program.play(board, its_program, to_the_end=True)
     return answers
 
 
 def obtained(path: str, command: str, case: Case, folder: str) -> program.Answer:
     """What the program prints, its files being in the folder."""
-    words = [path, command, *(["--bytes"] if command == "play" else [])]
-    words += [] if case.tree is None else ["--board", BOARD_FILE]
+    words = [path, *WORDS[command]] + ([] if case.tree is None else ["--board", BOARD_FILE])
     try:
         done = subprocess.run(words, input=case.text, cwd=folder, capture_output=True, timeout=TIMEOUT)
     except subprocess.TimeoutExpired:

@@ -1,4 +1,4 @@
-"""What the program prints: the lines of `check [--board FILE]` and of `play [--board FILE] --bytes`.
+"""What the program prints: the lines of `check [--board FILE]` and of `play [--board FILE] --bytes [--all]`.
 
 A play is made twice, by edges and by whole registers, and both must agree.
 """
@@ -14,6 +14,7 @@ from svf import GoStep, PathStep, Program, RunStep, ScanStep, TrstStep, accept
 
 OPENING = "r26262626260"
 TRST_BYTES = {"ON": "t26262626260", "OFF": "r", "Z": "r", "ABSENT": ""}
+MOST_LISTED = 256
 
 
 class Answer(NamedTuple):
@@ -42,33 +43,38 @@ def check(board: Board, program: Program) -> Answer:
     return Answer("".join(line + "\n" for line in lines), "", 0)
 
 
-def play(board: Board, program: Program) -> Answer:
-    sent, verdict, edges = play_by_edges(board, program)
-    whole_verdict, whole = play_by_registers(board, program)
-    assert verdict == whole_verdict, "the two ways of moving the board give different verdicts"
+def play(board: Board, program: Program, to_the_end: bool = False) -> Answer:
+    sent, failures, edges = play_by_edges(board, program, to_the_end)
+    whole_failures, whole = play_by_registers(board, program, to_the_end)
+    assert failures == whole_failures, "the two ways of moving the board give different failures"
     assert all(one.registers() == other.registers() for one, other in zip(edges.chips, whole.chips)), \
         "the two ways of moving the board leave different registers"
     assert (set(edges.states), edges.trst, edges.clock) == ({whole.place}, whole.trst, 0), \
         "the two ways of moving the board leave it in different places"
-    lines = [f"bytes {sent}", verdict]
+    lines = [f"bytes {sent}"] + verdict(failures, to_the_end)
     for part, chip, state in zip(board.parts, edges.chips, edges.states):
         latch = "".join(str(bit) for bit in reversed(chip.latch))
         lines.append(f"{part.name} {state} {latch} {chip.instruction or '-'}")
     lines += [f"{net.name} {level}" for net, level in zip(board.nets, Levels(board.nets, edges.chips).named)]
-    return Answer("".join(line + "\n" for line in lines), "", 0 if verdict == "pass" else 1)
+    return Answer("".join(line + "\n" for line in lines), "", 1 if failures else 0)
 
 
-def judged(step: ScanStep, wanted_and_got) -> str:
-    """`pass`, or the first bit of a scan that isn't as wanted."""
-    for bit, got in wanted_and_got:
-        if bit.want not in (None, got):
-            return f"fail command {step.number} {bit.part} bit {bit.place}"
-    return "pass"
+def verdict(failures: list[str], to_the_end: bool) -> list[str]:
+    """The first failure; of a play to the end the first ones, and how many there were."""
+    if not failures:
+        return ["pass"]
+    return failures[:MOST_LISTED] + [f"failures {len(failures)}"] if to_the_end else failures[:1]
 
 
-def play_by_edges(board: Board, program: Program) -> tuple[str, str, EdgeBoard]:
-    """The bytes of the opening, of the steps up to the first that fails, and `Q`; verdict; board left."""
-    edges, sent, place, verdict = EdgeBoard(board), [OPENING], "RESET", "pass"
+def failing(step: ScanStep, wanted_and_got) -> list[str]:
+    """The bits of a scan that aren't as wanted, in the order of the vector."""
+    return [f"fail command {step.number} {bit.part} bit {bit.place}"
+            for bit, got in wanted_and_got if bit.want not in (None, got)]
+
+
+def play_by_edges(board: Board, program: Program, to_the_end: bool) -> tuple[str, list[str], EdgeBoard]:
+    """The bytes of the opening, of the steps (up to the first that fails) and `Q`; failures; board left."""
+    edges, sent, place, failures = EdgeBoard(board), [OPENING], "RESET", []
     for byte in OPENING:
         edges.byte(byte)
     for step in program.steps:
@@ -78,22 +84,22 @@ def play_by_edges(board: Board, program: Program) -> tuple[str, str, EdgeBoard]:
         if isinstance(step, ScanStep):
             wanted = [bit for bit in step.vector if bit.want is not None]
             assert len(wanted) == len(answers), "a scan asks for other bits than the wanted ones"
-            verdict = judged(step, zip(wanted, answers))
-            if verdict != "pass":
+            failures += failing(step, zip(wanted, answers))
+            if failures and not to_the_end:
                 break
-    return "".join(sent) + "Q", verdict, edges
+    return "".join(sent) + "Q", failures, edges
 
 
-def play_by_registers(board: Board, program: Program) -> tuple[str, WholeBoard]:
-    """The verdict, and the board left; the opening leaves a fresh board as it is."""
-    whole, verdict = WholeBoard(board), "pass"
+def play_by_registers(board: Board, program: Program, to_the_end: bool) -> tuple[list[str], WholeBoard]:
+    """The failures, and the board left; the opening leaves a fresh board as it is."""
+    whole, failures = WholeBoard(board), []
     for step in program.steps:
         out = whole.command(step)
         if isinstance(step, ScanStep):
-            verdict = judged(step, zip(step.vector, out))
-            if verdict != "pass":
+            failures += failing(step, zip(step.vector, out))
+            if failures and not to_the_end:
                 break
-    return verdict, whole
+    return failures, whole
 
 
 # Bytes
