@@ -13,7 +13,7 @@ use Rattle.plays.specs.DirectPlay.{MeansFromOpening}
 use Rattle.plays.specs.Events.{Event, World, by_answers, empty_pipes, before_events as fresh_world, run}
 use Rattle.plays.specs.Play.{Played, ending_for, play, player, sent, turns}
 use Rattle.plays.specs.Playing.{PlayerState}
-use Rattle.plays.specs.PlayingOn.{Stops}
+use Rattle.plays.specs.declared.kind.Kind.TheVariants.{Stops}
 use Rattle.plays.specs.Streams as stream
 use Rattle.plays.specs.Streams.{StreamState, new_stream}
 use Rattle.plays.proofs.Asks.{hear-asks, hear-full, sent-full, turns-ask}

@@ -9,7 +9,7 @@ use Rattle.plays.specs.declared.ending.Ending.TheVariants.{Lost}
 use Rattle.plays.specs.Events.{Event, Put, Serve, Take, Lose, Known, World, by_answers, bytes_moved, empty_pipes, happens, moving, run, taken_at, taken_over}
 use Rattle.plays.specs.Events.{before_events as fresh_world}
 use Rattle.plays.specs.Play.{in_work, play, player, turns, verdict}
-use Rattle.plays.specs.PlayingOn.{Stops}
+use Rattle.plays.specs.declared.kind.Kind.TheVariants.{Stops}
 use Rattle.plays.specs.Streams as stream
 use Rattle.plays.specs.Streams.{StreamState, new_stream}
 use Rattle.every_schedule.specs.Fronts.{IsFront}

@@ -17,7 +17,7 @@ use Rattle.std.specs.List.{list_any}
 use Rattle.every_schedule.specs.Fair.{HasNoLose, IsFair, loses}
 use Rattle.every_schedule.specs.InWork.{answers_in, bytes_in}
 use Rattle.every_schedule.specs.Laws.{full}
-use Rattle.plays.specs.PlayingOn.{Stops}
+use Rattle.plays.specs.declared.kind.Kind.TheVariants.{Stops}
 use Rattle.every_schedule.proofs.MovingEvents.{total}
 use Rattle.every_schedule.proofs.Progress.{fair-moves, moving-total, total-bound}
 use Rattle.every_schedule.proofs.Quits.{played_of, sent-eager}

@@ -2,7 +2,7 @@
 use Rattle.std.specs.Prelude.{◌≡◌, true, ◌<◌, List}
 use Rattle.board_meaning.specs.Chain.{BoardState}
 use Rattle.plays.specs.Events.{Event, empty_pipes, run}
-use Rattle.plays.specs.PlayingOn.{Stops}
+use Rattle.plays.specs.declared.kind.Kind.TheVariants.{Stops}
 use Rattle.plays.specs.Streams.{new_stream}
 use Rattle.every_schedule.specs.Fair.{HasNoLose}
 use Rattle.bounded_pipes.specs.Joining.{JoinedState, side}

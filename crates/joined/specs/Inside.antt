@@ -8,7 +8,7 @@ use Rattle.plays.specs.declared.ending.Ending.TheVariants.{Lost}
 use Rattle.plays.specs.DirectPlay.{bytes_of_full_play}
 use Rattle.plays.specs.Events.{Event, Put, Serve, Take, Lose, World, bytes_moved, empty_pipes, moving, taken_over}
 use Rattle.plays.specs.Play.{play, turns}
-use Rattle.plays.specs.PlayingOn.{Stops}
+use Rattle.plays.specs.declared.kind.Kind.TheVariants.{Stops}
 use Rattle.plays.specs.Streams.{StreamState, new_stream}
 use Rattle.every_schedule.specs.Fronts.{IsFront}
 use Rattle.every_schedule.specs.InWork.{IsInWork, turns_made}

@@ -8,7 +8,7 @@ use Rattle.plays.specs.declared.ending.Ending.{Ending}
 use Rattle.plays.specs.DirectPlay.{MeansFromOpening}
 use Rattle.plays.specs.Events.{Event, World, empty_pipes, run}
 use Rattle.plays.specs.Play.{play}
-use Rattle.plays.specs.PlayingOn.{Stops}
+use Rattle.plays.specs.declared.kind.Kind.TheVariants.{Stops}
 use Rattle.plays.specs.Streams.{StreamState, new_stream}
 use Rattle.bounded_pipes.specs.Standing.{ended_of}
 use Rattle.bounded_pipes.specs.Joining.{JoinedState, side}

@@ -2,7 +2,7 @@
 
 ghost use Rattle.std.specs.Prelude.{◌≡◌, ◌<◌, Some, map, MatchResult};
 ghost use Rattle.plays.specs.Events.{empty_pipes, moving, run};
-ghost use Rattle.plays.specs.PlayingOn.{Stops};
+ghost use Rattle.plays.specs.declared.kind.Kind.TheVariants.{Stops};
 ghost use Rattle.plays.specs.Streams.{new_stream};
 ghost use Rattle.joined.specs.Finishing.{IsFinished};
 ghost use Rattle.bounded_pipes.specs.Standing.{ended_of};

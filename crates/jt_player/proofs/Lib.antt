@@ -1,2 +1,3 @@
 pub mod RunLaws
 pub mod HeadlineLaws
+pub mod KindLaws

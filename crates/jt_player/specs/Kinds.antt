@@ -7,7 +7,9 @@ use Rattle.plays.specs.declared.ending.Ending.{Ending}
 use Rattle.plays.specs.declared.ending.Ending.TheVariants.{Fail}
 use Rattle.plays.specs.DirectPlay.{MeansFromOpening}
 use Rattle.plays.specs.Play.{play, turns}
-use Rattle.plays.specs.PlayingOn.{Kind, Mismatch, PlaysOn, Stops, ending_of, failures}
+use Rattle.plays.specs.declared.kind.Kind.{Kind}
+use Rattle.plays.specs.declared.kind.Kind.TheVariants.{Stops, PlaysOn}
+use Rattle.plays.specs.PlayingOn.{Mismatch, ending_of, failures}
 use Rattle.plays.specs.Streams.{found_of}
 use Rattle.scan_vectors.specs.Failures.{Found, none_found}
 use Rattle.svf_programs.specs.Steps.{Program}
@@ -25,10 +27,10 @@ ending_in Stops program before = (play program before).ending
 ending_in PlaysOn program before = ending_of (all_failures program before)
 
 -- what a player has found that stopped so
-abbrev pub found_by : Ending → Found
-found_by (Fail command part bit) =
+abbrev pub found_of_ending : Ending → Found
+found_of_ending (Fail command part bit) =
     record { list = record { command = command; part = part; bit = bit } ∷ []; total = 1 }
-found_by ending = none_found
+found_of_ending ending = none_found
 
 -- It is what the program means over whole registers, from the state after the opening.
 abbrev pub MeansAsPlayed : Kind → Program → BoardState → Type 0

@@ -12,7 +12,7 @@ use Rattle.board_report.specs.LeftOut.{left_out_lines}
 use Rattle.board_report.specs.Report.{report}
 use Rattle.every_schedule.specs.Laws.{bytes_of_full_play, full}
 use Rattle.plays.specs.Endings.{status_of}
-use Rattle.plays.specs.PlayingOn.{Kind}
+use Rattle.plays.specs.declared.kind.Kind.{Kind}
 use Rattle.direct_play.specs.Accepting.{Accepts, Refuses}
 use Rattle.jt_player.specs.Kinds.{MeansAsPlayed, ending_in, found_in}
 use Rattle.jt_player.specs.Showing.{accepted_line, ending_lines, refusal_line}

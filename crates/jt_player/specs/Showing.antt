@@ -1,7 +1,9 @@
 -- The lines of endings, of refusals and of an accepted text.
 use Rattle.std.specs.Prelude.{ℕ, List, [], ◌∷◌, ◌++◌, codes, decimal, flat_map, length}
 use Rattle.plays.specs.Endings.{texts, verdict_line}
-use Rattle.plays.specs.PlayingOn.{Kind, Mismatch, PlaysOn}
+use Rattle.plays.specs.declared.kind.Kind.{Kind}
+use Rattle.plays.specs.declared.kind.Kind.TheVariants.{PlaysOn}
+use Rattle.plays.specs.PlayingOn.{Mismatch}
 use Rattle.plays.specs.declared.ending.Ending.{Ending}
 use Rattle.plays.specs.declared.ending.Ending.TheVariants.{Fail}
 use Rattle.scan_vectors.specs.Failures.{Found}

@@ -7,7 +7,7 @@ ghost use Rattle.play_links.specs.Links.{PlaysAllOver};
 ghost use Rattle.play_links.specs.Loops.{LoopsAllOver};
 ghost use Rattle.play_links.specs.Serves.{ServesOver};
 ghost use Rattle.plays.specs.Endings.{status_of, verdict_line};
-ghost use Rattle.plays.specs.PlayingOn.{Stops};
+ghost use Rattle.plays.specs.declared.kind.Kind.TheVariants.{Stops};
 ghost use Rattle.plays.specs.Streams.{new_stream};
 ghost use Rattle.svf_programs.specs.Sizes.{program_of};
 ghost use Rattle.plays.specs.declared.ending.Ending as end;

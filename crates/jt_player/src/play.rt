@@ -6,7 +6,7 @@ ghost use Rattle.every_schedule.specs.Laws.{bytes_of_full_play, full};
 ghost use Rattle.plays.specs.Streams.{new_stream};
 ghost use Rattle.scan_vectors.specs.Failures.{found};
 ghost use Rattle.svf_programs.specs.Sizes.{program_of};
-ghost use Rattle.jt_player.specs.Kinds.{MeansAsPlayed, ending_in, found_by, found_in};
+ghost use Rattle.jt_player.specs.Kinds.{MeansAsPlayed, ending_in, found_of_ending, found_in};
 
 use byte_ends::{Counted, Sink};
 use direct_play::{play_program, play_program_all, play_program_all_noted, play_program_noted};
@@ -112,7 +112,7 @@ pub(crate) fn play_kind_noted<W: Sink>(
 
 /// What a player that stops has found.
 fn first_alone(ending: Ending) -> Failures
-    ensures { found result ≡ found_by ending }
+    ensures { found result ≡ found_of_ending ending }
 {
     let mut failures = Failures::new();
     if let Ending::Fail { command, part, bit } = ending {

@@ -4,7 +4,7 @@ ghost use Rattle.std.specs.Prelude.{◌≡◌, ◌≢◌, ◌⊎◌, ◌++◌, I
 ghost use Rattle.byte_ends.specs.Writes.{WritesAll};
 ghost use Rattle.board_report.specs.LeftOut.{left_out_lines};
 ghost use Rattle.every_schedule.specs.Laws.{full};
-ghost use Rattle.plays.specs.PlayingOn.{PlaysOn, Stops};
+ghost use Rattle.plays.specs.declared.kind.Kind.TheVariants.{Stops, PlaysOn};
 ghost use Rattle.scan_vectors.specs.Failures.{found};
 ghost use Rattle.svf_programs.specs.Sizes.{program_of};
 ghost use Rattle.jt_player.specs.Kinds.{ending_in, found_in};

@@ -16,7 +16,7 @@ use Rattle.every_schedule.proofs.Quits.{has_quit, quit-append, quit-last, turns-
 use Rattle.plays.specs.declared.ending.Ending.{Ending}
 use Rattle.plays.specs.Play.{sent, turns}
 use Rattle.plays.specs.Playing.{PlayerState, has_bad_answer, new_player}
-use Rattle.plays.specs.PlayingOn.{Stops}
+use Rattle.plays.specs.declared.kind.Kind.TheVariants.{Stops}
 use Rattle.plays.proofs.Asks.{asks, hear-asks}
 use Rattle.streaming.specs.Histories as history
 use Rattle.streaming.specs.Histories.{bits_told}

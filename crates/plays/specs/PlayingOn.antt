@@ -8,8 +8,8 @@ pub use Rattle.scan_vectors.specs.Failures.{differing}
 pub use Rattle.scan_vectors.specs.declared.failures.Mismatch.{Mismatch}
 use Rattle.plays.specs.declared.ending.Ending.{Ending}
 use Rattle.plays.specs.declared.ending.Ending.TheVariants.{Pass, Fail}
-pub use Rattle.plays.specs.declared.kind.Kind.{Kind}
-pub use Rattle.plays.specs.declared.kind.Kind.TheVariants.{Stops, PlaysOn}
+use Rattle.plays.specs.declared.kind.Kind.{Kind}
+use Rattle.plays.specs.declared.kind.Kind.TheVariants.{Stops, PlaysOn}
 use Rattle.plays.specs.Play.{Turn, turns}
 
 -- A bit that is asked for, whatever it is.

@@ -13,7 +13,9 @@ use Rattle.plays.specs.Events.{Side}
 use Rattle.plays.specs.Play.{Turn, is_bad, turns, up_to_asks}
 use Rattle.plays.specs.Playing.{up_to_bad}
 use Rattle.svf_programs.specs.Steps.{Program}
-use Rattle.plays.specs.PlayingOn.{Kind, Stops, PlaysOn, Mismatch, ending_of}
+use Rattle.plays.specs.declared.kind.Kind.{Kind}
+use Rattle.plays.specs.declared.kind.Kind.TheVariants.{Stops, PlaysOn}
+use Rattle.plays.specs.PlayingOn.{Mismatch, ending_of}
 
 -- Of all failures a player that stops keeps the first and counts no further; one that plays on counts all and lists the
 -- first ones.

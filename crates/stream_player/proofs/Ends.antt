@@ -11,7 +11,8 @@ use Rattle.svf_programs.specs.Steps.{Program}
 use Rattle.plays.specs.declared.ending.Ending.{Ending}
 use Rattle.plays.specs.declared.ending.Ending.TheVariants.{BadAnswer}
 use Rattle.plays.specs.Play.{Turn, is_bad, turns}
-use Rattle.plays.specs.PlayingOn.{Mismatch, Stops, ending_of}
+use Rattle.plays.specs.declared.kind.Kind.TheVariants.{Stops}
+use Rattle.plays.specs.PlayingOn.{Mismatch, ending_of}
 use Rattle.plays.specs.Streams as stream
 use Rattle.plays.specs.Streams.{Wanted, command_at, hear, mismatch_of, with_more, all_wanted, command_at_work}
 use Rattle.every_schedule.proofs.Quits.{has_quit}

@@ -5,7 +5,8 @@ use Rattle.bitbang_table.specs.declared.Message.{Message}
 use Rattle.scan_vectors.specs.Vector.{VectorBit, differs}
 use Rattle.svf_programs.specs.Steps.{Program}
 use Rattle.plays.specs.Play.{Turn, turns}
-use Rattle.plays.specs.PlayingOn.{Mismatch, Stops}
+use Rattle.plays.specs.declared.kind.Kind.TheVariants.{Stops}
+use Rattle.plays.specs.PlayingOn.{Mismatch}
 use Rattle.plays.specs.Streams.{Found, StreamState}
 use Rattle.every_schedule.specs.InWork.{answers_in}
 

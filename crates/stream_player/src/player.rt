@@ -2,7 +2,7 @@
 
 ghost use Rattle.std.specs.Prelude.{◌≡◌, ◌+◌, ◌-◌, ◌^◌, ◌↔◌, ◌++◌, IsTrue, IsOk, IfOk, length, min, take, drop};
 ghost use Rattle.svf_programs.specs.Sizes.{program_of};
-ghost use Rattle.plays.specs.PlayingOn.{Stops};
+ghost use Rattle.plays.specs.declared.kind.Kind.TheVariants.{Stops};
 ghost use Rattle.plays.specs.Streams as stream;
 ghost use Rattle.plays.specs.Streams.{new_stream, hear_bytes, answers_taken, bytes_to_send};
 

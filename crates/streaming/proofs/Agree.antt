@@ -13,7 +13,9 @@ use Rattle.plays.specs.Play.{Turn, in_work, is_bad, sent, turns}
 use Rattle.plays.specs.Playing.{PlayerState, has_bad_answer, up_to_bad}
 use Rattle.plays.proofs.Asks.{asks}
 use Rattle.plays.proofs.GrowthByPrefix.{sent-grows}
-use Rattle.plays.specs.PlayingOn.{Kind, Stops, PlaysOn, Mismatch, ending_of, failures, turns_for, unjudged}
+use Rattle.plays.specs.declared.kind.Kind.{Kind}
+use Rattle.plays.specs.declared.kind.Kind.TheVariants.{Stops, PlaysOn}
+use Rattle.plays.specs.PlayingOn.{Mismatch, ending_of, failures, turns_for, unjudged}
 use Rattle.every_schedule.proofs.BothPlayers.{ask-for, no-quit-for}
 use Rattle.every_schedule.proofs.Quits.{asks-append, has_quit}
 use Rattle.streaming.specs.Histories as history

@@ -14,7 +14,8 @@ use Rattle.svf_programs.specs.Steps.{Numbered, Program}
 use Rattle.plays.proofs.Asks.{asks, hear-asks}
 use Rattle.every_schedule.specs.Fronts.{IsFront}
 use Rattle.every_schedule.specs.Laws.{Connection, full}
-use Rattle.plays.specs.PlayingOn.{Kind, turns_for}
+use Rattle.plays.specs.declared.kind.Kind.{Kind}
+use Rattle.plays.specs.PlayingOn.{turns_for}
 use Rattle.every_schedule.proofs.Fronts.{front-trans}
 use Rattle.every_schedule.proofs.HonestLinks.{none-bad-any, told-bits}
 use Rattle.every_schedule.proofs.InsideFullPlay.{inside-happens, length-encoded}

@@ -5,7 +5,9 @@ use Rattle.std.specs.Prelude.{◌==◌, is_some, if◌then◌else◌}
 use Rattle.scan_vectors.specs.Vector.{VectorBit, differs}
 use Rattle.plays.specs.Play.{Turn, is_bad, turns}
 use Rattle.svf_programs.specs.Steps.{Program}
-use Rattle.plays.specs.PlayingOn.{Kind, Stops, PlaysOn, Mismatch, differing, failures}
+use Rattle.plays.specs.declared.kind.Kind.{Kind}
+use Rattle.plays.specs.declared.kind.Kind.TheVariants.{Stops, PlaysOn}
+use Rattle.plays.specs.PlayingOn.{Mismatch, differing, failures}
 use Rattle.streaming.specs.Histories.{bits_told}
 use Rattle.streaming.specs.Laws.{FreshAgrees, HearingIsTheHistory, good, stream_of}
 use Rattle.plays.specs.Streams.{StreamState, Wanted, count_kept, found_of, hear, hear_bytes, mismatch_of, most_kept, with_more, all_wanted}

@@ -12,7 +12,7 @@ use Rattle.svf_programs.specs.Steps.{Numbered}
 use Rattle.plays.proofs.Asks.{hear-full, sent-full, turns-ask}
 use Rattle.every_schedule.specs.Fronts.{IsFront}
 use Rattle.every_schedule.specs.Laws.{full}
-use Rattle.plays.specs.PlayingOn.{Stops}
+use Rattle.plays.specs.declared.kind.Kind.TheVariants.{Stops}
 use Rattle.every_schedule.specs.Sides.{answers_to_bytes}
 use Rattle.every_schedule.proofs.Fronts.{front-take, front-trans}
 use Rattle.every_schedule.proofs.HonestLinks.{ending-full, honest, none-bad-any, told-bits}

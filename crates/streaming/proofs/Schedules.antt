@@ -7,7 +7,8 @@ use Rattle.plays.specs.Play.{player}
 use Rattle.plays.specs.Playing as playing
 use Rattle.plays.specs.Playing.{PlayerState}
 use Rattle.svf_programs.specs.Steps.{Program}
-use Rattle.plays.specs.PlayingOn.{Kind, turns_for}
+use Rattle.plays.specs.declared.kind.Kind.{Kind}
+use Rattle.plays.specs.PlayingOn.{turns_for}
 use Rattle.streaming.specs.Histories as history
 use Rattle.streaming.specs.Histories.{WasAsked}
 use Rattle.streaming.specs.Laws.{CallsGoAlike, SchedulesCarryOver, history_of, stream_of, with_player}

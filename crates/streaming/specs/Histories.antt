@@ -6,7 +6,9 @@ use Rattle.plays.specs.declared.ending.Ending.{Ending}
 use Rattle.plays.specs.declared.ending.Ending.TheVariants.{Pass}
 use Rattle.plays.specs.Play.{Turn, ending_for, in_work, player, turns}
 use Rattle.plays.specs.Playing.{PlayerState, has_bad_answer, up_to_bad}
-use Rattle.plays.specs.PlayingOn.{Kind, Stops, PlaysOn, ending_of, failures, turns_for}
+use Rattle.plays.specs.declared.kind.Kind.{Kind}
+use Rattle.plays.specs.declared.kind.Kind.TheVariants.{Stops, PlaysOn}
+use Rattle.plays.specs.PlayingOn.{ending_of, failures, turns_for}
 
 -- the bits that answer bytes tell
 abbrev pub bits_told : List ℕ → List Bool

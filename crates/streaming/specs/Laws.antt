@@ -8,7 +8,9 @@ use Rattle.plays.specs.Play.{is_bad, player, turns}
 use Rattle.plays.specs.Playing as playing
 use Rattle.plays.specs.Playing.{PlayerState, has_bad_answer}
 use Rattle.svf_programs.specs.Steps.{Program}
-use Rattle.plays.specs.PlayingOn.{Kind, Stops, failures, turns_for}
+use Rattle.plays.specs.declared.kind.Kind.{Kind}
+use Rattle.plays.specs.declared.kind.Kind.TheVariants.{Stops}
+use Rattle.plays.specs.PlayingOn.{failures, turns_for}
 use Rattle.every_schedule.specs.Fronts.{IsFront}
 use Rattle.every_schedule.specs.Laws.{full, bytes_of_full_play}
 use Rattle.every_schedule.specs.Sides.{answers_to_bytes}

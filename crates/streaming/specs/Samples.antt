@@ -5,7 +5,8 @@ use Rattle.plays.specs.declared.ending.Ending.TheVariants.{BadAnswer, Fail}
 use Rattle.plays.specs.Events.{World, empty_pipes, run}
 use Rattle.svf_programs.specs.Steps.{Program}
 use Rattle.every_schedule.specs.Fair.{one_each}
-use Rattle.plays.specs.PlayingOn.{Kind, Stops, PlaysOn}
+use Rattle.plays.specs.declared.kind.Kind.{Kind}
+use Rattle.plays.specs.declared.kind.Kind.TheVariants.{Stops, PlaysOn}
 use Rattle.every_schedule.specs.Samples.{sample, two_scans}
 use Rattle.plays.specs.Streams.{StreamState, ending_of_stream, new_stream, hear_bytes, owed, side, answers_taken}
 use Rattle.plays.specs.Streams.{bytes_to_send, working}
