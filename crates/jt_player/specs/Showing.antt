@@ -1,6 +1,7 @@
 -- The lines of endings, of refusals and of an accepted text.
-use Rattle.std.specs.Prelude.{ℕ, List, [], ◌∷◌, ◌++◌, codes, decimal, flat_map, length}
-use Rattle.plays.specs.Endings.{texts, verdict_line}
+use Rattle.std.specs.Prelude.{ℕ, ◌==◌, ◌||◌, nat_lt, List, [], ◌∷◌, ◌++◌, codes, decimal, flat_map, length}
+use Rattle.std.specs.Prelude.{if◌then◌else◌}
+use Rattle.plays.specs.Endings.{hex_byte, texts, verdict_line}
 use Rattle.plays.specs.declared.kind.Kind.{Kind}
 use Rattle.plays.specs.declared.kind.Kind.TheVariants.{PlaysOn}
 use Rattle.plays.specs.PlayingOn.{Mismatch}
@@ -93,6 +94,11 @@ abbrev pub board_refusal_status : BoardFault BsdlFault → ℕ
 board_refusal_status board.NoMemory = 4
 board_refusal_status _ = 2
 
+-- A byte of a file's name as it is told: `\x` and two digits for a control byte, which a terminal would take for itself,
+-- and for the backslash, so that no two names are told alike.
+abbrev pub name_byte : ℕ → List ℕ
+name_byte b = if nat_lt b 32 || b == 127 || b == 92 then 92 ∷ 120 ∷ hex_byte b else b ∷ []
+
 -- the line of a file that cannot be read
 abbrev pub unreadable_line : List ℕ → List ℕ
-unreadable_line name = texts (codes "file " ∷ name ∷ codes "\n" ∷ [])
+unreadable_line name = texts (codes "file " ∷ flat_map name_byte name ∷ codes "\n" ∷ [])

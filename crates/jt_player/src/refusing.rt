@@ -1,10 +1,12 @@
 //! What is told of input that no run comes of: a board that is not made, a file that cannot be read, want of memory.
 
-ghost use Rattle.std.specs.Prelude.{◌≡◌, codes};
+ghost use Rattle.std.specs.Prelude.{◌≡◌, codes, flat_map};
+ghost use Rattle.byte_ends.specs.Writes.{WritesAll};
 ghost use Rattle.jt_player.specs.Running.{Tells};
 ghost use Rattle.jt_player.specs.Showing as showing;
-ghost use Rattle.jt_player.specs.Showing.{board_refusal_line, board_refusal_status, unreadable_line};
+ghost use Rattle.jt_player.specs.Showing.{board_refusal_line, board_refusal_status, name_byte, unreadable_line};
 
+use crate::showing::hex_byte;
 use byte_ends::{Broken, Counted, Sink, put_all, put_pieces};
 use jt_board::{BoardFault, BsdlFault};
 
@@ -12,6 +14,8 @@ use jt_board::{BoardFault, BsdlFault};
 const REFUSED: u8 = 2;
 /// The exit status where memory ran out.
 const NO_MEMORY: u8 = 4;
+/// The byte DEL of ASCII, a control byte as those below the blank are.
+const DELETE: u8 = 127;
 
 /// Writes the line of a board that is not made: `board C5 UnknownPin`, the refusal of a description in place of C4
 /// (`bsdl B6 BadCapture`), `memory` in place of C8. Answers the exit status: 2 refused, 4 want of memory.
@@ -26,15 +30,50 @@ pub fn refuse_board<E: Sink>(fault: &BoardFault, err: &mut Counted<E>) -> Result
     Ok(board_status(fault))
 }
 
-/// Writes the line of a file that cannot be read, `file NAME`. Answers the exit status of refused input, 2.
+/// Writes the line of a file that cannot be read, `file NAME`, where a control byte and a backslash of the name stand as
+/// `\x0a` does. Answers the exit status of refused input, 2.
 ///
 /// `Broken` comes exactly where the writer's first failure came in this call.
 pub fn refuse_file<E: Sink>(name: &str, err: &mut Counted<E>) -> Result<u8, Broken>
     requires { err.old.failures ≡ 0 }
     ensures { Tells E.contents err.old err.new (unreadable_line name.now) 2 result }
 {
-    put_pieces(err, &[b"file ", name.as_bytes(), b"\n"])?;
+    write_unreadable(name, err)?;
     Ok(REFUSED)
+}
+
+/// Writes the line of a file that cannot be read.
+#[tactic(auto, using(byte_ends::proofs::Fronts::fronts))]
+fn write_unreadable<E: Sink>(name: &str, err: &mut Counted<E>) -> Result<(), Broken>
+    requires { err.old.failures ≡ 0 }
+    ensures { WritesAll E.contents err.old err.new (unreadable_line name.now) result }
+{
+    put_all(err, b"file ")?;
+    write_name(name, err)?;
+    put_all(err, b"\n")
+}
+
+/// Writes a file's name as it is told.
+fn write_name<E: Sink>(name: &str, err: &mut Counted<E>) -> Result<(), Broken>
+    requires { err.old.failures ≡ 0 }
+    ensures { WritesAll E.contents err.old err.new (flat_map name_byte name.now) result }
+{
+    for byte in name.as_bytes() {
+        write_name_byte(*byte, err)?;
+    }
+    Ok(())
+}
+
+/// Writes one byte of a file's name as it is told.
+fn write_name_byte<E: Sink>(byte: u8, err: &mut Counted<E>) -> Result<(), Broken>
+    requires { err.old.failures ≡ 0 }
+    ensures { WritesAll E.contents err.old err.new (name_byte byte) result }
+{
+    if byte < b' ' || byte == DELETE || byte == b'\\' {
+        put_pieces(err, &[b"\\x", &hex_byte(byte)])
+    } else {
+        put_all(err, &[byte])
+    }
 }
 
 /// Writes that memory ran out, `memory`. Answers the exit status that says so, 4.
