@@ -5,10 +5,10 @@ use crate::descriptions::{P, device};
 use jt_bits::{Bits, HexFault};
 use jt_tap::Column;
 use scan_registers::{Chip, Plain, SharedDevice, is_formed};
-use scan_vectors::{Part, Part3, join};
+use scan_vectors::{Failures, Mismatch, Part, Part3, Vector, join};
 use std::alloc::Global;
 use std::test::Fail;
-use whole_chain::{judge_chain, shift_chain};
+use whole_chain::{note_chain, shift_chain};
 
 /// A chip whose bypass bit is 0, without a code, so that its reset instruction selects bypass.
 fn chip(alloc: Global) -> Result<Chip<Plain>, Fail> {
@@ -44,6 +44,23 @@ fn of<'a>(tdi: &'a Bits, tdo: &'a Bits) -> Part3<'a>
     }
 }
 
+/// What fails of the vector as command 7, on the chain as it stands.
+fn failures(chain: &[Chip<Plain>], vector: &Vector) -> Failures {
+    // For the proof alone: its bits can be counted.
+    let _ = vector.len();
+    let mut failures = Failures::new();
+    note_chain(chain, Column::Dr, vector, 7, &mut failures);
+    failures
+}
+
+fn data_bit(bit: usize) -> Mismatch {
+    Mismatch {
+        command: 7,
+        part: Part::Data,
+        bit,
+    }
+}
+
 #[test]
 fn a_scan_of_three_bits_through_two_bypass_bits(rt: HostRuntime) -> Result<(), Fail> {
     let alloc = rt.alloc();
@@ -59,14 +76,14 @@ fn a_scan_of_three_bits_through_two_bypass_bits(rt: HostRuntime) -> Result<(), F
     let wrong = field(alloc, b"6")?;
     let mut chain = chain(alloc)?;
     let vector = join(nothing, of(&tdi, &right), nothing);
-    assert_eq!(rt; judge_chain(&chain, Column::Dr, &vector), None);
+    assert_eq!(rt; failures(&chain, &vector).total, 0);
+    let found = failures(&chain, &join(nothing, of(&tdi, &wrong), nothing));
+    assert_eq!(rt; found.list.as_slice(), [data_bit(1)].as_slice());
+    let found = failures(&chain, &join(nothing, of(&tdi, &tdi), nothing));
+    assert_eq!(rt; found.total, 3);
     assert_eq!(rt;
-        judge_chain(
-            &chain,
-            Column::Dr,
-            &join(nothing, of(&tdi, &wrong), nothing)
-        ),
-        Some((Part::Data, 1))
+        found.list.as_slice(),
+        [data_bit(0), data_bit(1), data_bit(2)].as_slice()
     );
     shift_chain(&mut chain, Column::Dr, &vector);
     let mut bypass = Vec::with_capacity(alloc, 2)?;

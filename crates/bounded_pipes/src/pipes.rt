@@ -3,6 +3,7 @@
 ghost use Rattle.std.specs.Prelude.{◌≡◌, ◌<◌, ◌+◌, ◌-◌, min, length, take, map, is_some, nat_lt};
 ghost use Rattle.std.specs.Prelude.{false, unwrap_or, Some, MatchResult};
 ghost use Rattle.bitbang_table.specs.Protocol.{decode};
+ghost use Rattle.scan_vectors.specs.Failures.{found};
 ghost use Rattle.plays.specs.Events.{empty_pipes, happens, has_room, bytes_moved, moving, put_bytes, run, served};
 ghost use Rattle.plays.specs.Events.{take_answers};
 ghost use Rattle.bounded_pipes.specs.Joining.{event_of, serve_one, side};
@@ -15,7 +16,7 @@ use jt_board::{Board, Reply};
 use plays::Ending;
 use std::alloc::Global;
 use std::marker::Model;
-use stream_player::Player;
+use stream_player::{Failures, Player};
 
 /// Player and board with two bounded pipes between them, in whatever state. Contracts see the world of the two and how
 /// much each pipe has room for.
@@ -258,6 +259,13 @@ impl Pipes {
             return Some(Ending::Lost { command });
         }
         if self.quit { self.player.ended() } else { None }
+    }
+
+    /// The wanted bits that did not come out so far, as the player has them.
+    pub fn failures(&self) -> &Failures
+        ensures { found result.now ≡ self.now.world.player.found }
+    {
+        self.player.failures()
     }
 
     /// The board.

@@ -1,4 +1,5 @@
-pub mod WholePlay
 pub mod Turns
+pub mod Failing
+pub mod WholePlay
 pub mod NotedPieces
 pub mod Buffers

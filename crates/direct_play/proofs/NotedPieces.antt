@@ -19,29 +19,6 @@ Notes-none contents a most =
       most = most;
     }
 
--- one piece, and then another
-pub Notes-then : {W : Type 0} {contents : W → Option (List ℕ)} {a b c : CountedView W} {xs ys : List ℕ} → Notes contents a b xs → Notes contents b c ys
-    → Notes contents a c (xs ++ ys)
-Notes-then {contents = contents} {a = a} {b = b} {c = c} {xs = xs} {ys = ys} one more = by b.failures refl
-  where
-    by : (n : ℕ) → b.failures ≡ n → Notes contents a c (xs ++ ys)
-    by zero none = record {
-      kept = λ lost. let same : b ≡ a = one.kept lost in absurd (lost (sym (ap (λ (v : CountedView _). v.failures) same) ∙ none));
-      whole = λ e f. Appends-trans (contents a.inner) (contents b.inner) (contents c.inner) xs ys (one.whole e none) (more.whole none f);
-      front = λ e. AppendsFront-next (contents a.inner) (contents b.inner) (contents c.inner) xs ys (one.whole e none) (more.front none);
-      most = more.most;
-    }
-    by (suc n) some =
-        let lost : b.failures ≢ 0 = λ e. let bad : 0 ≡ suc n = sym e ∙ some in absurd (cc) in
-        let same : c ≡ b = more.kept lost in
-        record {
-          kept = λ before. same ∙ one.kept before;
-          whole = λ e f. absurd (lost (sym (ap (λ (v : CountedView _). v.failures) same) ∙ f));
-          front = λ e. subst (λ (v : CountedView _). AppendsFront (contents a.inner) (contents v.inner) (xs ++ ys)) (sym same)
-              (AppendsFront-first ys (one.front e));
-          most = more.most;
-        }
-
 -- the same bytes
 pub Notes-is : {W : Type 0} {contents : W → Option (List ℕ)} {a b : CountedView W} {xs ys : List ℕ} → xs ≡ ys → Notes contents a b xs → Notes contents a b ys
 Notes-is {contents = contents} {a = a} {b = b} same one = subst (λ (l : List ℕ). Notes contents a b l) same one

@@ -1,80 +1,65 @@
 -- A program played on whole registers, step after step, and its full play.
-use Rattle.std.proofs.Common.{◌≡◌, ℕ, ◌<◌, List, [], ◌∷◌, ◌++◌, Some, None, length, map, refl, sym, ap, ◌∙◌, subst}
+use Rattle.std.proofs.Common.{◌≡◌, true, ℕ, ◌<◌, ◌≤◌, List, [], ◌∷◌, ◌++◌, Some, None, length, map, refl, sym, ap, ◌∙◌, subst, arith}
+use Rattle.std.proofs.lemmas.List.{length-take}
 use Rattle.std.specs.Prelude.{Option}
-use Rattle.jt_tap.specs.declared.State.TheVariants.{Reset}
+use Rattle.jt_tap.specs.declared.State.{State}
 use Rattle.bitbang.specs.StepMessages.{step_bytes}
 use Rattle.bitbang_table.specs.Cycles.{opening}
 use Rattle.bitbang_table.specs.Protocol.{encode}
+use Rattle.scan_vectors.specs.declared.failures.Mismatch.{Mismatch}
 use Rattle.scan_vectors.specs.declared.part.Part.{Part}
+use Rattle.scan_vectors.specs.Failures.{Found, most_listed, none_found, with_found}
 use Rattle.scan_vectors.specs.Vector.{judge}
+use Rattle.scan_vectors.proofs.Listing.{found-twice}
 use Rattle.svf_programs.specs.Legal.{IsLegalProgram}
 use Rattle.svf_programs.specs.Steps.{Numbered, Program}
 use Rattle.board_meaning.specs.Chain.{BoardState, hear}
 use Rattle.board_meaning.specs.Resting.{IsAtRest, IsRest, board_at_rest}
 use Rattle.board_meaning.specs.Sound.{AllSound, HasDevice, IsSoundBoard}
 use Rattle.board_meaning.specs.Whole.{AtRest}
+use Rattle.board_meaning.proofs.BytesAndMessages.{after_all-encoded}
+use Rattle.board_meaning.proofs.SoundEdges.{count-bytes}
+use Rattle.plays.specs.declared.kind.Kind.{Kind}
+use Rattle.plays.specs.declared.kind.Kind.TheVariants.{PlaysOn, Stops}
 use Rattle.plays.specs.declared.ending.Ending.{Ending}
 use Rattle.plays.specs.declared.ending.Ending.TheVariants.{Fail}
-use Rattle.plays.specs.DirectPlay.{MeansFromOpening, bytes_of_full_play, opened_state}
+use Rattle.plays.specs.DirectPlay.{MeansFromOpening, opened_state}
 use Rattle.plays.specs.Legal.{AllLegal}
-use Rattle.plays.specs.LegalPlays.{IsOpened, PlaysAsItMeans}
-use Rattle.plays.specs.Meaning.{Outcome, after_step, failure, outcome}
-use Rattle.plays.specs.Play.{full_play, play, step_turns, wants_of}
+use Rattle.plays.specs.LegalPlays.{IsOpened}
+use Rattle.plays.specs.Meaning.{after_step, failure}
+use Rattle.plays.specs.Play.{Played, full_play, play, step_turns, wants_of}
+use Rattle.plays.specs.PlayingOn.{ending_of, outcome_of_all, step_failures}
+use Rattle.plays.specs.Streams.{found_of, stops_for}
 use Rattle.plays.proofs.Described as Described
 use Rattle.plays.proofs.Direct.{IsPlayed, judged-of}
 use Rattle.plays.proofs.Legality.{legal-from}
 use Rattle.plays.proofs.AfterOpening.{opened-is-reset}
 use Rattle.plays.proofs.Programs.{opened-count, program_means}
 use Rattle.plays.proofs.StepLaws.{IsDone, step-done}
-use Rattle.direct_play.proofs.Turns.{bytes-of, failed-bytes, heard-of, opening-first, passed-bytes}
-
--- ---- the outcome, step after step
-
-abbrev decided : Numbered → List Numbered → AtRest → Option (Part × ℕ) → Outcome
-decided s ss m found =
-    let rest = outcome ss (after_step s.what m) in
-    elim found [
-      | None ↦ rest
-      | Some f ↦ record { ending = Fail s.number f.0 f.1; after = after_step s.what m }
-    ]
-
-module _ (s : Numbered) (ss : List Numbered) (m : AtRest) where
-  pub outcome_passed : failure s.what m ≡ None → outcome (s ∷ ss) m ≡ outcome ss (after_step s.what m)
-  outcome_passed none = ap (decided s ss m) none
-
-  pub outcome_failed : (f : Part × ℕ) → failure s.what m ≡ Some f
-      → outcome (s ∷ ss) m ≡ record { ending = Fail s.number f.0 f.1; after = after_step s.what m }
-  outcome_failed f some = ap (decided s ss m) some
+use Rattle.every_schedule.specs.AllFailures.{MeansAllFromOpening}
+use Rattle.every_schedule.specs.Laws.{full}
+use Rattle.every_schedule.proofs.AllFailures.{first_of_all_played}
+use Rattle.every_schedule.proofs.AllMeaning.{plays_all}
+use Rattle.direct_play.specs.ToTheEnd.{all_failures}
+use Rattle.direct_play.proofs.Failing.{ending-kept, failed, kept-all, loud, stopped}
+use Rattle.direct_play.proofs.Turns.{GoesOn, bytes-of, fails, heard-of, opening_bytes, opens, over, passes, turns_from}
 
 -- ---- where the opening leaves a board
 
 pub opened : (b : BoardState) → IsSoundBoard b → HasDevice b → IsOpened b (opened_state b)
 opened b sound some = (program_means b sound some).0
 
-pub all_legal : (b : BoardState) (steps : List Numbered) → IsLegalProgram steps → AllLegal steps (opened_state b)
+all_legal : (b : BoardState) (steps : List Numbered) → IsLegalProgram steps → AllLegal steps (opened_state b)
 all_legal b steps legal = legal-from steps (opened_state b) refl legal
 
--- ---- what ends as the program means is the full play's end
+-- the opening comes first, and leaves the board there
+pub goes_from_opening : (kind : Kind) (steps : List Numbered) (b : BoardState) → IsAtRest (hear opening b).board (opened_state b)
+    → GoesOn (full kind steps b) (full_play (turns_from kind (opened_state b).place steps) (board_at_rest (opened_state b))) opening_bytes
+goes_from_opening kind steps b is =
+    subst (λ (x : BoardState). GoesOn (full kind steps b) (full_play (turns_from kind (opened_state b).place steps) x) opening_bytes) is
+    (opens kind steps b)
 
-module _ (program : Program) (b : BoardState) (sound : IsSoundBoard b) (some : HasDevice b)
-    (legal : IsLegalProgram program.steps)
-    (ending : Ending) (after : BoardState) (meant : Outcome) (is : outcome program.steps (opened_state b) ≡ meant)
-    (ends : ending ≡ meant.ending) (rests : IsAtRest after meant.after) where
-  law : PlaysAsItMeans program.steps b (opened_state b)
-  law = (program_means b sound some).1 program.steps (all_legal b program.steps legal)
-
-  pub same_ending : ending ≡ (play program b).ending
-  same_ending = ends ∙ sym (ap (λ (o : Outcome). o.ending) is) ∙ sym law.ending
-
-  pub same_board : after ≡ (play program b).board
-  same_board = rests ∙ sym (ap (λ (o : Outcome). board_at_rest o.after) is) ∙ sym law.board
-
-  pub means_from_opening : MeansFromOpening program b ending after
-  means_from_opening = (
-    (opened b sound some).board,
-    ends ∙ sym (ap (λ (o : Outcome). o.ending) is),
-    rests ∙ sym (ap (λ (o : Outcome). board_at_rest o.after) is),
-  )
+-- ---- a program means what its full play comes to
 
 -- what ends as the full play does means what the program means
 pub played_so : (program : Program) (b : BoardState) → IsSoundBoard b → HasDevice b → IsLegalProgram program.steps
@@ -85,7 +70,31 @@ played_so program b sound some legal ending after same-ending same-board =
     (subst (λ (a : BoardState). MeansFromOpening program b (play program b).ending a) (sym same-board)
     (Described.means_from_opening program b sound some legal))
 
--- ---- the bytes of a step, from where the board rests
+-- and so of a play to the end
+pub played_all : (program : Program) (b : BoardState) → IsSoundBoard b → HasDevice b → IsLegalProgram program.steps
+    → (after : BoardState) → after ≡ (full PlaysOn program.steps b).board → MeansAllFromOpening program.steps b (all_failures program b) after
+played_all program b sound some legal after same =
+    subst (λ (a : BoardState). MeansAllFromOpening program.steps b (all_failures program b) a) (sym same) (plays_all program.steps b sound some legal)
+
+-- what fails in a play to the end is what fails over whole registers, from the state after the opening on
+meant_all : (program : Program) (b : BoardState) → IsSoundBoard b → HasDevice b → IsLegalProgram program.steps
+    → (outcome_of_all program.steps (opened_state b)).failures ≡ all_failures program b
+meant_all program b sound some legal =
+    let all = plays_all program.steps b sound some legal in
+    let there : HasDevice (hear opening b).board =
+    subst (λ (x : BoardState). 0 < length x.chips) (after_all-encoded opening b) (subst (λ (n : ℕ). 0 < n) (sym (count-bytes opening_bytes b)) some) in
+    ap (λ (m : AtRest). (outcome_of_all program.steps m).failures) (Described.one_state (hear opening b).board (opened_state b) all.opened there (opened b sound some).board all.rests)
+    ∙ sym all.failures
+
+module _ (program : Program) (b : BoardState) (sound : IsSoundBoard b) (some : HasDevice b) (legal : IsLegalProgram program.steps) (now : Found)
+    (noted : now ≡ with_found (outcome_of_all program.steps (opened_state b)).failures none_found) where
+  pub kept_all : now ≡ found_of PlaysOn (all_failures program b)
+  kept_all = noted ∙ ap (λ (l : List Mismatch). with_found l none_found) (meant_all program b sound some legal) ∙ kept-all (all_failures program b)
+
+  pub kept_first : ending_of now.list ≡ (play program b).ending
+  kept_first = ap (λ (f : Found). ending_of f.list) kept_all ∙ ending-kept (all_failures program b) ∙ first_of_all_played program.steps b
+
+-- ---- one step after another, from where the board rests
 
 -- these steps may be played from here
 pub record CanPlay (ss : List Numbered) (m : AtRest) : Type 0 where
@@ -106,6 +115,17 @@ can_open b steps sound some legal =
       legal = all_legal b steps legal;
     }
 
+-- no more are listed than there is room for
+pub listed_few : (fs : List Mismatch) (old new : Found) → new ≡ with_found fs old → length new.list ≤ most_listed
+listed_few fs old new is = omega (arith, ap (λ (f : Found). length f.list) is, length-take most_listed (old.list ++ fs))
+
+-- what a step adds, and then what the others add
+pub noted_more : (s : Numbered) (ss : List Numbered) (m : AtRest) (old new all : Found) → with_found (outcome_of_all (s ∷ ss) m).failures old ≡ all
+    → new ≡ with_found (step_failures s m) old → with_found (outcome_of_all ss (after_step s.what m)).failures new ≡ all
+noted_more s ss m old new all so_far is =
+    let rest = (outcome_of_all ss (after_step s.what m)).failures in
+    ap (with_found rest) is ∙ found-twice (step_failures s m) rest old ∙ so_far
+
 module _ (s : Numbered) (ss : List Numbered) (m : AtRest) (can : CanPlay (s ∷ ss) m) where
   done : IsDone s.what m
   done = step-done s.what m.place m.trst m.nets m.members can.rest can.sound can.some can.legal.0
@@ -124,25 +144,38 @@ module _ (s : Numbered) (ss : List Numbered) (m : AtRest) (can : CanPlay (s ∷ 
   judged-is : judge (wants_of s.what) (heard-of m.place s (board_at_rest m)).answers ≡ failure s.what m
   judged-is = ap (λ h. judge (wants_of s.what) h.answers) played.heard ∙ judged-of s.what m done.answers played.said
 
-  pub bytes_passed : failure s.what m ≡ None → bytes-of (full_play (step_turns m.place (s ∷ ss)) (board_at_rest m))
-      ≡ step_bytes m.place s.what ++ bytes-of
-      (full_play (step_turns (after_step s.what m).place ss) (board_at_rest (after_step s.what m)))
-  bytes_passed none =
-      passed-bytes m.place s ss (board_at_rest m) (judged-is ∙ none)
-      ∙ (λ i. step_bytes m.place s.what ++ bytes-of
-      (full_play (step_turns (sym played.place i) ss) (played.heard i).board))
+  -- a step that the play does not stop for
+  pub goes_past : (kind : Kind) (whole : Played) (sent : List ℕ) → (kind ≡ Stops → failure s.what m ≡ None)
+      → GoesOn whole (full_play (turns_from kind m.place (s ∷ ss)) (board_at_rest m)) sent
+      → GoesOn whole (full_play (turns_from kind (after_step s.what m).place ss) (board_at_rest (after_step s.what m))) (sent ++ step_bytes m.place s.what)
+  goes_past kind whole sent none g =
+      subst (λ (p : Played). GoesOn whole p (sent ++ step_bytes m.place s.what))
+      (λ i. full_play (turns_from kind (sym played.place i) ss) (played.heard i).board)
+      (passes m.place s ss (board_at_rest m) whole sent kind (λ e. judged-is ∙ none e) g)
 
-  pub bytes_failed : (f : Part × ℕ) → failure s.what m ≡ Some f
-      → bytes-of (full_play (step_turns m.place (s ∷ ss)) (board_at_rest m)) ≡ step_bytes m.place s.what ++ 81 ∷ []
-  bytes_failed f some = failed-bytes m.place s ss (board_at_rest m) f (judged-is ∙ some)
+  -- the step that it stops for
+  pub goes_until : (whole : Played) (sent : List ℕ) (f : Part × ℕ) → failure s.what m ≡ Some f
+      → GoesOn whole (full_play (turns_from Stops m.place (s ∷ ss)) (board_at_rest m)) sent
+      → GoesOn whole (over (Fail s.number f.0 f.1) (board_at_rest (after_step s.what m))) (sent ++ step_bytes m.place s.what)
+  goes_until whole sent f some g =
+      subst (λ (x : BoardState). GoesOn whole (over (Fail s.number f.0 f.1) x) (sent ++ step_bytes m.place s.what)) (ap (λ h. h.board) played.heard)
+      (fails m.place s ss (board_at_rest m) whole sent f (judged-is ∙ some) g)
 
-abbrev pub opening_bytes : List ℕ
-opening_bytes = map encode opening
+  -- where it stops, it is over, and ends by the first that was noted
+  pub record Stopped (whole : Played) (sent : List ℕ) (new : Found) : Type 0 where
+    pub ending : Ending
+    pub goes : GoesOn whole (over ending (board_at_rest (after_step s.what m))) (sent ++ step_bytes m.place s.what)
+    pub first : ending_of new.list ≡ ending
 
--- all bytes, from behind the opening on
-pub opening_first : (program : Program) (b : BoardState) → IsAtRest (hear opening b).board (opened_state b)
-    → bytes_of_full_play program b
-    ≡ opening_bytes ++ bytes-of (full_play (step_turns Reset program.steps) (board_at_rest (opened_state b)))
-opening_first program b is =
-    opening-first program b
-    ∙ ap (λ (x : BoardState). opening_bytes ++ bytes-of (full_play (step_turns Reset program.steps) x)) is
+  pub stops_here : (kind : Kind) (whole : Played) (sent : List ℕ) (old new : Found) → new ≡ with_found (step_failures s m) old
+      → stops_for kind new.list ≡ true → (kind ≡ Stops → old ≡ none_found)
+      → GoesOn whole (full_play (turns_from kind m.place (s ∷ ss)) (board_at_rest m)) sent → Stopped whole sent new
+  stops_here kind whole sent old new is stops none g =
+      let stop = stopped (step_failures s m) old new is kind none stops in
+      let f = failed s m (loud (step_failures s m) old new is kind none stops) in
+      record {
+        ending = Fail s.number f.0.0 f.0.1;
+        goes = goes_until whole sent f.0 f.1 (subst (λ (k : Kind). GoesOn whole (full_play (turns_from k m.place (s ∷ ss)) (board_at_rest m)) sent) stop g);
+        first = ap (λ (f : Found). ending_of f.list) is ∙ ap (λ (f : Found). ending_of (with_found (step_failures s m) f).list) (none stop)
+            ∙ ending-kept (step_failures s m) ∙ f.2;
+      }

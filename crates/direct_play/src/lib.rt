@@ -3,11 +3,12 @@
 #![tactic(auto)]
 
 mod accepting;
+mod beside;
 mod noted;
-mod noting;
 mod playing;
 mod stepping;
+mod steps;
 
 pub use accepting::accept;
-pub use noted::play_program_noted;
-pub use playing::play_program;
+pub use noted::{play_program_all_noted, play_program_noted};
+pub use playing::{play_program, play_program_all};

@@ -2,16 +2,22 @@
 
 ghost use Rattle.std.specs.Prelude.{◌≡◌};
 ghost use Rattle.byte_ends.specs.Writes.{WritesAll, flagged};
+ghost use Rattle.scan_vectors.specs.Failures.{found};
 ghost use Rattle.svf_programs.specs.Sizes.{program_of};
 ghost use Rattle.plays.specs.DirectPlay.{MeansFromOpening, bytes_of_full_play};
 ghost use Rattle.plays.specs.Play.{play};
-ghost use Rattle.direct_play.specs.Noting.{Notes};
+ghost use Rattle.plays.specs.declared.kind.Kind.TheVariants.{PlaysOn};
+ghost use Rattle.plays.specs.PlayingOn.{ending_of};
+ghost use Rattle.plays.specs.Streams.{found_of};
+ghost use Rattle.every_schedule.specs.AllFailures.{MeansAllFromOpening};
+ghost use Rattle.every_schedule.specs.Laws as laws;
+ghost use Rattle.direct_play.specs.ToTheEnd.{all_failures};
 
-use crate::noting::{note, note_step};
-use crate::stepping::{OPENING, play_opening, play_step};
+use crate::steps::{ending, play_steps};
 use byte_ends::{Counted, Sink};
 use jt_board::Board;
-use plays::Ending;
+use plays::{Ending, Kind};
+use scan_vectors::Failures;
 use svf_programs::Program;
 
 /// Plays a program on a board as `play_program` does, and writes the bytes of the play: `Q` is the last. The flag tells
@@ -33,36 +39,30 @@ pub fn play_program_noted<W: Sink>(
     ensures writes { WritesAll W.contents out.old out.new (bytes_of_full_play (program_of program.now) board.old)
         (flagged result.1) }
 {
-    // For the proof alone: what the types keep of a program's steps and of a board's devices.
-    let _ = program.len();
-    let _ = board.devices();
-    let ending = play_and_note(program, board, out);
-    (ending, out.failures() == 0)
+    let failures = play_steps(program, Kind::Stops, board, out);
+    (ending(&failures), out.failures() == 0)
 }
 
-/// Plays a program, and writes the bytes of each step before it is played, unless a write was lost before.
-fn play_and_note<W: Sink>(program: &Program, board: &mut Board, out: &mut Counted<W>) -> Ending
-    ensures ending { result ≡ (play (program_of program.now) board.old).ending }
-    ensures board { board.new ≡ (play (program_of program.now) board.old).board }
-    ensures notes { Notes W.contents out.old out.new (bytes_of_full_play (program_of program.now) board.old) }
+/// Plays a program to its end as `play_program_all` does, and writes the bytes of the play, as `play_program_noted`
+/// does.
+pub fn play_program_all_noted<W: Sink>(
+    program: &Program,
+    board: &mut Board,
+    out: &mut Counted<W>,
+) -> (Ending, Failures, bool)
+    requires none_lost { out.old.failures ≡ 0 }
+
+    // The play.
+    ensures ending { result.0 ≡ ending_of (all_failures (program_of program.now) board.old) }
+    ensures failures { found result.1 ≡ found_of PlaysOn (all_failures (program_of program.now) board.old) }
+    ensures board { board.new ≡ (laws.full PlaysOn (program_of program.now).steps board.old).board }
+    ensures meaning { MeansAllFromOpening (program_of program.now).steps board.old
+        (all_failures (program_of program.now) board.old) board.new }
+
+    // What was written of it.
+    ensures writes { WritesAll W.contents out.old out.new
+        (laws.bytes_of_full_play PlaysOn (program_of program.now).steps board.old) (flagged result.2) }
 {
-    // For the proof alone: what the types keep of a program's steps and of a board's devices.
-    let _ = program.len();
-    let _ = board.devices();
-    note(out, OPENING);
-    play_opening(board);
-    for step in program.steps() {
-        let place = board.place();
-        note_step(place, &step, out);
-        if let Some((part, bit)) = play_step(&step, board) {
-            note(out, b"Q");
-            return Ending::Fail {
-                command: step.number,
-                part,
-                bit,
-            };
-        }
-    }
-    note(out, b"Q");
-    Ending::Pass
+    let failures = play_steps(program, Kind::PlaysOn, board, out);
+    (ending(&failures), failures, out.failures() == 0)
 }

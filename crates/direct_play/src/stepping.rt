@@ -1,11 +1,13 @@
 //! One step, played on whole registers: what the bytes of the step would do edge by edge, done at once.
 
-ghost use Rattle.std.specs.Prelude.{◌≡◌};
+ghost use Rattle.std.specs.Prelude.{◌≡◌, ◌+◌, ◌<◌, ◌^◌, length};
 ghost use Rattle.jt_tap.specs.Controller as controller;
 ghost use Rattle.bitbang_table.specs.Cycles.{opening};
+ghost use Rattle.scan_vectors.specs.Failures.{differing, found, with_found};
 ghost use Rattle.scan_vectors.specs.Held.{bits};
-ghost use Rattle.scan_vectors.specs.Vector.{judge, tdis};
+ghost use Rattle.scan_vectors.specs.Vector.{tdis};
 ghost use Rattle.svf_programs.specs.Seen as seen;
+ghost use Rattle.svf_programs.specs.Sound.{IsWithin, vector_limit};
 ghost use Rattle.svf_programs.specs.Steps as steps;
 ghost use Rattle.board_meaning.specs.Chain.{after_bytes, hear};
 ghost use Rattle.board_meaning.specs.Resting.{IsAtRest};
@@ -13,10 +15,11 @@ ghost use Rattle.board_meaning.specs.Whole as whole;
 ghost use Rattle.board_meaning.specs.Whole.{AtRest};
 ghost use Rattle.jt_board.specs.Resting.{IsResting};
 ghost use Rattle.plays.specs.Meaning as meaning;
+ghost use Rattle.plays.specs.PlayingOn.{step_failures};
 
 use jt_board::Board;
 use jt_tap::{Column, State};
-use scan_vectors::{Part, Vector};
+use scan_vectors::{Failures, Vector};
 use svf_parse::TrstWord;
 use svf_programs::{Action, Step};
 
@@ -40,20 +43,24 @@ fn take_all(board: &mut Board, bytes: &[u8])
     }
 }
 
-/// Plays a step on a board at rest (asked). Answers the first wanted bit that came out otherwise, by its part and its
-/// place there.
-pub(crate) fn play_step(step: &Step<'_>, board: &mut Board) -> Option<(Part, usize)>
-    requires { IsResting board.old }
+/// Plays a step on a board at rest (asked), and notes every wanted bit that came out otherwise.
+pub(crate) fn play_step(step: &Step<'_>, board: &mut Board, failures: &mut Failures)
+    requires rests { IsResting board.old }
+    requires within { IsWithin (seen.step step.now.what) }
+    requires room { failures.old.total + vector_limit < 2 ^ 64 }
     ensures board { (m : AtRest) → IsAtRest board.old m
         → IsAtRest board.new (meaning.after_step (seen.step step.now.what) m) }
-    ensures judged { (m : AtRest) → IsAtRest board.old m → result ≡ meaning.failure (seen.step step.now.what) m }
+    ensures noted { (m : AtRest) → IsAtRest board.old m
+        → found failures.new ≡ with_found (step_failures (seen.numbered step.now) m) (found failures.old) }
 {
+    // For the proof alone: no more are listed than there is room for.
+    let _ = failures.list.len();
     match step.what {
         Action::Scan {
             column,
             vector,
             end,
-        } => return scan(column, &vector, end, board),
+        } => scan(column, &vector, end, step.number, board, failures),
         Action::Go(state) => move_to(state, board),
         Action::Path(path) => board.along(path),
         Action::Run { run, end, .. } => {
@@ -62,26 +69,32 @@ pub(crate) fn play_step(step: &Step<'_>, board: &mut Board) -> Option<(Part, usi
         }
         Action::Trst(word) => set_trst(word, board),
     }
-    None
 }
 
-/// Scans a whole vector, from rest (asked) to rest: what is pending is made, the registers capture, what comes out is
-/// judged, and the registers take what stays in.
-fn scan(column: Column, vector: &Vector, end: State, board: &mut Board) -> Option<(Part, usize)>
-    requires { IsResting board.old }
+/// Scans a whole vector, from rest (asked) to rest: what is pending is made, the registers capture, every wanted bit
+/// that differs from what comes out is noted, and the registers take what stays in.
+fn scan(
+    column: Column,
+    vector: &Vector,
+    end: State,
+    command: usize,
+    board: &mut Board,
+    failures: &mut Failures,
+)
+    requires rests { IsResting board.old }
+    requires room { failures.old.total + length (bits vector.now) < 2 ^ 64 }
     ensures board { (m : AtRest) → IsAtRest board.old m
         → IsAtRest board.new (meaning.scan_end column end
         (whole.shift column (tdis (bits vector.now)) (whole.capture column (whole.settle m)))) }
-    ensures judged { (m : AtRest) → IsAtRest board.old m
-        → result ≡ judge (bits vector.now)
-        (whole.out column (tdis (bits vector.now)) (whole.capture column (whole.settle m))) }
+    ensures noted { (m : AtRest) → IsAtRest board.old m → found failures.new
+        ≡ with_found (differing command (bits vector.now)
+        (whole.out column (tdis (bits vector.now)) (whole.capture column (whole.settle m)))) (found failures.old) }
 {
     board.settle();
     board.capture(column);
-    let failed = board.judge(column, vector);
+    board.note(column, vector, command, failures);
     board.shift(column, vector);
     end_scan(column, end, board);
-    failed
 }
 
 /// A scan ends: one that ends in its own pause rests there with the update pending.

@@ -5,25 +5,27 @@ use Rattle.board_meaning.specs.Chain.{BoardState, hear}
 use Rattle.scan_vectors.specs.declared.part.Part.{Part}
 use Rattle.scan_vectors.specs.Vector.{judge}
 use Rattle.plays.specs.Events.{Event, Put, Serve, Take, Known, World, by_answers, empty_pipes, before_events as fresh_world, run}
-use Rattle.plays.specs.Play.{Turn, Played, full_play, player, sent, turns}
+use Rattle.plays.specs.Play.{Turn, Played, full_play, player, sent}
 use Rattle.plays.specs.Streams.{StreamState, new_stream}
 use Rattle.bitbang_table.specs.Protocol.{answer}
 use Rattle.streaming.specs.Laws.{good, history_of, stream_of, with_player}
 use Rattle.streaming.proofs.Schedules.{carry_over}
 use Rattle.every_schedule.specs.Laws.{Connection}
 use Rattle.svf_programs.specs.Steps.{Program}
-use Rattle.plays.proofs.Asks.{AllAsk, hear-asks, turns-ask}
+use Rattle.plays.proofs.Asks.{AllAsk, hear-asks}
 use Rattle.std.specs.List.{list_any}
 use Rattle.every_schedule.specs.Fair.{HasNoLose, IsFair, loses}
 use Rattle.every_schedule.specs.InWork.{answers_in, bytes_in}
 use Rattle.every_schedule.specs.Laws.{full}
-use Rattle.plays.specs.declared.kind.Kind.TheVariants.{Stops}
+use Rattle.plays.specs.declared.kind.Kind.{Kind}
+use Rattle.plays.specs.PlayingOn.{turns_for}
+use Rattle.every_schedule.proofs.BothPlayers.{ask-for}
 use Rattle.every_schedule.proofs.MovingEvents.{total}
 use Rattle.every_schedule.proofs.Progress.{fair-moves, moving-total, total-bound}
 use Rattle.every_schedule.proofs.Quits.{played_of, sent-eager}
 use Rattle.every_schedule.proofs.Runs.{run-append}
 use Rattle.every_schedule.proofs.SafetyLaws.{is-play, reached}
-use Rattle.joined.specs.Finishing.{IsReached}
+use Rattle.joined.specs.Finishing.{IsReached, afresh}
 use Rattle.bounded_pipes.specs.Standing.{is_over}
 use Rattle.bounded_pipes.specs.Joining.{JoinedState, side}
 
@@ -31,9 +33,9 @@ use Rattle.bounded_pipes.specs.Joining.{JoinedState, side}
 abbrev pub sum_of : World StreamState → ℕ
 sum_of w = w.player.given + (w.player.given - length w.down) + w.player.answered
 
--- the most that it can be, whatever the board answers
-abbrev pub most : Program → ℕ
-most program = 2 * (bytes_in (turns program.steps) + 1) + answers_in (turns program.steps)
+-- the most that it can be for a player, whatever the board answers
+abbrev pub most : StreamState → ℕ
+most p = let ts = turns_for p.kind p.program.steps in 2 * (bytes_in ts + 1) + answers_in ts
 
 -- as much as may be, each way
 abbrev pub a_round : ℕ → List Event
@@ -65,49 +67,57 @@ within (t ∷ ts) b all = one (judge t.wants (hear t.messages b).answers) (withi
       answers = omega (arith, long);
     }
 
-abbrev pub link : ℕ → ℕ → Connection
-link down_room up_room = record { kind = Stops; window = 256; down_room = down_room; up_room = up_room }
+abbrev pub link : Kind → ℕ → ℕ → Connection
+link kind down_room up_room = record { kind = kind; window = 256; down_room = down_room; up_room = up_room }
 
 -- the player, as what is known of it says
-abbrev pub world_of : Program → World Known → World StreamState
-world_of program w = with_player (λ p. stream_of Stops (history_of program p)) w
+abbrev pub world_of : Kind → Program → World Known → World StreamState
+world_of kind program w = with_player (λ p. stream_of kind (history_of program p)) w
 
-pub carries : (program : Program) (b : BoardState) (down_room up_room : ℕ) (es : List Event) → run side down_room up_room es (empty_pipes (new_stream Stops program) b)
-    ≡ world_of program (run (by_answers (player 256 (turns program.steps))) down_room up_room es (fresh_world b))
-carries program b down_room up_room es = carry_over Stops 256 program b down_room up_room es
+pub carries : (kind : Kind) (program : Program) (b : BoardState) (down_room up_room : ℕ) (es : List Event)
+    → run side down_room up_room es (empty_pipes (new_stream kind program) b)
+    ≡ world_of kind program (run (by_answers (player 256 (turns_for kind program.steps))) down_room up_room es (fresh_world b))
+carries kind program b down_room up_room es = carry_over kind 256 program b down_room up_room es
+
+-- every answer that a board gives is one
+pub good-all : (got : List Bool) → good (map answer got) ≡ map answer got
+good-all [] = refl
+good-all (true ∷ got) = ap (λ l. answer true ∷ l) (good-all got)
+good-all (false ∷ got) = ap (λ l. answer false ∷ l) (good-all got)
 
 pub good-answers : (got : List Bool) → length (good (map answer got)) ≡ length got
 good-answers [] = refl
 good-answers (true ∷ got) = let rest = good-answers got in omega (arith, rest)
 good-answers (false ∷ got) = let rest = good-answers got in omega (arith, rest)
 
-sum-same : (program : Program) (k : World Known) → sum_of (world_of program k) ≡ total k
-sum-same program k = omega (arith, good-answers k.player.got)
+sum-same : (kind : Kind) (program : Program) (k : World Known) → sum_of (world_of kind program k) ≡ total k
+sum-same kind program k = omega (arith, good-answers k.player.got)
 
 pub neither : (q l : Bool) → (q || l) ≡ false → (q ≡ false) × (l ≡ false)
 neither true l e = absurd (cc)
 neither false l e = (refl, e)
 
-module _ (program : Program) (b : BoardState) (down_room up_room : ℕ) where
+module _ (kind : Kind) (program : Program) (b : BoardState) (down_room up_room : ℕ) where
   abbrev start : World StreamState
-  start = empty_pipes (new_stream Stops program) b
+  start = empty_pipes (new_stream kind program) b
 
   abbrev known : List Event → World Known
-  known es = run (by_answers (player 256 (turns program.steps))) down_room up_room es (fresh_world b)
+  known es = run (by_answers (player 256 (turns_for kind program.steps))) down_room up_room es (fresh_world b)
 
   abbrev at : List Event → World StreamState
   at es = run side down_room up_room es start
 
-  pub program-kept : (es : List Event) → (at es).player.program ≡ program
-  program-kept es = ap (λ w. w.player.program) (carries program b down_room up_room es)
+  -- its kind and its program stay
+  pub afresh-kept : (es : List Event) → afresh (at es).player ≡ new_stream kind program
+  afresh-kept es = ap (λ (w : World StreamState). afresh w.player) (carries kind program b down_room up_room es)
 
-  pub sum-bounded : (es : List Event) → sum_of (at es) ≤ most program
+  pub sum-bounded : (es : List Event) → sum_of (at es) ≤ most (new_stream kind program)
   sum-bounded es =
-      let r = reached (link down_room up_room) program.steps b es in
-      let limit = total-bound (sent 256 (turns program.steps)) b (full Stops program.steps b).board (full Stops program.steps b).messages
-      (full Stops program.steps b).answers down_room up_room (is-play Stops 256 program.steps b) r.took r.queued (known es) r.inside in
-      let w = within (turns program.steps) b (turns-ask program.steps) in
-      omega (arith, limit, w.bytes, w.answers, ap sum_of (carries program b down_room up_room es), sum-same program (known es))
+      let r = reached (link kind down_room up_room) program.steps b es in
+      let limit = total-bound (sent 256 (turns_for kind program.steps)) b (full kind program.steps b).board (full kind program.steps b).messages
+      (full kind program.steps b).answers down_room up_room (is-play kind 256 program.steps b) r.took r.queued (known es) r.inside in
+      let w = within (turns_for kind program.steps) b (ask-for kind program.steps) in
+      omega (arith, limit, w.bytes, w.answers, ap sum_of (carries kind program b down_room up_room es), sum-same kind program (known es))
 
   a-round-fair : (n : ℕ) → 0 < n → IsFair (a_round n)
   a-round-fair n some =
@@ -123,28 +133,28 @@ module _ (program : Program) (b : BoardState) (down_room up_room : ℕ) where
       → sum_of (at es) < sum_of (run side down_room up_room (a_round n) (at es))
   round-adds es n some down_some up_some going =
       let k = known es in
-      let same = carries program b down_room up_room es in
+      let same = carries kind program b down_room up_room es in
       let parts = neither k.quit k.lost (ap is_over (sym same) ∙ going) in
-      let r = reached (link down_room up_room) program.steps b es in
-      let S = sent 256 (turns program.steps) in
-      let f = full Stops program.steps b in
-      let play = is-play Stops 256 program.steps b in
+      let r = reached (link kind down_room up_room) program.steps b es in
+      let S = sent 256 (turns_for kind program.steps) in
+      let f = full kind program.steps b in
+      let play = is-play kind 256 program.steps b in
       let moves = fair-moves S b f.board f.messages f.answers down_room up_room play
-      (λ got none. sent-eager 256 (omega arith) (turns program.steps) (turns-ask program.steps) got none)
+      (λ got none. sent-eager 256 (omega arith) (turns_for kind program.steps) (ask-for kind program.steps) got none)
       down_some up_some (a_round n) r.took r.queued k r.inside parts.0 parts.1 (a-round-fair n some) in
       let adds = moving-total S b f.board f.messages f.answers down_room up_room play (a_round n) r.took r.queued k r.inside in
-      let next : run side down_room up_room (a_round n) (at es) ≡ world_of program (run (by_answers (player 256 (turns program.steps))) down_room up_room (a_round n) k) =
+      let next : run side down_room up_room (a_round n) (at es) ≡ world_of kind program (run (by_answers (player 256 (turns_for kind program.steps))) down_room up_room (a_round n) k) =
       sym (run-append side down_room up_room es (a_round n) start)
-      ∙ carries program b down_room up_room (es ++ a_round n)
-      ∙ ap (world_of program) (run-append (by_answers (player 256 (turns program.steps))) down_room up_room es (a_round n) (fresh_world b)) in
+      ∙ carries kind program b down_room up_room (es ++ a_round n)
+      ∙ ap (world_of kind program) (run-append (by_answers (player 256 (turns_for kind program.steps))) down_room up_room es (a_round n) (fresh_world b)) in
       omega (
         arith,
         moves,
         adds,
         ap sum_of same,
-        sum-same program k,
+        sum-same kind program k,
         ap sum_of next,
-        sum-same program (run (by_answers (player 256 (turns program.steps))) down_room up_room (a_round n) k),
+        sum-same kind program (run (by_answers (player 256 (turns_for kind program.steps))) down_room up_room (a_round n) k),
       )
 
 -- what is reached stays reached
@@ -154,48 +164,50 @@ reached-more s t es r e = subst (λ (u : JoinedState). IsReached u) (sym e) (rec
   events = r.events ++ es;
   down_room = r.down_room;
   up_room = r.up_room;
-  world = there ∙ ap (λ p. run side s.down_room s.up_room (r.events ++ es) (empty_pipes (new_stream Stops p) r.start)) (sym kept);
+  world = there ∙ ap (λ p. run side s.down_room s.up_room (r.events ++ es) (empty_pipes p r.start)) (sym kept);
 })
   where
-    P : Program
-    P = s.world.player.program
+    P : StreamState
+    P = afresh s.world.player
 
-    there : run side s.down_room s.up_room es s.world ≡ run side s.down_room s.up_room (r.events ++ es) (empty_pipes (new_stream Stops P) r.start)
-    there = ap (run side s.down_room s.up_room es) r.world ∙ sym (run-append side s.down_room s.up_room r.events es (empty_pipes (new_stream Stops P) r.start))
+    there : run side s.down_room s.up_room es s.world ≡ run side s.down_room s.up_room (r.events ++ es) (empty_pipes P r.start)
+    there = ap (run side s.down_room s.up_room es) r.world ∙ sym (run-append side s.down_room s.up_room r.events es (empty_pipes P r.start))
 
-    kept : (run side s.down_room s.up_room es s.world).player.program ≡ P
-    kept = ap (λ w. w.player.program) there ∙ program-kept P r.start s.down_room s.up_room (r.events ++ es)
+    kept : afresh (run side s.down_room s.up_room es s.world).player ≡ P
+    kept = ap (λ (w : World StreamState). afresh w.player) there ∙ afresh-kept P.kind P.program r.start s.down_room s.up_room (r.events ++ es)
 
--- One round of `finish`: it adds to the sum, which stays bounded by the program.
+-- One round of `finish`: it adds to the sum, which stays bounded by the player's kind and program.
 pub record IsRound (s t : JoinedState) : Type 0 where
   pub more : sum_of s.world < sum_of t.world
-  pub less : sum_of t.world ≤ most s.world.player.program
-  pub program : t.world.player.program ≡ s.world.player.program
+  pub less : sum_of t.world ≤ most s.world.player
+  pub most_same : most t.world.player ≡ most s.world.player
 
 pub one-round : (s t : JoinedState) (n : ℕ) → 0 < n → IsReached s → is_over s.world ≡ false
     → t ≡ record s { world = run side s.down_room s.up_room (a_round n) s.world } → IsRound s t
 one-round s t n some r going e = subst (λ (u : JoinedState). IsRound s u) (sym e) (record {
   more = subst (λ (w : World StreamState). sum_of w < sum_of (run side s.down_room s.up_room (a_round n) w)) (sym r.world)
-      (round-adds P r.start s.down_room s.up_room r.events n some r.down_room r.up_room (ap is_over (sym r.world) ∙ going));
-  less = subst (λ (w : World StreamState). sum_of w ≤ most P) (sym there) (sum-bounded P r.start s.down_room s.up_room (r.events ++ a_round n));
-  program = ap (λ w. w.player.program) there ∙ program-kept P r.start s.down_room s.up_room (r.events ++ a_round n);
+      (round-adds P.kind P.program r.start s.down_room s.up_room r.events n some r.down_room r.up_room (ap is_over (sym r.world) ∙ going));
+  less = subst (λ (w : World StreamState). sum_of w ≤ most P) (sym there)
+      (sum-bounded P.kind P.program r.start s.down_room s.up_room (r.events ++ a_round n));
+  most_same = ap (λ (w : World StreamState). most (afresh w.player)) there
+      ∙ ap most (afresh-kept P.kind P.program r.start s.down_room s.up_room (r.events ++ a_round n));
 })
   where
-    P : Program
-    P = s.world.player.program
+    P : StreamState
+    P = afresh s.world.player
 
-    there : run side s.down_room s.up_room (a_round n) s.world ≡ run side s.down_room s.up_room (r.events ++ a_round n) (empty_pipes (new_stream Stops P) r.start)
-    there = ap (run side s.down_room s.up_room (a_round n)) r.world ∙ sym (run-append side s.down_room s.up_room r.events (a_round n) (empty_pipes (new_stream Stops P) r.start))
+    there : run side s.down_room s.up_room (a_round n) s.world ≡ run side s.down_room s.up_room (r.events ++ a_round n) (empty_pipes P r.start)
+    there = ap (run side s.down_room s.up_room (a_round n)) r.world ∙ sym (run-append side s.down_room s.up_room r.events (a_round n) (empty_pipes P r.start))
 
 abbrev pub after_events : List Event → JoinedState → JoinedState
 after_events es s = record s { world = run side s.down_room s.up_room es s.world }
 
 pub finish-smaller : (start now next : JoinedState) (es : List Event) (n : ℕ) → 0 < n → IsReached start → now ≡ after_events es start
     → is_over now.world ≡ false → next ≡ after_events (a_round n) now
-    → most next.world.player.program - sum_of next.world < most now.world.player.program - sum_of now.world
+    → most next.world.player - sum_of next.world < most now.world.player - sum_of now.world
 finish-smaller start now next es n some r e going f =
     let round = one-round now next n some (reached-more start now es r e) going f in
-    omega (arith, round.more, round.less, ap most round.program)
+    omega (arith, round.more, round.less, round.most_same)
 
 kept-more : (es fs : List Event) → HasNoLose es → HasNoLose fs → HasNoLose (es ++ fs)
 kept-more [] fs p q = q
@@ -215,7 +227,7 @@ finish-keeps start now next es n kept e f = (
       ∙ (λ i. record start { world = sym (run-append side start.down_room start.up_room es (a_round n) start.world) i }),
 )
 
-pub reached-new : (p : StreamState) (b : BoardState) (down_room up_room : ℕ) (s : JoinedState) → p ≡ new_stream Stops p.program → 0 < down_room → 0 < up_room
+pub reached-new : (p : StreamState) (b : BoardState) (down_room up_room : ℕ) (s : JoinedState) → p ≡ afresh p → 0 < down_room → 0 < up_room
     → s ≡ record { world = empty_pipes p b; down_room = down_room; up_room = up_room } → IsReached s
 reached-new p b down_room up_room s first down up e = subst (λ (u : JoinedState). IsReached u) (sym e) (record {
   start = b;

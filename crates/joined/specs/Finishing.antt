@@ -2,11 +2,14 @@
 use Rattle.std.specs.Prelude.{◌≡◌, true, ◌<◌, List}
 use Rattle.board_meaning.specs.Chain.{BoardState}
 use Rattle.plays.specs.Events.{Event, empty_pipes, run}
-use Rattle.plays.specs.declared.kind.Kind.TheVariants.{Stops}
-use Rattle.plays.specs.Streams.{new_stream}
+use Rattle.plays.specs.Streams.{StreamState, new_stream}
 use Rattle.every_schedule.specs.Fair.{HasNoLose}
 use Rattle.bounded_pipes.specs.Joining.{JoinedState, side}
 use Rattle.bounded_pipes.specs.Standing.{is_over}
+
+-- a fresh player of the same kind and program
+abbrev pub afresh : StreamState → StreamState
+afresh player = new_stream player.kind player.program
 
 -- Some events led here from a fresh player and a board with empty pipes; this is what the type keeps.
 pub record IsReached (s : JoinedState) : Type 0 where
@@ -14,8 +17,7 @@ pub record IsReached (s : JoinedState) : Type 0 where
   pub events : List Event
   pub down_room : 0 < s.down_room
   pub up_room : 0 < s.up_room
-  pub world : s.world ≡ run side s.down_room s.up_room events
-      (empty_pipes (new_stream Stops s.world.player.program) start)
+  pub world : s.world ≡ run side s.down_room s.up_room events (empty_pipes (afresh s.world.player) start)
 
 -- Events without a loss after which the play is over.
 pub record IsFinished (before after : JoinedState) : Type 0 where

@@ -2,12 +2,12 @@
 
 ghost use Rattle.std.specs.Prelude.{◌≡◌, ◌<◌, Some, map, MatchResult};
 ghost use Rattle.plays.specs.Events.{empty_pipes, moving, run};
-ghost use Rattle.plays.specs.declared.kind.Kind.TheVariants.{Stops};
+ghost use Rattle.scan_vectors.specs.Failures.{found};
 ghost use Rattle.plays.specs.Streams.{new_stream};
 ghost use Rattle.joined.specs.Finishing.{IsFinished};
 ghost use Rattle.bounded_pipes.specs.Standing.{ended_of};
 ghost use Rattle.bounded_pipes.specs.Joining.{event_of, side};
-ghost use Rattle.joined.specs.Laws.{MeansAfter};
+ghost use Rattle.joined.specs.Laws.{MeansAfter, MeansAllAfter};
 
 use crate::finishing;
 use crate::standing::Standing;
@@ -16,7 +16,7 @@ use jt_board::Board;
 use plays::Ending;
 use std::alloc::Global;
 use std::marker::Model;
-use stream_player::Player;
+use stream_player::{Failures, Player};
 
 /// Player and board with two bounded pipes between them, from a fresh player on.
 #[derive(Drop)]
@@ -36,8 +36,9 @@ impl Model for Joined {
 }
 
 impl Joined {
-    /// Joins a fresh player (asked) and a board by two empty pipes, with room for `down` bytes and `up` answers, at
-    /// least 1 each (asked). It takes all its memory before it takes anything over: for want of memory both come back.
+    /// Joins a fresh player of either kind (asked) and a board by two empty pipes, with room for `down` bytes and `up`
+    /// answers, at least 1 each (asked). It takes all its memory before it takes anything over: for want of memory both
+    /// come back.
     pub fn new(
         alloc: Global,
         player: Player,
@@ -45,7 +46,7 @@ impl Joined {
         down: usize,
         up: usize,
     ) -> Result<Joined, Unjoined>
-        requires fresh { player ≡ new_stream Stops player.program }
+        requires fresh { player ≡ new_stream player.kind player.program }
         requires down { 0 < down }
         requires up { 0 < up }
         ensures { MatchResult result
@@ -61,11 +62,13 @@ impl Joined {
     ///
     /// For every accepted program, every board of sound devices, every room of the pipes and every order of events: a
     /// play that ends unlost gives exactly the verdict, and leaves exactly the registers and pin levels, of the
-    /// register-level meaning from the state after the opening.
+    /// register-level meaning from the state after the opening. A play to the end gives exactly its failures, all of
+    /// them.
     pub fn run(&mut self, events: &[Event]) -> Standing
         ensures ended { result.ended ≡ ended_of self.new.world }
         ensures lost { result.lost ≡ self.new.world.lost }
         ensures means { MeansAfter self.old self.new.world }
+        ensures means_all { MeansAllAfter self.old self.new.world }
         ensures moved { result.moved
             ≡ moving side self.old.down_room self.old.up_room (map event_of events.now) self.old.world }
         ensures world { self.new ≡ record self.old {
@@ -85,8 +88,16 @@ impl Joined {
         ensures finished { IsFinished self.old self.new }
         ensures ending { ended_of self.new.world ≡ Some result }
         ensures means { MeansAfter self.old self.new.world }
+        ensures means_all { MeansAllAfter self.old self.new.world }
     {
         finishing::finish(&mut self.pipes)
+    }
+
+    /// The wanted bits that did not come out so far, of one that stops the first alone.
+    pub fn failures(&self) -> &Failures
+        ensures { found result.now ≡ self.now.world.player.found }
+    {
+        self.pipes.failures()
     }
 
     /// The board, as the events left it.

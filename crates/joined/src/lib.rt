@@ -3,7 +3,8 @@
 
 ghost use Rattle.joined.specs.Inside.{ALossNamesWhatIsInWork, FewEventsMoveSomething, OnlyALoseLoses};
 ghost use Rattle.joined.specs.Inside.{SomethingCanMoveUntilItIsOver, WhatIsJoinedStaysInsideTheFullPlay};
-ghost use Rattle.joined.specs.Laws.{WhatIsJoinedEndsAsTheFullPlay, WhatIsJoinedMeansTheProgram};
+ghost use Rattle.joined.specs.Laws.{WhatIsFoundFirstIsWhatStops, WhatIsJoinedEndsAsTheFullPlay};
+ghost use Rattle.joined.specs.Laws.{WhatIsJoinedMeansTheProgram, WhatPlaysOnMeansTheWholeProgram};
 
 mod finishing;
 mod joined;
@@ -13,8 +14,8 @@ pub use bounded_pipes::{Event, Unjoined};
 pub use joined::Joined;
 pub use standing::Standing;
 
-/// Once the board took `Q`, the play was not lost, and it has the full play's ending and board, whatever the order of
-/// events and the room of the pipes.
+/// Once the board took `Q`, the play was not lost, and it has the full play's failures, ending and board, whatever the
+/// order of events and the room of the pipes.
 pub fn what_is_joined_ends_as_the_full_play()
     ensures { WhatIsJoinedEndsAsTheFullPlay }
 {}
@@ -23,6 +24,17 @@ pub fn what_is_joined_ends_as_the_full_play()
 /// gives exactly the verdict, and leaves exactly the registers and pin levels, of the register-level meaning.
 pub fn what_is_joined_means_the_program()
     ensures { WhatIsJoinedMeansTheProgram }
+{}
+
+/// The headline of a player that plays on: a play to the end that ends unlost has found exactly the failures of the
+/// register-level meaning of the whole program, all of them, ends by the first, and leaves the board where it does.
+pub fn what_plays_on_means_the_whole_program()
+    ensures { WhatPlaysOnMeansTheWholeProgram }
+{}
+
+/// What a play to the end finds first is what one that stops finds, on every program, board and schedule.
+pub fn what_is_found_first_is_what_stops()
+    ensures { WhatIsFoundFirstIsWhatStops }
 {}
 
 /// After any events the bytes that the board took, with those in the pipe, are a front part of the full play's, and its

@@ -1,13 +1,19 @@
--- What a player that stops keeps of all failures is what its ending says.
+-- Plays of either kind: what a player that stops keeps is what its ending says, and each play is what its program means.
 use Rattle.std.proofs.Common.{◌≡◌, List, [], ◌∷◌, ℕ, length, min, refl, ap, ◌∙◌, arith}
 use Rattle.board_meaning.specs.Chain.{BoardState}
+use Rattle.board_meaning.specs.Sound.{HasDevice, IsSoundBoard}
+use Rattle.svf_programs.specs.Legal.{IsLegalProgram}
+use Rattle.plays.proofs.Described.{means_from_opening}
 use Rattle.every_schedule.proofs.AllFailures.{first_of_all_played}
+use Rattle.every_schedule.proofs.AllMeaning.{plays_all}
 use Rattle.plays.specs.Play.{play}
-use Rattle.plays.specs.declared.kind.Kind.TheVariants.{Stops}
+use Rattle.plays.specs.declared.kind.Kind.{Kind}
+use Rattle.plays.specs.declared.kind.Kind.TheVariants.{Stops, PlaysOn}
 use Rattle.plays.specs.PlayingOn.{Mismatch, ending_of}
 use Rattle.plays.specs.Streams.{found_of}
 use Rattle.svf_programs.specs.Steps.{Program}
-use Rattle.jt_player.specs.Kinds.{all_failures, found_of_ending, found_in}
+use Rattle.direct_play.specs.ToTheEnd.{all_failures}
+use Rattle.jt_player.specs.Kinds.{MeansAsPlayed, found_in, found_of_ending}
 
 by-ending : (all : List Mismatch) → found_of Stops all ≡ found_of_ending (ending_of all)
 by-ending [] = refl
@@ -17,3 +23,8 @@ by-ending (f ∷ fs) =
 
 pub stopped : (program : Program) (before : BoardState) → found_in Stops program before ≡ found_of_ending (play program before).ending
 stopped program before = by-ending (all_failures program before) ∙ ap found_of_ending (first_of_all_played program.steps before)
+
+pub means : (kind : Kind) (program : Program) (before : BoardState) → IsSoundBoard before → HasDevice before → IsLegalProgram program.steps
+    → MeansAsPlayed kind program before
+means Stops program before sound some legal = means_from_opening program before sound some legal
+means PlaysOn program before sound some legal = plays_all program.steps before sound some legal

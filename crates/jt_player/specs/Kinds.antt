@@ -1,24 +1,21 @@
 -- A play of either kind, each byte taken at once: how it ends, what it finds, and what it means.
-use Rattle.std.specs.Prelude.{List, [], ◌∷◌}
+use Rattle.std.specs.Prelude.{[], ◌∷◌}
 use Rattle.board_meaning.specs.Chain.{BoardState}
 use Rattle.every_schedule.specs.AllFailures.{MeansAllFromOpening}
 use Rattle.every_schedule.specs.Laws.{full}
 use Rattle.plays.specs.declared.ending.Ending.{Ending}
 use Rattle.plays.specs.declared.ending.Ending.TheVariants.{Fail}
 use Rattle.plays.specs.DirectPlay.{MeansFromOpening}
-use Rattle.plays.specs.Play.{play, turns}
+use Rattle.plays.specs.Play.{play}
 use Rattle.plays.specs.declared.kind.Kind.{Kind}
 use Rattle.plays.specs.declared.kind.Kind.TheVariants.{Stops, PlaysOn}
-use Rattle.plays.specs.PlayingOn.{Mismatch, ending_of, failures}
+use Rattle.plays.specs.PlayingOn.{ending_of}
 use Rattle.plays.specs.Streams.{found_of}
+use Rattle.direct_play.specs.ToTheEnd.{all_failures}
 use Rattle.scan_vectors.specs.Failures.{Found, none_found}
 use Rattle.svf_programs.specs.Steps.{Program}
 
--- every wanted bit of a program that does not come out, where it is played to the end
-abbrev pub all_failures : Program → BoardState → List Mismatch
-all_failures program before = failures (turns program.steps) (full PlaysOn program.steps before).answers
-
--- what a player of this kind keeps of them
+-- what a player of this kind keeps of all wanted bits that do not come out, where the program is played to the end
 abbrev pub found_in : Kind → Program → BoardState → Found
 found_in kind program before = found_of kind (all_failures program before)
 

@@ -2,16 +2,17 @@
 
 ghost use Rattle.std.specs.Prelude.{◌≡◌, ◌<◌, ◌≤◌, ◌+◌, length, not, None};
 ghost use Rattle.every_schedule.specs.Fronts.{IsFront};
-ghost use Rattle.plays.specs.declared.kind.Kind.TheVariants.{Stops};
 ghost use Rattle.plays.specs.Streams as stream;
 ghost use Rattle.plays.specs.Streams.{new_stream};
-ghost use Rattle.play_links.specs.Loops.{LoopsOver};
+ghost use Rattle.scan_vectors.specs.Failures.{found};
+ghost use Rattle.play_links.specs.Loops.{LoopsAllOver, LoopsOver};
 ghost use Rattle.play_links.specs.Turns.{GivesAll, HearsWhole, Loops, ServesTurn, SomeTurn, TakesTurn, fits_stream};
 
 use crate::serving::{Served, take_bytes};
 use byte_ends::{Counted, End, Sink, Source, put_all};
 use jt_board::Board;
 use plays::Ending;
+use scan_vectors::Failures;
 use stream_player::Player;
 
 /// The most bytes that go one way in a turn.
@@ -180,9 +181,10 @@ fn go_on<P: End, B: End>(
 ) -> bool
     requires player_end { player_end.old.failures ≡ 0 }
     requires board_end { board_end.old.failures ≡ 0 }
-    requires fresh { player.old ≡ new_stream Stops player.old.program }
+    requires fresh { player.old ≡ new_stream player.old.kind player.old.program }
     ensures { Loops P.puts P.hears B.puts B.hears P.contents P.remaining B.contents B.remaining player_end.old
-        player_end.new board_end.old board_end.new player.old.program board.old board.new player.new (not result) }
+        player_end.new board_end.old board_end.new player.old.kind player.old.program board.old board.new player.new
+        (not result) }
 {
     while player.ended().is_none() {
         if !turn(player_end, board_end, player, board) {
@@ -193,7 +195,7 @@ fn go_on<P: End, B: End>(
 }
 
 /// Plays a fresh player's program on a board over the two ends of one connection of which no call was lost, in turn and
-/// in one thread. Answers how the play ended.
+/// in one thread, whether the player stops after a failing step or plays on. Answers how the play ended.
 ///
 /// In a turn at most 1,024 bytes go out at the player's end, as many are read at the board's end and taken, and their
 /// answers go back. The play is [`Ending::Lost`] at a call that fails, writes 0 bytes or meets the end of input, and
@@ -207,17 +209,37 @@ pub fn loop_over<P: End, B: End>(
 ) -> Ending
     requires player_end { player_end.old.failures ≡ 0 }
     requires board_end { board_end.old.failures ≡ 0 }
-    requires fresh { player ≡ new_stream Stops player.program }
+    requires fresh { player ≡ new_stream player.kind player.program }
     ensures { LoopsOver P.puts P.hears B.puts B.hears P.contents P.remaining B.contents B.remaining player_end.old
-        player_end.new board_end.old board_end.new player.program board.old board.new result }
+        player_end.new board_end.old board_end.new player.kind player.program board.old board.new result }
+{
+    let (ending, _) = loop_over_all(player_end, board_end, player, board);
+    ending
+}
+
+/// Plays as [`loop_over`] does. Answers how the play ended, and the wanted bits that did not come out: of a player that
+/// plays on the first 256 of them and how many they are, of one that stops the first alone. Where the play was lost, or
+/// ended by a byte that is no answer, they are those of the answers that the player took before.
+pub fn loop_over_all<P: End, B: End>(
+    player_end: &mut Counted<P>,
+    board_end: &mut Counted<B>,
+    player: Player,
+    board: &mut Board,
+) -> (Ending, Failures)
+    requires player_end { player_end.old.failures ≡ 0 }
+    requires board_end { board_end.old.failures ≡ 0 }
+    requires fresh { player ≡ new_stream player.kind player.program }
+    ensures { LoopsAllOver P.puts P.hears B.puts B.hears P.contents P.remaining B.contents B.remaining player_end.old
+        player_end.new board_end.old board_end.new player.kind player.program board.old board.new result.0
+        (found result.1) }
 {
     let mut player = player;
     if !go_on(player_end, board_end, &mut player, board) {
         let command = player.working();
-        return Ending::Lost { command };
+        return (Ending::Lost { command }, player.into_failures());
     }
     match player.ended() {
-        Some(ending) => ending,
+        Some(ending) => (ending, player.into_failures()),
         None => unreachable!(),
     }
 }

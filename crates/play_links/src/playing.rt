@@ -2,14 +2,15 @@
 
 ghost use Rattle.std.specs.Prelude.{◌≡◌, ◌<◌, ◌≤◌, [], None, length, not};
 ghost use Rattle.every_schedule.specs.Fronts.{IsFront};
-ghost use Rattle.plays.specs.declared.kind.Kind.TheVariants.{Stops};
 ghost use Rattle.plays.specs.Streams as stream;
 ghost use Rattle.plays.specs.Streams.{new_stream};
 ghost use Rattle.play_links.specs.Calls.{Goes, IsCall, IsHeard, IsPut};
-ghost use Rattle.play_links.specs.Links.{PlaysOver};
+ghost use Rattle.scan_vectors.specs.Failures.{found};
+ghost use Rattle.play_links.specs.Links.{PlaysAllOver, PlaysOver};
 
 use byte_ends::{Counted, Sink, Source};
 use plays::Ending;
+use scan_vectors::Failures;
 use stream_player::Player;
 
 /// The most bytes that are handed to a writer, or asked of a reader, at once.
@@ -77,9 +78,9 @@ fn go_on<R: Source, W: Sink>(
 ) -> bool
     requires reader { reader.old.failures ≡ 0 }
     requires writer { writer.old.failures ≡ 0 }
-    requires fresh { player.old ≡ new_stream Stops player.old.program }
+    requires fresh { player.old ≡ new_stream player.old.kind player.old.program }
     ensures { Goes W.puts R.hears W.contents R.remaining writer.old writer.new reader.old reader.new
-        player.old.program player.new (not result) }
+        player.old.kind player.old.program player.new (not result) }
 {
     while player.ended().is_none() {
         if !call(reader, writer, player) {
@@ -89,7 +90,8 @@ fn go_on<R: Source, W: Sink>(
     true
 }
 
-/// Plays a fresh player's program over a reader and a writer of which no call was lost. Answers how the play ended.
+/// Plays a fresh player's program over a reader and a writer of which no call was lost, whether the player stops after
+/// a failing step or plays on. Answers how the play ended.
 ///
 /// What may be sent is written before anything is read, and no more answers are read than are owed. A call that fails,
 /// writes 0 bytes or meets the end of input ends the play as [`Ending::Lost`], with the command in work, and no call
@@ -101,17 +103,35 @@ pub fn play_over<R: Source, W: Sink>(
 ) -> Ending
     requires reader { reader.old.failures ≡ 0 }
     requires writer { writer.old.failures ≡ 0 }
-    requires fresh { player ≡ new_stream Stops player.program }
+    requires fresh { player ≡ new_stream player.kind player.program }
     ensures { PlaysOver W.puts R.hears W.contents R.remaining writer.old writer.new reader.old reader.new
-        player.program result }
+        player.kind player.program result }
+{
+    let (ending, _) = play_over_all(reader, writer, player);
+    ending
+}
+
+/// Plays as [`play_over`] does. Answers how the play ended, and the wanted bits that did not come out: of a player that
+/// plays on the first 256 of them and how many they are, of one that stops the first alone. Where the play was lost, or
+/// ended by a byte that is no answer, they are those of the answers before.
+pub fn play_over_all<R: Source, W: Sink>(
+    reader: &mut Counted<R>,
+    writer: &mut Counted<W>,
+    player: Player,
+) -> (Ending, Failures)
+    requires reader { reader.old.failures ≡ 0 }
+    requires writer { writer.old.failures ≡ 0 }
+    requires fresh { player ≡ new_stream player.kind player.program }
+    ensures { PlaysAllOver W.puts R.hears W.contents R.remaining writer.old writer.new reader.old reader.new
+        player.kind player.program result.0 (found result.1) }
 {
     let mut player = player;
     if !go_on(reader, writer, &mut player) {
         let command = player.working();
-        return Ending::Lost { command };
+        return (Ending::Lost { command }, player.into_failures());
     }
     match player.ended() {
-        Some(ending) => ending,
+        Some(ending) => (ending, player.into_failures()),
         None => unreachable!(),
     }
 }

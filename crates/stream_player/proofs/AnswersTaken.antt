@@ -1,33 +1,39 @@
 -- Answers taken.
-use Rattle.std.proofs.Common.{◌≡◌, Bool, true, false, ℕ, zero, suc, ◌+◌, ◌-◌, ◌<◌, ◌≤◌, List, [], ◌∷◌, length, take, drop, refl, sym, ap, subst, ◌∙◌, arith, count_by, Option, Some, None}
-use Rattle.std.specs.Option.{option_or}
+use Rattle.std.proofs.Common.{◌≡◌, Bool, true, false, ℕ, zero, suc, ◌+◌, ◌-◌, ◌^◌, ◌<◌, ◌≤◌, ◌*◌, List, [], ◌∷◌, ◌++◌, map, length, take, drop, refl, sym, ap, subst, ◌∙◌, arith, length-append, count_by, Option, Some, None}
 use Rattle.std.proofs.lemmas.Bool.{eqb-true}
-use Rattle.std.specs.Prelude.{◌==◌, not, filter, is_some, option_map, slice_get, if◌then◌else◌}
+use Rattle.std.proofs.lemmas.List.{length-take}
+use Rattle.std.specs.Option.{option_to_list}
+use Rattle.std.specs.Prelude.{◌==◌, not, filter, is_some, slice_get, if◌then◌else◌}
+use Rattle.jt_tap.specs.declared.State.{State}
 use Rattle.jt_tap.specs.declared.State.TheVariants.{Reset}
 use Rattle.bitbang_table.specs.Protocol.{read_answer}
 use Rattle.bitbang_table.specs.declared.Message.{Message}
 use Rattle.bitbang_table.specs.declared.Message.TheVariants.{Quit}
 use Rattle.bitbang.specs.declared.step_bytes.Spot.{Spot}
 use Rattle.bitbang.specs.StepMessages.{step_messages}
-use Rattle.scan_vectors.specs.Vector.{VectorBit}
-use Rattle.svf_programs.specs.Steps.{Numbered, Program, place_after}
-use Rattle.plays.specs.Play.{Turn, is_bad, step_turns, wants_of}
+use Rattle.scan_vectors.specs.Vector.{VectorBit, differs}
+use Rattle.svf_programs.specs.Sound.{AllWithin, IsSound, IsWithin, step_limit}
+use Rattle.svf_programs.specs.Steps.{Step, Scan, Go, Path, Run, Trst, Numbered, Program, place_after}
+use Rattle.plays.specs.Play.{Turn, is_bad, step_turns, turns, wants_of}
 use Rattle.plays.specs.Playing.{up_to_bad}
+use Rattle.plays.specs.declared.kind.Kind.{Kind}
+use Rattle.plays.specs.declared.kind.Kind.TheVariants.{Stops, PlaysOn}
 use Rattle.plays.specs.PlayingOn.{Mismatch}
 use Rattle.plays.specs.Streams as stream
-use Rattle.plays.specs.Streams.{StreamState, hear, answers_taken}
+use Rattle.plays.specs.Streams.{Found, StreamState, Wanted, all_wanted, count_kept, hear, answers_taken, mismatch_of, some_differ, stops_for, unanswered, with_more}
 use Rattle.plays.proofs.Asks.{asks, asks-step}
 use Rattle.every_schedule.proofs.Quits.{asks-append}
-use Rattle.stream_player.specs.declared.progress.Mismatch as declared
 use Rattle.stream_player.specs.declared.progress.Phase.{Phase}
 use Rattle.stream_player.specs.declared.progress.Phase.TheVariants.{Opening, Within, Over}
 use Rattle.stream_player.specs.declared.progress.Progress.{Progress}
-use Rattle.stream_player.specs.Progress.{InPhase, InStep, IsOver, IsProgressOf, mismatch, standing_at, state_of, vector_bits}
-use Rattle.stream_player.specs.PlaceInPlay.{PlaceInPlay, differing_bit, state_at}
+use Rattle.every_schedule.specs.InWork.{answers_in}
+use Rattle.stream_player.specs.Kept.{IsKeptOf, Keeping, keeping}
+use Rattle.stream_player.specs.Progress.{InPhase, InStep, IsOver, IsProgressOf, over, standing_at, state_of, vector_bits}
+use Rattle.stream_player.specs.PlaceInPlay.{PlaceInPlay, differing_bit, finding_of}
 use Rattle.stream_player.proofs.Ahead.{ahead, owes}
-use Rattle.stream_player.proofs.Ends.{hears, quits, quits-behind}
+use Rattle.stream_player.proofs.Ends.{judged-one, next-unanswered, of-turn, quits, quits-behind}
 use Rattle.stream_player.proofs.TurnPlaces.{owed-is, reached}
-use Rattle.stream_player.proofs.Pieced.{fair-end, first, is-over, none-of, opened, start, stops-is, turns-end}
+use Rattle.stream_player.proofs.Pieced.{fair-end, first, is-over, opened, start, stops-is, turns-end}
 use Rattle.stream_player.proofs.Steps.{cut, same-first, wants-of-vector}
 use Rattle.stream_player.proofs.Window.{asks-split}
 use Rattle.stream_player.proofs.PlayerPlaces.{in-opening, in-step, is-in, later, opens, turn}
@@ -38,7 +44,7 @@ asks-take n ms = omega (arith, asks-split n ms)
 -- how many answers are owed, as the fields say
 module _ (program : Program) (p : Progress) (stands : IsProgressOf program.steps p) (good : p.bad ≡ None) where
   over-owes : (out : Bool) → p.phase ≡ Over out → stream.owed 256 (state_of program p) ≡ 0
-  over-owes out is = by (is_some p.failed) refl
+  over-owes out is = by p.stopped refl
     where
       i : IsOver (drop p.at program.steps) p
       i = is-over program p out is stands
@@ -49,9 +55,9 @@ module _ (program : Program) (p : Progress) (stands : IsProgressOf program.steps
       none : (a h : ℕ) → a ≤ h → a - h ≡ 0
       none a h le = omega (arith, le)
 
-      by : (b : Bool) → is_some p.failed ≡ b → stream.owed 256 (state_of program p) ≡ 0
+      by : (b : Bool) → p.stopped ≡ b → stream.owed 256 (state_of program p) ≡ 0
       by false e =
-          let passed = i.passed (none-of p.failed e) in
+          let passed = i.passed e in
           let nothing = turns-end program p out is stands ∙ ap (step_turns p.place) passed.0 in
           let few : asks (ahead program s (fair-end program p out is stands)) ≡ 0 = ap asks (quits program s (fair-end program p out is stands) nothing) in
           owes program s (fair-end program p out is stands) good
@@ -117,12 +123,6 @@ reads-bit byte bit e = by (byte == 48) refl (byte == 49) refl e
     by false p true q e = (cc, refl)
     by false p false q e = absurd (cc)
 
--- one bit was judged, unless one differed before
-pub record IsJudged (p : Progress) (command : ℕ) (v : List VectorBit) (bit : Bool) (j : ℕ) (f : Option declared.Mismatch) : Type 0 where
-  pub kept : is_some p.failed ≡ true → (j ≡ p.judged) × (f ≡ p.failed)
-  pub judged : p.failed ≡ None → (w : VectorBit) (ws : List VectorBit) → filter (λ v. is_some v.wanted) (drop p.judged v) ≡ w ∷ ws
-      → (filter (λ v. is_some v.wanted) (drop j v) ≡ ws) × (option_map mismatch f ≡ differing_bit command w bit)
-
 -- the next of a list
 pub record IsNext (n : ℕ) (vs : List VectorBit) : Type 0 where
   pub first : VectorBit
@@ -139,9 +139,14 @@ next-of (suc n) (v ∷ vs) less =
     let one-more : suc n + 1 ≡ suc (n + 1) = omega arith in
     record { first = rest.first; others = rest.others; is = rest.is; then_is = ap (λ k. drop k (v ∷ vs)) one-more ∙ rest.then_is }
 
+-- it stops where a bit is noted that it stops for
+pub noted-stops : (b : Bool) → some_differ (finding_of b).list ≡ b
+noted-stops true = refl
+noted-stops false = refl
+
+-- an answer is counted
 module _ (program : Program) (p : Progress) (spot : Spot) (is : p.phase ≡ Within spot) (stands : IsProgressOf program.steps p) (good : p.bad ≡ None)
-    (some : 0 < p.owed) (byte : ℕ) (bit : Bool) (said : (byte == 49) ≡ bit) (answers : is_bad byte ≡ false) (j : ℕ) (f : Option declared.Mismatch)
-    (judged : IsJudged p (in-step program p spot is stands).step.number (vector_bits (in-step program p spot is stands).step.what) bit j f) where
+    (some : 0 < p.owed) (j : ℕ) (f : Bool) where
   abbrev i : InStep spot (drop p.at program.steps) p
   i = in-step program p spot is stands
 
@@ -149,26 +154,16 @@ module _ (program : Program) (p : Progress) (spot : Spot) (is : p.phase ≡ With
   wants = wants_of i.step.what
 
   abbrev next : Progress
-  next = record p { heard = p.heard + 1; owed = p.owed - 1; judged = j; failed = f }
+  next = record p { heard = p.heard + 1; owed = p.owed - 1; judged = j; stopped = f }
 
-  less : p.heard < length wants
-  less = omega (arith, some, reached program (standing_at program.steps p) (turn program p spot is stands) (later program p spot is stands) p.owed (is-in program p spot is stands))
+  pub heard-below : p.heard < length wants
+  heard-below = omega (arith, some, reached program (standing_at program.steps p) (turn program p spot is stands) (later program p spot is stands) p.owed (is-in program p spot is stands))
 
-  n : IsNext p.heard wants
-  n = next-of p.heard wants less
+  pub n : IsNext p.heard wants
+  n = next-of p.heard wants heard-below
 
-  judged-then : p.failed ≡ None → (filter (λ v. is_some v.wanted) (drop j (vector_bits i.step.what)) ≡ drop (p.heard + 1) wants)
-      × (option_map mismatch f ≡ differing_bit i.step.number n.first bit)
-  judged-then none =
-      let one-judged = judged.judged none n.first n.others (i.judged none ∙ n.is) in
-      (one-judged.0 ∙ sym n.then_is, one-judged.1)
-
-  judged-next : (b : Bool) → is_some p.failed ≡ b → f ≡ None → filter (λ v. is_some v.wanted) (drop j (vector_bits i.step.what)) ≡ drop (p.heard + 1) wants
-  judged-next false e none = (judged-then (none-of p.failed e)).0
-  judged-next true e none = let clash : false ≡ true = ap is_some (sym none ∙ (judged.kept e).1) ∙ e in absurd (cc)
-
-  pub hears-on : IsProgressOf program.steps next
-  hears-on = record {
+  pub hears-on : (f ≡ false → filter (λ v. is_some v.wanted) (drop j (vector_bits i.step.what)) ≡ n.others) → IsProgressOf program.steps next
+  hears-on judged = record {
     rests = stands.rests;
     phase = subst (InPhase (drop p.at program.steps) next) (sym is) in-next;
   }
@@ -182,33 +177,20 @@ module _ (program : Program) (p : Progress) (spot : Spot) (is : p.phase ≡ With
         some = i.some;
         asked = i.asked ∙ omega (arith, some);
         allowed = omega (arith, i.allowed);
-        judged = judged-next (is_some p.failed) refl;
+        judged = λ e. judged e ∙ sym n.then_is;
         fair = λ s. omega arith;
         bad = λ s. let clash : false ≡ true = sym (ap is_some good) ∙ s in absurd (cc);
       }
 
-  failed-then : (b : Bool) → is_some p.failed ≡ b
-      → option_map mismatch f ≡ option_or (option_map mismatch p.failed) (differing_bit i.step.number n.first (byte == 49))
-  failed-then false e =
-      let none = none-of p.failed e in
-      (judged-then none).1 ∙ ap (differing_bit i.step.number n.first) (sym said)
-      ∙ ap (λ (o : Option declared.Mismatch). option_or (option_map mismatch o) (differing_bit i.step.number n.first (byte == 49))) (sym none)
-  failed-then true e = ap (option_map mismatch) (judged.kept e).1 ∙ stays p.failed e
-    where
-      stays : (o : Option declared.Mismatch) → is_some o ≡ true
-          → option_map mismatch o ≡ option_or (option_map mismatch o) (differing_bit i.step.number n.first (byte == 49))
-      stays None e = absurd (cc)
-      stays (Some m) e = refl
-
-  pub hears-same : state_of program next ≡ hear byte (state_of program p)
+  pub hears-same : state_of program next ≡ record (state_of program p) { answered = (state_of program p).answered + 1; found = finding_of f }
   hears-same =
       let s = standing_at program.steps p in
-      ap (λ (o : Option Mismatch). state_at program (record s { heard = p.heard + 1; failed = o })) (failed-then (is_some p.failed) refl)
-      ∙ sym (hears program s (turn program p spot is stands) (later program p spot is stands) (is-in program p spot is stands).here byte n.first n.others
-      good answers n.is)
+      let count : answers_in (take s.over (turns program.steps)) + (p.heard + 1) ≡ (state_of program p).answered + 1 = omega arith in
+      (λ k. record (state_of program p) { answered = count k; found = finding_of f })
 
-  pub heard-below : p.heard < length (wants_of (in-step program p spot is stands).step.what)
-  heard-below = less
+  pub next-is : unanswered (state_of program p) ≡ record { command = i.step.number; bit = n.first } ∷ (map (of-turn (turn program p spot is stands)) n.others ++ all_wanted (later program p spot is stands))
+  next-is = next-unanswered program (standing_at program.steps p) (turn program p spot is stands) (later program p spot is stands)
+      (is-in program p spot is stands).here n.first n.others n.is
 
 -- a vector has no more wanted bits than bits
 pub wanted-most : (v : List VectorBit) → length (filter (λ v. is_some v.wanted) v) ≤ length v
@@ -220,12 +202,34 @@ wanted-most (b ∷ v) = by (is_some b.wanted) (wanted-most v)
     by true le = omega (arith, le)
     by false le = omega (arith, le)
 
+-- what an answer adds is one at most
+adds-one : (l : List Wanted) (b : Bool) → length (mismatch_of l b) ≤ 1
+adds-one [] b = omega arith
+adds-one (w ∷ l) b = by (differs w.bit.wanted b)
+  where
+    by : (q : Bool) → length {A = Mismatch} (if q then record { command = w.command; part = w.bit.part; bit = w.bit.place } ∷ [] else []) ≤ 1
+    by true = omega arith
+    by false = omega arith
+
+counted-most : (kind : Kind) (n : ℕ) → count_kept kind n ≤ n
+counted-most Stops n = omega arith
+counted-most PlaysOn n = omega arith
+
+counted-more : (kind : Kind) (more : List Mismatch) (f : Found) → length f.list ≤ f.total
+    → length (with_more kind more f).list ≤ (with_more kind more f).total
+counted-more Stops more f le = omega (arith, le, length-take 1 (f.list ++ more), length-append f.list more)
+counted-more PlaysOn more f le = omega (arith, le, length-take 256 (f.list ++ more), length-append f.list more)
+
 -- A bit was judged by the code, of the step at work: so the answer is heard.
 module _ (program : Program) (p r : Progress) (stands : IsProgressOf program.steps p) (good : p.bad ≡ None) (some : 0 < p.owed) (byte : ℕ) (bit : Bool)
     (told : read_answer byte ≡ Some bit) (s : Numbered) (first : slice_get program.steps p.at ≡ Some s) (v : List VectorBit) (scans : vector_bits s.what ≡ v)
-    (kept : is_some p.failed ≡ true → r ≡ p) (rest : r ≡ record p { judged = r.judged; failed = r.failed })
-    (one : p.failed ≡ None → (w : VectorBit) (ws : List VectorBit) → filter (λ v. is_some v.wanted) (drop p.judged v) ≡ w ∷ ws
-    → (filter (λ v. is_some v.wanted) (drop r.judged v) ≡ ws) × (option_map mismatch r.failed ≡ differing_bit s.number w bit)) where
+    (k l : Keeping) (keeps : IsKeptOf (state_of program p) k)
+    (rest : r ≡ record p { judged = r.judged; stopped = r.stopped })
+    (stops_then : stops_for l.kind l.found.list ≡ r.stopped)
+    (full : stops_for k.kind k.found.list ≡ true → (r ≡ p) × (l ≡ k) × ((more : List Mismatch) → with_more k.kind more k.found ≡ k.found))
+    (one : stops_for k.kind k.found.list ≡ false → (w : VectorBit) (ws : List VectorBit) → filter (λ v. is_some v.wanted) (drop p.judged v) ≡ w ∷ ws
+    → (filter (λ v. is_some v.wanted) (drop r.judged v) ≡ ws)
+    × (l ≡ record k { found = with_more k.kind (option_to_list (differing_bit s.number w bit)) k.found })) where
   abbrev at : (spot : Spot) × (p.phase ≡ Within spot)
   at = where-owed program p stands some
 
@@ -235,29 +239,120 @@ module _ (program : Program) (p r : Progress) (stands : IsProgressOf program.ste
   same : s ≡ work.step
   same = same-first (drop p.at program.steps) s work.step (drop (suc p.at) program.steps) work.later (cut program.steps p.at s first) work.is
 
-  so-judged : IsJudged p work.step.number (vector_bits work.step.what) bit r.judged r.failed
-  so-judged = subst (λ (x : Numbered). IsJudged p x.number (vector_bits x.what) bit r.judged r.failed) same
-      (subst (λ (l : List VectorBit). IsJudged p s.number l bit r.judged r.failed) (sym scans)
-      (record { kept = λ e. (ap (λ (x : Progress). x.judged) (kept e), ap (λ (x : Progress). x.failed) (kept e)); judged = one }))
+  bits-same : v ≡ vector_bits work.step.what
+  bits-same = sym scans ∙ ap (λ (x : Numbered). vector_bits x.what) same
+
+  abbrev now : IsNext p.heard (wants_of work.step.what)
+  now = n program p at.0 at.1 stands good some r.judged r.stopped
+
+  stopped : p.stopped ≡ stops_for k.kind k.found.list
+  stopped = sym (noted-stops p.stopped) ∙ sym keeps.stops
+
+  -- where it does not stop, the next bit is judged
+  judges : stops_for k.kind k.found.list ≡ false
+      → (filter (λ v. is_some v.wanted) (drop r.judged v) ≡ now.others)
+      × (l ≡ record k { found = with_more k.kind (option_to_list (differing_bit s.number now.first bit)) k.found })
+  judges e = one e now.first now.others
+      (ap (λ (x : List VectorBit). filter (λ v. is_some v.wanted) (drop p.judged x)) bits-same ∙ work.judged (stopped ∙ e) ∙ now.is)
+
+  judged-next : (b : Bool) → stops_for k.kind k.found.list ≡ b → r.stopped ≡ false
+      → filter (λ v. is_some v.wanted) (drop r.judged (vector_bits work.step.what)) ≡ now.others
+  judged-next false e none = ap (λ (x : List VectorBit). filter (λ v. is_some v.wanted) (drop r.judged x)) (sym bits-same) ∙ (judges e).0
+  judged-next true e none =
+      let clash : false ≡ true = sym none ∙ ap (λ (x : Progress). x.stopped) (full e).0 ∙ stopped ∙ e in absurd (cc)
 
   abbrev counted : Progress → Progress
   counted x = record x { heard = x.heard + 1; owed = x.owed - 1 }
 
   pub counts-on : IsProgressOf program.steps (counted r)
   counts-on = subst (IsProgressOf program.steps) (sym (ap counted rest))
-      (hears-on program p at.0 at.1 stands good some byte bit (reads-bit byte bit told).0 (reads-bit byte bit told).1 r.judged r.failed so-judged)
+      (hears-on program p at.0 at.1 stands good some r.judged r.stopped (judged-next (stops_for k.kind k.found.list) refl))
 
-  pub counts-same : state_of program (counted r) ≡ hear byte (state_of program p)
-  counts-same = ap (λ (x : Progress). state_of program (counted x)) rest
-      ∙ hears-same program p at.0 at.1 stands good some byte bit (reads-bit byte bit told).0 (reads-bit byte bit told).1 r.judged r.failed so-judged
+  then-is : state_of program (counted r) ≡ record (state_of program p) { answered = (state_of program p).answered + 1; found = finding_of r.stopped }
+  then-is = ap (λ (x : Progress). state_of program (counted x)) rest ∙ hears-same program p at.0 at.1 stands good some r.judged r.stopped
+
+  abbrev adds : List Mismatch
+  adds = mismatch_of (unanswered (state_of program p)) (byte == 49)
+
+  adds-is : adds ≡ option_to_list (differing_bit s.number now.first bit)
+  adds-is =
+      ap (λ (x : List Wanted). mismatch_of x (byte == 49)) (next-is program p at.0 at.1 stands good some r.judged r.stopped)
+      ∙ judged-one work.step.number now.first (map (of-turn (turn program p at.0 at.1 stands)) now.others ++ all_wanted (later program p at.0 at.1 stands)) (byte == 49)
+      ∙ ap (λ (b : Bool). option_to_list (differing_bit work.step.number now.first b)) (reads-bit byte bit told).0
+      ∙ ap (λ (x : Numbered). option_to_list (differing_bit x.number now.first bit)) (sym same)
+
+  noted : (b : Bool) → stops_for k.kind k.found.list ≡ b → l ≡ record k { found = with_more k.kind adds k.found }
+  noted true e = (full e).1 ∙ ap (λ (x : Found). record k { found = x }) (sym ((full e).2 adds))
+  noted false e = (judges e).1 ∙ ap (λ (x : List Mismatch). record k { found = with_more k.kind x k.found }) (sym adds-is)
+
+  pub counts-same : keeping l (state_of program (counted r)) ≡ hear byte (keeping k (state_of program p))
+  counts-same =
+      let answers = (reads-bit byte bit told).1 in
+      let s = keeping k (state_of program p) in
+      ap (keeping l) then-is
+      ∙ ap (λ (x : Keeping). keeping x (record (state_of program p) { answered = (state_of program p).answered + 1 })) (noted (stops_for k.kind k.found.list) refl)
+      ∙ sym ((λ i. if is_some (good i) then s else if answers i then record s { bad = Some byte } else
+      record s { answered = s.answered + 1; found = with_more s.kind (mismatch_of (unanswered s) (byte == 49)) s.found }))
+
+  pub counts-keeps : IsKeptOf (state_of program (counted r)) l
+  counts-keeps = record {
+    stops = stops_then ∙ sym (noted-stops r.stopped) ∙ sym (ap stream.stops then-is);
+    few = omega (
+      arith,
+      keeps.few,
+      ap (λ (x : Keeping). x.found.total) (noted (stops_for k.kind k.found.list) refl),
+      counted-most k.kind (k.found.total + length adds),
+      adds-one (unanswered (state_of program p)) (byte == 49),
+      ap (λ (x : StreamState). x.answered) then-is,
+    );
+    counted = subst (λ (x : Keeping). length x.found.list ≤ x.found.total) (sym (noted (stops_for k.kind k.found.list) refl))
+        (counted-more k.kind adds k.found keeps.counted);
+  }
 
   pub counts-below : r.heard < length v
-  counts-below =
-      let below-wants = heard-below program p at.0 at.1 stands good some byte bit (reads-bit byte bit told).0 (reads-bit byte bit told).1 r.judged r.failed so-judged in
-      let wants : wants_of work.step.what ≡ filter (λ v. is_some v.wanted) v =
-      sym (wants-of-vector work.step.what) ∙ ap (λ (x : Numbered). filter (λ v. is_some v.wanted) (vector_bits x.what)) (sym same)
-      ∙ ap (filter (λ v. is_some v.wanted)) scans in
-      omega (arith, below-wants, ap length wants, wanted-most v, ap (λ (x : Progress). x.heard) rest)
+  counts-below = omega (
+    arith,
+    heard-below program p at.0 at.1 stands good some r.judged r.stopped,
+    ap length (wants-of-vector work.step.what),
+    ap length (ap (filter (λ v. is_some v.wanted)) bits-same),
+    wanted-most v,
+    ap (λ (x : Progress). x.heard) rest,
+  )
+
+-- a program wants no more bits than its steps may have
+wants-most : (s : Step) → IsWithin s → length (wants_of s) ≤ 65536
+wants-most (Scan column v end) within = omega (arith, within, wanted-most v)
+wants-most (Go s) within = omega arith
+wants-most (Path path) within = omega arith
+wants-most (Run run n end) within = omega arith
+wants-most (Trst w) within = omega arith
+
+answers-most : (n : ℕ) (place : State) (steps : List Numbered) → AllWithin steps → answers_in (take n (step_turns place steps)) ≤ 65536 * length steps
+answers-most zero place steps all = omega arith
+answers-most (suc n) place [] all = omega arith
+answers-most (suc n) place (s ∷ steps) all =
+    let one-step = wants-most s.what all.0 in
+    let others = answers-most n (place_after place s.what) steps all.1 in
+    omega (arith, one-step, others)
+
+pub answered-most : (program : Program) (p : Progress) → IsSound program.steps → p.heard < 65536
+    → (state_of program p).answered < 65536 * (length program.steps + 1)
+answered-most program p sound few = by (over p)
+  where
+    by : (n : ℕ) → answers_in (take n (turns program.steps)) + p.heard < 65536 * (length program.steps + 1)
+    by zero = omega (arith, few)
+    by (suc n) = let most = answers-most n Reset program.steps sound.within in omega (arith, few, most)
+
+-- another failure can be counted
+pub has-room : (program : Program) (p : Progress) → IsProgressOf program.steps p → p.bad ≡ None → 0 < p.owed → IsSound program.steps → (k : Keeping)
+    → IsKeptOf (state_of program p) k → length program.steps ≤ step_limit → k.found.total + 1 < 2 ^ 64
+has-room program p stands good some sound k keeps few =
+    let at = where-owed program p stands some in
+    let work = in-step program p at.0 at.1 stands in
+    let within : AllWithin (work.step ∷ work.later) = subst AllWithin work.is stands.rests.within in
+    let below = heard-below program p at.0 at.1 stands good some p.judged p.stopped in
+    let all = answered-most program p sound (omega (arith, below, wants-most work.step.what within.0)) in
+    omega (arith, all, keeps.few, few)
 
 pub is-none : {A : Type 0} (o : Option A) → is_some o ≡ false → o ≡ None
 is-none None e = refl

@@ -1,6 +1,5 @@
 -- A player that hears an answer, that quits, and what it tells.
 use Rattle.std.proofs.Common.{◌≡◌, ◌⊎◌, Bool, true, false, ℕ, zero, suc, ◌+◌, ◌-◌, ◌<◌, ◌≤◌, List, [], ◌∷◌, ◌++◌, map, length, take, drop, refl, ap, ◌∙◌, arith, length-append, inl, inr, Option, Some, None}
-use Rattle.std.specs.Option.{option_or}
 use Rattle.std.proofs.Math.Seq.{drop-append-add}
 use Rattle.std.proofs.lemmas.Bool.{ltb-true, ltb-false, leb-true, leb-false}
 use Rattle.std.proofs.lemmas.List.{length-map}
@@ -14,14 +13,15 @@ use Rattle.plays.specs.Play.{Turn, is_bad, turns}
 use Rattle.plays.specs.declared.kind.Kind.TheVariants.{Stops}
 use Rattle.plays.specs.PlayingOn.{Mismatch, ending_of}
 use Rattle.plays.specs.Streams as stream
-use Rattle.plays.specs.Streams.{Wanted, command_at, hear, mismatch_of, with_more, all_wanted, command_at_work}
+use Rattle.plays.specs.Streams.{Wanted, unanswered, command_at, hear, mismatch_of, with_more, all_wanted, command_at_work}
 use Rattle.every_schedule.proofs.Quits.{has_quit}
+use Rattle.std.specs.Option.{option_to_list}
 use Rattle.stream_player.specs.PlaceInPlay.{PlaceInPlay, differing_bit, finding_of, messages_in, state_at}
 use Rattle.every_schedule.specs.InWork.{answers_in}
 use Rattle.stream_player.proofs.Ahead.{ahead, is-out, sends-last, stops_at}
 
 -- a wanted bit of a turn
-abbrev of-turn : Turn → VectorBit → Wanted
+abbrev pub of-turn : Turn → VectorBit → Wanted
 of-turn t v = record { command = t.command; bit = v }
 
 -- the wanted bits of the turns that are over drop out
@@ -42,43 +42,22 @@ next-wanted t zero vs more w ws e = ap (λ l. map (of-turn t) l ++ more) e
 next-wanted t (suc n) [] more w ws e = absurd (cc)
 next-wanted t (suc n) (v ∷ vs) more w ws e = next-wanted t n vs more w ws e
 
-abbrev listed : Option Mismatch → List Mismatch
-listed None = []
-listed (Some m) = m ∷ []
-
-noted-first : (had more : Option Mismatch) → with_more Stops (listed more) (finding_of had) ≡ finding_of (option_or had more)
-noted-first None None = refl
-noted-first None (Some m) = refl
-noted-first (Some m) None = refl
-noted-first (Some m) (Some n) = refl
-
-judged-one : (t : Turn) (w : VectorBit) (rest : List Wanted) (bit : Bool) → mismatch_of (of-turn t w ∷ rest) bit ≡ listed (differing_bit t.command w bit)
-judged-one t w rest bit = by (differs w.wanted bit)
+pub judged-one : (command : ℕ) (w : VectorBit) (rest : List Wanted) (bit : Bool)
+    → mismatch_of (record { command = command; bit = w } ∷ rest) bit ≡ option_to_list (differing_bit command w bit)
+judged-one command w rest bit = by (differs w.wanted bit)
   where
-    by : (b : Bool) → (if b then record { command = t.command; part = w.part; place = w.place } ∷ [] else [])
-        ≡ listed (if b then Some (record { command = t.command; part = w.part; place = w.place }) else None)
+    by : (b : Bool) → ◌≡◌ {A = List Mismatch} (if b then record { command = command; part = w.part; bit = w.place } ∷ [] else [])
+        (option_to_list (if b then Some (record { command = command; part = w.part; bit = w.place }) else None))
     by true = refl
     by false = refl
 
 module _ (program : Program) (s : PlaceInPlay) (t : Turn) (later : List Turn) (here : drop s.over (turns program.steps) ≡ t ∷ later) where
-  -- An answer is heard: it is judged by the next wanted bit.
-  pub hears : (byte : ℕ) (w : VectorBit) (ws : List VectorBit) → s.bad ≡ None → is_bad byte ≡ false → drop s.heard t.wants ≡ w ∷ ws
-      → hear byte (state_at program s)
-      ≡ state_at program (record s { heard = s.heard + 1; failed = option_or s.failed (differing_bit t.command w (byte == 49)) })
-  hears byte w ws none good next =
-      let now = state_at program s in
-      let left : drop now.answered (all_wanted (turns program.steps)) ≡ of-turn t w ∷ (map (of-turn t) ws ++ all_wanted later) =
+  -- the next answer belongs to the next wanted bit
+  pub next-unanswered : (w : VectorBit) (ws : List VectorBit) → drop s.heard t.wants ≡ w ∷ ws
+      → unanswered (state_at program s) ≡ of-turn t w ∷ (map (of-turn t) ws ++ all_wanted later)
+  next-unanswered w ws next =
       wanted-past s.over (turns program.steps) s.heard ∙ ap (λ (l : List Turn). drop s.heard (all_wanted l)) here
-      ∙ next-wanted t s.heard t.wants (all_wanted later) w ws next in
-      let judge : mismatch_of (drop now.answered (all_wanted (turns program.steps))) (byte == 49) ≡ listed (differing_bit t.command w (byte == 49)) =
-      ap (λ (l : List Wanted). mismatch_of l (byte == 49)) left ∙ judged-one t w (map (of-turn t) ws ++ all_wanted later) (byte == 49) in
-      let count : now.answered + 1 ≡ answers_in (take s.over (turns program.steps)) + (s.heard + 1) = omega arith in
-      (λ k. if is_some (none k) then now else if good k then record now { bad = Some byte } else
-      record now {
-        answered = count k;
-        found = (ap (λ (m : List Mismatch). with_more Stops m (finding_of s.failed)) judge
-            ∙ noted-first s.failed (differing_bit t.command w (byte == 49))) k;
-      })
+      ∙ next-wanted t s.heard t.wants (all_wanted later) w ws next
 
   -- a byte that is no answer ends the play
   pub hears-bad : (byte : ℕ) → s.bad ≡ None → is_bad byte ≡ true → hear byte (state_at program s) ≡ state_at program (record s { bad = Some byte })
@@ -195,7 +174,7 @@ module _ (program : Program) (s : PlaceInPlay) (fair : stops_at s ≡ true → 0
 
   -- how it ends
   abbrev ending-by : Bool → Option Ending
-  ending-by out = if out then Some (ending_of (finding_of s.failed).list) else None
+  ending-by out = if out then Some (ending_of (finding_of s.stopped).list) else None
 
   pub ends : s.bad ≡ None → stream.ending_of_stream 256 (state_at program s) ≡ ending-by (has_quit (take s.gone (ahead program s fair)))
   ends none = (λ i. elim (none i) [

@@ -1,8 +1,9 @@
--- Where a player that stops at the first failing step stands in its play.
-use Rattle.std.specs.Prelude.{ℕ, Bool, zero, suc, ◌+◌, ◌==◌, List, [], ◌∷◌, ◌++◌, length, take, Option, Some, None}
-use Rattle.std.specs.Prelude.{if◌then◌else◌}
+-- Where a player stands in its play.
+use Rattle.std.specs.Prelude.{ℕ, Bool, true, false, zero, suc, ◌+◌, ◌==◌, List, [], ◌∷◌, ◌++◌, length, take}
+use Rattle.std.specs.Prelude.{Option, Some, None, if◌then◌else◌}
 use Rattle.bitbang_table.specs.declared.Message.{Message}
 use Rattle.scan_vectors.specs.Vector.{VectorBit, differs}
+use Rattle.scan_vectors.specs.declared.part.Part.TheVariants.{Header}
 use Rattle.svf_programs.specs.Steps.{Program}
 use Rattle.plays.specs.Play.{Turn, turns}
 use Rattle.plays.specs.declared.kind.Kind.TheVariants.{Stops}
@@ -10,13 +11,13 @@ use Rattle.plays.specs.PlayingOn.{Mismatch}
 use Rattle.plays.specs.Streams.{Found, StreamState}
 use Rattle.every_schedule.specs.InWork.{answers_in}
 
--- how many turns are over, how many messages of the present one are out and how many of its answers are there, what
--- differed, and the byte that was no answer, if one came
+-- how many turns are over, how many messages of the present one are out and how many of its answers are there,
+-- whether it stops behind it, and the byte that was no answer, if one came
 pub record PlaceInPlay : Type 0 where
   pub over : ℕ
   pub gone : ℕ
   pub heard : ℕ
-  pub failed : Option Mismatch
+  pub stopped : Bool
   pub bad : Option ℕ
 
 -- the messages of turns
@@ -24,12 +25,12 @@ abbrev pub messages_in : List Turn → List Message
 messages_in [] = []
 messages_in (t ∷ ts) = t.messages ++ messages_in ts
 
--- of all that differed, one that stops keeps the first
-abbrev pub finding_of : Option Mismatch → Found
-finding_of None = record { list = []; total = 0 }
-finding_of (Some m) = record { list = m ∷ []; total = 1 }
+-- what stands for the failures of a player, where it is known only whether it stops for one
+abbrev pub finding_of : Bool → Found
+finding_of false = record { list = []; total = 0 }
+finding_of true = record { list = record { command = 0; part = Header; bit = 0 } ∷ []; total = 1 }
 
--- the player that stands so
+-- the player that stands so, but for its kind and its failures
 abbrev pub state_at : Program → PlaceInPlay → StreamState
 state_at program s =
     let before = take s.over (turns program.steps) in record {
@@ -37,7 +38,7 @@ state_at program s =
       kind = Stops;
       given = length (messages_in before) + s.gone;
       answered = answers_in before + s.heard;
-      found = finding_of s.failed;
+      found = finding_of s.stopped;
       bad = s.bad;
     }
 
@@ -55,4 +56,4 @@ reads (b ∷ bytes) = if b == 82 then suc (reads bytes) else reads bytes
 -- what differs of an answer to a wanted bit of a command
 abbrev pub differing_bit : ℕ → VectorBit → Bool → Option Mismatch
 differing_bit command w bit =
-    if differs w.wanted bit then Some (record { command = command; part = w.part; place = w.place }) else None
+    if differs w.wanted bit then Some (record { command = command; part = w.part; bit = w.place }) else None

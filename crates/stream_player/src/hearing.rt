@@ -1,32 +1,43 @@
 //! Taking the answers.
 
-ghost use Rattle.std.specs.Prelude.{◌≡◌, ◌<◌, ◌+◌, ◌∷◌, false, true, List, [], MatchOption, None, Some, drop, is_some};
-ghost use Rattle.std.specs.Prelude.{length, option_map, slice_get};
+ghost use Rattle.std.specs.Prelude.{◌≡◌, ◌<◌, ◌+◌, ◌^◌, ◌∷◌, false, true, List, [], MatchOption, None, Some, drop};
+ghost use Rattle.std.specs.Prelude.{is_some, length, slice_get};
+ghost use Rattle.std.specs.Option.{option_to_list};
 ghost use Rattle.scan_vectors.specs.Held.{bits};
 ghost use Rattle.scan_vectors.specs.Vector.{VectorBit, wanted_bits};
 ghost use Rattle.svf_programs.specs.Sizes.{program_of};
 ghost use Rattle.svf_programs.specs.Seen as seen;
 ghost use Rattle.svf_programs.specs.Seen.{numbered};
 ghost use Rattle.plays.specs.Play.{is_bad};
-ghost use Rattle.plays.specs.Streams.{hear_bytes, answers_taken};
+ghost use Rattle.plays.specs.PlayingOn as playing_on;
+ghost use Rattle.plays.specs.Streams.{hear_bytes, answers_taken, stops_for, with_more};
 ghost use Rattle.plays.specs.Streams as stream;
-ghost use Rattle.stream_player.specs.Progress.{IsProgressOf, mismatch, state_of, vector_bits};
+ghost use Rattle.stream_player.specs.Kept.{IsKeptOf, keeping};
+ghost use Rattle.stream_player.specs.Progress.{IsProgressOf, state_of, vector_bits};
 ghost use Rattle.stream_player.specs.PlaceInPlay.{differing_bit};
 
-use crate::progress::{Mismatch, Progress};
+use crate::kept::Kept;
+use crate::progress::Progress;
 use bitbang::read_answer;
-use scan_vectors::{Vector, difference, next_wanted};
+use scan_vectors::{Mismatch, Vector, difference, next_wanted};
 use svf_programs::{Action, Program, Step};
 
 /// Takes as many answers as are owed, up to and with the first that is none. Answers where the player stands then, and
 /// how many were taken.
-pub(crate) fn hear(program: &Program, p: Progress, bytes: &[u8]) -> (Progress, usize)
-    requires { IsProgressOf program.now.steps p }
+pub(crate) fn hear(
+    program: &Program,
+    p: Progress,
+    kept: &mut Kept,
+    bytes: &[u8],
+) -> (Progress, usize)
+    requires stands { IsProgressOf program.now.steps p }
+    requires keeps { IsKeptOf (state_of (program_of program.now) p) kept.old }
     ensures stands { IsProgressOf program.now.steps result.0 }
+    ensures keeps { IsKeptOf (state_of (program_of program.now) result.0) kept.new }
     ensures count { result.1 ≡ length (answers_taken 256 (state_of (program_of program.now) p) bytes.now) }
-    ensures state { state_of (program_of program.now) result.0
+    ensures state { keeping kept.new (state_of (program_of program.now) result.0)
         ≡ hear_bytes (answers_taken 256 (state_of (program_of program.now) p) bytes.now)
-        (state_of (program_of program.now) p) }
+        (keeping kept.old (state_of (program_of program.now) p)) }
 {
     if p.bad.is_some() {
         return (p, 0);
@@ -47,7 +58,7 @@ pub(crate) fn hear(program: &Program, p: Progress, bytes: &[u8]) -> (Progress, u
         if p.owed == 0 {
             return (p, count);
         }
-        p = hear_one(program, &step, &vector, p, *byte);
+        p = hear_one(program, &step, &vector, p, kept, *byte);
         count += 1;
     }
     (p, count)
@@ -70,15 +81,19 @@ fn hear_one(
     step: &Step<'_>,
     vector: &Vector<'_>,
     p: Progress,
+    kept: &mut Kept,
     byte: u8,
 ) -> Progress
     requires stands { IsProgressOf program.now.steps p }
+    requires keeps { IsKeptOf (state_of (program_of program.now) p) kept.old }
     requires first { slice_get program.now.steps p.at ≡ Some (numbered step.now) }
     requires scans { vector_bits (seen.step step.now.what) ≡ bits vector.now }
     requires good { p.bad ≡ None }
     requires owed { 0 < p.owed }
     ensures stands { IsProgressOf program.now.steps result }
-    ensures state { state_of (program_of program.now) result ≡ stream.hear byte (state_of (program_of program.now) p) }
+    ensures keeps { IsKeptOf (state_of (program_of program.now) result) kept.new }
+    ensures state { keeping kept.new (state_of (program_of program.now) result)
+        ≡ stream.hear byte (keeping kept.old (state_of (program_of program.now) p)) }
     ensures at { result.at ≡ p.at }
     ensures taken { is_bad byte ≡ false → (result.owed + 1 ≡ p.owed) × (result.bad ≡ None) }
     ensures bad { is_bad byte ≡ true → result.bad ≡ Some byte }
@@ -89,7 +104,7 @@ fn hear_one(
         let bad = Some(byte);
         return Progress { bad, ..p };
     };
-    let p = after_judging(step.number, vector, p, bit);
+    let p = after_judging(step.number, vector, p, kept, bit);
     Progress {
         heard: p.heard + 1,
         owed: p.owed - 1,
@@ -97,16 +112,28 @@ fn hear_one(
     }
 }
 
-/// Judges one bit by the next wanted one, unless a bit differed before.
-fn after_judging(command: usize, vector: &Vector<'_>, p: Progress, bit: bool) -> Progress
-    ensures kept { is_some p.failed ≡ true → result ≡ p }
-    ensures rest { result ≡ record p { judged = result.judged; failed = result.failed } }
-    ensures judged { p.failed ≡ None → (w : VectorBit) (ws : List VectorBit)
+/// Judges one bit by the next wanted one, unless the player stops for an earlier one.
+fn after_judging(
+    command: usize,
+    vector: &Vector<'_>,
+    p: Progress,
+    kept: &mut Kept,
+    bit: bool,
+) -> Progress
+    requires room { kept.old.found.total + 1 < 2 ^ 64 }
+    requires stops { stops_for kept.old.kind kept.old.found.list ≡ p.stopped }
+    ensures rest { result ≡ record p { judged = result.judged; stopped = result.stopped } }
+    ensures stops { stops_for kept.new.kind kept.new.found.list ≡ result.stopped }
+    ensures full { stops_for kept.old.kind kept.old.found.list ≡ true → (result ≡ p) × (kept.new ≡ kept.old)
+        × ((more : List playing_on.Mismatch) → with_more kept.old.kind more kept.old.found ≡ kept.old.found) }
+    ensures judged { stops_for kept.old.kind kept.old.found.list ≡ false → (w : VectorBit) (ws : List VectorBit)
         → wanted_bits (drop p.judged (bits vector.now)) ≡ w ∷ ws
         → (wanted_bits (drop result.judged (bits vector.now)) ≡ ws)
-        × (option_map mismatch result.failed ≡ differing_bit command w bit) }
+        × (kept.new ≡ record kept.old {
+          found = with_more kept.old.kind (option_to_list (differing_bit command w bit)) kept.old.found;
+        }) }
 {
-    if p.failed.is_some() {
+    if kept.stops() {
         return p;
     }
     // For the proof alone: how long the vector is.
@@ -114,13 +141,22 @@ fn after_judging(command: usize, vector: &Vector<'_>, p: Progress, bit: bool) ->
     let Some(i) = next_wanted(vector, p.judged) else {
         return p;
     };
-    let failed = match difference(vector, i, bit) {
-        Some((part, bit)) => Some(Mismatch { command, part, bit }),
-        None => None,
-    };
+    let stopped = kept.note(mismatch_at(command, vector, i, bit));
     Progress {
         judged: i + 1,
-        failed,
+        stopped,
         ..p
+    }
+}
+
+/// What differs, if this is what came out as bit `i`.
+fn mismatch_at(command: usize, vector: &Vector<'_>, i: usize, bit: bool) -> Option<Mismatch>
+    requires { i < length (bits vector.now) }
+    ensures { (v : VectorBit) → slice_get (bits vector.now) i ≡ Some v
+        → result ≡ differing_bit command v bit }
+{
+    match difference(vector, i, bit) {
+        Some((part, bit)) => Some(Mismatch { command, part, bit }),
+        None => None,
     }
 }

@@ -3,9 +3,11 @@
 
 mod giving;
 mod hearing;
+mod kept;
 mod pieces;
 mod player;
 mod progress;
 mod telling;
 
 pub use player::Player;
+pub use scan_vectors::{Failures, Mismatch};

@@ -2,29 +2,34 @@
 
 ghost use Rattle.std.specs.Prelude.{◌≡◌, ◌+◌, ◌-◌, ◌^◌, ◌↔◌, ◌++◌, IsTrue, IsOk, IfOk, length, min, take, drop};
 ghost use Rattle.svf_programs.specs.Sizes.{program_of};
-ghost use Rattle.plays.specs.declared.kind.Kind.TheVariants.{Stops};
+ghost use Rattle.scan_vectors.specs.Failures.{found};
+ghost use Rattle.plays.specs.declared.kind.Kind.TheVariants.{Stops, PlaysOn};
 ghost use Rattle.plays.specs.Streams as stream;
 ghost use Rattle.plays.specs.Streams.{new_stream, hear_bytes, answers_taken, bytes_to_send};
 
 use crate::hearing::hear;
+use crate::kept::Kept;
 use crate::pieces::fill;
 use crate::progress::{Phase, Progress};
 use crate::telling;
-use plays::Ending;
+use plays::{Ending, Kind};
+use scan_vectors::Failures;
 use std::alloc::Global;
 use std::marker::Model;
 use svf_programs::Program;
 
 /// The player of one program: a pure machine that gives out the bytes of the play and takes the answers to them. It
-/// judges each answer as it comes and keeps none; up to 256 may be owed within one step.
+/// judges each answer as it comes and keeps none; up to 256 may be owed within one step. One kind stops after the first
+/// step that fails, the other plays its program to the end.
 ///
-/// Contracts see it as the program, how many bytes were given out, how many answers were taken, the first wanted bit
-/// that differed, and the byte that was no answer, if one came (`StreamState`); these determine what it may send next,
-/// how many answers are owed, and how the play has ended. No call takes memory.
+/// Contracts see it as the program, its kind, how many bytes were given out, how many answers were taken, the wanted
+/// bits that differed, and the byte that was no answer, if one came (`StreamState`); these determine what it may send
+/// next, how many answers are owed, and how the play has ended. No call takes memory.
 #[derive(Debug, Drop)]
 pub struct Player {
     program: Program,
     progress: Progress,
+    kept: Kept,
 }
 
 impl Model for Player {
@@ -33,25 +38,50 @@ impl Model for Player {
     ghost Value = { StreamState };
 
     ghost use Rattle.svf_programs.specs.Sizes.{program_of};
+    ghost use Rattle.stream_player.specs.Kept.{IsKeptOf, keeping};
     ghost use Rattle.stream_player.specs.Progress.{IsProgressOf, state_of};
 
-    ghost view = { λ p. state_of (program_of p.program) p.progress };
+    ghost view = { λ p. keeping p.kept (state_of (program_of p.program) p.progress) };
 
-    ghost invariant = { λ p. IsProgressOf p.program.steps p.progress };
+    ghost invariant = { λ p. IsProgressOf p.program.steps p.progress
+        × IsKeptOf (state_of (program_of p.program) p.progress) p.kept };
 }
 
 impl Player {
-    /// A fresh player of a program. It takes no memory, and always answers `Ok`.
+    /// A fresh player of a program, which stops after the first step that fails. It takes no memory, and always answers
+    /// `Ok`.
     pub fn new(_alloc: Global, program: Program) -> Result<Player, Program>
         ensures made { IsOk result }
         ensures fresh { IfOk result (λ player. player ≡ new_stream Stops (program_of program)) }
     {
+        Ok(Player::of(Kind::Stops, program))
+    }
+
+    /// A fresh player of a program, which plays it to the end, whatever fails. It takes no memory.
+    pub fn new_all(program: Program) -> Player
+        ensures { result ≡ new_stream PlaysOn (program_of program) }
+    {
+        Player::of(Kind::PlaysOn, program)
+    }
+
+    /// A fresh player of this kind.
+    fn of(kind: Kind, program: Program) -> Player
+        ensures { result ≡ new_stream kind (program_of program) }
+    {
         // For the proof alone: what the program's type keeps of its steps.
         let _ = program.len();
-        Ok(Player {
+        Player {
             program,
             progress: Progress::opening(),
-        })
+            kept: Kept::new(kind),
+        }
+    }
+
+    /// Whether it stops after the first step that fails, or plays its program to the end.
+    pub fn kind(&self) -> Kind
+        ensures { result ≡ self.now.kind }
+    {
+        self.kept.kind()
     }
 
     /// Fills the buffer with the next bytes that may be sent: as many as fit and as the owed answers allow. Answers
@@ -100,7 +130,7 @@ impl Player {
         ensures count { result ≡ length (answers_taken 256 self.old bytes.now) }
         ensures player { self.new ≡ hear_bytes (answers_taken 256 self.old bytes.now) self.old }
     {
-        let (progress, count) = hear(&self.program, self.progress, bytes);
+        let (progress, count) = hear(&self.program, self.progress, &mut self.kept, bytes);
         self.progress = progress;
         count
     }
@@ -109,7 +139,7 @@ impl Player {
     pub fn ended(&self) -> Option<Ending>
         ensures { result ≡ stream.ending_of_stream 256 self.now }
     {
-        telling::ended(&self.program, self.progress)
+        telling::ended(&self.program, self.progress, &self.kept)
     }
 
     /// The command in work: 0 until the opening is given out, then the statement of the first step not yet sent and
@@ -121,9 +151,25 @@ impl Player {
         telling::working(&self.program, self.progress)
     }
 
+    /// The wanted bits that did not come out so far, by command and then by place in the whole vector: the first 256 of
+    /// them, and how many they are. A player that stops keeps the first alone.
+    pub fn failures(&self) -> &Failures
+        ensures { found result.now ≡ self.now.found }
+    {
+        self.kept.failures()
+    }
+
+    /// The same, of a player that is needed no more.
+    pub fn into_failures(self) -> Failures
+        ensures { found result ≡ self.found }
+    {
+        let Player { kept, .. } = self;
+        kept.into_failures()
+    }
+
     /// Whether no byte was given out and no answer taken yet.
     pub fn is_fresh(&self) -> bool
-        ensures { IsTrue result ↔ (self.now ≡ new_stream Stops self.now.program) }
+        ensures { IsTrue result ↔ (self.now ≡ new_stream self.now.kind self.now.program) }
     {
         matches!(self.progress.phase, Phase::Opening(0))
     }

@@ -1,27 +1,30 @@
 //! What a player tells: its ending, and the command in work.
 
-ghost use Rattle.std.specs.Prelude.{◌≡◌, ◌-◌, ◌^◌, min, option_map};
+ghost use Rattle.std.specs.Prelude.{◌≡◌, ◌-◌, ◌^◌, min};
 ghost use Rattle.svf_programs.specs.Sizes.{program_of};
 ghost use Rattle.plays.specs.PlayingOn.{ending_of};
 ghost use Rattle.plays.specs.Streams as stream;
-ghost use Rattle.stream_player.specs.Progress.{IsProgressOf, is_out, mismatch, state_of};
-ghost use Rattle.stream_player.specs.PlaceInPlay.{finding_of};
+ghost use Rattle.stream_player.specs.Kept.{IsKeptOf, keeping};
+ghost use Rattle.stream_player.specs.Progress.{IsProgressOf, is_out, state_of};
 
-use crate::progress::{Mismatch, Phase, Progress, turn_at_work};
+use crate::kept::Kept;
+use crate::progress::{Phase, Progress, turn_at_work};
 use plays::Ending;
+use scan_vectors::Mismatch;
 use svf_programs::Program;
 
 /// How the play ended, if it did.
-pub(crate) fn ended(program: &Program, p: Progress) -> Option<Ending>
-    requires { IsProgressOf program.now.steps p }
-    ensures { result ≡ stream.ending_of_stream 256 (state_of (program_of program.now) p) }
+pub(crate) fn ended(program: &Program, p: Progress, kept: &Kept) -> Option<Ending>
+    requires stands { IsProgressOf program.now.steps p }
+    requires keeps { IsKeptOf (state_of (program_of program.now) p) kept.now }
+    ensures { result ≡ stream.ending_of_stream 256 (keeping kept.now (state_of (program_of program.now) p)) }
 {
     if let Some(byte) = p.bad {
         let command = program.step(p.at).number;
         return Some(Ending::BadAnswer { command, byte });
     }
     if quit_is_out(p) {
-        Some(verdict(p.failed))
+        Some(verdict(kept))
     } else {
         None
     }
@@ -39,10 +42,10 @@ fn quit_is_out(p: Progress) -> bool
 }
 
 /// The verdict of a play of which `Q` is out.
-fn verdict(failed: Option<Mismatch>) -> Ending
-    ensures { result ≡ ending_of (finding_of (option_map mismatch failed)).list }
+fn verdict(kept: &Kept) -> Ending
+    ensures { result ≡ ending_of kept.now.found.list }
 {
-    match failed {
+    match kept.first() {
         Some(Mismatch { command, part, bit }) => Ending::Fail { command, part, bit },
         None => Ending::Pass,
     }

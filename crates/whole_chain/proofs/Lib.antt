@@ -1,3 +1,3 @@
 pub mod Rows
 pub mod ShiftInPlace
-pub mod Judging
+pub mod Noting

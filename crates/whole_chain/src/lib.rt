@@ -2,49 +2,60 @@
 //! take what stays in (IEEE Std 1149.1-2001, clause 9).
 #![tactic(auto)]
 
-ghost use Rattle.std.specs.Prelude.{◌≡◌, ◌+◌, ◌<◌, ◌≤◌, ◌^◌, ℕ, [], length, drop, map, slice_get};
+ghost use Rattle.std.specs.Prelude.{◌≡◌, ◌+◌, ◌-◌, ◌<◌, ◌≤◌, ◌^◌, ℕ, [], length, drop, map, slice_get};
 ghost use Rattle.std.specs.Prelude.{slice_index_or, Some};
 ghost use Rattle.jt_bits.specs.Packed.{has_bit};
 ghost use Rattle.jt_bits.specs.Words.{bit_of};
-ghost use Rattle.scan_vectors.specs.Vector.{judge, tdis};
+ghost use Rattle.scan_vectors.specs.Failures.{differing, found, with_found};
+ghost use Rattle.scan_vectors.specs.Vector.{tdis};
 ghost use Rattle.scan_vectors.specs.Held.{bits};
 ghost use Rattle.whole_chain.specs.Rows.{before, left, out, IsCutBack};
 
 use jt_tap::Column;
 use scan_registers::Link;
-use scan_vectors::{Part, Vector};
-use whole_scan::{judge_behind, judge_word};
+use scan_vectors::{Failures, Vector};
+use whole_scan::{note_behind, note_piece};
 
-/// The least bit of a vector whose wanted value differs from what comes out of the chain, of which the first link is
+/// Notes every bit of a vector whose wanted value differs from what comes out of the chain, of which the first link is
 /// the nearest to TDO: first the registers that the column selects, and behind them the vector's own TDI.
-pub fn judge_chain<L: Link>(chain: &[L], column: Column, vector: &Vector) -> Option<(Part, usize)>
-    ensures { result
-        ≡ judge (bits vector.now) (out (bits vector.now) (map (λ c. L.register c column) chain.now)) }
+pub fn note_chain<L: Link>(
+    chain: &[L],
+    column: Column,
+    vector: &Vector,
+    command: usize,
+    failures: &mut Failures,
+)
+    requires room { failures.old.total + length (bits vector.now) < 2 ^ 64 }
+    ensures { found failures.new ≡ with_found
+        (differing command (bits vector.now) (out (bits vector.now) (map (λ c. L.register c column) chain.now)))
+        (found failures.old) }
 {
     let mut at = 0;
     for link in chain {
-        if let Some(bad) = judge_link(link, column, vector, at) {
-            return Some(bad);
-        }
+        note_link(link, column, vector, at, command, failures);
         let len = link.register_len(column);
         if len >= vector.len() - at {
-            return None;
+            return;
         }
         at += len;
     }
-    judge_behind(vector, at)
+    note_behind(vector, at, command, failures);
 }
 
-/// The least bit of a vector, from bit `at` on, whose wanted value differs from the link's register that comes out
+/// Notes every bit of a vector, from bit `at` on, whose wanted value differs from the link's register that comes out
 /// there.
-fn judge_link<L: Link>(
+fn note_link<L: Link>(
     link: &L,
     column: Column,
     vector: &Vector,
     at: usize,
-) -> Option<(Part, usize)>
-    requires { at ≤ length (bits vector.now) }
-    ensures { result ≡ judge (drop at (bits vector.now)) (L.register link.now column) }
+    command: usize,
+    failures: &mut Failures,
+)
+    requires inside { at ≤ length (bits vector.now) }
+    requires room { failures.old.total + (length (bits vector.now) - at) < 2 ^ 64 }
+    ensures { found failures.new
+        ≡ with_found (differing command (drop at (bits vector.now)) (L.register link.now column)) (found failures.old) }
 {
     let end = (vector.len() - at).min(link.register_len(column));
     let mut done = 0;
@@ -55,12 +66,11 @@ fn judge_link<L: Link>(
             continue;
         }
         let few = (end - done).min(64);
-        match judge_word(vector, at + done, link.register_word(column, done), few) {
-            Ok(count) => done += count,
-            Err(bad) => return Some(bad),
-        }
+        let word = link.register_word(column, done);
+        done += note_piece(vector, at + done, word, few, command, failures);
     }
-    None
+    // For the proof alone: no more are listed than there is room for.
+    let _ = failures.list.len();
 }
 
 /// A bit of the chain: the link and the bit in its register. Past the last link, a bit of what follows them.

@@ -1,7 +1,7 @@
 //! All devices of a chain at once, without TCK: capture, the judgement of what comes out, shift, update and reset (IEEE
 //! Std 1149.1-2001, clauses 6, 7 and 9).
 
-ghost use Rattle.std.specs.Prelude.{◌≡◌, true, map};
+ghost use Rattle.std.specs.Prelude.{◌≡◌, ◌+◌, ◌<◌, ◌^◌, true, length, map};
 ghost use Rattle.board_meaning.specs.Chain.{members};
 ghost use Rattle.board_meaning.specs.Nets.{sees};
 ghost use Rattle.board_meaning.specs.Resting.{chip_at_rest};
@@ -10,15 +10,16 @@ ghost use Rattle.chip_chain.specs.AtRest.{AssertsTrst, CapturesAt, Changes, Stan
 ghost use Rattle.chip_chain.specs.Sweeping.{EachFrom};
 ghost use Rattle.chip_seats.specs.Wires.{IsWired};
 ghost use Rattle.jt_tap.specs.declared.State.TheVariants.{Reset};
+ghost use Rattle.scan_vectors.specs.Failures.{differing, found, with_found};
 ghost use Rattle.scan_vectors.specs.Held.{bits};
-ghost use Rattle.scan_vectors.specs.Vector.{judge, tdis};
+ghost use Rattle.scan_vectors.specs.Vector.{tdis};
 
 use super::Chain;
 use board_wiring::Wiring;
 use chip_seats::{Seat, refresh};
 use jt_tap::{Column, State};
-use scan_vectors::{Part, Vector};
-use whole_chain::{judge_chain, shift_chain};
+use scan_vectors::{Failures, Vector};
+use whole_chain::{note_chain, shift_chain};
 
 impl Chain {
     /// The column's register of every device captures, each from the levels before.
@@ -30,13 +31,14 @@ impl Chain {
         capture_all(&mut self.seats, &self.wiring, column);
     }
 
-    /// The least bit of a vector whose wanted value differs from what comes out of the column's registers, joined from
-    /// TDO to TDI, when the vector is shifted in.
-    pub fn judge(&self, column: Column, vector: &Vector) -> Option<(Part, usize)>
-        ensures { result ≡ judge (bits vector.now)
-            (whole.out_of_members column (tdis (bits vector.now)) (members self.now.chips)) }
+    /// Notes every bit of a vector whose wanted value differs from what comes out of the column's registers, joined
+    /// from TDO to TDI, when the vector is shifted in.
+    pub fn note(&self, column: Column, vector: &Vector, command: usize, failures: &mut Failures)
+        requires room { failures.old.total + length (bits vector.now) < 2 ^ 64 }
+        ensures { found failures.new ≡ with_found (differing command (bits vector.now)
+            (whole.out_of_members column (tdis (bits vector.now)) (members self.now.chips))) (found failures.old) }
     {
-        judge_chain(&self.seats, column, vector)
+        note_chain(&self.seats, column, vector, command, failures);
     }
 
     /// A whole vector is shifted through the column's registers, joined from TDO to TDI.

@@ -1,17 +1,18 @@
 //! A board at rest, its registers taken whole: what the edges of TCK would do, done at once (IEEE Std 1149.1-2001,
 //! clauses 6, 7 and 9).
 
-ghost use Rattle.std.specs.Prelude.{◌≡◌, false, [], ◌∷◌, None};
+ghost use Rattle.std.specs.Prelude.{◌≡◌, ◌+◌, ◌<◌, ◌^◌, false, [], ◌∷◌, None, length};
 ghost use Rattle.board_meaning.specs.Resting.{IsAtRest};
 ghost use Rattle.board_meaning.specs.Whole as whole;
 ghost use Rattle.board_meaning.specs.Whole.{AtRest};
+ghost use Rattle.scan_vectors.specs.Failures.{differing, found, with_found};
 ghost use Rattle.scan_vectors.specs.Held.{bits, fields};
-ghost use Rattle.scan_vectors.specs.Vector.{judge, tdis};
+ghost use Rattle.scan_vectors.specs.Vector.{tdis};
 ghost use Rattle.jt_board.specs.Resting.{IsResting};
 
 use super::Board;
 use jt_tap::{Column, State, Work};
-use scan_vectors::{Part, Part3, Vector, join};
+use scan_vectors::{Failures, Part3, Vector, join};
 
 impl Board {
     /// The state in which the controllers of a board at rest (asked) stand.
@@ -42,14 +43,16 @@ impl Board {
         self.chain.capture(column);
     }
 
-    /// The least bit of a vector whose wanted value differs from what comes out of the column's registers of a board
-    /// at rest (asked) when the vector is shifted in, by its part and its place there.
-    pub fn judge(&self, column: Column, vector: &Vector) -> Option<(Part, usize)>
-        requires { IsResting self.now }
-        ensures { (m : AtRest) → IsAtRest self.now m
-            → result ≡ judge (bits vector.now) (whole.out column (tdis (bits vector.now)) m) }
+    /// Notes every bit of a vector whose wanted value differs from what comes out of the column's registers of a board
+    /// at rest (asked) when the vector is shifted in.
+    pub fn note(&self, column: Column, vector: &Vector, command: usize, failures: &mut Failures)
+        requires rests { IsResting self.now }
+        requires room { failures.old.total + length (bits vector.now) < 2 ^ 64 }
+        ensures { (m : AtRest) → IsAtRest self.now m → found failures.new
+            ≡ with_found (differing command (bits vector.now) (whole.out column (tdis (bits vector.now)) m))
+            (found failures.old) }
     {
-        self.chain.judge(column, vector)
+        self.chain.note(column, vector, command, failures);
     }
 
     /// A whole vector is shifted through the column's registers of a board at rest (asked).

@@ -11,4 +11,4 @@ invariant-loop-pipes l =
     × (l.pipes ≡ record l.initial.pipes { world = run side l.initial.pipes.down_room l.initial.pipes.up_room es l.initial.pipes.world })
 
 abbrev pub decreases-loop-pipes : goal.decreases-loop-pipes
-decreases-loop-pipes l = most l.pipes.world.player.program - sum_of l.pipes.world
+decreases-loop-pipes l = most l.pipes.world.player - sum_of l.pipes.world

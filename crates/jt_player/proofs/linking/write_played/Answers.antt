@@ -3,9 +3,9 @@ use Rattle.byte_ends.proofs.Fronts.{WritesAll-then, WritesAll-stopped}
 use Rattle.board_report.specs.Report.{report}
 use Rattle.jt_player.proofs.linking.write_played.Goals as goal
 
-pub returns-in_err-write_verdict : goal.returns-in_err-write_verdict
-returns-in_err-write_verdict g c =
-    WritesAll-stopped (report c.args.board.now) c.in_err-write_verdict.ensures refl c.from_residual.ensures.0
+pub returns-in_err-write_ending : goal.returns-in_err-write_ending
+returns-in_err-write_ending g c =
+    WritesAll-stopped (report c.args.board.now) c.in_err-write_ending.ensures refl c.from_residual.ensures.0
 
 pub returns : goal.returns
-returns g c = WritesAll-then c.in_ok-write_verdict.ensures refl c.write_report.ensures
+returns g c = WritesAll-then c.in_ok-write_ending.ensures refl c.write_report.ensures

@@ -1,0 +1,35 @@
+use Rattle.std.proofs.Common.{◌≡◌, ◌+◌, ◌*◌, ◌<◌, ◌≤◌, ◌^◌, ℕ, List, length}
+use Rattle.scan_vectors.specs.Failures.{found, most_listed, none_found, with_found}
+use Rattle.svf_programs.specs.Sound.{AllWithin, vector_limit}
+use Rattle.svf_programs.specs.Left.{left}
+use Rattle.svf_programs.specs.Sizes.{program_of}
+use Rattle.board_meaning.specs.Resting.{IsAtRest, board_at_rest}
+use Rattle.board_meaning.specs.Whole.{AtRest}
+use Rattle.plays.specs.declared.kind.Kind.TheVariants.{Stops}
+use Rattle.plays.specs.DirectPlay.{opened_state}
+use Rattle.plays.specs.Play.{full_play}
+use Rattle.plays.specs.PlayingOn.{outcome_of_all}
+use Rattle.every_schedule.specs.Laws.{full}
+use Rattle.direct_play.proofs.Turns.{GoesOn, turns_from}
+use Rattle.direct_play.proofs.WholePlay.{CanPlay}
+use Rattle.direct_play.proofs.steps.play_steps.Given as goal
+
+-- The board is at rest, and from there the steps that are left may be played. With what fails in them, what was noted
+-- is all that fails in the program, and a play that stops has noted nothing. What was taken is the front of the bytes
+-- of the full play, before theirs.
+abbrev pub invariant-loop-step : goal.invariant-loop-step
+invariant-loop-step g l = record {
+  m : AtRest;
+  rests : IsAtRest l.board m;
+  can : CanPlay (left l.step-iterator) m;
+  within : AllWithin (left l.step-iterator);
+  room : l.failures.total + length (left l.step-iterator) * vector_limit < 2 ^ 64;
+  noted : with_found (outcome_of_all (left l.step-iterator) m).failures (found l.failures)
+      ≡ with_found (outcome_of_all (program_of l.program).steps (opened_state l.fn.board)).failures none_found;
+  listed : length (found l.failures).list ≤ most_listed;
+  quiet : l.kind ≡ Stops → found l.failures ≡ none_found;
+  sent : List ℕ;
+  goes : GoesOn (full l.kind (program_of l.program).steps l.fn.board)
+      (full_play (turns_from l.kind m.place (left l.step-iterator)) (board_at_rest m)) sent;
+  takes : g.B.Beside.takes l.fn.beside l.beside sent;
+}
