@@ -38,6 +38,7 @@ pub(crate) trait Beside {
 }
 
 /// Nothing is made of them.
+#[derive(Drop)]
 pub(crate) struct Nothing;
 
 impl Beside for Nothing {

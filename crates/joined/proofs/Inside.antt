@@ -1,8 +1,7 @@
 -- What the laws of every schedule say of the player that knows all answers, said of the one that keeps none.
-use Rattle.std.proofs.Common.{◌≡◌, ◌⊎◌, inl, inr, Bool, true, ◌||◌, ℕ, ◌+◌, ◌-◌, ◌<◌, List, [], ◌∷◌, ◌++◌, map, length, take, drop, refl, sym, ap, ◌∙◌, subst, arith, length-append, Some, None}
+use Rattle.std.proofs.Common.{◌≡◌, ◌⊎◌, inl, inr, Bool, true, ◌||◌, ℕ, ◌+◌, ◌-◌, ◌<◌, List, [], ◌∷◌, ◌++◌, length, take, drop, refl, sym, ap, ◌∙◌, subst, arith, length-append, Some, None}
 use Rattle.std.specs.Prelude.{◌≤◌, ◌^◌, min, nat_lt, if◌then◌else◌}
 use Rattle.std.proofs.Math.Seq.{drop-append_seam}
-use Rattle.bitbang_table.specs.Protocol.{encode}
 use Rattle.svf_programs.specs.Steps.{Program}
 use Rattle.board_meaning.specs.Chain.{BoardState, after_bytes}
 use Rattle.plays.specs.declared.ending.Ending.TheVariants.{Lost}

@@ -1,5 +1,5 @@
 -- What is kept of the bits that differed.
-use Rattle.std.specs.Prelude.{◌≡◌, ◌≤◌, ℕ, length, min}
+use Rattle.std.specs.Prelude.{◌≡◌, ◌≤◌, length, min}
 use Rattle.plays.specs.declared.kind.Kind.{Kind}
 use Rattle.plays.specs.Streams.{Found, StreamState, count_kept, most_kept, stops, stops_for}
 
