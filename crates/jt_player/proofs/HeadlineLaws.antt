@@ -7,6 +7,7 @@ use Rattle.board_meaning.specs.Chain.{BoardState, after_byte, after_bytes}
 use Rattle.jt_board.proofs.InUse.{every_board}
 use Rattle.plays.proofs.Described.{means_from_opening}
 use Rattle.direct_play.specs.Accepting.{Accepts}
+use Rattle.plays.specs.declared.kind.Kind.TheVariants.{Stops}
 use Rattle.joined.proofs.Ends.{means}
 use Rattle.joined.proofs.Inside.{inside}
 use Rattle.joined.specs.Inside.{taken_by_board}
@@ -32,11 +33,11 @@ more_bytes (byte ∷ before) more b = more_bytes before more (after_byte byte b)
 
 pub in_use_again : WhatEventsLeaveIsInUse
 in_use_again program start met down_room up_room events =
-    let took = taken_by_board program start down_room up_room events in
+    let took = taken_by_board Stops program start down_room up_room events in
     record {
       at_first = met.at_first;
       made = met.made;
       taken = met.taken ++ took;
-      now = (inside program start down_room up_room events).board ∙ ap (after_bytes took) met.now
+      now = (inside Stops program start down_room up_room events).board ∙ ap (after_bytes took) met.now
           ∙ sym (more_bytes met.taken took met.at_first);
     }
