@@ -48,6 +48,9 @@ loop-step-init g c =
       takes = c.take.ensures;
     }
 
+pub place-place-requires : goal.place-place-requires
+place-place-requires g c = record { state = c.loop-step.invariant.m; is = c.loop-step.invariant.rests }
+
 pub take_step-requires-clause-rests : goal.take_step-requires-clause-rests
 take_step-requires-clause-rests g c =
     let i = c.loop-step.invariant in
@@ -99,7 +102,7 @@ loop-step-preserved g c =
       sent = i.sent ++ step_bytes i.m.place s.what;
       goes = goes_past s ss i.m can c.args.kind whole i.sent (λ e. passed s i.m (quiet (step_failures s i.m) old new noted c.args.kind i.quiet calm e))
           (subst (λ (l : List Numbered). GoesOn whole (full_play (turns_from c.args.kind i.m.place l) (board_at_rest i.m)) i.sent) next-are i.goes);
-      takes = g.met.B.Beside.takes_more c.args.beside.now c.loop-step.beside c.take_step.new.self i.sent (step_bytes i.m.place s.what) i.takes
+      takes = g.B.Beside.takes_more c.args.beside.now c.loop-step.beside c.take_step.new.self i.sent (step_bytes i.m.place s.what) i.takes
           (subst (λ (p : State). g.B.Beside.takes c.loop-step.beside (step_bytes p s.what) c.take_step.new.self) (c.place-place.ensures i.m i.rests) c.take_step.ensures);
     }
 
@@ -154,8 +157,8 @@ returns-then-stops-clause-bytes g c =
     (c.play_step.ensures.noted i.m i.rests) (sym c.stops.ensures ∙ c.if-stops.true) i.quiet
     (subst (λ (l : List Numbered). GoesOn whole (full_play (turns_from c.args.kind i.m.place l) (board_at_rest i.m)) i.sent) next-are i.goes) in
     subst (λ (l : List ℕ). g.B.Beside.takes c.args.beside.now l c.take-then-stops.new.self) (sym stop.goes.bytes)
-    (g.met.B.Beside.takes_more c.args.beside.now c.take_step.new.self c.take-then-stops.new.self (i.sent ++ bytes) (81 ∷ [])
-    (g.met.B.Beside.takes_more c.args.beside.now c.loop-step.beside c.take_step.new.self i.sent bytes i.takes
+    (g.B.Beside.takes_more c.args.beside.now c.take_step.new.self c.take-then-stops.new.self (i.sent ++ bytes) (81 ∷ [])
+    (g.B.Beside.takes_more c.args.beside.now c.loop-step.beside c.take_step.new.self i.sent bytes i.takes
     (subst (λ (p : State). g.B.Beside.takes c.loop-step.beside (step_bytes p s.what) c.take_step.new.self) (c.place-place.ensures i.m i.rests) c.take_step.ensures))
     c.take-then-stops.ensures)
 
@@ -186,8 +189,8 @@ returns-clause-bytes g c =
     let i = c.loop-step.invariant in
     let all = i.goes.bytes ∙ ap (λ (l : List Numbered). i.sent ++ bytes-of (full_play (turns_from c.args.kind i.m.place l) (board_at_rest i.m))) c.in-None.ensures.steps.0
     ∙ ap (λ (p : Played). i.sent ++ bytes-of p) (none-left c.args.kind i.m.place (board_at_rest i.m)) in
-    subst (λ (l : List ℕ). g.B.Beside.takes c.args.beside.now l c.take-3.new.self) (sym all)
-    (g.met.B.Beside.takes_more c.args.beside.now c.loop-step.beside c.take-3.new.self i.sent (81 ∷ []) i.takes c.take-3.ensures)
+    subst (λ (l : List ℕ). g.B.Beside.takes c.args.beside.now l c.take-2.new.self) (sym all)
+    (g.B.Beside.takes_more c.args.beside.now c.loop-step.beside c.take-2.new.self i.sent (81 ∷ []) i.takes c.take-2.ensures)
 
 pub returns-clause-some : goal.returns-clause-some
 returns-clause-some g c = subst (λ (n : ℕ). 0 < n) c.devices.ensures.count c.devices.ensures.some

@@ -31,5 +31,5 @@ invariant-loop-step g l = record {
   sent : List ℕ;
   goes : GoesOn (full l.kind (program_of l.program).steps l.fn.board)
       (full_play (turns_from l.kind m.place (left l.step-iterator)) (board_at_rest m)) sent;
-  takes : g.B.Beside.takes l.fn.beside l.beside sent;
+  takes : g.B.Beside.takes l.fn.beside sent l.beside;
 }
