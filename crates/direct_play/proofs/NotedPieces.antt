@@ -1,11 +1,10 @@
 -- What is noted of one piece after another.
-use Rattle.std.proofs.Common.{◌≡◌, ◌≢◌, ℕ, zero, suc, ◌≤◌, List, [], ◌++◌, Bool, true, false, Option, refl, sym, ap, subst, ◌∙◌, inl, inr, arith}
+use Rattle.std.proofs.Common.{◌≡◌, ℕ, zero, suc, ◌≤◌, List, [], Bool, true, false, Option, refl, sym, subst, ◌∙◌, inl, inr, arith}
 use Rattle.std.specs.Prelude.{◌==◌, ◌⊎◌}
 use Rattle.std.specs.Io.KnownBytes.{Appends}
-use Rattle.std.proofs.KnownBytes.{Appends-nil, Appends-trans}
+use Rattle.std.proofs.KnownBytes.{Appends-nil}
 use Rattle.byte_ends.specs.Counts.{CountedView}
-use Rattle.byte_ends.specs.Writes.{AppendsFront, WritesAll, flagged}
-use Rattle.byte_ends.proofs.Fronts.{AppendsFront-first, AppendsFront-next}
+use Rattle.byte_ends.specs.Writes.{WritesAll, flagged}
 use Rattle.direct_play.specs.Noting.{Notes}
 
 -- nothing is noted

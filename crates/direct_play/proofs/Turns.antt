@@ -1,6 +1,5 @@
 -- The full play of either kind, one turn after another.
 use Rattle.std.proofs.Common.{◌≡◌, ℕ, List, [], ◌∷◌, ◌++◌, refl, sym, ap, ◌∙◌, append_assoc, map, Some, None}
-use Rattle.std.specs.Prelude.{Option}
 use Rattle.jt_tap.specs.declared.State.{State}
 use Rattle.bitbang_table.specs.declared.Message.TheVariants.{Quit}
 use Rattle.jt_tap.specs.declared.State.TheVariants.{Reset}

@@ -1,11 +1,8 @@
 -- A program played on whole registers, step after step, and its full play.
-use Rattle.std.proofs.Common.{◌≡◌, true, ℕ, ◌<◌, ◌≤◌, List, [], ◌∷◌, ◌++◌, Some, None, length, map, refl, sym, ap, ◌∙◌, subst, arith}
+use Rattle.std.proofs.Common.{◌≡◌, true, ℕ, ◌<◌, ◌≤◌, List, ◌∷◌, ◌++◌, Some, None, length, refl, sym, ap, ◌∙◌, subst, arith}
 use Rattle.std.proofs.lemmas.List.{length-take}
-use Rattle.std.specs.Prelude.{Option}
-use Rattle.jt_tap.specs.declared.State.{State}
 use Rattle.bitbang.specs.StepMessages.{step_bytes}
 use Rattle.bitbang_table.specs.Cycles.{opening}
-use Rattle.bitbang_table.specs.Protocol.{encode}
 use Rattle.scan_vectors.specs.declared.failures.Mismatch.{Mismatch}
 use Rattle.scan_vectors.specs.declared.part.Part.{Part}
 use Rattle.scan_vectors.specs.Failures.{Found, most_listed, none_found, with_found}
@@ -27,7 +24,7 @@ use Rattle.plays.specs.DirectPlay.{MeansFromOpening, opened_state}
 use Rattle.plays.specs.Legal.{AllLegal}
 use Rattle.plays.specs.LegalPlays.{IsOpened}
 use Rattle.plays.specs.Meaning.{after_step, failure}
-use Rattle.plays.specs.Play.{Played, full_play, play, step_turns, wants_of}
+use Rattle.plays.specs.Play.{Played, full_play, play, wants_of}
 use Rattle.plays.specs.PlayingOn.{ending_of, outcome_of_all, step_failures}
 use Rattle.plays.specs.Streams.{found_of, stops_for}
 use Rattle.plays.proofs.Described as Described
@@ -42,7 +39,7 @@ use Rattle.every_schedule.proofs.AllFailures.{first_of_all_played}
 use Rattle.every_schedule.proofs.AllMeaning.{plays_all}
 use Rattle.direct_play.specs.ToTheEnd.{all_failures}
 use Rattle.direct_play.proofs.Failing.{ending-kept, failed, kept-all, loud, stopped}
-use Rattle.direct_play.proofs.Turns.{GoesOn, bytes-of, fails, heard-of, opening_bytes, opens, over, passes, turns_from}
+use Rattle.direct_play.proofs.Turns.{GoesOn, fails, heard-of, opening_bytes, opens, over, passes, turns_from}
 
 -- ---- where the opening leaves a board
 

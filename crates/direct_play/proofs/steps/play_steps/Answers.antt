@@ -1,11 +1,10 @@
-use Rattle.std.proofs.Common.{◌≡◌, ◌<◌, ◌+◌, ◌*◌, ◌^◌, ℕ, true, false, Bool, List, [], ◌∷◌, ◌++◌, length, refl, sym, ap, subst, ◌∙◌, arith}
+use Rattle.std.proofs.Common.{◌≡◌, ◌<◌, ℕ, true, List, [], ◌∷◌, ◌++◌, length, sym, ap, subst, ◌∙◌, arith}
 use Rattle.jt_tap.specs.Controller.{is_stable}
 use Rattle.jt_tap.specs.declared.State.{State}
 use Rattle.bitbang.specs.StepMessages.{step_bytes}
-use Rattle.scan_vectors.specs.declared.failures.Mismatch.{Mismatch}
 use Rattle.scan_vectors.specs.Failures.{Found, found, none_found, with_found}
 use Rattle.scan_vectors.proofs.Listing.{found-none}
-use Rattle.svf_programs.specs.Sound.{AllWithin, vector_limit}
+use Rattle.svf_programs.specs.Sound.{AllWithin}
 use Rattle.svf_programs.specs.Left.{left}
 use Rattle.svf_programs.specs.Legal.{IsFormed}
 use Rattle.svf_programs.specs.Seen.{numbered}
@@ -17,11 +16,11 @@ use Rattle.plays.specs.declared.kind.Kind.{Kind}
 use Rattle.plays.specs.DirectPlay.{opened_state}
 use Rattle.plays.specs.Meaning.{after_step}
 use Rattle.plays.specs.Play.{Played, full_play}
-use Rattle.plays.specs.PlayingOn.{ending_of, outcome_of_all, step_failures}
+use Rattle.plays.specs.PlayingOn.{outcome_of_all, step_failures}
 use Rattle.every_schedule.specs.Laws.{full}
 use Rattle.direct_play.proofs.Failing.{few-in-step, goes_on_stops, passed, quiet, still, stopped}
 use Rattle.direct_play.proofs.Turns.{GoesOn, bytes-of, none-left, opening_bytes, turns_from}
-use Rattle.direct_play.proofs.WholePlay.{CanPlay, can_open, can_play_on, goes_from_opening, goes_past, goes_until, kept_all, kept_first, listed_few, noted_more, opened, stops_here}
+use Rattle.direct_play.proofs.WholePlay.{CanPlay, can_open, can_play_on, goes_from_opening, goes_past, kept_all, kept_first, listed_few, noted_more, opened, stops_here}
 use Rattle.direct_play.proofs.steps.play_steps.Goals as goal
 
 pub loop-step-init : goal.loop-step-init
