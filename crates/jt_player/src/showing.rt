@@ -95,10 +95,18 @@ fn write_mismatches<W: Sink>(list: &[Mismatch], out: &mut Counted<W>) -> Result<
     ensures { WritesAll W.contents out.old out.new (flat_map mismatch_line list.now) result }
 {
     for mismatch in list {
-        let Mismatch { command, part, bit } = *mismatch;
-        write_verdict(Ending::Fail { command, part, bit }, out)?;
+        write_mismatch(mismatch, out)?;
     }
     Ok(())
+}
+
+/// Writes the line of a wanted bit that did not come out.
+fn write_mismatch<W: Sink>(mismatch: &Mismatch, out: &mut Counted<W>) -> Result<(), Broken>
+    requires { out.old.failures ≡ 0 }
+    ensures { WritesAll W.contents out.old out.new (mismatch_line mismatch.now) result }
+{
+    let Mismatch { command, part, bit } = *mismatch;
+    write_verdict(Ending::Fail { command, part, bit }, out)
 }
 
 /// Writes the line of a refusal.

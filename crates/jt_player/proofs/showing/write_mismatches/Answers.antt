@@ -14,22 +14,21 @@ loop-mismatch-preserved g c =
     let rows = c.args.list.now in
     let i = c.loop-mismatch.mismatch-index in
     record {
-      none_lost = c.in_ok-write_verdict.ensures.ok.0 refl;
-      sent = subst (λ (l : List ℕ). Appends (g.W.Write.contents c.args.out.now.inner) (g.W.Write.contents c.write_verdict.new.out.inner) l)
-          (ap (λ (m : Mismatch). flat_map mismatch_line (take i rows) ++ mismatch_line m) c.mismatch-item.is
-          ∙ flat_map-more mismatch_line rows i c.mismatch-item.result (omega (arith, c.loop-mismatch-test.true)))
-          (Appends-trans _ _ _ _ _ c.loop-mismatch.invariant.sent c.in_ok-write_verdict.ensures.whole);
+      none_lost = c.in_ok-write_mismatch.ensures.ok.0 refl;
+      sent = subst (λ (l : List ℕ). Appends (g.W.Write.contents c.args.out.now.inner) (g.W.Write.contents c.write_mismatch.new.out.inner) l)
+          (flat_map-more mismatch_line rows i _ (omega (arith, c.loop-mismatch-test.true)))
+          (Appends-trans _ _ _ _ _ c.loop-mismatch.invariant.sent c.in_ok-write_mismatch.ensures.whole);
     }
 
-pub returns-in_err-write_verdict : goal.returns-in_err-write_verdict
-returns-in_err-write_verdict g c =
+pub returns-in_err-write_mismatch : goal.returns-in_err-write_mismatch
+returns-in_err-write_mismatch g c =
     let rows = c.args.list.now in
     let i = c.loop-mismatch.mismatch-index in
-    let more = ap (λ (m : Mismatch). flat_map mismatch_line (take i rows) ++ mismatch_line m) c.mismatch-item.is
-    ∙ flat_map-more mismatch_line rows i c.mismatch-item.result (omega (arith, c.loop-mismatch-test.true)) in
-    WritesAll-lost (flat_map mismatch_line rows) (flat_map mismatch_line (take i rows)) (flat_map mismatch_line (drop (i + 1) rows))
-    (flat_map-split mismatch_line rows (i + 1) ∙ ap (λ l. l ++ flat_map mismatch_line (drop (i + 1) rows)) (sym more))
-    c.loop-mismatch.invariant.sent c.in_err-write_verdict.ensures refl c.from_residual.ensures.0
+    let rest = flat_map mismatch_line (drop (i + 1) rows) in
+    WritesAll-lost (flat_map mismatch_line rows) (flat_map mismatch_line (take i rows)) rest
+    (flat_map-split mismatch_line rows (i + 1)
+    ∙ ap (λ l. l ++ rest) (sym (flat_map-more mismatch_line rows i _ (omega (arith, c.loop-mismatch-test.true)))))
+    c.loop-mismatch.invariant.sent c.in_err-write_mismatch.ensures refl c.from_residual.ensures.0
 
 pub returns : goal.returns
 returns g c =
