@@ -1,5 +1,5 @@
 -- Plays of either kind: what a player that stops keeps is what its ending says, and each play is what its program means.
-use Rattle.std.proofs.Common.{◌≡◌, List, [], ◌∷◌, ℕ, length, min, refl, ap, ◌∙◌, arith}
+use Rattle.std.proofs.Common.{◌≡◌, List, [], ◌∷◌, length, min, refl, ap, ◌∙◌, arith}
 use Rattle.board_meaning.specs.Chain.{BoardState}
 use Rattle.board_meaning.specs.Sound.{HasDevice, IsSoundBoard}
 use Rattle.svf_programs.specs.Legal.{IsLegalProgram}
