@@ -95,7 +95,12 @@ fn sent_and_answered(
     let bytes = sent.into_inner();
     let mut answers = Counted::new(Vec::new(alloc));
     let mut reader = Counted::new(bytes.as_slice());
-    let served = serve_over(&mut reader, &mut answers, &mut Board::bare(alloc, 1)?, 1_000_000);
+    let served = serve_over(
+        &mut reader,
+        &mut answers,
+        &mut Board::bare(alloc, 1)?,
+        1_000_000,
+    );
     assert_eq!(rt; served, Served::Quit);
     Ok((bytes, answers.into_inner()))
 }
@@ -123,7 +128,10 @@ fn all_are_counted_and_the_first_256_listed(rt: HostRuntime) -> Result<(), Fail>
     assert_eq!(rt; failures.total, 300);
     assert_eq!(rt; failures.list.len(), 256);
     assert_eq!(rt; failures.list.as_slice().first().copied(), Some(data(2, 0)));
-    assert_eq!(rt; failures.list.as_slice().last().copied(), Some(data(2, 255)));
+    assert_eq!(rt;
+        failures.list.as_slice().last().copied(),
+        Some(data(2, 255))
+    );
     Ok(())
 }
 
@@ -182,19 +190,13 @@ fn a_run_tells_all_that_failed(rt: HostRuntime) -> Result<(), Fail> {
     let mut board = Board::bare(rt.alloc(), 1)?;
     let mut out = Counted::new(Vec::new(rt.alloc()));
     let mut err = Counted::new(Vec::new(rt.alloc()));
-    let status = run_play_all(
-        rt.alloc(),
-        TWO_FAIL,
-        &mut board,
-        false,
-        &mut out,
-        &mut err,
-    );
+    let status = run_play_all(rt.alloc(), TWO_FAIL, &mut board, false, &mut out, &mut err);
     assert_eq!(rt; status.unwrap_or(255), 1);
     assert_eq!(rt;
         out.into_inner().as_slice(),
         b"fail command 1 data bit 0\nfail command 1 data bit 1\nfail command 2 data bit 0\n\
         fail command 2 data bit 1\nfailures 4\nU1 IDLE 11 BYPASS\n"
+            .as_slice()
     );
     assert!(rt; err.into_inner().is_empty());
     Ok(())
