@@ -94,8 +94,8 @@ abbrev pub board_refusal_status : BoardFault BsdlFault → ℕ
 board_refusal_status board.NoMemory = 4
 board_refusal_status _ = 2
 
--- A byte of a file's name as it is told: `\x` and two digits for a control byte, which a terminal would take for itself,
--- and for the backslash, so that no two names are told alike.
+-- A byte of a file's name as it is told: `\x` and two digits for a control byte, which a terminal would take for
+-- itself, and for the backslash, so that no two names are told alike.
 abbrev pub name_byte : ℕ → List ℕ
 name_byte b = if nat_lt b 32 || b == 127 || b == 92 then 92 ∷ 120 ∷ hex_byte b else b ∷ []
 

@@ -53,9 +53,9 @@ pub fn run_over<R: Source, W: Sink, O: Sink>(
     tell_ending(kind, ending, &failures, out)
 }
 
-/// Plays a program on a board over the two ends of one connection by a player of this kind, and writes to `out` the line
-/// of its verdict, or of one that plays on all that failed, and the board's report. Answers the exit status: 0 pass, 1
-/// fail, 3 a lost connection or a byte that is no answer.
+/// Plays a program on a board over the two ends of one connection by a player of this kind, and writes to `out` the
+/// line of its verdict, or of one that plays on all that failed, and the board's report. Answers the exit status: 0
+/// pass, 1 fail, 3 a lost connection or a byte that is no answer.
 ///
 /// `Broken` comes exactly where the first failure of `out` came in this call.
 pub fn run_loop<P: End, B: End, O: Sink>(

@@ -32,9 +32,9 @@ pub fn play_board(player: Player, board: &mut Board) -> Ending
     ending
 }
 
-/// Plays the program of a fresh player on a board as `play_board` does, and answers what it found too. One that plays on
-/// finds every wanted bit that does not come out, by command and then by place in the whole vector: the first 256 of
-/// them, and how many they are. One that stops finds the first alone. Takes no memory.
+/// Plays the program of a fresh player on a board as `play_board` does, and answers what it found too. One that plays
+/// on finds every wanted bit that does not come out, by command and then by place in the whole vector: the first 256
+/// of them, and how many they are. One that stops finds the first alone. Takes no memory.
 pub fn play_board_all(player: Player, board: &mut Board) -> (Ending, Failures)
     requires { player ≡ new_stream player.kind player.program }
     ensures ending { result.0 ≡ ending_in player.kind player.program board.old }

@@ -30,8 +30,8 @@ pub fn refuse_board<E: Sink>(fault: &BoardFault, err: &mut Counted<E>) -> Result
     Ok(board_status(fault))
 }
 
-/// Writes the line of a file that cannot be read, `file NAME`, where a control byte and a backslash of the name stand as
-/// `\x0a` does. Answers the exit status of refused input, 2.
+/// Writes the line of a file that cannot be read, `file NAME`, where a control byte and a backslash of the name stand
+/// as `\x0a` does. Answers the exit status of refused input, 2.
 ///
 /// `Broken` comes exactly where the writer's first failure came in this call.
 pub fn refuse_file<E: Sink>(name: &str, err: &mut Counted<E>) -> Result<u8, Broken>
