@@ -31,54 +31,89 @@ fn assert_found(rt: &impl Abort, failures: &Failures, wanted: &[Mismatch]) {
     assert_eq!(rt; failures.total as usize, wanted.len());
 }
 
-/// A play to the end by each call: directly, over pipes, over a reader and a writer, and over both ends of a link.
-fn assert_each_finds(
-    rt: &impl Abort,
-    alloc: Global,
-    text: &[u8],
+/// What a call answered, as a row wants it: the ending, and all failures.
+#[derive(Clone, Copy)]
+struct Row<'a> {
+    text: &'a [u8],
     ending: Ending,
-    wanted: &[Mismatch],
-) -> Result<(), Fail> {
-    let player = all_player_of(alloc, text)?;
+    failures: &'a [Mismatch],
+}
+
+/// Directly.
+fn assert_direct(rt: &impl Abort, alloc: Global, row: &Row<'_>) -> Result<(), Fail> {
+    let player = all_player_of(alloc, row.text)?;
     assert!(rt; player.is_fresh());
     let mut board = Board::bare(alloc, 1)?;
-    let (ended, failures) = play_board_all(player, &mut board);
-    assert_eq!(rt; ended, ending);
-    assert_found(rt, &failures, wanted);
+    let (ending, failures) = play_board_all(player, &mut board);
+    assert_eq!(rt; ending, row.ending);
+    assert_found(rt, &failures, row.failures);
+    Ok(())
+}
 
-    let player = all_player_of(alloc, text)?;
+/// Over two pipes.
+fn assert_joined(rt: &impl Abort, alloc: Global, row: &Row<'_>) -> Result<(), Fail> {
+    let player = all_player_of(alloc, row.text)?;
     assert!(rt; player.is_fresh());
-    let mut joined = Joined::new(alloc, player, Board::bare(alloc, 1)?, 3, 2)
+    let board = Board::bare(alloc, 1)?;
+    let mut joined = Joined::new(alloc, player, board, 3, 2)
         .ok()
         .ok_or("no memory")?;
-    assert_eq!(rt; joined.finish(), ending);
-    assert_found(rt, joined.failures(), wanted);
+    assert_eq!(rt; joined.finish(), row.ending);
+    assert_found(rt, joined.failures(), row.failures);
+    Ok(())
+}
 
-    let (bytes, answers) = sent_and_answered(rt, alloc, text)?;
-    let player = all_player_of(alloc, text)?;
+/// Over a reader that holds the answers, and a writer.
+fn assert_over(
+    rt: &impl Abort,
+    alloc: Global,
+    row: &Row<'_>,
+    bytes: &[u8],
+    answers: &[u8],
+) -> Result<(), Fail> {
+    let player = all_player_of(alloc, row.text)?;
     assert!(rt; player.is_fresh());
-    let mut reader = Counted::new(answers.as_slice());
+    let mut reader = Counted::new(answers);
     let mut writer = Counted::new(Vec::new(alloc));
-    let (ended, failures) = play_over_all(&mut reader, &mut writer, player);
-    assert_eq!(rt; ended, ending);
-    assert_found(rt, &failures, wanted);
-    assert_eq!(rt; writer.into_inner().as_slice(), bytes.as_slice());
+    let (ending, failures) = play_over_all(&mut reader, &mut writer, player);
+    assert_eq!(rt; ending, row.ending);
+    assert_found(rt, &failures, row.failures);
+    assert_eq!(rt; writer.into_inner().as_slice(), bytes);
+    Ok(())
+}
 
-    let player = all_player_of(alloc, text)?;
+/// Over both ends of a link, of which each holds what the other writes.
+fn assert_looped(
+    rt: &impl Abort,
+    alloc: Global,
+    row: &Row<'_>,
+    bytes: &[u8],
+    answers: &[u8],
+) -> Result<(), Fail> {
+    let player = all_player_of(alloc, row.text)?;
     assert!(rt; player.is_fresh());
     let mut player_end = Counted::new(Both {
-        reader: answers.as_slice(),
+        reader: answers,
         writer: Vec::new(alloc),
     });
     let mut board_end = Counted::new(Both {
-        reader: bytes.as_slice(),
+        reader: bytes,
         writer: Vec::new(alloc),
     });
     let mut board = Board::bare(alloc, 1)?;
-    let (ended, failures) = loop_over_all(&mut player_end, &mut board_end, player, &mut board);
-    assert_eq!(rt; ended, ending);
-    assert_found(rt, &failures, wanted);
+    let (ending, failures) = loop_over_all(&mut player_end, &mut board_end, player, &mut board);
+    assert_eq!(rt; ending, row.ending);
+    assert_found(rt, &failures, row.failures);
     Ok(())
+}
+
+/// A play to the end by each call.
+fn assert_each_finds(rt: &impl Abort, alloc: Global, row: &Row<'_>) -> Result<(), Fail> {
+    assert_direct(rt, alloc, row)?;
+    assert_joined(rt, alloc, row)?;
+    let (bytes, answers) = sent_and_answered(rt, alloc, row.text)?;
+    assert_over(rt, alloc, row, &bytes, &answers)?;
+    assert_looped(rt, alloc, row, &bytes, &answers)
 }
 
 /// The bytes of a play to the end on one bare device, and its answers to them.
@@ -107,16 +142,26 @@ fn sent_and_answered(
 
 #[test]
 fn each_call_finds_every_bit(rt: HostRuntime) -> Result<(), Fail> {
-    let fail = Ending::Fail {
-        command: 1,
-        part: Part::Data,
-        bit: 0,
+    let row = Row {
+        text: TWO_FAIL,
+        ending: Ending::Fail {
+            command: 1,
+            part: Part::Data,
+            bit: 0,
+        },
+        failures: &[data(1, 0), data(1, 1), data(2, 0), data(2, 1)],
     };
-    let wanted = [data(1, 0), data(1, 1), data(2, 0), data(2, 1)];
-    assert_each_finds(&rt, rt.alloc(), TWO_FAIL, fail, &wanted)?;
-    let passes = b"SIR 2 TDI (3) TDO (1); SDR 2 TDI (0) TDO (0);";
-    assert_each_finds(&rt, rt.alloc(), passes, Ending::Pass, &[])?;
-    assert_each_finds(&rt, rt.alloc(), b"", Ending::Pass, &[])
+    assert_each_finds(&rt, rt.alloc(), &row)
+}
+
+#[test]
+fn each_call_finds_none_where_all_is_as_wanted(rt: HostRuntime) -> Result<(), Fail> {
+    let row = Row {
+        text: b"SIR 2 TDI (3) TDO (1); SDR 2 TDI (0) TDO (0);",
+        ending: Ending::Pass,
+        failures: &[],
+    };
+    assert_each_finds(&rt, rt.alloc(), &row)
 }
 
 #[test]
