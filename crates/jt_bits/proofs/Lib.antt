@@ -4,3 +4,4 @@ pub mod Pieces
 pub mod PackedWords
 pub mod Lists
 pub mod Runs
+pub mod Solid

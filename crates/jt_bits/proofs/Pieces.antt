@@ -67,7 +67,7 @@ past_end m len none = ⊎_elim
     impossible : None ≡ Some m → ⊥
     impossible e = cc
 
-none_past : (m len : ℕ) → len ≤ m → (if nat_lt m len then Some m else None) ≡ None
+pub none_past : (m len : ℕ) → len ≤ m → (if nat_lt m len then Some m else None) ≡ None
 none_past m len past = let t : nat_lt m len ≡ false = grind (arith, nat_tests) in rw t refl
 
 eq_test : (a b : ℕ) → a ≡ b → eqb a b ≡ true
@@ -281,7 +281,7 @@ reading_digit digits rest front text left next c is black some less so_far =
       clean = parts.0;
     }
 
-good_long : (ds : List ℕ) → Good ds → length (binary ds) ≡ 4 * length ds
+pub good_long : (ds : List ℕ) → Good ds → length (binary ds) ≡ 4 * length ds
 good_long [] good = ap length (binary-none [] refl)
 good_long (d ∷ ds) good =
     let x = digit_is d (good 0 (omega arith)) in
@@ -298,7 +298,7 @@ zeros_binary (d ∷ ds) zeros =
     ∙ (replicate-append-replicate (4 * length ds) 4 false) ∙ ap (λ (n : ℕ). replicate n false) (sym more)
 
 -- what the reading makes of the text, once sixteen digits are read or the text is at its end
-parts_of : (read rest : List Bool) (left : ℕ) → length read ≡ 64 - 4 * left → left ≤ 16 → (left ≡ 0) ⊎ (rest ≡ [])
+pub parts_of : (read rest : List Bool) (left : ℕ) → length read ≡ 64 - 4 * left → left ≤ 16 → (left ≡ 0) ⊎ (rest ≡ [])
     → (take 64 (read ++ rest) ≡ read) × (64 - length (read ++ rest) ≡ 4 * left) × (drop 64 (read ++ rest) ≡ rest)
 parts_of read rest left long few done = ⊎_elim
     (λ (all : left ≡ 0).
@@ -352,12 +352,14 @@ number_resized n bits =
     number-append (take n bits) (replicate (n - length bits) false)
     ∙ omega (arith, ap (λ (m : ℕ). 2 ^ length (take n bits) * m) (number_zeros (n - length bits)))
 
+-- what sixteen digits are worth, led by 0 where there are fewer
+pub piece_worth : (digits text : List ℕ) → binary digits ≡ resized 64 (binary text) → number (binary digits) ≡ number (take 64 (binary text))
+piece_worth digits text spelled = ap number spelled ∙ number_resized 64 (binary text)
+
 -- the next word of a text
-pub piece_word : (digits rest text : List ℕ) (value k : ℕ) → value ≡ number (binary digits) → binary digits ≡ resized 64 (binary rest) → binary rest ≡ drop (64 * k) (binary text)
-    → value ≡ word_of (binary text) k
+pub piece_word : (rest text : List ℕ) (value k : ℕ) → value ≡ number (take 64 (binary rest)) → binary rest ≡ drop (64 * k) (binary text) → value ≡ word_of (binary text) k
 unfolding word_of word_from
-piece_word digits rest text value k is spelled at =
-    is ∙ ap number spelled ∙ number_resized 64 (binary rest) ∙ ap (λ (b : List Bool). number (take 64 b)) at
+piece_word rest text value k is at = is ∙ ap (λ (b : List Bool). number (take 64 b)) at
 
 pub piece_rest : (next rest text : List ℕ) (k m : ℕ) → binary next ≡ drop 64 (binary rest) → binary rest ≡ drop (64 * k) (binary text) → m ≡ k + 1 → binary next ≡ drop (64 * m) (binary text)
 piece_rest next rest text k m is at more =

@@ -1,7 +1,8 @@
 //! Bits from hexadecimal text, and back.
-ghost use Rattle.std.specs.Prelude.{◌≡◌, ◌≢◌, Err, None, IfOk, drop, position};
-ghost use Rattle.std.specs.List.{list_any, AllPass};
+ghost use Rattle.std.specs.Prelude.{◌≡◌, ◌≢◌, ◌≤◌, Err, None, true, IfOk, drop, length, position, take};
+ghost use Rattle.std.specs.List.{list_all, list_any, AllPass};
 ghost use Rattle.std.specs.Char as char_specs;
+ghost use Rattle.std.specs.Char.{is_ascii_hexdigit};
 ghost use Rattle.jt_bits.specs.Hex as spec;
 ghost use Rattle.hex.specs.Hex.{is_hex_digit};
 ghost use Rattle.jt_bits.specs.Lengths.{resized};
@@ -35,13 +36,14 @@ impl Bits {
     pub fn from_hex(alloc: Global, digits: &[u8], n: usize) -> Result<Bits, HexFault>
         ensures { result ≢ Err HexFault.NoMemory → result ≡ hex_value digits.now n }
     {
-        if let Some(place) = bad_place(digits) {
+        let is_solid = is_hexadecimal(digits);
+        if let Some(place) = bad_place(digits, is_solid) {
             return Err(HexFault::BadDigit(place));
         }
         if has_one_beyond(digits, n) {
             return Err(HexFault::TooWide);
         }
-        lowest(alloc, digits, n).map_err(|_| HexFault::NoMemory)
+        lowest(alloc, digits, n, is_solid).map_err(|_| HexFault::NoMemory)
     }
 
     /// The hexadecimal digit of the bits from `4 * k` on, in upper case. Digit 0 is the lowest; bits that are missing
@@ -96,24 +98,112 @@ fn digit_has_one_beyond(digit: u8, n: usize) -> bool
     n < 4 && !is_white(digit) && four_bits(digit).iter().skip(n).any(|bit| *bit)
 }
 
-/// The `n` lowest binary digits of hexadecimal text, the lowest first: sixteen digits a word, from the last on.
-fn lowest(alloc: Global, digits: &[u8], n: usize) -> Result<Bits, AllocError>
-    requires { position spec.is_bad digits.now ≡ None }
+/// Whether a text is hexadecimal digits alone, with no white space between them.
+pub fn is_hexadecimal(text: &[u8]) -> bool
+    ensures { result ≡ list_all is_ascii_hexdigit text.now }
+{
+    // Every byte is looked at, with no way out at the first that is none: the digits of real vectors are random, and a
+    // branch at each is predicted wrongly.
+    let mut is_good = true;
+    for byte in text {
+        is_good &= byte.is_ascii_hexdigit();
+    }
+    is_good
+}
+
+/// The `n` lowest binary digits of hexadecimal text, the lowest first: sixteen digits a word, from the last on. A solid
+/// text is digits alone.
+fn lowest(alloc: Global, digits: &[u8], n: usize, is_solid: bool) -> Result<Bits, AllocError>
+    requires clean { position spec.is_bad digits.now ≡ None }
+    requires solid { is_solid ≡ true → list_all is_ascii_hexdigit digits.now ≡ true }
     ensures { IfOk result (λ b. b ≡ spec.lowest n digits.now) }
 {
     let count = words::words_for(n);
     let mut words = Vec::with_capacity(alloc, count)?;
     let mut rest = digits;
     for _k in 0..count {
-        let piece = last_piece(rest);
-        words.push(piece_value(&piece.digits))?;
-        rest = piece.rest;
+        let last = last_word(rest, is_solid);
+        words.push(last.value)?;
+        rest = last.rest;
     }
     Ok(Bits {
         words,
         start: 0,
         len: n,
     })
+}
+
+/// What the last sixteen digits of a text are worth, and the text before them.
+#[derive(Drop)]
+struct Last<'a> {
+    value: u64,
+    rest: &'a [u8],
+}
+
+/// The last word of a text. A solid text is digits alone.
+fn last_word(text: &[u8], is_solid: bool) -> Last<'_>
+    requires clean { position spec.is_bad text.now ≡ None }
+    requires solid { is_solid ≡ true → list_all is_ascii_hexdigit text.now ≡ true }
+    ensures value { result.value ≡ number (take 64 (spec.binary text.now)) }
+    ensures rest { spec.binary result.rest.now ≡ drop 64 (spec.binary text.now) }
+    ensures good { position spec.is_bad result.rest.now ≡ None }
+    ensures solid { is_solid ≡ true → list_all is_ascii_hexdigit result.rest.now ≡ true }
+{
+    if is_solid {
+        last_solid(text)
+    } else {
+        last_spaced(text)
+    }
+}
+
+/// The last word of a text that is digits alone.
+fn last_solid(text: &[u8]) -> Last<'_>
+    requires { list_all is_ascii_hexdigit text.now ≡ true }
+    ensures value { result.value ≡ number (take 64 (spec.binary text.now)) }
+    ensures rest { spec.binary result.rest.now ≡ drop 64 (spec.binary text.now) }
+    ensures good { position spec.is_bad result.rest.now ≡ None }
+    ensures solid { list_all is_ascii_hexdigit result.rest.now ≡ true }
+{
+    let (rest, piece) = text.split_at(text.len().saturating_sub(16));
+    Last {
+        value: digits_value(piece),
+        rest,
+    }
+}
+
+/// The value of at most sixteen digits.
+fn digits_value(digits: &[u8]) -> u64
+    requires few { length digits.now ≤ 16 }
+    requires solid { list_all is_ascii_hexdigit digits.now ≡ true }
+    ensures { result ≡ number (spec.binary digits.now) }
+{
+    let mut value = 0;
+    for digit in digits {
+        value = value * 16 + u64::from(digit_value(*digit));
+    }
+    value
+}
+
+/// The value of a digit, in either case, with no branch: a letter's last four binary digits are 9 less than its value.
+fn digit_value(digit: u8) -> u8
+    requires { is_ascii_hexdigit digit ≡ true }
+    ensures { result ≡ char_specs.digit_value digit }
+{
+    digit % 16 + 9 * (digit / 64)
+}
+
+/// The last word of a text.
+fn last_spaced(text: &[u8]) -> Last<'_>
+    requires { position spec.is_bad text.now ≡ None }
+    ensures value { result.value ≡ number (take 64 (spec.binary text.now)) }
+    ensures rest { spec.binary result.rest.now ≡ drop 64 (spec.binary text.now) }
+    ensures good { position spec.is_bad result.rest.now ≡ None }
+{
+    let piece = last_piece(text);
+    Last {
+        value: piece_value(&piece.digits),
+        rest: piece.rest,
+    }
 }
 
 /// The last sixteen digits of a text, led by `0` where there are fewer, and the text before them.
@@ -162,10 +252,14 @@ fn piece_value(digits: &[u8; 16]) -> u64
     }
 }
 
-/// The place of the first byte that is no hexadecimal digit and no white space.
-fn bad_place(digits: &[u8]) -> Option<usize>
+/// The place of the first byte that is no hexadecimal digit and no white space. A solid text has none.
+fn bad_place(digits: &[u8], is_solid: bool) -> Option<usize>
+    requires { is_solid ≡ true → list_all is_ascii_hexdigit digits.now ≡ true }
     ensures { result ≡ position spec.is_bad digits.now }
 {
+    if is_solid {
+        return None;
+    }
     digits
         .iter()
         .position(|byte| !(byte.is_ascii_hexdigit() || is_white(*byte)))

@@ -9,7 +9,7 @@ ghost use Rattle.jt_bits.specs.Runs.{RunSet, copied};
 ghost use Rattle.jt_bits.specs.Shifting.{after_shift};
 ghost use Rattle.jt_bits.specs.Words.{bit_of, word_of, word_from, is_bad_at, is_bad_bit, IsFirst};
 
-pub use digits::{HexFault, has_one_beyond};
+pub use digits::{HexFault, has_one_beyond, is_hexadecimal};
 use std::alloc::{AllocError, Global};
 use std::marker::Model;
 

@@ -11,14 +11,16 @@ pub loop-k-preserved : goal.loop-k-preserved
 loop-k-preserved c =
     let text = c.args.digits.now in
     let k = c.loop-k._k in
-    let word = piece_word c.last_piece-piece.result.digits c.loop-k.rest.now text c.piece_value.result k c.piece_value.ensures c.last_piece-piece.ensures.spelled c.loop-k.invariant.rest in
+    let last = c.last_word-last in
+    let word = piece_word c.loop-k.rest.now text last.result.value k last.ensures.value c.loop-k.invariant.rest in
     record {
       words =
-          c.in_ok-push.ensures.items ∙ ap (λ (ws : List ℕ). ws ++ c.piece_value.result ∷ []) c.loop-k.invariant.words
+          c.in_ok-push.ensures.items ∙ ap (λ (ws : List ℕ). ws ++ last.result.value ∷ []) c.loop-k.invariant.words
           ∙ ap (λ (w : ℕ). map (word_of (binary text)) (range_with_len 0 k) ++ w ∷ []) word
           ∙ sym (map-range_with_len_more (word_of (binary text)) 0 k k (omega arith));
-      rest = piece_rest c.last_piece-piece.result.rest.now c.loop-k.rest.now text k (k + 1) c.last_piece-piece.ensures.rest c.loop-k.invariant.rest refl;
-      clean = c.last_piece-piece.ensures.good;
+      rest = piece_rest last.result.rest.now c.loop-k.rest.now text k (k + 1) last.ensures.rest c.loop-k.invariant.rest refl;
+      clean = last.ensures.good;
+      solid = last.ensures.solid;
     }
 
 pub invariant_of-result : goal.invariant_of-result
