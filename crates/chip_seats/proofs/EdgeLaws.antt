@@ -23,7 +23,7 @@ use Rattle.board_meaning.specs.Chain as chain
 use Rattle.board_meaning.specs.Chain.{ChipState}
 use Rattle.board_meaning.specs.Whole.{capture_member}
 use Rattle.chip_seats.specs.AtRest.{IsSightedFor, as_member}
-use Rattle.chip_seats.specs.Seats.{IsSighted, SeatValue, captures_boundary, changes_drives, chip_state, member_of}
+use Rattle.chip_seats.specs.Seats.{IsSighted, SeatValue, captures_boundary, chip_state, member_of}
 
 -- a device of the meaning, by the device alone
 abbrev state_of : List ℕ → List Bool → Bool → OneChip → ChipState
@@ -159,14 +159,3 @@ rise_drives trst tms tdi sees c p = by (chain.is_held trst c.member) refl
     by false held = rw held
         (ap (λ (l : List Bool). drive_in (meaning m.device l).mode m.device.cells after.update m.core p) (risen-latch (work c.state) m.device (surroundings sees m) tdi m.registers)
         ∙ ap (λ (u : List Bool). drive_in (meaning m.device m.registers.latch).mode m.device.cells u m.core p) (risen-update (work c.state) m.device (surroundings sees m) tdi m.registers))
-
--- Nor does a falling edge that neither updates nor resets.
-pub fall_drives : (c : ChipState) → changes_drives (work c.state) ≡ false → (chain.fall c).member ≡ c.member
-fall_drives c quiet = ap (λ (r : Registers). record c.member { registers = r }) (kept (work c.state) quiet)
-  where
-    kept : (w : Work) → changes_drives w ≡ false → after_fall w c.member.device (surroundings (λ p. true) c.member) c.member.registers ≡ c.member.registers
-    kept (Captures column) quiet = refl
-    kept (Shifts column) quiet = refl
-    kept (Updates column) quiet = absurd (true≢false quiet)
-    kept Resets quiet = absurd (true≢false quiet)
-    kept Waits quiet = refl

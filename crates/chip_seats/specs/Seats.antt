@@ -2,17 +2,20 @@
 -- cell.
 use Rattle.std.specs.Prelude.{◌≡◌, ◌<◌, ℕ, Bool, true, false, List, slice_get, Option, Some}
 use Rattle.std.specs.List.{AllByRecursion}
+use Rattle.jt_tap.specs.declared.Column.{Column}
 use Rattle.jt_tap.specs.declared.Column.TheVariants.{Dr}
 use Rattle.jt_tap.specs.declared.Work.{Work}
 use Rattle.jt_tap.specs.declared.Work.TheVariants.{Resets, Captures, Updates}
 use Rattle.jt_tap.specs.Controller.{work}
+use Rattle.device_instructions.specs.declared.Mode.{Mode}
+use Rattle.device_instructions.specs.declared.Mode.TheVariants.{Extest, Clamp}
 use Rattle.device_instructions.specs.declared.Selected.{Selected}
 use Rattle.device_instructions.specs.declared.Selected.TheVariants.{Boundary}
 use Rattle.scan_registers.specs.Chips.{ChipValue, registers}
 use Rattle.device_instructions.specs.Instruction.{meaning}
 use Rattle.boundary.specs.Cells.{BoundaryValue, IsWhole}
 use Rattle.boundary.specs.Sight.{SeesItsPorts}
-use Rattle.board_meaning.specs.Cells.{Member}
+use Rattle.board_meaning.specs.Cells.{Member, drive}
 use Rattle.board_meaning.specs.Chain.{ChipState}
 
 pub record SeatValue : Type 0 where
@@ -64,11 +67,18 @@ abbrev pub IsSighted : (ℕ → Bool) → SeatValue → Type 0
 IsSighted sees s = captures_boundary (work s.chip.state) (meaning s.chip.device s.chip.latch).selected ≡ true
     → IsWhole s.chip.boundary × SeesItsPorts sees s.chip.device.cells s.chip.boundary.seen
 
--- whether the falling edge that comes may change what a pin drives: it updates or resets
-abbrev pub changes_drives : Work → Bool
-changes_drives (Updates column) = true
-changes_drives Resets = true
-changes_drives _ = false
+-- whether an update of the column, by a device in this mode with this register selected, may change the bits that drive
+abbrev pub updates_driving : Column → Selected → Mode → Bool
+updates_driving Dr Boundary Extest = true
+updates_driving Dr Boundary Clamp = true
+updates_driving _ _ _ = false
 
-abbrev pub may_drive_anew : SeatValue → Bool
-may_drive_anew s = changes_drives (work s.chip.state)
+-- whether the falling edge of this work may change them: it updates them, or resets
+abbrev pub falls_driving : Work → Selected → Mode → Bool
+falls_driving (Updates column) selected mode = updates_driving column selected mode
+falls_driving Resets selected mode = true
+falls_driving _ selected mode = false
+
+-- each port bit drives what it drove
+abbrev pub DrivesStill : Member → Member → Type 0
+DrivesStill m after = (p : ℕ) → drive after p ≡ drive m p

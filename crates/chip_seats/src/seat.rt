@@ -1,6 +1,6 @@
 //! One device at its place in the chain.
 
-ghost use Rattle.std.specs.Prelude.{◌≡◌, ◌≢◌, ◌<◌, ℕ, Bool, List, [], ◌∷◌, length, slice_get, Some, None, option_map};
+ghost use Rattle.std.specs.Prelude.{◌≡◌, ◌≢◌, ◌<◌, ℕ, Bool, false, List, [], ◌∷◌, length, slice_get, Some, None, option_map};
 ghost use Rattle.std.specs.Prelude.{if◌then◌else◌, IfOk};
 ghost use Rattle.jt_tap.specs.Controller.{work};
 ghost use Rattle.device_instructions.specs.Fitting.{IsFormed, has_code};
@@ -14,8 +14,8 @@ ghost use Rattle.board_meaning.specs.Cells.{Member};
 ghost use Rattle.board_meaning.specs.Cells as meant;
 ghost use Rattle.board_meaning.specs.Chain as chain;
 ghost use Rattle.chip_seats.specs.Building.{seat_of};
-ghost use Rattle.chip_seats.specs.Seats.{AreBelow, IsKept, IsSighted, captures_boundary, chip_state};
-ghost use Rattle.chip_seats.specs.Seats.{member_of, with_seen};
+ghost use Rattle.chip_seats.specs.Seats.{AreBelow, DrivesStill, IsKept, IsSighted, captures_boundary, chip_state};
+ghost use Rattle.chip_seats.specs.Seats.{falls_driving, member_of, with_seen};
 ghost use Rattle.chip_seats.specs.Telling.{IsAt, TellsAll, TellsCell, sight};
 
 mod at_rest;
@@ -276,6 +276,32 @@ impl Seat {
         ensures chip { chip_state self.new ≡ chain.fall (chip_state self.old) }
     {
         self.chip.fall();
+    }
+
+    /// A falling edge. Answers whether what a pin drives may have changed.
+    pub fn fall_anew(&mut self) -> bool
+        ensures kept { IsKept self.old self.new }
+        ensures trst { self.new.chip.trst ≡ self.old.chip.trst }
+        ensures chip { chip_state self.new ≡ chain.fall (chip_state self.old) }
+        ensures still { result ≡ false → DrivesStill (member_of self.old) (member_of self.new) }
+    {
+        let mode = self.chip.mode();
+        let driving = self.falls_driving();
+        self.fall();
+        driving || self.chip.mode() != mode
+    }
+
+    /// Whether the falling edge that comes may change the bits that drive the pins.
+    fn falls_driving(&self) -> bool
+        ensures { result ≡ falls_driving (work self.now.chip.state)
+            (meaning self.now.chip.device self.now.chip.latch).selected
+            (meaning self.now.chip.device self.now.chip.latch).mode }
+    {
+        match self.chip.state().work() {
+            Work::Updates(column) => self.updates_driving(column),
+            Work::Resets => true,
+            _ => false,
+        }
     }
 
     /// TRST is asserted or released.

@@ -1,13 +1,13 @@
 //! All devices of a chain at once, without TCK: capture, the judgement of what comes out, shift, update and reset (IEEE
 //! Std 1149.1-2001, clauses 6, 7 and 9).
 
-ghost use Rattle.std.specs.Prelude.{◌≡◌, ◌+◌, ◌<◌, ◌^◌, true, length, map};
+ghost use Rattle.std.specs.Prelude.{◌≡◌, ◌+◌, ◌<◌, ◌^◌, true, false, length, map};
 ghost use Rattle.board_meaning.specs.Chain.{members};
 ghost use Rattle.board_meaning.specs.Nets.{sees};
 ghost use Rattle.board_meaning.specs.Resting.{chip_at_rest};
 ghost use Rattle.board_meaning.specs.Whole as whole;
 ghost use Rattle.chip_chain.specs.AtRest.{AssertsTrst, CapturesAt, Changes, Stands, chain_as, shifted_through};
-ghost use Rattle.chip_chain.specs.Sweeping.{EachFrom};
+ghost use Rattle.chip_chain.specs.Sweeping.{EachFrom, Still};
 ghost use Rattle.chip_seats.specs.Wires.{IsWired};
 ghost use Rattle.jt_tap.specs.declared.State.TheVariants.{Reset};
 ghost use Rattle.scan_vectors.specs.Failures.{differing, found, with_found};
@@ -94,15 +94,17 @@ fn capture_all(seats: &mut [Seat], wiring: &Wiring, column: Column)
     }
 }
 
-/// An update of all devices, and what they drive from then on is put to the nets.
+/// An update of all devices; where it may have changed what they drive, that is put to the nets.
 fn update_wired(seats: &mut [Seat], wiring: &mut Wiring, column: Column)
     requires { IsWired seats.old wiring.old }
     ensures devices { EachFrom (Changes (whole.update_member column)) 0 seats.old seats.new }
     ensures wired { IsWired seats.new wiring.new }
     ensures nets { wiring.new.nets ≡ wiring.old.nets }
 {
-    update_all(seats, column);
-    refresh(wiring, seats);
+    let anew = update_all(seats, column);
+    if anew {
+        refresh(wiring, seats);
+    }
 }
 
 /// A reset of all devices, and what they drive from then on is put to the nets.
@@ -136,13 +138,18 @@ fn assert_trst_all(seats: &mut [Seat], rests: State)
     }
 }
 
-/// An update of all devices.
-fn update_all(seats: &mut [Seat], column: Column)
-    ensures { EachFrom (Changes (whole.update_member column)) 0 seats.old seats.new }
+/// An update of all devices. Answers whether what a pin drives may have changed.
+fn update_all(seats: &mut [Seat], column: Column) -> bool
+    ensures devices { EachFrom (Changes (whole.update_member column)) 0 seats.old seats.new }
+    ensures still { result ≡ false → EachFrom Still 0 seats.old seats.new }
 {
+    let mut anew = false;
     for seat in seats.iter_mut() {
-        seat.update(column);
+        if seat.update_anew(column) {
+            anew = true;
+        }
     }
+    anew
 }
 
 /// A reset of all devices.

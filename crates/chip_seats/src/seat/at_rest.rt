@@ -1,11 +1,12 @@
 //! A device as a link of the chain, and what is done to its registers without TCK.
 
-ghost use Rattle.std.specs.Prelude.{◌≡◌, ℕ, Bool, true, List, length};
+ghost use Rattle.std.specs.Prelude.{◌≡◌, ℕ, Bool, true, false, List, length};
 ghost use Rattle.board_meaning.specs.Cells.{Member};
 ghost use Rattle.board_meaning.specs.Resting.{chip_at_rest};
 ghost use Rattle.board_meaning.specs.Whole.{capture_member, reset_member, settled_member, trst_member, update_member};
 ghost use Rattle.chip_seats.specs.AtRest.{IsSightedFor, as_member};
-ghost use Rattle.chip_seats.specs.Seats.{AreBelow, IsKept, captures_boundary, chip_state, member_of};
+ghost use Rattle.chip_seats.specs.Seats.{AreBelow, DrivesStill, IsKept, captures_boundary, chip_state, member_of};
+ghost use Rattle.chip_seats.specs.Seats.{updates_driving};
 ghost use Rattle.chip_seats.specs.Telling.{IsAt, sight};
 ghost use Rattle.jt_tap.specs.declared.State.TheVariants.{Reset};
 ghost use Rattle.jt_tap.specs.declared.Work.TheVariants.{Captures};
@@ -14,7 +15,7 @@ ghost use Rattle.device_instructions.specs.Instruction.{meaning};
 use super::Seat;
 use board_wiring::Wiring;
 use jt_tap::{Column, State};
-use scan_registers::{Link, Selected};
+use scan_registers::{Link, Mode, Selected};
 
 impl Link for Seat {
     ghost use Rattle.board_meaning.specs.Whole.{selected_bits_of};
@@ -84,6 +85,30 @@ impl Seat {
             ≡ as_member (update_member column (member_of self.old)) (chip_state self.old) }
     {
         self.chip.update(column);
+    }
+
+    /// Whether an update of the column may change the bits that drive the pins.
+    pub(super) fn updates_driving(&self, column: Column) -> bool
+        ensures { result ≡ updates_driving column (meaning self.now.chip.device self.now.chip.latch).selected
+            (meaning self.now.chip.device self.now.chip.latch).mode }
+    {
+        column == Column::Dr
+            && self.chip.selected() == Selected::Boundary
+            && matches!(self.chip.mode(), Mode::Extest | Mode::Clamp)
+    }
+
+    /// The column's register updates. Answers whether what a pin drives may have changed.
+    pub fn update_anew(&mut self, column: Column) -> bool
+        ensures kept { IsKept self.old self.new }
+        ensures trst { self.new.chip.trst ≡ self.old.chip.trst }
+        ensures chip { chip_state self.new
+            ≡ as_member (update_member column (member_of self.old)) (chip_state self.old) }
+        ensures still { result ≡ false → DrivesStill (member_of self.old) (member_of self.new) }
+    {
+        let mode = self.chip.mode();
+        let driving = self.updates_driving(column);
+        self.update(column);
+        driving || self.chip.mode() != mode
     }
 
     /// The instruction and the boundary register are reset.
