@@ -13,6 +13,9 @@ use crate::{Bits, words};
 use std::alloc::{AllocError, Global};
 use thiserror::Error;
 
+/// How many bytes of a text are judged at once.
+const PIECE: usize = 64;
+
 /// Why hexadecimal text has no value at a length.
 #[derive(Debug, Drop, Clone, Copy, PartialEq, Eq, Error)]
 pub enum HexFault {
@@ -98,14 +101,30 @@ fn digit_has_one_beyond(digit: u8, n: usize) -> bool
     n < 4 && !is_white(digit) && four_bits(digit).iter().skip(n).any(|bit| *bit)
 }
 
-/// Whether a text is hexadecimal digits alone, with no white space between them.
+/// Whether a text is hexadecimal digits alone, with no white space between them. Looks a piece beyond the first byte that
+/// is none at most.
 pub fn is_hexadecimal(text: &[u8]) -> bool
     ensures { result ≡ list_all is_ascii_hexdigit text.now }
+{
+    let mut rest = text;
+    while !rest.is_empty() {
+        let (piece, behind) = rest.split_at(rest.len().min(PIECE));
+        if !are_digits(piece) {
+            return false;
+        }
+        rest = behind;
+    }
+    true
+}
+
+/// Whether each byte of a piece is a hexadecimal digit.
+fn are_digits(piece: &[u8]) -> bool
+    ensures { result ≡ list_all is_ascii_hexdigit piece.now }
 {
     // Every byte is looked at, with no way out at the first that is none: the digits of real vectors are random, and a
     // branch at each is predicted wrongly.
     let mut is_good = true;
-    for byte in text {
+    for byte in piece {
         is_good &= byte.is_ascii_hexdigit();
     }
     is_good
