@@ -8,12 +8,10 @@ ghost use Rattle.svf_forms.specs.View as view;
 ghost use Rattle.svf_forms.specs.View.{fields, bytes_of};
 ghost use Rattle.svf_parse.specs.View.{Gives, said_of};
 ghost use Rattle.svf_words.specs.declared.keywords.Clock as declared_clock;
-ghost use Rattle.std.specs.List.{list_all};
-ghost use Rattle.std.specs.Char.{is_ascii_hexdigit};
 
 use crate::fault::Refusal;
 use crate::statement::Statement;
-use jt_bits::{Bits, has_one_beyond};
+use jt_bits::{Bits, has_one_beyond, is_hexadecimal};
 use std::alloc::Global;
 use svf_forms::fields::Fields;
 use svf_forms::forms::Written;
@@ -111,19 +109,13 @@ fn field_fault(len: Option<usize>, digits: &Option<Vec<u8>>) -> Option<Code>
     let Some(digits) = digits else {
         return None;
     };
-    if !are_hexadecimal(digits) {
+    if !is_hexadecimal(digits) {
         Some(Code::BadNumber)
     } else if is_wider(len, digits) {
         Some(Code::TooWide)
     } else {
         None
     }
-}
-
-fn are_hexadecimal(digits: &[u8]) -> bool
-    ensures { result ≡ list_all is_ascii_hexdigit digits.now }
-{
-    digits.iter().all(|byte| byte.is_ascii_hexdigit())
 }
 
 fn is_wider(len: Option<usize>, digits: &[u8]) -> bool
