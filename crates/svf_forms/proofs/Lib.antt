@@ -1,4 +1,5 @@
 pub mod FieldLaws
 pub mod FormLaws
 pub mod RunTestLaws
+pub mod NextWords
 pub mod StateLists

@@ -1,3 +1,4 @@
+pub mod Behind
 pub mod Fields
 pub mod Forms
 pub mod Grammar

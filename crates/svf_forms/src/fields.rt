@@ -1,7 +1,9 @@
 //! The fields of a scan.
 ghost use Rattle.std.specs.Prelude.{◌≡◌, ◌<◌, List, ℕ, length, IfOk, IfSome, MatchBool, Some, None, option_map};
 ghost use Rattle.std.specs.Prelude.{if◌then◌else◌};
+ghost use Rattle.svf_lex.specs.Left.{left};
 ghost use Rattle.svf_words.specs.Words.{words_left};
+ghost use Rattle.svf_forms.specs.Behind.{Behind};
 ghost use Rattle.svf_forms.specs.Fields as spec;
 ghost use Rattle.svf_forms.specs.Fields.{Closed, cut_at_close, no_fields, fields_say};
 ghost use Rattle.svf_forms.specs.View.{fields, bytes_of};
@@ -29,6 +31,21 @@ pub struct Fields {
 pub fn fields_of(alloc: Global, words: Lexer<'_>) -> Result<Option<Fields>, AllocError>
     ensures { IfOk result (λ o. option_map fields o ≡ fields_say no_fields (cut_at_close (words_left words.entry))) }
 {
+    match fields_and_rest(alloc, words)? {
+        Some((all, _)) => Ok(Some(all)),
+        None => Ok(None),
+    }
+}
+
+/// The same, and the lexer behind the fields.
+pub fn fields_and_rest<'a>(
+    alloc: Global,
+    words: Lexer<'a>,
+) -> Result<Option<(Fields, Lexer<'a>)>, AllocError>
+    ensures says { IfOk result
+        (λ o. option_map (λ p. fields p.0) o ≡ fields_say no_fields (cut_at_close (words_left words.entry))) }
+    ensures behind { IfOk result (λ o. IfSome o (λ p. Behind (left words.entry) (left p.1))) }
+{
     let mut all = Fields {
         tdi: None,
         tdo: None,
@@ -48,7 +65,7 @@ pub fn fields_of(alloc: Global, words: Lexer<'_>) -> Result<Option<Fields>, Allo
         }
         rest = behind;
     }
-    Ok(Some(all))
+    Ok(Some((all, rest)))
 }
 
 /// Puts a field's digits, unless it is given already.
@@ -80,6 +97,7 @@ fn bracket<'a>(alloc: Global, words: Lexer<'a>) -> Result<Option<(Vec<u8>, Lexer
         (λ o. option_map {U = List ℕ × Closed} (λ p. (p.0.items, cut_at_close (words_left p.1))) o
         ≡ spec.bracket (cut_at_close (words_left words.entry))) }
     ensures shorter { IfOk result (λ o. IfSome o (λ p. length (words_left p.1) < length (words_left words.entry))) }
+    ensures behind { IfOk result (λ o. IfSome o (λ p. Behind (left words.entry) (left p.1))) }
 {
     match next_word(words) {
         Some((word, after)) if is_open(word) => runs(alloc, after),
@@ -93,6 +111,7 @@ fn runs<'a>(alloc: Global, words: Lexer<'a>) -> Result<Option<(Vec<u8>, Lexer<'a
         (λ o. option_map {U = List ℕ × Closed} (λ p. (p.0.items, cut_at_close (words_left p.1))) o
         ≡ spec.runs (cut_at_close (words_left words.entry))) }
     ensures shorter { IfOk result (λ o. IfSome o (λ p. length (words_left p.1) < length (words_left words.entry))) }
+    ensures behind { IfOk result (λ o. IfSome o (λ p. Behind (left words.entry) (left p.1))) }
 {
     let mut digits = Vec::new(alloc);
     let mut rest = words;

@@ -1,11 +1,13 @@
 //! The forms of the statements.
-ghost use Rattle.std.specs.Prelude.{◌≡◌, List, Option, IfOk, option_map};
+ghost use Rattle.std.specs.Prelude.{◌≡◌, List, Option, IfOk, IfSome, option_map};
 ghost use Rattle.jt_tap.specs.declared.State as declared_state;
+ghost use Rattle.svf_lex.specs.Left.{left};
 ghost use Rattle.svf_words.specs.Words.{Word, words_left};
+ghost use Rattle.svf_forms.specs.Behind.{Behind};
 ghost use Rattle.svf_forms.specs.Forms as spec;
 ghost use Rattle.svf_forms.specs.View as view;
 
-use crate::fields::{Fields, fields_of};
+use crate::fields::{Fields, fields_and_rest};
 use crate::run_test::{RunTest, run_test_of};
 use jt_tap::State;
 use std::alloc::{AllocError, Global};
@@ -54,6 +56,29 @@ pub fn form_of<'a>(
         Command::Pio | Command::PioMap => Some(Written::Port),
     };
     Ok(form)
+}
+
+/// The same, and of a scan the lexer behind its words, so that nobody has to look for its `;` through all its digits.
+pub fn form_and_rest<'a>(
+    alloc: Global,
+    command: Command,
+    words: Lexer<'a>,
+) -> Result<Option<(Written<'a>, Option<Lexer<'a>>)>, AllocError>
+    ensures says { IfOk result
+        (λ o. option_map (λ p. view.form p.0) o ≡ spec.form_of command (words_left words.entry)) }
+    ensures behind { IfOk result
+        (λ o. IfSome o (λ p. IfSome p.1 (λ rest. Behind (left words.entry) (left rest)))) }
+{
+    if let Command::Scan(which) = command {
+        return match scan_and_rest(alloc, which, words)? {
+            Some((form, rest)) => Ok(Some((form, Some(rest)))),
+            None => Ok(None),
+        };
+    }
+    match form_of(alloc, command, words)? {
+        Some(form) => Ok(Some((form, None))),
+        None => Ok(None),
+    }
 }
 
 /// One state.
@@ -119,7 +144,6 @@ fn hertz<'a>(words: Lexer<'a>) -> Option<Option<&'a [u8]>>
 }
 
 /// A length and fields.
-#[tactic(auto, unfolding(crate::specs::Forms::scan_of))]
 fn scan_of<'a>(
     alloc: Global,
     which: Which,
@@ -127,14 +151,30 @@ fn scan_of<'a>(
 ) -> Result<Option<Written<'a>>, AllocError>
     ensures { IfOk result (λ o. option_map view.form o ≡ spec.scan_of which (words_left words.entry)) }
 {
+    match scan_and_rest(alloc, which, words)? {
+        Some((form, _)) => Ok(Some(form)),
+        None => Ok(None),
+    }
+}
+
+/// A length and fields, and the lexer behind them.
+#[tactic(auto, unfolding(crate::specs::Forms::scan_of))]
+fn scan_and_rest<'a>(
+    alloc: Global,
+    which: Which,
+    words: Lexer<'a>,
+) -> Result<Option<(Written<'a>, Lexer<'a>)>, AllocError>
+    ensures says { IfOk result (λ o. option_map (λ p. view.form p.0) o ≡ spec.scan_of which (words_left words.entry)) }
+    ensures behind { IfOk result (λ o. IfSome o (λ p. Behind (left words.entry) (left p.1))) }
+{
     let Some((len, rest)) = next_word(words) else {
         return Ok(None);
     };
     if !is_number(len) {
         return Ok(None);
     }
-    match fields_of(alloc, rest)? {
-        Some(fields) => Ok(Some(Written::Scan(which, len, fields))),
+    match fields_and_rest(alloc, rest)? {
+        Some((fields, behind)) => Ok(Some((Written::Scan(which, len, fields), behind))),
         None => Ok(None),
     }
 }

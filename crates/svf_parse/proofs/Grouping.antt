@@ -9,17 +9,13 @@ use Rattle.svf_lex.specs.Cutting.{Lexeme, items_of}
 use Rattle.svf_words.specs.declared.fault.Code.TheVariants as code
 use Rattle.svf_words.specs.declared.fault.SvfFault.{SvfFault}
 use Rattle.svf_words.specs.Words.{Word, Groups, last, group, with_word, with_token, groups_of, first_words}
+use Rattle.svf_forms.specs.Behind.{with_words}
 use Rattle.svf_parse.specs.declared.fault.Stop.{Stop}
 use Rattle.svf_parse.specs.declared.fault.Stop.TheVariants as stop
 use Rattle.svf_parse.specs.declared.statement.Statement.{Statement}
 use Rattle.svf_parse.specs.View.{said_of, Stops}
 use Rattle.svf_parse.specs.Judging.{◌>>=◌, Said}
 use Rattle.svf_parse.specs.Reading.{statement_says, groups_say, text_says, at_statement, within_limit, lex_code}
-
--- words before groups
-abbrev pub with_words : List Word → Groups → Groups
-with_words [] groups = groups
-with_words (w ∷ ws) groups = with_word w (with_words ws groups)
 
 pub with_words-push : (ws : List Word) (w : Word) (groups : Groups) → with_words (ws ++ w ∷ []) groups ≡ with_words ws (with_word w groups)
 with_words-push [] w groups = refl

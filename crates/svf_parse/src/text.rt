@@ -1,20 +1,22 @@
 //! A text's statements, one after another.
-ghost use Rattle.std.specs.Prelude.{◌≡◌, ◌*◌, ◌≤◌, length, map, IfOk, IfErr, Ok, Err, List, ◌≢◌};
+ghost use Rattle.std.specs.Prelude.{◌≡◌, ◌*◌, ◌≤◌, length, map, IfOk, IfErr, IfSome, Ok, Err, List, Result, ◌≢◌};
 ghost use Rattle.std.specs.List.{sum_by};
 ghost use Rattle.svf_lex.specs.Left.{left};
 ghost use Rattle.svf_parse.specs.Judging.{Said};
+ghost use Rattle.svf_words.specs.declared.fault.Code as declared_code;
 ghost use Rattle.svf_words.specs.Words.{words_left, groups_of};
 ghost use Rattle.svf_parse.specs.Reading as spec;
 ghost use Rattle.svf_parse.specs.Reading.{text_says, groups_say, at_statement, within_limit, statement_says};
 ghost use Rattle.svf_parse.specs.Spelling.{TextSpells, TextRefuses};
 ghost use Rattle.svf_parse.specs.Sizes.{size};
+ghost use Rattle.svf_parse.specs.Opened.{Opened};
 ghost use Rattle.svf_parse.specs.View.{Gives, Tells, Parses, IsGroup, said_of, memory_fault};
 
 use crate::fault::{Refusal, Stop};
 use crate::judging::form_says;
 use crate::statement::Statement;
 use std::alloc::Global;
-use svf_forms::forms::form_of;
+use svf_forms::forms::form_and_rest;
 use svf_lex::{Kind, LexFault, Lexer};
 use svf_words::keywords::command_of;
 use svf_words::words::next_word;
@@ -81,7 +83,9 @@ fn statements(alloc: Global, text: Lexer<'_>) -> Result<Vec<Statement>, Stop>
     let mut all = Vec::new(alloc);
     let mut lexer = text;
     loop {
-        match next_group(lexer) {
+        // The statement first: where it is read and its end is known, its tokens are cut once.
+        let found = numbered(alloc, all.len() + 1, lexer);
+        match group_at(lexer, found.rest) {
             Group::Over => return Ok(all),
             Group::Broken(fault) => {
                 return Err(Stop::Fault(SvfFault {
@@ -89,9 +93,12 @@ fn statements(alloc: Global, text: Lexer<'_>) -> Result<Vec<Statement>, Stop>
                     code: lex_code(fault),
                 }));
             }
-            Group::Empty(after) => lexer = after,
+            Group::Empty(after) => {
+                drop(found);
+                lexer = after;
+            }
             Group::Words(after) => {
-                let said = match numbered(alloc, all.len() + 1, lexer) {
+                let said = match told(found) {
                     Ok(said) => said,
                     Err(stop) => return Err(stop),
                 };
@@ -104,13 +111,46 @@ fn statements(alloc: Global, text: Lexer<'_>) -> Result<Vec<Statement>, Stop>
     }
 }
 
+/// What was read of a statement, and where it is known the lexer behind its words.
+#[derive(Drop)]
+struct Found<'a> {
+    said: Result<Statement, Stop>,
+    rest: Option<Lexer<'a>>,
+}
+
+/// What was read alone.
+fn told(found: Found<'_>) -> Result<Statement, Stop>
+    ensures { result ≡ found.entry.said }
+{
+    found.said
+}
+
 /// The statement with this number, or its refusal.
-fn numbered(alloc: Global, number: usize, words: Lexer<'_>) -> Result<Statement, Stop>
-    ensures says { Tells said_of result
+fn numbered<'a>(alloc: Global, number: usize, words: Lexer<'a>) -> Found<'a>
+    ensures says { Tells said_of result.said
         (at_statement number (within_limit number (statement_says (words_left words.entry)))) }
-    ensures within { IfOk result (λ _. number ≤ 200000) }
+    ensures within { IfOk result.said (λ _. number ≤ 200000) }
+    ensures rest { IfSome result.rest (λ rest. Opened (groups_of (left words.entry)) (groups_of (left rest))) }
 {
     match statement(alloc, words) {
+        Ok((said, rest)) => Found {
+            said: at_number(number, Ok(said)),
+            rest,
+        },
+        Err(refusal) => Found {
+            said: at_number(number, Err(refusal)),
+            rest: None,
+        },
+    }
+}
+
+/// What the statement with this number says, or the refusal of the text there.
+fn at_number(number: usize, said: Result<Statement, Refusal>) -> Result<Statement, Stop>
+    ensures says { (says : Result Said declared_code.Code) → Gives said_of said says
+        → Tells said_of result (at_statement number (within_limit number says)) }
+    ensures within { IfOk result (λ _. number ≤ 200000) }
+{
+    match said {
         Ok(_) if number > STATEMENT_LIMIT => Err(Stop::Fault(SvfFault {
             statement: number,
             code: Code::TooLarge,
@@ -124,10 +164,12 @@ fn numbered(alloc: Global, number: usize, words: Lexer<'_>) -> Result<Statement,
     }
 }
 
-/// What the words of a statement say.
+/// What the words of a statement say, and where it is known the lexer behind them.
 #[tactic(auto, unfolding(crate::specs::Reading::statement_says))]
-fn statement(alloc: Global, words: Lexer<'_>) -> Result<Statement, Refusal>
-    ensures { Gives said_of result (statement_says (words_left words.entry)) }
+fn statement<'a>(alloc: Global, words: Lexer<'a>) -> Result<(Statement, Option<Lexer<'a>>), Refusal>
+    ensures says { Gives (λ p. said_of p.0) result (statement_says (words_left words.entry)) }
+    ensures rest { IfOk result
+        (λ p. IfSome p.1 (λ rest. Opened (groups_of (left words.entry)) (groups_of (left rest)))) }
 {
     let Some((word, rest)) = next_word(words) else {
         return Err(Refusal::Code(Code::UnknownCommand));
@@ -135,8 +177,11 @@ fn statement(alloc: Global, words: Lexer<'_>) -> Result<Statement, Refusal>
     let Some(command) = command_of(word) else {
         return Err(Refusal::Code(Code::UnknownCommand));
     };
-    match form_of(alloc, command, rest) {
-        Ok(Some(form)) => form_says(alloc, form),
+    match form_and_rest(alloc, command, rest) {
+        Ok(Some((form, behind))) => match form_says(alloc, form) {
+            Ok(said) => Ok((said, behind)),
+            Err(refusal) => Err(refusal),
+        },
         Ok(None) => Err(Refusal::Code(Code::BadForm)),
         Err(_) => Err(Refusal::Memory),
     }
@@ -148,6 +193,24 @@ fn lex_code(fault: LexFault) -> Code
     match fault {
         LexFault::BadByte(place) => Code::BadByte(place),
         LexFault::Unclosed(place) => Code::Unclosed(place),
+    }
+}
+
+/// The next statement's tokens, up to its `;`. Where the lexer behind its words is known, only what stands there is cut.
+fn group_at<'a>(lexer: Lexer<'a>, behind: Option<Lexer<'a>>) -> Group<'a>
+    requires { IfSome behind (λ rest. Opened (groups_of (left lexer)) (groups_of (left rest))) }
+    ensures { IsGroup result (groups_of (left lexer.entry)) }
+{
+    let Some(rest) = behind else {
+        return next_group(lexer);
+    };
+    let mut after = rest;
+    match after.next() {
+        Some(Ok(token)) => match token.kind {
+            Kind::Semi => Group::Words(after),
+            _ => next_group(lexer),
+        },
+        _ => next_group(lexer),
     }
 }
 

@@ -1,5 +1,7 @@
 use Rattle.std.proofs.Common.{◌≡◌, ◌+◌, ap, sym, length, arith}
 use Rattle.svf_words.specs.Words.{words_left}
+use Rattle.svf_lex.specs.Left.{left}
+use Rattle.svf_forms.proofs.NextWords.{behind_next}
 use Rattle.svf_forms.specs.Fields.{cut_at_close, runs}
 use Rattle.svf_forms.proofs.FieldLaws.{next_run, ended_runs, broken_runs, unended_runs}
 use Rattle.svf_forms.proofs.fields.runs.Goals as goal
@@ -18,8 +20,13 @@ loop-word-preserved c =
       rw c.in_ok-extend_from_slice.ensures.items
           (next_run c.loop-word.digits.items c.in-Some.word.now (words_left c.in-Some.after) (words_left c.loop-word.rest) (runs (cut_at_close (words_left c.args.words))) c.in-Some.ensures.word (sym c.if-is_close.ensures) (sym c.if-is_open.ensures) c.loop-word.invariant.0),
       omega (arith, shorter, c.loop-word.invariant.1),
+      behind_next (left c.args.words) c.loop-word.rest c.in-Some.after c.in-Some.word.now c.in-Some.ensures.word c.in-Some.ensures.after c.loop-word.invariant.2,
     )
 
 pub returns-clause-found : goal.returns-clause-found
 returns-clause-found c =
     unended_runs c.loop-word.digits.items (words_left c.loop-word.rest) (runs (cut_at_close (words_left c.args.words))) c.in_default.ensures.word c.loop-word.invariant.0
+
+pub returns-then-is_close-clause-behind : goal.returns-then-is_close-clause-behind
+returns-then-is_close-clause-behind c =
+    behind_next (left c.args.words) c.loop-word.rest c.in-Some.after c.in-Some.word.now c.in-Some.ensures.word c.in-Some.ensures.after c.loop-word.invariant.2

@@ -1,5 +1,7 @@
 use Rattle.std.proofs.Common.{◌≡◌, ◌≤◌, length}
 use Rattle.svf_words.specs.Words.{words_left}
+use Rattle.svf_lex.specs.Left.{left}
+use Rattle.svf_forms.specs.Behind.{Behind}
 use Rattle.svf_forms.specs.Fields.{cut_at_close, runs}
 use Rattle.svf_forms.proofs.FieldLaws.{with_digits}
 use Rattle.svf_forms.proofs.fields.runs.Given as goal
@@ -7,7 +9,7 @@ use Rattle.svf_forms.proofs.fields.runs.Given as goal
 abbrev pub invariant-loop-word : goal.invariant-loop-word
 invariant-loop-word l =
     (with_digits l.digits.items (runs (cut_at_close (words_left l.rest))) ≡ runs (cut_at_close (words_left l.words)))
-    × (length (words_left l.rest) ≤ length (words_left l.words))
+    × (length (words_left l.rest) ≤ length (words_left l.words)) × Behind (left l.words) (left l.rest)
 
 abbrev pub decreases-loop-word : goal.decreases-loop-word
 decreases-loop-word l = length (words_left l.rest)

@@ -1,7 +1,7 @@
 use Rattle.std.proofs.Common.{◌≡◌, nat_eq, List, length}
 use Rattle.svf_lex.specs.Left.{left}
 use Rattle.svf_words.specs.Words.{Word, groups_of}
-use Rattle.svf_parse.proofs.Grouping.{with_words}
+use Rattle.svf_forms.specs.Behind.{with_words}
 use Rattle.svf_parse.proofs.text.next_group.Given as goal
 
 abbrev pub invariant-loop-fault : goal.invariant-loop-fault
