@@ -98,6 +98,14 @@ const COMMANDS: [Command; 14] = [
     Command::PioMap,
 ];
 
+/// The commands that programs have most of, which are tried first.
+const FREQUENT: [Command; 4] = [
+    Command::Scan(Which::Sdr),
+    Command::Scan(Which::Sir),
+    Command::RunTest,
+    Command::State,
+];
+
 const FIELDS: [FieldName; 4] = [
     FieldName::Tdi,
     FieldName::Tdo,
@@ -123,7 +131,10 @@ trait Keyword: Copy {
 pub fn command_of(word: &[u8]) -> Option<Command>
     ensures { result ≡ spec.command_of word.now }
 {
-    first_read(&COMMANDS, word)
+    match first_read(&FREQUENT, word) {
+        Some(command) => Some(command),
+        None => first_read(&COMMANDS, word),
+    }
 }
 
 /// The name of a field that the word is, in any case, if it is one.
