@@ -5,7 +5,7 @@ use Rattle.std.proofs.lemmas.List.{take_all, drop_all, append-nil, get_or-drop, 
 use Rattle.std.proofs.lemmas.Option.{get_or_from_slice_get, unwrap_or-slice_get}
 use Rattle.jt_bits.specs.Words.{bit_of}
 use Rattle.bsdl_device.specs.declared.Cell.{Cell}
-use Rattle.boundary.specs.Cells.{capture_from, cell_captures, reset_from, reset_cell, disabling_value}
+use Rattle.boundary.specs.Cells.{capture_from, reset_from, reset_cell, disabling_value}
 
 pub capture-length : (cells : List Cell) (seen update core : List Bool) (from_update : Bool) → length seen ≡ length cells → length update ≡ length cells → length core ≡ length cells
     → length (capture_from cells seen from_update update core) ≡ length cells
@@ -23,27 +23,6 @@ reset-length all k [] us = refl
 reset-length all k (c ∷ cs) [] = refl
 reset-length all k (c ∷ cs) (u ∷ us) = let h = reset-length all (suc k) cs us in omega (arith, h)
 
--- the first i cells have captured
-pub captured_more : (cells : List Cell) (seen update core stage : List Bool) (f : Bool) (i : ℕ) (x : Cell) (s u c : Bool) → length seen ≡ length cells → length update ≡ length cells → length core ≡ length cells → length stage ≡ length cells
-    → i < length cells
-    → set (take i (capture_from cells seen f update core) ++ drop i stage) i (cell_captures (get_or seen i s) f (get_or update i u) (get_or core i c) (get_or cells i x).port (get_or cells i x).function)
-    ≡ take (suc i) (capture_from cells seen f update core) ++ drop (suc i) stage
-captured_more [] seen update core stage f i x s u c ls lu lc lt h = absurd (omega arith)
-captured_more (cell ∷ cells) [] update core stage f i x s u c ls lu lc lt h = absurd (omega arith)
-captured_more (cell ∷ cells) (a ∷ seen) [] core stage f i x s u c ls lu lc lt h = absurd (omega arith)
-captured_more (cell ∷ cells) (a ∷ seen) (b ∷ update) [] stage f i x s u c ls lu lc lt h = absurd (omega arith)
-captured_more (cell ∷ cells) (a ∷ seen) (b ∷ update) (d ∷ core) [] f i x s u c ls lu lc lt h = absurd (omega arith)
-captured_more (cell ∷ cells) (a ∷ seen) (b ∷ update) (d ∷ core) (t ∷ stage) f zero x s u c ls lu lc lt h = refl
-captured_more (cell ∷ cells) (a ∷ seen) (b ∷ update) (d ∷ core) (t ∷ stage) f (suc i) x s u c ls lu lc lt h =
-    ap (λ r. cell_captures a f b d cell.port cell.function ∷ r) (captured_more cells seen update core stage f i x s u c (omega arith) (omega arith) (omega arith) (omega arith) (omega arith))
-
-pub captured_all : (cells : List Cell) (seen update core stage : List Bool) (f : Bool) (i : ℕ) → length seen ≡ length cells → length update ≡ length cells → length core ≡ length cells → length stage ≡ length cells
-    → length cells ≤ i → take i (capture_from cells seen f update core) ++ drop i stage ≡ capture_from cells seen f update core
-captured_all cells seen update core stage f i ls lu lc lt h =
-    let long = capture-length cells seen update core f ls lu lc in
-    ap (λ (t : List Bool). t ++ drop i stage) (take_all i (capture_from cells seen f update core) (omega (arith, long)))
-    ∙ ap (λ (r : List Bool). capture_from cells seen f update core ++ r) (drop_all i stage (omega arith)) ∙ append-nil (capture_from cells seen f update core)
-
 -- the first i cells have been reset
 pub reset_more : (all : List Cell) (k j : ℕ) (cells : List Cell) (us : List Bool) (i : ℕ) (x : Cell) (u : Bool) → length us ≡ length cells → i < length cells → j ≡ k + i
     → set (take i (reset_from all k cells us) ++ drop i us) i (reset_cell all j (get_or cells i x).function (get_or us i u)) ≡ take (suc i) (reset_from all k cells us) ++ drop (suc i) us
@@ -60,22 +39,6 @@ pub none_named : (cells : List Cell) (bits : List Bool) (k : ℕ) → bits ≡ r
 none_named cells bits k is h =
     unwrap_or-slice_get bits k false ∙ ap (λ (l : List Bool). get_or l k false) is ∙ get_or-replicate (length cells) k false false h
     ∙ ap (disabling_value k) (sym (drop_all (length cells) cells (omega arith)))
-
-pub capture_step : (cells : List Cell) (seen update core stage now new : List Bool) (f : Bool) (i : ℕ) (x : Cell) (s u c bit : Bool) → length seen ≡ length cells → length update ≡ length cells → length core ≡ length cells → length stage ≡ length cells
-    → i < length cells → now ≡ take i (capture_from cells seen f update core) ++ drop i stage → new ≡ set now i bit → bit ≡ cell_captures s f u c (get_or cells i x).port (get_or cells i x).function
-    → slice_get seen i ≡ Some s → slice_get update i ≡ Some u → slice_get core i ≡ Some c → new ≡ take (i + 1) (capture_from cells seen f update core) ++ drop (i + 1) stage
-capture_step cells seen update core stage now new f i x s u c bit ls lu lc lt h so_far stored is a b d =
-    let next : i + 1 ≡ suc i = omega arith in
-    let all = capture_from cells seen f update core in
-    let q = (get_or cells i x).port in
-    let k = (get_or cells i x).function in
-    stored ∙ ap (λ (st : List Bool). set st i bit) so_far
-    ∙ ap (λ (y : Bool). set (take i all ++ drop i stage) i y)
-    (is ∙ ap (λ (y : Bool). cell_captures y f u c q k) (sym (get_or_from_slice_get seen i s s a))
-    ∙ ap (λ (y : Bool). cell_captures (get_or seen i s) f y c q k) (sym (get_or_from_slice_get update i u u b))
-    ∙ ap (λ (y : Bool). cell_captures (get_or seen i s) f (get_or update i u) y q k) (sym (get_or_from_slice_get core i c c d)))
-    ∙ captured_more cells seen update core stage f i x s u c ls lu lc lt h
-    ∙ ap (λ n. take n all ++ drop n stage) (sym next)
 
 -- the bit that is read while the cells below it have been reset
 pub still_there : (all : List Cell) (cells : List Cell) (us now : List Bool) (i : ℕ) (b : Bool) → length us ≡ length cells → i < length cells → now ≡ take i (reset_from all 0 cells us) ++ drop i us

@@ -9,7 +9,10 @@ ghost use Rattle.boundary.specs.Cells.{AreDisabling, AreDrivers, BoundaryValue, 
 ghost use Rattle.boundary.specs.Cells.{EntersDriver, IsWhole};
 ghost use Rattle.boundary.specs.Sight.{CapturesBySight};
 
+mod captures;
+
 use bsdl_device::{Cell, Control3, Disabled, Function};
+use captures::{Masks, capture_all, held_bits, masks_of, takes_update};
 use device_instructions::{Mode, SharedDevice};
 use device_registers::Register;
 use jt_bits::Bits;
@@ -18,10 +21,11 @@ use std::alloc::{AllocError, Global};
 use std::marker::Model;
 
 /// The cells of a device with what each was last told that its port sees, their core's bits, and the two lists of the
-/// register; beside them the disabling values that a reset gives.
+/// register; beside them the disabling values that a reset gives, and which cells capture what.
 #[derive(Drop)]
 pub struct Boundary {
     device: SharedDevice,
+    masks: Masks,
     disabling: Bits,
     core: Bits,
     extest_update: bool,
@@ -33,6 +37,7 @@ pub struct Boundary {
 impl Model for Boundary {
     ghost use Rattle.std.specs.Prelude.{◌≡◌, length};
     ghost use Rattle.boundary.specs.Cells.{AreDisabling, BoundaryValue};
+    ghost use Rattle.boundary.specs.Masks.{AreMasks};
 
     ghost Value = { BoundaryValue };
 
@@ -51,6 +56,7 @@ impl Model for Boundary {
       stage : length b.stage ≡ length b.device.cells;
       update : length b.update ≡ length b.device.cells;
       disabling : AreDisabling b.device.cells b.disabling;
+      masks : AreMasks b.device.cells b.masks.sighted b.masks.inner;
     } };
 }
 
@@ -84,15 +90,9 @@ impl Register for Boundary {
     }
 
     fn capture(&mut self, mode: Mode) {
-        let from_update = self.extest_update && matches!(mode, Mode::Extest);
-        capture_all(
-            self.device.get().cells(),
-            &self.core,
-            from_update,
-            &self.seen,
-            &self.update,
-            &mut self.stage,
-        );
+        let from_update = takes_update(self.extest_update, mode);
+        let held = held_bits(from_update, &self.update, &self.core);
+        capture_all(&self.masks, &self.seen, held, &self.core, &mut self.stage);
     }
 
     fn shift_in(&mut self, bit: bool) -> bool {
@@ -139,53 +139,6 @@ impl Register for Boundary {
     ghost sees_parts = { λ r cell bit s u. refl };
 
     ghost captured_part = { λ r mode i. taken_part r mode i };
-}
-
-/// Each cell of the stage takes what it captures.
-fn capture_all(
-    list: &[Cell],
-    core: &Bits,
-    from_update: bool,
-    seen: &Bits,
-    update: &Bits,
-    stage: &mut Bits,
-)
-    requires core { length core.now ≡ length list.now }
-    requires seen { length seen.now ≡ length list.now }
-    requires update { length update.now ≡ length list.now }
-    requires stage { length stage.old ≡ length list.now }
-    ensures { stage.new ≡ cells.capture_from list.now seen.now from_update update.now core.now }
-{
-    for k in 0..list.len() {
-        let bit = cell_captures(
-            seen.get(k),
-            from_update,
-            update.get(k),
-            core.get(k),
-            list[k].port,
-            list[k].function,
-        );
-        stage.set(k, bit);
-    }
-}
-
-/// What one cell captures.
-fn cell_captures(
-    seen: bool,
-    from_update: bool,
-    update: bool,
-    core: bool,
-    port: Option<usize>,
-    function: Function,
-) -> bool
-    ensures { result ≡ cells.cell_captures seen from_update update core port function }
-{
-    match (port, function) {
-        (Some(_), Function::Input | Function::Clock | Function::ObserveOnly | Function::Bidir) =>
-            seen,
-        (_, Function::Internal) => core,
-        _ => { if from_update { update } else { core } }
-    }
 }
 
 /// Once each cell with a port was told what its port sees, a capture is the board's.
@@ -259,8 +212,10 @@ impl Boundary {
         reset_all(device.get().cells(), &disabling, &mut update);
         let seen = Bits::zeros(alloc, core.len())?;
         let stage = Bits::zeros(alloc, core.len())?;
+        let masks = masks_of(alloc, device.get().cells())?;
         Ok(Boundary {
             device,
+            masks,
             disabling,
             core: core.try_clone(alloc)?,
             extest_update,

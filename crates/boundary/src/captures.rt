@@ -1,0 +1,89 @@
+//! What the cells of a boundary register capture, 64 of them at a time.
+
+ghost use Rattle.std.specs.Prelude.{◌≡◌, ◌<◌, ℕ, IfOk, if◌then◌else◌};
+ghost use Rattle.jt_bits.specs.Packed.{has_bit};
+ghost use Rattle.boundary.specs.Cells as cells;
+ghost use Rattle.boundary.specs.Masks.{AreMasks, CapturesEach, chosen, is_inner, is_sighted};
+
+use bsdl_device::{Cell, Function};
+use device_instructions::Mode;
+use jt_bits::Bits;
+use std::alloc::{AllocError, Global};
+
+/// Which cells capture what their port sees, and which their core's bit in every mode: a bit for each cell.
+#[derive(Drop)]
+pub(crate) struct Masks {
+    pub(crate) sighted: Bits,
+    pub(crate) inner: Bits,
+}
+
+/// The masks of these cells. Refuses for want of memory alone.
+pub(crate) fn masks_of(alloc: Global, list: &[Cell]) -> Result<Masks, AllocError>
+    ensures { IfOk result (λ m. AreMasks list.now m.sighted m.inner) }
+{
+    let mut sighted = Bits::zeros(alloc, list.len())?;
+    let mut inner = Bits::zeros(alloc, list.len())?;
+    for k in 0..list.len() {
+        let (sees, takes_core) = marks(list[k].port, list[k].function);
+        sighted.set(k, sees);
+        inner.set(k, takes_core);
+    }
+    Ok(Masks { sighted, inner })
+}
+
+/// Whether a cell captures what its port sees, and whether it captures its core's bit in every mode.
+fn marks(port: Option<usize>, function: Function) -> (bool, bool)
+    ensures sighted { result.0 ≡ is_sighted port function }
+    ensures inner { result.1 ≡ is_inner function }
+{
+    match (port, function) {
+        (Some(_), Function::Input | Function::Clock | Function::ObserveOnly | Function::Bidir) => (
+            true, false,
+        ),
+        (_, Function::Internal) => (false, true),
+        _ => (false, false),
+    }
+}
+
+/// Whether a capture in this mode takes the update stage: under EXTEST, on a device whose board file says so.
+pub(crate) fn takes_update(extest_update: bool, mode: Mode) -> bool
+    ensures { result ≡ cells.takes_update extest_update mode }
+{
+    extest_update && matches!(mode, Mode::Extest)
+}
+
+/// What an output or control cell captures: its update bit, or its core's.
+pub(crate) fn held_bits<'a>(from_update: bool, update: &'a Bits, core: &'a Bits) -> &'a Bits
+    ensures { result.now ≡ (if from_update then update.now else core.now) }
+{
+    if from_update { update } else { core }
+}
+
+/// Each cell of the stage takes what it captures.
+pub(crate) fn capture_all(masks: &Masks, seen: &Bits, held: &Bits, core: &Bits, stage: &mut Bits)
+    ensures { CapturesEach masks.now.sighted masks.now.inner seen.now held.now core.now stage.old stage.new }
+{
+    let len = stage.len();
+    let mut at = 0;
+    while at < len {
+        let n = (len - at).min(64);
+        let word = captured_word(
+            masks.sighted.word_at(at),
+            masks.inner.word_at(at),
+            seen.word_at(at),
+            held.word_at(at),
+            core.word_at(at),
+        );
+        stage.put_run(at, word, n);
+        at += n;
+    }
+}
+
+/// What 64 cells capture.
+fn captured_word(sighted: u64, inner: u64, seen: u64, held: u64, core: u64) -> u64
+    ensures { (j : ℕ) → j < 64 → has_bit result j
+        ≡ chosen (has_bit sighted j) (has_bit inner j) (has_bit seen j) (has_bit held j) (has_bit core j) }
+{
+    let unseen = held & !inner | core & inner;
+    seen & sighted | unseen & !sighted
+}
