@@ -1,5 +1,6 @@
 -- Which cells capture what their port sees and which their core's bit, as masks, and a capture by them.
-use Rattle.std.specs.Prelude.{◌≡◌, ◌<◌, Bool, true, false, ℕ, List, map, length, Option, Some}
+use Rattle.std.specs.Prelude.{◌≡◌, ◌<◌, Bool, true, false, ℕ, List, ◌∷◌, map, length, Option, Some, None}
+use Rattle.std.specs.Prelude.{if◌then◌else◌}
 use Rattle.jt_bits.specs.Words.{bit_of}
 use Rattle.bsdl_device.specs.declared.Cell.{Cell}
 use Rattle.bsdl_device.specs.declared.Function.{Function}
@@ -12,6 +13,16 @@ is_sighted (Some p) Clock = true
 is_sighted (Some p) ObserveOnly = true
 is_sighted (Some p) Bidir = true
 is_sighted port _ = false
+
+-- the port whose sight a cell captures
+abbrev pub sighted_port : Option ℕ → Function → Option ℕ
+sighted_port port function = if is_sighted port function then port else None
+
+-- each cell that captures what its port sees was told that
+abbrev pub SeesSighted : (ℕ → Bool) → List Cell → List Bool → Type 0
+SeesSighted sees (c ∷ cs) (s ∷ seen) =
+    (is_sighted c.port c.function ≡ true → (p : ℕ) → c.port ≡ Some p → s ≡ sees p) × SeesSighted sees cs seen
+SeesSighted sees _ _ = Unit {0}
 
 -- an internal cell captures its core bit in every mode
 abbrev pub is_inner : Function → Bool

@@ -3,7 +3,7 @@
 ghost use Rattle.std.specs.Prelude.{◌≡◌, ◌<◌, ℕ, IfOk, if◌then◌else◌};
 ghost use Rattle.jt_bits.specs.Packed.{has_bit};
 ghost use Rattle.boundary.specs.Cells as cells;
-ghost use Rattle.boundary.specs.Masks.{AreMasks, CapturesEach, chosen, is_inner, is_sighted};
+ghost use Rattle.boundary.specs.Masks.{AreMasks, CapturesEach, chosen, is_inner, is_sighted, sighted_port};
 
 use bsdl_device::{Cell, Function};
 use device_instructions::Mode;
@@ -43,6 +43,13 @@ fn marks(port: Option<usize>, function: Function) -> (bool, bool)
         (_, Function::Internal) => (false, true),
         _ => (false, false),
     }
+}
+
+/// The port of a cell that captures what its port sees; of any other cell none.
+pub fn sighted_port(port: Option<usize>, function: Function) -> Option<usize>
+    ensures { result ≡ sighted_port port function }
+{
+    if marks(port, function).0 { port } else { None }
 }
 
 /// Whether a capture in this mode takes the update stage: under EXTEST, on a device whose board file says so.

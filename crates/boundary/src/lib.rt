@@ -12,6 +12,7 @@ ghost use Rattle.boundary.specs.Sight.{CapturesBySight};
 mod captures;
 
 use bsdl_device::{Cell, Control3, Disabled, Function};
+pub use captures::sighted_port;
 use captures::{Masks, capture_all, held_bits, masks_of, takes_update};
 use device_instructions::{Mode, SharedDevice};
 use device_registers::Register;

@@ -1,5 +1,5 @@
 -- One device of the chain, edge by edge: the chip's edges are the meaning's.
-use Rattle.std.proofs.Common.{◌≡◌, ℕ, Bool, true, false, true≢false, List, Option, refl, ap, ◌∙◌}
+use Rattle.std.proofs.Common.{◌≡◌, ℕ, Bool, true, false, List, Option, refl, ap, ◌∙◌}
 use Rattle.jt_tap.specs.declared.Column.{Column}
 use Rattle.jt_tap.specs.declared.Column.TheVariants.{Dr, Ir}
 use Rattle.jt_tap.specs.declared.Work.{Work}
@@ -11,13 +11,14 @@ use Rattle.device_instructions.specs.declared.Mode.{Mode}
 use Rattle.device_instructions.specs.declared.Selected.{Selected}
 use Rattle.device_instructions.specs.declared.Selected.TheVariants.{Bypass, Identification, Boundary, User}
 use Rattle.scan_registers.specs.Chips.{surroundings_of, one_chip, with_registers}
-use Rattle.scan_registers.specs.Edges.{OneChip, after_fall, is_held, rise, after_rise}
+use Rattle.scan_registers.specs.Edges.{OneChip, is_held, rise, after_rise}
 use Rattle.device_instructions.specs.Instruction.{meaning}
 use Rattle.device_registers.specs.Registers.{Registers, Surroundings, capture_of, put, with_stage}
 use Rattle.device_registers.specs.Registers as chip_registers
 use Rattle.boundary.specs.Cells.{BoundaryValue, IsWhole, at_reset, captured_bits, drive_in, takes_update}
-use Rattle.boundary.specs.Sight.{SeesItsPorts, capture_by_sight}
-use Rattle.boundary.proofs.SightLaws.{captured_by_sight}
+use Rattle.boundary.specs.Masks.{SeesSighted}
+use Rattle.boundary.specs.Sight.{capture_by_sight}
+use Rattle.boundary.proofs.SightLaws.{captured_by_sighted}
 use Rattle.board_meaning.specs.Cells.{Member, drive, surroundings}
 use Rattle.board_meaning.specs.Chain as chain
 use Rattle.board_meaning.specs.Chain.{ChipState}
@@ -73,11 +74,11 @@ module _ (s : SeatValue) (cells : s.chip.boundary.cells ≡ s.chip.device.cells)
   abbrev now : OneChip
   now = one_chip stage update s.chip
 
-  captures-alike : (sees : ℕ → Bool) (mode : Mode) → IsWhole s.chip.boundary → SeesItsPorts sees s.chip.device.cells s.chip.boundary.seen
+  captures-alike : (sees : ℕ → Bool) (mode : Mode) → IsWhole s.chip.boundary → SeesSighted sees s.chip.device.cells s.chip.boundary.seen
       → captured_bits s.chip.boundary mode ≡ (surroundings sees (member_of s)).captures mode
   captures-alike sees mode whole told =
       let b = s.chip.boundary in
-      captured_by_sight sees (takes_update b.extest_update mode) b.update b.core 0 b.cells b.seen whole.seen whole.update whole.core (rw cells told)
+      captured_by_sighted sees (takes_update b.extest_update mode) b.update b.core 0 b.cells b.seen whole.seen whole.update whole.core (rw cells told)
       ∙ ap (λ (cs : List Cell). capture_by_sight sees (takes_update s.chip.boundary.extest_update mode) s.chip.boundary.update s.chip.boundary.core 0 cs) cells
 
   pub rises : (t : SeatValue) (sees : ℕ → Bool) (tms tdi : Bool)

@@ -9,7 +9,7 @@ use Rattle.pin_nets.specs.declared.Level.{Level}
 use Rattle.pin_nets.specs.declared.Pin.{Pin}
 use Rattle.pin_nets.specs.Levels.{level_of, pull_drive, reads}
 use Rattle.pin_nets.specs.Wired.{Net, joins}
-use Rattle.boundary.specs.Sight.{SeesItsPorts}
+use Rattle.boundary.specs.Masks.{SeesSighted, is_sighted}
 use Rattle.board_meaning.specs.Cells.{Member, drive}
 use Rattle.board_meaning.specs.Nets.{level, lone_net, pin_drive, sees}
 use Rattle.board_plan.specs.CellNets.{first_net}
@@ -86,8 +86,8 @@ seen_alone w place port ms m d at is first =
 -- ---- all cells
 
 pub told_all : (sees : ℕ → Bool) (cells : List Cell) (seen : List Bool)
-    → ((k : ℕ) (c : Cell) → slice_get cells k ≡ Some c → (p : ℕ) → c.port ≡ Some p → slice_get seen k ≡ Some (sees p)) → SeesItsPorts sees cells seen
+    → ((k : ℕ) (c : Cell) → slice_get cells k ≡ Some c → is_sighted c.port c.function ≡ true → (p : ℕ) → c.port ≡ Some p → slice_get seen k ≡ Some (sees p)) → SeesSighted sees cells seen
 told_all sees [] seen each = tt
 told_all sees (c ∷ cs) [] each = tt
 told_all sees (c ∷ cs) (s ∷ seen) each =
-    ((λ p port. ap (λ (o : Option Bool). unwrap_or o s) (each 0 c refl p port)), told_all sees cs seen (λ k x at p port. each (suc k) x at p port))
+    ((λ yes p port. ap (λ (o : Option Bool). unwrap_or o s) (each 0 c refl yes p port)), told_all sees cs seen (λ k x at yes p port. each (suc k) x at yes p port))

@@ -8,7 +8,7 @@ use Rattle.scan_registers.specs.Chips.{IsPut}
 use Rattle.device_instructions.specs.Instruction.{meaning}
 use Rattle.scan_registers.specs.Puts.{put_both, put_nothing}
 use Rattle.boundary.specs.Cells.{BoundaryValue, IsWhole}
-use Rattle.boundary.specs.Sight.{SeesItsPorts}
+use Rattle.boundary.specs.Masks.{SeesSighted}
 use Rattle.board_meaning.specs.Cells.{Member}
 use Rattle.board_meaning.specs.Chain.{ChipState}
 use Rattle.board_meaning.specs.Whole.{selected_bits_of}
@@ -18,10 +18,10 @@ use Rattle.chip_seats.specs.Seats.{SeatValue, captures_boundary, member_of}
 abbrev pub as_member : Member → ChipState → ChipState
 as_member m c = record { member = m; state = c.state; tdo = c.tdo }
 
--- if the column's capture is of the boundary register, each cell with a port was told what its port sees
+-- if the column's capture is of the boundary register, each cell that captures what its port sees was told that
 abbrev pub IsSightedFor : Column → (ℕ → Bool) → SeatValue → Type 0
 IsSightedFor column sees s = captures_boundary (Captures column) (meaning s.chip.device s.chip.latch).selected ≡ true
-    → IsWhole s.chip.boundary × SeesItsPorts sees s.chip.device.cells s.chip.boundary.seen
+    → IsWhole s.chip.boundary × SeesSighted sees s.chip.device.cells s.chip.boundary.seen
 
 -- ---- a device as a link
 

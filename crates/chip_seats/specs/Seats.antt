@@ -14,7 +14,7 @@ use Rattle.device_instructions.specs.declared.Selected.TheVariants.{Boundary}
 use Rattle.scan_registers.specs.Chips.{ChipValue, registers}
 use Rattle.device_instructions.specs.Instruction.{meaning}
 use Rattle.boundary.specs.Cells.{BoundaryValue, IsWhole}
-use Rattle.boundary.specs.Sight.{SeesItsPorts}
+use Rattle.boundary.specs.Masks.{SeesSighted}
 use Rattle.board_meaning.specs.Cells.{Member, drive}
 use Rattle.board_meaning.specs.Chain.{ChipState}
 
@@ -62,10 +62,10 @@ abbrev pub captures_boundary : Work → Selected → Bool
 captures_boundary (Captures Dr) Boundary = true
 captures_boundary _ _ = false
 
--- if it does, each cell with a port was told what its port sees
+-- if it does, each cell that captures what its port sees was told that
 abbrev pub IsSighted : (ℕ → Bool) → SeatValue → Type 0
 IsSighted sees s = captures_boundary (work s.chip.state) (meaning s.chip.device s.chip.latch).selected ≡ true
-    → IsWhole s.chip.boundary × SeesItsPorts sees s.chip.device.cells s.chip.boundary.seen
+    → IsWhole s.chip.boundary × SeesSighted sees s.chip.device.cells s.chip.boundary.seen
 
 -- whether an update of the column, by a device in this mode with this register selected, may change the bits that drive
 abbrev pub updates_driving : Column → Selected → Mode → Bool

@@ -1,7 +1,7 @@
 -- How the cells of a device are told what their ports see.
-use Rattle.std.specs.Prelude.{◌≡◌, ℕ, Bool, List, map, slice_get, Some}
+use Rattle.std.specs.Prelude.{◌≡◌, ℕ, Bool, true, List, map, slice_get, Some}
 use Rattle.bsdl_device.specs.declared.Cell.{Cell}
-use Rattle.boundary.specs.Sight.{SeesItsPorts}
+use Rattle.boundary.specs.Masks.{SeesSighted, is_sighted}
 use Rattle.board_plan.specs.Planned.{all_pins}
 use Rattle.board_meaning.specs.Cells.{Member}
 use Rattle.board_meaning.specs.Nets.{pin_drive, sees}
@@ -20,13 +20,14 @@ pub record IsAt (w : WiringValue) (place : ℕ) (ms : List Member) (s : SeatValu
 abbrev pub sight : WiringValue → List Member → ℕ → ℕ → Bool
 sight w ms place = sees w.nets ms place
 
--- a cell with a port was told what the port sees
+-- a cell that captures what its port sees was told that
 abbrev pub TellsCell : WiringValue → ℕ → SeatValue → SeatValue → Type 0
 TellsCell w k old new = (place : ℕ) (ms : List Member) → IsAt w place ms old
     → (c : Cell) → slice_get old.chip.device.cells k ≡ Some c
-    → (p : ℕ) → c.port ≡ Some p → slice_get new.chip.boundary.seen k ≡ Some (sight w ms place p)
+    → is_sighted c.port c.function ≡ true → (p : ℕ) → c.port ≡ Some p
+    → slice_get new.chip.boundary.seen k ≡ Some (sight w ms place p)
 
 -- each was
 abbrev pub TellsAll : WiringValue → SeatValue → SeatValue → Type 0
 TellsAll w old new = (place : ℕ) (ms : List Member) → IsAt w place ms old
-    → SeesItsPorts (sight w ms place) old.chip.device.cells new.chip.boundary.seen
+    → SeesSighted (sight w ms place) old.chip.device.cells new.chip.boundary.seen

@@ -22,7 +22,7 @@ mod at_rest;
 
 use board_plan::PlannedDevice;
 use board_wiring::Wiring;
-use boundary::{Boundary, Drive, drivers};
+use boundary::{Boundary, Drive, drivers, sighted_port};
 use bsdl_device::Device;
 use jt_bits::Bits;
 use jt_tap::{Column, State, Work};
@@ -201,7 +201,7 @@ impl Seat {
         self.chip.boundary().cells().len()
     }
 
-    /// Cell `k` is told what its port sees, if it has one.
+    /// Cell `k` is told what its port sees, if it captures that.
     fn tell_cell(&mut self, k: usize, wiring: &Wiring)
         requires cell { k < length self.old.chip.device.cells }
         requires below { AreBelow (length wiring.now.nets) self.old.nets }
@@ -211,8 +211,8 @@ impl Seat {
             → slice_get self.new.chip.boundary.seen j ≡ slice_get self.old.chip.boundary.seen j }
         ensures told { TellsCell wiring.now k self.old self.new }
     {
-        let cell = self.chip.boundary().cells()[k];
-        if let Some(port) = cell.port {
+        let list = self.chip.boundary().cells();
+        if let Some(port) = sighted_port(list[k].port, list[k].function) {
             let bit = self.sight(k, port, wiring);
             self.chip.see(k, bit);
         }
@@ -232,7 +232,7 @@ impl Seat {
         }
     }
 
-    /// Each cell with a port is told what the port sees.
+    /// Each cell that captures what its port sees is told that.
     fn tell(&mut self, wiring: &Wiring)
         requires below { AreBelow (length wiring.now.nets) self.old.nets }
         ensures same { self.new ≡ with_seen self.new.chip.boundary.seen self.old }

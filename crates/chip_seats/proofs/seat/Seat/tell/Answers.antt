@@ -8,4 +8,4 @@ pub returns-clause-told : goal.returns-clause-told
 returns-clause-told c = λ place ms at.
     let cells = c.args.self.now.chip.device.cells in
     told_all (sight c.args.wiring.now ms place) cells c.loop-k.self.chip.boundary.seen
-    (λ k x here p port. c.loop-k.invariant.told place ms at k (omega (arith, slice_get_within cells k x here, c.cells-k-end.ensures.count, c.loop-k-test.false)) x here p port)
+    (λ k x here yes p port. c.loop-k.invariant.told place ms at k (omega (arith, slice_get_within cells k x here, c.cells-k-end.ensures.count, c.loop-k-test.false)) x here yes p port)

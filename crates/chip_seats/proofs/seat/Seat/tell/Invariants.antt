@@ -1,5 +1,6 @@
-use Rattle.std.proofs.Common.{◌≡◌, ◌<◌, ℕ, Some, List, length, slice_get}
+use Rattle.std.proofs.Common.{◌≡◌, ◌<◌, ℕ, true, Some, List, length, slice_get}
 use Rattle.bsdl_device.specs.declared.Cell.{Cell}
+use Rattle.boundary.specs.Masks.{is_sighted}
 use Rattle.board_meaning.specs.Cells.{Member}
 use Rattle.chip_seats.specs.Seats.{with_seen}
 use Rattle.chip_seats.specs.Telling.{IsAt, sight}
@@ -11,5 +12,5 @@ invariant-loop-k l = record {
   long : length l.self.chip.boundary.seen ≡ length l.initial.self.chip.boundary.seen;
   told : (place : ℕ) (ms : List Member) → IsAt l.wiring place ms l.initial.self → (j : ℕ) → j < l.k
       → (c : Cell) → slice_get l.initial.self.chip.device.cells j ≡ Some c
-      → (p : ℕ) → c.port ≡ Some p → slice_get l.self.chip.boundary.seen j ≡ Some (sight l.wiring ms place p);
+      → is_sighted c.port c.function ≡ true → (p : ℕ) → c.port ≡ Some p → slice_get l.self.chip.boundary.seen j ≡ Some (sight l.wiring ms place p);
 }
