@@ -3,3 +3,4 @@ pub mod DriveLaws
 pub mod PutLaws
 pub mod TellLaws
 pub mod BuildLaws
+pub mod SameLaws

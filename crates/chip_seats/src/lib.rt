@@ -3,6 +3,7 @@
 #![tactic(auto)]
 
 mod build;
+mod same;
 mod seat;
 mod wires;
 

@@ -13,6 +13,7 @@ ghost use Rattle.jt_tap.specs.declared.Work.TheVariants.{Captures};
 ghost use Rattle.device_instructions.specs.Instruction.{meaning};
 
 use super::Seat;
+use crate::same::same_bits;
 use board_wiring::Wiring;
 use jt_tap::{Column, State};
 use scan_registers::{Link, Mode, Selected};
@@ -97,6 +98,16 @@ impl Seat {
             && matches!(self.chip.mode(), Mode::Extest | Mode::Clamp)
     }
 
+    /// Whether an update of the boundary register would change its update stage.
+    fn boundary_differs(&self) -> bool
+        ensures { result ≡ false → self.now.chip.boundary.stage ≡ self.now.chip.boundary.update }
+    {
+        let boundary = self.chip.boundary();
+        // That both are as long as the cells.
+        let _ = boundary.cells();
+        !same_bits(boundary.stage(), boundary.update_stage())
+    }
+
     /// The column's register updates. Answers whether what a pin drives may have changed.
     pub fn update_anew(&mut self, column: Column) -> bool
         ensures kept { IsKept self.old self.new }
@@ -106,9 +117,27 @@ impl Seat {
         ensures still { result ≡ false → DrivesStill (member_of self.old) (member_of self.new) }
     {
         let mode = self.chip.mode();
-        let driving = self.updates_driving(column);
+        let driving = self.changes_driving(column);
         self.update(column);
-        driving || self.chip.mode() != mode
+        driving || !self.is_in(mode)
+    }
+
+    /// Whether an update of the column would change the bits that drive the pins.
+    fn changes_driving(&self, column: Column) -> bool
+        ensures { result ≡ false
+            → updates_driving column (meaning self.now.chip.device self.now.chip.latch).selected
+            (meaning self.now.chip.device self.now.chip.latch).mode
+            ≡ true
+            → self.now.chip.boundary.stage ≡ self.now.chip.boundary.update }
+    {
+        self.updates_driving(column) && self.boundary_differs()
+    }
+
+    /// Whether its instruction drives the pins in this mode.
+    fn is_in(&self, mode: Mode) -> bool
+        ensures { result ≡ true → (meaning self.now.chip.device self.now.chip.latch).mode ≡ mode }
+    {
+        self.chip.mode() == mode
     }
 
     /// The instruction and the boundary register are reset.
