@@ -2,4 +2,5 @@ pub mod Bares
 pub mod FormedLaws
 pub mod TextLaws
 pub mod RestLaws
+pub mod Idling
 pub mod InUse

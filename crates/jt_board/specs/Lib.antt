@@ -1,4 +1,5 @@
 pub mod FromText
+pub mod Idling
 pub mod InUse
 pub mod Laws
 pub mod Made

@@ -12,6 +12,7 @@ ghost use Rattle.chip_seats.specs.Building.{IsReady};
 ghost use Rattle.jt_board.specs.Made.{IsSoundWiring, board_at, board_of};
 
 mod at_rest;
+mod idle;
 
 use bare_boards::bare_plan;
 use bitbang_table::Message;
