@@ -1,7 +1,7 @@
 //! One device at its place in the chain.
 
-ghost use Rattle.std.specs.Prelude.{◌≡◌, ◌≢◌, ◌<◌, ℕ, Bool, false, List, [], ◌∷◌, length, slice_get, Some, None, option_map};
-ghost use Rattle.std.specs.Prelude.{if◌then◌else◌, IfOk};
+ghost use Rattle.std.specs.Prelude.{◌≡◌, ◌≢◌, ◌<◌, ℕ, Bool, false, List, [], ◌∷◌, length, slice_get, Some, None};
+ghost use Rattle.std.specs.Prelude.{option_map, if◌then◌else◌, IfOk};
 ghost use Rattle.jt_tap.specs.Controller.{work};
 ghost use Rattle.device_instructions.specs.Fitting.{IsFormed, has_code};
 ghost use Rattle.device_instructions.specs.Instruction.{instruction, meaning};

@@ -196,7 +196,8 @@ fn lex_code(fault: LexFault) -> Code
     }
 }
 
-/// The next statement's tokens, up to its `;`. Where the lexer behind its words is known, only what stands there is cut.
+/// The next statement's tokens, up to its `;`. Where the lexer behind its words is known, only what stands there is
+/// cut.
 fn group_at<'a>(lexer: Lexer<'a>, behind: Option<Lexer<'a>>) -> Group<'a>
     requires { IfSome behind (λ rest. Opened (groups_of (left lexer)) (groups_of (left rest))) }
     ensures { IsGroup result (groups_of (left lexer.entry)) }

@@ -11,9 +11,9 @@ use super::Board;
 use jt_tap::State;
 
 impl Board {
-    /// Takes as many of the first of these bytes as write TMS low, where every device rests in IDLE or in a pause and TRST
-    /// is released: they change nothing but the level of TCK, and none of them has an answer (IEEE Std 1149.1-2001,
-    /// clause 6). Elsewhere it takes none. Answers how many.
+    /// Takes as many of the first of these bytes as write TMS low, where every device rests in IDLE or in a pause and
+    /// TRST is released: they change nothing but the level of TCK, and none of them has an answer (IEEE Std
+    /// 1149.1-2001, clause 6). Elsewhere it takes none. Answers how many.
     ///
     /// The board is as `byte` leaves it after each of them.
     pub fn idle(&mut self, bytes: &[u8]) -> usize
