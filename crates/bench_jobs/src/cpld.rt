@@ -46,7 +46,7 @@ pub fn run(alloc: Global, seed: u32, rounds: u32) -> Result<u64, AllocError> {
     for round in 0..rounds {
         let mut numbers = Numbers::of(seed, JOB, round);
         let text = program(alloc, &mut numbers, ROWS, RUNTEST)?;
-        if let Some(mut board) = board(alloc)? {
+        if let Some(mut board) = board(alloc, &mut numbers)? {
             let run = if round % 4 == 3 {
                 Run::Check
             } else {
@@ -132,7 +132,7 @@ fn add_bits(text: &mut Text, high: u64, low: u64) -> Result<(), AllocError> {
 }
 
 /// A board of the device alone.
-pub fn board(alloc: Global) -> Result<Option<Board>, AllocError> {
+pub fn board(alloc: Global, numbers: &mut Numbers) -> Result<Option<Board>, AllocError> {
     let mut device = Text::with_room(alloc, 4096)?;
     wired::add_head(&mut device)?;
     wired::add_vector(&mut device, "Q", "out", 8)?;
@@ -143,5 +143,6 @@ pub fn board(alloc: Global) -> Result<Option<Board>, AllocError> {
     wired::add_tail(&mut device)?;
     let mut board = Text::with_room(alloc, 256)?;
     wired::add_device(&mut board, 1)?;
+    wired::add_core(&mut board, numbers, 8)?;
     Ok(wired::board_of(alloc, &board, &device))
 }

@@ -117,11 +117,8 @@ fn add_device(
     board.add_number(number)?;
     board.add("\"\nbsdl = \"")?;
     board.add(file_name)?;
-    board.add("\"\ncore = \"")?;
-    for _ in 0..PORTS {
-        board.add(if numbers.below(2) == 0 { "0" } else { "1" })?;
-    }
-    board.add("\"\n")
+    board.add("\"\n")?;
+    wired::add_core(board, numbers, PORTS)
 }
 
 /// Adds the nets: an output of each device on an input of the next.

@@ -30,7 +30,7 @@ pub fn run(alloc: Global, seed: u32, rounds: u32) -> Result<u64, AllocError> {
     for round in 0..rounds {
         let mut numbers = Numbers::of(seed, JOB, round);
         let text = program(alloc, &mut numbers)?;
-        if let Some(mut board) = board(alloc)? {
+        if let Some(mut board) = board(alloc, &mut numbers)? {
             add_run(alloc, &mut digest, Run::Play, text.bytes(), &mut board);
         }
     }
@@ -63,7 +63,7 @@ fn program(alloc: Global, numbers: &mut Numbers) -> Result<Text, AllocError> {
 }
 
 /// A board of four devices without nets.
-fn board(alloc: Global) -> Result<Option<Board>, AllocError> {
+fn board(alloc: Global, numbers: &mut Numbers) -> Result<Option<Board>, AllocError> {
     let mut device = Text::with_room(alloc, 4096)?;
     wired::add_head(&mut device)?;
     wired::add_vector(&mut device, "Q", "out", 8)?;
@@ -75,6 +75,7 @@ fn board(alloc: Global) -> Result<Option<Board>, AllocError> {
     let mut board = Text::with_room(alloc, 256)?;
     for number in 0..DEVICES {
         wired::add_device(&mut board, number)?;
+        wired::add_core(&mut board, numbers, 8)?;
     }
     Ok(wired::board_of(alloc, &board, &device))
 }

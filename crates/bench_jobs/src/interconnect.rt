@@ -35,7 +35,7 @@ pub fn run(alloc: Global, seed: u32, rounds: u32) -> Result<u64, AllocError> {
         let mut numbers = Numbers::of(seed, JOB, round);
         let fails = round % 2 == 1;
         let text = program(alloc, &mut numbers, SCANS, fails)?;
-        if let Some(mut board) = board(alloc)? {
+        if let Some(mut board) = board(alloc, &mut numbers)? {
             let run = if fails { Run::PlayAll } else { Run::Play };
             add_run(alloc, &mut digest, run, text.bytes(), &mut board);
         }
@@ -107,7 +107,7 @@ fn add_wanted(
 }
 
 /// The ring.
-pub fn board(alloc: Global) -> Result<Option<Board>, AllocError> {
+pub fn board(alloc: Global, numbers: &mut Numbers) -> Result<Option<Board>, AllocError> {
     let mut device = Text::with_room(alloc, 32768)?;
     wired::add_head(&mut device)?;
     wired::add_vector(&mut device, "D", "in", BUS)?;
@@ -121,6 +121,7 @@ pub fn board(alloc: Global) -> Result<Option<Board>, AllocError> {
     let mut board = Text::with_room(alloc, 131_072)?;
     for number in 0..DEVICES {
         wired::add_device(&mut board, number)?;
+        wired::add_core(&mut board, numbers, 2 * BUS)?;
     }
     for number in 0..DEVICES {
         for i in 0..BUS {

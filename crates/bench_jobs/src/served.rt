@@ -25,14 +25,14 @@ pub fn run(alloc: Global, seed: u32, rounds: u32) -> Result<u64, AllocError> {
     for round in 0..rounds {
         let mut numbers = Numbers::of(seed, JOB, round);
         let text = interconnect::program(alloc, &mut numbers, SCANS, false)?;
-        if let Some(first) = interconnect::board(alloc)? {
-            if let Some(second) = interconnect::board(alloc)? {
+        if let Some(first) = interconnect::board(alloc, &mut numbers)? {
+            if let Some(second) = interconnect::board(alloc, &mut numbers)? {
                 add_served(alloc, &mut digest, &mut numbers, &text, first, second);
             }
         }
         let text = cpld::program(alloc, &mut numbers, ROWS, cpld::RUNTEST)?;
-        if let Some(first) = cpld::board(alloc)? {
-            if let Some(second) = cpld::board(alloc)? {
+        if let Some(first) = cpld::board(alloc, &mut numbers)? {
+            if let Some(second) = cpld::board(alloc, &mut numbers)? {
                 add_served(alloc, &mut digest, &mut numbers, &text, first, second);
             }
         }

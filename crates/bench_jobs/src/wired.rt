@@ -1,5 +1,6 @@
 //! Descriptions of devices, and board files.
 
+use crate::numbers::Numbers;
 use crate::texts::Text;
 use jt_player::Board;
 use std::alloc::{AllocError, Global};
@@ -82,6 +83,15 @@ pub fn add_device(text: &mut Text, number: usize) -> Result<(), AllocError> {
     text.add("[[device]]\nname = \"U")?;
     text.add_number(number)?;
     text.add("\"\nbsdl = \"w\"\n")
+}
+
+/// Adds a core for so many cells to the device that was added last, so that no two boards are the same.
+pub fn add_core(text: &mut Text, numbers: &mut Numbers, cells: usize) -> Result<(), AllocError> {
+    text.add("core = \"")?;
+    for _ in 0..cells {
+        text.add(if numbers.below(2) == 0 { "0" } else { "1" })?;
+    }
+    text.add("\"\n")
 }
 
 /// Begins a net, `N` and its number.
