@@ -6,4 +6,3 @@ pub mod Heft
 pub mod Lines
 pub mod Parts
 pub mod Steps
-pub mod Tables

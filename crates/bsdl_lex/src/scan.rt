@@ -7,30 +7,7 @@ ghost use Rattle.bsdl_lex.specs.Scanning.{cuts_from};
 ghost use Rattle.bsdl_lex.specs.Left.{end_of};
 
 use crate::{Kind, Token};
-use memchr::{memchr2, memchr3};
-
-/// Each byte of a word, behind its first, stands at its own place, and a comma at every other place: a look-up where
-/// tests of ranges would be branches that no processor foretells.
-const WORD_BYTES: [u8; 256] = *b"\
-    ,,,,,,,,,,,,,,,,,,,,,,,,,,,,,,,,\
-    ,,,,,,,,,,,,,,,,0123456789,,,,,,\
-    ,ABCDEFGHIJKLMNOPQRSTUVWXYZ,,,,_\
-    ,abcdefghijklmnopqrstuvwxyz,,,,,\
-    ,,,,,,,,,,,,,,,,,,,,,,,,,,,,,,,,\
-    ,,,,,,,,,,,,,,,,,,,,,,,,,,,,,,,,\
-    ,,,,,,,,,,,,,,,,,,,,,,,,,,,,,,,,\
-    ,,,,,,,,,,,,,,,,,,,,,,,,,,,,,,,,";
-
-/// The same of the bytes of a number.
-const NUMBER_BYTES: [u8; 256] = *b"\
-    ,,,,,,,,,,,,,,,,,,,,,,,,,,,,,,,,\
-    ,,,,,,,,,,,,,,.,0123456789,,,,,,\
-    ,ABCDEFGHIJKLMNOPQRSTUVWXYZ,,,,_\
-    ,abcdefghijklmnopqrstuvwxyz,,,,,\
-    ,,,,,,,,,,,,,,,,,,,,,,,,,,,,,,,,\
-    ,,,,,,,,,,,,,,,,,,,,,,,,,,,,,,,,\
-    ,,,,,,,,,,,,,,,,,,,,,,,,,,,,,,,,\
-    ,,,,,,,,,,,,,,,,,,,,,,,,,,,,,,,,";
+use memchr::memchr2;
 
 /// What the first byte of a text begins, and how many bytes that has behind it.
 #[derive(Clone, Copy)]
@@ -117,7 +94,7 @@ fn within_len(text: &[u8]) -> usize
     ensures value { result ≡ prefix_len bytes.is_within text.now }
     ensures within { result ≤ length text.now }
 {
-    memchr3(b'"', b'\n', b'\r', text).unwrap_or(text.len())
+    text.iter().take_while(|byte| is_within(**byte)).count()
 }
 
 /// How many bytes stand before the next line feed or carriage return, or before the end.
@@ -144,14 +121,20 @@ fn number_len(text: &[u8]) -> usize
     text.iter().take_while(|byte| is_number(**byte)).count()
 }
 
+fn is_within(byte: u8) -> bool
+    ensures { result ≡ bytes.is_within byte }
+{
+    !matches!(byte, b'"' | b'\n' | b'\r')
+}
+
 fn is_word(byte: u8) -> bool
     ensures { result ≡ bytes.is_word byte }
 {
-    WORD_BYTES[byte as usize] != b','
+    byte.is_ascii_alphanumeric() || byte == b'_'
 }
 
 fn is_number(byte: u8) -> bool
     ensures { result ≡ bytes.is_number byte }
 {
-    NUMBER_BYTES[byte as usize] != b','
+    byte.is_ascii_alphanumeric() || matches!(byte, b'_' | b'.')
 }
