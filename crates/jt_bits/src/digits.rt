@@ -101,8 +101,8 @@ fn digit_has_one_beyond(digit: u8, n: usize) -> bool
     n < 4 && !is_white(digit) && four_bits(digit).iter().skip(n).any(|bit| *bit)
 }
 
-/// Whether a text is hexadecimal digits alone, with no white space between them. Looks a piece beyond the first byte that
-/// is none at most.
+/// Whether a text is hexadecimal digits alone, with no white space between them. Looks at most a piece beyond the first
+/// byte that is none.
 pub fn is_hexadecimal(text: &[u8]) -> bool
     ensures { result ≡ list_all is_ascii_hexdigit text.now }
 {
