@@ -1,1 +1,2 @@
+pub mod DistinctLaws
 pub mod SpotLaws

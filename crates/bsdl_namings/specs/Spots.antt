@@ -3,7 +3,7 @@ use Rattle.std.specs.Prelude.{ℕ, Bool, false, ◌&&◌, List, Option, Some, No
 use Rattle.std.specs.List.{list_any}
 use Rattle.bsdl_text.specs.Words.{upper}
 use Rattle.bsdl_namings.specs.declared.naming.Spot.{Spot}
-use Rattle.bsdl_namings.specs.Namings.{stands_before, Naming, earlier}
+use Rattle.bsdl_namings.specs.Namings.{stands_before, Naming, earlier, is_repeated}
 
 -- there is a place, and it stands before this one
 abbrev pub begins_before : Option Spot → Spot → Bool
@@ -21,3 +21,11 @@ is_named_before all q s = list_any (λ n. is_naming n q s) all
 abbrev pub either : Option Naming → Option Naming → Option Naming
 either None o = o
 either (Some n) o = Some (earlier n o)
+
+-- one of them has this name, in upper case
+abbrev pub is_named : List Naming → List ℕ → Bool
+is_named all q = list_any (λ n. bytes_eq (upper n.name) q) all
+
+-- one of them has a name that stands before it
+abbrev pub has_repeated : List Naming → Bool
+has_repeated all = list_any (is_repeated all) all

@@ -1,14 +1,15 @@
 //! Names at their places, and the first that is given again.
-ghost use Rattle.std.specs.Prelude.{◌≡◌, ◌||◌, ℕ, List, map, option_map, IfOk, OnOk};
+ghost use Rattle.std.specs.Prelude.{◌≡◌, ◌||◌, ℕ, List, true, false, bytes_eq, map, not, option_map, IfOk, OnOk};
 ghost use Rattle.std.specs.BTreeMap.{get_by_text};
-ghost use Rattle.bsdl_namings.specs.Spots.{begins_before, either, is_naming, is_named_before};
+ghost use Rattle.std.specs.BTreeSet.{contains_text};
+ghost use Rattle.bsdl_namings.specs.Spots.{begins_before, either, has_repeated, is_naming, is_named_before};
 ghost use Rattle.bsdl_namings.specs.Namings as spec;
 ghost use Rattle.bsdl_text.specs.Words.{upper};
 ghost use Rattle.bsdl_namings.specs.View.{again, naming};
 
 use bsdl_text::names::Word;
 use std::alloc::{AllocError, Global};
-use std::collections::BTreeMap;
+use std::collections::{BTreeMap, BTreeSet};
 
 /// The place of a name: that of a token of the text, or that of the first quote of a text within quotes and the byte
 /// within it.
@@ -86,6 +87,9 @@ pub fn earlier_again(one: Option<Again>, other: Option<Again>) -> Option<Again>
 pub fn first_again(alloc: Global, names: &[Naming<'_>]) -> Result<Option<Again>, AllocError>
     ensures { IfOk result (λ o. option_map again o ≡ spec.earliest (spec.repeated (map naming names.now))) }
 {
+    if are_distinct(alloc, names)? {
+        return Ok(None);
+    }
     match first_repeat(alloc, names)? {
         Some(found) => {
             let name = found.name.spelling(alloc)?;
@@ -94,6 +98,34 @@ pub fn first_again(alloc: Global, names: &[Naming<'_>]) -> Result<Option<Again>,
         }
         None => Ok(None),
     }
+}
+
+/// Whether no two of these have the same name, in any case.
+fn are_distinct(alloc: Global, names: &[Naming<'_>]) -> Result<bool, AllocError>
+    ensures { IfOk result (λ b. b ≡ true → has_repeated (map naming names.now) ≡ false) }
+{
+    let mut known = BTreeSet::new(alloc);
+    for found in names {
+        if !add_key(alloc, &mut known, *found)? {
+            return Ok(false);
+        }
+    }
+    Ok(true)
+}
+
+/// Adds a name in upper case. Answers whether it was not there yet.
+fn add_key(
+    alloc: Global,
+    known: &mut BTreeSet<String>,
+    found: Naming<'_>,
+) -> Result<bool, AllocError>
+    ensures new { IfOk result (λ b. b ≡ not (contains_text known.old (upper found.entry.name.text.now))) }
+    ensures known { OnOk result ((q : List ℕ) → contains_text known.new q
+        ≡ contains_text known.old q || bytes_eq (upper found.entry.name.text.now) q) }
+{
+    let key = found.name.upper_name(alloc)?;
+    let is_new = known.insert(key)?;
+    Ok(is_new)
 }
 
 /// The first place of each name, in upper case.
