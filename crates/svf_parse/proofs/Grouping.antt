@@ -1,5 +1,5 @@
 -- The statements of a text, one group after another.
-use Rattle.std.proofs.Common.{◌≡◌, ℕ, suc, ◌+◌, ◌<◌, ◌≤◌, nat_eq, nat_lt, length-append, Bool, true, false, List, [], ◌∷◌, ◌++◌, length, map, Option, Some, None, Result, Ok, Err, refl, sym, ap, ◌∙◌, append_assoc, arith}
+use Rattle.std.proofs.Common.{◌≡◌, ℕ, suc, ◌+◌, ◌<◌, ◌≤◌, nat_lt, true, false, List, [], ◌∷◌, ◌++◌, length, map, Option, Some, None, Result, Ok, Err, refl, sym, ap, ◌∙◌, append_assoc, arith}
 use Rattle.std.proofs.lemmas.List.{append-nil, map-append}
 use Rattle.std.proofs.lemmas.Bool.Decides.{nat_tests}
 use Rattle.svf_lex.specs.declared.Kind.{Kind}
@@ -72,12 +72,6 @@ pub at_broken : (front : List Said) (n : ℕ) (ws : List Word) (e : LexFault) �
 unfolding groups_say
 at_broken front n ws e = refl
 
-filled : (n : ℕ) → nat_eq (suc n) 0 ≡ false
-filled n = grind (arith, nat_tests)
-
-more_test : (n : ℕ) → nat_eq (n + 1) 0 ≡ false
-more_test n = grind (arith, nat_tests)
-
 -- ---- one token more of a group that began at `start`
 
 abbrev Items : Type 0
@@ -96,7 +90,7 @@ pub at_semi : (start items more : Items) (ws : List Word) (k : Kind) (text : Lis
 at_semi start items more ws k text place so_far split is =
     so_far ∙ ap (λ (xs : Items). with_words ws (groups_of xs)) split ∙ ap (λ (j : Kind). with_words ws (with_token j text (groups_of more))) is ∙ with_words-group ws [] (groups_of more) ∙ ap (λ (xs : List Word). group xs (groups_of more)) (append-nil ws)
 
-other_token : (k : Kind) (text : List ℕ) (groups : Groups) → (k ≡ kind.Semi → ⊥) → with_token k text groups ≡ with_word text groups
+pub other_token : (k : Kind) (text : List ℕ) (groups : Groups) → (k ≡ kind.Semi → ⊥) → with_token k text groups ≡ with_word text groups
 other_token kind.Semi text groups other = absurd (other refl)
 other_token kind.Run text groups other = refl
 other_token kind.Open text groups other = refl
@@ -106,17 +100,6 @@ pub at_word : (start items more : Items) (ws : List Word) (k : Kind) (text : Lis
     → groups_of start ≡ with_words (ws ++ text ∷ []) (groups_of more)
 at_word start items more ws k text place so_far split other =
     so_far ∙ ap (λ (xs : Items). with_words ws (groups_of xs)) split ∙ ap (with_words ws) (other_token k text (groups_of more) other) ∙ sym (with_words-push ws text (groups_of more))
-
-pub some_words : (b : Bool) (ws : List Word) → b ≡ nat_eq (length ws) 0 → b ≡ false → (w : Word) × (xs : List Word) × (ws ≡ w ∷ xs)
-some_words b [] is other = absurd cc
-some_words b (w ∷ ws) is other = (w, ws, refl)
-
-pub no_words : (b : Bool) (ws : List Word) → b ≡ nat_eq (length ws) 0 → b ≡ true → ws ≡ []
-no_words b [] is holds = refl
-no_words b (w ∷ ws) is holds = absurd (let e : nat_eq (length (w ∷ ws)) 0 ≡ false = filled (length ws) in cc)
-
-pub pushed : (ws : List Word) (w : Word) → false ≡ nat_eq (length (ws ++ w ∷ [])) 0
-pushed ws w = sym (rw length-append (more_test (length ws)))
 
 -- ---- one group more of a text, where `all` was read before it
 
@@ -135,18 +118,28 @@ module _ (all : List Statement) (n : ℕ) (groups : Groups) (total : Result (Lis
   pub told_empty : (after : Groups) → groups ≡ group [] after → in_front (map said_of all) (groups_say n after) ≡ total
   told_empty after is = sym (ap (λ (p : Groups). in_front (map said_of all) (groups_say n p)) is ∙ ap (in_front (map said_of all)) (empty_group n [] after refl)) ∙ so_far
 
-  pub told_said : (w : Word) (ws : List Word) (after : Groups) (x : Statement) → groups ≡ group (w ∷ ws) after → group_says n (first_words groups) ≡ Ok (said_of x)
-      → in_front (map said_of (all ++ x ∷ [])) (groups_say (n + 1) after) ≡ total
-  told_said w ws after x is says =
-      let says' : group_says n (w ∷ ws) ≡ Ok (said_of x) = ap (λ (p : Groups). group_says n (first_words p)) (sym is) ∙ says in
-      ap (λ (front : List Said). in_front front (groups_say (n + 1) after)) (map-append said_of all (x ∷ []))
-      ∙ sym (said_group (map said_of all) n (w ∷ ws) after (said_of x) (λ e. cc) says') ∙ ap (λ (p : Groups). in_front (map said_of all) (groups_say n p)) (sym is) ∙ so_far
+  -- the same of what stands behind a statement's first word
+  module _ (w : Word) (rest : Groups) (opens : groups ≡ with_word w rest) where
+    pub told_over_behind : (ws : List Word) → rest ≡ last ws None → total ≡ Ok (map said_of all)
+    told_over_behind ws is = told_over (w ∷ ws) (opens ∙ ap (with_word w) is)
 
-  pub told_refused : (w : Word) (ws : List Word) (after : Groups) (e : Stop) → groups ≡ group (w ∷ ws) after → Stops e (group_says n (first_words groups)) → Stops e total
-  told_refused w ws after stop.Memory is stops = tt
-  told_refused w ws after (stop.Fault f) is stops =
-      let says' : group_says n (w ∷ ws) ≡ Err f = ap (λ (p : Groups). group_says n (first_words p)) (sym is) ∙ stops in
-      sym so_far ∙ ap (λ (p : Groups). in_front (map said_of all) (groups_say n p)) is ∙ refused_group (map said_of all) n (w ∷ ws) after f (λ e. cc) says'
+    pub told_broken_behind : (ws : List Word) (e : LexFault) → rest ≡ last ws (Some e) → total ≡ Err (record { statement = n; code = lex_code e })
+    told_broken_behind ws e is = told_broken (w ∷ ws) e (opens ∙ ap (with_word w) is)
+
+    pub told_said : (ws : List Word) (after : Groups) (x : Statement) → rest ≡ group ws after → group_says n (w ∷ first_words rest) ≡ Ok (said_of x)
+        → in_front (map said_of (all ++ x ∷ [])) (groups_say (n + 1) after) ≡ total
+    told_said ws after x is says =
+        let says' : group_says n (w ∷ ws) ≡ Ok (said_of x) = ap (λ (p : Groups). group_says n (w ∷ first_words p)) (sym is) ∙ says in
+        ap (λ (front : List Said). in_front front (groups_say (n + 1) after)) (map-append said_of all (x ∷ []))
+        ∙ sym (said_group (map said_of all) n (w ∷ ws) after (said_of x) (λ e. cc) says')
+        ∙ ap (λ (p : Groups). in_front (map said_of all) (groups_say n p)) (sym (opens ∙ ap (with_word w) is)) ∙ so_far
+
+    pub told_refused : (ws : List Word) (after : Groups) (e : Stop) → rest ≡ group ws after → Stops e (group_says n (w ∷ first_words rest)) → Stops e total
+    told_refused ws after stop.Memory is stops = tt
+    told_refused ws after (stop.Fault f) is stops =
+        let says' : group_says n (w ∷ ws) ≡ Err f = ap (λ (p : Groups). group_says n (w ∷ first_words p)) (sym is) ∙ stops in
+        sym so_far ∙ ap (λ (p : Groups). in_front (map said_of all) (groups_say n p)) (opens ∙ ap (with_word w) is)
+        ∙ refused_group (map said_of all) n (w ∷ ws) after f (λ e. cc) says'
 
 -- ---- the limit of a text
 

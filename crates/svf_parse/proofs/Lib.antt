@@ -7,4 +7,3 @@ pub mod ScanLaws
 pub mod SizeLaws
 pub mod StatementLaws
 pub mod TextLaws
-pub mod Rests

@@ -1,7 +1,6 @@
 pub mod Judged
 pub mod Judging
 pub mod Least
-pub mod Opened
 pub mod Reading
 pub mod Sizes
 pub mod Spelling

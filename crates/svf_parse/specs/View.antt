@@ -1,5 +1,5 @@
 -- What a reader of the code answers, beside what the words say.
-use Rattle.std.specs.Prelude.{◌≡◌, ◌≢◌, List, [], ◌∷◌, map, Some, None, Result, Ok, Err}
+use Rattle.std.specs.Prelude.{◌≡◌, ◌≢◌, List, [], map, Some, None, Result, Ok, Err}
 use Rattle.std.specs.Global.{Vec}
 use Rattle.svf_lex.specs.Left.{left}
 use Rattle.svf_words.specs.declared.fault.Code.{Code}
@@ -11,9 +11,11 @@ use Rattle.svf_parse.specs.declared.fault.Stop.{Stop}
 use Rattle.svf_parse.specs.declared.fault.Stop.TheVariants as stop
 use Rattle.svf_parse.specs.declared.statement.Statement.{Statement}
 use Rattle.svf_parse.specs.declared.statement.Statement.TheVariants as statement
-use Rattle.svf_parse.specs.declared.text.Group.{Group}
-use Rattle.svf_parse.specs.declared.text.Group.TheVariants.{Over, Broken, Empty, Words}
-use Rattle.svf_words.specs.Words.{Word, Groups, last, group, groups_of}
+use Rattle.svf_parse.specs.declared.text.Front.{Front}
+use Rattle.svf_parse.specs.declared.text.Front.TheVariants as front
+use Rattle.svf_parse.specs.declared.text.End.{End}
+use Rattle.svf_parse.specs.declared.text.End.TheVariants as end
+use Rattle.svf_words.specs.Words.{Word, Groups, last, group, with_word, groups_of}
 use Rattle.svf_parse.specs.Judging.{Said, end_dr, end_ir, frequency, scan, states, trst}
 use Rattle.svf_parse.specs.Judging as judging
 
@@ -55,9 +57,15 @@ abbrev pub Parses : Result (Vec Statement) SvfFault → Result (List Said) SvfFa
 Parses (Ok v) says = says ≡ Ok (map said_of v.items)
 Parses (Err f) says = f ≢ memory_fault → says ≡ Err f
 
--- what stands at a lexer: the text's end, a fault, or a group of words and the lexer behind it
-abbrev pub IsGroup : Group → Groups → Type 0
-IsGroup Over groups = (ws : List Word) × (groups ≡ last ws None)
-IsGroup (Broken e) groups = (ws : List Word) × (groups ≡ last ws (Some e))
-IsGroup (Empty after) groups = groups ≡ group [] (groups_of (left after))
-IsGroup (Words after) groups = (w : Word) × (ws : List Word) × (groups ≡ group (w ∷ ws) (groups_of (left after)))
+-- what stands at a lexer: the text's end, its fault, a `;`, or a word; and the lexer behind it
+abbrev pub IsFront : Front → Groups → Type 0
+IsFront front.Over groups = groups ≡ last [] None
+IsFront (front.Broken e) groups = groups ≡ last [] (Some e)
+IsFront (front.Empty after) groups = groups ≡ group [] (groups_of (left after))
+IsFront (front.Word w after) groups = groups ≡ with_word w.now (groups_of (left after))
+
+-- how the words at a lexer end: with the text, at its fault, or at a `;`; and the lexer behind that
+abbrev pub IsEnd : End → Groups → Type 0
+IsEnd end.Over groups = (ws : List Word) × (groups ≡ last ws None)
+IsEnd (end.Broken e) groups = (ws : List Word) × (groups ≡ last ws (Some e))
+IsEnd (end.Closed after) groups = (ws : List Word) × (groups ≡ group ws (groups_of (left after)))

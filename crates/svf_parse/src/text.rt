@@ -1,7 +1,8 @@
 //! A text's statements, one after another.
-ghost use Rattle.std.specs.Prelude.{◌≡◌, ◌*◌, ◌≤◌, length, map, IfOk, IfErr, IfSome, Ok, Err, List, Result, ◌≢◌};
+ghost use Rattle.std.specs.Prelude.{◌≡◌, ◌∷◌, ◌*◌, ◌≤◌, length, map, IfOk, IfErr, IfSome, Ok, Err, List, Result, ◌≢◌};
 ghost use Rattle.std.specs.List.{sum_by};
 ghost use Rattle.svf_lex.specs.Left.{left};
+ghost use Rattle.svf_forms.specs.Behind.{Behind};
 ghost use Rattle.svf_parse.specs.Judging.{Said};
 ghost use Rattle.svf_words.specs.declared.fault.Code as declared_code;
 ghost use Rattle.svf_words.specs.Words.{words_left, groups_of};
@@ -9,8 +10,7 @@ ghost use Rattle.svf_parse.specs.Reading as spec;
 ghost use Rattle.svf_parse.specs.Reading.{text_says, groups_say, at_statement, within_limit, statement_says};
 ghost use Rattle.svf_parse.specs.Spelling.{TextSpells, TextRefuses};
 ghost use Rattle.svf_parse.specs.Sizes.{size};
-ghost use Rattle.svf_parse.specs.Opened.{Opened};
-ghost use Rattle.svf_parse.specs.View.{Gives, Tells, Parses, IsGroup, said_of, memory_fault};
+ghost use Rattle.svf_parse.specs.View.{Gives, Tells, Stops, Parses, IsFront, IsEnd, said_of, memory_fault};
 
 use crate::fault::{Refusal, Stop};
 use crate::judging::form_says;
@@ -19,7 +19,6 @@ use std::alloc::Global;
 use svf_forms::forms::form_and_rest;
 use svf_lex::{Kind, LexFault, Lexer};
 use svf_words::keywords::command_of;
-use svf_words::words::next_word;
 use svf_words::{Code, SvfFault};
 
 /// A text has at most 16 MiB.
@@ -28,12 +27,20 @@ const TEXT_LIMIT: usize = 16_777_216;
 /// A text has at most so many statements.
 const STATEMENT_LIMIT: usize = 200_000;
 
-/// What stands at a lexer: the text's end, its fault, or a statement's tokens and the lexer behind them.
-enum Group<'a> {
+/// What stands at a lexer: the text's end, its fault, an empty statement, or a statement's first word; and the lexer
+/// behind it.
+enum Front<'a> {
     Over,
     Broken(LexFault),
     Empty(Lexer<'a>),
-    Words(Lexer<'a>),
+    Word(&'a [u8], Lexer<'a>),
+}
+
+/// How a statement ends: with the text, at its fault, or at the `;`; and the lexer behind that.
+enum End<'a> {
+    Over,
+    Broken(LexFault),
+    Closed(Lexer<'a>),
 }
 
 /// The statements of a text in order, or its first refusal: that of the first faulty statement, and of its own refusals
@@ -41,8 +48,9 @@ enum Group<'a> {
 ///
 /// A text above 16 MiB is refused as a whole (S15, statement 0). Want of memory is S16 with statement 0; nothing is
 /// said of when it comes. The time is linear in the text's length. The answer has at most four bits for each byte of
-/// the text, since a field has those that its digits write; beside text and answer, memory is taken only for the digits
-/// of one statement's fields.
+/// the text, since a field has those that its digits write; beside text and answer, memory is taken only for one
+/// statement: the digits of its fields, and, where it is refused or never closed, the bits and states that were read of
+/// it before.
 pub fn parse(alloc: Global, text: &[u8]) -> Result<Vec<Statement>, SvfFault>
     // What is read is spelled so.
     ensures found { IfOk result (λ v. TextSpells text.now (map said_of v.items)) }
@@ -83,32 +91,40 @@ fn statements(alloc: Global, text: Lexer<'_>) -> Result<Vec<Statement>, Stop>
     let mut all = Vec::new(alloc);
     let mut lexer = text;
     loop {
-        // The statement first: where it is read and its end is known, its tokens are cut once.
-        let found = numbered(alloc, all.len() + 1, lexer);
-        match group_at(lexer, found.rest) {
-            Group::Over => return Ok(all),
-            Group::Broken(fault) => {
-                return Err(Stop::Fault(SvfFault {
-                    statement: all.len() + 1,
-                    code: lex_code(fault),
-                }));
-            }
-            Group::Empty(after) => {
-                drop(found);
-                lexer = after;
-            }
-            Group::Words(after) => {
-                let said = match told(found) {
-                    Ok(said) => said,
-                    Err(stop) => return Err(stop),
-                };
-                match all.push(said) {
-                    Ok(()) => lexer = after,
-                    Err(_) => return Err(Stop::Memory),
+        match front_of(lexer) {
+            Front::Over => return Ok(all),
+            Front::Broken(fault) => return Err(broken(all.len() + 1, fault)),
+            Front::Empty(after) => lexer = after,
+            Front::Word(word, rest) => {
+                // What it says first: where that is known, so is its end, and its tokens are cut once.
+                let found = numbered(alloc, all.len() + 1, word, rest);
+                match end_of(rest, found.rest) {
+                    End::Over => return Ok(all),
+                    End::Broken(fault) => return Err(broken(all.len() + 1, fault)),
+                    End::Closed(after) => {
+                        let said = match told(found) {
+                            Ok(said) => said,
+                            Err(stop) => return Err(stop),
+                        };
+                        match all.push(said) {
+                            Ok(()) => lexer = after,
+                            Err(_) => return Err(Stop::Memory),
+                        }
+                    }
                 }
             }
         }
     }
+}
+
+/// The refusal of the statement with this number for a fault of the text.
+fn broken(number: usize, fault: LexFault) -> Stop
+    ensures { Stops {Y = List Said} result (Err (record { statement = number; code = spec.lex_code fault })) }
+{
+    Stop::Fault(SvfFault {
+        statement: number,
+        code: lex_code(fault),
+    })
 }
 
 /// What was read of a statement, and where it is known the lexer behind its words.
@@ -125,14 +141,14 @@ fn told(found: Found<'_>) -> Result<Statement, Stop>
     found.said
 }
 
-/// The statement with this number, or its refusal.
-fn numbered<'a>(alloc: Global, number: usize, words: Lexer<'a>) -> Found<'a>
+/// The statement with this number, its first word and the lexer behind that, or its refusal.
+fn numbered<'a>(alloc: Global, number: usize, word: &'a [u8], words: Lexer<'a>) -> Found<'a>
     ensures says { Tells said_of result.said
-        (at_statement number (within_limit number (statement_says (words_left words.entry)))) }
+        (at_statement number (within_limit number (statement_says (word.now ∷ words_left words.entry)))) }
     ensures within { IfOk result.said (λ _. number ≤ 200000) }
-    ensures rest { IfSome result.rest (λ rest. Opened (groups_of (left words.entry)) (groups_of (left rest))) }
+    ensures rest { IfSome result.rest (λ rest. Behind (left words.entry) (left rest)) }
 {
-    match statement(alloc, words) {
+    match statement(alloc, word, words) {
         Ok((said, rest)) => Found {
             said: at_number(number, Ok(said)),
             rest,
@@ -164,20 +180,20 @@ fn at_number(number: usize, said: Result<Statement, Refusal>) -> Result<Statemen
     }
 }
 
-/// What the words of a statement say, and where it is known the lexer behind them.
+/// What a statement of this word and those at the lexer says, and where it is known the lexer behind them.
 #[tactic(auto, unfolding(crate::specs::Reading::statement_says))]
-fn statement<'a>(alloc: Global, words: Lexer<'a>) -> Result<(Statement, Option<Lexer<'a>>), Refusal>
-    ensures says { Gives (λ p. said_of p.0) result (statement_says (words_left words.entry)) }
-    ensures rest { IfOk result
-        (λ p. IfSome p.1 (λ rest. Opened (groups_of (left words.entry)) (groups_of (left rest)))) }
+fn statement<'a>(
+    alloc: Global,
+    word: &'a [u8],
+    words: Lexer<'a>,
+) -> Result<(Statement, Option<Lexer<'a>>), Refusal>
+    ensures says { Gives (λ p. said_of p.0) result (statement_says (word.now ∷ words_left words.entry)) }
+    ensures rest { IfOk result (λ p. IfSome p.1 (λ rest. Behind (left words.entry) (left rest))) }
 {
-    let Some((word, rest)) = next_word(words) else {
-        return Err(Refusal::Code(Code::UnknownCommand));
-    };
     let Some(command) = command_of(word) else {
         return Err(Refusal::Code(Code::UnknownCommand));
     };
-    match form_and_rest(alloc, command, rest) {
+    match form_and_rest(alloc, command, words) {
         Ok(Some((form, behind))) => match form_says(alloc, form) {
             Ok(said) => Ok((said, behind)),
             Err(refusal) => Err(refusal),
@@ -196,40 +212,36 @@ fn lex_code(fault: LexFault) -> Code
     }
 }
 
-/// The next statement's tokens, up to its `;`. Where the lexer behind its words is known, only what stands there is
-/// cut.
-fn group_at<'a>(lexer: Lexer<'a>, behind: Option<Lexer<'a>>) -> Group<'a>
-    requires { IfSome behind (λ rest. Opened (groups_of (left lexer)) (groups_of (left rest))) }
-    ensures { IsGroup result (groups_of (left lexer.entry)) }
+/// What begins at a lexer.
+fn front_of(lexer: Lexer<'_>) -> Front<'_>
+    ensures { IsFront result (groups_of (left lexer.entry)) }
 {
-    let Some(rest) = behind else {
-        return next_group(lexer);
-    };
-    let mut after = rest;
+    let mut after = lexer;
     match after.next() {
+        None => Front::Over,
+        Some(Err(fault)) => Front::Broken(fault),
         Some(Ok(token)) => match token.kind {
-            Kind::Semi => Group::Words(after),
-            _ => next_group(lexer),
+            Kind::Semi => Front::Empty(after),
+            _ => Front::Word(token.text, after),
         },
-        _ => next_group(lexer),
     }
 }
 
-/// The next statement's tokens, up to its `;`.
-fn next_group(lexer: Lexer<'_>) -> Group<'_>
-    ensures { IsGroup result (groups_of (left lexer.entry)) }
+/// How the statement at a lexer ends. Where a lexer behind words of it is known, only what stands from there on is cut.
+fn end_of<'a>(words: Lexer<'a>, behind: Option<Lexer<'a>>) -> End<'a>
+    requires { IfSome behind (λ rest. Behind (left words) (left rest)) }
+    ensures { IsEnd result (groups_of (left words.entry)) }
 {
-    let mut after = lexer;
-    let mut is_empty = true;
+    let mut after = behind.unwrap_or(words);
     loop {
         match after.next() {
-            None => return Group::Over,
-            Some(Err(fault)) => return Group::Broken(fault),
-            Some(Ok(token)) => match token.kind {
-                Kind::Semi if is_empty => return Group::Empty(after),
-                Kind::Semi => return Group::Words(after),
-                _ => is_empty = false,
-            },
+            None => return End::Over,
+            Some(Err(fault)) => return End::Broken(fault),
+            Some(Ok(token)) => {
+                if let Kind::Semi = token.kind {
+                    return End::Closed(after);
+                }
+            }
         }
     }
 }
