@@ -10,12 +10,18 @@ use Rattle.svf_words.specs.declared.fault.Code.TheVariants as code
 use Rattle.svf_words.specs.declared.fault.SvfFault.{SvfFault}
 use Rattle.svf_words.specs.Words.{Word, Groups, last, group, with_word, with_token, groups_of, first_words}
 use Rattle.svf_forms.specs.Behind.{with_words}
+use Rattle.svf_words.specs.declared.fault.Code.{Code}
+use Rattle.svf_words.specs.declared.keywords.Command.{Command}
+use Rattle.svf_words.specs.Keywords.{command_of}
+use Rattle.svf_forms.specs.Forms.{Form, form_of}
+use Rattle.svf_parse.specs.declared.fault.Refusal.{Refusal}
+use Rattle.svf_parse.specs.declared.fault.Refusal.TheVariants as refusal
 use Rattle.svf_parse.specs.declared.fault.Stop.{Stop}
 use Rattle.svf_parse.specs.declared.fault.Stop.TheVariants as stop
 use Rattle.svf_parse.specs.declared.statement.Statement.{Statement}
-use Rattle.svf_parse.specs.View.{said_of, Stops}
-use Rattle.svf_parse.specs.Judging.{◌>>=◌, Said}
-use Rattle.svf_parse.specs.Reading.{statement_says, groups_say, text_says, at_statement, within_limit, lex_code}
+use Rattle.svf_parse.specs.View.{said_of, Fails, Stops, form_behind}
+use Rattle.svf_parse.specs.Judging.{◌>>=◌, Said, form_says}
+use Rattle.svf_parse.specs.Reading.{or_refuse, command_says, statement_says, groups_say, text_says, at_statement, within_limit, lex_code}
 
 pub with_words-push : (ws : List Word) (w : Word) (groups : Groups) → with_words (ws ++ w ∷ []) groups ≡ with_words ws (with_word w groups)
 with_words-push [] w groups = refl
@@ -59,11 +65,6 @@ pub said_group : (front : List Said) (n : ℕ) (ws : List Word) (groups : Groups
 said_group front n ws groups s some says =
     ap (in_front front) (opened n ws groups some ∙ ap (λ (r : Result Said SvfFault). r >>= λ s. groups_say (n + 1) groups >>= λ ss. Ok (s ∷ ss)) says) ∙ regroup front s (groups_say (n + 1) groups)
 
-pub refused_group : (front : List Said) (n : ℕ) (ws : List Word) (groups : Groups) (f : SvfFault) → (ws ≡ [] → ⊥) → group_says n ws ≡ Err f
-    → in_front front (groups_say n (group ws groups)) ≡ Err f
-refused_group front n ws groups f some says =
-    ap (in_front front) (opened n ws groups some ∙ ap (λ (r : Result Said SvfFault). r >>= λ s. groups_say (n + 1) groups >>= λ ss. Ok (s ∷ ss)) says)
-
 pub at_last : (front : List Said) (n : ℕ) (ws : List Word) → in_front front (groups_say n (last ws None)) ≡ Ok front
 unfolding groups_say
 at_last front n ws = ap (λ (x : List Said). Ok x) (append-nil front)
@@ -71,6 +72,57 @@ at_last front n ws = ap (λ (x : List Said). Ok x) (append-nil front)
 pub at_broken : (front : List Said) (n : ℕ) (ws : List Word) (e : LexFault) → in_front front (groups_say n (last ws (Some e))) ≡ Err (record { statement = n; code = lex_code e })
 unfolding groups_say
 at_broken front n ws e = refl
+
+-- ---- limits
+
+is_above : (a b : ℕ) → a < b → nat_lt a b ≡ true
+is_above a b h = grind (arith, nat_tests)
+
+is_within : (a b : ℕ) → b ≤ a → nat_lt a b ≡ false
+is_within a b h = grind (arith, nat_tests)
+
+-- ---- what a statement says, by its form
+
+says_by : (o : Option Command) (ws : List Word) → (or_refuse code.UnknownCommand o >>= λ k. command_says k ws) ≡ ((or_refuse code.UnknownCommand o >>= λ k. or_refuse code.BadForm (form_of k ws)) >>= form_says)
+says_by None ws = refl
+says_by (Some k) ws = refl
+
+says_behind : (w : Word) (ws : List Word) → statement_says (w ∷ ws) ≡ (form_behind w ws >>= form_says)
+unfolding statement_says
+says_behind w ws = says_by (command_of w) ws
+
+pub form_fails : (w : Word) (ws : List Word) (e : Refusal) → Fails e (form_behind w ws) → Fails e (statement_says (w ∷ ws))
+form_fails w ws refusal.Memory is = tt
+form_fails w ws (refusal.Code c) is = says_behind w ws ∙ ap (λ (r : Result Form Code). r >>= form_says) is
+
+pub said_fails : (w : Word) (ws : List Word) (f : Form) (e : Refusal) → form_behind w ws ≡ Ok f → Fails e (form_says f) → Fails e (statement_says (w ∷ ws))
+said_fails w ws f refusal.Memory form is = tt
+said_fails w ws f (refusal.Code c) form is = says_behind w ws ∙ ap (λ (r : Result Form Code). r >>= form_says) form ∙ is
+
+pub form_said : (w : Word) (ws : List Word) (f : Form) (s : Said) → form_behind w ws ≡ Ok f → form_says f ≡ Ok s → statement_says (w ∷ ws) ≡ Ok s
+form_said w ws f s form is = says_behind w ws ∙ ap (λ (r : Result Form Code). r >>= form_says) form ∙ is
+
+pub past_limit : (n : ℕ) (ws : List Word) (s : Said) → statement_says ws ≡ Ok s → 200000 < n → group_says n ws ≡ Err (record { statement = n; code = code.TooLarge })
+past_limit n ws s says h = ap (λ (r : Result Said Code). at_statement n (within_limit n r)) says ∙ rw (is_above 200000 n h) refl
+
+pub inside_limit : (n : ℕ) (ws : List Word) (s : Said) → statement_says ws ≡ Ok s → n ≤ 200000 → group_says n ws ≡ Ok s
+inside_limit n ws s says h = ap (λ (r : Result Said Code). at_statement n (within_limit n r)) says ∙ rw (is_within 200000 n h) refl
+
+-- ---- a statement that begins with a word before these groups
+
+pub broken_behind : (n : ℕ) (w : Word) (groups : Groups) (ws : List Word) (e : LexFault) → groups ≡ last ws (Some e) → groups_say n (with_word w groups) ≡ Err (record { statement = n; code = lex_code e })
+unfolding groups_say
+broken_behind n w groups ws e is = ap (λ (p : Groups). groups_say n (with_word w p)) is
+
+pub taken_behind : (n : ℕ) (w : Word) (groups : Groups) (ws : List Word) (after : Groups) (s : Said) → groups ≡ group ws after → group_says n (w ∷ first_words groups) ≡ Ok s → group_says n (w ∷ ws) ≡ Ok s
+taken_behind n w groups ws after s is says = ap (λ (p : Groups). group_says n (w ∷ first_words p)) (sym is) ∙ says
+
+pub refused_behind : (n : ℕ) (w : Word) (groups : Groups) (ws : List Word) (after : Groups) (e : Stop) → groups ≡ group ws after → Stops e (group_says n (w ∷ first_words groups)) → Stops e (groups_say n (with_word w groups))
+refused_behind n w groups ws after stop.Memory is stops = tt
+refused_behind n w groups ws after (stop.Fault f) is stops =
+    let says : group_says n (w ∷ ws) ≡ Err f = ap (λ (p : Groups). group_says n (w ∷ first_words p)) (sym is) ∙ stops in
+    ap (λ (p : Groups). groups_say n (with_word w p)) is ∙ opened n (w ∷ ws) after (λ e. cc)
+    ∙ ap (λ (r : Result Said SvfFault). r >>= λ s. groups_say (n + 1) after >>= λ ss. Ok (s ∷ ss)) says
 
 -- ---- one token more of a group that began at `start`
 
@@ -123,31 +175,19 @@ module _ (all : List Statement) (n : ℕ) (groups : Groups) (total : Result (Lis
     pub told_over_behind : (ws : List Word) → rest ≡ last ws None → total ≡ Ok (map said_of all)
     told_over_behind ws is = told_over (w ∷ ws) (opens ∙ ap (with_word w) is)
 
-    pub told_broken_behind : (ws : List Word) (e : LexFault) → rest ≡ last ws (Some e) → total ≡ Err (record { statement = n; code = lex_code e })
-    told_broken_behind ws e is = told_broken (w ∷ ws) e (opens ∙ ap (with_word w) is)
-
-    pub told_said : (ws : List Word) (after : Groups) (x : Statement) → rest ≡ group ws after → group_says n (w ∷ first_words rest) ≡ Ok (said_of x)
+    pub told_said : (ws : List Word) (after : Groups) (x : Statement) → rest ≡ group ws after → group_says n (w ∷ ws) ≡ Ok (said_of x)
         → in_front (map said_of (all ++ x ∷ [])) (groups_say (n + 1) after) ≡ total
     told_said ws after x is says =
-        let says' : group_says n (w ∷ ws) ≡ Ok (said_of x) = ap (λ (p : Groups). group_says n (w ∷ first_words p)) (sym is) ∙ says in
         ap (λ (front : List Said). in_front front (groups_say (n + 1) after)) (map-append said_of all (x ∷ []))
-        ∙ sym (said_group (map said_of all) n (w ∷ ws) after (said_of x) (λ e. cc) says')
+        ∙ sym (said_group (map said_of all) n (w ∷ ws) after (said_of x) (λ e. cc) says)
         ∙ ap (λ (p : Groups). in_front (map said_of all) (groups_say n p)) (sym (opens ∙ ap (with_word w) is)) ∙ so_far
 
-    pub told_refused : (ws : List Word) (after : Groups) (e : Stop) → rest ≡ group ws after → Stops e (group_says n (w ∷ first_words rest)) → Stops e total
-    told_refused ws after stop.Memory is stops = tt
-    told_refused ws after (stop.Fault f) is stops =
-        let says' : group_says n (w ∷ ws) ≡ Err f = ap (λ (p : Groups). group_says n (w ∷ first_words p)) (sym is) ∙ stops in
-        sym so_far ∙ ap (λ (p : Groups). in_front (map said_of all) (groups_say n p)) (opens ∙ ap (with_word w) is)
-        ∙ refused_group (map said_of all) n (w ∷ ws) after f (λ e. cc) says'
+    pub told_stop : (e : Stop) → Stops e (groups_say n (with_word w rest)) → Stops e total
+    told_stop stop.Memory stops = tt
+    told_stop (stop.Fault f) stops =
+        sym so_far ∙ ap (λ (p : Groups). in_front (map said_of all) (groups_say n p)) opens ∙ ap (in_front (map said_of all)) stops
 
 -- ---- the limit of a text
-
-is_above : (a b : ℕ) → a < b → nat_lt a b ≡ true
-is_above a b h = grind (arith, nat_tests)
-
-is_within : (a b : ℕ) → b ≤ a → nat_lt a b ≡ false
-is_within a b h = grind (arith, nat_tests)
 
 pub long_text : (text : List ℕ) → 16777216 < length text → text_says text ≡ Err (record { statement = 0; code = code.TooLarge })
 unfolding text_says

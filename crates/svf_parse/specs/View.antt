@@ -1,9 +1,11 @@
 -- What a reader of the code answers, beside what the words say.
-use Rattle.std.specs.Prelude.{◌≡◌, ◌≢◌, List, [], map, Some, None, Result, Ok, Err}
+use Rattle.std.specs.Prelude.{◌≡◌, ◌≢◌, ℕ, List, [], ◌∷◌, ◌++◌, map, Option, Some, None, Result, Ok, Err}
 use Rattle.std.specs.Global.{Vec}
+use Rattle.svf_lex.specs.declared.Lexer.{Lexer}
 use Rattle.svf_lex.specs.Left.{left}
 use Rattle.svf_words.specs.declared.fault.Code.{Code}
 use Rattle.svf_words.specs.declared.fault.Code.TheVariants.{NoMemory}
+use Rattle.svf_words.specs.declared.fault.Code.TheVariants as code
 use Rattle.svf_words.specs.declared.fault.SvfFault.{SvfFault}
 use Rattle.svf_parse.specs.declared.fault.Refusal.{Refusal}
 use Rattle.svf_parse.specs.declared.fault.Refusal.TheVariants as refusal
@@ -16,7 +18,10 @@ use Rattle.svf_parse.specs.declared.text.Front.TheVariants as front
 use Rattle.svf_parse.specs.declared.text.End.{End}
 use Rattle.svf_parse.specs.declared.text.End.TheVariants as end
 use Rattle.svf_words.specs.Words.{Word, Groups, last, group, with_word, groups_of}
-use Rattle.svf_parse.specs.Judging.{Said, end_dr, end_ir, frequency, scan, states, trst}
+use Rattle.svf_words.specs.Keywords.{command_of}
+use Rattle.svf_forms.specs.Forms.{Form, form_of}
+use Rattle.svf_parse.specs.Reading.{or_refuse, statement_says, at_statement, within_limit, groups_say}
+use Rattle.svf_parse.specs.Judging.{◌>>=◌, Said, end_dr, end_ir, frequency, scan, states, trst}
 use Rattle.svf_parse.specs.Judging as judging
 
 abbrev pub said_of : Statement → Said
@@ -37,6 +42,15 @@ Fails (refusal.Code c) says = says ≡ Err c
 abbrev pub Gives : {X Y : Type 0} → (X → Y) → Result X Refusal → Result Y Code → Type 0
 Gives view (Ok x) says = says ≡ Ok (view x)
 Gives view (Err e) says = Fails e says
+
+-- a statement was added to a list as the words say, or they are refused so, unless memory ran out
+abbrev pub Adds : {X : Type 0} → Result X Refusal → List Statement → List Statement → Result Said Code → Type 0
+Adds (Ok x) old new says = (s : Statement) × (new ≡ old ++ s ∷ []) × (says ≡ Ok (said_of s))
+Adds (Err e) old new says = Fails e says
+
+-- the form of a statement with this first word
+abbrev pub form_behind : Word → List Word → Result Form Code
+form_behind w ws = or_refuse code.UnknownCommand (command_of w) >>= λ k. or_refuse code.BadForm (form_of k ws)
 
 -- unless memory ran out, the refusal of a text is that of the definition
 abbrev pub Stops : {Y : Type 0} → Stop → Result Y SvfFault → Type 0
@@ -69,3 +83,12 @@ abbrev pub IsEnd : End → Groups → Type 0
 IsEnd end.Over groups = (ws : List Word) × (groups ≡ last ws None)
 IsEnd (end.Broken e) groups = (ws : List Word) × (groups ≡ last ws (Some e))
 IsEnd (end.Closed after) groups = (ws : List Word) × (groups ≡ group ws (groups_of (left after)))
+
+-- What became of statement n, whose first word stands before these groups: it was added to a list, and the lexer stands
+-- behind its `;`; or the text is over; or it is refused.
+abbrev pub Takes : ℕ → Word → Groups → Result (Option Lexer) Stop → List Statement → List Statement → Type 0
+Takes n w groups (Ok (Some after)) old new =
+    (ws : List Word) × (s : Statement) × (groups ≡ group ws (groups_of (left after))) × (new ≡ old ++ s ∷ [])
+    × (at_statement n (within_limit n (statement_says (w ∷ ws))) ≡ Ok (said_of s))
+Takes n w groups (Ok None) old new = ((ws : List Word) × (groups ≡ last ws None)) × (new ≡ old)
+Takes n w groups (Err e) old new = Stops e (groups_say n (with_word w groups))

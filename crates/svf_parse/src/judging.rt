@@ -1,12 +1,13 @@
 //! What a statement says that is written in a form.
-ghost use Rattle.std.specs.Prelude.{◌≡◌, Some, None, Ok, IfOk, Option, option_map};
+ghost use Rattle.std.specs.Prelude.{◌≡◌, ◌+◌, Some, None, Ok, IfOk, Option, option_map};
 ghost use Rattle.svf_parse.specs.Judging as spec;
 ghost use Rattle.svf_forms.specs.Forms.{scan_form};
 ghost use Rattle.svf_words.specs.Words.{Word};
 ghost use Rattle.svf_numbers.specs.Numbers as numbers_spec;
 ghost use Rattle.svf_forms.specs.View as view;
 ghost use Rattle.svf_forms.specs.View.{fields, bytes_of};
-ghost use Rattle.svf_parse.specs.View.{Gives, said_of};
+ghost use Rattle.svf_parse.specs.View.{Adds, said_of};
+ghost use Rattle.std.specs.Vec.{vec_len};
 ghost use Rattle.svf_words.specs.declared.keywords.Clock as declared_clock;
 
 use crate::fault::Refusal;
@@ -20,23 +21,35 @@ use svf_numbers::{count, length, length_value, period, time};
 use svf_words::Code;
 use svf_words::keywords::{Clock, Which};
 
-/// The statement, or the refusal with the lowest number among its own.
-pub(crate) fn form_says(alloc: Global, form: Written<'_>) -> Result<Statement, Refusal>
-    ensures { Gives said_of result (spec.form_says (view.form form.entry)) }
+/// Adds the statement, or gives the refusal with the lowest number among its own.
+pub(crate) fn say(alloc: Global, form: Written<'_>, all: &mut Vec<Statement>) -> Result<(), Refusal>
+    ensures adds { Adds result all.old.items all.new.items (spec.form_says (view.form form.entry)) }
+    ensures count { IfOk result (λ _. vec_len all.new ≡ vec_len all.old + 1) }
 {
     match form {
-        Written::EndDr(state) => Ok(Statement::EndDr(state)),
-        Written::EndIr(state) => Ok(Statement::EndIr(state)),
-        Written::Frequency(None) => Ok(Statement::Frequency(None)),
+        Written::EndDr(state) => put(all, Statement::EndDr(state)),
+        Written::EndIr(state) => put(all, Statement::EndIr(state)),
+        Written::Frequency(None) => put(all, Statement::Frequency(None)),
         Written::Frequency(Some(word)) => match period(word) {
-            Ok(period) => Ok(Statement::Frequency(Some(period))),
+            Ok(period) => put(all, Statement::Frequency(Some(period))),
             Err(code) => Err(Refusal::Code(code)),
         },
-        Written::Scan(which, len, fields) => scan(alloc, which, len, fields),
-        Written::RunTest(test) => run_test(test),
-        Written::States(states) => Ok(Statement::States(states)),
-        Written::Trst(word) => Ok(Statement::Trst(word)),
+        Written::Scan(which, len, fields) => scan(alloc, which, len, fields, all),
+        Written::RunTest(test) => run_test(test, all),
+        Written::States(states) => put(all, Statement::States(states)),
+        Written::Trst(word) => put(all, Statement::Trst(word)),
         Written::Port => Err(Refusal::Code(Code::Unsupported)),
+    }
+}
+
+/// Adds a statement. Who makes one adds it: the largest has 208 bytes, and whoever hands one back moves it twice.
+fn put(all: &mut Vec<Statement>, said: Statement) -> Result<(), Refusal>
+    ensures adds { Adds result all.old.items all.new.items (Ok (said_of said)) }
+    ensures count { IfOk result (λ _. vec_len all.new ≡ vec_len all.old + 1) }
+{
+    match all.push(said) {
+        Ok(()) => Ok(()),
+        Err(_) => Err(Refusal::Memory),
     }
 }
 
@@ -65,29 +78,37 @@ fn both<T: Drop, U: Drop>(first: Result<T, Code>, second: Result<U, Code>) -> Re
 
 // ---- scans
 
-fn scan(alloc: Global, which: Which, len: &[u8], all: Fields) -> Result<Statement, Refusal>
-    ensures { Gives said_of result (spec.form_says (scan_form which len.now (fields all))) }
+fn scan(
+    alloc: Global,
+    which: Which,
+    len: &[u8],
+    given: Fields,
+    all: &mut Vec<Statement>,
+) -> Result<(), Refusal>
+    ensures adds { Adds result all.old.items all.new.items (spec.form_says (scan_form which len.now (fields given))) }
+    ensures count { IfOk result (λ _. vec_len all.new ≡ vec_len all.old + 1) }
 {
-    let len = match scan_length(len, &all) {
+    let len = match scan_length(len, &given) {
         Ok(len) => len,
         Err(code) => return Err(Refusal::Code(code)),
     };
     let (Ok(tdi), Ok(tdo), Ok(mask), Ok(smask)) = (
-        bits(alloc, len, &all.tdi),
-        bits(alloc, len, &all.tdo),
-        bits(alloc, len, &all.mask),
-        bits(alloc, len, &all.smask),
+        bits(alloc, len, &given.tdi),
+        bits(alloc, len, &given.tdo),
+        bits(alloc, len, &given.mask),
+        bits(alloc, len, &given.smask),
     ) else {
         return Err(Refusal::Memory);
     };
-    Ok(Statement::Scan {
+    let said = Statement::Scan {
         which,
         len,
         tdi,
         tdo,
         mask,
         smask,
-    })
+    };
+    put(all, said)
 }
 
 /// The length of a scan, unless it or a field is refused.
@@ -147,18 +168,22 @@ fn bits(alloc: Global, len: usize, digits: &Option<Vec<u8>>) -> Result<Option<Bi
 // ---- runs
 
 #[tactic(auto, unfolding(crate::specs::Judging::run_test_says))]
-fn run_test(test: RunTest<'_>) -> Result<Statement, Refusal>
-    ensures { Gives said_of result (spec.run_test_says (view.run_test test.entry)) }
+fn run_test(test: RunTest<'_>, all: &mut Vec<Statement>) -> Result<(), Refusal>
+    ensures adds { Adds result all.old.items all.new.items (spec.run_test_says (view.run_test test.entry)) }
+    ensures count { IfOk result (λ _. vec_len all.new ≡ vec_len all.old + 1) }
 {
     let times = both(given_time(test.min), given_time(test.max));
     match both(given_cycles(test.count), times) {
-        Ok((count, (min_ps, max_ps))) => Ok(Statement::RunTest {
-            run: test.run,
-            count,
-            min_ps,
-            max_ps,
-            end: test.end,
-        }),
+        Ok((count, (min_ps, max_ps))) => {
+            let said = Statement::RunTest {
+                run: test.run,
+                count,
+                min_ps,
+                max_ps,
+                end: test.end,
+            };
+            put(all, said)
+        }
         Err(code) => Err(Refusal::Code(code)),
     }
 }

@@ -1,22 +1,27 @@
 //! A text's statements, one after another.
-ghost use Rattle.std.specs.Prelude.{◌≡◌, ◌∷◌, ◌*◌, ◌≤◌, length, map, IfOk, IfErr, IfSome, Ok, Err, List, Result, ◌≢◌};
+ghost use Rattle.std.specs.Prelude.{◌≡◌, ◌≢◌, ◌∷◌, ◌+◌, ◌*◌, ◌≤◌, length, map, List, Result, Ok, Err, None};
+ghost use Rattle.std.specs.Prelude.{IfOk, IfErr, IfSome};
+ghost use Rattle.std.specs.Vec.{vec_len};
 ghost use Rattle.std.specs.List.{sum_by};
 ghost use Rattle.svf_lex.specs.Left.{left};
 ghost use Rattle.svf_forms.specs.Behind.{Behind};
 ghost use Rattle.svf_parse.specs.Judging.{Said};
 ghost use Rattle.svf_words.specs.declared.fault.Code as declared_code;
+ghost use Rattle.svf_parse.specs.declared.statement.Statement as declared_statement;
 ghost use Rattle.svf_words.specs.Words.{words_left, groups_of};
 ghost use Rattle.svf_parse.specs.Reading as spec;
 ghost use Rattle.svf_parse.specs.Reading.{text_says, groups_say, at_statement, within_limit, statement_says};
 ghost use Rattle.svf_parse.specs.Spelling.{TextSpells, TextRefuses};
 ghost use Rattle.svf_parse.specs.Sizes.{size};
-ghost use Rattle.svf_parse.specs.View.{Gives, Tells, Stops, Parses, IsFront, IsEnd, said_of, memory_fault};
+ghost use Rattle.svf_forms.specs.View as view;
+ghost use Rattle.svf_parse.specs.View.{Gives, Tells, Stops, Fails, Takes, Parses, IsFront, IsEnd};
+ghost use Rattle.svf_parse.specs.View.{form_behind, said_of, memory_fault};
 
 use crate::fault::{Refusal, Stop};
-use crate::judging::form_says;
+use crate::judging::say;
 use crate::statement::Statement;
 use std::alloc::Global;
-use svf_forms::forms::form_and_rest;
+use svf_forms::forms::{Written, form_and_rest};
 use svf_lex::{Kind, LexFault, Lexer};
 use svf_words::keywords::command_of;
 use svf_words::{Code, SvfFault};
@@ -49,8 +54,8 @@ enum End<'a> {
 /// A text above 16 MiB is refused as a whole (S15, statement 0). Want of memory is S16 with statement 0; nothing is
 /// said of when it comes. The time is linear in the text's length. The answer has at most four bits for each byte of
 /// the text, since a field has those that its digits write; beside text and answer, memory is taken only for one
-/// statement: the digits of its fields, and, where it is refused or never closed, the bits and states that were read of
-/// it before.
+/// statement: the digits of its fields, and, where it is refused or never closed, the states that were read of it
+/// before.
 pub fn parse(alloc: Global, text: &[u8]) -> Result<Vec<Statement>, SvfFault>
     // What is read is spelled so.
     ensures found { IfOk result (λ v. TextSpells text.now (map said_of v.items)) }
@@ -95,25 +100,64 @@ fn statements(alloc: Global, text: Lexer<'_>) -> Result<Vec<Statement>, Stop>
             Front::Over => return Ok(all),
             Front::Broken(fault) => return Err(broken(all.len() + 1, fault)),
             Front::Empty(after) => lexer = after,
-            Front::Word(word, rest) => {
-                // What it says first: where that is known, so is its end, and its tokens are cut once.
-                let found = numbered(alloc, all.len() + 1, word, rest);
-                match end_of(rest, found.rest) {
-                    End::Over => return Ok(all),
-                    End::Broken(fault) => return Err(broken(all.len() + 1, fault)),
-                    End::Closed(after) => {
-                        let said = match told(found) {
-                            Ok(said) => said,
-                            Err(stop) => return Err(stop),
-                        };
-                        match all.push(said) {
-                            Ok(()) => lexer = after,
-                            Err(_) => return Err(Stop::Memory),
-                        }
-                    }
-                }
-            }
+            Front::Word(word, rest) => match add(alloc, word, rest, &mut all) {
+                Ok(Some(after)) => lexer = after,
+                Ok(None) => return Ok(all),
+                Err(stop) => return Err(stop),
+            },
         }
+    }
+}
+
+/// Adds the statement of this word and those at the lexer. Gives the lexer behind its `;`, or none at the text's end.
+fn add<'a>(
+    alloc: Global,
+    word: &'a [u8],
+    words: Lexer<'a>,
+    all: &mut Vec<Statement>,
+) -> Result<Option<Lexer<'a>>, Stop>
+    requires { vec_len all.old ≤ 200000 }
+    ensures takes { Takes (vec_len all.old + 1) word.now (groups_of (left words.entry)) result
+        all.old.items all.new.items }
+    ensures count { IfOk result
+        (λ o. IfSome o (λ _. (vec_len all.new ≡ vec_len all.old + 1) × (vec_len all.new ≤ 200000))) }
+{
+    let number = all.len() + 1;
+    // The form first: where that is read, the lexer behind it is often known, and its tokens are cut once.
+    let (form, behind) = match form_at(alloc, word, words) {
+        Ok(found) => found,
+        Err(refusal) => return refused(number, refusal, word, words),
+    };
+    match end_of(words, behind) {
+        End::Over => Ok(None),
+        End::Broken(fault) => Err(broken(number, fault)),
+        End::Closed(after) => match say(alloc, form, all) {
+            Ok(()) if number > STATEMENT_LIMIT => Err(Stop::Fault(SvfFault {
+                statement: number,
+                code: Code::TooLarge,
+            })),
+            Ok(()) => Ok(Some(after)),
+            Err(refusal) => Err(stop_at(number, refusal)),
+        },
+    }
+}
+
+/// What is told where the words have no form: a fault of the text comes before that.
+fn refused<'a>(
+    number: usize,
+    refusal: Refusal,
+    word: &'a [u8],
+    words: Lexer<'a>,
+) -> Result<Option<Lexer<'a>>, Stop>
+    requires { Fails refusal (statement_says (word.now ∷ words_left words)) }
+    ensures takes { (all : List declared_statement.Statement) →
+        Takes number word.now (groups_of (left words.entry)) result all all }
+    ensures none { IfOk result (λ o. o ≡ None) }
+{
+    match end_of(words, None) {
+        End::Over => Ok(None),
+        End::Broken(fault) => Err(broken(number, fault)),
+        End::Closed(_) => Err(stop_at(number, refusal)),
     }
 }
 
@@ -127,77 +171,34 @@ fn broken(number: usize, fault: LexFault) -> Stop
     })
 }
 
-/// What was read of a statement, and where it is known the lexer behind its words.
-#[derive(Drop)]
-struct Found<'a> {
-    said: Result<Statement, Stop>,
-    rest: Option<Lexer<'a>>,
-}
-
-/// What was read alone.
-fn told(found: Found<'_>) -> Result<Statement, Stop>
-    ensures { result ≡ found.entry.said }
+/// The refusal of the statement with this number.
+fn stop_at(number: usize, refusal: Refusal) -> Stop
+    ensures { (says : Result Said declared_code.Code) → Fails refusal says
+        → Stops result (at_statement number (within_limit number says)) }
 {
-    found.said
-}
-
-/// The statement with this number, its first word and the lexer behind that, or its refusal.
-fn numbered<'a>(alloc: Global, number: usize, word: &'a [u8], words: Lexer<'a>) -> Found<'a>
-    ensures says { Tells said_of result.said
-        (at_statement number (within_limit number (statement_says (word.now ∷ words_left words.entry)))) }
-    ensures within { IfOk result.said (λ _. number ≤ 200000) }
-    ensures rest { IfSome result.rest (λ rest. Behind (left words.entry) (left rest)) }
-{
-    match statement(alloc, word, words) {
-        Ok((said, rest)) => Found {
-            said: at_number(number, Ok(said)),
-            rest,
-        },
-        Err(refusal) => Found {
-            said: at_number(number, Err(refusal)),
-            rest: None,
-        },
-    }
-}
-
-/// What the statement with this number says, or the refusal of the text there.
-fn at_number(number: usize, said: Result<Statement, Refusal>) -> Result<Statement, Stop>
-    ensures says { (says : Result Said declared_code.Code) → Gives said_of said says
-        → Tells said_of result (at_statement number (within_limit number says)) }
-    ensures within { IfOk result (λ _. number ≤ 200000) }
-{
-    match said {
-        Ok(_) if number > STATEMENT_LIMIT => Err(Stop::Fault(SvfFault {
-            statement: number,
-            code: Code::TooLarge,
-        })),
-        Ok(said) => Ok(said),
-        Err(Refusal::Code(code)) => Err(Stop::Fault(SvfFault {
+    match refusal {
+        Refusal::Code(code) => Stop::Fault(SvfFault {
             statement: number,
             code,
-        })),
-        Err(Refusal::Memory) => Err(Stop::Memory),
+        }),
+        Refusal::Memory => Stop::Memory,
     }
 }
 
-/// What a statement of this word and those at the lexer says, and where it is known the lexer behind them.
-#[tactic(auto, unfolding(crate::specs::Reading::statement_says))]
-fn statement<'a>(
+/// The form of a statement of this word and those at the lexer, and where it is known the lexer behind them.
+fn form_at<'a>(
     alloc: Global,
     word: &'a [u8],
     words: Lexer<'a>,
-) -> Result<(Statement, Option<Lexer<'a>>), Refusal>
-    ensures says { Gives (λ p. said_of p.0) result (statement_says (word.now ∷ words_left words.entry)) }
+) -> Result<(Written<'a>, Option<Lexer<'a>>), Refusal>
+    ensures says { Gives (λ p. view.form p.0) result (form_behind word.now (words_left words.entry)) }
     ensures rest { IfOk result (λ p. IfSome p.1 (λ rest. Behind (left words.entry) (left rest))) }
 {
     let Some(command) = command_of(word) else {
         return Err(Refusal::Code(Code::UnknownCommand));
     };
     match form_and_rest(alloc, command, words) {
-        Ok(Some((form, behind))) => match form_says(alloc, form) {
-            Ok(said) => Ok((said, behind)),
-            Err(refusal) => Err(refusal),
-        },
+        Ok(Some(found)) => Ok(found),
         Ok(None) => Err(Refusal::Code(Code::BadForm)),
         Err(_) => Err(Refusal::Memory),
     }
