@@ -4,3 +4,4 @@ pub mod PutLaws
 pub mod TellLaws
 pub mod BuildLaws
 pub mod SameLaws
+pub mod SightedLaws

@@ -1,7 +1,7 @@
 -- What the cells of a device are told is what their ports see.
-use Rattle.std.proofs.Common.{◌≡◌, ◌<◌, ℕ, suc, ◌+◌, Bool, true, false, List, [], ◌∷◌, map, slice_get, Option, Some, None, option_map, unwrap_or, refl, sym, ap, subst, get_or, length, ◌∙◌, arith}
+use Rattle.std.proofs.Common.{◌≡◌, ℕ, suc, ◌+◌, Bool, true, false, List, [], ◌∷◌, map, slice_get, Option, Some, None, option_map, unwrap_or, refl, sym, ap, ◌∙◌, arith}
 use Rattle.std.specs.List.{find}
-use Rattle.std.proofs.lemmas.Option.{none-some, slice_get_read}
+use Rattle.std.proofs.lemmas.Option.{none-some}
 use Rattle.bsdl_device.specs.declared.Cell.{Cell}
 use Rattle.pin_nets.specs.declared.Drive.{Drive}
 use Rattle.pin_nets.specs.declared.Drive.TheVariants.{Nothing}
@@ -13,7 +13,6 @@ use Rattle.boundary.specs.Masks.{SeesSighted, is_sighted}
 use Rattle.board_meaning.specs.Cells.{Member, drive}
 use Rattle.board_meaning.specs.Nets.{level, lone_net, pin_drive, sees}
 use Rattle.board_plan.specs.CellNets.{first_net}
-use Rattle.chip_seats.specs.Seats.{SeatValue}
 use Rattle.board_wiring.specs.Wires.{WiringValue}
 
 -- ---- the first net is the one that is found
@@ -52,12 +51,6 @@ module _ (place port : ℕ) where
           record { at = suc r.at; is = omega (arith, r.is); there = rw is r.there }
 
 -- ---- what one port sees
-
-pub net_found : (v now : SeatValue) (k : ℕ) (o : Option ℕ) → v ≡ now → length v.nets ≡ length v.chip.device.cells → k < length now.chip.device.cells
-    → o ≡ get_or v.nets k o → slice_get now.nets k ≡ Some o
-net_found v now k o same long cell is =
-    let there : k < length v.chip.device.cells = subst (λ (x : SeatValue). k < length x.chip.device.cells) (sym same) cell in
-    sym (ap (λ (x : SeatValue). slice_get x.nets k) same) ∙ slice_get_read v.nets (length v.nets) k o refl (subst (λ (n : ℕ). k < n) (sym long) there) is
 
 abbrev shown : (Pin → Drive) → Net → Level
 shown f n = level_of (pull_drive n.pull ∷ map f n.pins)

@@ -3,3 +3,4 @@ pub mod Wires
 pub mod Telling
 pub mod Building
 pub mod AtRest
+pub mod Sighted

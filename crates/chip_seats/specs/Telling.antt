@@ -1,7 +1,6 @@
 -- How the cells of a device are told what their ports see.
-use Rattle.std.specs.Prelude.{◌≡◌, ℕ, Bool, true, List, map, slice_get, Some}
-use Rattle.bsdl_device.specs.declared.Cell.{Cell}
-use Rattle.boundary.specs.Masks.{SeesSighted, is_sighted}
+use Rattle.std.specs.Prelude.{◌≡◌, ℕ, Bool, List, map, slice_get, Some}
+use Rattle.boundary.specs.Masks.{SeesSighted}
 use Rattle.board_plan.specs.Planned.{all_pins}
 use Rattle.board_meaning.specs.Cells.{Member}
 use Rattle.board_meaning.specs.Nets.{pin_drive, sees}
@@ -20,14 +19,7 @@ pub record IsAt (w : WiringValue) (place : ℕ) (ms : List Member) (s : SeatValu
 abbrev pub sight : WiringValue → List Member → ℕ → ℕ → Bool
 sight w ms place = sees w.nets ms place
 
--- a cell that captures what its port sees was told that
-abbrev pub TellsCell : WiringValue → ℕ → SeatValue → SeatValue → Type 0
-TellsCell w k old new = (place : ℕ) (ms : List Member) → IsAt w place ms old
-    → (c : Cell) → slice_get old.chip.device.cells k ≡ Some c
-    → is_sighted c.port c.function ≡ true → (p : ℕ) → c.port ≡ Some p
-    → slice_get new.chip.boundary.seen k ≡ Some (sight w ms place p)
-
--- each was
+-- each cell that captures what its port sees was told that
 abbrev pub TellsAll : WiringValue → SeatValue → SeatValue → Type 0
 TellsAll w old new = (place : ℕ) (ms : List Member) → IsAt w place ms old
     → SeesSighted (sight w ms place) old.chip.device.cells new.chip.boundary.seen

@@ -5,6 +5,7 @@
 mod build;
 mod same;
 mod seat;
+mod sighted;
 mod wires;
 
 pub use build::all_seats;

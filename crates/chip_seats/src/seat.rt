@@ -16,13 +16,15 @@ ghost use Rattle.board_meaning.specs.Chain as chain;
 ghost use Rattle.chip_seats.specs.Building.{seat_of};
 ghost use Rattle.chip_seats.specs.Seats.{AreBelow, DrivesStill, IsKept, IsSighted, captures_boundary, chip_state};
 ghost use Rattle.chip_seats.specs.Seats.{falls_driving, member_of, with_seen};
-ghost use Rattle.chip_seats.specs.Telling.{IsAt, TellsAll, TellsCell, sight};
+ghost use Rattle.chip_seats.specs.Sighted.{IsBelow, sighted_of};
+ghost use Rattle.chip_seats.specs.Telling.{IsAt, TellsAll, sight};
 
 mod at_rest;
 
+use crate::sighted::{SightedCell, sighted_cells};
 use board_plan::PlannedDevice;
 use board_wiring::Wiring;
-use boundary::{Boundary, Drive, drivers, sighted_port};
+use boundary::{Boundary, Drive, drivers};
 use bsdl_device::Device;
 use jt_bits::Bits;
 use jt_tap::{Column, State, Work};
@@ -31,8 +33,8 @@ use scan_registers::{Chip, Selected};
 use std::alloc::{AllocError, Global};
 use std::marker::Model;
 
-/// A device with its name and, for its cells and port bits, what they are wired to. Contracts see it without the table
-/// of its driving cells, which its description gives.
+/// A device with its name and, for its cells and port bits, what they are wired to. Contracts see it without the tables
+/// of the cells that drive and that are told what their ports see, which its description and its nets give.
 #[derive(Drop)]
 pub struct Seat {
     name: String,
@@ -41,12 +43,15 @@ pub struct Seat {
     nets: Vec<Option<usize>>,
     /// Of each port bit the cell that drives it.
     drivers: Vec<Option<usize>>,
+    /// The cells that capture what their port sees.
+    sighted: Vec<SightedCell>,
 }
 
 impl Model for Seat {
     ghost use Rattle.std.specs.Prelude.{◌≡◌, length, string_bytes};
     ghost use Rattle.boundary.specs.Cells.{AreDrivers};
     ghost use Rattle.chip_seats.specs.Seats.{SeatValue};
+    ghost use Rattle.chip_seats.specs.Sighted.{sighted_from};
 
     ghost Value = { SeatValue };
 
@@ -56,6 +61,7 @@ impl Model for Seat {
       cells : s.chip.boundary.cells ≡ s.chip.device.cells;
       nets : length s.nets.items ≡ length s.chip.device.cells;
       drivers : AreDrivers s.chip.device.cells s.drivers.items;
+      sighted : s.sighted.items ≡ sighted_from 0 s.nets.items s.chip.device.cells;
     } };
 }
 
@@ -74,6 +80,7 @@ impl Seat {
         let description = device.device.get();
         let name = String::from_str(alloc, &device.name)?;
         let drivers = drivers(alloc, description.cells(), description.port_count())?;
+        let sighted = sighted_cells(alloc, description.cells(), &nets)?;
         let boundary = Boundary::new(alloc, &device.device, &device.core, device.extest_update)?;
         let chip = Chip::new(alloc, &device.device, boundary)?;
         Ok(Seat {
@@ -81,6 +88,7 @@ impl Seat {
             chip,
             nets,
             drivers,
+            sighted,
         })
     }
 
@@ -191,42 +199,52 @@ impl Seat {
             && self.chip.selected() == Selected::Boundary
     }
 
-    /// How many boundary cells the device has.
-    fn cells(&self) -> usize
-        ensures count { result ≡ length self.now.chip.device.cells }
+    /// How many cells capture what their port sees.
+    fn sighted_count(&self) -> usize
+        ensures count { result ≡ length (sighted_of self.now) }
         ensures nets { length self.now.nets ≡ length self.now.chip.device.cells }
         ensures cells { self.now.chip.boundary.cells ≡ self.now.chip.device.cells }
         ensures whole { cells.IsWhole self.now.chip.boundary }
     {
-        self.chip.boundary().cells().len()
+        // That each list of the boundary has a bit for each cell.
+        let _ = self.chip.boundary().cells();
+        self.sighted.len()
     }
 
-    /// Cell `k` is told what its port sees, if it captures that.
-    fn tell_cell(&mut self, k: usize, wiring: &Wiring)
-        requires cell { k < length self.old.chip.device.cells }
-        requires below { AreBelow (length wiring.now.nets) self.old.nets }
+    /// Number `i` of the cells that capture what their port sees.
+    fn sighted_cell(&self, i: usize) -> SightedCell
+        requires { i < length (sighted_of self.now) }
+        ensures { slice_get (sighted_of self.now) i ≡ Some result }
+    {
+        self.sighted[i]
+    }
+
+    /// A cell is told what its port sees.
+    fn tell_cell(&mut self, it: SightedCell, wiring: &Wiring)
+        requires cell { it.cell < length self.old.chip.device.cells }
+        requires below { IsBelow (length wiring.now.nets) it.net }
         ensures same { self.new ≡ with_seen self.new.chip.boundary.seen self.old }
         ensures long { length self.new.chip.boundary.seen ≡ length self.old.chip.boundary.seen }
-        ensures others { (j : ℕ) → j ≢ k
+        ensures others { (j : ℕ) → j ≢ it.cell
             → slice_get self.new.chip.boundary.seen j ≡ slice_get self.old.chip.boundary.seen j }
-        ensures told { TellsCell wiring.now k self.old self.new }
+        ensures told { (place : ℕ) (ms : List Member) → IsAt wiring.now place ms self.old
+            → it.net ≡ first_net place it.port 0 wiring.now.nets
+            → slice_get self.new.chip.boundary.seen it.cell ≡ Some (sight wiring.now ms place it.port) }
     {
-        let list = self.chip.boundary().cells();
-        if let Some(port) = sighted_port(list[k].port, list[k].function) {
-            let bit = self.sight(k, port, wiring);
-            self.chip.see(k, bit);
-        }
+        // That each list of the boundary has a bit for each cell.
+        let _ = self.chip.boundary().cells();
+        let bit = self.sight(it.net, it.port, wiring);
+        self.chip.see(it.cell, bit);
     }
 
-    /// What the port of cell `k` sees.
-    fn sight(&self, k: usize, port: usize, wiring: &Wiring) -> bool
-        requires cell { k < length self.now.chip.device.cells }
-        requires below { AreBelow (length wiring.now.nets) self.now.nets }
+    /// What a port on this net sees; one on none is a net by itself.
+    fn sight(&self, net: Option<usize>, port: usize, wiring: &Wiring) -> bool
+        requires { IsBelow (length wiring.now.nets) net }
         ensures { (place : ℕ) (ms : List Member) → IsAt wiring.now place ms self.now
-            → slice_get self.now.nets k ≡ Some (first_net place port 0 wiring.now.nets)
+            → net ≡ first_net place port 0 wiring.now.nets
             → result ≡ sight wiring.now ms place port }
     {
-        match self.nets[k] {
+        match net {
             Some(net) => reads(wiring.level(net)),
             None => sees_alone(self.drive(port)),
         }
@@ -239,8 +257,9 @@ impl Seat {
         ensures whole { cells.IsWhole self.new.chip.boundary }
         ensures told { TellsAll wiring.now self.old self.new }
     {
-        for k in 0..self.cells() {
-            self.tell_cell(k, wiring);
+        for i in 0..self.sighted_count() {
+            let it = self.sighted_cell(i);
+            self.tell_cell(it, wiring);
         }
     }
 
