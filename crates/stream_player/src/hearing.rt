@@ -1,10 +1,11 @@
 //! Taking the answers.
 
 ghost use Rattle.std.specs.Prelude.{◌≡◌, ◌<◌, ◌+◌, ◌^◌, ◌∷◌, false, true, List, [], MatchOption, None, Some, drop};
-ghost use Rattle.std.specs.Prelude.{is_some, length, slice_get};
+ghost use Rattle.std.specs.Prelude.{Bool, Option, is_some, length, option_map, slice_get};
 ghost use Rattle.std.specs.Option.{option_to_list};
 ghost use Rattle.scan_vectors.specs.Held.{bits};
 ghost use Rattle.scan_vectors.specs.Vector.{VectorBit, wanted_bits};
+ghost use Rattle.stream_player.specs.WordAhead.{IsAhead};
 ghost use Rattle.svf_programs.specs.Sizes.{program_of};
 ghost use Rattle.svf_programs.specs.Seen as seen;
 ghost use Rattle.svf_programs.specs.Seen.{numbered};
@@ -12,12 +13,14 @@ ghost use Rattle.plays.specs.Play.{is_bad};
 ghost use Rattle.plays.specs.PlayingOn as playing_on;
 ghost use Rattle.plays.specs.Streams.{hear_bytes, answers_taken, stops_for, with_more};
 ghost use Rattle.plays.specs.Streams as stream;
+ghost use Rattle.stream_player.specs.Each.{hear_each};
 ghost use Rattle.stream_player.specs.Kept.{IsKeptOf, keeping};
 ghost use Rattle.stream_player.specs.Progress.{IsProgressOf, state_of, vector_bits};
 ghost use Rattle.stream_player.specs.PlaceInPlay.{differing_bit};
 
 use crate::kept::Kept;
 use crate::progress::Progress;
+use crate::word_ahead::WordAhead;
 use bitbang::read_answer;
 use scan_vectors::{Mismatch, Vector, difference, next_wanted};
 use svf_programs::{Action, Program, Step};
@@ -38,6 +41,8 @@ pub(crate) fn hear(
     ensures state { keeping kept.new (state_of (program_of program.now) result.0)
         ≡ hear_bytes (answers_taken 256 (state_of (program_of program.now) p) bytes.now)
         (keeping kept.old (state_of (program_of program.now) p)) }
+    ensures each { keeping kept.new (state_of (program_of program.now) result.0)
+        ≡ hear_each bytes.now (keeping kept.old (state_of (program_of program.now) p)) }
 {
     if p.bad.is_some() {
         return (p, 0);
@@ -50,6 +55,7 @@ pub(crate) fn hear(
         return (p, 0);
     };
     let mut p = p;
+    let mut ahead = WordAhead::nothing();
     let mut count = 0;
     for byte in bytes {
         if p.bad.is_some() {
@@ -58,7 +64,7 @@ pub(crate) fn hear(
         if p.owed == 0 {
             return (p, count);
         }
-        p = hear_one(program, &step, &vector, p, kept, *byte);
+        p = hear_one(program, &step, &vector, &mut ahead, p, kept, *byte);
         count += 1;
     }
     (p, count)
@@ -80,16 +86,19 @@ fn hear_one(
     program: &Program,
     step: &Step<'_>,
     vector: &Vector<'_>,
+    ahead: &mut WordAhead,
     p: Progress,
     kept: &mut Kept,
     byte: u8,
 ) -> Progress
+    requires ahead { IsAhead (bits vector.now) ahead.old }
     requires stands { IsProgressOf program.now.steps p }
     requires keeps { IsKeptOf (state_of (program_of program.now) p) kept.old }
     requires first { slice_get program.now.steps p.at ≡ Some (numbered step.now) }
     requires scans { vector_bits (seen.step step.now.what) ≡ bits vector.now }
     requires good { p.bad ≡ None }
     requires owed { 0 < p.owed }
+    ensures ahead { IsAhead (bits vector.now) ahead.new }
     ensures stands { IsProgressOf program.now.steps result }
     ensures keeps { IsKeptOf (state_of (program_of program.now) result) kept.new }
     ensures state { keeping kept.new (state_of (program_of program.now) result)
@@ -104,7 +113,7 @@ fn hear_one(
         let bad = Some(byte);
         return Progress { bad, ..p };
     };
-    let p = after_judging(step.number, vector, p, kept, bit);
+    let p = after_judging(step.number, vector, ahead, p, kept, bit);
     Progress {
         heard: p.heard + 1,
         owed: p.owed - 1,
@@ -116,14 +125,17 @@ fn hear_one(
 fn after_judging(
     command: usize,
     vector: &Vector<'_>,
+    ahead: &mut WordAhead,
     p: Progress,
     kept: &mut Kept,
     bit: bool,
 ) -> Progress
+    requires ahead { IsAhead (bits vector.now) ahead.old }
     requires room { kept.old.found.total + 1 < 2 ^ 64 }
     requires stops { stops_for kept.old.kind kept.old.found.list ≡ p.stopped }
     ensures rest { result ≡ record p { judged = result.judged; stopped = result.stopped } }
     ensures stops { stops_for kept.new.kind kept.new.found.list ≡ result.stopped }
+    ensures ahead { IsAhead (bits vector.now) ahead.new }
     ensures full { stops_for kept.old.kind kept.old.found.list ≡ true → (result ≡ p) × (kept.new ≡ kept.old)
         × ((more : List playing_on.Mismatch) → with_more kept.old.kind more kept.old.found ≡ kept.old.found) }
     ensures judged { stops_for kept.old.kind kept.old.found.list ≡ false → (w : VectorBit) (ws : List VectorBit)
@@ -136,6 +148,66 @@ fn after_judging(
     if kept.stops() {
         return p;
     }
+    match ahead.expected(vector, p.judged, bit) {
+        Some(i) => after_expected(command, vector, i, p, kept, bit),
+        None => after_next(command, vector, p, kept, bit),
+    }
+}
+
+/// Judges one bit by the wanted one at this place, which is the next and is as it came out.
+fn after_expected(
+    command: usize,
+    vector: &Vector<'_>,
+    i: usize,
+    p: Progress,
+    kept: &mut Kept,
+    bit: bool,
+) -> Progress
+    requires inside { i < length (bits vector.now) }
+    requires there { option_map {U = Option Bool} (λ b. b.wanted) (slice_get (bits vector.now) i) ≡ Some (Some bit) }
+    requires next { wanted_bits (drop p.judged (bits vector.now)) ≡ wanted_bits (drop i (bits vector.now)) }
+    requires goes_on { stops_for kept.old.kind kept.old.found.list ≡ false }
+    requires room { kept.old.found.total + 1 < 2 ^ 64 }
+    requires stops { stops_for kept.old.kind kept.old.found.list ≡ p.stopped }
+    ensures rest { result ≡ record p { judged = result.judged; stopped = result.stopped } }
+    ensures stops { stops_for kept.new.kind kept.new.found.list ≡ result.stopped }
+    ensures judged { stops_for kept.old.kind kept.old.found.list ≡ false → (w : VectorBit) (ws : List VectorBit)
+        → wanted_bits (drop p.judged (bits vector.now)) ≡ w ∷ ws
+        → (wanted_bits (drop result.judged (bits vector.now)) ≡ ws)
+        × (kept.new ≡ record kept.old {
+          found = with_more kept.old.kind (option_to_list (differing_bit command w bit)) kept.old.found;
+        }) }
+{
+    // For the proof alone: the command, and how long the vector is.
+    let _ = (command, vector.len(), bit);
+    let stopped = kept.note(None);
+    Progress {
+        judged: i + 1,
+        stopped,
+        ..p
+    }
+}
+
+/// Judges one bit by the next wanted one, wherever that is.
+fn after_next(
+    command: usize,
+    vector: &Vector<'_>,
+    p: Progress,
+    kept: &mut Kept,
+    bit: bool,
+) -> Progress
+    requires goes_on { stops_for kept.old.kind kept.old.found.list ≡ false }
+    requires room { kept.old.found.total + 1 < 2 ^ 64 }
+    requires stops { stops_for kept.old.kind kept.old.found.list ≡ p.stopped }
+    ensures rest { result ≡ record p { judged = result.judged; stopped = result.stopped } }
+    ensures stops { stops_for kept.new.kind kept.new.found.list ≡ result.stopped }
+    ensures judged { stops_for kept.old.kind kept.old.found.list ≡ false → (w : VectorBit) (ws : List VectorBit)
+        → wanted_bits (drop p.judged (bits vector.now)) ≡ w ∷ ws
+        → (wanted_bits (drop result.judged (bits vector.now)) ≡ ws)
+        × (kept.new ≡ record kept.old {
+          found = with_more kept.old.kind (option_to_list (differing_bit command w bit)) kept.old.found;
+        }) }
+{
     // For the proof alone: how long the vector is.
     let _ = vector.len();
     let Some(i) = next_wanted(vector, p.judged) else {

@@ -8,6 +8,7 @@ mod pieces;
 mod player;
 mod progress;
 mod telling;
+mod word_ahead;
 
 pub use player::Player;
 pub use scan_vectors::{Failures, Mismatch};

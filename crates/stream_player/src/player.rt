@@ -6,6 +6,7 @@ ghost use Rattle.scan_vectors.specs.Failures.{found};
 ghost use Rattle.plays.specs.declared.kind.Kind.TheVariants.{Stops, PlaysOn};
 ghost use Rattle.plays.specs.Streams as stream;
 ghost use Rattle.plays.specs.Streams.{new_stream, hear_bytes, answers_taken, bytes_to_send};
+ghost use Rattle.stream_player.specs.Each.{hear_each};
 
 use crate::hearing::hear;
 use crate::kept::Kept;
@@ -133,6 +134,15 @@ impl Player {
         let (progress, count) = hear(&self.program, self.progress, &mut self.kept, bytes);
         self.progress = progress;
         count
+    }
+
+    /// Takes these answers one after another, as `answers` takes each of them alone: those that are not owed are passed
+    /// over.
+    pub fn answers_each(&mut self, bytes: &[u8])
+        ensures { self.new ≡ hear_each bytes.now self.old }
+    {
+        let (progress, _) = hear(&self.program, self.progress, &mut self.kept, bytes);
+        self.progress = progress;
     }
 
     /// How the play ended: set once `Q` was given out, or after a bad answer.
