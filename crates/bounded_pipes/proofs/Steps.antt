@@ -1,40 +1,65 @@
 -- The steps of the pipes' loops.
-use Rattle.std.proofs.Common.{◌≡◌, Bool, true, false, not, ◌||◌, ℕ, zero, suc, ◌+◌, ◌-◌, ◌<◌, ◌≤◌, min, List, [], ◌∷◌, ◌++◌, length, take, drop, refl, sym, ap, ◌∙◌, subst, arith, append_assoc, append-nil, length-append, length-drop, length-take, Option, Some, None, is_some}
+use Rattle.std.proofs.Common.{◌≡◌, Bool, true, false, not, ◌||◌, ℕ, zero, suc, ◌+◌, ◌-◌, ◌<◌, ◌≤◌, min, ◌==◌, List, [], ◌∷◌, ◌++◌, map, length, take, drop, refl, sym, ap, ◌∙◌, subst, arith, append_assoc, append-nil, length-append, length-drop, length-take, Option, Some, None, is_some}
 use Rattle.std.proofs.Math.Seq.{take-add}
 use Rattle.std.specs.Prelude.{if◌then◌else◌}
 use Rattle.std.specs.Option.{unwrap_or}
 use Rattle.bitbang_table.specs.declared.Message.{Message}
 use Rattle.bitbang_table.specs.declared.Message.TheVariants.{Write, Ask, Quit, Light, Lines}
-use Rattle.bitbang_table.specs.Protocol.{decode}
-use Rattle.plays.specs.Events.{World, has_room, put_bytes, served, take_answers, after_byte_taken}
-use Rattle.plays.specs.Streams.{StreamState}
+use Rattle.bitbang_table.specs.Protocol.{answer, decode}
+use Rattle.plays.specs.Events.{World, has_room, hear_bits, put_bytes, served, take_answers, after_byte_taken}
+use Rattle.plays.specs.Streams.{StreamState, answers_taken, hear_bytes}
+use Rattle.streaming.specs.Histories.{bits_told}
+use Rattle.stream_player.specs.Each.{hear_each}
 use Rattle.stream_player.proofs.BufferFills.{waiting-more}
-use Rattle.bounded_pipes.specs.Joining.{serve_one, side}
+use Rattle.bounded_pipes.specs.Joining.{AreAnswers, serve_one, side}
 
 abbrev Pipes : Type 0
 Pipes = World StreamState
 
 module _ (down_room up_room : ℕ) where
-  -- one answer, then the others
-  pub take-step : (m : ℕ) (w : Pipes) → take_answers side down_room up_room m (take_answers side down_room up_room 1 w) ≡ take_answers side down_room up_room (suc m) w
-  take-step m w = one w.up m
-    where
-      one : (up : List Bool) (m : ℕ) → take_answers side down_room up_room m (take_answers side down_room up_room 1 (record w { up = up }))
-          ≡ take_answers side down_room up_room (suc m) (record w { up = up })
-      one [] zero = refl
-      one [] (suc m) = refl
-      one (x ∷ up) m = refl
+  abbrev takes : ℕ → Pipes → Pipes
+  takes n w = take_answers side down_room up_room n w
 
-  pub take-none : (m : ℕ) (w : Pipes) → length w.up ≡ 0 → take_answers side down_room up_room m w ≡ w
+  abbrev heard : Bool → List Bool → Pipes → Pipes
+  heard x up w = record w { player = side.hear x w.player; up = up }
+
+  -- some answers, then the others
+  pub takes-more : (c m : ℕ) (w : Pipes) → takes m (takes c w) ≡ takes (c + m) w
+  takes-more zero m w = ap (λ k. takes k w) (omega arith)
+  takes-more (suc c) m w = one w.up (λ x up. takes-more c m (heard x up w))
+    where
+      next : suc c + m ≡ suc (c + m)
+      next = omega arith
+
+      none : (m : ℕ) → takes m (record w { up = [] }) ≡ takes (suc (c + m)) (record w { up = [] })
+      none zero = refl
+      none (suc m) = refl
+
+      one : (up : List Bool) → ((x : Bool) (up : List Bool) → takes m (takes c (heard x up w)) ≡ takes (c + m) (heard x up w))
+          → takes m (takes (suc c) (record w { up = up })) ≡ takes (suc c + m) (record w { up = up })
+      one [] others = none m ∙ ap (λ k. takes k (record w { up = [] })) (sym next)
+      one (x ∷ up) others = others x up ∙ ap (λ k. takes k (record w { up = x ∷ up })) (sym next)
+
+  pub take-none : (m : ℕ) (w : Pipes) → length w.up ≡ 0 → takes m w ≡ w
   take-none m w e = one w.up m e
     where
-      one : (up : List Bool) (m : ℕ) → length up ≡ 0 → take_answers side down_room up_room m (record w { up = up }) ≡ record w { up = up }
+      one : (up : List Bool) (m : ℕ) → length up ≡ 0 → takes m (record w { up = up }) ≡ record w { up = up }
       one [] zero e = refl
       one [] (suc m) e = refl
       one (x ∷ up) m e = absurd (omega arith)
 
-  pub take-count : (w : Pipes) → 0 < length w.up → 1 + length (take_answers side down_room up_room 1 w).up ≡ length w.up
-  take-count w some = omega (arith, length-drop 1 w.up)
+  -- a piece that is asked for, then the others: fewer are taken only where no more are there
+  pub take-step : (m k more : ℕ) (w : Pipes) → k ≤ m → more ≡ length w.up - length (takes k w).up → takes (m - more) (takes k w) ≡ takes m w
+  take-step m k more w le is = by (length (takes k w).up) refl
+    where
+      whole : takes (m - k) (takes k w) ≡ takes m w
+      whole = let sum : k + (m - k) ≡ m = omega (arith, le) in takes-more k (m - k) w ∙ ap (λ j. takes j w) sum
+
+      by : (left : ℕ) → length (takes k w).up ≡ left → takes (m - more) (takes k w) ≡ takes m w
+      by zero e = take-none (m - more) (takes k w) e ∙ sym (take-none (m - k) (takes k w) e) ∙ whole
+      by (suc left) e =
+          let all : m - more ≡ m - k = omega (arith, is, e, length-drop k w.up) in
+          ap (λ j. takes j (takes k w)) all ∙ whole
 
 taken-down : (bytes : List ℕ) (o : Option Message) (w : World StreamState) → (after_byte_taken bytes o w).down ≡ bytes
 taken-down bytes None w = refl
@@ -195,14 +220,34 @@ module _ (down_room up_room : ℕ) where
       down = ap (λ l. w.down ++ l) empty ∙ append-nil w.down
 
 -- The loops' invariants, one turn on.
-pub take-keeps : (down_room up_room n count : ℕ) (w v start : World StreamState) → count < n → v ≡ take_answers side down_room up_room 1 w
+pub take-keeps : (down_room up_room n count more : ℕ) (w v start : World StreamState) → count < n
+    → v ≡ take_answers side down_room up_room (min (n - count) 64) w → more ≡ length w.up - length v.up
     → take_answers side down_room up_room (n - count) w ≡ take_answers side down_room up_room n start
-    → take_answers side down_room up_room (n - (count + 1)) v ≡ take_answers side down_room up_room n start
-take-keeps down_room up_room n count w v start some e rest =
-    let m = n - (count + 1) in
-    let next : suc m ≡ n - count = omega arith in
-    ap (take_answers side down_room up_room m) e ∙ take-step down_room up_room m w
-    ∙ ap (λ k. take_answers side down_room up_room k w) next ∙ rest
+    → (take_answers side down_room up_room (n - (count + more)) v ≡ take_answers side down_room up_room n start)
+    × (more + length v.up ≡ length w.up) × (count + more ≤ n)
+take-keeps down_room up_room n count more w v start some e moved rest =
+    let m = n - count in
+    let k = min m 64 in
+    let fewer : length v.up ≡ length w.up - k = ap (λ u. length u.up) e ∙ length-drop k w.up in
+    let is : more ≡ length w.up - length (take_answers side down_room up_room k w).up = moved ∙ ap (λ u. length w.up - length u.up) e in
+    let next : n - (count + more) ≡ m - more = omega arith in (
+      ap (λ j. take_answers side down_room up_room j v) next
+          ∙ ap (take_answers side down_room up_room (m - more)) e
+          ∙ take-step down_room up_room m k more w (omega arith) is ∙ rest,
+      omega (arith, moved, fewer),
+      omega (arith, moved, fewer),
+    )
+
+-- Where a piece has none, none is left.
+pub take-stops : (down_room up_room n count more : ℕ) (w v start : World StreamState) → count < n
+    → v ≡ take_answers side down_room up_room (min (n - count) 64) w → more ≡ length w.up - length v.up → more ≡ 0
+    → take_answers side down_room up_room (n - count) w ≡ take_answers side down_room up_room n start
+    → v ≡ take_answers side down_room up_room n start
+take-stops down_room up_room n count more w v start some e moved none rest =
+    let k = min (n - count) 64 in
+    let fewer : length v.up ≡ length w.up - k = ap (λ u. length u.up) e ∙ length-drop k w.up in
+    let empty : length w.up ≡ 0 = omega (arith, moved, none, fewer, some) in
+    e ∙ take-none down_room up_room k w empty ∙ sym (take-none down_room up_room (n - count) w empty) ∙ rest
 
 pub serve-keeps : (room n count : ℕ) (w v start : World StreamState) → count < n → v ≡ unwrap_or (serve_one room w) w → is_some (serve_one room w) ≡ true
     → served room (n - count) w.down w ≡ served room n start.down start
@@ -241,3 +286,42 @@ pub serve-stops : (room n count : ℕ) (w start : World StreamState) → is_some
 serve-stops room n count w start none rest =
     let still = serve-none room (n - count) w none in
     still.same ∙ sym still.rest ∙ rest
+
+-- a piece of answers, as bytes
+same-drop : (n : ℕ) (xs : List ℕ) → drop (length (take n xs)) xs ≡ drop n xs
+same-drop zero xs = refl
+same-drop (suc n) [] = refl
+same-drop (suc n) (x ∷ xs) = same-drop n xs
+
+pub answers-left : (c : ℕ) (items : List ℕ) → AreAnswers items → AreAnswers (drop c items)
+answers-left zero items are = are
+answers-left (suc c) [] are = refl
+answers-left (suc c) (b ∷ items) are = let rest : items ≡ map answer (bits_told items) = cc in answers-left c items rest
+
+told-left : (c : ℕ) (items : List ℕ) → bits_told (drop c items) ≡ drop c (bits_told items)
+told-left zero items = refl
+told-left (suc c) [] = refl
+told-left (suc c) (b ∷ items) = told-left c items
+
+hears : (k : ℕ) (items : List ℕ) (s : StreamState) → AreAnswers items
+    → hear_each (take k items) s ≡ hear_bits side (take k (bits_told items)) s
+hears zero items s are = refl
+hears (suc k) [] s are = refl
+hears (suc k) (b ∷ items) s are =
+    let first : b ≡ answer (b == 49) = cc in
+    let rest : items ≡ map answer (bits_told items) = cc in
+    ap (λ (x : ℕ). hear_each (take k items) (hear_bytes (answers_taken 256 s (x ∷ [])) s)) first
+    ∙ hears k items (side.hear (b == 49) s) rest
+
+pub take-piece : (down_room up_room k count : ℕ) (w : World StreamState) (items : List ℕ) → AreAnswers items → w.up ≡ bits_told items
+    → count ≡ min k (length items) → (player : StreamState) → player ≡ hear_each (take count items) w.player
+    → record w { player = player; up = bits_told (drop count items) } ≡ take_answers side down_room up_room k w
+take-piece down_room up_room k count w items are is few player heard =
+    let c : count ≡ length (take k items) = few ∙ sym (length-take k items) in
+    let now : hear_each (take count items) w.player ≡ hear_bits side (take k w.up) w.player =
+    ap (λ (n : ℕ). hear_each (take n items) w.player) c ∙ ap (λ (l : List ℕ). hear_each l w.player) (same-take k items)
+    ∙ hears k items w.player are ∙ ap (λ (l : List Bool). hear_bits side (take k l) w.player) (sym is) in
+    let left : bits_told (drop count items) ≡ drop k w.up =
+    ap (λ (n : ℕ). bits_told (drop n items)) c ∙ ap bits_told (same-drop k items) ∙ told-left k items
+    ∙ ap (λ (l : List Bool). drop k l) (sym is) in
+    λ i. record w { player = (heard ∙ now) i; up = left i }

@@ -1,7 +1,9 @@
 //! The two pipes, and what each event does to them.
 
 ghost use Rattle.std.specs.Prelude.{◌≡◌, ◌<◌, ◌+◌, ◌-◌, min, length, take, map, is_some, nat_lt};
-ghost use Rattle.std.specs.Prelude.{false, unwrap_or, Some, MatchResult};
+ghost use Rattle.std.specs.Prelude.{◌≤◌, drop, false, unwrap_or, Some, MatchResult};
+ghost use Rattle.circular_buffer.specs.Buffer.{buffer};
+ghost use Rattle.stream_player.specs.Each.{hear_each};
 ghost use Rattle.bitbang_table.specs.Protocol.{decode};
 ghost use Rattle.scan_vectors.specs.Failures.{found};
 ghost use Rattle.plays.specs.Events.{empty_pipes, happens, has_room, bytes_moved, moving, put_bytes, run, served};
@@ -49,7 +51,7 @@ pub struct Unjoined {
     pub board: Board,
 }
 
-/// The most bytes that are put into a pipe at once.
+/// The most bytes that are put into a pipe, or taken out of one, at once.
 const PIECE: usize = 64;
 
 impl Pipes {
@@ -100,20 +102,17 @@ impl Pipes {
         self.down.fill_from_slice(&piece[..count])
     }
 
-    /// The player takes one answer, if there is one.
-    fn take_answer(&mut self) -> bool
-        ensures taken { result ≡ nat_lt 0 (length self.old.world.up) }
+    /// The player takes some answers: as many as are there and are asked for, and a piece at most.
+    fn take_piece(&mut self, n: usize) -> usize
+        ensures moved { result ≡ length self.old.world.up - length self.new.world.up }
         ensures world { self.new ≡ record self.old {
-          world = take_answers side self.old.down_room self.old.up_room 1 self.old.world;
+          world = take_answers side self.old.down_room self.old.up_room (min n 64) self.old.world;
         } }
     {
-        match self.up.pop_front() {
-            Some(answer) => {
-                self.player.answers(&[answer]);
-                true
-            }
-            None => false,
+        if self.up.is_empty() {
+            return 0;
         }
+        take_from(&mut self.player, &mut self.up, n.min(PIECE))
     }
 
     /// The player takes up to n answers.
@@ -124,8 +123,12 @@ impl Pipes {
         } }
     {
         let mut count = 0;
-        while count < n && self.take_answer() {
-            count += 1;
+        while count < n {
+            let more = self.take_piece(n - count);
+            if more == 0 {
+                return count;
+            }
+            count += more;
         }
         count
     }
@@ -282,4 +285,17 @@ impl Pipes {
         let Pipes { board, .. } = self;
         board
     }
+}
+
+/// A player takes the first answers of a pipe, so many at most. Answers how many.
+fn take_from(player: &mut Player, up: &mut HeapCircularBuffer<u8>, n: usize) -> usize
+    requires { n ≤ 64 }
+    ensures count { result ≡ min n (length up.old.items) }
+    ensures left { up.new ≡ buffer (drop result up.old.items) up.old.capacity }
+    ensures heard { player.new ≡ hear_each (take result up.old.items) player.old }
+{
+    let mut piece = [0; PIECE];
+    let count = up.read_into(&mut piece[..n]);
+    player.answers_each(&piece[..count]);
+    count
 }
