@@ -5,3 +5,4 @@ pub mod TellLaws
 pub mod BuildLaws
 pub mod SameLaws
 pub mod SightedLaws
+pub mod DrivingLaws

@@ -4,3 +4,4 @@ pub mod Telling
 pub mod Building
 pub mod AtRest
 pub mod Sighted
+pub mod Driving

@@ -3,11 +3,13 @@
 #![tactic(auto)]
 
 mod build;
+mod driving;
 mod same;
 mod seat;
 mod sighted;
 mod wires;
 
 pub use build::all_seats;
+pub use driving::{DrivingPin, driving_pins, refresh_driving};
 pub use seat::Seat;
 pub use wires::refresh;

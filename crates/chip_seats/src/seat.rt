@@ -16,11 +16,13 @@ ghost use Rattle.board_meaning.specs.Chain as chain;
 ghost use Rattle.chip_seats.specs.Building.{seat_of};
 ghost use Rattle.chip_seats.specs.Seats.{AreBelow, DrivesStill, IsKept, IsSighted, captures_boundary, chip_state};
 ghost use Rattle.chip_seats.specs.Seats.{falls_driving, member_of, with_seen};
+ghost use Rattle.chip_seats.specs.Driving.{cell_drives};
 ghost use Rattle.chip_seats.specs.Sighted.{IsBelow, sighted_of};
 ghost use Rattle.chip_seats.specs.Telling.{IsAt, TellsAll, sight};
 
 mod at_rest;
 
+use crate::driving::first_driver;
 use crate::sighted::{SightedCell, sighted_cells};
 use board_plan::PlannedDevice;
 use board_wiring::Wiring;
@@ -188,6 +190,23 @@ impl Seat {
             Some(driver) => self.chip.boundary().driven(*driver, mode),
             None => self.chip.boundary().drive(port, mode),
         }
+    }
+
+    /// The cell that drives a port bit.
+    pub(crate) fn driver(&self, port: usize) -> Option<usize>
+        ensures { result ≡ cells.driver_from port 0 self.now.chip.device.cells }
+    {
+        match self.drivers.get(port) {
+            Some(driver) => *driver,
+            None => first_driver(self.chip.device().cells(), port),
+        }
+    }
+
+    /// What a cell drives its port with.
+    pub(crate) fn driven(&self, cell: usize) -> Drive
+        ensures { result ≡ cell_drives (member_of self.now) cell }
+    {
+        self.chip.boundary().driven(Some(cell), self.chip.mode())
     }
 
     /// Whether the rising edge that comes captures the boundary register.

@@ -8,6 +8,7 @@ ghost use Rattle.board_meaning.specs.Resting.{chip_at_rest};
 ghost use Rattle.board_meaning.specs.Whole as whole;
 ghost use Rattle.chip_chain.specs.AtRest.{AssertsTrst, CapturesAt, Changes, Stands, chain_as, shifted_through};
 ghost use Rattle.chip_chain.specs.Sweeping.{EachFrom, Still};
+ghost use Rattle.chip_seats.specs.Driving.{driving_of};
 ghost use Rattle.chip_seats.specs.Wires.{IsWired};
 ghost use Rattle.jt_tap.specs.declared.State.TheVariants.{Reset};
 ghost use Rattle.scan_vectors.specs.Failures.{differing, found, with_found};
@@ -16,7 +17,7 @@ ghost use Rattle.scan_vectors.specs.Vector.{tdis};
 
 use super::Chain;
 use board_wiring::Wiring;
-use chip_seats::{Seat, refresh};
+use chip_seats::{DrivingPin, Seat, refresh, refresh_driving};
 use jt_tap::{Column, State};
 use scan_vectors::{Failures, Vector};
 use whole_chain::{note_chain, shift_chain};
@@ -53,7 +54,7 @@ impl Chain {
     pub fn update(&mut self, column: Column)
         ensures { self.new ≡ chain_as (map (whole.update_member column) (members self.old.chips)) self.old }
     {
-        update_wired(&mut self.seats, &mut self.wiring, column);
+        update_wired(&mut self.seats, &mut self.wiring, &self.driving, column);
     }
 
     /// Every device is reset, as in RESET.
@@ -94,16 +95,18 @@ fn capture_all(seats: &mut [Seat], wiring: &Wiring, column: Column)
     }
 }
 
-/// An update of all devices; where it may have changed what they drive, that is put to the nets.
-fn update_wired(seats: &mut [Seat], wiring: &mut Wiring, column: Column)
-    requires { IsWired seats.old wiring.old }
+/// An update of all devices; where it may have changed what they drive, that is put to the nets, given the pins that a
+/// cell drives.
+fn update_wired(seats: &mut [Seat], wiring: &mut Wiring, driving: &[DrivingPin], column: Column)
+    requires wired { IsWired seats.old wiring.old }
+    requires driving { driving.now ≡ driving_of seats.old wiring.old.nets }
     ensures devices { EachFrom (Changes (whole.update_member column)) 0 seats.old seats.new }
     ensures wired { IsWired seats.new wiring.new }
     ensures nets { wiring.new.nets ≡ wiring.old.nets }
 {
     let anew = update_all(seats, column);
     if anew {
-        refresh(wiring, seats);
+        refresh_driving(wiring, seats, driving);
     }
 }
 

@@ -1,0 +1,96 @@
+//! The pins of a board that a cell drives.
+
+ghost use Rattle.std.specs.Prelude.{◌≡◌, ◌<◌, ◌++◌, [], List, map, length, slice_set, IfOk, OnOk};
+ghost use Rattle.boundary.specs.Cells.{driver_from};
+ghost use Rattle.board_plan.specs.Planned.{all_pins};
+ghost use Rattle.board_meaning.specs.Nets.{pin_drive};
+ghost use Rattle.chip_seats.specs.Driving.{cells_of, driving_of, entry_drives, with_driving};
+ghost use Rattle.chip_seats.specs.Seats.{SeatValue, member_of};
+ghost use Rattle.chip_seats.specs.Wires.{AreSeated};
+
+use crate::seat::Seat;
+use board_wiring::Wiring;
+use bsdl_device::Cell;
+use std::alloc::{AllocError, Global};
+
+/// A pin of a board, by its number, that a cell drives: the place of its device, and the cell.
+#[derive(Drop, Clone, Copy)]
+pub struct DrivingPin {
+    pub(crate) pin: usize,
+    pub(crate) device: usize,
+    pub(crate) cell: usize,
+}
+
+/// The pins that a cell drives; any other drives nothing, whatever the devices do. Refused where memory runs out.
+pub fn driving_pins(
+    alloc: Global,
+    wiring: &Wiring,
+    seats: &[Seat],
+) -> Result<Vec<DrivingPin>, AllocError>
+    requires { AreSeated (length seats.now) (all_pins wiring.now.nets) }
+    ensures { IfOk result (λ v. v.items ≡ driving_of seats.now wiring.now.nets) }
+{
+    let mut driving = Vec::new(alloc);
+    for k in 0..wiring.pin_count() {
+        let pin = wiring.pin(k);
+        let driver = seats[pin.device].driver(pin.port);
+        enter(&mut driving, k, pin.device, driver)?;
+    }
+    Ok(driving)
+}
+
+/// One more pin, if a cell drives it.
+fn enter(
+    driving: &mut Vec<DrivingPin>,
+    pin: usize,
+    device: usize,
+    driver: Option<usize>,
+) -> Result<(), AllocError>
+    ensures { OnOk result (driving.new.items ≡ driving.old.items ++ with_driving pin device driver []) }
+{
+    if let Some(cell) = driver {
+        driving.push(DrivingPin { pin, device, cell })?;
+    }
+    Ok(())
+}
+
+/// What each pin drives is put to its net, given the pins that a cell drives; what was put to the nets before is what
+/// each pin drove while the registers of the devices were others.
+pub fn refresh_driving(wiring: &mut Wiring, seats: &[Seat], driving: &[DrivingPin])
+    requires seated { AreSeated (length seats.now) (all_pins wiring.old.nets) }
+    requires table { driving.now ≡ driving_of seats.now wiring.old.nets }
+    ensures nets { wiring.new.nets ≡ wiring.old.nets }
+    ensures drives { (before : List SeatValue) → map cells_of before ≡ map cells_of seats.now
+        → wiring.old.drives ≡ map (pin_drive (map member_of before)) (all_pins wiring.old.nets)
+        → wiring.new ≡ record wiring.old {
+          drives = map (pin_drive (map member_of seats.now))
+              (all_pins wiring.old.nets);
+        } }
+{
+    for it in driving {
+        put_driven(wiring, seats, *it);
+    }
+}
+
+/// What the cell of a pin drives is put to its net.
+fn put_driven(wiring: &mut Wiring, seats: &[Seat], it: DrivingPin)
+    requires device { it.device < length seats.now }
+    requires pin { it.pin < length (all_pins wiring.old.nets) }
+    ensures { wiring.new ≡ record wiring.old {
+      drives = slice_set wiring.old.drives it.pin (entry_drives (map member_of seats.now) it);
+    } }
+{
+    wiring.put(it.pin, seats[it.device].driven(it.cell));
+}
+
+/// The first of these cells that drives a port bit.
+pub(crate) fn first_driver(list: &[Cell], port: usize) -> Option<usize>
+    ensures { result ≡ driver_from port 0 list.now }
+{
+    for k in 0..list.len() {
+        if list[k].function.drives() && list[k].port == Some(port) {
+            return Some(k);
+        }
+    }
+    None
+}
