@@ -1,8 +1,7 @@
 -- Ports by their names, one more.
-use Rattle.std.proofs.Common.{◌≡◌, ℕ, suc, ◌+◌, Bool, true, false, cond, List, [], ◌∷◌, ◌++◌, length, refl, sym, ap, ◌∙◌, arith}
+use Rattle.std.proofs.Common.{◌≡◌, ℕ, suc, ◌+◌, Bool, true, false, List, [], ◌∷◌, ◌++◌, length, refl, sym, ap, ◌∙◌, arith}
 use Rattle.std.specs.Option.{option_or}
 use Rattle.std.specs.Prelude.{Option, Some, None, is_some, option_map, bytes_eq}
-use Rattle.std.proofs.lemmas.Slice.Eq.{bytes_eq-Decides}
 use Rattle.bsdl_text.specs.Words.{upper}
 use Rattle.bsdl_ports.specs.declared.ports.Group.{Group}
 use Rattle.bsdl_ports.specs.Ports.{Port, Range}
@@ -39,28 +38,6 @@ pub group_kept : (before after : List ℕ → Option (ℕ × Option Range)) (n n
 group_kept before after n next g gs q is step =
     ap (λ (k : ℕ). option_or (after q) (find_port k (view.ports gs) q)) is ∙ ap (λ o. option_or o (find_port (n + length (view.group g)) (view.ports gs) q)) (step q)
     ∙ or_assoc (before q) (find_port n (view.group g) q) (find_port (n + length (view.group g)) (view.ports gs) q) ∙ ap (option_or (before q)) (sym (ports_both n (view.group g) (view.ports gs) q))
-
--- a name that is put where it is new
-pub name_put : (before : List ℕ → Option (ℕ × Option Range)) (key name q : List ℕ) (x : ℕ × Option Range) → key ≡ name → is_some (before key) ≡ false
-    → cond (bytes_eq key q) (Some x) (before q) ≡ option_or (before q) (at_name name x q)
-name_put before key name q x same new = by_test (bytes_eq key q) refl
-  where
-    none_is : (o : Option (ℕ × Option Range)) → is_some o ≡ false → o ≡ None
-    none_is None e = refl
-    none_is (Some y) e = absurd cc
-
-    by_test : (b : Bool) → bytes_eq key q ≡ b → cond (bytes_eq key q) (Some x) (before q) ≡ option_or (before q) (at_name name x q)
-    by_test true is =
-        let here : before q ≡ None = ap before (sym ((bytes_eq-Decides key q).0 is)) ∙ none_is (before key) new in
-        let there : bytes_eq name q ≡ true = ap (λ (n : List ℕ). bytes_eq n q) (sym same) ∙ is in
-        rw (is, here, there) refl
-    by_test false is =
-        let there : bytes_eq name q ≡ false = ap (λ (n : List ℕ). bytes_eq n q) (sym same) ∙ is in
-        rw (is, there) (sym (or_none (before q)))
-
-pub mapped : {A B : Type 0} (f : A → B) (b : Bool) (x : A) (o : Option A) → option_map f (cond b (Some x) o) ≡ cond b (Some (f x)) (option_map f o)
-mapped f true x o = refl
-mapped f false x o = refl
 
 pub some_mapped : {A B : Type 0} (f : A → B) (o : Option A) → is_some (option_map f o) ≡ is_some o
 some_mapped f None = refl

@@ -1,5 +1,7 @@
 //! Ports by their names, and port bits.
 ghost use Rattle.std.specs.Prelude.{◌≡◌, ◌+◌, ℕ, List, length, option_map, option_and_then, IfOk, OnOk, Some};
+ghost use Rattle.std.specs.Prelude.{bytes_eq, if◌then◌else◌, string_bytes, unwrap_or};
+ghost use Rattle.std.specs.BTreeMap.{get_by_text};
 ghost use Rattle.std.specs.Option.{option_or};
 ghost use Rattle.bsdl_text.specs.Words.{upper};
 ghost use Rattle.bsdl_numbers.specs.View.{value};
@@ -90,9 +92,19 @@ fn add_name<'a>(
     let key = name.upper_name(alloc)?;
     let number = named.next;
     named.next = number.checked_add(1).ok_or(AllocError)?;
-    if !named.by_name.contains_key(key.as_str()) {
-        named.by_name.insert(key, NumberedPort { number, range })?;
-    }
+    put_first(&mut named.by_name, key, NumberedPort { number, range })
+}
+
+/// Puts a port at a name; where one stands already, that one stays.
+fn put_first<'a>(
+    by_name: &mut BTreeMap<String, NumberedPort<'a>>,
+    key: String,
+    port: NumberedPort<'a>,
+) -> Result<(), AllocError>
+    ensures { OnOk result ((q : List ℕ) → get_by_text by_name.new q ≡ (if bytes_eq q (string_bytes key)
+        then Some (unwrap_or (get_by_text by_name.old (string_bytes key)) port.entry) else get_by_text by_name.old q)) }
+{
+    by_name.entry(key)?.or_insert(port);
     Ok(())
 }
 
