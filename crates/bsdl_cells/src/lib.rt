@@ -2,16 +2,17 @@
 //! 1149.1-2001, Annex B.8.14).
 #![tactic(auto)]
 
-ghost use Rattle.std.specs.Prelude.{◌<◌, ◌≤◌, length, option_map, IfOk};
-ghost use Rattle.bsdl_lex.specs.Left.{left};
+ghost use Rattle.std.specs.Prelude.{◌≡◌, ◌<◌, ◌≤◌, length, option_map, IfOk};
+ghost use Rattle.bsdl_lex.specs.Left.{left, lexeme};
 ghost use Rattle.bsdl_numbers.specs.View as number_view;
+ghost use Rattle.bsdl_text.specs.Reading.{is_mark_of};
 ghost use Rattle.bsdl_text.specs.View.{Gives, StopsAtMisfit};
 ghost use Rattle.bsdl_cells.specs.Rows as spec;
 ghost use Rattle.bsdl_cells.specs.View as view;
 
 use crate::keywords::{BITS, DISABLED, FUNCTIONS, SAFE};
 use bsdl_device::{Disabled, Function};
-use bsdl_lex::Lexer;
+use bsdl_lex::{Kind, Lexer, Token};
 use bsdl_numbers::Digits;
 use bsdl_text::lists::Entry;
 use bsdl_text::names::Word;
@@ -81,13 +82,29 @@ fn cell_port<'a>(lexer: Lexer<'a>) -> Result<(Option<PortName<'a>>, Lexer<'a>), 
     ensures shorter { IfOk result (λ p. length (left p.1) < length (left lexer.entry)) }
     ensures misfit { StopsAtMisfit result }
 {
-    if stands(lexer, b'*') {
-        let rest = mark(lexer, b'*')?;
+    let Some((token, rest)) = lexer.next() else {
+        return Err(Stop::Misfit(None));
+    };
+    if is_star(token) {
         return Ok((None, rest));
     }
-    let (name, rest) = word(lexer)?;
-    let (index, rest) = port_index(rest)?;
-    Ok((Some(PortName { name, index }), rest))
+    match token.kind {
+        Kind::Word => {
+            let name = Word {
+                text: token.text,
+                start: token.start,
+            };
+            let (index, rest) = port_index(rest)?;
+            Ok((Some(PortName { name, index }), rest))
+        }
+        _ => Err(Stop::Misfit(Some(token.start))),
+    }
+}
+
+fn is_star(token: Token<'_>) -> bool
+    ensures { result ≡ is_mark_of 42 (lexeme token.entry) }
+{
+    token.text == [b'*'].as_slice()
 }
 
 /// The index of a port, where one stands between brackets.
