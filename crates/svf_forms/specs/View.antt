@@ -2,6 +2,11 @@
 use Rattle.std.specs.Prelude.{ℕ, List, Option, option_map}
 use Rattle.std.specs.Global.{Vec}
 use Rattle.svf_forms.specs.declared.fields.Fields as declared
+use Rattle.svf_forms.specs.declared.fields.Digits.{Digits}
+use Rattle.svf_forms.specs.declared.fields.Digits.TheVariants as digits
+use Rattle.svf_forms.specs.declared.fields.LentFields.{LentFields}
+use Rattle.svf_forms.specs.declared.forms.LentForm.{LentForm}
+use Rattle.svf_forms.specs.declared.forms.LentForm.TheVariants as lent_forms
 use Rattle.svf_forms.specs.declared.run_test.RunTest as declared_run_test
 use Rattle.svf_forms.specs.declared.forms.Written.{Written}
 use Rattle.svf_forms.specs.declared.forms.Written.TheVariants as written
@@ -16,6 +21,17 @@ bytes_of o = option_map (λ v. v.items) o
 
 abbrev pub fields : declared.Fields → Fields
 fields f = record { tdi = bytes_of f.tdi; tdo = bytes_of f.tdo; mask = bytes_of f.mask; smask = bytes_of f.smask }
+
+-- the same of digits that may be lent by the text
+abbrev pub digits_of : Digits → List ℕ
+digits_of (digits.Run w) = w.now
+digits_of (digits.Joined v) = v.items
+
+abbrev pub given : Option Digits → Option (List ℕ)
+given o = option_map digits_of o
+
+abbrev pub lent : LentFields → Fields
+lent f = record { tdi = given f.tdi; tdo = given f.tdo; mask = given f.mask; smask = given f.smask }
 
 abbrev pub run_test : declared_run_test.RunTest → RunTest
 run_test r = record {
@@ -35,3 +51,7 @@ form (written.RunTest r) = run_test_form (run_test r)
 form (written.States v) = states_form v.items
 form (written.Trst t) = trst_form t
 form written.Port = port_form
+
+abbrev pub lent_form : LentForm → Form
+lent_form (lent_forms.Scan which len fs) = scan_form which len.now (lent fs)
+lent_form (lent_forms.Other w) = form w

@@ -1,12 +1,12 @@
 //! The fields of a scan.
-ghost use Rattle.std.specs.Prelude.{◌≡◌, ◌<◌, List, ℕ, length, IfOk, IfSome, MatchBool, Some, None, option_map};
+ghost use Rattle.std.specs.Prelude.{◌≡◌, ◌<◌, ◌++◌, List, ℕ, length, IfOk, IfSome, MatchBool, Some, None, option_map};
 ghost use Rattle.std.specs.Prelude.{if◌then◌else◌};
 ghost use Rattle.svf_lex.specs.Left.{left};
 ghost use Rattle.svf_words.specs.Words.{words_left};
 ghost use Rattle.svf_forms.specs.Behind.{Behind};
 ghost use Rattle.svf_forms.specs.Fields as spec;
-ghost use Rattle.svf_forms.specs.Fields.{Closed, cut_at_close, no_fields, fields_say};
-ghost use Rattle.svf_forms.specs.View.{fields, bytes_of};
+ghost use Rattle.svf_forms.specs.Fields.{◌>>?◌, Closed, cut_at_close, no_fields, fields_say};
+ghost use Rattle.svf_forms.specs.View.{fields, bytes_of, digits_of, given, lent};
 
 use std::alloc::{AllocError, Global};
 use svf_lex::Lexer;
@@ -26,27 +26,75 @@ pub struct Fields {
     pub smask: Option<Vec<u8>>,
 }
 
+/// The hexadecimal digits of a field as they are written: one run of the text, or any number of runs, joined.
+#[derive(Debug, Drop)]
+pub enum Digits<'a> {
+    /// One run.
+    Run(&'a [u8]),
+    /// Runs, joined.
+    Joined(Vec<u8>),
+}
+
+impl<'a> Digits<'a> {
+    /// The digits.
+    pub fn bytes(&self) -> &[u8]
+        ensures { result.now ≡ digits_of self.now }
+    {
+        match self {
+            Digits::Run(run) => run,
+            Digits::Joined(digits) => digits,
+        }
+    }
+}
+
+/// [`Fields`], but that digits which are one run are not copied.
+#[derive(Debug, Drop)]
+pub struct LentFields<'a> {
+    /// What goes in (TDI).
+    pub tdi: Option<Digits<'a>>,
+    /// What must come out (TDO).
+    pub tdo: Option<Digits<'a>>,
+    /// Which bits of TDO count (MASK).
+    pub mask: Option<Digits<'a>>,
+    /// Which bits of TDI count (SMASK).
+    pub smask: Option<Digits<'a>>,
+}
+
+impl Fields {
+    /// The same fields, lent by nobody.
+    pub fn lent<'a>(self) -> LentFields<'a>
+        ensures { lent result ≡ fields self }
+    {
+        LentFields {
+            tdi: self.tdi.map(|digits| Digits::Joined(digits)),
+            tdo: self.tdo.map(|digits| Digits::Joined(digits)),
+            mask: self.mask.map(|digits| Digits::Joined(digits)),
+            smask: self.smask.map(|digits| Digits::Joined(digits)),
+        }
+    }
+}
+
 /// The fields that the words up to the `;` are: each a name and digits between brackets, at most once. There are none
 /// where the words are anything else. Memory is taken for the digits. Refuses for want of memory alone.
 pub fn fields_of(alloc: Global, words: Lexer<'_>) -> Result<Option<Fields>, AllocError>
     ensures { IfOk result (λ o. option_map fields o ≡ fields_say no_fields (cut_at_close (words_left words.entry))) }
 {
-    match fields_and_rest(alloc, words)? {
-        Some((all, _)) => Ok(Some(all)),
+    match lent_fields(alloc, words)? {
+        Some((all, _)) => Ok(Some(copied(alloc, all)?)),
         None => Ok(None),
     }
 }
 
-/// The same, and the lexer behind the fields.
-pub fn fields_and_rest<'a>(
+/// The same, where memory is taken for digits of more than one run alone, and the lexer behind the fields.
+pub fn lent_fields<'a>(
     alloc: Global,
     words: Lexer<'a>,
-) -> Result<Option<(Fields, Lexer<'a>)>, AllocError>
+) -> Result<Option<(LentFields<'a>, Lexer<'a>)>, AllocError>
     ensures says { IfOk result
-        (λ o. option_map (λ p. fields p.0) o ≡ fields_say no_fields (cut_at_close (words_left words.entry))) }
+        (λ o. option_map (λ p. lent p.0) o ≡ fields_say no_fields (cut_at_close (words_left words.entry))) }
     ensures behind { IfOk result (λ o. IfSome o (λ p. Behind (left words.entry) (left p.1))) }
 {
-    let mut all = Fields {
+    let mut all = LentFields {
         tdi: None,
         tdo: None,
         mask: None,
@@ -68,9 +116,35 @@ pub fn fields_and_rest<'a>(
     Ok(Some((all, rest)))
 }
 
+/// The same fields with digits of their own.
+pub(crate) fn copied(alloc: Global, all: LentFields<'_>) -> Result<Fields, AllocError>
+    ensures { IfOk result (λ f. fields f ≡ lent all.entry) }
+{
+    Ok(Fields {
+        tdi: copy(alloc, all.tdi)?,
+        tdo: copy(alloc, all.tdo)?,
+        mask: copy(alloc, all.mask)?,
+        smask: copy(alloc, all.smask)?,
+    })
+}
+
+fn copy(alloc: Global, digits: Option<Digits<'_>>) -> Result<Option<Vec<u8>>, AllocError>
+    ensures { IfOk result (λ o. bytes_of o ≡ given digits.entry) }
+{
+    match digits {
+        None => Ok(None),
+        Some(Digits::Joined(digits)) => Ok(Some(digits)),
+        Some(Digits::Run(run)) => {
+            let mut digits = Vec::new(alloc);
+            digits.extend_from_slice(run)?;
+            Ok(Some(digits))
+        }
+    }
+}
+
 /// Puts a field's digits, unless it is given already.
-fn put(all: &mut Fields, name: FieldName, digits: Vec<u8>) -> bool
-    ensures { spec.put name digits.items (fields all.old) ≡ (if result then Some (fields all.new) else None) }
+fn put<'a>(all: &mut LentFields<'a>, name: FieldName, digits: Digits<'a>) -> bool
+    ensures { spec.put name (digits_of digits.entry) (lent all.old) ≡ (if result then Some (lent all.new) else None) }
 {
     match name {
         FieldName::Tdi => put_once(&mut all.tdi, digits),
@@ -80,21 +154,26 @@ fn put(all: &mut Fields, name: FieldName, digits: Vec<u8>) -> bool
     }
 }
 
-fn put_once(place: &mut Option<Vec<u8>>, digits: Vec<u8>) -> bool
-    ensures { MatchBool result ((bytes_of place.old ≡ None) × (bytes_of place.new ≡ Some digits.items))
-        ((old : List ℕ) × (bytes_of place.old ≡ Some old)) }
+fn put_once<'a>(place: &mut Option<Digits<'a>>, digits: Digits<'a>) -> bool
+    ensures { MatchBool result ((given place.old ≡ None) × (given place.new ≡ Some (digits_of digits.entry)))
+        ((old : List ℕ) × (given place.old ≡ Some old)) }
 {
-    if place.is_some() {
-        return false;
+    match place {
+        Some(_) => false,
+        None => {
+            *place = Some(digits);
+            true
+        }
     }
-    *place = Some(digits);
-    true
 }
 
 /// The digits between brackets, and the lexer behind them.
-fn bracket<'a>(alloc: Global, words: Lexer<'a>) -> Result<Option<(Vec<u8>, Lexer<'a>)>, AllocError>
+fn bracket<'a>(
+    alloc: Global,
+    words: Lexer<'a>,
+) -> Result<Option<(Digits<'a>, Lexer<'a>)>, AllocError>
     ensures found { IfOk result
-        (λ o. option_map {U = List ℕ × Closed} (λ p. (p.0.items, cut_at_close (words_left p.1))) o
+        (λ o. option_map {U = List ℕ × Closed} (λ p. (digits_of p.0, cut_at_close (words_left p.1))) o
         ≡ spec.bracket (cut_at_close (words_left words.entry))) }
     ensures shorter { IfOk result (λ o. IfSome o (λ p. length (words_left p.1) < length (words_left words.entry))) }
     ensures behind { IfOk result (λ o. IfSome o (λ p. Behind (left words.entry) (left p.1))) }
@@ -105,15 +184,48 @@ fn bracket<'a>(alloc: Global, words: Lexer<'a>) -> Result<Option<(Vec<u8>, Lexer
     }
 }
 
-/// The runs up to `)`, joined, and the lexer behind it.
-fn runs<'a>(alloc: Global, words: Lexer<'a>) -> Result<Option<(Vec<u8>, Lexer<'a>)>, AllocError>
+/// The runs up to `)`, and the lexer behind it.
+fn runs<'a>(alloc: Global, words: Lexer<'a>) -> Result<Option<(Digits<'a>, Lexer<'a>)>, AllocError>
     ensures found { IfOk result
-        (λ o. option_map {U = List ℕ × Closed} (λ p. (p.0.items, cut_at_close (words_left p.1))) o
+        (λ o. option_map {U = List ℕ × Closed} (λ p. (digits_of p.0, cut_at_close (words_left p.1))) o
         ≡ spec.runs (cut_at_close (words_left words.entry))) }
     ensures shorter { IfOk result (λ o. IfSome o (λ p. length (words_left p.1) < length (words_left words.entry))) }
     ensures behind { IfOk result (λ o. IfSome o (λ p. Behind (left words.entry) (left p.1))) }
 {
+    let Some((first, rest)) = next_word(words) else {
+        return Ok(None);
+    };
+    if is_close(first) {
+        return Ok(Some((Digits::Joined(Vec::new(alloc)), rest)));
+    }
+    if is_open(first) {
+        return Ok(None);
+    }
+    if let Some((word, behind)) = next_word(rest) {
+        if is_close(word) {
+            return Ok(Some((Digits::Run(first), behind)));
+        }
+    }
+    match joined(alloc, first, rest)? {
+        Some((digits, behind)) => Ok(Some((Digits::Joined(digits), behind))),
+        None => Ok(None),
+    }
+}
+
+/// This run and the runs up to `)`, joined, and the lexer behind it.
+fn joined<'a>(
+    alloc: Global,
+    first: &'a [u8],
+    words: Lexer<'a>,
+) -> Result<Option<(Vec<u8>, Lexer<'a>)>, AllocError>
+    ensures found { IfOk result
+        (λ o. option_map {U = List ℕ × Closed} (λ p. (p.0.items, cut_at_close (words_left p.1))) o
+        ≡ (spec.runs (cut_at_close (words_left words.entry)) >>? λ p. Some (first.now ++ p.0, p.1))) }
+    ensures shorter { IfOk result (λ o. IfSome o (λ p. length (words_left p.1) < length (words_left words.entry))) }
+    ensures behind { IfOk result (λ o. IfSome o (λ p. Behind (left words.entry) (left p.1))) }
+{
     let mut digits = Vec::new(alloc);
+    digits.extend_from_slice(first)?;
     let mut rest = words;
     while let Some((word, after)) = next_word(rest) {
         if is_close(word) {

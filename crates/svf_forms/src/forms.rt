@@ -5,9 +5,11 @@ ghost use Rattle.svf_lex.specs.Left.{left};
 ghost use Rattle.svf_words.specs.Words.{Word, words_left};
 ghost use Rattle.svf_forms.specs.Behind.{Behind};
 ghost use Rattle.svf_forms.specs.Forms as spec;
+ghost use Rattle.svf_forms.specs.Forms.{scan_form};
+ghost use Rattle.svf_words.specs.declared.keywords.Which as declared_which;
 ghost use Rattle.svf_forms.specs.View as view;
 
-use crate::fields::{Fields, fields_and_rest};
+use crate::fields::{Fields, LentFields, copied, lent_fields};
 use crate::run_test::{RunTest, run_test_of};
 use jt_tap::State;
 use std::alloc::{AllocError, Global};
@@ -36,6 +38,15 @@ pub enum Written<'a> {
     Port,
 }
 
+/// [`Written`], but that digits of a scan's field which are one run are not copied.
+#[derive(Debug, Drop)]
+pub enum LentForm<'a> {
+    /// `HDR`, `HIR`, `TDR`, `TIR`, `SDR` or `SIR`, its length and its fields.
+    Scan(Which, &'a [u8], LentFields<'a>),
+    /// Any other.
+    Other(Written<'a>),
+}
+
 /// The form that the words after a command have, up to the `;`. There is none where they do not fit the command. Memory
 /// is taken for the digits of fields and for the states of a path. Refuses for want of memory alone.
 pub fn form_of<'a>(
@@ -58,25 +69,26 @@ pub fn form_of<'a>(
     Ok(form)
 }
 
-/// The same, and of a scan the lexer behind its words, so that nobody has to look for its `;` through all its digits.
-pub fn form_and_rest<'a>(
+/// The same, with fields that the text lends, and of a scan the lexer behind its words, so that nobody has to look for
+/// its `;` through all its digits.
+pub fn lent_form<'a>(
     alloc: Global,
     command: Command,
     words: Lexer<'a>,
-) -> Result<Option<(Written<'a>, Option<Lexer<'a>>)>, AllocError>
+) -> Result<Option<(LentForm<'a>, Option<Lexer<'a>>)>, AllocError>
     ensures says { IfOk result
-        (λ o. option_map (λ p. view.form p.0) o ≡ spec.form_of command (words_left words.entry)) }
+        (λ o. option_map (λ p. view.lent_form p.0) o ≡ spec.form_of command (words_left words.entry)) }
     ensures behind { IfOk result
         (λ o. IfSome o (λ p. IfSome p.1 (λ rest. Behind (left words.entry) (left rest)))) }
 {
     if let Command::Scan(which) = command {
-        return match scan_and_rest(alloc, which, words)? {
-            Some((form, rest)) => Ok(Some((form, Some(rest)))),
+        return match lent_scan(alloc, words)? {
+            Some((len, fields, rest)) => Ok(Some((LentForm::Scan(which, len, fields), Some(rest)))),
             None => Ok(None),
         };
     }
     match form_of(alloc, command, words)? {
-        Some(form) => Ok(Some((form, None))),
+        Some(form) => Ok(Some((LentForm::Other(form), None))),
         None => Ok(None),
     }
 }
@@ -144,6 +156,7 @@ fn hertz<'a>(words: Lexer<'a>) -> Option<Option<&'a [u8]>>
 }
 
 /// A length and fields.
+#[tactic(auto, unfolding(crate::specs::Forms::scan_of))]
 fn scan_of<'a>(
     alloc: Global,
     which: Which,
@@ -151,21 +164,22 @@ fn scan_of<'a>(
 ) -> Result<Option<Written<'a>>, AllocError>
     ensures { IfOk result (λ o. option_map view.form o ≡ spec.scan_of which (words_left words.entry)) }
 {
-    match scan_and_rest(alloc, which, words)? {
-        Some((form, _)) => Ok(Some(form)),
+    match lent_scan(alloc, words)? {
+        Some((len, fields, _)) => Ok(Some(Written::Scan(which, len, copied(alloc, fields)?))),
         None => Ok(None),
     }
 }
 
 /// A length and fields, and the lexer behind them.
 #[tactic(auto, unfolding(crate::specs::Forms::scan_of))]
-fn scan_and_rest<'a>(
+fn lent_scan<'a>(
     alloc: Global,
-    which: Which,
     words: Lexer<'a>,
-) -> Result<Option<(Written<'a>, Lexer<'a>)>, AllocError>
-    ensures says { IfOk result (λ o. option_map (λ p. view.form p.0) o ≡ spec.scan_of which (words_left words.entry)) }
-    ensures behind { IfOk result (λ o. IfSome o (λ p. Behind (left words.entry) (left p.1))) }
+) -> Result<Option<(&'a [u8], LentFields<'a>, Lexer<'a>)>, AllocError>
+    ensures says { (which : declared_which.Which) → IfOk result
+        (λ o. option_map (λ p. scan_form which p.0.now (view.lent p.1)) o
+        ≡ spec.scan_of which (words_left words.entry)) }
+    ensures behind { IfOk result (λ o. IfSome o (λ p. Behind (left words.entry) (left p.2))) }
 {
     let Some((len, rest)) = next_word(words) else {
         return Ok(None);
@@ -173,8 +187,8 @@ fn scan_and_rest<'a>(
     if !is_number(len) {
         return Ok(None);
     }
-    match fields_and_rest(alloc, rest)? {
-        Some((fields, behind)) => Ok(Some((Written::Scan(which, len, fields), behind))),
+    match lent_fields(alloc, rest)? {
+        Some((fields, behind)) => Ok(Some((len, fields, behind))),
         None => Ok(None),
     }
 }

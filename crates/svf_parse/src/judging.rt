@@ -5,7 +5,7 @@ ghost use Rattle.svf_forms.specs.Forms.{scan_form};
 ghost use Rattle.svf_words.specs.Words.{Word};
 ghost use Rattle.svf_numbers.specs.Numbers as numbers_spec;
 ghost use Rattle.svf_forms.specs.View as view;
-ghost use Rattle.svf_forms.specs.View.{fields, bytes_of};
+ghost use Rattle.svf_forms.specs.View.{lent, given};
 ghost use Rattle.svf_parse.specs.View.{Adds, said_of};
 ghost use Rattle.std.specs.Vec.{vec_len};
 ghost use Rattle.svf_words.specs.declared.keywords.Clock as declared_clock;
@@ -14,15 +14,29 @@ use crate::fault::Refusal;
 use crate::statement::Statement;
 use jt_bits::{Bits, has_one_beyond, is_hexadecimal};
 use std::alloc::Global;
-use svf_forms::fields::Fields;
-use svf_forms::forms::Written;
+use svf_forms::fields::{Digits, LentFields};
+use svf_forms::forms::{LentForm, Written};
 use svf_forms::run_test::RunTest;
 use svf_numbers::{count, length, length_value, period, time};
 use svf_words::Code;
 use svf_words::keywords::{Clock, Which};
 
 /// Adds the statement, or gives the refusal with the lowest number among its own.
-pub(crate) fn say(alloc: Global, form: Written<'_>, all: &mut Vec<Statement>) -> Result<(), Refusal>
+pub(crate) fn say(
+    alloc: Global,
+    form: LentForm<'_>,
+    all: &mut Vec<Statement>,
+) -> Result<(), Refusal>
+    ensures adds { Adds result all.old.items all.new.items (spec.form_says (view.lent_form form.entry)) }
+    ensures count { IfOk result (λ _. vec_len all.new ≡ vec_len all.old + 1) }
+{
+    match form {
+        LentForm::Scan(which, len, fields) => scan(alloc, which, len, fields, all),
+        LentForm::Other(form) => say_other(alloc, form, all),
+    }
+}
+
+fn say_other(alloc: Global, form: Written<'_>, all: &mut Vec<Statement>) -> Result<(), Refusal>
     ensures adds { Adds result all.old.items all.new.items (spec.form_says (view.form form.entry)) }
     ensures count { IfOk result (λ _. vec_len all.new ≡ vec_len all.old + 1) }
 {
@@ -34,7 +48,7 @@ pub(crate) fn say(alloc: Global, form: Written<'_>, all: &mut Vec<Statement>) ->
             Ok(period) => put(all, Statement::Frequency(Some(period))),
             Err(code) => Err(Refusal::Code(code)),
         },
-        Written::Scan(which, len, fields) => scan(alloc, which, len, fields, all),
+        Written::Scan(which, len, fields) => scan(alloc, which, len, fields.lent(), all),
         Written::RunTest(test) => run_test(test, all),
         Written::States(states) => put(all, Statement::States(states)),
         Written::Trst(word) => put(all, Statement::Trst(word)),
@@ -82,21 +96,22 @@ fn scan(
     alloc: Global,
     which: Which,
     len: &[u8],
-    given: Fields,
+    fields: LentFields<'_>,
     all: &mut Vec<Statement>,
 ) -> Result<(), Refusal>
-    ensures adds { Adds result all.old.items all.new.items (spec.form_says (scan_form which len.now (fields given))) }
+    ensures adds { Adds result all.old.items all.new.items
+        (spec.form_says (scan_form which len.now (lent fields.entry))) }
     ensures count { IfOk result (λ _. vec_len all.new ≡ vec_len all.old + 1) }
 {
-    let len = match scan_length(len, &given) {
+    let len = match scan_length(len, &fields) {
         Ok(len) => len,
         Err(code) => return Err(Refusal::Code(code)),
     };
     let (Ok(tdi), Ok(tdo), Ok(mask), Ok(smask)) = (
-        bits(alloc, len, &given.tdi),
-        bits(alloc, len, &given.tdo),
-        bits(alloc, len, &given.mask),
-        bits(alloc, len, &given.smask),
+        bits(alloc, len, digits_in(&fields.tdi)),
+        bits(alloc, len, digits_in(&fields.tdo)),
+        bits(alloc, len, digits_in(&fields.mask)),
+        bits(alloc, len, digits_in(&fields.smask)),
     ) else {
         return Err(Refusal::Memory);
     };
@@ -113,19 +128,29 @@ fn scan(
 
 /// The length of a scan, unless it or a field is refused.
 #[tactic(auto, unfolding(crate::specs::Judging::scan_says))]
-fn scan_length(len: &[u8], all: &Fields) -> Result<usize, Code>
-    ensures { result ≡ spec.scan_says len.now (fields all.now) }
+fn scan_length(len: &[u8], all: &LentFields<'_>) -> Result<usize, Code>
+    ensures { result ≡ spec.scan_says len.now (lent all.now) }
 {
     let value = length_value(len);
-    let says = checked(field_fault(value, &all.smask), length(len));
-    let says = checked(field_fault(value, &all.mask), says);
-    let says = checked(field_fault(value, &all.tdo), says);
-    checked(field_fault(value, &all.tdi), says)
+    let says = checked(field_fault(value, digits_in(&all.smask)), length(len));
+    let says = checked(field_fault(value, digits_in(&all.mask)), says);
+    let says = checked(field_fault(value, digits_in(&all.tdo)), says);
+    checked(field_fault(value, digits_in(&all.tdi)), says)
+}
+
+/// The digits of a field, if it is given.
+fn digits_in<'a>(field: &'a Option<Digits<'_>>) -> Option<&'a [u8]>
+    ensures { option_map {U = Word} (λ w. w.now) result ≡ given field.now }
+{
+    match field {
+        Some(digits) => Some(digits.bytes()),
+        None => None,
+    }
 }
 
 /// The refusal of a field of a scan whose length has this value.
-fn field_fault(len: Option<usize>, digits: &Option<Vec<u8>>) -> Option<Code>
-    ensures { result ≡ spec.field_fault len (bytes_of digits.now) }
+fn field_fault(len: Option<usize>, digits: Option<&[u8]>) -> Option<Code>
+    ensures { result ≡ spec.field_fault len (option_map {U = Word} (λ w. w.now) digits.entry) }
 {
     let Some(digits) = digits else {
         return None;
@@ -149,9 +174,9 @@ fn is_wider(len: Option<usize>, digits: &[u8]) -> bool
 }
 
 /// The bits of a field that its digits write, four for each, and none beyond the length.
-fn bits(alloc: Global, len: usize, digits: &Option<Vec<u8>>) -> Result<Option<Bits>, Refusal>
-    requires { spec.field_fault (Some len) (bytes_of digits.now) ≡ None }
-    ensures { IfOk result (λ b. b ≡ spec.bits len (bytes_of digits.now)) }
+fn bits(alloc: Global, len: usize, digits: Option<&[u8]>) -> Result<Option<Bits>, Refusal>
+    requires { spec.field_fault (Some len) (option_map {U = Word} (λ w. w.now) digits) ≡ None }
+    ensures { IfOk result (λ b. b ≡ spec.bits len (option_map {U = Word} (λ w. w.now) digits.entry)) }
 {
     match digits {
         None => Ok(None),

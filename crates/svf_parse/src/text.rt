@@ -21,7 +21,7 @@ use crate::fault::{Refusal, Stop};
 use crate::judging::say;
 use crate::statement::Statement;
 use std::alloc::Global;
-use svf_forms::forms::{Written, form_and_rest};
+use svf_forms::forms::{LentForm, lent_form};
 use svf_lex::{Kind, LexFault, Lexer};
 use svf_words::keywords::command_of;
 use svf_words::{Code, SvfFault};
@@ -54,8 +54,8 @@ enum End<'a> {
 /// A text above 16 MiB is refused as a whole (S15, statement 0). Want of memory is S16 with statement 0; nothing is
 /// said of when it comes. The time is linear in the text's length. The answer has at most four bits for each byte of
 /// the text, since a field has those that its digits write; beside text and answer, memory is taken only for one
-/// statement: the digits of its fields, and, where it is refused or never closed, the states that were read of it
-/// before.
+/// statement: the digits of its fields that are more than one run, and, where it is refused or never closed, the states
+/// that were read of it before.
 pub fn parse(alloc: Global, text: &[u8]) -> Result<Vec<Statement>, SvfFault>
     // What is read is spelled so.
     ensures found { IfOk result (λ v. TextSpells text.now (map said_of v.items)) }
@@ -190,14 +190,14 @@ fn form_at<'a>(
     alloc: Global,
     word: &'a [u8],
     words: Lexer<'a>,
-) -> Result<(Written<'a>, Option<Lexer<'a>>), Refusal>
-    ensures says { Gives (λ p. view.form p.0) result (form_behind word.now (words_left words.entry)) }
+) -> Result<(LentForm<'a>, Option<Lexer<'a>>), Refusal>
+    ensures says { Gives (λ p. view.lent_form p.0) result (form_behind word.now (words_left words.entry)) }
     ensures rest { IfOk result (λ p. IfSome p.1 (λ rest. Behind (left words.entry) (left rest))) }
 {
     let Some(command) = command_of(word) else {
         return Err(Refusal::Code(Code::UnknownCommand));
     };
-    match form_and_rest(alloc, command, words) {
+    match lent_form(alloc, command, words) {
         Ok(Some(found)) => Ok(found),
         Ok(None) => Err(Refusal::Code(Code::BadForm)),
         Err(_) => Err(Refusal::Memory),

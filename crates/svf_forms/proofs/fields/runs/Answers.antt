@@ -1,32 +1,48 @@
-use Rattle.std.proofs.Common.{◌≡◌, ◌+◌, ap, sym, length, arith}
-use Rattle.svf_words.specs.Words.{words_left}
+use Rattle.std.proofs.Common.{[], sym, ◌∙◌}
 use Rattle.svf_lex.specs.Left.{left}
-use Rattle.svf_forms.proofs.NextWords.{behind_next}
+use Rattle.svf_words.specs.Words.{words_left}
 use Rattle.svf_forms.specs.Fields.{cut_at_close, runs}
-use Rattle.svf_forms.proofs.FieldLaws.{next_run, ended_runs, broken_runs, unended_runs}
+use Rattle.svf_forms.proofs.NextWords.{behind_none, behind_next, behind_both}
+use Rattle.svf_forms.proofs.FieldLaws.{with_digits-nil, next_run, ended_runs, broken_runs, unended_runs}
 use Rattle.svf_forms.proofs.fields.runs.Goals as goal
+
+pub returns-in_default-clause-found : goal.returns-in_default-clause-found
+returns-in_default-clause-found c = unended_runs [] (words_left c.args.words) (runs (cut_at_close (words_left c.args.words))) c.in_default.ensures.word (with_digits-nil (runs (cut_at_close (words_left c.args.words))))
 
 pub returns-then-is_close-clause-found : goal.returns-then-is_close-clause-found
 returns-then-is_close-clause-found c =
-    ended_runs c.loop-word.digits.items c.in-Some.word.now (words_left c.in-Some.after) (words_left c.loop-word.rest) (runs (cut_at_close (words_left c.args.words))) c.in-Some.ensures.word (sym c.if-is_close.ensures) c.loop-word.invariant.0
+    rw c.new.ensures.items
+    (ended_runs [] c.in-Some.first.now (words_left c.in-Some.rest) (words_left c.args.words) (runs (cut_at_close (words_left c.args.words))) c.in-Some.ensures.word (sym c.if-is_close.ensures) (with_digits-nil (runs (cut_at_close (words_left c.args.words)))))
+
+pub returns-then-is_close-clause-behind : goal.returns-then-is_close-clause-behind
+returns-then-is_close-clause-behind c = (behind_next (left c.args.words) c.args.words c.in-Some.rest c.in-Some.first.now c.in-Some.ensures.word c.in-Some.ensures.after (behind_none (left c.args.words)))
 
 pub returns-then-is_open-clause-found : goal.returns-then-is_open-clause-found
 returns-then-is_open-clause-found c =
-    broken_runs c.loop-word.digits.items c.in-Some.word.now (words_left c.in-Some.after) (words_left c.loop-word.rest) (runs (cut_at_close (words_left c.args.words))) c.in-Some.ensures.word (sym c.if-is_close.ensures) (sym c.if-is_open.ensures) c.loop-word.invariant.0
+    broken_runs [] c.in-Some.first.now (words_left c.in-Some.rest) (words_left c.args.words) (runs (cut_at_close (words_left c.args.words))) c.in-Some.ensures.word (sym c.if-is_close.ensures) (sym c.if-is_open.ensures) (with_digits-nil (runs (cut_at_close (words_left c.args.words))))
 
-pub loop-word-preserved : goal.loop-word-preserved
-loop-word-preserved c =
-    let shorter : length (words_left c.loop-word.rest) ≡ length (words_left c.in-Some.after) + 1 = omega (arith, ap length c.in-Some.ensures.word) in (
-      rw c.in_ok-extend_from_slice.ensures.items
-          (next_run c.loop-word.digits.items c.in-Some.word.now (words_left c.in-Some.after) (words_left c.loop-word.rest) (runs (cut_at_close (words_left c.args.words))) c.in-Some.ensures.word (sym c.if-is_close.ensures) (sym c.if-is_open.ensures) c.loop-word.invariant.0),
-      omega (arith, shorter, c.loop-word.invariant.1),
-      behind_next (left c.args.words) c.loop-word.rest c.in-Some.after c.in-Some.word.now c.in-Some.ensures.word c.in-Some.ensures.after c.loop-word.invariant.2,
-    )
+pub returns-then-is_close-2-clause-found : goal.returns-then-is_close-2-clause-found
+returns-then-is_close-2-clause-found c =
+    ended_runs c.in-Some.first.now c.in-Some-next_word.word.now (words_left c.in-Some-next_word.behind) (words_left c.in-Some.rest) (runs (cut_at_close (words_left c.args.words))) c.in-Some-next_word.ensures.word (sym c.if-is_close-2.ensures)
+    (next_run [] c.in-Some.first.now (words_left c.in-Some.rest) (words_left c.args.words) (runs (cut_at_close (words_left c.args.words))) c.in-Some.ensures.word (sym c.if-is_close.ensures) (sym c.if-is_open.ensures) (with_digits-nil (runs (cut_at_close (words_left c.args.words)))))
 
-pub returns-clause-found : goal.returns-clause-found
-returns-clause-found c =
-    unended_runs c.loop-word.digits.items (words_left c.loop-word.rest) (runs (cut_at_close (words_left c.args.words))) c.in_default.ensures.word c.loop-word.invariant.0
+pub returns-then-is_close-2-clause-behind : goal.returns-then-is_close-2-clause-behind
+returns-then-is_close-2-clause-behind c =
+    behind_next (left c.args.words) c.in-Some.rest c.in-Some-next_word.behind c.in-Some-next_word.word.now c.in-Some-next_word.ensures.word c.in-Some-next_word.ensures.after
+    (behind_next (left c.args.words) c.args.words c.in-Some.rest c.in-Some.first.now c.in-Some.ensures.word c.in-Some.ensures.after (behind_none (left c.args.words)))
 
-pub returns-then-is_close-clause-behind : goal.returns-then-is_close-clause-behind
-returns-then-is_close-clause-behind c =
-    behind_next (left c.args.words) c.loop-word.rest c.in-Some.after c.in-Some.word.now c.in-Some.ensures.word c.in-Some.ensures.after c.loop-word.invariant.2
+pub returns-in-Some-2-clause-found : goal.returns-in-Some-2-clause-found
+returns-in-Some-2-clause-found c =
+    (rw c.in-Some-2.is at c.in_ok-digits.ensures.found)
+    ∙ (next_run [] c.in-Some.first.now (words_left c.in-Some.rest) (words_left c.args.words) (runs (cut_at_close (words_left c.args.words))) c.in-Some.ensures.word (sym c.if-is_close.ensures) (sym c.if-is_open.ensures) (with_digits-nil (runs (cut_at_close (words_left c.args.words)))))
+
+pub returns-in-Some-2-clause-behind : goal.returns-in-Some-2-clause-behind
+returns-in-Some-2-clause-behind c =
+    behind_both (left c.args.words) (left c.in-Some.rest) (left c.in-Some-2.behind)
+    (behind_next (left c.args.words) c.args.words c.in-Some.rest c.in-Some.first.now c.in-Some.ensures.word c.in-Some.ensures.after (behind_none (left c.args.words)))
+    (rw c.in-Some-2.is at c.in_ok-digits.ensures.behind)
+
+pub returns-in-None-clause-found : goal.returns-in-None-clause-found
+returns-in-None-clause-found c =
+    (rw c.in-None.is at c.in_ok-digits.ensures.found)
+    ∙ (next_run [] c.in-Some.first.now (words_left c.in-Some.rest) (words_left c.args.words) (runs (cut_at_close (words_left c.args.words))) c.in-Some.ensures.word (sym c.if-is_close.ensures) (sym c.if-is_open.ensures) (with_digits-nil (runs (cut_at_close (words_left c.args.words)))))

@@ -22,7 +22,7 @@ returns-in-Ok-say-clause-takes c =
     rw c.len-number.ensures
     (refused_behind (vec_len c.args.all.now + 1) c.args.word.now (groups_of (left c.args.words)) c.in-Closed.ensures.0 (groups_of (left c.in-Closed.after)) (stop.Fault (record { statement = vec_len c.args.all.now + 1; code = code.TooLarge })) c.in-Closed.ensures.1
     (past_limit (vec_len c.args.all.now + 1) (c.args.word.now ∷ words_left c.args.words) (said_of c.in-Ok-say.ensures.adds.0)
-    (form_said c.args.word.now (words_left c.args.words) (view.form c.in-Ok.found.0) (said_of c.in-Ok-say.ensures.adds.0) c.in-Ok.ensures.says c.in-Ok-say.ensures.adds.2)
+    (form_said c.args.word.now (words_left c.args.words) (view.lent_form c.in-Ok.found.0) (said_of c.in-Ok-say.ensures.adds.0) c.in-Ok.ensures.says c.in-Ok-say.ensures.adds.2)
     (omega (arith, c.if-number-gt-STATEMENT_LIMIT.true, c.len-number.ensures))))
 
 pub returns-in-Ok-2-clause-takes : goal.returns-in-Ok-2-clause-takes
@@ -34,7 +34,7 @@ returns-in-Ok-2-clause-takes c = (
   c.in-Ok-say.ensures.adds.1,
   taken_behind (vec_len c.args.all.now + 1) c.args.word.now (groups_of (left c.args.words)) c.in-Closed.ensures.0 (groups_of (left c.in-Closed.after)) (said_of c.in-Ok-say.ensures.adds.0) c.in-Closed.ensures.1
       (inside_limit (vec_len c.args.all.now + 1) (c.args.word.now ∷ words_left c.args.words) (said_of c.in-Ok-say.ensures.adds.0)
-      (form_said c.args.word.now (words_left c.args.words) (view.form c.in-Ok.found.0) (said_of c.in-Ok-say.ensures.adds.0) c.in-Ok.ensures.says c.in-Ok-say.ensures.adds.2)
+      (form_said c.args.word.now (words_left c.args.words) (view.lent_form c.in-Ok.found.0) (said_of c.in-Ok-say.ensures.adds.0) c.in-Ok.ensures.says c.in-Ok-say.ensures.adds.2)
       (omega (arith, c.if-number-gt-STATEMENT_LIMIT.false, c.len-number.ensures))),
 )
 
@@ -44,4 +44,4 @@ returns-clause-takes c =
     refused_behind (vec_len c.args.all.now + 1) c.args.word.now (groups_of (left c.args.words)) c.in-Closed.ensures.0 (groups_of (left c.in-Closed.after)) c.stop_at.result c.in-Closed.ensures.1
     (rw c.len-number.ensures at
     (c.stop_at.ensures (statement_says (c.args.word.now ∷ words_left c.args.words))
-    (said_fails c.args.word.now (words_left c.args.words) (view.form c.in-Ok.found.0) c.in-Err-say.refusal c.in-Ok.ensures.says c.in-Err-say.ensures.adds)))
+    (said_fails c.args.word.now (words_left c.args.words) (view.lent_form c.in-Ok.found.0) c.in-Err-say.refusal c.in-Ok.ensures.says c.in-Err-say.ensures.adds)))

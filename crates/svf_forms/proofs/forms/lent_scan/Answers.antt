@@ -1,6 +1,6 @@
 use Rattle.svf_lex.specs.Left.{left}
 use Rattle.svf_forms.proofs.NextWords.{behind_none, behind_next, behind_both}
-use Rattle.svf_forms.proofs.forms.scan_and_rest.Goals as goal
+use Rattle.svf_forms.proofs.forms.lent_scan.Goals as goal
 
 pub returns-in-Some-2-clause-behind : goal.returns-in-Some-2-clause-behind
 returns-in-Some-2-clause-behind c =

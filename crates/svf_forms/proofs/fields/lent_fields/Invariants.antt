@@ -3,12 +3,12 @@ use Rattle.svf_words.specs.Words.{words_left}
 use Rattle.svf_lex.specs.Left.{left}
 use Rattle.svf_forms.specs.Behind.{Behind}
 use Rattle.svf_forms.specs.Fields.{no_fields, cut_at_close, fields_say}
-use Rattle.svf_forms.specs.View.{fields}
-use Rattle.svf_forms.proofs.fields.fields_and_rest.Given as goal
+use Rattle.svf_forms.specs.View.{lent}
+use Rattle.svf_forms.proofs.fields.lent_fields.Given as goal
 
 abbrev pub invariant-loop-word : goal.invariant-loop-word
 invariant-loop-word l = record {
-  says : fields_say (fields l.all) (cut_at_close (words_left l.rest)) ≡ fields_say no_fields (cut_at_close (words_left l.words));
+  says : fields_say (lent l.all) (cut_at_close (words_left l.rest)) ≡ fields_say no_fields (cut_at_close (words_left l.words));
   behind : Behind (left l.words) (left l.rest);
 }
 

@@ -4,11 +4,11 @@ use Rattle.svf_lex.specs.Left.{left}
 use Rattle.svf_forms.specs.Behind.{Behind}
 use Rattle.svf_forms.specs.Fields.{cut_at_close, runs}
 use Rattle.svf_forms.proofs.FieldLaws.{with_digits}
-use Rattle.svf_forms.proofs.fields.runs.Given as goal
+use Rattle.svf_forms.proofs.fields.joined.Given as goal
 
 abbrev pub invariant-loop-word : goal.invariant-loop-word
 invariant-loop-word l =
-    (with_digits l.digits.items (runs (cut_at_close (words_left l.rest))) ≡ runs (cut_at_close (words_left l.words)))
+    (with_digits l.digits.items (runs (cut_at_close (words_left l.rest))) ≡ with_digits l.first (runs (cut_at_close (words_left l.words))))
     × (length (words_left l.rest) ≤ length (words_left l.words)) × Behind (left l.words) (left l.rest)
 
 abbrev pub decreases-loop-word : goal.decreases-loop-word
