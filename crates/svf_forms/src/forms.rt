@@ -10,7 +10,7 @@ ghost use Rattle.svf_words.specs.declared.keywords.Which as declared_which;
 ghost use Rattle.svf_forms.specs.View as view;
 
 use crate::fields::{Fields, LentFields, copied, lent_fields};
-use crate::run_test::{RunTest, run_test_of};
+use crate::run_test::{RunTest, run_test_and_rest};
 use jt_tap::State;
 use std::alloc::{AllocError, Global};
 use svf_lex::Lexer;
@@ -56,21 +56,18 @@ pub fn form_of<'a>(
 ) -> Result<Option<Written<'a>>, AllocError>
     ensures { IfOk result (λ o. option_map view.form o ≡ spec.form_of command (words_left words.entry)) }
 {
-    let form = match command {
-        Command::EndDr => one_state(words).map(|state| Written::EndDr(state)),
-        Command::EndIr => one_state(words).map(|state| Written::EndIr(state)),
-        Command::Frequency => hertz(words).map(|number| Written::Frequency(number)),
-        Command::Scan(which) => scan_of(alloc, which, words)?,
-        Command::RunTest => run_test_of(words).map(|test| Written::RunTest(test)),
-        Command::State => some_states(alloc, words)?.map(|states| Written::States(states)),
-        Command::Trst => one_trst(words).map(|word| Written::Trst(word)),
-        Command::Pio | Command::PioMap => Some(Written::Port),
-    };
-    Ok(form)
+    match lent_form(alloc, command, words)? {
+        Some((LentForm::Scan(which, len, fields), _)) => {
+            let fields = copied(alloc, fields)?;
+            Ok(Some(Written::Scan(which, len, fields)))
+        }
+        Some((LentForm::Other(form), _)) => Ok(Some(form)),
+        None => Ok(None),
+    }
 }
 
-/// The same, with fields that the text lends, and of a scan the lexer behind its words, so that nobody has to look for
-/// its `;` through all its digits.
+/// The same, with fields that the text lends, and of the commands that programs have most of the lexer behind their
+/// words, so that nobody has to look for the `;` through all of them.
 pub fn lent_form<'a>(
     alloc: Global,
     command: Command,
@@ -81,13 +78,37 @@ pub fn lent_form<'a>(
     ensures behind { IfOk result
         (λ o. IfSome o (λ p. IfSome p.1 (λ rest. Behind (left words.entry) (left rest)))) }
 {
-    if let Command::Scan(which) = command {
-        return match lent_scan(alloc, words)? {
-            Some((len, fields, rest)) => Ok(Some((LentForm::Scan(which, len, fields), Some(rest)))),
-            None => Ok(None),
-        };
-    }
-    match form_of(alloc, command, words)? {
+    let form = match command {
+        Command::Scan(which) => {
+            return match lent_scan(alloc, words)? {
+                Some((len, fields, rest)) => {
+                    Ok(Some((LentForm::Scan(which, len, fields), Some(rest))))
+                }
+                None => Ok(None),
+            };
+        }
+        Command::RunTest => {
+            return match run_test_and_rest(words) {
+                Some((test, rest)) => Ok(Some((
+                    LentForm::Other(Written::RunTest(test)),
+                    Some(rest),
+                ))),
+                None => Ok(None),
+            };
+        }
+        Command::State => {
+            return match some_states(alloc, words)? {
+                Some((all, rest)) => Ok(Some((LentForm::Other(Written::States(all)), Some(rest)))),
+                None => Ok(None),
+            };
+        }
+        Command::EndDr => one_state(words).map(|state| Written::EndDr(state)),
+        Command::EndIr => one_state(words).map(|state| Written::EndIr(state)),
+        Command::Frequency => hertz(words).map(|number| Written::Frequency(number)),
+        Command::Trst => one_trst(words).map(|word| Written::Trst(word)),
+        Command::Pio | Command::PioMap => Some(Written::Port),
+    };
+    match form {
         Some(form) => Ok(Some((LentForm::Other(form), None))),
         None => Ok(None),
     }
@@ -117,10 +138,14 @@ fn one_trst(words: Lexer<'_>) -> Option<TrstWord>
     }
 }
 
-/// States, at least one.
-fn some_states(alloc: Global, words: Lexer<'_>) -> Result<Option<Vec<State>>, AllocError>
-    ensures { IfOk result (λ o. option_map {U = List declared_state.State} (λ v. v.items) o
+/// States, at least one, and the lexer behind them.
+fn some_states<'a>(
+    alloc: Global,
+    words: Lexer<'a>,
+) -> Result<Option<(Vec<State>, Lexer<'a>)>, AllocError>
+    ensures says { IfOk result (λ o. option_map {U = List declared_state.State} (λ p. p.0.items) o
         ≡ spec.some_states (words_left words.entry)) }
+    ensures behind { IfOk result (λ o. IfSome o (λ p. Behind (left words.entry) (left p.1))) }
 {
     let mut all = Vec::new(alloc);
     let mut rest = words;
@@ -134,7 +159,7 @@ fn some_states(alloc: Global, words: Lexer<'_>) -> Result<Option<Vec<State>>, Al
     if all.is_empty() {
         Ok(None)
     } else {
-        Ok(Some(all))
+        Ok(Some((all, rest)))
     }
 }
 
@@ -152,21 +177,6 @@ fn hertz<'a>(words: Lexer<'a>) -> Option<Option<&'a [u8]>>
         Some(Some(number))
     } else {
         None
-    }
-}
-
-/// A length and fields.
-#[tactic(auto, unfolding(crate::specs::Forms::scan_of))]
-fn scan_of<'a>(
-    alloc: Global,
-    which: Which,
-    words: Lexer<'a>,
-) -> Result<Option<Written<'a>>, AllocError>
-    ensures { IfOk result (λ o. option_map view.form o ≡ spec.scan_of which (words_left words.entry)) }
-{
-    match lent_scan(alloc, words)? {
-        Some((len, fields, _)) => Ok(Some(Written::Scan(which, len, copied(alloc, fields)?))),
-        None => Ok(None),
     }
 }
 

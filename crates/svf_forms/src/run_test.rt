@@ -1,6 +1,8 @@
 //! The parts of a RUNTEST.
-ghost use Rattle.std.specs.Prelude.{◌≡◌, option_map};
+ghost use Rattle.std.specs.Prelude.{◌≡◌, IfSome, option_map};
+ghost use Rattle.svf_lex.specs.Left.{left};
 ghost use Rattle.svf_words.specs.Words.{Word, words_left};
+ghost use Rattle.svf_forms.specs.Behind.{Behind};
 ghost use Rattle.svf_forms.specs.RunTests as spec;
 ghost use Rattle.svf_forms.specs.View as view;
 ghost use Rattle.svf_words.specs.declared.keywords.Clock as declared_clock;
@@ -27,25 +29,37 @@ pub struct RunTest<'a> {
 
 /// The RUNTEST that the words are: `[state] [number TCK or SCK] [number SEC [MAXIMUM number SEC]] [ENDSTATE state]`,
 /// with at least one of the count and the first time.
-#[tactic(auto, unfolding(crate::specs::RunTests::run_test_of))]
 pub fn run_test_of(words: Lexer<'_>) -> Option<RunTest<'_>>
     ensures { option_map view.run_test result ≡ spec.run_test_of (words_left words.entry) }
 {
-    let (run, words) = take_state(words);
-    let (count, words) = take_count(words);
-    let (min, words) = take_time(words);
-    let (max, words) = maximum_behind(min, words);
-    let (end, words) = take_end(words);
-    if next_word(words).is_some() || (count.is_none() && min.is_none()) {
+    match run_test_and_rest(words) {
+        Some((test, _)) => Some(test),
+        None => None,
+    }
+}
+
+/// The same, and the lexer behind it.
+#[tactic(auto, unfolding(crate::specs::RunTests::run_test_of))]
+pub(crate) fn run_test_and_rest<'a>(words: Lexer<'a>) -> Option<(RunTest<'a>, Lexer<'a>)>
+    ensures value { option_map (λ p. view.run_test p.0) result ≡ spec.run_test_of (words_left words.entry) }
+    ensures behind { IfSome result (λ p. Behind (left words.entry) (left p.1)) }
+{
+    let (run, rest) = take_state(words);
+    let (count, rest) = take_count(rest);
+    let (min, rest) = take_time(rest);
+    let (max, rest) = maximum_behind(min, rest);
+    let (end, rest) = take_end(rest);
+    if next_word(rest).is_some() || (count.is_none() && min.is_none()) {
         return None;
     }
-    Some(RunTest {
+    let test = RunTest {
         run,
         count,
         min,
         max,
         end,
-    })
+    };
+    Some((test, rest))
 }
 
 /// `[state]`, and the lexer behind it.
@@ -53,6 +67,7 @@ pub fn run_test_of(words: Lexer<'_>) -> Option<RunTest<'_>>
 fn take_state<'a>(words: Lexer<'a>) -> (Option<State>, Lexer<'a>)
     ensures value { result.0 ≡ (spec.take_state (words_left words.entry)).0 }
     ensures rest { words_left result.1 ≡ (spec.take_state (words_left words.entry)).1 }
+    ensures behind { Behind (left words.entry) (left result.1) }
 {
     match next_word(words) {
         Some((word, rest)) => match state_of(word) {
@@ -69,6 +84,7 @@ fn take_count<'a>(words: Lexer<'a>) -> (Option<(&'a [u8], Clock)>, Lexer<'a>)
     ensures value { option_map {U = Word × declared_clock.Clock} (λ c. (c.0.now, c.1)) result.0
         ≡ (spec.take_count (words_left words.entry)).0 }
     ensures rest { words_left result.1 ≡ (spec.take_count (words_left words.entry)).1 }
+    ensures behind { Behind (left words.entry) (left result.1) }
 {
     let Some((number, after)) = next_word(words) else {
         return (None, words);
@@ -90,6 +106,7 @@ fn take_count<'a>(words: Lexer<'a>) -> (Option<(&'a [u8], Clock)>, Lexer<'a>)
 fn take_time<'a>(words: Lexer<'a>) -> (Option<&'a [u8]>, Lexer<'a>)
     ensures value { option_map {U = Word} (λ w. w.now) result.0 ≡ (spec.take_time (words_left words.entry)).0 }
     ensures rest { words_left result.1 ≡ (spec.take_time (words_left words.entry)).1 }
+    ensures behind { Behind (left words.entry) (left result.1) }
 {
     let Some((number, after)) = next_word(words) else {
         return (None, words);
@@ -109,6 +126,7 @@ fn take_time<'a>(words: Lexer<'a>) -> (Option<&'a [u8]>, Lexer<'a>)
 fn take_maximum<'a>(words: Lexer<'a>) -> (Option<&'a [u8]>, Lexer<'a>)
     ensures value { option_map {U = Word} (λ w. w.now) result.0 ≡ (spec.take_maximum (words_left words.entry)).0 }
     ensures rest { words_left result.1 ≡ (spec.take_maximum (words_left words.entry)).1 }
+    ensures behind { Behind (left words.entry) (left result.1) }
 {
     let Some((keyword, after)) = next_word(words) else {
         return (None, words);
@@ -128,6 +146,7 @@ fn maximum_behind<'a>(min: Option<&'a [u8]>, words: Lexer<'a>) -> (Option<&'a [u
         ≡ (spec.maximum_behind (option_map {U = Word} (λ w. w.now) min.entry) (words_left words.entry)).0 }
     ensures rest { words_left result.1
         ≡ (spec.maximum_behind (option_map {U = Word} (λ w. w.now) min.entry) (words_left words.entry)).1 }
+    ensures behind { Behind (left words.entry) (left result.1) }
 {
     match min {
         Some(_) => take_maximum(words),
@@ -140,6 +159,7 @@ fn maximum_behind<'a>(min: Option<&'a [u8]>, words: Lexer<'a>) -> (Option<&'a [u
 fn take_end<'a>(words: Lexer<'a>) -> (Option<State>, Lexer<'a>)
     ensures value { result.0 ≡ (spec.take_end (words_left words.entry)).0 }
     ensures rest { words_left result.1 ≡ (spec.take_end (words_left words.entry)).1 }
+    ensures behind { Behind (left words.entry) (left result.1) }
 {
     let Some((keyword, after)) = next_word(words) else {
         return (None, words);

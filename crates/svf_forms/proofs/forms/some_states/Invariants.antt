@@ -1,11 +1,13 @@
 use Rattle.std.proofs.Common.{◌≡◌, length}
+use Rattle.svf_lex.specs.Left.{left}
 use Rattle.svf_words.specs.Words.{words_left}
+use Rattle.svf_forms.specs.Behind.{Behind}
 use Rattle.svf_forms.specs.Forms.{each_state}
 use Rattle.svf_forms.proofs.StateLists.{in_front}
 use Rattle.svf_forms.proofs.forms.some_states.Given as goal
 
 abbrev pub invariant-loop-word : goal.invariant-loop-word
-invariant-loop-word l = in_front l.all.items (each_state (words_left l.rest)) ≡ each_state (words_left l.words)
+invariant-loop-word l = (in_front l.all.items (each_state (words_left l.rest)) ≡ each_state (words_left l.words)) × Behind (left l.words) (left l.rest)
 
 abbrev pub decreases-loop-word : goal.decreases-loop-word
 decreases-loop-word l = length (words_left l.rest)
