@@ -1,5 +1,5 @@
 -- Levels of numbered nets are those of the nets.
-use Rattle.std.proofs.Common.{◌≡◌, ◌<◌, ℕ, zero, suc, ◌+◌, List, [], ◌∷◌, ◌++◌, length, map, drop, get_or, slice_get, slice_set, Some, option_map, refl, sym, ap, ◌∙◌, arith}
+use Rattle.std.proofs.Common.{◌≡◌, ◌<◌, ℕ, zero, suc, ◌+◌, Bool, List, [], ◌∷◌, ◌++◌, length, map, drop, get_or, slice_get, slice_set, Option, Some, None, option_map, refl, sym, ap, ◌∙◌, arith}
 use Rattle.std.specs.List.{range_with_len}
 use Rattle.std.proofs.Math.Seq.{drop-cons}
 use Rattle.std.proofs.lemmas.List.{get_or-drop, length-drop, length-append, length-map, map-append}
@@ -8,7 +8,7 @@ use Rattle.pin_nets.specs.declared.Drive.{Drive}
 use Rattle.pin_nets.specs.declared.Drive.TheVariants.{Nothing}
 use Rattle.pin_nets.specs.declared.Level.{Level}
 use Rattle.pin_nets.specs.declared.Pin.{Pin}
-use Rattle.pin_nets.specs.Levels.{drive_at, level, level_of, pull_drive}
+use Rattle.pin_nets.specs.Levels.{drive_at, level, level_of, pull_drive, reads}
 use Rattle.pin_nets.specs.Wired.{Net}
 use Rattle.board_plan.specs.Planned.{all_pins}
 use Rattle.board_plan.specs.PinNumbers.{with_pin_numbers}
@@ -72,6 +72,34 @@ net_put drives ns net l h is =
 pub net_level : (f : Pin → Drive) (drives : List Drive) (ns : List Net) (net : ℕ) (l : Level) → net < length ns → drives ≡ map f (all_pins ns)
     → option_map (level drives) (slice_get (all_nets ns) net) ≡ Some l → option_map (shown f) (slice_get ns net) ≡ Some l
 net_level f drives ns net l h e is = sym (numbered-level f drives 0 ns net e) ∙ net_put drives ns net l h is
+
+-- what is seen of a level
+read-of : {A : Type 0} (g : A → Level) (o : Option A) → option_map reads (option_map g o) ≡ option_map (λ x. reads (g x)) o
+read-of g None = refl
+read-of g (Some x) = refl
+
+-- the level that is seen so
+record ReadAt (o : Option Level) (b : Bool) : Type 0 where
+  l : Level
+  there : o ≡ Some l
+  is : Some (reads l) ≡ Some b
+
+read-at : (o : Option Level) (b : Bool) → option_map reads o ≡ Some b → ReadAt o b
+read-at None b e = absurd (cc)
+read-at (Some l) b e = record { l = l; there = refl; is = e }
+
+pub seen_put : (drives : List Drive) (ns : List Net) (net : ℕ) (b : Bool) → net < length ns → option_map (λ n. reads (level drives n)) (slice_get (all_nets ns) net) ≡ Some b
+    → option_map (λ n. reads (level drives n)) (slice_get (with_pin_numbers 0 ns) net) ≡ Some b
+seen_put drives ns net b h is =
+    let r = read-at (option_map (level drives) (slice_get (all_nets ns) net)) b (read-of (level drives) (slice_get (all_nets ns) net) ∙ is) in
+    sym (read-of (level drives) (slice_get (with_pin_numbers 0 ns) net)) ∙ ap (option_map reads) (net_put drives ns net r.l h r.there) ∙ r.is
+
+pub seen_driven : (f : Pin → Drive) (drives : List Drive) (ns : List Net) (net : ℕ) (b : Bool) → net < length ns → drives ≡ map f (all_pins ns)
+    → option_map (λ n. reads (level drives n)) (slice_get (all_nets ns) net) ≡ Some b
+    → option_map (λ n. reads (level_of (pull_drive n.pull ∷ map f n.pins))) (slice_get ns net) ≡ Some b
+seen_driven f drives ns net b h e is =
+    let r = read-at (option_map (level drives) (slice_get (all_nets ns) net)) b (read-of (level drives) (slice_get (all_nets ns) net) ∙ is) in
+    sym (read-of (shown f) (slice_get ns net)) ∙ ap (option_map reads) (net_level f drives ns net r.l h e r.there) ∙ r.is
 
 -- what is there, put there again, changes nothing
 pub set-same : {A : Type 0} (xs : List A) (i : ℕ) (x : A) → slice_get xs i ≡ Some x → slice_set xs i x ≡ xs

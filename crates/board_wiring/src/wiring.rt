@@ -82,6 +82,18 @@ impl Wiring {
         self.levels.level(net)
     }
 
+    /// What the ports on a net see by what was last put to its pins, as `level` has it: Contend reads 0, Float reads 1.
+    pub fn seen(&self, net: usize) -> bool
+        requires { net < length self.now.nets }
+        ensures put { option_map (λ n. levels.reads (levels.level self.now.drives n))
+            (slice_get (with_pin_numbers 0 self.now.nets) net) ≡ Some result }
+        ensures driven { (f : ThePin → TheDrive) → self.now.drives ≡ map f (all_pins self.now.nets)
+            → option_map (λ n. levels.reads (levels.level_of (levels.pull_drive n.pull ∷ map f n.pins)))
+            (slice_get self.now.nets net) ≡ Some result }
+    {
+        self.levels.seen(net)
+    }
+
     /// How many pins the nets have.
     pub fn pin_count(&self) -> usize
         ensures count { result ≡ length (all_pins self.now.nets) }

@@ -55,18 +55,18 @@ module _ (place port : ℕ) where
 abbrev shown : (Pin → Drive) → Net → Level
 shown f n = level_of (pull_drive n.pull ∷ map f n.pins)
 
-pub seen_on_net : (w : WiringValue) (place port net : ℕ) (ms : List Member) (l : Level)
-    → option_map (shown (pin_drive ms)) (slice_get w.nets net) ≡ Some l → first_net place port 0 w.nets ≡ Some net → reads l ≡ sees w.nets ms place port
-seen_on_net w place port net ms l is first =
+pub seen_on_net : (w : WiringValue) (place port net : ℕ) (ms : List Member) (b : Bool)
+    → option_map (λ n. reads (shown (pin_drive ms) n)) (slice_get w.nets net) ≡ Some b → first_net place port 0 w.nets ≡ Some net → b ≡ sees w.nets ms place port
+seen_on_net w place port net ms b is first =
     let r = first-found place port 0 net w.nets first in
     let there : found place port w.nets ≡ slice_get w.nets net = let same : r.at ≡ net = omega (arith, r.is) in r.there ∙ ap (slice_get w.nets) same in
     by (slice_get w.nets net) refl there
   where
-    by : (o : Option Net) → slice_get w.nets net ≡ o → found place port w.nets ≡ slice_get w.nets net → reads l ≡ sees w.nets ms place port
-    by None at there = absurd (none-some _ (sym (ap (option_map (shown (pin_drive ms))) at) ∙ is))
+    by : (o : Option Net) → slice_get w.nets net ≡ o → found place port w.nets ≡ slice_get w.nets net → b ≡ sees w.nets ms place port
+    by None at there = absurd (none-some _ (sym (ap (option_map (λ n. reads (shown (pin_drive ms) n))) at) ∙ is))
     by (Some x) at there =
-        let level-is : level ms x ≡ l = ap (λ (o : Option Level). unwrap_or o l) (sym (ap (option_map (shown (pin_drive ms))) at) ∙ is) in
-        sym (ap reads level-is) ∙ sym (ap (λ (o : Option Net). reads (level ms (unwrap_or o (lone_net place port)))) (there ∙ at))
+        let seen-is : reads (level ms x) ≡ b = ap (λ (o : Option Bool). unwrap_or o b) (sym (ap (option_map (λ n. reads (shown (pin_drive ms) n))) at) ∙ is) in
+        sym seen-is ∙ sym (ap (λ (o : Option Net). reads (level ms (unwrap_or o (lone_net place port)))) (there ∙ at))
 
 pub seen_alone : (w : WiringValue) (place port : ℕ) (ms : List Member) (m : Member) (d : Drive)
     → slice_get ms place ≡ Some m → d ≡ drive m port → first_net place port 0 w.nets ≡ None → reads (level_of (Nothing ∷ d ∷ [])) ≡ sees w.nets ms place port

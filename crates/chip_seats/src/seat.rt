@@ -30,7 +30,6 @@ use boundary::{Boundary, Drive, drivers};
 use bsdl_device::Device;
 use jt_bits::Bits;
 use jt_tap::{Column, State, Work};
-use pin_nets::reads;
 use scan_registers::{Chip, Selected};
 use std::alloc::{AllocError, Global};
 use std::marker::Model;
@@ -264,7 +263,7 @@ impl Seat {
             → result ≡ sight wiring.now ms place port }
     {
         match net {
-            Some(net) => reads(wiring.level(net)),
+            Some(net) => wiring.seen(net),
             None => sees_alone(self.drive(port)),
         }
     }

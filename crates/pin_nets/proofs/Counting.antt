@@ -15,7 +15,7 @@ use Rattle.pin_nets.specs.declared.Drive.TheVariants.{Nothing}
 use Rattle.pin_nets.specs.declared.Level.{Level}
 use Rattle.pin_nets.specs.declared.Level.TheVariants.{Float}
 use Rattle.pin_nets.specs.declared.Pull.TheVariants.{Free}
-use Rattle.pin_nets.specs.Levels.{NetValue, four, net_counts, level, level_by, Has, IsFew, Replaces, one, is_strong, is_weak, pull_drive, drive_at}
+use Rattle.pin_nets.specs.Levels.{NetValue, four, net_counts, level, level_by, reads, Has, IsFew, Replaces, one, is_strong, is_weak, pull_drive, drive_at}
 use Rattle.pin_nets.specs.Places.{has_pin, times, IsOnce, Placed, AreShort}
 
 -- ---- one pin of a list of pins
@@ -190,6 +190,14 @@ kept_off ds p d nets h none =
     same_map (λ x. four (net_counts ds x)) (λ x. four (net_counts (set ds p d) x)) [] nets
     (λ n k. ap four (sym (off_net ds p d (get_or nets n nobody) h (on_none p nets none n k))))
 
+abbrev pub seen : List Drive → List NetValue → List Bool
+seen ds nets = map (λ x. reads (level ds x)) nets
+
+pub seen_off : (ds : List Drive) (p : ℕ) (d : Drive) (nets : List NetValue) → p < length ds → position (has_pin p) nets ≡ None → seen ds nets ≡ seen (set ds p d) nets
+seen_off ds p d nets h none =
+    same_map (λ x. reads (level ds x)) (λ x. reads (level (set ds p d) x)) false nets
+    (λ n k. ap (λ (c : Counts). reads (level_by c)) (sym (off_net ds p d (get_or nets n nobody) h (on_none p nets none n k))))
+
 pub levels_off : (ds : List Drive) (p : ℕ) (d : Drive) (nets : List NetValue) → p < length ds → position (has_pin p) nets ≡ None → map (level ds) nets ≡ map (level (set ds p d)) nets
 levels_off ds p d nets h none =
     same_map (level ds) (level (set ds p d)) Float nets (λ n k. ap level_by (sym (off_net ds p d (get_or nets n nobody) h (on_none p nets none n k))))
@@ -219,6 +227,22 @@ module _ (ds : List Drive) (p : ℕ) (d : Drive) (nets : List NetValue) (m : ℕ
       ∙ ap four (sym (off_net ds p d (get_or nets n nobody) h (on.others n apart k))))
       (cases_eq n m))
       ∙ sym (fill_by_all f (kept new nets) (length nets) [] (length-map nets (λ x. four (net_counts new x))) (λ n k. get_or-map (λ x. four (net_counts new x)) nets n nobody [] k))
+
+  pub seen_on : (after : Counts) → Replaces (net_counts ds net) after (drive_at ds p) d → set (seen ds nets) m (reads (level_by after)) ≡ seen new nets
+  seen_on after is =
+      let sees : ℕ → Bool = λ n. reads (level new (get_or nets n nobody)) in
+      let old = seen ds nets in
+      let long : length old ≡ length nets = length-map nets (λ x. reads (level ds x)) in
+      fill_by_all sees (set old m (reads (level_by after))) (length nets) false (length-set old m (reads (level_by after)) ∙ long)
+      (λ n k. ⊎_elim
+      (λ (e : n ≡ m).
+      ap (λ (j : ℕ). get_or (set old m (reads (level_by after))) j false) e ∙ get_or-set_same old m (reads (level_by after)) false (omega (arith, long, on.inside))
+      ∙ ap (λ (c : Counts). reads (level_by c)) (counted after is) ∙ ap sees (sym e))
+      (λ apart.
+      get_or-set_other old m n (reads (level_by after)) false apart ∙ get_or-map (λ x. reads (level ds x)) nets n nobody false k
+      ∙ ap (λ (c : Counts). reads (level_by c)) (sym (off_net ds p d (get_or nets n nobody) h (on.others n apart k))))
+      (cases_eq n m))
+      ∙ sym (fill_by_all sees (seen new nets) (length nets) false (length-map nets (λ x. reads (level new x))) (λ n k. get_or-map (λ x. reads (level new x)) nets n nobody false k))
 
   pub levels_same : level ds net ≡ level new net → map (level ds) nets ≡ map (level new) nets
   levels_same e =

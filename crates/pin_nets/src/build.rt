@@ -1,12 +1,13 @@
 //! The nets of a board at power-up.
 
 ghost use Rattle.std.specs.Prelude.{◌≡◌, ◌<◌, ◌++◌, ℕ, [], ◌∷◌, None, length, map, slice_index, IfOk, OnOk};
-ghost use Rattle.pin_nets.specs.Levels.{four, counts_of, pull_drive};
+ghost use Rattle.pin_nets.specs.Levels as levels;
+ghost use Rattle.pin_nets.specs.Levels.{four, counts_of, level_of, pull_drive};
 ghost use Rattle.pin_nets.specs.Places.{AddsLoneNets, AllNone, AreShort, EntersPins, HasNetOfEach, IsOnce, alone};
 ghost use Rattle.pin_nets.specs.Building.{HasPinsBelow, built, net_value};
 
 use crate::nets::{Net, Nets};
-use crate::{Drive, Pull, pull_counts, row_of_counts};
+use crate::{Drive, Pull, level_of, pull_counts, reads, row_of_counts};
 use std::alloc::{AllocError, Global};
 
 /// A net as a board has it: its pins by number, and its pull.
@@ -29,12 +30,14 @@ impl Nets {
         let mut all = named_nets(alloc, nets, &mut net_of)?;
         add_lone(alloc, &mut all, &mut net_of)?;
         let counts = start_counts(alloc, &all)?;
+        let seen = start_seen(alloc, &all)?;
         let drives = Vec::from_elem(alloc, Drive::Nothing, pins)?;
         Ok(Nets {
             drives,
             net_of,
             nets: all,
             counts,
+            seen,
         })
     }
 }
@@ -115,4 +118,15 @@ fn start_counts(alloc: Global, nets: &[Net]) -> Result<Vec<[usize; 4]>, AllocErr
         counts.push(row_of_counts(pull_counts(net.pull)))?;
     }
     Ok(counts)
+}
+
+/// What the ports of each net see while no pin drives.
+fn start_seen(alloc: Global, nets: &[Net]) -> Result<Vec<bool>, AllocError>
+    ensures { IfOk result (λ v. v.items ≡ map (λ x. levels.reads (level_of (pull_drive x.pull ∷ []))) nets.now) }
+{
+    let mut seen = Vec::with_capacity(alloc, nets.len())?;
+    for net in nets {
+        seen.push(reads(level_of(pull_counts(net.pull))))?;
+    }
+    Ok(seen)
 }

@@ -27,18 +27,20 @@ impl Model for Net {
 
 /// What each pin drives, and the nets. Contracts see it as the two lists.
 ///
-/// The numbers of drivers of each net stand ready: a pin's new drive changes those of its net alone.
+/// The numbers of drivers of each net stand ready, and what its ports see: a pin's new drive changes those of its net
+/// alone.
 #[derive(Drop)]
 pub struct Nets {
     pub(crate) drives: Vec<Drive>,
     pub(crate) net_of: Vec<Option<usize>>,
     pub(crate) nets: Vec<Net>,
     pub(crate) counts: Vec<[usize; 4]>,
+    pub(crate) seen: Vec<bool>,
 }
 
 impl Model for Nets {
     ghost use Rattle.std.specs.Prelude.{◌≡◌, length, map};
-    ghost use Rattle.pin_nets.specs.Levels.{NetsValue, four, net_counts};
+    ghost use Rattle.pin_nets.specs.Levels.{NetsValue, four, level, net_counts, reads};
     ghost use Rattle.pin_nets.specs.Places.{Placed, AreShort};
 
     ghost Value = { NetsValue };
@@ -50,6 +52,7 @@ impl Model for Nets {
       placed : Placed n.net_of.items n.nets.items;
       short : AreShort n.nets.items;
       counts : n.counts.items ≡ map (λ x. four (net_counts n.drives.items x)) n.nets.items;
+      seen : n.seen.items ≡ map (λ x. reads (level n.drives.items x)) n.nets.items;
     } };
 }
 
@@ -68,6 +71,7 @@ impl Nets {
                 let before = counts_of_row(&self.counts[net]);
                 let after = with_replaced(before, old, drive);
                 self.counts[net] = row_of_counts(after);
+                self.seen[net] = reads(level_of(after));
                 differ(level_of(before), level_of(after))
             }
         }
@@ -95,7 +99,7 @@ impl Nets {
         ensures { option_map (λ x. levels.reads (levels.level self.now.drives x)) (slice_get self.now.nets net)
             ≡ Some result }
     {
-        reads(self.level(net))
+        self.seen[net]
     }
 
     /// How many drivers a net has, its pull among them: to 0 and to 1, and weak ones to 0 and to 1.

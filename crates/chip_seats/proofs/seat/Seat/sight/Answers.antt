@@ -4,7 +4,7 @@ use Rattle.chip_seats.proofs.seat.Seat.sight.Goals as goal
 
 pub returns-in-Some : goal.returns-in-Some
 returns-in-Some c = λ place ms at net.
-    c.reads.ensures ∙ seen_on_net c.args.wiring.now place c.args.port c.in-Some.net ms c.level.result (c.level.ensures.driven _ at.drives) (sym net ∙ c.in-Some.is)
+    seen_on_net c.args.wiring.now place c.args.port c.in-Some.net ms c.seen.result (c.seen.ensures.driven _ at.drives) (sym net ∙ c.in-Some.is)
 
 pub returns-in-None : goal.returns-in-None
 returns-in-None c = λ place ms at net.

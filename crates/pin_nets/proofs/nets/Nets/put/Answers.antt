@@ -1,7 +1,7 @@
-use Rattle.std.proofs.Common.{◌≡◌, ◌<◌, ℕ, true, false, List, length, get_or, set, sym, ap, ◌∙◌, arith}
+use Rattle.std.proofs.Common.{◌≡◌, ◌<◌, ℕ, Bool, true, false, List, length, get_or, set, sym, ap, ◌∙◌, arith}
 use Rattle.std.proofs.lemmas.List.{length-map, length-set}
-use Rattle.pin_nets.specs.Levels.{NetsValue, four, net_counts, drive_at, level, level_by, all_levels}
-use Rattle.pin_nets.proofs.Counting.{OnNet, nobody, on_some, pin_at, old_is, before_is, has_before, few_before, moved_as, kept, kept_off, kept_on, levels_off, levels_same, level_same, counted}
+use Rattle.pin_nets.specs.Levels.{NetsValue, four, net_counts, drive_at, level, level_by, reads, all_levels}
+use Rattle.pin_nets.proofs.Counting.{OnNet, nobody, on_some, pin_at, old_is, before_is, has_before, few_before, moved_as, kept, kept_off, kept_on, seen, seen_off, seen_on, levels_off, levels_same, level_same, counted}
 use Rattle.pin_nets.proofs.nets.Nets.put.Goals as goal
 
 no : false ≡ true → ⊥
@@ -65,6 +65,7 @@ invariant_of-self c =
       placed = c.self.invariant.placed;
       short = c.self.invariant.short;
       counts = c.self.invariant.counts ∙ kept_off ds pin c.args.drive nets in_ at;
+      seen = c.self.invariant.seen ∙ seen_off ds pin c.args.drive nets in_ at;
     }
 
 pub invariant_of-self-in-Some : goal.invariant_of-self-in-Some
@@ -86,6 +87,10 @@ invariant_of-self-in-Some c =
       counts =
           ap (λ (cs : List (List ℕ)). set cs c.in-Some.net c.row_of_counts.result) c.self.invariant.counts ∙ ap (set (kept ds nets) c.in-Some.net) c.row_of_counts.ensures
           ∙ kept_on ds pin c.args.drive nets c.in-Some.net in_ on c.with_replaced-after.result move;
+      seen =
+          ap (λ (bs : List Bool). set bs c.in-Some.net c.reads.result) c.self.invariant.seen
+          ∙ ap (set (seen ds nets) c.in-Some.net) (c.reads.ensures ∙ ap reads c.level_of.ensures)
+          ∙ seen_on ds pin c.args.drive nets c.in-Some.net in_ on c.with_replaced-after.result move;
     }
 
 pub returns-in-None-clause-changed : goal.returns-in-None-clause-changed
@@ -113,8 +118,8 @@ returns-in-Some-clause-changed c =
     let m = c.in-Some.net in
     let view = ap all_levels c.self.view_is in
     let new = set ds pin c.args.drive in
-    let was : c.level_of.result ≡ level ds x = c.level_of.ensures ∙ ap level_by before in
-    let is : c.level_of-in-Some.result ≡ level new x = c.level_of-in-Some.ensures ∙ ap level_by (counted ds pin c.args.drive nets m in_ on c.with_replaced-after.result move) in (
+    let was : c.level_of-in-Some.result ≡ level ds x = c.level_of-in-Some.ensures ∙ ap level_by before in
+    let is : c.level_of-in-Some-2.result ≡ level new x = c.level_of-in-Some-2.ensures ∙ ap level_by (counted ds pin c.args.drive nets m in_ on c.with_replaced-after.result move) in (
       λ t e. c.differ.ensures.0 t (was ∙ level_same ds pin c.args.drive nets m in_ on (view ∙ e) ∙ sym is),
       λ differs. c.differ.ensures.1 (λ same. differs (sym view ∙ levels_same ds pin c.args.drive nets m in_ on (sym was ∙ same ∙ is))),
     )
