@@ -1,5 +1,5 @@
 //! Judging a description that is well formed.
-ghost use Rattle.std.specs.Prelude.{None, option_map};
+ghost use Rattle.std.specs.Prelude.{None, option_map, IfOk};
 ghost use Rattle.std.specs.Option.{option_or};
 ghost use Rattle.bsdl.specs.Judging as spec;
 ghost use Rattle.bsdl.specs.View.{Judges};
@@ -8,34 +8,39 @@ ghost use Rattle.bsdl_described.specs.View.{description};
 ghost use Rattle.bsdl_fit.specs.Fits.{unfit_cell as unfit_cell_of};
 ghost use Rattle.bsdl_lengths.specs.Lengths as lengths;
 ghost use Rattle.bsdl_limits.specs.Limits.{is_within_limits as keeps_limits};
+ghost use Rattle.bsdl_port_names.specs.View.{AreNamed};
 ghost use Rattle.bsdl_twice.specs.Twice.{given_again as first_given_again};
 
 use crate::fault::BsdlFault;
 use bsdl_described::description::Description;
 use bsdl_entity::entity::Outline;
-use bsdl_fit::unfit::unfit_cell;
+use bsdl_fit::known::known_of;
+use bsdl_fit::unfit::unfit_cell_by;
 use bsdl_lengths::ends::{captures_one, ends_in_one};
 use bsdl_lengths::lengths::lengths_fit;
 use bsdl_limits::limits::is_within_limits;
 use bsdl_limits::users::users_of;
 use bsdl_opcodes::reset_opcode::resets_to_idcode;
+use bsdl_port_names::named_ports::NamedPorts;
 use bsdl_twice::again::given_again;
 use std::alloc::Global;
 
-/// The first refusal of B4 to B9 of a description that is well formed, if there is one. Want of memory is B10; nothing
-/// is said of when it comes.
-pub fn judge(
+/// The first refusal of B4 to B9 of a description that is well formed, or else its ports by their names. Want of memory
+/// is B10; nothing is said of when it comes.
+pub fn judge<'t>(
     alloc: Global,
-    outline: &Outline<'_>,
+    outline: &Outline<'t>,
     described: &Description<'_>,
-) -> Result<(), BsdlFault>
-    ensures { Judges result (spec.fault (description outline.now described.now)) }
+) -> Result<NamedPorts<'t>, BsdlFault>
+    ensures judges { Judges result (spec.fault (description outline.now described.now)) }
+    ensures named { IfOk result (λ n. AreNamed n (description outline.now described.now).ports) }
 {
     judge_names(alloc, outline, described)?;
     judge_lengths(alloc, outline, described)?;
     judge_ends(outline, described)?;
-    judge_cells(alloc, outline, described)?;
-    judge_limits(alloc, outline, described)
+    let named = judge_cells(alloc, outline, described)?;
+    judge_limits(alloc, outline, described)?;
+    Ok(named)
 }
 
 /// B4: no name is given again, and a reset loads IDCODE.
@@ -101,17 +106,21 @@ fn judge_ends(outline: &Outline<'_>, described: &Description<'_>) -> Result<(), 
     Ok(())
 }
 
-/// B8: every cell fits.
-fn judge_cells(
+/// B8: every cell fits. Answers the ports by their names, which tell it.
+fn judge_cells<'t>(
     alloc: Global,
-    outline: &Outline<'_>,
+    outline: &Outline<'t>,
     described: &Description<'_>,
-) -> Result<(), BsdlFault>
-    ensures { Judges result (option_map bad_cell (unfit_cell_of (description outline.now described.now))) }
+) -> Result<NamedPorts<'t>, BsdlFault>
+    ensures judges { Judges result (option_map bad_cell (unfit_cell_of (description outline.now described.now))) }
+    ensures named { IfOk result (λ n. AreNamed n (description outline.now described.now).ports) }
 {
-    match unfit_cell(alloc, outline, described) {
+    let Ok(known) = known_of(alloc, outline, described) else {
+        return Err(BsdlFault::NoMemory);
+    };
+    match unfit_cell_by(alloc, &known, described) {
         Ok(Some(number)) => Err(BsdlFault::BadCell(number)),
-        Ok(None) => Ok(()),
+        Ok(None) => Ok(known.named),
         Err(_) => Err(BsdlFault::NoMemory),
     }
 }

@@ -7,7 +7,7 @@ ghost use Rattle.bsdl_entity.specs.OutlineView.{outline};
 use crate::fault::BsdlFault;
 use crate::form::{description_of, outline_of};
 use crate::judge::judge;
-use bsdl_built::device::device_of;
+use bsdl_built::device::device_by_names;
 use bsdl_described::description::Description;
 use bsdl_device::Device;
 use bsdl_entity::entity::Outline;
@@ -38,8 +38,8 @@ fn read_description(
     ensures { Tells result (device_or_refusal (fault (description entity.now described.now))
         (description entity.now described.now)) }
 {
-    judge(alloc, entity, described)?;
-    match device_of(alloc, entity, described) {
+    let named = judge(alloc, entity, described)?;
+    match device_by_names(alloc, entity, described, &named) {
         Ok(device) => Ok(device),
         Err(_) => Err(BsdlFault::NoMemory),
     }

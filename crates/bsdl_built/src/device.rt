@@ -2,6 +2,7 @@
 ghost use Rattle.std.specs.Prelude.{◌≡◌, ◌<◌, ◌==◌, ℕ, filter, length, map, IfOk};
 ghost use Rattle.bsdl_numbers.specs.View.{value};
 ghost use Rattle.bsdl_described.specs.View.{description};
+ghost use Rattle.bsdl_port_names.specs.View.{AreNamed};
 ghost use Rattle.bsdl_boundary.specs.Boundary as boundary;
 ghost use Rattle.bsdl_built.specs.Built as spec;
 
@@ -15,7 +16,7 @@ use bsdl_limits::users::users_of;
 use bsdl_numbers::Digits;
 use bsdl_opcodes::accesses::accesses_of;
 use bsdl_opcodes::patterns::{bits_of, code_of, opcodes_of, private_names_of};
-use bsdl_port_names::named_ports::named_ports_of;
+use bsdl_port_names::named_ports::{NamedPorts, named_ports_of};
 use std::alloc::{AllocError, Global};
 
 /// The device that a description says; each cell below the length of the boundary register has one row. Refuses for
@@ -29,13 +30,29 @@ pub fn device_of(
         → length (filter (λ r. r.number == k) (description outline.now described.now).cells) ≡ 1 }
     ensures { IfOk result (λ v. v ≡ spec.device (description outline.now described.now)) }
 {
+    let named = named_ports_of(alloc, &outline.groups)?;
+    device_by_names(alloc, outline, described, &named)
+}
+
+/// The same, where the ports are known by their names already.
+pub fn device_by_names(
+    alloc: Global,
+    outline: &Outline<'_>,
+    described: &Description<'_>,
+    named: &NamedPorts<'_>,
+) -> Result<Device, AllocError>
+    requires named { AreNamed named.now (description outline.now described.now).ports }
+    requires once { (k : ℕ) → k < (description outline.now described.now).boundary_length
+        → length (filter (λ r. r.number == k) (description outline.now described.now).cells) ≡ 1 }
+    ensures { IfOk result (λ v. v ≡ spec.device (description outline.now described.now)) }
+{
     let ports = ports_of(alloc, &described.taps, &outline.groups)?;
     let instruction_length = size_of(described.instruction_length)?;
     let opcodes = opcodes_of(alloc, &described.opcodes)?;
     let capture = bits_of(alloc, &described.capture)?;
     let idcode = code_of(alloc, &described.idcodes)?;
     let usercode = code_of(alloc, &described.usercodes)?;
-    let cells = boundary_of(alloc, outline, described)?;
+    let cells = boundary_of(alloc, outline, described, named)?;
     let private_names = private_names_of(alloc, &described.private_names)?;
     let known = users_of(alloc, &described.accesses)?;
     let accesses = accesses_of(alloc, &known, &described.accesses)?;
@@ -61,17 +78,18 @@ fn boundary_of(
     alloc: Global,
     outline: &Outline<'_>,
     described: &Description<'_>,
+    named: &NamedPorts<'_>,
 ) -> Result<Vec<Cell>, AllocError>
+    requires named { AreNamed named.now (description outline.now described.now).ports }
     requires once { (k : ℕ) → k < (description outline.now described.now).boundary_length
         → length (filter (λ r. r.number == k) (description outline.now described.now).cells) ≡ 1 }
     ensures { IfOk result (λ v. v.items
         ≡ boundary.cells_of (description outline.now described.now).ports (description outline.now described.now).cells
         (description outline.now described.now).boundary_length) }
 {
-    let named = named_ports_of(alloc, &outline.groups)?;
     let firsts = firsts_of(alloc, &outline.groups)?;
     let len = size_of(described.boundary_length)?;
-    cells_of(alloc, &named, &firsts, &described.cells, len)
+    cells_of(alloc, named, &firsts, &described.cells, len)
 }
 
 fn lengths_of(alloc: Global, lengths: &[Digits<'_>]) -> Result<Vec<usize>, AllocError>

@@ -8,8 +8,6 @@ use Rattle.bsdl_ports.specs.View as ports_view
 use Rattle.bsdl_entity.specs.declared.entity.Outline.{Outline}
 use Rattle.bsdl_described.specs.declared.description.Description as declared_description
 use Rattle.bsdl_described.specs.View.{description}
-use Rattle.bsdl_port_names.specs.NamedPorts.{find_port}
-use Rattle.bsdl_port_names.specs.View.{AreNamed}
 use Rattle.bsdl_boundary.specs.Bits.{firsts}
 use Rattle.bsdl_boundary.specs.Boundary.{cells_of}
 use Rattle.bsdl_built.proofs.device.boundary_of.Goals as goal
@@ -21,13 +19,12 @@ each_once o t rows len rows_are len_is once k h = ap (λ rs. length (filter (λ 
 
 pub cells_of-requires : goal.cells_of-requires
 cells_of-requires c = record {
-  once = each_once c.args.outline.now c.args.described.now c.deref-4.result.now c.in_ok-len.len c.deref-4.ensures.value c.in_ok-len.ensures.value c.requires.once;
+  once = each_once c.args.outline.now c.args.described.now c.deref-3.result.now c.in_ok-len.len c.deref-3.ensures.value c.in_ok-len.ensures.value c.requires.once;
 }
 
 pub returns : goal.returns
 returns c =
     let d = description c.args.outline.now c.args.described.now in
-    let at : AreNamed c.in_ok-named.named d.ports = λ q. c.in_ok-named.ensures q ∙ ap (λ gs. find_port 0 (ports_view.ports gs) q) c.deref.ensures.value in
-    let bits : c.deref-3.result.now ≡ firsts 0 d.ports = c.deref-3.ensures.value ∙ c.in_ok-firsts.ensures ∙ ap (λ gs. firsts 0 (ports_view.ports gs)) c.deref-2.ensures.value in
-    let rows : map cell_row c.deref-4.result.now ≡ d.cells = ap (map cell_row) c.deref-4.ensures.value in
-    IfOk-weaker c.cells_of.result _ _ (λ cells listed. listed d.ports at bits ∙ ap (λ rs. cells_of d.ports rs c.in_ok-len.len) rows ∙ ap (λ (n : ℕ). cells_of d.ports d.cells n) c.in_ok-len.ensures.value) c.cells_of.ensures
+    let bits : c.deref-2.result.now ≡ firsts 0 d.ports = c.deref-2.ensures.value ∙ c.in_ok-firsts.ensures ∙ ap (λ gs. firsts 0 (ports_view.ports gs)) c.deref.ensures.value in
+    let rows : map cell_row c.deref-3.result.now ≡ d.cells = ap (map cell_row) c.deref-3.ensures.value in
+    IfOk-weaker c.cells_of.result _ _ (λ cells listed. listed d.ports c.requires.named bits ∙ ap (λ rs. cells_of d.ports rs c.in_ok-len.len) rows ∙ ap (λ (n : ℕ). cells_of d.ports d.cells n) c.in_ok-len.ensures.value) c.cells_of.ensures
