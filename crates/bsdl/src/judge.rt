@@ -25,9 +25,21 @@ use bsdl_port_names::named_ports::NamedPorts;
 use bsdl_twice::again::given_again;
 use std::alloc::Global;
 
-/// The first refusal of B4 to B9 of a description that is well formed, or else its ports by their names. Want of memory
-/// is B10; nothing is said of when it comes.
-pub fn judge<'t>(
+/// The first refusal of B4 to B9 of a description that is well formed, if there is one. Want of memory is B10; nothing
+/// is said of when it comes.
+pub fn judge(
+    alloc: Global,
+    outline: &Outline<'_>,
+    described: &Description<'_>,
+) -> Result<(), BsdlFault>
+    ensures { Judges result (spec.fault (description outline.now described.now)) }
+{
+    judge_ports(alloc, outline, described)?;
+    Ok(())
+}
+
+/// The same, or else the ports by their names, which serve the device too.
+pub(crate) fn judge_ports<'t>(
     alloc: Global,
     outline: &Outline<'t>,
     described: &Description<'_>,

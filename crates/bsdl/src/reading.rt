@@ -6,7 +6,7 @@ ghost use Rattle.bsdl_entity.specs.OutlineView.{outline};
 
 use crate::fault::BsdlFault;
 use crate::form::{description_of, outline_of};
-use crate::judge::judge;
+use crate::judge::judge_ports;
 use bsdl_built::device::device_by_names;
 use bsdl_described::description::Description;
 use bsdl_device::Device;
@@ -38,7 +38,7 @@ fn read_description(
     ensures { Tells result (device_or_refusal (fault (description entity.now described.now))
         (description entity.now described.now)) }
 {
-    let named = judge(alloc, entity, described)?;
+    let named = judge_ports(alloc, entity, described)?;
     match device_by_names(alloc, entity, described, &named) {
         Ok(device) => Ok(device),
         Err(_) => Err(BsdlFault::NoMemory),
