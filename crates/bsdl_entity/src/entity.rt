@@ -13,7 +13,6 @@ use crate::items::{Given, behind_word, items};
 use crate::keywords::{END, ENTITY, IS};
 use bsdl_lex::{Kind, Lexer};
 use bsdl_ports::ports::{Group, read_ports};
-use bsdl_scalars::scalars::scalars_of;
 use bsdl_text::reading::{Stop, keyword, mark, word};
 use bsdl_values::passing::brackets;
 use std::alloc::Global;
@@ -109,8 +108,5 @@ fn attributes<'a>(
     ensures gives { Gives (λ v. map given v.items) result
         (spec.items (is_scalar (ports groups.now)) (length (left lexer.entry)) (left lexer.entry)) }
 {
-    match scalars_of(alloc, groups) {
-        Ok(scalars) => items(alloc, &scalars, lexer),
-        Err(_) => Err(Stop::Memory),
-    }
+    items(alloc, groups, lexer)
 }

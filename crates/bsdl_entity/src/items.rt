@@ -9,18 +9,19 @@ ghost use Rattle.bsdl_text.specs.Words.{upper};
 ghost use Rattle.bsdl_values.specs.View.{value as value_view};
 ghost use Rattle.bsdl_entity.specs.Entity as spec;
 ghost use Rattle.bsdl_entity.specs.GivenView as given_view;
-ghost use Rattle.bsdl_scalars.specs.Scalars.{tells};
+ghost use Rattle.bsdl_scalars.specs.Scalars.{is_scalar};
+ghost use Rattle.bsdl_ports.specs.View.{ports};
 
 use crate::keywords::{ATTRIBUTE, ATTRIBUTES, IS, OF};
 use bsdl_lex::Lexer;
-use bsdl_scalars::scalars::is_scalar;
+use bsdl_ports::ports::Group;
+use bsdl_scalars::asking::Scalars;
 use bsdl_text::names::Word;
 use bsdl_text::reading::{Stop, keyword, mark, same_name, stands_for, word};
 use bsdl_values::Attribute;
 use bsdl_values::passing::past_semi;
 use bsdl_values::values::{Value, value_of};
 use std::alloc::Global;
-use std::collections::BTreeMap;
 
 /// An attribute, and what it says.
 #[derive(Debug, Drop)]
@@ -47,18 +48,18 @@ fn is_of_tap(attribute: Attribute) -> bool
 /// What an attribute is of: any word, for the TAP's a declared port of one bit.
 fn owner<'a>(
     alloc: Global,
-    scalars: &BTreeMap<String, bool>,
+    scalars: &Scalars<'_, '_>,
     attribute: Attribute,
     lexer: Lexer<'a>,
 ) -> Result<(Word<'a>, Lexer<'a>), Stop>
-    ensures gives { Gives word_lexeme result (spec.owner (tells scalars.now) attribute (left lexer.entry)) }
+    ensures gives { Gives word_lexeme result (spec.owner (is_scalar (ports scalars.now.groups.now)) attribute (left lexer.entry)) }
     ensures shorter { IfOk result (λ p. length (left p.1) < length (left lexer.entry)) }
 {
     let (name, rest) = word(lexer)?;
     if !is_of_tap(attribute) {
         return Ok((name, rest));
     }
-    match is_scalar(alloc, scalars, name) {
+    match scalars.is_scalar(alloc, name) {
         Ok(true) => Ok((name, rest)),
         Ok(false) => Err(Stop::Misfit(Some(name.start))),
         Err(_) => Err(Stop::Memory),
@@ -68,11 +69,11 @@ fn owner<'a>(
 /// `of name : word`, its name that of what an attribute is of.
 fn owner_clause<'a>(
     alloc: Global,
-    scalars: &BTreeMap<String, bool>,
+    scalars: &Scalars<'_, '_>,
     attribute: Attribute,
     lexer: Lexer<'a>,
 ) -> Result<(Word<'a>, Lexer<'a>), Stop>
-    ensures gives { Gives word_lexeme result (spec.owner_clause (tells scalars.now) attribute (left lexer.entry)) }
+    ensures gives { Gives word_lexeme result (spec.owner_clause (is_scalar (ports scalars.now.groups.now)) attribute (left lexer.entry)) }
     ensures shorter { IfOk result (λ p. length (left p.1) < length (left lexer.entry)) }
 {
     let (_of, rest) = keyword(lexer, &OF)?;
@@ -85,13 +86,13 @@ fn owner_clause<'a>(
 /// What stands behind an attribute's name: `of name : word is value ;`.
 fn attribute_form<'a>(
     alloc: Global,
-    scalars: &BTreeMap<String, bool>,
+    scalars: &Scalars<'_, '_>,
     name: Word<'a>,
     attribute: Attribute,
     lexer: Lexer<'a>,
 ) -> Result<(Option<Given<'a>>, Lexer<'a>), Stop>
     ensures gives { Gives (option_map given_view.given) result
-        (spec.attribute_form (tells scalars.now) (word_lexeme name.entry) attribute (left lexer.entry)) }
+        (spec.attribute_form (is_scalar (ports scalars.now.groups.now)) (word_lexeme name.entry) attribute (left lexer.entry)) }
     ensures shorter { IfOk result (λ p. length (left p.1) < length (left lexer.entry)) }
 {
     let (owner, rest) = owner_clause(alloc, scalars, attribute, lexer)?;
@@ -134,12 +135,12 @@ fn said<'a>(name: Word<'a>, attribute: Attribute, value: Value<'a>) -> Option<Gi
 /// An attribute behind its name; one of another name is passed over.
 fn attribute<'a>(
     alloc: Global,
-    scalars: &BTreeMap<String, bool>,
+    scalars: &Scalars<'_, '_>,
     name: Word<'a>,
     lexer: Lexer<'a>,
 ) -> Result<(Option<Given<'a>>, Lexer<'a>), Stop>
     ensures gives { Gives (option_map given_view.given) result
-        (spec.attribute (tells scalars.now) (word_lexeme name.entry) (attribute_of name.entry.text.now)
+        (spec.attribute (is_scalar (ports scalars.now.groups.now)) (word_lexeme name.entry) (attribute_of name.entry.text.now)
         (left lexer.entry)) }
     ensures shorter { IfOk result (λ p. length (left p.1) < length (left lexer.entry)) }
 {
@@ -162,11 +163,11 @@ fn named(word: &[u8]) -> Option<Attribute>
 /// What an attribute says, where it says something: `attribute name tokens ;`.
 fn attribute_item<'a>(
     alloc: Global,
-    scalars: &BTreeMap<String, bool>,
+    scalars: &Scalars<'_, '_>,
     lexer: Lexer<'a>,
 ) -> Result<(Option<Given<'a>>, Lexer<'a>), Stop>
     ensures gives { Gives (option_map given_view.given) result
-        (spec.attribute_item (tells scalars.now) (left lexer.entry)) }
+        (spec.attribute_item (is_scalar (ports scalars.now.groups.now)) (left lexer.entry)) }
     ensures shorter { IfOk result (λ p. length (left p.1) < length (left lexer.entry)) }
 {
     let (_attribute, rest) = keyword(lexer, &ATTRIBUTE)?;
@@ -177,10 +178,10 @@ fn attribute_item<'a>(
 /// What an item says, where it says something: an attribute does, `use tokens ;` and `constant tokens ;` do not.
 fn item<'a>(
     alloc: Global,
-    scalars: &BTreeMap<String, bool>,
+    scalars: &Scalars<'_, '_>,
     lexer: Lexer<'a>,
 ) -> Result<(Option<Given<'a>>, Lexer<'a>), Stop>
-    ensures gives { Gives (option_map given_view.given) result (spec.item (tells scalars.now) (left lexer.entry)) }
+    ensures gives { Gives (option_map given_view.given) result (spec.item (is_scalar (ports scalars.now.groups.now)) (left lexer.entry)) }
     ensures shorter { IfOk result (λ p. length (left p.1) < length (left lexer.entry)) }
 {
     match behind_unread(lexer) {
@@ -217,23 +218,41 @@ pub(crate) fn behind_word<'a>(lexer: Lexer<'a>, text: &[u8]) -> Option<Lexer<'a>
     }
 }
 
-/// What the items up to `end` say.
+/// What the next item says, where it says something. It names at most one port.
+fn next_item<'a>(
+    alloc: Global,
+    scalars: &mut Scalars<'_, '_>,
+    lexer: Lexer<'a>,
+) -> Result<(Option<Given<'a>>, Lexer<'a>), Stop>
+    ensures gives { Gives (option_map given_view.given) result
+        (spec.item (is_scalar (ports scalars.old.groups.now)) (left lexer.entry)) }
+    ensures shorter { IfOk result (λ p. length (left p.1) < length (left lexer.entry)) }
+    ensures groups { scalars.new.groups.now ≡ scalars.old.groups.now }
+{
+    match scalars.expect_one(alloc) {
+        Ok(()) => item(alloc, scalars, lexer),
+        Err(_) => Err(Stop::Memory),
+    }
+}
+
+/// What the items up to `end` say, of an entity with these ports.
 pub(crate) fn items<'a>(
     alloc: Global,
-    scalars: &BTreeMap<String, bool>,
+    groups: &[Group<'a>],
     lexer: Lexer<'a>,
 ) -> Result<(Vec<Given<'a>>, Lexer<'a>), Stop>
     ensures gives { Gives (λ v. map given_view.given v.items) result
-        (spec.items (tells scalars.now) (length (left lexer.entry)) (left lexer.entry)) }
+        (spec.items (is_scalar (ports groups.now)) (length (left lexer.entry)) (left lexer.entry)) }
     ensures no_longer { IfOk result (λ p. length (left p.1) ≤ length (left lexer.entry)) }
 {
     let mut all = Vec::new(alloc);
+    let mut scalars = Scalars::of(groups);
     let mut rest = lexer;
     'items: loop {
         if behind_word(rest, b"END").is_some() {
             return Ok((all, rest));
         }
-        let (found, more) = item(alloc, scalars, rest)?;
+        let (found, more) = next_item(alloc, &mut scalars, rest)?;
         rest = more;
         if let Some(given) = found {
             match all.push(given) {

@@ -1,1 +1,2 @@
+pub mod AskingLaws
 pub mod ScalarLaws

@@ -3,14 +3,16 @@ use Rattle.bsdl_lex.specs.Left.{left}
 use Rattle.bsdl_text.proofs.ListLaws.{prepend}
 use Rattle.bsdl_entity.specs.Entity.{items}
 use Rattle.bsdl_entity.specs.GivenView.{given}
-use Rattle.bsdl_scalars.specs.Scalars.{tells}
+use Rattle.bsdl_ports.specs.View.{ports}
+use Rattle.bsdl_scalars.specs.Scalars.{is_scalar}
 use Rattle.bsdl_entity.proofs.items.items.Given as goal
 
 -- what was said so far, and what is said behind it, are the whole
 abbrev pub invariant-items : goal.invariant-items
 invariant-items l =
     (n : ℕ) × (length (left l.rest) ≤ n) × (length (left l.rest) ≤ length (left l.lexer))
-    × (items (tells l.scalars) (length (left l.lexer)) (left l.lexer) ≡ prepend (map given l.all.items) (items (tells l.scalars) n (left l.rest)))
+    × (items (is_scalar (ports l.groups)) (length (left l.lexer)) (left l.lexer) ≡ prepend (map given l.all.items) (items (is_scalar (ports l.groups)) n (left l.rest)))
+    × (l.scalars.groups.now ≡ l.groups)
 
 abbrev pub decreases-items : goal.decreases-items
 decreases-items l = length (left l.rest)
