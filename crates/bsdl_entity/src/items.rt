@@ -52,7 +52,8 @@ fn owner<'a>(
     attribute: Attribute,
     lexer: Lexer<'a>,
 ) -> Result<(Word<'a>, Lexer<'a>), Stop>
-    ensures gives { Gives word_lexeme result (spec.owner (is_scalar (ports scalars.now.groups.now)) attribute (left lexer.entry)) }
+    ensures gives { Gives word_lexeme result
+        (spec.owner (is_scalar (ports scalars.now.groups.now)) attribute (left lexer.entry)) }
     ensures shorter { IfOk result (λ p. length (left p.1) < length (left lexer.entry)) }
 {
     let (name, rest) = word(lexer)?;
@@ -73,7 +74,8 @@ fn owner_clause<'a>(
     attribute: Attribute,
     lexer: Lexer<'a>,
 ) -> Result<(Word<'a>, Lexer<'a>), Stop>
-    ensures gives { Gives word_lexeme result (spec.owner_clause (is_scalar (ports scalars.now.groups.now)) attribute (left lexer.entry)) }
+    ensures gives { Gives word_lexeme result
+        (spec.owner_clause (is_scalar (ports scalars.now.groups.now)) attribute (left lexer.entry)) }
     ensures shorter { IfOk result (λ p. length (left p.1) < length (left lexer.entry)) }
 {
     let (_of, rest) = keyword(lexer, &OF)?;
@@ -92,7 +94,8 @@ fn attribute_form<'a>(
     lexer: Lexer<'a>,
 ) -> Result<(Option<Given<'a>>, Lexer<'a>), Stop>
     ensures gives { Gives (option_map given_view.given) result
-        (spec.attribute_form (is_scalar (ports scalars.now.groups.now)) (word_lexeme name.entry) attribute (left lexer.entry)) }
+        (spec.attribute_form (is_scalar (ports scalars.now.groups.now)) (word_lexeme name.entry) attribute
+        (left lexer.entry)) }
     ensures shorter { IfOk result (λ p. length (left p.1) < length (left lexer.entry)) }
 {
     let (owner, rest) = owner_clause(alloc, scalars, attribute, lexer)?;
@@ -140,8 +143,8 @@ fn attribute<'a>(
     lexer: Lexer<'a>,
 ) -> Result<(Option<Given<'a>>, Lexer<'a>), Stop>
     ensures gives { Gives (option_map given_view.given) result
-        (spec.attribute (is_scalar (ports scalars.now.groups.now)) (word_lexeme name.entry) (attribute_of name.entry.text.now)
-        (left lexer.entry)) }
+        (spec.attribute (is_scalar (ports scalars.now.groups.now)) (word_lexeme name.entry)
+        (attribute_of name.entry.text.now) (left lexer.entry)) }
     ensures shorter { IfOk result (λ p. length (left p.1) < length (left lexer.entry)) }
 {
     match named(name.text) {
@@ -181,7 +184,8 @@ fn item<'a>(
     scalars: &Scalars<'_, '_>,
     lexer: Lexer<'a>,
 ) -> Result<(Option<Given<'a>>, Lexer<'a>), Stop>
-    ensures gives { Gives (option_map given_view.given) result (spec.item (is_scalar (ports scalars.now.groups.now)) (left lexer.entry)) }
+    ensures gives { Gives (option_map given_view.given) result
+        (spec.item (is_scalar (ports scalars.now.groups.now)) (left lexer.entry)) }
     ensures shorter { IfOk result (λ p. length (left p.1) < length (left lexer.entry)) }
 {
     match behind_unread(lexer) {

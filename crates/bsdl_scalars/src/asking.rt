@@ -24,7 +24,8 @@ pub struct Scalars<'g, 't> {
     pub groups: &'g [Group<'t>],
     walks: usize,
     by_name: Option<BTreeMap<String, bool>>,
-    ghost kept: { IfSome by_name (λ m. (q : List ℕ) → get_by_text m q ≡ first_scalar (view.ports groups.now) q) } by { Prim.hlevel props },
+    ghost kept: { IfSome by_name (λ m. (q : List ℕ)
+        → get_by_text m q ≡ first_scalar (view.ports groups.now) q) } by { Prim.hlevel props },
 }
 
 impl<'g, 't> Scalars<'g, 't> {
