@@ -1,13 +1,16 @@
 //! What stands at a place of a text.
 ghost use Rattle.std.specs.Prelude.{◌≡◌, ◌≤◌, ◌<◌, length, drop, IfSome, IfOk, false};
-ghost use Rattle.std.specs.List.{prefix_len, position_or_len};
+ghost use Rattle.std.specs.List.{list_all, prefix_len, position_or_len};
 ghost use Rattle.bsdl_lex.specs.Bytes as bytes;
 ghost use Rattle.bsdl_lex.specs.Cutting.{cut, front, behind, cuts_of, bad_place};
 ghost use Rattle.bsdl_lex.specs.Scanning.{cuts_from};
 ghost use Rattle.bsdl_lex.specs.Left.{end_of};
 
 use crate::{Kind, Token};
-use memchr::memchr2;
+use memchr::{memchr2, memchr3};
+
+/// So many bytes of a name are looked at at once.
+const PIECE: usize = 8;
 
 /// What the first byte of a text begins, and how many bytes that has behind it.
 #[derive(Clone, Copy)]
@@ -94,7 +97,7 @@ fn within_len(text: &[u8]) -> usize
     ensures value { result ≡ prefix_len bytes.is_within text.now }
     ensures within { result ≤ length text.now }
 {
-    text.iter().take_while(|byte| is_within(**byte)).count()
+    memchr3(b'"', b'\n', b'\r', text).unwrap_or(text.len())
 }
 
 /// How many bytes stand before the next line feed or carriage return, or before the end.
@@ -105,12 +108,36 @@ fn line_len(text: &[u8]) -> usize
     memchr2(b'\n', b'\r', text).unwrap_or(text.len())
 }
 
-/// How many bytes of a word stand at the front.
+/// How many bytes of a word stand at the front. Names are long, so they are passed a piece at a time.
 fn word_len(text: &[u8]) -> usize
     ensures value { result ≡ prefix_len bytes.is_word text.now }
     ensures within { result ≤ length text.now }
 {
+    let mut at = 0;
+    while text.len() - at >= PIECE && are_word_bytes(&text[at..at + PIECE]) {
+        at += PIECE;
+    }
+    at + end_len(&text[at..])
+}
+
+/// The same, byte by byte.
+fn end_len(text: &[u8]) -> usize
+    ensures value { result ≡ prefix_len bytes.is_word text.now }
+    ensures within { result ≤ length text.now }
+{
     text.iter().take_while(|byte| is_word(**byte)).count()
+}
+
+/// Whether each byte of a piece can stand in a word.
+fn are_word_bytes(piece: &[u8]) -> bool
+    ensures { result ≡ list_all bytes.is_word piece.now }
+{
+    // Every byte is looked at, with no way out at the first that cannot: so all of them are compared at once.
+    let mut all = true;
+    for byte in piece {
+        all &= is_word(*byte);
+    }
+    all
 }
 
 /// How many bytes of a number stand at the front.
@@ -119,12 +146,6 @@ fn number_len(text: &[u8]) -> usize
     ensures within { result ≤ length text.now }
 {
     text.iter().take_while(|byte| is_number(**byte)).count()
-}
-
-fn is_within(byte: u8) -> bool
-    ensures { result ≡ bytes.is_within byte }
-{
-    !matches!(byte, b'"' | b'\n' | b'\r')
 }
 
 fn is_word(byte: u8) -> bool
