@@ -6,3 +6,4 @@ pub mod Order
 pub mod Parts
 pub mod Rows
 pub mod Steps
+pub mod RunsAtOnce

@@ -10,6 +10,7 @@ ghost use Rattle.std.specs.Iterator.{YieldsFirstBy, item_count};
 use crate::scan::first_token;
 use thiserror::Error;
 
+mod lanes;
 pub mod laws;
 mod scan;
 
