@@ -5,3 +5,4 @@ pub mod PackedWords
 pub mod Lists
 pub mod Runs
 pub mod Solid
+pub mod DigitLanes

@@ -143,6 +143,7 @@ pub record Decoded (i : ℕ) (ds : List ℕ) (n : ℕ) : Type 0 where
   pub long : length bytes ≡ n
   pub spells : length (binary ds) ≡ 8 * n
   pub worth : big bytes ≡ number (binary ds)
+  pub pairs : (k : ℕ) → k < n → get_or bytes k 0 ≡ digit_value (get_or ds (2 * k) 0) * 16 + digit_value (get_or ds (2 * k + 1) 0)
 
 abbrev pub Good : List ℕ → Type 0
 Good ds = (k : ℕ) → k < length ds → is_hex_digit (get_or ds k 0) ≡ true
@@ -163,6 +164,17 @@ power (suc n) =
     let step : 8 * suc n ≡ 8 * n + 8 = omega arith in
     ap (λ (k : ℕ). 2 ^ k) step ∙ pow-add 2 (8 * n) 8 ∙ omega (arith, power n, pow-suc 256 n)
 
+pairs_more : (a b : ℕ) (rest bytes : List ℕ) (n : ℕ)
+    → ((k : ℕ) → k < n → get_or bytes k 0 ≡ digit_value (get_or rest (2 * k) 0) * 16 + digit_value (get_or rest (2 * k + 1) 0))
+    → (k : ℕ) → k < suc n → get_or ((digit_value a * 16 + digit_value b) ∷ bytes) k 0
+    ≡ digit_value (get_or (a ∷ b ∷ rest) (2 * k) 0) * 16 + digit_value (get_or (a ∷ b ∷ rest) (2 * k + 1) 0)
+pairs_more a b rest bytes n later zero lt = refl
+pairs_more a b rest bytes n later (suc k) lt =
+    let first : suc (suc (2 * k)) ≡ 2 * suc k = omega arith in
+    let second : suc (suc (2 * k + 1)) ≡ 2 * suc k + 1 = omega arith in
+    later k (omega arith) ∙ ap (λ (j : ℕ). digit_value (get_or (a ∷ b ∷ rest) j 0) * 16 + digit_value (get_or rest (2 * k + 1) 0)) first
+    ∙ ap (λ (j : ℕ). digit_value (get_or (a ∷ b ∷ rest) (2 * suc k) 0) * 16 + digit_value (get_or (a ∷ b ∷ rest) j 0)) second
+
 pub decoded : (n i : ℕ) (ds : List ℕ) → length ds ≡ 2 * n → Good ds → Decoded i ds n
 unfolding decode_pairs
 decoded zero i [] e good = record {
@@ -171,6 +183,7 @@ decoded zero i [] e good = record {
   long = refl;
   spells = ap length (binary-none [] refl);
   worth = sym (ap number (binary-none [] refl));
+  pairs = λ k lt. absurd (omega arith);
 }
 decoded zero i (d ∷ ds) e good = absurd (omega arith)
 decoded (suc n) i [] e good = absurd (omega arith)
@@ -198,6 +211,7 @@ decoded (suc n) i (a ∷ b ∷ rest) e good =
       long = omega (arith, later.long);
       spells = ap length (two a b rest x y) ∙ length-append low_part (four_bits high) ∙ omega (arith, low_long);
       worth = omega (arith, ap (λ (m : ℕ). v * m) q, later.worth, whole, p, low_worth);
+      pairs = pairs_more a b rest later.bytes n later.pairs;
     }
 
 pub be_big : (bs : List ℕ) → length bs ≡ 8 → from_be_bytes w64 bs ≡ big bs

@@ -1,5 +1,6 @@
 //! Bits from hexadecimal text, and back.
-ghost use Rattle.std.specs.Prelude.{◌≡◌, ◌≢◌, ◌≤◌, Err, None, true, IfOk, drop, length, position, take};
+ghost use Rattle.std.specs.Prelude.{◌≡◌, ◌≢◌, ◌≤◌, ◌<◌, ◌+◌, ◌*◌, ℕ, Err, None, true, IfOk, drop, length, position, slice_index};
+ghost use Rattle.std.specs.Prelude.{take};
 ghost use Rattle.std.specs.List.{list_all, list_any, AllPass};
 ghost use Rattle.std.specs.Char as char_specs;
 ghost use Rattle.std.specs.Char.{is_ascii_hexdigit};
@@ -11,10 +12,14 @@ ghost use Rattle.jt_bits.specs.Hex.{hex_value, hex_digit_of, bit_or_zero};
 
 use crate::{Bits, words};
 use std::alloc::{AllocError, Global};
+use std::simd::prelude::*;
 use thiserror::Error;
 
 /// How many bytes of a text are judged at once.
 const PIECE: usize = 64;
+
+/// How many digits a word has.
+const DIGITS: usize = 16;
 
 /// Why hexadecimal text has no value at a length.
 #[derive(Debug, Drop, Clone, Copy, PartialEq, Eq, Error)]
@@ -196,11 +201,45 @@ fn digits_value(digits: &[u8]) -> u64
     requires solid { list_all is_ascii_hexdigit digits.now ≡ true }
     ensures { result ≡ number (spec.binary digits.now) }
 {
+    if digits.len() == DIGITS {
+        return word_value(digits);
+    }
     let mut value = 0;
     for digit in digits {
         value = value * 16 + u64::from(digit_value(*digit));
     }
     value
+}
+
+/// The value of sixteen digits, all at once.
+fn word_value(digits: &[u8]) -> u64
+    requires long { length digits.now ≡ 16 }
+    requires solid { list_all is_ascii_hexdigit digits.now ≡ true }
+    ensures { result ≡ number (spec.binary digits.now) }
+{
+    let values = values_of(u8x16::from_slice(digits));
+    u64::from_be_bytes(pairs_of(values).to_array())
+}
+
+/// The value of each of sixteen digits. The low half of `A` and of `a` is 1, and of the two bits above the sixth one is
+/// set, as in no digit below them.
+fn values_of(digits: u8x16) -> u8x16
+    ensures long { length result ≡ 16 }
+    ensures values { (i : ℕ) → i < 16 → is_ascii_hexdigit (slice_index digits i) ≡ true
+        → slice_index result i ≡ char_specs.digit_value (slice_index digits i) }
+{
+    (digits & u8x16::splat(15)) + (digits >> u8x16::splat(6)) * u8x16::splat(9)
+}
+
+/// The bytes that two values each make, the first of the two above the other.
+fn pairs_of(values: u8x16) -> u8x8
+    ensures long { length result ≡ 8 }
+    ensures pairs { (i : ℕ) → i < 8 → slice_index values (2 * i) < 16 → slice_index values (2 * i + 1) < 16
+        → slice_index result i ≡ slice_index values (2 * i) * 16 + slice_index values (2 * i + 1) }
+{
+    let high = values.swizzle([0, 2, 4, 6, 8, 10, 12, 14]);
+    let low = values.swizzle([1, 3, 5, 7, 9, 11, 13, 15]);
+    high * u8x8::splat(16) + low
 }
 
 /// The value of each byte that is a hexadecimal digit, in either case. A table is faster than reckoning here.
