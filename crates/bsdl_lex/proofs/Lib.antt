@@ -6,4 +6,4 @@ pub mod Heft
 pub mod Lines
 pub mod Parts
 pub mod Steps
-pub mod WordPieces
+pub mod WordsAtOnce

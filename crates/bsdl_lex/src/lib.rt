@@ -10,6 +10,7 @@ ghost use Rattle.bsdl_lex.specs.Ascii.{IsAsciiWord};
 use crate::scan::first_token;
 pub use scan::bad_byte;
 
+mod lanes;
 pub mod laws;
 mod scan;
 

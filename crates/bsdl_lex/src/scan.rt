@@ -1,16 +1,14 @@
 //! What stands at a place of a text.
 ghost use Rattle.std.specs.Prelude.{◌≡◌, ◌≤◌, ◌<◌, length, drop, IfSome, IfOk, false};
-ghost use Rattle.std.specs.List.{list_all, prefix_len, position_or_len};
+ghost use Rattle.std.specs.List.{prefix_len, position_or_len};
 ghost use Rattle.bsdl_lex.specs.Bytes as bytes;
 ghost use Rattle.bsdl_lex.specs.Cutting.{cut, front, behind, cuts_of, bad_place};
 ghost use Rattle.bsdl_lex.specs.Scanning.{cuts_from};
 ghost use Rattle.bsdl_lex.specs.Left.{end_of};
 
+use crate::lanes::{LANES, word_in};
 use crate::{Kind, Token};
 use memchr::{memchr2, memchr3};
-
-/// So many bytes of a name are looked at at once.
-const PIECE: usize = 8;
 
 /// What the first byte of a text begins, and how many bytes that has behind it.
 #[derive(Clone, Copy)]
@@ -108,14 +106,19 @@ fn line_len(text: &[u8]) -> usize
     memchr2(b'\n', b'\r', text).unwrap_or(text.len())
 }
 
-/// How many bytes of a word stand at the front. Names are long, so they are passed a piece at a time.
+/// How many bytes of a word stand at the front. Names are long, so they are passed sixteen bytes at once, and the last
+/// of the text one by one.
 fn word_len(text: &[u8]) -> usize
     ensures value { result ≡ prefix_len bytes.is_word text.now }
     ensures within { result ≤ length text.now }
 {
     let mut at = 0;
-    while text.len() - at >= PIECE && are_word_bytes(&text[at..at + PIECE]) {
-        at += PIECE;
+    while text.len() - at >= LANES {
+        let word = word_in(text, at);
+        if word < LANES {
+            return at + word;
+        }
+        at += LANES;
     }
     at + end_len(&text[at..])
 }
@@ -126,18 +129,6 @@ fn end_len(text: &[u8]) -> usize
     ensures within { result ≤ length text.now }
 {
     text.iter().take_while(|byte| is_word(**byte)).count()
-}
-
-/// Whether each byte of a piece can stand in a word.
-fn are_word_bytes(piece: &[u8]) -> bool
-    ensures { result ≡ list_all bytes.is_word piece.now }
-{
-    // Every byte is looked at, with no way out at the first that cannot: so all of them are compared at once.
-    let mut all = true;
-    for byte in piece {
-        all &= is_word(*byte);
-    }
-    all
 }
 
 /// How many bytes of a number stand at the front.
