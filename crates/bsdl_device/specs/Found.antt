@@ -1,5 +1,6 @@
 -- How the number of a port bit is kept by its port's name and its index.
 use Rattle.std.specs.Prelude.{◌≡◌, ◌&&◌, ℕ, Bool, List, Option, Some, None, if◌then◌else◌, option_and_then, position}
+use Rattle.std.specs.Prelude.{bytes_eq, cond, true}
 use Rattle.std.specs.Ordering.{nat_cmp}
 use Rattle.std.specs.BTreeMap.{BTreeMap, get, get_by_text}
 use Rattle.std.specs.Str.{str_to_ascii_lowercase}
@@ -24,3 +25,14 @@ number_named names q i = option_and_then (λ n. number_at n i) (get_by_text name
 -- each number is that of the first bit with its index among those that pass
 abbrev pub AreFirst : (BitPlace → Bool) → Numbers → List BitPlace → Type 0
 AreFirst passes n bits = (i : Option ℕ) → number_at n i ≡ position (λ b. passes b && same_index i b.index) bits
+
+-- A port of this name was added: the numbers of the name are those that it had, and its bits' behind them; other names
+-- have what they had.
+pub record AddsNamed (key : List ℕ) (port : ℕ) (names after : BTreeMap (String Global) Numbers)
+    (bits more : List BitPlace) : Type 0 where
+  pub before : Numbers
+  pub now : Numbers
+  pub had : (i : Option ℕ) → number_at before i ≡ option_and_then (λ n. number_at n i) (get_by_text names key)
+  pub put : (q : List ℕ) → get_by_text after q ≡ cond (bytes_eq key q) (Some now) (get_by_text names q)
+  pub added : (passes : BitPlace → Bool) → ((i : Option ℕ) → passes (record { port = port; index = i }) ≡ true)
+      → AreFirst passes before bits → AreFirst passes now more

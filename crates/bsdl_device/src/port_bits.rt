@@ -5,7 +5,7 @@ ghost use Rattle.std.specs.Prelude.{IfOk, IfSome, OnOk};
 ghost use Rattle.std.specs.BTreeMap.{get_by_text};
 ghost use Rattle.std.specs.Str.{str_to_ascii_lowercase};
 ghost use Rattle.bsdl_device.specs.declared.port_bits.BitPlace as declared_place;
-ghost use Rattle.bsdl_device.specs.Found.{AreFirst, number_at};
+ghost use Rattle.bsdl_device.specs.Found.{AddsNamed, AreFirst, number_at};
 ghost use Rattle.bsdl_device.specs.Ports.{bits_of, bit_number};
 ghost use Rattle.bsdl_device.specs.View.{pair, placed, places, port_bit};
 
@@ -90,11 +90,16 @@ impl Ports {
             (option_map pair indices)) }
     {
         let key = lower_name(self.alloc, port.name.as_str())?;
-        let mut numbers = take_numbers(self.alloc, &mut self.by_name, key.as_str());
         let place = self.ports.len();
         self.ports.push(port)?;
-        add_bits(&mut self.bits, &mut numbers, place, indices)?;
-        put_numbers(&mut self.by_name, key, numbers)?;
+        add_named(
+            self.alloc,
+            &mut self.by_name,
+            key,
+            &mut self.bits,
+            place,
+            indices,
+        )?;
         Ok(self)
     }
 
@@ -153,27 +158,21 @@ fn find_number(
     }
 }
 
-/// Takes the numbers of a name out; none where there are none yet.
-fn take_numbers(alloc: Global, by_name: &mut BTreeMap<String, Numbers>, key: &str) -> Numbers
-    ensures numbers { (i : Option ℕ) → number_at result i
-        ≡ option_and_then (λ n. number_at n i) (get_by_text by_name.old key.now) }
-    ensures others { (q : List ℕ) → bytes_eq key.now q ≡ false → get_by_text by_name.new q ≡ get_by_text by_name.old q }
-{
-    match by_name.remove(key) {
-        Some(numbers) => numbers,
-        None => Numbers::new(alloc),
-    }
-}
-
-fn put_numbers(
+/// Adds the places of the bits of a port of this name, and their numbers to those of the name.
+fn add_named(
+    alloc: Global,
     by_name: &mut BTreeMap<String, Numbers>,
     key: String,
-    numbers: Numbers,
+    bits: &mut Vec<BitPlace>,
+    port: usize,
+    indices: Option<Indices>,
 ) -> Result<(), AllocError>
-    ensures { OnOk result ((q : List ℕ) → get_by_text by_name.new q
-        ≡ cond (bytes_eq (string_bytes key) q) (Some numbers) (get_by_text by_name.old q)) }
+    requires { IfSome indices (λ i. i.low + i.len < 2 ^ 64) }
+    ensures places { OnOk result (bits.new.items ≡ bits.old.items ++ places port indices) }
+    ensures named { OnOk result (AddsNamed (string_bytes key) port by_name.old by_name.new bits.old.items bits.new.items) }
 {
-    by_name.insert(key, numbers)?;
+    let numbers = by_name.entry(key)?.or_insert(Numbers::new(alloc));
+    add_bits(bits, numbers, port, indices)?;
     Ok(())
 }
 
