@@ -1,3 +1,4 @@
 pub mod Rows
 pub mod ShiftInPlace
 pub mod Noting
+pub mod WordLaws

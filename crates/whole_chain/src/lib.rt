@@ -11,10 +11,13 @@ ghost use Rattle.scan_vectors.specs.Vector.{tdis};
 ghost use Rattle.scan_vectors.specs.Held.{bits};
 ghost use Rattle.whole_chain.specs.Rows.{before, left, out, IsCutBack};
 
+mod words;
+
 use jt_tap::Column;
 use scan_registers::Link;
 use scan_vectors::{Failures, Vector};
 use whole_scan::{note_behind, note_piece};
+pub use words::{shift_word, word_out};
 
 /// Notes every bit of a vector whose wanted value differs from what comes out of the chain, of which the first link is
 /// the nearest to TDO: first the registers that the column selects, and behind them the vector's own TDI.
