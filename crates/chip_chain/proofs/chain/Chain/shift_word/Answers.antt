@@ -1,0 +1,51 @@
+use Rattle.std.proofs.Common.{◌≡◌, ◌∙◌, Bool, List, ◌++◌, drop, map, refl, sym, ap, subst}
+use Rattle.std.proofs.lemmas.List.{with_items_is}
+use Rattle.std.specs.Vec.{with_items}
+use Rattle.board_meaning.specs.Chain.{members}
+use Rattle.board_meaning.specs.Whole.{selected_bits_of}
+use Rattle.whole_chain.specs.Rows.{joined_registers}
+use Rattle.whole_chain.specs.Words.{word_bits}
+use Rattle.chip_chain.specs.AtRest.{chain_as, shifted_through}
+use Rattle.chip_chain.specs.Chains.{ChainValue}
+use Rattle.chip_seats.specs.Seats.{AllTold, SeatValue, chip_state, member_of}
+use Rattle.chip_seats.specs.Wires.{IsWired}
+use Rattle.chip_chain.specs.contracts.chain.Chain.{the_view}
+use Rattle.chip_chain.proofs.ChainLaws.{kept_driving}
+use Rattle.chip_chain.proofs.RestLaws.{Cut, PutSome, cut_each, word_chips, shifted_long, shifted_told, shifted_wired}
+use Rattle.chip_chain.proofs.chain.Chain.shift_word.Goals as goal
+
+pub invariant_of-self : goal.invariant_of-self
+invariant_of-self c =
+    let s = c.self.inside in
+    let column = c.args.column in
+    let new = c.shift_word.new.chain in
+    let stays : List SeatValue → List Bool =
+    λ l. drop c.args.n (joined_registers (map (λ (x : SeatValue). selected_bits_of column (member_of x)) l) ++ word_bits c.args.bits c.args.n) in
+    let cut : Cut column (stays s.seats.items) s.seats.items new =
+    subst (λ (l : List SeatValue). Cut column (stays l) l new) c.deref_mut.ensures.value c.shift_word.ensures in
+    let is = with_items_is s.seats new
+    (shifted_long column (stays s.seats.items) s.seats.items new cut ∙ sym s.seats.ok.0) in
+    record {
+      told = subst (AllTold s.trst) (sym is)
+          (shifted_told column s.trst (stays s.seats.items) s.seats.items new cut c.self.invariant.told);
+      wired = subst (λ (l : List SeatValue). IsWired l s.wiring) (sym is)
+          (shifted_wired column (stays s.seats.items) s.seats.items new s.wiring c.self.invariant.wired cut);
+      driving = kept_driving (PutSome column) (λ i s t r. r.is.kept) s.seats.items new (with_items s.seats new).items s.wiring.nets
+          s.wiring.nets (cut_each column 0 (stays s.seats.items) s.seats.items new cut) is refl s.driving.items c.self.invariant.driving;
+    }
+
+pub returns : goal.returns
+returns c =
+    let s = c.self.inside in
+    let column = c.args.column in
+    let new = c.shift_word.new.chain in
+    let stays : List SeatValue → List Bool =
+    λ l. drop c.args.n (joined_registers (map (λ (x : SeatValue). selected_bits_of column (member_of x)) l) ++ word_bits c.args.bits c.args.n) in
+    let cut : Cut column (stays s.seats.items) s.seats.items new =
+    subst (λ (l : List SeatValue). Cut column (stays l) l new) c.deref_mut.ensures.value c.shift_word.ensures in
+    let is = with_items_is s.seats new
+    (shifted_long column (stays s.seats.items) s.seats.items new cut ∙ sym s.seats.ok.0) in
+    let chips-are = ap (map chip_state) is ∙ word_chips column c.args.bits c.args.n s.seats.items new cut in
+    let now = the_view (record s { seats = with_items s.seats new }) in
+    subst (λ (x : ChainValue). now ≡ chain_as (shifted_through column (word_bits c.args.bits c.args.n) (members x.chips)) x) c.self.view_is
+    (λ i. record { trst = s.trst; nets = s.wiring.nets; chips = chips-are i })
