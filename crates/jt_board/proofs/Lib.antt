@@ -4,3 +4,4 @@ pub mod TextLaws
 pub mod RestLaws
 pub mod Idling
 pub mod InUse
+pub mod ShiftRuns

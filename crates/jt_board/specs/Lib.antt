@@ -4,3 +4,4 @@ pub mod InUse
 pub mod Laws
 pub mod Made
 pub mod Resting
+pub mod Shifting

@@ -13,6 +13,7 @@ ghost use Rattle.jt_board.specs.Made.{IsSoundWiring, board_at, board_of};
 
 mod at_rest;
 mod idle;
+mod shifting;
 
 use bare_boards::bare_plan;
 use bitbang_table::Message;
