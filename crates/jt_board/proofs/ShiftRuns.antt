@@ -1,6 +1,6 @@
 -- Cycles in a Shift state, one after another and all at once.
 use Rattle.std.proofs.Common.{◌≡◌, Bool, true, false, ◌&&◌, ◌||◌, not, ℕ, zero, suc, ◌<◌, List, [], ◌∷◌, ◌++◌, length, take, drop, refl, sym, ap, ◌∙◌, map, subst, append_assoc, arith, length-append, length-drop, take-append-drop}
-use Rattle.std.specs.Prelude.{Option, Some, None, slice_get, unwrap_or}
+use Rattle.std.specs.Prelude.{Option, Some, None, slice_get, unwrap_or, if◌then◌else◌}
 use Rattle.jt_tap.specs.declared.Column.{Column}
 use Rattle.jt_tap.specs.declared.Column.TheVariants.{Dr, Ir}
 use Rattle.jt_tap.specs.declared.State.{State}
@@ -330,6 +330,12 @@ ir_column cs c at is h = right (all_shift Dr cs) (all_shift Ir cs) h (not_dr cs 
 
 pub dr_column : (cs : List ChipState) (c : ChipState) → slice_get cs 0 ≡ Some c → (c.state ≡ IrShift → ⊥) → (all_shift Dr cs || all_shift Ir cs) ≡ true → all_shift Dr cs ≡ true
 dr_column cs c at is h = left (all_shift Dr cs) (all_shift Ir cs) h (not_ir cs c at is)
+
+pub ir_first : (cs : List ChipState) (c : ChipState) → slice_get cs 0 ≡ Some c → c.state ≡ IrShift → Ir ≡ if all_shift Dr cs then Dr else Ir
+ir_first cs c at is = sym (ap (λ (b : Bool). if b then Dr else Ir) (not_dr cs c at is))
+
+pub dr_first : (cs : List ChipState) → all_shift Dr cs ≡ true → Dr ≡ if all_shift Dr cs then Dr else Ir
+dr_first cs h = sym (ap (λ (b : Bool). if b then Dr else Ir) h)
 
 off : (b : Bool) → not b ≡ true → b ≡ false
 off true h = cc

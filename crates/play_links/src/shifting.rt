@@ -1,8 +1,9 @@
 //! Cycles that shift, among the bytes that a board is served.
 
-ghost use Rattle.std.specs.Prelude.{◌≡◌, ◌+◌, ◌≤◌, ◌++◌, true, false, length, map, take, MatchOption, Some, ⊤};
+ghost use Rattle.std.specs.Prelude.{◌≡◌, ◌+◌, ◌<◌, ◌≤◌, ◌++◌, true, false, length, map, take, IsTrue, MatchOption, Some, ⊤};
 ghost use Rattle.bitbang_table.specs.Protocol.{answer, decode};
 ghost use Rattle.bitbang_table.specs.declared.Message.TheVariants.{Write};
+ghost use Rattle.jt_board.specs.Shifting as shifting;
 ghost use Rattle.play_links.specs.Serves.{serve_bytes};
 ghost use Rattle.play_links.specs.Shifts.{IsCycle, IsRun, picked, writes_low};
 ghost use Rattle.whole_chain.specs.Words.{word_bits};
@@ -10,9 +11,11 @@ ghost use Rattle.whole_chain.specs.Words.{word_bits};
 use bitbang_table::Cycle;
 use jt_board::Board;
 
-/// The fewest cycles that the board takes at once: to look at all devices and to shift a word costs about as much as
-/// two or three of them.
+/// The fewest cycles that the board takes at once.
 const FEWEST: usize = 4;
+
+/// How many bits of each device's register each of them pays for.
+const BITS_A_CYCLE: usize = 32;
 
 /// The most: as many as a word has bits.
 const MOST: usize = 64;
@@ -28,11 +31,15 @@ struct Run {
 
 /// Lets a board that shifts take the cycles with TMS low at the front of the bytes at once, and puts their answers
 /// behind the `count` first. Answers the bytes behind them.
+///
+/// Of a run of bytes with TMS low that is not taken at once the board is not asked again: `asks` is false until a byte
+/// of another kind comes.
 pub(crate) fn behind_shifts<'a>(
     board: &mut Board,
     bytes: &'a [u8],
     answers: &mut [u8],
     count: &mut usize,
+    asks: &mut bool,
 ) -> &'a [u8]
     requires { count.old + length bytes.now ≤ length answers.old }
     ensures room { count.new + length result.now ≤ length answers.new }
@@ -42,11 +49,12 @@ pub(crate) fn behind_shifts<'a>(
     ensures board { (serve_bytes result.now board.new).board ≡ (serve_bytes bytes.now board.old).board }
     ensures stop { (serve_bytes result.now board.new).stop ≡ (serve_bytes bytes.now board.old).stop }
 {
-    if !begins_with_a_shift(bytes) || !board.shifts() {
+    if !begins_with_a_rise(bytes, asks) || !board.shifts() {
         return bytes;
     }
     let (run, behind) = run_at(bytes);
-    if run.count < FEWEST {
+    *asks = pays(board, run.count);
+    if !*asks {
         return bytes;
     }
     let out = board.shift_word(run.tdi, run.count);
@@ -54,13 +62,27 @@ pub(crate) fn behind_shifts<'a>(
     behind
 }
 
-/// Whether the first byte writes TMS low and TCK high. On a board that shifts TCK is low before it, so it is an edge,
-/// which asks every device as a look at all of them does.
-fn begins_with_a_shift(bytes: &[u8]) -> bool {
+/// Whether the first byte writes TMS low and TCK high and the board is to be asked there. On a board that shifts TCK is
+/// low before it, so it is an edge, which asks every device as a look at all of them does.
+fn begins_with_a_rise(bytes: &[u8], asks: &mut bool) -> bool {
     match bytes.first() {
-        Some(first) => rise_of(*first).is_some(),
-        None => false,
+        Some(b'4' | b'5') => *asks,
+        Some(b'0' | b'1' | b'R') | None => false,
+        Some(_) => {
+            *asks = true;
+            false
+        }
     }
+}
+
+/// Whether to take so many cycles at once costs less than edge by edge: those cost some 135 instructions a device each;
+/// a word some 300 a device, and some 80 for each 64 bits of the registers.
+fn pays(board: &Board, cycles: usize) -> bool
+    requires shifts { shifting.shifts board.now ≡ true }
+    requires few { cycles ≤ 64 }
+    ensures { IsTrue result → 0 < cycles }
+{
+    cycles >= FEWEST && board.shifts_at_most(BITS_A_CYCLE * cycles * board.devices())
 }
 
 /// Puts the bits of `out` that the run asks for behind the `count` first answers. Answers how many they are then.

@@ -36,7 +36,7 @@ returns c =
     let column = c.shift_column-column.result in
     let after = c.fall.ensures ∙ ap (λ (v : ChainValue). record v { chips = map fall v.chips }) c.shift_word.ensures in
     let is = shift_of (the_view s) (subst (λ (b : BoardState). shifts b ≡ true) (sym c.self.view_is) c.requires.shifts) in
-    let all = subst (λ (b : BoardState). all_shift column b.chips ≡ true) (sym c.self.view_is) c.shift_column-column.ensures in
+    let all = subst (λ (b : BoardState). all_shift column b.chips ≡ true) (sym c.self.view_is) c.shift_column-column.ensures.shifts in
     let some : 0 < length ts = omega (arith, length-word c.args.bits n, c.requires.some) in
     subst (λ (b : BoardState). hear (closed_messages (shift_cycles ts)) b
     ≡ record { answers = word_bits c.word_out-out.result n; board = the_view (record s { chain = c.fall.new.self }) }) c.self.view_is
