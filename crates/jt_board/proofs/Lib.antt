@@ -5,3 +5,4 @@ pub mod RestLaws
 pub mod Idling
 pub mod InUse
 pub mod ShiftRuns
+pub mod IdlePieces

@@ -10,6 +10,9 @@ ghost use Rattle.bitbang_table.specs.Protocol.{decode};
 use super::Board;
 use jt_tap::State;
 
+/// So many bytes are looked at at once.
+const PIECE: usize = 64;
+
 impl Board {
     /// Takes as many of the first of these bytes as write TMS low, where every device rests in IDLE or in a pause and
     /// TRST is released: they change nothing but the level of TCK, and none of them has an answer (IEEE Std
@@ -64,16 +67,51 @@ fn idle_run(bytes: &[u8], was: bool) -> (usize, bool)
     ensures idle { list_all is_idle_byte (take result.0 bytes.now) ≡ true }
     ensures level { Moved (take result.0 bytes.now) was result.1 }
 {
-    let mut count = 0;
-    let mut tck = was;
-    for byte in bytes {
-        if !is_idle_byte(*byte) {
-            return (count, tck);
-        }
-        tck = is_high(*byte);
-        count += 1;
+    let count = idle_len(bytes);
+    (count, level_behind(&bytes[..count], was))
+}
+
+/// How many of the first bytes write TMS low. A wait has many, so they are passed a piece at a time.
+fn idle_len(bytes: &[u8]) -> usize
+    ensures count { result ≡ prefix_len is_idle_byte bytes.now }
+    ensures few { result ≤ length bytes.now }
+{
+    let mut at = 0;
+    while bytes.len() - at >= PIECE && are_idle(&bytes[at..at + PIECE]) {
+        at += PIECE;
     }
-    (count, tck)
+    at + short_len(&bytes[at..])
+}
+
+/// The same, byte by byte.
+fn short_len(bytes: &[u8]) -> usize
+    ensures count { result ≡ prefix_len is_idle_byte bytes.now }
+    ensures few { result ≤ length bytes.now }
+{
+    bytes.iter().take_while(|byte| is_idle_byte(**byte)).count()
+}
+
+/// Whether each byte of a piece writes TMS low.
+fn are_idle(piece: &[u8]) -> bool
+    ensures { result ≡ list_all is_idle_byte piece.now }
+{
+    // Every byte is looked at, with no way out at the first that does not: so all of them are compared at once.
+    let mut all = true;
+    for byte in piece {
+        all &= is_idle_byte(*byte);
+    }
+    all
+}
+
+/// The level of TCK behind bytes that write TMS low: that of the last of them.
+fn level_behind(idle: &[u8], was: bool) -> bool
+    requires { list_all is_idle_byte idle.now ≡ true }
+    ensures { Moved idle.now was result }
+{
+    match idle.last() {
+        Some(last) => is_high(*last),
+        None => was,
+    }
 }
 
 /// Whether a byte writes TMS low: `0`, `1`, `4` or `5`.
