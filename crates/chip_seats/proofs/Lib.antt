@@ -3,6 +3,5 @@ pub mod DriveLaws
 pub mod PutLaws
 pub mod TellLaws
 pub mod BuildLaws
-pub mod SameLaws
 pub mod SightedLaws
 pub mod DrivingLaws

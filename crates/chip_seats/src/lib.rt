@@ -4,7 +4,6 @@
 
 mod build;
 mod driving;
-mod same;
 mod seat;
 mod sighted;
 mod wires;

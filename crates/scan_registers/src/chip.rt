@@ -11,7 +11,7 @@ ghost use Rattle.device_instructions.specs.Fitting.{IsFormed, meaning_by, has_co
 ghost use Rattle.device_instructions.specs.Instruction.{instruction, meaning};
 ghost use Rattle.device_registers.specs.Registers.{after_capture, put, selected_bits, after_update, after_reset};
 
-use crate::Link;
+use crate::{Link, same_bits};
 use bsdl_device::Device;
 use device_instructions::{
     Decoded, Mode, Selected, SharedDevice, code_length, decode, fixed_bits, has_code,
@@ -25,7 +25,8 @@ use std::marker::Model;
 
 /// A device with its controller, round a boundary register.
 ///
-/// The instruction in the latch is decoded when the latch changes, and not at each edge; that of the reset latch once.
+/// The instruction in the latch is decoded when the latch changes, and not at each edge nor at each update; that of the
+/// reset latch once.
 #[derive(Drop)]
 pub struct Chip<B: Register> {
     device: SharedDevice,
@@ -308,6 +309,8 @@ impl<B: Register> Chip<B> {
             ≡ B.with_parts self.old.boundary (B.stage self.new.boundary) (B.update_part self.new.boundary) }
     {
         match column {
+            // What the latch has already need not be decoded anew.
+            Column::Ir if same_bits(&self.latch, &self.stage) => {}
             Column::Ir => {
                 self.latch.copy_from(&self.stage);
                 self.decoded = decode(self.device.get(), &self.latch);

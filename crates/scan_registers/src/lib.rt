@@ -3,8 +3,10 @@
 
 mod chip;
 mod link;
+mod same;
 
 pub use chip::Chip;
 pub use device_instructions::{Mode, Selected, SharedDevice, is_formed};
 pub use device_registers::{Plain, Register, UserRegister};
 pub use link::Link;
+pub use same::same_bits;

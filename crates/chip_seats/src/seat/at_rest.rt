@@ -13,10 +13,9 @@ ghost use Rattle.jt_tap.specs.declared.Work.TheVariants.{Captures};
 ghost use Rattle.device_instructions.specs.Instruction.{meaning};
 
 use super::Seat;
-use crate::same::same_bits;
 use board_wiring::Wiring;
 use jt_tap::{Column, State};
-use scan_registers::{Link, Mode, Selected};
+use scan_registers::{Link, Mode, Selected, same_bits};
 
 impl Link for Seat {
     ghost use Rattle.board_meaning.specs.Whole.{selected_bits_of};

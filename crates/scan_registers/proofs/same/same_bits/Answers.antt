@@ -1,6 +1,6 @@
 use Rattle.std.proofs.Common.{arith}
-use Rattle.chip_seats.proofs.SameLaws.{same_all, same_more}
-use Rattle.chip_seats.proofs.same.same_bits.Goals as goal
+use Rattle.scan_registers.proofs.SameLaws.{same_all, same_more}
+use Rattle.scan_registers.proofs.same.same_bits.Goals as goal
 
 pub loop-k-preserved : goal.loop-k-preserved
 loop-k-preserved c =

@@ -5,7 +5,7 @@ ghost use Rattle.std.specs.Prelude.{◌≡◌, true, length};
 use jt_bits::Bits;
 
 /// Whether two lists of the same length have the same bits, 64 at a time.
-pub(crate) fn same_bits(one: &Bits, other: &Bits) -> bool
+pub fn same_bits(one: &Bits, other: &Bits) -> bool
     requires { length one.now ≡ length other.now }
     ensures { result ≡ true → one.now ≡ other.now }
 {
