@@ -16,6 +16,7 @@ use Rattle.pin_nets.specs.declared.Level.{Level}
 use Rattle.pin_nets.specs.declared.Level.TheVariants.{Float}
 use Rattle.pin_nets.specs.declared.Pull.TheVariants.{Free}
 use Rattle.pin_nets.specs.Levels.{NetValue, four, net_counts, level, level_by, reads, Has, IsFew, Replaces, one, is_strong, is_weak, pull_drive, drive_at}
+use Rattle.pin_nets.specs.Rows.{IsRow, numbers}
 use Rattle.pin_nets.specs.Places.{has_pin, times, IsOnce, Placed, AreShort}
 
 -- ---- one pin of a list of pins
@@ -269,6 +270,17 @@ pub before_is : (ds : List Drive) (nets : List NetValue) (counts : List (List �
 before_is ds nets counts m r before are h is named =
     four_same before (net_counts ds (get_or nets m nobody))
     (named ∙ is ∙ ap (λ (cs : List (List ℕ)). get_or cs m r) are ∙ get_or-map (λ x. four (net_counts ds x)) nets m nobody r h)
+
+-- ---- the numbers of a net where they stand
+
+pub row_is : (ds : List Drive) (nets : List NetValue) (counts : List (List ℕ)) (m : ℕ) (r : List ℕ) → counts ≡ kept ds nets → m < length nets → r ≡ get_or counts m r → r ≡ four (net_counts ds (get_or nets m nobody))
+row_is ds nets counts m r are h is = is ∙ ap (λ (cs : List (List ℕ)). get_or cs m r) are ∙ get_or-map (λ x. four (net_counts ds x)) nets m nobody r h
+
+pub named_is : (r : List ℕ) (c : Counts) → r ≡ four c → numbers r ≡ c
+named_is r c e = ap numbers e
+
+pub is_row : (r : List ℕ) (c : Counts) → r ≡ four c → IsRow r
+is_row r c e = record { four = e ∙ sym (ap four (named_is r c e)) }
 
 pub has_before : (ds : List Drive) (pin : ℕ) (x : NetValue) (old : Drive) (before : Counts) → pin < length ds → times pin x ≡ 1 → old ≡ drive_at ds pin → before ≡ net_counts ds x → Has old before
 has_before ds pin x old before h once is same =

@@ -11,6 +11,7 @@ pub use nets::Nets;
 
 mod build;
 mod nets;
+mod rows;
 
 /// What a pin drives.
 #[derive(Debug, Clone, Copy, PartialEq, Eq)]

@@ -4,6 +4,7 @@ ghost use Rattle.std.specs.Prelude.{◌≡◌, ◌≢◌, ◌↔◌, ◌<◌, Is
 ghost use Rattle.pin_nets.specs.Levels as levels;
 ghost use Rattle.pin_nets.specs.Levels.{four, net_counts};
 
+use crate::rows::exchange;
 use crate::{
     Counts, Drive, Level, Pull, counts_of_row, differ, level_of, reads, row_of_counts,
     with_replaced,
@@ -74,6 +75,18 @@ impl Nets {
                 self.seen[net] = reads(level_of(after));
                 differ(level_of(before), level_of(after))
             }
+        }
+    }
+
+    /// Pin `k` drives this from now on, as `put` has it.
+    pub fn place(&mut self, k: usize, drive: Drive)
+        requires { k < length self.old.drives }
+        ensures { self.new ≡ record self.old { drives = slice_set self.old.drives k drive } }
+    {
+        let old = self.drives[k];
+        self.drives[k] = drive;
+        if let Some(net) = self.net_of[k] {
+            self.seen[net] = exchange(&mut self.counts[net], old, drive);
         }
     }
 
