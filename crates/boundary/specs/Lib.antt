@@ -2,3 +2,4 @@ pub mod Cells
 pub mod Laws
 pub mod Sight
 pub mod Masks
+pub mod Plain

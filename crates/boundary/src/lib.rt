@@ -2,12 +2,15 @@
 //! (IEEE Std 1149.1-2001, clauses 8 and 11, and Annex B.8.14 for the cell table).
 #![tactic(auto)]
 
-ghost use Rattle.std.specs.Prelude.{◌≡◌, ◌<◌, ℕ, List, length, IfOk};
+ghost use Rattle.std.specs.Prelude.{◌≡◌, ◌<◌, ◌+◌, ℕ, List, length, true, Some, IfOk};
 ghost use Rattle.jt_bits.specs.Words.{bit_of};
 ghost use Rattle.boundary.specs.Cells as cells;
 ghost use Rattle.boundary.specs.Cells.{AreDisabling, AreDrivers, BoundaryValue, DrivenByCell, EntersDisabling};
 ghost use Rattle.boundary.specs.Cells.{EntersDriver, IsWhole};
+ghost use Rattle.boundary.specs.Plain.{drives_plainly};
 ghost use Rattle.boundary.specs.Sight.{CapturesBySight};
+ghost use Rattle.jt_bits.specs.Packed.{has_bit};
+ghost use Rattle.pin_nets.specs.declared.Drive.TheVariants.{Strong};
 
 mod captures;
 
@@ -39,6 +42,7 @@ impl Model for Boundary {
     ghost use Rattle.std.specs.Prelude.{◌≡◌, length};
     ghost use Rattle.boundary.specs.Cells.{AreDisabling, BoundaryValue};
     ghost use Rattle.boundary.specs.Masks.{AreMasks};
+    ghost use Rattle.boundary.specs.Plain.{plain_cells};
 
     ghost Value = { BoundaryValue };
 
@@ -58,6 +62,7 @@ impl Model for Boundary {
       update : length b.update ≡ length b.device.cells;
       disabling : AreDisabling b.device.cells b.disabling;
       masks : AreMasks b.device.cells b.masks.sighted b.masks.inner;
+      plain : b.masks.plain ≡ plain_cells b.device.cells;
     } };
 }
 
@@ -270,6 +275,41 @@ impl Boundary {
         };
         drive_of_cell(self.device.get().cells(), bits, driver)
     }
+
+    /// Of the 64 cells from `first` on those that drive their ports with their own bits in a mode, and these bits.
+    pub fn plain_cells(&self, first: usize, mode: Mode) -> PlainCells
+        ensures mask { (j : ℕ) → j < 64 → has_bit result.mask j ≡ drives_plainly mode self.now.cells (first + j) }
+        ensures bits { (j : ℕ) → j < 64 → has_bit result.mask j ≡ true
+            → cells.driven_in mode self.now.cells self.now.update self.now.core (Some (first + j))
+            ≡ Strong (has_bit result.bits j) }
+    {
+        match mode {
+            Mode::HighZ => PlainCells { mask: 0, bits: 0 },
+            Mode::Extest | Mode::Clamp => plain_from(&self.masks.plain, &self.update, first),
+            Mode::Core => plain_from(&self.masks.plain, &self.core, first),
+        }
+    }
+}
+
+/// Of 64 cells, with a mask of those without a control and the bits in force.
+fn plain_from(mask: &Bits, bits: &Bits, first: usize) -> PlainCells
+    ensures mask { (j : ℕ) → j < 64 → has_bit result.mask j ≡ bit_of mask.now (first + j) }
+    ensures bits { (j : ℕ) → j < 64 → has_bit result.bits j ≡ bit_of bits.now (first + j) }
+{
+    PlainCells {
+        mask: mask.word_at(first),
+        bits: bits.word_at(first),
+    }
+}
+
+/// Of 64 cells those that drive their ports with their own bits, whatever the bits of others, and these bits: bit `j` of
+/// both is that of number `j` of them.
+#[derive(Debug, Clone, Copy, Drop)]
+pub struct PlainCells {
+    /// Which cells do so: those without a control, in a mode that drives the pins.
+    pub mask: u64,
+    /// The bits that they drive.
+    pub bits: u64,
 }
 
 /// What the driving cell drives under the bits in force.

@@ -4,6 +4,7 @@ use Rattle.bsdl_device.specs.Device.{Device}
 use Rattle.bsdl_device.specs.declared.Cell.{Cell}
 use Rattle.boundary.specs.Cells.{AreDisabling}
 use Rattle.boundary.specs.Masks.{AreMasks}
+use Rattle.boundary.specs.Plain.{plain_cells}
 use Rattle.boundary.proofs.CellLaws.{reset-length}
 use Rattle.boundary.proofs.Boundary.new.Goals as goal
 
@@ -18,7 +19,8 @@ invariant_of-result-2 c =
       seen = ap length c.in_ok-seen.ensures ∙ length-replicate c.len-2.result false ∙ c.len-2.ensures ∙ cells;
       disabling = by_views (c.cells.ensures ∙ ap (λ (d : Device). d.cells) (c.get.ensures ∙ sym c.device.view_is)) (sym c.disabling.view_is) c.in_ok-disabling.ensures;
       masks = subst (λ (l : List Cell). AreMasks l c.in_ok-masks.masks.sighted c.in_ok-masks.masks.inner)
-          (c.cells-3.ensures ∙ ap (λ (d : Device). d.cells) (c.get-3.ensures ∙ sym c.device.view_is)) c.in_ok-masks.ensures;
+          (c.cells-3.ensures ∙ ap (λ (d : Device). d.cells) (c.get-3.ensures ∙ sym c.device.view_is)) c.in_ok-masks.ensures.masks;
+      plain = c.in_ok-masks.ensures.plain ∙ ap plain_cells (c.cells-3.ensures ∙ ap (λ (d : Device). d.cells) (c.get-3.ensures ∙ sym c.device.view_is));
       stage = ap length c.in_ok-stage.ensures ∙ length-replicate c.len-3.result false ∙ c.len-3.ensures ∙ cells;
       update =
           ap length c.reset_all.ensures ∙ reset-length c.cells-2.result.now 0 c.cells-2.result.now c.in_ok-update.update ∙ ap length c.in_ok-update.ensures

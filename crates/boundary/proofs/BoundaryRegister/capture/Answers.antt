@@ -14,6 +14,7 @@ invariant_of-self c =
       update = kept.update;
       disabling = kept.disabling;
       masks = kept.masks;
+      plain = kept.plain;
     }
 
 pub returns-clause-stage : goal.returns-clause-stage

@@ -11,5 +11,6 @@ invariant_of-self c =
       stage = c.self.invariant.stage;
       disabling = c.self.invariant.disabling;
       masks = c.self.invariant.masks;
+      plain = c.self.invariant.plain;
       update = ap length c.reset_all.ensures ∙ reset-length c.cells.result.now 0 c.cells.result.now i.update ∙ c.self.invariant.update;
     }
