@@ -118,7 +118,7 @@ impl Wiring {
         if is_same(self.levels.drive(k), drive) {
             return;
         }
-        self.levels.put(k, drive);
+        self.levels.place(k, drive);
     }
 }
 
