@@ -4,4 +4,5 @@ pub mod PutLaws
 pub mod TellLaws
 pub mod BuildLaws
 pub mod SightedLaws
+pub mod BlockLaws
 pub mod DrivingLaws

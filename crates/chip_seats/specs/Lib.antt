@@ -5,3 +5,4 @@ pub mod Building
 pub mod AtRest
 pub mod Sighted
 pub mod Driving
+pub mod Blocks

@@ -1,15 +1,18 @@
 //! The pins of a board that a cell drives.
 
 ghost use Rattle.std.specs.Prelude.{◌≡◌, ◌<◌, ◌++◌, [], List, map, length, slice_set, IfOk, OnOk};
+ghost use Rattle.jt_bits.specs.Packed.{has_bit};
 ghost use Rattle.boundary.specs.Cells.{driver_from};
 ghost use Rattle.board_plan.specs.Planned.{all_pins};
 ghost use Rattle.board_meaning.specs.Nets.{pin_drive};
+ghost use Rattle.chip_seats.specs.Blocks.{IsBlock, IsIn, own_bit};
 ghost use Rattle.chip_seats.specs.Driving.{cells_of, driving_of, entry_drives, with_driving};
 ghost use Rattle.chip_seats.specs.Seats.{SeatValue, member_of};
 ghost use Rattle.chip_seats.specs.Wires.{AreSeated};
 
 use crate::seat::Seat;
 use board_wiring::Wiring;
+use boundary::{Drive, PlainCells};
 use bsdl_device::Cell;
 use std::alloc::{AllocError, Global};
 
@@ -20,6 +23,22 @@ pub struct DrivingPin {
     pub(crate) device: usize,
     pub(crate) cell: usize,
 }
+
+/// Of 64 cells of a device those that drive their own bits.
+#[derive(Drop, Clone, Copy)]
+struct Block {
+    device: usize,
+    /// These are the cells from 64 times this on.
+    number: usize,
+    plain: PlainCells,
+}
+
+/// A block that no cell is in.
+const NO_BLOCK: Block = Block {
+    device: 0,
+    number: usize::MAX,
+    plain: PlainCells { mask: 0, bits: 0 },
+};
 
 /// The pins that a cell drives; any other drives nothing, whatever the devices do. Refused where memory runs out.
 pub fn driving_pins(
@@ -67,20 +86,75 @@ pub fn refresh_driving(wiring: &mut Wiring, seats: &[Seat], driving: &[DrivingPi
               (all_pins wiring.old.nets);
         } }
 {
+    let mut block = NO_BLOCK;
     for it in driving {
-        put_driven(wiring, seats, *it);
+        block = block_with(seats, block, *it);
+        put_driven(wiring, seats, block, *it);
+    }
+}
+
+/// The block that the cell of a pin is in: this one, or it is asked for anew.
+fn block_with(seats: &[Seat], block: Block, it: DrivingPin) -> Block
+    requires device { it.device < length seats.now }
+    requires block { IsBlock (map member_of seats.now) block }
+    ensures block { IsBlock (map member_of seats.now) result }
+    ensures here { IsIn result it }
+{
+    let number = it.cell / 64;
+    if it.device == block.device && number == block.number {
+        return block;
+    }
+    Block {
+        device: it.device,
+        number,
+        plain: seats[it.device].plain_cells(64 * number),
     }
 }
 
 /// What the cell of a pin drives is put to its net.
-fn put_driven(wiring: &mut Wiring, seats: &[Seat], it: DrivingPin)
+fn put_driven(wiring: &mut Wiring, seats: &[Seat], block: Block, it: DrivingPin)
     requires device { it.device < length seats.now }
+    requires block { IsBlock (map member_of seats.now) block }
+    requires here { IsIn block it }
     requires pin { it.pin < length (all_pins wiring.old.nets) }
     ensures { wiring.new ≡ record wiring.old {
       drives = slice_set wiring.old.drives it.pin (entry_drives (map member_of seats.now) it);
     } }
 {
-    wiring.put(it.pin, seats[it.device].driven(it.cell));
+    wiring.put(it.pin, drive_in(seats, block, it));
+}
+
+/// What the cell of a pin drives: its own bit, or what its device says.
+fn drive_in(seats: &[Seat], block: Block, it: DrivingPin) -> Drive
+    requires device { it.device < length seats.now }
+    requires block { IsBlock (map member_of seats.now) block }
+    requires here { IsIn block it }
+    ensures { result ≡ entry_drives (map member_of seats.now) it }
+{
+    match own_bit(block.plain, it.cell % 64) {
+        Some(bit) => Drive::Strong(bit),
+        None => seats[it.device].driven(it.cell),
+    }
+}
+
+/// The bit that number `j` of 64 cells drives by itself; of a cell on which others bear none.
+fn own_bit(plain: PlainCells, j: usize) -> Option<bool>
+    requires { j < 64 }
+    ensures { result ≡ own_bit plain j }
+{
+    if bit(plain.mask, j) {
+        Some(bit(plain.bits, j))
+    } else {
+        None
+    }
+}
+
+/// Bit `j` of a word.
+fn bit(word: u64, j: usize) -> bool
+    requires { j < 64 }
+    ensures { result ≡ has_bit word j }
+{
+    word >> j & 1 == 1
 }
 
 /// The first of these cells that drives a port bit.

@@ -16,6 +16,7 @@ ghost use Rattle.board_meaning.specs.Chain as chain;
 ghost use Rattle.chip_seats.specs.Building.{seat_of};
 ghost use Rattle.chip_seats.specs.Seats.{AreBelow, DrivesStill, IsKept, IsSighted, captures_boundary, chip_state};
 ghost use Rattle.chip_seats.specs.Seats.{falls_driving, member_of, with_seen};
+ghost use Rattle.chip_seats.specs.Blocks.{TellsOwn};
 ghost use Rattle.chip_seats.specs.Driving.{cell_drives};
 ghost use Rattle.chip_seats.specs.Sighted.{IsBelow, sighted_of};
 ghost use Rattle.chip_seats.specs.Telling.{IsAt, TellsAll, sight};
@@ -26,7 +27,7 @@ use crate::driving::first_driver;
 use crate::sighted::{SightedCell, sighted_cells};
 use board_plan::PlannedDevice;
 use board_wiring::Wiring;
-use boundary::{Boundary, Drive, drivers};
+use boundary::{Boundary, Drive, PlainCells, drivers};
 use bsdl_device::Device;
 use jt_bits::Bits;
 use jt_tap::{Column, State, Work};
@@ -206,6 +207,13 @@ impl Seat {
         ensures { result ≡ cell_drives (member_of self.now) cell }
     {
         self.chip.boundary().driven(Some(cell), self.chip.mode())
+    }
+
+    /// Of the 64 cells from `first` on those that drive their ports with their own bits, and these bits.
+    pub(crate) fn plain_cells(&self, first: usize) -> PlainCells
+        ensures { TellsOwn (member_of self.now) first result }
+    {
+        self.chip.boundary().plain_cells(first, self.chip.mode())
     }
 
     /// Whether the rising edge that comes captures the boundary register.

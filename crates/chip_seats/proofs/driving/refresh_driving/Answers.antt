@@ -9,6 +9,7 @@ use Rattle.board_wiring.specs.Wires.{WiringValue}
 use Rattle.chip_seats.specs.Driving.{cells_of, driving_of, entry_drives}
 use Rattle.chip_seats.specs.Seats.{SeatValue, member_of}
 use Rattle.chip_seats.specs.declared.driving.DrivingPin.{DrivingPin}
+use Rattle.chip_seats.proofs.BlockLaws.{no_block}
 use Rattle.chip_seats.proofs.DrivingLaws.{IsWithin, all_put, entry_within, puts}
 use Rattle.chip_seats.proofs.driving.refresh_driving.Goals as goal
 
@@ -28,6 +29,13 @@ within seats nets driving i table h =
     ap (λ (l : List DrivingPin). slice_get l i) (sym table) ∙ slice_get-get_or driving i none h in
     let r = entry_within (map cells_of seats) 0 (all_pins nets) i (get_or driving i none) there in
     record { device = omega (arith, r.device, length-map seats cells_of); pin = omega (arith, r.pin) }
+
+pub loop-it-init : goal.loop-it-init
+loop-it-init c = record { nets = refl; drives = refl; block = no_block (map member_of c.args.seats.now) _ refl }
+
+pub block_with-block-requires-clause-device : goal.block_with-block-requires-clause-device
+block_with-block-requires-clause-device c =
+    (within c.args.seats.now c.args.wiring.now.nets c.args.driving.now c.loop-it.it-index c.requires.table c.loop-it-test.true).device
 
 pub put_driven-requires-clause-device : goal.put_driven-requires-clause-device
 put_driven-requires-clause-device c =
@@ -54,6 +62,7 @@ loop-it-preserved c =
           ∙ ap (λ (n : ℕ). puts ms (drop n table) (set ds e.pin (entry_drives ms e))) next
           ∙ sym (ap (λ (es : List DrivingPin). puts ms es ds) (drop-cons table i none c.loop-it-test.true))
           ∙ c.loop-it.invariant.drives;
+      block = c.block_with-block.ensures.block;
     }
 
 pub returns-clause-drives : goal.returns-clause-drives
