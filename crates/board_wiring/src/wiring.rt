@@ -120,6 +120,15 @@ impl Wiring {
         }
         self.levels.place(k, drive);
     }
+
+    /// The pin of this number drives this from now on, as `put` has it, whatever was last put there: there is no branch
+    /// on what it drove, which pays where many pins drive another level than before.
+    pub fn place(&mut self, number: usize, drive: Drive)
+        requires { number < length (all_pins self.old.nets) }
+        ensures { self.new ≡ record self.old { drives = slice_set self.old.drives number drive } }
+    {
+        self.levels.place(number, drive);
+    }
 }
 
 /// Whether two pins drive the same.

@@ -24,20 +24,24 @@ pub struct DrivingPin {
     pub(crate) cell: usize,
 }
 
-/// Of 64 cells of a device those that drive their own bits.
+/// Of 64 cells of a device those that drive their own bits; none before the second pin in a row that asks for them.
 #[derive(Drop, Clone, Copy)]
 struct Block {
     device: usize,
     /// These are the cells from 64 times this on.
     number: usize,
+    is_read: bool,
     plain: PlainCells,
 }
+
+const NO_CELLS: PlainCells = PlainCells { mask: 0, bits: 0 };
 
 /// A block that no cell is in.
 const NO_BLOCK: Block = Block {
     device: 0,
     number: usize::MAX,
-    plain: PlainCells { mask: 0, bits: 0 },
+    is_read: false,
+    plain: NO_CELLS,
 };
 
 /// The pins that a cell drives; any other drives nothing, whatever the devices do. Refused where memory runs out.
@@ -93,7 +97,8 @@ pub fn refresh_driving(wiring: &mut Wiring, seats: &[Seat], driving: &[DrivingPi
     }
 }
 
-/// The block that the cell of a pin is in: this one, or it is asked for anew.
+/// The block that the cell of a pin is in. It is read for the second pin in a row, so that pins whose cells stand far
+/// apart do not read 64 bits each.
 fn block_with(seats: &[Seat], block: Block, it: DrivingPin) -> Block
     requires device { it.device < length seats.now }
     requires block { IsBlock (map member_of seats.now) block }
@@ -101,12 +106,21 @@ fn block_with(seats: &[Seat], block: Block, it: DrivingPin) -> Block
     ensures here { IsIn result it }
 {
     let number = it.cell / 64;
-    if it.device == block.device && number == block.number {
+    if it.device != block.device || number != block.number {
+        return Block {
+            device: it.device,
+            number,
+            is_read: false,
+            plain: NO_CELLS,
+        };
+    }
+    if block.is_read {
         return block;
     }
     Block {
         device: it.device,
         number,
+        is_read: true,
         plain: seats[it.device].plain_cells(64 * number),
     }
 }
@@ -121,7 +135,7 @@ fn put_driven(wiring: &mut Wiring, seats: &[Seat], block: Block, it: DrivingPin)
       drives = slice_set wiring.old.drives it.pin (entry_drives (map member_of seats.now) it);
     } }
 {
-    wiring.put(it.pin, drive_in(seats, block, it));
+    wiring.place(it.pin, drive_in(seats, block, it));
 }
 
 /// What the cell of a pin drives: its own bit, or what its device says.
