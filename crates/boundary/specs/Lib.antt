@@ -3,3 +3,4 @@ pub mod Laws
 pub mod Sight
 pub mod Masks
 pub mod Plain
+pub mod Told

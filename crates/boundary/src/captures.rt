@@ -1,11 +1,12 @@
 //! What the cells of a boundary register capture, 64 of them at a time.
 
-ghost use Rattle.std.specs.Prelude.{◌≡◌, ◌<◌, ℕ, IfOk, if◌then◌else◌};
+ghost use Rattle.std.specs.Prelude.{◌≡◌, ◌<◌, ℕ, IfOk, length, if◌then◌else◌};
 ghost use Rattle.jt_bits.specs.Packed.{has_bit};
 ghost use Rattle.boundary.specs.Cells as cells;
 ghost use Rattle.boundary.specs.Masks.{AreMasks, CapturesEach, chosen, is_inner, is_sighted, sighted_port};
 ghost use Rattle.boundary.specs.Plain.{has_no_control, plain_cells};
 
+use crate::sights::Sights;
 use bsdl_device::{Cell, Control3, Function};
 use device_instructions::Mode;
 use jt_bits::Bits;
@@ -86,7 +87,8 @@ pub(crate) fn held_bits<'a>(from_update: bool, update: &'a Bits, core: &'a Bits)
 }
 
 /// Each cell of the stage takes what it captures.
-pub(crate) fn capture_all(masks: &Masks, seen: &Bits, held: &Bits, core: &Bits, stage: &mut Bits)
+pub(crate) fn capture_all(masks: &Masks, seen: &Sights, held: &Bits, core: &Bits, stage: &mut Bits)
+    requires { length seen.now ≡ length stage.old }
     ensures { CapturesEach masks.now.sighted masks.now.inner seen.now held.now core.now stage.old stage.new }
 {
     let len = stage.len();

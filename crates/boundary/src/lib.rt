@@ -13,6 +13,7 @@ ghost use Rattle.jt_bits.specs.Packed.{has_bit};
 ghost use Rattle.pin_nets.specs.declared.Drive.TheVariants.{Strong};
 
 mod captures;
+mod sights;
 
 use bsdl_device::{Cell, Control3, Disabled, Function};
 pub use captures::sighted_port;
@@ -21,6 +22,7 @@ use device_instructions::{Mode, SharedDevice};
 use device_registers::Register;
 use jt_bits::Bits;
 pub use pin_nets::Drive;
+use sights::Sights;
 use std::alloc::{AllocError, Global};
 use std::marker::Model;
 
@@ -33,7 +35,7 @@ pub struct Boundary {
     disabling: Bits,
     core: Bits,
     extest_update: bool,
-    seen: Bits,
+    seen: Sights,
     stage: Bits,
     update: Bits,
 }
@@ -216,7 +218,7 @@ impl Boundary {
         let disabling = disabling_values(alloc, device.get().cells())?;
         let mut update = Bits::zeros(alloc, core.len())?;
         reset_all(device.get().cells(), &disabling, &mut update);
-        let seen = Bits::zeros(alloc, core.len())?;
+        let seen = Sights::none(alloc, device.get().cells())?;
         let stage = Bits::zeros(alloc, core.len())?;
         let masks = masks_of(alloc, device.get().cells())?;
         Ok(Boundary {

@@ -17,7 +17,7 @@ loop-at-preserved c =
           (λ j h. c.captured_word-word.ensures j (omega (arith, h))
           ∙ (λ k. chosen (c.word_at.ensures.bits j (omega (arith, h)) k)
           (c.word_at-in-loop-at.ensures.bits j (omega (arith, h)) k)
-          (c.word_at-in-loop-at-2.ensures.bits j (omega (arith, h)) k)
+          (c.word_at-in-loop-at-2.ensures j (omega (arith, h)) k)
           (c.word_at-in-loop-at-3.ensures.bits j (omega (arith, h)) k)
           (c.word_at-in-loop-at-4.ensures.bits j (omega (arith, h)) k)))
           c.loop-at.invariant.each;
