@@ -27,7 +27,7 @@ use std::alloc::{AllocError, Global};
 use std::marker::Model;
 
 /// The cells of a device with what each was last told that its port sees, their core's bits, and the two lists of the
-/// register; beside them the disabling values that a reset gives, and which cells capture what.
+/// register; beside them the disabling values that a reset gives, which cells capture what, and which have no control.
 #[derive(Drop)]
 pub struct Boundary {
     device: SharedDevice,
@@ -304,8 +304,8 @@ fn plain_from(mask: &Bits, bits: &Bits, first: usize) -> PlainCells
     }
 }
 
-/// Of 64 cells those that drive their ports with their own bits, whatever the bits of others, and these bits: bit `j` of
-/// both is that of number `j` of them.
+/// Of 64 cells those that drive their ports with their own bits, whatever the bits of others, and these bits. Bit
+/// `j` of both words is that of cell `j` of the 64.
 #[derive(Debug, Clone, Copy, Drop)]
 pub struct PlainCells {
     /// Which cells do so: those without a control, in a mode that drives the pins.

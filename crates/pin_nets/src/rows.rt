@@ -55,8 +55,8 @@ fn place_of(drive: Drive) -> Option<usize>
     }
 }
 
-/// What ports see of a net with these numbers: a strong 0 makes it 0, else a strong 1 makes it 1, else a weak 0 makes it
-/// 0.
+/// What ports see of a net with these numbers: 0 where a driver of 0 is strong, else 1 where one of 1 is, else 0
+/// where a weak one drives 0, else 1.
 fn seen_by(row: &[usize; 4]) -> bool
     requires { IsRow row.now }
     ensures { result ≡ levels.reads (level_by (numbers row.now)) }
