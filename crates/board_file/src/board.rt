@@ -13,10 +13,10 @@ ghost use Rattle.board_library.specs.View.{cells_in, files_of};
 ghost use Rattle.board_plan.specs.View.{wiring};
 ghost use Rattle.board_file.specs.Fits.{AreSaid, FitsTogether};
 
-use crate::wiring::{Miswired, check_pins};
+use crate::wiring::{Miswired, plan_fitting};
 use board_library::{Describe, Library, cells_of, devices_of, read_files};
 use board_names::{BoardFault, distinct_files, read_table, told};
-use board_parts::{plan_devices, plan_nets};
+use board_parts::plan_devices;
 use board_plan::Plan;
 use board_tables::{check_fields, items_at, name_at};
 use board_words::Places;
@@ -137,12 +137,13 @@ fn plan_described<F>(
     let nets = items_at(table, "net");
     let board = no_memory(board_names(alloc, entries))?;
     let devices = no_memory(devices_of(alloc, names, described, entries))?;
-    if let Err(fault) = check_pins(alloc, &board, &devices, nets) {
-        return Err(miswired(alloc, fault));
-    }
+    let nets = match plan_fitting(alloc, &board, &devices, nets) {
+        Ok(nets) => nets,
+        Err(fault) => return Err(miswired(alloc, fault)),
+    };
     Ok(Plan {
         devices: no_memory(plan_devices(alloc, names, described, entries))?,
-        nets: no_memory(plan_nets(alloc, &board, &devices, nets))?,
+        nets,
     })
 }
 

@@ -1,15 +1,20 @@
 //! Judges the pins and nets of a board file.
-ghost use Rattle.std.specs.Prelude.{◌≡◌, length};
+ghost use Rattle.std.specs.Prelude.{◌≡◌, [], length, map, option_map, IfOk};
 ghost use Rattle.toml.specs.View.{items_view};
 ghost use Rattle.board_tables.specs.Fields.{tables_in};
 ghost use Rattle.board_words.specs.View.{texts_of};
+ghost use Rattle.board_pins.specs.Pins.{twice_in_nets};
+ghost use Rattle.board_parts.specs.Parts.{net_of};
+ghost use Rattle.board_plan.specs.View.{net as planned_net};
 ghost use Rattle.board_file.specs.Wiring.{wire_fault};
 ghost use Rattle.board_file.specs.View.{ChecksPins};
 
-use board_pins::{first_twice, first_unknown};
+use board_parts::{has_pin_twice, plan_known_nets};
+use board_pins::{Unfound, first_twice};
+use board_plan::PlannedNet;
 use board_words::Places;
 use device_instructions::SharedDevice;
-use std::alloc::Global;
+use std::alloc::{AllocError, Global};
 use toml::Value;
 
 /// Why the pins and nets of a board file are refused.
@@ -29,21 +34,24 @@ const MOST_DEVICES: usize = 32;
 /// A board has at most 4,096 nets with a name.
 const MOST_NETS: usize = 4_096;
 
-/// Judges pins and nets, given the names of all devices, and the devices.
-pub(crate) fn check_pins<'t>(
+/// The nets, where pins and nets fit, given the names of all devices, and the devices.
+pub(crate) fn plan_fitting<'t>(
     alloc: Global,
     names: &Places<&str>,
     devices: &[SharedDevice],
     nets: &'t [Value],
-) -> Result<(), Miswired<'t>>
-    ensures { ChecksPins result (wire_fault (texts_of names.now) devices.now (tables_in (items_view nets.now))) }
+) -> Result<Vec<PlannedNet>, Miswired<'t>>
+    ensures judged { ChecksPins result
+        (wire_fault (texts_of names.now) devices.now (tables_in (items_view nets.now))) }
+    ensures nets { IfOk result (λ v. map planned_net v.items
+        ≡ map (net_of (texts_of names.now) devices.now) (tables_in (items_view nets.now))) }
 {
-    match first_unknown(alloc, names, devices, nets) {
-        Ok(None) => {}
-        Ok(Some(text)) => return Err(Miswired::UnknownPin(text)),
-        Err(_) => return Err(Miswired::Memory),
-    }
-    match first_twice(alloc, names, devices, nets) {
+    let planned = match plan_known_nets(alloc, names, devices, nets) {
+        Ok(planned) => planned,
+        Err(Unfound::Unknown(text)) => return Err(Miswired::UnknownPin(text)),
+        Err(Unfound::Memory) => return Err(Miswired::Memory),
+    };
+    match pin_twice(alloc, names, devices, nets, &planned) {
         Ok(None) => {}
         Ok(Some(text)) => return Err(Miswired::PinTwice(text)),
         Err(_) => return Err(Miswired::Memory),
@@ -51,7 +59,28 @@ pub(crate) fn check_pins<'t>(
     if names.len() > MOST_DEVICES || count_tables(nets) > MOST_NETS {
         return Err(Miswired::TooLarge);
     }
-    Ok(())
+    Ok(planned)
+}
+
+/// The first text whose pin stands before it, given the nets that are planned. It is looked for only where there is
+/// one.
+fn pin_twice<'t>(
+    alloc: Global,
+    names: &Places<&str>,
+    devices: &[SharedDevice],
+    nets: &'t [Value],
+    planned: &[PlannedNet],
+) -> Result<Option<&'t str>, AllocError>
+    requires { map planned_net planned.now
+        ≡ map (net_of (texts_of names.now) devices.now) (tables_in (items_view nets.now)) }
+    ensures { IfOk result (λ r. option_map (λ s. s.now) r
+        ≡ twice_in_nets (texts_of names.now) devices.now [] (tables_in (items_view nets.now))) }
+{
+    if has_pin_twice(alloc, planned)? {
+        first_twice(alloc, names, devices, nets)
+    } else {
+        Ok(None)
+    }
 }
 
 fn count_tables(items: &[Value]) -> usize

@@ -1,0 +1,36 @@
+-- Nets of which no pin stands twice.
+use Rattle.std.proofs.Common.{◌≡◌, ℕ, Bool, true, false, ◌||◌, cond, List, [], ◌∷◌, ◌++◌, map, codes, Option, Some, None, refl, ap, sym, ◌∙◌}
+use Rattle.std.specs.Option.{option_or}
+use Rattle.std.specs.List.{list_any, filter_map}
+use Rattle.std.proofs.lemmas.Bool.{false≢true}
+use Rattle.toml.specs.Data.{Members}
+use Rattle.bsdl_device.specs.Device.{Device}
+use Rattle.board_tables.specs.Fields.{texts_at}
+use Rattle.pin_nets.specs.declared.Pin.{Pin}
+use Rattle.board_pins.specs.Pins.{pin_at, same_pin, twice, pins_at, twice_in_nets}
+use Rattle.board_parts.specs.Parts.{net_of}
+use Rattle.board_parts.specs.Twice.{is_some_twice}
+use Rattle.board_parts.proofs.TwiceLaws.{twice_append}
+use Rattle.board_plan.specs.Planned.{all_pins}
+
+neither : (b c : Bool) → b || c ≡ false → (b ≡ false) × (c ≡ false)
+neither true c h = absurd (false≢true (sym h))
+neither false c h = (refl, h)
+
+module _ (names : List (List ℕ)) (ds : List Device) where
+  none_of : (before : List Pin) (texts : List (List ℕ)) → is_some_twice before (filter_map (pin_at names ds) texts) ≡ false → twice names ds before texts ≡ None
+  none_of before [] h = refl
+  none_of before (text ∷ texts) h = by (pin_at names ds text) refl (λ b f. none_of b texts f)
+    where
+      by : (o : Option Pin) → pin_at names ds text ≡ o → ((b : List Pin) → is_some_twice b (filter_map (pin_at names ds) texts) ≡ false → twice names ds b texts ≡ None) → twice names ds before (text ∷ texts) ≡ None
+      by None e more = rw (e, twice) (more before (rw (e, filter_map) at h))
+      by (Some p) e more =
+          let both = neither (list_any (same_pin p) before) (is_some_twice (before ++ p ∷ []) (filter_map (pin_at names ds) texts)) (rw (e, filter_map) at h) in
+          rw (e, twice) (ap (λ b. cond b (Some text) (twice names ds (before ++ p ∷ []) texts)) both.0 ∙ more (before ++ p ∷ []) both.1)
+
+  pub none_twice : (before : List Pin) (ts : List Members) → is_some_twice before (all_pins (map (net_of names ds) ts)) ≡ false → twice_in_nets names ds before ts ≡ None
+  none_twice before [] h = refl
+  none_twice before (t ∷ ts) h =
+      let pins = pins_at names ds t in
+      let parts = neither (is_some_twice before pins) (is_some_twice (before ++ pins) (all_pins (map (net_of names ds) ts))) (sym (twice_append before pins (all_pins (map (net_of names ds) ts))) ∙ h) in
+      ap (λ o. option_or o (twice_in_nets names ds (before ++ pins) ts)) (none_of before (texts_at (codes "pins") t) parts.0) ∙ none_twice (before ++ pins) ts parts.1
