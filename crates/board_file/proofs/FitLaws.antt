@@ -167,7 +167,7 @@ module _ (says : List ℕ → Option Device) (files : List File) where
 -- ---- pins
 
 -- the pin is a port bit of one of these devices
-IsBitOf : List Device → Pin → Type 0
+unfoldable pub IsBitOf : List Device → Pin → Type 0
 IsBitOf ds p = (d : Device) × (slice_get ds p.device ≡ Some d) × (p.port < length d.ports)
 
 inside : (d : Device) (k bit : ℕ) → no_tap d k ≡ Some bit → bit < length d.ports
@@ -227,7 +227,7 @@ module _ (names : List (List ℕ)) (ds : List Device) where
       by None e more = rw (e, filter_map) more
       by (Some p) e more = rw (e, filter_map) (pin_on names ds text p e, more)
 
-  nets_on : (ts : List Members) → AllByRecursion (IsBitOf ds) (all_pins (map (net_of names ds) ts))
+  pub nets_on : (ts : List Members) → AllByRecursion (IsBitOf ds) (all_pins (map (net_of names ds) ts))
   nets_on [] = tt
   nets_on (t ∷ ts) = both (IsBitOf ds) (pins_at names ds t) (all_pins (map (net_of names ds) ts)) (all_on (texts_at (codes "pins") t)) (nets_on ts)
 

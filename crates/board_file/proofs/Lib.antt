@@ -1,5 +1,5 @@
 pub mod CountLaws
-pub mod TwiceLaws
 pub mod DescribedLaws
 pub mod BoardLaws
 pub mod FitLaws
+pub mod TwiceLaws

@@ -1,7 +1,8 @@
 -- Nets of which no pin stands twice.
-use Rattle.std.proofs.Common.{◌≡◌, ℕ, Bool, true, false, ◌||◌, cond, List, [], ◌∷◌, ◌++◌, map, codes, Option, Some, None, refl, ap, sym, ◌∙◌}
+use Rattle.std.proofs.Common.{◌≡◌, ◌≤◌, ℕ, zero, suc, max, length, slice_get, unwrap_or, subst, arith, Bool, true, false, ◌||◌, cond, List, [], ◌∷◌, ◌++◌, map, codes, Option, Some, None, refl, ap, sym, ◌∙◌}
 use Rattle.std.specs.Option.{option_or}
-use Rattle.std.specs.List.{list_any, filter_map}
+use Rattle.std.specs.List.{list_any, filter_map, AllByRecursion}
+use Rattle.std.proofs.lemmas.Option.{slice_get_within}
 use Rattle.std.proofs.lemmas.Bool.{false≢true}
 use Rattle.toml.specs.Data.{Members}
 use Rattle.bsdl_device.specs.Device.{Device}
@@ -9,9 +10,14 @@ use Rattle.board_tables.specs.Fields.{texts_at}
 use Rattle.pin_nets.specs.declared.Pin.{Pin}
 use Rattle.board_pins.specs.Pins.{pin_at, same_pin, twice, pins_at, twice_in_nets}
 use Rattle.board_parts.specs.Parts.{net_of}
-use Rattle.board_parts.specs.Twice.{is_some_twice}
+use Rattle.board_parts.specs.Twice.{IsAmong, is_some_twice}
+use Rattle.board_file.specs.Ports.{most_ports}
+use Rattle.board_file.proofs.FitLaws.{IsBitOf, nets_on}
 use Rattle.board_parts.proofs.TwiceLaws.{twice_append}
 use Rattle.board_plan.specs.Planned.{all_pins}
+
+no_device : {A : Type 0} (x : A) → None ≡ Some x → ⊥
+no_device x e = absurd cc
 
 neither : (b c : Bool) → b || c ≡ false → (b ≡ false) × (c ≡ false)
 neither true c h = absurd (false≢true (sym h))
@@ -34,3 +40,21 @@ module _ (names : List (List ℕ)) (ds : List Device) where
       let pins = pins_at names ds t in
       let parts = neither (is_some_twice before pins) (is_some_twice (before ++ pins) (all_pins (map (net_of names ds) ts))) (sym (twice_append before pins (all_pins (map (net_of names ds) ts))) ∙ h) in
       ap (λ o. option_or o (twice_in_nets names ds (before ++ pins) ts)) (none_of before (texts_at (codes "pins") t) parts.0) ∙ none_twice (before ++ pins) ts parts.1
+
+-- ---- the ports of the devices
+
+most_at : (ds : List Device) (k : ℕ) (d : Device) → slice_get ds k ≡ Some d → length d.ports ≤ most_ports ds
+most_at [] k d is = absurd (no_device d is)
+most_at (x ∷ ds) zero d is = subst (λ (e : Device). length e.ports ≤ max (length x.ports) (most_ports ds)) (ap (λ o. unwrap_or o x) is) (omega arith)
+most_at (x ∷ ds) (suc k) d is = let below = most_at ds k d is in omega arith
+
+bit_among : (ds : List Device) (p : Pin) → IsBitOf ds p → IsAmong (length ds) (most_ports ds) p
+unfolding IsBitOf
+bit_among ds p (d, is, below) = let most = most_at ds p.device d is in record { device = slice_get_within ds p.device d is; port = omega arith }
+
+all_among : (ds : List Device) (pins : List Pin) → AllByRecursion (IsBitOf ds) pins → AllByRecursion (IsAmong (length ds) (most_ports ds)) pins
+all_among ds [] all = tt
+all_among ds (p ∷ ps) all = (bit_among ds p all.0, all_among ds ps all.1)
+
+pub among : (names : List (List ℕ)) (ds : List Device) (ts : List Members) → AllByRecursion (IsAmong (length ds) (most_ports ds)) (all_pins (map (net_of names ds) ts))
+among names ds ts = all_among ds (all_pins (map (net_of names ds) ts)) (nets_on names ds ts)

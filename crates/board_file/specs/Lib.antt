@@ -1,3 +1,4 @@
 pub mod Wiring
 pub mod View
 pub mod Fits
+pub mod Ports

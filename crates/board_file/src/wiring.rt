@@ -6,6 +6,7 @@ ghost use Rattle.board_words.specs.View.{texts_of};
 ghost use Rattle.board_pins.specs.Pins.{twice_in_nets};
 ghost use Rattle.board_parts.specs.Parts.{net_of};
 ghost use Rattle.board_plan.specs.View.{net as planned_net};
+ghost use Rattle.board_file.specs.Ports as spec;
 ghost use Rattle.board_file.specs.Wiring.{wire_fault};
 ghost use Rattle.board_file.specs.View.{ChecksPins};
 
@@ -62,8 +63,8 @@ pub(crate) fn plan_fitting<'t>(
     Ok(planned)
 }
 
-/// The first text whose pin stands before it, given the nets that are planned. It is looked for only where there is
-/// one.
+/// The first text whose pin stands before it, given the nets that are planned. On a board that is not too large it is
+/// looked for only where there is one.
 fn pin_twice<'t>(
     alloc: Global,
     names: &Places<&str>,
@@ -76,11 +77,23 @@ fn pin_twice<'t>(
     ensures { IfOk result (λ r. option_map (λ s. s.now) r
         ≡ twice_in_nets (texts_of names.now) devices.now [] (tables_in (items_view nets.now))) }
 {
-    if has_pin_twice(alloc, planned)? {
-        first_twice(alloc, names, devices, nets)
-    } else {
-        Ok(None)
+    if devices.len() <= MOST_DEVICES {
+        if !has_pin_twice(alloc, devices.len(), most_ports(devices), planned)? {
+            return Ok(None);
+        }
     }
+    first_twice(alloc, names, devices, nets)
+}
+
+/// The most port bits that one of the devices has.
+fn most_ports(devices: &[SharedDevice]) -> usize
+    ensures { result ≡ spec.most_ports devices.now }
+{
+    let mut most = 0;
+    for device in devices {
+        most = most.max(device.get().port_count());
+    }
+    most
 }
 
 fn count_tables(items: &[Value]) -> usize

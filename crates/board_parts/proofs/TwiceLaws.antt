@@ -1,34 +1,19 @@
--- Pins that stand twice, by a set of those before.
-use Rattle.std.proofs.Common.{◌≡◌, ◌<◌, ℕ, ◌+◌, Bool, true, false, not, ◌||◌, ◌==◌, cond, List, [], ◌∷◌, ◌++◌, length, take, drop, get_or, map, append_assoc, refl, ap, sym, ◌∙◌, arith}
-use Rattle.std.proofs.lemmas.Bool.{false≢true}
+-- Pins that stand twice, by a table of those before.
+use Rattle.std.proofs.Common.{◌≡◌, ◌<◌, ℕ, zero, suc, ◌+◌, ◌*◌, ◌/◌, ◌%◌, Bool, true, false, ◌&&◌, ◌||◌, ◌==◌, List, [], ◌∷◌, ◌++◌, length, length-set, set, replicate, take, drop, get_or, map, append_assoc, refl, ap, sym, subst, ◌∙◌, arith}
+use Rattle.std.proofs.lemmas.Bool.{false≢true, and_parts, eqb-true}
 use Rattle.std.proofs.lemmas.Bool.Decides.{nat_tests}
-use Rattle.std.proofs.lemmas.List.{append-nil, take_more, drop_more, flat_map_more}
+use Rattle.std.proofs.Math.Nat.{mul_comm}
+use Rattle.std.proofs.lemmas.Nat.{mul-add-lt, div-mul-add, mod-mul-add}
+use Rattle.std.proofs.lemmas.List.{append-nil, take_more, drop_more, flat_map_more, get_or-set_other, get_or-replicate, length-replicate}
 use Rattle.std.proofs.lemmas.List.Folds.{list_any-append}
-use Rattle.std.specs.List.{list_any, flat_map}
-use Rattle.std.specs.BTreeMap.{is_at}
-use Rattle.std.specs.BTreeSet.{BTreeSet, Updates}
+use Rattle.std.proofs.lemmas.Grind.{get_or-set_at}
+use Rattle.std.specs.List.{list_any, flat_map, AllByRecursion}
 use Rattle.pin_nets.specs.declared.Pin.{Pin}
 use Rattle.board_pins.specs.Pins.{same_pin}
-use Rattle.board_pins.proofs.PinLaws.{same_numbers}
 use Rattle.board_plan.specs.Planned.{all_pins}
 use Rattle.board_plan.specs.View.{net}
 use Rattle.board_plan.specs.declared.plan.PlannedNet.{PlannedNet}
-use Rattle.board_parts.specs.Twice.{pin_cmp, HasPins, is_some_twice}
-
-turned_number : (a b : ℕ) → (a == b) ≡ (b == a)
-turned_number a b = by (a == b) (b == a) refl refl
-  where
-    by : (c d : Bool) → (a == b) ≡ c → (b == a) ≡ d → c ≡ d
-    by true true p q = refl
-    by true false p q = grind (arith, nat_tests)
-    by false true p q = grind (arith, nat_tests)
-    by false false p q = refl
-
-turned : (p q : Pin) → same_pin p q ≡ same_pin q p
-turned p q = rw (turned_number p.device q.device, turned_number p.port q.port) refl
-
-at_pin : (p q : Pin) → is_at (pin_cmp p) q ≡ same_pin p q
-at_pin p q = same_numbers p.device q.device p.port q.port
+use Rattle.board_parts.specs.Twice.{IsAmong, IsWithin, Marks, place_of, is_some_twice}
 
 last_there : (b c : Bool) → c ≡ true → true ≡ b || (c || false)
 last_there true c e = refl
@@ -38,13 +23,68 @@ not_last : (b c : Bool) → c ≡ false → b ≡ b || (c || false)
 not_last true c e = refl
 not_last false c e = rw e refl
 
--- a set after one more pin
-pub one_more : (before : List Pin) (m n : BTreeSet Pin) (k : Pin) → HasPins before m → Updates pin_cmp m n k true → HasPins (before ++ k ∷ []) n
-one_more before m n k has u q = u.0 q ∙ by (is_at (pin_cmp k) q) refl ∙ sym (list_any-append (same_pin q) before (k ∷ []))
+itself : (n : ℕ) → (n == n) ≡ true
+itself n = by (n == n) refl
   where
-    by : (b : Bool) → is_at (pin_cmp k) q ≡ b → cond b true (list_any (is_at (pin_cmp q)) m.keys) ≡ list_any (same_pin q) before || (same_pin q k || false)
-    by true e = last_there (list_any (same_pin q) before) (same_pin q k) (turned q k ∙ sym (at_pin k q) ∙ e)
-    by false e = has q ∙ not_last (list_any (same_pin q) before) (same_pin q k) (turned q k ∙ sym (at_pin k q) ∙ e)
+    by : (b : Bool) → (n == n) ≡ b → b ≡ true
+    by true e = refl
+    by false e = grind (arith, nat_tests)
+
+same_place : (w : ℕ) (p x : Pin) → same_pin p x ≡ true → place_of w p ≡ place_of w x
+same_place w p x h =
+    let parts = and_parts (p.device == x.device) (p.port == x.port) h in
+    let device : p.device ≡ x.device = eqb-true p.device x.device parts.0 in
+    let port : p.port ≡ x.port = eqb-true p.port x.port parts.1 in
+    ap (λ n. n * w + p.port) device ∙ ap (λ n. x.device * w + n) port
+
+same_pins : (p x : Pin) → p.device ≡ x.device → p.port ≡ x.port → same_pin p x ≡ true
+same_pins p x device port =
+    ap (λ n. (n == x.device) && (p.port == x.port)) device ∙ ap (λ n. (x.device == x.device) && (n == x.port)) port
+    ∙ ap (λ b. b && (x.port == x.port)) (itself x.device) ∙ itself x.port
+
+-- pins at one place of a table are the same
+at_one_place : (w : ℕ) (p x : Pin) → p.port < w → x.port < w → place_of w p ≡ place_of w x → same_pin p x ≡ true
+at_one_place w p x below above e =
+    same_pins p x
+    (sym (div-mul-add p.device w p.port below) ∙ ap (λ n. n / w) e ∙ div-mul-add x.device w x.port above)
+    (sym (mod-mul-add p.device w p.port below) ∙ ap (λ n. n % w) e ∙ mod-mul-add x.device w x.port above)
+
+-- a table after one more pin
+pub one_more : (w : ℕ) (before : List Pin) (table : List Bool) (x : Pin) → IsWithin w (length table) x → Marks w before table → Marks w (before ++ x ∷ []) (set table (place_of w x) true)
+one_more w before table x inside marks p within =
+    by (same_pin p x) refl ∙ sym (list_any-append (same_pin p) before (x ∷ []))
+  where
+    room : length (set table (place_of w x) true) ≡ length table
+    room = length-set table (place_of w x) true
+
+    by : (b : Bool) → same_pin p x ≡ b → get_or (set table (place_of w x) true) (place_of w p) false ≡ list_any (same_pin p) before || (same_pin p x || false)
+    by true e =
+        get_or-set_at table (place_of w x) (place_of w p) true false (same_place w p x e) inside.place
+        ∙ last_there (list_any (same_pin p) before) (same_pin p x) e
+    by false e =
+        get_or-set_other table (place_of w x) (place_of w p) true false (λ same. false≢true (sym e ∙ at_one_place w p x within.port inside.port same))
+        ∙ marks p (record { port = within.port; place = subst (λ n. place_of w p < n) room within.place })
+        ∙ not_last (list_any (same_pin p) before) (same_pin p x) e
+
+-- an empty table
+pub none_marked : (w n : ℕ) → Marks w [] (replicate n false)
+none_marked w n p within = get_or-replicate n (place_of w p) false false (subst (λ m. place_of w p < m) (length-replicate n false) within.place)
+
+pub each_at : {A : Type 0} (P : A → Type 0) (xs : List A) (i : ℕ) (d : A) → i < length xs → AllByRecursion P xs → P (get_or xs i d)
+each_at P [] i d h all = absurd (omega arith)
+each_at P (x ∷ xs) zero d h all = all.0
+each_at P (x ∷ xs) (suc i) d h all = each_at P xs i d (omega arith) all.1
+
+pub halves : {A : Type 0} (P : A → Type 0) (xs ys : List A) → AllByRecursion P (xs ++ ys) → AllByRecursion P xs × AllByRecursion P ys
+halves P [] ys all = (tt, all)
+halves P (x ∷ xs) ys all = let more = halves P xs ys all.1 in ((all.0, more.0), more.1)
+
+pub within : (devices ports room : ℕ) → room ≡ devices * ports → (pins : List Pin) → AllByRecursion (IsAmong devices ports) pins → AllByRecursion (IsWithin ports room) pins
+within devices ports room is [] all = tt
+within devices ports room is (p ∷ ps) all = (
+  record { port = all.0.port; place = subst (λ n. place_of ports p < n) (mul_comm ports devices ∙ sym is) (mul-add-lt p.device ports p.port devices all.0.device all.0.port) },
+  within devices ports room is ps all.1,
+)
 
 -- more pins are judged one after another
 pub twice_append : (before xs ys : List Pin) → is_some_twice before (xs ++ ys) ≡ is_some_twice before xs || is_some_twice (before ++ xs) ys
@@ -56,23 +96,14 @@ twice_append before (x ∷ xs) ys =
     by true c d e h = refl
     by false c d e h = h
 
--- what an insertion that was refused, or not, says of the set
-pub was_there : (r b : Bool) → r ≡ not b → r ≡ false → b ≡ true
-was_there r true e h = refl
-was_there r false e h = absurd (false≢true (sym h ∙ e))
-
-pub was_new : (r b : Bool) → r ≡ not b → r ≡ true → b ≡ false
-was_new r true e h = absurd (false≢true (sym e ∙ h))
-was_new r false e h = refl
-
 -- ---- one more pin of a list
 
-module _ (before pins : List Pin) (set : BTreeSet Pin) (has : HasPins before set) (i : ℕ) (d : Pin) (h : i < length pins) where
-  pub found : list_any (is_at (pin_cmp (get_or pins i d))) set.keys ≡ true → is_some_twice before (drop i pins) ≡ true
-  found there = ap (is_some_twice before) (drop_more pins i d h) ∙ rw (sym (has (get_or pins i d)) ∙ there) refl
+module _ (before pins : List Pin) (i : ℕ) (d : Pin) (h : i < length pins) where
+  pub found : list_any (same_pin (get_or pins i d)) before ≡ true → is_some_twice before (drop i pins) ≡ true
+  found there = ap (is_some_twice before) (drop_more pins i d h) ∙ rw there refl
 
-  pub passed : list_any (is_at (pin_cmp (get_or pins i d))) set.keys ≡ false → is_some_twice (before ++ get_or pins i d ∷ []) (drop (i + 1) pins) ≡ is_some_twice before (drop i pins)
-  passed new = sym (ap (is_some_twice before) (drop_more pins i d h) ∙ rw (sym (has (get_or pins i d)) ∙ new) refl)
+  pub passed : list_any (same_pin (get_or pins i d)) before ≡ false → is_some_twice (before ++ get_or pins i d ∷ []) (drop (i + 1) pins) ≡ is_some_twice before (drop i pins)
+  passed new = sym (ap (is_some_twice before) (drop_more pins i d h) ∙ rw new refl)
 
 pub with_more : (before pins : List Pin) (i : ℕ) (d : Pin) → i < length pins → (before ++ take i pins) ++ get_or pins i d ∷ [] ≡ before ++ take (i + 1) pins
 with_more before pins i d h = append_assoc before (take i pins) (get_or pins i d ∷ []) ∙ ap (λ ps. before ++ ps) (sym (take_more pins i d h))
@@ -94,7 +125,7 @@ module _ (nets : List PlannedNet) (i : ℕ) (x : PlannedNet) (h : i < length net
       ∙ ap (λ (n : PlannedNet). flat_map (λ n. n.pins.items) (take i nets) ++ n.pins.items) (sym is)
       ∙ ap (λ ps. ps ++ x.pins.items) (sym (flat (take i nets)))
 
-  rest : pins_in (drop i nets) ≡ x.pins.items ++ pins_in (drop (i + 1) nets)
+  pub rest : all_pins (map net (drop i nets)) ≡ x.pins.items ++ all_pins (map net (drop (i + 1) nets))
   rest = ap pins_in (drop_more nets i x h) ∙ ap (λ (n : PlannedNet). n.pins.items ++ pins_in (drop (i + 1) nets)) (sym is)
 
   both : is_some_twice (pins_in (take i nets)) (pins_in (drop i nets))
@@ -109,3 +140,20 @@ module _ (nets : List PlannedNet) (i : ℕ) (x : PlannedNet) (h : i < length net
   net_passed none =
       ap (λ b. is_some_twice b (pins_in (drop (i + 1) nets))) more_pins
       ∙ sym (both ∙ ap (λ b. b || is_some_twice (pins_in (take i nets) ++ x.pins.items) (pins_in (drop (i + 1) nets))) none)
+
+-- ---- tables
+
+pub mark_more : (w : ℕ) (before pins : List Pin) (i : ℕ) (d : Pin) (table : List Bool) → i < length pins → IsWithin w (length table) (get_or pins i d) → Marks w (before ++ take i pins) table
+    → Marks w (before ++ take (i + 1) pins) (set table (place_of w (get_or pins i d)) true)
+mark_more w before pins i d table h inside marks =
+    subst (λ b. Marks w b (set table (place_of w (get_or pins i d)) true)) (with_more before pins i d h) (one_more w (before ++ take i pins) table (get_or pins i d) inside marks)
+
+module _ (w room : ℕ) (nets : List PlannedNet) (i : ℕ) (x : PlannedNet) (h : i < length nets) (is : x ≡ get_or nets i x) (inside : AllByRecursion (IsWithin w room) (all_pins (map net (drop i nets)))) where
+  parts : AllByRecursion (IsWithin w room) x.pins.items × AllByRecursion (IsWithin w room) (all_pins (map net (drop (i + 1) nets)))
+  parts = halves (IsWithin w room) x.pins.items (all_pins (map net (drop (i + 1) nets))) (subst (AllByRecursion (IsWithin w room)) (rest nets i x h is) inside)
+
+  pub inside_net : (n : ℕ) (pins : List Pin) → n ≡ room → pins ≡ x.pins.items → AllByRecursion (IsWithin w n) pins
+  inside_net n pins long same = subst (λ m. AllByRecursion (IsWithin w m) pins) (sym long) (subst (AllByRecursion (IsWithin w room)) (sym same) parts.0)
+
+  pub inside_rest : AllByRecursion (IsWithin w room) (all_pins (map net (drop (i + 1) nets)))
+  inside_rest = parts.1

@@ -1,10 +1,6 @@
 -- Pins that stand twice.
-use Rattle.std.specs.Prelude.{◌≡◌, Bool, false, ◌||◌, List, [], ◌∷◌, ◌++◌}
+use Rattle.std.specs.Prelude.{◌≡◌, ◌<◌, ◌+◌, ◌*◌, ℕ, Bool, false, ◌||◌, List, [], ◌∷◌, ◌++◌, length, slice_index_or}
 use Rattle.std.specs.List.{list_any}
-use Rattle.std.specs.Ordering.{nat_cmp, ordering_then}
-use Rattle.std.specs.BTreeMap.{is_at}
-use Rattle.std.specs.BTreeSet.{BTreeSet}
-use Rattle.std.specs.declared.cmp.Ordering.{Ordering}
 use Rattle.pin_nets.specs.declared.Pin.{Pin}
 use Rattle.board_pins.specs.Pins.{same_pin}
 
@@ -13,9 +9,21 @@ abbrev pub is_some_twice : (before pins : List Pin) → Bool
 is_some_twice before [] = false
 is_some_twice before (p ∷ ps) = list_any (same_pin p) before || is_some_twice (before ++ p ∷ []) ps
 
-abbrev pub pin_cmp : Pin → Pin → Ordering
-pin_cmp p q = ordering_then (nat_cmp p.device q.device) (nat_cmp p.port q.port)
+-- the pin is one of the first ports of one of the first devices
+pub record IsAmong (devices ports : ℕ) (p : Pin) : Type 0 where
+  pub device : p.device < devices
+  pub port : p.port < ports
 
--- the set has these pins
-abbrev pub HasPins : List Pin → BTreeSet Pin → Type 0
-HasPins pins set = (p : Pin) → list_any (is_at (pin_cmp p)) set.keys ≡ list_any (same_pin p) pins
+-- where the pin stands in a table that has so many ports of each device
+abbrev pub place_of : ℕ → Pin → ℕ
+place_of ports p = p.device * ports + p.port
+
+-- such a table is long enough for the pin
+pub record IsWithin (ports room : ℕ) (p : Pin) : Type 0 where
+  pub port : p.port < ports
+  pub place : place_of ports p < room
+
+-- the table tells these pins from all others
+abbrev pub Marks : ℕ → List Pin → List Bool → Type 0
+Marks ports pins table =
+    (p : Pin) → IsWithin ports (length table) p → slice_index_or table (place_of ports p) false ≡ list_any (same_pin p) pins
