@@ -77,10 +77,10 @@ fn pin_twice<'t>(
     ensures { IfOk result (λ r. option_map (λ s. s.now) r
         ≡ twice_in_nets (texts_of names.now) devices.now [] (tables_in (items_view nets.now))) }
 {
-    if devices.len() <= MOST_DEVICES {
-        if !has_pin_twice(alloc, devices.len(), most_ports(devices), planned)? {
-            return Ok(None);
-        }
+    if devices.len() <= MOST_DEVICES
+        && !has_pin_twice(alloc, devices.len(), most_ports(devices), planned)?
+    {
+        return Ok(None);
     }
     first_twice(alloc, names, devices, nets)
 }

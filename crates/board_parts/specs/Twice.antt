@@ -26,4 +26,5 @@ pub record IsWithin (ports room : ℕ) (p : Pin) : Type 0 where
 -- the table tells these pins from all others
 abbrev pub Marks : ℕ → List Pin → List Bool → Type 0
 Marks ports pins table =
-    (p : Pin) → IsWithin ports (length table) p → slice_index_or table (place_of ports p) false ≡ list_any (same_pin p) pins
+    (p : Pin) → IsWithin ports (length table) p
+    → slice_index_or table (place_of ports p) false ≡ list_any (same_pin p) pins

@@ -1,5 +1,5 @@
 //! The nets that a board file's tables say, where each text of their pins names one.
-ghost use Rattle.std.specs.Prelude.{◌≡◌, map, IfOk};
+ghost use Rattle.std.specs.Prelude.{◌≡◌, codes, map, IfOk};
 ghost use Rattle.toml.specs.View.{table_view, items_view};
 ghost use Rattle.board_tables.specs.Fields.{tables_in, texts_at};
 ghost use Rattle.board_words.specs.View.{texts_of};
@@ -7,7 +7,6 @@ ghost use Rattle.board_pins.specs.Pins.{unknown_pin, unknown_in_nets};
 ghost use Rattle.board_pins.specs.View.{Knows};
 ghost use Rattle.board_parts.specs.Parts as spec;
 ghost use Rattle.board_plan.specs.View as planned;
-ghost use Rattle.std.specs.Prelude.{codes};
 
 use board_pins::{Unfound, find_pins};
 use board_plan::{PlannedNet, pull_of};

@@ -23,7 +23,7 @@ cmp_at false false m n p q = refl
 same_number : (m n : ℕ) → is_eq (nat_cmp m n) ≡ (m == n)
 same_number m n = cmp_at (nat_lt m n) (m == n) m n refl refl
 
-pub same_numbers : (a b c d : ℕ) → is_eq (ordering_then (nat_cmp a b) (nat_cmp c d)) ≡ (a == b) && (c == d)
+same_numbers : (a b c d : ℕ) → is_eq (ordering_then (nat_cmp a b) (nat_cmp c d)) ≡ (a == b) && (c == d)
 same_numbers a b c d = then_at (nat_cmp a b) (nat_cmp c d) ∙ ap (λ x. x && is_eq (nat_cmp c d)) (same_number a b) ∙ ap (λ x. (a == b) && x) (same_number c d)
 
 -- a pin has a place exactly where it is there
