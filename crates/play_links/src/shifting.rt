@@ -1,6 +1,7 @@
 //! Cycles that shift, among the bytes that a board is served.
 
-ghost use Rattle.std.specs.Prelude.{◌≡◌, ◌+◌, ◌<◌, ◌≤◌, ◌++◌, true, false, length, map, take, IsTrue, MatchOption, Some, ⊤};
+ghost use Rattle.std.specs.Prelude.{◌≡◌, ◌+◌, ◌<◌, ◌≤◌, ◌++◌, true, false, length, map, take};
+ghost use Rattle.std.specs.Prelude.{IsTrue, MatchOption, Some, ⊤};
 ghost use Rattle.bitbang_table.specs.Protocol.{answer, decode};
 ghost use Rattle.bitbang_table.specs.declared.Message.TheVariants.{Write};
 ghost use Rattle.jt_board.specs.Shifting as shifting;
