@@ -1,5 +1,5 @@
--- A chain whose devices all shift: each stands in the Shift state of a column, and its TDO shows the bit that is first of
--- the column's register, as a falling edge there leaves it (IEEE Std 1149.1-2001, clauses 4 and 6).
+-- A chain whose devices all shift: each stands in the Shift state of a column, and its TDO shows the first bit of the
+-- column's register, as a falling edge there leaves it (IEEE Std 1149.1-2001, clauses 4 and 6).
 use Rattle.std.specs.Prelude.{Bool, true, false, ◌&&◌, not, List, Option, Some, None}
 use Rattle.std.specs.List.{list_all}
 use Rattle.jt_bits.specs.Words.{bit_of}

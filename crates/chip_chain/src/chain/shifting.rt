@@ -1,5 +1,5 @@
-//! All devices of a chain in a Shift state: up to 64 bits through their registers at once (IEEE Std 1149.1-2001, clauses
-//! 6, 7 and 9).
+//! All devices of a chain in a Shift state: up to 64 bits through their registers at once (IEEE Std 1149.1-2001,
+//! clauses 6, 7 and 9).
 
 ghost use Rattle.std.specs.Prelude.{◌≡◌, ◌<◌, ◌≤◌, ◌↔◌, ℕ, IsTrue, length};
 ghost use Rattle.board_meaning.specs.Chain.{members};
