@@ -1,4 +1,4 @@
-//! Judges the pins and nets of a board file.
+//! Judges the pins and nets of a board file, and plans the nets.
 ghost use Rattle.std.specs.Prelude.{◌≡◌, [], length, map, option_map, IfOk};
 ghost use Rattle.toml.specs.View.{items_view};
 ghost use Rattle.board_tables.specs.Fields.{tables_in};

@@ -11,7 +11,7 @@ use pin_nets::Pin;
 use std::alloc::{AllocError, Global};
 
 /// Whether a pin of these nets stands before it, on the same net or another. Refuses for want of memory alone: it takes
-/// a byte for each of so many ports of each of so many devices.
+/// a byte for each of so many ports of each of so many devices, and a count of them beyond all numbers is no memory.
 ///
 /// Asks that each pin is one of those ports.
 pub fn has_pin_twice(

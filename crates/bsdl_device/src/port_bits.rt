@@ -169,7 +169,8 @@ fn add_named(
 ) -> Result<(), AllocError>
     requires { IfSome indices (λ i. i.low + i.len < 2 ^ 64) }
     ensures places { OnOk result (bits.new.items ≡ bits.old.items ++ places port indices) }
-    ensures named { OnOk result (AddsNamed (string_bytes key) port by_name.old by_name.new bits.old.items bits.new.items) }
+    ensures named { OnOk result (AddsNamed (string_bytes key) port by_name.old by_name.new bits.old.items
+        bits.new.items) }
 {
     let numbers = by_name.entry(key)?.or_insert(Numbers::new(alloc));
     add_bits(bits, numbers, port, indices)?;

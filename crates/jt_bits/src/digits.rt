@@ -1,6 +1,6 @@
 //! Bits from hexadecimal text, and back.
-ghost use Rattle.std.specs.Prelude.{◌≡◌, ◌≢◌, ◌≤◌, ◌<◌, ◌+◌, ◌*◌, ℕ, Err, None, true, IfOk, drop, length, position, slice_index};
-ghost use Rattle.std.specs.Prelude.{take};
+ghost use Rattle.std.specs.Prelude.{◌≡◌, ◌≢◌, ◌≤◌, ◌<◌, ◌+◌, ◌*◌, ℕ, Err, None, true, IfOk, drop, length, position};
+ghost use Rattle.std.specs.Prelude.{slice_index, take};
 ghost use Rattle.std.specs.List.{list_all, list_any, AllPass};
 ghost use Rattle.std.specs.Char as char_specs;
 ghost use Rattle.std.specs.Char.{is_ascii_hexdigit};
@@ -242,7 +242,8 @@ fn pairs_of(values: u8x16) -> u8x8
     high * u8x8::splat(16) + low
 }
 
-/// The value of each byte that is a hexadecimal digit, in either case. A table is faster than reckoning here.
+/// The value of each byte that is a hexadecimal digit, in either case. For a digit by itself a table is faster than
+/// reckoning.
 const VALUES: [u8; 256] = [
     0, 0, 0, 0, 0, 0, 0, 0, 0, 0, 0, 0, 0, 0, 0, 0, 0, 0, 0, 0, 0, 0, 0, 0, 0, 0, 0, 0, 0, 0, 0, 0,
     0, 0, 0, 0, 0, 0, 0, 0, 0, 0, 0, 0, 0, 0, 0, 0, 0, 1, 2, 3, 4, 5, 6, 7, 8, 9, 0, 0, 0, 0, 0, 0,

@@ -64,11 +64,12 @@ pub(crate) fn behind_shifts<'a>(
 }
 
 /// Whether the first byte writes TMS low and TCK high and the board is to be asked there. On a board that shifts TCK is
-/// low before it, so it is an edge, which asks every device as a look at all of them does.
+/// low before it, so it is an edge, which asks every device as a look at all of them does. A byte that no run has in it
+/// makes that the board is asked again.
 fn begins_with_a_rise(bytes: &[u8], asks: &mut bool) -> bool {
     match bytes.first() {
         Some(b'4' | b'5') => *asks,
-        Some(b'0' | b'1' | b'R') | None => false,
+        Some(b'0'..=b'3' | b'R') | None => false,
         Some(_) => {
             *asks = true;
             false

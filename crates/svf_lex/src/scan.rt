@@ -68,8 +68,8 @@ fn line_len(text: &[u8]) -> usize
     memchr2(b'\n', b'\r', text).unwrap_or(text.len())
 }
 
-/// How many bytes of a run stand at the front. Most runs are short, and their first bytes are looked up one by one, which
-/// is soonest done; long ones are passed sixteen bytes at once.
+/// How many bytes of a run stand at the front. Most runs are short: their first bytes are looked up one by one, which
+/// is soonest done. Long ones are passed sixteen bytes at once.
 fn run_len(text: &[u8]) -> usize
     ensures value { result ≡ prefix_len bytes.is_run text.now }
     ensures within { result ≤ length text.now }
