@@ -1,13 +1,15 @@
 //! Names at their places, and the first that is given again.
 ghost use Rattle.std.specs.Prelude.{◌≡◌, ◌||◌, ℕ, List, true, false, bytes_eq, map, not, option_map, IfOk, OnOk};
 ghost use Rattle.std.specs.BTreeMap.{get_by_text};
-ghost use Rattle.std.specs.BTreeSet.{contains_text};
+ghost use Rattle.std.specs.BTreeSet.{contains_by};
 ghost use Rattle.bsdl_namings.specs.Spots.{begins_before, either, has_repeated, is_naming, is_named_before};
 ghost use Rattle.bsdl_namings.specs.Namings as spec;
 ghost use Rattle.bsdl_text.specs.Words.{upper};
 ghost use Rattle.bsdl_namings.specs.View.{again, naming};
+ghost use Rattle.name_keys.specs.Keys.{key_order};
 
 use bsdl_text::names::Word;
+use name_keys::NameKey;
 use std::alloc::{AllocError, Global};
 use std::collections::{BTreeMap, BTreeSet};
 
@@ -106,24 +108,20 @@ fn are_distinct(alloc: Global, names: &[Naming<'_>]) -> Result<bool, AllocError>
 {
     let mut known = BTreeSet::new(alloc);
     for found in names {
-        if !add_key(alloc, &mut known, *found)? {
+        if !add_key(&mut known, *found)? {
             return Ok(false);
         }
     }
     Ok(true)
 }
 
-/// Adds a name in upper case. Answers whether it was not there yet.
-fn add_key(
-    alloc: Global,
-    known: &mut BTreeSet<String>,
-    found: Naming<'_>,
-) -> Result<bool, AllocError>
-    ensures new { IfOk result (λ b. b ≡ not (contains_text known.old (upper found.entry.name.text.now))) }
-    ensures known { OnOk result ((q : List ℕ) → contains_text known.new q
-        ≡ contains_text known.old q || bytes_eq (upper found.entry.name.text.now) q) }
+/// Adds a name in any case. Answers whether it was not there yet.
+fn add_key<'a>(known: &mut BTreeSet<NameKey<'a>>, found: Naming<'a>) -> Result<bool, AllocError>
+    ensures new { IfOk result (λ b. b ≡ not (contains_by (key_order (upper found.entry.name.text.now)) known.old)) }
+    ensures known { OnOk result ((q : List ℕ) → contains_by (key_order q) known.new
+        ≡ contains_by (key_order q) known.old || bytes_eq (upper found.entry.name.text.now) q) }
 {
-    let key = found.name.upper_name(alloc)?;
+    let key = NameKey::new(found.name.text);
     let is_new = known.insert(key)?;
     Ok(is_new)
 }

@@ -1,7 +1,8 @@
 use Rattle.std.proofs.Common.{◌≡◌, Bool, true, false, cond, ◌||◌, List, ℕ, refl, ap, ◌∙◌}
-use Rattle.std.specs.Prelude.{string_bytes, bytes_eq}
-use Rattle.std.specs.BTreeSet.{contains_text}
-use Rattle.std.proofs.lemmas.Map.Text.{btree_set_updates_text}
+use Rattle.std.specs.Prelude.{bytes_eq}
+use Rattle.std.specs.BTreeSet.{contains_by}
+use Rattle.name_keys.specs.Keys.{key_order}
+use Rattle.name_keys.specs.OrderLaws.{key_order_is}
 use Rattle.bsdl_text.specs.Words.{upper}
 use Rattle.bsdl_namings.proofs.naming.add_key.Goals as goal
 
@@ -16,5 +17,7 @@ put key name q before same = either (bytes_eq key q) before ∙ ap (λ (n : List
 
 pub returns-clause-known : goal.returns-clause-known
 returns-clause-known c = λ q.
-    btree_set_updates_text (string_bytes c.in_ok-key.key) c.args.known.now c.insert.new.self _ c.in_ok-is_new.ensures.updates q
-    ∙ put (string_bytes c.in_ok-key.key) (upper c.args.found.name.text.now) q (contains_text c.args.known.now q) c.in_ok-key.ensures
+    let key = c.new-key.result in
+    let before = contains_by (key_order q) c.args.known.now in
+    c.in_ok-is_new.ensures.updates.0 q ∙ ap (λ b. cond b true before) (key_order_is key q)
+    ∙ put key (upper c.args.found.name.text.now) q before c.new-key.ensures
