@@ -1,11 +1,11 @@
 -- Names compared by their ends, and byte by byte.
-use Rattle.std.proofs.Common.{◌≡◌, ℕ, zero, suc, List, [], ◌∷◌, map, length, drop, min, refl, sym, ap, ◌∙◌, arith}
+use Rattle.std.proofs.Common.{◌≡◌, ◌≤◌, ℕ, zero, suc, List, [], ◌∷◌, map, length, take, drop, min, refl, sym, ap, ◌∙◌, arith}
 use Rattle.std.specs.Char.{to_ascii_uppercase}
 use Rattle.std.specs.Cmp.Lexicographic.{slice_cmp}
 use Rattle.std.specs.Ordering.{nat_cmp, ordering_then}
 use Rattle.std.specs.declared.cmp.Ordering.{Ordering}
-use Rattle.std.specs.declared.cmp.Ordering.TheVariants.{Less, Equal, Greater}
 use Rattle.std.proofs.lemmas.Bool.Decides.{nat_tests}
+use Rattle.std.proofs.lemmas.Cmp.{nat_cmp_total, tied_itself}
 use Rattle.name_keys.specs.Keys.{end_of, key_order}
 
 more : (a b : ℕ) → nat_cmp (suc a) (suc b) ≡ nat_cmp a b
@@ -29,3 +29,15 @@ unfolding key_order
 ordered one other p q e f o r one_is other_is e_is f_is o_is r_is =
     r_is ∙ ap (λ a. ordering_then a (slice_cmp nat_cmp p q)) (o_is ∙ ap (λ n. nat_cmp n f) e_is ∙ ap (nat_cmp (end_of p)) f_is)
     ∙ ap (λ (l : List ℕ). key_order l q) one_is ∙ ap (key_order one) other_is
+
+-- what names begin with alike does not order them
+pub order_behind : (xs ys : List ℕ) (n : ℕ) → n ≤ length xs → n ≤ length ys → take n xs ≡ take n ys
+    → slice_cmp nat_cmp (map to_ascii_uppercase (drop n xs)) (map to_ascii_uppercase (drop n ys)) ≡ slice_cmp nat_cmp (map to_ascii_uppercase xs) (map to_ascii_uppercase ys)
+order_behind xs ys zero one other same = refl
+order_behind [] ys (suc n) one other same = absurd (omega arith)
+order_behind (x ∷ xs) [] (suc n) one other same = absurd (omega arith)
+order_behind (x ∷ xs) (y ∷ ys) (suc n) one other same =
+    let first : x ≡ y = cc in
+    let rest : take n xs ≡ take n ys = cc in
+    order_behind xs ys n (omega arith) (omega arith) rest
+    ∙ ap (λ o. ordering_then o (slice_cmp nat_cmp (map to_ascii_uppercase xs) (map to_ascii_uppercase ys))) (sym (ap (λ (b : ℕ). nat_cmp (to_ascii_uppercase x) (to_ascii_uppercase b)) (sym first) ∙ tied_itself nat_cmp_total (to_ascii_uppercase x)))

@@ -1,5 +1,5 @@
 -- The laws of the order of names as keys.
-use Rattle.std.proofs.Common.{◌≡◌, ℕ, Bool, true, false, List, refl, sym, ap, ◌∙◌, arith}
+use Rattle.std.proofs.Common.{◌≡◌, ℕ, List, refl, sym, ap, ◌∙◌}
 use Rattle.std.specs.Prelude.{bytes_eq}
 use Rattle.std.specs.Bool.{nat_eq}
 use Rattle.std.specs.Cmp.{IsTotalOrder}

@@ -3,7 +3,7 @@
 //! their last eight bytes first, and by all only where these are the same.
 #![tactic(auto)]
 
-ghost use Rattle.std.specs.Prelude.{◌≡◌, Some, refl, map};
+ghost use Rattle.std.specs.Prelude.{◌≡◌, ◌≤◌, Some, refl, length, map, take};
 ghost use Rattle.std.specs.Char.{to_ascii_uppercase};
 ghost use Rattle.std.specs.Cmp.{partial_equiv_from_equiv, partial_order_from_agreeing_total};
 ghost use Rattle.std.specs.Cmp.Lexicographic.{nat_list_eq_equiv, pointwise, slice_cmp};
@@ -17,6 +17,9 @@ use std::marker::Model;
 
 /// How many bytes of a name's end are compared first.
 const END: usize = 8;
+
+/// How many bytes are passed over at once where they are the same.
+const GROUP: usize = 16;
 
 /// A name as a key. Contracts see it as the name in upper case.
 #[derive(Debug, Drop)]
@@ -95,7 +98,8 @@ fn compare(one: &[u8], other: &[u8]) -> Ordering
     if one == other {
         return Ordering::Equal;
     }
-    for i in 0..one.len().min(other.len()) {
+    let both = one.len().min(other.len());
+    for i in alike(one, other)..both {
         let upper = one[i].to_ascii_uppercase();
         let order = upper.cmp(&other[i].to_ascii_uppercase());
         if order.is_ne() {
@@ -103,6 +107,23 @@ fn compare(one: &[u8], other: &[u8]) -> Ordering
         }
     }
     one.len().cmp(&other.len())
+}
+
+/// How many bytes two names begin with alike, counted in groups.
+fn alike(one: &[u8], other: &[u8]) -> usize
+    ensures within { (result ≤ length one.now) × (result ≤ length other.now) }
+    ensures alike { take result one.now ≡ take result other.now }
+{
+    let both = one.len().min(other.len());
+    let mut same = 0;
+    while GROUP <= both - same {
+        let end = same + GROUP;
+        if one[same..end] != other[same..end] {
+            return same;
+        }
+        same = end;
+    }
+    same
 }
 
 /// The last eight bytes of a name in upper case as a number, or all where there are fewer.

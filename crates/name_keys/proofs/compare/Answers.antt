@@ -4,7 +4,7 @@ use Rattle.std.specs.Cmp.Lexicographic.{slice_cmp}
 use Rattle.std.specs.Ordering.{nat_cmp}
 use Rattle.std.proofs.lemmas.Cmp.{nat_list_cmp_total, tied_itself}
 use Rattle.std.proofs.lemmas.Slice.Eq.{bytes_eq-Decides}
-use Rattle.name_keys.proofs.CompareLaws.{order_ends}
+use Rattle.name_keys.proofs.CompareLaws.{order_behind, order_ends}
 use Rattle.name_keys.proofs.compare.Goals as goal
 
 pub returns-then-eq : goal.returns-then-eq
@@ -15,3 +15,6 @@ returns-then-eq c =
 
 pub returns : goal.returns
 returns c = c.cmp.ensures ∙ order_ends c.args.one.now c.args.other.now c.loop-i.i (omega arith) ∙ c.loop-i.invariant
+
+pub loop-i-init : goal.loop-i-init
+loop-i-init c = order_behind c.args.one.now c.args.other.now c.alike-i.result c.alike-i.ensures.within.0 c.alike-i.ensures.within.1 c.alike-i.ensures.alike
