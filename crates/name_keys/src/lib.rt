@@ -12,8 +12,11 @@ ghost use Rattle.std.specs.Ordering.{nat_cmp};
 ghost use Rattle.name_keys.specs.Keys.{end_of, key_order};
 ghost use Rattle.name_keys.specs.OrderLaws.{key_order_total, key_order_ties};
 
+pub use owned::OwnedNameKey;
 use std::cmp::Ordering;
 use std::marker::Model;
+
+mod owned;
 
 /// How many bytes of a name's end are compared first.
 const END: usize = 8;
@@ -21,7 +24,7 @@ const END: usize = 8;
 /// How many bytes are passed over at once where they are the same.
 const GROUP: usize = 16;
 
-/// A name as a key. Contracts see it as the name in upper case.
+/// A name as a key that lends it, in any case. Contracts see it as the name in upper case.
 #[derive(Debug, Drop)]
 pub struct NameKey<'a> {
     end: u64,
