@@ -1,1 +1,2 @@
+pub mod KeyLaws
 pub mod NamedPortLaws

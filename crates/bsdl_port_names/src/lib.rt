@@ -2,5 +2,6 @@
 //! and B.8.14).
 #![tactic(auto)]
 
+pub mod keyed_ports;
 pub mod named_ports;
 pub mod port_index;

@@ -66,7 +66,7 @@ fn add_group<'a>(
 }
 
 /// A range whose numbers have no zeros before them.
-fn trimmed<'a>(range: Option<Range<'a>>) -> Option<Range<'a>>
+pub(crate) fn trimmed<'a>(range: Option<Range<'a>>) -> Option<Range<'a>>
     ensures { option_map ports_view.range result ≡ option_map ports_view.range range.entry }
 {
     match range {
@@ -135,7 +135,10 @@ fn port_index_named<'a>(
     }
 }
 
-fn port_index_at<'a>(port: NumberedPort<'_>, index: Option<Digits<'a>>) -> Option<PortIndex<'a>>
+pub(crate) fn port_index_at<'a>(
+    port: NumberedPort<'_>,
+    index: Option<Digits<'a>>,
+) -> Option<PortIndex<'a>>
     ensures { option_map port_index result ≡ spec.port_index_at (option_map value index.entry) (port_view port.entry) }
 {
     match (port.range, index) {

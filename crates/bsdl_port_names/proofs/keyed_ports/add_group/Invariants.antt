@@ -1,0 +1,15 @@
+use Rattle.std.proofs.Common.{◌≡◌, ◌+◌, ℕ, List, drop}
+use Rattle.std.specs.Option.{option_or}
+use Rattle.bsdl_ports.specs.View.{group}
+use Rattle.bsdl_limits.proofs.WidthLaws.{ports_named}
+use Rattle.bsdl_port_names.specs.NamedPorts.{find_port}
+use Rattle.bsdl_port_names.specs.Keyed.{port_keyed}
+use Rattle.bsdl_port_names.proofs.keyed_ports.add_group.Given as goal
+
+abbrev pub invariant-loop-name : goal.invariant-loop-name
+invariant-loop-name l = record {
+  counted : l.keyed.next ≡ l.initial.keyed.next + l.name-index;
+  kept :
+      (q : List ℕ)
+      → option_or (port_keyed l.keyed q) (find_port l.keyed.next (ports_named l.group.mode l.group.range (drop l.name-index l.group.names.items)) q) ≡ option_or (port_keyed l.initial.keyed q) (find_port l.initial.keyed.next (group l.group) q);
+}
