@@ -6,10 +6,12 @@ ghost use Rattle.bsdl_cells.specs.View.{cell_row};
 ghost use Rattle.bsdl_ports.specs.Ports as port_list;
 ghost use Rattle.bsdl_port_names.specs.declared.port_index.PortIndex as declared_port_index;
 ghost use Rattle.bsdl_cell_maps.specs.Drivers.{drives_below, driver_at, is_below, same_bit};
+ghost use Rattle.bsdl_port_names.specs.Keyed.{AreKeyed};
 ghost use Rattle.bsdl_port_names.specs.View.{AreNamed};
 
 use crate::ABOVE_SUBSCRIPTS;
 use bsdl_cells::CellRow;
+use bsdl_port_names::keyed_ports::{KeyedPorts, port_index_by_key};
 use bsdl_port_names::named_ports::{NamedPorts, port_index_of};
 use bsdl_port_names::port_index::PortIndex;
 use std::alloc::{AllocError, Global};
@@ -57,6 +59,51 @@ fn add_row<'a>(
     }
     match row.port {
         Some(port) => match port_index_of(alloc, named, port)? {
+            Some(port_index) => {
+                add_driver(drivers, port_index, row.number.up_to(ABOVE_SUBSCRIPTS))?;
+                Ok(())
+            }
+            None => Ok(()),
+        },
+        None => Ok(()),
+    }
+}
+
+/// The same, where the ports are known by the keys of their names.
+pub fn drivers_by_key<'a>(
+    alloc: Global,
+    keyed: &KeyedPorts<'_>,
+    rows: &[CellRow<'a>],
+) -> Result<Drivers<'a>, AllocError>
+    ensures { IfOk result (λ d. (ps : List port_list.Port) → AreKeyed keyed.now ps
+        → (s : declared_port_index.PortIndex) (n : ℕ) → n ≤ 65536
+        → is_below (driver_at d s) n ≡ list_any (drives_below ps s n) (map cell_row rows.now)) }
+{
+    let mut drivers = Drivers {
+        lowest: BTreeMap::new(alloc),
+    };
+    for row in rows {
+        add_row_by_key(alloc, &mut drivers, keyed, row)?;
+    }
+    Ok(drivers)
+}
+
+fn add_row_by_key<'a>(
+    alloc: Global,
+    drivers: &mut Drivers<'a>,
+    keyed: &KeyedPorts<'_>,
+    row: &CellRow<'a>,
+) -> Result<(), AllocError>
+    ensures { OnOk result ((ps : List port_list.Port) → AreKeyed keyed.now ps
+        → (s : declared_port_index.PortIndex) (n : ℕ) → n ≤ 65536
+        → is_below (driver_at drivers.new s) n
+        ≡ is_below (driver_at drivers.old s) n || drives_below ps s n (cell_row row.now)) }
+{
+    if !row.function.drives() {
+        return Ok(());
+    }
+    match row.port {
+        Some(port) => match port_index_by_key(alloc, keyed, port)? {
             Some(port_index) => {
                 add_driver(drivers, port_index, row.number.up_to(ABOVE_SUBSCRIPTS))?;
                 Ok(())
