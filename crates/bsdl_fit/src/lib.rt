@@ -2,6 +2,7 @@
 //! B.8.14).
 #![tactic(auto)]
 
+pub mod keyed;
 pub mod known;
 pub mod rows;
 pub mod unfit;

@@ -10,9 +10,10 @@ ghost use Rattle.bsdl_described.specs.Describing as described;
 ghost use Rattle.bsdl_described.specs.View.{taps as taps_view};
 ghost use Rattle.bsdl_cell_maps.specs.Drivers.{driver_at, is_below};
 ghost use Rattle.bsdl_fit.specs.Fits as spec;
-ghost use Rattle.bsdl_fit.specs.Holds.{Holds};
+ghost use Rattle.bsdl_fit.specs.Holds.{AreControls, Holds};
 
 use crate::known::Known;
+use bsdl_cell_maps::drivers::Drivers;
 use bsdl_cells::{CellRow, Controlling, PortName};
 use bsdl_described::description::Taps;
 use bsdl_device::Function;
@@ -23,6 +24,7 @@ use bsdl_port_names::port_index::PortIndex;
 use bsdl_text::names::Word;
 use bsdl_text::reading::same_name;
 use std::alloc::{AllocError, Global};
+use std::collections::BTreeSet;
 
 /// Whether the row of a cell of this number fits. Refuses for want of memory alone.
 pub fn row_fits<'a>(
@@ -36,7 +38,7 @@ pub fn row_fits<'a>(
         ≡ spec.row_fits d (cells_view.cell_row row.now)) }
 {
     let port = port_fits(alloc, known, row, number)?;
-    let control = control_fits(known, row.function, row.control, number);
+    let control = control_fits(&known.controls, row.function, row.control, number);
     Ok(port && control)
 }
 
@@ -56,14 +58,18 @@ fn port_fits<'a>(
     }
     match row.port {
         Some(port) => match port_index_of(alloc, &known.named, port)? {
-            Some(port_index) => Ok(port_index_fits(known, row.function, port, port_index, number)),
+            Some(port_index) => {
+                let (taps, drivers) = (&known.taps, &known.drivers);
+                let function = row.function;
+                Ok(port_index_fits(taps, drivers, function, port, port_index, number))
+            }
             None => Ok(false),
         },
         None => Ok(false),
     }
 }
 
-fn has_no_port(function: Function) -> bool
+pub(crate) fn has_no_port(function: Function) -> bool
     ensures { result ≡ spec.has_no_port function }
 {
     matches!(
@@ -73,28 +79,29 @@ fn has_no_port(function: Function) -> bool
 }
 
 /// Whether a port bit is no TAP's, and no lower cell drives it.
-fn port_index_fits<'a>(
-    known: &Known<'_, 'a>,
+pub(crate) fn port_index_fits<'a>(
+    taps: &Taps<'_>,
+    drivers: &Drivers<'a>,
     function: Function,
     port: PortName<'_>,
     port_index: PortIndex<'a>,
     number: usize,
 ) -> bool
-    ensures { result ≡ (not (is_among (taps_view known.now.taps) (upper port.entry.name.text.now))
-        && not (driving.drives function && is_below (driver_at known.now.drivers port_index.entry) number)) }
+    ensures { result ≡ (not (is_among (taps_view taps.now) (upper port.entry.name.text.now))
+        && not (driving.drives function && is_below (driver_at drivers.now port_index.entry) number)) }
 {
-    !names_tap(&known.taps, port.name.text) && !drives_again(known, function, port_index, number)
+    !names_tap(taps, port.name.text) && !drives_again(drivers, function, port_index, number)
 }
 
 fn drives_again<'a>(
-    known: &Known<'_, 'a>,
+    drivers: &Drivers<'a>,
     function: Function,
     port_index: PortIndex<'a>,
     number: usize,
 ) -> bool
-    ensures { result ≡ (driving.drives function && is_below (driver_at known.now.drivers port_index.entry) number) }
+    ensures { result ≡ (driving.drives function && is_below (driver_at drivers.now port_index.entry) number) }
 {
-    function.drives() && known.drivers.is_driven_below(port_index, number)
+    function.drives() && drivers.is_driven_below(port_index, number)
 }
 
 /// Whether a port of this name is one of the TAP's.
@@ -120,25 +127,25 @@ fn names_reset(reset: Option<Word<'_>>, name: &[u8]) -> bool
 
 /// Whether the control of a cell is there, where the function needs one, and is a control cell or, for output2, the
 /// cell itself.
-fn control_fits(
-    known: &Known<'_, '_>,
+pub(crate) fn control_fits(
+    controls: &BTreeSet<usize>,
     function: Function,
     control: Option<Controlling<'_>>,
     number: usize,
 ) -> bool
     requires { number ≤ 65535 }
-    ensures { (d : described.Description) → Holds known.now d → result
+    ensures { (d : described.Description) → AreControls controls.now d → result
         ≡ spec.control_fits d number function (option_map cells_view.control control.entry) }
 {
     match function {
         Function::Output3 | Function::Bidir => match control {
-            Some(control) => is_control_cell(known, control.cell),
+            Some(control) => is_control_cell(controls, control.cell),
             None => false,
         },
         Function::Output2 => match control {
             Some(control) => {
                 control.cell.up_to(ABOVE_SUBSCRIPTS) == number
-                    || is_control_cell(known, control.cell)
+                    || is_control_cell(controls, control.cell)
             }
             None => true,
         },
@@ -147,9 +154,9 @@ fn control_fits(
 }
 
 /// Whether a cell of this number is a control cell.
-fn is_control_cell(known: &Known<'_, '_>, cell: Digits<'_>) -> bool
-    ensures { (d : described.Description) → Holds known.now d → result ≡ spec.is_control_cell d (value cell.entry) }
+fn is_control_cell(controls: &BTreeSet<usize>, cell: Digits<'_>) -> bool
+    ensures { (d : described.Description) → AreControls controls.now d → result ≡ spec.is_control_cell d (value cell.entry) }
 {
     let number = cell.up_to(ABOVE_SUBSCRIPTS);
-    number <= SUBSCRIPT_LIMIT && known.controls.contains(&number)
+    number <= SUBSCRIPT_LIMIT && controls.contains(&number)
 }

@@ -86,7 +86,7 @@ fn add_row<'a>(
 }
 
 /// No cell from here on is below the length or listed, at most 65,536.
-fn cells_end(length: usize, rows: &[CellRow<'_>]) -> usize
+pub(crate) fn cells_end(length: usize, rows: &[CellRow<'_>]) -> usize
     requires { length ≤ 65536 }
     ensures { result ≡ min (fold (λ n r. max n (suc r.number)) length (map cell_row rows.now)) 65536 }
 {
@@ -97,7 +97,7 @@ fn cells_end(length: usize, rows: &[CellRow<'_>]) -> usize
     end
 }
 
-fn first_unfit(table: &Table, length: usize, end: usize) -> Option<usize>
+pub(crate) fn first_unfit(table: &Table, length: usize, end: usize) -> Option<usize>
     ensures { result ≡ find (λ n. not (cells.is_fit (nat_lt n length) (get nat_cmp table.now.cells n)))
         (range_with_len 0 end) }
 {

@@ -1,0 +1,148 @@
+//! The least cell that is not fit, where the ports are found by the keys of their names.
+ghost use Rattle.std.specs.Prelude.{◌≡◌, ◌≤◌, ◌==◌, ℕ, map, IfOk, OnOk, if◌then◌else◌};
+ghost use Rattle.std.specs.BTreeMap.{get};
+ghost use Rattle.std.specs.Ordering.{nat_cmp};
+ghost use Rattle.bsdl_numbers.specs.View.{value};
+ghost use Rattle.bsdl_cells.specs.View.{cell_row};
+ghost use Rattle.bsdl_entity.specs.declared.entity.Outline as declared_outline;
+ghost use Rattle.bsdl_described.specs.Describing as described;
+ghost use Rattle.bsdl_described.specs.View.{description};
+ghost use Rattle.bsdl_cell_maps.specs.Table as cells;
+ghost use Rattle.bsdl_fit.specs.Fits as spec;
+ghost use Rattle.bsdl_fit.specs.Holds.{HoldsByKey};
+
+use crate::rows::{control_fits, has_no_port, port_index_fits};
+use crate::unfit::{cells_end, first_unfit};
+use bsdl_cell_maps::controls::controls_of;
+use bsdl_cell_maps::drivers::{Drivers, drivers_by_key};
+use bsdl_cell_maps::table::Table;
+use bsdl_cells::CellRow;
+use bsdl_described::description::{Description, Taps};
+use bsdl_entity::entity::Outline;
+use bsdl_limits::limits::{ABOVE_SUBSCRIPTS, SUBSCRIPT_LIMIT};
+use bsdl_port_names::keyed_ports::{KeyedPorts, keyed_ports_of, port_index_by_key};
+use std::alloc::{AllocError, Global};
+use std::collections::BTreeSet;
+
+/// The ports by the keys of their names, the lowest drivers, the controls and the ports of the TAP.
+#[derive(Debug, Drop)]
+pub struct KnownByKey<'t, 'o> {
+    pub keyed: KeyedPorts<'t>,
+    pub drivers: Drivers<'o>,
+    pub controls: BTreeSet<usize>,
+    pub taps: Taps<'o>,
+}
+
+/// What is known of a description. Refuses for want of memory alone.
+pub fn known_by_key<'t, 'o>(
+    alloc: Global,
+    outline: &Outline<'t>,
+    described: &Description<'o>,
+) -> Result<KnownByKey<'t, 'o>, AllocError>
+    ensures { IfOk result (λ k. HoldsByKey k (description outline.now described.now)) }
+{
+    let keyed = keyed_ports_of(alloc, &outline.groups)?;
+    let drivers = drivers_by_key(alloc, &keyed, &described.cells)?;
+    let controls = controls_of(alloc, &described.cells)?;
+    Ok(KnownByKey {
+        keyed,
+        drivers,
+        controls,
+        taps: described.taps,
+    })
+}
+
+/// The least cell, of those up to 65,535, that is listed twice, missing or not below the length, or whose port,
+/// function or control does not fit. Refuses for want of memory alone.
+pub fn unfit_cell_by_key<'a>(
+    alloc: Global,
+    known: &KnownByKey<'_, 'a>,
+    described: &Description<'a>,
+) -> Result<Option<usize>, AllocError>
+    ensures { IfOk result (λ o. (f : declared_outline.Outline) → HoldsByKey known.now (description f described.now)
+        → o ≡ spec.unfit_cell (description f described.now)) }
+{
+    let table = table_of(alloc, known, &described.cells)?;
+    let length = described.boundary_length.up_to(ABOVE_SUBSCRIPTS);
+    let end = cells_end(length, &described.cells);
+    Ok(first_unfit(&table, length, end))
+}
+
+/// The cells that rows list.
+fn table_of<'a>(
+    alloc: Global,
+    known: &KnownByKey<'_, 'a>,
+    rows: &[CellRow<'a>],
+) -> Result<Table, AllocError>
+    ensures { IfOk result (λ t. (d : described.Description) → HoldsByKey known.now d → (n : ℕ) → n ≤ 65535
+        → get nat_cmp t.cells n ≡ cells.only_row_fits (spec.row_fits d) (map cell_row rows.now) n) }
+{
+    let mut table = Table::new(alloc);
+    for row in rows {
+        add_row(alloc, &mut table, known, row)?;
+    }
+    Ok(table)
+}
+
+fn add_row<'a>(
+    alloc: Global,
+    table: &mut Table,
+    known: &KnownByKey<'_, 'a>,
+    row: &CellRow<'a>,
+) -> Result<(), AllocError>
+    ensures { OnOk result ((d : described.Description) → HoldsByKey known.now d → (n : ℕ) → n ≤ 65535
+        → get nat_cmp table.new.cells n ≡ (if value row.now.number == n
+        then cells.with_row (get nat_cmp table.old.cells n) (spec.row_fits d (cell_row row.now))
+        else get nat_cmp table.old.cells n)) }
+{
+    let number = row.number.up_to(ABOVE_SUBSCRIPTS);
+    if number > SUBSCRIPT_LIMIT {
+        return Ok(());
+    }
+    let fits = row_fits(alloc, known, row, number)?;
+    table.put(number, fits)?;
+    Ok(())
+}
+
+/// Whether the row of a cell of this number fits.
+fn row_fits<'a>(
+    alloc: Global,
+    known: &KnownByKey<'_, 'a>,
+    row: &CellRow<'a>,
+    number: usize,
+) -> Result<bool, AllocError>
+    requires { number ≤ 65535 }
+    ensures { IfOk result (λ b. (d : described.Description) → HoldsByKey known.now d → number ≡ value row.now.number
+        → b ≡ spec.row_fits d (cell_row row.now)) }
+{
+    let port = port_fits(alloc, known, row, number)?;
+    let control = control_fits(&known.controls, row.function, row.control, number);
+    Ok(port && control)
+}
+
+/// Whether the port of a row fits its function: `*`, or a port bit that is no TAP's and that no lower cell drives.
+fn port_fits<'a>(
+    alloc: Global,
+    known: &KnownByKey<'_, 'a>,
+    row: &CellRow<'a>,
+    number: usize,
+) -> Result<bool, AllocError>
+    requires { number ≤ 65535 }
+    ensures { IfOk result (λ b. (d : described.Description) → HoldsByKey known.now d → number ≡ value row.now.number
+        → b ≡ spec.port_fits d (cell_row row.now)) }
+{
+    if has_no_port(row.function) {
+        return Ok(row.port.is_none());
+    }
+    match row.port {
+        Some(port) => match port_index_by_key(alloc, &known.keyed, port)? {
+            Some(port_index) => {
+                let (taps, drivers) = (&known.taps, &known.drivers);
+                let function = row.function;
+                Ok(port_index_fits(taps, drivers, function, port, port_index, number))
+            }
+            None => Ok(false),
+        },
+        None => Ok(false),
+    }
+}
