@@ -103,7 +103,7 @@ fn bit_named(
     }
 }
 
-fn bit_in(
+pub(crate) fn bit_in(
     port: NumberedPort<'_>,
     bits: &[usize],
     index: Option<Digits<'_>>,

@@ -4,4 +4,5 @@
 
 pub mod bits;
 pub mod cells;
+pub mod keyed;
 pub mod ports;
