@@ -2,12 +2,14 @@
 ghost use Rattle.std.specs.Prelude.{◌≡◌, ◌<◌, ◌==◌, ℕ, filter, length, map, IfOk};
 ghost use Rattle.bsdl_numbers.specs.View.{value};
 ghost use Rattle.bsdl_described.specs.View.{description};
+ghost use Rattle.bsdl_port_names.specs.Keyed.{AreKeyed};
 ghost use Rattle.bsdl_port_names.specs.View.{AreNamed};
 ghost use Rattle.bsdl_boundary.specs.Boundary as boundary;
 ghost use Rattle.bsdl_built.specs.Built as spec;
 
 use bsdl_boundary::bits::firsts_of;
 use bsdl_boundary::cells::cells_of;
+use bsdl_boundary::keyed::cells_by_key;
 use bsdl_boundary::ports::{ports_of, size_of};
 use bsdl_described::description::Description;
 use bsdl_device::{Cell, Device, Parts};
@@ -16,6 +18,7 @@ use bsdl_limits::users::users_of;
 use bsdl_numbers::Digits;
 use bsdl_opcodes::accesses::accesses_of;
 use bsdl_opcodes::patterns::{bits_of, code_of, opcodes_of, private_names_of};
+use bsdl_port_names::keyed_ports::KeyedPorts;
 use bsdl_port_names::named_ports::{NamedPorts, named_ports_of};
 use std::alloc::{AllocError, Global};
 
@@ -46,13 +49,43 @@ pub fn device_by_names(
         → length (filter (λ r. r.number == k) (description outline.now described.now).cells) ≡ 1 }
     ensures { IfOk result (λ v. v ≡ spec.device (description outline.now described.now)) }
 {
+    let cells = boundary_of(alloc, outline, described, named)?;
+    device_with(alloc, outline, described, cells)
+}
+
+/// The same, where the ports are known by the keys of their names.
+pub fn device_by_key(
+    alloc: Global,
+    outline: &Outline<'_>,
+    described: &Description<'_>,
+    keyed: &KeyedPorts<'_>,
+) -> Result<Device, AllocError>
+    requires keyed { AreKeyed keyed.now (description outline.now described.now).ports }
+    requires once { (k : ℕ) → k < (description outline.now described.now).boundary_length
+        → length (filter (λ r. r.number == k) (description outline.now described.now).cells) ≡ 1 }
+    ensures { IfOk result (λ v. v ≡ spec.device (description outline.now described.now)) }
+{
+    let cells = boundary_by_key(alloc, outline, described, keyed)?;
+    device_with(alloc, outline, described, cells)
+}
+
+/// The same, where the boundary register is known.
+fn device_with(
+    alloc: Global,
+    outline: &Outline<'_>,
+    described: &Description<'_>,
+    cells: Vec<Cell>,
+) -> Result<Device, AllocError>
+    requires { cells.items ≡ boundary.cells_of (description outline.now described.now).ports
+        (description outline.now described.now).cells (description outline.now described.now).boundary_length }
+    ensures { IfOk result (λ v. v ≡ spec.device (description outline.now described.now)) }
+{
     let ports = ports_of(alloc, &described.taps, &outline.groups)?;
     let instruction_length = size_of(described.instruction_length)?;
     let opcodes = opcodes_of(alloc, &described.opcodes)?;
     let capture = bits_of(alloc, &described.capture)?;
     let idcode = code_of(alloc, &described.idcodes)?;
     let usercode = code_of(alloc, &described.usercodes)?;
-    let cells = boundary_of(alloc, outline, described, named)?;
     let private_names = private_names_of(alloc, &described.private_names)?;
     let known = users_of(alloc, &described.accesses)?;
     let accesses = accesses_of(alloc, &known, &described.accesses)?;
@@ -90,6 +123,25 @@ fn boundary_of(
     let firsts = firsts_of(alloc, &outline.groups)?;
     let len = size_of(described.boundary_length)?;
     cells_of(alloc, named, &firsts, &described.cells, len)
+}
+
+/// The boundary register, where the ports are known by the keys of their names.
+fn boundary_by_key(
+    alloc: Global,
+    outline: &Outline<'_>,
+    described: &Description<'_>,
+    keyed: &KeyedPorts<'_>,
+) -> Result<Vec<Cell>, AllocError>
+    requires keyed { AreKeyed keyed.now (description outline.now described.now).ports }
+    requires once { (k : ℕ) → k < (description outline.now described.now).boundary_length
+        → length (filter (λ r. r.number == k) (description outline.now described.now).cells) ≡ 1 }
+    ensures { IfOk result (λ v. v.items
+        ≡ boundary.cells_of (description outline.now described.now).ports (description outline.now described.now).cells
+        (description outline.now described.now).boundary_length) }
+{
+    let firsts = firsts_of(alloc, &outline.groups)?;
+    let len = size_of(described.boundary_length)?;
+    cells_by_key(alloc, keyed, &firsts, &described.cells, len)
 }
 
 fn lengths_of(alloc: Global, lengths: &[Digits<'_>]) -> Result<Vec<usize>, AllocError>
