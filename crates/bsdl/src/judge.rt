@@ -8,20 +8,19 @@ ghost use Rattle.bsdl_described.specs.View.{description};
 ghost use Rattle.bsdl_fit.specs.Fits.{unfit_cell as unfit_cell_of};
 ghost use Rattle.bsdl_lengths.specs.Lengths as lengths;
 ghost use Rattle.bsdl_limits.specs.Limits.{is_within_limits as keeps_limits};
-ghost use Rattle.bsdl_port_names.specs.View.{AreNamed};
+ghost use Rattle.bsdl_port_names.specs.Keyed.{AreKeyed};
 ghost use Rattle.bsdl_twice.specs.Twice.{given_again as first_given_again};
 
 use crate::fault::BsdlFault;
 use bsdl_described::description::Description;
 use bsdl_entity::entity::Outline;
-use bsdl_fit::known::known_of;
-use bsdl_fit::unfit::unfit_cell_by;
+use bsdl_fit::keyed::{known_by_key, unfit_cell_by_key};
 use bsdl_lengths::ends::{captures_one, ends_in_one};
 use bsdl_lengths::lengths::lengths_fit;
 use bsdl_limits::limits::is_within_limits;
 use bsdl_limits::users::users_of;
 use bsdl_opcodes::reset_opcode::resets_to_idcode;
-use bsdl_port_names::named_ports::NamedPorts;
+use bsdl_port_names::keyed_ports::KeyedPorts;
 use bsdl_twice::again::given_again;
 use std::alloc::Global;
 
@@ -38,21 +37,21 @@ pub fn judge(
     Ok(())
 }
 
-/// The same, or else the ports by their names, which serve the device too.
+/// The same, or else the ports by the keys of their names, which serve the device too.
 pub(crate) fn judge_ports<'t>(
     alloc: Global,
     outline: &Outline<'t>,
     described: &Description<'_>,
-) -> Result<NamedPorts<'t>, BsdlFault>
+) -> Result<KeyedPorts<'t>, BsdlFault>
     ensures judges { Judges result (spec.fault (description outline.now described.now)) }
-    ensures named { IfOk result (λ n. AreNamed n (description outline.now described.now).ports) }
+    ensures keyed { IfOk result (λ k. AreKeyed k (description outline.now described.now).ports) }
 {
     judge_names(alloc, outline, described)?;
     judge_lengths(alloc, outline, described)?;
     judge_ends(outline, described)?;
-    let named = judge_cells(alloc, outline, described)?;
+    let keyed = judge_cells(alloc, outline, described)?;
     judge_limits(alloc, outline, described)?;
-    Ok(named)
+    Ok(keyed)
 }
 
 /// B4: no name is given again, and a reset loads IDCODE.
@@ -118,21 +117,21 @@ fn judge_ends(outline: &Outline<'_>, described: &Description<'_>) -> Result<(), 
     Ok(())
 }
 
-/// B8: every cell fits. Answers the ports by their names, which tell it.
+/// B8: every cell fits. Answers the ports by the keys of their names, which tell it.
 fn judge_cells<'t>(
     alloc: Global,
     outline: &Outline<'t>,
     described: &Description<'_>,
-) -> Result<NamedPorts<'t>, BsdlFault>
+) -> Result<KeyedPorts<'t>, BsdlFault>
     ensures judges { Judges result (option_map bad_cell (unfit_cell_of (description outline.now described.now))) }
-    ensures named { IfOk result (λ n. AreNamed n (description outline.now described.now).ports) }
+    ensures keyed { IfOk result (λ k. AreKeyed k (description outline.now described.now).ports) }
 {
-    let Ok(known) = known_of(alloc, outline, described) else {
+    let Ok(known) = known_by_key(alloc, outline, described) else {
         return Err(BsdlFault::NoMemory);
     };
-    match unfit_cell_by(alloc, &known, described) {
+    match unfit_cell_by_key(alloc, &known, described) {
         Ok(Some(number)) => Err(BsdlFault::BadCell(number)),
-        Ok(None) => Ok(known.named),
+        Ok(None) => Ok(known.keyed),
         Err(_) => Err(BsdlFault::NoMemory),
     }
 }

@@ -7,7 +7,7 @@ ghost use Rattle.bsdl_entity.specs.OutlineView.{outline};
 use crate::fault::BsdlFault;
 use crate::form::{description_of, outline_of};
 use crate::judge::judge_ports;
-use bsdl_built::device::device_by_names;
+use bsdl_built::device::device_by_key;
 use bsdl_described::description::Description;
 use bsdl_device::Device;
 use bsdl_entity::entity::Outline;
@@ -38,8 +38,8 @@ fn read_description(
     ensures { Tells result (device_or_refusal (fault (description entity.now described.now))
         (description entity.now described.now)) }
 {
-    let named = judge_ports(alloc, entity, described)?;
-    match device_by_names(alloc, entity, described, &named) {
+    let keyed = judge_ports(alloc, entity, described)?;
+    match device_by_key(alloc, entity, described, &keyed) {
         Ok(device) => Ok(device),
         Err(_) => Err(BsdlFault::NoMemory),
     }

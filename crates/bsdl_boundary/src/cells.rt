@@ -133,7 +133,11 @@ pub(crate) fn control_of(
 }
 
 /// The cells of a table below a length.
-pub(crate) fn listed(alloc: Global, table: &BTreeMap<usize, Cell>, len: usize) -> Result<Vec<Cell>, AllocError>
+pub(crate) fn listed(
+    alloc: Global,
+    table: &BTreeMap<usize, Cell>,
+    len: usize,
+) -> Result<Vec<Cell>, AllocError>
     ensures { IfOk result (λ v. v.items ≡ flat_map (λ k. option_to_list (get nat_cmp table.now k))
         (range_with_len 0 len)) }
 {
