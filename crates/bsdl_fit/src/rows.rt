@@ -155,7 +155,8 @@ pub(crate) fn control_fits(
 
 /// Whether a cell of this number is a control cell.
 fn is_control_cell(controls: &BTreeSet<usize>, cell: Digits<'_>) -> bool
-    ensures { (d : described.Description) → AreControls controls.now d → result ≡ spec.is_control_cell d (value cell.entry) }
+    ensures { (d : described.Description) → AreControls controls.now d → result
+        ≡ spec.is_control_cell d (value cell.entry) }
 {
     let number = cell.up_to(ABOVE_SUBSCRIPTS);
     number <= SUBSCRIPT_LIMIT && controls.contains(&number)

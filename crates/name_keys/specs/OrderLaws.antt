@@ -29,7 +29,8 @@ then_eq Greater p Equal first same = absurd (cc (first refl))
 pub key_order_is : (p q : List ℕ) → is_eq (key_order p q) ≡ bytes_eq p q
 unfolding key_order
 key_order_is p q =
-    then_eq (nat_cmp (end_of p) (end_of q)) (slice_cmp nat_cmp p q) (slice_cmp nat_cmp p q) ends refl ∙ is_eq-slice_cmp p q
+    then_eq (nat_cmp (end_of p) (end_of q)) (slice_cmp nat_cmp p q) (slice_cmp nat_cmp p q) ends refl
+    ∙ is_eq-slice_cmp p q
   where
     ends : slice_cmp nat_cmp p q ≡ Equal → nat_cmp (end_of p) (end_of q) ≡ Equal
     ends same =

@@ -1,6 +1,6 @@
-//! Names as keys of sorted trees, in any case. Many names begin alike and differ at their ends, as those of the bits of a
-//! bus do, so that in the order of their bytes they are compared to their ends again and again. Keys are compared by
-//! their last eight bytes first, and by all only where these are the same.
+//! Names as keys of sorted trees. Many names begin alike and differ at their ends, as those of the bits of a bus do, so
+//! that in the order of their bytes they are compared to their ends again and again. Keys are compared by their last
+//! eight bytes first, and by all only where these are the same.
 #![tactic(auto)]
 
 ghost use Rattle.std.specs.Prelude.{◌≡◌, ◌≤◌, Some, refl, length, map, take};
