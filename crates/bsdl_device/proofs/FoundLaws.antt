@@ -1,15 +1,15 @@
 -- Numbers of bits by name and index, as they are kept.
 use Rattle.std.proofs.Common.{◌≡◌, ℕ, suc, ◌&&◌, Bool, true, false, cond, List, [], ◌∷◌, ◌++◌, map, length, append_assoc, refl, sym, ap, subst, ◌∙◌, arith}
 use Rattle.std.specs.Option.{option_or}
-use Rattle.std.proofs.Common.{String, Global}
 use Rattle.std.proofs.Math.Bool.{true≢false}
 use Rattle.std.specs.Prelude.{Option, Some, None, option_and_then, option_map, bytes_eq, position, if◌then◌else◌, slice_get, string_bytes}
-use Rattle.std.specs.BTreeMap.{BTreeMap, get_by_text}
+use Rattle.std.specs.BTreeMap.{BTreeMap, get}
 use Rattle.std.specs.List.{range_with_len}
 use Rattle.std.specs.Str.{str_eq_ignore_ascii_case, str_to_ascii_lowercase}
 use Rattle.std.proofs.lemmas.Bool.Decides.{nat_tests}
 use Rattle.std.proofs.lemmas.List.{append-nil}
 use Rattle.std.proofs.lemmas.Slice.Eq.{bytes_eq-Decides}
+use Rattle.name_keys.specs.Keys.{key_order}
 use Rattle.bsdl_device.specs.declared.numbers.Numbers.{Numbers}
 use Rattle.bsdl_device.specs.declared.port_bits.Port.{Port}
 use Rattle.bsdl_device.specs.declared.port_bits.Indices.{Indices}
@@ -109,12 +109,12 @@ turned a b false is = by_test (bytes_eq b a) refl
     by_test false e = e
     by_test true e = absurd (true≢false (sym ((bytes_eq-Decides a b).1 (sym ((bytes_eq-Decides b a).0 e))) ∙ is))
 
-with_found : (ports : List Port) (p : Port) (bits : List BitPlace) (more : Option Indices) (names rest after : BTreeMap (String Global) Numbers) (key : List ℕ) (before now : Numbers)
+with_found : (ports : List Port) (p : Port) (bits : List BitPlace) (more : Option Indices) (names rest after : BTreeMap (List ℕ) Numbers) (key : List ℕ) (before now : Numbers)
     → AreKept ports bits names
     → key ≡ str_to_ascii_lowercase (string_bytes p.name)
-    → ((i : Option ℕ) → number_at before i ≡ option_and_then (λ n. number_at n i) (get_by_text names key))
-    → ((q : List ℕ) → bytes_eq key q ≡ false → get_by_text rest q ≡ get_by_text names q)
-    → ((q : List ℕ) → get_by_text after q ≡ cond (bytes_eq key q) (Some now) (get_by_text rest q))
+    → ((i : Option ℕ) → number_at before i ≡ option_and_then (λ n. number_at n i) (get key_order names key))
+    → ((q : List ℕ) → bytes_eq key q ≡ false → get key_order rest q ≡ get key_order names q)
+    → ((q : List ℕ) → get key_order after q ≡ cond (bytes_eq key q) (Some now) (get key_order rest q))
     → ((passes : BitPlace → Bool) → ((i : Option ℕ) → passes (record { port = length ports; index = i }) ≡ true) → AreFirst passes before bits → AreFirst passes now (bits ++ places (length ports) more))
     → AreKept (ports ++ p ∷ []) (bits ++ places (length ports) more) after
 with_found ports p bits more names rest after key before now kept key_is taken others put added = record {
@@ -133,14 +133,14 @@ with_found ports p bits more names rest after key before now kept key_is taken o
     by_test q j true is =
         let equal : key ≡ str_to_ascii_lowercase q = (bytes_eq-Decides key (str_to_ascii_lowercase q)).0 is in
         let first : AreFirst (is_named q (ports ++ p ∷ [])) before bits =
-        λ i. taken i ∙ ap (λ k. option_and_then (λ n. number_at n i) (get_by_text names k)) equal ∙ kept.found q i ∙ behind q i in
+        λ i. taken i ∙ ap (λ k. option_and_then (λ n. number_at n i) (get key_order names k)) equal ∙ kept.found q i ∙ behind q i in
         let named : (i : Option ℕ) → is_named q (ports ++ p ∷ []) (record { port = length ports; index = i }) ≡ true = λ i. named_by q ports p i ∙ same_key q true is in
-        ap (option_and_then (λ n. number_at n j)) (put (str_to_ascii_lowercase q) ∙ ap (λ h. cond h (Some now) (get_by_text rest (str_to_ascii_lowercase q))) is)
+        ap (option_and_then (λ n. number_at n j)) (put (str_to_ascii_lowercase q) ∙ ap (λ h. cond h (Some now) (get key_order rest (str_to_ascii_lowercase q))) is)
         ∙ added (is_named q (ports ++ p ∷ [])) named first j ∙ sym (number_is q j (ports ++ p ∷ []) (bits ++ places (length ports) more))
     by_test q j false is =
         let fails : (i : Option ℕ) → is_named q (ports ++ p ∷ []) (record { port = length ports; index = i }) && same_index j i ≡ false =
         λ i. ap (λ h. h && same_index j i) (named_by q ports p i ∙ same_key q false is) in
-        ap (option_and_then (λ n. number_at n j)) (put (str_to_ascii_lowercase q) ∙ ap (λ h. cond h (Some now) (get_by_text rest (str_to_ascii_lowercase q))) is ∙ others (str_to_ascii_lowercase q) is)
+        ap (option_and_then (λ n. number_at n j)) (put (str_to_ascii_lowercase q) ∙ ap (λ h. cond h (Some now) (get key_order rest (str_to_ascii_lowercase q))) is ∙ others (str_to_ascii_lowercase q) is)
         ∙ kept.found q j ∙ behind q j ∙ sym (places_behind (λ b. is_named q (ports ++ p ∷ []) b && same_index j b.index) (length ports) fails bits more)
         ∙ sym (number_is q j (ports ++ p ∷ []) (bits ++ places (length ports) more))
 
@@ -149,12 +149,12 @@ abbrev Added : List BitPlace → Numbers → Numbers → ℕ → List BitPlace �
 Added bits before now n bs = (passes : BitPlace → Bool) → ((i : Option ℕ) → passes (record { port = n; index = i }) ≡ true) → AreFirst passes before bits → AreFirst passes now bs
 
 -- the same of lists that are equal to these
-pub with_kept : (ports with_it : List Port) (p : Port) (bits with_its : List BitPlace) (more : Option Indices) (names rest after : BTreeMap (String Global) Numbers) (key : List ℕ) (before now : Numbers) (place : ℕ)
+pub with_kept : (ports with_it : List Port) (p : Port) (bits with_its : List BitPlace) (more : Option Indices) (names rest after : BTreeMap (List ℕ) Numbers) (key : List ℕ) (before now : Numbers) (place : ℕ)
     → AreKept ports bits names
     → key ≡ str_to_ascii_lowercase (string_bytes p.name)
-    → ((i : Option ℕ) → number_at before i ≡ option_and_then (λ n. number_at n i) (get_by_text names key))
-    → ((q : List ℕ) → bytes_eq key q ≡ false → get_by_text rest q ≡ get_by_text names q)
-    → ((q : List ℕ) → get_by_text after q ≡ cond (bytes_eq key q) (Some now) (get_by_text rest q))
+    → ((i : Option ℕ) → number_at before i ≡ option_and_then (λ n. number_at n i) (get key_order names key))
+    → ((q : List ℕ) → bytes_eq key q ≡ false → get key_order rest q ≡ get key_order names q)
+    → ((q : List ℕ) → get key_order after q ≡ cond (bytes_eq key q) (Some now) (get key_order rest q))
     → ((passes : BitPlace → Bool) → ((i : Option ℕ) → passes (record { port = place; index = i }) ≡ true) → AreFirst passes before bits → AreFirst passes now with_its)
     → place ≡ length ports → with_it ≡ ports ++ p ∷ [] → with_its ≡ bits ++ places place more
     → AreKept with_it with_its after

@@ -2,15 +2,17 @@
 ghost use Rattle.std.specs.Prelude.{◌≡◌, ◌+◌, ◌++◌, ◌∷◌, ◌<◌, ◌^◌, [], ℕ, Bool, List, Option, Some, true, false};
 ghost use Rattle.std.specs.Prelude.{bytes_eq, cond, length, map, option_and_then, option_map, slice_get, string_bytes};
 ghost use Rattle.std.specs.Prelude.{IfOk, IfSome, OnOk};
-ghost use Rattle.std.specs.BTreeMap.{get_by_text};
+ghost use Rattle.std.specs.BTreeMap.{get};
 ghost use Rattle.std.specs.Str.{str_to_ascii_lowercase};
 ghost use Rattle.bsdl_device.specs.declared.port_bits.BitPlace as declared_place;
 ghost use Rattle.bsdl_device.specs.Found.{AddsNamed, AreFirst, number_at};
 ghost use Rattle.bsdl_device.specs.Ports.{bits_of, bit_number};
 ghost use Rattle.bsdl_device.specs.View.{pair, placed, places, port_bit};
+ghost use Rattle.name_keys.specs.Keys.{key_order};
 
 use crate::PortMode;
 use crate::numbers::Numbers;
+use name_keys::OwnedNameKey;
 use std::alloc::{AllocError, Global};
 use std::collections::BTreeMap;
 use std::marker::Model;
@@ -54,7 +56,7 @@ pub struct Ports {
     alloc: Global,
     ports: Vec<Port>,
     bits: Vec<BitPlace>,
-    by_name: BTreeMap<String, Numbers>,
+    by_name: BTreeMap<OwnedNameKey, Numbers>,
 }
 
 impl Model for Ports {
@@ -89,7 +91,7 @@ impl Ports {
         ensures { IfOk result (λ p. p ≡ self ++ bits_of (string_bytes port.name) port.mode port.is_tap
             (option_map pair indices)) }
     {
-        let key = lower_name(self.alloc, port.name.as_str())?;
+        let key = key_of(self.alloc, port.name.as_str())?;
         let place = self.ports.len();
         self.ports.push(port)?;
         add_named(
@@ -131,26 +133,26 @@ impl Ports {
     ) -> Result<Option<usize>, AllocError>
         ensures { IfOk result (λ number. number ≡ bit_number name.now index self.now) }
     {
-        let key = lower_name(alloc, name)?;
-        Ok(find_number(&self.by_name, key.as_str(), index))
+        let key = key_of(alloc, name)?;
+        Ok(find_number(&self.by_name, &key, index))
     }
 }
 
-/// A name in lower case.
-fn lower_name(alloc: Global, name: &str) -> Result<String, AllocError>
-    ensures { IfOk result (λ key. string_bytes key ≡ str_to_ascii_lowercase name.now) }
+/// The key of a name, in lower case.
+fn key_of(alloc: Global, name: &str) -> Result<OwnedNameKey, AllocError>
+    ensures { IfOk result (λ key. key ≡ str_to_ascii_lowercase name.now) }
 {
     let mut key = String::from_str(alloc, name)?;
     key.make_ascii_lowercase();
-    Ok(key)
+    Ok(OwnedNameKey::new(key))
 }
 
 fn find_number(
-    by_name: &BTreeMap<String, Numbers>,
-    key: &str,
+    by_name: &BTreeMap<OwnedNameKey, Numbers>,
+    key: &OwnedNameKey,
     index: Option<usize>,
 ) -> Option<usize>
-    ensures { result ≡ option_and_then (λ n. number_at n index) (get_by_text by_name.now key.now) }
+    ensures { result ≡ option_and_then (λ n. number_at n index) (get key_order by_name.now key.now) }
 {
     match by_name.get(key) {
         Some(numbers) => numbers.get(index),
@@ -161,15 +163,15 @@ fn find_number(
 /// Adds the places of the bits of a port of this name, and their numbers to those of the name.
 fn add_named(
     alloc: Global,
-    by_name: &mut BTreeMap<String, Numbers>,
-    key: String,
+    by_name: &mut BTreeMap<OwnedNameKey, Numbers>,
+    key: OwnedNameKey,
     bits: &mut Vec<BitPlace>,
     port: usize,
     indices: Option<Indices>,
 ) -> Result<(), AllocError>
     requires { IfSome indices (λ i. i.low + i.len < 2 ^ 64) }
     ensures places { OnOk result (bits.new.items ≡ bits.old.items ++ places port indices) }
-    ensures named { OnOk result (AddsNamed (string_bytes key) port by_name.old by_name.new bits.old.items
+    ensures named { OnOk result (AddsNamed key port by_name.old by_name.new bits.old.items
         bits.new.items) }
 {
     let numbers = by_name.entry(key)?.or_insert(Numbers::new(alloc));

@@ -10,7 +10,7 @@ invariant_of-self c =
     let names = c.self.inside.by_name in
     let adds = c.in_ok-add_named.ensures.named in
     with_kept c.self.inside.ports.items c.push.new.self.items c.args.port c.self.inside.bits.items c.add_named.new.bits.items c.args.indices names
-    names c.add_named.new.by_name (string_bytes c.in_ok-key.key) adds.before adds.now c.len-place.result
+    names c.add_named.new.by_name c.in_ok-key.key adds.before adds.now c.len-place.result
     c.self.invariant (c.in_ok-key.ensures ∙ ap str_to_ascii_lowercase c.as_str.ensures.value)
     adds.had (λ q apart. refl) adds.put adds.added
     (c.len-place.ensures ∙ c.self.inside.ports.ok.0) c.in_ok-push.ensures.items c.in_ok-add_named.ensures.places
