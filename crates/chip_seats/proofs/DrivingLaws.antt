@@ -1,7 +1,7 @@
 -- What each pin drives, where it is put anew for the pins that a cell drives alone.
-use Rattle.std.proofs.Common.{◌≡◌, ◌<◌, ℕ, zero, suc, ◌+◌, Bool, List, [], ◌∷◌, ◌++◌, length, map, drop, set, slice_get, Option, Some, None, option_and_then, option_map, unwrap_or, refl, sym, ap, ◌∙◌, arith}
+use Rattle.std.proofs.Common.{◌≡◌, ◌<◌, ℕ, zero, suc, ◌+◌, Bool, List, [], ◌∷◌, ◌++◌, length, map, drop, slice_get, Option, Some, None, option_and_then, option_map, unwrap_or, refl, sym, ap, ◌∙◌, arith, ◌⊎◌, ⊎_elim, inl, inr}
 use Rattle.std.proofs.Math.Seq.{drop-cons}
-use Rattle.std.proofs.lemmas.List.{length-append}
+use Rattle.std.proofs.lemmas.List.{length-map}
 use Rattle.std.proofs.lemmas.Option.{get_or_from_slice_get, none-some, same_Some, slice_get-map, slice_get_within}
 use Rattle.bsdl_device.specs.declared.Cell.{Cell}
 use Rattle.device_instructions.specs.declared.Mode.{Mode}
@@ -14,13 +14,13 @@ use Rattle.boundary.specs.Cells.{driven_in, driver_from}
 use Rattle.boundary.proofs.DriverLaws.{driven_by_cell}
 use Rattle.board_meaning.specs.Cells.{Member, drive}
 use Rattle.board_meaning.specs.Nets.{pin_drive}
-use Rattle.chip_seats.specs.Driving.{cell_drives, cells_of, driver_of, driving_from, entry_drives, with_driving}
+use Rattle.chip_seats.specs.Driving.{cell_drives, cells_of, driver_of, drives_at, driving_from, entry_drives, with_driving}
 use Rattle.chip_seats.specs.Seats.{SeatValue, member_of}
 use Rattle.chip_seats.specs.declared.driving.DrivingPin.{DrivingPin}
 
 -- ---- one pin
 
-abbrev member-cells : Member → List Cell
+abbrev pub member-cells : Member → List Cell
 member-cells m = m.device.cells
 
 no-driver : (mode : Mode) (cells : List Cell) (update core : List Bool) → driven_in mode cells update core None ≡ Nothing
@@ -53,10 +53,10 @@ undriven ms p none = by (slice_get ms p.device) refl
 
 -- a pin that a cell drives
 pub driven : (ms : List Member) (p : Pin) (k c : ℕ) → driver_of (map member-cells ms) p ≡ Some c
-    → entry_drives ms (record { pin = k; device = p.device; cell = c }) ≡ pin_drive ms p
+    → entry_drives ms (record { device = p.device; cell = c; pin = k }) ≡ pin_drive ms p
 driven ms p k c some = by (slice_get ms p.device) refl
   where
-    by : (o : Option Member) → slice_get ms p.device ≡ o → entry_drives ms (record { pin = k; device = p.device; cell = c }) ≡ pin_drive ms p
+    by : (o : Option Member) → slice_get ms p.device ≡ o → entry_drives ms (record { device = p.device; cell = c; pin = k }) ≡ pin_drive ms p
     by None at = rw at refl
     by (Some m) at =
         let there : slice_get (map member-cells ms) p.device ≡ Some m.device.cells =
@@ -67,103 +67,96 @@ driven ms p k c some = by (slice_get ms p.device) refl
         ∙ by-cell m p.port (Some c) its
         ∙ sym (ap (λ (x : Option Member). unwrap_or (option_map (λ (y : Member). drive y p.port) x) Nothing) at)
 
--- ---- all of them
-
--- what the pins of these entries drive is put, one after another
-abbrev pub puts : List Member → List DrivingPin → List Drive → List Drive
-puts ms [] ds = ds
-puts ms (e ∷ es) ds = puts ms es (set ds e.pin (entry_drives ms e))
-
-set-behind : (front : List Drive) (d x : Drive) (rest : List Drive) → set (front ++ d ∷ rest) (length front) x ≡ front ++ x ∷ rest
-set-behind [] d x rest = refl
-set-behind (y ∷ front) d x rest = ap (λ (l : List Drive). y ∷ l) (set-behind front d x rest)
-
-one-more : (front : List Drive) (x : Drive) (rest : List Drive) → (front ++ x ∷ []) ++ rest ≡ front ++ x ∷ rest
-one-more [] x rest = refl
-one-more (y ∷ front) x rest = ap (λ (l : List Drive). y ∷ l) (one-more front x rest)
-
-module _ (cells : List (List Cell)) (ms bs : List Member) (now : map member-cells ms ≡ cells) (was : map member-cells bs ≡ cells) where
-  put-from : (k : ℕ) (front : List Drive) (pins : List Pin) → length front ≡ k
-      → puts ms (driving_from cells k pins) (front ++ map (pin_drive bs) pins) ≡ front ++ map (pin_drive ms) pins
-  put-from k front [] long = refl
-  put-from k front (p ∷ pins) long = by (put-from (suc k) (front ++ pin_drive ms p ∷ []) pins (omega (arith, long, length-append front (pin_drive ms p ∷ [])))) (driver_of cells p) refl
-    where
-      Rest : Type 0
-      Rest = puts ms (driving_from cells (suc k) pins) ((front ++ pin_drive ms p ∷ []) ++ map (pin_drive bs) pins)
-          ≡ (front ++ pin_drive ms p ∷ []) ++ map (pin_drive ms) pins
-
-      end : Rest → puts ms (driving_from cells (suc k) pins) (front ++ pin_drive ms p ∷ map (pin_drive bs) pins) ≡ front ++ pin_drive ms p ∷ map (pin_drive ms) pins
-      end rest =
-          sym (ap (puts ms (driving_from cells (suc k) pins)) (one-more front (pin_drive ms p) (map (pin_drive bs) pins)))
-          ∙ rest ∙ one-more front (pin_drive ms p) (map (pin_drive ms) pins)
-
-      by : Rest → (o : Option ℕ) → driver_of cells p ≡ o
-          → puts ms (driving_from cells k (p ∷ pins)) (front ++ map (pin_drive bs) (p ∷ pins)) ≡ front ++ map (pin_drive ms) (p ∷ pins)
-      by rest None is =
-          let before : pin_drive bs p ≡ Nothing = undriven bs p (ap (λ (l : List (List Cell)). driver_of l p) was ∙ is) in
-          let after : pin_drive ms p ≡ Nothing = undriven ms p (ap (λ (l : List (List Cell)). driver_of l p) now ∙ is) in
-          ap (λ (o : Option ℕ). puts ms (with_driving k p.device o (driving_from cells (suc k) pins)) (front ++ pin_drive bs p ∷ map (pin_drive bs) pins)) is
-          ∙ ap (λ (d : Drive). puts ms (driving_from cells (suc k) pins) (front ++ d ∷ map (pin_drive bs) pins)) (before ∙ sym after)
-          ∙ end rest
-      by rest (Some c) is =
-          let drives : entry_drives ms (record { pin = k; device = p.device; cell = c }) ≡ pin_drive ms p =
-          driven ms p k c (ap (λ (l : List (List Cell)). driver_of l p) now ∙ is) in
-          ap (λ (o : Option ℕ). puts ms (with_driving k p.device o (driving_from cells (suc k) pins)) (front ++ pin_drive bs p ∷ map (pin_drive bs) pins)) is
-          ∙ ap (λ (d : Drive). puts ms (driving_from cells (suc k) pins) (set (front ++ pin_drive bs p ∷ map (pin_drive bs) pins) k d)) drives
-          ∙ sym (ap (λ (n : ℕ). puts ms (driving_from cells (suc k) pins) (set (front ++ pin_drive bs p ∷ map (pin_drive bs) pins) n (pin_drive ms p))) long)
-          ∙ ap (puts ms (driving_from cells (suc k) pins)) (set-behind front (pin_drive bs p) (pin_drive ms p) (map (pin_drive bs) pins))
-          ∙ end rest
-
-  pub put_all : (pins : List Pin) → puts ms (driving_from cells 0 pins) (map (pin_drive bs) pins) ≡ map (pin_drive ms) pins
-  put_all pins = put-from 0 [] pins refl
-
 pub seats_cells : (seats : List SeatValue) → map member-cells (map member_of seats) ≡ map cells_of seats
 seats_cells [] = refl
 seats_cells (s ∷ seats) = ap (λ (l : List (List Cell)). cells_of s ∷ l) (seats_cells seats)
 
-pub all_put : (seats before : List SeatValue) (pins : List Pin) → map cells_of before ≡ map cells_of seats
-    → puts (map member_of seats) (driving_from (map cells_of seats) 0 pins) (map (pin_drive (map member_of before)) pins) ≡ map (pin_drive (map member_of seats)) pins
-all_put seats before pins same =
-    put_all (map cells_of seats) (map member_of seats) (map member_of before) (seats_cells seats) (seats_cells before ∙ same) pins
-
 -- ---- an entry is that of a pin and a device
 
-pub record IsWithin (devices pins : ℕ) (e : DrivingPin) : Type 0 where
-  pub device : e.device < devices
-  pub pin : e.pin < pins
+-- the pin of an entry is one of the pins from pin k on, and is to drive what its cell drives
+pub record IsOfPin (ms : List Member) (k : ℕ) (pins : List Pin) (e : DrivingPin) : Type 0 where
+  pub i : ℕ
+  pub pin : e.pin ≡ k + i
+  pub drives : slice_get (map (pin_drive ms) pins) i ≡ Some (entry_drives ms e)
+  pub device : e.device < length ms
 
-pub entry_within : (cells : List (List Cell)) (k : ℕ) (pins : List Pin) (j : ℕ) (e : DrivingPin) → slice_get (driving_from cells k pins) j ≡ Some e
-    → IsWithin (length cells) (k + length pins) e
-entry_within cells k [] j e there = absurd (none-some e there)
-entry_within cells k (p ∷ pins) j e there = by (λ i it. entry_within cells (suc k) pins i e it) (driver_of cells p) refl j there
+module _ (cells : List (List Cell)) (ms : List Member) (now : map member-cells ms ≡ cells) where
+  pub entry_of_pin : (k : ℕ) (pins : List Pin) (j : ℕ) (e : DrivingPin) → slice_get (driving_from cells k pins) j ≡ Some e → IsOfPin ms k pins e
+  entry_of_pin k [] j e there = absurd (none-some e there)
+  entry_of_pin k (p ∷ pins) j e there = by (λ i it. entry_of_pin (suc k) pins i e it) (driver_of cells p) refl j there
+    where
+      later : IsOfPin ms (suc k) pins e → IsOfPin ms k (p ∷ pins) e
+      later r = record { i = suc r.i; pin = omega (arith, r.pin); drives = r.drives; device = r.device }
+
+      inside : (c : ℕ) → driver_of cells p ≡ Some c → p.device < length ms
+      inside c is = of (slice_get cells p.device) refl
+        where
+          of : (o : Option (List Cell)) → slice_get cells p.device ≡ o → p.device < length ms
+          of None at = absurd (none-some c (rw at at is))
+          of (Some l) at = let long = ap length now in omega (arith, slice_get_within cells p.device l at, length-map ms member-cells, long)
+
+      by : ((i : ℕ) → slice_get (driving_from cells (suc k) pins) i ≡ Some e → IsOfPin ms (suc k) pins e)
+          → (o : Option ℕ) → driver_of cells p ≡ o → (i : ℕ)
+          → slice_get (with_driving k p.device (driver_of cells p) (driving_from cells (suc k) pins)) i ≡ Some e → IsOfPin ms k (p ∷ pins) e
+      by rest None is i it = later (rest i (rw is at it))
+      by rest (Some c) is zero it =
+          let same : record { device = p.device; cell = c; pin = k } ≡ e = same_Some _ _ (rw is at it) in
+          let device-is : p.device ≡ e.device = ap (λ (x : DrivingPin). x.device) same in
+          let pin-is : k ≡ e.pin = ap (λ (x : DrivingPin). x.pin) same in
+          record {
+            i = 0;
+            pin = omega (arith, pin-is);
+            drives =
+                ap Some (sym (driven ms p k c (ap (λ (l : List (List Cell)). driver_of l p) now ∙ is)) ∙ ap (entry_drives ms) same);
+            device = omega (arith, inside c is, device-is);
+          }
+      by rest (Some c) is (suc i) it = later (rest i (rw is at it))
+
+-- a pin that a cell drives has an entry
+pub record HasEntry (cells : List (List Cell)) (k : ℕ) (pins : List Pin) (i : ℕ) : Type 0 where
+  pub j : ℕ
+  pub e : DrivingPin
+  pub at : slice_get (driving_from cells k pins) j ≡ Some e
+  pub pin : e.pin ≡ k + i
+
+one_pin : (p x : Pin) → Some p ≡ Some x → p ≡ x
+one_pin p x e = cc
+
+pub pin_cases : (cells : List (List Cell)) (k : ℕ) (pins : List Pin) (i : ℕ) (p : Pin) → slice_get pins i ≡ Some p
+    → (driver_of cells p ≡ None) ⊎ HasEntry cells k pins i
+pin_cases cells k [] i p at = absurd (none-some p at)
+pin_cases cells k (q ∷ pins) zero p at = by (driver_of cells q) refl
   where
-    later : IsWithin (length cells) (suc k + length pins) e → IsWithin (length cells) (k + length (p ∷ pins)) e
-    later r = record { device = r.device; pin = omega (arith, r.pin) }
+    by : (o : Option ℕ) → driver_of cells q ≡ o → (driver_of cells p ≡ None) ⊎ HasEntry cells k (q ∷ pins) zero
+    by None is = inl (sym (ap (driver_of cells) (one_pin q p at)) ∙ is)
+    by (Some c) is = inr (record {
+      j = 0;
+      e = record { device = q.device; cell = c; pin = k };
+      at = ap (λ (o : Option ℕ). slice_get (with_driving k q.device o (driving_from cells (suc k) pins)) 0) is;
+      pin = omega arith;
+    })
+pin_cases cells k (q ∷ pins) (suc i) p at = ⊎_elim inl (λ h. inr (by h (driver_of cells q) refl)) (pin_cases cells (suc k) pins i p at)
+  where
+    by : HasEntry cells (suc k) pins i → (o : Option ℕ) → driver_of cells q ≡ o → HasEntry cells k (q ∷ pins) (suc i)
+    by h None is = record {
+      j = h.j;
+      e = h.e;
+      at = ap (λ (o : Option ℕ). slice_get (with_driving k q.device o (driving_from cells (suc k) pins)) h.j) is ∙ h.at;
+      pin = omega (arith, h.pin);
+    }
+    by h (Some c) is = record {
+      j = suc h.j;
+      e = h.e;
+      at = ap (λ (o : Option ℕ). slice_get (with_driving k q.device o (driving_from cells (suc k) pins)) (suc h.j)) is ∙ h.at;
+      pin = omega (arith, h.pin);
+    }
 
-    inside : (c : ℕ) → driver_of cells p ≡ Some c → p.device < length cells
-    inside c is = of (slice_get cells p.device) refl
-      where
-        of : (o : Option (List Cell)) → slice_get cells p.device ≡ o → p.device < length cells
-        of None at = absurd (none-some c (rw at at is))
-        of (Some l) at = slice_get_within cells p.device l at
-
-    by : ((i : ℕ) → slice_get (driving_from cells (suc k) pins) i ≡ Some e → IsWithin (length cells) (suc k + length pins) e)
-        → (o : Option ℕ) → driver_of cells p ≡ o → (i : ℕ)
-        → slice_get (with_driving k p.device (driver_of cells p) (driving_from cells (suc k) pins)) i ≡ Some e → IsWithin (length cells) (k + length (p ∷ pins)) e
-    by rest None is i it = later (rest i (rw is at it))
-    by rest (Some c) is zero it =
-        let same : record { pin = k; device = p.device; cell = c } ≡ e = same_Some _ _ (rw is at it) in
-        let device-is : p.device ≡ e.device = ap (λ (x : DrivingPin). x.device) same in
-        let pin-is : k ≡ e.pin = ap (λ (x : DrivingPin). x.pin) same in
-        record { device = omega (arith, inside c is, device-is); pin = omega (arith, pin-is) }
-    by rest (Some c) is (suc i) it = later (rest i (rw is at it))
-
--- what the code takes from a device is what its entry drives
-pub entry_by_seat : (seats : List SeatValue) (e : DrivingPin) (s : SeatValue) (d : Drive) → slice_get seats e.device ≡ Some s → d ≡ cell_drives (member_of s) e.cell
-    → d ≡ entry_drives (map member_of seats) e
-entry_by_seat seats e s d at is =
-    let there : slice_get (map member_of seats) e.device ≡ Some (member_of s) = slice_get-map member_of seats e.device ∙ ap (option_map member_of) at in
-    is ∙ sym (ap (λ (o : Option Member). unwrap_or (option_map (λ (m : Member). cell_drives m e.cell) o) Nothing) there)
+-- what the code takes from a device is what its cell drives
+pub cell_by_seat : (seats : List SeatValue) (device cell : ℕ) (s : SeatValue) (d : Drive) → slice_get seats device ≡ Some s → d ≡ cell_drives (member_of s) cell
+    → d ≡ drives_at (map member_of seats) device cell
+cell_by_seat seats device cell s d at is =
+    let there : slice_get (map member_of seats) device ≡ Some (member_of s) = slice_get-map member_of seats device ∙ ap (option_map member_of) at in
+    is ∙ sym (ap (λ (o : Option Member). unwrap_or (option_map (λ (m : Member). cell_drives m cell) o) Nothing) there)
 
 -- ---- the table is made pin after pin
 

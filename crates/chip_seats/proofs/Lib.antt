@@ -6,3 +6,8 @@ pub mod BuildLaws
 pub mod SightedLaws
 pub mod BlockLaws
 pub mod DrivingLaws
+pub mod ListLaws
+pub mod PartLaws
+pub mod SettleLaws
+pub mod SlotLaws
+pub mod RefreshLaws

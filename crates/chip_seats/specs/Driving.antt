@@ -21,9 +21,13 @@ abbrev pub cell_drives : Member → ℕ → Drive
 cell_drives m k =
     driven_in (meaning m.device m.registers.latch).mode m.device.cells m.registers.update m.core (Some k)
 
+-- what a cell of one of these devices drives
+abbrev pub drives_at : List Member → (device cell : ℕ) → Drive
+drives_at ms device cell = unwrap_or (option_map (λ m. cell_drives m cell) (slice_get ms device)) Nothing
+
 -- what the cell of an entry drives
 abbrev pub entry_drives : List Member → DrivingPin → Drive
-entry_drives ms e = unwrap_or (option_map (λ m. cell_drives m e.cell) (slice_get ms e.device)) Nothing
+entry_drives ms e = drives_at ms e.device e.cell
 
 -- the cell that drives a pin, given the cells of each device
 abbrev pub driver_of : List (List Cell) → Pin → Option ℕ
@@ -32,7 +36,7 @@ driver_of cells pin = option_and_then (driver_from pin.port 0) (slice_get cells 
 -- pin k before the others, if a cell drives it
 abbrev pub with_driving : (k device : ℕ) → Option ℕ → List DrivingPin → List DrivingPin
 with_driving k device None rest = rest
-with_driving k device (Some c) rest = record { pin = k; device = device; cell = c } ∷ rest
+with_driving k device (Some c) rest = record { device = device; cell = c; pin = k } ∷ rest
 
 -- those among the pins from pin k on
 abbrev pub driving_from : List (List Cell) → ℕ → List Pin → List DrivingPin

@@ -6,3 +6,4 @@ pub mod AtRest
 pub mod Sighted
 pub mod Driving
 pub mod Blocks
+pub mod Tables

@@ -1,51 +1,83 @@
-//! The pins of a board that a cell drives.
+//! The pins of a board that a cell drives, in a table of the cells.
 
-ghost use Rattle.std.specs.Prelude.{◌≡◌, ◌<◌, ◌++◌, [], List, map, length, slice_set, IfOk, OnOk};
-ghost use Rattle.jt_bits.specs.Packed.{has_bit};
+ghost use Rattle.std.specs.Prelude.{◌≡◌, ◌<◌, ◌+◌, ◌*◌, ◌%◌, ◌++◌, ℕ, List, [], ◌∷◌, map, length, IfOk, OnOk, true};
 ghost use Rattle.boundary.specs.Cells.{driver_from};
 ghost use Rattle.board_plan.specs.Planned.{all_pins};
-ghost use Rattle.board_meaning.specs.Nets.{pin_drive};
-ghost use Rattle.chip_seats.specs.Blocks.{IsBlock, IsIn, own_bit};
-ghost use Rattle.chip_seats.specs.Driving.{cells_of, driving_of, entry_drives, with_driving};
-ghost use Rattle.chip_seats.specs.Seats.{SeatValue, member_of};
+ghost use Rattle.chip_seats.specs.Blocks.{AreParts, AreSlots, HasRoom};
+ghost use Rattle.chip_seats.specs.Driving.{driving_of, with_driving};
+ghost use Rattle.chip_seats.specs.Tables.{IsTable, WerePut, AreSeatedPins};
 ghost use Rattle.chip_seats.specs.Wires.{AreSeated};
+ghost use Rattle.chip_seats.specs.declared.driving.DrivingPin.{DrivingPin as Entry};
+ghost use Rattle.pin_nets.specs.declared.Drive.{Drive};
 
 use crate::seat::Seat;
+use crate::words::{bit, with_bit};
 use board_wiring::Wiring;
-use boundary::{Drive, PlainCells};
+use boundary::PlainCells;
 use bsdl_device::Cell;
 use std::alloc::{AllocError, Global};
 
 /// A pin of a board, by its number, that a cell drives: the place of its device, and the cell.
-#[derive(Drop, Clone, Copy)]
-pub struct DrivingPin {
-    pub(crate) pin: usize,
+#[derive(Drop, Clone, Copy, PartialEq, Eq, PartialOrd, Ord)]
+pub(crate) struct DrivingPin {
     pub(crate) device: usize,
     pub(crate) cell: usize,
+    pub(crate) pin: usize,
 }
 
-/// Of 64 cells of a device those that drive their own bits; none before the second pin in a row that asks for them.
+/// 64 cells of a device among which some drive pins.
 #[derive(Drop, Clone, Copy)]
-struct Block {
-    device: usize,
-    /// These are the cells from 64 times this on.
-    number: usize,
-    is_read: bool,
-    plain: PlainCells,
+pub(crate) struct Block {
+    pub(crate) device: usize,
+    /// The number of the first of these cells, a multiple of 64.
+    pub(crate) first: usize,
+    /// Which of them drive a pin: bit `j` is that of the cell `first + j`.
+    pub(crate) slots: u64,
+}
+
+/// The pins of a board that a cell drives, by their cells, with what was last put to their nets. Any other pin drives
+/// nothing, whatever the devices do.
+#[derive(Drop)]
+pub struct DrivingPins {
+    pub(crate) blocks: Vec<Block>,
+    /// Of each block the pins that its 64 cells drive; that of a cell that drives none does not count.
+    pub(crate) pins: Vec<usize>,
+    /// Of each block the bits that were last put to its pins.
+    pub(crate) put: Vec<PlainCells>,
+    /// The pins whose cells have a control.
+    pub(crate) rest: Vec<DrivingPin>,
 }
 
 const NO_CELLS: PlainCells = PlainCells { mask: 0, bits: 0 };
 
-/// A block that no cell is in.
-const NO_BLOCK: Block = Block {
-    device: 0,
-    number: usize::MAX,
-    is_read: false,
-    plain: NO_CELLS,
-};
-
-/// The pins that a cell drives; any other drives nothing, whatever the devices do. Refused where memory runs out.
+/// The pins that a cell drives, to whose nets nothing is known to have been put. Refused where memory runs out.
 pub fn driving_pins(
+    alloc: Global,
+    wiring: &Wiring,
+    seats: &[Seat],
+) -> Result<DrivingPins, AllocError>
+    requires { AreSeated (length seats.now) (all_pins wiring.now.nets) }
+    ensures table { IfOk result (λ d. IsTable (driving_of seats.now wiring.now.nets) (length seats.now) d) }
+    ensures put { IfOk result (λ d. (drives : List Drive) → WerePut d.blocks.items d.pins.items d.put.items drives) }
+{
+    let all = all_driving(alloc, wiring, seats)?;
+    let mut plain = Vec::new(alloc);
+    let mut rest = Vec::new(alloc);
+    divide(seats, &all, &mut plain, &mut rest)?;
+    // That the cells of a device stand together; what the table says does not hang on it.
+    plain.sort_unstable();
+    let (blocks, pins) = blocks_of(alloc, &plain)?;
+    let put = Vec::from_elem(alloc, NO_CELLS, blocks.len())?;
+    Ok(DrivingPins {
+        blocks,
+        pins,
+        put,
+        rest,
+    })
+}
+
+/// The pins that a cell drives, one after another.
+fn all_driving(
     alloc: Global,
     wiring: &Wiring,
     seats: &[Seat],
@@ -72,103 +104,140 @@ fn enter(
     ensures { OnOk result (driving.new.items ≡ driving.old.items ++ with_driving pin device driver []) }
 {
     if let Some(cell) = driver {
-        driving.push(DrivingPin { pin, device, cell })?;
+        driving.push(DrivingPin { device, cell, pin })?;
     }
     Ok(())
 }
 
-/// What each pin drives is put to its net, given the pins that a cell drives; what was put to the nets before is what
-/// each pin drove while the registers of the devices were others.
-pub fn refresh_driving(wiring: &mut Wiring, seats: &[Seat], driving: &[DrivingPin])
-    requires seated { AreSeated (length seats.now) (all_pins wiring.old.nets) }
-    requires table { driving.now ≡ driving_of seats.now wiring.old.nets }
-    ensures nets { wiring.new.nets ≡ wiring.old.nets }
-    ensures drives { (before : List SeatValue) → map cells_of before ≡ map cells_of seats.now
-        → wiring.old.drives ≡ map (pin_drive (map member_of before)) (all_pins wiring.old.nets)
-        → wiring.new ≡ record wiring.old {
-          drives = map (pin_drive (map member_of seats.now))
-              (all_pins wiring.old.nets);
-        } }
+/// The pins whose cells have no control, and the others.
+fn divide(
+    seats: &[Seat],
+    all: &[DrivingPin],
+    plain: &mut Vec<DrivingPin>,
+    rest: &mut Vec<DrivingPin>,
+) -> Result<(), AllocError>
+    requires plain { plain.old.items ≡ [] }
+    requires rest { rest.old.items ≡ [] }
+    ensures { OnOk result (AreParts all.now plain.new.items rest.new.items) }
 {
-    let mut block = NO_BLOCK;
+    for it in all {
+        if has_control(seats, *it) {
+            rest.push(*it)?;
+        } else {
+            plain.push(*it)?;
+        }
+    }
+    Ok(())
+}
+
+/// Whether what the cell of a pin drives hangs on another. Both kinds are put to their nets alike, those with a control
+/// one by one, so no clause says which is which.
+fn has_control(seats: &[Seat], it: DrivingPin) -> bool {
+    match seats.get(it.device) {
+        Some(seat) => match seat.device().cells().get(it.cell) {
+            Some(cell) => cell.control.is_some(),
+            None => true,
+        },
+        None => true,
+    }
+}
+
+/// The blocks of these pins' cells, and the pins of each block. Cells that stand together are in one block.
+fn blocks_of(alloc: Global, driving: &[DrivingPin]) -> Result<(Vec<Block>, Vec<usize>), AllocError>
+    ensures { IfOk result (λ t. (n : ℕ) → AreSeatedPins n driving.now
+        → AreSlots driving.now n t.0.items t.1.items) }
+{
+    let mut blocks = Vec::new(alloc);
+    let mut pins = Vec::new(alloc);
     for it in driving {
-        block = block_with(seats, block, *it);
-        put_driven(wiring, seats, block, *it);
+        enter_slot(&mut blocks, &mut pins, *it)?;
     }
+    Ok((blocks, pins))
 }
 
-/// The block that the cell of a pin is in. It is read for the second pin in a row, so that pins whose cells stand far
-/// apart do not read 64 bits each.
-fn block_with(seats: &[Seat], block: Block, it: DrivingPin) -> Block
-    requires device { it.device < length seats.now }
-    requires block { IsBlock (map member_of seats.now) block }
-    ensures block { IsBlock (map member_of seats.now) result }
-    ensures here { IsIn result it }
+/// One more pin: in the last block, if that has room for it, or in a new one.
+fn enter_slot(
+    blocks: &mut Vec<Block>,
+    pins: &mut Vec<usize>,
+    it: DrivingPin,
+) -> Result<(), AllocError>
+    requires { length pins.old.items ≡ 64 * length blocks.old.items }
+    ensures long { OnOk result (length pins.new.items ≡ 64 * length blocks.new.items) }
+    ensures slots { OnOk result ((n : ℕ) (es : List Entry) → it.device < n
+        → AreSlots es n blocks.old.items pins.old.items
+        → AreSlots (es ++ it ∷ []) n blocks.new.items pins.new.items) }
 {
-    let number = it.cell / 64;
-    if it.device != block.device || number != block.number {
-        return Block {
-            device: it.device,
-            number,
-            is_read: false,
-            plain: NO_CELLS,
-        };
+    if !has_room(blocks, it) {
+        return open(blocks, pins, it);
     }
-    if block.is_read {
-        return block;
+    fill(blocks, pins, it);
+    Ok(())
+}
+
+/// Whether the cell of a pin is one of the last block, and drives no pin yet.
+fn has_room(blocks: &[Block], it: DrivingPin) -> bool
+    ensures { result ≡ true → HasRoom blocks.now it }
+{
+    let n = blocks.len();
+    if n == 0 {
+        return false;
     }
-    Block {
+    let last = blocks[n - 1];
+    last.device == it.device
+        && last.first == it.cell - it.cell % 64
+        && !bit(last.slots, it.cell % 64)
+}
+
+/// One more block, with a pin.
+fn open(blocks: &mut Vec<Block>, pins: &mut Vec<usize>, it: DrivingPin) -> Result<(), AllocError>
+    requires { length pins.old.items ≡ 64 * length blocks.old.items }
+    ensures long { OnOk result (length pins.new.items ≡ 64 * length blocks.new.items) }
+    ensures slots { OnOk result ((n : ℕ) (es : List Entry) → it.device < n
+        → AreSlots es n blocks.old.items pins.old.items
+        → AreSlots (es ++ it ∷ []) n blocks.new.items pins.new.items) }
+{
+    open_empty(blocks, pins, it)?;
+    fill(blocks, pins, it);
+    Ok(())
+}
+
+/// One more block, for the cell of a pin.
+fn open_empty(
+    blocks: &mut Vec<Block>,
+    pins: &mut Vec<usize>,
+    it: DrivingPin,
+) -> Result<(), AllocError>
+    requires { length pins.old.items ≡ 64 * length blocks.old.items }
+    ensures long { OnOk result (length pins.new.items ≡ 64 * length blocks.new.items) }
+    ensures room { OnOk result (HasRoom blocks.new.items it) }
+    ensures slots { OnOk result ((n : ℕ) (es : List Entry) → it.device < n
+        → AreSlots es n blocks.old.items pins.old.items → AreSlots es n blocks.new.items pins.new.items) }
+{
+    pins.extend_from_slice(&[0; 64])?;
+    blocks.push(Block {
         device: it.device,
-        number,
-        is_read: true,
-        plain: seats[it.device].plain_cells(64 * number),
-    }
+        first: it.cell - it.cell % 64,
+        slots: 0,
+    })?;
+    Ok(())
 }
 
-/// What the cell of a pin drives is put to its net.
-fn put_driven(wiring: &mut Wiring, seats: &[Seat], block: Block, it: DrivingPin)
-    requires device { it.device < length seats.now }
-    requires block { IsBlock (map member_of seats.now) block }
-    requires here { IsIn block it }
-    requires pin { it.pin < length (all_pins wiring.old.nets) }
-    ensures { wiring.new ≡ record wiring.old {
-      drives = slice_set wiring.old.drives it.pin (entry_drives (map member_of seats.now) it);
-    } }
+/// A pin is entered in the last block, at the slot of its cell.
+fn fill(blocks: &mut Vec<Block>, pins: &mut Vec<usize>, it: DrivingPin)
+    requires long { length pins.old.items ≡ 64 * length blocks.old.items }
+    requires room { HasRoom blocks.old.items it }
+    ensures long { length pins.new.items ≡ 64 * length blocks.new.items }
+    ensures slots { (n : ℕ) (es : List Entry) → AreSlots es n blocks.old.items pins.old.items
+        → AreSlots (es ++ it ∷ []) n blocks.new.items pins.new.items }
 {
-    wiring.place(it.pin, drive_in(seats, block, it));
-}
-
-/// What the cell of a pin drives: its own bit, or what its device says.
-fn drive_in(seats: &[Seat], block: Block, it: DrivingPin) -> Drive
-    requires device { it.device < length seats.now }
-    requires block { IsBlock (map member_of seats.now) block }
-    requires here { IsIn block it }
-    ensures { result ≡ entry_drives (map member_of seats.now) it }
-{
-    match own_bit(block.plain, it.cell % 64) {
-        Some(bit) => Drive::Strong(bit),
-        None => seats[it.device].driven(it.cell),
-    }
-}
-
-/// The bit that number `j` of 64 cells drives by itself; of a cell on which others bear none.
-fn own_bit(plain: PlainCells, j: usize) -> Option<bool>
-    requires { j < 64 }
-    ensures { result ≡ own_bit plain j }
-{
-    if bit(plain.mask, j) {
-        Some(bit(plain.bits, j))
-    } else {
-        None
-    }
-}
-
-/// Bit `j` of a word.
-fn bit(word: u64, j: usize) -> bool
-    requires { j < 64 }
-    ensures { result ≡ has_bit word j }
-{
-    word >> j & 1 == 1
+    let i = blocks.len() - 1;
+    let j = it.cell % 64;
+    let block = blocks[i];
+    blocks[i] = Block {
+        slots: with_bit(block.slots, j),
+        ..block
+    };
+    pins[64 * i + j] = it.pin;
 }
 
 /// The first of these cells that drives a port bit.

@@ -4,11 +4,14 @@
 
 mod build;
 mod driving;
+mod refreshing;
 mod seat;
 mod sighted;
 mod wires;
+mod words;
 
 pub use build::all_seats;
-pub use driving::{DrivingPin, driving_pins, refresh_driving};
+pub use driving::{DrivingPins, driving_pins};
+pub use refreshing::refresh_driving;
 pub use seat::Seat;
 pub use wires::refresh;

@@ -8,7 +8,8 @@ ghost use Rattle.board_meaning.specs.Resting.{chip_at_rest};
 ghost use Rattle.board_meaning.specs.Whole as whole;
 ghost use Rattle.chip_chain.specs.AtRest.{AssertsTrst, CapturesAt, Changes, Stands, chain_as, shifted_through};
 ghost use Rattle.chip_chain.specs.Sweeping.{EachFrom, Still};
-ghost use Rattle.chip_seats.specs.Driving.{driving_of};
+ghost use Rattle.chip_seats.specs.Driving.{cells_of};
+ghost use Rattle.chip_seats.specs.Tables.{IsDriving};
 ghost use Rattle.chip_seats.specs.Wires.{IsWired};
 ghost use Rattle.jt_tap.specs.declared.State.TheVariants.{Reset};
 ghost use Rattle.scan_vectors.specs.Failures.{differing, found, with_found};
@@ -17,7 +18,7 @@ ghost use Rattle.scan_vectors.specs.Vector.{tdis};
 
 use super::Chain;
 use board_wiring::Wiring;
-use chip_seats::{DrivingPin, Seat, refresh, refresh_driving};
+use chip_seats::{DrivingPins, Seat, refresh_driving};
 use jt_tap::{Column, State};
 use scan_vectors::{Failures, Vector};
 use whole_chain::{note_chain, shift_chain};
@@ -54,14 +55,14 @@ impl Chain {
     pub fn update(&mut self, column: Column)
         ensures { self.new ≡ chain_as (map (whole.update_member column) (members self.old.chips)) self.old }
     {
-        update_wired(&mut self.seats, &mut self.wiring, &self.driving, column);
+        update_wired(&mut self.seats, &mut self.wiring, &mut self.driving, column);
     }
 
     /// Every device is reset, as in RESET.
     pub fn reset(&mut self)
         ensures { self.new ≡ chain_as (map whole.reset_member (members self.old.chips)) self.old }
     {
-        reset_wired(&mut self.seats, &mut self.wiring);
+        reset_wired(&mut self.seats, &mut self.wiring, &mut self.driving);
     }
 
     /// Every controller stands in this state, and no TDO is driven.
@@ -80,7 +81,7 @@ impl Chain {
               (map (whole.trst_member (whole.settled_member rests)) (members self.old.chips));
         } }
     {
-        assert_trst_wired(&mut self.seats, &mut self.wiring, rests);
+        assert_trst_wired(&mut self.seats, &mut self.wiring, &mut self.driving, rests);
         self.trst = true;
     }
 }
@@ -97,11 +98,12 @@ fn capture_all(seats: &mut [Seat], wiring: &Wiring, column: Column)
 
 /// An update of all devices; where it may have changed what they drive, that is put to the nets, given the pins that a
 /// cell drives.
-fn update_wired(seats: &mut [Seat], wiring: &mut Wiring, driving: &[DrivingPin], column: Column)
+fn update_wired(seats: &mut [Seat], wiring: &mut Wiring, driving: &mut DrivingPins, column: Column)
     requires wired { IsWired seats.old wiring.old }
-    requires driving { driving.now ≡ driving_of seats.old wiring.old.nets }
+    requires driving { IsDriving (map cells_of seats.old) wiring.old driving.old }
     ensures devices { EachFrom (Changes (whole.update_member column)) 0 seats.old seats.new }
     ensures wired { IsWired seats.new wiring.new }
+    ensures driving { IsDriving (map cells_of seats.new) wiring.new driving.new }
     ensures nets { wiring.new.nets ≡ wiring.old.nets }
 {
     let anew = update_all(seats, column);
@@ -111,25 +113,34 @@ fn update_wired(seats: &mut [Seat], wiring: &mut Wiring, driving: &[DrivingPin],
 }
 
 /// A reset of all devices, and what they drive from then on is put to the nets.
-fn reset_wired(seats: &mut [Seat], wiring: &mut Wiring)
-    requires { IsWired seats.old wiring.old }
+fn reset_wired(seats: &mut [Seat], wiring: &mut Wiring, driving: &mut DrivingPins)
+    requires wired { IsWired seats.old wiring.old }
+    requires driving { IsDriving (map cells_of seats.old) wiring.old driving.old }
     ensures devices { EachFrom (Changes whole.reset_member) 0 seats.old seats.new }
     ensures wired { IsWired seats.new wiring.new }
+    ensures driving { IsDriving (map cells_of seats.new) wiring.new driving.new }
     ensures nets { wiring.new.nets ≡ wiring.old.nets }
 {
     reset_all(seats);
-    refresh(wiring, seats);
+    refresh_driving(wiring, seats, driving);
 }
 
 /// TRST is asserted to all devices at rest in a state, and what they drive from then on is put to the nets.
-fn assert_trst_wired(seats: &mut [Seat], wiring: &mut Wiring, rests: State)
-    requires { IsWired seats.old wiring.old }
+fn assert_trst_wired(
+    seats: &mut [Seat],
+    wiring: &mut Wiring,
+    driving: &mut DrivingPins,
+    rests: State,
+)
+    requires wired { IsWired seats.old wiring.old }
+    requires driving { IsDriving (map cells_of seats.old) wiring.old driving.old }
     ensures devices { EachFrom (AssertsTrst rests) 0 seats.old seats.new }
     ensures wired { IsWired seats.new wiring.new }
+    ensures driving { IsDriving (map cells_of seats.new) wiring.new driving.new }
     ensures nets { wiring.new.nets ≡ wiring.old.nets }
 {
     assert_trst_all(seats, rests);
-    refresh(wiring, seats);
+    refresh_driving(wiring, seats, driving);
 }
 
 /// TRST is asserted to all devices at rest in a state.

@@ -1,20 +1,20 @@
-use Rattle.std.proofs.Common.{◌≡◌, ◌<◌, Some, length, map, slice_get, refl}
-use Rattle.std.proofs.lemmas.Option.{slice_get_read}
-use Rattle.board_plan.specs.Planned.{all_pins}
-use Rattle.chip_seats.specs.Driving.{cells_of, driving_of}
-use Rattle.chip_seats.proofs.DrivingLaws.{driver_by_seat, one_more_pin}
-use Rattle.chip_seats.proofs.PutLaws.{seat_of}
+use Rattle.std.proofs.Common.{length, refl, rules, arith}
+use Rattle.chip_seats.specs.Driving.{driving_of}
+use Rattle.chip_seats.proofs.RefreshLaws.{all_seated, none_put, table_made}
 use Rattle.chip_seats.proofs.driving.driving_pins.Goals as goal
 
-pub loop-k-preserved : goal.loop-k-preserved
-loop-k-preserved c =
+pub returns-clause-table : goal.returns-clause-table
+returns-clause-table c =
     let seats = c.args.seats.now in
-    let pins = all_pins c.args.wiring.now.nets in
-    let pin = c.pin-pin.result in
-    let seated : pin.device < length seats = seat_of (length seats) pins c.loop-k.k pin c.requires c.pin-pin.ensures in
-    let there : slice_get seats pin.device ≡ Some c.index-seats-pin.result =
-    slice_get_read seats (length seats) pin.device c.index-seats-pin.result refl seated c.index-seats-pin.is in
-    one_more_pin (map cells_of seats) pins c.loop-k.k pin c.driver-driver.result c.loop-k.driving.items c.enter.new.driving.items
-    (driving_of seats c.args.wiring.now.nets) c.pin-pin.ensures
-    (driver_by_seat seats pin c.index-seats-pin.result c.driver-driver.result there c.driver-driver.ensures)
-    c.in_ok-enter.ensures c.loop-k.invariant
+    let nets = c.args.wiring.now.nets in
+    table_made (driving_of seats nets) c.in_ok-all.all.items c.deref.result.now c.divide.new.plain.items c.sort_unstable.new.self.items c.deref-2.result.now (length seats) _
+    c.in_ok-all.ensures c.deref.ensures.value c.in_ok-divide.ensures c.sort_unstable.ensures.permutation c.deref-2.ensures.value c.in_ok-blocks.ensures
+    (all_seated seats nets)
+
+pub returns-clause-put : goal.returns-clause-put
+returns-clause-put c =
+    let blocks = c.in_ok-blocks.blocks in
+    let put = c.in_ok-put.put in
+    none_put blocks.items c.in_ok-blocks.pins.items put.items c.len.result (record { mask = 0; bits = 0 })
+    (c.in_ok-put.ensures.items_if_clones_equal (λ y h. search rules)) refl
+    (omega (arith, c.in_ok-put.ensures.len, put.ok.0, blocks.ok.0, c.len.ensures))

@@ -1,4 +1,4 @@
-use Rattle.std.proofs.Common.{◌≡◌, ◌∙◌, Bool, List, ◌++◌, drop, map, refl, sym, ap, subst}
+use Rattle.std.proofs.Common.{◌≡◌, ◌∙◌, Bool, List, ◌++◌, drop, map, sym, ap, subst}
 use Rattle.std.proofs.lemmas.List.{with_items_is}
 use Rattle.std.specs.Vec.{with_items}
 use Rattle.board_meaning.specs.Chain.{members}
@@ -30,8 +30,8 @@ invariant_of-self c =
           (shifted_told column s.trst (stays s.seats.items) s.seats.items new cut c.self.invariant.told);
       wired = subst (λ (l : List SeatValue). IsWired l s.wiring) (sym is)
           (shifted_wired column (stays s.seats.items) s.seats.items new s.wiring c.self.invariant.wired cut);
-      driving = kept_driving (PutSome column) (λ i s t r. r.is.kept) s.seats.items new (with_items s.seats new).items s.wiring.nets
-          s.wiring.nets (cut_each column 0 (stays s.seats.items) s.seats.items new cut) is refl s.driving.items c.self.invariant.driving;
+      driving = kept_driving (PutSome column) (λ i s t r. r.is.kept) s.seats.items new (with_items s.seats new).items
+          (cut_each column 0 (stays s.seats.items) s.seats.items new cut) is s.wiring s.driving c.self.invariant.driving;
     }
 
 pub returns : goal.returns
