@@ -17,8 +17,8 @@ use stream_player::{Player, Shown};
 /// The most bytes that are handed to a writer, or asked of a reader, at once.
 const PIECE: usize = 1024;
 
-/// Hands a writer a piece of what may be sent, as it was shown, and gives out what it took. Answers whether the call was
-/// kept.
+/// Hands a writer a piece of what may be sent, as it was shown, and gives out what it took. Answers whether the call
+/// was kept.
 fn put<W: Sink>(
     writer: &mut Counted<W>,
     player: &mut Player,

@@ -115,8 +115,8 @@ impl Player {
         0
     }
 
-    /// Fills the buffer as `show_bytes` does. Answers how many bytes they are, with where the player stands once they are
-    /// given out: a link whose writer took them all hands that to `give_shown`, and they are not made twice.
+    /// Fills the buffer as `show_bytes` does. Answers how many bytes they are, and where the player stands once they
+    /// are given out: a link whose writer took them all hands that to `give_shown`, and they are not made twice.
     pub fn show_ahead(&self, buffer: &mut [u8]) -> Shown
         ensures count { result.count ≡ min (length buffer.old) (length (bytes_to_send 256 self.now)) }
         ensures bytes { buffer.new
