@@ -14,7 +14,8 @@ each-none [] s none = refl
 each-none (byte ∷ bytes) s none =
     ap (λ (l : List ℕ). hear_each bytes (hear_bytes l s)) (takes-none s (byte ∷ []) none) ∙ each-none bytes s none
 
-none-of-none : (s : StreamState) → answers_taken 256 s [] ≡ []
+-- of no bytes none is taken
+pub none-of-none : (s : StreamState) → answers_taken 256 s [] ≡ []
 none-of-none s = by (stream.owed 256 s)
   where
     by : (n : ℕ) → up_to_bad (take n []) ≡ []

@@ -1,6 +1,6 @@
 -- Where a player stands in its play.
-use Rattle.std.specs.Prelude.{ℕ, Bool, true, false, zero, suc, ◌+◌, ◌==◌, List, [], ◌∷◌, ◌++◌, length, take}
-use Rattle.std.specs.Prelude.{Option, Some, None, if◌then◌else◌}
+use Rattle.std.specs.Prelude.{ℕ, Bool, true, false, zero, suc, ◌+◌, ◌*◌, ◌==◌, List, [], ◌∷◌, ◌++◌, length, take}
+use Rattle.std.specs.Prelude.{◌≤◌, drop, Option, Some, None, if◌then◌else◌}
 use Rattle.bitbang_table.specs.declared.Message.{Message}
 use Rattle.scan_vectors.specs.Vector.{VectorBit, differs}
 use Rattle.scan_vectors.specs.declared.part.Part.TheVariants.{Header}
@@ -52,6 +52,10 @@ up_to_reads (b ∷ bytes) n =
 abbrev pub reads : List ℕ → ℕ
 reads [] = 0
 reads (b ∷ bytes) = if b == 82 then suc (reads bytes) else reads bytes
+
+-- Between two `R` there are two other bytes at least: of so many in a row, wherever they begin, a third at most is `R`.
+abbrev pub IsSpaced : List ℕ → Type 0
+IsSpaced bytes = (before n : ℕ) → 3 * reads (take n (drop before bytes)) ≤ n + 2
 
 -- what differs of an answer to a wanted bit of a command
 abbrev pub differing_bit : ℕ → VectorBit → Bool → Option Mismatch

@@ -1,11 +1,11 @@
 //! Taking the answers.
 
-ghost use Rattle.std.specs.Prelude.{◌≡◌, ◌<◌, ◌+◌, ◌^◌, ◌∷◌, false, true, List, [], MatchOption, None, Some, drop};
-ghost use Rattle.std.specs.Prelude.{Bool, Option, is_some, length, option_map, slice_get};
+ghost use Rattle.std.specs.Prelude.{◌≡◌, ◌<◌, ◌≤◌, ◌+◌, ◌^◌, ◌∷◌, false, true, List, [], MatchOption, None, Some, drop};
+ghost use Rattle.std.specs.Prelude.{IfSome, length, slice_get};
 ghost use Rattle.std.specs.Option.{option_to_list};
 ghost use Rattle.scan_vectors.specs.Held.{bits};
 ghost use Rattle.scan_vectors.specs.Vector.{VectorBit, wanted_bits};
-ghost use Rattle.stream_player.specs.WordAhead.{IsAhead};
+ghost use Rattle.stream_player.specs.WordAhead.{IsAhead, IsExpectedBy};
 ghost use Rattle.svf_programs.specs.Sizes.{program_of};
 ghost use Rattle.svf_programs.specs.Seen as seen;
 ghost use Rattle.svf_programs.specs.Seen.{numbered};
@@ -17,6 +17,8 @@ ghost use Rattle.stream_player.specs.Each.{hear_each};
 ghost use Rattle.stream_player.specs.Kept.{IsKeptOf, keeping};
 ghost use Rattle.stream_player.specs.Progress.{IsProgressOf, state_of, vector_bits};
 ghost use Rattle.stream_player.specs.PlaceInPlay.{differing_bit};
+ghost use Rattle.stream_player.specs.Taking as taking;
+ghost use Rattle.stream_player.specs.Taking.{TakesFirst};
 
 use crate::kept::Kept;
 use crate::progress::Progress;
@@ -57,15 +59,17 @@ pub(crate) fn hear(
     let mut p = p;
     let mut ahead = WordAhead::nothing();
     let mut count = 0;
-    for byte in bytes {
+    while count < bytes.len() {
         if p.bad.is_some() {
             return (p, count);
         }
         if p.owed == 0 {
             return (p, count);
         }
-        p = hear_one(program, &step, &vector, &mut ahead, p, kept, *byte);
-        count += 1;
+        let rest = &bytes[count..];
+        let (next, more) = hear_some(program, &step, &vector, &mut ahead, p, kept, rest);
+        p = next;
+        count += more;
     }
     (p, count)
 }
@@ -81,16 +85,16 @@ fn vector_of<'a>(what: &Action<'a>) -> Option<Vector<'a>>
     }
 }
 
-/// Takes one answer, of a step that scans this vector.
-fn hear_one(
+/// Takes some of the answers that are left, one at least, of a step that scans this vector.
+fn hear_some(
     program: &Program,
     step: &Step<'_>,
     vector: &Vector<'_>,
     ahead: &mut WordAhead,
     p: Progress,
     kept: &mut Kept,
-    byte: u8,
-) -> Progress
+    bytes: &[u8],
+) -> (Progress, usize)
     requires ahead { IsAhead (bits vector.now) ahead.old }
     requires stands { IsProgressOf program.now.steps p }
     requires keeps { IsKeptOf (state_of (program_of program.now) p) kept.old }
@@ -98,7 +102,102 @@ fn hear_one(
     requires scans { vector_bits (seen.step step.now.what) ≡ bits vector.now }
     requires good { p.bad ≡ None }
     requires owed { 0 < p.owed }
+    requires some { 0 < length bytes.now }
     ensures ahead { IsAhead (bits vector.now) ahead.new }
+    ensures some { 0 < result.1 }
+    ensures takes { TakesFirst (program_of program.now) p kept.old bytes.now result.0 kept.new result.1 }
+{
+    let (next, count) = hear_expected(program, step, vector, ahead, p, kept, bytes);
+    if count > 0 {
+        return (next, count);
+    }
+    (hear_one(program, step, vector, p, kept, bytes[0]), 1)
+}
+
+/// Takes answers as long as each is as the next wanted bit is to be, which words have. A player that stops takes none
+/// so.
+///
+/// Of these nothing but their number changes, so where the player stands is made once, behind them.
+fn hear_expected(
+    program: &Program,
+    step: &Step<'_>,
+    vector: &Vector<'_>,
+    ahead: &mut WordAhead,
+    p: Progress,
+    kept: &Kept,
+    bytes: &[u8],
+) -> (Progress, usize)
+    requires ahead { IsAhead (bits vector.now) ahead.old }
+    requires stands { IsProgressOf program.now.steps p }
+    requires keeps { IsKeptOf (state_of (program_of program.now) p) kept.now }
+    requires first { slice_get program.now.steps p.at ≡ Some (numbered step.now) }
+    requires scans { vector_bits (seen.step step.now.what) ≡ bits vector.now }
+    requires good { p.bad ≡ None }
+    requires owed { 0 < p.owed }
+    ensures ahead { IsAhead (bits vector.now) ahead.new }
+    ensures takes { TakesFirst (program_of program.now) p kept.now bytes.now result.0 kept.now result.1 }
+{
+    // For the proof alone: what is kept of the program, the step, and how long the vector is.
+    let _ = (program.len(), step.number, vector.len());
+    let is_over = kept.stops();
+    if is_over {
+        return (p, 0);
+    }
+    let most = bytes.len().min(p.owed);
+    let mut judged = p.judged;
+    let mut count = 0;
+    while count < most {
+        let Some(i) = expected_by(vector, ahead, judged, bytes[count]) else {
+            return (behind_answers(p, judged, count), count);
+        };
+        judged = i + 1;
+        count += 1;
+    }
+    (behind_answers(p, judged, count), count)
+}
+
+/// The next wanted bit from this place on, where one word has it and this answer is as it is to be.
+fn expected_by(vector: &Vector<'_>, ahead: &mut WordAhead, from: usize, byte: u8) -> Option<usize>
+    requires { IsAhead (bits vector.now) ahead.old }
+    ensures known { IsAhead (bits vector.now) ahead.new }
+    ensures inside { IfSome result (λ i. i < length (bits vector.now)) }
+    ensures expected { IfSome result (λ i. IsExpectedBy (bits vector.now) from byte i) }
+{
+    match read_answer(byte) {
+        Some(bit) => ahead.expected(vector, from, bit),
+        None => None,
+    }
+}
+
+/// Where a player stands behind so many more answers, the last of them to a wanted bit before this one.
+fn behind_answers(p: Progress, judged: usize, count: usize) -> Progress
+    requires owed { count ≤ p.owed }
+    requires fits { p.heard + count < 2 ^ 64 }
+    ensures { result ≡ taking.behind_answers p judged count }
+{
+    Progress {
+        heard: p.heard + count,
+        owed: p.owed - count,
+        judged,
+        ..p
+    }
+}
+
+/// Takes one answer, of a step that scans this vector.
+fn hear_one(
+    program: &Program,
+    step: &Step<'_>,
+    vector: &Vector<'_>,
+    p: Progress,
+    kept: &mut Kept,
+    byte: u8,
+) -> Progress
+    requires stands { IsProgressOf program.now.steps p }
+    requires keeps { IsKeptOf (state_of (program_of program.now) p) kept.old }
+    requires first { slice_get program.now.steps p.at ≡ Some (numbered step.now) }
+    requires scans { vector_bits (seen.step step.now.what) ≡ bits vector.now }
+    requires good { p.bad ≡ None }
+    requires owed { 0 < p.owed }
     ensures stands { IsProgressOf program.now.steps result }
     ensures keeps { IsKeptOf (state_of (program_of program.now) result) kept.new }
     ensures state { keeping kept.new (state_of (program_of program.now) result)
@@ -113,7 +212,7 @@ fn hear_one(
         let bad = Some(byte);
         return Progress { bad, ..p };
     };
-    let p = after_judging(step.number, vector, ahead, p, kept, bit);
+    let p = after_judging(step.number, vector, p, kept, bit);
     Progress {
         heard: p.heard + 1,
         owed: p.owed - 1,
@@ -125,17 +224,14 @@ fn hear_one(
 fn after_judging(
     command: usize,
     vector: &Vector<'_>,
-    ahead: &mut WordAhead,
     p: Progress,
     kept: &mut Kept,
     bit: bool,
 ) -> Progress
-    requires ahead { IsAhead (bits vector.now) ahead.old }
     requires room { kept.old.found.total + 1 < 2 ^ 64 }
     requires stops { stops_for kept.old.kind kept.old.found.list ≡ p.stopped }
     ensures rest { result ≡ record p { judged = result.judged; stopped = result.stopped } }
     ensures stops { stops_for kept.new.kind kept.new.found.list ≡ result.stopped }
-    ensures ahead { IsAhead (bits vector.now) ahead.new }
     ensures full { stops_for kept.old.kind kept.old.found.list ≡ true → (result ≡ p) × (kept.new ≡ kept.old)
         × ((more : List playing_on.Mismatch) → with_more kept.old.kind more kept.old.found ≡ kept.old.found) }
     ensures judged { stops_for kept.old.kind kept.old.found.list ≡ false → (w : VectorBit) (ws : List VectorBit)
@@ -148,44 +244,7 @@ fn after_judging(
     if kept.stops() {
         return p;
     }
-    match ahead.expected(vector, p.judged, bit) {
-        Some(i) => after_expected(command, vector, i, p, kept, bit),
-        None => after_next(command, vector, p, kept, bit),
-    }
-}
-
-/// Judges one bit by the wanted one at this place, which is the next and is as it came out.
-fn after_expected(
-    command: usize,
-    vector: &Vector<'_>,
-    i: usize,
-    p: Progress,
-    kept: &mut Kept,
-    bit: bool,
-) -> Progress
-    requires inside { i < length (bits vector.now) }
-    requires there { option_map {U = Option Bool} (λ b. b.wanted) (slice_get (bits vector.now) i) ≡ Some (Some bit) }
-    requires next { wanted_bits (drop p.judged (bits vector.now)) ≡ wanted_bits (drop i (bits vector.now)) }
-    requires goes_on { stops_for kept.old.kind kept.old.found.list ≡ false }
-    requires room { kept.old.found.total + 1 < 2 ^ 64 }
-    requires stops { stops_for kept.old.kind kept.old.found.list ≡ p.stopped }
-    ensures rest { result ≡ record p { judged = result.judged; stopped = result.stopped } }
-    ensures stops { stops_for kept.new.kind kept.new.found.list ≡ result.stopped }
-    ensures judged { stops_for kept.old.kind kept.old.found.list ≡ false → (w : VectorBit) (ws : List VectorBit)
-        → wanted_bits (drop p.judged (bits vector.now)) ≡ w ∷ ws
-        → (wanted_bits (drop result.judged (bits vector.now)) ≡ ws)
-        × (kept.new ≡ record kept.old {
-          found = with_more kept.old.kind (option_to_list (differing_bit command w bit)) kept.old.found;
-        }) }
-{
-    // For the proof alone: the command, and how long the vector is.
-    let _ = (command, vector.len(), bit);
-    let stopped = kept.note(None);
-    Progress {
-        judged: i + 1,
-        stopped,
-        ..p
-    }
+    after_next(command, vector, p, kept, bit)
 }
 
 /// Judges one bit by the next wanted one, wherever that is.

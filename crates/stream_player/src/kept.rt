@@ -1,6 +1,6 @@
 //! What a player keeps of the wanted bits that did not come out.
 
-ghost use Rattle.std.specs.Prelude.{◌≡◌, ◌<◌, ◌+◌, ◌^◌, IsTrue, false, List, take};
+ghost use Rattle.std.specs.Prelude.{◌≡◌, ◌<◌, ◌+◌, ◌^◌, IsTrue, false, List, [], take};
 ghost use Rattle.std.specs.Option.{option_to_list};
 ghost use Rattle.scan_vectors.specs.Failures.{found, none_found};
 ghost use Rattle.plays.specs.PlayingOn as playing_on;
@@ -53,6 +53,7 @@ impl Kept {
         ensures value { result ≡ stops_for self.now.kind self.now.found.list }
         ensures full { IsTrue result
             → (more : List playing_on.Mismatch) → with_more self.now.kind more self.now.found ≡ self.now.found }
+        ensures calm { with_more self.now.kind [] self.now.found ≡ self.now.found }
     {
         match self.kind {
             Kind::Stops => !self.failures.list.is_empty(),

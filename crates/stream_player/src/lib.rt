@@ -7,8 +7,10 @@ mod kept;
 mod pieces;
 mod player;
 mod progress;
+mod shown;
 mod telling;
 mod word_ahead;
 
 pub use player::Player;
 pub use scan_vectors::{Failures, Mismatch};
+pub use shown::Shown;

@@ -7,11 +7,13 @@ ghost use Rattle.plays.specs.declared.kind.Kind.TheVariants.{Stops, PlaysOn};
 ghost use Rattle.plays.specs.Streams as stream;
 ghost use Rattle.plays.specs.Streams.{new_stream, hear_bytes, answers_taken, bytes_to_send};
 ghost use Rattle.stream_player.specs.Each.{hear_each};
+ghost use Rattle.stream_player.specs.Shown.{IsShown};
 
 use crate::hearing::hear;
 use crate::kept::Kept;
 use crate::pieces::fill;
 use crate::progress::{Phase, Progress};
+use crate::shown::Shown;
 use crate::telling;
 use plays::{Ending, Kind};
 use scan_vectors::Failures;
@@ -111,6 +113,29 @@ impl Player {
             return count;
         }
         0
+    }
+
+    /// Fills the buffer as `show_bytes` does. Answers how many bytes they are, and where the player stands once they
+    /// are given out: a link whose writer took them all hands that to `give_shown`, and they are not made twice.
+    pub fn show_ahead(&self, buffer: &mut [u8]) -> Shown
+        ensures count { result.count ≡ min (length buffer.old) (length (bytes_to_send 256 self.now)) }
+        ensures bytes { buffer.new
+            ≡ take result.count (bytes_to_send 256 self.now) ++ drop result.count buffer.old }
+        ensures shown { IsShown self.now result }
+    {
+        if self.progress.bad.is_none() {
+            let (progress, count) = fill(&self.program, self.progress, buffer);
+            return Shown::new(count, progress);
+        }
+        Shown::new(0, self.progress)
+    }
+
+    /// Gives out the bytes that were shown, all of them.
+    pub fn give_shown(&mut self, shown: Shown)
+        requires { IsShown self.old shown }
+        ensures { self.new ≡ record self.old { given = self.old.given + shown.count } }
+    {
+        self.progress = shown.progress();
     }
 
     /// How many answers are owed: those to the `R`s that were given out, without the answers taken; none once the play
