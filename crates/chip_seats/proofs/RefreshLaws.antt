@@ -1,7 +1,6 @@
 -- What a refresh of the pins that a cell drives does, slot by slot and block by block.
 use Rattle.std.proofs.Common.{◌≡◌, ◌≢◌, ◌<◌, ◌≤◌, ◌+◌, ◌*◌, ℕ, zero, suc, Bool, true, false, ◌&&◌, not, List, length, map, replicate, set, slice_get, slice_index, Some, refl, sym, ap, subst, ◌∙◌, arith, ⊎_elim}
 use Rattle.std.specs.List.{Contains}
-use Rattle.std.specs.List.Sorted.{IsPermutation}
 use Rattle.std.proofs.lemmas.Bool.{cases_eq}
 use Rattle.std.proofs.lemmas.List.{length-map}
 use Rattle.std.proofs.lemmas.Option.{get_or_from_slice_get, none-some, same_Some, slice_get-get_or, slice_get_within}
@@ -24,7 +23,6 @@ use Rattle.chip_seats.specs.declared.driving.DrivingPins.{DrivingPins}
 use Rattle.chip_seats.proofs.BlockLaws.{no, stood, zero_bit}
 use Rattle.chip_seats.proofs.DrivingLaws.{entry_of_pin, seats_cells}
 use Rattle.chip_seats.proofs.ListLaws.{set_here, set_there}
-use Rattle.chip_seats.proofs.PartLaws.{parts_sorted}
 use Rattle.chip_seats.proofs.SettleLaws.{all_settled, put_settled, settles_put}
 
 -- ---- slot by slot
@@ -186,16 +184,14 @@ module _ (seats : List SeatValue) (nets : List Net) where
 pub all_seated : (seats : List SeatValue) (nets : List Net) → AreSeatedPins (length seats) (entries seats nets)
 all_seated seats nets = λ e has. omega (arith, (targeted seats nets e has).device, length-map seats member_of)
 
-pub table_made : (driving all lent plain sorted given : List DrivingPin) (n : ℕ) (d : DrivingPins) → all ≡ driving → lent ≡ all → AreParts lent plain d.rest.items → IsPermutation plain sorted
-    → given ≡ sorted → ((m : ℕ) → AreSeatedPins m given → AreSlots given m d.blocks.items d.pins.items) → AreSeatedPins n driving → IsTable driving n d
-table_made driving all lent plain sorted given n d is one parts moved two slots seated =
-    let whole : AreParts driving sorted d.rest.items =
-    parts_sorted driving plain sorted d.rest.items moved (subst (λ (l : List DrivingPin). AreParts l plain d.rest.items) (one ∙ is) parts) in
-    let below : AreSeatedPins n given = λ e has. seated e (whole.first e (subst (λ (l : List DrivingPin). Contains l e) two has)) in
+pub table_made : (driving plain given : List DrivingPin) (n : ℕ) (d : DrivingPins) → AreParts driving plain d.rest.items
+    → given ≡ plain → ((m : ℕ) → AreSeatedPins m given → AreSlots given m d.blocks.items d.pins.items) → AreSeatedPins n driving → IsTable driving n d
+table_made driving plain given n d parts is slots seated =
+    let below : AreSeatedPins n given = λ e has. seated e (parts.first e (subst (λ (l : List DrivingPin). Contains l e) is has)) in
     record {
-      plain = sorted;
-      slots = subst (λ (l : List DrivingPin). AreSlots l n d.blocks.items d.pins.items) two (slots n below);
-      parts = whole;
+      plain = plain;
+      slots = subst (λ (l : List DrivingPin). AreSlots l n d.blocks.items d.pins.items) is (slots n below);
+      parts = parts;
     }
 
 repeated : (n : ℕ) (x p : PlainCells) (i : ℕ) → slice_get (replicate n x) i ≡ Some p → x ≡ p

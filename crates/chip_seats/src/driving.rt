@@ -44,7 +44,7 @@ pub struct DrivingPins {
     pub(crate) pins: Vec<usize>,
     /// Of each block the bits that were last put to its pins.
     pub(crate) put: Vec<PlainCells>,
-    /// The pins whose cells have a control.
+    /// The pins that stand in no block: those whose cells have a control, or are the only ones of theirs.
     pub(crate) rest: Vec<DrivingPin>,
 }
 
@@ -66,7 +66,11 @@ pub fn driving_pins(
     divide(seats, &all, &mut plain, &mut rest)?;
     // That the cells of a device stand together; what the table says does not hang on it.
     plain.sort_unstable();
-    let (blocks, pins) = blocks_of(alloc, &plain)?;
+    let mut close = Vec::new(alloc);
+    let mut lone = Vec::new(alloc);
+    divide_lone(&plain, &mut close, &mut lone)?;
+    rest.extend_from_slice(&lone)?;
+    let (blocks, pins) = blocks_of(alloc, &close)?;
     let put = Vec::from_elem(alloc, NO_CELLS, blocks.len())?;
     Ok(DrivingPins {
         blocks,
@@ -140,6 +144,42 @@ fn has_control(seats: &[Seat], it: DrivingPin) -> bool {
         },
         None => true,
     }
+}
+
+/// The pins whose cells have others of these within the same 64, and those whose cells have none: for a pin alone it takes
+/// longer to read 64 bits than to ask its cell.
+fn divide_lone(
+    sorted: &[DrivingPin],
+    close: &mut Vec<DrivingPin>,
+    lone: &mut Vec<DrivingPin>,
+) -> Result<(), AllocError>
+    requires close { close.old.items ≡ [] }
+    requires lone { lone.old.items ≡ [] }
+    ensures { OnOk result (AreParts sorted.now close.new.items lone.new.items) }
+{
+    for i in 0..sorted.len() {
+        if is_lone(sorted, i) {
+            lone.push(sorted[i])?;
+        } else {
+            close.push(sorted[i])?;
+        }
+    }
+    Ok(())
+}
+
+/// Whether neither the pin before this one nor the one behind it is of the same block. Both kinds are put to their nets
+/// alike, so no clause says which is which.
+fn is_lone(sorted: &[DrivingPin], i: usize) -> bool
+    requires { i < length sorted.now }
+{
+    let before = i > 0 && share_block(sorted[i - 1], sorted[i]);
+    let behind = i + 1 < sorted.len() && share_block(sorted[i + 1], sorted[i]);
+    !before && !behind
+}
+
+/// Whether the cells of two pins are of the same 64 of one device.
+fn share_block(one: DrivingPin, other: DrivingPin) -> bool {
+    one.device == other.device && one.cell / 64 == other.cell / 64
 }
 
 /// The blocks of these pins' cells, and the pins of each block. Cells that stand together are in one block.
