@@ -54,10 +54,10 @@ not_bit mask j fits h = ap (λ (n : ℕ). n == 1) (bit_at_not w64 mask j fits h)
     flip (suc zero) h = refl
     flip (suc (suc a)) h = absurd (omega arith)
 
-abbrev merged : (word bits mask : ℕ) → ℕ
+abbrev pub merged : (word bits mask : ℕ) → ℕ
 merged word bits mask = bit_or (bit_and bits mask) (bit_and word (bit_not w64 mask))
 
-merged_bit : (word bits mask j : ℕ) → mask < 2 ^ 64 → j < 64
+pub merged_bit : (word bits mask j : ℕ) → mask < 2 ^ 64 → j < 64
     → has_bit (merged word bits mask) j ≡ ((has_bit bits j && has_bit mask j) || (has_bit word j && not (has_bit mask j)))
 merged_bit word bits mask j fits h =
     or_bit (bit_and bits mask) (bit_and word (bit_not w64 mask)) j

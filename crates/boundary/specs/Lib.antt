@@ -4,3 +4,4 @@ pub mod Sight
 pub mod Masks
 pub mod Plain
 pub mod Told
+pub mod Resets

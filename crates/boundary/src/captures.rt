@@ -5,40 +5,47 @@ ghost use Rattle.jt_bits.specs.Packed.{has_bit};
 ghost use Rattle.boundary.specs.Cells as cells;
 ghost use Rattle.boundary.specs.Masks.{AreMasks, CapturesEach, chosen, is_inner, is_sighted, sighted_port};
 ghost use Rattle.boundary.specs.Plain.{has_no_control, plain_cells};
+ghost use Rattle.boundary.specs.Resets.{reset_cells};
 
+use crate::resets::is_reset;
 use crate::sights::Sights;
 use bsdl_device::{Cell, Control3, Function};
 use device_instructions::Mode;
 use jt_bits::Bits;
 use std::alloc::{AllocError, Global};
 
-/// Which cells capture what their port sees, which their core's bit in every mode, and which have no control: a bit for
-/// each cell.
+/// Which cells capture what their port sees, which their core's bit in every mode, which have no control, and which a
+/// reset gives their disabling value: a bit for each cell.
 #[derive(Drop)]
 pub(crate) struct Masks {
     pub(crate) sighted: Bits,
     pub(crate) inner: Bits,
     pub(crate) plain: Bits,
+    pub(crate) reset: Bits,
 }
 
 /// The masks of these cells. Refuses for want of memory alone.
 pub(crate) fn masks_of(alloc: Global, list: &[Cell]) -> Result<Masks, AllocError>
     ensures masks { IfOk result (λ m. AreMasks list.now m.sighted m.inner) }
     ensures plain { IfOk result (λ m. m.plain ≡ plain_cells list.now) }
+    ensures reset { IfOk result (λ m. m.reset ≡ reset_cells list.now) }
 {
     let mut sighted = Bits::zeros(alloc, list.len())?;
     let mut inner = Bits::zeros(alloc, list.len())?;
     let mut plain = Bits::zeros(alloc, list.len())?;
+    let mut reset = Bits::zeros(alloc, list.len())?;
     for k in 0..list.len() {
         let (sees, takes_core) = marks(list[k].port, list[k].function);
         sighted.set(k, sees);
         inner.set(k, takes_core);
         plain.set(k, has_no_control(list[k].control));
+        reset.set(k, is_reset(list[k].function));
     }
     Ok(Masks {
         sighted,
         inner,
         plain,
+        reset,
     })
 }
 

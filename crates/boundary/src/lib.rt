@@ -13,6 +13,7 @@ ghost use Rattle.jt_bits.specs.Packed.{has_bit};
 ghost use Rattle.pin_nets.specs.declared.Drive.TheVariants.{Strong};
 
 mod captures;
+mod resets;
 mod sights;
 
 use bsdl_device::{Cell, Control3, Disabled, Function};
@@ -22,12 +23,14 @@ use device_instructions::{Mode, SharedDevice};
 use device_registers::Register;
 use jt_bits::Bits;
 pub use pin_nets::Drive;
+use resets::reset_all;
 use sights::Sights;
 use std::alloc::{AllocError, Global};
 use std::marker::Model;
 
 /// The cells of a device with what each was last told that its port sees, their core's bits, and the two lists of the
-/// register; beside them the disabling values that a reset gives, which cells capture what, and which have no control.
+/// register; beside them the disabling values that a reset gives, and which cells capture what, have no control, and take
+/// their disabling values.
 #[derive(Drop)]
 pub struct Boundary {
     device: SharedDevice,
@@ -45,6 +48,7 @@ impl Model for Boundary {
     ghost use Rattle.boundary.specs.Cells.{AreDisabling, BoundaryValue};
     ghost use Rattle.boundary.specs.Masks.{AreMasks};
     ghost use Rattle.boundary.specs.Plain.{plain_cells};
+    ghost use Rattle.boundary.specs.Resets.{reset_cells};
 
     ghost Value = { BoundaryValue };
 
@@ -65,6 +69,7 @@ impl Model for Boundary {
       disabling : AreDisabling b.device.cells b.disabling;
       masks : AreMasks b.device.cells b.masks.sighted b.masks.inner;
       plain : b.masks.plain ≡ plain_cells b.device.cells;
+      reset : b.masks.reset ≡ reset_cells b.device.cells;
     } };
 }
 
@@ -120,7 +125,7 @@ impl Register for Boundary {
     }
 
     fn reset(&mut self) {
-        reset_all(self.device.get().cells(), &self.disabling, &mut self.update);
+        reset_all(&self.masks.reset, &self.disabling, &mut self.update);
     }
 
     ghost stage_of = { λ r s u. refl };
@@ -153,29 +158,6 @@ impl Register for Boundary {
 pub fn captures_what_ports_see()
     ensures { CapturesBySight }
 {}
-
-/// Each controlr cell takes its disabling value.
-fn reset_all(list: &[Cell], disabling: &Bits, update: &mut Bits)
-    requires values { AreDisabling list.now disabling.now }
-    requires long { length update.old ≡ length list.now }
-    ensures { update.new ≡ cells.reset_from list.now 0 list.now update.old }
-{
-    for k in 0..list.len() {
-        let bit = reset_cell(list[k].function, disabling.get(k), update.get(k));
-        update.set(k, bit);
-    }
-}
-
-/// What a reset gives a cell of this function, disabling value and update bit.
-fn reset_cell(function: Function, disabling: bool, update: bool) -> bool
-    ensures { (all : List Cell) (k : ℕ) → cells.disabling_value k all ≡ disabling
-        → result ≡ cells.reset_cell all k function update }
-{
-    match function {
-        Function::ControlR => disabling,
-        _ => update,
-    }
-}
 
 /// The disabling value of each control cell: that of the lowest cell that names it, 0 if none does.
 fn disabling_values(alloc: Global, list: &[Cell]) -> Result<Bits, AllocError>
@@ -215,12 +197,12 @@ impl Boundary {
         ensures { IfOk result (λ b. b ≡ cells.powered device.now.cells core.now extest_update) }
     {
         let device = device.share()?;
+        let masks = masks_of(alloc, device.get().cells())?;
         let disabling = disabling_values(alloc, device.get().cells())?;
         let mut update = Bits::zeros(alloc, core.len())?;
-        reset_all(device.get().cells(), &disabling, &mut update);
+        reset_all(&masks.reset, &disabling, &mut update);
         let seen = Sights::none(alloc, device.get().cells())?;
         let stage = Bits::zeros(alloc, core.len())?;
-        let masks = masks_of(alloc, device.get().cells())?;
         Ok(Boundary {
             device,
             masks,

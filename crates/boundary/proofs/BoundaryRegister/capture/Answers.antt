@@ -15,6 +15,7 @@ invariant_of-self c =
       disabling = kept.disabling;
       masks = kept.masks;
       plain = kept.plain;
+      reset = kept.reset;
     }
 
 pub returns-clause-stage : goal.returns-clause-stage
