@@ -44,11 +44,14 @@ pub struct DrivingPins {
     pub(crate) pins: Vec<usize>,
     /// Of each block the bits that were last put to its pins.
     pub(crate) put: Vec<PlainCells>,
-    /// The pins that stand in no block: those whose cells have a control, or are the only ones of theirs.
+    /// The pins that stand in no block: those whose cells have a control, or are few among their 64.
     pub(crate) rest: Vec<DrivingPin>,
 }
 
 const NO_CELLS: PlainCells = PlainCells { mask: 0, bits: 0 };
+
+/// So many pins among 64 cells make a block. For fewer it takes longer to look for them than to ask each cell.
+const BLOCK_PINS: usize = 8;
 
 /// The pins that a cell drives, to whose nets nothing is known to have been put. Refused where memory runs out.
 pub fn driving_pins(
@@ -146,8 +149,7 @@ fn has_control(seats: &[Seat], it: DrivingPin) -> bool {
     }
 }
 
-/// The pins whose cells have others of these within the same 64, and those whose cells have none: for a pin alone it takes
-/// longer to read 64 bits than to ask its cell.
+/// The pins that have so many others within the same 64 cells that they make a block, and those that have not.
 fn divide_lone(
     sorted: &[DrivingPin],
     close: &mut Vec<DrivingPin>,
@@ -167,14 +169,27 @@ fn divide_lone(
     Ok(())
 }
 
-/// Whether neither the pin before this one nor the one behind it is of the same block. Both kinds are put to their nets
-/// alike, so no clause says which is which.
+/// Whether fewer pins than make a block are of the same 64 cells as this one. Both kinds are put to their nets alike, so
+/// no clause says which is which.
 fn is_lone(sorted: &[DrivingPin], i: usize) -> bool
     requires { i < length sorted.now }
 {
-    let before = i > 0 && share_block(sorted[i - 1], sorted[i]);
-    let behind = i + 1 < sorted.len() && share_block(sorted[i + 1], sorted[i]);
-    !before && !behind
+    for before in 0..BLOCK_PINS {
+        if before <= i && share_block_behind(sorted, i - before) {
+            return false;
+        }
+    }
+    true
+}
+
+/// Whether as many pins as make a block, from this one on, are of the same 64 cells.
+fn share_block_behind(sorted: &[DrivingPin], i: usize) -> bool
+    requires { i < length sorted.now }
+{
+    if sorted.len() - i < BLOCK_PINS {
+        return false;
+    }
+    share_block(sorted[i], sorted[i + BLOCK_PINS - 1])
 }
 
 /// Whether the cells of two pins are of the same 64 of one device.
