@@ -1,9 +1,7 @@
 -- A list of pins divided in two.
 use Rattle.std.proofs.Common.{◌≡◌, List, [], ◌∷◌, ◌++◌, sym, subst, ⊎_elim, inl, inr}
 use Rattle.std.specs.List.{Contains}
-use Rattle.std.specs.List.Sorted.{IsPermutation}
-use Rattle.std.proofs.lemmas.List.Elements.{Contains-append_cases, Contains-append_left, Contains-append_right, Contains-push, Contains-push_cases}
-use Rattle.std.proofs.lemmas.List.Sorted.{Contains-permutation, IsPermutation-sym}
+use Rattle.std.proofs.lemmas.List.Elements.{Contains-append_left, Contains-push, Contains-push_cases}
 use Rattle.chip_seats.specs.Blocks.{AreParts}
 use Rattle.chip_seats.specs.declared.driving.DrivingPin.{DrivingPin}
 
@@ -58,34 +56,3 @@ pub second_more : (all one other all-now one-now other-now : List DrivingPin) (x
     → AreParts all one other → AreParts all-now one-now other-now
 second_more all one other all-now one-now other-now x a b c p =
     parts-as (all ++ x ∷ []) one (other ++ x ∷ []) all-now one-now other-now a b c (second-more all one other x p)
-
--- the first in another order
-pub parts_sorted : (all one sorted other : List DrivingPin) → IsPermutation one sorted → AreParts all one other → AreParts all sorted other
-parts_sorted all one sorted other moved p = record {
-  first = λ e has. p.first e (Contains-permutation sorted one e (IsPermutation-sym one sorted moved) has);
-  second = p.second;
-  both = λ e has. ⊎_elim
-      (λ (there : Contains one e). inl (Contains-permutation one sorted e moved there))
-      (λ (there : Contains other e). inr there)
-      (p.both e has);
-}
-
--- the first divided once more, and what is not kept of it added to the second
-pub parts_joined : (all sorted given close lone lent other now : List DrivingPin) → given ≡ sorted → lent ≡ lone → now ≡ other ++ lent → AreParts all sorted other → AreParts given close lone
-    → AreParts all close now
-parts_joined all sorted given close lone lent other now is same joined p q = record {
-  first = λ e has. p.first e (subst (λ (l : List DrivingPin). Contains l e) is (q.first e has));
-  second = λ e has. ⊎_elim
-      (λ (old : Contains other e). p.second e old)
-      (λ (more : Contains lent e). p.first e (subst (λ (l : List DrivingPin). Contains l e) is (q.second e (subst (λ (l : List DrivingPin). Contains l e) same more))))
-      (Contains-append_cases other lent e (subst (λ (l : List DrivingPin). Contains l e) joined has));
-  both = λ e has. ⊎_elim
-      (λ (there : Contains sorted e). ⊎_elim
-      (λ (near : Contains close e). inl near)
-      (λ (far : Contains lone e).
-      inr (subst (λ (l : List DrivingPin). Contains l e) (sym joined)
-      (Contains-append_right other lent e (subst (λ (l : List DrivingPin). Contains l e) (sym same) far))))
-      (q.both e (subst (λ (l : List DrivingPin). Contains l e) (sym is) there)))
-      (λ (old : Contains other e). inr (subst (λ (l : List DrivingPin). Contains l e) (sym joined) (Contains-append_left other lent e old)))
-      (p.both e has);
-}

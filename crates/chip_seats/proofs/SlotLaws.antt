@@ -181,23 +181,21 @@ opened es n blocks now pins pins-now more e is pins-are long h s =
     subst (λ (l : List Block). AreSlots es n l pins-now) (sym is) (subst (AreSlots es n (blocks ++ empty_for e ∷ [])) (sym pins-are)
     (slots_open es n blocks pins more (empty_for e) s long (record { device = h; first = first }) refl))
 
-pub opened_room : (blocks now : List Block) (e : DrivingPin) → now ≡ blocks ++ empty_for e ∷ [] → HasRoom now e
+pub opened_room : (blocks now : List Block) (e : DrivingPin) → now ≡ blocks ++ empty_for e ∷ [] → HasRoom now (length blocks) e
 opened_room blocks now e is = record {
-  i = length blocks;
   b = empty_for e;
-  last = omega (arith, ap length is, length-append blocks (empty_for e ∷ []));
+  inside = omega (arith, ap length is, length-append blocks (empty_for e ∷ []));
   at = ap (λ (l : List Block). slice_get l (length blocks)) is ∙ pushed_last blocks (empty_for e);
   device = refl;
   first = omega arith;
   free = zero_bit (e.cell % 64);
 }
 
-pub room_in : (blocks : List Block) (e : DrivingPin) (b : Block) → 0 < length blocks → slice_get blocks (length blocks - 1) ≡ Some b → b.device ≡ e.device
-    → b.first ≡ e.cell - e.cell % 64 → has_bit b.slots (e.cell % 64) ≡ false → HasRoom blocks e
-room_in blocks e b some at device first free = record {
-  i = length blocks - 1;
+pub room_in : (blocks : List Block) (i : ℕ) (e : DrivingPin) (b : Block) → i < length blocks → slice_get blocks i ≡ Some b → b.device ≡ e.device
+    → b.first ≡ e.cell - e.cell % 64 → has_bit b.slots (e.cell % 64) ≡ false → HasRoom blocks i e
+room_in blocks i e b inside at device first free = record {
   b = b;
-  last = omega arith;
+  inside = inside;
   at = at;
   device = device;
   first = omega (arith, first);

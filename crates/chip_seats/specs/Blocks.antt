@@ -56,11 +56,10 @@ pub record AreSlots (driving : List DrivingPin) (devices : ℕ) (blocks : List B
       → Contains driving (slot_of pins i b j)
   pub all : (e : DrivingPin) → Contains driving e → IsSlot blocks pins e
 
--- the last block has a free slot for this pin
-pub record HasRoom (blocks : List Block) (e : DrivingPin) : Type 0 where
-  pub i : ℕ
+-- block i has a free slot for this pin
+pub record HasRoom (blocks : List Block) (i : ℕ) (e : DrivingPin) : Type 0 where
   pub b : Block
-  pub last : i + 1 ≡ length blocks
+  pub inside : i < length blocks
   pub at : slice_get blocks i ≡ Some b
   pub device : b.device ≡ e.device
   pub first : b.first + e.cell % 64 ≡ e.cell

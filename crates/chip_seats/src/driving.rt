@@ -10,6 +10,7 @@ ghost use Rattle.chip_seats.specs.Wires.{AreSeated};
 ghost use Rattle.chip_seats.specs.declared.driving.DrivingPin.{DrivingPin as Entry};
 ghost use Rattle.pin_nets.specs.declared.Drive.{Drive};
 
+use crate::block_numbers::BlockNumbers;
 use crate::seat::Seat;
 use crate::words::{bit, with_bit};
 use board_wiring::Wiring;
@@ -18,7 +19,7 @@ use bsdl_device::Cell;
 use std::alloc::{AllocError, Global};
 
 /// A pin of a board, by its number, that a cell drives: the place of its device, and the cell.
-#[derive(Drop, Clone, Copy, PartialEq, Eq, PartialOrd, Ord)]
+#[derive(Drop, Clone, Copy)]
 pub(crate) struct DrivingPin {
     pub(crate) device: usize,
     pub(crate) cell: usize,
@@ -64,16 +65,12 @@ pub fn driving_pins(
     ensures put { IfOk result (λ d. (drives : List Drive) → WerePut d.blocks.items d.pins.items d.put.items drives) }
 {
     let all = all_driving(alloc, wiring, seats)?;
-    let mut plain = Vec::new(alloc);
-    let mut rest = Vec::new(alloc);
-    divide(seats, &all, &mut plain, &mut rest)?;
-    // That the cells of a device stand together; what the table says does not hang on it.
-    plain.sort_unstable();
+    let counts = block_counts(alloc, seats, &all)?;
     let mut close = Vec::new(alloc);
-    let mut lone = Vec::new(alloc);
-    divide_lone(&plain, &mut close, &mut lone)?;
-    rest.extend_from_slice(&lone)?;
-    let (blocks, pins) = blocks_of(alloc, &close)?;
+    let mut rest = Vec::new(alloc);
+    divide(seats, &counts, &all, &mut close, &mut rest)?;
+    let places = BlockNumbers::zeros(alloc, seats)?;
+    let (blocks, pins) = blocks_of(alloc, places, &close)?;
     let put = Vec::from_elem(alloc, NO_CELLS, blocks.len())?;
     Ok(DrivingPins {
         blocks,
@@ -116,29 +113,50 @@ fn enter(
     Ok(())
 }
 
-/// The pins whose cells have no control, and the others.
-fn divide(
+/// Of each 64 cells of a device how many without a control drive a pin.
+fn block_counts(
+    alloc: Global,
     seats: &[Seat],
     all: &[DrivingPin],
-    plain: &mut Vec<DrivingPin>,
+) -> Result<BlockNumbers, AllocError> {
+    let mut counts = BlockNumbers::zeros(alloc, seats)?;
+    for it in all {
+        if !has_control(seats, *it) {
+            counts.put(*it, counts.number(*it).saturating_add(1));
+        }
+    }
+    Ok(counts)
+}
+
+/// The pins that stand in blocks, and those that go one by one.
+fn divide(
+    seats: &[Seat],
+    counts: &BlockNumbers,
+    all: &[DrivingPin],
+    close: &mut Vec<DrivingPin>,
     rest: &mut Vec<DrivingPin>,
 ) -> Result<(), AllocError>
-    requires plain { plain.old.items ≡ [] }
+    requires close { close.old.items ≡ [] }
     requires rest { rest.old.items ≡ [] }
-    ensures { OnOk result (AreParts all.now plain.new.items rest.new.items) }
+    ensures { OnOk result (AreParts all.now close.new.items rest.new.items) }
 {
     for it in all {
-        if has_control(seats, *it) {
+        if goes_alone(seats, counts, *it) {
             rest.push(*it)?;
         } else {
-            plain.push(*it)?;
+            close.push(*it)?;
         }
     }
     Ok(())
 }
 
-/// Whether what the cell of a pin drives hangs on another. Both kinds are put to their nets alike, those with a control
-/// one by one, so no clause says which is which.
+/// Whether the cell of a pin has a control, or fewer of its 64 drive pins than make a block. Both kinds are put to their
+/// nets alike, so no clause says which is which.
+fn goes_alone(seats: &[Seat], counts: &BlockNumbers, it: DrivingPin) -> bool {
+    counts.number(it) < BLOCK_PINS || has_control(seats, it)
+}
+
+/// Whether what the cell of a pin drives hangs on another.
 fn has_control(seats: &[Seat], it: DrivingPin) -> bool {
     match seats.get(it.device) {
         Some(seat) => match seat.device().cells().get(it.cell) {
@@ -149,111 +167,71 @@ fn has_control(seats: &[Seat], it: DrivingPin) -> bool {
     }
 }
 
-/// The pins that have so many others within the same 64 cells that they make a block, and those that have not.
-fn divide_lone(
-    sorted: &[DrivingPin],
-    close: &mut Vec<DrivingPin>,
-    lone: &mut Vec<DrivingPin>,
-) -> Result<(), AllocError>
-    requires close { close.old.items ≡ [] }
-    requires lone { lone.old.items ≡ [] }
-    ensures { OnOk result (AreParts sorted.now close.new.items lone.new.items) }
-{
-    for i in 0..sorted.len() {
-        if is_lone(sorted, i) {
-            lone.push(sorted[i])?;
-        } else {
-            close.push(sorted[i])?;
-        }
-    }
-    Ok(())
-}
-
-/// Whether fewer pins than make a block are of the same 64 cells as this one. Both kinds are put to their nets alike, so
-/// no clause says which is which.
-fn is_lone(sorted: &[DrivingPin], i: usize) -> bool
-    requires { i < length sorted.now }
-{
-    for before in 0..BLOCK_PINS {
-        if before <= i && share_block_behind(sorted, i - before) {
-            return false;
-        }
-    }
-    true
-}
-
-/// Whether as many pins as make a block, from this one on, are of the same 64 cells.
-fn share_block_behind(sorted: &[DrivingPin], i: usize) -> bool
-    requires { i < length sorted.now }
-{
-    if sorted.len() - i < BLOCK_PINS {
-        return false;
-    }
-    share_block(sorted[i], sorted[i + BLOCK_PINS - 1])
-}
-
-/// Whether the cells of two pins are of the same 64 of one device.
-fn share_block(one: DrivingPin, other: DrivingPin) -> bool {
-    one.device == other.device && one.cell / 64 == other.cell / 64
-}
-
-/// The blocks of these pins' cells, and the pins of each block. Cells that stand together are in one block.
-fn blocks_of(alloc: Global, driving: &[DrivingPin]) -> Result<(Vec<Block>, Vec<usize>), AllocError>
+/// The blocks of these pins' cells, and the pins of each block. `places` has for each 64 cells which block is theirs, as
+/// soon as there is one.
+fn blocks_of(
+    alloc: Global,
+    places: BlockNumbers,
+    driving: &[DrivingPin],
+) -> Result<(Vec<Block>, Vec<usize>), AllocError>
     ensures { IfOk result (λ t. (n : ℕ) → AreSeatedPins n driving.now
         → AreSlots driving.now n t.0.items t.1.items) }
 {
+    let mut places = places;
     let mut blocks = Vec::new(alloc);
     let mut pins = Vec::new(alloc);
     for it in driving {
-        enter_slot(&mut blocks, &mut pins, *it)?;
+        let place = enter_slot(&mut blocks, &mut pins, places.number(*it), *it)?;
+        places.put(*it, place);
     }
     Ok((blocks, pins))
 }
 
-/// One more pin: in the last block, if that has room for it, or in a new one.
+/// One more pin: in the block at a place, if that has room for it, or in a new one. Answers the place of its block.
 fn enter_slot(
     blocks: &mut Vec<Block>,
     pins: &mut Vec<usize>,
+    place: usize,
     it: DrivingPin,
-) -> Result<(), AllocError>
+) -> Result<usize, AllocError>
     requires { length pins.old.items ≡ 64 * length blocks.old.items }
     ensures long { OnOk result (length pins.new.items ≡ 64 * length blocks.new.items) }
     ensures slots { OnOk result ((n : ℕ) (es : List Entry) → it.device < n
         → AreSlots es n blocks.old.items pins.old.items
         → AreSlots (es ++ it ∷ []) n blocks.new.items pins.new.items) }
 {
-    if !has_room(blocks, it) {
+    if !has_room(blocks, place, it) {
         return open(blocks, pins, it);
     }
-    fill(blocks, pins, it);
-    Ok(())
+    fill(blocks, pins, place, it);
+    Ok(place)
 }
 
-/// Whether the cell of a pin is one of the last block, and drives no pin yet.
-fn has_room(blocks: &[Block], it: DrivingPin) -> bool
-    ensures { result ≡ true → HasRoom blocks.now it }
+/// Whether the cell of a pin is one of the block at a place, and drives no pin yet.
+fn has_room(blocks: &[Block], place: usize, it: DrivingPin) -> bool
+    ensures { result ≡ true → HasRoom blocks.now place it }
 {
-    let n = blocks.len();
-    if n == 0 {
+    if place >= blocks.len() {
         return false;
     }
-    let last = blocks[n - 1];
-    last.device == it.device
-        && last.first == it.cell - it.cell % 64
-        && !bit(last.slots, it.cell % 64)
+    let block = blocks[place];
+    block.device == it.device
+        && block.first == it.cell - it.cell % 64
+        && !bit(block.slots, it.cell % 64)
 }
 
-/// One more block, with a pin.
-fn open(blocks: &mut Vec<Block>, pins: &mut Vec<usize>, it: DrivingPin) -> Result<(), AllocError>
+/// One more block, with a pin. Answers its place.
+fn open(blocks: &mut Vec<Block>, pins: &mut Vec<usize>, it: DrivingPin) -> Result<usize, AllocError>
     requires { length pins.old.items ≡ 64 * length blocks.old.items }
     ensures long { OnOk result (length pins.new.items ≡ 64 * length blocks.new.items) }
     ensures slots { OnOk result ((n : ℕ) (es : List Entry) → it.device < n
         → AreSlots es n blocks.old.items pins.old.items
         → AreSlots (es ++ it ∷ []) n blocks.new.items pins.new.items) }
 {
+    let place = blocks.len();
     open_empty(blocks, pins, it)?;
-    fill(blocks, pins, it);
-    Ok(())
+    fill(blocks, pins, place, it);
+    Ok(place)
 }
 
 /// One more block, for the cell of a pin.
@@ -264,7 +242,7 @@ fn open_empty(
 ) -> Result<(), AllocError>
     requires { length pins.old.items ≡ 64 * length blocks.old.items }
     ensures long { OnOk result (length pins.new.items ≡ 64 * length blocks.new.items) }
-    ensures room { OnOk result (HasRoom blocks.new.items it) }
+    ensures room { OnOk result (HasRoom blocks.new.items (length blocks.old.items) it) }
     ensures slots { OnOk result ((n : ℕ) (es : List Entry) → it.device < n
         → AreSlots es n blocks.old.items pins.old.items → AreSlots es n blocks.new.items pins.new.items) }
 {
@@ -277,22 +255,21 @@ fn open_empty(
     Ok(())
 }
 
-/// A pin is entered in the last block, at the slot of its cell.
-fn fill(blocks: &mut Vec<Block>, pins: &mut Vec<usize>, it: DrivingPin)
+/// A pin is entered in the block at a place, at the slot of its cell.
+fn fill(blocks: &mut Vec<Block>, pins: &mut Vec<usize>, place: usize, it: DrivingPin)
     requires long { length pins.old.items ≡ 64 * length blocks.old.items }
-    requires room { HasRoom blocks.old.items it }
+    requires room { HasRoom blocks.old.items place it }
     ensures long { length pins.new.items ≡ 64 * length blocks.new.items }
     ensures slots { (n : ℕ) (es : List Entry) → AreSlots es n blocks.old.items pins.old.items
         → AreSlots (es ++ it ∷ []) n blocks.new.items pins.new.items }
 {
-    let i = blocks.len() - 1;
     let j = it.cell % 64;
-    let block = blocks[i];
-    blocks[i] = Block {
+    let block = blocks[place];
+    blocks[place] = Block {
         slots: with_bit(block.slots, j),
         ..block
     };
-    pins[64 * i + j] = it.pin;
+    pins[64 * place + j] = it.pin;
 }
 
 /// The first of these cells that drives a port bit.

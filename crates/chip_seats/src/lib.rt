@@ -2,6 +2,7 @@
 //! do to one of them, and what its pins put to the nets (IEEE Std 1149.1-2001).
 #![tactic(auto)]
 
+mod block_numbers;
 mod build;
 mod driving;
 mod refreshing;

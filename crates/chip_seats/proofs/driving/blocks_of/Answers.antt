@@ -15,10 +15,10 @@ loop-it-preserved c =
     let x = get_or driving i none in
     let more : take (i + 1) driving ≡ take i driving ++ x ∷ [] = take_more driving i none c.loop-it-test.true in
     record {
-      long = c.in_ok-enter_slot.ensures.long;
+      long = c.in_ok-place.ensures.long;
       slots = λ n seated.
           subst (λ (es : List DrivingPin). AreSlots es n c.enter_slot.new.blocks.items c.enter_slot.new.pins.items) (sym more)
-          (c.in_ok-enter_slot.ensures.slots n (take i driving) (seated x (Contains-get_or driving i none c.loop-it-test.true)) (c.loop-it.invariant.slots n seated));
+          (c.in_ok-place.ensures.slots n (take i driving) (seated x (Contains-get_or driving i none c.loop-it-test.true)) (c.loop-it.invariant.slots n seated));
     }
 
 pub returns : goal.returns

@@ -2,7 +2,7 @@ use Rattle.std.proofs.Common.{◌≡◌, ◌+◌, [], ◌∷◌, ◌++◌, take,
 use Rattle.std.proofs.lemmas.List.{take_more}
 use Rattle.chip_seats.specs.declared.driving.DrivingPin.{DrivingPin}
 use Rattle.chip_seats.proofs.PartLaws.{first_more, second_more}
-use Rattle.chip_seats.proofs.driving.divide.Goals.{then-has_control+in_ok-push, else-has_control+in_ok-push-2}
+use Rattle.chip_seats.proofs.driving.divide.Goals.{then-goes_alone+in_ok-push, else-goes_alone+in_ok-push-2}
 use Rattle.chip_seats.proofs.driving.divide.Goals as goal
 
 abbrev none : DrivingPin
@@ -13,14 +13,14 @@ loop-it-preserved c =
     let all = c.args.all.now in
     let i = c.loop-it.it-index in
     let x = get_or all i none in
-    let plain = c.loop-it.plain.items in
+    let close = c.loop-it.close.items in
     let rest = c.loop-it.rest.items in
     let more : take (i + 1) all ≡ take i all ++ x ∷ [] = take_more all i none c.loop-it-test.true in
-    elim c.if-has_control.branch [
-      | then-has_control+in_ok-push w ↦
-          second_more (take i all) plain rest (take (i + 1) all) c.if-has_control.plain.items c.if-has_control.rest.items x more
-          (ap (λ v. v.items) w.plain-is) (ap (λ v. v.items) w.rest-is ∙ w.in_ok-push.ensures.items) c.loop-it.invariant
-      | else-has_control+in_ok-push-2 w ↦
-          first_more (take i all) plain rest (take (i + 1) all) c.if-has_control.plain.items c.if-has_control.rest.items x more
-          (ap (λ v. v.items) w.plain-is ∙ w.in_ok-push-2.ensures.items) (ap (λ v. v.items) w.rest-is) c.loop-it.invariant
+    elim c.if-goes_alone.branch [
+      | then-goes_alone+in_ok-push w ↦
+          second_more (take i all) close rest (take (i + 1) all) c.if-goes_alone.close.items c.if-goes_alone.rest.items x more
+          (ap (λ v. v.items) w.close-is) (ap (λ v. v.items) w.rest-is ∙ w.in_ok-push.ensures.items) c.loop-it.invariant
+      | else-goes_alone+in_ok-push-2 w ↦
+          first_more (take i all) close rest (take (i + 1) all) c.if-goes_alone.close.items c.if-goes_alone.rest.items x more
+          (ap (λ v. v.items) w.close-is ∙ w.in_ok-push-2.ensures.items) (ap (λ v. v.items) w.rest-is) c.loop-it.invariant
     ]

@@ -1,4 +1,4 @@
-use Rattle.std.proofs.Common.{◌≡◌, ◌<◌, ◌-◌, ◌+◌, ◌%◌, Some, length, slice_get, sym, ap, ◌∙◌, arith, refl}
+use Rattle.std.proofs.Common.{◌≡◌, ◌+◌, ◌%◌, Some, length, slice_get, sym, ap, ◌∙◌, refl}
 use Rattle.std.proofs.lemmas.Option.{slice_get_read, same_Some}
 use Rattle.jt_bits.specs.Packed.{has_bit}
 use Rattle.chip_seats.specs.declared.driving.Block.{Block}
@@ -9,12 +9,10 @@ pub returns-clause-slots : goal.returns-clause-slots
 returns-clause-slots c =
     let blocks = c.args.blocks.now.items in
     let r = c.requires.room in
-    let i = c.len-i.result - 1 in
+    let i = c.args.place in
     let b = c.index-block.result.now in
-    let last : r.i ≡ i = omega (arith, r.last, c.len-i.ensures, c.args.blocks.now.ok.0) in
-    let inside : i < length blocks = omega (arith, r.last, last) in
-    let at : slice_get blocks i ≡ Some b = slice_get_read blocks (length blocks) i b refl inside c.index-block.ensures in
-    let is : r.b ≡ b = same_Some r.b b (sym r.at ∙ ap (slice_get blocks) last ∙ at) in
+    let at : slice_get blocks i ≡ Some b = slice_get_read blocks (length blocks) i b refl r.inside c.index-block.ensures in
+    let is : r.b ≡ b = same_Some r.b b (sym r.at ∙ at) in
     λ n es s. slots_filled es n blocks c.args.pins.now.items c.args.it i b c.with_bit.result s at
     (sym (ap (λ (x : Block). x.device) is) ∙ r.device)
     (sym (ap (λ (x : Block). x.first + c.args.it.cell % 64) is) ∙ r.first)
