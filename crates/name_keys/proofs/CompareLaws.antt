@@ -31,13 +31,13 @@ ordered one other p q e f o r one_is other_is e_is f_is o_is r_is =
     ∙ ap (λ (l : List ℕ). key_order l q) one_is ∙ ap (key_order one) other_is
 
 -- what names begin with alike does not order them
-pub order_behind : (xs ys : List ℕ) (n : ℕ) → n ≤ length xs → n ≤ length ys → take n xs ≡ take n ys
+pub order_behind : (xs ys : List ℕ) (n : ℕ) → n ≤ length xs → n ≤ length ys → map to_ascii_uppercase (take n xs) ≡ map to_ascii_uppercase (take n ys)
     → slice_cmp nat_cmp (map to_ascii_uppercase (drop n xs)) (map to_ascii_uppercase (drop n ys)) ≡ slice_cmp nat_cmp (map to_ascii_uppercase xs) (map to_ascii_uppercase ys)
 order_behind xs ys zero one other same = refl
 order_behind [] ys (suc n) one other same = absurd (omega arith)
 order_behind (x ∷ xs) [] (suc n) one other same = absurd (omega arith)
 order_behind (x ∷ xs) (y ∷ ys) (suc n) one other same =
-    let first : x ≡ y = cc in
-    let rest : take n xs ≡ take n ys = cc in
+    let first : to_ascii_uppercase x ≡ to_ascii_uppercase y = cc in
+    let rest : map to_ascii_uppercase (take n xs) ≡ map to_ascii_uppercase (take n ys) = cc in
     order_behind xs ys n (omega arith) (omega arith) rest
-    ∙ ap (λ o. ordering_then o (slice_cmp nat_cmp (map to_ascii_uppercase xs) (map to_ascii_uppercase ys))) (sym (ap (λ (b : ℕ). nat_cmp (to_ascii_uppercase x) (to_ascii_uppercase b)) (sym first) ∙ tied_itself nat_cmp_total (to_ascii_uppercase x)))
+    ∙ ap (λ o. ordering_then o (slice_cmp nat_cmp (map to_ascii_uppercase xs) (map to_ascii_uppercase ys))) (sym (ap (nat_cmp (to_ascii_uppercase x)) (sym first) ∙ tied_itself nat_cmp_total (to_ascii_uppercase x)))

@@ -1,1 +1,2 @@
 pub mod CompareLaws
+pub mod LaneLaws

@@ -12,17 +12,16 @@ ghost use Rattle.std.specs.Ordering.{nat_cmp};
 ghost use Rattle.name_keys.specs.Keys.{end_of, key_order};
 ghost use Rattle.name_keys.specs.OrderLaws.{key_order_total, key_order_ties};
 
+use lanes::{LANES, same_but_for_case};
 pub use owned::OwnedNameKey;
 use std::cmp::Ordering;
 use std::marker::Model;
 
+mod lanes;
 mod owned;
 
 /// How many bytes of a name's end are compared first.
 const END: usize = 8;
-
-/// How many bytes are passed over at once where they are the same.
-const GROUP: usize = 16;
 
 /// A name as a key that lends it, in any case. Contracts see it as the name in upper case.
 #[derive(Debug, Drop)]
@@ -112,16 +111,16 @@ fn compare(one: &[u8], other: &[u8]) -> Ordering
     one.len().cmp(&other.len())
 }
 
-/// How many bytes two names begin with alike, counted in groups.
+/// How many bytes two names begin with alike in upper case, counted in groups.
 fn alike(one: &[u8], other: &[u8]) -> usize
     ensures within { (result ≤ length one.now) × (result ≤ length other.now) }
-    ensures alike { take result one.now ≡ take result other.now }
+    ensures alike { map to_ascii_uppercase (take result one.now) ≡ map to_ascii_uppercase (take result other.now) }
 {
     let both = one.len().min(other.len());
     let mut same = 0;
-    while GROUP <= both - same {
-        let end = same + GROUP;
-        if one[same..end] != other[same..end] {
+    while LANES <= both - same {
+        let end = same + LANES;
+        if one[same..end] != other[same..end] && !same_but_for_case(one, other, same) {
             return same;
         }
         same = end;

@@ -8,10 +8,12 @@ ghost use Rattle.name_keys.specs.OrderLaws.{key_order_total, key_order_ties};
 
 use crate::END;
 use std::cmp::Ordering;
+use std::fmt;
+use std::fmt::Debug;
 use std::marker::Model;
 
 /// A name as a key that keeps it, in its own case. Contracts see it as the name's bytes.
-#[derive(Debug, Drop)]
+#[derive(Drop)]
 pub struct OwnedNameKey {
     end: u64,
     name: String,
@@ -35,6 +37,13 @@ impl OwnedNameKey {
     {
         let end = end_of_text(name.as_str());
         OwnedNameKey { end, name }
+    }
+}
+
+/// As its name is.
+impl Debug for OwnedNameKey {
+    fn fmt<W: fmt::Write>(&self, f: &mut fmt::Formatter<W>) -> fmt::Result {
+        Debug::fmt(&self.name, f)
     }
 }
 
