@@ -38,6 +38,13 @@ cell_by_table nets place ports table c long fit has = by c.port refl
         there p (inl h) = has.each p h
         there p (inr h) = get_or_past table p None h ∙ sym (fit.past p (omega (arith, h, long)))
 
+pub cells_by_table : (nets : List Net) (place ports : ℕ) (table : List (Option ℕ)) (cells : List Cell) → length table ≡ ports → PortsFit place ports nets → HasNets place nets table
+    → map (λ (c : Cell). net_by table c.port) cells ≡ map (cell_net nets place) cells
+cells_by_table nets place ports table [] long fit has = refl
+cells_by_table nets place ports table (c ∷ cells) long fit has =
+    ap (λ (o : Option ℕ). o ∷ map (λ (x : Cell). net_by table x.port) cells) (cell_by_table nets place ports table c long fit has)
+    ∙ ap (λ (os : List (Option ℕ)). cell_net nets place c ∷ os) (cells_by_table nets place ports table cells long fit has)
+
 -- ---- pins are port bits
 
 pins-apart : (place p : ℕ) (members : List planned.Member) (m : planned.Member) (pins : List Pin) → slice_get members place ≡ Some m → length m.device.ports ≤ p

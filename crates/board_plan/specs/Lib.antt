@@ -4,3 +4,4 @@ pub mod Words
 pub mod LeftOut
 pub mod View
 pub mod CellNets
+pub mod AllCellNets

@@ -4,7 +4,7 @@ ghost use Rattle.board_plan.specs.CellNets.{EntersNet, HasNets, PortsFit, cell_n
 ghost use Rattle.board_plan.specs.View.{net as planned_net};
 
 use crate::plan::PlannedNet;
-use bsdl_device::Device;
+use bsdl_device::{Cell, Device};
 use pin_nets::Pin;
 use std::alloc::{AllocError, Global};
 
@@ -22,9 +22,20 @@ pub fn cell_nets(
     ensures { IfOk result (λ v. v.items ≡ map (cell_net (map planned_net nets.now) place) device.now.cells) }
 {
     let table = port_nets(alloc, nets, place, device.port_count())?;
-    let mut all = Vec::with_capacity(alloc, device.cells().len())?;
-    for cell in device.cells() {
-        all.push(net_in(&table, cell.port))?;
+    nets_by(alloc, &table, device.cells())
+}
+
+/// The nets of cells, by a table of the nets of port bits.
+pub(crate) fn nets_by(
+    alloc: Global,
+    table: &[Option<usize>],
+    cells: &[Cell],
+) -> Result<Vec<Option<usize>>, AllocError>
+    ensures { IfOk result (λ v. v.items ≡ map (λ c. net_by table.now c.port) cells.now) }
+{
+    let mut all = Vec::with_capacity(alloc, cells.len())?;
+    for cell in cells {
+        all.push(net_in(table, cell.port))?;
     }
     Ok(all)
 }

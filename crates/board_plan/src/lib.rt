@@ -2,12 +2,14 @@
 //! here.
 #![tactic(auto)]
 
+mod all_cells;
 mod cells;
 mod instructions;
 mod numbers;
 mod plan;
 mod words;
 
+pub use all_cells::all_cell_nets;
 pub use cells::cell_nets;
 pub use instructions::{is_left_out, left_out, left_out_means_bypass};
 pub use numbers::number_nets;
