@@ -5,7 +5,7 @@ ghost use Rattle.board_plan.specs.View.{member as planned_member, net as planned
 ghost use Rattle.chip_seats.specs.Building.{IsReady, seats_of};
 
 use crate::seat::Seat;
-use board_plan::{PlannedDevice, PlannedNet, cell_nets};
+use board_plan::{PlannedDevice, PlannedNet, all_cell_nets};
 use std::alloc::{AllocError, Global};
 
 /// The devices of a plan as they power up, each with the nets of its cells; refused where memory runs out.
@@ -17,10 +17,9 @@ pub fn all_seats(
     requires { IsReady (record { members = map planned_member devices.now; nets = map planned_net nets.now }) }
     ensures { IfOk result (λ v. v.items ≡ seats_of (map planned_net nets.now) 0 (map planned_member devices.now)) }
 {
+    let all_cells = all_cell_nets(alloc, nets, devices)?;
     let mut seats = Vec::with_capacity(alloc, devices.len())?;
-    for place in 0..devices.len() {
-        let device = &devices[place];
-        let cells = cell_nets(alloc, nets, place, device.device.get())?;
+    for (device, cells) in devices.iter().zip(all_cells) {
         seats.push(Seat::new(alloc, device, cells)?)?;
     }
     Ok(seats)

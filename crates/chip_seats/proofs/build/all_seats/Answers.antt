@@ -1,43 +1,51 @@
-use Rattle.std.proofs.Common.{length, map, sym, subst, arith}
-use Rattle.std.proofs.lemmas.List.{length-map}
-use Rattle.device_instructions.specs.Fitting.{IsFormed}
-use Rattle.bsdl_device.specs.Device.{Device}
+use Rattle.std.proofs.Common.{take, length, map, refl, ap, sym, ◌∙◌}
+use Rattle.std.proofs.lemmas.List.{length-map, length_push}
 use Rattle.board_plan.specs.Planned.{HasCore}
-use Rattle.board_plan.specs.View.{member as planned_member, net as planned_net}
 use Rattle.board_plan.specs.Planned as planned
-use Rattle.board_plan.specs.CellNets.{PortsFit}
-use Rattle.board_plan.proofs.CellLaws.{ports_fit}
-use Rattle.chip_seats.proofs.BuildLaws.{all_at, planned_at, seat_push, seats_end}
+use Rattle.board_plan.specs.View.{member as planned_member, net as planned_net}
+use Rattle.device_instructions.specs.Fitting.{IsFormed}
+use Rattle.chip_seats.specs.Building.{seats_of}
+use Rattle.chip_seats.proofs.BuildLaws.{all_at, all_fit, seat_push, seats_end, turn, turns_end}
 use Rattle.chip_seats.proofs.build.all_seats.Goals as goal
 
-pub cell_nets-requires : goal.cell_nets-requires
-cell_nets-requires c =
+pub all_cell_nets-requires : goal.all_cell_nets-requires
+all_cell_nets-requires c = all_fit (map planned_member c.args.devices.now) (map planned_net c.args.nets.now) c.requires.pins
+
+pub loop-device-preserved : goal.loop-device-preserved
+loop-device-preserved c =
     let ms = map planned_member c.args.devices.now in
-    let d = c.index-devices-place.result in
-    let here = planned_at c.args.devices.now c.loop-place.place d c.loop-place-test.true c.index-devices-place.is in
-    subst (λ (x : Device). PortsFit c.loop-place.place (length x.ports) (map planned_net c.args.nets.now)) (sym c.get.ensures)
-    (ports_fit c.loop-place.place ms (planned_member d) (map planned_net c.args.nets.now) here c.requires.pins)
-
-pub new-requires-clause-formed : goal.new-requires-clause-formed
-new-requires-clause-formed c =
-    let d = c.index-devices-place.result in
-    all_at (λ (m : planned.Member). IsFormed m.device) (map planned_member c.args.devices.now) c.loop-place.place (planned_member d) c.requires.formed
-    (planned_at c.args.devices.now c.loop-place.place d c.loop-place-test.true c.index-devices-place.is)
-
-pub new-requires-clause-core : goal.new-requires-clause-core
-new-requires-clause-core c =
-    let d = c.index-devices-place.result in
-    all_at HasCore (map planned_member c.args.devices.now) c.loop-place.place (planned_member d) c.requires.cores
-    (planned_at c.args.devices.now c.loop-place.place d c.loop-place-test.true c.index-devices-place.is)
-
-pub loop-place-preserved : goal.loop-place-preserved
-loop-place-preserved c =
-    let d = c.index-devices-place.result in
     let nets = map planned_net c.args.nets.now in
-    let here = planned_at c.args.devices.now c.loop-place.place d c.loop-place-test.true c.index-devices-place.is in
-    seat_push nets (map planned_member c.args.devices.now) c.loop-place.place (planned_member d) c.loop-place.seats.items c.push.new.self.items c.in_ok-new.field-0
-    c.in_ok-cells.cells.items c.get.result.now here c.loop-place.invariant c.get.ensures c.in_ok-cells.ensures c.in_ok-new.ensures c.in_ok-push.ensures.items
+    let device = planned_member c.in-Some.device.now in
+    let i = length c.loop-device.yielded in
+    let its = turn c.into_iter-device-iterator.result c.zip-device-items.result c.iter.result c.loop-device.device-iterator c.next.new.self
+    nets c.args.devices.now c.in_ok-all_cells.all_cells
+    c.into_iter-device-iterator.ensures.into_iter_gives c.zip-device-items.ensures.first c.iter.ensures.rest (c.zip-device-items.ensures.second.0, c.zip-device-items.ensures.second.1)
+    c.in_ok-all_cells.ensures c.loop-device.yielded c.loop-device.yielded_by c.next.result (c.in-Some.device, c.in-Some.cells) c.in-Some.is c.next.ensures.steps in
+    seat_push nets ms i device c.loop-device.seats.items c.push.new.self.items c.in_ok-new.field-0 c.in-Some.cells.items device.device its.at c.loop-device.invariant refl its.wired c.in_ok-new.ensures
+    c.in_ok-push.ensures.items
+    ∙ ap (λ n. take n (seats_of nets 0 ms)) (sym (length_push c.loop-device.yielded (c.in-Some.device, c.in-Some.cells)))
+
+pub new-requires : goal.new-requires
+new-requires c =
+    let ms = map planned_member c.args.devices.now in
+    let device = planned_member c.in-Some.device.now in
+    let i = length c.loop-device.yielded in
+    let its = turn c.into_iter-device-iterator.result c.zip-device-items.result c.iter.result c.loop-device.device-iterator c.next.new.self
+    (map planned_net c.args.nets.now) c.args.devices.now c.in_ok-all_cells.all_cells
+    c.into_iter-device-iterator.ensures.into_iter_gives c.zip-device-items.ensures.first c.iter.ensures.rest (c.zip-device-items.ensures.second.0, c.zip-device-items.ensures.second.1)
+    c.in_ok-all_cells.ensures c.loop-device.yielded c.loop-device.yielded_by c.next.result (c.in-Some.device, c.in-Some.cells) c.in-Some.is c.next.ensures.steps in
+    record {
+      formed = all_at (λ (m : planned.Member). IsFormed m.device) ms i device c.requires.formed its.at;
+      core = all_at HasCore ms i device c.requires.cores its.at;
+      nets = ap length its.wired ∙ length-map device.device.cells _;
+    }
 
 pub returns : goal.returns
-returns c = seats_end (map planned_net c.args.nets.now) (map planned_member c.args.devices.now) c.loop-place.seats.items c.loop-place.place c.loop-place.invariant
-    (omega (arith, c.loop-place-test.false, length-map c.args.devices.now planned_member))
+returns c =
+    let ms = map planned_member c.args.devices.now in
+    let nets = map planned_net c.args.nets.now in
+    seats_end nets ms c.loop-device.seats.items (length c.loop-device.yielded) c.loop-device.invariant
+    (turns_end c.into_iter-device-iterator.result c.zip-device-items.result c.iter.result c.loop-device.device-iterator c.next.new.self
+    nets c.args.devices.now c.in_ok-all_cells.all_cells
+    c.into_iter-device-iterator.ensures.into_iter_gives c.zip-device-items.ensures.first c.iter.ensures.rest (c.zip-device-items.ensures.second.0, c.zip-device-items.ensures.second.1)
+    c.in_ok-all_cells.ensures c.loop-device.yielded c.loop-device.yielded_by c.next.result c.in-None.is c.next.ensures.steps)
