@@ -9,6 +9,7 @@ use Rattle.bitbang_table.specs.Protocol.{decode}
 use Rattle.board_meaning.specs.Chain.{BoardState, after_byte, after_bytes, reply_of}
 use Rattle.board_meaning.specs.declared.Reply.TheVariants as said
 use Rattle.jt_board.specs.Idling.{is_idle_byte, writes_idle}
+use Rattle.play_links.specs.Leaving.{left_after, left_behind}
 use Rattle.play_links.specs.Serves.{serve_bytes, serve_one}
 
 both : (x y : Bool) → (x && y) ≡ true → (x ≡ true) × (y ≡ true)
@@ -33,3 +34,16 @@ pub behind_served : (bytes : List ℕ) (n : ℕ) (b : BoardState) → n ≤ leng
     → serve_bytes (drop n bytes) (after_bytes (take n bytes) b) ≡ serve_bytes bytes b
 behind_served bytes n b within h =
     sym (idle_served (take n bytes) (drop n bytes) b h) ∙ ap (λ l. serve_bytes l b) (take-append-drop n bytes)
+
+pub idle_left : (idle rest : List ℕ) (b : BoardState) → list_all is_idle_byte idle ≡ true
+    → left_behind (idle ++ rest) b ≡ left_behind rest (after_bytes idle b)
+idle_left [] rest b h = refl
+idle_left (byte ∷ idle) rest b h =
+    let parts = both (is_idle_byte byte) (list_all is_idle_byte idle) h in
+    ap (λ r. left_after r (idle ++ rest) (left_behind (idle ++ rest) (after_byte byte b))) (unanswered (decode byte) byte b parts.0)
+    ∙ idle_left idle rest (after_byte byte b) parts.1
+
+pub behind_left : (bytes : List ℕ) (n : ℕ) (b : BoardState) → n ≤ length bytes → list_all is_idle_byte (take n bytes) ≡ true
+    → left_behind (drop n bytes) (after_bytes (take n bytes) b) ≡ left_behind bytes b
+behind_left bytes n b within h =
+    sym (idle_left (take n bytes) (drop n bytes) b h) ∙ ap (λ l. left_behind l b) (take-append-drop n bytes)

@@ -1,6 +1,6 @@
 -- Cycles that are served at once are served as byte by byte.
 use mir.Val.{bool_byte}
-use Rattle.std.proofs.Common.{◌≡◌, ℕ, zero, suc, ◌+◌, ◌-◌, ◌*◌, ◌/◌, ◌%◌, ◌^◌, ◌<◌, ◌≤◌, ⊎_elim, Bool, true, false, ◌||◌, ◌&&◌, not, List, [], ◌∷◌, ◌++◌, append_assoc, append-nil, length, length-append, ◌==◌, take, map, set, refl, sym, ap, ap₂, subst, ◌∙◌, arith, if◌then◌else◌, nat_eq}
+use Rattle.std.proofs.Common.{◌≡◌, ℕ, zero, suc, ◌+◌, ◌-◌, ◌*◌, ◌/◌, ◌%◌, ◌^◌, ◌<◌, ◌≤◌, ⊎_elim, Bool, true, false, ◌||◌, ◌&&◌, not, List, [], ◌∷◌, ◌++◌, append_assoc, append-nil, length, length-append, ◌==◌, take, drop, map, set, refl, sym, ap, ap₂, subst, ◌∙◌, arith, if◌then◌else◌, nat_eq}
 use Rattle.std.specs.Int.Bits.{bit_and, bit_or}
 use Rattle.std.proofs.lemmas.Bool.{cases_lt}
 use Rattle.std.proofs.lemmas.Bool.Decides.{nat_tests}
@@ -10,17 +10,23 @@ use Rattle.std.proofs.lemmas.List.FromFn.{map-range_with_len_more}
 use Rattle.jt_bits.specs.Packed.{has_bit}
 use Rattle.jt_bits.specs.Words.{bit_of}
 use Rattle.jt_bits.proofs.PackedWords.{bit_read, or_bit, shl_high, shl_low}
+use Rattle.std.specs.Prelude.{Option, Some, None, slice_index_or}
 use Rattle.bitbang_table.specs.declared.Cycle.{Cycle}
+use Rattle.bitbang_table.specs.declared.Message.{Message}
+use Rattle.bitbang_table.specs.declared.Message.TheVariants.{Write}
 use Rattle.bitbang_table.specs.Cycles.{closed_messages}
-use Rattle.bitbang_table.specs.Protocol.{answer}
-use Rattle.board_meaning.specs.Chain.{BoardState, ChipState, Heard, fall, hear, members, rise_all, tdi_before}
+use Rattle.bitbang_table.specs.Protocol.{answer, decode}
+use Rattle.board_meaning.specs.Chain.{BoardState, ChipState, Heard, after_message, fall, hear, members, reply_of, rise_all, tdi_before}
+use Rattle.board_meaning.specs.declared.Reply.{Reply}
+use Rattle.board_meaning.specs.declared.Reply.TheVariants as said
 use Rattle.board_meaning.specs.Nets.{sees}
 use Rattle.whole_chain.specs.Words.{word_bits}
 use Rattle.whole_chain.proofs.Rows.{bit-left, bit-right}
 use Rattle.whole_chain.proofs.WordLaws.{is_front, length-word}
 use Rattle.jt_board.specs.Shifting.{shift_cycles, shifts}
-use Rattle.play_links.specs.Serves.{ServedBytes, serve_bytes}
-use Rattle.play_links.specs.Shifts.{AreCycles, IsCycle, IsRun, after_cycle, answered, asked, heard, picked}
+use Rattle.play_links.specs.Leaving.{left_after, left_behind}
+use Rattle.play_links.specs.Serves.{ServedBytes, serve_bytes, serve_one}
+use Rattle.play_links.specs.Shifts.{AreCycles, IsCycle, IsRun, after_cycle, answered, asked, heard, picked, writes_low}
 
 -- ---- many
 
@@ -42,14 +48,50 @@ answered-twice xs ys s = λ i. record s {
 }
 
 pub none_served : (bytes : List ℕ) → AreCycles [] bytes bytes
-none_served bytes b = refl
+none_served bytes b = (refl, refl)
 
 pub one_more : (cs : List Cycle) (c : Cycle) (bytes middle rest : List ℕ) → AreCycles cs bytes middle → IsCycle c middle rest → AreCycles (cs ++ c ∷ []) bytes rest
 one_more cs c bytes middle rest are is b =
-    let h = heard cs b in
-    are b ∙ ap (answered h.answers) (is h.board)
-    ∙ answered-twice h.answers (asked c.read h.board) (serve_bytes rest (after_cycle c.tdi h.board))
-    ∙ ap (λ (k : Heard). answered k.answers (serve_bytes rest k.board)) (sym (heard-more cs c b))
+    let h = heard cs b in (
+      (are b).0 ∙ ap (answered h.answers) (is h.board).0
+          ∙ answered-twice h.answers (asked c.read h.board) (serve_bytes rest (after_cycle c.tdi h.board))
+          ∙ ap (λ (k : Heard). answered k.answers (serve_bytes rest k.board)) (sym (heard-more cs c b)),
+      (are b).1 ∙ (is h.board).1 ∙ ap (λ (k : Heard). left_behind rest k.board) (sym (heard-more cs c b)),
+    )
+
+-- ---- one
+
+low_is : (o : Option Message) → writes_low o ≡ true → (tms : Bool) × (tdi : Bool) × (o ≡ Some (Write false tms tdi))
+low_is (Some (Write false tms tdi)) h = (tms, tdi, refl)
+low_is _ h = cc
+
+abbrev after_as : Option Message → BoardState → BoardState
+after_as o b = elim o [ Some m ↦ after_message m b | None ↦ b ]
+
+abbrev reply_as : ℕ → Option Message → BoardState → Reply
+reply_as byte o b = elim o [ Some m ↦ reply_of m b | None ↦ said.Refused byte ]
+
+abbrev served_as : (high low : ℕ) (rest : List ℕ) → BoardState → (o p : Option Message) → ServedBytes
+served_as high low rest b o p =
+    serve_one (reply_as high o b)
+    (serve_one (reply_as low p (after_as o b)) (serve_bytes rest (after_as p (after_as o b))) (after_as p (after_as o b))) (after_as o b)
+
+abbrev left_as : (high low : ℕ) (rest : List ℕ) → BoardState → (o p : Option Message) → List ℕ
+left_as high low rest b o p =
+    left_after (reply_as high o b) (low ∷ rest)
+    (left_after (reply_as low p (after_as o b)) rest (left_behind rest (after_as p (after_as o b))))
+
+-- two edges at the front, and TDO not read
+pub edges_are : (c : Cycle) (bytes : List ℕ) → c.read ≡ false → decode (slice_index_or bytes 0 0) ≡ Some (Write true false c.tdi)
+    → writes_low (decode (slice_index_or bytes 1 0)) ≡ true → IsCycle c bytes (drop 2 bytes)
+edges_are c [] silent rise falls b = absurd cc
+edges_are c (x ∷ []) silent rise falls b = absurd cc
+edges_are c (high ∷ low ∷ rest) silent rise falls b =
+    let fall = low_is (decode low) falls in (
+      ap₂ (served_as high low rest b) rise fall.2
+          ∙ ap (λ (read : Bool). answered (asked read b) (serve_bytes rest (after_cycle c.tdi b))) (sym silent),
+      ap₂ (left_as high low rest b) rise fall.2,
+    )
 
 -- ---- the bits that are read
 
@@ -98,17 +140,28 @@ off : (x y : Bool) → (not x && y) ≡ true → x ≡ false
 off true y h = cc
 off false y h = refl
 
--- A run that a board took at once.
+-- A run that a board took at once: what is heard of its cycles is what the board gave.
+run_heard : (tdi reads n out : ℕ) (bytes rest : List ℕ) (b after : BoardState) → (run : IsRun tdi reads n bytes rest) → shifts b ≡ true
+    → hear (closed_messages (shift_cycles (word_bits tdi n))) b ≡ record { answers = word_bits out n; board = after }
+    → heard run.cycles b ≡ record { answers = picked (word_bits reads n) (word_bits out n); board = after }
+run_heard tdi reads n out bytes rest b after run shift e =
+    let cs = run.cycles in
+    let all : heard (shift_cycles (tdis_of cs)) b ≡ record { answers = word_bits out n; board = after } =
+    sym (heard-all (tdis_of cs) b (off b.tck _ shift)) ∙ ap (λ (ts : List Bool). hear (closed_messages (shift_cycles ts)) b) (sym run.tdis) ∙ e in
+    heard-picked cs b ∙ (λ i. record { answers = picked (sym run.asks i) (all i).answers; board = (all i).board })
+
 pub run_served : (tdi reads n out : ℕ) (bytes rest : List ℕ) (b after : BoardState) → IsRun tdi reads n bytes rest → shifts b ≡ true
     → hear (closed_messages (shift_cycles (word_bits tdi n))) b ≡ record { answers = word_bits out n; board = after }
     → serve_bytes bytes b ≡ answered (picked (word_bits reads n) (word_bits out n)) (serve_bytes rest after)
 run_served tdi reads n out bytes rest b after run shift e =
-    let cs = run.cycles in
-    let all : heard (shift_cycles (tdis_of cs)) b ≡ record { answers = word_bits out n; board = after } =
-    sym (heard-all (tdis_of cs) b (off b.tck _ shift)) ∙ ap (λ (ts : List Bool). hear (closed_messages (shift_cycles ts)) b) (sym run.tdis) ∙ e in
-    run.are b
-    ∙ ap (λ (h : Heard). answered h.answers (serve_bytes rest h.board)) (heard-picked cs b)
-    ∙ (λ i. answered (picked (sym run.asks i) (all i).answers) (serve_bytes rest (all i).board))
+    (run.are b).0
+    ∙ ap (λ (h : Heard). answered h.answers (serve_bytes rest h.board)) (run_heard tdi reads n out bytes rest b after run shift e)
+
+pub run_left : (tdi reads n out : ℕ) (bytes rest : List ℕ) (b after : BoardState) → IsRun tdi reads n bytes rest → shifts b ≡ true
+    → hear (closed_messages (shift_cycles (word_bits tdi n))) b ≡ record { answers = word_bits out n; board = after }
+    → left_behind bytes b ≡ left_behind rest after
+run_left tdi reads n out bytes rest b after run shift e =
+    (run.are b).1 ∙ ap (λ (h : Heard). left_behind rest h.board) (run_heard tdi reads n out bytes rest b after run shift e)
 
 -- ---- words that are collected
 

@@ -7,6 +7,7 @@ use Rattle.bitbang_table.specs.declared.Message.TheVariants.{Write}
 use Rattle.bitbang_table.specs.Protocol.{answer}
 use Rattle.board_meaning.specs.Chain.{BoardState, Heard, after_message, tdi_before}
 use Rattle.whole_chain.specs.Words.{word_bits}
+use Rattle.play_links.specs.Leaving.{left_behind}
 use Rattle.play_links.specs.Serves.{ServedBytes, serve_bytes}
 
 -- one cycle with TMS low and this TDI: TCK goes high and low
@@ -30,11 +31,13 @@ answered bits s = record s { answers = map answer bits ++ s.answers }
 -- the first bytes are those of a cycle, and these are left
 abbrev pub IsCycle : Cycle → (bytes rest : List ℕ) → Type 0
 IsCycle c bytes rest = (b : BoardState)
-    → serve_bytes bytes b ≡ answered (asked c.read b) (serve_bytes rest (after_cycle c.tdi b))
+    → (serve_bytes bytes b ≡ answered (asked c.read b) (serve_bytes rest (after_cycle c.tdi b)))
+    × (left_behind bytes b ≡ left_behind rest (after_cycle c.tdi b))
 
 abbrev pub AreCycles : List Cycle → (bytes rest : List ℕ) → Type 0
 AreCycles cs bytes rest = (b : BoardState)
-    → serve_bytes bytes b ≡ answered (heard cs b).answers (serve_bytes rest (heard cs b).board)
+    → (serve_bytes bytes b ≡ answered (heard cs b).answers (serve_bytes rest (heard cs b).board))
+    × (left_behind bytes b ≡ left_behind rest (heard cs b).board)
 
 -- n cycles at the front of bytes, in words
 pub record IsRun (tdi reads n : ℕ) (bytes rest : List ℕ) : Type 0 where

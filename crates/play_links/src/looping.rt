@@ -94,11 +94,11 @@ fn serve_turn<B: End>(
     if !hear_all(end, bytes) {
         return false;
     }
-    let (count, stop) = take_bytes(board, bytes, answers);
-    if !fits(player, count, stop) {
+    let taken = take_bytes(board, bytes, answers);
+    if !fits(player, taken.answers, taken.stop) {
         return false;
     }
-    if put_all(end, &answers[..count]).is_err() {
+    if put_all(end, &answers[..taken.answers]).is_err() {
         return false;
     }
     true

@@ -5,6 +5,7 @@ ghost use Rattle.std.specs.Prelude.{IsTrue, MatchOption, Some, ⊤};
 ghost use Rattle.bitbang_table.specs.Protocol.{answer, decode};
 ghost use Rattle.bitbang_table.specs.declared.Message.TheVariants.{Write};
 ghost use Rattle.jt_board.specs.Shifting as shifting;
+ghost use Rattle.play_links.specs.Leaving.{left_behind};
 ghost use Rattle.play_links.specs.Serves.{serve_bytes};
 ghost use Rattle.play_links.specs.Shifts.{IsCycle, IsRun, picked, writes_low};
 ghost use Rattle.whole_chain.specs.Words.{word_bits};
@@ -49,6 +50,7 @@ pub(crate) fn behind_shifts<'a>(
         ≡ take count.old answers.old ++ (serve_bytes bytes.now board.old).answers }
     ensures board { (serve_bytes result.now board.new).board ≡ (serve_bytes bytes.now board.old).board }
     ensures stop { (serve_bytes result.now board.new).stop ≡ (serve_bytes bytes.now board.old).stop }
+    ensures left { left_behind result.now board.new ≡ left_behind bytes.now board.old }
 {
     if !begins_with_a_rise(bytes, asks) || !board.shifts() {
         return bytes;

@@ -3,7 +3,7 @@ use Rattle.bitbang_table.specs.Protocol.{answer}
 use Rattle.whole_chain.specs.Words.{word_bits}
 use Rattle.play_links.specs.Serves.{ServedBytes, serve_bytes}
 use Rattle.play_links.specs.Shifts.{picked}
-use Rattle.play_links.proofs.ShiftServes.{run_served}
+use Rattle.play_links.proofs.ShiftServes.{run_left, run_served}
 use Rattle.play_links.proofs.shifting.behind_shifts.Goals as goal
 
 pub returns-clause-answers : goal.returns-clause-answers
@@ -30,3 +30,9 @@ returns-clause-stop c =
     ap (λ (s : ServedBytes). s.stop)
     (sym (run_served run.tdi run.reads run.count c.shift_word-out.result c.args.bytes.now c.run_at.result.1.now c.args.board.now c.shift_word-out.new.self c.run_at.ensures
     (sym c.shifts.ensures ∙ c.if-not-shifts.false) c.shift_word-out.ensures))
+
+pub returns-clause-left : goal.returns-clause-left
+returns-clause-left c =
+    let run = c.run_at.result.0 in
+    sym (run_left run.tdi run.reads run.count c.shift_word-out.result c.args.bytes.now c.run_at.result.1.now c.args.board.now c.shift_word-out.new.self c.run_at.ensures
+    (sym c.shifts.ensures ∙ c.if-not-shifts.false) c.shift_word-out.ensures)
