@@ -1,17 +1,15 @@
 -- The steps of the pipes' loops.
-use Rattle.std.proofs.Common.{◌≡◌, Bool, true, false, not, ◌||◌, ℕ, zero, suc, ◌+◌, ◌-◌, ◌<◌, ◌≤◌, min, ◌==◌, List, [], ◌∷◌, ◌++◌, map, length, take, drop, refl, sym, ap, ◌∙◌, subst, arith, append_assoc, append-nil, length-append, length-drop, length-take, Option, Some, None, is_some}
+use Rattle.std.proofs.Common.{◌≡◌, Bool, not, ◌||◌, ℕ, zero, suc, ◌+◌, ◌-◌, ◌<◌, ◌≤◌, min, ◌==◌, List, [], ◌∷◌, ◌++◌, map, length, take, drop, refl, sym, ap, ◌∙◌, arith, append_assoc, append-nil, length-append, length-drop, length-take, Option, Some, None}
 use Rattle.std.proofs.Math.Seq.{take-add}
-use Rattle.std.specs.Prelude.{if◌then◌else◌}
-use Rattle.std.specs.Option.{unwrap_or}
 use Rattle.bitbang_table.specs.declared.Message.{Message}
 use Rattle.bitbang_table.specs.declared.Message.TheVariants.{Write, Ask, Quit, Light, Lines}
 use Rattle.bitbang_table.specs.Protocol.{answer, decode}
-use Rattle.plays.specs.Events.{World, has_room, hear_bits, put_bytes, served, take_answers, after_byte_taken}
+use Rattle.plays.specs.Events.{World, has_room, hear_bits, put_bytes, take_answers, after_byte_taken}
 use Rattle.plays.specs.Streams.{StreamState, answers_taken, hear_bytes}
 use Rattle.streaming.specs.Histories.{bits_told}
 use Rattle.stream_player.specs.Each.{hear_each}
 use Rattle.stream_player.proofs.BufferFills.{waiting-more}
-use Rattle.bounded_pipes.specs.Joining.{AreAnswers, serve_one, side}
+use Rattle.bounded_pipes.specs.Joining.{AreAnswers, side}
 
 abbrev Pipes : Type 0
 Pipes = World StreamState
@@ -61,7 +59,7 @@ module _ (down_room up_room : ℕ) where
           let all : m - more ≡ m - k = omega (arith, is, e, length-drop k w.up) in
           ap (λ j. takes j (takes k w)) all ∙ whole
 
-taken-down : (bytes : List ℕ) (o : Option Message) (w : World StreamState) → (after_byte_taken bytes o w).down ≡ bytes
+pub taken-down : (bytes : List ℕ) (o : Option Message) (w : World StreamState) → (after_byte_taken bytes o w).down ≡ bytes
 taken-down bytes None w = refl
 taken-down bytes (Some Ask) w = refl
 taken-down bytes (Some Quit) w = refl
@@ -69,69 +67,8 @@ taken-down bytes (Some (Write tck tms tdi)) w = refl
 taken-down bytes (Some (Light l)) w = refl
 taken-down bytes (Some (Lines t s)) w = refl
 
-abbrev stop_of : ℕ → World StreamState → ℕ → Bool
+abbrev pub stop_of : ℕ → World StreamState → ℕ → Bool
 stop_of room w b = w.quit || not (has_room room w (decode b))
-
-abbrev one_of : ℕ → World StreamState → List ℕ → Option (World StreamState)
-one_of room w [] = None
-one_of room w (b ∷ bytes) = if stop_of room w b then None else Some (after_byte_taken bytes (decode b) w)
-
-one-is : (room : ℕ) (w : World StreamState) → serve_one room w ≡ one_of room w w.down
-one-is room w = go w.down
-  where
-    go : (down : List ℕ) → serve_one room (record w { down = down }) ≡ one_of room (record w { down = down }) down
-    go [] = refl
-    go (b ∷ bytes) = refl
-
--- one byte, then the others
-pub record IsStep (room m : ℕ) (w v : World StreamState) : Type 0 where
-  pub rest : served room m v.down v ≡ served room (suc m) w.down w
-  pub count : 1 + length v.down ≡ length w.down
-
-pub serve-step : (room m : ℕ) (w : World StreamState) → is_some (serve_one room w) ≡ true → IsStep room m w (unwrap_or (serve_one room w) w)
-serve-step room m w some =
-    subst (λ (o : Option (World StreamState)). IsStep room m w (unwrap_or o w)) (sym (one-is room w))
-    (one w.down refl (ap is_some (sym (one-is room w)) ∙ some))
-  where
-    one : (down : List ℕ) → w.down ≡ down → is_some (one_of room w down) ≡ true → IsStep room m w (unwrap_or (one_of room w down) w)
-    one [] e some = absurd (cc)
-    one (b ∷ bytes) e some = two (stop_of room w b) refl some
-      where
-        two : (stop : Bool) → stop_of room w b ≡ stop → is_some (if stop then None else Some (after_byte_taken bytes (decode b) w)) ≡ true
-            → IsStep room m w (unwrap_or (if stop then None else Some (after_byte_taken bytes (decode b) w)) w)
-        two true s some = absurd (cc)
-        two false s some = record {
-          rest = ap (λ d. served room m d (after_byte_taken bytes (decode b) w)) (taken-down bytes (decode b) w)
-              ∙ sym (ap (λ (q : Bool). if q then w else served room m bytes (after_byte_taken bytes (decode b) w)) s)
-              ∙ ap (λ d. served room (suc m) d w) (sym e);
-          count = omega (arith, ap length (taken-down bytes (decode b) w), ap length e);
-        }
-
-pub record IsStill (room m : ℕ) (w v : World StreamState) : Type 0 where
-  pub same : v ≡ w
-  pub rest : served room m w.down w ≡ w
-
-pub serve-none : (room m : ℕ) (w : World StreamState) → is_some (serve_one room w) ≡ false → IsStill room m w (unwrap_or (serve_one room w) w)
-serve-none room m w none =
-    subst (λ (o : Option (World StreamState)). IsStill room m w (unwrap_or o w)) (sym (one-is room w))
-    (one w.down refl (ap is_some (sym (one-is room w)) ∙ none))
-  where
-    empty : (m : ℕ) → served room m [] w ≡ w
-    empty zero = refl
-    empty (suc m) = refl
-
-    one : (down : List ℕ) → w.down ≡ down → is_some (one_of room w down) ≡ false → IsStill room m w (unwrap_or (one_of room w down) w)
-    one [] e none = record { same = refl; rest = ap (λ d. served room m d w) e ∙ empty m }
-    one (b ∷ bytes) e none = two (stop_of room w b) refl none
-      where
-        stopped : (m : ℕ) → stop_of room w b ≡ true → served room m (b ∷ bytes) w ≡ w
-        stopped zero s = refl
-        stopped (suc m) s = ap (λ (q : Bool). if q then w else served room m bytes (after_byte_taken bytes (decode b) w)) s
-
-        two : (stop : Bool) → stop_of room w b ≡ stop → is_some (if stop then None else Some (after_byte_taken bytes (decode b) w)) ≡ false
-            → IsStill room m w (unwrap_or (if stop then None else Some (after_byte_taken bytes (decode b) w)) w)
-        two true s none = record { same = refl; rest = ap (λ d. served room m d w) e ∙ stopped m s }
-        two false s none = absurd (cc)
 
 same-take : (n : ℕ) (xs : List ℕ) → take (length (take n xs)) xs ≡ take n xs
 same-take zero xs = refl
@@ -249,17 +186,6 @@ take-stops down_room up_room n count more w v start some e moved none rest =
     let empty : length w.up ≡ 0 = omega (arith, moved, none, fewer, some) in
     e ∙ take-none down_room up_room k w empty ∙ sym (take-none down_room up_room (n - count) w empty) ∙ rest
 
-pub serve-keeps : (room n count : ℕ) (w v start : World StreamState) → count < n → v ≡ unwrap_or (serve_one room w) w → is_some (serve_one room w) ≡ true
-    → served room (n - count) w.down w ≡ served room n start.down start
-    → (served room (n - (count + 1)) v.down v ≡ served room n start.down start) × (1 + length v.down ≡ length w.down)
-serve-keeps room n count w v start some e took rest =
-    let m = n - (count + 1) in
-    let next : suc m ≡ n - count = omega arith in
-    let step = serve-step room m w took in (
-      ap (λ u. served room m u.down u) e ∙ step.rest ∙ ap (λ k. served room k w.down w) next ∙ rest,
-      ap (λ u. 1 + length u.down) e ∙ step.count,
-    )
-
 pub put-keeps : (down_room up_room n count more : ℕ) (w v start : World StreamState) → count < n
     → v ≡ put_bytes side down_room up_room (min (n - count) 64) w → more ≡ length v.down - length w.down
     → put_bytes side down_room up_room (n - count) w ≡ put_bytes side down_room up_room n start
@@ -278,14 +204,6 @@ put-keeps down_room up_room n count more w v start some e moved rest =
       omega (arith, grown, moved),
       omega (arith, grown, moved, within),
     )
-
--- A board that takes no byte has taken all that it will.
-pub serve-stops : (room n count : ℕ) (w start : World StreamState) → is_some (serve_one room w) ≡ false
-    → served room (n - count) w.down w ≡ served room n start.down start
-    → unwrap_or (serve_one room w) w ≡ served room n start.down start
-serve-stops room n count w start none rest =
-    let still = serve-none room (n - count) w none in
-    still.same ∙ sym still.rest ∙ rest
 
 -- a piece of answers, as bytes
 same-drop : (n : ℕ) (xs : List ℕ) → drop (length (take n xs)) xs ≡ drop n xs

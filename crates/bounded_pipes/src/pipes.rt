@@ -1,6 +1,6 @@
 //! The two pipes, and what each event does to them.
 
-ghost use Rattle.std.specs.Prelude.{◌≡◌, ◌<◌, ◌+◌, ◌-◌, min, length, take, map, is_some, nat_lt};
+ghost use Rattle.std.specs.Prelude.{◌≡◌, ◌<◌, ◌+◌, ◌-◌, ◌++◌, ℕ, min, length, take, map, is_some, nat_lt};
 ghost use Rattle.std.specs.Prelude.{◌≤◌, drop, false, unwrap_or, Some, MatchResult};
 ghost use Rattle.circular_buffer.specs.Buffer.{buffer};
 ghost use Rattle.stream_player.specs.Each.{hear_each};
@@ -10,11 +10,15 @@ ghost use Rattle.plays.specs.Events.{empty_pipes, happens, has_room, bytes_moved
 ghost use Rattle.plays.specs.Events.{take_answers};
 ghost use Rattle.bounded_pipes.specs.Joining.{event_of, serve_one, side};
 ghost use Rattle.bounded_pipes.specs.Standing.{ended_of, is_over};
+ghost use Rattle.bounded_pipes.specs.Together.{is_quit};
+ghost use Rattle.play_links.specs.Leaving.{left_behind};
+ghost use Rattle.play_links.specs.Serves.{serve_bytes};
 
 use crate::event::Event;
 use bitbang_table::{Message, decode};
 use circular_buffer::HeapCircularBuffer;
 use jt_board::{Board, Reply};
+use play_links::{Served, Taken, take_bytes};
 use plays::Ending;
 use std::alloc::Global;
 use std::marker::Model;
@@ -53,6 +57,11 @@ pub struct Unjoined {
 
 /// The most bytes that are put into a pipe, or taken out of one, at once.
 const PIECE: usize = 64;
+
+/// The most bytes that the board takes together, and the fewest for which that is not dearer than one by one.
+const MOST_TOGETHER: usize = 512;
+
+const FEWEST_TOGETHER: usize = 8;
 
 impl Pipes {
     /// Empty pipes between a player and a board, with room for `down` bytes and `up` answers. It takes all its memory
@@ -141,10 +150,39 @@ impl Pipes {
         } }
     {
         let mut count = 0;
-        while count < n && self.serve_byte() {
-            count += 1;
+        while count < n {
+            let more = self.serve_piece(n - count);
+            if more == 0 {
+                return count;
+            }
+            count += more;
         }
         count
+    }
+
+    /// The board takes some bytes, n at most; none only where it takes none. Those at the front are taken together,
+    /// where some are there and the answers to all of them would have room.
+    fn serve_piece(&mut self, n: usize) -> usize
+        requires { 0 < n }
+        ensures moved { result ≡ length self.old.world.down - length self.new.world.down }
+        ensures within { result ≤ n }
+        ensures world { self.new ≡ record self.old {
+          world = served self.old.up_room result self.old.world.down self.old.world;
+        } }
+        ensures none { result ≡ 0 → (m : ℕ) → served self.old.up_room m self.old.world.down self.old.world
+            ≡ self.old.world }
+    {
+        let room = self.up.capacity() - self.up.len();
+        let (front, _) = self.down.as_slices();
+        let most = front.len().min(n).min(room).min(MOST_TOGETHER);
+        if self.quit || most < FEWEST_TOGETHER {
+            return usize::from(self.serve_byte());
+        }
+        let taken = serve_front(&mut self.board, &front[..most], &mut self.up);
+        self.quit = is_quit(taken.stop);
+        let left = self.down.len() - taken.bytes;
+        self.down.truncate_front(left);
+        taken.bytes
     }
 
     /// The player puts up to n bytes into the down pipe.
@@ -298,4 +336,26 @@ fn take_from(player: &mut Player, up: &mut HeapCircularBuffer<u8>, n: usize) -> 
     let count = up.read_into(&mut piece[..n]);
     player.answers_each(&piece[..count]);
     count
+}
+
+/// Lets the board take these bytes, up to and with a `Q` or one that it refuses. Their answers go into a pipe.
+fn serve_front(board: &mut Board, bytes: &[u8], up: &mut HeapCircularBuffer<u8>) -> Taken
+    requires few { length bytes.now ≤ 512 }
+    requires room { length bytes.now + length up.old.items ≤ up.old.capacity }
+    ensures board { board.new ≡ (serve_bytes bytes.now board.old).board }
+    ensures up { up.new ≡ buffer (up.old.items ++ (serve_bytes bytes.now board.old).answers) up.old.capacity }
+    ensures stop { result.stop ≡ (serve_bytes bytes.now board.old).stop }
+    ensures bytes { result.bytes ≡ length bytes.now - length (left_behind bytes.now board.old) }
+{
+    let mut answers = [0; MOST_TOGETHER];
+    let taken = take_bytes(board, bytes, &mut answers[..bytes.len()]);
+    up.fill_from_slice(&answers[..taken.answers]);
+    taken
+}
+
+/// Whether the board stopped at a `Q`.
+fn is_quit(stop: Option<Served>) -> bool
+    ensures { result ≡ is_quit stop }
+{
+    matches!(stop, Some(Served::Quit))
 }

@@ -1,9 +1,8 @@
-use Rattle.std.proofs.Common.{◌≡◌, ℕ, List, min, length, take, refl, sym, ap, subst, ◌∙◌, arith}
+use Rattle.std.proofs.Common.{◌≡◌, ℕ, min, length, refl, sym, ap, subst, ◌∙◌, arith}
 use Rattle.circular_buffer.specs.Buffer.{Buffer}
 use Rattle.plays.specs.Events.{World, take_answers}
 use Rattle.plays.specs.Streams.{StreamState}
 use Rattle.streaming.specs.Histories.{bits_told}
-use Rattle.stream_player.specs.Each.{hear_each}
 use Rattle.bounded_pipes.specs.Joining.{AreAnswers, JoinedState, side, world_between}
 use Rattle.bounded_pipes.proofs.Steps.{answers-left, take-piece}
 use Rattle.bounded_pipes.proofs.pipes.Pipes.take_piece.Goals as goal
