@@ -5,5 +5,8 @@ pub mod TokenCounts
 pub mod Heft
 pub mod Lines
 pub mod Parts
+pub mod PlainFronts
+pub mod PlainLanes
+pub mod PlainRuns
 pub mod Steps
 pub mod WordsAtOnce

@@ -4,4 +4,5 @@ pub mod Cutting
 pub mod Gaps
 pub mod Laws
 pub mod Left
+pub mod Plain
 pub mod Scanning

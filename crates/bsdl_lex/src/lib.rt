@@ -12,6 +12,7 @@ pub use scan::bad_byte;
 
 mod lanes;
 pub mod laws;
+mod plain;
 mod scan;
 
 /// What a token is.

@@ -7,6 +7,7 @@ ghost use Rattle.bsdl_lex.specs.Scanning.{cuts_from};
 ghost use Rattle.bsdl_lex.specs.Left.{end_of};
 
 use crate::lanes::{LANES, word_in};
+use crate::plain::clear_front;
 use crate::{Kind, Token};
 use memchr::{memchr2, memchr3};
 
@@ -51,7 +52,7 @@ pub(crate) fn first_token<'a>(
 pub fn bad_byte(source: &[u8], quoted: bool) -> Option<usize>
     ensures { result ≡ bad_place (cuts_of quoted source.now) }
 {
-    let mut at = 0;
+    let mut at = clear_front(source, quoted);
     loop {
         match first_token(source, quoted, at) {
             Some(Ok(token)) => at = token.start + token.text.len(),
@@ -139,7 +140,7 @@ fn number_len(text: &[u8]) -> usize
     text.iter().take_while(|byte| is_number(**byte)).count()
 }
 
-fn is_word(byte: u8) -> bool
+pub(crate) fn is_word(byte: u8) -> bool
     ensures { result ≡ bytes.is_word byte }
 {
     byte.is_ascii_alphanumeric() || byte == b'_'
