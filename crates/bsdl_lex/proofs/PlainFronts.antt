@@ -10,7 +10,7 @@ use Rattle.bsdl_lex.specs.declared.scan.Front.{Front}
 use Rattle.bsdl_lex.specs.declared.scan.Front.TheVariants.{Gap, Token}
 use Rattle.bsdl_lex.specs.Bytes.{is_white, begins_word, is_word, begins_number, is_number, is_mark, begins_comment, begins_string}
 use Rattle.bsdl_lex.specs.Cutting.{Cut, cut, front, behind, with_front, bad_place}
-use Rattle.bsdl_lex.specs.Plain.{is_plain, is_plain_behind, plain_len}
+use Rattle.bsdl_lex.specs.Plain.{HasNoBad, is_plain, is_plain_behind, plain_len}
 use Rattle.bsdl_lex.proofs.Steps.{cut-nil}
 
 -- ---- bytes
@@ -135,7 +135,7 @@ module _ (q : Bool) (e : ℕ) (ends : is_number e ≡ false) (no_comment : (c : 
   one_on b at c cs (suc k) is skips = (k, shorter b c cs k skips, refl)
 
   -- nothing bad stands in the first n bytes
-  abbrev pub Same : (k at n : ℕ) → List ℕ → Type 0
+  abbrev Same : (k at n : ℕ) → List ℕ → Type 0
   Same k at n text = bad_place (cut q k at text) ≡ bad_place (cut q 0 (at + n) (drop n text))
 
   module _ (b c : ℕ) (cs : List ℕ) (n : ℕ) (later : (k at : ℕ) → Skips c cs k → nat_eq (get_or cs n 0) 95 ≡ false → Same k at n cs) where
@@ -156,28 +156,22 @@ module _ (q : Bool) (e : ℕ) (ends : is_number e ≡ false) (no_comment : (c : 
   same b k at (c ∷ cs) skips stop = same_by b c cs (plain_len e c cs) (λ k at. same c k at cs) k at (is_plain_behind e b c) refl skips stop
 
   -- the first bad byte stands behind the plain bytes at the front
-  pub plain_front : (text : List ℕ) → nat_eq (get_or text (plain_len e 32 text) 0) 95 ≡ false
-      → bad_place (cut q 0 0 text) ≡ bad_place (cut q 0 (plain_len e 32 text) (drop (plain_len e 32 text) text))
-  plain_front text stop =
-      let place : 0 + plain_len e 32 text ≡ plain_len e 32 text = omega arith in
-      same 32 0 0 text (nothing refl refl) stop ∙ ap (λ (p : ℕ). bad_place (cut q 0 p (drop (plain_len e 32 text) text))) place
+  pub plain_front : (text : List ℕ) → nat_eq (get_or text (plain_len e 32 text) 0) 95 ≡ false → HasNoBad q text (plain_len e 32 text)
+  plain_front text stop at = same 32 0 at text (nothing refl refl) stop
 
 -- ---- in the words of the function
 
-abbrev pub SameBehind : Bool → List ℕ → ℕ → Type 0
-SameBehind q text n = bad_place (cut q 0 0 text) ≡ bad_place (cut q 0 n (drop n text))
-
-pub within_quotes : (q : Bool) (e n : ℕ) (text : List ℕ) → q ≡ true → e ≡ 34 → n ≡ plain_len e 32 text → nat_eq (get_or text n 0) 95 ≡ false → SameBehind q text n
+pub within_quotes : (q : Bool) (e n : ℕ) (text : List ℕ) → q ≡ true → e ≡ 34 → n ≡ plain_len e 32 text → nat_eq (get_or text n 0) 95 ≡ false → HasNoBad q text n
 within_quotes q e n text quoted is len stop =
-    subst (SameBehind q text) (sym len) (plain_front q e (rw is refl) (λ c cs other. rw quoted refl) text (ap (λ (k : ℕ). nat_eq (get_or text k 0) 95) (sym len) ∙ stop))
+    subst (HasNoBad q text) (sym len) (plain_front q e (rw is refl) (λ c cs other. rw quoted refl) text (ap (λ (k : ℕ). nat_eq (get_or text k 0) 95) (sym len) ∙ stop))
 
 no_minus_no_comment : (q : Bool) (c : ℕ) (cs : List ℕ) → nat_eq c 45 ≡ false → begins_comment q c cs ≡ false
 no_minus_no_comment true c cs no_minus = refl
 no_minus_no_comment false c cs no_minus = rw no_minus refl
 
-pub outside_quotes : (q : Bool) (e n : ℕ) (text : List ℕ) → e ≡ 45 → n ≡ plain_len e 32 text → nat_eq (get_or text n 0) 95 ≡ false → SameBehind q text n
+pub outside_quotes : (q : Bool) (e n : ℕ) (text : List ℕ) → e ≡ 45 → n ≡ plain_len e 32 text → nat_eq (get_or text n 0) 95 ≡ false → HasNoBad q text n
 outside_quotes q e n text is len stop =
-    subst (SameBehind q text) (sym len)
+    subst (HasNoBad q text) (sym len)
     (plain_front q e (rw is refl) (λ c cs other. no_minus_no_comment q c cs (ap (nat_eq c) (sym is) ∙ not-true (nat_eq c e) other)) text (ap (λ (k : ℕ). nat_eq (get_or text k 0) 95) (sym len) ∙ stop))
 
 -- the byte at a place that is asked for, where it is found to be another or there is none

@@ -1,7 +1,8 @@
 -- Bytes of a text of which it is plain, without a cut, that they belong to tokens and gaps.
-use Rattle.std.specs.Prelude.{ℕ, ◌+◌, Bool, not, ◌&&◌, ◌||◌, ◌==◌, if◌then◌else◌, List, [], ◌∷◌}
+use Rattle.std.specs.Prelude.{◌≡◌, ℕ, ◌+◌, Bool, not, ◌&&◌, ◌||◌, ◌==◌, if◌then◌else◌, List, [], ◌∷◌, drop}
 use Rattle.std.specs.Char.{is_ascii_alphanumeric}
 use Rattle.bsdl_lex.specs.Bytes.{is_white, is_word, is_mark}
+use Rattle.bsdl_lex.specs.Cutting.{cut, bad_place}
 
 -- each of these stands in a token or a gap wherever it stands, but that `-` may begin a comment outside quotes
 abbrev pub is_plain : ℕ → Bool
@@ -15,3 +16,7 @@ is_plain_behind ending before c = not (c == ending) && (is_plain c || (c == 95 &
 abbrev pub plain_len : (ending before : ℕ) → List ℕ → ℕ
 plain_len ending before [] = 0
 plain_len ending before (c ∷ cs) = if is_plain_behind ending before c then 1 + plain_len ending c cs else 0
+
+-- no byte is bad among the first n of a text, which is cut on from there as if it began there
+abbrev pub HasNoBad : (quoted : Bool) → List ℕ → (n : ℕ) → Type 0
+HasNoBad quoted text n = (at : ℕ) → bad_place (cut quoted 0 at text) ≡ bad_place (cut quoted 0 (at + n) (drop n text))

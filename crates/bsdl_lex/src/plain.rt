@@ -1,29 +1,26 @@
 //! How far it is plain, without a cut, that each byte of a text belongs to a token or a gap.
-ghost use Rattle.std.specs.Prelude.{◌≡◌, ◌≤◌, length, drop, false};
+ghost use Rattle.std.specs.Prelude.{◌≡◌, ◌≤◌, length, false};
 ghost use Rattle.bsdl_lex.specs.Bytes.{is_word};
-ghost use Rattle.bsdl_lex.specs.Cutting.{cut, cuts_of, bad_place};
 ghost use Rattle.bsdl_lex.specs.Plain as plain;
+ghost use Rattle.bsdl_lex.specs.Plain.{HasNoBad};
 
 use crate::lanes::{LANES, plain_in, word_in};
 use crate::scan::is_word;
 
-/// A place up to which each byte belongs to a token or a gap, and where one begins or the text ends.
-pub(crate) fn clear_front(source: &[u8], quoted: bool) -> usize
-    ensures within { result ≤ length source.now }
-    ensures same { bad_place (cuts_of quoted source.now) ≡ bad_place (cut quoted 0 result (drop result source.now)) }
+/// How many bytes at the front of a text are known to belong to tokens and gaps. Behind them one begins, or the text
+/// ends.
+pub(crate) fn clear_len(text: &[u8], quoted: bool) -> usize
+    ensures within { result ≤ length text.now }
+    ensures same { HasNoBad quoted text.now result }
 {
     // A `-` outside quotes may begin a comment, and a `"` begins nothing within them.
     let ending = if quoted { b'"' } else { b'-' };
-    let len = plain_len(source, ending);
+    let len = plain_len(text, ending);
     // A `_` may go on with a number that has a point before it.
-    if source.get(len) == Some(&b'_') {
-        0
-    } else {
-        len
-    }
+    if text.get(len) == Some(&b'_') { 0 } else { len }
 }
 
-/// How many bytes at the front of a text are plain. Sixteen are looked at at once, and the last of the text one by one.
+/// How many bytes at the front of a text are plain. Sixteen are looked at at once, the last of the text one by one.
 fn plain_len(text: &[u8], ending: u8) -> usize
     requires { is_word ending ≡ false }
     ensures value { result ≡ plain.plain_len ending 32 text.now }

@@ -7,7 +7,7 @@ ghost use Rattle.bsdl_lex.specs.Scanning.{cuts_from};
 ghost use Rattle.bsdl_lex.specs.Left.{end_of};
 
 use crate::lanes::{LANES, word_in};
-use crate::plain::clear_front;
+use crate::plain::clear_len;
 use crate::{Kind, Token};
 use memchr::{memchr2, memchr3};
 
@@ -52,10 +52,16 @@ pub(crate) fn first_token<'a>(
 pub fn bad_byte(source: &[u8], quoted: bool) -> Option<usize>
     ensures { result ≡ bad_place (cuts_of quoted source.now) }
 {
-    let mut at = clear_front(source, quoted);
+    // At the start and behind each string it is looked how far the text is clear, so that no byte is looked at again.
+    let mut at = clear_len(source, quoted);
     loop {
         match first_token(source, quoted, at) {
-            Some(Ok(token)) => at = token.start + token.text.len(),
+            Some(Ok(token)) => {
+                at = token.start + token.text.len();
+                if token.kind == Kind::Text {
+                    at += clear_len(&source[at..], quoted);
+                }
+            }
             Some(Err(place)) => return Some(place),
             None => return None,
         }

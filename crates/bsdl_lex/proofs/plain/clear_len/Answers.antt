@@ -1,11 +1,11 @@
 use Rattle.std.proofs.Common.{refl, sym, ◌∙◌}
 use Rattle.bsdl_lex.proofs.PlainFronts.{within_quotes, outside_quotes, is_other}
-use Rattle.bsdl_lex.proofs.plain.clear_front.Goals as goal
-use Rattle.bsdl_lex.proofs.plain.clear_front.Goals.{then-quoted, else-quoted}
+use Rattle.bsdl_lex.proofs.plain.clear_len.Goals as goal
+use Rattle.bsdl_lex.proofs.plain.clear_len.Goals.{then-quoted, else-quoted}
 
 pub returns-else-eq-clause-same : goal.returns-else-eq-clause-same
 returns-else-eq-clause-same c =
-    let text = c.args.source.now in
+    let text = c.args.text.now in
     let len = c.plain_len-len.result in
     let stop = is_other c.get.result _ text len (sym c.eq.ensures ∙ c.if-eq.false) refl c.get.ensures.lookup.1 c.get.ensures.lookup.3 in
     elim c.if-quoted.branch [
