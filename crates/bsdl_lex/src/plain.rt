@@ -20,7 +20,8 @@ pub(crate) fn clear_len(text: &[u8], quoted: bool) -> usize
     if text.get(len) == Some(&b'_') { 0 } else { len }
 }
 
-/// How many bytes at the front of a text are plain. Sixteen are looked at at once, the last of the text one by one.
+/// How many bytes at the front of a text are plain, as behind a space. Sixteen are looked at at once, and the last of
+/// the text one by one.
 fn plain_len(text: &[u8], ending: u8) -> usize
     requires { is_word ending ≡ false }
     ensures value { result ≡ plain.plain_len ending 32 text.now }

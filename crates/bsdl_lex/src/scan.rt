@@ -52,7 +52,8 @@ pub(crate) fn first_token<'a>(
 pub fn bad_byte(source: &[u8], quoted: bool) -> Option<usize>
     ensures { result ≡ bad_place (cuts_of quoted source.now) }
 {
-    // At the start and behind each string it is looked how far the text is clear, so that no byte is looked at again.
+    // At the start and behind each string it is looked how far the text is clear. A look ends before the next string,
+    // so that no byte is looked at twice.
     let mut at = clear_len(source, quoted);
     loop {
         match first_token(source, quoted, at) {
