@@ -16,7 +16,7 @@ use Rattle.bsdl_lex.specs.Cutting.{front}
 use Rattle.bsdl_lex.proofs.Steps.{rest_of, part_of, part-cons}
 
 -- a front by what its first byte is
-abbrev choice : (w cm str closed beg num mk : Bool) → (a k p r : ℕ) → Front
+abbrev pub choice : (w cm str closed beg num mk : Bool) → (a k p r : ℕ) → Front
 choice w cm str closed beg num mk a k p r =
     if w then Gap 0
     else if cm then Gap a

@@ -1,3 +1,4 @@
+pub mod AloneLaws
 pub mod AsciiLaws
 pub mod Cuttings
 pub mod RowsOfParts

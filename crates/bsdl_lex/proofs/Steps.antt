@@ -33,7 +33,7 @@ module _ (q : Bool) where
   rest_of source at = take (length source - (at + 1)) (drop (at + 1) source)
 
   -- the same at a place of a source
-  cut_at : (source : List ℕ) (at : ℕ) (f : Front) → at < length source → f ≡ front q (get_or source at 0) (rest_of source at)
+  pub cut_at : (source : List ℕ) (at : ℕ) (f : Front) → at < length source → f ≡ front q (get_or source at 0) (rest_of source at)
       → cut q 0 at (drop at source) ≡ with_front f at (get_or source at 0) (drop (at + 1) source) (cut q 0 (at + 1 + behind f) (drop (at + 1 + behind f) source))
   cut_at source at f lt is =
       let c = get_or source at 0 in

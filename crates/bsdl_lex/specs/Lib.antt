@@ -1,3 +1,4 @@
+pub mod Alone
 pub mod Ascii
 pub mod Bytes
 pub mod Cutting

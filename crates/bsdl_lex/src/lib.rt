@@ -4,10 +4,11 @@
 //! line's end. What stands within the quotes of strings is cut in the same way, without comments and strings.
 #![tactic(auto)]
 
-ghost use Rattle.std.specs.Prelude.{◌≡◌, ◌≤◌, ◌<◌, ◌^◌, ◌∷◌, [], length, MatchOption, false, true};
+ghost use Rattle.std.specs.Prelude.{◌≡◌, ◌≤◌, ◌<◌, ◌^◌, ◌∷◌, ◌==◌, [], length, drop, is_some, MatchOption, IfSome};
+ghost use Rattle.std.specs.Prelude.{false, true};
 ghost use Rattle.bsdl_lex.specs.Ascii.{IsAsciiWord};
 
-use crate::scan::first_token;
+use crate::scan::{behind_alone, first_token, is_over};
 pub use scan::bad_byte;
 
 mod lanes;
@@ -54,6 +55,7 @@ pub struct Lexer<'a> {
 }
 
 impl<'a> Lexer<'a> {
+    ghost use Rattle.bsdl_lex.specs.Alone.{stands_alone};
     ghost use Rattle.bsdl_lex.specs.Left.{left, lexeme};
     ghost use Rattle.bsdl_lex.specs.Cutting.{cuts_of, tokens};
 
@@ -97,5 +99,28 @@ impl<'a> Lexer<'a> {
             }
             _ => None,
         }
+    }
+
+    /// The lexer behind the next token, where that is this byte alone, as a mark is. Of another token nothing but its
+    /// first byte is looked at, where the byte is a mark's. Takes no memory.
+    #[tactic(auto, unfolding(crate::specs::Left::left))]
+    pub fn behind_byte(self, byte: u8) -> Option<Lexer<'a>>
+        ensures stands { is_some result ≡ stands_alone byte (left self.entry) }
+        ensures behind { IfSome result (λ l. left l ≡ drop 1 (left self.entry)) }
+    {
+        let at = behind_alone(self.source, self.quoted, self.at, byte)?;
+        Some(Lexer {
+            source: self.source,
+            at,
+            quoted: self.quoted,
+        })
+    }
+
+    /// Whether no token is left: the text is at its end, or at a byte that begins nothing.
+    #[tactic(auto, unfolding(crate::specs::Left::left))]
+    pub fn is_over(self) -> bool
+        ensures { result ≡ (length (left self.entry) == 0) }
+    {
+        is_over(self.source, self.quoted, self.at)
     }
 }

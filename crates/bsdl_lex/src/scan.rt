@@ -1,9 +1,10 @@
 //! What stands at a place of a text.
-ghost use Rattle.std.specs.Prelude.{◌≡◌, ◌≤◌, ◌<◌, length, drop, IfSome, IfOk, false};
+ghost use Rattle.std.specs.Prelude.{◌≡◌, ◌≤◌, ◌<◌, ◌==◌, ◌||◌, length, drop, is_some, IfSome, IfOk, false};
 ghost use Rattle.std.specs.List.{prefix_len, position_or_len};
 ghost use Rattle.bsdl_lex.specs.Bytes as bytes;
-ghost use Rattle.bsdl_lex.specs.Cutting.{cut, front, behind, cuts_of, bad_place};
-ghost use Rattle.bsdl_lex.specs.Scanning.{cuts_from};
+ghost use Rattle.bsdl_lex.specs.Cutting.{cut, front, behind, cuts_of, bad_place, tokens};
+ghost use Rattle.bsdl_lex.specs.Scanning.{cuts_from, gap, NoGap};
+ghost use Rattle.bsdl_lex.specs.Alone.{stands_alone};
 ghost use Rattle.bsdl_lex.specs.Left.{end_of};
 
 use crate::lanes::{LANES, word_in};
@@ -30,21 +31,87 @@ pub(crate) fn first_token<'a>(
     ensures within { IfSome result (λ found. IfOk found (λ token. end_of token ≤ length source.now)) }
     ensures on { IfSome result (λ found. IfOk found (λ token. from < end_of token)) }
 {
+    let at = gaps_end(source, quoted, from);
+    if at == source.len() {
+        return None;
+    }
+    match front_of(quoted, source[at], &source[at + 1..]) {
+        Front::Token(kind, more) => Some(Ok(Token {
+            kind,
+            text: &source[at..at + 1 + more],
+            start: at,
+        })),
+        // no gap stands behind the gaps
+        _ => Some(Err(at)),
+    }
+}
+
+/// The place behind the first token from a place on, where that is this byte alone, as a mark is.
+pub(crate) fn behind_alone(source: &[u8], quoted: bool, from: usize, byte: u8) -> Option<usize>
+    requires { from ≤ length source.now }
+    ensures alone { is_some result ≡ stands_alone byte (tokens (cut quoted 0 from (drop from source.now))) }
+    ensures behind { IfSome result (λ at. tokens (cut quoted 0 at (drop at source.now))
+        ≡ drop 1 (tokens (cut quoted 0 from (drop from source.now)))) }
+    ensures within { IfSome result (λ at. at ≤ length source.now) }
+{
+    let at = gaps_end(source, quoted, from);
+    if at == source.len() || source[at] != byte {
+        return None;
+    }
+    if is_mark(byte) {
+        return Some(at + 1);
+    }
+    match first_token(source, quoted, at) {
+        Some(Ok(token)) if token.text == [byte].as_slice() => Some(token.start + 1),
+        _ => None,
+    }
+}
+
+/// Whether no token stands from a place on, up to a byte that begins nothing.
+pub(crate) fn is_over(source: &[u8], quoted: bool, from: usize) -> bool
+    requires { from ≤ length source.now }
+    ensures { result ≡ (length (tokens (cut quoted 0 from (drop from source.now))) == 0) }
+{
+    let at = gaps_end(source, quoted, from);
+    if at == source.len() {
+        return true;
+    }
+    if begins_any(source[at]) {
+        return false;
+    }
+    !matches!(first_token(source, quoted, at), Some(Ok(_)))
+}
+
+/// The place behind the gaps that stand from a place on.
+#[inline(always)]
+fn gaps_end(source: &[u8], quoted: bool, from: usize) -> usize
+    requires { from ≤ length source.now }
+    ensures cuts { cut quoted 0 from (drop from source.now) ≡ cut quoted 0 result (drop result source.now) }
+    ensures on { from ≤ result }
+    ensures within { result ≤ length source.now }
+    ensures ends { NoGap quoted source.now result }
+{
     let mut at = from;
     while at < source.len() {
-        match front_of(quoted, source[at], &source[at + 1..]) {
-            Front::Gap(more) => at += 1 + more,
-            Front::Token(kind, more) => {
-                return Some(Ok(Token {
-                    kind,
-                    text: &source[at..at + 1 + more],
-                    start: at,
-                }));
-            }
-            Front::Bad => return Some(Err(at)),
+        match gap_of(quoted, source[at], &source[at + 1..]) {
+            Some(more) => at += 1 + more,
+            None => return at,
         }
     }
-    None
+    at
+}
+
+/// How many bytes a gap has behind its first, where the byte begins one before this rest of the text.
+#[inline(always)]
+fn gap_of(quoted: bool, first: u8, rest: &[u8]) -> Option<usize>
+    ensures value { result ≡ gap quoted first rest.now }
+    ensures within { IfSome result (λ more. more ≤ length rest.now) }
+{
+    match first {
+        b' ' | b'\t'..=b'\r' => Some(0),
+        b'-' if !quoted && rest.first() == Some(&b'-') => Some(line_len(rest)),
+        _ => None,
+    }
 }
 
 /// The place of the first byte of a text that begins no token and no gap, as `#`, or as the quote of a string that is
@@ -70,6 +137,7 @@ pub fn bad_byte(source: &[u8], quoted: bool) -> Option<usize>
 }
 
 /// What the byte begins before this rest of the text.
+#[inline(always)]
 fn front_of(quoted: bool, first: u8, rest: &[u8]) -> Front
     ensures value { result ≡ front quoted first rest.now }
     ensures within { behind result ≤ length rest.now }
@@ -151,6 +219,19 @@ pub(crate) fn is_word(byte: u8) -> bool
     ensures { result ≡ bytes.is_word byte }
 {
     byte.is_ascii_alphanumeric() || byte == b'_'
+}
+
+/// Whether a byte that begins no gap begins a token, whatever stands behind it.
+fn begins_any(byte: u8) -> bool
+    ensures { result ≡ (bytes.begins_word byte || (bytes.begins_number byte || bytes.is_mark byte)) }
+{
+    byte.is_ascii_alphanumeric() || is_mark(byte)
+}
+
+fn is_mark(byte: u8) -> bool
+    ensures { result ≡ bytes.is_mark byte }
+{
+    matches!(byte, b'&'..=b'/' | b':'..=b'>' | b'[' | b']' | b'|')
 }
 
 fn is_number(byte: u8) -> bool

@@ -1,21 +1,33 @@
-use Rattle.std.proofs.Common.{◌∙◌, arith}
-use Rattle.std.proofs.lemmas.List.{length-drop, take_rest}
+use Rattle.std.proofs.Common.{◌≡◌, ◌<◌, length, get_or, ap, ◌∙◌, arith}
+use Rattle.std.proofs.lemmas.List.{take_rest}
+use Rattle.bsdl_lex.specs.Scanning.{gap}
+use Rattle.bsdl_lex.specs.declared.scan.Front.TheVariants.{Bad}
+use Rattle.bsdl_lex.specs.Cutting.{front}
+use Rattle.bsdl_lex.proofs.AloneLaws.{bad_front}
 use Rattle.bsdl_lex.proofs.AsciiLaws.{ascii_token}
-use Rattle.bsdl_lex.proofs.Steps.{at_end, at_gap, at_token, at_bad}
+use Rattle.bsdl_lex.proofs.Steps.{at_end, at_token, at_bad, rest_of}
 use Rattle.bsdl_lex.proofs.scan.first_token.Goals as goal
 
-pub loop-at-preserved : goal.loop-at-preserved
-loop-at-preserved c =
-    (omega (arith, c.loop-at.invariant.0), omega (arith, simp (take_rest, length-drop) at c.in-Gap.ensures.within), c.loop-at.invariant.2 ∙ at_gap c.args.quoted c.args.source.now c.loop-at.at c.in-Gap.more c.loop-at-test.true c.in-Gap.ensures.value)
+pub returns-then-at-source-clause-cuts : goal.returns-then-at-source-clause-cuts
+returns-then-at-source-clause-cuts c = c.gaps_end-at.ensures.cuts ∙ at_end c.args.quoted c.args.source.now c.gaps_end-at.result (omega arith)
 
 pub returns-in-Token-clause-cuts : goal.returns-in-Token-clause-cuts
-returns-in-Token-clause-cuts c = c.loop-at.invariant.2 ∙ at_token c.args.quoted c.args.source.now c.loop-at.at c.in-Token.kind c.in-Token.more c.loop-at-test.true c.in-Token.ensures.within c.in-Token.ensures.value
+returns-in-Token-clause-cuts c =
+    let lt : c.gaps_end-at.result < length c.args.source.now = omega (arith, c.gaps_end-at.ensures.within) in
+    c.gaps_end-at.ensures.cuts ∙ at_token c.args.quoted c.args.source.now c.gaps_end-at.result c.in-Token.kind c.in-Token.more lt c.in-Token.ensures.within c.in-Token.ensures.value
 
-pub returns-in-Bad-clause-cuts : goal.returns-in-Bad-clause-cuts
-returns-in-Bad-clause-cuts c = c.loop-at.invariant.2 ∙ at_bad c.args.quoted c.args.source.now c.loop-at.at c.loop-at-test.true c.in-Bad.ensures.value
-
-pub returns-clause-cuts : goal.returns-clause-cuts
-returns-clause-cuts c = c.loop-at.invariant.2 ∙ at_end c.args.quoted c.args.source.now c.loop-at.at (omega arith)
+pub returns-in_default : goal.returns-in_default
+returns-in_default c =
+    let q = c.args.quoted in
+    let source = c.args.source.now in
+    let at = c.gaps_end-at.result in
+    let lt : at < length source = omega (arith, c.gaps_end-at.ensures.within) in
+    let is : Bad ≡ front q (get_or source at 0) (rest_of q source at) =
+    bad_front q (get_or source at 0) (rest_of q source at) (ap (gap q (get_or source at 0)) (take_rest source _) ∙ c.gaps_end-at.ensures.ends lt)
+    (λ k n token. c.in_default.not-Token k n (c.front_of.ensures.value ∙ token)) in
+    record { cuts = c.gaps_end-at.ensures.cuts ∙ at_bad q source at lt is; within = tt; on = tt }
 
 pub invariant_of-result : goal.invariant_of-result
-invariant_of-result c = record { ascii = ascii_token c.args.quoted c.args.source.now c.loop-at.at c.in-Token.kind c.in-Token.more c.loop-at-test.true c.in-Token.ensures.value }
+invariant_of-result c =
+    let lt : c.gaps_end-at.result < length c.args.source.now = omega (arith, c.gaps_end-at.ensures.within) in
+    record { ascii = ascii_token c.args.quoted c.args.source.now c.gaps_end-at.result c.in-Token.kind c.in-Token.more lt c.in-Token.ensures.value }

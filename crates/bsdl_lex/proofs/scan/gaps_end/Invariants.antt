@@ -1,6 +1,6 @@
 use Rattle.std.proofs.Common.{◌≡◌, ◌-◌, ◌≤◌, length, drop}
 use Rattle.bsdl_lex.specs.Cutting.{cut}
-use Rattle.bsdl_lex.proofs.scan.first_token.Given as goal
+use Rattle.bsdl_lex.proofs.scan.gaps_end.Given as goal
 
 abbrev pub invariant-loop-at : goal.invariant-loop-at
 invariant-loop-at l = (l.from ≤ l.at) × (l.at ≤ length l.source) × (cut l.quoted 0 l.from (drop l.from l.source) ≡ cut l.quoted 0 l.at (drop l.at l.source))
