@@ -1,9 +1,10 @@
 //! Reading tokens from left to right.
-ghost use Rattle.std.specs.Prelude.{◌≡◌, ◌<◌, ℕ, List, length, map, IfOk};
+ghost use Rattle.std.specs.Prelude.{◌≡◌, ◌<◌, ℕ, List, length, map, is_some, IfSome, IfOk};
 ghost use Rattle.std.specs.List.{list_all};
 ghost use Rattle.std.specs.Char.{is_ascii_digit};
 ghost use Rattle.std.specs.Str.{str_eq_ignore_ascii_case};
 ghost use Rattle.std.proofs.Common.{Bor};
+ghost use Rattle.bsdl_lex.specs.Cutting.{Lexeme};
 ghost use Rattle.bsdl_lex.specs.Left.{left, lexeme};
 ghost use Rattle.bsdl_numbers.specs.View.{value};
 ghost use Rattle.bsdl_text.specs.WordView.{word_lexeme};
@@ -67,34 +68,36 @@ pub fn mark<'a>(lexer: Lexer<'a>, byte: u8) -> Result<Lexer<'a>, Stop>
     ensures shorter { IfOk result (λ l. length (left l) < length (left lexer.entry)) }
     ensures misfit { StopsAtMisfit result }
 {
+    if let Some(rest) = behind(lexer, byte) {
+        return Ok(rest);
+    }
     match lexer.next() {
-        Some((token, rest)) if is_mark(token, byte) => Ok(rest),
         Some((token, _)) => Err(Stop::Misfit(Some(token.start))),
         None => Err(Stop::Misfit(None)),
     }
 }
 
-fn is_mark(token: Token<'_>, byte: u8) -> bool
-    ensures { result ≡ spec.is_mark_of byte (lexeme token.entry) }
+/// The lexer behind this mark, where it stands next: `mark` and `stands` by one look.
+pub fn behind<'a>(lexer: Lexer<'a>, byte: u8) -> Option<Lexer<'a>>
+    ensures stands { is_some result ≡ spec.stands byte (left lexer.entry) }
+    ensures passes { IfSome result (λ l. (t : Lexeme) × (spec.mark byte (left lexer.entry) ≡ spec.fits t (left l))) }
+    ensures shorter { IfSome result (λ l. length (left l) < length (left lexer.entry)) }
 {
-    token.text == [byte].as_slice()
+    lexer.behind_byte(byte)
 }
 
 /// Whether this mark stands next.
 pub fn stands(lexer: Lexer<'_>, byte: u8) -> bool
     ensures { result ≡ spec.stands byte (left lexer.entry) }
 {
-    match lexer.next() {
-        Some((token, _)) => is_mark(token, byte),
-        None => false,
-    }
+    behind(lexer, byte).is_some()
 }
 
 /// Whether no token is left.
 pub fn is_over(lexer: Lexer<'_>) -> bool
     ensures { result ≡ spec.is_over (left lexer.entry) }
 {
-    lexer.next().is_none()
+    lexer.is_over()
 }
 
 /// Whether a list closes here: at the end, or before a mark.

@@ -5,7 +5,7 @@ ghost use Rattle.bsdl_text.specs.Reading as spec;
 ghost use Rattle.bsdl_text.specs.Words as words;
 ghost use Rattle.bsdl_text.specs.View.{Gives};
 
-use crate::reading::{Stop, mark, stands, string};
+use crate::reading::{Stop, behind, string};
 use bsdl_lex::{Lexer, Token};
 use std::alloc::Global;
 
@@ -16,17 +16,15 @@ pub fn joined_text<'a>(alloc: Global, lexer: Lexer<'a>) -> Result<(Vec<u8>, Lexe
     ensures shorter { IfOk result (λ p. length (left p.1) < length (left lexer.entry)) }
 {
     let mut text = Vec::new(alloc);
-    let (first, behind) = string(lexer)?;
+    let (first, mut rest) = string(lexer)?;
     match text.extend_from_slice(inner(first)) {
         Ok(()) => {}
         Err(_) => return Err(Stop::Memory),
     }
-    let mut rest = behind;
     'strings: loop {
-        if !stands(rest, b'&') {
+        let Some(after) = behind(rest, b'&') else {
             return Ok((text, rest));
-        }
-        let after = mark(rest, b'&')?;
+        };
         let (next, more) = string(after)?;
         match text.extend_from_slice(inner(next)) {
             Ok(()) => rest = more,
