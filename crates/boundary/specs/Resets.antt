@@ -1,4 +1,5 @@
--- Which cells a reset gives their disabling value, as a mask, and a reset by it (IEEE Std 1149.1-2001, clauses 8 and 11).
+-- Which cells a reset gives their disabling value, as a mask, and a reset by it (IEEE Std 1149.1-2001, clauses 8
+-- and 11).
 use Rattle.std.specs.Prelude.{◌≡◌, ◌<◌, Bool, true, false, ℕ, List, map, length, if◌then◌else◌}
 use Rattle.jt_bits.specs.Words.{bit_of}
 use Rattle.bsdl_device.specs.declared.Cell.{Cell}

@@ -29,8 +29,8 @@ use std::alloc::{AllocError, Global};
 use std::marker::Model;
 
 /// The cells of a device with what each was last told that its port sees, their core's bits, and the two lists of the
-/// register; beside them the disabling values that a reset gives, and which cells capture what, have no control, and take
-/// their disabling values.
+/// register; beside them the disabling values that a reset gives, and which cells capture what, have no control, and
+/// take their disabling values.
 #[derive(Drop)]
 pub struct Boundary {
     device: SharedDevice,
@@ -260,7 +260,8 @@ impl Boundary {
         drive_of_cell(self.device.get().cells(), bits, driver)
     }
 
-    /// Of the 64 cells from `first` on those that drive their ports with their own bits in a mode, and these bits.
+    /// Of the 64 cells from `first` on those that have no control, so that where they drive a port it is with their own
+    /// bits, and these bits in a mode.
     pub fn plain_cells(&self, first: usize, mode: Mode) -> PlainCells
         ensures mask { (j : ℕ) → j < 64 → has_bit result.mask j ≡ drives_plainly mode self.now.cells (first + j) }
         ensures bits { (j : ℕ) → j < 64 → has_bit result.mask j ≡ true
@@ -286,8 +287,8 @@ fn plain_from(mask: &Bits, bits: &Bits, first: usize) -> PlainCells
     }
 }
 
-/// Of 64 cells those that drive their ports with their own bits, whatever the bits of others, and these bits. Bit
-/// `j` of both words is that of cell `j` of the 64.
+/// Of 64 cells those that have no control, so that where they drive a port it is with their own bits, and these bits.
+/// Bit `j` of both words is that of cell `j` of the 64.
 #[derive(Debug, Clone, Copy, Drop)]
 pub struct PlainCells {
     /// Which cells do so: those without a control, in a mode that drives the pins.

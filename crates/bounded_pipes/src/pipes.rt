@@ -55,12 +55,13 @@ pub struct Unjoined {
     pub board: Board,
 }
 
-/// The most bytes that are put into a pipe, or taken out of one, at once.
+/// The most bytes that the player puts into a pipe, or answers that it takes out of one, at once.
 const PIECE: usize = 64;
 
-/// The most bytes that the board takes together, and the fewest for which that is not dearer than one by one.
+/// The most bytes that the board takes together.
 const MOST_TOGETHER: usize = 512;
 
+/// The fewest for which that is not dearer than one by one.
 const FEWEST_TOGETHER: usize = 8;
 
 impl Pipes {

@@ -7,8 +7,8 @@ ghost use Rattle.bsdl_lex.specs.Plain.{HasNoBad};
 use crate::lanes::{LANES, plain_in, word_in};
 use crate::scan::is_word;
 
-/// How many bytes at the front of a text are known to belong to tokens and gaps. Behind them one begins, or the text
-/// ends.
+/// How many bytes at the front of a text are known to belong to tokens and gaps. Behind them a token, a gap or a bad
+/// byte stands, or the text ends.
 pub(crate) fn clear_len(text: &[u8], quoted: bool) -> usize
     ensures within { result ≤ length text.now }
     ensures same { HasNoBad quoted text.now result }
