@@ -150,8 +150,8 @@ fn divide(
     Ok(())
 }
 
-/// Whether the cell of a pin has a control, or fewer of its 64 drive pins than make a block. Both kinds are put to their
-/// nets alike, so no clause says which is which.
+/// Whether the cell of a pin has a control, or fewer of its 64 drive pins than make a block. Both kinds are put to
+/// their nets alike, so no clause says which is which.
 fn goes_alone(seats: &[Seat], counts: &BlockNumbers, it: DrivingPin) -> bool {
     counts.number(it) < BLOCK_PINS || has_control(seats, it)
 }
@@ -167,8 +167,8 @@ fn has_control(seats: &[Seat], it: DrivingPin) -> bool {
     }
 }
 
-/// The blocks of these pins' cells, and the pins of each block. `places` has for each 64 cells which block is theirs, as
-/// soon as there is one.
+/// The blocks of these pins' cells, and the pins of each block. `places` has for each 64 cells which block is theirs,
+/// as soon as there is one.
 fn blocks_of(
     alloc: Global,
     places: BlockNumbers,
