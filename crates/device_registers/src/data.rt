@@ -1,15 +1,15 @@
 //! The data registers of a device, of which an instruction selects one.
 
 ghost use Rattle.std.specs.Prelude.{◌≡◌, ◌+◌, ◌<◌, ◌≤◌, ℕ, false, Bool, List, [], ◌∷◌, Some, length, map, option_map};
-ghost use Rattle.std.specs.Prelude.{slice_get, unwrap_or, IfOk};
+ghost use Rattle.std.specs.Prelude.{◌++◌, drop, slice_get, take, unwrap_or, IfOk};
 ghost use Rattle.jt_bits.specs.Packed.{has_bit};
 ghost use Rattle.jt_bits.specs.Runs.{RunSet};
 ghost use Rattle.jt_bits.specs.Shifting.{after_shift};
-ghost use Rattle.jt_bits.specs.Words.{bit_of};
+ghost use Rattle.jt_bits.specs.Words.{bit_of, word_bits};
 ghost use Rattle.device_registers.specs.Data.{registers_of, lengths_of, IsThere, FixedFits};
 ghost use Rattle.device_registers.specs.Registers.{zeros, new_user, stage_of, with_stage, capture_of, update_selected};
 
-use crate::Register;
+use crate::{Register, WordRegister};
 use crate::users::{self, UserRegister, new_users};
 use device_instructions::{Mode, Selected};
 use jt_bits::Bits;
@@ -186,6 +186,34 @@ impl<B: Register> DataRegisters<B> {
     }
 }
 
+impl<B: WordRegister> DataRegisters<B> {
+    /// The selected register moves `n` places towards TDO, and takes the lowest bits of a word at the far end, the
+    /// lowest first, as so many calls of `shift_in`. Answers the bits that left, the first of them the lowest; what
+    /// stands above those has no meaning.
+    pub fn shift_word(&mut self, selected: Selected, bits: u64, n: usize) -> u64
+        requires there { IsThere (lengths_of B.stage self.old) selected }
+        requires few { n ≤ 64 }
+        ensures out { (latch instruction : List Bool) → word_bits result n ≡ take n
+            (stage_of selected (registers_of B.stage B.update_part latch instruction self.old) ++ word_bits bits n) }
+        ensures data { (latch instruction : List Bool)
+            → registers_of B.stage B.update_part latch instruction self.new
+            ≡ with_stage selected
+            (drop n (stage_of selected (registers_of B.stage B.update_part latch instruction self.old)
+            ++ word_bits bits n))
+            (registers_of B.stage B.update_part latch instruction self.old) }
+        ensures boundary { self.new.boundary
+            ≡ B.with_parts self.old.boundary (B.stage self.new.boundary) (B.update_part self.new.boundary) }
+        ensures lengths { lengths_of B.stage self.new ≡ lengths_of B.stage self.old }
+    {
+        match selected {
+            Selected::Bypass => shift_bypass(&mut self.bypass, bits, n),
+            Selected::Identification => self.identification.shift_word(bits, n),
+            Selected::Boundary => self.boundary.shift_word(bits, n),
+            Selected::User(k) => users::shift_word(&mut self.users, k, bits, n),
+        }
+    }
+}
+
 /// A register takes the bits, if there are some.
 fn copy_fixed(register: &mut Bits, bits: Option<&Bits>)
     requires { (b : List Bool) → option_map {U = List Bool} (λ x. x.now) bits ≡ Some b
@@ -211,4 +239,18 @@ fn put_bypass(bypass: &mut bool, at: usize, bits: u64, n: usize)
     ensures { RunSet (bypass.old ∷ []) (bypass.new ∷ []) at bits n }
 {
     *bypass = bits % 2 == 1;
+}
+
+/// The one bit of a bypass register moves `n` places towards TDO, and the lowest bits of a word behind it: answers those
+/// that left, the first of them the lowest.
+fn shift_bypass(bypass: &mut bool, bits: u64, n: usize) -> u64
+    requires { n ≤ 64 }
+    ensures out { word_bits result n ≡ take n (bypass.old ∷ word_bits bits n) }
+    ensures bit { bypass.new ∷ [] ≡ drop n (bypass.old ∷ word_bits bits n) }
+{
+    let out = bits << 1 | u64::from(*bypass);
+    if n > 0 {
+        *bypass = bits >> (n - 1) & 1 == 1;
+    }
+    out
 }

@@ -9,5 +9,5 @@ mod users;
 
 pub use data::DataRegisters;
 pub use plain::Plain;
-pub use register::Register;
+pub use register::{Register, WordRegister};
 pub use users::UserRegister;

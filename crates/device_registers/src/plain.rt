@@ -3,7 +3,7 @@
 ghost use Rattle.std.specs.Prelude.{◌≡◌, IfOk, false, replicate};
 ghost use Rattle.device_registers.specs.Plain.{PlainValue};
 
-use crate::Register;
+use crate::{Register, WordRegister};
 use device_instructions::Mode;
 use jt_bits::Bits;
 use std::alloc::{AllocError, Global};
@@ -114,4 +114,10 @@ impl Register for Plain {
     ghost sees_parts = { λ r cell bit s u. refl };
 
     ghost captured_part = { λ r mode i. inr (λ s u e. refl) };
+}
+
+impl WordRegister for Plain {
+    fn shift_word(&mut self, bits: u64, n: usize) -> u64 {
+        self.stage.shift_word(bits, n)
+    }
 }

@@ -1,10 +1,10 @@
 //! A boundary register, as a chip needs it.
 
-ghost use Rattle.std.specs.Prelude.{◌≡◌, ◌≢◌, ◌+◌, ◌<◌, ◌≤◌, ◌⊎◌, ℕ, Bool, List, length, slice_get};
+ghost use Rattle.std.specs.Prelude.{◌≡◌, ◌≢◌, ◌+◌, ◌<◌, ◌≤◌, ◌⊎◌, ◌++◌, ℕ, Bool, List, drop, length, slice_get, take};
 ghost use Rattle.jt_bits.specs.Packed.{has_bit};
 ghost use Rattle.jt_bits.specs.Runs.{RunSet};
 ghost use Rattle.jt_bits.specs.Shifting.{after_shift};
-ghost use Rattle.jt_bits.specs.Words.{bit_of};
+ghost use Rattle.jt_bits.specs.Words.{bit_of, word_bits};
 ghost use Rattle.device_instructions.specs.declared.Mode.{Mode as TheMode};
 
 use device_instructions::Mode;
@@ -120,4 +120,16 @@ pub trait Register: Drop {
         → slice_get (captured (with_parts r s u) mode) i ≡ slice_get (captured r mode) i)
         ⊎ ((s u : List Bool) → length u ≡ length (update_part r)
         → slice_get (captured (with_parts r s u) mode) i ≡ slice_get u i) };
+}
+
+/// A register that also takes many bits at once.
+pub trait WordRegister: Register {
+    /// Shifts in the lowest `n` bits of a word, the lowest first, as so many calls of `shift_in`; gives the bits that
+    /// leave cell 0, the first of them the lowest. What stands above those has no meaning (clauses 9 and 11).
+    fn shift_word(&mut self, bits: u64, n: usize) -> u64
+        requires some { 0 < length (Self.stage self.old) }
+        requires few { n ≤ 64 }
+        ensures out { word_bits result n ≡ take n (Self.stage self.old ++ word_bits bits n) }
+        ensures stage { self.new
+            ≡ Self.with_parts self.old (drop n (Self.stage self.old ++ word_bits bits n)) (Self.update_part self.old) };
 }

@@ -6,3 +6,4 @@ pub mod Lists
 pub mod Runs
 pub mod Solid
 pub mod DigitLanes
+pub mod WordShifts

@@ -266,7 +266,7 @@ copied_more old now new from at from_at done count bits few to_in from_in read p
   above = λ i h in_. put.above i (omega (arith, so_far.long)) (omega arith) ∙ so_far.above i (omega arith) in_;
 }
 
-same_list : (xs ys : List Bool) → length xs ≡ length ys → ((i : ℕ) → i < length ys → get_or xs i false ≡ get_or ys i false) → xs ≡ ys
+pub same_list : (xs ys : List Bool) → length xs ≡ length ys → ((i : ℕ) → i < length ys → get_or xs i false ≡ get_or ys i false) → xs ≡ ys
 same_list xs ys long each =
     fill_by_all (λ i. get_or ys i false) xs (length ys) false long each
     ∙ sym (fill_by_all (λ i. get_or ys i false) ys (length ys) false refl (λ i h. refl))

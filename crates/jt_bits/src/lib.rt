@@ -2,12 +2,12 @@
 #![tactic(auto)]
 
 ghost use Rattle.std.specs.Prelude.{◌≡◌, ◌+◌, ◌*◌, ◌<◌, ◌≤◌, ℕ, true, false, length, replicate, slice_get};
-ghost use Rattle.std.specs.Prelude.{slice_set, IfOk};
+ghost use Rattle.std.specs.Prelude.{◌++◌, drop, slice_set, take, IfOk};
 ghost use Rattle.jt_bits.specs.Lengths.{resized};
 ghost use Rattle.jt_bits.specs.Packed.{has_bit, bits_in_words, FewWords};
 ghost use Rattle.jt_bits.specs.Runs.{RunSet, copied};
-ghost use Rattle.jt_bits.specs.Shifting.{after_shift};
-ghost use Rattle.jt_bits.specs.Words.{bit_of, word_of, word_from, is_bad_at, is_bad_bit, IsFirst};
+ghost use Rattle.jt_bits.specs.Shifting.{after_shift, after_shifts};
+ghost use Rattle.jt_bits.specs.Words.{bit_of, word_bits, word_of, word_from, is_bad_at, is_bad_bit, IsFirst};
 
 pub use digits::{HexFault, has_one_beyond, is_hexadecimal};
 use std::alloc::{AllocError, Global};
@@ -137,6 +137,18 @@ impl Bits {
         ensures bits { self.new ≡ after_shift self.old bit }
     {
         words::shift(&mut self.words, &mut self.start, self.len, bit)
+    }
+
+    /// Shifts in the lowest `n` bits of a word, the lowest first, as so many calls of `shift_in`, and answers the bits
+    /// that left, the first of them the lowest. What stands above those has no meaning (IEEE Std 1149.1-2001, clause 9).
+    pub fn shift_word(&mut self, bits: u64, n: usize) -> u64
+        requires some { 0 < length self.old }
+        requires few { n ≤ 64 }
+        ensures out { word_bits result n ≡ take n (self.old ++ word_bits bits n) }
+        ensures bits { self.new ≡ after_shifts self.old (word_bits bits n) }
+        ensures left { self.new ≡ drop n (self.old ++ word_bits bits n) }
+    {
+        words::shift_word(&mut self.words, &mut self.start, self.len, bits, n)
     }
 
     /// Makes `n` bits from `at` on those of another list from `from_at` on, 64 at a time.

@@ -64,6 +64,31 @@ pub(crate) fn shift(words: &mut [u64], start: &mut usize, len: usize, bit: bool)
     out
 }
 
+/// Shifts the `len` bits from `start` on by `n` places, as so many calls of `shift` do with the lowest bits of `bits`,
+/// its lowest first: puts these behind them, moves the start on by `n`, and answers the bits that left.
+pub(crate) fn shift_word(
+    words: &mut [u64],
+    start: &mut usize,
+    len: usize,
+    bits: u64,
+    n: usize,
+) -> u64
+    requires room { 64 * length words.old ≤ 2 ^ 64 }
+    requires start_in { start.old < 64 * length words.old }
+    requires len_in { len ≤ 64 * length words.old }
+    requires few { n ≤ 64 }
+    ensures out { (j : ℕ) → j < n → has_bit result j ≡ (if nat_lt j len
+        then packed_bit words.old ((start.old + j) % (64 * length words.old)) else has_bit bits (j - len)) }
+    ensures start { start.new ≡ (start.old + n) % (64 * length words.old) }
+    ensures run { RunPut words.old words.new ((start.old + len) % (64 * length words.old)) bits n }
+{
+    let held = lowest_bits(window(words, *start), len);
+    let behind = place(words.len(), *start, len);
+    put_run(words, behind, bits, n);
+    *start = place(words.len(), *start, n);
+    if len < 64 { held | bits << len } else { held }
+}
+
 /// Makes the bits of word `k` that the mask has those of `bits`.
 fn put_masked(words: &mut [u64], k: usize, bits: u64, mask: u64)
     requires { k < length words.old }
