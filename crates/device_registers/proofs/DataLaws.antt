@@ -1,11 +1,17 @@
 -- The selected one of a device's data registers, and what keeps their lengths.
-use Rattle.std.proofs.Common.{◌≡◌, ◌≢◌, ◌+◌, ◌-◌, ◌%◌, ◌==◌, ◌<◌, ◌≤◌, ℕ, zero, suc, true, List, [], ◌∷◌, Bool, false, length, map, slice_get, Option, Some, None, unwrap_or, refl, sym, ap, subst, ◌∙◌, arith}
+use Rattle.std.proofs.Common.{◌≡◌, ◌≢◌, ◌+◌, ◌-◌, ◌*◌, ◌/◌, ◌%◌, ◌^◌, ◌==◌, ◌||◌, nat_eq, if◌then◌else◌, ◌++◌, take, drop, get_or, ◌<◌, ◌≤◌, ℕ, zero, suc, true, List, [], ◌∷◌, Bool, false, length, map, slice_get, Option, Some, None, unwrap_or, refl, sym, ap, subst, ◌∙◌, arith}
+use mir.Val.{bool_byte}
 use Rattle.std.specs.Int.{bit_at}
+use Rattle.std.specs.Int.Bits.{bit_and, bit_or}
+use Rattle.std.proofs.lemmas.List.{get_or-take, get_or-drop, length-take, length-drop, length-append}
 use Rattle.std.proofs.lemmas.Nat.Bits.{bit_at-zero, bit_at_lowest, bit_at-suc}
 use Rattle.jt_bits.specs.Packed.{has_bit}
 use Rattle.jt_bits.specs.Runs.{RunSet}
 use Rattle.jt_bits.specs.Shifting.{after_shift}
-use Rattle.jt_bits.specs.Words.{bit_of}
+use Rattle.jt_bits.specs.Words.{bit_of, word_bits}
+use Rattle.jt_bits.proofs.PackedWords.{or_bit, shl_low, shl_high, bit_read}
+use Rattle.jt_bits.proofs.Runs.{same_list}
+use Rattle.jt_bits.proofs.WordShifts.{length-word, get-word}
 use Rattle.device_instructions.specs.declared.Selected.{Selected}
 use Rattle.device_instructions.specs.declared.Selected.TheVariants.{User}
 use Rattle.device_registers.specs.declared.users.UserRegister.{UserRegister}
@@ -127,3 +133,69 @@ bypass_put old new at bits n some inside is = record {
   below = λ i h. absurd (omega arith);
   above = λ i h low. absurd (omega arith);
 }
+
+-- ---- many bits at once
+
+-- what moves keeps its length
+pub word_moved : (bits : List Bool) (word n : ℕ) → length (drop n (bits ++ word_bits word n)) ≡ length bits
+word_moved bits word n = omega (arith, length-drop n (bits ++ word_bits word n), length-append bits (word_bits word n), length-word word n)
+
+-- so do the lengths of user registers
+pub words_lens : (k : ℕ) (us lent new after : List UserRegister) (word n : ℕ) → lent ≡ us → new ≡ with_user_stage k (drop n (user_stage k lent ++ word_bits word n)) lent → after ≡ new → lens after ≡ lens us
+words_lens k us lent new after word n same shifted stored =
+    ap lens (stored ∙ shifted) ∙ put_lens lent k (drop n (user_stage k lent ++ word_bits word n)) (word_moved (user_stage k lent) word n) ∙ ap lens same
+
+bit_above : (b : Bool) (j : ℕ) → has_bit (if b then 1 else 0) (suc j) ≡ false
+unfolding has_bit
+bit_above true j = ap (λ (n : ℕ). n == 1) (bit_at-suc 1 j ∙ bit_at-zero j)
+bit_above false j = ap (λ (n : ℕ). n == 1) (bit_at-zero (suc j))
+
+lowest_bit : (b : Bool) → has_bit (if b then 1 else 0) 0 ≡ b
+unfolding has_bit
+lowest_bit true = refl
+lowest_bit false = refl
+
+out_as : (b : Bool) (word n : ℕ) → n ≤ 64 → word_bits (bit_or (word * 2 ^ 1 % 2 ^ 64) (if b then 1 else 0)) n ≡ take n (b ∷ word_bits word n)
+out_as b word n few =
+    let out = bit_or (word * 2 ^ 1 % 2 ^ 64) (if b then 1 else 0) in
+    let cut = length-take n (b ∷ word_bits word n) in
+    same_list (word_bits out n) (take n (b ∷ word_bits word n)) (length-word out n ∙ omega (arith, cut, length-word word n))
+    (λ i h.
+    let less : i < n = omega (arith, h, cut) in
+    get-word out n i less ∙ or_bit (word * 2 ^ 1 % 2 ^ 64) (if b then 1 else 0) i ∙ each i less
+    ∙ sym (get_or-take n (b ∷ word_bits word n) i false less))
+  where
+    or_false : (x : Bool) → (x || false) ≡ x
+    or_false true = refl
+    or_false false = refl
+
+    each : (i : ℕ) → i < n → (has_bit (word * 2 ^ 1 % 2 ^ 64) i || has_bit (if b then 1 else 0) i) ≡ get_or (b ∷ word_bits word n) i false
+    each zero less = ap (λ (x : Bool). x || has_bit (if b then 1 else 0) 0) (shl_low word 1 0 (omega arith) (omega arith)) ∙ lowest_bit b
+    each (suc i) less =
+        let back : suc i - 1 ≡ i = omega arith in
+        ap (λ (x : Bool). has_bit (word * 2 ^ 1 % 2 ^ 64) (suc i) || x) (bit_above b i) ∙ or_false (has_bit (word * 2 ^ 1 % 2 ^ 64) (suc i))
+        ∙ shl_high word 1 (suc i) (omega arith) (omega arith) ∙ ap (has_bit word) back ∙ sym (get-word word n i (omega arith))
+
+-- what leaves a bypass register, a word behind it
+pub bypass_out : (b : Bool) (word from n : ℕ) → n ≤ 64 → from ≡ bool_byte b → word_bits (bit_or (word * 2 % 2 ^ 64) from) n ≡ take n (b ∷ word_bits word n)
+bypass_out b word from n few is =
+    let one : word * 2 ≡ word * 2 ^ 1 = omega arith in
+    ap (λ (w : ℕ). word_bits (bit_or (w % 2 ^ 64) from) n) one ∙ ap (λ (f : ℕ). word_bits (bit_or (word * 2 ^ 1 % 2 ^ 64) f) n) (is ∙ byte b) ∙ out_as b word n few
+  where
+    byte : (b : Bool) → bool_byte b ≡ if b then 1 else 0
+    byte true = refl
+    byte false = refl
+
+-- what it holds then
+pub bypass_holds : (b : Bool) (word n : ℕ) → 0 < n → nat_eq (bit_and (word / 2 ^ (n - 1)) 1) 1 ∷ [] ≡ drop n (b ∷ word_bits word n)
+bypass_holds b word n some =
+    let bit = nat_eq (bit_and (word / 2 ^ (n - 1)) 1) 1 in
+    let cut = length-drop n (b ∷ word_bits word n) in
+    let end : suc (n - 1) ≡ n = omega arith in
+    same_list (bit ∷ []) (drop n (b ∷ word_bits word n)) (omega (arith, cut, length-word word n))
+    (λ i h.
+    let first : 0 ≡ i = omega (arith, h, cut, length-word word n) in
+    ap (λ (k : ℕ). get_or (bit ∷ []) k false) (sym first) ∙ bit_read word (n - 1) ∙ sym (get-word word n (n - 1) (omega arith))
+    ∙ ap (λ (k : ℕ). get_or (b ∷ word_bits word n) k false) end
+    ∙ sym (get_or-drop n (b ∷ word_bits word n) 0 false ∙ ap (λ (k : ℕ). get_or (b ∷ word_bits word n) k false) (omega arith))
+    ∙ ap (λ (k : ℕ). get_or (drop n (b ∷ word_bits word n)) k false) first)

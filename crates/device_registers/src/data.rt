@@ -9,8 +9,8 @@ ghost use Rattle.jt_bits.specs.Words.{bit_of, word_bits};
 ghost use Rattle.device_registers.specs.Data.{registers_of, lengths_of, IsThere, FixedFits};
 ghost use Rattle.device_registers.specs.Registers.{zeros, new_user, stage_of, with_stage, capture_of, update_selected};
 
-use crate::{Register, WordRegister};
 use crate::users::{self, UserRegister, new_users};
+use crate::{Register, WordRegister};
 use device_instructions::{Mode, Selected};
 use jt_bits::Bits;
 use std::alloc::{AllocError, Global};

@@ -147,6 +147,7 @@ impl Bits {
         ensures out { word_bits result n ≡ take n (self.old ++ word_bits bits n) }
         ensures bits { self.new ≡ after_shifts self.old (word_bits bits n) }
         ensures left { self.new ≡ drop n (self.old ++ word_bits bits n) }
+        ensures len { length self.new ≡ length self.old }
     {
         words::shift_word(&mut self.words, &mut self.start, self.len, bits, n)
     }

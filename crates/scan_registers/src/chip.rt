@@ -11,13 +11,13 @@ ghost use Rattle.device_instructions.specs.Fitting.{IsFormed, meaning_by, has_co
 ghost use Rattle.device_instructions.specs.Instruction.{instruction, meaning};
 ghost use Rattle.device_registers.specs.Registers.{after_capture, put, selected_bits, after_update, after_reset};
 
-use crate::{Link, same_bits};
+use crate::{Link, WordLink, same_bits};
 use bsdl_device::Device;
 use device_instructions::{
     Decoded, Mode, Selected, SharedDevice, code_length, decode, fixed_bits, has_code,
     instruction_of, reset_latch,
 };
-use device_registers::{DataRegisters, Register};
+use device_registers::{DataRegisters, Register, WordRegister};
 use jt_bits::Bits;
 use jt_tap::{Column, State, Work};
 use std::alloc::{AllocError, Global};
@@ -309,11 +309,13 @@ impl<B: Register> Chip<B> {
             ≡ B.with_parts self.old.boundary (B.stage self.new.boundary) (B.update_part self.new.boundary) }
     {
         match column {
-            // What the latch has already need not be decoded anew.
-            Column::Ir if same_bits(&self.latch, &self.stage) => {}
             Column::Ir => {
+                // What the latch has already need not be decoded anew.
+                let is_same = same_bits(&self.latch, &self.stage);
                 self.latch.copy_from(&self.stage);
-                self.decoded = decode(self.device.get(), &self.latch);
+                if !is_same {
+                    self.decoded = decode(self.device.get(), &self.latch);
+                }
             }
             Column::Dr => self.registers.update(self.decoded.selected),
         }
@@ -387,4 +389,13 @@ impl<B: Register> Link for Chip<B> {
 
     ghost put_twice = { λ a b c column s t h k. put_both B.stage B.update_part B.with_parts B.parts_twice a b c column
         s t h k };
+}
+
+impl<B: WordRegister> WordLink for Chip<B> {
+    fn shift_register(&mut self, column: Column, bits: u64, n: usize) -> u64 {
+        match column {
+            Column::Ir => self.stage.shift_word(bits, n),
+            Column::Dr => self.registers.shift_word(self.decoded.selected, bits, n),
+        }
+    }
 }

@@ -1,9 +1,9 @@
 //! A device as one link of a scan chain.
 
-ghost use Rattle.std.specs.Prelude.{◌≡◌, ◌+◌, ◌<◌, ◌≤◌, ℕ, Bool, List, length};
+ghost use Rattle.std.specs.Prelude.{◌≡◌, ◌+◌, ◌<◌, ◌≤◌, ◌++◌, ℕ, Bool, List, drop, length, take};
 ghost use Rattle.jt_bits.specs.Packed.{has_bit};
 ghost use Rattle.jt_bits.specs.Runs.{RunSet};
-ghost use Rattle.jt_bits.specs.Words.{bit_of};
+ghost use Rattle.jt_bits.specs.Words.{bit_of, word_bits};
 ghost use Rattle.jt_tap.specs.declared.Column.{Column as TheColumn};
 
 use jt_tap::Column;
@@ -38,4 +38,15 @@ pub trait Link {
     /// Of two puts the second holds.
     ghost put_twice: { (a b c : Self) (column : TheColumn) (s t : List Bool)
         → is_put a column s b → is_put b column t c → is_put a column t c };
+}
+
+/// A link that also takes many bits at once.
+pub trait WordLink: Link {
+    /// Shifts the lowest `n` bits of a word into the column's register, the lowest first, as so many cycles in its Shift
+    /// state do. Answers the bits that left, the first of them the lowest; what stands above those has no meaning.
+    fn shift_register(&mut self, column: Column, bits: u64, n: usize) -> u64
+        requires { n ≤ 64 }
+        ensures out { word_bits result n ≡ take n (Self.register self.old column ++ word_bits bits n) }
+        ensures put { Self.is_put self.old column
+            (drop n (Self.register self.old column ++ word_bits bits n)) self.new };
 }

@@ -1,5 +1,5 @@
-use Rattle.std.proofs.Common.{◌≡◌, ◌++◌, ℕ, sym, ap, length, drop, ◌∙◌, arith}
-use Rattle.std.proofs.lemmas.List.{with_items_is}
+use Rattle.std.proofs.Common.{◌≡◌, ◌++◌, ℕ, Bool, List, sym, ap, length, drop, ◌∙◌, arith}
+use Rattle.std.proofs.lemmas.List.{with_items_is, length-drop, length-append}
 use Rattle.jt_bits.specs.Words.{word_bits}
 use Rattle.jt_bits.proofs.PackedWords.{listed-length}
 use Rattle.jt_bits.proofs.WordShifts.{word_there, stays_there, shifts_are, length-word}
@@ -30,3 +30,10 @@ returns-clause-bits c =
     returns-clause-left c
     ∙ sym (shifts_are c.args.self.now (word_bits c.args.bits c.args.n) c.requires.some
     ∙ ap (λ (k : ℕ). drop k (c.args.self.now ++ word_bits c.args.bits c.args.n)) (length-word c.args.bits c.args.n))
+
+pub returns-clause-len : goal.returns-clause-len
+returns-clause-len c =
+    let held = c.args.self.now in
+    let word = word_bits c.args.bits c.args.n in
+    ap (λ (l : List Bool). length l) (returns-clause-left c)
+    ∙ omega (arith, length-drop c.args.n (held ++ word), length-append held word, length-word c.args.bits c.args.n)
