@@ -7,7 +7,7 @@ loop-k-preserved c =
     same_more c.args.one.now c.args.other.now c.loop-k.k c.word.result c.word-in-loop-k.result c.word.ensures
     c.word-in-loop-k.ensures c.if-word.false c.loop-k.invariant
 
-pub returns : goal.returns
-returns c = λ yes.
+pub returns-clause-same : goal.returns-clause-same
+returns-clause-same c = λ yes.
     same_all c.args.one.now c.args.other.now c.requires
     (λ i h. c.loop-k.invariant i (omega (arith, h, c.loop-k-test.false, c.len.ensures, c.div_ceil-k-end.ensures)))
