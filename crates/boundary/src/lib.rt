@@ -20,7 +20,7 @@ use bsdl_device::{Cell, Control3, Disabled, Function};
 pub use captures::sighted_port;
 use captures::{Masks, capture_all, held_bits, masks_of, takes_update};
 use device_instructions::{Mode, SharedDevice};
-use device_registers::Register;
+use device_registers::{Register, WordRegister};
 use jt_bits::Bits;
 pub use pin_nets::Drive;
 use resets::reset_all;
@@ -152,6 +152,12 @@ impl Register for Boundary {
     ghost sees_parts = { λ r cell bit s u. refl };
 
     ghost captured_part = { λ r mode i. taken_part r mode i };
+}
+
+impl WordRegister for Boundary {
+    fn shift_word(&mut self, bits: u64, n: usize) -> u64 {
+        self.stage.shift_word(bits, n)
+    }
 }
 
 /// Once each cell with a port was told what its port sees, a capture is the board's.

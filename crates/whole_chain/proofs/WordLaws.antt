@@ -1,19 +1,15 @@
--- Bits that are handed over in a word, as a list and as a vector of which nothing is wanted.
-use Rattle.std.proofs.Common.{◌≡◌, ℕ, zero, suc, ◌+◌, ◌-◌, ◌<◌, ◌≤◌, ◌^◌, ◌/◌, ◌*◌, ◌%◌, ⊎_elim, Bool, true, false, ◌||◌, List, [], ◌∷◌, ◌++◌, length, take, drop, get_or, map, refl, sym, ap, ◌∙◌, arith, append_assoc, length-append, ◌==◌, Some, None}
-use Rattle.std.specs.Prelude.{slice_get}
+-- Bits that are handed over in a word, as a list.
+use Rattle.std.proofs.Common.{◌≡◌, ℕ, zero, suc, ◌+◌, ◌-◌, ◌<◌, ◌≤◌, ◌^◌, ◌*◌, ◌%◌, ⊎_elim, Bool, true, false, ◌||◌, List, [], ◌∷◌, ◌++◌, length, take, get_or, refl, sym, ap, ◌∙◌, arith, append_assoc, length-append, ◌==◌}
 use Rattle.std.specs.Int.Bits.{bit_or}
 use Rattle.std.proofs.lemmas.Bool.{cases_lt}
-use Rattle.std.proofs.lemmas.List.{length-map, length-take, take_all}
+use Rattle.std.proofs.lemmas.List.{length-take, take_all}
 use Rattle.std.proofs.lemmas.Nat.Bits.{bit_at-zero}
 use Rattle.std.proofs.lemmas.List.FromFn.{length-map-range_with_len, get_or-map-range_with_len}
-use Rattle.std.proofs.lemmas.Option.{slice_get-get_or}
 use Rattle.jt_bits.specs.Packed.{has_bit}
 use Rattle.jt_bits.specs.Words.{bit_of}
 use Rattle.jt_bits.proofs.Lists.{bit_of-get_or}
-use Rattle.jt_bits.proofs.PackedWords.{or_bit, shl_high, shl_low, shr_bit}
-use Rattle.scan_vectors.specs.declared.part.Part.TheVariants.{Data}
-use Rattle.scan_vectors.specs.Vector.{VectorBit, tdis}
-use Rattle.whole_chain.specs.Rows.{joined_registers, before, left}
+use Rattle.jt_bits.proofs.PackedWords.{or_bit, shl_high, shl_low}
+use Rattle.whole_chain.specs.Rows.{joined_registers, before}
 use Rattle.whole_chain.specs.Words.{word_bits}
 use Rattle.whole_chain.proofs.Rows.{bit-left, bit-right, same_bits}
 
@@ -27,32 +23,6 @@ get-word word n j h = get_or-map-range_with_len (has_bit word) 0 n j j false h (
 
 pub bit-word : (word n j : ℕ) → j < n → bit_of (word_bits word n) j ≡ has_bit word j
 bit-word word n j h = bit_of-get_or (word_bits word n) j ∙ get-word word n j h
-
--- the bits from a place on, when the word is shifted down
-pub word-from : (word n place j : ℕ) → place + j < n → slice_get (word_bits word n) (place + j) ≡ Some (has_bit (word / 2 ^ place) j)
-word-from word n place j h =
-    slice_get-get_or (word_bits word n) (place + j) false (omega (arith, length-word word n))
-    ∙ ap Some (get-word word n (place + j) h ∙ sym (shr_bit word place j))
-
--- ---- as a vector
-
-unfoldable pub as_vector : List Bool → List VectorBit
-as_vector ts = map (λ t. record { tdi = t; wanted = None; part = Data; place = 0 }) ts
-
-pub tdis-as : (ts : List Bool) → tdis (as_vector ts) ≡ ts
-unfolding as_vector
-tdis-as [] = refl
-tdis-as (t ∷ ts) = ap (λ (l : List Bool). t ∷ l) (tdis-as ts)
-
-pub length-as : (word n : ℕ) → length (as_vector (word_bits word n)) ≡ n
-unfolding as_vector
-length-as word n = length-map (word_bits word n) (λ t. record { tdi = t; wanted = None; part = Data; place = 0 }) ∙ length-word word n
-
--- what stays in
-pub left-as : (word n : ℕ) (rows : List (List Bool)) → left (as_vector (word_bits word n)) rows ≡ drop n (joined_registers rows ++ word_bits word n)
-left-as word n rows =
-    ap (λ (k : ℕ). drop k (joined_registers rows ++ tdis (as_vector (word_bits word n)))) (length-as word n)
-    ∙ ap (λ (l : List Bool). drop n (joined_registers rows ++ l)) (tdis-as (word_bits word n))
 
 -- ---- what comes out
 

@@ -15,7 +15,7 @@ ghost use Rattle.device_instructions.specs.Instruction.{meaning};
 use super::Seat;
 use board_wiring::Wiring;
 use jt_tap::{Column, State};
-use scan_registers::{Link, Mode, Selected, same_bits};
+use scan_registers::{Link, Mode, Selected, WordLink, same_bits};
 
 impl Link for Seat {
     ghost use Rattle.board_meaning.specs.Whole.{selected_bits_of};
@@ -41,6 +41,12 @@ impl Link for Seat {
     ghost put_none = { λ s column. puts_nothing s column };
 
     ghost put_twice = { λ a b c column s t first second. puts_both a b c column s t first second };
+}
+
+impl WordLink for Seat {
+    fn shift_register(&mut self, column: Column, bits: u64, n: usize) -> u64 {
+        self.chip.shift_register(column, bits, n)
+    }
 }
 
 impl Seat {

@@ -1,120 +1,26 @@
-use Rattle.std.proofs.Common.{◌+◌, ◌<◌, Bool, List, [], length, map, refl, sym, ap, subst, slice_get, ◌∙◌, arith}
-use Rattle.std.proofs.lemmas.List.{length-map, length-set, get_or-map}
-use Rattle.whole_chain.specs.Rows.{before, left, IsCutBack}
-use Rattle.whole_chain.specs.Words.{word_bits}
-use Rattle.whole_chain.proofs.Rows.{before_more, before_all, same_len, inside}
-use Rattle.whole_chain.proofs.ShiftInPlace.{moved_none, moved_next, moved_at, moved_all, next_bits, in_vector, all_none, all_more, all_put}
-use Rattle.whole_chain.proofs.WordLaws.{as_vector, left-as, length-as, tdis-as}
+use Rattle.std.proofs.Common.{◌-◌, length, get_or, refl, arith}
+use Rattle.whole_chain.proofs.WordThrough.{through_none, through_more, through_all}
 use Rattle.whole_chain.proofs.words.shift_word.Goals as goal
 
 pub loop-i-init : goal.loop-i-init
-loop-i-init g c =
-    let olds = c.args.chain.now in
-    let r = c.spot_in_its_link-from in
-    let many = length-map olds (λ x. g.L.Link.register x c.args.column) in
-    record {
-      moved = moved_none (map (λ x. g.L.Link.register x c.args.column) olds) (as_vector (word_bits c.args.bits c.args.n)) r.result.link r.result.bit (omega (arith, r.ensures.within, many))
-          (omega (arith, r.ensures.same, length-as c.args.bits c.args.n)) (λ h. r.ensures.stands (omega (arith, h, many)));
-      puts = all_none (λ x. g.L.Link.register x c.args.column) (λ x stage y. g.L.Link.is_put x c.args.column stage y) (λ x. g.met.L.Link.put_none x c.args.column) olds;
-      count = refl;
-      inside = omega arith;
-    }
-
-pub loop-done-init : goal.loop-done-init
-loop-done-init g c =
-    let l = c.loop-i in
-    let olds = c.args.chain.now in
-    let i = l.i in
-    let h : i < length l.chain = omega (arith, c.loop-i-test.true, l.invariant.count) in
-    let row = get_or-map (λ x. g.L.Link.register x c.args.column) l.chain i c.index-chain-i.result [] h in
-    let same = same_len (map (λ x. g.L.Link.register x c.args.column) l.chain) (map (λ x. g.L.Link.register x c.args.column) olds) i l.invariant.moved.shape in
-    record {
-      moved = moved_at (map (λ x. g.L.Link.register x c.args.column) olds) (map (λ x. g.L.Link.register x c.args.column) l.chain) (as_vector (word_bits c.args.bits c.args.n))
-          (before (map (λ x. g.L.Link.register x c.args.column) olds) i) (before (map (λ x. g.L.Link.register x c.args.column) olds) i + 0) l.from.link l.from.bit (omega arith) l.invariant.moved;
-      puts = l.invariant.puts;
-      count = l.invariant.count;
-      inside = omega (arith, h, l.invariant.count);
-      done = omega arith;
-      len = c.register_len-len.ensures ∙ ap (λ (r : List Bool). length r) (sym row) ∙ same;
-    }
-
-pub next_run-run-requires-clause-stands : goal.next_run-run-requires-clause-stands
-next_run-run-requires-clause-stands g c =
-    let l = c.loop-done in
-    let m = l.invariant.moved in
-    let many = length-map c.args.chain.now (λ x. g.L.Link.register x c.args.column) in
-    let same = same_len (map (λ x. g.L.Link.register x c.args.column) l.chain) (map (λ x. g.L.Link.register x c.args.column) c.args.chain.now) l.from.link m.shape in
-    λ h. omega (arith, m.stands (omega (arith, h, many, l.invariant.count)), same)
-
-pub next_run-run-requires-clause-behind : goal.next_run-run-requires-clause-behind
-next_run-run-requires-clause-behind g c =
-    let l = c.loop-done in
-    let olds = map (λ x. g.L.Link.register x c.args.column) c.args.chain.now in
-    let many = length-map c.args.chain.now (λ x. g.L.Link.register x c.args.column) in
-    let now_many = length-map l.chain (λ x. g.L.Link.register x c.args.column) in
-    λ h. omega (
-      arith,
-      length-as c.args.bits c.args.n,
-      in_vector olds (map (λ x. g.L.Link.register x c.args.column) l.chain) (as_vector (word_bits c.args.bits c.args.n)) (before olds c.loop-i.i + l.done) l.from.link l.from.bit l.invariant.moved
-          (inside olds c.loop-i.i l.done (omega (arith, l.invariant.inside, many)) (omega (arith, c.loop-done-test.true, l.invariant.len))) (omega (arith, h, now_many)),
-    )
-
-pub put_register-requires-clause-inside : goal.put_register-requires-clause-inside
-put_register-requires-clause-inside g c =
-    let l = c.loop-done in
-    let i = c.loop-i.i in
-    let row = get_or-map (λ x. g.L.Link.register x c.args.column) l.chain i c.index-chain-i-in-loop-done.result [] (omega (arith, l.invariant.inside, l.invariant.count)) in
-    let same = same_len (map (λ x. g.L.Link.register x c.args.column) l.chain) (map (λ x. g.L.Link.register x c.args.column) c.args.chain.now) i l.invariant.moved.shape in
-    omega (arith, ap (λ (r : List Bool). length r) row, same, l.invariant.len, c.min-count.ensures, c.loop-done-test.true)
-
-pub loop-done-preserved : goal.loop-done-preserved
-loop-done-preserved g c =
-    let l = c.loop-done in
-    let i = c.loop-i.i in
-    let r = c.next_run-run in
-    let olds = c.args.chain.now in
-    let x = c.index-chain-i-in-loop-done.result in
-    let n = c.put_register.new.self in
-    let h : i < length l.chain = omega (arith, l.invariant.inside, l.invariant.count) in
-    let now_many = length-map l.chain (λ y. g.L.Link.register y c.args.column) in
-    let to = c.spot_in_its_link-from-in-loop-done in
-    record {
-      moved = moved_next (λ y. g.L.Link.register y c.args.column) olds l.chain x n (as_vector (word_bits c.args.bits c.args.n)) i l.done l.from.link l.from.bit to.result.link to.result.bit r.result.bits c.min-count.result
-          h l.invariant.count (omega (arith, l.invariant.len, c.min-count.ensures, c.loop-done-test.true)) l.invariant.moved c.put_register.ensures.run
-          (next_bits (map (λ y. g.L.Link.register y c.args.column) olds) (map (λ y. g.L.Link.register y c.args.column) l.chain) (as_vector (word_bits c.args.bits c.args.n))
-          (before (map (λ y. g.L.Link.register y c.args.column) olds) i + l.done) l.from.link l.from.bit r.result.bits r.result.len c.min-count.result (omega (arith, c.min-count.ensures))
-          l.invariant.moved (λ has. r.ensures.inside (omega (arith, has, now_many))) (λ has. r.ensures.register (omega (arith, has, now_many))) (λ past j less. ap (λ (t : List Bool). slice_get t (l.from.bit + j)) (tdis-as (word_bits c.args.bits c.args.n)) ∙ r.ensures.word (omega (arith, past, now_many)) j less))
-          to.ensures.within to.ensures.same to.ensures.stands;
-      puts = all_more (λ y. g.L.Link.register y c.args.column) (λ y stage z. g.L.Link.is_put y c.args.column stage z)
-          (λ a b d s t. g.met.L.Link.put_twice a b d c.args.column s t) olds l.chain i x n h l.invariant.puts c.put_register.ensures.put;
-      count = length-set l.chain i n ∙ l.invariant.count;
-      inside = l.invariant.inside;
-      done = omega (arith, l.invariant.done, c.min-count.ensures, c.loop-done-test.true);
-      len = l.invariant.len;
-    }
+loop-i-init g c = record {
+  inside = omega arith;
+  through = through_none (λ x. g.L.Link.register x c.args.column) (λ x stage y. g.L.Link.is_put x c.args.column stage y) c.args.chain.now (length c.args.chain.now) c.args.bits c.args.n refl;
+}
 
 pub loop-i-preserved : goal.loop-i-preserved
 loop-i-preserved g c =
-    let l = c.loop-done in
-    let i = c.loop-i.i in
-    let olds = map (λ x. g.L.Link.register x c.args.column) c.args.chain.now in
-    let many = length-map c.args.chain.now (λ x. g.L.Link.register x c.args.column) in
-    let more = before_more olds i (omega (arith, l.invariant.inside, many)) in
+    let l = c.loop-i in
     record {
-      moved = moved_at olds (map (λ x. g.L.Link.register x c.args.column) l.chain) (as_vector (word_bits c.args.bits c.args.n)) (before olds i + l.done) (before olds (i + 1)) l.from.link l.from.bit
-          (omega (arith, more, l.invariant.len, l.invariant.done, c.loop-done-test.false)) l.invariant.moved;
-      puts = l.invariant.puts;
-      count = l.invariant.count;
       inside = omega (arith, l.invariant.inside);
+      through = through_more (λ x. g.L.Link.register x c.args.column) (λ x stage y. g.L.Link.is_put x c.args.column stage y) c.args.chain.now l.chain l.i (l.i - 1) c.args.bits c.args.n l.entering
+          c.shift_register-entering.result c.index-chain-i.result (get_or l.chain (l.i - 1) c.index-chain-i.result) c.shift_register-entering.new.self
+          (omega (arith, c.loop-i-test.true)) (omega (arith, c.loop-i-test.true, l.invariant.inside, l.invariant.through.count)) refl l.invariant.through
+          c.shift_register-entering.ensures.put c.shift_register-entering.ensures.out;
     }
 
 pub returns : goal.returns
 returns g c =
     let l = c.loop-i in
-    let olds = map (λ x. g.L.Link.register x c.args.column) c.args.chain.now in
-    let many = length-map c.args.chain.now (λ x. g.L.Link.register x c.args.column) in
-    let all = before_all olds l.i (omega (arith, c.loop-i-test.false, l.invariant.count, many)) in
-    subst (λ (b : List Bool). IsCutBack (λ x. g.L.Link.register x c.args.column) (λ x stage y. g.L.Link.is_put x c.args.column stage y) b c.args.chain.now l.chain)
-    (left-as c.args.bits c.args.n olds)
-    (all_put (λ x. g.L.Link.register x c.args.column) (λ x stage y. g.L.Link.is_put x c.args.column stage y) c.args.chain.now l.chain (left (as_vector (word_bits c.args.bits c.args.n)) olds) l.invariant.puts
-    (moved_all olds (map (λ x. g.L.Link.register x c.args.column) l.chain) (as_vector (word_bits c.args.bits c.args.n)) (before olds l.i) l.from.link l.from.bit l.invariant.moved (omega (arith, all))))
+    through_all (λ x. g.L.Link.register x c.args.column) (λ x stage y. g.L.Link.is_put x c.args.column stage y) c.args.chain.now l.chain l.i c.args.bits c.args.n l.entering
+    (omega (arith, c.loop-i-test.false)) l.invariant.through

@@ -1,29 +1,12 @@
-use Rattle.std.proofs.Common.{◌≡◌, ◌+◌, ◌-◌, ◌<◌, ◌≤◌, length, get_or, map, []}
-use Rattle.whole_chain.specs.Rows.{before}
-use Rattle.whole_chain.specs.Words.{word_bits}
-use Rattle.whole_chain.proofs.ShiftInPlace.{Moved, AllPut}
-use Rattle.whole_chain.proofs.WordLaws.{as_vector}
+use Rattle.std.proofs.Common.{◌≤◌, length}
+use Rattle.whole_chain.proofs.WordThrough.{Through}
 use Rattle.whole_chain.proofs.words.shift_word.Given as goal
 
 abbrev pub invariant-loop-i : goal.invariant-loop-i
 invariant-loop-i g l = record {
-  moved : Moved (map (λ c. g.L.Link.register c l.column) l.fn.chain) (map (λ c. g.L.Link.register c l.column) l.chain) (as_vector (word_bits l.fn.bits l.fn.n))
-      (before (map (λ c. g.L.Link.register c l.column) l.fn.chain) l.i) l.from.link l.from.bit;
-  puts : AllPut (λ c. g.L.Link.register c l.column) (λ c stage d. g.L.Link.is_put c l.column stage d) l.fn.chain l.chain;
-  count : length l.chain ≡ length l.fn.chain;
   inside : l.i ≤ length l.fn.chain;
+  through : Through (λ c. g.L.Link.register c l.column) (λ c stage d. g.L.Link.is_put c l.column stage d) l.fn.chain l.chain l.i l.bits l.n l.entering;
 }
 
-abbrev pub invariant-loop-done : goal.invariant-loop-done
-invariant-loop-done g l = record {
-  moved : Moved (map (λ c. g.L.Link.register c l.column) l.fn.chain) (map (λ c. g.L.Link.register c l.column) l.chain) (as_vector (word_bits l.fn.bits l.fn.n))
-      (before (map (λ c. g.L.Link.register c l.column) l.fn.chain) l.i + l.done) l.from.link l.from.bit;
-  puts : AllPut (λ c. g.L.Link.register c l.column) (λ c stage d. g.L.Link.is_put c l.column stage d) l.fn.chain l.chain;
-  count : length l.chain ≡ length l.fn.chain;
-  inside : l.i < length l.fn.chain;
-  done : l.done ≤ l.len;
-  len : l.len ≡ length (get_or (map (λ c. g.L.Link.register c l.column) l.fn.chain) l.i []);
-}
-
-abbrev pub decreases-loop-done : goal.decreases-loop-done
-decreases-loop-done g l = l.len - l.done
+abbrev pub decreases-loop-i : goal.decreases-loop-i
+decreases-loop-i g l = l.i
