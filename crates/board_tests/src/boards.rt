@@ -316,3 +316,28 @@ fn boards_of_board_files(rt: HostRuntime) -> Result<(), Fail> {
     );
     Ok(())
 }
+
+/// Where bit 0 of the latch of the first device stands, and of its stage.
+fn starts(rt: &impl Abort, board: &Board) -> (usize, usize) {
+    let snapshot = board.snapshot();
+    assert!(rt; 0 < snapshot.devices());
+    (
+        snapshot.latch(0).layout().start,
+        snapshot.stage(0).layout().start,
+    )
+}
+
+#[test]
+fn an_update_of_the_instruction_that_stands_copies_its_stage_whole(
+    rt: HostRuntime,
+) -> Result<(), Fail> {
+    let mut board = Board::bare(rt.alloc(), 1)?;
+    cycles(&mut board, b"0");
+    assert_eq!(rt; starts(&rt, &board), (0, 0));
+    // BYPASS as after the reset, by two bits and by three: Select, Select, Capture, Shift, the bits, Update, IDLE.
+    bytes(&mut board, b"26260404153726040");
+    assert_eq!(rt; starts(&rt, &board), (2, 2));
+    bytes(&mut board, b"2626040415153726040");
+    assert_eq!(rt; starts(&rt, &board), (3, 3));
+    Ok(())
+}

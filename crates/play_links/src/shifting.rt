@@ -1,7 +1,7 @@
 //! Cycles that shift, among the bytes that a board is served.
 
 ghost use Rattle.std.specs.Prelude.{◌≡◌, ◌+◌, ◌<◌, ◌≤◌, ◌++◌, true, false, length, map, take};
-ghost use Rattle.std.specs.Prelude.{IsTrue, MatchOption, Some, ⊤};
+ghost use Rattle.std.specs.Prelude.{MatchOption, Some, ⊤};
 ghost use Rattle.bitbang_table.specs.Protocol.{answer, decode};
 ghost use Rattle.bitbang_table.specs.declared.Message.TheVariants.{Write};
 ghost use Rattle.jt_board.specs.Shifting as shifting;
@@ -13,11 +13,8 @@ ghost use Rattle.whole_chain.specs.Words.{word_bits};
 use bitbang_table::Cycle;
 use jt_board::Board;
 
-/// The fewest cycles that the board takes at once.
+/// The fewest cycles that the board takes at once: edge by edge each asks every device, a word asks each once.
 const FEWEST: usize = 4;
-
-/// How many bits of each device's register each of them pays for.
-const BITS_A_CYCLE: usize = 32;
 
 /// The most: as many as a word has bits.
 const MOST: usize = 64;
@@ -56,7 +53,7 @@ pub(crate) fn behind_shifts<'a>(
         return bytes;
     }
     let (run, behind) = run_at(bytes);
-    *asks = pays(board, run.count);
+    *asks = run.count >= FEWEST;
     if !*asks {
         return bytes;
     }
@@ -77,16 +74,6 @@ fn begins_with_a_rise(bytes: &[u8], asks: &mut bool) -> bool {
             false
         }
     }
-}
-
-/// Whether to take so many cycles at once costs less than edge by edge: those cost some 135 instructions a device each;
-/// a word some 300 a device, and some 80 for each 64 bits of the registers.
-fn pays(board: &Board, cycles: usize) -> bool
-    requires shifts { shifting.shifts board.now ≡ true }
-    requires few { cycles ≤ 64 }
-    ensures { IsTrue result → 0 < cycles }
-{
-    cycles >= FEWEST && board.shifts_at_most(BITS_A_CYCLE * cycles * board.devices())
 }
 
 /// Puts the bits of `out` that the run asks for behind the `count` first answers. Answers how many they are then.

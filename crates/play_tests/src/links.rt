@@ -4,7 +4,7 @@ use crate::players::player_of;
 use jt_player::{
     Board, Both, Counted, Ending, Part, Served, Stop, loop_over, play_over, serve_over,
 };
-use std::alloc::Global;
+use std::alloc::{AllocError, Global};
 use std::process::Abort;
 use std::test::Fail;
 
@@ -206,5 +206,80 @@ fn a_loop_shows_what_its_ends_did_not_write(rt: HostRuntime) -> Result<(), Fail>
         looped(alloc, b"r2626262626004262604041R53R72604QQ", ANSWERS, 1000)?,
         lost
     );
+    Ok(())
+}
+
+/// A device with an identification of 32 bits, which a reset selects.
+const CODED: &str = "entity K is port (TDI, TMS, TCK : in bit; TDO : out bit; D : in bit);
+  attribute TAP_SCAN_IN of TDI : signal is true; attribute TAP_SCAN_MODE of TMS : signal is true;
+  attribute TAP_SCAN_OUT of TDO : signal is true; attribute TAP_SCAN_CLOCK of TCK : signal is (1.0e6, BOTH);
+  attribute INSTRUCTION_LENGTH of K : entity is 2;
+  attribute INSTRUCTION_OPCODE of K : entity is \"BYPASS (11), EXTEST (00), SAMPLE (01), IDCODE (10)\";
+  attribute INSTRUCTION_CAPTURE of K : entity is \"01\";
+  attribute IDCODE_REGISTER of K : entity is \"00000001001000110100010101100111\";
+  attribute BOUNDARY_LENGTH of K : entity is 1;
+  attribute BOUNDARY_REGISTER of K : entity is \"0 (BC_1, D, input, X)\";
+end;";
+
+/// Two such devices.
+fn coded_board(alloc: Global) -> Result<Board, Fail> {
+    let file = "[[device]]\nname='U1'\nbsdl='k'\n[[device]]\nname='U2'\nbsdl='k'\n";
+    match Board::from_text(alloc, file.as_bytes(), &[("k", CODED.as_bytes())]) {
+        Ok(board) => Ok(board),
+        Err(_) => Err("no board")?,
+    }
+}
+
+/// The bytes of a scan of 100 data bits from a reset on, each asked for, which goes on in the instruction column.
+fn scan_of_100(alloc: Global) -> Result<Vec<u8>, AllocError> {
+    let mut bytes = Vec::new(alloc);
+    bytes.extend_from_slice(b"04260404")?;
+    for k in 0..100_u8 {
+        let (low, high) = match (k % 3 == 0, k == 99) {
+            (false, false) => (b'0', b'4'),
+            (true, false) => (b'1', b'5'),
+            (false, true) => (b'2', b'6'),
+            (true, true) => (b'3', b'7'),
+        };
+        bytes.extend_from_slice(&[low, b'R', high])?;
+    }
+    bytes.extend_from_slice(b"262626040404150")?;
+    Ok(bytes)
+}
+
+/// How the lists of each device are packed, their bits and the place of bit 0 in their words.
+fn layouts(rt: &impl Abort, alloc: Global, board: &Board) -> Result<String, AllocError> {
+    let snapshot = board.snapshot();
+    let mut shown = String::new(alloc);
+    for i in 0..snapshot.devices() {
+        assert!(rt; i < snapshot.devices());
+        let (latch, stage) = (snapshot.latch(i).layout(), snapshot.stage(i).layout());
+        shown.push_str(&format!(in alloc; "{latch:?} {stage:?} ")?)?;
+        if let Some(id) = snapshot.id(i) {
+            let id = id.layout();
+            shown.push_str(&format!(in alloc; "{id:?}\n")?)?;
+        }
+    }
+    Ok(shown)
+}
+
+#[test]
+fn a_scan_that_is_served_leaves_each_list_as_its_bytes_do(rt: HostRuntime) -> Result<(), Fail> {
+    let alloc = rt.alloc();
+    let bytes = scan_of_100(alloc)?;
+    let mut model = coded_board(alloc)?;
+    for byte in &bytes {
+        let _ = model.byte(*byte);
+    }
+    let wanted = layouts(&rt, alloc, &model)?;
+    for piece in [1024, 1, 3, 4, 63, 64, 65] {
+        let mut board = coded_board(alloc)?;
+        let mut writer = Counted::new(Vec::new(alloc));
+        let mut reader = Counted::new(Stop::new(bytes.as_slice(), usize::MAX, piece));
+        let ended = serve_over(&mut reader, &mut writer, &mut board, 1000);
+        assert_eq!(rt; ended, Served::Closed);
+        assert_eq!(rt; writer.into_inner().len(), 100);
+        assert_eq!(rt; layouts(&rt, alloc, &board)?.as_str(), wanted.as_str());
+    }
     Ok(())
 }

@@ -1,9 +1,9 @@
 //! All devices of a chain in a Shift state: up to 64 bits through their registers at once (IEEE Std 1149.1-2001,
 //! clauses 6, 7 and 9).
 
-ghost use Rattle.std.specs.Prelude.{◌≡◌, ◌<◌, ◌≤◌, ◌↔◌, ℕ, IsTrue, length};
+ghost use Rattle.std.specs.Prelude.{◌≡◌, ◌≤◌, ℕ};
 ghost use Rattle.board_meaning.specs.Chain.{members};
-ghost use Rattle.board_meaning.specs.Whole.{joined_bits, out_of_members};
+ghost use Rattle.board_meaning.specs.Whole.{out_of_members};
 ghost use Rattle.chip_chain.specs.AtRest.{chain_as, shifted_through};
 ghost use Rattle.chip_chain.specs.Shifting as shifting;
 ghost use Rattle.chip_chain.specs.Shifting.{all_shift};
@@ -26,21 +26,6 @@ impl Chain {
             if !device_shifts(self.seat(i), column) {
                 return false;
             }
-        }
-        true
-    }
-
-    /// Whether the column's registers have together no more than so many bits.
-    pub fn holds_at_most(&self, column: Column, bits: usize) -> bool
-        ensures { IsTrue result ↔ length (joined_bits column (members self.now.chips)) ≤ bits }
-    {
-        let mut left = bits;
-        for i in 0..self.devices() {
-            let len = self.seat(i).register_len(column);
-            if len > left {
-                return false;
-            }
-            left -= len;
         }
         true
     }

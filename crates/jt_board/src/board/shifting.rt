@@ -1,11 +1,11 @@
 //! Runs of cycles in a Shift state.
 
-ghost use Rattle.std.specs.Prelude.{◌≡◌, ◌<◌, ◌≤◌, ◌↔◌, true, IsTrue, length};
+ghost use Rattle.std.specs.Prelude.{◌≡◌, ◌<◌, ◌≤◌, true};
 ghost use Rattle.bitbang_table.specs.Cycles.{closed_messages};
 ghost use Rattle.board_meaning.specs.Chain as chain;
 ghost use Rattle.chip_chain.specs.Shifting.{all_shift};
 ghost use Rattle.jt_board.specs.Shifting as shifting;
-ghost use Rattle.jt_board.specs.Shifting.{shift_column, shift_cycles, shifted_len};
+ghost use Rattle.jt_board.specs.Shifting.{shift_column, shift_cycles};
 ghost use Rattle.whole_chain.specs.Words.{word_bits};
 
 use super::Board;
@@ -21,15 +21,6 @@ impl Board {
             return false;
         }
         self.chain.shifts(Column::Dr) || self.chain.shifts(Column::Ir)
-    }
-
-    /// Whether the registers that the devices of a board that shifts (asked) shift have together no more than so many
-    /// bits: what a word through all of them costs goes with their length.
-    pub fn shifts_at_most(&self, bits: usize) -> bool
-        requires { shifting.shifts self.now ≡ true }
-        ensures { IsTrue result ↔ shifted_len self.now ≤ bits }
-    {
-        self.chain.holds_at_most(self.shift_column(), bits)
     }
 
     /// `n` cycles of TCK at once, all with TMS low, on a board that shifts (asked): the lowest `n` bits of `bits` are
