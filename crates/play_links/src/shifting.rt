@@ -4,7 +4,6 @@ ghost use Rattle.std.specs.Prelude.{◌≡◌, ◌+◌, ◌<◌, ◌≤◌, ◌+
 ghost use Rattle.std.specs.Prelude.{MatchOption, Some, ⊤};
 ghost use Rattle.bitbang_table.specs.Protocol.{answer, decode};
 ghost use Rattle.bitbang_table.specs.declared.Message.TheVariants.{Write};
-ghost use Rattle.jt_board.specs.Shifting as shifting;
 ghost use Rattle.play_links.specs.Leaving.{left_behind};
 ghost use Rattle.play_links.specs.Serves.{serve_bytes};
 ghost use Rattle.play_links.specs.Shifts.{IsCycle, IsRun, picked, writes_low};
