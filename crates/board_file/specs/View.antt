@@ -50,6 +50,10 @@ ChecksPins (Err (miswired.PinTwice s)) o = o ≡ Some (PinTwice s.now)
 ChecksPins (Err miswired.TooLarge) o = o ≡ Some TooLarge
 ChecksPins (Err miswired.Memory) o = Unit {0}
 
+-- why pins are refused
+abbrev pub IsMisfit : Miswired → Option Fault → Type 0
+IsMisfit f o = ChecksPins {A = Unit {0}} (Err f) o
+
 -- as a caller sees it
 abbrev pub IsMiswired : {F : Type 0} → Miswired → BoardFault F → Type 0
 IsMiswired f fault.NoMemory = Unit {0}

@@ -1,14 +1,17 @@
 //! Judges the pins and nets of a board file, and plans the nets.
-ghost use Rattle.std.specs.Prelude.{◌≡◌, [], length, map, option_map, IfOk};
+ghost use Rattle.std.specs.Prelude.{◌≡◌, ◌<◌, ◌||◌, not, nat_lt, [], length, map, None, IfOk};
+ghost use Rattle.std.specs.List.{AllByRecursion};
 ghost use Rattle.toml.specs.View.{items_view};
 ghost use Rattle.board_tables.specs.Fields.{tables_in};
 ghost use Rattle.board_words.specs.View.{texts_of};
-ghost use Rattle.board_pins.specs.Pins.{twice_in_nets};
+ghost use Rattle.board_pins.specs.Pins.{twice_in_nets, unknown_in_nets};
 ghost use Rattle.board_parts.specs.Parts.{net_of};
+ghost use Rattle.board_parts.specs.Twice.{IsAmong, is_some_twice};
+ghost use Rattle.board_plan.specs.Planned.{all_pins};
 ghost use Rattle.board_plan.specs.View.{net as planned_net};
 ghost use Rattle.board_file.specs.Ports as spec;
 ghost use Rattle.board_file.specs.Wiring.{wire_fault};
-ghost use Rattle.board_file.specs.View.{ChecksPins};
+ghost use Rattle.board_file.specs.View.{ChecksPins, IsMisfit};
 
 use board_parts::{has_pin_twice, plan_known_nets};
 use board_pins::{Unfound, first_twice};
@@ -52,37 +55,56 @@ pub(crate) fn plan_fitting<'t>(
         Err(Unfound::Unknown(text)) => return Err(Miswired::UnknownPin(text)),
         Err(Unfound::Memory) => return Err(Miswired::Memory),
     };
-    match pin_twice(alloc, names, devices, nets, &planned) {
-        Ok(None) => {}
-        Ok(Some(text)) => return Err(Miswired::PinTwice(text)),
+    match may_fit(alloc, names, devices, &planned) {
+        Ok(true) => {}
+        Ok(false) => {
+            // The nets are let go before a tree of all pins is made.
+            drop(planned);
+            return Err(misfit(alloc, names, devices, nets));
+        }
         Err(_) => return Err(Miswired::Memory),
     }
-    if names.len() > MOST_DEVICES || count_tables(nets) > MOST_NETS {
+    if count_tables(nets) > MOST_NETS {
         return Err(Miswired::TooLarge);
     }
     Ok(planned)
 }
 
-/// The first text whose pin stands before it, given the nets that are planned. On a board that is not too large it is
-/// looked for only where there is one.
-fn pin_twice<'t>(
+/// Whether there are not too many devices, and no pin of these nets stands twice.
+fn may_fit(
+    alloc: Global,
+    names: &Places<&str>,
+    devices: &[SharedDevice],
+    planned: &[PlannedNet],
+) -> Result<bool, AllocError>
+    requires { AllByRecursion (IsAmong (length devices.now) (spec.most_ports devices.now))
+        (all_pins (map planned_net planned.now)) }
+    ensures { IfOk result (λ r. r
+        ≡ not (nat_lt 32 (length names.now) || is_some_twice [] (all_pins (map planned_net planned.now)))) }
+{
+    Ok(
+        names.len() <= MOST_DEVICES
+            && !has_pin_twice(alloc, devices.len(), most_ports(devices), planned)?,
+    )
+}
+
+/// Why a board is refused on which a pin stands twice, or that has too many devices.
+fn misfit<'t>(
     alloc: Global,
     names: &Places<&str>,
     devices: &[SharedDevice],
     nets: &'t [Value],
-    planned: &[PlannedNet],
-) -> Result<Option<&'t str>, AllocError>
-    requires { map planned_net planned.now
-        ≡ map (net_of (texts_of names.now) devices.now) (tables_in (items_view nets.now)) }
-    ensures { IfOk result (λ r. option_map (λ s. s.now) r
-        ≡ twice_in_nets (texts_of names.now) devices.now [] (tables_in (items_view nets.now))) }
+) -> Miswired<'t>
+    requires known { unknown_in_nets (texts_of names.now) devices.now (tables_in (items_view nets.now)) ≡ None }
+    requires misfit { twice_in_nets (texts_of names.now) devices.now [] (tables_in (items_view nets.now)) ≡ None
+        → 32 < length names.now }
+    ensures { IsMisfit result (wire_fault (texts_of names.now) devices.now (tables_in (items_view nets.now))) }
 {
-    if devices.len() <= MOST_DEVICES
-        && !has_pin_twice(alloc, devices.len(), most_ports(devices), planned)?
-    {
-        return Ok(None);
+    match first_twice(alloc, names, devices, nets) {
+        Ok(Some(text)) => Miswired::PinTwice(text),
+        Ok(None) => Miswired::TooLarge,
+        Err(_) => Miswired::Memory,
     }
-    first_twice(alloc, names, devices, nets)
 }
 
 /// The most port bits that one of the devices has.

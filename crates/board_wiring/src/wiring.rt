@@ -118,16 +118,16 @@ impl Wiring {
         if is_same(self.levels.drive(k), drive) {
             return;
         }
-        self.levels.place(k, drive);
+        self.place(k, drive);
     }
 
-    /// The pin of this number drives this from now on, as `put` has it, whatever was last put there: there is no branch
-    /// on what it drove, which pays where many pins drive another level than before.
-    pub fn place(&mut self, number: usize, drive: Drive)
-        requires { number < length (all_pins self.old.nets) }
-        ensures { self.new ≡ record self.old { drives = slice_set self.old.drives number drive } }
+    /// Pin `k` drives this from now on, as `put` has it, whatever was last put there: there is no branch on what it
+    /// drove, which pays where many pins drive another level than before.
+    pub fn place(&mut self, k: usize, drive: Drive)
+        requires { k < length (all_pins self.old.nets) }
+        ensures { self.new ≡ record self.old { drives = slice_set self.old.drives k drive } }
     {
-        self.levels.place(number, drive);
+        self.levels.place(k, drive);
     }
 }
 

@@ -1,9 +1,8 @@
 -- A capture by masks, 64 cells at a time, is the capture of each cell.
-use Rattle.std.proofs.Common.{◌≡◌, ◌<◌, ◌≤◌, ℕ, zero, suc, ◌+◌, ◌-◌, ◌^◌, ◌==◌, ◌||◌, ◌&&◌, Bool, true, false, not, List, [], ◌∷◌, ◌++◌, length, map, take, drop, set, get_or, Option, Some, None, refl, sym, ap, ◌∙◌, arith, ⊎_elim, if◌then◌else◌}
+use Rattle.std.proofs.Common.{◌≡◌, ◌<◌, ◌≤◌, ℕ, zero, suc, ◌+◌, ◌-◌, ◌^◌, ◌==◌, ◌||◌, ◌&&◌, Bool, true, false, not, List, [], ◌∷◌, length, Option, Some, None, refl, sym, ap, ◌∙◌, arith, ⊎_elim, if◌then◌else◌}
 use Rattle.std.specs.Int.{bit_at, bit_not, w64}
 use Rattle.std.specs.Int.Bits.{bit_and, bit_or}
 use Rattle.std.proofs.lemmas.Bool.{cases_lt}
-use Rattle.std.proofs.lemmas.List.{take_all, drop_all, append-nil, length-map}
 use Rattle.std.proofs.lemmas.Nat.Bits.{bit_at-lt, bit_at_not}
 use Rattle.jt_bits.specs.Packed.{has_bit}
 use Rattle.jt_bits.specs.Runs.{RunSet}
@@ -15,37 +14,9 @@ use Rattle.bsdl_device.specs.declared.Function.TheVariants as kind
 use Rattle.boundary.specs.Cells.{capture_from, cell_captures}
 use Rattle.boundary.specs.Masks.{AreMasks, CapturesEach, chosen, inner_cells, is_inner, is_sighted, sighted_cells}
 
--- ---- the masks
-
--- one more cell is marked
-pub marked_more : (f : Cell → Bool) (cells : List Cell) (old now : List Bool) (i : ℕ) (x : Cell) (bit : Bool)
-    → length old ≡ length cells → i < length cells → now ≡ take i (map f cells) ++ drop i old
-    → bit ≡ f (get_or cells i x) → set now i bit ≡ take (i + 1) (map f cells) ++ drop (i + 1) old
-marked_more f cells old now i x bit long h so_far is =
-    let next : i + 1 ≡ suc i = omega arith in
-    ap (set now i) is ∙ ap (λ (l : List Bool). set l i (f (get_or cells i x))) so_far ∙ one cells old i long h
-    ∙ ap (λ (n : ℕ). take n (map f cells) ++ drop n old) (sym next)
-  where
-    one : (cells : List Cell) (old : List Bool) (i : ℕ) → length old ≡ length cells → i < length cells
-        → set (take i (map f cells) ++ drop i old) i (f (get_or cells i x))
-        ≡ take (suc i) (map f cells) ++ drop (suc i) old
-    one [] old i long h = absurd (omega arith)
-    one (c ∷ cs) [] i long h = absurd (omega (arith, long))
-    one (c ∷ cs) (o ∷ old) zero long h = refl
-    one (c ∷ cs) (o ∷ old) (suc i) long h =
-        ap (λ (r : List Bool). f c ∷ r) (one cs old i (omega (arith, long)) (omega (arith, h)))
-
-pub marked_all : (f : Cell → Bool) (cells : List Cell) (old now : List Bool) (i : ℕ) → length old ≡ length cells
-    → length cells ≤ i → now ≡ take i (map f cells) ++ drop i old → now ≡ map f cells
-marked_all f cells old now i long h so_far =
-    so_far
-    ∙ ap (λ (l : List Bool). l ++ drop i old) (take_all i (map f cells) (omega (arith, h, length-map cells f)))
-    ∙ ap (λ (l : List Bool). map f cells ++ l) (drop_all i old (omega (arith, h, long)))
-    ∙ append-nil (map f cells)
-
 -- ---- one word
 
-not_bit : (mask j : ℕ) → mask < 2 ^ 64 → j < 64 → has_bit (bit_not w64 mask) j ≡ not (has_bit mask j)
+pub not_bit : (mask j : ℕ) → mask < 2 ^ 64 → j < 64 → has_bit (bit_not w64 mask) j ≡ not (has_bit mask j)
 unfolding has_bit
 not_bit mask j fits h = ap (λ (n : ℕ). n == 1) (bit_at_not w64 mask j fits h) ∙ flip (bit_at mask j) (bit_at-lt mask j)
   where

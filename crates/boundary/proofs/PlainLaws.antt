@@ -1,7 +1,6 @@
 -- The cells without a control, by their mask.
-use Rattle.std.proofs.Common.{◌≡◌, ◌<◌, ◌+◌, ◌==◌, ℕ, Bool, true, false, List, Option, Some, None, option_map, unwrap_or, slice_get, refl, sym, ap, subst, ◌∙◌, ◌⊎◌, ⊎_elim}
+use Rattle.std.proofs.Common.{◌≡◌, ◌<◌, ◌+◌, ℕ, Bool, true, false, List, Option, Some, None, option_map, unwrap_or, slice_get, refl, sym, ap, subst, ◌∙◌, ◌⊎◌, ⊎_elim}
 use Rattle.std.proofs.lemmas.Option.{slice_get-map}
-use Rattle.std.proofs.lemmas.Nat.Bits.{bit_at-zero}
 use Rattle.jt_bits.specs.Packed.{has_bit}
 use Rattle.jt_bits.specs.Words.{bit_of}
 use Rattle.bsdl_device.specs.declared.Cell.{Cell}
@@ -11,6 +10,7 @@ use Rattle.device_instructions.specs.declared.Mode.TheVariants.{Extest, Clamp, H
 use Rattle.pin_nets.specs.declared.Drive.{Drive}
 use Rattle.pin_nets.specs.declared.Drive.TheVariants.{Strong, Nothing}
 use Rattle.boundary.specs.Cells.{BoundaryValue, cell_drive, drive_of_driver, driven_in}
+use Rattle.boundary.proofs.MaskLaws.{zero_bit}
 use Rattle.boundary.specs.Plain.{drives_plainly, has_no_control, plain_cells}
 
 abbrev is_marked : List Cell → ℕ → Bool
@@ -63,10 +63,6 @@ module _ (b : BoundaryValue) (plain : List Bool) (first mask bits : ℕ) (is : p
   pub plain_core : (mode : Mode) → mode ≡ Core → ((j : ℕ) → j < 64 → has_bit bits j ≡ bit_of b.core (first + j)) → IsPlain mode b first mask bits
   plain_core mode e words = subst (λ (m : Mode). IsPlain m b first mask bits) (sym e) (record { marks = marks-are; drives = own b.core words })
 
-zero-bit : (j : ℕ) → has_bit 0 j ≡ false
-unfolding has_bit
-zero-bit j = ap (λ (n : ℕ). n == 1) (bit_at-zero j)
-
 pub plain_nowhere : (mode : Mode) (b : BoundaryValue) (first : ℕ) → mode ≡ HighZ → IsPlain mode b first 0 0
 plain_nowhere mode b first e = subst (λ (m : Mode). IsPlain m b first 0 0) (sym e)
-    (record { marks = λ j h. zero-bit j; drives = λ j h on. absurd (no (sym (zero-bit j) ∙ on)) })
+    (record { marks = λ j h. zero_bit j; drives = λ j h on. absurd (no (sym (zero_bit j) ∙ on)) })

@@ -1,6 +1,7 @@
 -- Which cells capture what their port sees and which their core's bit, as masks, and a capture by them.
 use Rattle.std.specs.Prelude.{◌≡◌, ◌<◌, Bool, true, false, ℕ, List, ◌∷◌, map, length, Option, Some, None}
 use Rattle.std.specs.Prelude.{if◌then◌else◌}
+use Rattle.jt_bits.specs.Packed.{has_bit}
 use Rattle.jt_bits.specs.Words.{bit_of}
 use Rattle.bsdl_device.specs.declared.Cell.{Cell}
 use Rattle.bsdl_device.specs.declared.Function.{Function}
@@ -39,6 +40,10 @@ inner_cells cells = map (λ (c : Cell). is_inner c.function) cells
 pub record AreMasks (cells : List Cell) (sees takes_core : List Bool) : Type 0 where
   pub sighted : sees ≡ sighted_cells cells
   pub inner : takes_core ≡ inner_cells cells
+
+-- a word's lowest bits are these
+abbrev pub IsWordOf : List Bool → ℕ → Type 0
+IsWordOf bits word = (j : ℕ) → j < length bits → has_bit word j ≡ bit_of bits j
 
 -- what a cell captures by its bits in the masks; `held` is what an output or control captures
 abbrev pub chosen : (sighted inner seen held core : Bool) → Bool

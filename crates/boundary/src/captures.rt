@@ -1,9 +1,10 @@
 //! What the cells of a boundary register capture, 64 of them at a time.
 
-ghost use Rattle.std.specs.Prelude.{◌≡◌, ◌<◌, ℕ, IfOk, length, if◌then◌else◌};
+ghost use Rattle.std.specs.Prelude.{◌≡◌, ◌≢◌, ◌<◌, ◌≤◌, ℕ, IfOk, length, if◌then◌else◌, false};
 ghost use Rattle.jt_bits.specs.Packed.{has_bit};
 ghost use Rattle.boundary.specs.Cells as cells;
-ghost use Rattle.boundary.specs.Masks.{AreMasks, CapturesEach, chosen, is_inner, is_sighted, sighted_port};
+ghost use Rattle.boundary.specs.Masks.{AreMasks, CapturesEach, IsWordOf, chosen, inner_cells, is_inner, is_sighted};
+ghost use Rattle.boundary.specs.Masks.{sighted_cells, sighted_port};
 ghost use Rattle.boundary.specs.Plain.{has_no_control, plain_cells};
 ghost use Rattle.boundary.specs.Resets.{reset_cells};
 
@@ -34,12 +35,15 @@ pub(crate) fn masks_of(alloc: Global, list: &[Cell]) -> Result<Masks, AllocError
     let mut inner = Bits::zeros(alloc, list.len())?;
     let mut plain = Bits::zeros(alloc, list.len())?;
     let mut reset = Bits::zeros(alloc, list.len())?;
-    for k in 0..list.len() {
-        let (sees, takes_core) = marks(list[k].port, list[k].function);
-        sighted.set(k, sees);
-        inner.set(k, takes_core);
-        plain.set(k, has_no_control(list[k].control));
-        reset.set(k, is_reset(list[k].function));
+    let mut at = 0;
+    while at < list.len() {
+        let n = (list.len() - at).min(64);
+        let words = mask_words(&list[at..at + n]);
+        sighted.put_run(at, words.sighted, n);
+        inner.put_run(at, words.inner, n);
+        plain.put_run(at, words.plain, n);
+        reset.put_run(at, words.reset, n);
+        at += n;
     }
     Ok(Masks {
         sighted,
@@ -47,6 +51,47 @@ pub(crate) fn masks_of(alloc: Global, list: &[Cell]) -> Result<Masks, AllocError
         plain,
         reset,
     })
+}
+
+/// What the masks have of up to 64 cells: bit `j` of each word is that of cell `j` of these.
+#[derive(Drop)]
+struct MaskWords {
+    sighted: u64,
+    inner: u64,
+    plain: u64,
+    reset: u64,
+}
+
+fn mask_words(cells: &[Cell]) -> MaskWords
+    requires { length cells.now ≤ 64 }
+    ensures sighted { IsWordOf (sighted_cells cells.now) result.sighted }
+    ensures inner { IsWordOf (inner_cells cells.now) result.inner }
+    ensures plain { IsWordOf (plain_cells cells.now) result.plain }
+    ensures reset { IsWordOf (reset_cells cells.now) result.reset }
+{
+    let mut words = MaskWords {
+        sighted: 0,
+        inner: 0,
+        plain: 0,
+        reset: 0,
+    };
+    for j in 0..cells.len() {
+        let (sees, takes_core) = marks(cells[j].port, cells[j].function);
+        words.sighted = with_mark(words.sighted, j, sees);
+        words.inner = with_mark(words.inner, j, takes_core);
+        words.plain = with_mark(words.plain, j, has_no_control(cells[j].control));
+        words.reset = with_mark(words.reset, j, is_reset(cells[j].function));
+    }
+    words
+}
+
+/// The word with bit `j`, which is 0 so far, as a cell is marked.
+fn with_mark(word: u64, j: usize, is_marked: bool) -> u64
+    requires { j < 64 }
+    ensures here { has_bit word j ≡ false → has_bit result j ≡ is_marked }
+    ensures others { (k : ℕ) → k < 64 → k ≢ j → has_bit result k ≡ has_bit word k }
+{
+    if is_marked { word | 1 << j } else { word }
 }
 
 fn has_no_control(control: Option<Control3>) -> bool

@@ -1,21 +1,18 @@
 -- Of 64 cells those that drive their own bits.
-use Rattle.std.proofs.Common.{◌≡◌, ◌+◌, ◌-◌, ◌%◌, ◌<◌, ◌^◌, ◌==◌, ℕ, zero, suc, Bool, true, false, ◌&&◌, ◌||◌, not, List, map, slice_get, Some, sym, ap, ◌∙◌, arith, refl}
+use Rattle.std.proofs.Common.{◌≡◌, ◌+◌, ◌%◌, ◌<◌, ◌^◌, ◌==◌, ℕ, zero, suc, Bool, true, false, ◌&&◌, ◌||◌, not, List, map, slice_get, Some, sym, ap, ◌∙◌, arith, refl}
 use Rattle.std.specs.Int.{bit_at, bit_not, w64}
 use Rattle.std.specs.Int.Bits.{bit_and, bit_or, bit_xor}
-use Rattle.std.proofs.lemmas.Nat.Bits.{bit_at-lt, bit_at-zero, bit_at_not, bit_at_xor}
+use Rattle.std.proofs.lemmas.Nat.Bits.{bit_at-lt, bit_at_xor}
 use Rattle.std.proofs.lemmas.Nat.{and_le_l}
 use Rattle.jt_bits.specs.Packed.{has_bit}
 use Rattle.jt_bits.proofs.PackedWords.{and_bit, or_bit}
 use Rattle.boundary.specs.Cells.{same_bit}
+use Rattle.boundary.proofs.CaptureLaws.{not_bit}
 use Rattle.boundary.specs.declared.PlainCells.{PlainCells}
 use Rattle.chip_seats.specs.Blocks.{TellsBlock, TellsOwn, stands}
 use Rattle.chip_seats.specs.Seats.{SeatValue, member_of}
 use Rattle.chip_seats.specs.declared.driving.Block.{Block}
 use Rattle.chip_seats.proofs.DrivingLaws.{cell_by_seat}
-
-pub zero_bit : (j : ℕ) → has_bit 0 j ≡ false
-unfolding has_bit
-zero_bit j = ap (λ (n : ℕ). n == 1) (bit_at-zero j)
 
 pub no : false ≡ true → ⊥
 no e = cc
@@ -29,15 +26,6 @@ block_tells seats s b plain at tells = record {
 }
 
 -- ---- which of them drive what they drove
-
-flip : (n : ℕ) → n < 2 → (1 - n == 1) ≡ not (n == 1)
-flip zero h = refl
-flip (suc zero) h = refl
-flip (suc (suc n)) h = absurd (omega (arith, h))
-
-not_bit : (mask j : ℕ) → mask < 2 ^ 64 → j < 64 → has_bit (bit_not w64 mask) j ≡ not (has_bit mask j)
-unfolding has_bit
-not_bit mask j fits h = ap (λ (n : ℕ). n == 1) (bit_at_not w64 mask j fits h) ∙ flip (bit_at mask j) (bit_at-lt mask j)
 
 xor_tests : (a b : ℕ) → a < 2 → b < 2 → ((a + b) % 2 == 1) ≡ not (same_bit (a == 1) (b == 1))
 xor_tests zero zero h k = refl

@@ -16,11 +16,12 @@ use Rattle.board_meaning.specs.Nets.{pin_drive}
 use Rattle.chip_seats.specs.Blocks.{AreParts, AreSlots, IsSlot, TellsBlock, slot_of, stands}
 use Rattle.chip_seats.specs.Driving.{cells_of, driving_from}
 use Rattle.chip_seats.specs.Seats.{SeatValue, member_of}
-use Rattle.chip_seats.specs.Tables.{AreSeatedPins, AreTargeted, HasTargets, IsRefreshed, IsTable, IsTargeted, Settled, Settles, SlotsSettled, WasPut, WerePut, targets}
+use Rattle.chip_seats.specs.Tables.{AreSeatedPins, AreTargeted, IsRefreshed, IsTable, IsTargeted, Settled, Settles, SlotsSettled, WasPut, WerePut, targets}
 use Rattle.chip_seats.specs.declared.driving.Block.{Block}
 use Rattle.chip_seats.specs.declared.driving.DrivingPin.{DrivingPin}
 use Rattle.chip_seats.specs.declared.driving.DrivingPins.{DrivingPins}
-use Rattle.chip_seats.proofs.BlockLaws.{no, stood, zero_bit}
+use Rattle.boundary.proofs.MaskLaws.{zero_bit}
+use Rattle.chip_seats.proofs.BlockLaws.{no, stood}
 use Rattle.chip_seats.proofs.DrivingLaws.{entry_of_pin, seats_cells}
 use Rattle.chip_seats.proofs.ListLaws.{set_here, set_there}
 use Rattle.chip_seats.proofs.SettleLaws.{all_settled, put_settled, settles_put}
@@ -49,20 +50,10 @@ done_more target ds es pins at slots left after j d is aims long others done k w
 
 -- ---- one block
 
-both_true : (a b : Bool) → (a && b) ≡ true → a ≡ true
-both_true true b e = refl
-both_true false b e = e
-
 not_false : (a b : Bool) → a ≡ true → (a && not b) ≡ false → b ≡ true
 not_false true true h e = refl
 not_false true false h e = absurd (no (sym e))
 not_false false b h e = absurd (no h)
-
-pub some_targets : (ms : List Member) (target : List Drive) (pins : List ℕ) (at : ℕ) (b : Block) (changed : ℕ) (put now : PlainCells)
-    → ((j : ℕ) → j < 64 → has_bit changed j ≡ (has_bit b.slots j && not (stands put now j))) → HasTargets ms target pins at b b.slots → HasTargets ms target pins at b changed
-some_targets ms target pins at b changed put now is has = record {
-  each = λ j h marked. has.each j h (both_true (has_bit b.slots j) (not (stands put now j)) (sym (is j h) ∙ marked));
-}
 
 pub block_settled : (ms : List Member) (target ds es : List Drive) (pins : List ℕ) (at : ℕ) (b : Block) (put now : PlainCells) (changed : ℕ)
     → WasPut ms target ds pins at b put → TellsBlock ms b now → Settles target ds es → SlotsSettled target es pins at changed

@@ -18,9 +18,6 @@ use Rattle.chip_seats.specs.declared.driving.DrivingPin.{DrivingPin}
 use Rattle.chip_seats.proofs.DrivingLaws.{HasEntry, member-cells, pin_cases, undriven}
 use Rattle.chip_seats.proofs.ListLaws.{same_places, set_here, set_there}
 
-pub settles_same : (target ds es : List Drive) → es ≡ ds → Settles target ds es
-settles_same target ds es is = record { long = ap length is; each = λ k h. ap (λ (l : List Drive). slice_get l k) is ∙ h }
-
 pub settles_both : (target a b c : List Drive) → Settles target a b → Settles target b c → Settles target a c
 settles_both target a b c one other = record { long = other.long ∙ one.long; each = λ k h. other.each k (one.each k h) }
 

@@ -9,23 +9,13 @@ use Rattle.jt_bits.specs.Packed.{has_bit}
 use Rattle.chip_seats.specs.Blocks.{AreSlots, HasRoom, IsBlock, IsSlot, slot_of}
 use Rattle.chip_seats.specs.declared.driving.Block.{Block}
 use Rattle.chip_seats.specs.declared.driving.DrivingPin.{DrivingPin}
-use Rattle.chip_seats.proofs.BlockLaws.{no, zero_bit}
+use Rattle.boundary.proofs.MaskLaws.{zero_bit}
+use Rattle.chip_seats.proofs.BlockLaws.{no}
 use Rattle.chip_seats.proofs.ListLaws.{before_append, index_before, pushed_cases, pushed_last, set_here, set_there}
 
 -- the slot of another list of pins, where the pin is the same
 same_slot : (pins others : List ℕ) (i j : ℕ) (b : Block) → slice_index others (64 * i + j) ≡ slice_index pins (64 * i + j) → slot_of others i b j ≡ slot_of pins i b j
 same_slot pins others i j b is = λ t. record { device = b.device; cell = b.first + j; pin = is t }
-
-pub no_slots : (n : ℕ) → AreSlots [] n [] []
-no_slots n = record {
-  long = refl;
-  within = λ i b at. absurd (none i b at);
-  each = λ i j b at h marked. absurd (none i b at);
-  all = λ e has. absurd (omega (arith, has.1));
-}
-  where
-    none : (i : ℕ) (b : Block) → slice_get {X = Block} [] i ≡ Some b → ⊥
-    none i b at = omega (arith, slice_get_within [] i b at)
 
 -- an empty block
 pub slots_open : (es : List DrivingPin) (n : ℕ) (blocks : List Block) (pins more : List ℕ) (b : Block) → AreSlots es n blocks pins → length more ≡ 64 → IsBlock n b → b.slots ≡ 0
@@ -189,15 +179,4 @@ opened_room blocks now e is = record {
   device = refl;
   first = omega arith;
   free = zero_bit (e.cell % 64);
-}
-
-pub room_in : (blocks : List Block) (i : ℕ) (e : DrivingPin) (b : Block) → i < length blocks → slice_get blocks i ≡ Some b → b.device ≡ e.device
-    → b.first ≡ e.cell - e.cell % 64 → has_bit b.slots (e.cell % 64) ≡ false → HasRoom blocks i e
-room_in blocks i e b inside at device first free = record {
-  b = b;
-  inside = inside;
-  at = at;
-  device = device;
-  first = omega (arith, first);
-  free = free;
 }

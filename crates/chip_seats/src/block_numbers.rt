@@ -14,11 +14,17 @@ pub(crate) struct BlockNumbers {
 }
 
 impl BlockNumbers {
-    /// 0 for each 64 cells of these devices. Refuses for want of memory alone.
-    pub(crate) fn zeros(alloc: Global, seats: &[Seat]) -> Result<BlockNumbers, AllocError> {
+    /// 0 for each 64 cells of these devices; of a board that has none of these pins there are no numbers. Refuses for
+    /// want of memory alone.
+    pub(crate) fn zeros(
+        alloc: Global,
+        seats: &[Seat],
+        pins: &[DrivingPin],
+    ) -> Result<BlockNumbers, AllocError> {
         let mut starts = Vec::new(alloc);
         let mut end: usize = 0;
-        for seat in seats {
+        let numbered = if pins.is_empty() { &seats[..0] } else { seats };
+        for seat in numbered {
             starts.push(end)?;
             end = end.saturating_add(seat.device().cells().len() / 64 + 1);
         }

@@ -69,7 +69,7 @@ pub fn driving_pins(
     let mut close = Vec::new(alloc);
     let mut rest = Vec::new(alloc);
     divide(seats, &counts, &all, &mut close, &mut rest)?;
-    let places = BlockNumbers::zeros(alloc, seats)?;
+    let places = BlockNumbers::zeros(alloc, seats, &close)?;
     let (blocks, pins) = blocks_of(alloc, places, &close)?;
     let put = Vec::from_elem(alloc, NO_CELLS, blocks.len())?;
     Ok(DrivingPins {
@@ -119,7 +119,7 @@ fn block_counts(
     seats: &[Seat],
     all: &[DrivingPin],
 ) -> Result<BlockNumbers, AllocError> {
-    let mut counts = BlockNumbers::zeros(alloc, seats)?;
+    let mut counts = BlockNumbers::zeros(alloc, seats, all)?;
     for it in all {
         if !has_control(seats, *it) {
             counts.put(*it, counts.number(*it).saturating_add(1));
@@ -207,7 +207,8 @@ fn enter_slot(
     Ok(place)
 }
 
-/// Whether the cell of a pin is one of the block at a place, and drives no pin yet.
+/// Whether the cell of a pin is one of the block at a place, and drives no pin yet. Answered false in vain it opens a
+/// block more, so the clause goes one way.
 fn has_room(blocks: &[Block], place: usize, it: DrivingPin) -> bool
     ensures { result ≡ true → HasRoom blocks.now place it }
 {

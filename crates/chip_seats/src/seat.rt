@@ -323,7 +323,8 @@ impl Seat {
         self.chip.fall();
     }
 
-    /// A falling edge. Answers whether what a pin drives may have changed.
+    /// A falling edge. Answers whether what a pin drives may have changed: where none has, to answer true costs time
+    /// alone, so clause `still` goes one way.
     pub fn fall_anew(&mut self) -> bool
         ensures kept { IsKept self.old self.new }
         ensures trst { self.new.chip.trst ≡ self.old.chip.trst }

@@ -24,12 +24,20 @@ pub(crate) fn sighted_cells(
     requires { length nets.now ≡ length cells.now }
     ensures { IfOk result (λ v. v.items ≡ sighted_from 0 nets.now cells.now) }
 {
-    let mut sighted = Vec::new(alloc);
+    let mut sighted = Vec::with_capacity(alloc, count_sighted(cells))?;
     for cell in 0..cells.len() {
         let port = sighted_port(cells[cell].port, cells[cell].function);
         enter(&mut sighted, cell, port, nets[cell])?;
     }
     Ok(sighted)
+}
+
+/// How many of these cells capture what their port sees. Only the room of the table hangs on it, so no clause says it.
+fn count_sighted(cells: &[Cell]) -> usize {
+    cells
+        .iter()
+        .filter(|cell| sighted_port(cell.port, cell.function).is_some())
+        .count()
 }
 
 /// One more cell, if it captures what a port sees.

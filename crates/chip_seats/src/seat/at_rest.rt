@@ -103,7 +103,8 @@ impl Seat {
             && matches!(self.chip.mode(), Mode::Extest | Mode::Clamp)
     }
 
-    /// Whether an update of the boundary register would change its update stage.
+    /// Whether an update of the boundary register would change its update stage. Answered true in vain it costs time
+    /// alone, so the clause goes one way.
     fn boundary_differs(&self) -> bool
         ensures { result ≡ false → self.now.chip.boundary.stage ≡ self.now.chip.boundary.update }
     {
@@ -113,7 +114,8 @@ impl Seat {
         !same_bits(boundary.stage(), boundary.update_stage())
     }
 
-    /// The column's register updates. Answers whether what a pin drives may have changed.
+    /// The column's register updates. Answers whether what a pin drives may have changed: where none has, to answer
+    /// true costs time alone, so clause `still` goes one way.
     pub fn update_anew(&mut self, column: Column) -> bool
         ensures kept { IsKept self.old self.new }
         ensures trst { self.new.chip.trst ≡ self.old.chip.trst }
@@ -127,7 +129,8 @@ impl Seat {
         driving || !self.is_in(mode)
     }
 
-    /// Whether an update of the column would change the bits that drive the pins.
+    /// Whether an update of the column would change the bits that drive the pins. Answered true in vain it costs time
+    /// alone, so the clause goes one way.
     fn changes_driving(&self, column: Column) -> bool
         ensures { result ≡ false
             → updates_driving column (meaning self.now.chip.device self.now.chip.latch).selected
@@ -138,7 +141,8 @@ impl Seat {
         self.updates_driving(column) && self.boundary_differs()
     }
 
-    /// Whether its instruction drives the pins in this mode.
+    /// Whether its instruction drives the pins in this mode. Answered false in vain it costs time alone, so the clause
+    /// goes one way.
     fn is_in(&self, mode: Mode) -> bool
         ensures { result ≡ true → (meaning self.now.chip.device self.now.chip.latch).mode ≡ mode }
     {

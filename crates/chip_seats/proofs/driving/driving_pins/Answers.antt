@@ -12,8 +12,8 @@ returns-clause-table c =
     let driving = driving_of seats nets in
     let parts : AreParts driving c.divide.new.close.items c.divide.new.rest.items =
     subst (λ (l : List DrivingPin). AreParts l c.divide.new.close.items c.divide.new.rest.items) (c.deref-2.ensures.value ∙ c.in_ok-all.ensures) c.in_ok-divide.ensures in
-    table_made driving c.divide.new.close.items c.deref-3.result.now (length seats) _ parts
-    c.deref-3.ensures.value c.in_ok-blocks.ensures (all_seated seats nets)
+    table_made driving c.divide.new.close.items c.deref-4.result.now (length seats) _ parts
+    c.deref-4.ensures.value c.in_ok-blocks.ensures (all_seated seats nets)
 
 pub returns-clause-put : goal.returns-clause-put
 returns-clause-put c =

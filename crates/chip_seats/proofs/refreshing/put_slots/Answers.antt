@@ -2,7 +2,7 @@ use Rattle.std.proofs.Common.{◌≡◌, ◌+◌, ℕ, Some, length, set, slice_
 use Rattle.jt_bits.specs.Packed.{has_bit}
 use Rattle.board_wiring.specs.Wires.{WiringValue}
 use Rattle.chip_seats.specs.Tables.{targets}
-use Rattle.chip_seats.proofs.BlockLaws.{zero_bit}
+use Rattle.boundary.proofs.MaskLaws.{zero_bit}
 use Rattle.chip_seats.proofs.RefreshLaws.{done_more, part_more}
 use Rattle.chip_seats.proofs.SettleLaws.{settles_both, settles_put, targets_long}
 use Rattle.chip_seats.proofs.refreshing.put_slots.Goals as goal
