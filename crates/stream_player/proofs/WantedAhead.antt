@@ -1,6 +1,7 @@
 -- The next wanted bits, as a word has them.
-use Rattle.std.proofs.Common.{◌≡◌, Bool, true, false, ℕ, ◌+◌, List, ◌∷◌, drop, refl, ap, ◌∙◌, Some, None}
+use Rattle.std.proofs.Common.{◌≡◌, Bool, true, false, ℕ, zero, suc, ◌+◌, ◌<◌, List, ◌∷◌, drop, refl, ap, ◌∙◌, Some, None, arith}
 use Rattle.std.specs.Prelude.{Option, option_map, slice_get, is_some, if◌then◌else◌}
+use Rattle.scan_vectors.specs.Held.{wanted_of}
 use Rattle.scan_vectors.specs.Vector.{VectorBit, wanted_bits}
 use Rattle.scan_vectors.proofs.WantedBits.{drop-at}
 use Rattle.scan_vectors.specs.Vector.{differs}
@@ -30,6 +31,20 @@ module _ (v : List VectorBit) (i : ℕ) where
       by (Some b) is e =
           let w : b.wanted ≡ Some bit = cc in
           (b, w, ap wanted_bits (drop-at v i b is) ∙ ap (λ (o : Option Bool). if is_some o then b ∷ rest else rest) w)
+
+-- so are several
+pub passed_all : (v : List VectorBit) (i n : ℕ)
+    → ((k : ℕ) → k < n → option_map {U = Option Bool} (λ b. b.wanted) (slice_get v (i + k)) ≡ Some None)
+    → wanted_bits (drop i v) ≡ wanted_bits (drop (i + n) v)
+passed_all v i zero none = ap (λ (m : ℕ). wanted_bits (drop m v)) (omega arith)
+passed_all v i (suc n) none =
+    passed_all v i n (λ k less. none k (omega (arith, less))) ∙ passed v (i + n) (none n (omega arith))
+    ∙ ap (λ (m : ℕ). wanted_bits (drop m v)) (omega arith)
+
+-- a bit of which a word says nothing is not looked at
+pub not_cared : (care bit : Bool) → wanted_of care bit ≡ None → care ≡ false
+not_cared true bit e = absurd cc
+not_cared false bit e = refl
 
 -- a bit that is as it is wanted does not differ
 abbrev differing : ℕ → VectorBit → Bool → Option Bool → Option Mismatch

@@ -1,7 +1,7 @@
 -- Bytes that a player has shown.
 use Rattle.std.specs.Prelude.{◌≡◌, ◌+◌}
 use Rattle.plays.specs.Streams.{StreamState}
-use Rattle.stream_player.specs.declared.shown.Shown.{Shown}
+use Rattle.stream_player.specs.ShownBytes.{ShownBytes}
 use Rattle.stream_player.specs.Kept.{IsKeptOf, Keeping, keeping}
 use Rattle.stream_player.specs.Progress.{IsProgressOf, state_of}
 
@@ -10,7 +10,7 @@ abbrev pub kept_by : StreamState → Keeping
 kept_by s = record { kind = s.kind; found = s.found }
 
 -- Once so many bytes more are given out, this player stands as what was shown says.
-pub record IsShown (s : StreamState) (shown : Shown) : Type 0 where
-  pub stands : IsProgressOf s.program.steps shown.progress
-  pub keeps : IsKeptOf (state_of s.program shown.progress) (kept_by s)
-  pub state : keeping (kept_by s) (state_of s.program shown.progress) ≡ record s { given = s.given + shown.count }
+pub record IsShown (s : StreamState) (shown : ShownBytes) : Type 0 where
+  pub stands : IsProgressOf s.program.steps shown.next
+  pub keeps : IsKeptOf (state_of s.program shown.next) (kept_by s)
+  pub state : keeping (kept_by s) (state_of s.program shown.next) ≡ record s { given = s.given + shown.count }

@@ -3,12 +3,23 @@
 ghost use Rattle.std.specs.Prelude.{◌≡◌};
 
 use crate::progress::Progress;
+use std::marker::Model;
 
-/// Bytes that a player has shown: how many they are, and where it stands once they are given out.
+/// Bytes that a player has shown. Contracts see how many they are, and where the player stands once they are given out.
 #[derive(Debug, Clone, Copy)]
 pub struct Shown {
     count: usize,
     progress: Progress,
+}
+
+impl Model for Shown {
+    ghost use Rattle.stream_player.specs.ShownBytes.{ShownBytes};
+
+    ghost Value = { ShownBytes };
+
+    ghost view = { λ s. record { count = s.count; next = s.progress } };
+
+    ghost inverse = { λ v. record { count = v.count; progress = v.next } };
 }
 
 impl Shown {
@@ -16,7 +27,7 @@ impl Shown {
 
     /// So many, behind which the player stands here.
     pub(crate) fn new(count: usize, progress: Progress) -> Shown
-        ensures { result ≡ record { count = count; progress = progress } }
+        ensures { result ≡ record { count = count; next = progress } }
     {
         Shown { count, progress }
     }
@@ -30,7 +41,7 @@ impl Shown {
 
     /// Where the player stands behind them.
     pub(crate) fn progress(&self) -> Progress
-        ensures { result ≡ self.now.progress }
+        ensures { result ≡ self.now.next }
     {
         self.progress
     }

@@ -1,6 +1,6 @@
 //! What is wanted of the next bits of a vector, known for a word of them at a time.
 
-ghost use Rattle.std.specs.Prelude.{◌≡◌, ◌+◌, ◌-◌, ◌<◌, ◌≤◌, true, Bool, Option, List, Some, IfSome, drop, length};
+ghost use Rattle.std.specs.Prelude.{◌≡◌, ◌+◌, ◌-◌, ◌<◌, ◌≤◌, ℕ, true, false, Bool, Option, List, Some, IfSome, drop, length};
 ghost use Rattle.std.specs.Prelude.{option_map, slice_get};
 ghost use Rattle.jt_bits.specs.Packed.{has_bit};
 ghost use Rattle.scan_vectors.specs.Held.{bits, wanted_of};
@@ -29,7 +29,8 @@ impl WordAhead {
         WordAhead { from: 0, run }
     }
 
-    /// The next bit from this place on that is wanted, where one word has it and it is to be this one.
+    /// The next bit from this place on that is wanted, where it is to be this one. Bits that are not wanted are passed by
+    /// the word.
     pub(crate) fn expected(&mut self, vector: &Vector<'_>, from: usize, bit: bool) -> Option<usize>
         requires { IsAhead (bits vector.now) self.old }
         ensures known { IsAhead (bits vector.now) self.new }
@@ -47,7 +48,10 @@ impl WordAhead {
             match self.wanted(i) {
                 Some(wanted) if is_same(wanted, bit) => return Some(i),
                 Some(_) => return None,
-                None => i += 1,
+                None => {
+                    i += self.unwanted(i);
+                    self.look(vector, i);
+                }
             }
         }
         None
@@ -88,6 +92,34 @@ impl WordAhead {
         } else {
             None
         }
+    }
+
+    /// How many of the known bits from bit `i` on are not wanted, up to the first that is. Bit `i` itself is not.
+    fn unwanted(&self, i: usize) -> usize
+        requires low { self.now.from ≤ i }
+        requires high { i < self.now.from + self.now.run.len }
+        requires few { self.now.run.len ≤ 64 }
+        requires first { has_bit self.now.run.care (i - self.now.from) ≡ false }
+        ensures some { 0 < result }
+        ensures within { i + result ≤ self.now.from + self.now.run.len }
+        ensures zeros { (k : ℕ) → k < result → has_bit self.now.run.care (i - self.now.from + k) ≡ false }
+    {
+        let j = i - self.from;
+        zeros_from(self.run.care, j).max(1).min(self.run.len - j)
+    }
+}
+
+/// How many bits of a word from bit `j` on are 0, up to the first that is 1 or to the word's end.
+fn zeros_from(word: u64, j: usize) -> usize
+    requires { j < 64 }
+    ensures within { j + result ≤ 64 }
+    ensures zeros { (k : ℕ) → k < result → has_bit word (j + k) ≡ false }
+{
+    let rest = word >> j;
+    if rest == 0 {
+        64 - j
+    } else {
+        rest.trailing_zeros() as usize
     }
 }
 

@@ -1,3 +1,4 @@
+pub mod AheadLaws
 pub mod FieldLaws
 pub mod FormLaws
 pub mod RunTestLaws

@@ -1,3 +1,4 @@
+pub mod Ahead
 pub mod Behind
 pub mod Fields
 pub mod Forms

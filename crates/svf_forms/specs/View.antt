@@ -53,5 +53,11 @@ form (written.Trst t) = trst_form t
 form written.Port = port_form
 
 abbrev pub lent_form : LentForm → Form
+lent_form (lent_forms.EndDr s) = end_dr_form s
+lent_form (lent_forms.EndIr s) = end_ir_form s
+lent_form (lent_forms.Frequency n) = frequency_form (option_map (λ w. w.now) n)
 lent_form (lent_forms.Scan which len fs) = scan_form which len.now (lent fs)
-lent_form (lent_forms.Other w) = form w
+lent_form (lent_forms.RunTest r) = run_test_form (run_test r)
+lent_form (lent_forms.States v) = states_form v.items
+lent_form (lent_forms.Trst t) = trst_form t
+lent_form lent_forms.Port = port_form

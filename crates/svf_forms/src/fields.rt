@@ -60,20 +60,6 @@ pub struct LentFields<'a> {
     pub smask: Option<Digits<'a>>,
 }
 
-impl Fields {
-    /// The same fields, lent by nobody.
-    pub fn lent<'a>(self) -> LentFields<'a>
-        ensures { lent result ≡ fields self }
-    {
-        LentFields {
-            tdi: self.tdi.map(|digits| Digits::Joined(digits)),
-            tdo: self.tdo.map(|digits| Digits::Joined(digits)),
-            mask: self.mask.map(|digits| Digits::Joined(digits)),
-            smask: self.smask.map(|digits| Digits::Joined(digits)),
-        }
-    }
-}
-
 /// The fields that the words up to the `;` are: each a name and digits between brackets, at most once. There are none
 /// where the words are anything else. Memory is taken for the digits. Refuses for want of memory alone.
 pub fn fields_of(alloc: Global, words: Lexer<'_>) -> Result<Option<Fields>, AllocError>
@@ -201,31 +187,37 @@ fn runs<'a>(alloc: Global, words: Lexer<'a>) -> Result<Option<(Digits<'a>, Lexer
     if is_open(first) {
         return Ok(None);
     }
-    if let Some((word, behind)) = next_word(rest) {
-        if is_close(word) {
-            return Ok(Some((Digits::Run(first), behind)));
-        }
+    let Some((second, behind)) = next_word(rest) else {
+        return Ok(None);
+    };
+    if is_close(second) {
+        return Ok(Some((Digits::Run(first), behind)));
     }
-    match joined(alloc, first, rest)? {
+    if is_open(second) {
+        return Ok(None);
+    }
+    match joined(alloc, first, second, behind)? {
         Some((digits, behind)) => Ok(Some((Digits::Joined(digits), behind))),
         None => Ok(None),
     }
 }
 
-/// This run and the runs up to `)`, joined, and the lexer behind it.
+/// These two runs and the runs up to `)`, joined, and the lexer behind it.
 fn joined<'a>(
     alloc: Global,
     first: &'a [u8],
+    second: &'a [u8],
     words: Lexer<'a>,
 ) -> Result<Option<(Vec<u8>, Lexer<'a>)>, AllocError>
     ensures found { IfOk result
         (λ o. option_map {U = List ℕ × Closed} (λ p. (p.0.items, cut_at_close (words_left p.1))) o
-        ≡ (spec.runs (cut_at_close (words_left words.entry)) >>? λ p. Some (first.now ++ p.0, p.1))) }
+        ≡ (spec.runs (cut_at_close (words_left words.entry)) >>? λ p. Some ((first.now ++ second.now) ++ p.0, p.1))) }
     ensures shorter { IfOk result (λ o. IfSome o (λ p. length (words_left p.1) < length (words_left words.entry))) }
     ensures behind { IfOk result (λ o. IfSome o (λ p. Behind (left words.entry) (left p.1))) }
 {
     let mut digits = Vec::new(alloc);
     digits.extend_from_slice(first)?;
+    digits.extend_from_slice(second)?;
     let mut rest = words;
     while let Some((word, after)) = next_word(rest) {
         if is_close(word) {

@@ -41,10 +41,22 @@ pub enum Written<'a> {
 /// [`Written`], but that digits of a scan's field which are one run are not copied.
 #[derive(Debug, Drop)]
 pub enum LentForm<'a> {
+    /// `ENDDR state`.
+    EndDr(State),
+    /// `ENDIR state`.
+    EndIr(State),
+    /// `FREQUENCY [number HZ]`.
+    Frequency(Option<&'a [u8]>),
     /// `HDR`, `HIR`, `TDR`, `TIR`, `SDR` or `SIR`, its length and its fields.
     Scan(Which, &'a [u8], LentFields<'a>),
-    /// Any other.
-    Other(Written<'a>),
+    /// `RUNTEST` and its parts.
+    RunTest(RunTest<'a>),
+    /// `STATE` and its states, at least one.
+    States(Vec<State>),
+    /// `TRST` and its word.
+    Trst(TrstWord),
+    /// `PIO` or `PIOMAP`, whatever follows.
+    Port,
 }
 
 /// The form that the words after a command have, up to the `;`. There is none where they do not fit the command. Memory
@@ -56,14 +68,26 @@ pub fn form_of<'a>(
 ) -> Result<Option<Written<'a>>, AllocError>
     ensures { IfOk result (λ o. option_map view.form o ≡ spec.form_of command (words_left words.entry)) }
 {
-    match lent_form(alloc, command, words)? {
-        Some((LentForm::Scan(which, len, fields), _)) => {
-            let fields = copied(alloc, fields)?;
-            Ok(Some(Written::Scan(which, len, fields)))
-        }
-        Some((LentForm::Other(form), _)) => Ok(Some(form)),
-        None => Ok(None),
-    }
+    let Some((form, _)) = lent_form(alloc, command, words)? else {
+        return Ok(None);
+    };
+    Ok(Some(with_own_digits(alloc, form)?))
+}
+
+/// The same form with digits of its own.
+fn with_own_digits<'a>(alloc: Global, form: LentForm<'a>) -> Result<Written<'a>, AllocError>
+    ensures { IfOk result (λ w. view.form w ≡ view.lent_form form.entry) }
+{
+    Ok(match form {
+        LentForm::EndDr(state) => Written::EndDr(state),
+        LentForm::EndIr(state) => Written::EndIr(state),
+        LentForm::Frequency(number) => Written::Frequency(number),
+        LentForm::Scan(which, len, fields) => Written::Scan(which, len, copied(alloc, fields)?),
+        LentForm::RunTest(test) => Written::RunTest(test),
+        LentForm::States(states) => Written::States(states),
+        LentForm::Trst(word) => Written::Trst(word),
+        LentForm::Port => Written::Port,
+    })
 }
 
 /// The same, with fields that the text lends, and of the commands that programs have most of the lexer behind their
@@ -89,27 +113,24 @@ pub fn lent_form<'a>(
         }
         Command::RunTest => {
             return match run_test_and_rest(words) {
-                Some((test, rest)) => Ok(Some((
-                    LentForm::Other(Written::RunTest(test)),
-                    Some(rest),
-                ))),
+                Some((test, rest)) => Ok(Some((LentForm::RunTest(test), Some(rest)))),
                 None => Ok(None),
             };
         }
         Command::State => {
             return match some_states(alloc, words)? {
-                Some((all, rest)) => Ok(Some((LentForm::Other(Written::States(all)), Some(rest)))),
+                Some((all, rest)) => Ok(Some((LentForm::States(all), Some(rest)))),
                 None => Ok(None),
             };
         }
-        Command::EndDr => one_state(words).map(|state| Written::EndDr(state)),
-        Command::EndIr => one_state(words).map(|state| Written::EndIr(state)),
-        Command::Frequency => hertz(words).map(|number| Written::Frequency(number)),
-        Command::Trst => one_trst(words).map(|word| Written::Trst(word)),
-        Command::Pio | Command::PioMap => Some(Written::Port),
+        Command::EndDr => one_state(words).map(|state| LentForm::EndDr(state)),
+        Command::EndIr => one_state(words).map(|state| LentForm::EndIr(state)),
+        Command::Frequency => hertz(words).map(|number| LentForm::Frequency(number)),
+        Command::Trst => one_trst(words).map(|word| LentForm::Trst(word)),
+        Command::Pio | Command::PioMap => Some(LentForm::Port),
     };
     match form {
-        Some(form) => Ok(Some((LentForm::Other(form), None))),
+        Some(form) => Ok(Some((form, None))),
         None => Ok(None),
     }
 }

@@ -1,7 +1,8 @@
 //! The parts of a RUNTEST.
-ghost use Rattle.std.specs.Prelude.{◌≡◌, IfSome, option_map};
+ghost use Rattle.std.specs.Prelude.{◌≡◌, ◌∷◌, IfSome, option_map};
 ghost use Rattle.svf_lex.specs.Left.{left};
-ghost use Rattle.svf_words.specs.Words.{Word, words_left};
+ghost use Rattle.svf_words.specs.Words.{Word, groups_of, with_word, words_left};
+ghost use Rattle.svf_forms.specs.Ahead.{GoesOn, groups_ahead, words_ahead};
 ghost use Rattle.svf_forms.specs.Behind.{Behind};
 ghost use Rattle.svf_forms.specs.RunTests as spec;
 ghost use Rattle.svf_forms.specs.View as view;
@@ -27,6 +28,18 @@ pub struct RunTest<'a> {
     pub end: Option<State>,
 }
 
+/// The words that stand next, two at most, and the lexer behind them. A part needs no more to know whether it stands
+/// there, so each word is cut once, whatever parts are absent.
+#[derive(Clone, Copy)]
+enum Ahead<'a> {
+    /// None is left.
+    Over(Lexer<'a>),
+    /// The last one.
+    One(&'a [u8], Lexer<'a>),
+    /// Two, and perhaps more.
+    Two(&'a [u8], &'a [u8], Lexer<'a>),
+}
+
 /// The RUNTEST that the words are: `[state] [number TCK or SCK] [number SEC [MAXIMUM number SEC]] [ENDSTATE state]`,
 /// with at least one of the count and the first time.
 pub fn run_test_of(words: Lexer<'_>) -> Option<RunTest<'_>>
@@ -44,12 +57,15 @@ pub(crate) fn run_test_and_rest<'a>(words: Lexer<'a>) -> Option<(RunTest<'a>, Le
     ensures value { option_map (λ p. view.run_test p.0) result ≡ spec.run_test_of (words_left words.entry) }
     ensures behind { IfSome result (λ p. Behind (left words.entry) (left p.1)) }
 {
-    let (run, rest) = take_state(words);
-    let (count, rest) = take_count(rest);
-    let (min, rest) = take_time(rest);
-    let (max, rest) = maximum_behind(min, rest);
-    let (end, rest) = take_end(rest);
-    if next_word(rest).is_some() || (count.is_none() && min.is_none()) {
+    let (run, ahead) = take_state(look(words));
+    let (count, ahead) = take_count(ahead);
+    let (min, ahead) = take_time(ahead);
+    let (max, ahead) = maximum_behind(min, ahead);
+    let (end, ahead) = take_end(ahead);
+    let Ahead::Over(rest) = ahead else {
+        return None;
+    };
+    if count.is_none() && min.is_none() {
         return None;
     }
     let test = RunTest {
@@ -62,116 +78,145 @@ pub(crate) fn run_test_and_rest<'a>(words: Lexer<'a>) -> Option<(RunTest<'a>, Le
     Some((test, rest))
 }
 
-/// `[state]`, and the lexer behind it.
-#[tactic(auto, unfolding(crate::specs::RunTests::take_state))]
-fn take_state<'a>(words: Lexer<'a>) -> (Option<State>, Lexer<'a>)
-    ensures value { result.0 ≡ (spec.take_state (words_left words.entry)).0 }
-    ensures rest { words_left result.1 ≡ (spec.take_state (words_left words.entry)).1 }
-    ensures behind { Behind (left words.entry) (left result.1) }
+/// What stands next at a lexer.
+fn look<'a>(words: Lexer<'a>) -> Ahead<'a>
+    ensures words { words_ahead result ≡ words_left words.entry }
+    ensures groups { groups_ahead result ≡ groups_of (left words.entry) }
 {
     match next_word(words) {
-        Some((word, rest)) => match state_of(word) {
-            Some(state) => (Some(state), rest),
-            None => (None, words),
+        Some((word, rest)) => look_behind(word, rest),
+        None => Ahead::Over(words),
+    }
+}
+
+/// This word and what stands behind it.
+fn look_behind<'a>(word: &'a [u8], words: Lexer<'a>) -> Ahead<'a>
+    ensures words { words_ahead result ≡ word.now ∷ words_left words.entry }
+    ensures groups { groups_ahead result ≡ with_word word.now (groups_of (left words.entry)) }
+{
+    match next_word(words) {
+        Some((second, rest)) => Ahead::Two(word, second, rest),
+        None => Ahead::One(word, words),
+    }
+}
+
+/// `[state]`, and what stands behind it.
+#[tactic(auto, unfolding(crate::specs::RunTests::take_state))]
+fn take_state<'a>(ahead: Ahead<'a>) -> (Option<State>, Ahead<'a>)
+    ensures value { result.0 ≡ (spec.take_state (words_ahead ahead.entry)).0 }
+    ensures rest { words_ahead result.1 ≡ (spec.take_state (words_ahead ahead.entry)).1 }
+    ensures behind { GoesOn (groups_ahead ahead.entry) (groups_ahead result.1) }
+{
+    match ahead {
+        Ahead::Two(word, second, rest) => match state_of(word) {
+            Some(state) => (Some(state), look_behind(second, rest)),
+            None => (None, ahead),
         },
-        None => (None, words),
+        Ahead::One(word, rest) => match state_of(word) {
+            Some(state) => (Some(state), Ahead::Over(rest)),
+            None => (None, ahead),
+        },
+        Ahead::Over(_) => (None, ahead),
     }
 }
 
-/// `[number TCK or SCK]`, and the lexer behind it.
+/// `[number TCK or SCK]`, and what stands behind it.
 #[tactic(auto, unfolding(crate::specs::RunTests::take_count))]
-fn take_count<'a>(words: Lexer<'a>) -> (Option<(&'a [u8], Clock)>, Lexer<'a>)
+fn take_count<'a>(ahead: Ahead<'a>) -> (Option<(&'a [u8], Clock)>, Ahead<'a>)
     ensures value { option_map {U = Word × declared_clock.Clock} (λ c. (c.0.now, c.1)) result.0
-        ≡ (spec.take_count (words_left words.entry)).0 }
-    ensures rest { words_left result.1 ≡ (spec.take_count (words_left words.entry)).1 }
-    ensures behind { Behind (left words.entry) (left result.1) }
+        ≡ (spec.take_count (words_ahead ahead.entry)).0 }
+    ensures rest { words_ahead result.1 ≡ (spec.take_count (words_ahead ahead.entry)).1 }
+    ensures behind { GoesOn (groups_ahead ahead.entry) (groups_ahead result.1) }
 {
-    let Some((number, after)) = next_word(words) else {
-        return (None, words);
-    };
-    let Some((unit, rest)) = next_word(after) else {
-        return (None, words);
-    };
-    if !is_number(number) {
-        return (None, words);
-    }
-    match clock_of(unit) {
-        Some(clock) => (Some((number, clock)), rest),
-        None => (None, words),
+    match ahead {
+        Ahead::Two(number, unit, rest) => {
+            if !is_number(number) {
+                return (None, ahead);
+            }
+            match clock_of(unit) {
+                Some(clock) => (Some((number, clock)), look(rest)),
+                None => (None, ahead),
+            }
+        }
+        Ahead::One(_, _) => (None, ahead),
+        Ahead::Over(_) => (None, ahead),
     }
 }
 
-/// `[number SEC]`, and the lexer behind it.
+/// `[number SEC]`, and what stands behind it.
 #[tactic(auto, unfolding(crate::specs::RunTests::take_time))]
-fn take_time<'a>(words: Lexer<'a>) -> (Option<&'a [u8]>, Lexer<'a>)
-    ensures value { option_map {U = Word} (λ w. w.now) result.0 ≡ (spec.take_time (words_left words.entry)).0 }
-    ensures rest { words_left result.1 ≡ (spec.take_time (words_left words.entry)).1 }
-    ensures behind { Behind (left words.entry) (left result.1) }
+fn take_time<'a>(ahead: Ahead<'a>) -> (Option<&'a [u8]>, Ahead<'a>)
+    ensures value { option_map {U = Word} (λ w. w.now) result.0 ≡ (spec.take_time (words_ahead ahead.entry)).0 }
+    ensures rest { words_ahead result.1 ≡ (spec.take_time (words_ahead ahead.entry)).1 }
+    ensures behind { GoesOn (groups_ahead ahead.entry) (groups_ahead result.1) }
 {
-    let Some((number, after)) = next_word(words) else {
-        return (None, words);
-    };
-    let Some((unit, rest)) = next_word(after) else {
-        return (None, words);
-    };
-    if is_number(number) && reads(unit, b"SEC") {
-        (Some(number), rest)
-    } else {
-        (None, words)
+    match ahead {
+        Ahead::Two(number, unit, rest) => {
+            if is_number(number) && reads(unit, b"SEC") {
+                (Some(number), look(rest))
+            } else {
+                (None, ahead)
+            }
+        }
+        Ahead::One(_, _) => (None, ahead),
+        Ahead::Over(_) => (None, ahead),
     }
 }
 
-/// `[MAXIMUM number SEC]`, and the lexer behind it.
+/// `[MAXIMUM number SEC]`, and what stands behind it.
 #[tactic(auto, unfolding(crate::specs::RunTests::take_maximum))]
-fn take_maximum<'a>(words: Lexer<'a>) -> (Option<&'a [u8]>, Lexer<'a>)
-    ensures value { option_map {U = Word} (λ w. w.now) result.0 ≡ (spec.take_maximum (words_left words.entry)).0 }
-    ensures rest { words_left result.1 ≡ (spec.take_maximum (words_left words.entry)).1 }
-    ensures behind { Behind (left words.entry) (left result.1) }
+fn take_maximum<'a>(ahead: Ahead<'a>) -> (Option<&'a [u8]>, Ahead<'a>)
+    ensures value { option_map {U = Word} (λ w. w.now) result.0 ≡ (spec.take_maximum (words_ahead ahead.entry)).0 }
+    ensures rest { words_ahead result.1 ≡ (spec.take_maximum (words_ahead ahead.entry)).1 }
+    ensures behind { GoesOn (groups_ahead ahead.entry) (groups_ahead result.1) }
 {
-    let Some((keyword, after)) = next_word(words) else {
-        return (None, words);
-    };
-    if !reads(keyword, b"MAXIMUM") {
-        return (None, words);
-    }
-    match take_time(after) {
-        (Some(number), rest) => (Some(number), rest),
-        (None, _) => (None, words),
+    match ahead {
+        Ahead::Two(keyword, number, rest) => {
+            if !reads(keyword, b"MAXIMUM") {
+                return (None, ahead);
+            }
+            match take_time(look_behind(number, rest)) {
+                (Some(number), rest) => (Some(number), rest),
+                (None, _) => (None, ahead),
+            }
+        }
+        Ahead::One(_, _) => (None, ahead),
+        Ahead::Over(_) => (None, ahead),
     }
 }
 
 /// The same where a first time stands before it.
-fn maximum_behind<'a>(min: Option<&'a [u8]>, words: Lexer<'a>) -> (Option<&'a [u8]>, Lexer<'a>)
+fn maximum_behind<'a>(min: Option<&'a [u8]>, ahead: Ahead<'a>) -> (Option<&'a [u8]>, Ahead<'a>)
     ensures value { option_map {U = Word} (λ w. w.now) result.0
-        ≡ (spec.maximum_behind (option_map {U = Word} (λ w. w.now) min.entry) (words_left words.entry)).0 }
-    ensures rest { words_left result.1
-        ≡ (spec.maximum_behind (option_map {U = Word} (λ w. w.now) min.entry) (words_left words.entry)).1 }
-    ensures behind { Behind (left words.entry) (left result.1) }
+        ≡ (spec.maximum_behind (option_map {U = Word} (λ w. w.now) min.entry) (words_ahead ahead.entry)).0 }
+    ensures rest { words_ahead result.1
+        ≡ (spec.maximum_behind (option_map {U = Word} (λ w. w.now) min.entry) (words_ahead ahead.entry)).1 }
+    ensures behind { GoesOn (groups_ahead ahead.entry) (groups_ahead result.1) }
 {
     match min {
-        Some(_) => take_maximum(words),
-        None => (None, words),
+        Some(_) => take_maximum(ahead),
+        None => (None, ahead),
     }
 }
 
-/// `[ENDSTATE state]`, and the lexer behind it.
+/// `[ENDSTATE state]`, and what stands behind it.
 #[tactic(auto, unfolding(crate::specs::RunTests::take_end))]
-fn take_end<'a>(words: Lexer<'a>) -> (Option<State>, Lexer<'a>)
-    ensures value { result.0 ≡ (spec.take_end (words_left words.entry)).0 }
-    ensures rest { words_left result.1 ≡ (spec.take_end (words_left words.entry)).1 }
-    ensures behind { Behind (left words.entry) (left result.1) }
+fn take_end<'a>(ahead: Ahead<'a>) -> (Option<State>, Ahead<'a>)
+    ensures value { result.0 ≡ (spec.take_end (words_ahead ahead.entry)).0 }
+    ensures rest { words_ahead result.1 ≡ (spec.take_end (words_ahead ahead.entry)).1 }
+    ensures behind { GoesOn (groups_ahead ahead.entry) (groups_ahead result.1) }
 {
-    let Some((keyword, after)) = next_word(words) else {
-        return (None, words);
-    };
-    let Some((word, rest)) = next_word(after) else {
-        return (None, words);
-    };
-    if !reads(keyword, b"ENDSTATE") {
-        return (None, words);
-    }
-    match state_of(word) {
-        Some(state) => (Some(state), rest),
-        None => (None, words),
+    match ahead {
+        Ahead::Two(keyword, word, rest) => {
+            if !reads(keyword, b"ENDSTATE") {
+                return (None, ahead);
+            }
+            match state_of(word) {
+                Some(state) => (Some(state), look(rest)),
+                None => (None, ahead),
+            }
+        }
+        Ahead::One(_, _) => (None, ahead),
+        Ahead::Over(_) => (None, ahead),
     }
 }

@@ -1,11 +1,13 @@
 -- The statements of a text, one group after another.
-use Rattle.std.proofs.Common.{◌≡◌, ℕ, suc, ◌+◌, ◌<◌, ◌≤◌, nat_lt, true, false, List, [], ◌∷◌, ◌++◌, length, map, Option, Some, None, Result, Ok, Err, refl, sym, ap, ◌∙◌, append_assoc, arith}
+use Rattle.std.proofs.Common.{◌≡◌, ℕ, suc, ◌+◌, ◌<◌, ◌≤◌, nat_lt, true, false, List, [], ◌∷◌, ◌++◌, length, map, drop, unwrap_or, Option, Some, None, Result, Ok, Err, refl, sym, ap, ◌∙◌, append_assoc, arith}
 use Rattle.std.proofs.lemmas.List.{append-nil, map-append}
 use Rattle.std.proofs.lemmas.Bool.Decides.{nat_tests}
 use Rattle.svf_lex.specs.declared.Kind.{Kind}
 use Rattle.svf_lex.specs.declared.Kind.TheVariants as kind
 use Rattle.svf_lex.specs.declared.LexFault.{LexFault}
-use Rattle.svf_lex.specs.Cutting.{Lexeme, items_of}
+use Rattle.svf_lex.specs.Cutting.{Lexeme, Cut, piece, bad, cut, begun_after, items, items_of}
+use Rattle.svf_lex.specs.declared.Lexer.{Lexer}
+use Rattle.svf_lex.specs.Left.{left}
 use Rattle.svf_words.specs.declared.fault.Code.TheVariants as code
 use Rattle.svf_words.specs.declared.fault.SvfFault.{SvfFault}
 use Rattle.svf_words.specs.Words.{Word, Groups, last, group, with_word, with_token, groups_of, first_words}
@@ -19,7 +21,7 @@ use Rattle.svf_parse.specs.declared.fault.Refusal.TheVariants as refusal
 use Rattle.svf_parse.specs.declared.fault.Stop.{Stop}
 use Rattle.svf_parse.specs.declared.fault.Stop.TheVariants as stop
 use Rattle.svf_parse.specs.declared.statement.Statement.{Statement}
-use Rattle.svf_parse.specs.View.{said_of, Fails, Stops, form_behind}
+use Rattle.svf_parse.specs.View.{said_of, Fails, Stops, IsOpen, form_behind}
 use Rattle.svf_parse.specs.Judging.{◌>>=◌, Said, form_says}
 use Rattle.svf_parse.specs.Reading.{or_refuse, command_says, statement_says, groups_say, text_says, at_statement, within_limit, lex_code}
 
@@ -153,6 +155,41 @@ pub at_word : (start items more : Items) (ws : List Word) (k : Kind) (text : Lis
 at_word start items more ws k text place so_far split other =
     so_far ∙ ap (λ (xs : Items). with_words ws (groups_of xs)) split ∙ ap (with_words ws) (other_token k text (groups_of more) other) ∙ sym (with_words-push ws text (groups_of more))
 
+-- ---- a statement that is open does not end with the text
+
+word_ends : (w : Word) (groups : Groups) (ws : List Word) → with_word w groups ≡ last ws None → (xs : List Word) × (groups ≡ last xs None)
+word_ends w (last xs None) ws e = (xs, refl)
+word_ends w (last xs (Some fault)) ws e = absurd cc
+word_ends w (group xs groups) ws e = absurd cc
+
+-- a text that has no fault ends behind a `;`
+abbrev EndsClosed : Option ℕ → List Cut → Type 0
+EndsClosed begun cuts = (ws : List Word) → groups_of (items begun cuts) ≡ last ws None → (ws ≡ []) × (begun ≡ None)
+
+after_word : (w : Word) (start : ℕ) (begun : Option ℕ) (cuts : List Cut) (ws : List Word) → EndsClosed (Some start) cuts
+    → with_word w (groups_of (items (Some start) cuts)) ≡ last ws None → (ws ≡ []) × (begun ≡ None)
+after_word w start begun cuts ws later e =
+    let inner = word_ends w (groups_of (items (Some start) cuts)) ws e in
+    absurd (let some : Some start ≡ None = (later inner.0 inner.1).1 in cc)
+
+after_token : (k : Kind) (w : Word) (start : ℕ) (begun : Option ℕ) (cuts : List Cut) (ws : List Word) → EndsClosed (begun_after k begun start) cuts
+    → with_token k w (groups_of (items (begun_after k begun start) cuts)) ≡ last ws None → (ws ≡ []) × (begun ≡ None)
+after_token kind.Semi w start begun cuts ws later e = absurd cc
+after_token kind.Run w start begun cuts ws later e = after_word w (unwrap_or begun start) begun cuts ws later e
+after_token kind.Open w start begun cuts ws later e = after_word w (unwrap_or begun start) begun cuts ws later e
+after_token kind.Close w start begun cuts ws later e = after_word w (unwrap_or begun start) begun cuts ws later e
+
+ends_closed : (begun : Option ℕ) (cuts : List Cut) → EndsClosed begun cuts
+ends_closed None [] ws e = (sym (ap first_words e), refl)
+ends_closed (Some first) [] ws e = absurd cc
+ends_closed begun (bad at ∷ cuts) ws e = absurd cc
+ends_closed begun (piece t ∷ cuts) ws e = after_token t.kind t.text t.start begun cuts ws (ends_closed (begun_after t.kind begun t.start) cuts) e
+
+pub open_behind : (l m : Lexer) (w : Word) → groups_of (left l) ≡ with_word w (groups_of (left m)) → IsOpen (groups_of (left m))
+open_behind l m w e = λ ws is.
+    let none : w ∷ ws ≡ [] = (ends_closed l.begun (cut 0 l.at (drop l.at l.source.now)) (w ∷ ws) (e ∙ ap (with_word w) is)).0 in
+    cc
+
 -- ---- one group more of a text, where `all` was read before it
 
 -- how many groups are closed
@@ -172,9 +209,6 @@ module _ (all : List Statement) (n : ℕ) (groups : Groups) (total : Result (Lis
 
   -- the same of what stands behind a statement's first word
   module _ (w : Word) (rest : Groups) (opens : groups ≡ with_word w rest) where
-    pub told_over_behind : (ws : List Word) → rest ≡ last ws None → total ≡ Ok (map said_of all)
-    told_over_behind ws is = told_over (w ∷ ws) (opens ∙ ap (with_word w) is)
-
     pub told_said : (ws : List Word) (after : Groups) (x : Statement) → rest ≡ group ws after → group_says n (w ∷ ws) ≡ Ok (said_of x)
         → in_front (map said_of (all ++ x ∷ [])) (groups_say (n + 1) after) ≡ total
     told_said ws after x is says =

@@ -1,5 +1,5 @@
 -- What a reader of the code answers, beside what the words say.
-use Rattle.std.specs.Prelude.{◌≡◌, ◌≢◌, ℕ, List, [], ◌∷◌, ◌++◌, map, Option, Some, None, Result, Ok, Err}
+use Rattle.std.specs.Prelude.{◌≡◌, ◌≢◌, ℕ, List, [], ◌∷◌, ◌++◌, map, Some, None, Result, Ok, Err}
 use Rattle.std.specs.Global.{Vec}
 use Rattle.svf_lex.specs.declared.Lexer.{Lexer}
 use Rattle.svf_lex.specs.Left.{left}
@@ -78,17 +78,19 @@ IsFront (front.Broken e) groups = groups ≡ last [] (Some e)
 IsFront (front.Empty after) groups = groups ≡ group [] (groups_of (left after))
 IsFront (front.Word w after) groups = groups ≡ with_word w.now (groups_of (left after))
 
--- how the words at a lexer end: with the text, at its fault, or at a `;`; and the lexer behind that
+-- a statement is open: it ends at a `;` or at a fault, and not with the text
+abbrev pub IsOpen : Groups → Type 0
+IsOpen groups = (ws : List Word) → groups ≢ last ws None
+
+-- how the words at a lexer end: at the text's fault, or at a `;`; and the lexer behind that
 abbrev pub IsEnd : End → Groups → Type 0
-IsEnd end.Over groups = (ws : List Word) × (groups ≡ last ws None)
 IsEnd (end.Broken e) groups = (ws : List Word) × (groups ≡ last ws (Some e))
 IsEnd (end.Closed after) groups = (ws : List Word) × (groups ≡ group ws (groups_of (left after)))
 
 -- What became of statement n, whose first word stands before these groups: it was added to a list, and the lexer stands
--- behind its `;`; or the text is over; or it is refused.
-abbrev pub Takes : ℕ → Word → Groups → Result (Option Lexer) Stop → List Statement → List Statement → Type 0
-Takes n w groups (Ok (Some after)) old new =
+-- behind its `;`; or it is refused.
+abbrev pub Takes : ℕ → Word → Groups → Result Lexer Stop → List Statement → List Statement → Type 0
+Takes n w groups (Ok after) old new =
     (ws : List Word) × (s : Statement) × (groups ≡ group ws (groups_of (left after))) × (new ≡ old ++ s ∷ [])
     × (at_statement n (within_limit n (statement_says (w ∷ ws))) ≡ Ok (said_of s))
-Takes n w groups (Ok None) old new = ((ws : List Word) × (groups ≡ last ws None)) × (new ≡ old)
 Takes n w groups (Err e) old new = Stops e (groups_say n (with_word w groups))

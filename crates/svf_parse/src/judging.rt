@@ -15,7 +15,7 @@ use crate::statement::Statement;
 use jt_bits::{Bits, has_one_beyond, is_hexadecimal};
 use std::alloc::Global;
 use svf_forms::fields::{Digits, LentFields};
-use svf_forms::forms::{LentForm, Written};
+use svf_forms::forms::LentForm;
 use svf_forms::run_test::RunTest;
 use svf_numbers::{count, length, length_value, period, time};
 use svf_words::Code;
@@ -31,28 +31,18 @@ pub(crate) fn say(
     ensures count { IfOk result (λ _. vec_len all.new ≡ vec_len all.old + 1) }
 {
     match form {
-        LentForm::Scan(which, len, fields) => scan(alloc, which, len, fields, all),
-        LentForm::Other(form) => say_other(alloc, form, all),
-    }
-}
-
-fn say_other(alloc: Global, form: Written<'_>, all: &mut Vec<Statement>) -> Result<(), Refusal>
-    ensures adds { Adds result all.old.items all.new.items (spec.form_says (view.form form.entry)) }
-    ensures count { IfOk result (λ _. vec_len all.new ≡ vec_len all.old + 1) }
-{
-    match form {
-        Written::EndDr(state) => put(all, Statement::EndDr(state)),
-        Written::EndIr(state) => put(all, Statement::EndIr(state)),
-        Written::Frequency(None) => put(all, Statement::Frequency(None)),
-        Written::Frequency(Some(word)) => match period(word) {
+        LentForm::EndDr(state) => put(all, Statement::EndDr(state)),
+        LentForm::EndIr(state) => put(all, Statement::EndIr(state)),
+        LentForm::Frequency(None) => put(all, Statement::Frequency(None)),
+        LentForm::Frequency(Some(word)) => match period(word) {
             Ok(period) => put(all, Statement::Frequency(Some(period))),
             Err(code) => Err(Refusal::Code(code)),
         },
-        Written::Scan(which, len, fields) => scan(alloc, which, len, fields.lent(), all),
-        Written::RunTest(test) => run_test(test, all),
-        Written::States(states) => put(all, Statement::States(states)),
-        Written::Trst(word) => put(all, Statement::Trst(word)),
-        Written::Port => Err(Refusal::Code(Code::Unsupported)),
+        LentForm::Scan(which, len, fields) => scan(alloc, which, len, fields, all),
+        LentForm::RunTest(test) => run_test(test, all),
+        LentForm::States(states) => put(all, Statement::States(states)),
+        LentForm::Trst(word) => put(all, Statement::Trst(word)),
+        LentForm::Port => Err(Refusal::Code(Code::Unsupported)),
     }
 }
 
@@ -108,11 +98,17 @@ fn scan(
         Ok(len) => len,
         Err(code) => return Err(Refusal::Code(code)),
     };
+    let LentFields {
+        tdi,
+        tdo,
+        mask,
+        smask,
+    } = fields;
     let (Ok(tdi), Ok(tdo), Ok(mask), Ok(smask)) = (
-        bits(alloc, len, digits_in(&fields.tdi)),
-        bits(alloc, len, digits_in(&fields.tdo)),
-        bits(alloc, len, digits_in(&fields.mask)),
-        bits(alloc, len, digits_in(&fields.smask)),
+        bits(alloc, len, tdi),
+        bits(alloc, len, tdo),
+        bits(alloc, len, mask),
+        bits(alloc, len, smask),
     ) else {
         return Err(Refusal::Memory);
     };
@@ -174,14 +170,15 @@ fn is_wider(len: Option<usize>, digits: &[u8]) -> bool
     }
 }
 
-/// The bits of a field that its digits write, four for each, and none beyond the length.
-fn bits(alloc: Global, len: usize, digits: Option<&[u8]>) -> Result<Option<Bits>, Refusal>
-    requires { spec.field_fault (Some len) (option_map {U = Word} (λ w. w.now) digits) ≡ None }
-    ensures { IfOk result (λ b. b ≡ spec.bits len (option_map {U = Word} (λ w. w.now) digits.entry)) }
+/// The bits of a field that its digits write, four for each, and none beyond the length. The digits are let go.
+fn bits(alloc: Global, len: usize, field: Option<Digits<'_>>) -> Result<Option<Bits>, Refusal>
+    requires { spec.field_fault (Some len) (given field) ≡ None }
+    ensures { IfOk result (λ b. b ≡ spec.bits len (given field.entry)) }
 {
-    match digits {
+    match field {
         None => Ok(None),
-        Some(digits) => {
+        Some(field) => {
+            let digits = field.bytes();
             let written = digits.len().saturating_mul(4).min(len);
             match Bits::from_hex(alloc, digits, written) {
                 Ok(bits) => Ok(Some(bits)),

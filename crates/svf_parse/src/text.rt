@@ -8,13 +8,13 @@ ghost use Rattle.svf_forms.specs.Behind.{Behind};
 ghost use Rattle.svf_parse.specs.Judging.{Said};
 ghost use Rattle.svf_words.specs.declared.fault.Code as declared_code;
 ghost use Rattle.svf_parse.specs.declared.statement.Statement as declared_statement;
-ghost use Rattle.svf_words.specs.Words.{words_left, groups_of};
+ghost use Rattle.svf_words.specs.Words.{words_left, groups_of, with_word};
 ghost use Rattle.svf_parse.specs.Reading as spec;
 ghost use Rattle.svf_parse.specs.Reading.{text_says, groups_say, at_statement, within_limit, statement_says};
 ghost use Rattle.svf_parse.specs.Spelling.{TextSpells, TextRefuses};
 ghost use Rattle.svf_parse.specs.Sizes.{size};
 ghost use Rattle.svf_forms.specs.View as view;
-ghost use Rattle.svf_parse.specs.View.{Gives, Tells, Stops, Fails, Takes, Parses, IsFront, IsEnd};
+ghost use Rattle.svf_parse.specs.View.{Gives, Tells, Stops, Fails, Takes, Parses, IsFront, IsEnd, IsOpen};
 ghost use Rattle.svf_parse.specs.View.{form_behind, said_of, memory_fault};
 
 use crate::fault::{Refusal, Stop};
@@ -41,9 +41,8 @@ enum Front<'a> {
     Word(&'a [u8], Lexer<'a>),
 }
 
-/// How a statement ends: with the text, at its fault, or at the `;`; and the lexer behind that.
+/// How a statement ends: at the text's fault, or at the `;`; and the lexer behind that.
 enum End<'a> {
-    Over,
     Broken(LexFault),
     Closed(Lexer<'a>),
 }
@@ -101,63 +100,54 @@ fn statements(alloc: Global, text: Lexer<'_>) -> Result<Vec<Statement>, Stop>
             Front::Broken(fault) => return Err(broken(all.len() + 1, fault)),
             Front::Empty(after) => lexer = after,
             Front::Word(word, rest) => match add(alloc, word, rest, &mut all) {
-                Ok(Some(after)) => lexer = after,
-                Ok(None) => return Ok(all),
+                Ok(after) => lexer = after,
                 Err(stop) => return Err(stop),
             },
         }
     }
 }
 
-/// Adds the statement of this word and those at the lexer. Gives the lexer behind its `;`, or none at the text's end.
+/// Adds the statement of this word and those at the lexer. Gives the lexer behind its `;`.
 fn add<'a>(
     alloc: Global,
     word: &'a [u8],
     words: Lexer<'a>,
     all: &mut Vec<Statement>,
-) -> Result<Option<Lexer<'a>>, Stop>
-    requires { vec_len all.old ≤ 200000 }
+) -> Result<Lexer<'a>, Stop>
+    requires room { vec_len all.old ≤ 200000 }
+    requires open { IsOpen (groups_of (left words)) }
     ensures takes { Takes (vec_len all.old + 1) word.now (groups_of (left words.entry)) result
         all.old.items all.new.items }
-    ensures count { IfOk result
-        (λ o. IfSome o (λ _. (vec_len all.new ≡ vec_len all.old + 1) × (vec_len all.new ≤ 200000))) }
+    ensures count { IfOk result (λ _. (vec_len all.new ≡ vec_len all.old + 1) × (vec_len all.new ≤ 200000)) }
 {
     let number = all.len() + 1;
     // The form first: where that is read, the lexer behind it is often known, and its tokens are cut once.
     let (form, behind) = match form_at(alloc, word, words) {
         Ok(found) => found,
-        Err(refusal) => return refused(number, refusal, word, words),
+        Err(refusal) => return Err(refused(number, refusal, word, words)),
     };
     match end_of(words, behind) {
-        End::Over => Ok(None),
         End::Broken(fault) => Err(broken(number, fault)),
         End::Closed(after) => match say(alloc, form, all) {
             Ok(()) if number > STATEMENT_LIMIT => Err(Stop::Fault(SvfFault {
                 statement: number,
                 code: Code::TooLarge,
             })),
-            Ok(()) => Ok(Some(after)),
+            Ok(()) => Ok(after),
             Err(refusal) => Err(stop_at(number, refusal)),
         },
     }
 }
 
 /// What is told where the words have no form: a fault of the text comes before that.
-fn refused<'a>(
-    number: usize,
-    refusal: Refusal,
-    word: &'a [u8],
-    words: Lexer<'a>,
-) -> Result<Option<Lexer<'a>>, Stop>
-    requires { Fails refusal (statement_says (word.now ∷ words_left words)) }
-    ensures takes { (all : List declared_statement.Statement) →
-        Takes number word.now (groups_of (left words.entry)) result all all }
-    ensures none { IfOk result (λ o. o ≡ None) }
+fn refused<'a>(number: usize, refusal: Refusal, word: &'a [u8], words: Lexer<'a>) -> Stop
+    requires fails { Fails refusal (statement_says (word.now ∷ words_left words)) }
+    requires open { IsOpen (groups_of (left words)) }
+    ensures { Stops result (groups_say number (with_word word.now (groups_of (left words.entry)))) }
 {
     match end_of(words, None) {
-        End::Over => Ok(None),
-        End::Broken(fault) => Err(broken(number, fault)),
-        End::Closed(_) => Err(stop_at(number, refusal)),
+        End::Broken(fault) => broken(number, fault),
+        End::Closed(_) => stop_at(number, refusal),
     }
 }
 
@@ -230,13 +220,15 @@ fn front_of(lexer: Lexer<'_>) -> Front<'_>
 
 /// How the statement at a lexer ends. Where a lexer behind words of it is known, only what stands from there on is cut.
 fn end_of<'a>(words: Lexer<'a>, behind: Option<Lexer<'a>>) -> End<'a>
-    requires { IfSome behind (λ rest. Behind (left words) (left rest)) }
+    requires behind { IfSome behind (λ rest. Behind (left words) (left rest)) }
+    requires open { IsOpen (groups_of (left words)) }
     ensures { IsEnd result (groups_of (left words.entry)) }
 {
     let mut after = behind.unwrap_or(words);
     loop {
         match after.next() {
-            None => return End::Over,
+            // An open statement ends at its `;` or at a fault.
+            None => unreachable!(),
             Some(Err(fault)) => return End::Broken(fault),
             Some(Ok(token)) => {
                 if let Kind::Semi = token.kind {

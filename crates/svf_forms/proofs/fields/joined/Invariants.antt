@@ -1,4 +1,4 @@
-use Rattle.std.proofs.Common.{◌≡◌, ◌≤◌, length}
+use Rattle.std.proofs.Common.{◌≡◌, ◌≤◌, ◌++◌, length}
 use Rattle.svf_words.specs.Words.{words_left}
 use Rattle.svf_lex.specs.Left.{left}
 use Rattle.svf_forms.specs.Behind.{Behind}
@@ -8,7 +8,7 @@ use Rattle.svf_forms.proofs.fields.joined.Given as goal
 
 abbrev pub invariant-loop-word : goal.invariant-loop-word
 invariant-loop-word l =
-    (with_digits l.digits.items (runs (cut_at_close (words_left l.rest))) ≡ with_digits l.first (runs (cut_at_close (words_left l.words))))
+    (with_digits l.digits.items (runs (cut_at_close (words_left l.rest))) ≡ with_digits (l.first ++ l.second) (runs (cut_at_close (words_left l.words))))
     × (length (words_left l.rest) ≤ length (words_left l.words)) × Behind (left l.words) (left l.rest)
 
 abbrev pub decreases-loop-word : goal.decreases-loop-word

@@ -23,26 +23,39 @@ returns-then-is_open-clause-found c =
 
 pub returns-then-is_close-2-clause-found : goal.returns-then-is_close-2-clause-found
 returns-then-is_close-2-clause-found c =
-    ended_runs c.in-Some.first.now c.in-Some-next_word.word.now (words_left c.in-Some-next_word.behind) (words_left c.in-Some.rest) (runs (cut_at_close (words_left c.args.words))) c.in-Some-next_word.ensures.word (sym c.if-is_close-2.ensures)
+    ended_runs c.in-Some.first.now c.in-Some-next_word.second.now (words_left c.in-Some-next_word.behind) (words_left c.in-Some.rest) (runs (cut_at_close (words_left c.args.words))) c.in-Some-next_word.ensures.word (sym c.if-is_close-2.ensures)
     (next_run [] c.in-Some.first.now (words_left c.in-Some.rest) (words_left c.args.words) (runs (cut_at_close (words_left c.args.words))) c.in-Some.ensures.word (sym c.if-is_close.ensures) (sym c.if-is_open.ensures) (with_digits-nil (runs (cut_at_close (words_left c.args.words)))))
 
 pub returns-then-is_close-2-clause-behind : goal.returns-then-is_close-2-clause-behind
 returns-then-is_close-2-clause-behind c =
-    behind_next (left c.args.words) c.in-Some.rest c.in-Some-next_word.behind c.in-Some-next_word.word.now c.in-Some-next_word.ensures.word c.in-Some-next_word.ensures.after
+    behind_next (left c.args.words) c.in-Some.rest c.in-Some-next_word.behind c.in-Some-next_word.second.now c.in-Some-next_word.ensures.word c.in-Some-next_word.ensures.after
     (behind_next (left c.args.words) c.args.words c.in-Some.rest c.in-Some.first.now c.in-Some.ensures.word c.in-Some.ensures.after (behind_none (left c.args.words)))
+
+pub returns-in_default-next_word-clause-found : goal.returns-in_default-next_word-clause-found
+returns-in_default-next_word-clause-found c =
+    unended_runs c.in-Some.first.now (words_left c.in-Some.rest) (runs (cut_at_close (words_left c.args.words))) c.in_default-next_word.ensures.word
+    (next_run [] c.in-Some.first.now (words_left c.in-Some.rest) (words_left c.args.words) (runs (cut_at_close (words_left c.args.words))) c.in-Some.ensures.word (sym c.if-is_close.ensures) (sym c.if-is_open.ensures) (with_digits-nil (runs (cut_at_close (words_left c.args.words)))))
+
+pub returns-then-is_open-2-clause-found : goal.returns-then-is_open-2-clause-found
+returns-then-is_open-2-clause-found c =
+    broken_runs c.in-Some.first.now c.in-Some-next_word.second.now (words_left c.in-Some-next_word.behind) (words_left c.in-Some.rest) (runs (cut_at_close (words_left c.args.words))) c.in-Some-next_word.ensures.word (sym c.if-is_close-2.ensures) (sym c.if-is_open-2.ensures)
+    (next_run [] c.in-Some.first.now (words_left c.in-Some.rest) (words_left c.args.words) (runs (cut_at_close (words_left c.args.words))) c.in-Some.ensures.word (sym c.if-is_close.ensures) (sym c.if-is_open.ensures) (with_digits-nil (runs (cut_at_close (words_left c.args.words)))))
 
 pub returns-in-Some-2-clause-found : goal.returns-in-Some-2-clause-found
 returns-in-Some-2-clause-found c =
     (rw c.in-Some-2.is at c.in_ok-digits.ensures.found)
-    ∙ (next_run [] c.in-Some.first.now (words_left c.in-Some.rest) (words_left c.args.words) (runs (cut_at_close (words_left c.args.words))) c.in-Some.ensures.word (sym c.if-is_close.ensures) (sym c.if-is_open.ensures) (with_digits-nil (runs (cut_at_close (words_left c.args.words)))))
+    ∙ (next_run c.in-Some.first.now c.in-Some-next_word.second.now (words_left c.in-Some-next_word.behind) (words_left c.in-Some.rest) (runs (cut_at_close (words_left c.args.words))) c.in-Some-next_word.ensures.word (sym c.if-is_close-2.ensures) (sym c.if-is_open-2.ensures)
+    (next_run [] c.in-Some.first.now (words_left c.in-Some.rest) (words_left c.args.words) (runs (cut_at_close (words_left c.args.words))) c.in-Some.ensures.word (sym c.if-is_close.ensures) (sym c.if-is_open.ensures) (with_digits-nil (runs (cut_at_close (words_left c.args.words))))))
 
 pub returns-in-Some-2-clause-behind : goal.returns-in-Some-2-clause-behind
 returns-in-Some-2-clause-behind c =
-    behind_both (left c.args.words) (left c.in-Some.rest) (left c.in-Some-2.behind)
-    (behind_next (left c.args.words) c.args.words c.in-Some.rest c.in-Some.first.now c.in-Some.ensures.word c.in-Some.ensures.after (behind_none (left c.args.words)))
+    behind_both (left c.args.words) (left c.in-Some-next_word.behind) (left c.in-Some-2.behind)
+    (behind_next (left c.args.words) c.in-Some.rest c.in-Some-next_word.behind c.in-Some-next_word.second.now c.in-Some-next_word.ensures.word c.in-Some-next_word.ensures.after
+    (behind_next (left c.args.words) c.args.words c.in-Some.rest c.in-Some.first.now c.in-Some.ensures.word c.in-Some.ensures.after (behind_none (left c.args.words))))
     (rw c.in-Some-2.is at c.in_ok-digits.ensures.behind)
 
 pub returns-in-None-clause-found : goal.returns-in-None-clause-found
 returns-in-None-clause-found c =
     (rw c.in-None.is at c.in_ok-digits.ensures.found)
-    ∙ (next_run [] c.in-Some.first.now (words_left c.in-Some.rest) (words_left c.args.words) (runs (cut_at_close (words_left c.args.words))) c.in-Some.ensures.word (sym c.if-is_close.ensures) (sym c.if-is_open.ensures) (with_digits-nil (runs (cut_at_close (words_left c.args.words)))))
+    ∙ (next_run c.in-Some.first.now c.in-Some-next_word.second.now (words_left c.in-Some-next_word.behind) (words_left c.in-Some.rest) (runs (cut_at_close (words_left c.args.words))) c.in-Some-next_word.ensures.word (sym c.if-is_close-2.ensures) (sym c.if-is_open-2.ensures)
+    (next_run [] c.in-Some.first.now (words_left c.in-Some.rest) (words_left c.args.words) (runs (cut_at_close (words_left c.args.words))) c.in-Some.ensures.word (sym c.if-is_close.ensures) (sym c.if-is_open.ensures) (with_digits-nil (runs (cut_at_close (words_left c.args.words))))))

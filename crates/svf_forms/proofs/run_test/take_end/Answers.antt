@@ -1,8 +1,10 @@
-use Rattle.svf_lex.specs.Left.{left}
-use Rattle.svf_forms.proofs.NextWords.{behind_none, behind_next}
+use Rattle.std.proofs.Common.{[], ◌∷◌, sym, ap, ◌∙◌}
+use Rattle.svf_words.specs.Words.{Groups, with_word}
+use Rattle.svf_forms.specs.Ahead.{groups_ahead}
 use Rattle.svf_forms.proofs.run_test.take_end.Goals as goal
 
-pub returns-in-Some-state_of-clause-behind : goal.returns-in-Some-state_of-clause-behind
-returns-in-Some-state_of-clause-behind c =
-    behind_next (left c.args.words) c.in-Some.after c.in-Some-next_word.rest c.in-Some-next_word.word.now c.in-Some-next_word.ensures.word c.in-Some-next_word.ensures.after
-    (behind_next (left c.args.words) c.args.words c.in-Some.after c.in-Some.keyword.now c.in-Some.ensures.word c.in-Some.ensures.after (behind_none (left c.args.words)))
+pub returns-in-Some-clause-behind : goal.returns-in-Some-clause-behind
+returns-in-Some-clause-behind c = (
+  c.in-Two.keyword.now ∷ c.in-Two.word.now ∷ [],
+  ap groups_ahead c.in-Two.is ∙ ap (λ (g : Groups). with_word c.in-Two.keyword.now (with_word c.in-Two.word.now g)) (sym c.look.ensures.groups),
+)

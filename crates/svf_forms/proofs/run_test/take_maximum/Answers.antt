@@ -1,9 +1,19 @@
-use Rattle.svf_lex.specs.Left.{left}
-use Rattle.svf_forms.proofs.NextWords.{behind_none, behind_next, behind_both}
+use Rattle.std.proofs.Common.{◌∷◌, List, Option, sym, ap, ◌∙◌}
+use Rattle.svf_words.specs.Words.{Word, with_word}
+use Rattle.svf_forms.specs.Ahead.{groups_ahead, words_ahead}
+use Rattle.svf_forms.specs.RunTests.{take_maximum}
+use Rattle.svf_forms.proofs.AheadLaws.{no_maximum}
 use Rattle.svf_forms.proofs.run_test.take_maximum.Goals as goal
 
 pub returns-in-Some-default-clause-behind : goal.returns-in-Some-default-clause-behind
 returns-in-Some-default-clause-behind c =
-    behind_both (left c.args.words) (left c.in-Some.after) (left c.take_time.result.1)
-    (behind_next (left c.args.words) c.args.words c.in-Some.after c.in-Some.keyword.now c.in-Some.ensures.word c.in-Some.ensures.after (behind_none (left c.args.words)))
-    c.take_time.ensures.behind
+    let behind = c.take_time.ensures.behind in
+    (c.in-Two.keyword.now ∷ behind.0, ap groups_ahead c.in-Two.is ∙ ap (with_word c.in-Two.keyword.now) (sym c.look_behind.ensures.groups ∙ behind.1))
+
+pub returns-in-One-clause-value : goal.returns-in-One-clause-value
+returns-in-One-clause-value c =
+    sym (ap (λ a. (take_maximum (words_ahead a)).0) c.in-One.is ∙ ap (λ (p : Option Word × List Word). p.0) (no_maximum c.in-One.field-0.now))
+
+pub returns-in-One-clause-rest : goal.returns-in-One-clause-rest
+returns-in-One-clause-rest c =
+    ap words_ahead c.in-One.is ∙ sym (ap (λ a. (take_maximum (words_ahead a)).1) c.in-One.is ∙ ap (λ (p : Option Word × List Word). p.1) (no_maximum c.in-One.field-0.now))

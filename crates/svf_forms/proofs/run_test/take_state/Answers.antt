@@ -1,6 +1,10 @@
-use Rattle.svf_lex.specs.Left.{left}
-use Rattle.svf_forms.proofs.NextWords.{behind_none, behind_next}
+use Rattle.std.proofs.Common.{[], ◌∷◌, sym, ap, ◌∙◌}
+use Rattle.svf_words.specs.Words.{with_word}
+use Rattle.svf_forms.specs.Ahead.{groups_ahead}
 use Rattle.svf_forms.proofs.run_test.take_state.Goals as goal
 
+pub returns-in-Some-clause-behind : goal.returns-in-Some-clause-behind
+returns-in-Some-clause-behind c = (c.in-Two.word.now ∷ [], ap groups_ahead c.in-Two.is ∙ ap (with_word c.in-Two.word.now) (sym c.look_behind.ensures.groups))
+
 pub returns-in-Some-state_of-clause-behind : goal.returns-in-Some-state_of-clause-behind
-returns-in-Some-state_of-clause-behind c = behind_next (left c.args.words) c.args.words c.in-Some.rest c.in-Some.word.now c.in-Some.ensures.word c.in-Some.ensures.after (behind_none (left c.args.words))
+returns-in-Some-state_of-clause-behind c = (c.in-One.word.now ∷ [], ap groups_ahead c.in-One.is)

@@ -1,8 +1,10 @@
-use Rattle.svf_lex.specs.Left.{left}
-use Rattle.svf_forms.proofs.NextWords.{behind_none, behind_next}
+use Rattle.std.proofs.Common.{[], ◌∷◌, sym, ap, ◌∙◌}
+use Rattle.svf_words.specs.Words.{Groups, with_word}
+use Rattle.svf_forms.specs.Ahead.{groups_ahead}
 use Rattle.svf_forms.proofs.run_test.take_time.Goals as goal
 
 pub returns-then-reads-clause-behind : goal.returns-then-reads-clause-behind
-returns-then-reads-clause-behind c =
-    behind_next (left c.args.words) c.in-Some.after c.in-Some-next_word.rest c.in-Some-next_word.unit.now c.in-Some-next_word.ensures.word c.in-Some-next_word.ensures.after
-    (behind_next (left c.args.words) c.args.words c.in-Some.after c.in-Some.number.now c.in-Some.ensures.word c.in-Some.ensures.after (behind_none (left c.args.words)))
+returns-then-reads-clause-behind c = (
+  c.in-Two.number.now ∷ c.in-Two.unit.now ∷ [],
+  ap groups_ahead c.in-Two.is ∙ ap (λ (g : Groups). with_word c.in-Two.number.now (with_word c.in-Two.unit.now g)) (sym c.look.ensures.groups),
+)

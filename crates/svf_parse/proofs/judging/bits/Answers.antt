@@ -1,10 +1,11 @@
-use Rattle.std.proofs.Common.{ap, arith, ℕ, List, option_map}
+use Rattle.std.proofs.Common.{◌∙◌, Some, sym, ap, arith, ℕ, List}
+use Rattle.svf_forms.specs.View.{given}
 use Rattle.svf_parse.proofs.FieldValues.{field_bits}
 use Rattle.svf_parse.proofs.judging.bits.Goals as goal
 
 pub returns-in-Ok : goal.returns-in-Ok
 returns-in-Ok c =
-    let h = c.in-Some.digits.now in
-    field_bits c.args.len c.min-written.result (option_map {U = List ℕ} (λ w. w.now) c.args.digits) h c.in-Ok.bits (ap (option_map {U = List ℕ} (λ w. w.now)) c.in-Some.is) c.requires
+    let h = c.bytes-digits.result.now in
+    field_bits c.args.len c.min-written.result (given c.args.field) h c.in-Ok.bits (ap given c.in-Some.is ∙ ap (λ (w : List ℕ). Some w) (sym c.bytes-digits.ensures)) c.requires
     (omega (arith, c.min-written.ensures, c.saturating_mul.ensures, c.ranges.len.fits))
     (c.in-Ok.ensures (λ e. absurd cc))

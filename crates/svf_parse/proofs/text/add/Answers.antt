@@ -9,8 +9,8 @@ use Rattle.svf_parse.specs.View.{said_of}
 use Rattle.svf_parse.proofs.Grouping.{form_fails, said_fails, form_said, past_limit, inside_limit, broken_behind, taken_behind, refused_behind}
 use Rattle.svf_parse.proofs.text.add.Goals as goal
 
-pub refused-requires : goal.refused-requires
-refused-requires c = form_fails c.args.word.now (words_left c.args.words) c.in-Err.refusal c.in-Err.ensures.says
+pub refused-requires-clause-fails : goal.refused-requires-clause-fails
+refused-requires-clause-fails c = form_fails c.args.word.now (words_left c.args.words) c.in-Err.refusal c.in-Err.ensures.says
 
 pub returns-in-Broken-clause-takes : goal.returns-in-Broken-clause-takes
 returns-in-Broken-clause-takes c =

@@ -2,7 +2,7 @@ use Rattle.std.proofs.Common.{◌+◌, [], vec_len}
 use Rattle.svf_lex.specs.Left.{left}
 use Rattle.svf_words.specs.Words.{groups_of}
 use Rattle.svf_parse.specs.Reading.{groups_say}
-use Rattle.svf_parse.proofs.Grouping.{told_over, told_broken, told_empty, told_over_behind, told_said}
+use Rattle.svf_parse.proofs.Grouping.{told_over, told_broken, told_empty, told_said, open_behind}
 use Rattle.svf_parse.proofs.text.statements.Goals as goal
 
 pub returns-in-Over : goal.returns-in-Over
@@ -20,11 +20,9 @@ loop-all-preserved-in-Empty c =
 
 pub loop-all-preserved : goal.loop-all-preserved
 loop-all-preserved c =
-    let takes = rw c.in-Ok-Some.field-0-is at c.in-Ok-Some.ensures.takes in
-    let count = rw c.in-Ok-Some.field-0-is at c.in-Ok-Some.ensures.count in
-    (rw (takes.3, count.0) (told_said c.loop-all.all.items (vec_len c.loop-all.all + 1) (groups_of (left c.loop-all.lexer)) (groups_say 1 (groups_of (left c.args.text))) c.loop-all.invariant.0 c.in-Word.word.now (groups_of (left c.in-Word.rest)) c.in-Word.ensures takes.0 (groups_of (left c.in-Ok-Some.after)) takes.1 takes.2 takes.4), count.1)
+    let takes = c.in-Ok.ensures.takes in
+    let count = c.in-Ok.ensures.count in
+    (rw (takes.3, count.0) (told_said c.loop-all.all.items (vec_len c.loop-all.all + 1) (groups_of (left c.loop-all.lexer)) (groups_say 1 (groups_of (left c.args.text))) c.loop-all.invariant.0 c.in-Word.word.now (groups_of (left c.in-Word.rest)) c.in-Word.ensures takes.0 (groups_of (left c.in-Ok.after)) takes.1 takes.2 takes.4), count.1)
 
-pub returns-in-Ok-None : goal.returns-in-Ok-None
-returns-in-Ok-None c =
-    let takes = rw c.in-Ok-None.field-0-is at c.in-Ok-None.ensures.takes in
-    rw takes.1 (told_over_behind c.loop-all.all.items (vec_len c.loop-all.all + 1) (groups_of (left c.loop-all.lexer)) (groups_say 1 (groups_of (left c.args.text))) c.loop-all.invariant.0 c.in-Word.word.now (groups_of (left c.in-Word.rest)) c.in-Word.ensures takes.0.0 takes.0.1)
+pub add-requires-clause-open : goal.add-requires-clause-open
+add-requires-clause-open c = open_behind c.loop-all.lexer c.in-Word.rest c.in-Word.word.now c.in-Word.ensures

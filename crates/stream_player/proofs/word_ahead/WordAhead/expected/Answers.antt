@@ -1,17 +1,27 @@
-use Rattle.std.proofs.Common.{◌≡◌, ◌+◌, ◌-◌, ℕ, Bool, Some, refl, sym, ap, ◌∙◌, arith}
+use Rattle.std.proofs.Common.{◌≡◌, ◌+◌, ◌-◌, ◌<◌, ◌≤◌, ℕ, Bool, Some, refl, sym, ap, ◌∙◌, arith}
 use Rattle.std.specs.Prelude.{Option, option_map, slice_get}
-use Rattle.scan_vectors.specs.Held.{bits}
-use Rattle.stream_player.proofs.WantedAhead.{passed}
+use Rattle.jt_bits.specs.Packed.{has_bit}
+use Rattle.scan_vectors.specs.Held.{bits, wanted_of}
+use Rattle.stream_player.proofs.WantedAhead.{passed_all, not_cared}
 use Rattle.stream_player.proofs.word_ahead.WordAhead.expected.Goals as goal
+
+pub unwanted-i-requires-clause-first : goal.unwanted-i-requires-clause-first
+unwanted-i-requires-clause-first c =
+    let a = c.loop-self.self in
+    let i = c.loop-self.i in
+    not_cared (has_bit a.run.care (i - a.from)) (has_bit a.run.bits (i - a.from)) (sym c.wanted.ensures ∙ c.in-None.is)
 
 pub loop-self-preserved : goal.loop-self-preserved
 loop-self-preserved c =
+    let a = c.loop-self.self in
     let i = c.loop-self.i in
+    let n = c.unwanted-i.result in
     let v = bits c.args.vector.now in
-    let from = c.look.new.self.from in
     let known = c.loop-self.invariant.known in
-    let there : from + (i - from) ≡ i = omega (arith, c.loop-self-test.ensures.low refl) in
-    let none = sym (ap (λ (k : ℕ). option_map {U = Option Bool} (λ b. b.wanted) (slice_get v k)) there)
-    ∙ known.bits (i - from) (omega (arith, c.loop-self-test.ensures.low refl, c.loop-self-test.ensures.high refl))
-    ∙ ap (λ (o : Option Bool). Some o) (sym c.wanted.ensures ∙ c.in-None.is) in
-    record { known = known; next = c.loop-self.invariant.next ∙ passed v i none }
+    let low : a.from ≤ i = c.loop-self-test.ensures.low refl in
+    let none = λ (k : ℕ) (less : k < n).
+    let there : a.from + (i - a.from + k) ≡ i + k = omega (arith, low) in
+    sym (ap (λ (m : ℕ). option_map {U = Option Bool} (λ b. b.wanted) (slice_get v m)) there)
+    ∙ known.bits (i - a.from + k) (omega (arith, low, less, c.unwanted-i.ensures.within))
+    ∙ ap (λ (care : Bool). Some (wanted_of care (has_bit a.run.bits (i - a.from + k)))) (c.unwanted-i.ensures.zeros k less) in
+    record { known = c.look-in-None.ensures; next = c.loop-self.invariant.next ∙ passed_all v i n none }

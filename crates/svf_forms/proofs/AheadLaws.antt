@@ -1,0 +1,22 @@
+-- Words that were cut ahead, and what is left behind them.
+use Rattle.std.proofs.Common.{◌≡◌, Bool, true, false, cond, List, [], ◌∷◌, ◌++◌, codes, None, refl, sym, ap, ◌∙◌}
+use Rattle.svf_words.specs.Words.{Word, Groups, with_word, reads}
+use Rattle.svf_forms.specs.Behind.{with_words}
+use Rattle.svf_forms.specs.Ahead.{GoesOn}
+use Rattle.svf_forms.specs.RunTests.{take_maximum, take_time, maximum_or}
+
+with_words-append : (ws xs : List Word) (groups : Groups) → with_words (ws ++ xs) groups ≡ with_words ws (with_words xs groups)
+with_words-append [] xs groups = refl
+with_words-append (w ∷ ws) xs groups = ap (with_word w) (with_words-append ws xs groups)
+
+pub goes_both : (from mid to : Groups) → GoesOn from mid → GoesOn mid to → GoesOn from to
+goes_both from mid to a b = (a.0 ++ b.0, a.1 ∙ ap (with_words a.0) b.1 ∙ sym (with_words-append a.0 b.0 to))
+
+-- one word is no maximum
+pub no_maximum : (k : Word) → take_maximum (k ∷ []) ≡ (None, k ∷ [])
+unfolding take_maximum take_time
+no_maximum k = by (reads k (codes "MAXIMUM"))
+  where
+    by : (b : Bool) → cond b (maximum_or None [] (k ∷ [])) (None, k ∷ []) ≡ (None, k ∷ [])
+    by true = refl
+    by false = refl
