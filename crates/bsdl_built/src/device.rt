@@ -34,22 +34,7 @@ pub fn device_of(
     ensures { IfOk result (λ v. v ≡ spec.device (description outline.now described.now)) }
 {
     let named = named_ports_of(alloc, &outline.groups)?;
-    device_by_names(alloc, outline, described, &named)
-}
-
-/// The same, where the ports are known by their names already.
-pub fn device_by_names(
-    alloc: Global,
-    outline: &Outline<'_>,
-    described: &Description<'_>,
-    named: &NamedPorts<'_>,
-) -> Result<Device, AllocError>
-    requires named { AreNamed named.now (description outline.now described.now).ports }
-    requires once { (k : ℕ) → k < (description outline.now described.now).boundary_length
-        → length (filter (λ r. r.number == k) (description outline.now described.now).cells) ≡ 1 }
-    ensures { IfOk result (λ v. v ≡ spec.device (description outline.now described.now)) }
-{
-    let cells = boundary_of(alloc, outline, described, named)?;
+    let cells = boundary_of(alloc, outline, described, &named)?;
     device_with(alloc, outline, described, cells)
 }
 

@@ -135,20 +135,26 @@ fn said<'a>(name: Word<'a>, attribute: Attribute, value: Value<'a>) -> Option<Gi
     }
 }
 
-/// An attribute behind its name; one of another name is passed over.
+/// An attribute behind its name; one of another name is passed over. One of the TAP asks for the name of a port.
 fn attribute<'a>(
     alloc: Global,
-    scalars: &Scalars<'_, '_>,
+    scalars: &mut Scalars<'_, '_>,
     name: Word<'a>,
     lexer: Lexer<'a>,
 ) -> Result<(Option<Given<'a>>, Lexer<'a>), Stop>
     ensures gives { Gives (option_map given_view.given) result
-        (spec.attribute (is_scalar (ports scalars.now.groups.now)) (word_lexeme name.entry)
+        (spec.attribute (is_scalar (ports scalars.old.groups.now)) (word_lexeme name.entry)
         (attribute_of name.entry.text.now) (left lexer.entry)) }
     ensures shorter { IfOk result (λ p. length (left p.1) < length (left lexer.entry)) }
+    ensures groups { scalars.new.groups.now ≡ scalars.old.groups.now }
 {
     match named(name.text) {
-        Some(attribute) => attribute_form(alloc, scalars, name, attribute, lexer),
+        Some(attribute) => {
+            if is_of_tap(attribute) && scalars.expect_one(alloc).is_err() {
+                return Err(Stop::Memory);
+            }
+            attribute_form(alloc, scalars, name, attribute, lexer)
+        }
         None => {
             let rest = past_semi(lexer)?;
             Ok((None, rest))
@@ -166,12 +172,13 @@ fn named(word: &[u8]) -> Option<Attribute>
 /// What an attribute says, where it says something: `attribute name tokens ;`.
 fn attribute_item<'a>(
     alloc: Global,
-    scalars: &Scalars<'_, '_>,
+    scalars: &mut Scalars<'_, '_>,
     lexer: Lexer<'a>,
 ) -> Result<(Option<Given<'a>>, Lexer<'a>), Stop>
     ensures gives { Gives (option_map given_view.given) result
-        (spec.attribute_item (is_scalar (ports scalars.now.groups.now)) (left lexer.entry)) }
+        (spec.attribute_item (is_scalar (ports scalars.old.groups.now)) (left lexer.entry)) }
     ensures shorter { IfOk result (λ p. length (left p.1) < length (left lexer.entry)) }
+    ensures groups { scalars.new.groups.now ≡ scalars.old.groups.now }
 {
     let (_attribute, rest) = keyword(lexer, &ATTRIBUTE)?;
     let (name, rest) = word(rest)?;
@@ -181,12 +188,13 @@ fn attribute_item<'a>(
 /// What an item says, where it says something: an attribute does, `use tokens ;` and `constant tokens ;` do not.
 fn item<'a>(
     alloc: Global,
-    scalars: &Scalars<'_, '_>,
+    scalars: &mut Scalars<'_, '_>,
     lexer: Lexer<'a>,
 ) -> Result<(Option<Given<'a>>, Lexer<'a>), Stop>
     ensures gives { Gives (option_map given_view.given) result
-        (spec.item (is_scalar (ports scalars.now.groups.now)) (left lexer.entry)) }
+        (spec.item (is_scalar (ports scalars.old.groups.now)) (left lexer.entry)) }
     ensures shorter { IfOk result (λ p. length (left p.1) < length (left lexer.entry)) }
+    ensures groups { scalars.new.groups.now ≡ scalars.old.groups.now }
 {
     match behind_unread(lexer) {
         Some(behind) => {
@@ -222,23 +230,6 @@ pub(crate) fn behind_word<'a>(lexer: Lexer<'a>, text: &[u8]) -> Option<Lexer<'a>
     }
 }
 
-/// What the next item says, where it says something. It names at most one port.
-fn next_item<'a>(
-    alloc: Global,
-    scalars: &mut Scalars<'_, '_>,
-    lexer: Lexer<'a>,
-) -> Result<(Option<Given<'a>>, Lexer<'a>), Stop>
-    ensures gives { Gives (option_map given_view.given) result
-        (spec.item (is_scalar (ports scalars.old.groups.now)) (left lexer.entry)) }
-    ensures shorter { IfOk result (λ p. length (left p.1) < length (left lexer.entry)) }
-    ensures groups { scalars.new.groups.now ≡ scalars.old.groups.now }
-{
-    match scalars.expect_one(alloc) {
-        Ok(()) => item(alloc, scalars, lexer),
-        Err(_) => Err(Stop::Memory),
-    }
-}
-
 /// What the items up to `end` say, of an entity with these ports.
 pub(crate) fn items<'a>(
     alloc: Global,
@@ -256,7 +247,7 @@ pub(crate) fn items<'a>(
         if behind_word(rest, b"END").is_some() {
             return Ok((all, rest));
         }
-        let (found, more) = next_item(alloc, &mut scalars, rest)?;
+        let (found, more) = item(alloc, &mut scalars, rest)?;
         rest = more;
         if let Some(given) = found {
             match all.push(given) {

@@ -1,5 +1,5 @@
 -- Cells by their numbers, one row more; and which are fit.
-use Rattle.std.proofs.Common.{◌≡◌, ◌<◌, ◌≤◌, ℕ, zero, suc, ◌+◌, ◌-◌, Bool, true, false, nat_eq, nat_lt, min, max, ◌&&◌, cond, List, [], ◌∷◌, ◌++◌, length, refl, sym, ap, ◌∙◌, arith}
+use Rattle.std.proofs.Common.{◌≡◌, ◌<◌, ◌≤◌, ℕ, zero, suc, ◌+◌, Bool, true, false, nat_eq, nat_lt, min, max, ◌&&◌, cond, List, [], ◌∷◌, ◌++◌, length, refl, sym, ap, ◌∙◌, arith}
 use Rattle.std.specs.Prelude.{Option, Some, filter, if◌then◌else◌}
 use Rattle.std.specs.List.{find, list_all, fold, range_with_len}
 use Rattle.std.proofs.lemmas.Bool.Decides.{nat_tests}
@@ -66,9 +66,3 @@ end_by d length len =
   where
     swapped : (n : ℕ) → min n 65536 ≡ min 65536 n
     swapped n = omega arith
-
--- a number that passes is behind the first that fails
-pub find_next : (f : ℕ → Bool) (k end : ℕ) → k < end → f k ≡ false → find f (range_with_len (k + 1) (end - (k + 1))) ≡ find f (range_with_len k (end - k))
-find_next f k end h passes =
-    let more : end - k ≡ suc (end - (k + 1)) = omega arith in
-    rw more (sym (ap (λ b. cond b (Some k) (find f (range_with_len (k + 1) (end - (k + 1))))) passes))

@@ -5,7 +5,6 @@ ghost use Rattle.std.specs.BTreeMap.{get};
 ghost use Rattle.std.specs.Ordering.{nat_cmp};
 ghost use Rattle.bsdl_numbers.specs.View.{value};
 ghost use Rattle.bsdl_cells.specs.View.{cell_row};
-ghost use Rattle.bsdl_entity.specs.declared.entity.Outline as declared_outline;
 ghost use Rattle.bsdl_described.specs.Describing as described;
 ghost use Rattle.bsdl_described.specs.View.{description};
 ghost use Rattle.bsdl_fit.specs.Fits as spec;
@@ -31,19 +30,7 @@ pub fn unfit_cell(
     ensures { IfOk result (λ o. o ≡ spec.unfit_cell (description outline.now described.now)) }
 {
     let known = known_of(alloc, outline, described)?;
-    unfit_cell_by(alloc, &known, described)
-}
-
-/// The same by what is known of a description: so it serves the device too. Refuses for want of memory alone.
-pub fn unfit_cell_by<'a>(
-    alloc: Global,
-    known: &Known<'_, 'a>,
-    described: &Description<'a>,
-) -> Result<Option<usize>, AllocError>
-    ensures { IfOk result (λ o. (f : declared_outline.Outline) → Holds known.now (description f described.now)
-        → o ≡ spec.unfit_cell (description f described.now)) }
-{
-    let table = table_of(alloc, known, &described.cells)?;
+    let table = table_of(alloc, &known, &described.cells)?;
     let length = described.boundary_length.up_to(ABOVE_SUBSCRIPTS);
     let end = cells_end(length, &described.cells);
     Ok(first_unfit(&table, length, end))

@@ -43,11 +43,11 @@ fn plain_len(text: &[u8], ending: u8) -> usize
         }
         at += LANES;
     }
-    at + end_len(&text[at..], ending, text[at - 1])
+    at + plain_end_len(&text[at..], ending, text[at - 1])
 }
 
 /// The same behind a byte, byte by byte.
-fn end_len(text: &[u8], ending: u8, before: u8) -> usize
+fn plain_end_len(text: &[u8], ending: u8, before: u8) -> usize
     ensures value { result ≡ plain.plain_len ending before text.now }
     ensures within { result ≤ length text.now }
 {

@@ -1,5 +1,5 @@
 //! What stands at a place of a text.
-ghost use Rattle.std.specs.Prelude.{◌≡◌, ◌≤◌, ◌<◌, ◌==◌, ◌||◌, length, drop, is_some, IfSome, IfOk, false};
+ghost use Rattle.std.specs.Prelude.{◌≡◌, ◌≤◌, ◌<◌, ◌==◌, ◌||◌, length, drop, is_some, IfSome, IfOk, None, false};
 ghost use Rattle.std.specs.List.{prefix_len, position_or_len};
 ghost use Rattle.bsdl_lex.specs.Bytes as bytes;
 ghost use Rattle.bsdl_lex.specs.Cutting.{cut, front, behind, cuts_of, bad_place, tokens};
@@ -12,7 +12,8 @@ use crate::plain::clear_len;
 use crate::{Kind, Token};
 use memchr::{memchr2, memchr3};
 
-/// What the first byte of a text begins, and how many bytes that has behind it.
+/// What the first byte of a text begins, and how many bytes that has behind it. Gaps are passed before it is asked, so
+/// that only what is said of whole texts names them.
 #[derive(Clone, Copy)]
 enum Front {
     Gap(usize),
@@ -41,7 +42,6 @@ pub(crate) fn first_token<'a>(
             text: &source[at..at + 1 + more],
             start: at,
         })),
-        // no gap stands behind the gaps
         _ => Some(Err(at)),
     }
 }
@@ -136,9 +136,10 @@ pub fn bad_byte(source: &[u8], quoted: bool) -> Option<usize>
     }
 }
 
-/// What the byte begins before this rest of the text.
+/// What a byte that begins no gap begins before this rest of the text.
 #[inline(always)]
 fn front_of(quoted: bool, first: u8, rest: &[u8]) -> Front
+    requires { gap quoted first rest.now ≡ None }
     ensures value { result ≡ front quoted first rest.now }
     ensures within { behind result ≤ length rest.now }
 {
@@ -147,8 +148,6 @@ fn front_of(quoted: bool, first: u8, rest: &[u8]) -> Front
         return Front::Token(Kind::Word, word_len(rest));
     }
     match first {
-        b' ' | b'\t'..=b'\r' => Front::Gap(0),
-        b'-' if !quoted && rest.first() == Some(&b'-') => Front::Gap(line_len(rest)),
         b'"' if !quoted => string_front(rest),
         b'0'..=b'9' => Front::Token(Kind::Number, number_len(rest)),
         b'&'..=b'/' | b':'..=b'>' | b'[' | b']' | b'|' => Front::Token(Kind::Mark, 0),
@@ -199,11 +198,11 @@ fn word_len(text: &[u8]) -> usize
         }
         at += LANES;
     }
-    at + end_len(&text[at..])
+    at + word_end_len(&text[at..])
 }
 
 /// The same, byte by byte.
-fn end_len(text: &[u8]) -> usize
+fn word_end_len(text: &[u8]) -> usize
     ensures value { result ≡ prefix_len bytes.is_word text.now }
     ensures within { result ≤ length text.now }
 {

@@ -10,15 +10,15 @@ ghost use Rattle.bsdl_ports.specs.View as view;
 use crate::scalars::{is_scalar, scalars_of};
 use bsdl_ports::ports::Group;
 use bsdl_text::names::Word;
-use bsdl_text::reading::same_name;
+use name_keys::NameKey;
 use std::alloc::{AllocError, Global};
 use std::collections::BTreeMap;
 
-/// So many names are looked for port by port, which costs less than a tree of all ports.
-const WALKS: usize = 32;
+/// So many names are looked for port by port, which costs less than a tree of all ports: a TAP has at most five ports.
+const WALKS: usize = 5;
 
-/// The ports of an entity, which are asked by name whether they are single bits. A tree of them is made where many
-/// names are asked for: no text makes the look-ups slow.
+/// The ports of an entity, which are asked by name whether they are single bits. A tree of them is made where more
+/// names are asked for than a TAP has ports: no text makes the look-ups slow.
 #[derive(Drop)]
 pub struct Scalars<'g, 't> {
     pub groups: &'g [Group<'t>],
@@ -79,5 +79,12 @@ fn is_scalar_among(groups: &[Group<'_>], name: &[u8]) -> bool
 fn has_name(group: &Group<'_>, name: &[u8]) -> bool
     ensures { result ≡ list_any (λ w. are_same w.text.now name.now) group.now.names.items }
 {
-    group.names.iter().any(|found| same_name(found.text, name))
+    group.names.iter().any(|found| are_alike(found.text, name))
+}
+
+/// Whether two names are the same, in any case. Names of one length are compared by their ends first.
+fn are_alike(one: &[u8], other: &[u8]) -> bool
+    ensures { result ≡ are_same one.now other.now }
+{
+    one.len() == other.len() && NameKey::new(one) == NameKey::new(other)
 }

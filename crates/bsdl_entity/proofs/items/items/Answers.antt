@@ -32,11 +32,11 @@ items-preserved-in-Ok c =
     let more : begins (codes "END") (left c.items.rest) ≡ false = sym c.behind_word.ensures.begins ∙ sym c.is_some.ensures ∙ c.if-is_some.false in
     let next = one_item (is_scalar (ports c.args.groups.now)) (items (is_scalar (ports c.args.groups.now)) (length (left c.args.lexer)) (left c.args.lexer)) (map given c.items.all.items) c.items.invariant.0 (left c.items.rest) c.items.invariant.3
     (option_map given (Some c.in-Some.given)) (left c.in_ok-found.more) c.items.invariant.1 more (ap (λ (gs : List Group). item (is_scalar (ports gs)) (left c.items.rest)) (sym c.items.invariant.4) ∙ c.in_ok-found.ensures.gives ∙ ap (λ o. fits (option_map given o) (left c.in_ok-found.more)) c.in-Some.is) c.in_ok-found.ensures.shorter in
-    (next.0, next.1, omega (arith, c.in_ok-found.ensures.shorter, c.items.invariant.2), rw (c.in-Ok.ensures.items, map-append) next.2, c.next_item.ensures.groups ∙ c.items.invariant.4)
+    (next.0, next.1, omega (arith, c.in_ok-found.ensures.shorter, c.items.invariant.2), rw (c.in-Ok.ensures.items, map-append) next.2, c.item.ensures.groups ∙ c.items.invariant.4)
 
 pub items-preserved : goal.items-preserved
 items-preserved c =
     let more : begins (codes "END") (left c.items.rest) ≡ false = sym c.behind_word.ensures.begins ∙ sym c.is_some.ensures ∙ c.if-is_some.false in
     let next = one_item (is_scalar (ports c.args.groups.now)) (items (is_scalar (ports c.args.groups.now)) (length (left c.args.lexer)) (left c.args.lexer)) (map given c.items.all.items) c.items.invariant.0 (left c.items.rest) c.items.invariant.3
     None (left c.in_ok-found.more) c.items.invariant.1 more (ap (λ (gs : List Group). item (is_scalar (ports gs)) (left c.items.rest)) (sym c.items.invariant.4) ∙ c.in_ok-found.ensures.gives ∙ ap (λ o. fits (option_map given o) (left c.in_ok-found.more)) c.in_default.is) c.in_ok-found.ensures.shorter in
-    (next.0, next.1, omega (arith, c.in_ok-found.ensures.shorter, c.items.invariant.2), next.2 ∙ ap (λ gs. prepend gs (items (is_scalar (ports c.args.groups.now)) next.0 (left c.in_ok-found.more))) (append-nil (map given c.items.all.items)), c.next_item.ensures.groups ∙ c.items.invariant.4)
+    (next.0, next.1, omega (arith, c.in_ok-found.ensures.shorter, c.items.invariant.2), next.2 ∙ ap (λ gs. prepend gs (items (is_scalar (ports c.args.groups.now)) next.0 (left c.in_ok-found.more))) (append-nil (map given c.items.all.items)), c.item.ensures.groups ∙ c.items.invariant.4)

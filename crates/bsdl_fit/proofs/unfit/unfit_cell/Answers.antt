@@ -1,5 +1,27 @@
-use Rattle.std.proofs.lemmas.Result.{IfOk-weaker}
+use Rattle.std.proofs.Common.{◌≡◌, ◌≤◌, ℕ, suc, min, max, nat_lt, ap, sym, ◌∙◌, map, arith}
+use Rattle.std.specs.Prelude.{not}
+use Rattle.std.specs.BTreeMap.{get}
+use Rattle.std.specs.List.{find, fold, range_with_len}
+use Rattle.std.specs.Ordering.{nat_cmp}
+use Rattle.bsdl_cells.specs.View.{cell_row}
+use Rattle.bsdl_described.specs.View.{description}
+use Rattle.bsdl_fit.specs.Fits as fits
+use Rattle.bsdl_cell_maps.specs.Table.{is_fit, only_row_fits}
+use Rattle.bsdl_fit.proofs.TableLaws.{end_by, find_same, fit_by}
 use Rattle.bsdl_fit.proofs.unfit.unfit_cell.Goals as goal
 
 pub returns : goal.returns
-returns c = IfOk-weaker c.unfit_cell_by.result _ _ (λ o says. says c.args.outline.now c.in_ok-known.ensures) c.unfit_cell_by.ensures
+returns c =
+    let d = description c.args.outline.now c.args.described.now in
+    let length = c.up_to-length.result in
+    let table = c.in_ok-table.table in
+    let end = min 65536 (fits.cells_end d) in
+    let test = λ (n : ℕ). not (is_fit (nat_lt n length) (get nat_cmp table.cells n)) in
+    let listed : (n : ℕ) → n ≤ 65535 → get nat_cmp table.cells n ≡ only_row_fits (fits.row_fits d) d.cells n = λ n few.
+    c.in_ok-table.ensures d c.in_ok-known.ensures n few ∙ ap (λ rows. only_row_fits (fits.row_fits d) (map cell_row rows) n) c.deref.ensures.value in
+    let ends : c.cells_end-end.result ≡ end =
+    c.cells_end-end.ensures ∙ ap (λ rows. min (fold (λ n r. max n (suc r.number)) length (map cell_row rows)) 65536) c.deref-2.ensures.value ∙ end_by d length c.up_to-length.ensures in
+    c.first_unfit.ensures ∙ ap (λ (e : ℕ). find test (range_with_len 0 e)) ends
+    ∙ find_same test (λ n. not (fits.is_fit d n)) 0 end (λ k h.
+    let few : k ≤ 65535 = omega arith in
+    ap not (sym (fit_by d k length (get nat_cmp table.cells k) few c.up_to-length.ensures (listed k few))))

@@ -11,6 +11,12 @@ use Rattle.bsdl_lex.proofs.scan.first_token.Goals as goal
 pub returns-then-at-source-clause-cuts : goal.returns-then-at-source-clause-cuts
 returns-then-at-source-clause-cuts c = c.gaps_end-at.ensures.cuts ∙ at_end c.args.quoted c.args.source.now c.gaps_end-at.result (omega arith)
 
+pub front_of-requires : goal.front_of-requires
+front_of-requires c =
+    let source = c.args.source.now in
+    let lt : c.gaps_end-at.result < length source = omega (arith, c.gaps_end-at.ensures.within) in
+    ap (gap c.args.quoted (get_or source c.gaps_end-at.result 0)) (take_rest source _) ∙ c.gaps_end-at.ensures.ends lt
+
 pub returns-in-Token-clause-cuts : goal.returns-in-Token-clause-cuts
 returns-in-Token-clause-cuts c =
     let lt : c.gaps_end-at.result < length c.args.source.now = omega (arith, c.gaps_end-at.ensures.within) in
