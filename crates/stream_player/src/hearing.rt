@@ -114,7 +114,7 @@ fn hear_some(
     (hear_one(program, step, vector, p, kept, bytes[0]), 1)
 }
 
-/// Takes answers as long as each is as the next wanted bit is to be, which words have. A player that stops takes none
+/// Takes answers as long as each is as the next wanted bit is to be, as words tell. A player that stops takes none
 /// so.
 ///
 /// Of these nothing but their number changes, so where the player stands is made once, behind them.
@@ -156,7 +156,7 @@ fn hear_expected(
     (behind_answers(p, judged, count), count)
 }
 
-/// The next wanted bit from this place on, where one word has it and this answer is as it is to be.
+/// The next wanted bit from this place on, where this answer is as it is to be.
 fn expected_by(vector: &Vector<'_>, ahead: &mut WordAhead, from: usize, byte: u8) -> Option<usize>
     requires { IsAhead (bits vector.now) ahead.old }
     ensures known { IsAhead (bits vector.now) ahead.new }
