@@ -72,7 +72,7 @@ fn add_name<'a>(
 {
     let key = OwnedNameKey::new(name.upper_name(alloc)?);
     let number = keyed.next;
-    // Each port has bytes of a text of its own, so that there are fewer than 2^64: this refuses none.
+    // Each port has bytes of its own in the text, so that there are fewer than 2^64: this refuses none.
     keyed.next = number.checked_add(1).ok_or(AllocError)?;
     put_first(&mut keyed.by_key, key, NumberedPort { number, range })
 }

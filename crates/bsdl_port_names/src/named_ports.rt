@@ -91,7 +91,7 @@ fn add_name<'a>(
 {
     let key = name.upper_name(alloc)?;
     let number = named.next;
-    // Each port has bytes of a text of its own, so that there are fewer than 2^64: this refuses none.
+    // Each port has bytes of its own in the text, so that there are fewer than 2^64: this refuses none.
     named.next = number.checked_add(1).ok_or(AllocError)?;
     put_first(&mut named.by_name, key, NumberedPort { number, range })
 }
