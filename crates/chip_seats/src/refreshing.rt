@@ -22,7 +22,9 @@ use boundary::{Drive, PlainCells};
 /// What each pin drives is put to its net, given the pins that a cell drives; what was put to the nets before is what
 /// each pin drove while the registers of the devices were others.
 ///
-/// Of cells that drive their own bits, 64 at a time, only those are put whose bit is another than was last put.
+/// Of cells without a control, where eight or more of 64 drive a pin and the mode drives the pins, only those are put
+/// whose bit is another than was last put. All others are put each time: pins whose cell has a control, few among 64,
+/// and those of a device in HIGHZ.
 pub fn refresh_driving(wiring: &mut Wiring, seats: &[Seat], driving: &mut DrivingPins)
     requires { IsDriving (map cells_of seats.now) wiring.old driving.old }
     ensures nets { wiring.new.nets ≡ wiring.old.nets }
