@@ -1,7 +1,7 @@
 //! What is wanted of the next bits of a vector, known for a word of them at a time.
 
-ghost use Rattle.std.specs.Prelude.{◌≡◌, ◌+◌, ◌-◌, ◌<◌, ◌≤◌, ℕ, true, false, Bool, Option, List, Some, IfSome, drop, length};
-ghost use Rattle.std.specs.Prelude.{option_map, slice_get};
+ghost use Rattle.std.specs.Prelude.{◌≡◌, ◌+◌, ◌-◌, ◌<◌, ◌≤◌, ℕ, true, false, Bool, Option, List, Some, IfSome};
+ghost use Rattle.std.specs.Prelude.{drop, length, option_map, slice_get};
 ghost use Rattle.jt_bits.specs.Packed.{has_bit};
 ghost use Rattle.scan_vectors.specs.Held.{bits, wanted_of};
 ghost use Rattle.scan_vectors.specs.Vector.{VectorBit, wanted_bits};
@@ -29,8 +29,8 @@ impl WordAhead {
         WordAhead { from: 0, run }
     }
 
-    /// The next bit from this place on that is wanted, where it is to be this one. Bits that are not wanted are passed by
-    /// the word.
+    /// The next bit from this place on that is wanted, where it is to be this one. Bits that are not wanted are passed
+    /// by the word.
     pub(crate) fn expected(&mut self, vector: &Vector<'_>, from: usize, bit: bool) -> Option<usize>
         requires { IsAhead (bits vector.now) self.old }
         ensures known { IsAhead (bits vector.now) self.new }
