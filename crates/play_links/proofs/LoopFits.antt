@@ -31,11 +31,12 @@ use Rattle.play_links.specs.Loops.{Counts, HearsAll, LoopRuns, LoopsOver, Loss, 
 use Rattle.play_links.specs.Loops.{a_turn, answer_lost, arrival_lost, no_turn, quit_turn, return_lost, send_lost, unfit}
 use Rattle.play_links.specs.Serves.{ServedBytes, serve_bytes}
 use Rattle.play_links.proofs.Histories.{Stands, heard-stands, put-stands, stands-new}
+use Rattle.streaming.proofs.HonestWindow.{take-encoded}
 use Rattle.play_links.proofs.HonestLink.{encoded-one, ends_whole, length-answers, linked_honest, same-length, serve-encoded}
 use Rattle.play_links.proofs.LoopHonest.{all-read, all-taken, one-turn}
 use Rattle.play_links.proofs.LoopSo.{fits-none}
 use Rattle.play_links.proofs.ServeSteps.{serve-more, then_served}
-use Rattle.play_links.proofs.WholeEnds.{is_whole, sent-ends, take-encoded}
+use Rattle.play_links.proofs.WholeEnds.{is_whole, sent-ends}
 
 and-left : (a b : Bool) → (a && b) ≡ true → a ≡ true
 and-left true b e = refl

@@ -18,8 +18,8 @@ use stream_player::Player;
 /// The most bytes that go one way in a turn.
 const TURN: usize = 1024;
 
-/// Gives out so many of the bytes that may be sent.
-fn give_out(player: &mut Player, n: usize)
+/// Gives out the first of the bytes that may be sent, so many.
+fn give_out_first(player: &mut Player, n: usize)
     requires few { n ≤ 1024 }
     requires wait { n ≤ length (stream.bytes_to_send 256 player.old) }
     ensures { player.new ≡ record player.old { given = player.old.given + n } }
@@ -41,7 +41,7 @@ fn give_all<W: Sink>(writer: &mut Counted<W>, player: &mut Player, piece: &[u8])
         match writer.put(rest) {
             Ok(0) | Err(_) => return false,
             Ok(n) => {
-                give_out(player, n);
+                give_out_first(player, n);
                 rest = &rest[n..];
             }
         }

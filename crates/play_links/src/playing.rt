@@ -34,14 +34,14 @@ fn put<W: Sink>(
     match writer.put(piece) {
         Ok(0) | Err(_) => false,
         Ok(n) => {
-            give_out(player, shown, &mut piece[..n]);
+            give_out_taken(player, shown, &mut piece[..n]);
             true
         }
     }
 }
 
 /// Gives out the bytes that a writer took. Where they are all that were shown, they are not made again.
-fn give_out(player: &mut Player, shown: Shown, taken: &mut [u8])
+fn give_out_taken(player: &mut Player, shown: Shown, taken: &mut [u8])
     requires shown { IsShown player.old shown }
     requires wait { length taken.old ≤ length (stream.bytes_to_send 256 player.old) }
     ensures { player.new ≡ record player.old { given = player.old.given + length taken.old } }
