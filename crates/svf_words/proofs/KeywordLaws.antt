@@ -32,7 +32,7 @@ here_or_later P x y true later is more e = let same : x ≡ y = cc in ap P (sym 
 here_or_later P x y false later is more e = more e
 
 -- what a search finds passes
-pub found_passes : {A : Type 0} (P : A → Bool) (xs : List A) (y : A) → find P xs ≡ Some y → P y ≡ true
+found_passes : {A : Type 0} (P : A → Bool) (xs : List A) (y : A) → find P xs ≡ Some y → P y ≡ true
 found_passes P [] y e = absurd cc
 found_passes P (x ∷ xs) y e = here_or_later P x y (P x) (find P xs) refl (found_passes P xs y) e
 

@@ -81,7 +81,12 @@ pub enum Clock {
     Sck,
 }
 
+/// Those that programs have most of stand first, since a word is tried as one after another.
 const COMMANDS: [Command; 14] = [
+    Command::Scan(Which::Sdr),
+    Command::Scan(Which::Sir),
+    Command::RunTest,
+    Command::State,
     Command::EndDr,
     Command::EndIr,
     Command::Frequency,
@@ -89,21 +94,9 @@ const COMMANDS: [Command; 14] = [
     Command::Scan(Which::Hir),
     Command::Scan(Which::Tdr),
     Command::Scan(Which::Tir),
-    Command::Scan(Which::Sdr),
-    Command::Scan(Which::Sir),
-    Command::RunTest,
-    Command::State,
     Command::Trst,
     Command::Pio,
     Command::PioMap,
-];
-
-/// The commands that programs have most of, which are tried first.
-const FREQUENT: [Command; 4] = [
-    Command::Scan(Which::Sdr),
-    Command::Scan(Which::Sir),
-    Command::RunTest,
-    Command::State,
 ];
 
 const FIELDS: [FieldName; 4] = [
@@ -131,10 +124,7 @@ trait Keyword: Copy {
 pub fn command_of(word: &[u8]) -> Option<Command>
     ensures { result ≡ spec.command_of word.now }
 {
-    match first_read(&FREQUENT, word) {
-        Some(command) => Some(command),
-        None => first_read(&COMMANDS, word),
-    }
+    first_read(&COMMANDS, word)
 }
 
 /// The name of a field that the word is, in any case, if it is one.
