@@ -5,3 +5,4 @@ pub mod Laws
 pub mod Left
 pub mod Lexed
 pub mod Scanning
+pub mod Statements

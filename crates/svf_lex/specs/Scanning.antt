@@ -16,3 +16,8 @@ abbrev pub cuts_from : List ℕ → Option (Result Token ℕ) → List Cut
 cuts_from source None = []
 cuts_from source (Some (Ok t)) = piece (lexeme t) ∷ cut 0 (end_of t) (drop (end_of t) source)
 cuts_from source (Some (Err place)) = bad place ∷ []
+
+-- where a token begins, or a byte stands that begins nothing
+abbrev pub place_of : Result Token ℕ → ℕ
+place_of (Ok t) = t.start
+place_of (Err place) = place

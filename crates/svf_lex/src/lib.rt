@@ -66,6 +66,7 @@ pub struct Lexer<'a> {
 impl<'a> Lexer<'a> {
     ghost use Rattle.svf_lex.specs.Left.{left};
     ghost use Rattle.svf_lex.specs.Cutting.{items_of};
+    ghost use Rattle.svf_lex.specs.Statements.{NextOfStatement};
 
     /// The tokens of a whole text. Takes no memory.
     pub fn new(source: &'a [u8]) -> Lexer<'a>
@@ -75,6 +76,32 @@ impl<'a> Lexer<'a> {
             source,
             at: 0,
             begun: None,
+        }
+    }
+
+    /// The next token of a statement. At its `;`, at the text's end and at a fault there is none, and what is left stays; but
+    /// the gap before that is passed, so that nobody walks through it again.
+    pub fn next_of_statement(&mut self) -> Option<Token<'a>>
+        ensures { NextOfStatement (left self.old) (left self.new) result }
+    {
+        match first_token(self.source, self.at) {
+            Some(Ok(token)) => {
+                if let Kind::Semi = token.kind {
+                    self.at = token.start;
+                    return None;
+                }
+                self.at = token.start + token.text.len();
+                self.begun = Some(self.begun.unwrap_or(token.start));
+                Some(token)
+            }
+            Some(Err(place)) => {
+                self.at = place;
+                None
+            }
+            None => {
+                self.at = self.source.len();
+                None
+            }
         }
     }
 

@@ -3,7 +3,7 @@ ghost use Rattle.std.specs.Prelude.{◌≡◌, ◌≤◌, length, drop, IfSome, 
 ghost use Rattle.std.specs.List.{prefix_len, position_or_len};
 ghost use Rattle.svf_lex.specs.Bytes as bytes;
 ghost use Rattle.svf_lex.specs.Cutting.{cut, front, behind};
-ghost use Rattle.svf_lex.specs.Scanning.{cuts_from, end_of};
+ghost use Rattle.svf_lex.specs.Scanning.{cuts_from, end_of, place_of};
 
 use crate::lanes::{LANES, run_in};
 use crate::{Kind, Token};
@@ -24,6 +24,9 @@ enum Front {
 pub(crate) fn first_token<'a>(source: &'a [u8], from: usize) -> Option<Result<Token<'a>, usize>>
     requires { from ≤ length source.now }
     ensures cuts { cut 0 from (drop from source.now) ≡ cuts_from source.now result }
+    ensures gap { IfSome result
+        (λ found. cut 0 from (drop from source.now) ≡ cut 0 (place_of found) (drop (place_of found) source.now)) }
+    ensures inside { IfSome result (λ found. place_of found ≤ length source.now) }
     ensures within { IfSome result (λ found. IfOk found (λ token. end_of token ≤ length source.now)) }
 {
     let mut at = from;
