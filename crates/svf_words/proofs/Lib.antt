@@ -1,1 +1,2 @@
 pub mod KeywordLaws
+pub mod WordTaken

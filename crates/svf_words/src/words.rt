@@ -2,7 +2,7 @@
 ghost use Rattle.std.specs.Prelude.{◌≡◌, ◌∷◌, [], MatchOption, IfSome, drop};
 ghost use Rattle.svf_lex.specs.Left.{left};
 ghost use Rattle.svf_words.specs.Words as spec;
-ghost use Rattle.svf_words.specs.Words.{words_left};
+ghost use Rattle.svf_words.specs.Words.{words_left, groups_of, with_word};
 
 use svf_lex::{Kind, Lexer};
 
@@ -20,6 +20,20 @@ pub fn next_word<'a>(lexer: Lexer<'a>) -> Option<(&'a [u8], Lexer<'a>)>
             _ => Some((token.text, after)),
         },
         _ => None,
+    }
+}
+
+/// Takes the next word of the statement. There is none at the `;`, at the text's end and at a fault: what is left stays
+/// then, but the gap before that is passed, so that nobody walks through it again.
+pub fn take_word<'a>(lexer: &mut Lexer<'a>) -> Option<&'a [u8]>
+    ensures word { MatchOption result (words_left lexer.old ≡ [])
+        (λ w. words_left lexer.old ≡ w.now ∷ words_left lexer.new) }
+    ensures after { MatchOption result (left lexer.new ≡ left lexer.old)
+        (λ w. groups_of (left lexer.old) ≡ with_word w.now (groups_of (left lexer.new))) }
+{
+    match lexer.next_of_statement() {
+        Some(token) => Some(token.text),
+        None => None,
     }
 }
 
