@@ -9,8 +9,13 @@ with_words-append : (ws xs : List Word) (groups : Groups) → with_words (ws ++ 
 with_words-append [] xs groups = refl
 with_words-append (w ∷ ws) xs groups = ap (with_word w) (with_words-append ws xs groups)
 
-pub goes_both : (from mid to : Groups) → GoesOn from mid → GoesOn mid to → GoesOn from to
+goes_both : (from mid to : Groups) → GoesOn from mid → GoesOn mid to → GoesOn from to
 goes_both from mid to a b = (a.0 ++ b.0, a.1 ∙ ap (with_words a.0) b.1 ∙ sym (with_words-append a.0 b.0 to))
+
+-- all parts, one after another
+pub goes_far : (from state count time maximum end rest : Groups) → GoesOn from state → GoesOn state count → GoesOn count time → GoesOn time maximum → GoesOn maximum end → GoesOn end rest → GoesOn from rest
+goes_far from state count time maximum end rest a b c d e f =
+    goes_both from state rest a (goes_both state count rest b (goes_both count time rest c (goes_both time maximum rest d (goes_both maximum end rest e f))))
 
 -- one word is no maximum
 pub no_maximum : (k : Word) → take_maximum (k ∷ []) ≡ (None, k ∷ [])

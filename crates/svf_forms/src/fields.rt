@@ -1,5 +1,5 @@
 //! The fields of a scan.
-ghost use Rattle.std.specs.Prelude.{◌≡◌, ◌<◌, ◌++◌, List, ℕ, length, IfOk, IfSome, MatchBool, Some, None, option_map};
+ghost use Rattle.std.specs.Prelude.{◌≡◌, ◌++◌, List, ℕ, IfOk, IfSome, MatchBool, Some, None, option_map};
 ghost use Rattle.std.specs.Prelude.{if◌then◌else◌};
 ghost use Rattle.svf_lex.specs.Left.{left};
 ghost use Rattle.svf_words.specs.Words.{words_left};
@@ -11,7 +11,7 @@ ghost use Rattle.svf_forms.specs.View.{fields, bytes_of, digits_of, given, lent}
 use std::alloc::{AllocError, Global};
 use svf_lex::Lexer;
 use svf_words::keywords::{FieldName, field_of};
-use svf_words::words::{is_close, is_open, next_word};
+use svf_words::words::{is_close, is_open, take_word};
 
 /// The hexadecimal digits of each field that is given, as they are written.
 #[derive(Debug, Drop)]
@@ -80,26 +80,40 @@ pub fn lent_fields<'a>(
         (λ o. option_map (λ p. lent p.0) o ≡ fields_say no_fields (cut_at_close (words_left words.entry))) }
     ensures behind { IfOk result (λ o. IfSome o (λ p. Behind (left words.entry) (left p.1))) }
 {
+    let mut rest = words;
+    match take_fields(alloc, &mut rest)? {
+        Some(all) => Ok(Some((all, rest))),
+        None => Ok(None),
+    }
+}
+
+/// The same, taken from a lexer, which stands behind the words that were read, also where they are no fields.
+pub(crate) fn take_fields<'a>(
+    alloc: Global,
+    words: &mut Lexer<'a>,
+) -> Result<Option<LentFields<'a>>, AllocError>
+    ensures says { IfOk result
+        (λ o. option_map lent o ≡ fields_say no_fields (cut_at_close (words_left words.old))) }
+    ensures behind { Behind (left words.old) (left words.new) }
+{
     let mut all = LentFields {
         tdi: None,
         tdo: None,
         mask: None,
         smask: None,
     };
-    let mut rest = words;
-    while let Some((word, after)) = next_word(rest) {
+    while let Some(word) = take_word(words) {
         let Some(name) = field_of(word) else {
             return Ok(None);
         };
-        let Some((digits, behind)) = bracket(alloc, after)? else {
+        let Some(digits) = bracket(alloc, words)? else {
             return Ok(None);
         };
         if !put(&mut all, name, digits) {
             return Ok(None);
         }
-        rest = behind;
     }
-    Ok(Some((all, rest)))
+    Ok(Some(all))
 }
 
 /// The same fields with digits of their own.
@@ -153,81 +167,73 @@ fn put_once<'a>(place: &mut Option<Digits<'a>>, digits: Digits<'a>) -> bool
     }
 }
 
-/// The digits between brackets, and the lexer behind them.
-fn bracket<'a>(
-    alloc: Global,
-    words: Lexer<'a>,
-) -> Result<Option<(Digits<'a>, Lexer<'a>)>, AllocError>
+/// Takes the digits between brackets.
+fn bracket<'a>(alloc: Global, words: &mut Lexer<'a>) -> Result<Option<Digits<'a>>, AllocError>
     ensures found { IfOk result
-        (λ o. option_map {U = List ℕ × Closed} (λ p. (digits_of p.0, cut_at_close (words_left p.1))) o
-        ≡ spec.bracket (cut_at_close (words_left words.entry))) }
-    ensures shorter { IfOk result (λ o. IfSome o (λ p. length (words_left p.1) < length (words_left words.entry))) }
-    ensures behind { IfOk result (λ o. IfSome o (λ p. Behind (left words.entry) (left p.1))) }
+        (λ o. option_map {U = List ℕ × Closed} (λ d. (digits_of d, cut_at_close (words_left words.new))) o
+        ≡ spec.bracket (cut_at_close (words_left words.old))) }
+    ensures behind { Behind (left words.old) (left words.new) }
 {
-    match next_word(words) {
-        Some((word, after)) if is_open(word) => runs(alloc, after),
+    match take_word(words) {
+        Some(word) if is_open(word) => runs(alloc, words),
         _ => Ok(None),
     }
 }
 
-/// The runs up to `)`, and the lexer behind it.
-fn runs<'a>(alloc: Global, words: Lexer<'a>) -> Result<Option<(Digits<'a>, Lexer<'a>)>, AllocError>
+/// Takes the runs up to `)`, and that.
+fn runs<'a>(alloc: Global, words: &mut Lexer<'a>) -> Result<Option<Digits<'a>>, AllocError>
     ensures found { IfOk result
-        (λ o. option_map {U = List ℕ × Closed} (λ p. (digits_of p.0, cut_at_close (words_left p.1))) o
-        ≡ spec.runs (cut_at_close (words_left words.entry))) }
-    ensures shorter { IfOk result (λ o. IfSome o (λ p. length (words_left p.1) < length (words_left words.entry))) }
-    ensures behind { IfOk result (λ o. IfSome o (λ p. Behind (left words.entry) (left p.1))) }
+        (λ o. option_map {U = List ℕ × Closed} (λ d. (digits_of d, cut_at_close (words_left words.new))) o
+        ≡ spec.runs (cut_at_close (words_left words.old))) }
+    ensures behind { Behind (left words.old) (left words.new) }
 {
-    let Some((first, rest)) = next_word(words) else {
+    let Some(first) = take_word(words) else {
         return Ok(None);
     };
     if is_close(first) {
-        return Ok(Some((Digits::Joined(Vec::new(alloc)), rest)));
+        return Ok(Some(Digits::Joined(Vec::new(alloc))));
     }
     if is_open(first) {
         return Ok(None);
     }
-    let Some((second, behind)) = next_word(rest) else {
+    let Some(second) = take_word(words) else {
         return Ok(None);
     };
     if is_close(second) {
-        return Ok(Some((Digits::Run(first), behind)));
+        return Ok(Some(Digits::Run(first)));
     }
     if is_open(second) {
         return Ok(None);
     }
-    match joined(alloc, first, second, behind)? {
-        Some((digits, behind)) => Ok(Some((Digits::Joined(digits), behind))),
+    match joined(alloc, first, second, words)? {
+        Some(digits) => Ok(Some(Digits::Joined(digits))),
         None => Ok(None),
     }
 }
 
-/// These two runs and the runs up to `)`, joined, and the lexer behind it.
+/// Takes the runs up to `)`, and that, and joins them to these two runs.
 fn joined<'a>(
     alloc: Global,
     first: &'a [u8],
     second: &'a [u8],
-    words: Lexer<'a>,
-) -> Result<Option<(Vec<u8>, Lexer<'a>)>, AllocError>
+    words: &mut Lexer<'a>,
+) -> Result<Option<Vec<u8>>, AllocError>
     ensures found { IfOk result
-        (λ o. option_map {U = List ℕ × Closed} (λ p. (p.0.items, cut_at_close (words_left p.1))) o
-        ≡ (spec.runs (cut_at_close (words_left words.entry)) >>? λ p. Some ((first.now ++ second.now) ++ p.0, p.1))) }
-    ensures shorter { IfOk result (λ o. IfSome o (λ p. length (words_left p.1) < length (words_left words.entry))) }
-    ensures behind { IfOk result (λ o. IfSome o (λ p. Behind (left words.entry) (left p.1))) }
+        (λ o. option_map {U = List ℕ × Closed} (λ d. (d.items, cut_at_close (words_left words.new))) o
+        ≡ (spec.runs (cut_at_close (words_left words.old)) >>? λ p. Some ((first.now ++ second.now) ++ p.0, p.1))) }
+    ensures behind { Behind (left words.old) (left words.new) }
 {
     let mut digits = Vec::new(alloc);
     digits.extend_from_slice(first)?;
     digits.extend_from_slice(second)?;
-    let mut rest = words;
-    while let Some((word, after)) = next_word(rest) {
+    while let Some(word) = take_word(words) {
         if is_close(word) {
-            return Ok(Some((digits, after)));
+            return Ok(Some(digits));
         }
         if is_open(word) {
             return Ok(None);
         }
         digits.extend_from_slice(word)?;
-        rest = after;
     }
     Ok(None)
 }

@@ -9,13 +9,13 @@ ghost use Rattle.svf_forms.specs.Forms.{scan_form};
 ghost use Rattle.svf_words.specs.declared.keywords.Which as declared_which;
 ghost use Rattle.svf_forms.specs.View as view;
 
-use crate::fields::{Fields, LentFields, copied, lent_fields};
-use crate::run_test::{RunTest, run_test_and_rest};
+use crate::fields::{Fields, LentFields, copied, take_fields};
+use crate::run_test::{RunTest, take_run_test};
 use jt_tap::State;
 use std::alloc::{AllocError, Global};
 use svf_lex::Lexer;
 use svf_words::keywords::{Command, TrstWord, Which, state_of, trst_of};
-use svf_words::words::{is_number, next_word, reads};
+use svf_words::words::{is_number, reads, take_word};
 
 /// A statement as it is written: each number as its word, each field as its digits.
 #[derive(Debug, Drop)]
@@ -90,8 +90,8 @@ fn with_own_digits<'a>(alloc: Global, form: LentForm<'a>) -> Result<Written<'a>,
     })
 }
 
-/// The same, with fields that the text lends, and of the commands that programs have most of the lexer behind their
-/// words, so that nobody has to look for the `;` through all of them.
+/// The same, with fields that the text lends, and the lexer behind the words that were read, so that nobody has to look
+/// for the `;` through all of them.
 pub fn lent_form<'a>(
     alloc: Global,
     command: Command,
@@ -102,46 +102,46 @@ pub fn lent_form<'a>(
     ensures behind { IfOk result
         (λ o. IfSome o (λ p. IfSome p.1 (λ rest. Behind (left words.entry) (left rest)))) }
 {
-    let form = match command {
-        Command::Scan(which) => {
-            return match lent_scan(alloc, words)? {
-                Some((len, fields, rest)) => {
-                    Ok(Some((LentForm::Scan(which, len, fields), Some(rest))))
-                }
-                None => Ok(None),
-            };
-        }
-        Command::RunTest => {
-            return match run_test_and_rest(words) {
-                Some((test, rest)) => Ok(Some((LentForm::RunTest(test), Some(rest)))),
-                None => Ok(None),
-            };
-        }
-        Command::State => {
-            return match some_states(alloc, words)? {
-                Some((all, rest)) => Ok(Some((LentForm::States(all), Some(rest)))),
-                None => Ok(None),
-            };
-        }
+    let mut rest = words;
+    match take_form(alloc, command, &mut rest)? {
+        Some(form) => Ok(Some((form, Some(rest)))),
+        None => Ok(None),
+    }
+}
+
+/// The same, taken from a lexer, which stands behind the words that were read, also where they have no form.
+pub fn take_form<'a>(
+    alloc: Global,
+    command: Command,
+    words: &mut Lexer<'a>,
+) -> Result<Option<LentForm<'a>>, AllocError>
+    ensures says { IfOk result
+        (λ o. option_map view.lent_form o ≡ spec.form_of command (words_left words.old)) }
+    ensures behind { Behind (left words.old) (left words.new) }
+{
+    Ok(match command {
+        Command::Scan(which) => match take_scan(alloc, words)? {
+            Some((len, fields)) => Some(LentForm::Scan(which, len, fields)),
+            None => None,
+        },
+        Command::RunTest => take_run_test(words).map(|test| LentForm::RunTest(test)),
+        Command::State => some_states(alloc, words)?.map(|all| LentForm::States(all)),
         Command::EndDr => one_state(words).map(|state| LentForm::EndDr(state)),
         Command::EndIr => one_state(words).map(|state| LentForm::EndIr(state)),
         Command::Frequency => hertz(words).map(|number| LentForm::Frequency(number)),
         Command::Trst => one_trst(words).map(|word| LentForm::Trst(word)),
         Command::Pio | Command::PioMap => Some(LentForm::Port),
-    };
-    match form {
-        Some(form) => Ok(Some((form, None))),
-        None => Ok(None),
-    }
+    })
 }
 
 /// One state.
 #[tactic(auto, unfolding(crate::specs::Forms::one_state))]
-fn one_state(words: Lexer<'_>) -> Option<State>
-    ensures { result ≡ spec.one_state (words_left words.entry) }
+fn one_state(words: &mut Lexer<'_>) -> Option<State>
+    ensures says { result ≡ spec.one_state (words_left words.old) }
+    ensures behind { Behind (left words.old) (left words.new) }
 {
-    let (word, rest) = next_word(words)?;
-    match next_word(rest) {
+    let word = take_word(words)?;
+    match take_word(words) {
         None => state_of(word),
         Some(_) => None,
     }
@@ -149,77 +149,73 @@ fn one_state(words: Lexer<'_>) -> Option<State>
 
 /// One word of TRST.
 #[tactic(auto, unfolding(crate::specs::Forms::one_trst))]
-fn one_trst(words: Lexer<'_>) -> Option<TrstWord>
-    ensures { result ≡ spec.one_trst (words_left words.entry) }
+fn one_trst(words: &mut Lexer<'_>) -> Option<TrstWord>
+    ensures says { result ≡ spec.one_trst (words_left words.old) }
+    ensures behind { Behind (left words.old) (left words.new) }
 {
-    let (word, rest) = next_word(words)?;
-    match next_word(rest) {
+    let word = take_word(words)?;
+    match take_word(words) {
         None => trst_of(word),
         Some(_) => None,
     }
 }
 
-/// States, at least one, and the lexer behind them.
-fn some_states<'a>(
-    alloc: Global,
-    words: Lexer<'a>,
-) -> Result<Option<(Vec<State>, Lexer<'a>)>, AllocError>
-    ensures says { IfOk result (λ o. option_map {U = List declared_state.State} (λ p. p.0.items) o
-        ≡ spec.some_states (words_left words.entry)) }
-    ensures behind { IfOk result (λ o. IfSome o (λ p. Behind (left words.entry) (left p.1))) }
+/// States, at least one.
+fn some_states(alloc: Global, words: &mut Lexer<'_>) -> Result<Option<Vec<State>>, AllocError>
+    ensures says { IfOk result (λ o. option_map {U = List declared_state.State} (λ v. v.items) o
+        ≡ spec.some_states (words_left words.old)) }
+    ensures behind { Behind (left words.old) (left words.new) }
 {
     let mut all = Vec::new(alloc);
-    let mut rest = words;
-    while let Some((word, after)) = next_word(rest) {
+    while let Some(word) = take_word(words) {
         let Some(state) = state_of(word) else {
             return Ok(None);
         };
         all.push(state)?;
-        rest = after;
     }
     if all.is_empty() {
-        Ok(None)
-    } else {
-        Ok(Some((all, rest)))
+        return Ok(None);
     }
+    Ok(Some(all))
 }
 
 /// `[number HZ]`.
 #[tactic(auto, unfolding(crate::specs::Forms::hertz))]
-fn hertz<'a>(words: Lexer<'a>) -> Option<Option<&'a [u8]>>
-    ensures { option_map {U = Option Word} (λ o. option_map {U = Word} (λ w. w.now) o) result
-        ≡ spec.hertz (words_left words.entry) }
+fn hertz<'a>(words: &mut Lexer<'a>) -> Option<Option<&'a [u8]>>
+    ensures says { option_map {U = Option Word} (λ o. option_map {U = Word} (λ w. w.now) o) result
+        ≡ spec.hertz (words_left words.old) }
+    ensures behind { Behind (left words.old) (left words.new) }
 {
-    let Some((number, after)) = next_word(words) else {
+    let Some(number) = take_word(words) else {
         return Some(None);
     };
-    let (unit, rest) = next_word(after)?;
-    if next_word(rest).is_none() && is_number(number) && reads(unit, b"HZ") {
+    let unit = take_word(words)?;
+    if take_word(words).is_none() && is_number(number) && reads(unit, b"HZ") {
         Some(Some(number))
     } else {
         None
     }
 }
 
-/// A length and fields, and the lexer behind them.
+/// A length and fields.
 #[tactic(auto, unfolding(crate::specs::Forms::scan_of))]
-fn lent_scan<'a>(
+fn take_scan<'a>(
     alloc: Global,
-    words: Lexer<'a>,
-) -> Result<Option<(&'a [u8], LentFields<'a>, Lexer<'a>)>, AllocError>
+    words: &mut Lexer<'a>,
+) -> Result<Option<(&'a [u8], LentFields<'a>)>, AllocError>
     ensures says { (which : declared_which.Which) → IfOk result
         (λ o. option_map (λ p. scan_form which p.0.now (view.lent p.1)) o
-        ≡ spec.scan_of which (words_left words.entry)) }
-    ensures behind { IfOk result (λ o. IfSome o (λ p. Behind (left words.entry) (left p.2))) }
+        ≡ spec.scan_of which (words_left words.old)) }
+    ensures behind { Behind (left words.old) (left words.new) }
 {
-    let Some((len, rest)) = next_word(words) else {
+    let Some(len) = take_word(words) else {
         return Ok(None);
     };
     if !is_number(len) {
         return Ok(None);
     }
-    match lent_fields(alloc, rest)? {
-        Some((fields, behind)) => Ok(Some((len, fields, behind))),
+    match take_fields(alloc, words)? {
+        Some(fields) => Ok(Some((len, fields))),
         None => Ok(None),
     }
 }

@@ -1,5 +1,5 @@
 //! The parts of a RUNTEST.
-ghost use Rattle.std.specs.Prelude.{◌≡◌, ◌∷◌, IfSome, option_map};
+ghost use Rattle.std.specs.Prelude.{◌≡◌, ◌∷◌, option_map};
 ghost use Rattle.svf_lex.specs.Left.{left};
 ghost use Rattle.svf_words.specs.Words.{Word, groups_of, with_word, words_left};
 ghost use Rattle.svf_forms.specs.Ahead.{GoesOn, groups_ahead, words_ahead};
@@ -11,7 +11,7 @@ ghost use Rattle.svf_words.specs.declared.keywords.Clock as declared_clock;
 use jt_tap::State;
 use svf_lex::Lexer;
 use svf_words::keywords::{Clock, clock_of, state_of};
-use svf_words::words::{is_number, next_word, reads};
+use svf_words::words::{is_number, reads, take_word};
 
 /// A RUNTEST as it is written: each number as its word.
 #[derive(Debug, Drop, Clone, Copy)]
@@ -45,37 +45,35 @@ enum Ahead<'a> {
 pub fn run_test_of(words: Lexer<'_>) -> Option<RunTest<'_>>
     ensures { option_map view.run_test result ≡ spec.run_test_of (words_left words.entry) }
 {
-    match run_test_and_rest(words) {
-        Some((test, _)) => Some(test),
-        None => None,
-    }
+    let mut rest = words;
+    take_run_test(&mut rest)
 }
 
-/// The same, and the lexer behind it.
+/// The same, taken from a lexer, which stands behind the words that were read, also where they are no RUNTEST.
 #[tactic(auto, unfolding(crate::specs::RunTests::run_test_of))]
-pub(crate) fn run_test_and_rest<'a>(words: Lexer<'a>) -> Option<(RunTest<'a>, Lexer<'a>)>
-    ensures value { option_map (λ p. view.run_test p.0) result ≡ spec.run_test_of (words_left words.entry) }
-    ensures behind { IfSome result (λ p. Behind (left words.entry) (left p.1)) }
+pub(crate) fn take_run_test<'a>(words: &mut Lexer<'a>) -> Option<RunTest<'a>>
+    ensures value { option_map view.run_test result ≡ spec.run_test_of (words_left words.old) }
+    ensures behind { Behind (left words.old) (left words.new) }
 {
-    let (run, ahead) = take_state(look(words));
+    let (run, ahead) = take_state(look(*words));
     let (count, ahead) = take_count(ahead);
     let (min, ahead) = take_time(ahead);
     let (max, ahead) = maximum_behind(min, ahead);
     let (end, ahead) = take_end(ahead);
-    let Ahead::Over(rest) = ahead else {
+    *words = lexer_behind(ahead);
+    let Ahead::Over(_) = ahead else {
         return None;
     };
     if count.is_none() && min.is_none() {
         return None;
     }
-    let test = RunTest {
+    Some(RunTest {
         run,
         count,
         min,
         max,
         end,
-    };
-    Some((test, rest))
+    })
 }
 
 /// What stands next at a lexer.
@@ -83,9 +81,10 @@ fn look<'a>(words: Lexer<'a>) -> Ahead<'a>
     ensures words { words_ahead result ≡ words_left words.entry }
     ensures groups { groups_ahead result ≡ groups_of (left words.entry) }
 {
-    match next_word(words) {
-        Some((word, rest)) => look_behind(word, rest),
-        None => Ahead::Over(words),
+    let mut rest = words;
+    match take_word(&mut rest) {
+        Some(word) => look_behind(word, rest),
+        None => Ahead::Over(rest),
     }
 }
 
@@ -94,9 +93,21 @@ fn look_behind<'a>(word: &'a [u8], words: Lexer<'a>) -> Ahead<'a>
     ensures words { words_ahead result ≡ word.now ∷ words_left words.entry }
     ensures groups { groups_ahead result ≡ with_word word.now (groups_of (left words.entry)) }
 {
-    match next_word(words) {
-        Some((second, rest)) => Ahead::Two(word, second, rest),
-        None => Ahead::One(word, words),
+    let mut rest = words;
+    match take_word(&mut rest) {
+        Some(second) => Ahead::Two(word, second, rest),
+        None => Ahead::One(word, rest),
+    }
+}
+
+/// The lexer behind all words that are cut.
+fn lexer_behind<'a>(ahead: Ahead<'a>) -> Lexer<'a>
+    ensures { GoesOn (groups_ahead ahead.entry) (groups_of (left result)) }
+{
+    match ahead {
+        Ahead::Over(rest) => rest,
+        Ahead::One(_, rest) => rest,
+        Ahead::Two(_, _, rest) => rest,
     }
 }
 

@@ -11,7 +11,7 @@ use Rattle.svf_lex.specs.Left.{left}
 use Rattle.svf_words.specs.declared.fault.Code.TheVariants as code
 use Rattle.svf_words.specs.declared.fault.SvfFault.{SvfFault}
 use Rattle.svf_words.specs.Words.{Word, Groups, last, group, with_word, with_token, groups_of, first_words}
-use Rattle.svf_forms.specs.Behind.{with_words}
+use Rattle.svf_forms.specs.Behind.{with_words, Behind}
 use Rattle.svf_words.specs.declared.fault.Code.{Code}
 use Rattle.svf_words.specs.declared.keywords.Command.{Command}
 use Rattle.svf_words.specs.Keywords.{command_of}
@@ -25,6 +25,9 @@ use Rattle.svf_parse.specs.View.{said_of, Fails, Stops, IsOpen, form_behind}
 use Rattle.svf_parse.specs.Judging.{◌>>=◌, Said, form_says}
 use Rattle.svf_parse.specs.Reading.{or_refuse, command_says, statement_says, groups_say, text_says, at_statement, within_limit, lex_code}
 
+abbrev Items : Type 0
+Items = List (Result Lexeme LexFault)
+
 pub with_words-push : (ws : List Word) (w : Word) (groups : Groups) → with_words (ws ++ w ∷ []) groups ≡ with_words ws (with_word w groups)
 with_words-push [] w groups = refl
 with_words-push (x ∷ ws) w groups = ap (with_word x) (with_words-push ws w groups)
@@ -36,6 +39,16 @@ with_words-last (w ∷ ws) rest fault = ap (with_word w) (with_words-last ws res
 pub with_words-group : (ws rest : List Word) (groups : Groups) → with_words ws (group rest groups) ≡ group (ws ++ rest) groups
 with_words-group [] rest groups = refl
 with_words-group (w ∷ ws) rest groups = ap (with_word w) (with_words-group ws rest groups)
+
+-- what stands behind words of a statement, seen from before them
+pub last_from : (from to : Items) (ws : List Word) (fault : Option LexFault) → Behind from to → groups_of to ≡ last ws fault → (xs : List Word) × (groups_of from ≡ last xs fault)
+last_from from to ws fault b is = (b.0 ++ ws, b.1 ∙ ap (with_words b.0) is ∙ with_words-last b.0 ws fault)
+
+pub group_from : (from to : Items) (ws : List Word) (after : Groups) → Behind from to → groups_of to ≡ group ws after → (xs : List Word) × (groups_of from ≡ group xs after)
+group_from from to ws after b is = (b.0 ++ ws, b.1 ∙ ap (with_words b.0) is ∙ with_words-group b.0 ws after)
+
+pub open_from : (from to : Items) → Behind from to → IsOpen (groups_of from) → IsOpen (groups_of to)
+open_from from to b opens = λ ws is. let whole = last_from from to ws None b is in opens whole.0 whole.1
 
 -- statements that were read, before those that are read next
 abbrev pub in_front : List Said → Result (List Said) SvfFault → Result (List Said) SvfFault
@@ -127,9 +140,6 @@ refused_behind n w groups ws after (stop.Fault f) is stops =
     ∙ ap (λ (r : Result Said SvfFault). r >>= λ s. groups_say (n + 1) after >>= λ ss. Ok (s ∷ ss)) says
 
 -- ---- one token more of a group that began at `start`
-
-abbrev Items : Type 0
-Items = List (Result Lexeme LexFault)
 
 pub at_fault : (start items more : Items) (ws : List Word) (item : Result Lexeme LexFault) (e : LexFault) → groups_of start ≡ with_words ws (groups_of items) → items ≡ item ∷ more → item ≡ Err e
     → (xs : List Word) × (groups_of start ≡ last xs (Some e))

@@ -1,6 +1,6 @@
 //! A text's statements, one after another.
-ghost use Rattle.std.specs.Prelude.{◌≡◌, ◌≢◌, ◌∷◌, ◌+◌, ◌*◌, ◌≤◌, length, map, List, Result, Ok, Err, None};
-ghost use Rattle.std.specs.Prelude.{IfOk, IfErr, IfSome};
+ghost use Rattle.std.specs.Prelude.{◌≡◌, ◌≢◌, ◌+◌, ◌*◌, ◌≤◌, length, map, List, Result, Ok, Err, None};
+ghost use Rattle.std.specs.Prelude.{IfOk, IfErr};
 ghost use Rattle.std.specs.Vec.{vec_len};
 ghost use Rattle.std.specs.List.{sum_by};
 ghost use Rattle.svf_lex.specs.Left.{left};
@@ -8,9 +8,9 @@ ghost use Rattle.svf_forms.specs.Behind.{Behind};
 ghost use Rattle.svf_parse.specs.Judging.{Said};
 ghost use Rattle.svf_words.specs.declared.fault.Code as declared_code;
 ghost use Rattle.svf_parse.specs.declared.statement.Statement as declared_statement;
-ghost use Rattle.svf_words.specs.Words.{words_left, groups_of, with_word};
+ghost use Rattle.svf_words.specs.Words.{words_left, groups_of};
 ghost use Rattle.svf_parse.specs.Reading as spec;
-ghost use Rattle.svf_parse.specs.Reading.{text_says, groups_say, at_statement, within_limit, statement_says};
+ghost use Rattle.svf_parse.specs.Reading.{text_says, groups_say, at_statement, within_limit};
 ghost use Rattle.svf_parse.specs.Spelling.{TextSpells, TextRefuses};
 ghost use Rattle.svf_parse.specs.Sizes.{size};
 ghost use Rattle.svf_forms.specs.View as view;
@@ -21,7 +21,7 @@ use crate::fault::{Refusal, Stop};
 use crate::judging::say;
 use crate::statement::Statement;
 use std::alloc::Global;
-use svf_forms::forms::{LentForm, lent_form};
+use svf_forms::forms::{LentForm, take_form};
 use svf_lex::{Kind, LexFault, Lexer};
 use svf_words::keywords::command_of;
 use svf_words::{Code, SvfFault};
@@ -121,33 +121,24 @@ fn add<'a>(
     ensures count { IfOk result (λ _. (vec_len all.new ≡ vec_len all.old + 1) × (vec_len all.new ≤ 200000)) }
 {
     let number = all.len() + 1;
-    // The form first: where that is read, the lexer behind it is often known, and its tokens are cut once.
-    let (form, behind) = match form_at(alloc, word, words) {
-        Ok(found) => found,
-        Err(refusal) => return Err(refused(number, refusal, word, words)),
+    let mut rest = words;
+    let form = form_at(alloc, word, &mut rest);
+    // A fault of the text comes before one of the form. Words that were read for the form are not cut again.
+    let after = match end_of(rest) {
+        End::Broken(fault) => return Err(broken(number, fault)),
+        End::Closed(after) => after,
     };
-    match end_of(words, behind) {
-        End::Broken(fault) => Err(broken(number, fault)),
-        End::Closed(after) => match say(alloc, form, all) {
-            Ok(()) if number > STATEMENT_LIMIT => Err(Stop::Fault(SvfFault {
-                statement: number,
-                code: Code::TooLarge,
-            })),
-            Ok(()) => Ok(after),
-            Err(refusal) => Err(stop_at(number, refusal)),
-        },
-    }
-}
-
-/// What is told where the words have no form: a fault of the text comes before that.
-fn refused<'a>(number: usize, refusal: Refusal, word: &'a [u8], words: Lexer<'a>) -> Stop
-    requires fails { Fails refusal (statement_says (word.now ∷ words_left words)) }
-    requires open { IsOpen (groups_of (left words)) }
-    ensures { Stops result (groups_say number (with_word word.now (groups_of (left words.entry)))) }
-{
-    match end_of(words, None) {
-        End::Broken(fault) => broken(number, fault),
-        End::Closed(_) => stop_at(number, refusal),
+    let form = match form {
+        Ok(form) => form,
+        Err(refusal) => return Err(stop_at(number, refusal)),
+    };
+    match say(alloc, form, all) {
+        Ok(()) if number > STATEMENT_LIMIT => Err(Stop::Fault(SvfFault {
+            statement: number,
+            code: Code::TooLarge,
+        })),
+        Ok(()) => Ok(after),
+        Err(refusal) => Err(stop_at(number, refusal)),
     }
 }
 
@@ -175,20 +166,21 @@ fn stop_at(number: usize, refusal: Refusal) -> Stop
     }
 }
 
-/// The form of a statement of this word and those at the lexer, and where it is known the lexer behind them.
+/// The form of a statement of this word and those at the lexer, which then stands behind the words that were read, also
+/// where they have no form.
 fn form_at<'a>(
     alloc: Global,
     word: &'a [u8],
-    words: Lexer<'a>,
-) -> Result<(LentForm<'a>, Option<Lexer<'a>>), Refusal>
-    ensures says { Gives (λ p. view.lent_form p.0) result (form_behind word.now (words_left words.entry)) }
-    ensures rest { IfOk result (λ p. IfSome p.1 (λ rest. Behind (left words.entry) (left rest))) }
+    words: &mut Lexer<'a>,
+) -> Result<LentForm<'a>, Refusal>
+    ensures says { Gives view.lent_form result (form_behind word.now (words_left words.old)) }
+    ensures behind { Behind (left words.old) (left words.new) }
 {
     let Some(command) = command_of(word) else {
         return Err(Refusal::Code(Code::UnknownCommand));
     };
-    match lent_form(alloc, command, words) {
-        Ok(Some(found)) => Ok(found),
+    match take_form(alloc, command, words) {
+        Ok(Some(form)) => Ok(form),
         Ok(None) => Err(Refusal::Code(Code::BadForm)),
         Err(_) => Err(Refusal::Memory),
     }
@@ -218,13 +210,12 @@ fn front_of(lexer: Lexer<'_>) -> Front<'_>
     }
 }
 
-/// How the statement at a lexer ends. Where a lexer behind words of it is known, only what stands from there on is cut.
-fn end_of<'a>(words: Lexer<'a>, behind: Option<Lexer<'a>>) -> End<'a>
-    requires behind { IfSome behind (λ rest. Behind (left words) (left rest)) }
-    requires open { IsOpen (groups_of (left words)) }
+/// How the statement at a lexer ends.
+fn end_of(words: Lexer<'_>) -> End<'_>
+    requires { IsOpen (groups_of (left words)) }
     ensures { IsEnd result (groups_of (left words.entry)) }
 {
-    let mut after = behind.unwrap_or(words);
+    let mut after = words;
     loop {
         match after.next() {
             // An open statement ends at its `;` or at a fault.

@@ -4,13 +4,13 @@ use Rattle.svf_lex.specs.Left.{left}
 use Rattle.svf_forms.specs.Behind.{Behind}
 use Rattle.svf_forms.specs.Fields.{no_fields, cut_at_close, fields_say}
 use Rattle.svf_forms.specs.View.{lent}
-use Rattle.svf_forms.proofs.fields.lent_fields.Given as goal
+use Rattle.svf_forms.proofs.fields.take_fields.Given as goal
 
 abbrev pub invariant-loop-word : goal.invariant-loop-word
 invariant-loop-word l = record {
-  says : fields_say (lent l.all) (cut_at_close (words_left l.rest)) ≡ fields_say no_fields (cut_at_close (words_left l.words));
-  behind : Behind (left l.words) (left l.rest);
+  says : fields_say (lent l.all) (cut_at_close (words_left l.words)) ≡ fields_say no_fields (cut_at_close (words_left l.initial.words));
+  behind : Behind (left l.initial.words) (left l.words);
 }
 
 abbrev pub decreases-loop-word : goal.decreases-loop-word
-decreases-loop-word l = length (words_left l.rest)
+decreases-loop-word l = length (words_left l.words)

@@ -7,7 +7,7 @@ use Rattle.svf_forms.proofs.StateLists.{in_front}
 use Rattle.svf_forms.proofs.forms.some_states.Given as goal
 
 abbrev pub invariant-loop-word : goal.invariant-loop-word
-invariant-loop-word l = (in_front l.all.items (each_state (words_left l.rest)) ≡ each_state (words_left l.words)) × Behind (left l.words) (left l.rest)
+invariant-loop-word l = (in_front l.all.items (each_state (words_left l.words)) ≡ each_state (words_left l.initial.words)) × Behind (left l.initial.words) (left l.words)
 
 abbrev pub decreases-loop-word : goal.decreases-loop-word
-decreases-loop-word l = length (words_left l.rest)
+decreases-loop-word l = length (words_left l.words)

@@ -1,7 +1,5 @@
 use Rattle.std.proofs.Common.{sym, ◌∙◌}
-use Rattle.svf_forms.proofs.NextWords.{word_ahead}
 use Rattle.svf_forms.proofs.run_test.look.Goals as goal
 
 pub returns-in-Some-clause-groups : goal.returns-in-Some-clause-groups
-returns-in-Some-clause-groups c =
-    c.look_behind.ensures.groups ∙ sym (word_ahead c.args.words c.in-Some.rest c.in-Some.word.now c.in-Some.ensures.word c.in-Some.ensures.after)
+returns-in-Some-clause-groups c = c.look_behind.ensures.groups ∙ sym c.in-Some.ensures.after

@@ -8,7 +8,7 @@ use Rattle.svf_parse.proofs.text.end_of.Goals as goal
 pub unreachable-requires : goal.unreachable-requires
 unreachable-requires c =
     let over = at_over (left c.args.words) (left c.loop-fault.after) c.loop-fault.invariant.0 c.loop-fault.invariant.1 c.in-None.ensures.steps.0 in
-    c.requires.open over.0 over.1
+    c.requires over.0 over.1
 
 pub returns-in-Some-Err : goal.returns-in-Some-Err
 returns-in-Some-Err c =
