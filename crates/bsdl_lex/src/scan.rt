@@ -143,12 +143,9 @@ fn front_of(quoted: bool, first: u8, rest: &[u8]) -> Front
     ensures value { result ≡ front quoted first rest.now }
     ensures within { behind result ≤ length rest.now }
 {
-    // most tokens that are cut are words, and a match with this arm asks for all others first
-    if first.is_ascii_alphabetic() {
-        return Front::Token(Kind::Word, word_len(rest));
-    }
     match first {
         b'"' if !quoted => string_front(rest),
+        b'A'..=b'Z' | b'a'..=b'z' => Front::Token(Kind::Word, word_len(rest)),
         b'0'..=b'9' => Front::Token(Kind::Number, number_len(rest)),
         b'&'..=b'/' | b':'..=b'>' | b'[' | b']' | b'|' => Front::Token(Kind::Mark, 0),
         _ => Front::Bad,
