@@ -20,7 +20,9 @@ enum Front {
     Bad,
 }
 
-/// The first token from a place on, or the place of the byte in its way that begins nothing.
+/// The first token from a place on, or the place of the byte in its way that begins nothing. In line, since its answer
+/// goes through memory else, for each token.
+#[inline(always)]
 pub(crate) fn first_token<'a>(source: &'a [u8], from: usize) -> Option<Result<Token<'a>, usize>>
     requires { from ≤ length source.now }
     ensures cuts { cut 0 from (drop from source.now) ≡ cuts_from source.now result }
