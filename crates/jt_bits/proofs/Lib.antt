@@ -7,3 +7,4 @@ pub mod Runs
 pub mod Solid
 pub mod DigitLanes
 pub mod WordShifts
+pub mod OrderLaws

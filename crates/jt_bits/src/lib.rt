@@ -14,6 +14,7 @@ use std::alloc::{AllocError, Global};
 use std::marker::Model;
 
 mod digits;
+mod order;
 mod words;
 
 /// A list of bits of a fixed length. Contracts see it as that list. Bit 0 is the one nearest TDO: of a register the
