@@ -1,2 +1,3 @@
 pub mod DecodeLaws
 pub mod StartLaws
+pub mod TableLaws

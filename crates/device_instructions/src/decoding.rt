@@ -38,7 +38,7 @@ pub struct Decoded {
     pub fixed: Fixed,
 }
 
-const BYPASSED: Decoded = Decoded {
+pub(crate) const BYPASSED: Decoded = Decoded {
     mode: Mode::Core,
     selected: Selected::Bypass,
     fixed: Fixed::Free,
@@ -75,7 +75,7 @@ pub fn instruction_of<'a>(device: &'a Device, latch: &Bits) -> Option<&'a str>
 }
 
 /// What the instruction of a name does.
-fn meaning_of_name(device: &Device, name: &str) -> Decoded
+pub(crate) fn meaning_of_name(device: &Device, name: &str) -> Decoded
     requires { IsFormed device.now }
     ensures meaning { meaning_by device.now result ≡ meaning_of device.now (Some name.now) }
     ensures fits { Fits device.now result }
@@ -191,7 +191,7 @@ pub fn fixed_bits(device: &Device, fixed: Fixed) -> Option<&Bits>
     }
 }
 
-fn all_ones(bits: &Bits) -> bool
+pub(crate) fn all_ones(bits: &Bits) -> bool
     ensures { result ≡ list_all (λ b. b) bits.now }
 {
     for i in 0..bits.len() {
@@ -226,7 +226,7 @@ fn has_opcode(row: &Opcode, latch: &Bits) -> bool
 }
 
 /// Whether a pattern matches a latch, an X either bit.
-fn is_opcode(pattern: &Pattern, latch: &Bits) -> bool
+pub(crate) fn is_opcode(pattern: &Pattern, latch: &Bits) -> bool
     ensures { result ≡ matches pattern.now latch.now }
 {
     let digits = pattern.bits();

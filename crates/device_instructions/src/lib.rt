@@ -4,6 +4,7 @@
 
 mod decoding;
 mod formed;
+mod opcode_table;
 mod shared;
 mod start;
 

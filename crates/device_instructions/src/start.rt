@@ -48,7 +48,7 @@ pub(crate) fn idcode_opcode(rows: &[Opcode]) -> Option<&Pattern>
 }
 
 /// A pattern's bits, X as 0.
-fn x_as_0(alloc: Global, digits: &[Option<bool>]) -> Result<Bits, AllocError>
+pub(crate) fn x_as_0(alloc: Global, digits: &[Option<bool>]) -> Result<Bits, AllocError>
     ensures { IfOk result (λ b. b ≡ x_as_0 digits.now) }
 {
     let mut bits = Bits::zeros(alloc, digits.len())?;

@@ -14,8 +14,8 @@ ghost use Rattle.device_registers.specs.Registers.{after_capture, put, selected_
 use crate::{Link, WordLink, same_bits};
 use bsdl_device::Device;
 use device_instructions::{
-    Decoded, Mode, Selected, SharedDevice, code_length, decode, fixed_bits, has_code,
-    instruction_of, reset_latch,
+    Decoded, Mode, Selected, SharedDevice, code_length, fixed_bits, has_code, instruction_of,
+    reset_latch,
 };
 use device_registers::{DataRegisters, Register, WordRegister};
 use jt_bits::Bits;
@@ -95,7 +95,7 @@ impl<B: Register> Chip<B> {
             description.users(),
             boundary,
         )?;
-        let decoded = decode(description, &latch);
+        let decoded = device.decode(&latch);
         let device = device.share()?;
         Ok(Chip {
             device,
@@ -314,7 +314,7 @@ impl<B: Register> Chip<B> {
                 let is_same = same_bits(&self.latch, &self.stage);
                 self.latch.copy_from(&self.stage);
                 if !is_same {
-                    self.decoded = decode(self.device.get(), &self.latch);
+                    self.decoded = self.device.decode(&self.latch);
                 }
             }
             Column::Dr => self.registers.update(self.decoded.selected),

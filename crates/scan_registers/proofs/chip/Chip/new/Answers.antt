@@ -15,14 +15,14 @@ invariant_of-result g c =
     let reset : c.in_ok-reset_latch.reset_latch ≡ reset_latch d = c.in_ok-reset_latch.ensures ∙ ap reset_latch same in
     let latch : c.in_ok-latch.latch ≡ reset_latch d = c.in_ok-latch.ensures ∙ reset in
     let many : c.instruction_length-length.result ≡ d.instruction_length = c.instruction_length-length.ensures ∙ ap (λ (x : Device). x.instruction_length) same in
-    let fits : Fits d c.decode-decoded.result = subst (λ (x : Device). Fits x c.decode-decoded.result) same c.decode-decoded.ensures.fits in
+    let fits : Fits d c.decode-decoded.result = subst (λ (x : Device). Fits x c.decode-decoded.result) (sym c.in_ok-device.ensures) c.decode-decoded.ensures.fits in
     let parts = c.in_ok-registers.ensures in
     record {
       formed = formed;
       reset_latch = reset;
-      reset_decoded = started d described c.decode-decoded.result c.in_ok-latch.latch same c.decode-decoded.ensures.meaning latch;
+      reset_decoded = started d c.args.device.now c.decode-decoded.result c.in_ok-latch.latch (sym c.in_ok-device.ensures) c.decode-decoded.ensures.meaning latch;
       reset_fits = fits;
-      decoded = started_at d described c.decode-decoded.result c.in_ok-latch.latch same c.decode-decoded.ensures.meaning;
+      decoded = started_at d c.args.device.now c.decode-decoded.result c.in_ok-latch.latch (sym c.in_ok-device.ensures) c.decode-decoded.ensures.meaning;
       fits = fits;
       latch = ap length latch ∙ formed.reset;
       stage = ap length c.in_ok-stage.ensures ∙ length-replicate c.instruction_length-length.result false ∙ many;
