@@ -292,6 +292,7 @@ static const uint8_t after[16][2] = {
 
 typedef struct {
 	int state, tdo, trst, has_trst, bypass, selects_boundary; // tdo is -1 where it is not driven
+	int length; // of the instruction register
 	uint32_t latch, stage;
 	Bits core, boundary, update;
 } Chip;
@@ -303,7 +304,27 @@ static void take(Bits *to, const Bits *from) {
 	to->start = from->start;
 }
 
-static void decode(Chip *c) { c->selects_boundary = c->latch == 0 || c->latch == 1; }
+enum { LENGTH = 20, OPCODES = 110000, DEVICES = 32, SCANS = 200 };
+static struct { uint32_t code, row; } opcodes[OPCODES]; // in the order of their codes
+
+static int row_of(uint32_t code) { // -1 where no row has it
+	size_t low = 0, high = OPCODES;
+	while (low < high) {
+		size_t mid = low + (high - low) / 2;
+		if (opcodes[mid].code == code) return (int)opcodes[mid].row;
+		if (opcodes[mid].code < code) low = mid + 1;
+		else high = mid;
+	}
+	return -1;
+}
+
+static void decode(Chip *c) {
+	if (c->length == LENGTH) {
+		int row = c->latch == (1u << LENGTH) - 1 ? -1 : row_of(c->latch);
+		c->selects_boundary = row >= 0 && row % 2 == 0;
+	} else
+		c->selects_boundary = c->latch == 0 || c->latch == 1;
+}
 
 static void rise(Chip *c, int tms, int tdi) {
 	if (c->trst && c->has_trst) return;
@@ -317,7 +338,7 @@ static void rise(Chip *c, int tms, int tdi) {
 		else c->bypass = tdi;
 		break;
 	case IR_CAPTURE: c->stage = 1; break;
-	case IR_SHIFT: c->stage = c->stage >> 1 | (uint32_t)tdi << 1; break;
+	case IR_SHIFT: c->stage = c->stage >> 1 | (uint32_t)tdi << (c->length - 1); break;
 	}
 	c->state = after[c->state][tms];
 }
@@ -328,13 +349,13 @@ static void fall(Chip *c) {
 		if (c->selects_boundary) take(&c->update, &c->boundary);
 		break;
 	case IR_UPDATE: c->latch = c->stage; decode(c); break;
-	case RESET: c->latch = 3; decode(c); break;
+	case RESET: c->latch = (1u << c->length) - 1; c->selects_boundary = 0; break;
 	}
 	c->tdo = c->state == DR_SHIFT ? (c->selects_boundary ? get(&c->boundary, 0) : c->bypass) : c->state == IR_SHIFT ? (int)(c->stage & 1) : -1;
 }
 
 static void make_chip(void) {
-	chip = (Chip){ .tdo = -1, .has_trst = 1, .latch = 3, .core = zeros(CELLS), .boundary = zeros(CELLS), .update = zeros(CELLS) };
+	chip = (Chip){ .tdo = -1, .has_trst = 1, .length = 2, .latch = 3, .core = zeros(CELLS), .boundary = zeros(CELLS), .update = zeros(CELLS) };
 	for (size_t k = 0; k < chip.core.count; k++) chip.core.words[k] = ~0ull;
 }
 
@@ -356,6 +377,50 @@ static uint64_t run_chip_shift(void) {
 		if (chip.tdo == 1) check += i;
 	}
 	count = EDGES;
+	return check;
+}
+
+// New instructions for each of some devices of one description with many opcodes.
+static Chip many_opcodes[DEVICES];
+
+static uint32_t opcode(uint64_t row) { return row * 48271 & ((1 << LENGTH) - 1); }
+static int by_code(const void *a, const void *b) {
+	uint32_t p = *(const uint32_t *)a, q = *(const uint32_t *)b;
+	return (p > q) - (p < q);
+}
+
+static void make_opcodes(void) {
+	for (uint32_t row = 0; row < OPCODES; row++) {
+		opcodes[row].code = opcode(row);
+		opcodes[row].row = row;
+	}
+	qsort(opcodes, OPCODES, sizeof *opcodes, by_code);
+	for (int i = 0; i < DEVICES; i++)
+		many_opcodes[i] = (Chip){ .tdo = -1, .has_trst = 1, .length = LENGTH, .latch = (1u << LENGTH) - 1, .core = zeros(1), .boundary = zeros(1), .update = zeros(1) };
+}
+
+static void both_edges(Chip *c, int tms, int tdi) {
+	rise(c, tms, tdi);
+	fall(c);
+}
+
+static uint64_t run_decode_32(void) {
+	uint64_t check = 0, number = 1;
+	count = 0;
+	for (Chip *c = many_opcodes; c < many_opcodes + DEVICES; c++) {
+		both_edges(c, 0, 0);
+		for (uint64_t turn = 0; turn < SCANS; turn++) {
+			number = number * 6364136223846793005ull + 1442695040888963407ull;
+			uint64_t random = number >> (64 - LENGTH);
+			uint32_t instruction = turn % 2 ? opcode(random % OPCODES) : (uint32_t)random;
+			for (const char *p = "1100"; *p; p++) both_edges(c, *p - '0', 0);
+			for (int i = 0; i < LENGTH; i++) both_edges(c, i + 1 == LENGTH, instruction >> i & 1);
+			both_edges(c, 1, 0);
+			both_edges(c, 0, 0);
+			count += 2 * (LENGTH + 6);
+			if (c->selects_boundary) check += turn;
+		}
+	}
 	return check;
 }
 
@@ -519,7 +584,7 @@ static void make_ring(int devices) {
 	ring_count = devices;
 	ring_tck = 0;
 	for (int i = 0; i < devices; i++) {
-		ring[i] = (Chip){ .tdo = -1, .latch = 3, .core = zeros(RING_CELLS), .boundary = zeros(RING_CELLS), .update = zeros(RING_CELLS) };
+		ring[i] = (Chip){ .tdo = -1, .length = 2, .latch = 3, .core = zeros(RING_CELLS), .boundary = zeros(RING_CELLS), .update = zeros(RING_CELLS) };
 		for (int k = 0; k < BUS; k++) {
 			int net = i * BUS + k;
 			nets[net] = (Net){ 2 * net, 2 * net + 1 };
@@ -714,6 +779,8 @@ int main(void) {
 	row("run_bytes", "byte", run_run_bytes);
 	make_chip();
 	row("chip_shift", "edge", run_chip_shift);
+	make_opcodes();
+	row("decode_32", "edge", run_decode_32);
 	row("next_bytes", "byte", run_next_bytes);
 	row("finish_1", "byte", run_play_1); // by edges, without pipes
 	row("finish_64", "byte", run_play_1);

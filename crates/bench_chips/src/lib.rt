@@ -1,5 +1,7 @@
-//! The row of the benchmark of one device, edge by edge.
+//! The rows of the benchmark of devices, edge by edge.
 #![tactic(auto)]
+
+mod instructions;
 
 use bench_rows::{Row, Unit, print_row};
 use boundary::Boundary;
@@ -15,11 +17,12 @@ const CELLS: usize = 256;
 /// The cycles of a round, of two edges each.
 const CYCLES: usize = 500_000;
 
-/// An instruction of one opcode of two bits, its lowest bit first.
-fn opcode(alloc: Global, name: &str, low: bool, high: bool) -> Result<Opcode, AllocError> {
-    let mut bits = Vec::with_capacity(alloc, 2)?;
-    bits.push(Some(low))?;
-    bits.push(Some(high))?;
+/// An instruction of one opcode of so many bits.
+fn opcode(alloc: Global, name: &str, code: u64, length: u8) -> Result<Opcode, AllocError> {
+    let mut bits = Vec::with_capacity(alloc, usize::from(length))?;
+    for i in 0..length.min(64) {
+        bits.push(Some(code >> i & 1 == 1))?;
+    }
     let mut patterns = Vec::with_capacity(alloc, 1)?;
     patterns.push(Pattern::new(bits))?;
     let mut text = String::new(alloc);
@@ -27,27 +30,37 @@ fn opcode(alloc: Global, name: &str, low: bool, high: bool) -> Result<Opcode, Al
     Ok(Opcode::new(text, patterns))
 }
 
-/// A device with BYPASS 11, EXTEST 00 and SAMPLE 01, and cells inside it alone.
-fn device(alloc: Global) -> Result<Device, AllocError> {
+/// The instructions BYPASS 11, EXTEST 00 and SAMPLE 01.
+fn three_opcodes(alloc: Global) -> Result<Vec<Opcode>, AllocError> {
     let mut opcodes = Vec::with_capacity(alloc, 3)?;
-    opcodes.push(opcode(alloc, "BYPASS", true, true)?)?;
-    opcodes.push(opcode(alloc, "EXTEST", false, false)?)?;
-    opcodes.push(opcode(alloc, "SAMPLE", true, false)?)?;
-    let mut cells = Vec::with_capacity(alloc, CELLS)?;
-    for _ in 0..CELLS {
+    opcodes.push(opcode(alloc, "BYPASS", 0b11, 2)?)?;
+    opcodes.push(opcode(alloc, "EXTEST", 0b00, 2)?)?;
+    opcodes.push(opcode(alloc, "SAMPLE", 0b01, 2)?)?;
+    Ok(opcodes)
+}
+
+/// A device of these instructions, whose codes have this length, with so many cells, all inside it.
+fn device_of(
+    alloc: Global,
+    opcodes: Vec<Opcode>,
+    length: u8,
+    cell_count: usize,
+) -> Result<Device, AllocError> {
+    let mut cells = Vec::with_capacity(alloc, cell_count)?;
+    for _ in 0..cell_count {
         cells.push(Cell {
             function: Function::Internal,
             port: None,
             control: None,
         })?;
     }
-    let mut capture = Bits::zeros(alloc, 2)?;
+    let mut capture = Bits::zeros(alloc, usize::from(length))?;
     if capture.len() > 0 {
         capture.set(0, true);
     }
     Ok(Device::new(Parts {
         ports: Ports::new(alloc),
-        instruction_length: 2,
+        instruction_length: usize::from(length),
         opcodes,
         capture,
         idcode: None,
@@ -68,7 +81,7 @@ fn cycle(chip: &mut Chip<Boundary>, tms: bool, tdi: bool) {
 
 pub fn rows(rt: &HostRuntime) -> io::Result<()> {
     let alloc = rt.alloc();
-    let device = device(alloc)?;
+    let device = device_of(alloc, three_opcodes(alloc)?, 2, CELLS)?;
     if !is_formed(&device) || device.cells().len() != CELLS {
         return Ok(());
     }
@@ -79,7 +92,8 @@ pub fn rows(rt: &HostRuntime) -> io::Result<()> {
     }
     let boundary = Boundary::new(alloc, &shared, &core, false)?;
     let mut chip = Chip::new(alloc, &shared, boundary)?;
-    print_row(rt, "chip_shift", Unit::Edge, || Ok(chip_shift(&mut chip)))
+    print_row(rt, "chip_shift", Unit::Edge, || Ok(chip_shift(&mut chip)))?;
+    instructions::rows(rt)
 }
 
 /// From anywhere to the shift of the boundary register, under SAMPLE, and then so many cycles there.
