@@ -20,7 +20,7 @@ use std::marker::Model;
 #[derive(Drop)]
 pub struct Wiring {
     nets: Vec<PlannedNet>,
-    /// The pins of all nets; pin `k` of these is pin `k` of the levels.
+    /// The pins of all nets; each has the same number here as among the levels.
     pins: Vec<Pin>,
     levels: Nets,
 }
@@ -102,32 +102,33 @@ impl Wiring {
         self.pins.len()
     }
 
-    /// Pin `k` of the nets, one net after another.
-    pub fn pin(&self, k: usize) -> Pin
-        requires { k < length (all_pins self.now.nets) }
-        ensures { slice_get (all_pins self.now.nets) k ≡ Some result }
+    /// Which pin stands at this place among those of the nets, one net after another.
+    pub fn pin(&self, pin: usize) -> Pin
+        requires { pin < length (all_pins self.now.nets) }
+        ensures { slice_get (all_pins self.now.nets) pin ≡ Some result }
     {
-        self.pins[k]
+        self.pins[pin]
     }
 
-    /// Pin `k` drives this from now on. It is put to its net only where it is not what was last put there.
-    pub fn put(&mut self, k: usize, drive: Drive)
-        requires { k < length (all_pins self.old.nets) }
-        ensures { self.new ≡ record self.old { drives = slice_set self.old.drives k drive } }
+    /// A pin, by its place among those of the nets, drives this from now on. It is put to its net only where it is not
+    /// what was last put there.
+    pub fn put(&mut self, pin: usize, drive: Drive)
+        requires { pin < length (all_pins self.old.nets) }
+        ensures { self.new ≡ record self.old { drives = slice_set self.old.drives pin drive } }
     {
-        if is_same(self.levels.drive(k), drive) {
+        if is_same(self.levels.drive(pin), drive) {
             return;
         }
-        self.place(k, drive);
+        self.place(pin, drive);
     }
 
-    /// Pin `k` drives this from now on, as `put` has it, whatever was last put there: there is no branch on what it
-    /// drove, which pays where many pins drive another level than before.
-    pub fn place(&mut self, k: usize, drive: Drive)
-        requires { k < length (all_pins self.old.nets) }
-        ensures { self.new ≡ record self.old { drives = slice_set self.old.drives k drive } }
+    /// A pin drives this from now on, as `put` has it, whatever was last put there: there is no branch on what it drove,
+    /// which pays where many pins drive another level than before.
+    pub fn place(&mut self, pin: usize, drive: Drive)
+        requires { pin < length (all_pins self.old.nets) }
+        ensures { self.new ≡ record self.old { drives = slice_set self.old.drives pin drive } }
     {
-        self.levels.place(k, drive);
+        self.levels.place(pin, drive);
     }
 }
 

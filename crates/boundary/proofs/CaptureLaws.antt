@@ -1,13 +1,13 @@
 -- A capture by masks, 64 cells at a time, is the capture of each cell.
-use Rattle.std.proofs.Common.{◌≡◌, ◌<◌, ◌≤◌, ℕ, zero, suc, ◌+◌, ◌-◌, ◌^◌, ◌==◌, ◌||◌, ◌&&◌, Bool, true, false, not, List, [], ◌∷◌, length, Option, Some, None, refl, sym, ap, ◌∙◌, arith, ⊎_elim, if◌then◌else◌}
-use Rattle.std.specs.Int.{bit_at, bit_not, w64}
+use Rattle.std.proofs.Common.{◌≡◌, ◌<◌, ◌≤◌, ℕ, suc, ◌+◌, ◌-◌, ◌^◌, ◌||◌, ◌&&◌, Bool, true, false, not, List, [], ◌∷◌, length, Option, Some, None, refl, sym, ap, ◌∙◌, arith, ⊎_elim, if◌then◌else◌}
+use Rattle.std.specs.Int.{bit_not, w64}
 use Rattle.std.specs.Int.Bits.{bit_and, bit_or}
 use Rattle.std.proofs.lemmas.Bool.{cases_lt}
-use Rattle.std.proofs.lemmas.Nat.Bits.{bit_at-lt, bit_at_not}
 use Rattle.jt_bits.specs.Packed.{has_bit}
 use Rattle.jt_bits.specs.Runs.{RunSet}
 use Rattle.jt_bits.specs.Words.{bit_of}
 use Rattle.jt_bits.proofs.PackedWords.{or_bit, and_bit}
+use Rattle.jt_bits.proofs.Runs.{not_bit}
 use Rattle.bsdl_device.specs.declared.Cell.{Cell}
 use Rattle.bsdl_device.specs.declared.Function.{Function}
 use Rattle.bsdl_device.specs.declared.Function.TheVariants as kind
@@ -15,15 +15,6 @@ use Rattle.boundary.specs.Cells.{capture_from, cell_captures}
 use Rattle.boundary.specs.Masks.{AreMasks, CapturesEach, chosen, inner_cells, is_inner, is_sighted, sighted_cells}
 
 -- ---- one word
-
-pub not_bit : (mask j : ℕ) → mask < 2 ^ 64 → j < 64 → has_bit (bit_not w64 mask) j ≡ not (has_bit mask j)
-unfolding has_bit
-not_bit mask j fits h = ap (λ (n : ℕ). n == 1) (bit_at_not w64 mask j fits h) ∙ flip (bit_at mask j) (bit_at-lt mask j)
-  where
-    flip : (a : ℕ) → a < 2 → ((1 - a) == 1) ≡ not (a == 1)
-    flip zero h = refl
-    flip (suc zero) h = refl
-    flip (suc (suc a)) h = absurd (omega arith)
 
 abbrev pub merged : (word bits mask : ℕ) → ℕ
 merged word bits mask = bit_or (bit_and bits mask) (bit_and word (bit_not w64 mask))

@@ -7,7 +7,7 @@ use Rattle.std.proofs.lemmas.Nat.{and_le_l}
 use Rattle.jt_bits.specs.Packed.{has_bit}
 use Rattle.jt_bits.proofs.PackedWords.{and_bit, or_bit}
 use Rattle.boundary.specs.Cells.{same_bit}
-use Rattle.boundary.proofs.CaptureLaws.{not_bit}
+use Rattle.jt_bits.proofs.Runs.{not_bit}
 use Rattle.boundary.specs.declared.PlainCells.{PlainCells}
 use Rattle.chip_seats.specs.Blocks.{TellsBlock, TellsOwn, stands}
 use Rattle.chip_seats.specs.Seats.{SeatValue, member_of}

@@ -17,7 +17,7 @@ use Rattle.jt_bits.proofs.PackedWords.{ring_distinct, ring_add, listed-length, l
 
 -- ---- one word
 
-not_bit : (mask j : ℕ) → mask < 2 ^ 64 → j < 64 → has_bit (bit_not w64 mask) j ≡ not (has_bit mask j)
+pub not_bit : (mask j : ℕ) → mask < 2 ^ 64 → j < 64 → has_bit (bit_not w64 mask) j ≡ not (has_bit mask j)
 unfolding has_bit
 not_bit mask j fits h = ap (λ (n : ℕ). n == 1) (bit_at_not w64 mask j fits h) ∙ flip (bit_at mask j) (bit_at-lt mask j)
   where

@@ -78,14 +78,14 @@ impl Nets {
         }
     }
 
-    /// Pin `k` drives this from now on, as `put` has it.
-    pub fn place(&mut self, k: usize, drive: Drive)
-        requires { k < length self.old.drives }
-        ensures { self.new ≡ record self.old { drives = slice_set self.old.drives k drive } }
+    /// A pin drives this from now on, as `put` has it.
+    pub fn place(&mut self, pin: usize, drive: Drive)
+        requires { pin < length self.old.drives }
+        ensures { self.new ≡ record self.old { drives = slice_set self.old.drives pin drive } }
     {
-        let old = self.drives[k];
-        self.drives[k] = drive;
-        if let Some(net) = self.net_of[k] {
+        let old = self.drives[pin];
+        self.drives[pin] = drive;
+        if let Some(net) = self.net_of[pin] {
             self.seen[net] = exchange(&mut self.counts[net], old, drive);
         }
     }

@@ -7,7 +7,7 @@ use Rattle.board_wiring.proofs.wiring.Wiring.put.Goals as goal
 pub returns-then-is_same : goal.returns-then-is_same
 returns-then-is_same c =
     let now = c.args.self.now in
-    let there : slice_get now.drives c.args.k ≡ Some c.args.drive =
-    ap (λ (w : WiringValue). slice_get w.drives c.args.k) (sym c.self.view_is) ∙ c.drive.ensures
+    let there : slice_get now.drives c.args.pin ≡ Some c.args.drive =
+    ap (λ (w : WiringValue). slice_get w.drives c.args.pin) (sym c.self.view_is) ∙ c.drive.ensures
     ∙ ap (λ (d : TheDrive). Some d) (c.is_same.ensures.same c.if-is_same.true) in
-    ap (λ ds. record now { drives = ds }) (sym (set-same now.drives c.args.k c.args.drive there))
+    ap (λ ds. record now { drives = ds }) (sym (set-same now.drives c.args.pin c.args.drive there))

@@ -9,7 +9,7 @@ pub exchange-requires-clause-row : goal.exchange-requires-clause-row
 exchange-requires-clause-row c =
     let ds = c.self.inside.drives.items in
     let nets = c.self.inside.nets.items in
-    let pin = c.args.k in
+    let pin = c.args.pin in
     let in_ : pin < length ds = omega (arith, c.requires, ap (λ (v : NetsValue). length v.drives) c.self.view_is) in
     let at = pin_at c.self.inside.net_of.items nets pin c.index.result.now _ c.self.invariant.placed (omega (arith, in_, c.self.invariant.long)) c.index.ensures c.in-Some.is in
     let on : OnNet pin nets c.in-Some.net = on_some pin nets c.in-Some.net c.self.invariant.placed.once at in
@@ -19,7 +19,7 @@ pub exchange-requires-clause-there : goal.exchange-requires-clause-there
 exchange-requires-clause-there c =
     let ds = c.self.inside.drives.items in
     let nets = c.self.inside.nets.items in
-    let pin = c.args.k in
+    let pin = c.args.pin in
     let in_ : pin < length ds = omega (arith, c.requires, ap (λ (v : NetsValue). length v.drives) c.self.view_is) in
     let at = pin_at c.self.inside.net_of.items nets pin c.index.result.now _ c.self.invariant.placed (omega (arith, in_, c.self.invariant.long)) c.index.ensures c.in-Some.is in
     let on : OnNet pin nets c.in-Some.net = on_some pin nets c.in-Some.net c.self.invariant.placed.once at in
@@ -33,7 +33,7 @@ pub exchange-requires-clause-few : goal.exchange-requires-clause-few
 exchange-requires-clause-few c =
     let ds = c.self.inside.drives.items in
     let nets = c.self.inside.nets.items in
-    let pin = c.args.k in
+    let pin = c.args.pin in
     let in_ : pin < length ds = omega (arith, c.requires, ap (λ (v : NetsValue). length v.drives) c.self.view_is) in
     let at = pin_at c.self.inside.net_of.items nets pin c.index.result.now _ c.self.invariant.placed (omega (arith, in_, c.self.invariant.long)) c.index.ensures c.in-Some.is in
     let on : OnNet pin nets c.in-Some.net = on_some pin nets c.in-Some.net c.self.invariant.placed.once at in
@@ -46,7 +46,7 @@ pub index_mut-requires-in-Some-2 : goal.index_mut-requires-in-Some-2
 index_mut-requires-in-Some-2 c =
     let ds = c.self.inside.drives.items in
     let nets = c.self.inside.nets.items in
-    let pin = c.args.k in
+    let pin = c.args.pin in
     let in_ : pin < length ds = omega (arith, c.requires, ap (λ (v : NetsValue). length v.drives) c.self.view_is) in
     let at = pin_at c.self.inside.net_of.items nets pin c.index.result.now _ c.self.invariant.placed (omega (arith, in_, c.self.invariant.long)) c.index.ensures c.in-Some.is in
     let on : OnNet pin nets c.in-Some.net = on_some pin nets c.in-Some.net c.self.invariant.placed.once at in
@@ -56,7 +56,7 @@ pub invariant_of-self-in_default : goal.invariant_of-self-in_default
 invariant_of-self-in_default c =
     let ds = c.self.inside.drives.items in
     let nets = c.self.inside.nets.items in
-    let pin = c.args.k in
+    let pin = c.args.pin in
     let in_ : pin < length ds = omega (arith, c.requires, ap (λ (v : NetsValue). length v.drives) c.self.view_is) in
     let at = pin_at c.self.inside.net_of.items nets pin c.index.result.now _ c.self.invariant.placed (omega (arith, in_, c.self.invariant.long)) c.index.ensures c.in_default.is in
     record {
@@ -71,7 +71,7 @@ pub invariant_of-self : goal.invariant_of-self
 invariant_of-self c =
     let ds = c.self.inside.drives.items in
     let nets = c.self.inside.nets.items in
-    let pin = c.args.k in
+    let pin = c.args.pin in
     let in_ : pin < length ds = omega (arith, c.requires, ap (λ (v : NetsValue). length v.drives) c.self.view_is) in
     let at = pin_at c.self.inside.net_of.items nets pin c.index.result.now _ c.self.invariant.placed (omega (arith, in_, c.self.invariant.long)) c.index.ensures c.in-Some.is in
     let on : OnNet pin nets c.in-Some.net = on_some pin nets c.in-Some.net c.self.invariant.placed.once at in
