@@ -19,7 +19,7 @@ use Rattle.chip_seats.specs.Seats.{SeatValue, member_of}
 use Rattle.chip_seats.specs.Tables.{AreSeatedPins, AreTargeted, IsRefreshed, IsTable, IsTargeted, Settled, Settles, SlotsSettled, WasPut, WerePut, targets}
 use Rattle.chip_seats.specs.declared.driving.Block.{Block}
 use Rattle.chip_seats.specs.declared.driving.DrivingPin.{DrivingPin}
-use Rattle.chip_seats.specs.declared.driving.DrivingPins.{DrivingPins}
+use Rattle.chip_seats.specs.DrivingTable.{DrivingTable}
 use Rattle.boundary.proofs.MaskLaws.{zero_bit}
 use Rattle.chip_seats.proofs.BlockLaws.{no, stood}
 use Rattle.chip_seats.proofs.DrivingLaws.{entry_of_pin, seats_cells}
@@ -122,45 +122,45 @@ module _ (seats : List SeatValue) (nets : List Net) where
       let pin : e.pin ≡ r.i = omega (arith, r.pin) in
       record { device = r.device; pin = ap (slice_get (targets seats nets)) pin ∙ r.drives }
 
-  pub table_targeted : (d : DrivingPins) → IsTable entries (length its-cells) d → (i : ℕ) (b : Block) → slice_get d.blocks.items i ≡ Some b
-      → AreTargeted its-members (targets seats nets) d.pins.items (64 * i) b
+  pub table_targeted : (d : DrivingTable) → IsTable entries (length its-cells) d → (i : ℕ) (b : Block) → slice_get d.blocks i ≡ Some b
+      → AreTargeted its-members (targets seats nets) d.pins (64 * i) b
   table_targeted d t i b at =
       let block = t.slots.within i b at in
       record {
         device = omega (arith, block.device, length-map seats cells_of, length-map seats member_of);
         first = block.first;
         slots = record {
-          each = λ j h marked. (targeted (slot_of d.pins.items i b j) (t.parts.first (slot_of d.pins.items i b j) (t.slots.each i j b at h marked))).pin;
+          each = λ j h marked. (targeted (slot_of d.pins i b j) (t.parts.first (slot_of d.pins i b j) (t.slots.each i j b at h marked))).pin;
         };
       }
 
-  pub rest_targeted : (d : DrivingPins) → IsTable entries (length its-cells) d → (k : ℕ) (e : DrivingPin) → slice_get d.rest.items k ≡ Some e
+  pub rest_targeted : (d : DrivingTable) → IsTable entries (length its-cells) d → (k : ℕ) (e : DrivingPin) → slice_get d.rest k ≡ Some e
       → IsTargeted its-members (targets seats nets) e
   rest_targeted d t k e at =
-      targeted e (t.parts.second e (k, slice_get_within d.rest.items k e at, get_or_from_slice_get d.rest.items k e e at))
+      targeted e (t.parts.second e (k, slice_get_within d.rest k e at, get_or_from_slice_get d.rest k e e at))
 
-  module _ (d : DrivingPins) (t : IsTable entries (length its-cells) d) (drives after : List Drive) (put : List PlainCells)
-      (blocks : (i : ℕ) (b : Block) → slice_get d.blocks.items i ≡ Some b → IsRefreshed its-members (targets seats nets) drives d.pins.items put i b)
+  module _ (d : DrivingTable) (t : IsTable entries (length its-cells) d) (drives after : List Drive) (put : List PlainCells)
+      (blocks : (i : ℕ) (b : Block) → slice_get d.blocks i ≡ Some b → IsRefreshed its-members (targets seats nets) drives d.pins put i b)
       (settles : Settles (targets seats nets) drives after)
-      (rest : (k : ℕ) (e : DrivingPin) → slice_get d.rest.items k ≡ Some e → Settled (targets seats nets) after e.pin) where
-    slot-settled : (e : DrivingPin) → IsSlot d.blocks.items d.pins.items e → Settled (targets seats nets) after e.pin
+      (rest : (k : ℕ) (e : DrivingPin) → slice_get d.rest k ≡ Some e → Settled (targets seats nets) after e.pin) where
+    slot-settled : (e : DrivingPin) → IsSlot d.blocks d.pins e → Settled (targets seats nets) after e.pin
     slot-settled e s =
-        let pin : slice_index d.pins.items (64 * s.i + s.j) ≡ e.pin = ap (λ (x : DrivingPin). x.pin) s.is in
+        let pin : slice_index d.pins (64 * s.i + s.j) ≡ e.pin = ap (λ (x : DrivingPin). x.pin) s.is in
         subst (Settled (targets seats nets) after) pin
-        (settles.each (slice_index d.pins.items (64 * s.i + s.j)) ((blocks s.i s.b s.at).settled.each s.j s.within s.marked))
+        (settles.each (slice_index d.pins (64 * s.i + s.j)) ((blocks s.i s.b s.at).settled.each s.j s.within s.marked))
 
     pub entries_settled : (j : ℕ) (e : DrivingPin) → slice_get entries j ≡ Some e → Settled (targets seats nets) after e.pin
     entries_settled j e at = ⊎_elim
         (λ (plain : Contains t.plain e). slot-settled e (t.slots.all e plain))
-        (λ (other : Contains d.rest.items e). rest other.0 e (slice_get-get_or d.rest.items other.0 e other.1 ∙ ap Some other.2))
+        (λ (other : Contains d.rest e). rest other.0 e (slice_get-get_or d.rest other.0 e other.1 ∙ ap Some other.2))
         (t.parts.both e (j, slice_get_within entries j e at, get_or_from_slice_get entries j e e at))
 
-    pub put_after : length put ≡ length d.blocks.items → WerePut d.blocks.items d.pins.items put after
+    pub put_after : length put ≡ length d.blocks → WerePut d.blocks d.pins put after
     put_after long = record {
       long = long;
       each = λ i j b p at kept h marked masked.
           let r = blocks i b at in
-          settles.each (slice_index d.pins.items (64 * i + j)) (r.settled.each j h marked)
+          settles.each (slice_index d.pins (64 * i + j)) (r.settled.each j h marked)
           ∙ (table_targeted d t i b at).slots.each j h marked
           ∙ ap Some ((r.tells p kept).each j h masked);
     }
@@ -175,13 +175,13 @@ module _ (seats : List SeatValue) (nets : List Net) where
 pub all_seated : (seats : List SeatValue) (nets : List Net) → AreSeatedPins (length seats) (entries seats nets)
 all_seated seats nets = λ e has. omega (arith, (targeted seats nets e has).device, length-map seats member_of)
 
-pub table_made : (driving plain given : List DrivingPin) (n : ℕ) (d : DrivingPins) → AreParts driving plain d.rest.items
-    → given ≡ plain → ((m : ℕ) → AreSeatedPins m given → AreSlots given m d.blocks.items d.pins.items) → AreSeatedPins n driving → IsTable driving n d
+pub table_made : (driving plain given : List DrivingPin) (n : ℕ) (d : DrivingTable) → AreParts driving plain d.rest
+    → given ≡ plain → ((m : ℕ) → AreSeatedPins m given → AreSlots given m d.blocks d.pins) → AreSeatedPins n driving → IsTable driving n d
 table_made driving plain given n d parts is slots seated =
     let below : AreSeatedPins n given = λ e has. seated e (parts.first e (subst (λ (l : List DrivingPin). Contains l e) is has)) in
     record {
       plain = plain;
-      slots = subst (λ (l : List DrivingPin). AreSlots l n d.blocks.items d.pins.items) is (slots n below);
+      slots = subst (λ (l : List DrivingPin). AreSlots l n d.blocks d.pins) is (slots n below);
       parts = parts;
     }
 

@@ -6,4 +6,5 @@ pub mod AtRest
 pub mod Sighted
 pub mod Driving
 pub mod Blocks
+pub mod DrivingTable
 pub mod Tables

@@ -13,10 +13,10 @@ use Rattle.board_meaning.specs.Nets.{pin_drive}
 use Rattle.board_wiring.specs.Wires.{WiringValue}
 use Rattle.chip_seats.specs.Blocks.{AreParts, AreSlots, TellsBlock}
 use Rattle.chip_seats.specs.Driving.{driving_from, drives_at, entry_drives}
+use Rattle.chip_seats.specs.DrivingTable.{DrivingTable}
 use Rattle.chip_seats.specs.Seats.{SeatValue, member_of}
 use Rattle.chip_seats.specs.declared.driving.Block.{Block}
 use Rattle.chip_seats.specs.declared.driving.DrivingPin.{DrivingPin}
-use Rattle.chip_seats.specs.declared.driving.DrivingPins.{DrivingPins}
 
 -- each of these pins is of one of so many devices
 abbrev pub AreSeatedPins : ℕ → List DrivingPin → Type 0
@@ -25,10 +25,10 @@ AreSeatedPins n driving = (e : DrivingPin) → Contains driving e → e.device <
 -- ---- the table
 
 -- these pins stand in the blocks or beside them
-pub record IsTable (driving : List DrivingPin) (devices : ℕ) (d : DrivingPins) : Type 0 where
+pub record IsTable (driving : List DrivingPin) (devices : ℕ) (d : DrivingTable) : Type 0 where
   pub plain : List DrivingPin
-  pub slots : AreSlots plain devices d.blocks.items d.pins.items
-  pub parts : AreParts driving plain d.rest.items
+  pub slots : AreSlots plain devices d.blocks d.pins
+  pub parts : AreParts driving plain d.rest
 
 -- the bits that are kept are those that the pins of the blocks drive, by what was last put to their nets
 pub record WerePut (blocks : List Block) (pins : List ℕ) (put : List PlainCells) (drives : List Drive) : Type 0 where
@@ -38,9 +38,9 @@ pub record WerePut (blocks : List Block) (pins : List ℕ) (put : List PlainCell
       → slice_get drives (slice_index pins (64 * i + j)) ≡ Some (Strong (has_bit p.bits j))
 
 -- a table of the pins that a cell drives, given the cells of each device, with what was last put to them
-pub record IsDriving (cells : List (List Cell)) (w : WiringValue) (d : DrivingPins) : Type 0 where
+pub record IsDriving (cells : List (List Cell)) (w : WiringValue) (d : DrivingTable) : Type 0 where
   pub table : IsTable (driving_from cells 0 (all_pins w.nets)) (length cells) d
-  pub put : WerePut d.blocks.items d.pins.items d.put.items w.drives
+  pub put : WerePut d.blocks d.pins d.put w.drives
   pub full : length w.drives ≡ length (all_pins w.nets)
 
 -- ---- a refresh

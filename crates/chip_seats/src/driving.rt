@@ -17,6 +17,7 @@ use board_wiring::Wiring;
 use boundary::PlainCells;
 use bsdl_device::Cell;
 use std::alloc::{AllocError, Global};
+use std::marker::Model;
 
 /// A pin of a board, by its number, that a cell drives: the place of its device, and the cell.
 #[derive(Drop, Clone, Copy)]
@@ -49,6 +50,19 @@ pub struct DrivingPins {
     pub(crate) rest: Vec<DrivingPin>,
 }
 
+impl Model for DrivingPins {
+    ghost use Rattle.chip_seats.specs.DrivingTable.{DrivingTable};
+
+    ghost Value = { DrivingTable };
+
+    ghost view = { λ d. record {
+      blocks = d.blocks.items;
+      pins = d.pins.items;
+      put = d.put.items;
+      rest = d.rest.items;
+    } };
+}
+
 const NO_CELLS: PlainCells = PlainCells { mask: 0, bits: 0 };
 
 /// So many pins among 64 cells make a block. For fewer it takes longer to look for them than to ask each cell.
@@ -62,7 +76,7 @@ pub fn driving_pins(
 ) -> Result<DrivingPins, AllocError>
     requires { AreSeated (length seats.now) (all_pins wiring.now.nets) }
     ensures table { IfOk result (λ d. IsTable (driving_of seats.now wiring.now.nets) (length seats.now) d) }
-    ensures put { IfOk result (λ d. (drives : List Drive) → WerePut d.blocks.items d.pins.items d.put.items drives) }
+    ensures put { IfOk result (λ d. (drives : List Drive) → WerePut d.blocks d.pins d.put drives) }
 {
     let all = all_driving(alloc, wiring, seats)?;
     let counts = block_counts(alloc, seats, &all)?;

@@ -6,11 +6,12 @@ use Rattle.pin_nets.specs.Wired.{Net}
 use Rattle.pin_nets.specs.declared.Drive.{Drive}
 use Rattle.board_plan.specs.Planned.{all_pins}
 use Rattle.chip_seats.specs.Driving.{cells_of, driving_from}
+use Rattle.chip_seats.specs.DrivingTable.{DrivingTable}
 use Rattle.chip_seats.specs.Seats.{member_of}
-use Rattle.chip_seats.specs.Tables.{AreTargeted, IsRefreshed, IsTable, IsTargeted, Settled, Settles, WerePut, targets}
+use Rattle.chip_seats.specs.Tables.{AreTargeted, IsDriving, IsRefreshed, IsTable, IsTargeted, Settled, Settles, WerePut, targets}
 use Rattle.chip_seats.specs.declared.driving.Block.{Block}
 use Rattle.chip_seats.specs.declared.driving.DrivingPin.{DrivingPin}
-use Rattle.chip_seats.specs.declared.driving.DrivingPins.{DrivingPins}
+use Rattle.chip_seats.specs.contracts.driving.DrivingPins.{the_view}
 use Rattle.chip_seats.proofs.RefreshLaws.{all_after, put_after, rest_targeted, table_targeted}
 use Rattle.chip_seats.proofs.SettleLaws.{settles_both}
 use Rattle.chip_seats.proofs.refreshing.refresh_driving.Goals as goal
@@ -19,24 +20,30 @@ pub refresh_blocks-requires-clause-slots : goal.refresh_blocks-requires-clause-s
 refresh_blocks-requires-clause-slots c = λ i b at.
     let seats = c.args.seats.now in
     let nets = c.args.wiring.now.nets in
+    let given : IsDriving (map cells_of seats) c.args.wiring.now (the_view c.driving.inside) =
+    subst (IsDriving (map cells_of seats) c.args.wiring.now) (sym c.driving.view_is) c.requires in
     let here = sym (ap (λ (l : List Block). slice_get l i) c.deref.ensures.value) ∙ at in
     subst (λ (l : List ℕ). AreTargeted (map member_of seats) (targets seats nets) l (64 * i) b) (sym c.deref-2.ensures.value)
-    (table_targeted seats nets c.args.driving.now c.requires.table i b here)
+    (table_targeted seats nets (the_view c.driving.inside) given.table i b here)
 
 pub refresh_rest-requires-clause-rest : goal.refresh_rest-requires-clause-rest
 refresh_rest-requires-clause-rest c = λ k e at.
     let seats = c.args.seats.now in
+    let given : IsDriving (map cells_of seats) c.args.wiring.now (the_view c.driving.inside) =
+    subst (IsDriving (map cells_of seats) c.args.wiring.now) (sym c.driving.view_is) c.requires in
     let here = sym (ap (λ (l : List DrivingPin). slice_get l k) c.deref-3.ensures.value) ∙ at in
     subst (λ (ns : List Net). IsTargeted (map member_of seats) (targets seats ns) e) (sym c.refresh_blocks.ensures.nets)
-    (rest_targeted seats c.args.wiring.now.nets c.args.driving.now c.requires.table k e here)
+    (rest_targeted seats c.args.wiring.now.nets (the_view c.driving.inside) given.table k e here)
 
 pub returns-clause-driving : goal.returns-clause-driving
 returns-clause-driving c =
     let seats = c.args.seats.now in
     let nets = c.args.wiring.now.nets in
     let target = targets seats nets in
-    let d = c.args.driving.now in
-    let t = c.requires.table in
+    let d = c.driving.inside in
+    let given : IsDriving (map cells_of seats) c.args.wiring.now (the_view c.driving.inside) =
+    subst (IsDriving (map cells_of seats) c.args.wiring.now) (sym c.driving.view_is) c.requires in
+    let t = given.table in
     let cells = map cells_of seats in
     let first = c.args.wiring.now.drives in
     let drives = c.refresh_blocks.new.wiring.drives in
@@ -55,15 +62,15 @@ returns-clause-driving c =
     let long : length put ≡ length d.put.items = c.refresh_blocks.ensures.long ∙ ap length c.deref_mut.ensures.value in
     let is : (with_items d.put put).items ≡ put = with_items_is d.put put (long ∙ sym d.put.ok.0) in
     let nets-are : c.refresh_rest.new.wiring.nets ≡ nets = c.refresh_rest.ensures.nets ∙ c.refresh_blocks.ensures.nets in
-    let new : DrivingPins = record d { put = with_items d.put put } in
+    let new : DrivingTable = the_view (record d { put = with_items d.put put }) in
     let table : IsTable (driving_from cells 0 (all_pins nets)) (length cells) new = record { plain = t.plain; slots = t.slots; parts = t.parts } in
     record {
       table = subst (λ (ns : List Net). IsTable (driving_from cells 0 (all_pins ns)) (length cells) new) (sym nets-are) table;
       put =
           subst (λ (l : List PlainCells). WerePut d.blocks.items d.pins.items l after) (sym is)
-          (put_after seats nets d t drives after put blocks-are settles rest (long ∙ c.requires.put.long));
+          (put_after seats nets (the_view d) t drives after put blocks-are settles rest (long ∙ given.put.long));
       full =
-          settles.long ∙ c.refresh_blocks.ensures.settles.long ∙ c.requires.full
+          settles.long ∙ c.refresh_blocks.ensures.settles.long ∙ given.full
           ∙ sym (ap (λ (ns : List Net). length (all_pins ns)) nets-are);
     }
 
@@ -72,7 +79,9 @@ returns-clause-drives c = λ before same was.
     let seats = c.args.seats.now in
     let nets = c.args.wiring.now.nets in
     let target = targets seats nets in
-    let d = c.args.driving.now in
+    let d = c.driving.inside in
+    let given : IsDriving (map cells_of seats) c.args.wiring.now (the_view c.driving.inside) =
+    subst (IsDriving (map cells_of seats) c.args.wiring.now) (sym c.driving.view_is) c.requires in
     let first = c.args.wiring.now.drives in
     let drives = c.refresh_blocks.new.wiring.drives in
     let after = c.refresh_rest.new.wiring.drives in
@@ -90,5 +99,5 @@ returns-clause-drives c = λ before same was.
     let nets-are : c.refresh_rest.new.wiring.nets ≡ nets = c.refresh_rest.ensures.nets ∙ c.refresh_blocks.ensures.nets in
     let whole : Settles target first after = settles_both target first drives after c.refresh_blocks.ensures.settles settles in
     let done : after ≡ target =
-    all_after seats nets d c.requires.table drives after put blocks-are settles rest before same (subst (λ (l : List Drive). Settles target l after) was whole) in
+    all_after seats nets (the_view d) given.table drives after put blocks-are settles rest before same (subst (λ (l : List Drive). Settles target l after) was whole) in
     λ j. record { nets = nets-are j; drives = done j }
