@@ -46,19 +46,6 @@ module _ (down_room up_room : ℕ) where
       one [] (suc m) e = refl
       one (x ∷ up) m e = absurd (omega arith)
 
-  -- a piece that is asked for, then the others: fewer are taken only where no more are there
-  pub take-step : (m k more : ℕ) (w : Pipes) → k ≤ m → more ≡ length w.up - length (takes k w).up → takes (m - more) (takes k w) ≡ takes m w
-  take-step m k more w le is = by (length (takes k w).up) refl
-    where
-      whole : takes (m - k) (takes k w) ≡ takes m w
-      whole = let sum : k + (m - k) ≡ m = omega (arith, le) in takes-more k (m - k) w ∙ ap (λ j. takes j w) sum
-
-      by : (left : ℕ) → length (takes k w).up ≡ left → takes (m - more) (takes k w) ≡ takes m w
-      by zero e = take-none (m - more) (takes k w) e ∙ sym (take-none (m - k) (takes k w) e) ∙ whole
-      by (suc left) e =
-          let all : m - more ≡ m - k = omega (arith, is, e, length-drop k w.up) in
-          ap (λ j. takes j (takes k w)) all ∙ whole
-
 pub taken-down : (bytes : List ℕ) (o : Option Message) (w : World StreamState) → (after_byte_taken bytes o w).down ≡ bytes
 taken-down bytes None w = refl
 taken-down bytes (Some Ask) w = refl
@@ -157,34 +144,26 @@ module _ (down_room up_room : ℕ) where
       down = ap (λ l. w.down ++ l) empty ∙ append-nil w.down
 
 -- The loops' invariants, one turn on.
-pub take-keeps : (down_room up_room n count more : ℕ) (w v start : World StreamState) → count < n
-    → v ≡ take_answers side down_room up_room (min (n - count) 64) w → more ≡ length w.up - length v.up
+pub take-keeps : (down_room up_room n count more : ℕ) (w v start : World StreamState) → more ≤ n - count
+    → v ≡ take_answers side down_room up_room more w
     → take_answers side down_room up_room (n - count) w ≡ take_answers side down_room up_room n start
-    → (take_answers side down_room up_room (n - (count + more)) v ≡ take_answers side down_room up_room n start)
-    × (more + length v.up ≡ length w.up) × (count + more ≤ n)
-take-keeps down_room up_room n count more w v start some e moved rest =
-    let m = n - count in
-    let k = min m 64 in
-    let fewer : length v.up ≡ length w.up - k = ap (λ u. length u.up) e ∙ length-drop k w.up in
-    let is : more ≡ length w.up - length (take_answers side down_room up_room k w).up = moved ∙ ap (λ u. length w.up - length u.up) e in
-    let next : n - (count + more) ≡ m - more = omega arith in (
-      ap (λ j. take_answers side down_room up_room j v) next
-          ∙ ap (take_answers side down_room up_room (m - more)) e
-          ∙ take-step down_room up_room m k more w (omega arith) is ∙ rest,
-      omega (arith, moved, fewer),
-      omega (arith, moved, fewer),
-    )
+    → take_answers side down_room up_room (n - (count + more)) v ≡ take_answers side down_room up_room n start
+take-keeps down_room up_room n count more w v start within is rest =
+    let left : n - (count + more) ≡ n - count - more = omega arith in
+    let sum : more + (n - count - more) ≡ n - count = omega (arith, within) in
+    ap (λ u. take_answers side down_room up_room (n - (count + more)) u) is
+    ∙ ap (λ k. take_answers side down_room up_room k (take_answers side down_room up_room more w)) left
+    ∙ takes-more down_room up_room more (n - count - more) w
+    ∙ ap (λ k. take_answers side down_room up_room k w) sum ∙ rest
 
 -- Where a piece has none, none is left.
-pub take-stops : (down_room up_room n count more : ℕ) (w v start : World StreamState) → count < n
-    → v ≡ take_answers side down_room up_room (min (n - count) 64) w → more ≡ length w.up - length v.up → more ≡ 0
+pub take-stops : (down_room up_room n count more : ℕ) (w v start : World StreamState)
+    → v ≡ take_answers side down_room up_room more w → more ≡ 0 → (more ≡ 0 → length w.up ≡ 0)
     → take_answers side down_room up_room (n - count) w ≡ take_answers side down_room up_room n start
     → v ≡ take_answers side down_room up_room n start
-take-stops down_room up_room n count more w v start some e moved none rest =
-    let k = min (n - count) 64 in
-    let fewer : length v.up ≡ length w.up - k = ap (λ u. length u.up) e ∙ length-drop k w.up in
-    let empty : length w.up ≡ 0 = omega (arith, moved, none, fewer, some) in
-    e ∙ take-none down_room up_room k w empty ∙ sym (take-none down_room up_room (n - count) w empty) ∙ rest
+take-stops down_room up_room n count more w v start is none empty rest =
+    is ∙ take-none down_room up_room more w (empty none)
+    ∙ sym (take-none down_room up_room (n - count) w (empty none)) ∙ rest
 
 pub put-keeps : (down_room up_room n count more : ℕ) (w v start : World StreamState) → count < n
     → v ≡ put_bytes side down_room up_room (min (n - count) 64) w → more ≡ length v.down - length w.down
@@ -206,11 +185,6 @@ put-keeps down_room up_room n count more w v start some e moved rest =
     )
 
 -- a piece of answers, as bytes
-same-drop : (n : ℕ) (xs : List ℕ) → drop (length (take n xs)) xs ≡ drop n xs
-same-drop zero xs = refl
-same-drop (suc n) [] = refl
-same-drop (suc n) (x ∷ xs) = same-drop n xs
-
 pub answers-left : (c : ℕ) (items : List ℕ) → AreAnswers items → AreAnswers (drop c items)
 answers-left zero items are = are
 answers-left (suc c) [] are = refl
@@ -231,15 +205,17 @@ hears (suc k) (b ∷ items) s are =
     ap (λ (x : ℕ). hear_each (take k items) (hear_bytes (answers_taken 256 s (x ∷ [])) s)) first
     ∙ hears k items (side.hear (b == 49) s) rest
 
-pub take-piece : (down_room up_room k count : ℕ) (w : World StreamState) (items : List ℕ) → AreAnswers items → w.up ≡ bits_told items
-    → count ≡ min k (length items) → (player : StreamState) → player ≡ hear_each (take count items) w.player
-    → record w { player = player; up = bits_told (drop count items) } ≡ take_answers side down_room up_room k w
-take-piece down_room up_room k count w items are is few player heard =
-    let c : count ≡ length (take k items) = few ∙ sym (length-take k items) in
-    let now : hear_each (take count items) w.player ≡ hear_bits side (take k w.up) w.player =
-    ap (λ (n : ℕ). hear_each (take n items) w.player) c ∙ ap (λ (l : List ℕ). hear_each l w.player) (same-take k items)
-    ∙ hears k items w.player are ∙ ap (λ (l : List Bool). hear_bits side (take k l) w.player) (sym is) in
-    let left : bits_told (drop count items) ≡ drop k w.up =
-    ap (λ (n : ℕ). bits_told (drop n items)) c ∙ ap bits_told (same-drop k items) ∙ told-left k items
-    ∙ ap (λ (l : List Bool). drop k l) (sym is) in
+-- The world behind answers that are taken from the front of the up pipe.
+pub take-piece : (down_room up_room count : ℕ) (w : World StreamState) (items : List ℕ) → AreAnswers items → w.up ≡ bits_told items
+    → (player : StreamState) → player ≡ hear_each (take count items) w.player
+    → record w { player = player; up = bits_told (drop count items) } ≡ take_answers side down_room up_room count w
+take-piece down_room up_room count w items are is player heard =
+    let now : hear_each (take count items) w.player ≡ hear_bits side (take count w.up) w.player =
+    hears count items w.player are ∙ ap (λ (l : List Bool). hear_bits side (take count l) w.player) (sym is) in
+    let left : bits_told (drop count items) ≡ drop count w.up = told-left count items ∙ ap (λ (l : List Bool). drop count l) (sym is) in
     λ i. record w { player = (heard ∙ now) i; up = left i }
+
+pub take-front : (n : ℕ) (xs ys : List ℕ) → n ≤ length xs → take n (xs ++ ys) ≡ take n xs
+take-front zero xs ys h = refl
+take-front (suc n) [] ys h = absurd (omega arith)
+take-front (suc n) (x ∷ xs) ys h = ap (λ l. x ∷ l) (take-front n xs ys (omega arith))

@@ -254,7 +254,7 @@ length-told [] = refl
 length-told (x ∷ xs) = ap suc (length-told xs)
 
 -- What stands of a pipe behind so many first bytes.
-kept : (n k : ℕ) (items : List ℕ) → n ≡ length items - k → k ≤ length items → keep_last n items ≡ drop k items
+pub kept : (n k : ℕ) (items : List ℕ) → n ≡ length items - k → k ≤ length items → keep_last n items ≡ drop k items
 kept n k items is within = let d : length items - n ≡ k = omega arith in ap (λ (m : ℕ). drop m items) d
 
 -- The world behind bytes that are taken from the front of the down pipe.

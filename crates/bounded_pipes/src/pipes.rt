@@ -55,7 +55,7 @@ pub struct Unjoined {
     pub board: Board,
 }
 
-/// The most bytes that the player puts into a pipe, or answers that it takes out of one, at once.
+/// The most bytes that the player puts into a pipe at once.
 const PIECE: usize = 64;
 
 /// The most bytes that the board takes together.
@@ -112,17 +112,41 @@ impl Pipes {
         self.down.fill_from_slice(&piece[..count])
     }
 
-    /// The player takes some answers: as many as are there and are asked for, and a piece at most.
+    /// The player takes some answers, n at most; none only where there is none. Those at the front are taken together.
     fn take_piece(&mut self, n: usize) -> usize
+        requires { 0 < n }
         ensures moved { result ≡ length self.old.world.up - length self.new.world.up }
+        ensures within { result ≤ n }
         ensures world { self.new ≡ record self.old {
-          world = take_answers side self.old.down_room self.old.up_room (min n 64) self.old.world;
+          world = take_answers side self.old.down_room self.old.up_room result self.old.world;
+        } }
+        ensures none { result ≡ 0 → length self.old.world.up ≡ 0 }
+    {
+        let (front, _) = self.up.as_slices();
+        let count = front.len().min(n);
+        if count < 2 {
+            return usize::from(self.take_answer());
+        }
+        self.player.answers_each(&front[..count]);
+        let left = self.up.len() - count;
+        self.up.truncate_front(left);
+        count
+    }
+
+    /// The player takes one answer, if there is one.
+    fn take_answer(&mut self) -> bool
+        ensures taken { result ≡ nat_lt 0 (length self.old.world.up) }
+        ensures world { self.new ≡ record self.old {
+          world = take_answers side self.old.down_room self.old.up_room 1 self.old.world;
         } }
     {
-        if self.up.is_empty() {
-            return 0;
+        match self.up.pop_front() {
+            Some(answer) => {
+                self.player.answers(&[answer]);
+                true
+            }
+            None => false,
         }
-        take_from(&mut self.player, &mut self.up, n.min(PIECE))
     }
 
     /// The player takes up to n answers.
@@ -173,10 +197,13 @@ impl Pipes {
         ensures none { result ≡ 0 → (m : ℕ) → served self.old.up_room m self.old.world.down self.old.world
             ≡ self.old.world }
     {
+        if self.quit || self.down.len() < FEWEST_TOGETHER {
+            return usize::from(self.serve_byte());
+        }
         let room = self.up.capacity() - self.up.len();
         let (front, _) = self.down.as_slices();
         let most = front.len().min(n).min(room).min(MOST_TOGETHER);
-        if self.quit || most < FEWEST_TOGETHER {
+        if most < FEWEST_TOGETHER {
             return usize::from(self.serve_byte());
         }
         let taken = serve_front(&mut self.board, &front[..most], &mut self.up);
@@ -324,19 +351,6 @@ impl Pipes {
         let Pipes { board, .. } = self;
         board
     }
-}
-
-/// A player takes the first answers of a pipe, so many at most. Answers how many.
-fn take_from(player: &mut Player, up: &mut HeapCircularBuffer<u8>, n: usize) -> usize
-    requires { n ≤ 64 }
-    ensures count { result ≡ min n (length up.old.items) }
-    ensures left { up.new ≡ buffer (drop result up.old.items) up.old.capacity }
-    ensures heard { player.new ≡ hear_each (take result up.old.items) player.old }
-{
-    let mut piece = [0; PIECE];
-    let count = up.read_into(&mut piece[..n]);
-    player.answers_each(&piece[..count]);
-    count
 }
 
 /// Lets the board take these bytes, up to and with a `Q` or one that it refuses. Their answers go into a pipe.

@@ -331,6 +331,23 @@ impl Seat {
         ensures chip { chip_state self.new ≡ chain.fall (chip_state self.old) }
         ensures still { result ≡ false → DrivesStill (member_of self.old) (member_of self.new) }
     {
+        match self.chip.state().work() {
+            Work::Updates(_) | Work::Resets => self.fall_at_work(),
+            _ => {
+                self.fall();
+                false
+            }
+        }
+    }
+
+    /// A falling edge with an update or a reset. Answers whether what a pin drives may have changed: where none has, to
+    /// answer true costs time alone, so clause `still` goes one way.
+    fn fall_at_work(&mut self) -> bool
+        ensures kept { IsKept self.old self.new }
+        ensures trst { self.new.chip.trst ≡ self.old.chip.trst }
+        ensures chip { chip_state self.new ≡ chain.fall (chip_state self.old) }
+        ensures still { result ≡ false → DrivesStill (member_of self.old) (member_of self.new) }
+    {
         let mode = self.chip.mode();
         let driving = self.falls_driving();
         self.fall();
