@@ -241,8 +241,8 @@ fn put_bypass(bypass: &mut bool, at: usize, bits: u64, n: usize)
     *bypass = bits % 2 == 1;
 }
 
-/// The one bit of a bypass register moves `n` places towards TDO, and the lowest bits of a word behind it: answers those
-/// that left, the first of them the lowest.
+/// The one bit of a bypass register moves `n` places towards TDO, and the lowest bits of a word behind it. Answers
+/// those that left, the first of them the lowest.
 fn shift_bypass(bypass: &mut bool, bits: u64, n: usize) -> u64
     requires { n ≤ 64 }
     ensures out { word_bits result n ≡ take n (bypass.old ∷ word_bits bits n) }

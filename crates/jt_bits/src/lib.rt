@@ -140,8 +140,8 @@ impl Bits {
         words::shift(&mut self.words, &mut self.start, self.len, bit)
     }
 
-    /// Shifts in the lowest `n` bits of a word, the lowest first, as so many calls of `shift_in`, and answers the bits
-    /// that left, the first of them the lowest. What stands above those has no meaning (IEEE Std 1149.1-2001, clause 9).
+    /// Shifts in the lowest `n` bits of a word, the lowest first, as so many calls of `shift_in`. Answers the bits that
+    /// left, the first of them the lowest; what stands above those has no meaning (IEEE Std 1149.1-2001, clause 9).
     pub fn shift_word(&mut self, bits: u64, n: usize) -> u64
         requires some { 0 < length self.old }
         requires few { n ≤ 64 }

@@ -42,8 +42,9 @@ pub trait Link {
 
 /// A link that also takes many bits at once.
 pub trait WordLink: Link {
-    /// Shifts the lowest `n` bits of a word into the column's register, the lowest first, as so many cycles in its Shift
-    /// state do. Answers the bits that left, the first of them the lowest; what stands above those has no meaning.
+    /// Shifts the lowest `n` bits of a word into the column's register, the lowest first, as so many cycles in its
+    /// Shift state do. Answers the bits that left, the first of them the lowest; what stands above those has no
+    /// meaning.
     fn shift_register(&mut self, column: Column, bits: u64, n: usize) -> u64
         requires { n ≤ 64 }
         ensures out { word_bits result n ≡ take n (Self.register self.old column ++ word_bits bits n) }

@@ -4,22 +4,14 @@ use Rattle.std.specs.Int.Bits.{bit_or}
 use Rattle.std.proofs.lemmas.Bool.{cases_lt}
 use Rattle.std.proofs.lemmas.List.{length-take, take_all}
 use Rattle.std.proofs.lemmas.Nat.Bits.{bit_at-zero}
-use Rattle.std.proofs.lemmas.List.FromFn.{length-map-range_with_len, get_or-map-range_with_len}
 use Rattle.jt_bits.specs.Packed.{has_bit}
 use Rattle.jt_bits.specs.Words.{bit_of}
 use Rattle.jt_bits.proofs.Lists.{bit_of-get_or}
 use Rattle.jt_bits.proofs.PackedWords.{or_bit, shl_high, shl_low}
+use Rattle.jt_bits.proofs.WordShifts.{get-word, length-word}
 use Rattle.whole_chain.specs.Rows.{joined_registers, before}
 use Rattle.whole_chain.specs.Words.{word_bits}
 use Rattle.whole_chain.proofs.Rows.{bit-left, bit-right, same_bits}
-
-pub length-word : (word n : ℕ) → length (word_bits word n) ≡ n
-unfolding word_bits
-length-word word n = length-map-range_with_len (has_bit word) 0 n
-
-get-word : (word n j : ℕ) → j < n → get_or (word_bits word n) j false ≡ has_bit word j
-unfolding word_bits
-get-word word n j h = get_or-map-range_with_len (has_bit word) 0 n j j false h (omega arith)
 
 pub bit-word : (word n j : ℕ) → j < n → bit_of (word_bits word n) j ≡ has_bit word j
 bit-word word n j h = bit_of-get_or (word_bits word n) j ∙ get-word word n j h

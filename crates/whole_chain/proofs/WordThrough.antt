@@ -4,7 +4,7 @@ use Rattle.std.proofs.Math.Seq.{drop-append_seam, take-append_seam}
 use Rattle.std.proofs.lemmas.List.{take-append-drop, take-append-le, drop-append-le, length-take, length-drop, length-set, get_or-take}
 use Rattle.whole_chain.specs.Rows.{joined_registers, IsCutBack}
 use Rattle.whole_chain.specs.Words.{word_bits}
-use Rattle.whole_chain.proofs.WordLaws.{length-word}
+use Rattle.jt_bits.proofs.WordShifts.{length-word}
 
 -- ---- one register, what stands behind it, and a word
 

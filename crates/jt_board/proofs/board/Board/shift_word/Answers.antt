@@ -8,7 +8,7 @@ use Rattle.chip_chain.specs.AtRest.{as_members, shifted_through}
 use Rattle.chip_chain.specs.Chains.{ChainValue}
 use Rattle.chip_chain.specs.Shifting.{all_shift}
 use Rattle.whole_chain.specs.Words.{word_bits}
-use Rattle.whole_chain.proofs.WordLaws.{length-word}
+use Rattle.jt_bits.proofs.WordShifts.{length-word}
 use Rattle.jt_board.specs.Made.{board_at}
 use Rattle.jt_board.specs.Shifting.{shift_cycles, shifts}
 use Rattle.jt_board.specs.contracts.board.Board.{the_view}
