@@ -185,14 +185,13 @@ impl Seat {
     pub(crate) fn drive(&self, port: usize) -> Drive
         ensures { result ≡ meant.drive (member_of self.now) port }
     {
-        let mode = self.chip.mode();
-        match self.drivers.get(port) {
-            Some(driver) => self.chip.boundary().driven(*driver, mode),
-            None => self.chip.boundary().drive(port, mode),
-        }
+        self.chip
+            .boundary()
+            .driven(self.driver(port), self.chip.mode())
     }
 
-    /// The cell that drives a port bit.
+    /// The cell that drives a port bit. The table has the device's ports. A description that is made by hand, and not
+    /// read from a text, may have a cell at a port that it does not count: that cell is looked for.
     pub(crate) fn driver(&self, port: usize) -> Option<usize>
         ensures { result ≡ cells.driver_from port 0 self.now.chip.device.cells }
     {
