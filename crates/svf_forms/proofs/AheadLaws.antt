@@ -1,16 +1,9 @@
 -- Words that were cut ahead, and what is left behind them.
-use Rattle.std.proofs.Common.{◌≡◌, Bool, true, false, cond, List, [], ◌∷◌, ◌++◌, codes, None, refl, sym, ap, ◌∙◌}
-use Rattle.svf_words.specs.Words.{Word, Groups, with_word, reads}
-use Rattle.svf_forms.specs.Behind.{with_words}
+use Rattle.std.proofs.Common.{◌≡◌, Bool, true, false, cond, [], ◌∷◌, codes, None, refl}
+use Rattle.svf_words.specs.Words.{Word, Groups, reads}
 use Rattle.svf_forms.specs.Ahead.{GoesOn}
 use Rattle.svf_forms.specs.RunTests.{take_maximum, take_time, maximum_or}
-
-with_words-append : (ws xs : List Word) (groups : Groups) → with_words (ws ++ xs) groups ≡ with_words ws (with_words xs groups)
-with_words-append [] xs groups = refl
-with_words-append (w ∷ ws) xs groups = ap (with_word w) (with_words-append ws xs groups)
-
-goes_both : (from mid to : Groups) → GoesOn from mid → GoesOn mid to → GoesOn from to
-goes_both from mid to a b = (a.0 ++ b.0, a.1 ∙ ap (with_words a.0) b.1 ∙ sym (with_words-append a.0 b.0 to))
+use Rattle.svf_forms.proofs.NextWords.{goes_both}
 
 -- all parts, one after another
 pub goes_far : (from state count time maximum end rest : Groups) → GoesOn from state → GoesOn state count → GoesOn count time → GoesOn time maximum → GoesOn maximum end → GoesOn end rest → GoesOn from rest

@@ -5,6 +5,7 @@ use Rattle.svf_lex.specs.declared.Lexer.{Lexer}
 use Rattle.svf_lex.specs.Cutting.{Lexeme}
 use Rattle.svf_lex.specs.Left.{left}
 use Rattle.svf_words.specs.Words.{Word, Groups, last, group, with_word, groups_of, first_words, words_left}
+use Rattle.svf_forms.specs.Ahead.{GoesOn}
 use Rattle.svf_forms.specs.Behind.{with_words, Behind}
 
 abbrev Items : Type 0
@@ -33,8 +34,11 @@ with_words-append : (ws xs : List Word) (groups : Groups) → with_words (ws ++ 
 with_words-append [] xs groups = refl
 with_words-append (w ∷ ws) xs groups = ap (with_word w) (with_words-append ws xs groups)
 
+pub goes_both : (from mid to : Groups) → GoesOn from mid → GoesOn mid to → GoesOn from to
+goes_both from mid to a b = (a.0 ++ b.0, a.1 ∙ ap (with_words a.0) b.1 ∙ sym (with_words-append a.0 b.0 to))
+
 pub behind_both : (from mid to : Items) → Behind from mid → Behind mid to → Behind from to
-behind_both from mid to a b = (a.0 ++ b.0, a.1 ∙ ap (with_words a.0) b.1 ∙ sym (with_words-append a.0 b.0 (groups_of to)))
+behind_both from mid to a b = goes_both (groups_of from) (groups_of mid) (groups_of to) a b
 
 first_of : (w : Word) (groups : Groups) → first_words (with_word w groups) ≡ w ∷ first_words groups
 first_of w (last ws fault) = refl
