@@ -488,6 +488,41 @@ class Description:
         return f"{head}\n{gap().join(items)}\n{self.tail}".encode("latin-1")
 
 
+class Banks(Description):
+    """A made description most of whose ports are driven by cells without a control, close together."""
+
+    def make_ports(self) -> None:
+        self.ports = {name: "bit" for name in (*TAPS.values(), "TRST")}
+        self.free = [] if self.has_trst else [("TRST", None)]
+        for number in range(self.rng.choice((1, 1, 2, 2, 2, 2, 3, 9))):
+            self.ports[f"P{number}"] = "bit_vector(0 to 8)"
+            self.free += [(f"P{number}", subscript) for subscript in range(9)]
+
+    def make_instructions(self) -> None:
+        rng, names = self.rng, ["EXTEST", "SAMPLE", "PRELOAD", "CLAMP", "HIGHZ"]
+        self.bits = rng.choice((3, 4, 5))
+        opcodes = rng.sample(range(2 ** self.bits - 1), len(names))
+        self.opcodes = [[name, [f"{opcode:0{self.bits}b}"]] for name, opcode in zip(names, opcodes)]
+        self.capture = self.pattern(self.bits - 2) + "01"
+        self.idcode, self.usercode, self.private = [], [], []
+
+    def make_cells(self) -> None:
+        rng, rows = self.rng, []
+        for port in rng.sample(self.free, len(self.free)):
+            rows.append((port, "output2" if rng.random() < 0.85 else rng.choice(("output3", "bidir"))))
+        rows += [(rng.choice(self.free), "input") for _ in range(rng.choice((0, 3, 9)))]
+        rows += [(None, rng.choice(("control", "controlr", "internal"))) for _ in range(rng.choice((0, 1, 3)))]
+        rows.append((None, "controlr"))
+        if rng.random() < 0.5:
+            rng.shuffle(rows)
+        controls = [cell for cell, (_, function) in enumerate(rows) if function in ("control", "controlr")]
+        self.length, self.cells = len(rows), []
+        for cell, (port, function) in enumerate(rows):
+            enabled = function in ("output3", "bidir") or function == "output2" and rng.random() < 0.04
+            control = [rng.choice(controls), rng.choice("01"), rng.choice(bsdl.RESULTS)] if enabled else []
+            self.cells.append([cell, port, function, control])
+
+
 def part_changes(rng, made: Description) -> list[tuple]:
     """Parts of a description by name, with what may be put in their place."""
     big = rng.choice((0, made.length - 1, made.length, made.length + 1, 4097, 65535, 65536, 10**25))
@@ -557,7 +592,7 @@ def spoil_description(rng, made: Description) -> None:
         made.extra.append([name, rng.choice(("TDI", "TRST", "K", "NOPE", "P1")), value])
 
 
-def chained(rng, texts: list[bytes]) -> tuple[dict, dict]:
+def chained(rng, texts: list[bytes], more: float = 0.9) -> tuple[dict, dict]:
     """The tables and files of a board of these descriptions; of those that are accepted pins are on nets."""
     files = {f"{place}.bsdl": text for place, text in enumerate(texts)}
     tables, pins = [], []
@@ -578,7 +613,7 @@ def chained(rng, texts: list[bytes]) -> tuple[dict, dict]:
                          for subscript in ([None] if subscripts is None else subscripts[:9])]
     rng.shuffle(pins)
     nets = []
-    while pins and rng.random() < 0.9:
+    while pins and rng.random() < more:
         size = rng.choice((0, 1, 1, 2, 2, 3, 5))
         nets.append({"name": f"N{len(nets)}", "pins": pins[:size]})
         nets[-1].update(some(rng, (0.5, [("pull", rng.choice(("up", "down", "none")))])))
@@ -586,9 +621,9 @@ def chained(rng, texts: list[bytes]) -> tuple[dict, dict]:
     return {"device": tables, "net": nets}, files
 
 
-def on_board(rng, texts: list[bytes], rounds: int) -> Case:
+def on_board(rng, texts: list[bytes], rounds: int, more: float = 0.9) -> Case:
     """A board of these descriptions, and a program for it if it is accepted."""
-    tree, files = chained(rng, texts)
+    tree, files = chained(rng, texts, more)
     try:
         board = read_board(tree, files)
     except Refusal:
@@ -620,6 +655,12 @@ def boards(rng, number: int) -> Case:
     """Random devices on random nets, and programs for them."""
     described = [Description(rng).text() for _ in range(rng.choice((1, 1, 2, 2, 3)))]
     return on_board(rng, described, rng.choice((2, 4, 7)))
+
+
+def banks(rng, number: int) -> Case:
+    """Devices most of whose pins are driven by cells without a control, and programs for them."""
+    described = [Banks(rng).text() for _ in range(rng.choice((1, 2, 2, 3)))]
+    return on_board(rng, described, rng.choice((2, 3, 5)), 0.99)
 
 
 # Board files
@@ -685,7 +726,7 @@ def files(rng, number: int) -> Case:
 
 
 KINDS = {kind.__name__: kind for kind in (
-    programs, statements, mutants, numbers, descriptions, texts, boards, files)}
+    programs, statements, mutants, numbers, descriptions, texts, boards, banks, files)}
 
 
 def case_of(kind: str, number: int) -> Case:
