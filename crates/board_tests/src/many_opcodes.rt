@@ -1,0 +1,198 @@
+//! Codes of a shared description: which row each names, however long the codes and however many the rows.
+use bsdl_device::{Cell, Device, Function, Names, Opcode, Parts, Pattern, Ports};
+use jt_bits::Bits;
+use scan_registers::{Mode, SharedDevice, is_formed};
+use std::alloc::{AllocError, Global};
+use std::test::Fail;
+
+/// As many opcodes as stand in a text of 4 MiB.
+const MANY: u32 = 110_000;
+
+/// The length of these.
+const LENGTH: usize = 20;
+
+/// Four names whose instructions drive the pins in four ways.
+const NAMES: [&str; 4] = ["EXTEST", "CLAMP", "HIGHZ", "SAMPLE"];
+
+/// A pattern as it is written, its last digit nearest TDO.
+fn pattern(alloc: Global, digits: &str) -> Result<Pattern, AllocError> {
+    let mut bits = Vec::new(alloc);
+    for digit in digits.as_bytes().iter().rev() {
+        bits.push(match *digit {
+            b'0' => Some(false),
+            b'1' => Some(true),
+            _ => None,
+        })?;
+    }
+    Ok(Pattern::new(bits))
+}
+
+/// The row of an instruction with these opcodes.
+fn row(alloc: Global, name: &str, patterns: Vec<Pattern>) -> Result<Opcode, AllocError> {
+    let mut text = String::new(alloc);
+    text.push_str(name)?;
+    Ok(Opcode::new(text, patterns))
+}
+
+/// A description of these rows, whose codes have this length.
+fn shared(alloc: Global, rows: Vec<Opcode>, length: usize) -> Result<SharedDevice, AllocError> {
+    let mut cells = Vec::with_capacity(alloc, 1)?;
+    cells.push(Cell {
+        function: Function::Internal,
+        port: None,
+        control: None,
+    })?;
+    let device = Device::new(Parts {
+        ports: Ports::new(alloc),
+        instruction_length: length,
+        opcodes: rows,
+        capture: Bits::zeros(alloc, length)?,
+        idcode: None,
+        usercode: None,
+        cells,
+        private_names: Names::new(alloc),
+        accesses: Vec::new(alloc),
+        users: Vec::new(alloc),
+        has_trst: false,
+    });
+    SharedDevice::new(alloc, device)
+}
+
+/// A description of rows of opcodes as they are written.
+fn written(
+    alloc: Global,
+    rows: &[(&str, &[&str])],
+    length: usize,
+) -> Result<SharedDevice, AllocError> {
+    let mut opcodes = Vec::new(alloc);
+    for (name, texts) in rows {
+        let mut patterns = Vec::new(alloc);
+        for text in *texts {
+            patterns.push(pattern(alloc, text)?)?;
+        }
+        opcodes.push(row(alloc, name, patterns)?)?;
+    }
+    shared(alloc, opcodes, length)
+}
+
+/// How the instruction in a latch drives the pins.
+fn mode(shared: &SharedDevice, latch: &Bits) -> Result<Mode, Fail> {
+    if !is_formed(shared.get()) || latch.len() != shared.get().instruction_length() {
+        return Err(Fail::from("not formed"));
+    }
+    Ok(shared.decode(latch).mode)
+}
+
+/// The same for a code of hexadecimal digits.
+fn mode_of(alloc: Global, shared: &SharedDevice, digits: &[u8]) -> Result<Mode, Fail> {
+    let length = shared.get().instruction_length();
+    let latch = Bits::from_hex(alloc, digits, length).map_err(|_| Fail::from("no value"))?;
+    mode(shared, &latch)
+}
+
+#[test]
+fn the_first_row_of_a_code_wins(rt: HostRuntime) -> Result<(), Fail> {
+    let alloc = rt.alloc();
+    let rows: [(&str, &[&str]); 3] = [
+        ("CLAMP", &["0001", "0001"]),
+        ("HIGHZ", &["0001", "0010", "1111"]),
+        ("EXTEST", &["0010", "100", "01000"]),
+    ];
+    let shared = written(alloc, &rows, 4)?;
+    assert_eq!(rt; mode_of(alloc, &shared, b"1")?, Mode::Clamp);
+    assert_eq!(rt; mode_of(alloc, &shared, b"2")?, Mode::HighZ);
+    // all ones is BYPASS, whatever row has it, and patterns of other lengths match no code
+    assert_eq!(rt; mode_of(alloc, &shared, b"F")?, Mode::Core);
+    assert_eq!(rt; mode_of(alloc, &shared, b"4")?, Mode::Core);
+    assert_eq!(rt; mode_of(alloc, &shared, b"8")?, Mode::Core);
+    Ok(())
+}
+
+#[test]
+fn a_row_with_an_x_wins_where_it_stands_first(rt: HostRuntime) -> Result<(), Fail> {
+    let alloc = rt.alloc();
+    let rows: [(&str, &[&str]); 4] = [
+        ("CLAMP", &["01XX"]),
+        ("HIGHZ", &["0101", "0001", "1X00", "1000"]),
+        ("EXTEST", &["00XX", "1X00"]),
+        ("CLAMP", &["X1X0"]),
+    ];
+    let shared = written(alloc, &rows, 4)?;
+    assert_eq!(rt; mode_of(alloc, &shared, b"5")?, Mode::Clamp);
+    assert_eq!(rt; mode_of(alloc, &shared, b"1")?, Mode::HighZ);
+    assert_eq!(rt; mode_of(alloc, &shared, b"8")?, Mode::HighZ);
+    assert_eq!(rt; mode_of(alloc, &shared, b"C")?, Mode::HighZ);
+    assert_eq!(rt; mode_of(alloc, &shared, b"3")?, Mode::Extest);
+    assert_eq!(rt; mode_of(alloc, &shared, b"E")?, Mode::Clamp);
+    assert_eq!(rt; mode_of(alloc, &shared, b"9")?, Mode::Core);
+    Ok(())
+}
+
+/// A row of one code of three words, of which two bits are 1.
+fn long_row(alloc: Global, name: &str, one: usize, other: usize) -> Result<Opcode, AllocError> {
+    let mut bits = Vec::new(alloc);
+    for i in 0..130usize {
+        bits.push(Some(i == one || i == other))?;
+    }
+    let mut patterns = Vec::new(alloc);
+    patterns.push(Pattern::new(bits))?;
+    row(alloc, name, patterns)
+}
+
+#[test]
+fn codes_of_more_than_one_word(rt: HostRuntime) -> Result<(), Fail> {
+    let alloc = rt.alloc();
+    let mut rows = Vec::new(alloc);
+    rows.push(long_row(alloc, "CLAMP", 0, 64)?)?;
+    rows.push(long_row(alloc, "HIGHZ", 0, 129)?)?;
+    rows.push(long_row(alloc, "EXTEST", 0, 0)?)?;
+    let shared = shared(alloc, rows, 130)?;
+    assert_eq!(rt; mode_of(alloc, &shared, b"10000000000000001")?, Mode::Clamp);
+    assert_eq!(rt;
+        mode_of(alloc, &shared, b"200000000000000000000000000000001")?,
+        Mode::HighZ
+    );
+    assert_eq!(rt; mode_of(alloc, &shared, b"1")?, Mode::Extest);
+    assert_eq!(rt;
+        mode_of(alloc, &shared, b"200000000000000010000000000000001")?,
+        Mode::Core
+    );
+    assert_eq!(rt; mode_of(alloc, &shared, b"10000000000000000")?, Mode::Core);
+    Ok(())
+}
+
+/// The code of a row of many, each of which has another.
+fn code(alloc: Global, number: u32) -> Result<Bits, AllocError> {
+    let mut bits = Bits::zeros(alloc, LENGTH)?;
+    if bits.len() == LENGTH {
+        bits.put_run(0, u64::from(number.wrapping_mul(48_271)), LENGTH);
+    }
+    Ok(bits)
+}
+
+#[test]
+fn as_many_opcodes_as_a_text_can_give(rt: HostRuntime) -> Result<(), Fail> {
+    let alloc = rt.alloc();
+    let mut rows = Vec::new(alloc);
+    for number in 0..MANY {
+        let bits = code(alloc, number)?;
+        let mut digits = Vec::new(alloc);
+        for i in 0..bits.len() {
+            digits.push(Some(bits.get(i)))?;
+        }
+        let mut patterns = Vec::new(alloc);
+        patterns.push(Pattern::new(digits))?;
+        rows.push(row(alloc, NAMES[number as usize % 4], patterns)?)?;
+    }
+    let shared = shared(alloc, rows, LENGTH)?;
+    let modes = [Mode::Extest, Mode::Clamp, Mode::HighZ, Mode::Core];
+    for number in 0..MANY {
+        if number % 1_009 == 0 {
+            let latch = code(alloc, number)?;
+            assert_eq!(rt; mode(&shared, &latch)?, modes[number as usize % 4]);
+        }
+    }
+    let latch = code(alloc, MANY)?;
+    assert_eq!(rt; mode(&shared, &latch)?, Mode::Core);
+    Ok(())
+}
