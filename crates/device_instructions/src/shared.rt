@@ -17,7 +17,7 @@ use std::rc::Rc;
 /// see it as the description.
 #[derive(Drop)]
 pub struct SharedDevice {
-    sorted: Rc<SortedDevice>,
+    device: Rc<SortedDevice>,
 }
 
 impl Model for SharedDevice {
@@ -26,7 +26,7 @@ impl Model for SharedDevice {
 
     ghost Value = { described.Device };
 
-    ghost view = { λ s. rc_value s.sorted };
+    ghost view = { λ s. rc_value s.device };
 }
 
 /// A description with the table of its opcodes. Contracts see it as the description.
@@ -54,7 +54,7 @@ impl SharedDevice {
     {
         let sorted = SortedDevice::new(alloc, device)?;
         Ok(SharedDevice {
-            sorted: Rc::new(alloc, sorted)?,
+            device: Rc::new(alloc, sorted)?,
         })
     }
 
@@ -63,7 +63,7 @@ impl SharedDevice {
         ensures { IfOk result (λ s. s ≡ self.now) }
     {
         Ok(SharedDevice {
-            sorted: self.sorted.clone()?,
+            device: self.device.clone()?,
         })
     }
 
@@ -71,7 +71,7 @@ impl SharedDevice {
     pub fn get(&self) -> &Device
         ensures { result.now ≡ self.now }
     {
-        self.sorted.device()
+        self.device.device()
     }
 
     /// What the instruction in a latch does, as [`crate::decode`] says. A code without an X is found by a search among
@@ -82,7 +82,7 @@ impl SharedDevice {
         ensures meaning { meaning_by self.now result ≡ meaning self.now latch.now }
         ensures fits { Fits self.now result }
     {
-        self.sorted.decode(latch)
+        self.device.decode(latch)
     }
 }
 
