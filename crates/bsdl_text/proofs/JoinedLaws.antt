@@ -31,11 +31,6 @@ unfolding chain
 at_string zero ts t rest x after short here marked next less = absurd (none_stands ts short here)
 at_string (suc n) ts t rest x after short here marked next less = (n, omega (arith, short, less), rw (here, marked, next) (is_prepended x (more n after)))
 
-at_no_mark : (n : ℕ) (ts : List Lexeme) (at : Option ℕ) → length ts ≤ n → stands ampersand ts ≡ true → mark ampersand ts ≡ misfit at → more n ts ≡ misfit at
-unfolding chain
-at_no_mark zero ts at short here no_mark = absurd (none_stands ts short here)
-at_no_mark (suc n) ts at short here no_mark = rw (here, no_mark) refl
-
 at_no_string : (n : ℕ) (ts : List Lexeme) (t : Lexeme) (rest : List Lexeme) (at : Option ℕ) → length ts ≤ n → stands ampersand ts ≡ true → mark ampersand ts ≡ fits t rest → string rest ≡ misfit at → more n ts ≡ misfit at
 unfolding chain
 at_no_string zero ts t rest at short here marked none = absurd (none_stands ts short here)
@@ -64,9 +59,6 @@ module _ (whole : Read (List Lexeme)) (text : List ℕ) (ts : List Lexeme) (j : 
   pub all_joined : stands ampersand ts ≡ false → text_of whole ≡ fits text ts
   all_joined none =
       ap text_of (j.whole_is ∙ ap (prepend j.strings) (at_last j.rounds ts none)) ∙ ap (λ ss. fits (text_within ss) ts) (append-nil j.strings) ∙ ap (λ t. fits t ts) (sym j.text_is)
-
-  pub joined_no_mark : (at : Option ℕ) → stands ampersand ts ≡ true → mark ampersand ts ≡ misfit at → text_of whole ≡ misfit at
-  joined_no_mark at here no_mark = ap text_of (j.whole_is ∙ ap (prepend j.strings) (at_no_mark j.rounds ts at j.enough here no_mark))
 
   pub joined_no_string : (at : Option ℕ) (t : Lexeme) (rest : List Lexeme) → stands ampersand ts ≡ true → mark ampersand ts ≡ fits t rest → string rest ≡ misfit at → text_of whole ≡ misfit at
   joined_no_string at t rest here marked none = ap text_of (j.whole_is ∙ ap (prepend j.strings) (at_no_string j.rounds ts t rest at j.enough here marked none))

@@ -26,9 +26,6 @@ prepend-prepend xs x (fits ys rest) = ap (λ zs. fits zs rest) (sym (append_one 
 prepend-prepend xs x (misfit at) = refl
 
 module _ {A : Type 0} (item : List Lexeme → Read A) (separator : ℕ) (closes : List Lexeme → Bool) where
-  abbrev then_more : ℕ → A → List Lexeme → Read (List A)
-  then_more n x more = further item separator closes n more >>= λ xs after. fits (x ∷ xs) after
-
   is_prepended : (x : A) (r : Read (List A)) → (r >>= λ xs after. fits (x ∷ xs) after) ≡ prepend (x ∷ []) r
   is_prepended x (fits xs after) = refl
   is_prepended x (misfit at) = refl
@@ -76,9 +73,6 @@ module _ {A : Type 0} (item : List Lexeme → Read A) (separator : ℕ) (closes 
 
   pub first_one : (ts : List Lexeme) (x : A) (rest : List Lexeme) → item ts ≡ fits x rest → separated item separator closes ts ≡ prepend (x ∷ []) (further item separator closes (length rest) rest)
   first_one ts x rest here = rw here (is_prepended x (further item separator closes (length rest) rest))
-
-  pub no_first : (ts : List Lexeme) (at : Option ℕ) → item ts ≡ misfit at → separated item separator closes ts ≡ misfit at
-  no_first ts at none = rw none refl
 
   -- ---- the same behind entries that were read
 
