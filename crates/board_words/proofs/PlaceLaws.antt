@@ -43,10 +43,6 @@ or_none : (o : Option ℕ) (n : ℕ) → or_last o false n ≡ o
 or_none None n = refl
 or_none (Some k) n = refl
 
-or_there : (o : Option ℕ) (b : Bool) (n : ℕ) → is_some o ≡ true → or_last o b n ≡ o
-or_there None b n h = absurd (false≢true h)
-or_there (Some k) b n h = refl
-
 module _ {K : Type 0} (cmp : K → K → Ordering) (order : IsTotalOrder cmp) (m : BTreeMap K ℕ) (ks : List K) (first : AreFirst cmp m ks) (key : K) where
   -- a key equal to this one has the same place
   same_place : (q : K) → is_at (cmp key) q ≡ true → position (is_at (cmp q)) ks ≡ get cmp m key
@@ -61,13 +57,6 @@ module _ {K : Type 0} (cmp : K → K → Ordering) (order : IsTotalOrder cmp) (m
       by : (b : Bool) → is_at (cmp key) q ≡ b → cond b (Some place) (get cmp m q) ≡ or_last (position (is_at (cmp q)) ks) (is_at (cmp q) key) (length ks)
       by true h = rw (same_place q h ∙ new, turned q, h, is) refl
       by false h = rw (turned q, h) (first q ∙ sym (or_none _ _))
-
-  pub once_more : is_some (get cmp m key) ≡ true → AreFirst cmp m (ks ++ key ∷ [])
-  once_more there q = first q ∙ by (is_at (cmp key) q) refl ∙ sym (position_push (is_at (cmp q)) ks key)
-    where
-      by : (b : Bool) → is_at (cmp key) q ≡ b → position (is_at (cmp q)) ks ≡ or_last (position (is_at (cmp q)) ks) (is_at (cmp q) key) (length ks)
-      by true h = sym (or_there _ _ _ (ap is_some (same_place q h) ∙ there))
-      by false h = rw (turned q, h) (sym (or_none _ _))
 
 pub none_there : {A : Type 0} (o : Option A) → is_some o ≡ false → o ≡ None
 none_there None h = refl
