@@ -25,11 +25,6 @@ module _ {A : Type 0} (item : List Lexeme → Read A) (separator : ℕ) where
   at_entry zero ts t rest x after short here marked next less = absurd (none_stands ts short here)
   at_entry (suc n) ts t rest x after short here marked next less = (n, omega (arith, short, less), rw (here, marked, next) (is_prepended x (chain item separator n after)))
 
-  at_no_mark : (n : ℕ) (ts : List Lexeme) (at : Option ℕ) → length ts ≤ n → stands separator ts ≡ true → mark separator ts ≡ misfit at → chain item separator n ts ≡ misfit at
-  unfolding chain
-  at_no_mark zero ts at short here no_mark = absurd (none_stands ts short here)
-  at_no_mark (suc n) ts at short here no_mark = rw (here, no_mark) refl
-
   at_no_entry : (n : ℕ) (ts : List Lexeme) (t : Lexeme) (rest : List Lexeme) (at : Option ℕ) → length ts ≤ n → stands separator ts ≡ true → mark separator ts ≡ fits t rest → item rest ≡ misfit at → chain item separator n ts ≡ misfit at
   unfolding chain
   at_no_entry zero ts t rest at short here marked none = absurd (none_stands ts short here)
@@ -38,15 +33,9 @@ module _ {A : Type 0} (item : List Lexeme → Read A) (separator : ℕ) where
   pub first_chained : (ts : List Lexeme) (x : A) (rest : List Lexeme) → item ts ≡ fits x rest → joined_by item separator ts ≡ prepend (x ∷ []) (chain item separator (length rest) rest)
   first_chained ts x rest first = rw first (is_prepended x (chain item separator (length rest) rest))
 
-  pub none_chained : (ts : List Lexeme) (at : Option ℕ) → item ts ≡ misfit at → joined_by item separator ts ≡ misfit at
-  none_chained ts at none = rw none refl
-
   module _ (whole : Read (List A)) (xs : List A) (n : ℕ) (ts : List Lexeme) (is : whole ≡ prepend xs (chain item separator n ts)) where
     pub all_chained : stands separator ts ≡ false → whole ≡ fits xs ts
     all_chained none = is ∙ ap (prepend xs) (at_last n ts none) ∙ ap (λ zs. fits zs ts) (append-nil xs)
-
-    pub chained_no_mark : (at : Option ℕ) → length ts ≤ n → stands separator ts ≡ true → mark separator ts ≡ misfit at → whole ≡ misfit at
-    chained_no_mark at short here no_mark = is ∙ ap (prepend xs) (at_no_mark n ts at short here no_mark)
 
     pub chained_no_entry : (at : Option ℕ) (t : Lexeme) (rest : List Lexeme) → length ts ≤ n → stands separator ts ≡ true → mark separator ts ≡ fits t rest → item rest ≡ misfit at → whole ≡ misfit at
     chained_no_entry at t rest short here marked none = is ∙ ap (prepend xs) (at_no_entry n ts t rest at short here marked none)
