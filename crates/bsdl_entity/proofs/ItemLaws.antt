@@ -45,13 +45,6 @@ module _ (is_port : List ℕ → Bool) where
   at_item zero ts o rest short more here less = absurd (omega (arith, short, less))
   at_item (suc n) ts o rest short more here less = (n, omega (arith, short, less), rw (more, here) (is_prepended o (items is_port n rest)))
 
-  pub first_items : (n : ℕ) (ts : List Lexeme) → items is_port n ts ≡ prepend [] (items is_port n ts)
-  first_items n ts = nothing_before (items is_port n ts)
-    where
-      nothing_before : (r : Read (List Given)) → r ≡ prepend [] r
-      nothing_before (fits gs rest) = refl
-      nothing_before (misfit at) = refl
-
   module _ (whole : Read (List Given)) (xs : List Given) (n : ℕ) (ts : List Lexeme) (is : whole ≡ prepend xs (items is_port n ts)) where
     pub all_items : begins (codes "END") ts ≡ true → whole ≡ fits xs ts
     all_items end = is ∙ ap (prepend xs) (at_end n ts end) ∙ ap (λ ys. fits ys ts) (append-nil xs)
