@@ -79,8 +79,8 @@ impl<'a> Lexer<'a> {
         }
     }
 
-    /// The next token of a statement. At its `;`, at the text's end and at a fault there is none, and what is left stays; but
-    /// the gap before that is passed, so that nobody walks through it again.
+    /// The next token of a statement. At its `;`, at the text's end and at a fault there is none, and what is left
+    /// stays; but the gap before that is passed, so that nobody walks through it again.
     pub fn next_of_statement(&mut self) -> Option<Token<'a>>
         ensures { NextOfStatement (left self.old) (left self.new) result }
     {
