@@ -22,7 +22,8 @@ use Rattle.board_meaning.specs.declared.Reply.TheVariants as said
 use Rattle.board_meaning.specs.Nets.{sees}
 use Rattle.whole_chain.specs.Words.{word_bits}
 use Rattle.whole_chain.proofs.Rows.{bit-left, bit-right}
-use Rattle.whole_chain.proofs.WordLaws.{is_front, length-word}
+use Rattle.jt_bits.proofs.WordShifts.{length-word}
+use Rattle.whole_chain.proofs.WordLaws.{is_front}
 use Rattle.jt_board.specs.Shifting.{shift_cycles, shifts}
 use Rattle.play_links.specs.Leaving.{left_after, left_behind}
 use Rattle.play_links.specs.Serves.{ServedBytes, serve_bytes, serve_one}
