@@ -197,13 +197,10 @@ impl Pipes {
         ensures none { result ≡ 0 → (m : ℕ) → served self.old.up_room m self.old.world.down self.old.world
             ≡ self.old.world }
     {
-        if self.quit || self.down.len() < FEWEST_TOGETHER {
-            return usize::from(self.serve_byte());
-        }
         let room = self.up.capacity() - self.up.len();
         let (front, _) = self.down.as_slices();
         let most = front.len().min(n).min(room).min(MOST_TOGETHER);
-        if most < FEWEST_TOGETHER {
+        if self.quit || most < FEWEST_TOGETHER {
             return usize::from(self.serve_byte());
         }
         let taken = serve_front(&mut self.board, &front[..most], &mut self.up);

@@ -20,10 +20,10 @@ returns-clause-world c =
     let i = c.self.inside in
     let taken = c.serve_front-taken in
     let world = piece_taken i.player i.board i.down i.up i.lost c.as_slices.result.0.now c.as_slices.result.1.now c.min-most.result taken.result.bytes
-    (c.len-3.result - taken.result.bytes) taken.new.board c.truncate_front.new.self taken.new.up c.is_quit-self-inside.result c.as_slices.ensures
+    (c.len-2.result - taken.result.bytes) taken.new.board c.truncate_front.new.self taken.new.up c.is_quit-self-inside.result c.as_slices.ensures
     (omega (arith, c.min-most.ensures, c.min-2.ensures, c.min.ensures))
-    (omega (arith, c.min-most.ensures, c.min-2.ensures, c.capacity.ensures.capacity, c.len-2.ensures.len, c.len-2.ensures.within.0))
-    taken.ensures.bytes (ap (λ (n : ℕ). n - taken.result.bytes) c.len-3.ensures.len) taken.ensures.board taken.ensures.up
+    (omega (arith, c.min-most.ensures, c.min-2.ensures, c.capacity.ensures.capacity, c.len.ensures.len, c.len.ensures.within.0))
+    taken.ensures.bytes (ap (λ (n : ℕ). n - taken.result.bytes) c.len-2.ensures.len) taken.ensures.board taken.ensures.up
     (c.is_quit-self-inside.ensures ∙ ap is_quit taken.ensures.stop) c.truncate_front.ensures in
     world
     ∙ (λ j. let s = world_between i.player i.board i.down i.up (sym c.if-self.false j) i.lost in record s { world = served s.up_room taken.result.bytes s.world.down s.world })

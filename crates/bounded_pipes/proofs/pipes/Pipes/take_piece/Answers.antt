@@ -13,7 +13,7 @@ pub invariant_of-self : goal.invariant_of-self
 invariant_of-self c =
     let i = c.self.inside in
     let count = c.min-count.result in
-    let long = omega (arith, c.min-count.ensures, ap length c.as_slices.ensures, length-append c.as_slices.result.0.now c.as_slices.result.1.now) in
+    let long : count ≤ length i.up.items = omega (arith, c.min-count.ensures, ap length c.as_slices.ensures, length-append c.as_slices.result.0.now c.as_slices.result.1.now) in
     let left = kept (c.len.result - count) count i.up.items (ap (λ (n : ℕ). n - count) c.len.ensures.len) long in
     subst AreAnswers (sym (ap (λ (b : Buffer ℕ). b.items) c.truncate_front.ensures ∙ left))
     (answers-left count i.up.items c.self.invariant)
