@@ -122,8 +122,8 @@ impl Wiring {
         self.place(pin, drive);
     }
 
-    /// A pin drives this from now on, as `put` has it, whatever was last put there: there is no branch on what it drove,
-    /// which pays where many pins drive another level than before.
+    /// A pin drives this from now on, as `put` has it, whatever was last put there: there is no branch on what it
+    /// drove, which pays where many pins drive another level than before.
     pub fn place(&mut self, pin: usize, drive: Drive)
         requires { pin < length (all_pins self.old.nets) }
         ensures { self.new ≡ record self.old { drives = slice_set self.old.drives pin drive } }
