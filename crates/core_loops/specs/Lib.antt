@@ -1,0 +1,4 @@
+pub mod Loops
+pub mod Marks
+pub mod Numbers
+pub mod Jobs
