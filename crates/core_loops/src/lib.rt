@@ -26,7 +26,9 @@ use std::alloc::{AllocError, Global};
 /// shows.
 #[derive(Debug, Clone, Copy, PartialEq, Eq)]
 pub struct Dependency {
+    /// The net that depends on the other.
     pub target: usize,
+    /// The net that it depends on.
     pub source: usize,
 }
 
