@@ -314,6 +314,7 @@ impl Seat {
     }
 
     /// A falling edge.
+    #[inline(always)]
     pub fn fall(&mut self)
         ensures kept { IsKept self.old self.new }
         ensures trst { self.new.chip.trst ≡ self.old.chip.trst }

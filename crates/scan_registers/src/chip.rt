@@ -131,6 +131,7 @@ impl<B: Register> Chip<B> {
     }
 
     /// A falling edge of TCK: the state's update or reset, and then TDO.
+    #[inline(always)]
     pub fn fall(&mut self)
         ensures chip { one_chip B.stage B.update_part self.new
             ≡ fall (surroundings_of B.captured B.at_reset self.old) (one_chip B.stage B.update_part self.old) }
