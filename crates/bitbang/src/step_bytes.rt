@@ -24,6 +24,29 @@ pub struct Spot {
     closes: bool,
 }
 
+impl Spot {
+    ghost use Rattle.std.specs.Prelude.{◌≡◌, List, IfSome, Some, drop, slice_get};
+    ghost use Rattle.bitbang_table.specs.declared.Cycle.{Cycle};
+    ghost use Rattle.bitbang.specs.Left.{behind};
+
+    /// The next byte and the spot behind it, where that byte is one of a cycle that is begun: it is known without the
+    /// step.
+    pub fn begun_byte(self) -> Option<(u8, Spot)>
+        ensures first { IfSome result (λ r. (cs : List Cycle) → slice_get (behind self cs) 0 ≡ Some r.0) }
+        ensures rest { IfSome result (λ r. (cs : List Cycle) → behind r.1 cs ≡ drop 1 (behind self cs)) }
+    {
+        if self.line.is_some() {
+            return None;
+        }
+        let byte = self.begun.peek()?;
+        let begun = Begun {
+            out: self.begun.out + 1,
+            ..self.begun
+        };
+        Some((byte, Spot { begun, ..self }))
+    }
+}
+
 /// The bytes of a step that are left, in order: what it says of the line TRST, the bytes of each cycle, and where it
 /// has cycles, a last `0`.
 #[derive(Debug, Drop)]
