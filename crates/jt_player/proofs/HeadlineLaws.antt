@@ -1,18 +1,35 @@
 -- The headline: an accepted program is legal, and a board in use is sound.
 use Rattle.svf_programs.specs.Steps.{Program}
 use Rattle.svf_programs.specs.Legal.{IsLegalProgram}
-use Rattle.std.proofs.Common.{◌≡◌, ℕ, List, [], ◌∷◌, ◌++◌, refl, sym, ap, ◌∙◌}
+use Rattle.std.proofs.Common.{◌≡◌, ◌⊎◌, inl, inr, ℕ, Bool, List, [], ◌∷◌, ◌++◌, map, refl, sym, ap, subst, ◌∙◌, Option, Some, None}
 use Rattle.svf_settings.proofs.FirstRefusals.{accepted_is_sound}
-use Rattle.board_meaning.specs.Chain.{BoardState, after_byte, after_bytes}
+use Rattle.bitbang_table.specs.declared.Message.TheVariants.{Quit}
+use Rattle.board_meaning.specs.Chain.{BoardState, after_byte, after_bytes, hear}
+use Rattle.board_meaning.proofs.BytesAndMessages.{after_all-encoded}
+use Rattle.every_schedule.specs.Laws.{bytes_of_full_play, full}
 use Rattle.jt_board.proofs.InUse.{every_board}
 use Rattle.plays.proofs.Described.{means_from_opening}
 use Rattle.direct_play.specs.Accepting.{Accepts}
-use Rattle.plays.specs.declared.kind.Kind.TheVariants.{Stops}
+use Rattle.plays.specs.declared.ending.Ending.{Ending}
+use Rattle.plays.specs.declared.ending.Ending.TheVariants.{Pass, Fail}
+use Rattle.plays.specs.declared.kind.Kind.{Kind}
+use Rattle.plays.specs.declared.kind.Kind.TheVariants.{Stops, PlaysOn}
+use Rattle.plays.specs.Endings.{status_of}
+use Rattle.plays.specs.Play.{Played, Turn, full_play, turns}
+use Rattle.plays.specs.PlayingOn.{Mismatch, ending_of, turns_for}
+use Rattle.plays.proofs.Asks.{hear-full}
+use Rattle.scan_vectors.specs.Vector.{judge}
+use Rattle.scan_vectors.specs.declared.part.Part.{Part}
 use Rattle.joined.proofs.Ends.{means}
 use Rattle.joined.proofs.Inside.{inside}
 use Rattle.joined.specs.Inside.{taken_by_board}
 use Rattle.jt_player.specs.Headline.{DirectPlayMeansWhatTheTextMeans, EveryScheduleMeansWhatTheTextMeans}
-use Rattle.jt_player.specs.Headline.{WhatEventsLeaveIsInUse}
+use Rattle.jt_player.specs.Headline.{DirectPlaysPassOrFail, EndsIn, EveryRunEnds, PassesOrFails, passes, fails, is_refused, wants_memory}
+use Rattle.jt_player.specs.Headline.{WhatDirectPlaysLeaveIsInUse, WhatEventsLeaveIsInUse, WhatRunsLeaveIsInUse}
+use Rattle.jt_player.specs.Kinds.{ending_in}
+use Rattle.jt_player.specs.Running.{IsRunOf, Run, no_memory, played, refused}
+use Rattle.direct_play.specs.ToTheEnd.{all_failures}
+use Rattle.jt_board.specs.InUse.{IsInUse}
 
 legal : (text : List ℕ) (program : Program) → Accepts text program → IsLegalProgram program.steps
 legal text program (statements, spelt, resolved) = (accepted_is_sound statements program resolved).legal
@@ -41,3 +58,65 @@ in_use_again program start met down_room up_room events =
       now = (inside Stops program start down_room up_room events).board ∙ ap (after_bytes took) met.now
           ∙ sym (more_bytes met.taken took met.at_first);
     }
+
+pub directly_in_use : WhatDirectPlaysLeaveIsInUse
+directly_in_use kind program start met =
+    let took = bytes_of_full_play kind program.steps start in
+    let messages = (full kind program.steps start).messages in
+    let heard : (full kind program.steps start).board ≡ (hear messages start).board =
+    sym (ap (λ h. h.board) (hear-full (turns_for kind program.steps) start)) in
+    record {
+      at_first = met.at_first;
+      made = met.made;
+      taken = met.taken ++ took;
+      now = heard ∙ sym (after_all-encoded messages start) ∙ ap (after_bytes took) met.now ∙ sym (more_bytes met.taken took met.at_first);
+    }
+
+pub runs_in_use : WhatRunsLeaveIsInUse
+runs_in_use kind text bytes start met run (played program accepted means) = directly_in_use kind program start met
+runs_in_use kind text bytes start met run (refused fault refuses) = met
+runs_in_use kind text bytes start met run no_memory = met
+
+stopping : (ts : List Turn) (b : BoardState) → PassesOrFails (full_play ts b).ending
+stopping [] b = inl refl
+stopping (t ∷ ts) b = by (judge t.wants (hear t.messages b).answers) (stopping ts (hear t.messages b).board)
+  where
+    rest : Played
+    rest = full_play ts (hear t.messages b).board
+
+    ended : Option (Part × ℕ) → Played
+    ended o = elim o [
+      | None ↦ record {
+        messages = t.messages ++ rest.messages;
+        answers = (hear t.messages b).answers ++ rest.answers;
+        ending = rest.ending;
+        board = rest.board;
+      }
+      | Some f ↦ record {
+        messages = t.messages ++ Quit ∷ [];
+        answers = (hear t.messages b).answers;
+        ending = Fail t.command f.0 f.1;
+        board = (hear t.messages b).board;
+      }
+    ]
+
+    by : (o : Option (Part × ℕ)) → PassesOrFails rest.ending → PassesOrFails (ended o).ending
+    by None later = later
+    by (Some f) later = inr (t.command, f.0, f.1, refl)
+
+to_the_end : (found : List Mismatch) → PassesOrFails (ending_of found)
+to_the_end [] = inl refl
+to_the_end (f ∷ found) = inr (f.command, f.part, f.bit, refl)
+
+pub pass_or_fail : DirectPlaysPassOrFail
+pass_or_fail Stops program start = stopping (turns program.steps) start
+pass_or_fail PlaysOn program start = to_the_end (all_failures program start)
+
+pub run_ends : EveryRunEnds
+run_ends kind text bytes start run (played program accepted means) = by (pass_or_fail kind program start)
+  where
+    by : PassesOrFails (ending_in kind program start) → EndsIn kind text start (status_of (ending_in kind program start))
+    by (inl e) = subst (EndsIn kind text start) (sym (ap status_of e)) (passes program accepted e)
+    by (inr (command, part, bit, e)) = subst (EndsIn kind text start) (sym (ap status_of e)) (fails program accepted command part bit e)
+run_ends kind text bytes start run (refused fault refuses) = is_refused fault refuses
+run_ends kind text bytes start run no_memory = wants_memory

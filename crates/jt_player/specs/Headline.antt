@@ -1,13 +1,20 @@
 -- The headline: an accepted text, a board in use, and whatever order of events over two bounded pipes.
-use Rattle.std.specs.Prelude.{◌≡◌, false, ℕ, List, Some}
+use Rattle.std.specs.Prelude.{◌≡◌, ◌⊎◌, Bool, false, ℕ, List, Some}
 use Rattle.svf_programs.specs.Steps.{Program}
 use Rattle.board_meaning.specs.Chain.{BoardState}
 use Rattle.jt_board.specs.InUse.{IsInUse}
+use Rattle.every_schedule.specs.Laws.{full}
 use Rattle.plays.specs.declared.ending.Ending.{Ending}
+use Rattle.plays.specs.declared.ending.Ending.TheVariants.{Pass, Fail}
+use Rattle.plays.specs.declared.kind.Kind.{Kind}
 use Rattle.plays.specs.DirectPlay.{MeansFromOpening}
 use Rattle.plays.specs.Events.{Event}
 use Rattle.plays.specs.Play.{play}
-use Rattle.direct_play.specs.Accepting.{Accepts}
+use Rattle.scan_vectors.specs.declared.part.Part.{Part}
+use Rattle.svf_words.specs.declared.fault.SvfFault.{SvfFault}
+use Rattle.direct_play.specs.Accepting.{Accepts, Refuses}
+use Rattle.jt_player.specs.Kinds.{ending_in}
+use Rattle.jt_player.specs.Running.{IsRunOf, Run}
 use Rattle.bounded_pipes.specs.Standing.{ended_of}
 use Rattle.joined.specs.Laws.{joined_after}
 
@@ -33,3 +40,36 @@ abbrev pub WhatEventsLeaveIsInUse : Type 0
 WhatEventsLeaveIsInUse = (program : Program) (start : BoardState) → IsInUse start
     → (down_room up_room : ℕ) (events : List Event)
     → IsInUse (joined_after program start down_room up_room events).board
+
+-- So is what a direct play leaves, of a player that stops at the first failing step or goes to the end; and what a run
+-- leaves, a refused one too.
+abbrev pub WhatDirectPlaysLeaveIsInUse : Type 0
+WhatDirectPlaysLeaveIsInUse = (kind : Kind) (program : Program) (start : BoardState) → IsInUse start
+    → IsInUse (full kind program.steps start).board
+
+abbrev pub WhatRunsLeaveIsInUse : Type 0
+WhatRunsLeaveIsInUse = (kind : Kind) (text : List ℕ) (bytes : Bool) (start : BoardState) → IsInUse start
+    → (run : Run) → IsRunOf kind text bytes start run → IsInUse run.board
+
+-- A direct play passes or fails: it is never lost, and no answer is bad.
+abbrev pub PassesOrFails : Ending → Type 0
+PassesOrFails ending =
+    (ending ≡ Pass) ⊎ ((command : ℕ) × (part : Part) × (bit : ℕ) × (ending ≡ Fail command part bit))
+
+abbrev pub DirectPlaysPassOrFail : Type 0
+DirectPlaysPassOrFail =
+    (kind : Kind) (program : Program) (start : BoardState) → PassesOrFails (ending_in kind program start)
+
+-- What the exit status of a run says: 0 and 1 that its text is accepted and was played, and passed or failed; 2 that the
+-- text is refused; 4 that memory ran out.
+pub data EndsIn (kind : Kind) (text : List ℕ) (start : BoardState) : (status : ℕ) → Type 0 where
+  passes : (program : Program) → Accepts text program → ending_in kind program start ≡ Pass
+      → EndsIn kind text start 0
+  fails : (program : Program) → Accepts text program → (command : ℕ) (part : Part) (bit : ℕ)
+      → ending_in kind program start ≡ Fail command part bit → EndsIn kind text start 1
+  is_refused : (fault : SvfFault) → Refuses text fault → EndsIn kind text start 2
+  wants_memory : EndsIn kind text start 4
+
+abbrev pub EveryRunEnds : Type 0
+EveryRunEnds = (kind : Kind) (text : List ℕ) (bytes : Bool) (start : BoardState) (run : Run)
+    → IsRunOf kind text bytes start run → EndsIn kind text start run.status

@@ -1,7 +1,8 @@
 //! The headline, over the definitions that the contracts of `accept`, `Board`, `Player` and `Joined` cite.
 
 ghost use Rattle.jt_player.specs.Headline.{DirectPlayMeansWhatTheTextMeans, EveryScheduleMeansWhatTheTextMeans};
-ghost use Rattle.jt_player.specs.Headline.{WhatEventsLeaveIsInUse};
+ghost use Rattle.jt_player.specs.Headline.{WhatDirectPlaysLeaveIsInUse, WhatEventsLeaveIsInUse, WhatRunsLeaveIsInUse};
+ghost use Rattle.jt_player.specs.Headline.{DirectPlaysPassOrFail, EveryRunEnds};
 
 /// For every accepted text, every board that a board file and its descriptions make or that has bare devices, whatever
 /// bytes it took before, every room of two pipes and every order of events: a play that ends unlost gives exactly the
@@ -18,4 +19,21 @@ pub fn every_schedule_means_what_the_text_means()
 /// what its own text means.
 pub fn what_events_leave_is_in_use()
     ensures { WhatEventsLeaveIsInUse }
+{}
+
+/// So is the board of a direct play, of either kind, and that of a run, of a refused text too.
+pub fn what_direct_plays_leave_is_in_use()
+    ensures plays { WhatDirectPlaysLeaveIsInUse }
+    ensures runs { WhatRunsLeaveIsInUse }
+{}
+
+/// A direct play, as by `play_board` and `play_noted`, passes or fails: it is never lost, and no answer is bad.
+pub fn direct_plays_pass_or_fail()
+    ensures { DirectPlaysPassOrFail }
+{}
+
+/// The exit status of `run_play` and `run_play_all`, where they answer one, is 0 of an accepted text that passes, 1 of
+/// an accepted text that fails, 2 of a refused text, or 4 where memory ran out.
+pub fn every_run_ends()
+    ensures { EveryRunEnds }
 {}

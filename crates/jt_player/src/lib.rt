@@ -11,7 +11,10 @@ mod stop;
 
 pub use byte_ends::{Both, End, Sink, Source};
 pub use direct_play::accept;
-pub use headline::{every_schedule_means_what_the_text_means, what_events_leave_is_in_use};
+pub use headline::{
+    direct_plays_pass_or_fail, every_run_ends, every_schedule_means_what_the_text_means,
+    what_direct_plays_leave_is_in_use, what_events_leave_is_in_use,
+};
 pub use joined::{Event, Joined, Standing, Unjoined};
 pub use jt_board::{
     Board, BoardFault, Broken, BsdlFault, Counted, Level, Reply, Snapshot, bsdl_names, write_report,
