@@ -1,5 +1,5 @@
 use crate::players::player_of;
-use jt_player::{Board, Ending, Event, Joined, Standing};
+use jt_player::{Board, Ending, Event, Joined, Part, Standing};
 use std::alloc::Global;
 use std::process::Abort;
 use std::test::Fail;
@@ -43,6 +43,23 @@ fn byte_by_byte(rt: HostRuntime) -> Result<(), Fail> {
     assert_eq!(rt; joined.run(&[Event::Put(1), Event::Lose]), after);
     assert_eq!(rt; joined.finish(), Ending::Pass);
     assert!(rt; !joined.board().snapshot().tck());
+    Ok(())
+}
+
+/// A scan of more bits than answers may be owed, of which bit 2 is to come out otherwise, over the smallest pipes, over
+/// those in which bytes stand together, and over the largest.
+#[test]
+fn a_long_scan_over_pipes_of_each_room(rt: HostRuntime) -> Result<(), Fail> {
+    for room in &[1, 2, 7, 8, 64, 65_536][..] {
+        let board = Board::bare(rt.alloc(), 1)?;
+        let mut joined = joined(&rt, rt.alloc(), b"SDR 300 TDI (1) TDO (6);", board, *room)?;
+        let ending = Ending::Fail {
+            command: 1,
+            part: Part::Data,
+            bit: 2,
+        };
+        assert_eq!(rt; joined.finish(), ending);
+    }
     Ok(())
 }
 

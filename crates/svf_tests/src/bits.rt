@@ -146,6 +146,43 @@ fn assert_read_and_shifted(rt: &impl Abort, alloc: Global, n: usize) -> Result<(
     Ok(())
 }
 
+/// A shift moves the start on by one, round the words, and puts one of their bits: what a snapshot's readers see of it.
+#[test]
+fn a_shift_moves_the_start_and_puts_one_bit(rt: HostRuntime) -> Result<(), Fail> {
+    for n in &[1, 63, 64, 65, 4096][..] {
+        let mut both = Both::mixed(&rt, rt.alloc(), *n)?;
+        for i in 0..130 {
+            assert_moves(&rt, rt.alloc(), &mut both.bits, i % 5 < 2)?;
+        }
+    }
+    Ok(())
+}
+
+/// Asserts what a shift does to the words: the bit stands right behind the last one, and all others as before.
+fn assert_moves(
+    rt: &impl Abort,
+    alloc: Global,
+    bits: &mut Bits,
+    bit: bool,
+) -> Result<(), AllocError> {
+    let before = bits.packed().to_vec(alloc)?;
+    let start = bits.start();
+    assert!(rt; bits.len() > 0);
+    bits.shift_in(bit);
+    let places = before.len().wrapping_mul(64).max(1);
+    let end = start.wrapping_add(bits.len()) % places;
+    assert_eq!(rt; bits.start(), start.wrapping_add(1) % places);
+    for place in 0..places {
+        let wanted = if place == end {
+            bit
+        } else {
+            packed_bit(&before, place)
+        };
+        assert_eq!(rt; packed_bit(bits.packed(), place), wanted);
+    }
+    Ok(())
+}
+
 #[test]
 fn resized(rt: HostRuntime) -> Result<(), Fail> {
     for n in LENGTHS {
