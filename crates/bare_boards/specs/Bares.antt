@@ -6,7 +6,7 @@ use Rattle.board_meaning.specs.Bare.{bare, bare_name}
 
 -- the bare device U and this number, its core 0
 abbrev pub bare_at : ℕ → planned.Member
-bare_at k = record { name = bare_name k; device = bare; core = false ∷ []; extest_update = false }
+bare_at k = record { name = bare_name k; device = bare; core = false ∷ []; follows = []; extest_update = false }
 
 -- n of them, the first with this number
 abbrev pub bare_planned : ℕ → ℕ → List planned.Member

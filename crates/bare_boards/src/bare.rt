@@ -54,6 +54,7 @@ fn planned_device(
         name: format!(in alloc; "U{number}")?,
         device: device.share()?,
         core: Bits::zeros(alloc, 1)?,
+        follows: Vec::new(alloc),
         extest_update: false,
     })
 }

@@ -9,11 +9,11 @@ use Rattle.toml.specs.Data.{Members}
 use Rattle.bsdl_device.specs.Device.{Device}
 use Rattle.board_tables.specs.Fields.{text_at}
 use Rattle.board_words.specs.FirstPlaces.{with_name}
-use Rattle.board_library.specs.Files.{File, described, device_at, cells_at}
+use Rattle.board_library.specs.Files.{File, described, device_at}
 use Rattle.board_names.specs.Files.{file_at}
-use Rattle.board_file.specs.Wiring.{member_at}
-use Rattle.board_library.specs.View.{stands_at, cells_in}
-use Rattle.board_parts.specs.Parts.{member_in}
+use Rattle.board_file.specs.Wiring.{known_at, member_at}
+use Rattle.board_library.specs.View.{stands_at}
+use Rattle.board_parts.specs.Parts.{known_in, member_in}
 use Rattle.board_library.proofs.FileLaws.{found_at}
 
 -- ---- each name is among those that are distinct
@@ -91,9 +91,9 @@ module _ (says : List ℕ → Option Device) (files : List File) (names : List (
   stands : (t : Members) → Has names (file_at t) → stands_at names (map (described says files) names) t ≡ device_at says files t
   stands t h = stands_by (text_at (codes "bsdl") t) h
 
-  pub same_cells : (ts : List Members) → Named names ts → map (cells_in names (map (described says files) names)) ts ≡ map (cells_at says files) ts
-  same_cells [] h = refl
-  same_cells (t ∷ ts) h = rw (stands t h.0, same_cells ts h.1) refl
+  pub same_known : (ts : List Members) → Named names ts → map (known_in names (map (described says files) names)) ts ≡ map (known_at says files) ts
+  same_known [] h = refl
+  same_known (t ∷ ts) h = rw (stands t h.0, same_known ts h.1) refl
 
   pub same_devices : (ts : List Members) → Named names ts → filter_map (stands_at names (map (described says files) names)) ts ≡ filter_map (device_at says files) ts
   same_devices [] h = refl

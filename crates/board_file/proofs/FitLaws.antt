@@ -1,32 +1,37 @@
 -- What holds of every board that a board file makes.
 use Rattle.std.proofs.Common.{◌≡◌, ◌<◌, ◌≤◌, ℕ, zero, suc, nat_lt, ◌==◌, Bool, true, false, not, ◌&&◌, ◌||◌, cond, List, [], ◌∷◌, ◌++◌, append_assoc, map, reverse, length, slice_get, codes, Option, Some, None, is_some, is_none, option_map, option_and_then, unwrap_or, Result, Ok, Err, IfOk, refl, ap, sym, ◌∙◌, subst, arith}
 use Rattle.std.specs.Option.{option_or}
-use Rattle.std.specs.List.{list_any, list_all, filter_map, AllByRecursion, position}
+use Rattle.std.specs.List.{list_any, list_all, filter_map, flat_map, AllByRecursion, position}
 use Rattle.std.specs.Str.{bytes_eq}
 use Rattle.std.proofs.lemmas.Bool.{false≢true, and_parts, eqb-true, ltb-false}
-use Rattle.std.proofs.lemmas.List.{append-nil, length-map, length-replicate, length-reverse}
-use Rattle.std.proofs.lemmas.Option.{slice_get_within}
+use Rattle.std.proofs.lemmas.List.{append-nil, length-append, length-map, length-replicate, length-reverse}
 use Rattle.std.proofs.lemmas.Slice.Eq.{bytes_eq-Decides}
 use Rattle.toml.specs.Data.{Data, string, integer, float, boolean, datetime, array, table, Items, no_items, item, Members, get_member, as_str, as_array}
-use Rattle.bsdl_device.specs.Device.{Device, PortBit}
-use Rattle.board_tables.specs.Fields.{passes, is_table, items_all, has_item, tables_in, text_at, name_at, tables_at, texts_at}
-use Rattle.board_tables.specs.Keys.{device_keys, top_keys, unfit_key, is_core, is_bit}
+use Rattle.bsdl_device.specs.Device.{Device}
+use Rattle.board_tables.specs.Fields.{passes, is_table, is_array_of, items_all, has_item, tables_in, text_at, name_at, tables_at, texts_at, texts_in}
+use Rattle.board_tables.specs.declared.keys.Known.{Known}
+use Rattle.board_tables.specs.Keys.{device_keys, top_keys, unfit_key, is_core, is_bit, is_string}
 use Rattle.board_tables.specs.Faults.{unfit_device}
 use Rattle.board_words.specs.PinTexts.{PinText, pin_of}
+use Rattle.board_words.specs.FollowTexts.{target_text}
 use Rattle.board_tables.proofs.KeyLaws.{fitting, head_in}
 use Rattle.pin_nets.specs.declared.Pin.{Pin}
-use Rattle.board_library.specs.Files.{File, text_of, described, device_at, cells_at, devices_of, missing_in, refused, refused_in}
+use Rattle.board_library.specs.Files.{File, text_of, described, device_at, devices_of, missing_in, refused, refused_in}
 use Rattle.board_names.specs.Files.{file_at, file_names}
-use Rattle.board_pins.specs.Pins.{no_tap, bit_of, pin_bit, bit_at, pin_at, same_pin, twice, pins_at, twice_in_nets}
-use Rattle.board_file.specs.Wiring.{Fault, TooLarge, member_at, wiring_of, large, fault_of, makes}
-use Rattle.board_parts.specs.Parts.{member_of, net_of}
+use Rattle.board_pins.specs.Pins.{pin_bit, bit_at, pin_at, same_pin, twice, pins_at, twice_in_nets, unknown_in_nets}
+use Rattle.board_pins.proofs.PinLaws.{bit_inside}
+use Rattle.board_file.specs.Wiring.{Fault, PinTwice, TooLarge, UnknownPin, file_fault, known_at, member_at, wiring_of, large, fault_of, makes, targets_in, targets_of}
+use Rattle.board_parts.specs.Parts.{known_of, member_of, net_of, strings_at}
+use Rattle.board_parts.specs.Strings.{HasStrings, strings_of}
+use Rattle.board_parts.proofs.StringLaws.{strings_fit, strings_long}
+use Rattle.board_loops.specs.Depending.{dependencies, dependencies_from, dependency}
 use Rattle.board_plan.specs.Words.{core_of}
 use Rattle.board_plan.specs.Planned.{Member, Wiring}
 use Rattle.board_names.specs.declared.fault.BoardFault.{BoardFault}
 use Rattle.board_plan.specs.declared.plan.Plan.{Plan}
-use Rattle.board_file.specs.View.{TellsBoard}
+use Rattle.board_file.specs.View.{TellsWiring}
 use Rattle.board_plan.specs.View.{wiring}
-use Rattle.board_file.specs.Fits.{AreApart, AreSaid, FitsTogether, IsSaid}
+use Rattle.board_file.specs.Fits.{AreApart, AreSaid, FitsTogether, IsSaid, NoStringsWithoutFollow}
 use Rattle.board_plan.specs.Planned.{HasCore, IsPinOf, all_pins}
 use Rattle.board_file.proofs.DescribedLaws.{Has, Named, named_from}
 
@@ -41,15 +46,15 @@ unmapped f (Some x) h = absurd cc
 -- ---- keys
 
 -- no key of a device's table is at fault, whatever names stand before it
-IsFit : (Members → Option ℕ) → Members → Type 0
-IsFit cells t = (names : List (List ℕ)) × (unfit_key (device_keys names (cells t)) t ≡ None)
+IsFit : (Members → Option Known) → Members → Type 0
+IsFit known t = (names : List (List ℕ)) × (unfit_key (device_keys names (known t)) t ≡ None)
 
-all_fit : (cells : Members → Option ℕ) (names : List (List ℕ)) (ts : List Members) → unfit_device names (map cells ts) ts ≡ None → AllByRecursion (IsFit cells) ts
+all_fit : (known : Members → Option Known) (names : List (List ℕ)) (ts : List Members) → unfit_device names (map known ts) ts ≡ None → AllByRecursion (IsFit known) ts
 unfolding IsFit
-all_fit cells names [] h = tt
-all_fit cells names (t ∷ ts) h =
-    let both = neither (unfit_key (device_keys names (cells t)) t) (unfit_device (names ++ name_at t ∷ []) (map cells ts) ts) h in
-    ((names, both.0), all_fit cells (names ++ name_at t ∷ []) ts both.1)
+all_fit known names [] h = tt
+all_fit known names (t ∷ ts) h =
+    let both = neither (unfit_key (device_keys names (known t)) t) (unfit_device (names ++ name_at t ∷ []) (map known ts) ts) h in
+    ((names, both.0), all_fit known (names ++ name_at t ∷ []) ts both.1)
 
 is_there : {A : Type 0} (o : Option A) → not (is_some o) ≡ false → (x : A) × (o ≡ Some x)
 is_there None h = absurd cc
@@ -60,9 +65,9 @@ passed None h = absurd (false≢true h)
 passed (Some s) h = (s, refl)
 
 -- the name of its file is there
-names_file : (names : List (List ℕ)) (cells : Option ℕ) (t : Members) → unfit_key (device_keys names cells) t ≡ None → (s : List ℕ) × (text_at (codes "bsdl") t ≡ Some s)
-names_file names cells t h =
-    let (fit, none) = fitting (device_keys names cells) t h in
+names_file : (names : List (List ℕ)) (known : Option Known) (t : Members) → unfit_key (device_keys names known) t ≡ None → (s : List ℕ) × (text_at (codes "bsdl") t ≡ Some s)
+names_file names known t h =
+    let (fit, none) = fitting (device_keys names known) t h in
     let one = head_in (not (is_some (get_member (codes "bsdl") t))) (codes "bsdl") _ none in
     let (d, is) = is_there (get_member (codes "bsdl") t) one.0 in
     let (s, text) = passed (as_str d) (fit (codes "bsdl") d is) in
@@ -78,11 +83,22 @@ core_at : (n : ℕ) (o : Option Data) (s : List ℕ) → option_and_then as_str 
 core_at n None s e f = absurd cc
 core_at n (Some d) s e f = core_passes n (as_str d) s e (f d refl)
 
-core_len : (names : List (List ℕ)) (n : ℕ) (t : Members) → unfit_key (device_keys names (Some n)) t ≡ None → (o : Option (List ℕ)) → text_at (codes "core") t ≡ o → length (core_of n o) ≡ n
-core_len names n t h None e = length-replicate n false
-core_len names n t h (Some s) e =
-    let (fit, none) = fitting (device_keys names (Some n)) t h in
-    length-map (reverse s) (λ c. c == 49) ∙ length-reverse s ∙ core_at n (get_member (codes "core") t) s e (λ d g. fit (codes "core") d g)
+core_len : (names : List (List ℕ)) (k : Known) (t : Members) → unfit_key (device_keys names (Some k)) t ≡ None → (o : Option (List ℕ)) → text_at (codes "core") t ≡ o → length (core_of k.cells o) ≡ k.cells
+core_len names k t h None e = length-replicate k.cells false
+core_len names k t h (Some s) e =
+    let (fit, none) = fitting (device_keys names (Some k)) t h in
+    length-map (reverse s) (λ c. c == 49) ∙ length-reverse s ∙ core_at k.cells (get_member (codes "core") t) s e (λ d g. fit (codes "core") d g)
+
+-- the strings are there: they fit, or there is no such key
+strings_there : (names : List (List ℕ)) (d : Device) (t : Members) → unfit_key (device_keys names (Some (known_of t d))) t ≡ None → is_some (strings_at d t) ≡ true
+strings_there names d t h =
+    let (fit, none) = fitting (device_keys names (Some (known_of t d))) t h in
+    by (get_member (codes "follow") t) refl (λ v g. fit (codes "follow") v g)
+  where
+    by : (o : Option Data) → get_member (codes "follow") t ≡ o
+        → ((v : Data) → get_member (codes "follow") t ≡ Some v → is_array_of is_string v && is_some (strings_at d t) ≡ true) → is_some (strings_at d t) ≡ true
+    by None e fit = ap (λ o. is_some (strings_of d (texts_in (unwrap_or (option_and_then as_array o) no_items)))) e
+    by (Some v) e fit = (and_parts (is_array_of is_string v) (is_some (strings_at d t)) (fit v e)).1
 
 -- ---- devices
 
@@ -118,21 +134,22 @@ module _ (says : List ℕ → Option Device) (files : List File) where
       by None e more = absurd (some_none n (rw (e, missing_in) at m))
       by (Some text) e more = at text e (rw (e, missing_in) at m) (neither (refused says text) (refused_in says files names) (rw (e, refused_in) at r)) (bytes_eq name n) refl h more
 
-  -- the table's device is described, and its core has a bit for each cell
+  -- the table's device is described, its core has a bit for each cell, and its strings fit
   IsWhole : Members → Type 0
-  IsWhole t = (d : Device) × (device_at says files t ≡ Some d) × (length (core_of (length d.cells) (text_at (codes "core") t)) ≡ length d.cells)
+  IsWhole t = (d : Device) × (device_at says files t ≡ Some d) × (length (core_of (length d.cells) (text_at (codes "core") t)) ≡ length d.cells) × (is_some (strings_at d t) ≡ true)
 
-  all_whole : (names : List (List ℕ)) → missing_in files names ≡ None → refused_in says files names ≡ None → (ts : List Members) → Named names ts → AllByRecursion (IsFit (cells_at says files)) ts → AllByRecursion IsWhole ts
+  all_whole : (names : List (List ℕ)) → missing_in files names ≡ None → refused_in says files names ≡ None → (ts : List Members) → Named names ts → AllByRecursion (IsFit (known_at says files)) ts → AllByRecursion IsWhole ts
   unfolding IsFit IsWhole
   all_whole names m r [] named fit = tt
   all_whole names m r (t ∷ ts) named fit =
       let (ns, key) = fit.0 in
-      let (s, text) = names_file ns (cells_at says files t) t key in
+      let (s, text) = names_file ns (known_at says files t) t key in
       let is_s : file_at t ≡ s = ap (λ o. unwrap_or o []) text in
       let (d, is) = is_described names m r s (subst (Has names) is_s named.0) in
       let at : device_at says files t ≡ Some d = ap (option_and_then (described says files)) text ∙ is in
-      let cells : cells_at says files t ≡ Some (length d.cells) = ap (option_map (λ (d : Device). length d.cells)) at in (
-        (d, at, core_len ns (length d.cells) t (subst (λ c. unfit_key (device_keys ns c) t ≡ None) cells key) (text_at (codes "core") t) refl),
+      let known : known_at says files t ≡ Some (known_of t d) = ap (option_map (known_of t)) at in
+      let fits : unfit_key (device_keys ns (Some (known_of t d))) t ≡ None = subst (λ k. unfit_key (device_keys ns k) t ≡ None) known key in (
+        (d, at, core_len ns (known_of t d) t fits (text_at (codes "core") t) refl, strings_there ns d t fits),
         all_whole names m r ts named.1 fit.1,
       )
 
@@ -145,6 +162,34 @@ module _ (says : List ℕ → Option Device) (files : List File) where
   unfolding IsWhole
   members_cores [] h = tt
   members_cores (t ∷ ts) h = rw (h.0.1, filter_map) (h.0.2, members_cores ts h.1)
+
+  members_strings : (ts : List Members) → AllByRecursion IsWhole ts → AllByRecursion HasStrings (filter_map (member_at says files) ts)
+  unfolding IsWhole
+  members_strings [] h = tt
+  members_strings (t ∷ ts) h =
+      let fit = strings_fit h.0.0 (texts_at (codes "follow") t) h.0.3 in
+      rw (h.0.1, filter_map) (record { each = fit.0; one = fit.1 }, members_strings ts h.1)
+
+  -- there is a target for each string
+  targets_long : (w : Wiring) (k : ℕ) (ts : List Members) → AllByRecursion IsWhole ts → length (dependencies_from w k (filter_map (member_at says files) ts)) ≡ length (flat_map targets_of ts)
+  unfolding IsWhole
+  targets_long w k [] h = refl
+  targets_long w k (t ∷ ts) h =
+      let d = h.0.0 in
+      let texts = texts_at (codes "follow") t in
+      let strings = unwrap_or (strings_at d t) [] in
+      let rest = filter_map (member_at says files) ts in
+      let long : length (map (dependency w k d.cells) strings ++ dependencies_from w (suc k) rest) ≡ length (targets_of t ++ flat_map targets_of ts) =
+      omega (
+        arith,
+        length-append (map (dependency w k d.cells) strings) (dependencies_from w (suc k) rest),
+        length-append (targets_of t) (flat_map targets_of ts),
+        length-map strings (dependency w k d.cells),
+        length-map texts (λ text. name_at t ++ 46 ∷ target_text text),
+        strings_long d texts h.0.3,
+        targets_long w (suc k) ts h.1,
+      ) in
+      rw (h.0.1, filter_map) long
 
   -- the device at a place is that of the member there
   member_for : (ts : List Members) (i : ℕ) (d : Device) → slice_get (filter_map (device_at says files) ts) i ≡ Some d
@@ -169,24 +214,6 @@ module _ (says : List ℕ → Option Device) (files : List File) where
 -- the pin is a port bit of one of these devices
 unfoldable pub IsBitOf : List Device → Pin → Type 0
 IsBitOf ds p = (d : Device) × (slice_get ds p.device ≡ Some d) × (p.port < length d.ports)
-
-inside : (d : Device) (k bit : ℕ) → no_tap d k ≡ Some bit → bit < length d.ports
-inside d k bit h = by (slice_get d.ports k) refl h
-  where
-    at : (b : PortBit) → slice_get d.ports k ≡ Some b → (tap : Bool) → cond tap None (Some k) ≡ Some bit → bit < length d.ports
-    at b is true e = absurd (no_bit bit e)
-    at b is false e = subst (λ n. n < length d.ports) (ap (λ o. unwrap_or o k) e) (slice_get_within d.ports k b is)
-
-    by : (o : Option PortBit) → slice_get d.ports k ≡ o → option_and_then (λ (b : PortBit). cond b.is_tap None (Some k)) o ≡ Some bit → bit < length d.ports
-    by None is e = absurd (no_bit bit e)
-    by (Some b) is e = at b is b.is_tap e
-
-bit_inside : (d : Device) (port : List ℕ) (index : Option (List ℕ)) (bit : ℕ) → pin_bit d port index ≡ Some bit → bit < length d.ports
-bit_inside d port index bit h = by (bit_of d port index) h
-  where
-    by : (o : Option ℕ) → option_and_then (no_tap d) o ≡ Some bit → bit < length d.ports
-    by None e = absurd (no_bit bit e)
-    by (Some k) e = inside d k bit e
 
 bit_on : (ds : List Device) (p : PinText) (place : ℕ) (pin : Pin) → bit_at ds p place ≡ Some pin → IsBitOf ds pin
 unfolding IsBitOf
@@ -312,6 +339,16 @@ module _ (says : List ℕ → Option Device) (files : List File) (t : Members) w
   each P Q f [] h = tt
   each P Q f (x ∷ xs) h = (f x h.0, each P Q f xs h.1)
 
+  whole : fault_of says files t ≡ None → AllByRecursion (IsWhole says files) (tables_at (codes "device") t)
+  whole h =
+      let devices = tables_at (codes "device") t in
+      let (keys, more) = neither _ _ h in
+      let (file, wire) = neither _ _ more in
+      let (top, tables) = neither (unfit_key top_keys t) _ (unmapped _ _ keys) in
+      let (entries, net_keys) = neither (unfit_device [] (map (known_at says files) devices) devices) _ tables in
+      let (gone, bad) = neither _ _ file in
+      all_whole says files (file_names t) (unmapped _ _ gone) (unmapped _ _ bad) devices (named_from [] devices) (all_fit (known_at says files) [] devices entries)
+
   fits : fault_of says files t ≡ None → FitsTogether (wiring_of says files t)
   fits h =
       let devices = tables_at (codes "device") t in
@@ -319,22 +356,20 @@ module _ (says : List ℕ → Option Device) (files : List File) (t : Members) w
       let names = map name_at devices in
       let found = devices_of says files devices in
       let (keys, more) = neither _ _ h in
-      let (file, wire) = neither _ _ more in
+      let (file, wire) = neither (file_fault says files (file_names t)) _ more in
       let (top, tables) = neither (unfit_key top_keys t) _ (unmapped _ _ keys) in
-      let (entries, net_keys) = neither (unfit_device [] (map (cells_at says files) devices) devices) _ tables in
-      let (gone, bad) = neither _ _ file in
-      let (unknown, rest) = neither _ _ wire in
+      let (unknown, rest) = neither (option_map (λ x. UnknownPin x) (unknown_in_nets names found nets)) _ wire in
       let (again, big) = neither _ _ rest in
-      let whole = all_whole says files (file_names t) (unmapped _ _ gone) (unmapped _ _ bad) devices (named_from [] devices) (all_fit (cells_at says files) [] devices entries) in
       let (few, few_nets) = limits (length names) (length nets) big in
-      let len = members_len says files devices whole in
+      let len = members_len says files devices (whole h) in
       record {
         some = subst (λ n. 0 < n) (sym len) (some_device t top);
         most = subst (λ n. n ≤ 32) (length-map devices name_at ∙ sym len) few;
         nets = subst (λ n. n ≤ 4096) (sym (length-map nets (net_of names found))) few_nets;
-        cores = members_cores says files devices whole;
+        cores = members_cores says files devices (whole h);
+        strings = members_strings says files devices (whole h);
         pins = each (IsBitOf found) _ pin_of_member (all_pins (map (net_of names found) nets)) (nets_on names found nets);
-        apart = nets_apart names found [] nets (unmapped _ _ again);
+        apart = nets_apart names found [] nets (unmapped (λ x. PinTwice x) _ again);
       }
 
   pub board_fits : (w : Wiring) → makes says files t ≡ Ok w → FitsTogether w
@@ -344,7 +379,16 @@ module _ (says : List ℕ → Option Device) (files : List File) (t : Members) w
       by None e is = subst FitsTogether (ap (made_or w) is) (fits e)
       by (Some f) e is = absurd (refusal f w is)
 
-pub told_fits : {F : Type 0} (refuses : List ℕ → F → Type 0) (says : List ℕ → Option Device) (files : List File) (t : Members) (r : Result Plan (BoardFault F)) → TellsBoard refuses r (makes says files t) → IfOk r (λ p. FitsTogether (wiring p))
+  pub board_targets : (w : Wiring) → makes says files t ≡ Ok w → length (dependencies w) ≡ length (targets_in t)
+  board_targets w h = by (fault_of says files t) refl h
+    where
+      by : (o : Option Fault) → fault_of says files t ≡ o → answer o (wiring_of says files t) ≡ Ok w → length (dependencies w) ≡ length (targets_in t)
+      by None e is =
+          subst (λ (w : Wiring). length (dependencies w) ≡ length (targets_in t)) (ap (made_or w) is)
+          (targets_long says files (wiring_of says files t) 0 (tables_at (codes "device") t) (whole e))
+      by (Some f) e is = absurd (refusal f w is)
+
+pub told_fits : {F : Type 0} (refuses : List ℕ → F → Type 0) (says : List ℕ → Option Device) (files : List File) (t : Members) (r : Result Plan (BoardFault F)) → TellsWiring refuses r (makes says files t) → IfOk r (λ p. FitsTogether (wiring p))
 told_fits refuses says files t (Ok p) h = board_fits says files t (wiring p) h
 told_fits refuses says files t (Err f) h = tt
 
@@ -375,6 +419,31 @@ module _ (says : List ℕ → Option Device) (files : List File) where
       by None e is = subst (AreSaid says) (ap (made_or w) is) (said-members (tables_at (codes "device") t))
       by (Some f) e is = absurd (refusal f w is)
 
-pub told_said : {F : Type 0} (refuses : List ℕ → F → Type 0) (says : List ℕ → Option Device) (files : List File) (t : Members) (r : Result Plan (BoardFault F)) → TellsBoard refuses r (makes says files t) → IfOk r (λ p. AreSaid says (wiring p))
+pub told_said : {F : Type 0} (refuses : List ℕ → F → Type 0) (says : List ℕ → Option Device) (files : List File) (t : Members) (r : Result Plan (BoardFault F)) → TellsWiring refuses r (makes says files t) → IfOk r (λ p. AreSaid says (wiring p))
 told_said refuses says files t (Ok p) h = board_said says files t (wiring p) h
 told_said refuses says files t (Err f) h = tt
+
+-- ---- a board file without the key `follow`
+
+no_strings : (d : Device) (t : Members) → get_member (codes "follow") t ≡ None → unwrap_or (strings_at d t) [] ≡ []
+no_strings d t e = ap (λ o. unwrap_or (strings_of d (texts_in (unwrap_or (option_and_then as_array o) no_items))) []) e
+
+abbrev HasNone : Member → Type 0
+HasNone m = m.follows ≡ []
+
+module _ (says : List ℕ → Option Device) (files : List File) where
+  plain-members : (ts : List Members) → AllByRecursion (λ d. get_member (codes "follow") d ≡ None) ts → AllByRecursion HasNone (filter_map (member_at says files) ts)
+  plain-members [] h = tt
+  plain-members (t ∷ ts) h = by (plain-members ts h.1) (device_at says files t) refl
+    where
+      by : AllByRecursion HasNone (filter_map (member_at says files) ts) → (o : Option Device) → device_at says files t ≡ o
+          → AllByRecursion HasNone (filter_map (member_at says files) (t ∷ ts))
+      by rest None e = rw e rest
+      by rest (Some d) e = rw e (no_strings d t h.0, rest)
+
+pub plain_board : NoStringsWithoutFollow
+plain_board says files t w plain h = by (fault_of says files t) refl h
+  where
+    by : (o : Option Fault) → fault_of says files t ≡ o → answer o (wiring_of says files t) ≡ Ok w → AllByRecursion HasNone w.members
+    by None e is = subst (λ (w : Wiring). AllByRecursion HasNone w.members) (ap (made_or w) is) (plain-members says files (tables_at (codes "device") t) plain)
+    by (Some f) e is = absurd (refusal f w is)

@@ -3,3 +3,4 @@ pub mod DescribedLaws
 pub mod BoardLaws
 pub mod FitLaws
 pub mod TwiceLaws
+pub mod LoopLaws

@@ -1,16 +1,21 @@
 -- What a board file says, given the files that it names: the board's devices and nets, or why it is refused.
-use Rattle.std.specs.Prelude.{ℕ, ◌||◌, nat_lt, List, [], map, length, filter_map}
+use Rattle.std.specs.Prelude.{◌≡◌, ℕ, ◌||◌, nat_lt, List, [], ◌∷◌, ◌++◌, map, length, filter_map, slice_get}
+use Rattle.std.specs.List.{flat_map}
 use Rattle.std.specs.Option.{option_or}
 use Rattle.std.specs.Prelude.{codes, option_map, Option, Some, None, Result, Ok, Err, if◌then◌else◌}
 use Rattle.toml.specs.Data.{Members}
 use Rattle.bsdl_device.specs.Device.{Device}
-use Rattle.board_tables.specs.Fields.{name_at, tables_at}
+use Rattle.core_loops.specs.Loops.{IsFirstOnLoop}
+use Rattle.board_words.specs.FollowTexts.{target_text}
+use Rattle.board_tables.specs.Fields.{name_at, tables_at, texts_at}
 use Rattle.board_tables.specs.Faults.{unfit}
-use Rattle.board_library.specs.Files.{File, device_at, cells_at, devices_of, missing_in, refused_in}
+use Rattle.board_tables.specs.declared.keys.Known.{Known}
+use Rattle.board_library.specs.Files.{File, device_at, devices_of, missing_in, refused_in}
 use Rattle.board_names.specs.Files.{file_names}
 use Rattle.board_plan.specs.Planned.{Member, Wiring}
-use Rattle.board_parts.specs.Parts.{member_of, net_of}
+use Rattle.board_parts.specs.Parts.{known_of, member_of, net_of}
 use Rattle.board_pins.specs.Pins.{unknown_in_nets, twice_in_nets}
+use Rattle.board_loops.specs.Depending.{dependencies}
 
 -- ---- the board that the tables say
 
@@ -46,6 +51,10 @@ wire_fault names ds nets =
     option_or (option_map UnknownPin (unknown_in_nets names ds nets))
     (option_or (option_map PinTwice (twice_in_nets names ds [] nets)) (large (length names) (length nets)))
 
+-- what the keys of a device are judged by, where its description is there and not refused
+abbrev pub known_at : (List ℕ → Option Device) → List File → Members → Option Known
+known_at says files t = option_map (known_of t) (device_at says files t)
+
 -- of the descriptions that are named
 abbrev pub file_fault : (List ℕ → Option Device) → List File → List (List ℕ) → Option Fault
 file_fault says files names =
@@ -55,10 +64,26 @@ file_fault says files names =
 abbrev pub fault_of : (List ℕ → Option Device) → List File → Members → Option Fault
 fault_of says files t =
     let devices = tables_at (codes "device") t in
-    option_or (option_map BadField (unfit (map (cells_at says files) devices) t))
+    option_or (option_map BadField (unfit (map (known_at says files) devices) t))
     (option_or (file_fault says files (file_names t))
     (wire_fault (map name_at devices) (devices_of says files devices) (tables_at (codes "net") t)))
 
--- the board, or why the table and the files make none
+-- the wiring, or why the table and the files make none
 abbrev pub makes : (List ℕ → Option Device) → List File → Members → Result Wiring Fault
 makes says files t = elim (fault_of says files t) [ None ↦ Ok (wiring_of says files t) | Some f ↦ Err f ]
+
+-- ---- cores that follow themselves
+
+-- the targets of a device's strings, each as a pin: its name, a point, and the target as the string spells it
+abbrev pub targets_of : Members → List (List ℕ)
+targets_of t = map (λ text. name_at t ++ 46 ∷ target_text text) (texts_at (codes "follow") t)
+
+-- those of all devices, by devices and then strings
+abbrev pub targets_in : Members → List (List ℕ)
+targets_in t = flat_map targets_of (tables_at (codes "device") t)
+
+-- The first string of the wiring on a loop of nets has this target, given the targets of all.
+pub record IsCoreLoop (w : Wiring) (targets : List (List ℕ)) (target : List ℕ) : Type 0 where
+  pub place : ℕ
+  pub first : IsFirstOnLoop (dependencies w) place
+  pub named : slice_get targets place ≡ Some target

@@ -1,22 +1,28 @@
 //! A board by its file and its descriptions.
-ghost use Rattle.std.specs.Prelude.{◌≡◌, codes, map, Ok, IfOk, IfErr};
+ghost use Rattle.std.specs.Prelude.{◌≡◌, ◌<◌, codes, length, map, Ok, IfOk, IfErr};
 ghost use Rattle.toml.specs.Data.{Members};
 ghost use Rattle.toml.specs.View.{table_view, items_view};
 ghost use Rattle.board_tables.specs.Fields.{name_at, tables_at, tables_in};
 ghost use Rattle.board_tables.specs.Faults.{unfit};
 ghost use Rattle.board_words.specs.View.{texts_of};
 ghost use Rattle.board_names.specs.Files.{Reads, IsBadToml};
-ghost use Rattle.board_file.specs.Wiring.{makes};
-ghost use Rattle.board_file.specs.View.{IsMiswired, IsUnknownFile, JudgesKeys, PlansBoard, TellsBoard};
+ghost use Rattle.core_loops.specs.Loops.{HasNoLoop};
+ghost use Rattle.board_loops.specs.Depending.{dependencies};
+ghost use Rattle.board_file.specs.Wiring.{makes, targets_in};
+ghost use Rattle.board_file.specs.View.{IsLoopOf, IsMiswired, IsUnknownFile, JudgesKeys, PlansBoard, TellsBoard};
+ghost use Rattle.board_file.specs.View.{TellsWiring};
 ghost use Rattle.board_names.specs.View.{TellsBadToml};
-ghost use Rattle.board_library.specs.View.{cells_in, files_of};
+ghost use Rattle.board_library.specs.View.{files_of};
+ghost use Rattle.board_parts.specs.Parts.{known_in};
 ghost use Rattle.board_plan.specs.View.{wiring};
 ghost use Rattle.board_file.specs.Fits.{AreSaid, FitsTogether};
 
+use crate::targets::target_at;
 use crate::wiring::{Miswired, plan_fitting};
-use board_library::{Describe, Library, cells_of, devices_of, read_files};
+use board_library::{Describe, Library, devices_of, read_files};
+use board_loops::{Settling, settle_strings};
 use board_names::{BoardFault, distinct_files, read_table, told};
-use board_parts::plan_devices;
+use board_parts::{known_of, plan_devices};
 use board_plan::Plan;
 use board_tables::{check_fields, items_at, name_at};
 use board_words::Places;
@@ -32,16 +38,18 @@ pub fn plan_of_text<'f, R: Describe>(
     toml_text: &[u8],
     files: &[(&'f str, &'f [u8])],
 ) -> Result<Plan, BoardFault<R::Fault>>
-    // The board that the table and the files make, or their fault, unless memory runs out.
+    // The board that the table and the files make, or why they make none, unless memory runs out.
     ensures told { (t : Members) → Reads toml_text.now t
-        → TellsBoard R.refuses result (makes R.says (files_of files.now) t) }
+        → TellsBoard R.refuses result (makes R.says (files_of files.now) t) (targets_in t) }
     // What is no TOML is refused as that, unless memory runs out.
     ensures bad_toml { IsBadToml toml_text.now → TellsBadToml result }
-    // A board has 1 to 32 devices with whole cores and at most 4,096 nets; each pin is a port bit of a device, none
-    // twice.
+    // A board has 1 to 32 devices with whole cores and strings that fit them, and at most 4,096 nets; each pin is a
+    // port bit of a device, none twice.
     ensures fits { IfOk result (λ p. FitsTogether (wiring p)) }
     // Each device is one that a text says.
     ensures said { IfOk result (λ p. AreSaid R.says (wiring p)) }
+    // No string is on a loop.
+    ensures loops { IfOk result (λ p. HasNoLoop (dependencies (wiring p))) }
 {
     let table = read_table(alloc, toml_text)?;
     plan_in(alloc, reader, files, &table)
@@ -53,7 +61,42 @@ fn plan_in<'f, R: Describe>(
     files: &[(&'f str, &'f [u8])],
     table: &Table,
 ) -> Result<Plan, BoardFault<R::Fault>>
-    ensures told { TellsBoard R.refuses result (makes R.says (files_of files.now) (table_view table.now)) }
+    ensures told { TellsBoard R.refuses result (makes R.says (files_of files.now) (table_view table.now))
+        (targets_in (table_view table.now)) }
+    ensures fits { IfOk result (λ p. FitsTogether (wiring p)) }
+    ensures said { IfOk result (λ p. AreSaid R.says (wiring p)) }
+    ensures loops { IfOk result (λ p. HasNoLoop (dependencies (wiring p))) }
+{
+    let plan = match plan_wired(alloc, reader, files, table) {
+        Ok(plan) => plan,
+        Err(fault) => return Err(fault),
+    };
+    match settle_strings(alloc, &plan.nets, &plan.devices) {
+        Ok(Settling::Order(_)) => Ok(plan),
+        Ok(Settling::Loop(place)) => Err(core_loop(alloc, table, place)),
+        Err(_) => Err(BoardFault::NoMemory),
+    }
+}
+
+/// The refusal for the string at a place, by devices and then strings, which is on a loop.
+fn core_loop<F>(alloc: Global, table: &Table, place: usize) -> BoardFault<F>
+    requires { place < length (targets_in (table_view table.now)) }
+    ensures { IsLoopOf place (targets_in (table_view table.now)) result }
+{
+    match target_at(alloc, items_at(table, "device"), place) {
+        Ok(target) => BoardFault::CoreLoop(target),
+        Err(_) => BoardFault::NoMemory,
+    }
+}
+
+/// The board as it is wired, whatever depends on what.
+fn plan_wired<'f, R: Describe>(
+    alloc: Global,
+    reader: &R,
+    files: &[(&'f str, &'f [u8])],
+    table: &Table,
+) -> Result<Plan, BoardFault<R::Fault>>
+    ensures told { TellsWiring R.refuses result (makes R.says (files_of files.now) (table_view table.now)) }
     ensures fits { IfOk result (λ p. FitsTogether (wiring p)) }
     ensures said { IfOk result (λ p. AreSaid R.says (wiring p)) }
 {
@@ -99,14 +142,14 @@ fn check_keys<F>(
     described: &[Option<SharedDevice>],
 ) -> Result<(), BoardFault<F>>
     ensures { JudgesKeys result
-        (unfit (map (cells_in (texts_of names.now) described.now) (tables_at (codes "device") (table_view table.now)))
+        (unfit (map (known_in (texts_of names.now) described.now) (tables_at (codes "device") (table_view table.now)))
         (table_view table.now)) }
 {
-    let cells = match cells_of(alloc, names, described, items_at(table, "device")) {
-        Ok(cells) => cells,
+    let known = match known_of(alloc, names, described, items_at(table, "device")) {
+        Ok(known) => known,
         Err(_) => return Err(BoardFault::NoMemory),
     };
-    match check_fields(alloc, table, &cells) {
+    match check_fields(alloc, table, &known) {
         Ok(()) => Ok(()),
         Err(unfit) => Err(told(alloc, unfit)),
     }

@@ -4,9 +4,12 @@ use Rattle.toml.specs.Data.{Members, no_members, member, boolean}
 use Rattle.pin_nets.specs.declared.Pull.TheVariants.{Up, Down, Free}
 use Rattle.board_names.specs.Files.{names_of}
 use Rattle.board_file.specs.Wiring.{Fault, BadField, UnknownFile, Bsdl, UnknownPin, PinTwice, TooLarge, large}
+use Rattle.board_file.specs.Wiring.{IsCoreLoop, targets_in}
+use Rattle.pin_nets.specs.declared.Follow.{Follow}
 use Rattle.board_plan.specs.LeftOut.{left_out}
 use Rattle.board_file_rows.specs.Samples.{Shown, k, ki, kr, shows, pin, tables, file, device, cored, net, pulled}
-use Rattle.board_file_rows.specs.Samples.{one_net, with_pins, text_member}
+use Rattle.board_file_rows.specs.Samples.{one_net, with_pins, text_member, following, with_strings, shows_strings}
+use Rattle.board_file_rows.specs.Samples.{follow, made}
 
 abbrev u1 : List ℕ → Members
 u1 f = device (codes "U1") f
@@ -73,3 +76,62 @@ BoardRows =
     × (left_out k ≡ [])
     × (left_out (record k { private_names = codes "SAMPLE" ∷ codes "NOROW" ∷ codes "BYPASS" ∷ [] })
     ≡ codes "BYPASS" ∷ codes "SAMPLE" ∷ [])
+
+-- one device with these strings
+abbrev strung : List Follow → Result (List (List Follow)) Fault
+strung strings = Ok (strings ∷ [])
+
+abbrev misfit : Result (List (List Follow)) Fault
+misfit = Err (BadField (codes "follow"))
+
+abbrev pub FollowRows : Type 0
+FollowRows =
+    -- strings, of which Q's cell is 0, D is port bit 5, and A(3) is 7; spaces and the case of ports are free
+    (shows_strings (with_strings (codes "Q = !D" ∷ [])) ≡ strung (follow 0 5 true ∷ []))
+    × (shows_strings (with_strings (codes "Q=D" ∷ [])) ≡ strung (follow 0 5 false ∷ []))
+    × (shows_strings (with_strings (codes "  q  =  !  d  " ∷ [])) ≡ strung (follow 0 5 true ∷ []))
+    × (shows_strings (with_strings (codes "Q = A(03)" ∷ [])) ≡ strung (follow 0 7 false ∷ []))
+    × (shows_strings (with_strings []) ≡ strung [])
+    × (shows_strings (file (u1 (codes "k") ∷ following (codes "U2") (codes "k") (codes "Q = D" ∷ []) ∷ []) [])
+    ≡ Ok ([] ∷ (follow 0 5 false ∷ []) ∷ []))
+    -- no cell drives D, or VCC; a second string for Q
+    × (shows_strings (with_strings (codes "D = Q" ∷ [])) ≡ misfit)
+    × (shows_strings (with_strings (codes "VCC = D" ∷ [])) ≡ misfit)
+    × (shows_strings (with_strings (codes "Q = D" ∷ codes "Q = !D" ∷ [])) ≡ misfit)
+    -- a source of mode out or linkage, of the TAP, or that is not there
+    × (shows_strings (with_strings (codes "Q = Q" ∷ [])) ≡ misfit)
+    × (shows_strings (with_strings (codes "Q = VCC" ∷ [])) ≡ misfit)
+    × (shows_strings (with_strings (codes "Q = TDI" ∷ [])) ≡ misfit)
+    × (shows_strings (with_strings (codes "Q = A(4)" ∷ [])) ≡ misfit)
+    -- other forms
+    × (shows_strings (with_strings (codes "Q" ∷ [])) ≡ misfit)
+    × (shows_strings (with_strings (codes "Q = D = D" ∷ [])) ≡ misfit)
+    × (shows_strings (with_strings (codes "Q = !!D" ∷ [])) ≡ misfit)
+    × (shows_strings (with_strings (codes "Q = A (3)" ∷ [])) ≡ misfit)
+    × (shows_strings (with_strings (codes "U1.Q = D" ∷ [])) ≡ misfit)
+    × (shows_strings (file (text_member (codes "bsdl") (codes "k")
+    (text_member (codes "follow") (codes "Q = D") (text_member (codes "name") (codes "U1") no_members)) ∷ []) [])
+    ≡ misfit)
+    -- where the description is refused or missing the form alone is judged
+    × (shows_strings (file (following (codes "U1") (codes "none") (codes "D = Q" ∷ []) ∷ []) [])
+    ≡ Err (UnknownFile (codes "none")))
+    × (shows_strings (file (following (codes "U1") (codes "bad") (codes "D = Q" ∷ []) ∷ []) [])
+    ≡ Err (Bsdl (codes "X")))
+    × (shows_strings (file (following (codes "U1") (codes "bad") (codes "D" ∷ []) ∷ []) []) ≡ misfit)
+    -- keys in byte order: `follow` before `name`
+    × (shows_strings (file (u1 (codes "k") ∷ following (codes "U1") (codes "k") (codes "D = Q" ∷ []) ∷ []) []) ≡ misfit)
+
+-- the tables make a wiring, and the first string on a loop there has this target
+abbrev IsRefusedLoop : Members → List ℕ → Type 0
+IsRefusedLoop t target = elim (made t) [ Ok w ↦ IsCoreLoop w (targets_in t) target | Err f ↦ ⊥ ]
+
+abbrev pub LoopRows : Type 0
+LoopRows =
+    -- on one net of Q and D
+    IsRefusedLoop (file (following (codes "U1") (codes "k") (codes "Q = D" ∷ []) ∷ [])
+    (net (codes "N") (codes "U1.Q" ∷ codes "U1.D" ∷ []) ∷ [])) (codes "U1.Q")
+    -- through two devices
+    × IsRefusedLoop (file
+    (following (codes "U1") (codes "k") (codes "Q = D" ∷ []) ∷ following (codes "U2") (codes "k") (codes "Q = D" ∷ [])
+    ∷ []) (net (codes "N") (codes "U1.Q" ∷ codes "U2.D" ∷ []) ∷ net (codes "M") (codes "U2.Q" ∷ codes "U1.D" ∷ []) ∷ []))
+    (codes "U1.Q")

@@ -14,6 +14,7 @@ use Rattle.pin_nets.specs.declared.Pin.{Pin}
 use Rattle.board_library.specs.Files.{File}
 use Rattle.pin_nets.specs.Wired.{Net}
 use Rattle.board_file.specs.Wiring.{Fault, makes}
+use Rattle.pin_nets.specs.declared.Follow.{Follow}
 use Rattle.board_plan.specs.Planned.{Member, Wiring}
 
 -- ---- devices
@@ -107,6 +108,11 @@ abbrev pub cored : List ℕ → List ℕ → List ℕ → Members
 cored name file core = text_member (codes "bsdl") file
     (text_member (codes "core") core (text_member (codes "name") name no_members))
 
+-- whose core follows these strings
+abbrev pub following : List ℕ → List ℕ → List (List ℕ) → Members
+following name file strings = text_member (codes "bsdl") file
+    (member (codes "follow") (texts strings) (text_member (codes "name") name no_members))
+
 abbrev pub net : List ℕ → List (List ℕ) → Members
 net name pins = text_member (codes "name") name (member (codes "pins") (texts pins) no_members)
 
@@ -125,6 +131,10 @@ one_net d = file (d ∷ []) (net (codes "N") (codes "U1.Q" ∷ []) ∷ [])
 abbrev pub with_pins : List (List ℕ) → Members
 with_pins pins = file (device (codes "U1") (codes "k") ∷ []) (net (codes "N") pins ∷ [])
 
+-- one device K that follows these strings
+abbrev pub with_strings : List (List ℕ) → Members
+with_strings strings = file (following (codes "U1") (codes "k") strings ∷ []) []
+
 -- ---- what is shown
 
 -- of a board: each device's core, each net's pull and pins
@@ -139,8 +149,23 @@ abbrev shown_of : Result Wiring Fault → Result Shown Fault
 shown_of (Ok w) = Ok (shown w)
 shown_of (Err f) = Err f
 
+-- what a table makes with the files, and what is shown of that
+abbrev pub made : Members → Result Wiring Fault
+made t = makes says files t
+
 abbrev pub shows : Members → Result Shown Fault
-shows t = shown_of (makes says files t)
+shows t = shown_of (made t)
 
 abbrev pub pin : ℕ → ℕ → Pin
 pin device port = record { device = device; port = port }
+
+-- the strings of each device
+abbrev strings_in : Result Wiring Fault → Result (List (List Follow)) Fault
+strings_in (Ok w) = Ok (map (λ (m : Member). m.follows) w.members)
+strings_in (Err f) = Err f
+
+abbrev pub shows_strings : Members → Result (List (List Follow)) Fault
+shows_strings t = strings_in (made t)
+
+abbrev pub follow : ℕ → ℕ → Bool → Follow
+follow cell source inverted = record { cell = cell; source = source; inverted = inverted }

@@ -1,11 +1,22 @@
 //! Worked board files: small tables over small devices, and what the definitions make of them.
 #![tactic(auto)]
 
-ghost use Rattle.board_file_rows.specs.Rows.{BoardRows};
+ghost use Rattle.board_file_rows.specs.Rows.{BoardRows, FollowRows, LoopRows};
 
 /// Board files over three small devices: how they are wired, or why they are refused, computed from the definitions.
 pub fn rows_compute()
     ensures { BoardRows }
+{}
+
+/// Board files with cores that follow: the strings of their devices, or why they are refused, computed from the
+/// definitions.
+pub fn follow_rows_compute()
+    ensures { FollowRows }
+{}
+
+/// Board files on which a string is on a loop: which target the refusal names, computed from the definitions.
+pub fn loop_rows_compute()
+    ensures { LoopRows }
 {}
 
 #[cfg(test)]

@@ -1,6 +1,6 @@
-//! Board files as text, over one small device of three cells.
+//! Board files as text, over one small device of three cells, of which cell 0 drives Q and cell 1 drives B.
 ghost use Rattle.std.specs.Prelude.{◌≡◌, [], ◌∷◌, IfOk, string_bytes};
-ghost use Rattle.board_file_rows.specs.Small.{small_cell, small_device, small_ports};
+ghost use Rattle.board_file_rows.specs.Small.{small_both, small_cell, small_device, small_driver, small_ports};
 
 use board_file::{BoardFault, Describe, Pin, Unread, bsdl_names, plan_of_text};
 use board_plan::Plan;
@@ -8,7 +8,7 @@ use bsdl_device::{
     Cell as BoundaryCell, Device, Function, Indices, Names, Parts, Port, PortMode, Ports,
 };
 use jt_bits::Bits;
-use pin_nets::Pull;
+use pin_nets::{Follow, Pull};
 use std::alloc::{AllocError, Global};
 use std::cell::Cell;
 use std::process::Abort;
@@ -35,20 +35,31 @@ fn ports(alloc: Global) -> Result<Ports, AllocError>
     let ports = ports.with(port(alloc, "D", PortMode::In, false)?, None)?;
     let bus = Indices { low: 2, len: 2 };
     let ports = ports.with(port(alloc, "A", PortMode::In, false)?, Some(bus))?;
-    ports.with(port(alloc, "VCC", PortMode::Linkage, false)?, None)
+    let ports = ports.with(port(alloc, "VCC", PortMode::Linkage, false)?, None)?;
+    ports.with(port(alloc, "B", PortMode::InOut, false)?, None)
 }
 
 fn cells(alloc: Global) -> Result<Vec<BoundaryCell>, AllocError>
-    ensures { IfOk result (λ v. v.items ≡ small_cell ∷ small_cell ∷ small_cell ∷ []) }
+    ensures { IfOk result (λ v. v.items ≡ small_driver ∷ small_both ∷ small_cell ∷ []) }
 {
+    let driver = BoundaryCell {
+        function: Function::Output2,
+        port: Some(1),
+        control: None,
+    };
+    let both = BoundaryCell {
+        function: Function::Bidir,
+        port: Some(6),
+        control: None,
+    };
     let cell = BoundaryCell {
         function: Function::Internal,
         port: None,
         control: None,
     };
     let mut cells = Vec::new(alloc);
-    cells.push(cell)?;
-    cells.push(cell)?;
+    cells.push(driver)?;
+    cells.push(both)?;
     cells.push(cell)?;
     Ok(cells)
 }
@@ -110,9 +121,8 @@ fn told(alloc: Global, text: &str) -> Result<String, Fail> {
         Err(fault) => match &fault {
             BoardFault::BadField(key) => format!(in alloc; "{fault} {key}")?,
             BoardFault::UnknownFile(name) => format!(in alloc; "{fault} {name}")?,
-            BoardFault::UnknownPin(pin) | BoardFault::PinTwice(pin) => format!(in alloc;
-                "{fault} {pin}"
-            )?,
+            BoardFault::UnknownPin(pin) | BoardFault::PinTwice(pin) | BoardFault::CoreLoop(pin) =>
+                format!(in alloc; "{fault} {pin}")?,
             BoardFault::Bsdl(why) => format!(in alloc; "{fault} {why}")?,
             _ => format!(in alloc; "{fault}")?,
         },
@@ -152,6 +162,64 @@ const WIRED: &[(&str, &str)] = &[
     ("\"U1.A(0002)\", \"U1.vcc\"", "made"),
 ];
 
+/// The strings of a device, and what a board of it is told to be.
+const FOLLOWED: &[(&str, &str)] = &[
+    ("\"Q = D\"", "made"),
+    ("\"q=! a(2) \"", "made"),
+    ("", "made"),
+    ("\"D = Q\"", "C2 BadField follow"),
+    ("\"Q = D\", \"Q = !D\"", "C2 BadField follow"),
+    ("\"Q = Q\"", "C2 BadField follow"),
+    ("\"Q = VCC\"", "C2 BadField follow"),
+    ("\"Q = TDI\"", "C2 BadField follow"),
+    ("\"Q =\\tD\"", "C2 BadField follow"),
+    ("1", "C2 BadField follow"),
+    ("\"B = Q\"", "C2 BadField follow"),
+    ("\"B = D\", \"Q = B\"", "made"),
+    ("\"B = !b\"", "C9 CoreLoop U1.B"),
+    ("\"Q = D\", \"  b=B\"", "C9 CoreLoop U1.b"),
+];
+
+/// The strings of U1 and of U2, the pins of two nets, and what a board of both is told to be.
+const LOOPS: &[(&str, &str, &str, &str, &str)] = &[
+    (
+        "\"Q = D\"",
+        "",
+        "\"U1.Q\", \"U1.D\"",
+        "",
+        "C9 CoreLoop U1.Q",
+    ),
+    (
+        "\"Q = D\"",
+        "\"Q = D\"",
+        "\"U1.Q\", \"U2.D\"",
+        "\"U2.Q\", \"U1.D\"",
+        "C9 CoreLoop U1.Q",
+    ),
+    (
+        "\"Q = !D\"",
+        "\"Q = D\"",
+        "\"U1.D\"",
+        "\"U1.Q\", \"U2.D\"",
+        "made",
+    ),
+    (
+        "\"Q = D\", \"B = B\"",
+        "\"Q = Q\"",
+        "",
+        "",
+        "C2 BadField follow",
+    ),
+    (
+        "\"Q = D\"",
+        "\" q =D\"",
+        "\"U2.Q\", \"U2.D\"",
+        "",
+        "C9 CoreLoop U2.q",
+    ),
+    ("\"B = B\"", "", "\"U1.Q\"", "\"U1.Q\"", "C6 PinTwice U1.Q"),
+];
+
 #[test]
 fn refusals(rt: HostRuntime) -> Result<(), Fail> {
     for (text, wanted) in TOLD {
@@ -160,7 +228,28 @@ fn refusals(rt: HostRuntime) -> Result<(), Fail> {
     for (pins, wanted) in WIRED {
         assert_wired(&rt, rt.alloc(), pins, wanted)?;
     }
+    for (strings, wanted) in FOLLOWED {
+        assert_followed(&rt, rt.alloc(), strings, wanted)?;
+    }
+    for (first, second, one, other, wanted) in LOOPS {
+        let text = looped(rt.alloc(), (first, second), (one, other))?;
+        assert_told(&rt, rt.alloc(), text.as_str(), wanted)?;
+    }
     Ok(())
+}
+
+/// The text of a board of U1 and U2 with these strings, and two nets of these pins.
+fn looped(alloc: Global, strings: (&str, &str), pins: (&str, &str)) -> Result<String, AllocError> {
+    let (first, second) = strings;
+    let (one, other) = pins;
+    let mut text = format!(in alloc; "{U1}follow = [{first}]\n")?;
+    let more = format!(in alloc; "[[device]]\nname = \"U2\"\nbsdl = \"k\"\nfollow = [{second}]\n")?;
+    text.push_str(more.as_str())?;
+    let nets = format!(in alloc;
+        "[[net]]\nname = \"N\"\npins = [{one}]\n[[net]]\nname = \"M\"\npins = [{other}]\n"
+    )?;
+    text.push_str(nets.as_str())?;
+    Ok(text)
 }
 
 fn assert_told(rt: &impl Abort, alloc: Global, text: &str, wanted: &str) -> Result<(), Fail> {
@@ -174,10 +263,21 @@ fn assert_wired(rt: &impl Abort, alloc: Global, pins: &str, wanted: &str) -> Res
     assert_told(rt, alloc, text.as_str(), wanted)
 }
 
+fn assert_followed(
+    rt: &impl Abort,
+    alloc: Global,
+    strings: &str,
+    wanted: &str,
+) -> Result<(), Fail> {
+    let text = format!(in alloc; "{U1}follow = [{strings}]\n")?;
+    assert_told(rt, alloc, text.as_str(), wanted)
+}
+
 const TWO: &str = "[[device]]
 name = \"U1\"
 bsdl = \"k\"
 core = \"011\"
+follow = [\"Q = !a(3)\"]
 extest = \"update\"
 [[device]]
 name = \"u1\"
@@ -202,9 +302,16 @@ fn a_board_of_two(rt: HostRuntime) -> Result<(), Fail> {
     assert_eq!(&rt; first.name.as_str(), "U1");
     assert_eq!(&rt; (first.core.len(), first.core.hex_digit(0)), (3, b'3'));
     assert!(&rt; first.extest_update);
+    let string = Follow {
+        cell: 0,
+        source: 4,
+        inverted: true,
+    };
+    assert_eq!(&rt; first.follows.as_slice(), [string].as_slice());
     assert_eq!(&rt; second.name.as_str(), "u1");
     assert_eq!(&rt; second.core.len(), 3);
     assert!(&rt; !second.extest_update);
+    assert!(&rt; second.follows.is_empty());
     let [net, open] = plan.nets.as_slice() else {
         return Err(Fail::from("not two nets"));
     };

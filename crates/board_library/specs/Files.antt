@@ -1,6 +1,6 @@
 -- What the files that are handed in describe. A description stands in a file; `says` is the device that a text
 -- describes, None where the text is refused.
-use Rattle.std.specs.Prelude.{ℕ, List, [], ◌∷◌, length, filter_map, codes, bytes_eq, is_none}
+use Rattle.std.specs.Prelude.{ℕ, List, [], ◌∷◌, filter_map, codes, bytes_eq, is_none}
 use Rattle.std.specs.Option.{option_or}
 use Rattle.std.specs.Prelude.{option_map, option_and_then, Option, Some, None}
 use Rattle.std.specs.Prelude.{if◌then◌else◌}
@@ -24,10 +24,6 @@ described says files name = option_and_then says (text_of files name)
 -- what is described of a device of the board file
 abbrev pub device_at : (List ℕ → Option Device) → List File → Members → Option Device
 device_at says files t = option_and_then (described says files) (text_at (codes "bsdl") t)
-
--- its number of cells, where its description is there and not refused
-abbrev pub cells_at : (List ℕ → Option Device) → List File → Members → Option ℕ
-cells_at says files t = option_map (λ (d : Device). length d.cells) (device_at says files t)
 
 abbrev pub devices_of : (List ℕ → Option Device) → List File → List Members → List Device
 devices_of says files ts = filter_map (device_at says files) ts

@@ -1,6 +1,6 @@
 -- What the code's values stand for.
-use Rattle.std.specs.Prelude.{◌≡◌, ℕ, List, map, length, slice_get, position, bytes_eq, codes, Option}
-use Rattle.std.specs.Prelude.{Some, None, option_map, option_and_then, Result, Ok, Err}
+use Rattle.std.specs.Prelude.{◌≡◌, ℕ, List, map, slice_get, position, bytes_eq, codes, Option}
+use Rattle.std.specs.Prelude.{Some, None, option_and_then, Result, Ok, Err}
 use denote.Ref.{Bor}
 use Rattle.toml.specs.Data.{Members}
 use Rattle.bsdl_device.specs.Device as described
@@ -68,6 +68,3 @@ stands_at names ds t =
     option_and_then (λ d. d)
     (option_and_then (slice_get ds)
     (option_and_then (λ name. position (bytes_eq name) names) (text_at (codes "bsdl") t)))
-
-abbrev pub cells_in : List (List ℕ) → List (Option described.Device) → Members → Option ℕ
-cells_in names ds t = option_map (λ (d : described.Device). length d.cells) (stands_at names ds t)

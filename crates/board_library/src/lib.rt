@@ -3,4 +3,4 @@
 
 mod library;
 
-pub use library::{Describe, Library, Unread, cells_of, described_at, devices_of, read_files};
+pub use library::{Describe, Library, Unread, described_at, devices_of, read_files};

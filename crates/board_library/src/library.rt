@@ -1,15 +1,14 @@
 //! The descriptions that a board file names, each read once.
-ghost use Rattle.std.specs.Prelude.{◌≡◌, ℕ, List, Option, map, option_map, option_copied, IfOk, OnOk, length, None};
+ghost use Rattle.std.specs.Prelude.{◌≡◌, ℕ, List, Option, map, option_map, option_copied, IfOk, OnOk, None};
 ghost use Rattle.std.specs.Prelude.{◌++◌, ◌∷◌, []};
 ghost use Rattle.toml.specs.View.{table_view, items_view};
 ghost use Rattle.board_tables.specs.Fields.{tables_in};
 ghost use Rattle.board_words.specs.View.{texts_of};
-ghost use Rattle.bsdl_device.specs.Device as described;
 ghost use Rattle.board_library.specs.Files as spec;
 ghost use Rattle.std.specs.List.{filter_map};
 ghost use Rattle.std.specs.Option.{option_or};
 ghost use Rattle.board_library.specs.View.{Describes, IsRead, IsReading, IsFirstRefusal, device_in, missing_with};
-ghost use Rattle.board_library.specs.View.{refused_with, files_of, stands_at, cells_in};
+ghost use Rattle.board_library.specs.View.{refused_with, files_of, stands_at};
 
 use board_tables::text_at;
 use board_words::Places;
@@ -208,35 +207,6 @@ pub fn described_at<'r>(
     match described.get(place) {
         Some(Some(device)) => Some(device),
         _ => None,
-    }
-}
-
-/// The number of cells of each device, where its description is there and not refused. Refuses for want of memory
-/// alone.
-pub fn cells_of(
-    alloc: Global,
-    names: &Places<&str>,
-    described: &[Option<SharedDevice>],
-    devices: &[Value],
-) -> Result<Vec<Option<usize>>, AllocError>
-    ensures { IfOk result (λ v. v.items
-        ≡ map (cells_in (texts_of names.now) described.now) (tables_in (items_view devices.now))) }
-{
-    let mut cells = Vec::new(alloc);
-    for device in devices {
-        if let Some(table) = device.as_table() {
-            cells.push(count_of(described_at(names, described, table)))?;
-        }
-    }
-    Ok(cells)
-}
-
-fn count_of(device: Option<&SharedDevice>) -> Option<usize>
-    ensures { result ≡ option_map (λ (d : described.Device). length d.cells) (option_copied device.entry) }
-{
-    match device {
-        Some(device) => Some(device.get().cells().len()),
-        None => None,
     }
 }
 

@@ -4,7 +4,8 @@ use Rattle.std.specs.List.{AllByRecursion}
 use Rattle.jt_tap.specs.declared.State.{State}
 use Rattle.jt_tap.specs.declared.State.TheVariants.{Reset, Idle, DrSelect, DrCapture, DrShift, DrExit1, DrPause, DrExit2, DrUpdate, IrSelect, IrCapture, IrShift, IrExit1, IrPause, IrExit2, IrUpdate}
 use Rattle.jt_tap.specs.Controller.{next}
-use Rattle.board_meaning.specs.Nets.{sees}
+use Rattle.board_meaning.specs.Cells.{Told}
+use Rattle.board_meaning.specs.Nets.{told}
 use Rattle.bitbang_table.specs.declared.Message.TheVariants.{Write, Lines}
 use Rattle.board_meaning.specs.Chain.{ChipState, BoardState, fall, rise_all, members, after_levels, after_message, hear}
 use Rattle.board_meaning.specs.Whole.{AtRest, reset_member}
@@ -21,9 +22,9 @@ states-fall : (cs : List ChipState) → states (map fall cs) ≡ states cs
 states-fall [] = refl
 states-fall (c ∷ cs) = ap (λ r. c.state ∷ r) (states-fall cs)
 
-states-rise : (tdi : Bool) (sight : ℕ → ℕ → Bool) (k : ℕ) (cs : List ChipState) → states (rise_all false true tdi sight k cs) ≡ ones (states cs)
-states-rise tdi sight k [] = refl
-states-rise tdi sight k (c ∷ cs) = ap (λ r. next c.state true ∷ r) (states-rise tdi sight (suc k) cs)
+states-rise : (tdi : Bool) (about : ℕ → Told) (k : ℕ) (cs : List ChipState) → states (rise_all false true tdi about k cs) ≡ ones (states cs)
+states-rise tdi about k [] = refl
+states-rise tdi about k (c ∷ cs) = ap (λ r. next c.state true ∷ r) (states-rise tdi about (suc k) cs)
 
 states-low : (tck : Bool) (b : BoardState) → states (after_levels tck false true false b) ≡ states b.chips
 states-low true b = states-fall b.chips
@@ -35,7 +36,7 @@ one b = after_message (Write true true false) (after_message (Write false true f
 
 states-one : (b : BoardState) → b.trst ≡ false → states (one b).chips ≡ ones (states b.chips)
 states-one b released =
-    ap (λ t. states (rise_all t true false (sees b.nets (members (after_levels b.tck false true false b))) 0 (after_levels b.tck false true false b))) released
+    ap (λ t. states (rise_all t true false (told b.nets (members (after_levels b.tck false true false b))) 0 (after_levels b.tck false true false b))) released
     ∙ states-rise false _ 0 (after_levels b.tck false true false b)
     ∙ ap ones (states-low b.tck b)
 

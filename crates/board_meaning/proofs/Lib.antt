@@ -8,3 +8,8 @@ pub mod Shift
 pub mod Sound
 pub mod SoundEdges
 pub mod Powered
+pub mod Following
+pub mod InOrder
+pub mod Staying
+pub mod Held
+pub mod OtherRegisters

@@ -5,9 +5,9 @@ use Rattle.std.specs.List.{AllByRecursion}
 use Rattle.jt_tap.specs.declared.State.{State}
 use Rattle.jt_tap.specs.Controller.{next, work}
 use Rattle.scan_registers.specs.Edges.{after_rise, after_fall, tdo_after}
-use Rattle.board_meaning.specs.Cells.{Member, surroundings}
+use Rattle.board_meaning.specs.Cells.{Member, surroundings, Told, untold}
 use Rattle.pin_nets.specs.Wired.{Net}
-use Rattle.board_meaning.specs.Nets.{sees}
+use Rattle.board_meaning.specs.Nets.{told}
 use Rattle.bitbang_table.specs.declared.Message.{Message}
 use Rattle.bitbang_table.specs.declared.Message.TheVariants.{Write, Ask}
 use Rattle.bitbang_table.specs.declared.Cycle.{Cycle}
@@ -31,19 +31,19 @@ given s tdi [] = tdi
 given s tdi (m ∷ ms) = unwrap_or (tdo_after (work s) m.device m.registers) true
 
 -- the devices after a rising edge in a state
-abbrev pub risen_one : State → Bool → (ℕ → Bool) → Member → Member
-risen_one s tdi sight m = record m { registers = after_rise (work s) m.device (surroundings sight m) tdi m.registers }
+abbrev pub risen_one : State → Bool → Told → Member → Member
+risen_one s tdi about m = record m { registers = after_rise (work s) m.device (surroundings about m) tdi m.registers }
 
-abbrev pub risen_all : State → Bool → (ℕ → ℕ → Bool) → ℕ → List Member → List Member
-risen_all s tdi sight k [] = []
-risen_all s tdi sight k (m ∷ ms) = risen_one s (given s tdi ms) (sight k) m ∷ risen_all s tdi sight (suc k) ms
+abbrev pub risen_all : State → Bool → (ℕ → Told) → ℕ → List Member → List Member
+risen_all s tdi about k [] = []
+risen_all s tdi about k (m ∷ ms) = risen_one s (given s tdi ms) (about k) m ∷ risen_all s tdi about (suc k) ms
 
 abbrev pub fallen_one : State → Member → Member
-fallen_one s m = record m { registers = after_fall (work s) m.device (surroundings (λ p. true) m) m.registers }
+fallen_one s m = record m { registers = after_fall (work s) m.device (surroundings untold m) m.registers }
 
 -- the devices after one whole cycle
 abbrev pub cycled : State → (tms tdi : Bool) → List Net → List Member → List Member
-cycled s tms tdi nets ms = map (fallen_one (next s tms)) (risen_all s tdi (sees nets ms) 0 ms)
+cycled s tms tdi nets ms = map (fallen_one (next s tms)) (risen_all s tdi (told nets ms) 0 ms)
 
 pub members-lowered : (s : State) (ms : List Member) → members (map (lowered s) ms) ≡ ms
 members-lowered s [] = refl
@@ -53,36 +53,36 @@ given-lowered : (s : State) (tdi : Bool) (ms : List Member) → tdi_before tdi (
 given-lowered s tdi [] = refl
 given-lowered s tdi (m ∷ ms) = refl
 
-fall-rise : (s : State) (trst tms tdi : Bool) (sight : ℕ → Bool) (m : Member) → is_held trst m ≡ false
-    → fall (rise trst tms tdi sight (lowered s m)) ≡ lowered (next s tms) (fallen_one (next s tms) (risen_one s tdi sight m))
-fall-rise s trst tms tdi sight m free = rw free refl
+fall-rise : (s : State) (trst tms tdi : Bool) (about : Told) (m : Member) → is_held trst m ≡ false
+    → fall (rise trst tms tdi about (lowered s m)) ≡ lowered (next s tms) (fallen_one (next s tms) (risen_one s tdi about m))
+fall-rise s trst tms tdi about m free = rw free refl
 
-pub fall-rise_all : (s : State) (trst tms tdi : Bool) (sight : ℕ → ℕ → Bool) (k : ℕ) (ms : List Member) → Free trst ms
-    → map fall (rise_all trst tms tdi sight k (map (lowered s) ms))
-    ≡ map (lowered (next s tms)) (map (fallen_one (next s tms)) (risen_all s tdi sight k ms))
-fall-rise_all s trst tms tdi sight k [] free = refl
-fall-rise_all s trst tms tdi sight k (m ∷ ms) free =
-    let head = ap (λ t. fall (rise trst tms t (sight k) (lowered s m))) (given-lowered s tdi ms)
-    ∙ fall-rise s trst tms (given s tdi ms) (sight k) m free.0 in
-    λ i. head i ∷ fall-rise_all s trst tms tdi sight (suc k) ms free.1 i
+pub fall-rise_all : (s : State) (trst tms tdi : Bool) (about : ℕ → Told) (k : ℕ) (ms : List Member) → Free trst ms
+    → map fall (rise_all trst tms tdi about k (map (lowered s) ms))
+    ≡ map (lowered (next s tms)) (map (fallen_one (next s tms)) (risen_all s tdi about k ms))
+fall-rise_all s trst tms tdi about k [] free = refl
+fall-rise_all s trst tms tdi about k (m ∷ ms) free =
+    let head = ap (λ t. fall (rise trst tms t (about k) (lowered s m))) (given-lowered s tdi ms)
+    ∙ fall-rise s trst tms (given s tdi ms) (about k) m free.0 in
+    λ i. head i ∷ fall-rise_all s trst tms tdi about (suc k) ms free.1 i
 
 -- the high byte of a cycle and the low byte after it, whatever that one is
 pub high-low : (s : State) (trst tms tdi a b : Bool) (nets : List Net) (ms : List Member) (rest : List Message) → Free trst ms
     → hear (Write true tms tdi ∷ Write false a b ∷ rest) (low s trst nets ms)
     ≡ hear rest (low (next s tms) trst nets (cycled s tms tdi nets ms))
 high-low s trst tms tdi a b nets ms rest free =
-    rw (members-lowered, fall-rise_all s trst tms tdi (sees nets ms) 0 ms free) refl
+    rw (members-lowered, fall-rise_all s trst tms tdi (told nets ms) 0 ms free) refl
 
-Free-risen_all : (s : State) (tdi trst : Bool) (sight : ℕ → ℕ → Bool) (k : ℕ) (ms : List Member) → Free trst ms → Free trst (risen_all s tdi sight k ms)
-Free-risen_all s tdi trst sight k [] free = tt
-Free-risen_all s tdi trst sight k (m ∷ ms) free = (free.0, Free-risen_all s tdi trst sight (suc k) ms free.1)
+Free-risen_all : (s : State) (tdi trst : Bool) (about : ℕ → Told) (k : ℕ) (ms : List Member) → Free trst ms → Free trst (risen_all s tdi about k ms)
+Free-risen_all s tdi trst about k [] free = tt
+Free-risen_all s tdi trst about k (m ∷ ms) free = (free.0, Free-risen_all s tdi trst about (suc k) ms free.1)
 
 Free-fallen : (s : State) (trst : Bool) (ms : List Member) → Free trst ms → Free trst (map (fallen_one s) ms)
 Free-fallen s trst [] free = tt
 Free-fallen s trst (m ∷ ms) free = (free.0, Free-fallen s trst ms free.1)
 
 pub Free-cycled : (s : State) (trst tms tdi : Bool) (nets : List Net) (ms : List Member) → Free trst ms → Free trst (cycled s tms tdi nets ms)
-Free-cycled s trst tms tdi nets ms free = Free-fallen (next s tms) trst _ (Free-risen_all s tdi trst (sees nets ms) 0 ms free)
+Free-cycled s trst tms tdi nets ms free = Free-fallen (next s tms) trst _ (Free-risen_all s tdi trst (told nets ms) 0 ms free)
 
 -- what a list of cycles does: answers, state and devices
 pub record Ran : Type 0 where

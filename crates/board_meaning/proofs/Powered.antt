@@ -75,7 +75,7 @@ given-or (Some bits) given other bit = given
 
 -- the registers that a device of this description powers up with
 abbrev at_power_up : Device → Registers
-at_power_up d = (powered [] d [] false).registers
+at_power_up d = (powered [] d [] [] false).registers
 
 selects-access : (d : Device) (name : Name) (place : Place) (captures : Option (List Bool)) → IsSoundDevice d
     → IsSoundAccess d.users (record { instruction = name; place = place; captures = captures })
@@ -116,14 +116,14 @@ powered-sound d sound = record {
 }
 
 pub powered_sound : SoundDescriptionsPowerUpSound
-powered_sound name d core extest_update sound = record { it = powered-sound d sound }
+powered_sound name d core follows extest_update sound = record { it = powered-sound d sound }
 
 bare-sound : IsSoundDevice bare
 bare-sound = record { instruction = omega arith; capture = omega arith; cells = omega arith; idcode = tt; usercode = tt; accesses = tt }
 
 bares-sound : (k n : ℕ) → AllSound (members (map (chip_at_rest Reset) (bare_from k n)))
 bares-sound k zero = tt
-bares-sound k (suc n) = (powered_sound (bare_name k) bare (false ∷ []) false bare-sound, bares-sound (suc k) n)
+bares-sound k (suc n) = (powered_sound (bare_name k) bare (false ∷ []) [] false bare-sound, bares-sound (suc k) n)
 
 pub bare_sound : BareBoardsAreSound
 bare_sound n = bares-sound 1 n

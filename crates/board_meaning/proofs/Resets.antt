@@ -13,10 +13,10 @@ use Rattle.bsdl_device.specs.declared.Function.{Function}
 use Rattle.bsdl_device.specs.declared.Function.TheVariants.{ControlR, Input}
 use Rattle.device_registers.specs.Registers.{Registers, Surroundings}
 use Rattle.scan_registers.specs.Edges.{after_rise}
-use Rattle.board_meaning.specs.Cells.{Member, surroundings}
+use Rattle.board_meaning.specs.Cells.{Member, surroundings, Told}
 use Rattle.boundary.specs.Cells.{reset_cell, reset_from}
 use Rattle.pin_nets.specs.Wired.{Net}
-use Rattle.board_meaning.specs.Nets.{sees}
+use Rattle.board_meaning.specs.Nets.{told}
 use Rattle.bitbang_table.specs.declared.Message.TheVariants.{Lines, Write}
 use Rattle.board_meaning.specs.Chain.{ChipState, BoardState, is_held, assert_trst, rise, fall, rise_all, tdi_before, members, after_message, hear}
 use Rattle.board_meaning.specs.Whole.{reset_member, after_opening, settled_member, trst_asserted, trst_member}
@@ -60,18 +60,18 @@ risen-quiet Waits d around tdi r quiet = refl
 abbrev pub up : Bool → ChipState → ChipState
 up trst c = if is_held trst c.member then c else record { member = c.member; state = next c.state true; tdo = c.tdo }
 
-rise-up : (trst tdi : Bool) (sight : ℕ → Bool) (c : ChipState) → is_quiet (work c.state) ≡ true → rise trst true tdi sight c ≡ up trst c
-rise-up trst tdi sight c quiet =
+rise-up : (trst tdi : Bool) (about : Told) (c : ChipState) → is_quiet (work c.state) ≡ true → rise trst true tdi about c ≡ up trst c
+rise-up trst tdi about c quiet =
     λ i. if is_held trst c.member then c else record {
-      member = record c.member { registers = risen-quiet (work c.state) c.member.device (surroundings sight c.member) tdi c.member.registers quiet i };
+      member = record c.member { registers = risen-quiet (work c.state) c.member.device (surroundings about c.member) tdi c.member.registers quiet i };
       state = next c.state true;
       tdo = c.tdo;
     }
 
-pub rise_all-up : (trst tdi : Bool) (sight : ℕ → ℕ → Bool) (k : ℕ) (cs : List ChipState) → AllQuiet cs → rise_all trst true tdi sight k cs ≡ map (up trst) cs
-rise_all-up trst tdi sight k [] quiet = refl
-rise_all-up trst tdi sight k (c ∷ cs) quiet =
-    λ i. rise-up trst (tdi_before tdi cs) (sight k) c quiet.0 i ∷ rise_all-up trst tdi sight (suc k) cs quiet.1 i
+pub rise_all-up : (trst tdi : Bool) (about : ℕ → Told) (k : ℕ) (cs : List ChipState) → AllQuiet cs → rise_all trst true tdi about k cs ≡ map (up trst) cs
+rise_all-up trst tdi about k [] quiet = refl
+rise_all-up trst tdi about k (c ∷ cs) quiet =
+    λ i. rise-up trst (tdi_before tdi cs) (about k) c quiet.0 i ∷ rise_all-up trst tdi about (suc k) cs quiet.1 i
 
 -- Capture and Shift are entered by TMS 0 alone
 next-quiet : (s : State) → is_quiet (work (next s true)) ≡ true
@@ -112,12 +112,12 @@ abbrev pub one : BoardState → BoardState
 one b = after_message (Write true true false) (after_message (Write false true false) b)
 
 pub one-low : (trst : Bool) (nets : List Net) (cs : List ChipState) → AllQuiet cs → one (board false trst nets cs) ≡ board true trst nets (map (up trst) cs)
-one-low trst nets cs quiet = λ i. board true trst nets (rise_all-up trst false (sees nets (members cs)) 0 cs quiet i)
+one-low trst nets cs quiet = λ i. board true trst nets (rise_all-up trst false (told nets (members cs)) 0 cs quiet i)
 
 pub one-high : (trst : Bool) (nets : List Net) (cs : List ChipState) → AllQuiet cs
     → one (board true trst nets cs) ≡ board true trst nets (map (up trst) (map fall cs))
 one-high trst nets cs quiet =
-    λ i. board true trst nets (rise_all-up trst false (sees nets (members (map fall cs))) 0 (map fall cs) (AllQuiet-fall cs quiet) i)
+    λ i. board true trst nets (rise_all-up trst false (told nets (members (map fall cs))) 0 (map fall cs) (AllQuiet-fall cs quiet) i)
 
 -- one device through five cycles with TMS 1 and the last low byte
 abbrev through : Bool → ChipState → ChipState

@@ -9,7 +9,7 @@ use Rattle.jt_tap.specs.declared.State.{State}
 use Rattle.jt_tap.specs.declared.State.TheVariants.{DrShift, IrShift}
 use Rattle.device_registers.specs.Registers.{put}
 use Rattle.jt_bits.specs.Shifting.{after_shift}
-use Rattle.board_meaning.specs.Cells.{Member}
+use Rattle.board_meaning.specs.Cells.{Member, Told}
 use Rattle.board_meaning.specs.Whole.{selected_bits_of, joined_bits, cut_back}
 use Rattle.board_meaning.proofs.OneCycle.{given, risen_all, risen_one}
 
@@ -66,16 +66,16 @@ given-joined column tdi (m ∷ ms) full =
     rw (given-first, append_assoc c J (tdi ∷ []), drop-one c (J ++ tdi ∷ []) full.0)
     (ap (λ r. r ++ (J ++ tdi ∷ [])) (first-rest c full.0))
 
-risen-shift : (column : Column) (tdi : Bool) (sight : ℕ → Bool) (m : Member)
-    → risen_one (shift_state column) tdi sight m ≡ record m { registers = put m.device column (after_shift (selected_bits_of column m) tdi) m.registers }
-risen-shift Dr tdi sight m = refl
-risen-shift Ir tdi sight m = refl
+risen-shift : (column : Column) (tdi : Bool) (about : Told) (m : Member)
+    → risen_one (shift_state column) tdi about m ≡ record m { registers = put m.device column (after_shift (selected_bits_of column m) tdi) m.registers }
+risen-shift Dr tdi about m = refl
+risen-shift Ir tdi about m = refl
 
 -- One rising edge in Shift: the joined list without its first bit, followed by TDI, cut back by the same lengths.
-pub shift-one : (column : Column) (tdi : Bool) (sight : ℕ → ℕ → Bool) (k : ℕ) (ms : List Member) → Full column ms
-    → risen_all (shift_state column) tdi sight k ms ≡ cut_back column (drop 1 (joined_bits column ms ++ tdi ∷ [])) ms
-shift-one column tdi sight k [] full = refl
-shift-one column tdi sight k (m ∷ ms) full =
+pub shift-one : (column : Column) (tdi : Bool) (about : ℕ → Told) (k : ℕ) (ms : List Member) → Full column ms
+    → risen_all (shift_state column) tdi about k ms ≡ cut_back column (drop 1 (joined_bits column ms ++ tdi ∷ [])) ms
+shift-one column tdi about k [] full = refl
+shift-one column tdi about k (m ∷ ms) full =
     let c = selected_bits_of column m in
     let J = joined_bits column ms in
     let g = given (shift_state column) tdi ms in
@@ -83,14 +83,14 @@ shift-one column tdi sight k (m ∷ ms) full =
     let whole : drop 1 (joined_bits column (m ∷ ms) ++ tdi ∷ []) ≡ drop 1 c ++ g ∷ rest =
     ap (λ r. drop 1 r) (append_assoc c J (tdi ∷ [])) ∙ drop-one c (J ++ tdi ∷ []) full.0
     ∙ ap (λ r. drop 1 c ++ r) (sym (given-joined column tdi ms full.1)) in
-    let head : risen_one (shift_state column) g (sight k) m
+    let head : risen_one (shift_state column) g (about k) m
     ≡ record m { registers = put m.device column (take (length c) (drop 1 (joined_bits column (m ∷ ms) ++ tdi ∷ []))) m.registers } =
-    risen-shift column g (sight k) m
+    risen-shift column g (about k) m
     ∙ ap (λ r. record m { registers = put m.device column r m.registers })
     (sym (ap (λ r. take (length c) r) whole ∙ take-moved c g rest full.0)) in
-    let tail : risen_all (shift_state column) tdi sight (suc k) ms
+    let tail : risen_all (shift_state column) tdi about (suc k) ms
     ≡ cut_back column (drop (length c) (drop 1 (joined_bits column (m ∷ ms) ++ tdi ∷ []))) ms =
-    shift-one column tdi sight (suc k) ms full.1
+    shift-one column tdi about (suc k) ms full.1
     ∙ ap (λ r. cut_back column r ms) (sym (ap (λ r. drop (length c) r) whole ∙ drop-moved c g rest full.0)) in
     λ i. head i ∷ tail i
 

@@ -10,7 +10,7 @@ use Rattle.device_instructions.specs.declared.Selected.TheVariants.{Bypass, Iden
 use Rattle.device_instructions.specs.Instruction.{meaning}
 use Rattle.device_registers.specs.Registers.{Registers, selected_bits, put, after_capture, after_update, stage_of, with_stage, user_stage, user_latch, with_user_stage, user_updated, capture_of, update_selected}
 use Rattle.device_registers.specs.declared.users.UserRegister.{UserRegister}
-use Rattle.board_meaning.specs.Cells.{Member, surroundings}
+use Rattle.board_meaning.specs.Cells.{Member, surroundings, Told}
 use Rattle.boundary.specs.Sight.{capture_by_sight}
 use Rattle.boundary.specs.Cells.{takes_update}
 use Rattle.board_meaning.specs.Whole.{selected_bits_of, joined_bits, cut_back, capture_all, update_member, reset_member}
@@ -129,19 +129,19 @@ capture-has-bit : (sees : ℕ → Bool) (from_update : Bool) (update core : List
 capture-has-bit sees from_update update core k [] some = absurd (omega arith)
 capture-has-bit sees from_update update core k (c ∷ cs) some = omega arith
 
-pub sound-captured : (column : Column) (sees : ℕ → Bool) (m : Member) → IsSoundFor m.device m.registers
-    → IsSoundFor m.device (after_capture m.device column (surroundings sees m) m.registers)
-sound-captured Ir sees m sound = sound-other m.device m.registers.latch m.device.capture m.registers.update m.registers sound.capture sound
-sound-captured Dr sees m sound =
+pub sound-captured : (column : Column) (about : Told) (m : Member) → IsSoundFor m.device m.registers
+    → IsSoundFor m.device (after_capture m.device column (surroundings about m) m.registers)
+sound-captured Ir about m sound = sound-other m.device m.registers.latch m.device.capture m.registers.update m.registers sound.capture sound
+sound-captured Dr about m sound =
     let me = meaning m.device m.registers.latch in
     sound-with_stage m.device me.selected _ m.registers
-    (capture-bit me.selected me.fixed _ m.registers (capture-has-bit sees (takes_update m.extest_update me.mode) m.registers.update m.core 0 m.device.cells sound.cells) (sound.selects m.registers.latch))
+    (capture-bit me.selected me.fixed _ m.registers (capture-has-bit about.sight (takes_update m.extest_update me.mode) m.registers.update about.core 0 m.device.cells sound.cells) (sound.selects m.registers.latch))
     sound
 
-pub Sound-capture_all : (column : Column) (sight : ℕ → ℕ → Bool) (k : ℕ) (ms : List Member) → AllSound ms → AllSound (capture_all column sight k ms)
-Sound-capture_all column sight k [] sound = tt
-Sound-capture_all column sight k (m ∷ ms) sound =
-    (record { it = sound-captured column (sight k) m sound.0.it }, Sound-capture_all column sight (suc k) ms sound.1)
+pub Sound-capture_all : (column : Column) (about : ℕ → Told) (k : ℕ) (ms : List Member) → AllSound ms → AllSound (capture_all column about k ms)
+Sound-capture_all column about k [] sound = tt
+Sound-capture_all column about k (m ∷ ms) sound =
+    (record { it = sound-captured column (about k) m sound.0.it }, Sound-capture_all column about (suc k) ms sound.1)
 
 pub Sound-cut_back : (column : Column) (X : List Bool) (ms : List Member) → AllSound ms → length X ≡ length (joined_bits column ms) → AllSound (cut_back column X ms)
 Sound-cut_back column X [] sound e = tt

@@ -10,8 +10,8 @@ use Rattle.bitbang_table.specs.Protocol.{decode}
 use Rattle.device_registers.specs.Registers.{selected_bits}
 use Rattle.jt_bits.specs.Shifting.{after_shift}
 use Rattle.scan_registers.specs.Edges.{after_rise, after_fall}
-use Rattle.board_meaning.specs.Cells.{Member, surroundings}
-use Rattle.board_meaning.specs.Nets.{sees}
+use Rattle.board_meaning.specs.Cells.{Member, surroundings, Told, untold}
+use Rattle.board_meaning.specs.Nets.{told}
 use Rattle.board_meaning.specs.Chain.{ChipState, BoardState, is_held, rise, fall, assert_trst, tdi_before, rise_all, members, after_levels, after_message, after_byte, after_bytes}
 use Rattle.board_meaning.specs.Sound.{HasBit, IsChain, IsSound, IsSoundFor, AllSound, IsSoundBoard}
 use Rattle.board_meaning.proofs.Sound.{sound-captured, sound-put, sound-updated, sound-other}
@@ -19,16 +19,16 @@ use Rattle.board_meaning.proofs.Sound.{sound-captured, sound-put, sound-updated,
 moved-bit : (tdi : Bool) (bits : List Bool) → HasBit (after_shift bits tdi)
 moved-bit tdi bits = omega (arith, length-append (drop 1 bits) (tdi ∷ []))
 
-sound-risen : (w : Work) (sight : ℕ → Bool) (m : Member) (tdi : Bool) → IsSoundFor m.device m.registers
-    → IsSoundFor m.device (after_rise w m.device (surroundings sight m) tdi m.registers)
-sound-risen Resets sight m tdi sound = sound
-sound-risen (Captures column) sight m tdi sound = sound-captured column sight m sound
-sound-risen (Shifts column) sight m tdi sound = sound-put m.device column _ m.registers (moved-bit tdi (selected_bits m.device column m.registers)) sound
-sound-risen (Updates column) sight m tdi sound = sound
-sound-risen Waits sight m tdi sound = sound
+sound-risen : (w : Work) (about : Told) (m : Member) (tdi : Bool) → IsSoundFor m.device m.registers
+    → IsSoundFor m.device (after_rise w m.device (surroundings about m) tdi m.registers)
+sound-risen Resets about m tdi sound = sound
+sound-risen (Captures column) about m tdi sound = sound-captured column about m sound
+sound-risen (Shifts column) about m tdi sound = sound-put m.device column _ m.registers (moved-bit tdi (selected_bits m.device column m.registers)) sound
+sound-risen (Updates column) about m tdi sound = sound
+sound-risen Waits about m tdi sound = sound
 
 sound-fallen : (w : Work) (m : Member) → IsSoundFor m.device m.registers
-    → IsSoundFor m.device (after_fall w m.device (surroundings (λ p. true) m) m.registers)
+    → IsSoundFor m.device (after_fall w m.device (surroundings untold m) m.registers)
 sound-fallen Resets m sound = sound-other m.device _ m.registers.stage _ m.registers sound.stage sound
 sound-fallen (Captures column) m sound = sound
 sound-fallen (Shifts column) m sound = sound
@@ -39,15 +39,15 @@ sound-either : (which : Bool) (c d : ChipState) → IsSound c.member → IsSound
 sound-either true c d first second = first
 sound-either false c d first second = second
 
-sound-rise : (trst tms tdi : Bool) (sight : ℕ → Bool) (c : ChipState) → IsSound c.member → IsSound (rise trst tms tdi sight c).member
-sound-rise trst tms tdi sight c sound =
-    sound-either (is_held trst c.member) c _ sound (record { it = sound-risen (work c.state) sight c.member tdi sound.it })
+sound-rise : (trst tms tdi : Bool) (about : Told) (c : ChipState) → IsSound c.member → IsSound (rise trst tms tdi about c).member
+sound-rise trst tms tdi about c sound =
+    sound-either (is_held trst c.member) c _ sound (record { it = sound-risen (work c.state) about c.member tdi sound.it })
 
-sound-rise_all : (trst tms tdi : Bool) (sight : ℕ → ℕ → Bool) (k : ℕ) (cs : List ChipState) → AllSound (members cs)
-    → AllSound (members (rise_all trst tms tdi sight k cs))
-sound-rise_all trst tms tdi sight k [] sound = tt
-sound-rise_all trst tms tdi sight k (c ∷ cs) sound =
-    (sound-rise trst tms (tdi_before tdi cs) (sight k) c sound.0, sound-rise_all trst tms tdi sight (suc k) cs sound.1)
+sound-rise_all : (trst tms tdi : Bool) (about : ℕ → Told) (k : ℕ) (cs : List ChipState) → AllSound (members cs)
+    → AllSound (members (rise_all trst tms tdi about k cs))
+sound-rise_all trst tms tdi about k [] sound = tt
+sound-rise_all trst tms tdi about k (c ∷ cs) sound =
+    (sound-rise trst tms (tdi_before tdi cs) (about k) c sound.0, sound-rise_all trst tms tdi about (suc k) cs sound.1)
 
 sound-falls : (cs : List ChipState) → AllSound (members cs) → AllSound (members (map fall cs))
 sound-falls [] sound = tt
@@ -62,7 +62,7 @@ sound-assert [] sound = tt
 sound-assert (c ∷ cs) sound = (sound-asserted c sound.0, sound-assert cs sound.1)
 
 sound-written : (was tck tms tdi : Bool) (b : BoardState) → IsSoundBoard b → AllSound (members (after_levels was tck tms tdi b))
-sound-written false true tms tdi b sound = sound-rise_all b.trst tms tdi (sees b.nets (members b.chips)) 0 b.chips sound
+sound-written false true tms tdi b sound = sound-rise_all b.trst tms tdi (told b.nets (members b.chips)) 0 b.chips sound
 sound-written true false tms tdi b sound = sound-falls b.chips sound
 sound-written false false tms tdi b sound = sound
 sound-written true true tms tdi b sound = sound
@@ -83,16 +83,16 @@ pub sound-bytes : (bytes : List ℕ) (b : BoardState) → IsSoundBoard b → IsS
 sound-bytes [] b sound = sound
 sound-bytes (byte ∷ bytes) b sound = sound-bytes bytes (after_byte byte b) (sound-heard (decode byte) b sound)
 
-count-rise_all : (trst tms tdi : Bool) (sight : ℕ → ℕ → Bool) (k : ℕ) (cs : List ChipState) → length (rise_all trst tms tdi sight k cs) ≡ length cs
-count-rise_all trst tms tdi sight k [] = refl
-count-rise_all trst tms tdi sight k (c ∷ cs) = ap (λ n. suc n) (count-rise_all trst tms tdi sight (suc k) cs)
+count-rise_all : (trst tms tdi : Bool) (about : ℕ → Told) (k : ℕ) (cs : List ChipState) → length (rise_all trst tms tdi about k cs) ≡ length cs
+count-rise_all trst tms tdi about k [] = refl
+count-rise_all trst tms tdi about k (c ∷ cs) = ap (λ n. suc n) (count-rise_all trst tms tdi about (suc k) cs)
 
 count-map : (f : ChipState → ChipState) (cs : List ChipState) → length (map f cs) ≡ length cs
 count-map f [] = refl
 count-map f (c ∷ cs) = ap (λ n. suc n) (count-map f cs)
 
 count-written : (was tck tms tdi : Bool) (b : BoardState) → length (after_levels was tck tms tdi b) ≡ length b.chips
-count-written false true tms tdi b = count-rise_all b.trst tms tdi (sees b.nets (members b.chips)) 0 b.chips
+count-written false true tms tdi b = count-rise_all b.trst tms tdi (told b.nets (members b.chips)) 0 b.chips
 count-written true false tms tdi b = count-map fall b.chips
 count-written false false tms tdi b = refl
 count-written true true tms tdi b = refl

@@ -7,11 +7,11 @@ use Rattle.jt_tap.specs.declared.Work.{Work}
 use Rattle.jt_tap.specs.declared.Work.TheVariants.{Resets, Captures, Shifts, Updates, Waits}
 use Rattle.jt_tap.specs.Controller.{next, work, entered_by, is_stable}
 use Rattle.scan_registers.specs.Edges.{after_rise, after_fall, tdo_after}
-use Rattle.board_meaning.specs.Cells.{Member, surroundings}
+use Rattle.board_meaning.specs.Cells.{Member, surroundings, Told, untold}
 use Rattle.bsdl_device.specs.Device.{Device}
 use Rattle.device_registers.specs.Registers.{Registers}
 use Rattle.pin_nets.specs.Wired.{Net}
-use Rattle.board_meaning.specs.Nets.{sees}
+use Rattle.board_meaning.specs.Nets.{told}
 use Rattle.board_meaning.specs.Chain.{hear}
 use Rattle.board_meaning.specs.Whole.{AtRest, arrive, capture_all, settle, update_member, reset_member}
 use Rattle.tap_paths.specs.Paths.{go, last_of}
@@ -21,7 +21,7 @@ use Rattle.board_meaning.proofs.OneCycle.{low, lowered, Free, given, risen_one, 
 
 -- the devices after a rising edge with this work to do, no shift
 abbrev pub rise_whole : Work → List Net → List Member → List Member
-rise_whole (Captures column) nets ms = capture_all column (sees nets ms) 0 ms
+rise_whole (Captures column) nets ms = capture_all column (told nets ms) 0 ms
 rise_whole _ nets ms = ms
 
 -- the devices after a falling edge
@@ -35,33 +35,33 @@ is_shift (Shifts column) = true
 is_shift _ = false
 
 -- one device after a rising edge of this work, the first of those from k on
-abbrev rise_by : Work → (ℕ → ℕ → Bool) → ℕ → List Member → List Member
-rise_by (Captures column) sight k ms = capture_all column sight k ms
-rise_by _ sight k ms = ms
+abbrev rise_by : Work → (ℕ → Told) → ℕ → List Member → List Member
+rise_by (Captures column) about k ms = capture_all column about k ms
+rise_by _ about k ms = ms
 
-rise-one : (w : Work) (tdi : Bool) (sight : ℕ → ℕ → Bool) (k : ℕ) (m : Member) (ms : List Member) → is_shift w ≡ false
-    → record m { registers = after_rise w m.device (surroundings (sight k) m) tdi m.registers } ∷ rise_by w sight (suc k) ms ≡ rise_by w sight k (m ∷ ms)
-rise-one Resets tdi sight k m ms quiet = refl
-rise-one (Captures column) tdi sight k m ms quiet = refl
-rise-one (Shifts column) tdi sight k m ms quiet = absurd (cc)
-rise-one (Updates column) tdi sight k m ms quiet = refl
-rise-one Waits tdi sight k m ms quiet = refl
+rise-one : (w : Work) (tdi : Bool) (about : ℕ → Told) (k : ℕ) (m : Member) (ms : List Member) → is_shift w ≡ false
+    → record m { registers = after_rise w m.device (surroundings (about k) m) tdi m.registers } ∷ rise_by w about (suc k) ms ≡ rise_by w about k (m ∷ ms)
+rise-one Resets tdi about k m ms quiet = refl
+rise-one (Captures column) tdi about k m ms quiet = refl
+rise-one (Shifts column) tdi about k m ms quiet = absurd (cc)
+rise-one (Updates column) tdi about k m ms quiet = refl
+rise-one Waits tdi about k m ms quiet = refl
 
-rise-nil : (w : Work) (sight : ℕ → ℕ → Bool) (k : ℕ) → [] ≡ rise_by w sight k []
-rise-nil Resets sight k = refl
-rise-nil (Captures column) sight k = refl
-rise-nil (Shifts column) sight k = refl
-rise-nil (Updates column) sight k = refl
-rise-nil Waits sight k = refl
+rise-nil : (w : Work) (about : ℕ → Told) (k : ℕ) → [] ≡ rise_by w about k []
+rise-nil Resets about k = refl
+rise-nil (Captures column) about k = refl
+rise-nil (Shifts column) about k = refl
+rise-nil (Updates column) about k = refl
+rise-nil Waits about k = refl
 
-risen-by : (s : State) (tdi : Bool) (sight : ℕ → ℕ → Bool) (k : ℕ) (ms : List Member) → is_shift (work s) ≡ false
-    → risen_all s tdi sight k ms ≡ rise_by (work s) sight k ms
-risen-by s tdi sight k [] quiet = rise-nil (work s) sight k
-risen-by s tdi sight k (m ∷ ms) quiet =
-    ap (λ r. risen_one s (given s tdi ms) (sight k) m ∷ r) (risen-by s tdi sight (suc k) ms quiet)
-    ∙ rise-one (work s) (given s tdi ms) sight k m ms quiet
+risen-by : (s : State) (tdi : Bool) (about : ℕ → Told) (k : ℕ) (ms : List Member) → is_shift (work s) ≡ false
+    → risen_all s tdi about k ms ≡ rise_by (work s) about k ms
+risen-by s tdi about k [] quiet = rise-nil (work s) about k
+risen-by s tdi about k (m ∷ ms) quiet =
+    ap (λ r. risen_one s (given s tdi ms) (about k) m ∷ r) (risen-by s tdi about (suc k) ms quiet)
+    ∙ rise-one (work s) (given s tdi ms) about k m ms quiet
 
-risen-whole : (w : Work) (nets : List Net) (ms : List Member) → rise_by w (sees nets ms) 0 ms ≡ rise_whole w nets ms
+risen-whole : (w : Work) (nets : List Net) (ms : List Member) → rise_by w (told nets ms) 0 ms ≡ rise_whole w nets ms
 risen-whole Resets nets ms = refl
 risen-whole (Captures column) nets ms = refl
 risen-whole (Shifts column) nets ms = refl
@@ -69,7 +69,7 @@ risen-whole (Updates column) nets ms = refl
 risen-whole Waits nets ms = refl
 
 fall-one : (w : Work) (m : Member) (ms : List Member)
-    → record m { registers = after_fall w m.device (surroundings (λ p. true) m) m.registers } ∷ fall_whole w ms ≡ fall_whole w (m ∷ ms)
+    → record m { registers = after_fall w m.device (surroundings untold m) m.registers } ∷ fall_whole w ms ≡ fall_whole w (m ∷ ms)
 fall-one Resets m ms = refl
 fall-one (Captures column) m ms = refl
 fall-one (Shifts column) m ms = refl
@@ -93,7 +93,7 @@ pub cycled-whole : (s : State) (tms tdi : Bool) (nets : List Net) (ms : List Mem
     → cycled s tms tdi nets ms ≡ fall_whole (work (next s tms)) (rise_whole (work s) nets ms)
 cycled-whole s tms tdi nets ms quiet =
     fallen-whole (next s tms) _
-    ∙ ap (λ r. fall_whole (work (next s tms)) r) (risen-by s tdi (sees nets ms) 0 ms quiet ∙ risen-whole (work s) nets ms)
+    ∙ ap (λ r. fall_whole (work (next s tms)) r) (risen-by s tdi (told nets ms) 0 ms quiet ∙ risen-whole (work s) nets ms)
 
 abbrev pub walked : List Net → State → List State → List Member → List Member
 walked nets s [] ms = ms

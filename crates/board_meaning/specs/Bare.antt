@@ -38,7 +38,7 @@ abbrev pub bare_name : ℕ → Name
 bare_name k = codes "U" ++ decimal k
 
 abbrev pub bare_member : Name → Member
-bare_member name = powered name bare (false ∷ []) false
+bare_member name = powered name bare (false ∷ []) [] false
 
 -- n devices, the first of them U and this number
 abbrev pub bare_from : ℕ → ℕ → List Member

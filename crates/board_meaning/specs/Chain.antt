@@ -7,9 +7,9 @@ use Rattle.jt_tap.specs.declared.State.TheVariants.{Reset}
 use Rattle.jt_tap.specs.Controller.{next, work}
 use Rattle.device_registers.specs.Registers.{after_reset}
 use Rattle.scan_registers.specs.Edges.{after_rise, after_fall, tdo_after}
-use Rattle.board_meaning.specs.Cells.{Member, surroundings}
+use Rattle.board_meaning.specs.Cells.{Member, Told, surroundings, untold}
 use Rattle.pin_nets.specs.Wired.{Net}
-use Rattle.board_meaning.specs.Nets.{sees}
+use Rattle.board_meaning.specs.Nets.{told}
 use Rattle.bitbang_table.specs.declared.Message.{Message}
 use Rattle.bitbang_table.specs.declared.Message.TheVariants.{Write, Ask, Quit, Lines}
 use Rattle.bitbang_table.specs.Protocol.{decode, answer}
@@ -33,12 +33,12 @@ pub record BoardState : Type 0 where
 abbrev pub is_held : Bool → Member → Bool
 is_held trst m = trst && m.device.has_trst
 
--- One rising edge of one device, given TDI and what its ports see.
-abbrev pub rise : (trst tms tdi : Bool) → (ℕ → Bool) → ChipState → ChipState
-rise trst tms tdi sight c =
+-- One rising edge of one device, given TDI and what it is told.
+abbrev pub rise : (trst tms tdi : Bool) → Told → ChipState → ChipState
+rise trst tms tdi about c =
     if is_held trst c.member then c else record {
       member = record c.member {
-        registers = after_rise (work c.state) c.member.device (surroundings sight c.member) tdi
+        registers = after_rise (work c.state) c.member.device (surroundings about c.member) tdi
             c.member.registers;
       };
       state = next c.state tms;
@@ -48,7 +48,7 @@ rise trst tms tdi sight c =
 -- One falling edge: the update or reset of the state, then TDO.
 abbrev pub fall : ChipState → ChipState
 fall c =
-    let r = after_fall (work c.state) c.member.device (surroundings (λ p. true) c.member) c.member.registers in
+    let r = after_fall (work c.state) c.member.device (surroundings untold c.member) c.member.registers in
     record {
       member = record c.member { registers = r };
       state = c.state;
@@ -60,7 +60,7 @@ abbrev pub assert_trst : ChipState → ChipState
 assert_trst c =
     if c.member.device.has_trst then record {
       member = record c.member {
-        registers = after_reset c.member.device (surroundings (λ p. true) c.member)
+        registers = after_reset c.member.device (surroundings untold c.member)
             c.member.registers;
       };
       state = Reset;
@@ -73,17 +73,17 @@ tdi_before tdi [] = tdi
 tdi_before tdi (c ∷ cs) = unwrap_or c.tdo true
 
 -- a rising edge of the chain from device k on
-abbrev pub rise_all : (trst tms tdi : Bool) → (ℕ → ℕ → Bool) → ℕ → List ChipState → List ChipState
-rise_all trst tms tdi sight k [] = []
-rise_all trst tms tdi sight k (c ∷ cs) =
-    rise trst tms (tdi_before tdi cs) (sight k) c ∷ rise_all trst tms tdi sight (suc k) cs
+abbrev pub rise_all : (trst tms tdi : Bool) → (ℕ → Told) → ℕ → List ChipState → List ChipState
+rise_all trst tms tdi about k [] = []
+rise_all trst tms tdi about k (c ∷ cs) =
+    rise trst tms (tdi_before tdi cs) (about k) c ∷ rise_all trst tms tdi about (suc k) cs
 
 abbrev pub members : List ChipState → List Member
 members cs = map (λ c. c.member) cs
 
 -- Only a written byte that changes TCK is an edge.
 abbrev pub after_levels : (was tck tms tdi : Bool) → BoardState → List ChipState
-after_levels false true tms tdi b = rise_all b.trst tms tdi (sees b.nets (members b.chips)) 0 b.chips
+after_levels false true tms tdi b = rise_all b.trst tms tdi (told b.nets (members b.chips)) 0 b.chips
 after_levels true false tms tdi b = map fall b.chips
 after_levels _ _ tms tdi b = b.chips
 

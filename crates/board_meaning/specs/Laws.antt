@@ -5,6 +5,7 @@ use Rattle.jt_tap.specs.declared.State.{State}
 use Rattle.jt_tap.specs.declared.State.TheVariants.{Reset}
 use Rattle.jt_tap.specs.Controller.{is_stable}
 use Rattle.board_meaning.specs.Bare.{bare_board}
+use Rattle.pin_nets.specs.declared.Follow.{Follow}
 use Rattle.board_meaning.specs.Cells.{powered}
 use Rattle.board_meaning.specs.Chain.{BoardState, Heard, after_bytes, hear, is_held}
 use Rattle.bsdl_device.specs.Device.{Device, Name}
@@ -56,8 +57,8 @@ BytesKeepRegistersSound = (bytes : List ℕ) (b : BoardState) → IsSoundBoard b
 
 -- A device powers up sound if its description is.
 abbrev pub SoundDescriptionsPowerUpSound : Type 0
-SoundDescriptionsPowerUpSound = (name : Name) (d : Device) (core : List Bool) (extest_update : Bool)
-    → IsSoundDevice d → IsSound (powered name d core extest_update)
+SoundDescriptionsPowerUpSound = (name : Name) (d : Device) (core : List Bool) (follows : List Follow)
+    (extest_update : Bool) → IsSoundDevice d → IsSound (powered name d core follows extest_update)
 
 abbrev pub BareBoardsAreSound : Type 0
 BareBoardsAreSound = (n : ℕ) → IsSoundBoard (bare_board n)

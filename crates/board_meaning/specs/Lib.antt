@@ -1,4 +1,5 @@
 pub mod Cells
+pub mod Planned
 pub mod Nets
 pub mod Chain
 pub mod Whole
@@ -6,3 +7,4 @@ pub mod Resting
 pub mod Sound
 pub mod Bare
 pub mod Laws
+pub mod Following

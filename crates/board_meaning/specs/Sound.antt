@@ -50,7 +50,7 @@ HasDevice b = 0 < length b.chips
 -- A device as it powers up, of a sound description.
 pub record IsPoweredUp (m : Member) : Type 0 where
   pub description : IsSoundDevice m.device
-  pub powered_up : m ≡ powered m.name m.device m.core m.extest_update
+  pub powered_up : m ≡ powered m.name m.device m.core m.follows m.extest_update
 
 -- What a board keeps whatever bytes it takes: 1 to 32 devices, all sound.
 pub record IsChain (chips : List ChipState) : Type 0 where

@@ -10,9 +10,9 @@ use Rattle.jt_tap.specs.declared.Work.{Work}
 use Rattle.jt_tap.specs.declared.Work.TheVariants.{Resets, Captures, Shifts, Updates, Waits}
 use Rattle.jt_tap.specs.Controller.{is_at, pause, work}
 use Rattle.device_registers.specs.Registers.{selected_bits, put, after_capture, after_update, after_reset}
-use Rattle.board_meaning.specs.Cells.{Member, surroundings}
+use Rattle.board_meaning.specs.Cells.{Member, Told, surroundings, untold}
 use Rattle.pin_nets.specs.Wired.{Net}
-use Rattle.board_meaning.specs.Nets.{sees}
+use Rattle.board_meaning.specs.Nets.{told}
 
 -- A board at rest. The place is RESET, IDLE, DRPAUSE or IRPAUSE, but amid a stated path; in a pause an update of its
 -- column is pending.
@@ -37,24 +37,25 @@ cut_back column bits (m ∷ ms) =
     record m { registers = put m.device column (take (length (selected_bits_of column m)) bits) m.registers }
     ∷ cut_back column (drop (length (selected_bits_of column m)) bits) ms
 
--- what a capture gives a device whose ports see this
-abbrev pub capture_member : Column → (ℕ → Bool) → Member → Member
-capture_member column sees m = record m { registers = after_capture m.device column (surroundings sees m) m.registers }
+-- what a capture gives a device that is told this
+abbrev pub capture_member : Column → Told → Member → Member
+capture_member column about m =
+    record m { registers = after_capture m.device column (surroundings about m) m.registers }
 
 -- Every selected register gets its captured list, from device k on.
-abbrev pub capture_all : Column → (ℕ → ℕ → Bool) → ℕ → List Member → List Member
-capture_all column sight k [] = []
-capture_all column sight k (m ∷ ms) = capture_member column (sight k) m ∷ capture_all column sight (suc k) ms
+abbrev pub capture_all : Column → (ℕ → Told) → ℕ → List Member → List Member
+capture_all column about k [] = []
+capture_all column about k (m ∷ ms) = capture_member column (about k) m ∷ capture_all column about (suc k) ms
 
 abbrev pub update_member : Column → Member → Member
 update_member column m = record m { registers = after_update m.device column m.registers }
 
 abbrev pub reset_member : Member → Member
-reset_member m = record m { registers = after_reset m.device (surroundings (λ p. true) m) m.registers }
+reset_member m = record m { registers = after_reset m.device (surroundings untold m) m.registers }
 
--- capture: all from the levels before
+-- capture: all from the levels and the core bits in force before
 abbrev pub capture : Column → AtRest → AtRest
-capture column m = record m { members = capture_all column (sees m.nets m.members) 0 m.members }
+capture column m = record m { members = capture_all column (told m.nets m.members) 0 m.members }
 
 -- shift: the out is the first of the joined list followed by t, the new registers what comes after
 abbrev pub out_of_members : Column → List Bool → List Member → List Bool

@@ -1,1 +1,2 @@
+pub mod StringLaws
 pub mod TwiceLaws

@@ -1,5 +1,5 @@
 //! The devices and nets that a board file's tables say.
-ghost use Rattle.std.specs.Prelude.{◌≡◌, map, IfOk};
+ghost use Rattle.std.specs.Prelude.{◌≡◌, [], map, unwrap_or, IfOk};
 ghost use Rattle.std.specs.List.{filter_map};
 ghost use Rattle.toml.specs.View.{table_view, items_view};
 ghost use Rattle.board_tables.specs.Fields.{tables_in, texts_in};
@@ -9,13 +9,14 @@ ghost use Rattle.board_parts.specs.Parts as spec;
 ghost use Rattle.board_parts.specs.Parts.{member_in};
 ghost use Rattle.board_plan.specs.View as planned;
 
+use crate::strings::find_strings;
 use board_library::described_at;
 use board_pins::find_pin;
 use board_plan::{PlannedDevice, PlannedNet, core_bits, is_update, pull_of};
 use board_tables::{items_at, name_at, text_at};
 use board_words::Places;
 use device_instructions::SharedDevice;
-use pin_nets::Pin;
+use pin_nets::{Follow, Pin};
 use std::alloc::{AllocError, Global};
 use toml::{Table, Value};
 
@@ -53,8 +54,23 @@ fn plan_device(
         name: String::from_str(alloc, name_at(table))?,
         device: device.share()?,
         core: core_bits(alloc, cells, text_at(table, "core"))?,
+        follows: strings_of(alloc, table, device)?,
         extest_update: is_update(text_at(table, "extest")),
     })
+}
+
+/// The strings of a device, none where they do not fit it.
+fn strings_of(
+    alloc: Global,
+    table: &Table,
+    device: &SharedDevice,
+) -> Result<Vec<Follow>, AllocError>
+    ensures { IfOk result (λ v. v.items ≡ unwrap_or (spec.strings_at device.now (table_view table.now)) []) }
+{
+    match find_strings(alloc, device, items_at(table, "follow"))? {
+        Some(strings) => Ok(strings),
+        None => Ok(Vec::new(alloc)),
+    }
 }
 
 /// The nets of these tables, given the names of all devices, and the devices: of each the pins that its texts name.

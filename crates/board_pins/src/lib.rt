@@ -7,4 +7,4 @@ mod pins;
 
 pub use found::{Unfound, find_pins};
 pub use misplaced::{first_twice, first_unknown};
-pub use pins::find_pin;
+pub use pins::{find_pin, port_bit};

@@ -1,5 +1,5 @@
 //! Which port bits the pins of the nets are.
-ghost use Rattle.std.specs.Prelude.{◌≡◌, true, option_map, IfOk, IfSome};
+ghost use Rattle.std.specs.Prelude.{◌≡◌, ◌<◌, true, length, option_map, IfOk, IfSome};
 ghost use Rattle.board_words.specs.PinTexts as texts;
 ghost use Rattle.board_words.specs.View.{texts_of};
 ghost use Rattle.board_pins.specs.Pins as spec;
@@ -57,15 +57,17 @@ fn bit_at(
     }
 }
 
-/// The port bit of this name, in any case, and index, unless it is the TAP's.
-fn port_bit(
+/// The number of the port bit of this name, in any case, and index, unless it is the TAP's. Refuses for want of memory
+/// alone.
+pub fn port_bit(
     alloc: Global,
     device: &Device,
     port: &str,
     index: Option<&str>,
 ) -> Result<Option<usize>, AllocError>
     requires { IfSome index (λ d. texts.is_number d.now ≡ true) }
-    ensures { IfOk result (λ bit. bit ≡ spec.pin_bit device.now port.now (option_map (λ d. d.now) index.entry)) }
+    ensures bit { IfOk result (λ bit. bit ≡ spec.pin_bit device.now port.now (option_map (λ d. d.now) index.entry)) }
+    ensures inside { IfOk result (λ bit. IfSome bit (λ k. k < length device.now.ports)) }
 {
     match bit_of(alloc, device, port, index)? {
         Some(number) => Ok(no_tap(device, number)),
@@ -93,7 +95,8 @@ fn bit_of(
 
 /// The bit of this number, unless it is the TAP's.
 fn no_tap(device: &Device, number: usize) -> Option<usize>
-    ensures { result ≡ spec.no_tap device.now number }
+    ensures bit { result ≡ spec.no_tap device.now number }
+    ensures inside { IfSome result (λ k. k < length device.now.ports) }
 {
     if number < device.port_count() && !device.port(number).is_tap {
         Some(number)

@@ -2,15 +2,17 @@
 use Rattle.std.specs.Prelude.{◌≡◌, ◌<◌, ℕ, Bool, List, length, slice_get, Some}
 use Rattle.std.specs.List.{flat_map}
 use Rattle.bsdl_device.specs.Device.{Device}
+use Rattle.pin_nets.specs.declared.Follow.{Follow}
 use Rattle.pin_nets.specs.declared.Pin.{Pin}
 use Rattle.pin_nets.specs.Wired.{Net}
 
--- A device: its name, what is described of it, its core's bits (one a cell, cell 0 first), and whether EXTEST captures
--- the update stage.
+-- A device: its name, what is described of it, its core's constant bits (one a cell, cell 0 first), the strings that
+-- its core follows, and whether EXTEST captures the update stage.
 pub record Member : Type 0 where
   pub name : List ℕ
   pub device : Device
   pub core : List Bool
+  pub follows : List Follow
   pub extest_update : Bool
 
 -- the devices, the first nearest the board's TDO, and the nets

@@ -7,7 +7,13 @@ use Rattle.board_plan.specs.declared.plan.PlannedNet.{PlannedNet}
 use Rattle.board_plan.specs.Planned.{Member, Wiring}
 
 abbrev pub member : PlannedDevice → Member
-member m = record { name = string_bytes m.name; device = m.device; core = m.core; extest_update = m.extest_update }
+member m = record {
+  name = string_bytes m.name;
+  device = m.device;
+  core = m.core;
+  follows = m.follows.items;
+  extest_update = m.extest_update;
+}
 
 abbrev pub net : PlannedNet → Net
 net n = record { name = string_bytes n.name; pull = n.pull; pins = n.pins.items }

@@ -30,8 +30,9 @@ pub fn all_cell_nets(
     Ok(all)
 }
 
-/// Of each port bit of each device its net.
-fn all_port_nets(
+/// Of each port bit of each device the first net that it is on: the device nearest the board's TDO first, of each port
+/// bit 0 first. Refused where memory runs out.
+pub fn all_port_nets(
     alloc: Global,
     nets: &[PlannedNet],
     devices: &[PlannedDevice],

@@ -1,15 +1,16 @@
 //! A board as it is wired, before power-up.
 use device_instructions::SharedDevice;
 use jt_bits::Bits;
-use pin_nets::{Pin, Pull};
+use pin_nets::{Follow, Pin, Pull};
 
-/// A device: its name, its description, its core's bits (one a cell, cell 0 first), and whether EXTEST captures the
-/// update stage.
+/// A device: its name, its description, its core's constant bits (one a cell, cell 0 first), the strings that its core
+/// follows, and whether EXTEST captures the update stage.
 #[derive(Drop)]
 pub struct PlannedDevice {
     pub name: String,
     pub device: SharedDevice,
     pub core: Bits,
+    pub follows: Vec<Follow>,
     pub extest_update: bool,
 }
 

@@ -38,15 +38,15 @@ nowhere = record { name = []; pull = Free; pins = [] }
 
 -- the line of a net, by its name and its level
 pub net_said : (ms : List Member) (nets : List Net) (k : ℕ) (name : List ℕ) (l : Level) → option_map (λ n. n.name) (slice_get nets k) ≡ Some name
-    → option_map (level ms) (slice_get nets k) ≡ Some l → level_line name l ≡ net_line ms (get_or nets k nowhere)
+    → option_map (level nets ms) (slice_get nets k) ≡ Some l → level_line name l ≡ net_line nets ms (get_or nets k nowhere)
 net_said ms nets k name l named is = by (slice_get nets k) refl
   where
-    by : (o : Option Net) → slice_get nets k ≡ o → level_line name l ≡ net_line ms (get_or nets k nowhere)
+    by : (o : Option Net) → slice_get nets k ≡ o → level_line name l ≡ net_line nets ms (get_or nets k nowhere)
     by None at = absurd (none-some name (sym (ap (option_map (λ (n : Net). n.name)) at) ∙ named))
     by (Some n) at =
         let name-is : n.name ≡ name = same_Some _ _ (sym (ap (option_map (λ (n : Net). n.name)) at) ∙ named) in
-        let level-is : level ms n ≡ l = same_Some _ _ (sym (ap (option_map (level ms)) at) ∙ is) in
-        sym (ap (λ (x : List ℕ). level_line x l) name-is) ∙ sym (ap (level_line n.name) level-is) ∙ sym (ap (net_line ms) (get_or_from_slice_get nets k n nowhere at))
+        let level-is : level nets ms n ≡ l = same_Some _ _ (sym (ap (option_map (level nets ms)) at) ∙ is) in
+        sym (ap (λ (x : List ℕ). level_line x l) name-is) ∙ sym (ap (level_line n.name) level-is) ∙ sym (ap (net_line nets ms) (get_or_from_slice_get nets k n nowhere at))
 
 -- ---- instructions that are left out
 

@@ -41,9 +41,9 @@ level_word Float = codes "Float"
 abbrev pub level_line : List ℕ → Level → List ℕ
 level_line name l = (name ++ codes " ") ++ (level_word l ++ codes "\n")
 
--- a net: its name and its level
-abbrev pub net_line : List Member → Net → List ℕ
-net_line ms net = level_line net.name (level ms net)
+-- a net of the board: its name and its level
+abbrev pub net_line : List Net → List Member → Net → List ℕ
+net_line nets ms net = level_line net.name (level nets ms net)
 
 abbrev pub report : BoardState → List ℕ
-report b = flat_map device_line b.chips ++ flat_map (net_line (members b.chips)) b.nets
+report b = flat_map device_line b.chips ++ flat_map (net_line b.nets (members b.chips)) b.nets

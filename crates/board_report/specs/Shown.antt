@@ -14,6 +14,6 @@ id_of m = if has_code m.device then Some m.registers.identification else None
 abbrev pub user_of : Member → ℕ → Option (List Bool × List Bool)
 user_of m k = option_map (λ u. (u.stage, u.latch)) (slice_get m.registers.users k)
 
--- the name of a net, and its level
-abbrev pub shown_net : List Member → Net → List ℕ × Level
-shown_net ms n = (n.name, level ms n)
+-- the name of a net of the board, and its level
+abbrev pub shown_net : List Net → List Member → Net → List ℕ × Level
+shown_net nets ms n = (n.name, level nets ms n)

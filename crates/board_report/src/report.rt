@@ -86,8 +86,8 @@ pub fn write_devices<W: Sink>(chain: &Chain, out: &mut Counted<W>) -> Result<(),
 /// `Broken` comes exactly where the writer's first failure came in this call.
 pub fn write_nets<W: Sink>(chain: &Chain, out: &mut Counted<W>) -> Result<(), Broken>
     requires { out.old.failures ≡ 0 }
-    ensures { WritesAll W.contents out.old out.new (flat_map (net_line (members chain.now.chips)) chain.now.nets)
-        result }
+    ensures { WritesAll W.contents out.old out.new
+        (flat_map (net_line chain.now.nets (members chain.now.chips)) chain.now.nets) result }
 {
     for k in 0..chain.nets() {
         write_level(chain.net_name(k), chain.level(k), out)?;

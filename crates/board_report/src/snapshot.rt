@@ -164,7 +164,7 @@ impl<'a> Snapshot<'a> {
     /// The name of net `k`, and its level.
     pub fn net(&self, k: usize) -> (&'a str, Level)
         requires { k < length self.now.nets }
-        ensures { option_map (shown_net (members self.now.chips)) (slice_get self.now.nets k)
+        ensures { option_map (shown_net self.now.nets (members self.now.chips)) (slice_get self.now.nets k)
             ≡ Some (result.0.now, result.1) }
     {
         (self.chain.net_name(k), self.chain.level(k))

@@ -1,6 +1,6 @@
 -- What it means that no key of a table is at fault.
-use Rattle.std.proofs.Common.{◌≡◌, ℕ, Bool, true, false, not, ◌&&◌, cond, List, [], ◌∷◌, ◌++◌, fold, codes, Option, Some, None, is_some, unwrap_or, option_and_then, nat_cmp, refl}
-use Rattle.std.specs.Ordering.{is_lt, match_ordering}
+use Rattle.std.proofs.Common.{◌≡◌, ℕ, Bool, true, false, not, ◌&&◌, cond, List, [], ◌∷◌, ◌++◌, fold, codes, Option, Some, None, is_some, unwrap_or, option_and_then, nat_cmp, refl, ap, sym, ◌∙◌}
+use Rattle.std.specs.Ordering.{is_eq, is_lt, match_ordering}
 use Rattle.std.specs.declared.cmp.Ordering.{Ordering}
 use Rattle.std.specs.declared.cmp.Ordering.TheVariants.{Less, Equal, Greater}
 use Rattle.std.specs.Str.{bytes_eq}
@@ -8,10 +8,13 @@ use Rattle.std.specs.List.{list_any}
 use Rattle.std.specs.Cmp.Lexicographic.{slice_cmp}
 use Rattle.std.proofs.lemmas.Bool.{false≢true, and_parts}
 use Rattle.std.proofs.lemmas.Map.Lookups.{exact_bytes}
+use Rattle.std.proofs.lemmas.Map.Text.{is_eq-slice_cmp}
+use Rattle.std.proofs.lemmas.Slice.Eq.{bytes_eq-Decides}
 use Rattle.toml.specs.Data.{Data, Members, no_members, member, get_member, as_str}
 use Rattle.board_words.specs.Names.{is_name}
+use Rattle.board_tables.specs.declared.keys.Known.{Known}
 use Rattle.board_tables.specs.Fields.{name_at, passes}
-use Rattle.board_tables.specs.Keys.{Key, device_keys, net_keys, unfit_key, earlier, earliest, misfits, missing, needed, fits_one, is_new_name}
+use Rattle.board_tables.specs.Keys.{JudgedByOtherKeys, Key, device_keys, keys_but_follow, net_keys, unfit_key, earlier, earliest, misfits, missing, needed, fits_one, is_new_name}
 
 both : (b : Bool) (k l : List ℕ) (ks : List (List ℕ)) → (fold earlier (Some l) ks ≡ None → ⊥) → (fold earlier (Some k) ks ≡ None → ⊥) → fold earlier (cond b (Some l) (Some k)) ks ≡ None → ⊥
 both true k l ks one other h = one h
@@ -71,9 +74,9 @@ new_value names None h f = absurd cc
 new_value names (Some d) h f = new_text names (as_str d) (f d refl)
 
 -- the name of a device that is not at fault is none of those before it
-pub new_device : (names : List (List ℕ)) (cells : Option ℕ) (t : Members) → unfit_key (device_keys names cells) t ≡ None → list_any (bytes_eq (name_at t)) names ≡ false
-new_device names cells t h =
-    let (fit, none) = fitting (device_keys names cells) t h in
+pub new_device : (names : List (List ℕ)) (known : Option Known) (t : Members) → unfit_key (device_keys names known) t ≡ None → list_any (bytes_eq (name_at t)) names ≡ false
+new_device names known t h =
+    let (fit, none) = fitting (device_keys names known) t h in
     let one = head_in (not (is_some (get_member (codes "bsdl") t))) (codes "bsdl") _ none in
     let two = head_in (not (is_some (get_member (codes "name") t))) (codes "name") [] one.1 in
     new_value names (get_member (codes "name") t) two.0 (λ d g. fit (codes "name") d g)
@@ -83,3 +86,36 @@ new_net names t h =
     let (fit, none) = fitting (net_keys names) t h in
     let one = head_in (not (is_some (get_member (codes "name") t))) (codes "name") _ none in
     new_value names (get_member (codes "name") t) one.0 (λ d g. fit (codes "name") d g)
+
+-- ---- a table without the key `follow`
+
+apart : (k l : List ℕ) → is_eq (slice_cmp nat_cmp k l) ≡ false → bytes_eq l k ≡ false
+apart k l h = by (bytes_eq l k) refl
+  where
+    by : (b : Bool) → bytes_eq l k ≡ b → b ≡ false
+    by true e =
+        let same : k ≡ l = sym ((bytes_eq-Decides l k).0 e) in
+        absurd (false≢true (sym h ∙ is_eq-slice_cmp k l ∙ (bytes_eq-Decides k l).1 same))
+    by false e = refl
+
+-- a key that a table does not have is none of its keys
+no_member : (k l : List ℕ) (e : Data) (ms : Members) → get_member k (member l e ms) ≡ None → (bytes_eq l k ≡ false) × (get_member k ms ≡ None)
+no_member k l e ms h = by (slice_cmp nat_cmp k l) refl h
+  where
+    by : (o : Ordering) → slice_cmp nat_cmp k l ≡ o → match_ordering o (get_member k ms) (Some e) (get_member k ms) ≡ None → (bytes_eq l k ≡ false) × (get_member k ms ≡ None)
+    by Less is g = (apart k l (ap is_eq is), g)
+    by Equal is g = absurd cc
+    by Greater is g = (apart k l (ap is_eq is), g)
+
+module _ (names : List (List ℕ)) (known : Option Known) where
+  fits_alike : (k : List ℕ) (d : Data) → bytes_eq k (codes "follow") ≡ false → fits_one (device_keys names known) k d ≡ fits_one (keys_but_follow names known) k d
+  fits_alike k d other = rw other refl
+
+  misfits_alike : (t : Members) → get_member (codes "follow") t ≡ None → misfits (fits_one (device_keys names known)) t ≡ misfits (fits_one (keys_but_follow names known)) t
+  misfits_alike no_members none = refl
+  misfits_alike (member k d ms) none =
+      let parts = no_member (codes "follow") k d ms none in
+      λ i. cond (fits_alike k d parts.0 i) (misfits_alike ms parts.1 i) (k ∷ misfits_alike ms parts.1 i)
+
+pub other_keys : JudgedByOtherKeys
+other_keys names known t none = ap (λ ks. earliest (ks ++ missing (needed (device_keys names known)) t)) (misfits_alike names known t none)

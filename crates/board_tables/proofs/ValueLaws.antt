@@ -19,7 +19,7 @@ pub has_item_of : (vs : List Value) → has_item (items_view vs) ≡ not (length
 has_item_of [] = refl
 has_item_of (v ∷ vs) = grind (arith, nat_tests)
 
-same_some : {A B : Type 0} (f : A → B) (o : Option A) → is_some o ≡ is_some (option_map f o)
+pub same_some : {A B : Type 0} (f : A → B) (o : Option A) → is_some o ≡ is_some (option_map f o)
 same_some f None = refl
 same_some f (Some x) = refl
 

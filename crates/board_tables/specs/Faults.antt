@@ -2,20 +2,21 @@
 use Rattle.std.specs.Prelude.{ℕ, List, [], ◌∷◌, ◌++◌, drop, codes, Option, None}
 use Rattle.std.specs.Option.{option_or}
 use Rattle.toml.specs.Data.{Members}
+use Rattle.board_tables.specs.declared.keys.Known.{Known}
 use Rattle.board_tables.specs.Fields.{name_at, tables_at}
 use Rattle.board_tables.specs.Keys.{top_keys, device_keys, net_keys, unfit_key}
 
--- the number of cells of the first device, where it is known
-abbrev pub first_cells : List (Option ℕ) → Option ℕ
-first_cells [] = None
-first_cells (n ∷ ns) = n
+-- what is known of the first device
+abbrev pub first_known : List (Option Known) → Option Known
+first_known [] = None
+first_known (k ∷ ks) = k
 
--- of these devices, given the names before them, and the numbers of cells as far as they are known
-abbrev pub unfit_device : List (List ℕ) → List (Option ℕ) → List Members → Option (List ℕ)
-unfit_device names cells [] = None
-unfit_device names cells (t ∷ ts) =
-    option_or (unfit_key (device_keys names (first_cells cells)) t)
-    (unfit_device (names ++ name_at t ∷ []) (drop 1 cells) ts)
+-- of these devices, given the names before them, and what is known of them
+abbrev pub unfit_device : List (List ℕ) → List (Option Known) → List Members → Option (List ℕ)
+unfit_device names known [] = None
+unfit_device names known (t ∷ ts) =
+    option_or (unfit_key (device_keys names (first_known known)) t)
+    (unfit_device (names ++ name_at t ∷ []) (drop 1 known) ts)
 
 -- of these nets, given the names before them
 abbrev pub unfit_net : List (List ℕ) → List Members → Option (List ℕ)
@@ -23,7 +24,7 @@ unfit_net names [] = None
 unfit_net names (t ∷ ts) = option_or (unfit_key (net_keys names) t) (unfit_net (names ++ name_at t ∷ []) ts)
 
 -- of the whole
-abbrev pub unfit : List (Option ℕ) → Members → Option (List ℕ)
-unfit cells t =
+abbrev pub unfit : List (Option Known) → Members → Option (List ℕ)
+unfit known t =
     option_or (unfit_key top_keys t)
-    (option_or (unfit_device [] cells (tables_at (codes "device") t)) (unfit_net [] (tables_at (codes "net") t)))
+    (option_or (unfit_device [] known (tables_at (codes "device") t)) (unfit_net [] (tables_at (codes "net") t)))

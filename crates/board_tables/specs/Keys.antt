@@ -1,11 +1,13 @@
 -- The keys of the board file's tables, and the first one in byte order that is missing, unknown or does not fit.
-use Rattle.std.specs.Prelude.{ℕ, Bool, true, false, not, ◌&&◌, ◌||◌, ◌==◌, List, [], ◌∷◌, ◌++◌, length, filter, fold}
-use Rattle.std.specs.Prelude.{map, codes, bytes_eq, Option, Some, None, is_some, if◌then◌else◌}
+use Rattle.std.specs.Prelude.{◌≡◌, ℕ, Bool, true, false, not, ◌&&◌, ◌||◌, ◌==◌, List, [], ◌∷◌, ◌++◌, length, filter}
+use Rattle.std.specs.Prelude.{fold, map, codes, bytes_eq, Option, Some, None, is_some, option_map, if◌then◌else◌}
 use Rattle.std.specs.List.{list_any, list_all}
 use Rattle.std.specs.Ordering.{nat_cmp, is_lt}
 use Rattle.std.specs.Cmp.Lexicographic.{slice_cmp}
 use Rattle.toml.specs.Data.{Data, Members, no_members, member, get_member}
 use Rattle.board_words.specs.Names.{is_name}
+use Rattle.board_words.specs.FollowTexts.{follow_of}
+use Rattle.board_tables.specs.declared.keys.Known.{Known}
 use Rattle.board_tables.specs.Fields.{is_text, is_text_that, is_one_of, is_table, is_array_of, is_some_of}
 
 -- a key of a table: whether it must stand there, and which values fit it
@@ -38,12 +40,25 @@ fits_cells (Some n) s = length s == n
 abbrev pub is_core : Option ℕ → Data → Bool
 is_core cells d = is_text_that (λ s. list_all is_bit s && fits_cells cells s) d
 
--- a device, with the names before it, and the number of its cells where it is known
-abbrev pub device_keys : List (List ℕ) → Option ℕ → List Key
-device_keys names cells =
+-- a text that spells a string
+abbrev pub is_string : Data → Bool
+is_string d = is_text_that (λ s. is_some (follow_of s)) d
+
+-- whether the strings fit the device, where it is known
+abbrev pub strings_fit : Option Known → Bool
+strings_fit None = true
+strings_fit (Some known) = known.strings_fit
+
+abbrev pub is_follow : Option Known → Data → Bool
+is_follow known d = is_array_of is_string d && strings_fit known
+
+-- a device, with the names before it, and what is known of it where its description is there
+abbrev pub device_keys : List (List ℕ) → Option Known → List Key
+device_keys names known =
     record { name = codes "bsdl"; is_needed = true; fits = is_text }
-    ∷ record { name = codes "core"; is_needed = false; fits = is_core cells }
+    ∷ record { name = codes "core"; is_needed = false; fits = is_core (option_map (λ (k : Known). k.cells) known) }
     ∷ record { name = codes "extest"; is_needed = false; fits = is_one_of (codes "core" ∷ codes "update" ∷ []) }
+    ∷ record { name = codes "follow"; is_needed = false; fits = is_follow known }
     ∷ record { name = codes "name"; is_needed = true; fits = is_new_name names }
     ∷ []
 
@@ -91,3 +106,13 @@ earliest ks = fold earlier None ks
 -- the first key in byte order that is at fault in a table
 abbrev pub unfit_key : List Key → Members → Option (List ℕ)
 unfit_key keys t = earliest (misfits (fits_one keys) t ++ missing (needed keys) t)
+
+-- ---- a device without the key `follow`
+
+abbrev pub keys_but_follow : List (List ℕ) → Option Known → List Key
+keys_but_follow names known = filter (λ key. not (bytes_eq (codes "follow") key.name)) (device_keys names known)
+
+-- the law: a table without the key is judged by the other keys alone
+abbrev pub JudgedByOtherKeys : Type 0
+JudgedByOtherKeys = (names : List (List ℕ)) (known : Option Known) (t : Members) → get_member (codes "follow") t ≡ None
+    → unfit_key (device_keys names known) t ≡ unfit_key (keys_but_follow names known) t

@@ -9,7 +9,7 @@ use Rattle.board_tables.specs.Keys.{Key, top_keys, device_keys, net_keys}
 
 abbrev pub keys_of : Keys → List Key
 keys_of Top = top_keys
-keys_of (Device names cells) = device_keys (texts_of names.now) cells
+keys_of (Device names known) = device_keys (texts_of names.now) known
 keys_of (Net names) = net_keys (texts_of names.now)
 
 -- A check passes where no key is at fault, and else names the one that is, unless memory runs out.

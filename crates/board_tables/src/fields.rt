@@ -8,7 +8,7 @@ ghost use Rattle.board_tables.specs.Faults as spec;
 ghost use Rattle.board_tables.specs.View.{Checks};
 ghost use Rattle.board_words.specs.View.{texts_of};
 
-use crate::keys::{Keys, unfit_key};
+use crate::keys::{Keys, Known, unfit_key};
 use crate::tables::{items_at, name_at};
 use board_words::Places;
 use std::alloc::Global;
@@ -23,35 +23,34 @@ pub enum Unfit<'t> {
     Memory,
 }
 
-/// Judges the keys of the file, then those of each device, then those of each net. The numbers of the devices' cells
-/// are given as far as they are known.
+/// Judges the keys of the file, then those of each device, then those of each net, given what is known of the devices.
 pub fn check_fields<'t>(
     alloc: Global,
     table: &'t Table,
-    cells: &[Option<usize>],
+    known: &[Option<Known>],
 ) -> Result<(), Unfit<'t>>
-    ensures { Checks result (spec.unfit cells.now (table_view table.now)) }
+    ensures { Checks result (spec.unfit known.now (table_view table.now)) }
 {
     if let Some(key) = unfit_key(Keys::Top, table) {
         return Err(Unfit::Field(key));
     }
-    check_devices(alloc, items_at(table, "device"), cells)?;
+    check_devices(alloc, items_at(table, "device"), known)?;
     check_nets(alloc, items_at(table, "net"))
 }
 
 fn check_devices<'t>(
     alloc: Global,
     devices: &'t [Value],
-    cells: &[Option<usize>],
+    known: &[Option<Known>],
 ) -> Result<(), Unfit<'t>>
-    ensures { Checks result (spec.unfit_device [] cells.now (tables_in (items_view devices.now))) }
+    ensures { Checks result (spec.unfit_device [] known.now (tables_in (items_view devices.now))) }
 {
     let mut names = Places::new(alloc);
-    let mut rest = cells;
+    let mut rest = known;
     for device in devices {
         if let Some(table) = device.as_table() {
-            let (count, others) = first_cells(rest);
-            check_device(&mut names, count, table)?;
+            let (first, others) = first_known(rest);
+            check_device(&mut names, first, table)?;
             rest = others;
         }
     }
@@ -71,18 +70,17 @@ fn check_nets<'t>(alloc: Global, nets: &'t [Value]) -> Result<(), Unfit<'t>>
 }
 
 /// Judges the keys of a device, given the names of those before it, and adds its name.
-#[tactic(auto, using(crate::proofs::KeyLaws::new_device))]
 fn check_device<'t>(
     names: &mut Places<&'t str>,
-    cells: Option<usize>,
+    known: Option<Known>,
     table: &'t Table,
 ) -> Result<(), Unfit<'t>>
     ensures judged { Checks result
-        (keys.unfit_key (keys.device_keys (texts_of names.old) cells) (table_view table.now)) }
+        (keys.unfit_key (keys.device_keys (texts_of names.old) known) (table_view table.now)) }
     ensures named { OnOk result
         (texts_of names.new ≡ texts_of names.old ++ fields.name_at (table_view table.now) ∷ []) }
 {
-    if let Some(key) = unfit_key(Keys::Device(names, cells), table) {
+    if let Some(key) = unfit_key(Keys::Device(names, known), table) {
         return Err(Unfit::Field(key));
     }
     match names.add(name_at(table)) {
@@ -106,13 +104,13 @@ fn check_net<'t>(names: &mut Places<&'t str>, table: &'t Table) -> Result<(), Un
     }
 }
 
-/// The first number, and those behind it.
-fn first_cells(cells: &[Option<usize>]) -> (Option<usize>, &[Option<usize>])
-    ensures first { result.0 ≡ spec.first_cells cells.now }
-    ensures others { result.1.now ≡ drop 1 cells.now }
+/// What is known of the first device, and of those behind it.
+fn first_known(known: &[Option<Known>]) -> (Option<Known>, &[Option<Known>])
+    ensures first { result.0 ≡ spec.first_known known.now }
+    ensures others { result.1.now ≡ drop 1 known.now }
 {
-    match cells.split_first() {
+    match known.split_first() {
         Some((first, others)) => (*first, others),
-        None => (None, cells),
+        None => (None, known),
     }
 }

@@ -2,21 +2,32 @@
 ghost use Rattle.std.specs.Prelude.{◌≡◌, map, fold, is_some, option_map};
 ghost use Rattle.toml.specs.Data.{get_member};
 ghost use Rattle.toml.specs.View.{view, table_view};
+ghost use Rattle.board_tables.specs.declared.keys.Known as declared_known;
 ghost use Rattle.board_tables.specs.Keys as spec;
 ghost use Rattle.board_tables.specs.View.{keys_of};
 ghost use Rattle.board_words.specs.View.{texts_of};
 
-use crate::values::{is_core, is_new_name, is_one_of, is_some_tables, is_tables, is_texts};
+use crate::values::{
+    is_core, is_follow, is_new_name, is_one_of, is_some_tables, is_tables, is_texts,
+};
 use board_words::Places;
 use std::cmp::Ordering;
 use toml::{Table, Value};
+
+/// What is known of a device whose description is there: how many cells it has, and whether the strings of its `follow`
+/// fit it.
+#[derive(Debug, Clone, Copy)]
+pub struct Known {
+    pub cells: usize,
+    pub strings_fit: bool,
+}
 
 /// The keys that a table may have: the file itself, a device, or a net.
 #[derive(Clone, Copy)]
 pub(crate) enum Keys<'a, 't> {
     Top,
-    /// With the names of the devices before it, and the number of its cells where it is known.
-    Device(&'a Places<&'t str>, Option<usize>),
+    /// With the names of the devices before it, and what is known of it where its description is there.
+    Device(&'a Places<&'t str>, Option<Known>),
     /// With the names of the nets before it.
     Net(&'a Places<&'t str>),
 }
@@ -28,7 +39,7 @@ impl Keys<'_, '_> {
     {
         match *self {
             Keys::Top => fits_top(key, value),
-            Keys::Device(names, cells) => fits_device(names, cells, key, value),
+            Keys::Device(names, known) => fits_device(names, known, key, value),
             Keys::Net(names) => fits_net(names, key, value),
         }
     }
@@ -113,15 +124,26 @@ fn fits_top(key: &str, value: &Value) -> bool
     }
 }
 
-fn fits_device(names: &Places<&str>, cells: Option<usize>, key: &str, value: &Value) -> bool
-    ensures { result ≡ spec.fits_one (spec.device_keys (texts_of names.now) cells) key.now (view value.now) }
+fn fits_device(names: &Places<&str>, known: Option<Known>, key: &str, value: &Value) -> bool
+    ensures { result ≡ spec.fits_one (spec.device_keys (texts_of names.now) known) key.now (view value.now) }
 {
     match key {
         "bsdl" => value.is_str(),
-        "core" => is_core(cells, value),
+        "core" => is_core(cells_of(known), value),
         "extest" => is_one_of(&["core", "update"], value),
+        "follow" => is_follow(known, value),
         "name" => is_new_name(names, value),
         _ => false,
+    }
+}
+
+/// The number of the device's cells, where it is known.
+fn cells_of(known: Option<Known>) -> Option<usize>
+    ensures { result ≡ option_map (λ (k : declared_known.Known). k.cells) known }
+{
+    match known {
+        Some(known) => Some(known.cells),
+        None => None,
     }
 }
 

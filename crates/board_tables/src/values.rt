@@ -1,12 +1,14 @@
 //! Which values fit the keys of a board file.
-ghost use Rattle.std.specs.Prelude.{◌≡◌, ◌==◌, ◌||◌, ◌&&◌, map, bytes_eq};
+ghost use Rattle.std.specs.Prelude.{◌≡◌, ◌==◌, ◌||◌, ◌&&◌, map, bytes_eq, is_some};
 ghost use Rattle.std.specs.List.{list_all, list_any};
 ghost use Rattle.toml.specs.View.{view};
 ghost use Rattle.board_tables.specs.Fields as fields;
 ghost use Rattle.board_tables.specs.Keys as spec;
 ghost use Rattle.board_words.specs.View.{texts_of};
+ghost use Rattle.board_words.specs.FollowTexts.{follow_of as follow_text};
 
-use board_words::{Places, is_name};
+use crate::keys::Known;
+use board_words::{Places, follow_of, is_name};
 use toml::Value;
 
 /// Whether the value is an array of at least one table.
@@ -88,6 +90,48 @@ fn are_bits(text: &[u8]) -> bool
     ensures { result ≡ list_all spec.is_bit text.now }
 {
     text.iter().all(|byte| *byte == b'0' || *byte == b'1')
+}
+
+/// Whether the value is an array of strings, and they fit the device, where it is known.
+#[tactic(auto, using(crate::proofs::ValueLaws::items_all_of))]
+pub(crate) fn is_follow(known: Option<Known>, value: &Value) -> bool
+    ensures { result ≡ spec.is_follow known (view value.now) }
+{
+    match value.as_array() {
+        Some(items) => all_strings(items) && strings_fit(known),
+        None => false,
+    }
+}
+
+fn strings_fit(known: Option<Known>) -> bool
+    ensures { result ≡ spec.strings_fit known }
+{
+    match known {
+        Some(known) => known.strings_fit,
+        None => true,
+    }
+}
+
+fn all_strings(items: &[Value]) -> bool
+    ensures { result ≡ list_all (λ v. spec.is_string (view v)) items.now }
+{
+    items.iter().all(|item| is_string(item))
+}
+
+/// Whether the value is a text that spells a string.
+fn is_string(value: &Value) -> bool
+    ensures { result ≡ spec.is_string (view value.now) }
+{
+    match value.as_str() {
+        Some(text) => spells_string(text),
+        None => false,
+    }
+}
+
+fn spells_string(text: &str) -> bool
+    ensures { result ≡ is_some (follow_text text.now) }
+{
+    follow_of(text).is_some()
 }
 
 /// Whether the value is a text, and one of the words.

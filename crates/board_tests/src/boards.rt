@@ -1,4 +1,4 @@
-use crate::descriptions::K;
+use crate::descriptions::{K, W};
 use byte_ends::Counted;
 use jt_bits::Bits;
 use jt_board::{Board, BoardFault, Reply, Snapshot, write_report};
@@ -241,32 +241,53 @@ fn faults_shown(rt: HostRuntime) -> Result<(), Fail> {
     Ok(())
 }
 
-/// The report of a fresh board of devices K, or its refusal with what it holds.
-fn made(alloc: Global, toml: &str) -> Result<Vec<u8>, AllocError> {
+/// The board that a board file of devices K and W makes.
+pub(crate) fn board_of(alloc: Global, toml: &str) -> Result<Board, BoardFault> {
+    let files = [("k", K.as_bytes()), ("w", W.as_bytes())];
+    Board::from_text(alloc, toml.as_bytes(), &files)
+}
+
+/// The report of a board.
+pub(crate) fn reported(alloc: Global, board: &Board) -> Vec<u8> {
     let mut shown = Counted::new(Vec::new(alloc));
-    match Board::from_text(alloc, toml.as_bytes(), &[("k", K.as_bytes())]) {
-        Ok(board) => {
-            let _ = write_report(&board, &mut shown);
-        }
+    let _ = write_report(board, &mut shown);
+    shown.into_inner()
+}
+
+/// The report of the fresh board of a board file, or its refusal with what it holds.
+fn made(alloc: Global, toml: &str) -> Result<Vec<u8>, AllocError> {
+    match board_of(alloc, toml) {
+        Ok(board) => Ok(reported(alloc, &board)),
         Err(fault) => {
             let text = match &fault {
                 BoardFault::BadField(text)
                 | BoardFault::UnknownFile(text)
                 | BoardFault::UnknownPin(text)
-                | BoardFault::PinTwice(text) => text.as_str(),
+                | BoardFault::PinTwice(text)
+                | BoardFault::CoreLoop(text) => text.as_str(),
                 _ => "",
             };
-            return format!(in alloc; "{fault} {text}").map(String::into_bytes);
+            format!(in alloc; "{fault} {text}").map(String::into_bytes)
         }
     }
-    Ok(shown.into_inner())
 }
 
 /// Asserts what is made of each board file.
 fn assert_made(rt: &impl Abort, alloc: Global, rows: &[(&str, &str)]) -> Result<(), AllocError> {
     for (toml, wanted) in rows {
-        assert_eq!(rt; made(alloc, toml)?.as_slice(), wanted.as_bytes());
+        assert_one(rt, alloc, toml, wanted)?;
     }
+    Ok(())
+}
+
+/// Asserts what is made of a board file.
+pub(crate) fn assert_one(
+    rt: &impl Abort,
+    alloc: Global,
+    toml: &str,
+    wanted: &str,
+) -> Result<(), AllocError> {
+    assert_eq!(rt; made(alloc, toml)?.as_slice(), wanted.as_bytes());
     Ok(())
 }
 

@@ -39,6 +39,36 @@ pub(crate) const P: &str = "entity P is port (TDI, TMS, TCK : in bit; TDO : out 
   attribute BOUNDARY_REGISTER of P : entity is \"0 (BC_1, *, internal, X)\";
 end;";
 
+/// A device with ports of every mode and a cell of each kind that drives: cell 4 is its own control, cell 8 drives a port
+/// of mode in.
+pub(crate) const W: &str = "entity W is
+  port (TDI, TMS, TCK, TRST : in bit; TDO : out bit;
+        A : inout bit_vector (0 to 3); I : in bit_vector (7 downto 6); X : in bit;
+        O, P, N : out bit; E : buffer bit; L : linkage bit);
+  attribute TAP_SCAN_IN of TDI : signal is true;
+  attribute TAP_SCAN_MODE of TMS : signal is true;
+  attribute TAP_SCAN_OUT of TDO : signal is true;
+  attribute TAP_SCAN_RESET of TRST : signal is true;
+  attribute TAP_SCAN_CLOCK of TCK : signal is (10.0e6, BOTH);
+  attribute INSTRUCTION_LENGTH of W : entity is 3;
+  attribute INSTRUCTION_OPCODE of W : entity is
+    \"BYPASS (111), EXTEST (000), SAMPLE (001), PRELOAD (010), CLAMP (011), HIGHZ (100), INTEST (101)\";
+  attribute INSTRUCTION_CAPTURE of W : entity is \"001\";
+  attribute BOUNDARY_LENGTH of W : entity is 11;
+  attribute BOUNDARY_REGISTER of W : entity is
+    \" 0 (BC_1, O, output2, X),\" &
+    \" 1 (BC_1, P, output3, X, 2, 0, Z),\" &
+    \" 2 (BC_1, *, control, 0),\" &
+    \" 3 (BC_8, A(0), bidir, X, 2, 0, Z),\" &
+    \" 4 (BC_1, A(1), output2, 1, 4, 1, WEAK1),\" &
+    \" 5 (BC_4, A(1), input, X),\" &
+    \" 6 (BC_4, A(2), input, X),\" &
+    \" 7 (BC_4, I(7), input, X),\" &
+    \" 8 (BC_1, X, output2, X),\" &
+    \" 9 (BC_1, E, output2, X),\" &
+    \"10 (BC_1, *, internal, X)\";
+end W;";
+
 /// The device that a text says.
 pub(crate) fn device(alloc: Global, text: &str) -> Result<Device, Fail> {
     match read(alloc, text.as_bytes()) {

@@ -12,6 +12,8 @@ mod chips;
 #[cfg(test)]
 mod descriptions;
 #[cfg(test)]
+mod following;
+#[cfg(test)]
 mod many_opcodes;
 #[cfg(test)]
 mod nets;

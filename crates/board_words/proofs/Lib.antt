@@ -1,3 +1,5 @@
 pub mod PlaceLaws
 pub mod TextLaws
 pub mod SpellLaws
+pub mod TrimLaws
+pub mod FollowLaws

@@ -7,12 +7,12 @@ use Rattle.std.proofs.lemmas.Bool.Decides.{nat_tests}
 use Rattle.std.proofs.lemmas.List.{append-nil, length-append}
 use Rattle.std.proofs.Math.Seq.{take-append_seam, drop-append-add}
 use Rattle.board_words.specs.Names.{continues, is_name}
-use Rattle.board_words.specs.PinTexts.{PinText, is_number, index_text, pin_text, is_index, Spells, split_at, index_of, indexed, scalar, port_of, pin_of, PinsAreReadAsSpelt}
+use Rattle.board_words.specs.PinTexts.{PinText, PortText, IsPortText, is_number, index_text, port_text, pin_text, is_index, Spells, split_at, index_of, indexed, scalar, port_of, with_device, pin_of, PinsAreReadAsSpelt}
 
 -- ---- the first such byte
 
 -- whether a list has no such byte
-abbrev lacks : ℕ → List ℕ → Bool
+abbrev pub lacks : ℕ → List ℕ → Bool
 lacks c xs = list_all (λ x. not (x == c)) xs
 
 itself : (c : ℕ) → (c == c) ≡ true
@@ -36,12 +36,12 @@ no_place c (x ∷ xs) h = by (x == c) h (no_place c xs)
     by true h f = absurd (false≢true h)
     by false h f = let e = f h in omega (arith, e)
 
-split_made : (c : ℕ) (xs ys : List ℕ) → lacks c xs ≡ true → split_at c (xs ++ c ∷ ys) ≡ Some (xs, ys)
+pub split_made : (c : ℕ) (xs ys : List ℕ) → lacks c xs ≡ true → split_at c (xs ++ c ∷ ys) ≡ Some (xs, ys)
 split_made c xs ys h =
     let inside : nat_lt (length xs) (length (xs ++ c ∷ ys)) ≡ true = rw (length-append xs (c ∷ ys)) (grind (arith, nat_tests)) in
     rw (place_at c xs ys h, inside, take-append_seam xs (c ∷ ys), drop-append-add xs (c ∷ ys) 1) refl
 
-split_none : (c : ℕ) (xs : List ℕ) → lacks c xs ≡ true → split_at c xs ≡ None
+pub split_none : (c : ℕ) (xs : List ℕ) → lacks c xs ≡ true → split_at c xs ≡ None
 split_none c xs h =
     let beyond : nat_lt (length xs) (length xs) ≡ false = grind (arith, nat_tests) in
     rw (no_place c xs h, beyond) refl
@@ -62,14 +62,14 @@ parts c (x ∷ xs) = by (x == c) refl (parts c xs)
     by false e (inl none) = inl (rw e none)
     by false e (inr p) = inr (record { front = x ∷ p.front; back = p.back; whole = ap (λ ys. x ∷ ys) p.whole; first = rw e p.first })
 
-none_some : {A : Type 0} (x : A) → None ≡ Some x → ⊥
+pub none_some : {A : Type 0} (x : A) → None ≡ Some x → ⊥
 none_some x e = absurd cc
 
 same_pair : (q r : List ℕ × List ℕ) → Some q ≡ Some r → (q.0 ≡ r.0) × (q.1 ≡ r.1)
 same_pair q r e = (ap (λ o. (unwrap_or o q).0) e, ap (λ o. (unwrap_or o q).1) e)
 
 -- what a split says
-split_says : (c : ℕ) (text front back : List ℕ) → split_at c text ≡ Some (front, back) → (text ≡ front ++ c ∷ back) × (lacks c front ≡ true)
+pub split_says : (c : ℕ) (text front back : List ℕ) → split_at c text ≡ Some (front, back) → (text ≡ front ++ c ∷ back) × (lacks c front ≡ true)
 split_says c text front back e = by (parts c text)
   where
     by : (lacks c text ≡ true) ⊎ Parts c text → (text ≡ front ++ c ∷ back) × (lacks c front ≡ true)
@@ -81,7 +81,7 @@ split_says c text front back e = by (parts c text)
 
 -- ---- names and digits lack the marks
 
-apart_at : (test : ℕ → Bool) (m x : ℕ) → test m ≡ false → test x ≡ true → not (x == m) ≡ true
+pub apart_at : (test : ℕ → Bool) (m x : ℕ) → test m ≡ false → test x ≡ true → not (x == m) ≡ true
 apart_at test m x never passes = by (x == m) refl
   where
     by : (b : Bool) → (x == m) ≡ b → not b ≡ true
@@ -94,13 +94,13 @@ all_lack test m (x ∷ xs) never h =
     let both = and_parts (test x) (list_all test xs) h in
     rw (apart_at test m x never both.0) (all_lack test m xs never both.1)
 
-name_lacks : (m : ℕ) (name : List ℕ) → is_ascii_alphabetic m ≡ false → continues m ≡ false → is_name name ≡ true → lacks m name ≡ true
+pub name_lacks : (m : ℕ) (name : List ℕ) → is_ascii_alphabetic m ≡ false → continues m ≡ false → is_name name ≡ true → lacks m name ≡ true
 name_lacks m [] first rest h = absurd (false≢true h)
 name_lacks m (x ∷ xs) first rest h =
     let both = and_parts (is_ascii_alphabetic x) (list_all continues xs) h in
     rw (apart_at is_ascii_alphabetic m x first both.0) (all_lack continues m xs rest both.1)
 
-digits_lack : (m : ℕ) (ds : List ℕ) → is_ascii_digit m ≡ false → is_number ds ≡ true → lacks m ds ≡ true
+pub digits_lack : (m : ℕ) (ds : List ℕ) → is_ascii_digit m ≡ false → is_number ds ≡ true → lacks m ds ≡ true
 digits_lack m ds never h = all_lack is_ascii_digit m ds never ((and_parts (nat_lt 0 (length ds)) (list_all is_ascii_digit ds) h).1)
 
 -- ---- an index
@@ -130,54 +130,52 @@ index_says text ds e = by (split_at 41 text) refl e
 
 -- ---- a port
 
--- the port and the index of a pin of this device, as they are written
-record PortSpelt (device text : List ℕ) (p : PinText) : Type 0 where
-  same : p.device ≡ device
-  spelt : text ≡ p.port ++ index_text p.index
-  port : is_name p.port ≡ true
-  index : is_index p.index ≡ true
+-- the text spells this port
+pub record PortSpelt (text : List ℕ) (p : PortText) : Type 0 where
+  pub spelt : text ≡ port_text p
+  pub fits : IsPortText p
 
-port_plain : (device text : List ℕ) → split_at 40 text ≡ None → port_of device text ≡ scalar device text
+port_plain : (text : List ℕ) → split_at 40 text ≡ None → port_of text ≡ scalar text
 unfolding port_of
-port_plain device text e = ap (λ o. elim o [ Some q ↦ indexed device q.0 q.1 | None ↦ scalar device text ]) e
+port_plain text e = ap (λ o. elim o [ Some q ↦ indexed q.0 q.1 | None ↦ scalar text ]) e
 
-port_indexed : (device text front back : List ℕ) → split_at 40 text ≡ Some (front, back) → port_of device text ≡ indexed device front back
+port_indexed : (text front back : List ℕ) → split_at 40 text ≡ Some (front, back) → port_of text ≡ indexed front back
 unfolding port_of
-port_indexed device text front back e = ap (λ o. elim o [ Some q ↦ indexed device q.0 q.1 | None ↦ scalar device text ]) e
+port_indexed text front back e = ap (λ o. elim o [ Some q ↦ indexed q.0 q.1 | None ↦ scalar text ]) e
 
-port_made : (device port : List ℕ) (i : Option (List ℕ)) → is_name port ≡ true → is_index i ≡ true → port_of device (port ++ index_text i) ≡ Some (record { device = device; port = port; index = i })
-port_made device port None name i =
-    ap (port_of device) (append-nil port) ∙ port_plain device port (split_none 40 port (name_lacks 40 port refl refl name)) ∙ rw name refl
-port_made device port (Some ds) name i =
-    port_indexed device (port ++ 40 ∷ (ds ++ 41 ∷ [])) port (ds ++ 41 ∷ []) (split_made 40 port (ds ++ 41 ∷ []) (name_lacks 40 port refl refl name)) ∙ rw (name, index_made ds i) refl
+pub port_made : (name : List ℕ) (i : Option (List ℕ)) → is_name name ≡ true → is_index i ≡ true → port_of (name ++ index_text i) ≡ Some (record { name = name; index = i })
+port_made name None good i =
+    ap port_of (append-nil name) ∙ port_plain name (split_none 40 name (name_lacks 40 name refl refl good)) ∙ rw good refl
+port_made name (Some ds) good i =
+    port_indexed (name ++ 40 ∷ (ds ++ 41 ∷ [])) name (ds ++ 41 ∷ []) (split_made 40 name (ds ++ 41 ∷ []) (name_lacks 40 name refl refl good)) ∙ rw (good, index_made ds i) refl
 
-same_some : {A : Type 0} (x y : A) → Some x ≡ Some y → x ≡ y
+pub same_some : {A : Type 0} (x y : A) → Some x ≡ Some y → x ≡ y
 same_some x y e = ap (λ o. unwrap_or o x) e
 
-port_says : (device text : List ℕ) (p : PinText) → port_of device text ≡ Some p → PortSpelt device text p
+pub port_says : (text : List ℕ) (p : PortText) → port_of text ≡ Some p → PortSpelt text p
 unfolding port_of
-port_says device text p e = by (split_at 40 text) refl e
+port_says text p e = by (split_at 40 text) refl e
   where
-    plain : (b : Bool) → is_name text ≡ b → cond b (Some (record { device = device; port = text; index = None })) None ≡ Some p → PortSpelt device text p
+    plain : (b : Bool) → is_name text ≡ b → cond b (Some (record { name = text; index = None })) None ≡ Some p → PortSpelt text p
     plain false n e = absurd (none_some p e)
     plain true n e =
-        subst (PortSpelt device text) (same_some (record { device = device; port = text; index = None }) p e)
-        (record { same = refl; spelt = sym (append-nil text); port = n; index = refl })
+        subst (PortSpelt text) (same_some (record { name = text; index = None }) p e)
+        (record { spelt = sym (append-nil text); fits = record { name = n; index = refl } })
 
     with_index : (front back : List ℕ) → split_at 40 text ≡ Some (front, back) → is_name front ≡ true → (o : Option (List ℕ)) → index_of back ≡ o
-        → option_map {U = PinText} (λ ds. record { device = device; port = front; index = Some ds }) o ≡ Some p → PortSpelt device text p
+        → option_map {U = PortText} (λ ds. record { name = front; index = Some ds }) o ≡ Some p → PortSpelt text p
     with_index front back at n None i e = absurd (none_some p e)
     with_index front back at n (Some ds) i e =
         let is = index_says back ds i in
-        subst (PortSpelt device text) (same_some (record { device = device; port = front; index = Some ds }) p e)
-        (record { same = refl; spelt = (split_says 40 text front back at).0 ∙ ap (λ b. front ++ 40 ∷ b) is.0; port = n; index = is.1 })
+        subst (PortSpelt text) (same_some (record { name = front; index = Some ds }) p e)
+        (record { spelt = (split_says 40 text front back at).0 ∙ ap (λ b. front ++ 40 ∷ b) is.0; fits = record { name = n; index = is.1 } })
 
     bracketed : (front back : List ℕ) → split_at 40 text ≡ Some (front, back) → (b : Bool) → is_name front ≡ b
-        → cond b (option_map {U = PinText} (λ ds. record { device = device; port = front; index = Some ds }) (index_of back)) None ≡ Some p → PortSpelt device text p
+        → cond b (option_map {U = PortText} (λ ds. record { name = front; index = Some ds }) (index_of back)) None ≡ Some p → PortSpelt text p
     bracketed front back at false n e = absurd (none_some p e)
     bracketed front back at true n e = with_index front back at n (index_of back) refl e
 
-    by : (o : Option (List ℕ × List ℕ)) → split_at 40 text ≡ o → elim o [ Some q ↦ indexed device q.0 q.1 | None ↦ scalar device text ] ≡ Some p → PortSpelt device text p
+    by : (o : Option (List ℕ × List ℕ)) → split_at 40 text ≡ o → elim o [ Some q ↦ indexed q.0 q.1 | None ↦ scalar text ] ≡ Some p → PortSpelt text p
     by None at e = plain (is_name text) refl e
     by (Some (front, back)) at e = bracketed front back at (is_name front) refl e
 
@@ -187,25 +185,31 @@ pin_made : (p : PinText) → is_name p.device ≡ true → is_name p.port ≡ tr
 unfolding pin_of
 pin_made p device port index =
     let whole = append_assoc p.device (46 ∷ p.port) (index_text p.index) in
-    rw (whole, split_made 46 p.device (p.port ++ index_text p.index) (name_lacks 46 p.device refl refl device), device) (port_made p.device p.port p.index port index)
+    rw (whole, split_made 46 p.device (p.port ++ index_text p.index) (name_lacks 46 p.device refl refl device), device)
+    (ap (option_map (with_device p.device)) (port_made p.port p.index port index))
 
 pin_says : (text : List ℕ) (p : PinText) → pin_of text ≡ Some p → Spells text p
 unfolding pin_of
 pin_says text p e = by (split_at 46 text) refl e
   where
-    named : (front back : List ℕ) → split_at 46 text ≡ Some (front, back) → (b : Bool) → is_name front ≡ b → cond b (port_of front back) None ≡ Some p → Spells text p
-    named front back at false n e = absurd (none_some p e)
-    named front back at true n e =
-        let is = port_says front back p e in
-        record {
-          spelt = (split_says 46 text front back at).0 ∙ ap (λ b. front ++ 46 ∷ b) is.spelt ∙ ap (λ d. d ++ 46 ∷ (p.port ++ index_text p.index)) (sym is.same)
-              ∙ sym (append_assoc p.device (46 ∷ p.port) (index_text p.index));
-          device = subst (λ d. is_name d ≡ true) (sym is.same) n;
-          port = is.port;
-          index = is.index;
-        }
+    placed : (front back : List ℕ) → split_at 46 text ≡ Some (front, back) → is_name front ≡ true → (o : Option PortText) → port_of back ≡ o
+        → option_map (with_device front) o ≡ Some p → Spells text p
+    placed front back at n None is e = absurd (none_some p e)
+    placed front back at n (Some q) is e =
+        let says = port_says back q is in
+        subst (Spells text) (same_some (with_device front q) p e)
+        (record {
+          spelt = (split_says 46 text front back at).0 ∙ ap (λ b. front ++ 46 ∷ b) says.spelt ∙ sym (append_assoc front (46 ∷ q.name) (index_text q.index));
+          device = n;
+          port = says.fits.name;
+          index = says.fits.index;
+        })
 
-    by : (o : Option (List ℕ × List ℕ)) → split_at 46 text ≡ o → option_and_then (λ q. if is_name q.0 then port_of q.0 q.1 else None) o ≡ Some p → Spells text p
+    named : (front back : List ℕ) → split_at 46 text ≡ Some (front, back) → (b : Bool) → is_name front ≡ b → cond b (option_map (with_device front) (port_of back)) None ≡ Some p → Spells text p
+    named front back at false n e = absurd (none_some p e)
+    named front back at true n e = placed front back at n (port_of back) refl e
+
+    by : (o : Option (List ℕ × List ℕ)) → split_at 46 text ≡ o → option_and_then (λ q. if is_name q.0 then option_map (with_device q.0) (port_of q.1) else None) o ≡ Some p → Spells text p
     by None at e = absurd (none_some p e)
     by (Some (front, back)) at e = named front back at (is_name front) refl e
 

@@ -1,4 +1,5 @@
 pub mod FirstPlaces
+pub mod FollowTexts
 pub mod Names
 pub mod PinTexts
 pub mod View

@@ -1,10 +1,18 @@
-//! Pins as the board file writes them: `U1.Q`, or `U1.A(3)`.
+//! Ports and pins as the board file writes them: `Q` or `A(3)`, and `U1.Q` or `U1.A(3)`.
 ghost use Rattle.std.specs.Prelude.{◌≡◌, ◌<◌, ℕ, true, List, option_map, IfSome};
 ghost use Rattle.std.specs.List.{list_all};
 ghost use Rattle.std.specs.Char.{is_ascii_digit};
 ghost use Rattle.board_words.specs.PinTexts as spec;
+ghost use Rattle.board_words.specs.View.{HasDigits, port as port_value};
 
 use crate::names::is_name;
+
+/// A port's name, and the digits of its index, if it has one.
+#[derive(Debug, Clone, Copy)]
+pub struct PortText<'a> {
+    pub name: &'a str,
+    pub index: Option<&'a str>,
+}
 
 /// A pin's device and port, and the digits of its index, if it has one.
 #[derive(Debug, Clone, Copy)]
@@ -26,32 +34,31 @@ pub fn pin_of(text: &str) -> Option<PinText<'_>>
     if !is_name(device) {
         return None;
     }
-    port_of(device, rest)
+    let port = port_of(rest)?;
+    Some(PinText {
+        device,
+        port: port.name,
+        index: port.index,
+    })
 }
 
-/// The pin of this device whose port the text spells.
+/// The port that a text spells.
 #[tactic(auto, unfolding(crate::specs::PinTexts::port_of))]
-fn port_of<'a>(device: &'a str, text: &'a str) -> Option<PinText<'a>>
-    ensures pin { option_map {U = spec.PinText}
-        (λ p. record { device = p.device.now; port = p.port.now; index = option_map (λ d. d.now) p.index }) result
-        ≡ spec.port_of device.now text.now }
-    ensures digits { IfSome result (λ p. IfSome p.index (λ d. spec.is_number d.now ≡ true)) }
+pub(crate) fn port_of(text: &str) -> Option<PortText<'_>>
+    ensures port { option_map port_value result ≡ spec.port_of text.now }
+    ensures digits { IfSome result HasDigits }
 {
-    let (port, index) = match split_at_byte(text, '(') {
+    let (name, index) = match split_at_byte(text, '(') {
         None => (text, None),
-        Some((port, rest)) => match index_of(rest) {
-            Some(digits) => (port, Some(digits)),
+        Some((name, rest)) => match index_of(rest) {
+            Some(digits) => (name, Some(digits)),
             None => return None,
         },
     };
-    if !is_name(port) {
+    if !is_name(name) {
         return None;
     }
-    Some(PinText {
-        device,
-        port,
-        index,
-    })
+    Some(PortText { name, index })
 }
 
 /// The digits of an index, behind its `(` and up to the `)` that ends the text.
@@ -80,7 +87,7 @@ fn are_digits(text: &[u8]) -> bool
 }
 
 /// What stands before and behind the first such character.
-fn split_at_byte(text: &str, mark: char) -> Option<(&str, &str)>
+pub(crate) fn split_at_byte(text: &str, mark: char) -> Option<(&str, &str)>
     requires { mark < 128 }
     ensures { option_map {U = List ℕ × List ℕ} (λ p. (p.0.now, p.1.now)) result ≡ spec.split_at mark text.now }
 {

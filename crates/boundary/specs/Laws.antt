@@ -1,4 +1,4 @@
--- What a sight or a new update stage changes of a capture. These proof terms stand here since `impl Register` names
+-- What a sight, a core's bit or a new update stage changes of a capture. These proof terms stand here since `impl Register` names
 -- them: there is nothing to judge.
 use Rattle.std.proofs.Common.{◌≡◌, ◌≢◌, ◌⊎◌, ⊎_elim, inl, inr, ℕ, zero, suc, Bool, true, false, List, [], ◌∷◌, length}
 use Rattle.std.proofs.Common.{slice_get, slice_set, Option, Some, None, refl, sym, ap, ◌∙◌}
@@ -24,6 +24,22 @@ seen_alone (c ∷ cs) (s ∷ seen) (u ∷ update) (x ∷ core) f zero bit zero a
 seen_alone (c ∷ cs) (s ∷ seen) (u ∷ update) (x ∷ core) f zero bit (suc i) apart = refl
 seen_alone (c ∷ cs) (s ∷ seen) (u ∷ update) (x ∷ core) f (suc cell) bit zero apart = refl
 seen_alone (c ∷ cs) (s ∷ seen) (u ∷ update) (x ∷ core) f (suc cell) bit (suc i) apart = seen_alone cs seen update core
+    f cell bit i (λ e. apart (ap suc e))
+
+-- the core's bit of one cell, no other captures
+pub core_alone : (cells : List Cell) (seen update core : List Bool) (f : Bool) (cell : ℕ) (bit : Bool) (i : ℕ)
+    → i ≢ cell
+    → slice_get (capture_from cells seen f update (slice_set core cell bit)) i
+    ≡ slice_get (capture_from cells seen f update core) i
+core_alone [] seen update core f cell bit i apart = refl
+core_alone (c ∷ cs) [] update core f cell bit i apart = refl
+core_alone (c ∷ cs) (s ∷ seen) [] core f cell bit i apart = refl
+core_alone (c ∷ cs) (s ∷ seen) (u ∷ update) [] f zero bit i apart = refl
+core_alone (c ∷ cs) (s ∷ seen) (u ∷ update) [] f (suc cell) bit i apart = refl
+core_alone (c ∷ cs) (s ∷ seen) (u ∷ update) (x ∷ core) f zero bit zero apart = absurd (apart refl)
+core_alone (c ∷ cs) (s ∷ seen) (u ∷ update) (x ∷ core) f zero bit (suc i) apart = refl
+core_alone (c ∷ cs) (s ∷ seen) (u ∷ update) (x ∷ core) f (suc cell) bit zero apart = refl
+core_alone (c ∷ cs) (s ∷ seen) (u ∷ update) (x ∷ core) f (suc cell) bit (suc i) apart = core_alone cs seen update core
     f cell bit i (λ e. apart (ap suc e))
 
 -- a cell captures its update bit, or what does not depend on it

@@ -76,7 +76,7 @@ impl Model for Boundary {
 impl Register for Boundary {
     ghost use Rattle.std.specs.Prelude.{refl, slice_set};
     ghost use Rattle.boundary.specs.Cells as cells;
-    ghost use Rattle.boundary.specs.Laws.{seen_alone, taken_part};
+    ghost use Rattle.boundary.specs.Laws.{core_alone, seen_alone, taken_part};
 
     ghost stage = { λ b. b.stage };
 
@@ -90,6 +90,8 @@ impl Register for Boundary {
 
     ghost saw = { λ b cell bit. record b { seen = slice_set b.seen cell bit } };
 
+    ghost cored = { λ b cell bit. record b { core = slice_set b.core cell bit } };
+
     fn len(&self) -> usize {
         self.stage.len()
     }
@@ -100,6 +102,10 @@ impl Register for Boundary {
 
     fn see(&mut self, cell: usize, bit: bool) {
         self.seen.set(cell, bit);
+    }
+
+    fn set_core(&mut self, cell: usize, bit: bool) {
+        self.core.set(cell, bit);
     }
 
     fn capture(&mut self, mode: Mode) {
@@ -150,6 +156,17 @@ impl Register for Boundary {
     ghost sees_reset = { λ r cell bit. refl };
 
     ghost sees_parts = { λ r cell bit s u. refl };
+
+    ghost cores_stage = { λ r cell bit. refl };
+
+    ghost cores_update = { λ r cell bit. refl };
+
+    ghost cores_alone = { λ r cell bit mode i apart. core_alone r.cells r.seen r.update r.core
+        (cells.takes_update r.extest_update mode) cell bit i apart };
+
+    ghost cores_reset = { λ r cell bit. refl };
+
+    ghost cores_parts = { λ r cell bit s u. refl };
 
     ghost captured_part = { λ r mode i. taken_part r mode i };
 }

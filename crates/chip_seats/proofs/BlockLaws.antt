@@ -10,7 +10,7 @@ use Rattle.boundary.specs.Cells.{same_bit}
 use Rattle.jt_bits.proofs.Runs.{not_bit}
 use Rattle.boundary.specs.declared.PlainCells.{PlainCells}
 use Rattle.chip_seats.specs.Blocks.{TellsBlock, TellsOwn, stands}
-use Rattle.chip_seats.specs.Seats.{SeatValue, member_of}
+use Rattle.chip_seats.specs.Seats.{SeatValue, held_of}
 use Rattle.chip_seats.specs.declared.driving.Block.{Block}
 use Rattle.chip_seats.proofs.DrivingLaws.{cell_by_seat}
 
@@ -18,8 +18,8 @@ pub no : false ≡ true → ⊥
 no e = cc
 
 -- what a device says of 64 of its cells
-pub block_tells : (seats : List SeatValue) (s : SeatValue) (b : Block) (plain : PlainCells) → slice_get seats b.device ≡ Some s → TellsOwn (member_of s) b.first plain
-    → TellsBlock (map member_of seats) b plain
+pub block_tells : (seats : List SeatValue) (s : SeatValue) (b : Block) (plain : PlainCells) → slice_get seats b.device ≡ Some s → TellsOwn (held_of s) b.first plain
+    → TellsBlock (map held_of seats) b plain
 block_tells seats s b plain at tells = record {
   each = λ j h marked.
       sym (cell_by_seat seats b.device (b.first + j) s _ at refl) ∙ tells.each j h marked;

@@ -27,7 +27,7 @@ use Rattle.board_plan.proofs.CellLaws.{ports_fit}
 use Rattle.board_plan.proofs.TableLaws.{length-all_cell_nets, planned_at, vector_at}
 use Rattle.board_meaning.specs.Nets.{pin_drive}
 use Rattle.chip_seats.specs.Building.{seat_of, seats_of}
-use Rattle.chip_seats.specs.Seats.{AllTold, SeatValue, member_of}
+use Rattle.chip_seats.specs.Seats.{AllTold, SeatValue, held_of}
 use Rattle.board_wiring.specs.Wires.{WiringValue}
 use Rattle.chip_seats.specs.Wires.{AreSeated, AreWired, IsWired}
 
@@ -157,7 +157,7 @@ start_seated nets ms seats w all are same =
     (subst (λ (n : ℕ). AreSeated n (all_pins nets)) (sym (ap length are ∙ length-seats nets 0 ms)) (seated ms (all_pins nets) all))
 
 pub start_wired : (nets : List Net) (ms : List planned.Member) (w v : WiringValue) → AllByRecursion (IsPinOf ms) (all_pins nets) → w.nets ≡ nets
-    → v ≡ record w { drives = map (pin_drive (map member_of (seats_of nets 0 ms))) (all_pins w.nets) } → IsWired (seats_of nets 0 ms) v
+    → v ≡ record w { drives = map (pin_drive (map held_of (seats_of nets 0 ms))) (all_pins w.nets) } → IsWired (seats_of nets 0 ms) v
 start_wired nets ms w v all same is = subst (λ (x : WiringValue). IsWired (seats_of nets 0 ms) x) (sym is) (record {
   drives = refl;
   cells = subst (λ (l : List Net). AreWired l 0 (seats_of nets 0 ms)) (sym same) (seats_wired nets 0 ms);

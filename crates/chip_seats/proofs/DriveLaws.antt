@@ -7,12 +7,12 @@ use Rattle.pin_nets.specs.declared.Drive.{Drive}
 use Rattle.boundary.specs.Cells.{BoundaryValue, driven_in, driver_from}
 use Rattle.boundary.proofs.DriverLaws.{driven_by_cell}
 use Rattle.board_meaning.specs.Cells.{drive}
-use Rattle.chip_seats.specs.Seats.{SeatValue, member_of}
+use Rattle.chip_seats.specs.Seats.{SeatValue, held_of}
 
 pub drives_port : (s : SeatValue) (port : ℕ) (driver : Option ℕ) (mode : Mode) (b : BoundaryValue) (d : Drive)
     → s.chip.boundary.cells ≡ s.chip.device.cells → driver ≡ driver_from port 0 s.chip.device.cells
     → mode ≡ (meaning s.chip.device s.chip.latch).mode → b ≡ s.chip.boundary → d ≡ driven_in mode b.cells b.update b.core driver
-    → d ≡ drive (member_of s) port
+    → d ≡ drive (held_of s) port
 drives_port s port driver mode b d cells driver-is at same is =
     let own = s.chip.boundary in
     let m = (meaning s.chip.device s.chip.latch).mode in

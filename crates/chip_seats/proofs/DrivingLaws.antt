@@ -15,7 +15,7 @@ use Rattle.boundary.proofs.DriverLaws.{driven_by_cell}
 use Rattle.board_meaning.specs.Cells.{Member, drive}
 use Rattle.board_meaning.specs.Nets.{pin_drive}
 use Rattle.chip_seats.specs.Driving.{cell_drives, cells_of, driver_of, drives_at, driving_from, entry_drives, with_driving}
-use Rattle.chip_seats.specs.Seats.{SeatValue, member_of}
+use Rattle.chip_seats.specs.Seats.{SeatValue, held_of}
 use Rattle.chip_seats.specs.declared.driving.DrivingPin.{DrivingPin}
 
 -- ---- one pin
@@ -67,7 +67,7 @@ driven ms p k c some = by (slice_get ms p.device) refl
         ∙ by-cell m p.port (Some c) its
         ∙ sym (ap (λ (x : Option Member). unwrap_or (option_map (λ (y : Member). drive y p.port) x) Nothing) at)
 
-pub seats_cells : (seats : List SeatValue) → map member-cells (map member_of seats) ≡ map cells_of seats
+pub seats_cells : (seats : List SeatValue) → map member-cells (map held_of seats) ≡ map cells_of seats
 seats_cells [] = refl
 seats_cells (s ∷ seats) = ap (λ (l : List (List Cell)). cells_of s ∷ l) (seats_cells seats)
 
@@ -152,10 +152,10 @@ pin_cases cells k (q ∷ pins) (suc i) p at = ⊎_elim inl (λ h. inr (by h (dri
     }
 
 -- what the code takes from a device is what its cell drives
-pub cell_by_seat : (seats : List SeatValue) (device cell : ℕ) (s : SeatValue) (d : Drive) → slice_get seats device ≡ Some s → d ≡ cell_drives (member_of s) cell
-    → d ≡ drives_at (map member_of seats) device cell
+pub cell_by_seat : (seats : List SeatValue) (device cell : ℕ) (s : SeatValue) (d : Drive) → slice_get seats device ≡ Some s → d ≡ cell_drives (held_of s) cell
+    → d ≡ drives_at (map held_of seats) device cell
 cell_by_seat seats device cell s d at is =
-    let there : slice_get (map member_of seats) device ≡ Some (member_of s) = slice_get-map member_of seats device ∙ ap (option_map member_of) at in
+    let there : slice_get (map held_of seats) device ≡ Some (held_of s) = slice_get-map held_of seats device ∙ ap (option_map held_of) at in
     is ∙ sym (ap (λ (o : Option Member). unwrap_or (option_map (λ (m : Member). cell_drives m cell) o) Nothing) there)
 
 -- ---- the table is made pin after pin

@@ -19,17 +19,18 @@ use Rattle.boundary.specs.Cells.{BoundaryValue, IsWhole, at_reset, captured_bits
 use Rattle.boundary.specs.Masks.{SeesSighted}
 use Rattle.boundary.specs.Sight.{capture_by_sight}
 use Rattle.boundary.proofs.SightLaws.{captured_by_sighted}
-use Rattle.board_meaning.specs.Cells.{Member, drive, surroundings}
+use Rattle.pin_nets.specs.declared.Follow.{Follow}
+use Rattle.board_meaning.specs.Cells.{Member, Told, drive, surroundings}
 use Rattle.board_meaning.specs.Chain as chain
 use Rattle.board_meaning.specs.Chain.{ChipState}
 use Rattle.board_meaning.specs.Whole.{capture_member}
 use Rattle.chip_seats.specs.AtRest.{IsSightedFor, as_member}
-use Rattle.chip_seats.specs.Seats.{IsSighted, SeatValue, captures_boundary, chip_state, member_of}
+use Rattle.chip_seats.specs.Seats.{IsSighted, SeatValue, captures_boundary, chip_state, member_of, told_by}
 
 -- a device of the meaning, by the device alone
-abbrev state_of : List ℕ → List Bool → Bool → OneChip → ChipState
-state_of name core extest_update o = record {
-  member = record { name = name; device = o.device; core = core; extest_update = extest_update; registers = o.registers };
+abbrev state_of : List ℕ → List Bool → List Follow → Bool → OneChip → ChipState
+state_of name core follows extest_update o = record {
+  member = record { name = name; device = o.device; core = core; follows = follows; extest_update = extest_update; registers = o.registers };
   state = o.state;
   tdo = o.tdo;
 }
@@ -54,15 +55,15 @@ risen-alike (Updates column) d a b tdi r same = refl
 risen-alike Resets d a b tdi r same = refl
 risen-alike Waits d a b tdi r same = refl
 
-rise-alike : (name : List ℕ) (core : List Bool) (extest : Bool) (o : OneChip) (a : Surroundings) (sees : ℕ → Bool) (tms tdi : Bool)
+rise-alike : (name : List ℕ) (core : List Bool) (follows : List Follow) (extest : Bool) (o : OneChip) (a : Surroundings) (about : Told) (tms tdi : Bool)
     → after_rise (work o.state) o.device a tdi o.registers
-    ≡ after_rise (work o.state) o.device (surroundings sees (state_of name core extest o).member) tdi o.registers
-    → state_of name core extest (rise tms tdi a o) ≡ chain.rise o.trst tms tdi sees (state_of name core extest o)
-rise-alike name core extest o a sees tms tdi same = by (is_held o) refl
+    ≡ after_rise (work o.state) o.device (surroundings about (state_of name core follows extest o).member) tdi o.registers
+    → state_of name core follows extest (rise tms tdi a o) ≡ chain.rise o.trst tms tdi about (state_of name core follows extest o)
+rise-alike name core follows extest o a about tms tdi same = by (is_held o) refl
   where
-    by : (b : Bool) → is_held o ≡ b → state_of name core extest (rise tms tdi a o) ≡ chain.rise o.trst tms tdi sees (state_of name core extest o)
+    by : (b : Bool) → is_held o ≡ b → state_of name core follows extest (rise tms tdi a o) ≡ chain.rise o.trst tms tdi about (state_of name core follows extest o)
     by true held = rw held refl
-    by false held = rw held (ap (λ (r : Registers). state_of name core extest (record o { registers = r; state = next o.state tms })) same)
+    by false held = rw held (ap (λ (r : Registers). state_of name core follows extest (record o { registers = r; state = next o.state tms })) same)
 
 module _ (s : SeatValue) (cells : s.chip.boundary.cells ≡ s.chip.device.cells) where
   abbrev stage : BoundaryValue → List Bool
@@ -75,7 +76,7 @@ module _ (s : SeatValue) (cells : s.chip.boundary.cells ≡ s.chip.device.cells)
   now = one_chip stage update s.chip
 
   captures-alike : (sees : ℕ → Bool) (mode : Mode) → IsWhole s.chip.boundary → SeesSighted sees s.chip.device.cells s.chip.boundary.seen
-      → captured_bits s.chip.boundary mode ≡ (surroundings sees (member_of s)).captures mode
+      → captured_bits s.chip.boundary mode ≡ (surroundings (told_by sees s) (member_of s)).captures mode
   captures-alike sees mode whole told =
       let b = s.chip.boundary in
       captured_by_sighted sees (takes_update b.extest_update mode) b.update b.core 0 b.cells b.seen whole.seen whole.update whole.core (rw cells told)
@@ -83,26 +84,23 @@ module _ (s : SeatValue) (cells : s.chip.boundary.cells ≡ s.chip.device.cells)
 
   pub rises : (t : SeatValue) (sees : ℕ → Bool) (tms tdi : Bool)
       → one_chip stage update t.chip ≡ rise tms tdi (surroundings_of captured_bits at_reset s.chip) now
-      → t.name ≡ s.name → t.chip.boundary.core ≡ s.chip.boundary.core → t.chip.boundary.extest_update ≡ s.chip.boundary.extest_update
-      → IsSighted sees s → chip_state t ≡ chain.rise s.chip.trst tms tdi sees (chip_state s)
-  rises t sees tms tdi is name core extest sighted =
-      ap (λ (o : OneChip). state_of t.name t.chip.boundary.core t.chip.boundary.extest_update o) is
-      ∙ ap (λ (n : List ℕ). state_of n t.chip.boundary.core t.chip.boundary.extest_update (rise tms tdi (surroundings_of captured_bits at_reset s.chip) now)) name
-      ∙ ap (λ (c : List Bool). state_of s.name c t.chip.boundary.extest_update (rise tms tdi (surroundings_of captured_bits at_reset s.chip) now)) core
-      ∙ ap (λ (e : Bool). state_of s.name s.chip.boundary.core e (rise tms tdi (surroundings_of captured_bits at_reset s.chip) now)) extest
-      ∙ rise-alike s.name s.chip.boundary.core s.chip.boundary.extest_update now (surroundings_of captured_bits at_reset s.chip) sees tms tdi
-      (risen-alike (work s.chip.state) s.chip.device (surroundings_of captured_bits at_reset s.chip) (surroundings sees (member_of s)) tdi now.registers
+      → t.name ≡ s.name → t.constants ≡ s.constants → t.follows ≡ s.follows → t.chip.boundary.extest_update ≡ s.chip.boundary.extest_update
+      → IsSighted sees s → chip_state t ≡ chain.rise s.chip.trst tms tdi (told_by sees s) (chip_state s)
+  rises t sees tms tdi is name constants follows extest sighted =
+      (λ i. state_of (name i) (constants i) (follows i) (extest i) (is i))
+      ∙ rise-alike s.name s.constants s.follows s.chip.boundary.extest_update now (surroundings_of captured_bits at_reset s.chip) (told_by sees s) tms tdi
+      (risen-alike (work s.chip.state) s.chip.device (surroundings_of captured_bits at_reset s.chip) (surroundings (told_by sees s) (member_of s)) tdi now.registers
       (λ yes. let w = sighted yes in captures-alike sees (meaning s.chip.device s.chip.latch).mode w.0 w.1))
 
   pub captures : (t : SeatValue) (sees : ℕ → Bool) (column : Column)
       → one_chip stage update t.chip ≡ with_registers (chip_registers.after_capture s.chip.device column (surroundings_of captured_bits at_reset s.chip) now.registers) now
-      → t.name ≡ s.name → t.chip.boundary.core ≡ s.chip.boundary.core → t.chip.boundary.extest_update ≡ s.chip.boundary.extest_update
-      → IsSightedFor column sees s → chip_state t ≡ as_member (capture_member column sees (member_of s)) (chip_state s)
-  captures t sees column is name core extest sighted =
+      → t.name ≡ s.name → t.constants ≡ s.constants → t.follows ≡ s.follows → t.chip.boundary.extest_update ≡ s.chip.boundary.extest_update
+      → IsSightedFor column sees s → chip_state t ≡ as_member (capture_member column (told_by sees s) (member_of s)) (chip_state s)
+  captures t sees column is name constants follows extest sighted =
       let mode = (meaning s.chip.device s.chip.latch).mode in
-      (λ i. state_of (name i) (core i) (extest i) (is i))
-      ∙ ap (λ (r : Registers). state_of s.name s.chip.boundary.core s.chip.boundary.extest_update (with_registers r now))
-      (risen-alike (Captures column) s.chip.device (surroundings_of captured_bits at_reset s.chip) (surroundings sees (member_of s)) false now.registers
+      (λ i. state_of (name i) (constants i) (follows i) (extest i) (is i))
+      ∙ ap (λ (r : Registers). state_of s.name s.constants s.follows s.chip.boundary.extest_update (with_registers r now))
+      (risen-alike (Captures column) s.chip.device (surroundings_of captured_bits at_reset s.chip) (surroundings (told_by sees s) (member_of s)) false now.registers
       (λ yes. let w = sighted yes in captures-alike sees mode w.0 w.1))
 
 -- ---- what an edge changes of what is driven
@@ -145,18 +143,20 @@ pub put-update : (column : Column) (d : Device) (bits : List Bool) (r : Register
 put-update Dr d bits r = with-stage-update (meaning d r.latch).selected bits r
 put-update Ir d bits r = refl
 
--- A rising edge changes nothing that is driven.
-pub rise_drives : (trst tms tdi : Bool) (sees : ℕ → Bool) (c : ChipState) (p : ℕ) → drive (chain.rise trst tms tdi sees c).member p ≡ drive c.member p
-rise_drives trst tms tdi sees c p = by (chain.is_held trst c.member) refl
+-- A rising edge changes nothing that is driven, whatever the core bits are.
+pub rise_drives : (trst tms tdi : Bool) (about : Told) (c : ChipState) (core : List Bool) (p : ℕ)
+    → drive (record (chain.rise trst tms tdi about c).member { core = core }) p ≡ drive (record c.member { core = core }) p
+rise_drives trst tms tdi about c core p = by (chain.is_held trst c.member) refl
   where
     m : Member
     m = c.member
 
     after : Registers
-    after = after_rise (work c.state) m.device (surroundings sees m) tdi m.registers
+    after = after_rise (work c.state) m.device (surroundings about m) tdi m.registers
 
-    by : (b : Bool) → chain.is_held trst c.member ≡ b → drive (chain.rise trst tms tdi sees c).member p ≡ drive c.member p
+    by : (b : Bool) → chain.is_held trst c.member ≡ b
+        → drive (record (chain.rise trst tms tdi about c).member { core = core }) p ≡ drive (record c.member { core = core }) p
     by true held = rw held refl
     by false held = rw held
-        (ap (λ (l : List Bool). drive_in (meaning m.device l).mode m.device.cells after.update m.core p) (risen-latch (work c.state) m.device (surroundings sees m) tdi m.registers)
-        ∙ ap (λ (u : List Bool). drive_in (meaning m.device m.registers.latch).mode m.device.cells u m.core p) (risen-update (work c.state) m.device (surroundings sees m) tdi m.registers))
+        (ap (λ (l : List Bool). drive_in (meaning m.device l).mode m.device.cells after.update core p) (risen-latch (work c.state) m.device (surroundings about m) tdi m.registers)
+        ∙ ap (λ (u : List Bool). drive_in (meaning m.device m.registers.latch).mode m.device.cells u core p) (risen-update (work c.state) m.device (surroundings about m) tdi m.registers))

@@ -11,3 +11,5 @@ pub mod PartLaws
 pub mod SettleLaws
 pub mod SlotLaws
 pub mod RefreshLaws
+pub mod StringLaws
+pub mod PlanningLaws

@@ -6,7 +6,7 @@ use Rattle.pin_nets.specs.declared.Drive.TheVariants.{Nothing}
 use Rattle.pin_nets.specs.declared.Pin.{Pin}
 use Rattle.board_meaning.specs.Cells.{Member, drive}
 use Rattle.board_meaning.specs.Nets.{pin_drive}
-use Rattle.chip_seats.specs.Seats.{SeatValue, member_of}
+use Rattle.chip_seats.specs.Seats.{SeatValue, held_of}
 use Rattle.chip_seats.specs.Wires.{AreSeated}
 
 one_pin : (p x : Pin) → Some p ≡ Some x → p ≡ x
@@ -31,9 +31,9 @@ put_more f pins old ds i d x long e at is =
     one (p ∷ pins) (o ∷ old) (suc i) long at = ap (λ (r : List Drive). f p ∷ r) (one pins old i (omega (arith, long)) at)
 
 -- what a pin drives, by its seat
-pub pin_by_seat : (seats : List SeatValue) (pin : Pin) (s : SeatValue) (d : Drive) → slice_get seats pin.device ≡ Some s → d ≡ drive (member_of s) pin.port → d ≡ pin_drive (map member_of seats) pin
+pub pin_by_seat : (seats : List SeatValue) (pin : Pin) (s : SeatValue) (d : Drive) → slice_get seats pin.device ≡ Some s → d ≡ drive (held_of s) pin.port → d ≡ pin_drive (map held_of seats) pin
 pin_by_seat seats pin s d at is =
-    let there : slice_get (map member_of seats) pin.device ≡ Some (member_of s) = slice_get-map member_of seats pin.device ∙ ap (option_map member_of) at in
+    let there : slice_get (map held_of seats) pin.device ≡ Some (held_of s) = slice_get-map held_of seats pin.device ∙ ap (option_map held_of) at in
     is ∙ sym (ap (λ (o : Option Member). unwrap_or (option_map (λ (m : Member). drive m pin.port) o) Nothing) there)
 
 pub seat_of : (n : ℕ) (pins : List Pin) (i : ℕ) (x : Pin) → AreSeated n pins → slice_get pins i ≡ Some x → x.device < n

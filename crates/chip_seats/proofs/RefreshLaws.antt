@@ -1,6 +1,8 @@
 -- What a refresh of the pins that a cell drives does, slot by slot and block by block.
 use Rattle.std.proofs.Common.{◌≡◌, ◌≢◌, ◌<◌, ◌≤◌, ◌+◌, ◌*◌, ℕ, zero, suc, Bool, true, false, ◌&&◌, not, List, length, map, replicate, set, slice_get, slice_index, Some, refl, sym, ap, subst, ◌∙◌, arith, ⊎_elim}
-use Rattle.std.specs.List.{Contains}
+use Rattle.std.specs.BTreeSet.{BTreeSet, contains_by}
+use Rattle.std.specs.List.{Contains, list_any}
+use Rattle.std.specs.Ordering.{nat_cmp}
 use Rattle.std.proofs.lemmas.Bool.{cases_eq}
 use Rattle.std.proofs.lemmas.List.{length-map}
 use Rattle.std.proofs.lemmas.Option.{get_or_from_slice_get, none-some, same_Some, slice_get-get_or, slice_get_within}
@@ -15,11 +17,13 @@ use Rattle.board_meaning.specs.Cells.{Member}
 use Rattle.board_meaning.specs.Nets.{pin_drive}
 use Rattle.chip_seats.specs.Blocks.{AreParts, AreSlots, IsSlot, TellsBlock, slot_of, stands}
 use Rattle.chip_seats.specs.Driving.{cells_of, driving_from}
-use Rattle.chip_seats.specs.Seats.{SeatValue, member_of}
-use Rattle.chip_seats.specs.Tables.{AreSeatedPins, AreTargeted, IsRefreshed, IsTable, IsTargeted, Settled, Settles, SlotsSettled, WasPut, WerePut, targets}
+use Rattle.chip_seats.specs.Seats.{SeatValue, held_of}
+use Rattle.chip_seats.specs.Tables.{AreSeatedPins, AreTargeted, IsApart, IsRefreshed, IsTable, IsTargeted, Settled, Settles, SlotsSettled, WasPut, WerePut, targets}
+use Rattle.chip_seats.specs.Strings.{puts}
 use Rattle.chip_seats.specs.declared.driving.Block.{Block}
 use Rattle.chip_seats.specs.declared.driving.DrivingPin.{DrivingPin}
 use Rattle.chip_seats.specs.DrivingTable.{DrivingTable}
+use Rattle.chip_seats.specs.declared.strings.WiredString.{WiredString}
 use Rattle.boundary.proofs.MaskLaws.{zero_bit}
 use Rattle.chip_seats.proofs.BlockLaws.{no, stood}
 use Rattle.chip_seats.proofs.DrivingLaws.{entry_of_pin, seats_cells}
@@ -113,7 +117,7 @@ module _ (seats : List SeatValue) (nets : List Net) where
   entries = driving_from its-cells 0 (all_pins nets)
 
   abbrev its-members : List Member
-  its-members = map member_of seats
+  its-members = map held_of seats
 
   pub targeted : (e : DrivingPin) → Contains entries e → IsTargeted its-members (targets seats nets) e
   targeted e has =
@@ -127,7 +131,7 @@ module _ (seats : List SeatValue) (nets : List Net) where
   table_targeted d t i b at =
       let block = t.slots.within i b at in
       record {
-        device = omega (arith, block.device, length-map seats cells_of, length-map seats member_of);
+        device = omega (arith, block.device, length-map seats cells_of, length-map seats held_of);
         first = block.first;
         slots = record {
           each = λ j h marked. (targeted (slot_of d.pins i b j) (t.parts.first (slot_of d.pins i b j) (t.slots.each i j b at h marked))).pin;
@@ -165,25 +169,36 @@ module _ (seats : List SeatValue) (nets : List Net) where
           ∙ ap Some ((r.tells p kept).each j h masked);
     }
 
-    pub all_after : (before : List SeatValue) → map cells_of before ≡ its-cells → Settles (targets seats nets) (map (pin_drive (map member_of before)) (all_pins nets)) after
+    pub all_after : (before : List SeatValue) → map cells_of before ≡ its-cells → Settles (targets seats nets) (map (pin_drive (map held_of before)) (all_pins nets)) after
         → after ≡ targets seats nets
     all_after before same whole =
-        all_settled its-cells its-members (map member_of before) (seats_cells seats) (seats_cells before ∙ same) (all_pins nets) after whole entries_settled
+        all_settled its-cells its-members (map held_of before) (seats_cells seats) (seats_cells before ∙ same) (all_pins nets) after whole entries_settled
 
 -- ---- the table as it is made
 
 pub all_seated : (seats : List SeatValue) (nets : List Net) → AreSeatedPins (length seats) (entries seats nets)
-all_seated seats nets = λ e has. omega (arith, (targeted seats nets e has).device, length-map seats member_of)
+all_seated seats nets = λ e has. omega (arith, (targeted seats nets e has).device, length-map seats held_of)
+
+-- the pins of a division that go into blocks stand there
+pub slots_made : (driving plain given : List DrivingPin) (n : ℕ) (d : DrivingTable) → AreParts driving plain d.rest
+    → given ≡ plain → ((m : ℕ) → AreSeatedPins m given → AreSlots given m d.blocks d.pins) → AreSeatedPins n driving
+    → AreSlots plain n d.blocks d.pins
+slots_made driving plain given n d parts is slots seated =
+    let below : AreSeatedPins n given = λ e has. seated e (parts.first e (subst (λ (l : List DrivingPin). Contains l e) is has)) in
+    subst (λ (l : List DrivingPin). AreSlots l n d.blocks d.pins) is (slots n below)
 
 pub table_made : (driving plain given : List DrivingPin) (n : ℕ) (d : DrivingTable) → AreParts driving plain d.rest
     → given ≡ plain → ((m : ℕ) → AreSeatedPins m given → AreSlots given m d.blocks d.pins) → AreSeatedPins n driving → IsTable driving n d
 table_made driving plain given n d parts is slots seated =
-    let below : AreSeatedPins n given = λ e has. seated e (parts.first e (subst (λ (l : List DrivingPin). Contains l e) is has)) in
-    record {
-      plain = plain;
-      slots = subst (λ (l : List DrivingPin). AreSlots l n d.blocks d.pins) is (slots n below);
-      parts = parts;
-    }
+    record { plain = plain; slots = slots_made driving plain given n d parts is slots seated; parts = parts }
+
+-- no pin of a block is one that a string puts
+pub slots_apart : (strings : List WiredString) (taken : BTreeSet ℕ) (close : List DrivingPin) (n : ℕ) (d : DrivingTable) → AreSlots close n d.blocks d.pins
+    → ((k : ℕ) → contains_by (nat_cmp k) taken ≡ list_any (puts k) strings)
+    → ((e : DrivingPin) → Contains close e → contains_by (nat_cmp e.pin) taken ≡ false) → IsApart strings d
+slots_apart strings taken close n d slots tells alone = record {
+  each = λ i j b at within slot. sym (tells (slice_index d.pins (64 * i + j))) ∙ alone (slot_of d.pins i b j) (slots.each i j b at within slot);
+}
 
 repeated : (n : ℕ) (x p : PlainCells) (i : ℕ) → slice_get (replicate n x) i ≡ Some p → x ≡ p
 repeated zero x p i at = absurd (none-some p at)

@@ -12,7 +12,7 @@ use Rattle.board_plan.specs.Planned.{all_pins}
 use Rattle.board_meaning.specs.Cells.{Member}
 use Rattle.board_meaning.specs.Nets.{pin_drive}
 use Rattle.chip_seats.specs.Driving.{driver_of, driving_from}
-use Rattle.chip_seats.specs.Seats.{SeatValue, member_of}
+use Rattle.chip_seats.specs.Seats.{SeatValue, held_of}
 use Rattle.chip_seats.specs.Tables.{Settled, Settles, targets}
 use Rattle.chip_seats.specs.declared.driving.DrivingPin.{DrivingPin}
 use Rattle.chip_seats.proofs.DrivingLaws.{HasEntry, member-cells, pin_cases, undriven}
@@ -41,10 +41,10 @@ put_settled target ds es k d is aims long =
 -- a pin that is to drive something is one of the nets'
 pub target_within : (seats : List SeatValue) (nets : List Net) (k : ℕ) (d : Drive) → slice_get (targets seats nets) k ≡ Some d → k < length (all_pins nets)
 target_within seats nets k d aims =
-    omega (arith, slice_get_within (targets seats nets) k d aims, length-map (all_pins nets) (pin_drive (map member_of seats)))
+    omega (arith, slice_get_within (targets seats nets) k d aims, length-map (all_pins nets) (pin_drive (map held_of seats)))
 
 pub targets_long : (seats : List SeatValue) (nets : List Net) → length (targets seats nets) ≡ length (all_pins nets)
-targets_long seats nets = length-map (all_pins nets) (pin_drive (map member_of seats))
+targets_long seats nets = length-map (all_pins nets) (pin_drive (map held_of seats))
 
 -- ---- all of them
 

@@ -11,7 +11,7 @@ use Rattle.pin_nets.specs.Levels.{level_of, pull_drive, reads}
 use Rattle.pin_nets.specs.Wired.{Net, joins}
 use Rattle.boundary.specs.Masks.{SeesSighted, is_sighted}
 use Rattle.board_meaning.specs.Cells.{Member, drive}
-use Rattle.board_meaning.specs.Nets.{level, lone_net, pin_drive, sees}
+use Rattle.board_meaning.specs.Nets.{level_under, lone_net, pin_drive, sees_under}
 use Rattle.board_plan.specs.CellNets.{first_net}
 use Rattle.board_wiring.specs.Wires.{WiringValue}
 
@@ -56,25 +56,25 @@ abbrev shown : (Pin → Drive) → Net → Level
 shown f n = level_of (pull_drive n.pull ∷ map f n.pins)
 
 pub seen_on_net : (w : WiringValue) (place port net : ℕ) (ms : List Member) (b : Bool)
-    → option_map (λ n. reads (shown (pin_drive ms) n)) (slice_get w.nets net) ≡ Some b → first_net place port 0 w.nets ≡ Some net → b ≡ sees w.nets ms place port
+    → option_map (λ n. reads (shown (pin_drive ms) n)) (slice_get w.nets net) ≡ Some b → first_net place port 0 w.nets ≡ Some net → b ≡ sees_under w.nets ms place port
 seen_on_net w place port net ms b is first =
     let r = first-found place port 0 net w.nets first in
     let there : found place port w.nets ≡ slice_get w.nets net = let same : r.at ≡ net = omega (arith, r.is) in r.there ∙ ap (slice_get w.nets) same in
     by (slice_get w.nets net) refl there
   where
-    by : (o : Option Net) → slice_get w.nets net ≡ o → found place port w.nets ≡ slice_get w.nets net → b ≡ sees w.nets ms place port
+    by : (o : Option Net) → slice_get w.nets net ≡ o → found place port w.nets ≡ slice_get w.nets net → b ≡ sees_under w.nets ms place port
     by None at there = absurd (none-some _ (sym (ap (option_map (λ n. reads (shown (pin_drive ms) n))) at) ∙ is))
     by (Some x) at there =
-        let seen-is : reads (level ms x) ≡ b = ap (λ (o : Option Bool). unwrap_or o b) (sym (ap (option_map (λ n. reads (shown (pin_drive ms) n))) at) ∙ is) in
-        sym seen-is ∙ sym (ap (λ (o : Option Net). reads (level ms (unwrap_or o (lone_net place port)))) (there ∙ at))
+        let seen-is : reads (level_under ms x) ≡ b = ap (λ (o : Option Bool). unwrap_or o b) (sym (ap (option_map (λ n. reads (shown (pin_drive ms) n))) at) ∙ is) in
+        sym seen-is ∙ sym (ap (λ (o : Option Net). reads (level_under ms (unwrap_or o (lone_net place port)))) (there ∙ at))
 
 pub seen_alone : (w : WiringValue) (place port : ℕ) (ms : List Member) (m : Member) (d : Drive)
-    → slice_get ms place ≡ Some m → d ≡ drive m port → first_net place port 0 w.nets ≡ None → reads (level_of (Nothing ∷ d ∷ [])) ≡ sees w.nets ms place port
+    → slice_get ms place ≡ Some m → d ≡ drive m port → first_net place port 0 w.nets ≡ None → reads (level_of (Nothing ∷ d ∷ [])) ≡ sees_under w.nets ms place port
 seen_alone w place port ms m d at is first =
     let own : pin_drive ms (record { device = place; port = port }) ≡ d =
     ap (λ (o : Option Member). unwrap_or (option_map (λ (x : Member). drive x port) o) Nothing) at ∙ sym is in
     sym (ap (λ (x : Drive). reads (level_of (Nothing ∷ x ∷ []))) own)
-    ∙ sym (ap (λ (o : Option Net). reads (level ms (unwrap_or o (lone_net place port)))) (none-found place port 0 w.nets first))
+    ∙ sym (ap (λ (o : Option Net). reads (level_under ms (unwrap_or o (lone_net place port)))) (none-found place port 0 w.nets first))
 
 -- ---- all cells
 

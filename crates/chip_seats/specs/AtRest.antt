@@ -30,6 +30,8 @@ pub record IsPutInto (column : Column) (bits : List Bool) (s t : SeatValue) : Ty
   pub chip : IsPut (λ (b : BoundaryValue). b.stage) (λ (b : BoundaryValue). b.update)
       (λ (b : BoundaryValue) stage update. record b { stage = stage; update = update }) column bits s.chip t.chip
   pub name : t.name ≡ s.name
+  pub constants : t.constants ≡ s.constants
+  pub follows : t.follows ≡ s.follows
   pub nets : t.nets ≡ s.nets
 
 -- what a device has already changes nothing
@@ -38,6 +40,8 @@ puts_nothing s column = record {
   chip = put_nothing (λ (b : BoundaryValue). b.stage) (λ (b : BoundaryValue). b.update)
       (λ (b : BoundaryValue) stage update. record b { stage = stage; update = update }) (λ b. refl) s.chip column;
   name = refl;
+  constants = refl;
+  follows = refl;
   nets = refl;
 }
 
@@ -49,5 +53,7 @@ puts_both a b c column s t first second = record {
       (λ (b : BoundaryValue) stage update. record b { stage = stage; update = update }) (λ b s u t v. refl)
       a.chip b.chip c.chip column s t first.chip second.chip;
   name = second.name ∙ first.name;
+  constants = second.constants ∙ first.constants;
+  follows = second.follows ∙ first.follows;
   nets = second.nets ∙ first.nets;
 }

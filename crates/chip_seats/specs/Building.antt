@@ -15,6 +15,8 @@ abbrev pub seat_of : List (Option ℕ) → planned.Member → SeatValue
 seat_of nets m = record {
   name = m.name;
   chip = powered m.device (cells.powered m.device.cells m.core m.extest_update);
+  constants = m.core;
+  follows = m.follows;
   nets = nets;
 }
 

@@ -7,4 +7,6 @@ pub mod Sighted
 pub mod Driving
 pub mod Blocks
 pub mod DrivingTable
+pub mod Strings
+pub mod Planning
 pub mod Tables

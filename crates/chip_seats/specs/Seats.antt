@@ -14,13 +14,18 @@ use Rattle.device_instructions.specs.declared.Selected.TheVariants.{Boundary}
 use Rattle.scan_registers.specs.Chips.{ChipValue, registers}
 use Rattle.device_instructions.specs.Instruction.{meaning}
 use Rattle.boundary.specs.Cells.{BoundaryValue, IsWhole}
+use Rattle.pin_nets.specs.declared.Follow.{Follow}
 use Rattle.boundary.specs.Masks.{SeesSighted}
-use Rattle.board_meaning.specs.Cells.{Member, drive}
+use Rattle.board_meaning.specs.Cells.{Member, Told, drive}
 use Rattle.board_meaning.specs.Chain.{ChipState}
 
 pub record SeatValue : Type 0 where
   pub name : List ℕ
   pub chip : ChipValue BoundaryValue
+  -- its core's constant bits, one a cell
+  pub constants : List Bool
+  -- the strings that its core follows
+  pub follows : List Follow
   -- of each cell the net that its port is on, if it has a port and that is on a net
   pub nets : List (Option ℕ)
 
@@ -29,10 +34,19 @@ abbrev pub member_of : SeatValue → Member
 member_of s = record {
   name = s.name;
   device = s.chip.device;
-  core = s.chip.boundary.core;
+  core = s.constants;
+  follows = s.follows;
   extest_update = s.chip.boundary.extest_update;
   registers = registers (λ b. b.stage) (λ b. b.update) s.chip;
 }
+
+-- the same with the core bits that its boundary holds: by these its pins drive
+abbrev pub held_of : SeatValue → Member
+held_of s = record (member_of s) { core = s.chip.boundary.core }
+
+-- what a device that sees this is told at an edge: of core bits those that its boundary holds
+abbrev pub told_by : (ℕ → Bool) → SeatValue → Told
+told_by sees s = record { sight = sees; core = s.chip.boundary.core }
 
 abbrev pub chip_state : SeatValue → ChipState
 chip_state s = record { member = member_of s; state = s.chip.state; tdo = s.chip.tdo }
@@ -45,10 +59,13 @@ with_seen seen s = record s { chip = record s.chip { boundary = record s.chip.bo
 abbrev pub AreBelow : ℕ → List (Option ℕ) → Type 0
 AreBelow n nets = (k net : ℕ) → slice_get nets k ≡ Some (Some net) → net < n
 
--- What no edge changes: the name, the description, the core, and what the device is wired to.
+-- What no edge changes: the name, the description, the core's constants and strings and the core bits that the boundary
+-- holds, and what the device is wired to.
 pub record IsKept (old new : SeatValue) : Type 0 where
   pub name : new.name ≡ old.name
   pub device : new.chip.device ≡ old.chip.device
+  pub constants : new.constants ≡ old.constants
+  pub follows : new.follows ≡ old.follows
   pub core : new.chip.boundary.core ≡ old.chip.boundary.core
   pub extest_update : new.chip.boundary.extest_update ≡ old.chip.boundary.extest_update
   pub nets : new.nets ≡ old.nets
@@ -79,6 +96,7 @@ falls_driving (Updates column) selected mode = updates_driving column selected m
 falls_driving Resets selected mode = true
 falls_driving _ selected mode = false
 
--- each port bit drives what it drove
+-- each port bit drives what it drove, whatever the core bits are
 abbrev pub DrivesStill : Member → Member → Type 0
-DrivesStill m after = (p : ℕ) → drive after p ≡ drive m p
+DrivesStill m after =
+    (core : List Bool) (p : ℕ) → drive (record after { core = core }) p ≡ drive (record m { core = core }) p

@@ -1,6 +1,6 @@
 -- The table of the pins that a cell drives, with what was last put to their nets, and what a refresh makes of it.
-use Rattle.std.specs.Prelude.{◌≡◌, ◌<◌, ◌+◌, ◌*◌, ◌%◌, true, ℕ, List, map, length, slice_get, slice_index, Some}
-use Rattle.std.specs.List.{Contains}
+use Rattle.std.specs.Prelude.{◌≡◌, ◌<◌, ◌+◌, ◌*◌, ◌%◌, true, false, ℕ, List, map, length, slice_get, slice_index, Some}
+use Rattle.std.specs.List.{Contains, list_any}
 use Rattle.jt_bits.specs.Packed.{has_bit}
 use Rattle.bsdl_device.specs.declared.Cell.{Cell}
 use Rattle.boundary.specs.declared.PlainCells.{PlainCells}
@@ -14,9 +14,11 @@ use Rattle.board_wiring.specs.Wires.{WiringValue}
 use Rattle.chip_seats.specs.Blocks.{AreParts, AreSlots, TellsBlock}
 use Rattle.chip_seats.specs.Driving.{driving_from, drives_at, entry_drives}
 use Rattle.chip_seats.specs.DrivingTable.{DrivingTable}
-use Rattle.chip_seats.specs.Seats.{SeatValue, member_of}
+use Rattle.chip_seats.specs.Seats.{SeatValue, held_of}
+use Rattle.chip_seats.specs.Strings.{puts}
 use Rattle.chip_seats.specs.declared.driving.Block.{Block}
 use Rattle.chip_seats.specs.declared.driving.DrivingPin.{DrivingPin}
+use Rattle.chip_seats.specs.declared.strings.WiredString.{WiredString}
 
 -- each of these pins is of one of so many devices
 abbrev pub AreSeatedPins : ℕ → List DrivingPin → Type 0
@@ -43,11 +45,16 @@ pub record IsDriving (cells : List (List Cell)) (w : WiringValue) (d : DrivingTa
   pub put : WerePut d.blocks d.pins d.put w.drives
   pub full : length w.drives ≡ length (all_pins w.nets)
 
+-- no string puts a pin that stands in a block
+pub record IsApart (strings : List WiredString) (d : DrivingTable) : Type 0 where
+  pub each : (i j : ℕ) (b : Block) → slice_get d.blocks i ≡ Some b → j < 64 → has_bit b.slots j ≡ true
+      → list_any (puts (slice_index d.pins (64 * i + j))) strings ≡ false
+
 -- ---- a refresh
 
 -- what the pins are to drive
 abbrev pub targets : List SeatValue → List Net → List Drive
-targets seats nets = map (pin_drive (map member_of seats)) (all_pins nets)
+targets seats nets = map (pin_drive (map held_of seats)) (all_pins nets)
 
 -- a pin drives what it is to drive
 abbrev pub Settled : (target drives : List Drive) → ℕ → Type 0

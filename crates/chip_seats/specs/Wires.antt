@@ -7,7 +7,7 @@ use Rattle.board_plan.specs.Planned.{all_pins}
 use Rattle.board_meaning.specs.Nets.{pin_drive}
 use Rattle.board_plan.specs.CellNets.{cell_net}
 use Rattle.board_wiring.specs.Wires.{WiringValue}
-use Rattle.chip_seats.specs.Seats.{SeatValue, member_of}
+use Rattle.chip_seats.specs.Seats.{SeatValue, held_of}
 
 -- each pin's device is one of so many
 abbrev pub AreSeated : ℕ → List Pin → Type 0
@@ -18,8 +18,9 @@ abbrev pub AreWired : List Net → ℕ → List SeatValue → Type 0
 AreWired nets place [] = Unit {0}
 AreWired nets place (s ∷ ss) = (s.nets ≡ map (cell_net nets place) s.chip.device.cells) × AreWired nets (suc place) ss
 
--- The one invariant of a board between two edges: what was put to the nets last is what each pin drives.
+-- The one invariant of a board between two edges: what was put to the nets last is what each pin drives, by the core
+-- bits that the boundaries hold.
 pub record IsWired (seats : List SeatValue) (w : WiringValue) : Type 0 where
-  pub drives : w.drives ≡ map (pin_drive (map member_of seats)) (all_pins w.nets)
+  pub drives : w.drives ≡ map (pin_drive (map held_of seats)) (all_pins w.nets)
   pub cells : AreWired w.nets 0 seats
   pub pins : AreSeated (length seats) (all_pins w.nets)

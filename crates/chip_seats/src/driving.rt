@@ -1,22 +1,28 @@
 //! The pins of a board that a cell drives, in a table of the cells.
 
-ghost use Rattle.std.specs.Prelude.{◌≡◌, ◌<◌, ◌+◌, ◌*◌, ◌%◌, ◌++◌, ℕ, List, [], ◌∷◌, map, length, IfOk, OnOk, true};
+ghost use Rattle.std.specs.Prelude.{◌≡◌, ◌<◌, ◌+◌, ◌*◌, ◌%◌, ◌++◌, ℕ, List, [], ◌∷◌, length, IfOk, OnOk, true, false};
+ghost use Rattle.std.specs.BTreeSet.{contains_by};
+ghost use Rattle.std.specs.List.{Contains, list_any};
+ghost use Rattle.std.specs.Ordering.{nat_cmp};
 ghost use Rattle.boundary.specs.Cells.{driver_from};
 ghost use Rattle.board_plan.specs.Planned.{all_pins};
 ghost use Rattle.chip_seats.specs.Blocks.{AreParts, AreSlots, HasRoom};
 ghost use Rattle.chip_seats.specs.Driving.{driving_of, with_driving};
-ghost use Rattle.chip_seats.specs.Tables.{IsTable, WerePut, AreSeatedPins};
+ghost use Rattle.chip_seats.specs.Strings.{puts};
+ghost use Rattle.chip_seats.specs.Tables.{AreSeatedPins, IsApart, IsTable, WerePut};
 ghost use Rattle.chip_seats.specs.Wires.{AreSeated};
 ghost use Rattle.chip_seats.specs.declared.driving.DrivingPin.{DrivingPin as Entry};
 ghost use Rattle.pin_nets.specs.declared.Drive.{Drive};
 
 use crate::block_numbers::BlockNumbers;
 use crate::seat::Seat;
+use crate::strings::WiredString;
 use crate::words::{bit, with_bit};
 use board_wiring::Wiring;
 use boundary::PlainCells;
 use bsdl_device::Cell;
 use std::alloc::{AllocError, Global};
+use std::collections::BTreeSet;
 use std::marker::Model;
 
 /// A pin of a board, by its number, that a cell drives: the place of its device, and the cell.
@@ -68,21 +74,25 @@ const NO_CELLS: PlainCells = PlainCells { mask: 0, bits: 0 };
 /// So many pins among 64 cells make a block. For fewer it takes longer to look for them than to ask each cell.
 const BLOCK_PINS: usize = 8;
 
-/// The pins that a cell drives, to whose nets nothing is known to have been put. Refused where memory runs out.
+/// The pins that a cell drives, to whose nets nothing is known to have been put. Those that strings put stand in no
+/// block, since a string puts them anew whatever was put there last. Refused where memory runs out.
 pub fn driving_pins(
     alloc: Global,
     wiring: &Wiring,
     seats: &[Seat],
+    strings: &[WiredString],
 ) -> Result<DrivingPins, AllocError>
     requires { AreSeated (length seats.now) (all_pins wiring.now.nets) }
     ensures table { IfOk result (λ d. IsTable (driving_of seats.now wiring.now.nets) (length seats.now) d) }
     ensures put { IfOk result (λ d. (drives : List Drive) → WerePut d.blocks d.pins d.put drives) }
+    ensures apart { IfOk result (λ d. IsApart strings.now d) }
 {
     let all = all_driving(alloc, wiring, seats)?;
     let counts = block_counts(alloc, seats, &all)?;
+    let taken = pins_of_strings(alloc, strings)?;
     let mut close = Vec::new(alloc);
     let mut rest = Vec::new(alloc);
-    divide(seats, &counts, &all, &mut close, &mut rest)?;
+    divide(seats, &counts, &taken, &all, &mut close, &mut rest)?;
     let places = BlockNumbers::zeros(alloc, seats, &close)?;
     let (blocks, pins) = blocks_of(alloc, places, &close)?;
     let put = Vec::from_elem(alloc, NO_CELLS, blocks.len())?;
@@ -142,20 +152,36 @@ fn block_counts(
     Ok(counts)
 }
 
-/// The pins that stand in blocks, and those that go one by one.
+/// The pins that strings put, by their numbers.
+fn pins_of_strings(alloc: Global, strings: &[WiredString]) -> Result<BTreeSet<usize>, AllocError>
+    ensures { IfOk result (λ taken. (k : ℕ) → contains_by (nat_cmp k) taken ≡ list_any (puts k) strings.now) }
+{
+    let mut taken = BTreeSet::new(alloc);
+    for string in strings {
+        if let Some(pin) = string.pin {
+            taken.insert(pin)?;
+        }
+    }
+    Ok(taken)
+}
+
+/// The pins that stand in blocks, none of them one that a string puts, and those that go one by one.
 fn divide(
     seats: &[Seat],
     counts: &BlockNumbers,
+    taken: &BTreeSet<usize>,
     all: &[DrivingPin],
     close: &mut Vec<DrivingPin>,
     rest: &mut Vec<DrivingPin>,
 ) -> Result<(), AllocError>
     requires close { close.old.items ≡ [] }
     requires rest { rest.old.items ≡ [] }
-    ensures { OnOk result (AreParts all.now close.new.items rest.new.items) }
+    ensures parts { OnOk result (AreParts all.now close.new.items rest.new.items) }
+    ensures apart { OnOk result ((e : Entry) → Contains close.new.items e
+        → contains_by (nat_cmp e.pin) taken.now ≡ false) }
 {
     for it in all {
-        if goes_alone(seats, counts, *it) {
+        if goes_alone(seats, counts, taken, *it) {
             rest.push(*it)?;
         } else {
             close.push(*it)?;
@@ -164,10 +190,17 @@ fn divide(
     Ok(())
 }
 
-/// Whether the cell of a pin has a control, or fewer of its 64 drive pins than make a block. Both kinds are put to
-/// their nets alike, so no clause says which is which.
-fn goes_alone(seats: &[Seat], counts: &BlockNumbers, it: DrivingPin) -> bool {
-    counts.number(it) < BLOCK_PINS || has_control(seats, it)
+/// Whether a string puts a pin, its cell has a control, or fewer of its 64 drive pins than make a block. All are put to
+/// their nets alike, so no clause says which is which, but that those that strings put are among them.
+fn goes_alone(
+    seats: &[Seat],
+    counts: &BlockNumbers,
+    taken: &BTreeSet<usize>,
+    it: DrivingPin,
+) -> bool
+    ensures { result ≡ false → contains_by (nat_cmp it.pin) taken.now ≡ false }
+{
+    taken.contains(&it.pin) || counts.number(it) < BLOCK_PINS || has_control(seats, it)
 }
 
 /// Whether what the cell of a pin drives hangs on another.

@@ -5,14 +5,18 @@
 mod block_numbers;
 mod build;
 mod driving;
+mod planning;
 mod refreshing;
 mod seat;
 mod sighted;
+mod strings;
 mod wires;
 mod words;
 
 pub use build::all_seats;
 pub use driving::{DrivingPins, driving_pins};
+pub use planning::wired_strings;
 pub use refreshing::refresh_driving;
 pub use seat::Seat;
+pub use strings::{WiredString, settle};
 pub use wires::refresh;

@@ -1,13 +1,13 @@
 //! What the pins that a cell drives drive is put to their nets, where it has changed.
 
 ghost use Rattle.std.specs.Prelude.{◌≡◌, ◌<◌, ◌≤◌, ◌+◌, ◌*◌, ◌%◌, ◌&&◌, not, ℕ, List, Some, map, length, slice_get};
-ghost use Rattle.std.specs.Prelude.{slice_index, slice_set, true};
+ghost use Rattle.std.specs.Prelude.{slice_set};
 ghost use Rattle.jt_bits.specs.Packed.{has_bit};
 ghost use Rattle.board_plan.specs.Planned.{all_pins};
 ghost use Rattle.board_meaning.specs.Nets.{pin_drive};
 ghost use Rattle.chip_seats.specs.Blocks.{TellsBlock, stands};
 ghost use Rattle.chip_seats.specs.Driving.{cells_of, drives_at, entry_drives};
-ghost use Rattle.chip_seats.specs.Seats.{SeatValue, member_of};
+ghost use Rattle.chip_seats.specs.Seats.{SeatValue, held_of};
 ghost use Rattle.chip_seats.specs.Tables.{AreTargeted, IsDriving, IsRefreshed, SlotsSettled, HasTargets, WerePut};
 ghost use Rattle.chip_seats.specs.Tables.{Settled, Settles, IsTargeted, WasPut, targets};
 ghost use Rattle.chip_seats.specs.declared.driving.Block.{Block as TheBlock};
@@ -29,10 +29,11 @@ pub fn refresh_driving(wiring: &mut Wiring, seats: &[Seat], driving: &mut Drivin
     requires { IsDriving (map cells_of seats.now) wiring.old driving.old }
     ensures nets { wiring.new.nets ≡ wiring.old.nets }
     ensures driving { IsDriving (map cells_of seats.now) wiring.new driving.new }
+    ensures table { driving.new ≡ record driving.old { put = driving.new.put } }
     ensures drives { (before : List SeatValue) → map cells_of before ≡ map cells_of seats.now
-        → wiring.old.drives ≡ map (pin_drive (map member_of before)) (all_pins wiring.old.nets)
+        → wiring.old.drives ≡ map (pin_drive (map held_of before)) (all_pins wiring.old.nets)
         → wiring.new ≡ record wiring.old {
-          drives = map (pin_drive (map member_of seats.now))
+          drives = map (pin_drive (map held_of seats.now))
               (all_pins wiring.old.nets);
         } }
 {
@@ -57,13 +58,13 @@ fn refresh_blocks(
     requires full { length wiring.old.drives ≡ length (all_pins wiring.old.nets) }
     requires long { length pins.now ≡ 64 * length blocks.now }
     requires slots { (i : ℕ) (b : TheBlock) → slice_get blocks.now i ≡ Some b
-        → AreTargeted (map member_of seats.now) (targets seats.now wiring.old.nets) pins.now (64 * i) b }
+        → AreTargeted (map held_of seats.now) (targets seats.now wiring.old.nets) pins.now (64 * i) b }
     requires put { WerePut blocks.now pins.now put.old wiring.old.drives }
     ensures nets { wiring.new.nets ≡ wiring.old.nets }
     ensures settles { Settles (targets seats.now wiring.old.nets) wiring.old.drives wiring.new.drives }
     ensures long { length put.new ≡ length put.old }
     ensures blocks { (i : ℕ) (b : TheBlock) → slice_get blocks.now i ≡ Some b
-        → IsRefreshed (map member_of seats.now) (targets seats.now wiring.old.nets) wiring.new.drives pins.now put.new i
+        → IsRefreshed (map held_of seats.now) (targets seats.now wiring.old.nets) wiring.new.drives pins.now put.new i
         b }
 {
     for i in 0..blocks.len() {
@@ -83,13 +84,13 @@ fn refresh_block(
 ) -> PlainCells
     requires full { length wiring.old.drives ≡ length (all_pins wiring.old.nets) }
     requires room { at + 64 ≤ length pins.now }
-    requires slots { AreTargeted (map member_of seats.now) (targets seats.now wiring.old.nets) pins.now at block }
-    requires put { WasPut (map member_of seats.now) (targets seats.now wiring.old.nets) wiring.old.drives pins.now at
+    requires slots { AreTargeted (map held_of seats.now) (targets seats.now wiring.old.nets) pins.now at block }
+    requires put { WasPut (map held_of seats.now) (targets seats.now wiring.old.nets) wiring.old.drives pins.now at
         block put }
     ensures nets { wiring.new.nets ≡ wiring.old.nets }
     ensures settles { Settles (targets seats.now wiring.old.nets) wiring.old.drives wiring.new.drives }
     ensures settled { SlotsSettled (targets seats.now wiring.old.nets) wiring.new.drives pins.now at block.slots }
-    ensures tells { TellsBlock (map member_of seats.now) block result }
+    ensures tells { TellsBlock (map held_of seats.now) block result }
 {
     let now = seats[block.device].plain_cells(block.first);
     let changed = changed_slots(block.slots, put, now);
@@ -119,8 +120,8 @@ fn put_slots(
     requires room { at + 64 ≤ length pins.now }
     requires device { block.device < length seats.now }
     requires first { block.first % 64 ≡ 0 }
-    requires now { TellsBlock (map member_of seats.now) block now }
-    requires slots { HasTargets (map member_of seats.now) (targets seats.now wiring.old.nets) pins.now at block slots }
+    requires now { TellsBlock (map held_of seats.now) block now }
+    requires slots { HasTargets (map held_of seats.now) (targets seats.now wiring.old.nets) pins.now at block slots }
     ensures nets { wiring.new.nets ≡ wiring.old.nets }
     ensures settles { Settles (targets seats.now wiring.old.nets) wiring.old.drives wiring.new.drives }
     ensures settled { SlotsSettled (targets seats.now wiring.old.nets) wiring.new.drives pins.now at slots }
@@ -139,8 +140,8 @@ fn drive_in(seats: &[Seat], block: Block, now: PlainCells, j: usize) -> Drive
     requires within { j < 64 }
     requires device { block.device < length seats.now }
     requires first { block.first % 64 ≡ 0 }
-    requires now { TellsBlock (map member_of seats.now) block now }
-    ensures { result ≡ drives_at (map member_of seats.now) block.device (block.first + j) }
+    requires now { TellsBlock (map held_of seats.now) block now }
+    ensures { result ≡ drives_at (map held_of seats.now) block.device (block.first + j) }
 {
     if bit(now.mask, j) {
         return Drive::Strong(bit(now.bits, j));
@@ -152,7 +153,7 @@ fn drive_in(seats: &[Seat], block: Block, now: PlainCells, j: usize) -> Drive
 fn refresh_rest(wiring: &mut Wiring, seats: &[Seat], rest: &[DrivingPin])
     requires full { length wiring.old.drives ≡ length (all_pins wiring.old.nets) }
     requires rest { (k : ℕ) (e : Entry) → slice_get rest.now k ≡ Some e
-        → IsTargeted (map member_of seats.now) (targets seats.now wiring.old.nets) e }
+        → IsTargeted (map held_of seats.now) (targets seats.now wiring.old.nets) e }
     ensures nets { wiring.new.nets ≡ wiring.old.nets }
     ensures settles { Settles (targets seats.now wiring.old.nets) wiring.old.drives wiring.new.drives }
     ensures settled { (k : ℕ) (e : Entry) → slice_get rest.now k ≡ Some e
@@ -168,7 +169,7 @@ fn put_one(wiring: &mut Wiring, seats: &[Seat], it: DrivingPin)
     requires device { it.device < length seats.now }
     requires pin { it.pin < length (all_pins wiring.old.nets) }
     ensures { wiring.new ≡ record wiring.old {
-      drives = slice_set wiring.old.drives it.pin (entry_drives (map member_of seats.now) it);
+      drives = slice_set wiring.old.drives it.pin (entry_drives (map held_of seats.now) it);
     } }
 {
     wiring.place(it.pin, seats[it.device].driven(it.cell));

@@ -15,10 +15,11 @@ ghost use Rattle.board_meaning.specs.Cells as meant;
 ghost use Rattle.board_meaning.specs.Chain as chain;
 ghost use Rattle.chip_seats.specs.Building.{seat_of};
 ghost use Rattle.chip_seats.specs.Seats.{AreBelow, DrivesStill, IsKept, IsSighted, captures_boundary, chip_state};
-ghost use Rattle.chip_seats.specs.Seats.{falls_driving, member_of, with_seen};
+ghost use Rattle.chip_seats.specs.Seats.{falls_driving, held_of, member_of, told_by, with_seen};
 ghost use Rattle.chip_seats.specs.Blocks.{TellsOwn};
 ghost use Rattle.chip_seats.specs.Driving.{cell_drives};
 ghost use Rattle.chip_seats.specs.Sighted.{IsBelow, sighted_of};
+ghost use Rattle.chip_seats.specs.Strings.{with_core};
 ghost use Rattle.chip_seats.specs.Telling.{IsAt, TellsAll, sight};
 
 mod at_rest;
@@ -31,6 +32,7 @@ use boundary::{Boundary, Drive, PlainCells, drivers};
 use bsdl_device::Device;
 use jt_bits::Bits;
 use jt_tap::{Column, State, Work};
+use pin_nets::Follow;
 use scan_registers::{Chip, Selected};
 use std::alloc::{AllocError, Global};
 use std::marker::Model;
@@ -41,6 +43,10 @@ use std::marker::Model;
 pub struct Seat {
     name: String,
     chip: Chip<Boundary>,
+    /// The bits of its core where no string is for them, one a cell.
+    constants: Bits,
+    /// The strings that its core follows.
+    follows: Vec<Follow>,
     /// Of each cell the net that its port is on.
     nets: Vec<Option<usize>>,
     /// Of each port bit the cell that drives it.
@@ -57,7 +63,13 @@ impl Model for Seat {
 
     ghost Value = { SeatValue };
 
-    ghost view = { λ s. record { name = string_bytes s.name; chip = s.chip; nets = s.nets.items } };
+    ghost view = { λ s. record {
+      name = string_bytes s.name;
+      chip = s.chip;
+      constants = s.constants;
+      follows = s.follows.items;
+      nets = s.nets.items;
+    } };
 
     ghost invariant = { λ s. record {
       cells : s.chip.boundary.cells ≡ s.chip.device.cells;
@@ -88,6 +100,8 @@ impl Seat {
         Ok(Seat {
             name,
             chip,
+            constants: device.core.try_clone(alloc)?,
+            follows: device.follows.to_vec(alloc)?,
             nets,
             drivers,
             sighted,
@@ -183,7 +197,7 @@ impl Seat {
 
     /// What a port bit drives.
     pub(crate) fn drive(&self, port: usize) -> Drive
-        ensures { result ≡ meant.drive (member_of self.now) port }
+        ensures { result ≡ meant.drive (held_of self.now) port }
     {
         self.chip
             .boundary()
@@ -203,14 +217,14 @@ impl Seat {
 
     /// What a cell drives its port with.
     pub(crate) fn driven(&self, cell: usize) -> Drive
-        ensures { result ≡ cell_drives (member_of self.now) cell }
+        ensures { result ≡ cell_drives (held_of self.now) cell }
     {
         self.chip.boundary().driven(Some(cell), self.chip.mode())
     }
 
     /// Of the 64 cells from `first` on those that drive their ports with their own bits, and these bits.
     pub(crate) fn plain_cells(&self, first: usize) -> PlainCells
-        ensures { TellsOwn (member_of self.now) first result }
+        ensures { TellsOwn (held_of self.now) first result }
     {
         self.chip.boundary().plain_cells(first, self.chip.mode())
     }
@@ -252,9 +266,9 @@ impl Seat {
         ensures long { length self.new.chip.boundary.seen ≡ length self.old.chip.boundary.seen }
         ensures others { (j : ℕ) → j ≢ it.cell
             → slice_get self.new.chip.boundary.seen j ≡ slice_get self.old.chip.boundary.seen j }
-        ensures told { (place : ℕ) (ms : List Member) → IsAt wiring.now place ms self.old
+        ensures told { (place : ℕ) (held : List Member) → IsAt wiring.now place held self.old
             → it.net ≡ first_net place it.port 0 wiring.now.nets
-            → slice_get self.new.chip.boundary.seen it.cell ≡ Some (sight wiring.now ms place it.port) }
+            → slice_get self.new.chip.boundary.seen it.cell ≡ Some (sight wiring.now held place it.port) }
     {
         // That each list of the boundary has a bit for each cell.
         let _ = self.chip.boundary().cells();
@@ -263,11 +277,11 @@ impl Seat {
     }
 
     /// What a port on this net sees; one on none is a net by itself.
-    fn sight(&self, net: Option<usize>, port: usize, wiring: &Wiring) -> bool
+    pub(crate) fn sight(&self, net: Option<usize>, port: usize, wiring: &Wiring) -> bool
         requires { IsBelow (length wiring.now.nets) net }
-        ensures { (place : ℕ) (ms : List Member) → IsAt wiring.now place ms self.now
+        ensures { (place : ℕ) (held : List Member) → IsAt wiring.now place held self.now
             → net ≡ first_net place port 0 wiring.now.nets
-            → result ≡ sight wiring.now ms place port }
+            → result ≡ sight wiring.now held place port }
     {
         match net {
             Some(net) => wiring.seen(net),
@@ -288,14 +302,14 @@ impl Seat {
         }
     }
 
-    /// A rising edge: the boundary register captures the levels before the edge.
+    /// A rising edge: the boundary register captures the levels before the edge, and the core bits that it holds.
     pub fn rise(&mut self, wiring: &Wiring, tms: bool, tdi: bool)
         requires below { AreBelow (length wiring.now.nets) self.old.nets }
         ensures kept { IsKept self.old self.new }
         ensures trst { self.new.chip.trst ≡ self.old.chip.trst }
-        ensures chip { (place : ℕ) (ms : List Member) → IsAt wiring.now place ms self.old
-            → chip_state self.new ≡ chain.rise self.old.chip.trst tms tdi (sight wiring.now ms place)
-            (chip_state self.old) }
+        ensures chip { (place : ℕ) (held : List Member) → IsAt wiring.now place held self.old
+            → chip_state self.new ≡ chain.rise self.old.chip.trst tms tdi
+            (told_by (sight wiring.now held place) self.old) (chip_state self.old) }
     {
         if self.captures_boundary() {
             self.tell(wiring);
@@ -308,7 +322,8 @@ impl Seat {
         ensures kept { IsKept self.old self.new }
         ensures trst { self.new.chip.trst ≡ self.old.chip.trst }
         ensures chip { (sees : ℕ → Bool) → IsSighted sees self.old
-            → chip_state self.new ≡ chain.rise self.old.chip.trst tms tdi sees (chip_state self.old) }
+            → chip_state self.new
+            ≡ chain.rise self.old.chip.trst tms tdi (told_by sees self.old) (chip_state self.old) }
     {
         self.chip.rise(tms, tdi);
     }
@@ -365,6 +380,16 @@ impl Seat {
             Work::Resets => true,
             _ => false,
         }
+    }
+
+    /// The core's bit of a cell is this one from now on.
+    pub(crate) fn set_core(&mut self, cell: usize, bit: bool)
+        requires { cell < length self.old.chip.device.cells }
+        ensures { self.new ≡ with_core self.old cell bit }
+    {
+        // That each list of the boundary has a bit for each cell.
+        let _ = self.chip.boundary().cells();
+        self.chip.set_core(cell, bit);
     }
 
     /// TRST is asserted or released.

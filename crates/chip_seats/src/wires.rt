@@ -3,7 +3,7 @@
 ghost use Rattle.std.specs.Prelude.{◌≡◌, map, length};
 ghost use Rattle.board_plan.specs.Planned.{all_pins};
 ghost use Rattle.board_meaning.specs.Nets.{pin_drive};
-ghost use Rattle.chip_seats.specs.Seats.{member_of};
+ghost use Rattle.chip_seats.specs.Seats.{held_of};
 ghost use Rattle.chip_seats.specs.Wires.{AreSeated};
 
 use crate::seat::Seat;
@@ -13,7 +13,7 @@ use board_wiring::Wiring;
 pub fn refresh(wiring: &mut Wiring, seats: &[Seat])
     requires { AreSeated (length seats.now) (all_pins wiring.old.nets) }
     ensures { wiring.new ≡ record wiring.old {
-      drives = map (pin_drive (map member_of seats.now))
+      drives = map (pin_drive (map held_of seats.now))
           (all_pins wiring.old.nets);
     } }
 {

@@ -55,6 +55,8 @@ impl Register for Plain {
 
     ghost saw = { λ p cell bit. p };
 
+    ghost cored = { λ p cell bit. p };
+
     fn len(&self) -> usize {
         self.stage.len()
     }
@@ -66,6 +68,8 @@ impl Register for Plain {
     fn see(&mut self, _cell: usize, _bit: bool) {
         let _ = &self.stage;
     }
+
+    fn set_core(&mut self, _cell: usize, _bit: bool) {}
 
     fn capture(&mut self, _mode: Mode) {
         self.stage.copy_from(&self.update);
@@ -112,6 +116,16 @@ impl Register for Plain {
     ghost sees_reset = { λ r cell bit. refl };
 
     ghost sees_parts = { λ r cell bit s u. refl };
+
+    ghost cores_stage = { λ r cell bit. refl };
+
+    ghost cores_update = { λ r cell bit. refl };
+
+    ghost cores_alone = { λ r cell bit mode i apart. refl };
+
+    ghost cores_reset = { λ r cell bit. refl };
+
+    ghost cores_parts = { λ r cell bit s u. refl };
 
     ghost captured_part = { λ r mode i. inr (λ s u e. refl) };
 }

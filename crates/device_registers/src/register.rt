@@ -29,6 +29,9 @@ pub trait Register: Drop {
     /// The same register when what a cell sees is this bit.
     ghost saw: { Self → ℕ → Bool → Self };
 
+    /// The same register when the core's bit of a cell is this bit.
+    ghost cored: { Self → ℕ → Bool → Self };
+
     /// How many cells it has.
     fn len(&self) -> usize
         ensures value { result ≡ length (stage self.now) }
@@ -45,6 +48,11 @@ pub trait Register: Drop {
     fn see(&mut self, cell: usize, bit: bool)
         requires { cell < length (stage self.old) }
         ensures { self.new ≡ saw self.old cell bit };
+
+    /// The core's bit of a cell, cell 0 nearest TDO, is this one from now on; stage and update part are kept.
+    fn set_core(&mut self, cell: usize, bit: bool)
+        requires { cell < length (stage self.old) }
+        ensures { self.new ≡ cored self.old cell bit };
 
     /// The stage captures under a mode; the update part is kept (clauses 9 and 11).
     fn capture(&mut self, mode: Mode)
@@ -113,6 +121,23 @@ pub trait Register: Drop {
     /// A sight and a change of the parts have one result in either order.
     ghost sees_parts: { (r : Self) (cell : ℕ) (bit : Bool) (s u : List Bool)
         → with_parts (saw r cell bit) s u ≡ saw (with_parts r s u) cell bit };
+
+    /// The core's bit of a cell does not change the stage.
+    ghost cores_stage: { (r : Self) (cell : ℕ) (bit : Bool) → stage (cored r cell bit) ≡ stage r };
+
+    /// The core's bit of a cell does not change the update part.
+    ghost cores_update: { (r : Self) (cell : ℕ) (bit : Bool) → update_part (cored r cell bit) ≡ update_part r };
+
+    /// The core's bit of a cell changes only what that cell captures.
+    ghost cores_alone: { (r : Self) (cell : ℕ) (bit : Bool) (mode : TheMode) (i : ℕ) → i ≢ cell
+        → slice_get (captured (cored r cell bit) mode) i ≡ slice_get (captured r mode) i };
+
+    /// The core's bit of a cell does not change what a reset would give.
+    ghost cores_reset: { (r : Self) (cell : ℕ) (bit : Bool) → at_reset (cored r cell bit) ≡ at_reset r };
+
+    /// A core's bit and a change of the parts have one result in either order.
+    ghost cores_parts: { (r : Self) (cell : ℕ) (bit : Bool) (s u : List Bool)
+        → with_parts (cored r cell bit) s u ≡ cored (with_parts r s u) cell bit };
 
     /// Of what a capture would give, a new update part changes only what is taken from it.
     ghost captured_part: { (r : Self) (mode : TheMode) (i : ℕ)

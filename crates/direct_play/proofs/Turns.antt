@@ -19,7 +19,7 @@ use Rattle.plays.specs.Play.{Played, Turn, full_play, step_turns, wants_of}
 use Rattle.plays.specs.PlayingOn.{unjudged}
 use Rattle.every_schedule.specs.Laws.{full}
 use Rattle.every_schedule.proofs.AllFailures.{never}
-use Rattle.every_schedule.proofs.Quits.{played_of}
+use Rattle.plays.proofs.Asks.{played_of}
 
 map-append : (xs ys : List Message) → map encode (xs ++ ys) ≡ map encode xs ++ map encode ys
 map-append [] ys = refl

@@ -18,7 +18,7 @@ use Rattle.plays.specs.declared.kind.Kind.TheVariants.{Stops, PlaysOn}
 use Rattle.plays.specs.PlayingOn.{Mismatch, ending_of, failures, turns_for, unjudged}
 use Rattle.plays.specs.Streams as stream
 use Rattle.plays.specs.Streams.{Found, StreamState, found_of, most_kept, new_stream}
-use Rattle.plays.proofs.Asks.{hear-asks, hear-full, sent-full, turns-ask}
+use Rattle.plays.proofs.Asks.{hear-asks, hear-full, sent-full, turns-ask, played_of}
 use Rattle.plays.proofs.Described.{means_from_opening}
 use Rattle.every_schedule.specs.AllFailures.{MeansAllFromOpening}
 use Rattle.every_schedule.specs.Laws.{bytes_of_full_play, full}
@@ -26,7 +26,7 @@ use Rattle.every_schedule.proofs.AllFailures.{first_of_all_played, never}
 use Rattle.every_schedule.proofs.AllMeaning.{plays_all}
 use Rattle.every_schedule.proofs.BothPlayers.{ask-for, no-quit-for}
 use Rattle.every_schedule.proofs.HonestLinks.{ending-full, none-bad-any, told-bits}
-use Rattle.every_schedule.proofs.Quits.{full-quits, has_quit, played_of, turns-no-quit}
+use Rattle.every_schedule.proofs.Quits.{full-quits, has_quit, turns-no-quit}
 use Rattle.every_schedule.proofs.Runs.{run-append}
 use Rattle.every_schedule.proofs.SafetyLaws.{every_schedule_inside, whole_at_end}
 use Rattle.streaming.specs.Histories as history

@@ -12,7 +12,7 @@ use Rattle.streaming.specs.Laws.{good, history_of, stream_of, with_player}
 use Rattle.streaming.proofs.Schedules.{carry_over}
 use Rattle.every_schedule.specs.Laws.{Connection}
 use Rattle.svf_programs.specs.Steps.{Program}
-use Rattle.plays.proofs.Asks.{AllAsk, hear-asks}
+use Rattle.plays.proofs.Asks.{AllAsk, hear-asks, played_of}
 use Rattle.std.specs.List.{list_any}
 use Rattle.every_schedule.specs.Fair.{HasNoLose, IsFair, loses}
 use Rattle.every_schedule.specs.InWork.{answers_in, bytes_in}
@@ -22,7 +22,7 @@ use Rattle.plays.specs.PlayingOn.{turns_for}
 use Rattle.every_schedule.proofs.BothPlayers.{ask-for}
 use Rattle.every_schedule.proofs.MovingEvents.{total}
 use Rattle.every_schedule.proofs.Progress.{fair-moves, moving-total, total-bound}
-use Rattle.every_schedule.proofs.Quits.{played_of, sent-eager}
+use Rattle.every_schedule.proofs.Quits.{sent-eager}
 use Rattle.every_schedule.proofs.Runs.{run-append}
 use Rattle.every_schedule.proofs.SafetyLaws.{is-play, reached}
 use Rattle.joined.specs.Finishing.{IsReached, afresh}

@@ -14,8 +14,11 @@ use Rattle.board_meaning.specs.Chain.{members}
 use Rattle.board_meaning.specs.Resting.{power_up, board_at_rest, chip_at_rest}
 use Rattle.board_meaning.specs.Sound.{AllSound, IsChain}
 use Rattle.board_meaning.proofs.Powered.{powered_sound}
-use Rattle.chip_seats.specs.Building.{IsReady}
-use Rattle.chip_chain.specs.Chains.{powered_up}
+use Rattle.board_parts.specs.Strings.{HasStrings}
+use Rattle.board_loops.proofs.DependingLaws.{no_loop}
+use Rattle.board_meaning.specs.Following.{FollowsNoOtherControl}
+use Rattle.board_meaning.specs.Planned.{powered_up}
+use Rattle.chip_chain.specs.Ready.{IsReady}
 use Rattle.jt_board.specs.Made.{IsSoundWiring, board_of}
 use Rattle.bare_boards.specs.Bares.{bare_at, bare_planned, bare_wiring}
 
@@ -23,7 +26,7 @@ use Rattle.bare_boards.specs.Bares.{bare_at, bare_planned, bare_wiring}
 
 all-sound : (ms : List planned.Member) → AllByRecursion (λ (m : planned.Member). IsSoundDevice m.device) ms → AllSound (members (map (chip_at_rest Reset) (map powered_up ms)))
 all-sound [] all = tt
-all-sound (m ∷ ms) all = (powered_sound m.name m.device m.core m.extest_update all.0, all-sound ms all.1)
+all-sound (m ∷ ms) all = (powered_sound m.name m.device m.core m.follows m.extest_update all.0, all-sound ms all.1)
 
 pub sound_chain : (w : planned.Wiring) → IsSoundWiring w → IsChain (map (chip_at_rest Reset) (map powered_up w.members))
 sound_chain w is =
@@ -66,8 +69,26 @@ sound : (k n : ℕ) → AllByRecursion (λ (m : planned.Member). IsSoundDevice m
 sound k zero = tt
 sound k (suc n) = (bare-sound, sound (suc k) n)
 
+strings : (k n : ℕ) → AllByRecursion HasStrings (bare_planned k n)
+strings k zero = tt
+strings k (suc n) = (record { each = tt; one = tt }, strings (suc k) n)
+
+controls : (k n : ℕ) → AllByRecursion (λ (m : Member). FollowsNoOtherControl m) (map powered_up (bare_planned k n))
+controls k zero = tt
+controls k (suc n) = ((λ f among. absurd among), controls (suc k) n)
+
+no_strings : (k n : ℕ) → AllByRecursion (λ (m : planned.Member). m.follows ≡ []) (bare_planned k n)
+no_strings k zero = tt
+no_strings k (suc n) = (refl, no_strings (suc k) n)
+
 pub bare_ready : (n : ℕ) → IsReady (bare_wiring n)
-bare_ready n = record { cores = cores 1 n; pins = tt; formed = formed 1 n }
+bare_ready n = record {
+  seats = record { cores = cores 1 n; pins = tt; formed = formed 1 n };
+  apart = λ i j d below inside. absurd (omega (arith, inside));
+  strings = strings 1 n;
+  controls = controls 1 n;
+  no_loop = no_loop (bare_wiring n) (no_strings 1 n);
+}
 
 pub bare_sound : (n : ℕ) → 0 < n → n ≤ 32 → IsSoundWiring (bare_wiring n)
 bare_sound n some most = record {

@@ -10,8 +10,8 @@ use Rattle.jt_tap.specs.declared.State.TheVariants.{Idle, DrPause, IrPause}
 use Rattle.bitbang_table.specs.declared.Message.{Message}
 use Rattle.bitbang_table.specs.declared.Message.TheVariants.{Write}
 use Rattle.bitbang_table.specs.Protocol.{decode}
-use Rattle.board_meaning.specs.Cells.{Member}
-use Rattle.board_meaning.specs.Nets.{sees}
+use Rattle.board_meaning.specs.Cells.{Member, Told}
+use Rattle.board_meaning.specs.Nets as nets
 use Rattle.board_meaning.specs.Chain.{BoardState, ChipState, after_byte, after_bytes, after_levels, after_message, fall, members, rise, rise_all, tdi_before}
 use Rattle.jt_board.specs.Idling.{Moved, idles, is_idle_byte, level, rests, writes_idle}
 
@@ -28,12 +28,12 @@ fell DrPause None m h = refl
 fell IrPause None m h = refl
 fell _ _ m h = cc
 
-rose : (s : State) (o : Option Bool) (m : Member) (tdi : Bool) (sight : ℕ → Bool) → rests s o ≡ true
-    → rise false false tdi sight (record { member = m; state = s; tdo = o }) ≡ record { member = m; state = s; tdo = o }
-rose Idle None m tdi sight h = refl
-rose DrPause None m tdi sight h = refl
-rose IrPause None m tdi sight h = refl
-rose _ _ m tdi sight h = cc
+rose : (s : State) (o : Option Bool) (m : Member) (tdi : Bool) (about : Told) → rests s o ≡ true
+    → rise false false tdi about (record { member = m; state = s; tdo = o }) ≡ record { member = m; state = s; tdo = o }
+rose Idle None m tdi about h = refl
+rose DrPause None m tdi about h = refl
+rose IrPause None m tdi about h = refl
+rose _ _ m tdi about h = cc
 
 -- ---- all devices
 
@@ -43,12 +43,12 @@ fell_all (c ∷ cs) h =
     let parts = both (rests c.state c.tdo) (list_all (λ c. rests c.state c.tdo) cs) h in
     λ i. fell c.state c.tdo c.member parts.0 i ∷ fell_all cs parts.1 i
 
-rose_all : (cs : List ChipState) (tdi : Bool) (sight : ℕ → ℕ → Bool) (k : ℕ) → list_all (λ c. rests c.state c.tdo) cs ≡ true
-    → rise_all false false tdi sight k cs ≡ cs
-rose_all [] tdi sight k h = refl
-rose_all (c ∷ cs) tdi sight k h =
+rose_all : (cs : List ChipState) (tdi : Bool) (about : ℕ → Told) (k : ℕ) → list_all (λ c. rests c.state c.tdo) cs ≡ true
+    → rise_all false false tdi about k cs ≡ cs
+rose_all [] tdi about k h = refl
+rose_all (c ∷ cs) tdi about k h =
     let parts = both (rests c.state c.tdo) (list_all (λ c. rests c.state c.tdo) cs) h in
-    λ i. rose c.state c.tdo c.member (tdi_before tdi cs) (sight k) parts.0 i ∷ rose_all cs tdi sight (suc k) parts.1 i
+    λ i. rose c.state c.tdo c.member (tdi_before tdi cs) (about k) parts.0 i ∷ rose_all cs tdi about (suc k) parts.1 i
 
 low : (b : Bool) → not b ≡ true → b ≡ false
 low true h = cc
@@ -57,8 +57,8 @@ low false h = refl
 levels_keep : (was tck tdi : Bool) (b : BoardState) → idles b ≡ true → after_levels was tck false tdi b ≡ b.chips
 levels_keep false true tdi b h =
     let parts = both (not b.trst) (list_all (λ c. rests c.state c.tdo) b.chips) h in
-    ap (λ t. rise_all t false tdi (sees b.nets (members b.chips)) 0 b.chips) (low b.trst parts.0)
-    ∙ rose_all b.chips tdi (sees b.nets (members b.chips)) 0 parts.1
+    ap (λ t. rise_all t false tdi (nets.told b.nets (members b.chips)) 0 b.chips) (low b.trst parts.0)
+    ∙ rose_all b.chips tdi (nets.told b.nets (members b.chips)) 0 parts.1
 levels_keep true false tdi b h =
     fell_all b.chips (both (not b.trst) (list_all (λ c. rests c.state c.tdo) b.chips) h).1
 levels_keep false false tdi b h = refl

@@ -17,7 +17,7 @@ use Rattle.bare_boards.specs.Bares.{bare_wiring}
 -- ---- as they are made
 
 made_chain : (b : BoardState) → IsMade b → IsChain b.chips
-made_chain _ (described board_file table files w reads made) =
+made_chain _ (described board_file table files w reads made free) =
     sound_chain w (sound_wiring w (board_fits said_device files table w made) (board_said said_device files table w made))
 made_chain _ (bare n some most) =
     subst (λ (b : BoardState). IsChain b.chips) (bare_is n) (sound_chain (bare_wiring n) (bare_sound n some most))

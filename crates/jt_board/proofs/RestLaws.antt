@@ -9,9 +9,9 @@ use Rattle.jt_tap.specs.Controller.{is_at}
 use Rattle.jt_tap.specs.declared.State.{State}
 use Rattle.jt_tap.specs.declared.State.TheVariants.{DrPause, IrPause, Reset}
 use Rattle.pin_nets.specs.Wired.{Net}
-use Rattle.board_meaning.specs.Cells.{Member}
+use Rattle.board_meaning.specs.Cells.{Member, Told}
 use Rattle.board_meaning.specs.Chain.{BoardState, ChipState, members}
-use Rattle.board_meaning.specs.Nets.{sees}
+use Rattle.board_meaning.specs.Nets.{told}
 use Rattle.board_meaning.specs.Resting.{IsAtRest, chip_at_rest}
 use Rattle.board_meaning.specs.Sound.{AllSound, IsChain, IsSound}
 use Rattle.board_meaning.specs.Whole.{AtRest, arrive, capture, capture_all, selected_bits_of, cut_back, joined_bits, reset_all}
@@ -68,21 +68,21 @@ chain-stands state cs is =
 
 -- ---- each action keeps a chain
 
-count-captured : (column : Column) (sight : ℕ → ℕ → Bool) (k : ℕ) (ms : List Member)
-    → length (capture_all column sight k ms) ≡ length ms
-count-captured column sight k [] = refl
-count-captured column sight k (m ∷ ms) = ap (λ (n : ℕ). suc n) (count-captured column sight (suc k) ms)
+count-captured : (column : Column) (about : ℕ → Told) (k : ℕ) (ms : List Member)
+    → length (capture_all column about k ms) ≡ length ms
+count-captured column about k [] = refl
+count-captured column about k (m ∷ ms) = ap (λ (n : ℕ). suc n) (count-captured column about (suc k) ms)
 
 count-cut : (column : Column) (bits : List Bool) (ms : List Member) → length (cut_back column bits ms) ≡ length ms
 count-cut column bits [] = refl
 count-cut column bits (m ∷ ms) = ap (λ (n : ℕ). suc n) (count-cut column (drop (length (selected_bits_of column m)) bits) ms)
 
 pub chain-captured : (column : Column) (nets : List Net) (cs : List ChipState) → IsChain cs
-    → IsChain (as_members (capture_all column (sees nets (members cs)) 0 (members cs)) cs)
+    → IsChain (as_members (capture_all column (told nets (members cs)) 0 (members cs)) cs)
 chain-captured column nets cs is =
-    let sight = sees nets (members cs) in
-    chain-as (capture_all column sight 0 (members cs)) cs (count-captured column sight 0 (members cs))
-    (Sound-capture_all column sight 0 (members cs) is.sound) is
+    let about = told nets (members cs) in
+    chain-as (capture_all column about 0 (members cs)) cs (count-captured column about 0 (members cs))
+    (Sound-capture_all column about 0 (members cs) is.sound) is
 
 pub chain-updated : (column : Column) (cs : List ChipState) → IsChain cs
     → IsChain (as_members (map (update_member column) (members cs)) cs)
@@ -157,11 +157,11 @@ rests_standing state tck c m is =
     }
 
 pub rests_captured : (column : Column) (tck : Bool) (c : ChainValue) (m : AtRest) → IsAtRest (board_at tck c) m
-    → IsAtRest (board_at tck (chain_as (capture_all column (sees c.nets (members c.chips)) 0 (members c.chips)) c))
+    → IsAtRest (board_at tck (chain_as (capture_all column (told c.nets (members c.chips)) 0 (members c.chips)) c))
     (capture column m)
 rests_captured column tck c m is =
-    rests_as (λ nets ms. capture_all column (sees nets ms) 0 ms)
-    (λ nets ms. count-captured column (sees nets ms) 0 ms) tck c m is
+    rests_as (λ nets ms. capture_all column (told nets ms) 0 ms)
+    (λ nets ms. count-captured column (told nets ms) 0 ms) tck c m is
 
 pub rests_updated : (column : Column) (tck : Bool) (c : ChainValue) (m : AtRest) → IsAtRest (board_at tck c) m
     → IsAtRest (board_at tck (chain_as (map (update_member column) (members c.chips)) c)) (update column m)

@@ -17,7 +17,7 @@ use Rattle.jt_bits.specs.Words.{bit_of}
 use Rattle.bitbang_table.specs.Cycles.{closed_messages}
 use Rattle.board_meaning.specs.Cells.{Member}
 use Rattle.board_meaning.specs.Chain.{BoardState, ChipState, fall, hear, members}
-use Rattle.board_meaning.specs.Nets.{sees}
+use Rattle.board_meaning.specs.Nets.{told}
 use Rattle.board_meaning.specs.Sound.{AllSound}
 use Rattle.board_meaning.specs.Whole.{selected_bits_of, joined_bits, cut_back, out_of_members}
 use Rattle.board_meaning.proofs.OneCycle.{Free, given, cycled, fallen_one, ran, Ran, hear-tail, heard_of, low, lowered}
@@ -119,7 +119,7 @@ stays Ir = refl
 -- The shift cycle: with every device in Shift and each TDO latched, one low and high byte move the joined list by one.
 pub cycled-shift : (column : Column) (tms tdi : Bool) (nets : List Net) (ms : List Member) → Full column ms
     → cycled (shift_state column) tms tdi nets ms ≡ cut_back column (drop 1 (joined_bits column ms ++ tdi ∷ [])) ms
-cycled-shift column tms tdi nets ms full = fallen-quiet column tms _ ∙ shift-one column tdi (sees nets ms) 0 ms full
+cycled-shift column tms tdi nets ms full = fallen-quiet column tms _ ∙ shift-one column tdi (told nets ms) 0 ms full
 
 -- one place on: what is left of the joined list and the bit shifted in
 abbrev moved_line : Column → Bool → List Member → List Bool

@@ -4,7 +4,9 @@ use Rattle.bsdl_device.specs.Device.{Device}
 use Rattle.bsdl.specs.Judging.{text_says}
 use Rattle.bsdl.specs.View as reading
 use Rattle.bsdl.specs.declared.fault.BsdlFault.{BsdlFault}
-use Rattle.board_file.specs.View.{TellsFault}
+use Rattle.core_loops.specs.Loops.{HasNoLoop}
+use Rattle.board_loops.specs.Depending.{dependencies}
+use Rattle.board_file.specs.View.{TellsRefusal}
 use Rattle.board_file.specs.Wiring.{Fault}
 use Rattle.board_plan.specs.Planned as planned
 use Rattle.board_names.specs.declared.fault.BoardFault.{BoardFault}
@@ -19,9 +21,9 @@ said_device text = elim (text_says text) [ Ok d ↦ Some d | Err r ↦ None ]
 abbrev pub IsWhyRefused : List ℕ → BsdlFault → Type 0
 IsWhyRefused text fault = MatchOption (reading.refusal fault) ⊥ (λ r. text_says text ≡ Err r)
 
--- The board as it powers up, or the fault that the refusal names, unless memory runs out.
-abbrev pub TellsMade : Result BoardState (BoardFault BsdlFault) → Result planned.Wiring Fault → Type 0
-TellsMade (Ok b) (Ok w) = b ≡ board_of w
-TellsMade (Ok b) (Err e) = ⊥
-TellsMade (Err f) (Ok w) = TellsFault IsWhyRefused f None
-TellsMade (Err f) (Err e) = TellsFault IsWhyRefused f (Some e)
+-- The board as it powers up, on which no string is on a loop, or why it is refused, given the targets of all strings;
+-- unless memory runs out.
+abbrev pub TellsMade : Result BoardState (BoardFault BsdlFault) → Result planned.Wiring Fault → List (List ℕ) → Type 0
+TellsMade (Ok b) (Ok w) targets = (b ≡ board_of w) × HasNoLoop (dependencies w)
+TellsMade (Ok b) (Err e) targets = ⊥
+TellsMade (Err f) said targets = TellsRefusal IsWhyRefused f said targets

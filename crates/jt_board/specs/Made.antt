@@ -1,11 +1,12 @@
 -- Boards as they are made.
-use Rattle.std.specs.Prelude.{◌<◌, ◌≤◌, Bool, length, map}
+use Rattle.std.specs.Prelude.{◌<◌, ◌≤◌, Bool, length}
 use Rattle.std.specs.List.{AllByRecursion}
 use Rattle.bsdl_device.specs.Sound.{IsSoundDevice}
 use Rattle.board_plan.specs.Planned as planned
 use Rattle.board_meaning.specs.Chain.{BoardState}
 use Rattle.board_meaning.specs.Resting.{power_up, board_at_rest}
-use Rattle.chip_chain.specs.Chains.{ChainValue, powered_up}
+use Rattle.board_meaning.specs.Planned.{members_of}
+use Rattle.chip_chain.specs.Chains.{ChainValue}
 
 -- a board of this chain, at this level of TCK
 abbrev pub board_at : Bool → ChainValue → BoardState
@@ -13,7 +14,7 @@ board_at tck c = record { tck = tck; trst = c.trst; nets = c.nets; chips = c.chi
 
 -- a planned board as it powers up
 abbrev pub board_of : planned.Wiring → BoardState
-board_of w = board_at_rest (power_up w.nets (map powered_up w.members))
+board_of w = board_at_rest (power_up w.nets (members_of w))
 
 -- 1 to 32 devices whose descriptions are sound
 pub record IsSoundWiring (w : planned.Wiring) : Type 0 where

@@ -8,7 +8,7 @@ ghost use Rattle.board_names.specs.declared.fault.BoardFault.TheVariants as faul
 ghost use Rattle.board_meaning.specs.Bare.{bare_board};
 ghost use Rattle.board_meaning.specs.Chain as chain;
 ghost use Rattle.board_meaning.specs.Sound.{IsSoundBoard};
-ghost use Rattle.chip_seats.specs.Building.{IsReady};
+ghost use Rattle.chip_chain.specs.Ready.{IsReady};
 ghost use Rattle.jt_board.specs.Made.{IsSoundWiring, board_at, board_of};
 
 mod at_rest;
@@ -25,7 +25,7 @@ use chip_chain::Chain;
 use std::alloc::{AllocError, Global};
 use std::marker::Model;
 
-/// Why a board was not made: C1 to C8. Of these a board of bare devices has C7 and C8 alone.
+/// Why a board was not made: C1 to C9. Of these a board of bare devices has C7 and C8 alone.
 pub type BoardFault = board_file::BoardFault<BsdlFault>;
 
 /// The most devices of a board.

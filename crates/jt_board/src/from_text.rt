@@ -4,7 +4,7 @@ ghost use Rattle.toml.specs.Data.{Members};
 ghost use Rattle.board_names.specs.Files.{IsBadToml, Reads, names_of};
 ghost use Rattle.board_names.specs.View.{TellsBadToml, TellsNames};
 ghost use Rattle.board_library.specs.View.{files_of};
-ghost use Rattle.board_file.specs.Wiring.{makes};
+ghost use Rattle.board_file.specs.Wiring.{makes, targets_in};
 ghost use Rattle.jt_board.specs.FromText.{TellsMade, said_device};
 
 use crate::board::{Board, BoardFault};
@@ -55,9 +55,9 @@ impl Board {
         toml_text: &[u8],
         files: &[(&'f str, &'f [u8])],
     ) -> Result<Board, BoardFault>
-        // The board that the table and the files make, or their fault, unless memory runs out.
+        // The board that the table and the files make, or why they make none, unless memory runs out.
         ensures told { (t : Members) → Reads toml_text.now t
-            → TellsMade result (makes said_device (files_of files.now) t) }
+            → TellsMade result (makes said_device (files_of files.now) t) (targets_in t) }
         // What is no TOML is refused as that, unless memory runs out.
         ensures bad_toml { IsBadToml toml_text.now → TellsBadToml result }
     {

@@ -1,23 +1,19 @@
 -- The headline: an accepted program is legal, and a board in use is sound.
 use Rattle.svf_programs.specs.Steps.{Program}
 use Rattle.svf_programs.specs.Legal.{IsLegalProgram}
-use Rattle.std.proofs.Common.{◌≡◌, ◌⊎◌, inl, inr, ℕ, Bool, List, [], ◌∷◌, ◌++◌, map, refl, sym, ap, subst, ◌∙◌, Option, Some, None}
+use Rattle.std.proofs.Common.{◌≡◌, inl, inr, ℕ, List, [], ◌∷◌, ◌++◌, refl, sym, ap, subst, ◌∙◌, Option, Some, None}
 use Rattle.svf_settings.proofs.FirstRefusals.{accepted_is_sound}
-use Rattle.bitbang_table.specs.declared.Message.TheVariants.{Quit}
 use Rattle.board_meaning.specs.Chain.{BoardState, after_byte, after_bytes, hear}
 use Rattle.board_meaning.proofs.BytesAndMessages.{after_all-encoded}
 use Rattle.every_schedule.specs.Laws.{bytes_of_full_play, full}
 use Rattle.jt_board.proofs.InUse.{every_board}
 use Rattle.plays.proofs.Described.{means_from_opening}
 use Rattle.direct_play.specs.Accepting.{Accepts}
-use Rattle.plays.specs.declared.ending.Ending.{Ending}
-use Rattle.plays.specs.declared.ending.Ending.TheVariants.{Pass, Fail}
-use Rattle.plays.specs.declared.kind.Kind.{Kind}
 use Rattle.plays.specs.declared.kind.Kind.TheVariants.{Stops, PlaysOn}
 use Rattle.plays.specs.Endings.{status_of}
-use Rattle.plays.specs.Play.{Played, Turn, full_play, turns}
+use Rattle.plays.specs.Play.{Turn, full_play, turns}
 use Rattle.plays.specs.PlayingOn.{Mismatch, ending_of, turns_for}
-use Rattle.plays.proofs.Asks.{hear-full}
+use Rattle.plays.proofs.Asks.{hear-full, played_of}
 use Rattle.scan_vectors.specs.Vector.{judge}
 use Rattle.scan_vectors.specs.declared.part.Part.{Part}
 use Rattle.joined.proofs.Ends.{means}
@@ -27,9 +23,8 @@ use Rattle.jt_player.specs.Headline.{DirectPlayMeansWhatTheTextMeans, EverySched
 use Rattle.jt_player.specs.Headline.{DirectPlaysPassOrFail, EndsIn, EveryRunEnds, PassesOrFails, passes, fails, is_refused, wants_memory}
 use Rattle.jt_player.specs.Headline.{WhatDirectPlaysLeaveIsInUse, WhatEventsLeaveIsInUse, WhatRunsLeaveIsInUse}
 use Rattle.jt_player.specs.Kinds.{ending_in}
-use Rattle.jt_player.specs.Running.{IsRunOf, Run, no_memory, played, refused}
+use Rattle.jt_player.specs.Running.{no_memory, played, refused}
 use Rattle.direct_play.specs.ToTheEnd.{all_failures}
-use Rattle.jt_board.specs.InUse.{IsInUse}
 
 legal : (text : List ℕ) (program : Program) → Accepts text program → IsLegalProgram program.steps
 legal text program (statements, spelt, resolved) = (accepted_is_sound statements program resolved).legal
@@ -81,26 +76,9 @@ stopping : (ts : List Turn) (b : BoardState) → PassesOrFails (full_play ts b).
 stopping [] b = inl refl
 stopping (t ∷ ts) b = by (judge t.wants (hear t.messages b).answers) (stopping ts (hear t.messages b).board)
   where
-    rest : Played
-    rest = full_play ts (hear t.messages b).board
-
-    ended : Option (Part × ℕ) → Played
-    ended o = elim o [
-      | None ↦ record {
-        messages = t.messages ++ rest.messages;
-        answers = (hear t.messages b).answers ++ rest.answers;
-        ending = rest.ending;
-        board = rest.board;
-      }
-      | Some f ↦ record {
-        messages = t.messages ++ Quit ∷ [];
-        answers = (hear t.messages b).answers;
-        ending = Fail t.command f.0 f.1;
-        board = (hear t.messages b).board;
-      }
-    ]
-
-    by : (o : Option (Part × ℕ)) → PassesOrFails rest.ending → PassesOrFails (ended o).ending
+    by : (found : Option (Part × ℕ))
+        → PassesOrFails (full_play ts (hear t.messages b).board).ending
+        → PassesOrFails (played_of t ts (hear t.messages b) found).ending
     by None later = later
     by (Some f) later = inr (t.command, f.0, f.1, refl)
 

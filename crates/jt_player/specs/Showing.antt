@@ -85,6 +85,7 @@ board_words (board.UnknownPin text) = codes "board C5 UnknownPin"
 board_words (board.PinTwice text) = codes "board C6 PinTwice"
 board_words board.TooLarge = codes "board C7 TooLarge"
 board_words board.NoMemory = codes "memory"
+board_words (board.CoreLoop text) = codes "board C9 CoreLoop"
 
 -- the line of a board that is not made, and the exit status: 2 refused, 4 want of memory
 abbrev pub board_refusal_line : BoardFault BsdlFault → List ℕ

@@ -108,6 +108,7 @@ fn board_words(fault: &BoardFault) -> &'static str
         BoardFault::PinTwice(_) => "board C6 PinTwice",
         BoardFault::TooLarge => "board C7 TooLarge",
         BoardFault::NoMemory => "memory",
+        BoardFault::CoreLoop(_) => "board C9 CoreLoop",
     }
 }
 

@@ -44,6 +44,15 @@ pub struct Pin {
     pub port: usize,
 }
 
+/// A string of a core that follows: the core bit of cell `cell` is what port bit `source` of the same device sees, or
+/// its opposite.
+#[derive(Debug, Drop, Clone, Copy, PartialEq, Eq)]
+pub struct Follow {
+    pub cell: usize,
+    pub source: usize,
+    pub inverted: bool,
+}
+
 /// How many drivers of each kind a net has.
 #[derive(Debug, Clone, Copy)]
 pub(crate) struct Counts {

@@ -19,7 +19,7 @@ use Rattle.bitbang_table.specs.Protocol.{answer, decode}
 use Rattle.board_meaning.specs.Chain.{BoardState, ChipState, Heard, after_message, fall, hear, members, reply_of, rise_all, tdi_before}
 use Rattle.board_meaning.specs.declared.Reply.{Reply}
 use Rattle.board_meaning.specs.declared.Reply.TheVariants as said
-use Rattle.board_meaning.specs.Nets.{sees}
+use Rattle.board_meaning.specs.Nets.{told}
 use Rattle.whole_chain.specs.Words.{word_bits}
 use Rattle.whole_chain.proofs.Rows.{bit-left, bit-right}
 use Rattle.jt_bits.proofs.WordShifts.{length-word}
@@ -129,7 +129,7 @@ heard-messages [] b cs = refl
 heard-messages (t ∷ []) b cs = refl
 heard-messages (t ∷ u ∷ us) b cs =
     ap (λ (h : Heard). record { answers = tdi_before true cs ∷ h.answers; board = h.board })
-    (heard-messages (u ∷ us) b (map fall (rise_all b.trst false t (sees b.nets (members cs)) 0 cs)))
+    (heard-messages (u ∷ us) b (map fall (rise_all b.trst false t (told b.nets (members cs)) 0 cs)))
 
 heard-all : (ts : List Bool) (b : BoardState) → b.tck ≡ false → hear (closed_messages (shift_cycles ts)) b ≡ heard (shift_cycles ts) b
 heard-all ts b low =

@@ -152,7 +152,8 @@ sent_of window t ts got short found =
       | false ↦ t.messages ++ elim found [ None ↦ rest | Some f ↦ Quit ∷ [] ]
     ]
 
-abbrev played_of : Turn → List Turn → Heard → Option (Part × ℕ) → Played
+-- What is played where the first turn's judging ends so.
+abbrev pub played_of : Turn → List Turn → Heard → Option (Part × ℕ) → Played
 played_of t ts heard found =
     let rest = full_play ts heard.board in
     elim found [

@@ -44,7 +44,7 @@ one_state b m n some is also =
 described-sound : (ms : List Member) → AllByRecursion (λ d. IsPoweredUp d) ms → AllSound (members (map (chip_at_rest Reset) ms))
 described-sound [] all = tt
 described-sound (m ∷ ms) all = (
-  subst (λ (d : Member). IsSound d) (sym all.0.powered_up) (powered_sound m.name m.device m.core m.extest_update all.0.description),
+  subst (λ (d : Member). IsSound d) (sym all.0.powered_up) (powered_sound m.name m.device m.core m.follows m.extest_update all.0.description),
   described-sound ms all.1,
 )
 

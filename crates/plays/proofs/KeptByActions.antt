@@ -9,9 +9,9 @@ use Rattle.jt_tap.specs.declared.State.TheVariants.{Reset, Idle, DrPause, IrPaus
 use Rattle.jt_tap.specs.declared.Work.{Work}
 use Rattle.jt_tap.specs.declared.Work.TheVariants.{Resets, Captures, Shifts, Updates, Waits}
 use Rattle.jt_tap.specs.Controller.{work, is_stable}
-use Rattle.board_meaning.specs.Cells.{Member}
+use Rattle.board_meaning.specs.Cells.{Member, Told}
 use Rattle.pin_nets.specs.Wired.{Net}
-use Rattle.board_meaning.specs.Nets.{sees}
+use Rattle.board_meaning.specs.Nets.{told}
 use Rattle.board_meaning.specs.Chain.{is_held}
 use Rattle.board_meaning.specs.Whole.{AtRest, selected_bits_of, joined_bits, cut_back, capture_all, update_member, reset_member, capture, shift, update, settle, arrive, pass, along}
 use Rattle.plays.specs.Meaning.{scan_end, move_to, move_unless_there}
@@ -33,13 +33,13 @@ pub record IsReady (trst : Bool) (n : ℕ) (ms : List Member) : Type 0 where
 abbrev pub Ready : ℕ → AtRest → Type 0
 Ready n m = IsReady m.trst n m.members
 
-free-capture_all : (trst : Bool) (column : Column) (sight : ℕ → ℕ → Bool) (k : ℕ) (ms : List Member) → Free trst ms → Free trst (capture_all column sight k ms)
-free-capture_all trst column sight k [] free = tt
-free-capture_all trst column sight k (m ∷ ms) free = (free.0, free-capture_all trst column sight (suc k) ms free.1)
+free-capture_all : (trst : Bool) (column : Column) (about : ℕ → Told) (k : ℕ) (ms : List Member) → Free trst ms → Free trst (capture_all column about k ms)
+free-capture_all trst column about k [] free = tt
+free-capture_all trst column about k (m ∷ ms) free = (free.0, free-capture_all trst column about (suc k) ms free.1)
 
-count-capture_all : (column : Column) (sight : ℕ → ℕ → Bool) (k : ℕ) (ms : List Member) → length (capture_all column sight k ms) ≡ length ms
-count-capture_all column sight k [] = refl
-count-capture_all column sight k (m ∷ ms) = ap (λ n. suc n) (count-capture_all column sight (suc k) ms)
+count-capture_all : (column : Column) (about : ℕ → Told) (k : ℕ) (ms : List Member) → length (capture_all column about k ms) ≡ length ms
+count-capture_all column about k [] = refl
+count-capture_all column about k (m ∷ ms) = ap (λ n. suc n) (count-capture_all column about (suc k) ms)
 
 free-cut_back : (trst : Bool) (column : Column) (bits : List Bool) (ms : List Member) → Free trst ms → Free trst (cut_back column bits ms)
 free-cut_back trst column bits [] free = tt
@@ -66,9 +66,9 @@ shifted-length t xs = omega (arith, length-drop (length t) (xs ++ t), length-app
 
 ready-capture : (column : Column) (n : ℕ) (m : AtRest) → Ready n m → Ready n (capture column m)
 ready-capture column n m ready = record {
-  sound = Sound-capture_all column (sees m.nets m.members) 0 m.members ready.sound;
-  free = free-capture_all m.trst column (sees m.nets m.members) 0 m.members ready.free;
-  count = count-capture_all column (sees m.nets m.members) 0 m.members ∙ ready.count;
+  sound = Sound-capture_all column (told m.nets m.members) 0 m.members ready.sound;
+  free = free-capture_all m.trst column (told m.nets m.members) 0 m.members ready.free;
+  count = count-capture_all column (told m.nets m.members) 0 m.members ∙ ready.count;
 }
 
 ready-shift : (column : Column) (t : List Bool) (n : ℕ) (m : AtRest) → Ready n m → Ready n (shift column t m)

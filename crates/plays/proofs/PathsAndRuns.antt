@@ -9,7 +9,7 @@ use Rattle.jt_tap.specs.declared.Work.TheVariants.{Resets, Captures, Shifts, Upd
 use Rattle.jt_tap.specs.Controller.{next, work, entered_by, is_stable}
 use Rattle.board_meaning.specs.Cells.{Member}
 use Rattle.pin_nets.specs.Wired.{Net}
-use Rattle.board_meaning.specs.Nets.{sees}
+use Rattle.board_meaning.specs.Nets.{told}
 use Rattle.board_meaning.specs.Chain.{hear}
 use Rattle.board_meaning.specs.Whole.{joined_bits, cut_back, capture_all, reset_member, pass, along}
 use Rattle.svf_programs.specs.Steps.{Path, Run}
@@ -28,7 +28,7 @@ use Rattle.board_meaning.proofs.Walks.{fall_whole, cycled-whole, ends_at, at_res
 
 -- what the devices do on the rising edge that leaves a state of this work, TDI being 0
 abbrev pub leave : Work → List Net → List Member → List Member
-leave (Captures column) nets ms = capture_all column (sees nets ms) 0 ms
+leave (Captures column) nets ms = capture_all column (told nets ms) 0 ms
 leave (Shifts column) nets ms = cut_back column (drop 1 (joined_bits column ms ++ false ∷ [])) ms
 leave _ nets ms = ms
 
@@ -59,7 +59,7 @@ shifted-length column ms =
     omega (arith, length-drop 1 (J ++ false ∷ []), length-append J (false ∷ []))
 
 Sound-leave : (w : Work) (nets : List Net) (ms : List Member) → AllSound ms → AllSound (leave w nets ms)
-Sound-leave (Captures column) nets ms sound = Sound-capture_all column (sees nets ms) 0 ms sound
+Sound-leave (Captures column) nets ms sound = Sound-capture_all column (told nets ms) 0 ms sound
 Sound-leave (Shifts column) nets ms sound = Sound-cut_back column _ ms sound (shifted-length column ms)
 Sound-leave Resets nets ms sound = sound
 Sound-leave (Updates column) nets ms sound = sound

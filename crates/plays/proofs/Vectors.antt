@@ -12,7 +12,7 @@ use Rattle.device_registers.specs.Registers.{Registers, selected_bits, put, stag
 use Rattle.device_registers.specs.declared.users.UserRegister.{UserRegister}
 use Rattle.board_meaning.specs.Cells.{Member}
 use Rattle.pin_nets.specs.Wired.{Net}
-use Rattle.board_meaning.specs.Nets.{sees}
+use Rattle.board_meaning.specs.Nets.{told}
 use Rattle.board_meaning.specs.Whole.{selected_bits_of, joined_bits, cut_back}
 use Rattle.scan_vectors.specs.Vector.{VectorBit, tdis}
 use Rattle.tck_cycles.specs.Cycles.{scan_cycles}
@@ -111,7 +111,7 @@ stays Ir = refl
 -- The shift cycle: with every device in Shift and each TDO latched, one low and high byte move the joined list by one.
 pub cycled-shift : (column : Column) (tms tdi : Bool) (nets : List Net) (ms : List Member) → Full column ms
     → cycled (shift_state column) tms tdi nets ms ≡ cut_back column (drop 1 (joined_bits column ms ++ tdi ∷ [])) ms
-cycled-shift column tms tdi nets ms full = fallen-quiet column tms _ ∙ shift-one column tdi (sees nets ms) 0 ms full
+cycled-shift column tms tdi nets ms full = fallen-quiet column tms _ ∙ shift-one column tdi (told nets ms) 0 ms full
 
 -- the bits at the places where one is wanted
 abbrev pub picked : List VectorBit → List Bool → List Bool

@@ -39,7 +39,7 @@ rich = record bare {
 
 -- a rich device and a bare one
 abbrev pub mixed : List Member
-mixed = powered (bare_name 1) rich (false ∷ []) false ∷ powered (bare_name 2) bare (false ∷ []) false ∷ []
+mixed = powered (bare_name 1) rich (false ∷ []) [] false ∷ powered (bare_name 2) bare (false ∷ []) [] false ∷ []
 
 -- one bit of a scan: 0 in, and 0 wanted
 abbrev pub zero_bit : VectorBit
@@ -73,7 +73,7 @@ abbrev pub lone_scan : List Numbered
 lone_scan = step (Scan Ir (zero_bit ∷ []) Idle) ∷ []
 
 abbrev pub empty_capture : List Member
-empty_capture = powered (bare_name 1) (record bare { capture = [] }) (false ∷ []) false ∷ []
+empty_capture = powered (bare_name 1) (record bare { capture = [] }) (false ∷ []) [] false ∷ []
 
 abbrev pub move_under_trst : List Numbered
 move_under_trst = step (Trst On) ∷ step (Go Idle) ∷ []

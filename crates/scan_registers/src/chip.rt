@@ -171,6 +171,14 @@ impl<B: Register> Chip<B> {
         self.registers.boundary.see(cell, bit);
     }
 
+    /// The core's bit of a cell of the boundary register is this one from now on.
+    pub fn set_core(&mut self, cell: usize, bit: bool)
+        requires { cell < length (B.stage self.old.boundary) }
+        ensures { self.new ≡ record self.old { boundary = B.cored self.old.boundary cell bit } }
+    {
+        self.registers.boundary.set_core(cell, bit);
+    }
+
     /// The description.
     pub fn device(&self) -> &Device
         ensures { result.now ≡ self.now.device }

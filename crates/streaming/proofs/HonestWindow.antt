@@ -12,7 +12,7 @@ use Rattle.plays.specs.Playing.{PlayerState, has_bad_answer}
 use Rattle.plays.specs.declared.kind.Kind.{Kind}
 use Rattle.plays.specs.declared.kind.Kind.TheVariants.{Stops, PlaysOn}
 use Rattle.plays.specs.PlayingOn.{ending_of, failures, turns_for, unjudged}
-use Rattle.plays.proofs.Asks.{hear-full, sent-full, turns-ask}
+use Rattle.plays.proofs.Asks.{hear-full, sent-full, turns-ask, played_of}
 use Rattle.plays.proofs.GrowthByPrefix.{sent-grows}
 use Rattle.every_schedule.specs.Fronts.{IsFront}
 use Rattle.every_schedule.specs.Laws.{bytes_of_full_play, full}
@@ -22,7 +22,7 @@ use Rattle.every_schedule.proofs.BothPlayers.{ask-for, no-quit-for}
 use Rattle.every_schedule.proofs.Fronts.{front-take, front-trans}
 use Rattle.every_schedule.proofs.HonestLinks.{ending-full, honest, none-bad-any, told-bits}
 use Rattle.every_schedule.proofs.InsideFullPlay.{hear-front}
-use Rattle.every_schedule.proofs.Quits.{full-last, has_quit, played_of, quit-append, sent-whole}
+use Rattle.every_schedule.proofs.Quits.{full-last, has_quit, quit-append, sent-whole}
 use Rattle.every_schedule.proofs.SafetyLaws.{answered-encoded}
 use Rattle.streaming.specs.Histories.{ending_of_history, given_out, has_ended, verdict, verdict_of}
 use Rattle.streaming.specs.Laws.{AnHonestVerdictForAnyWindow}

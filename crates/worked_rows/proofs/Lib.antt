@@ -1,2 +1,3 @@
 pub mod PlaysCompute
 pub mod SingleCompute
+pub mod FollowingCompute

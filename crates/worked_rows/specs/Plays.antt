@@ -31,7 +31,7 @@ pulled_down = power_up (net Down (pin_q 0 ∷ [])) (with_core sample_device 0 �
 
 -- the level of the net that the sample boards name
 abbrev pub net_levels : BoardState → List Level
-net_levels b = map (level (members b.chips)) b.nets
+net_levels b = map (level b.nets (members b.chips)) b.nets
 
 abbrev pub registers_of : BoardState → List Registers
 registers_of b = map (λ c. c.member.registers) b.chips

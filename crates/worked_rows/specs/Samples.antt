@@ -86,7 +86,7 @@ with_fixed_user = device_with (rows_with (codes "LOAD")) q_cell
     (record { instruction = codes "LOAD"; place = AtUser 0; captures = Some (bits 4 5) } ∷ []) (4 ∷ []) false
 
 abbrev pub with_core : Device → ℕ → Member
-with_core d core = powered (codes "U") d (bits (length d.cells) core) false
+with_core d core = powered (codes "U") d (bits (length d.cells) core) [] false
 
 abbrev pub plain : List Device → AtRest
 plain ds = power_up [] (map (λ d. with_core d 0) ds)

@@ -5,6 +5,7 @@ use Rattle.jt_tap.specs.declared.State.TheVariants.{Reset, Idle, DrShift, IrPaus
 use Rattle.bitbang_table.specs.declared.Message.{Message}
 use Rattle.bitbang_table.specs.declared.Message.TheVariants.{Write}
 use Rattle.board_meaning.specs.Bare.{bare}
+use Rattle.board_meaning.specs.Cells.{untold}
 use Rattle.board_meaning.specs.Chain.{ChipState, BoardState, rise, fall, assert_trst, hear, reply, after_byte}
 use Rattle.board_meaning.specs.declared.Reply.TheVariants.{Refused}
 use Rattle.board_meaning.specs.Resting.{chip_at_rest, board_at_rest}
@@ -19,7 +20,7 @@ use Rattle.worked_rows.specs.Samples.{bits, sample_device, with_trst, plain, wit
 use Rattle.worked_rows.specs.Agree.{meant, flat_board}
 
 abbrev pub up : Bool → ChipState → ChipState
-up tms c = rise false tms true (λ port. true) c
+up tms c = rise false tms true untold c
 
 -- a fall after each rise
 abbrev pub cycled : List Bool → ChipState → ChipState
@@ -64,8 +65,8 @@ pub record EdgeRows : Type 0 where
   pub identification : tdos 31 (fall shifting) ≡ map (λ b. Some b) (bits 32 0x01234567)
   pub trst_state : reset_now.state ≡ Reset
   pub trst_tdo : reset_now.tdo ≡ None
-  pub trst_holds : (rise true false true (λ port. true) reset_now).state ≡ Reset
-  pub trst_released : (rise false false true (λ port. true) reset_now).state ≡ Idle
+  pub trst_holds : (rise true false true untold reset_now).state ≡ Reset
+  pub trst_released : (rise false false true untold reset_now).state ≡ Idle
   pub at_pause : paused.state ≡ IrPause
   pub latch_before : (up true (cycled (true ∷ []) paused)).member.registers.latch ≡ bits 2 2
   pub latch_after : (cycled (true ∷ true ∷ []) paused).member.registers.latch ≡ bits 2 1

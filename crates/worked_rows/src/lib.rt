@@ -1,6 +1,7 @@
 //! Worked examples of boards and programs, computed from the definitions that all contracts cite.
 #![tactic(auto)]
 
+ghost use Rattle.worked_rows.specs.Following.{FollowingRows};
 ghost use Rattle.worked_rows.specs.Plays.{PlayRows};
 ghost use Rattle.worked_rows.specs.Single.{EdgeRows};
 
@@ -13,4 +14,9 @@ pub fn plays_compute()
 /// One device edge by edge, refused bytes, and plays under schedules of two pipes, computed in the same way.
 pub fn edges_compute()
     ensures { EdgeRows }
+{}
+
+/// Boards whose cores follow what their pins see, computed in the same way.
+pub fn following_computes()
+    ensures { FollowingRows }
 {}

@@ -1,15 +1,16 @@
 //! All devices of a chain at once, without TCK: capture, the judgement of what comes out, shift, update and reset (IEEE
 //! Std 1149.1-2001, clauses 6, 7 and 9).
 
-ghost use Rattle.std.specs.Prelude.{◌≡◌, ◌+◌, ◌<◌, ◌^◌, true, false, length, map};
+ghost use Rattle.std.specs.Prelude.{◌≡◌, ◌+◌, ◌<◌, ◌^◌, Bool, true, false, length, map};
 ghost use Rattle.board_meaning.specs.Chain.{members};
-ghost use Rattle.board_meaning.specs.Nets.{sees};
+ghost use Rattle.board_meaning.specs.Nets.{told};
 ghost use Rattle.board_meaning.specs.Resting.{chip_at_rest};
 ghost use Rattle.board_meaning.specs.Whole as whole;
-ghost use Rattle.chip_chain.specs.AtRest.{AssertsTrst, CapturesAt, Changes, Stands, chain_as, shifted_through};
+ghost use Rattle.chip_chain.specs.AtRest.{AssertsTrst, CapturesAt, Changes, Stands, as_members, chain_as};
+ghost use Rattle.chip_chain.specs.AtRest.{shifted_through};
+ghost use Rattle.chip_chain.specs.Settled.{IsSettled};
 ghost use Rattle.chip_chain.specs.Sweeping.{EachFrom, Still};
-ghost use Rattle.chip_seats.specs.Driving.{cells_of};
-ghost use Rattle.chip_seats.specs.Tables.{IsDriving};
+ghost use Rattle.chip_seats.specs.Seats.{AllTold, chip_state};
 ghost use Rattle.chip_seats.specs.Wires.{IsWired};
 ghost use Rattle.jt_tap.specs.declared.State.TheVariants.{Reset};
 ghost use Rattle.scan_vectors.specs.Failures.{differing, found, with_found};
@@ -17,17 +18,18 @@ ghost use Rattle.scan_vectors.specs.Held.{bits};
 ghost use Rattle.scan_vectors.specs.Vector.{tdis};
 
 use super::Chain;
+use super::settling::put_anew;
 use board_wiring::Wiring;
-use chip_seats::{DrivingPins, Seat, refresh_driving};
+use chip_seats::{DrivingPins, Seat, WiredString};
 use jt_tap::{Column, State};
 use scan_vectors::{Failures, Vector};
 use whole_chain::{note_chain, shift_chain};
 
 impl Chain {
-    /// The column's register of every device captures, each from the levels before.
+    /// The column's register of every device captures, each from the levels and the core bits in force before.
     pub fn capture(&mut self, column: Column)
         ensures { self.new
-            ≡ chain_as (whole.capture_all column (sees self.old.nets (members self.old.chips)) 0
+            ≡ chain_as (whole.capture_all column (told self.old.nets (members self.old.chips)) 0
             (members self.old.chips)) self.old }
     {
         capture_all(&mut self.seats, &self.wiring, column);
@@ -55,14 +57,25 @@ impl Chain {
     pub fn update(&mut self, column: Column)
         ensures { self.new ≡ chain_as (map (whole.update_member column) (members self.old.chips)) self.old }
     {
-        update_wired(&mut self.seats, &mut self.wiring, &mut self.driving, column);
+        update_settled(
+            &mut self.seats,
+            &mut self.wiring,
+            &mut self.driving,
+            &self.strings,
+            column,
+        );
     }
 
     /// Every device is reset, as in RESET.
     pub fn reset(&mut self)
         ensures { self.new ≡ chain_as (map whole.reset_member (members self.old.chips)) self.old }
     {
-        reset_wired(&mut self.seats, &mut self.wiring, &mut self.driving);
+        reset_settled(
+            &mut self.seats,
+            &mut self.wiring,
+            &mut self.driving,
+            &self.strings,
+        );
     }
 
     /// Every controller stands in this state, and no TDO is driven.
@@ -81,7 +94,13 @@ impl Chain {
               (map (whole.trst_member (whole.settled_member rests)) (members self.old.chips));
         } }
     {
-        assert_trst_wired(&mut self.seats, &mut self.wiring, &mut self.driving, rests);
+        assert_trst_settled(
+            &mut self.seats,
+            &mut self.wiring,
+            &mut self.driving,
+            &self.strings,
+            rests,
+        );
         self.trst = true;
     }
 }
@@ -96,51 +115,67 @@ fn capture_all(seats: &mut [Seat], wiring: &Wiring, column: Column)
     }
 }
 
-/// An update of all devices; where it may have changed what they drive, that is put to the nets, given the pins that a
-/// cell drives.
-fn update_wired(seats: &mut [Seat], wiring: &mut Wiring, driving: &mut DrivingPins, column: Column)
-    requires wired { IsWired seats.old wiring.old }
-    requires driving { IsDriving (map cells_of seats.old) wiring.old driving.old }
-    ensures devices { EachFrom (Changes (whole.update_member column)) 0 seats.old seats.new }
-    ensures wired { IsWired seats.new wiring.new }
-    ensures driving { IsDriving (map cells_of seats.new) wiring.new driving.new }
+/// An update of all devices; where it may have changed what they drive, that and the strings are put anew.
+fn update_settled(
+    seats: &mut [Seat],
+    wiring: &mut Wiring,
+    driving: &mut DrivingPins,
+    strings: &[WiredString],
+    column: Column,
+)
+    requires { IsSettled seats.old wiring.old driving.old strings.now }
+    ensures settled { IsSettled seats.new wiring.new driving.new strings.now }
+    ensures long { length seats.new ≡ length seats.old }
+    ensures chips { map chip_state seats.new
+        ≡ as_members (map (whole.update_member column) (members (map chip_state seats.old)))
+        (map chip_state seats.old) }
+    ensures told { (trst : Bool) → AllTold trst seats.old → AllTold trst seats.new }
     ensures nets { wiring.new.nets ≡ wiring.old.nets }
 {
     let anew = update_all(seats, column);
     if anew {
-        refresh_driving(wiring, seats, driving);
+        put_anew(seats, wiring, driving, strings);
     }
 }
 
-/// A reset of all devices, and what they drive from then on is put to the nets.
-fn reset_wired(seats: &mut [Seat], wiring: &mut Wiring, driving: &mut DrivingPins)
-    requires wired { IsWired seats.old wiring.old }
-    requires driving { IsDriving (map cells_of seats.old) wiring.old driving.old }
-    ensures devices { EachFrom (Changes whole.reset_member) 0 seats.old seats.new }
-    ensures wired { IsWired seats.new wiring.new }
-    ensures driving { IsDriving (map cells_of seats.new) wiring.new driving.new }
-    ensures nets { wiring.new.nets ≡ wiring.old.nets }
-{
-    reset_all(seats);
-    refresh_driving(wiring, seats, driving);
-}
-
-/// TRST is asserted to all devices at rest in a state, and what they drive from then on is put to the nets.
-fn assert_trst_wired(
+/// A reset of all devices, and what they drive from then on and the strings are put anew.
+fn reset_settled(
     seats: &mut [Seat],
     wiring: &mut Wiring,
     driving: &mut DrivingPins,
+    strings: &[WiredString],
+)
+    requires { IsSettled seats.old wiring.old driving.old strings.now }
+    ensures settled { IsSettled seats.new wiring.new driving.new strings.now }
+    ensures long { length seats.new ≡ length seats.old }
+    ensures chips { map chip_state seats.new
+        ≡ as_members (map whole.reset_member (members (map chip_state seats.old))) (map chip_state seats.old) }
+    ensures told { (trst : Bool) → AllTold trst seats.old → AllTold trst seats.new }
+    ensures nets { wiring.new.nets ≡ wiring.old.nets }
+{
+    reset_all(seats);
+    put_anew(seats, wiring, driving, strings);
+}
+
+/// TRST is asserted to all devices at rest in a state, and what they drive from then on and the strings are put anew.
+fn assert_trst_settled(
+    seats: &mut [Seat],
+    wiring: &mut Wiring,
+    driving: &mut DrivingPins,
+    strings: &[WiredString],
     rests: State,
 )
-    requires wired { IsWired seats.old wiring.old }
-    requires driving { IsDriving (map cells_of seats.old) wiring.old driving.old }
-    ensures devices { EachFrom (AssertsTrst rests) 0 seats.old seats.new }
-    ensures wired { IsWired seats.new wiring.new }
-    ensures driving { IsDriving (map cells_of seats.new) wiring.new driving.new }
+    requires { IsSettled seats.old wiring.old driving.old strings.now }
+    ensures settled { IsSettled seats.new wiring.new driving.new strings.now }
+    ensures long { length seats.new ≡ length seats.old }
+    ensures chips { map chip_state seats.new
+        ≡ map (chip_at_rest Reset)
+        (map (whole.trst_member (whole.settled_member rests)) (members (map chip_state seats.old))) }
+    ensures told { AllTold true seats.new }
     ensures nets { wiring.new.nets ≡ wiring.old.nets }
 {
     assert_trst_all(seats, rests);
-    refresh_driving(wiring, seats, driving);
+    put_anew(seats, wiring, driving, strings);
 }
 
 /// TRST is asserted to all devices at rest in a state.

@@ -6,7 +6,7 @@ ghost use Rattle.board_meaning.specs.Resting.{chip_at_rest};
 ghost use Rattle.board_meaning.specs.Whole.{capture_member, reset_member, settled_member, trst_member, update_member};
 ghost use Rattle.chip_seats.specs.AtRest.{IsSightedFor, as_member};
 ghost use Rattle.chip_seats.specs.Seats.{AreBelow, DrivesStill, IsKept, captures_boundary, chip_state, member_of};
-ghost use Rattle.chip_seats.specs.Seats.{updates_driving};
+ghost use Rattle.chip_seats.specs.Seats.{told_by, updates_driving};
 ghost use Rattle.chip_seats.specs.Telling.{IsAt, sight};
 ghost use Rattle.jt_tap.specs.declared.State.TheVariants.{Reset};
 ghost use Rattle.jt_tap.specs.declared.Work.TheVariants.{Captures};
@@ -58,14 +58,14 @@ impl Seat {
         column == Column::Dr && self.chip.selected() == Selected::Boundary
     }
 
-    /// The column's register captures; the boundary register takes the levels before.
+    /// The column's register captures; the boundary register takes the levels before, and the core bits that it holds.
     pub fn capture(&mut self, wiring: &Wiring, column: Column)
         requires below { AreBelow (length wiring.now.nets) self.old.nets }
         ensures kept { IsKept self.old self.new }
         ensures trst { self.new.chip.trst ≡ self.old.chip.trst }
-        ensures chip { (place : ℕ) (ms : List Member) → IsAt wiring.now place ms self.old
-            → chip_state self.new ≡ as_member (capture_member column (sight wiring.now ms place) (member_of self.old))
-            (chip_state self.old) }
+        ensures chip { (place : ℕ) (held : List Member) → IsAt wiring.now place held self.old
+            → chip_state self.new ≡ as_member (capture_member column
+            (told_by (sight wiring.now held place) self.old) (member_of self.old)) (chip_state self.old) }
     {
         if self.captures_boundary_of(column) {
             self.tell(wiring);
@@ -78,7 +78,8 @@ impl Seat {
         ensures kept { IsKept self.old self.new }
         ensures trst { self.new.chip.trst ≡ self.old.chip.trst }
         ensures chip { (sees : ℕ → Bool) → IsSightedFor column sees self.old
-            → chip_state self.new ≡ as_member (capture_member column sees (member_of self.old)) (chip_state self.old) }
+            → chip_state self.new
+            ≡ as_member (capture_member column (told_by sees self.old) (member_of self.old)) (chip_state self.old) }
     {
         self.chip.capture(column);
     }

@@ -35,7 +35,8 @@ impl Board {
         }
     }
 
-    /// Of a board at rest (asked) the column's register of every device captures, each from the levels before.
+    /// Of a board at rest (asked) the column's register of every device captures, each from the levels and the core
+    /// bits in force before.
     pub fn capture(&mut self, column: Column)
         requires { IsResting self.old }
         ensures { (m : AtRest) → IsAtRest self.old m → IsAtRest self.new (whole.capture column m) }

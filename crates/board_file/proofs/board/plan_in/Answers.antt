@@ -1,76 +1,58 @@
-use Rattle.std.proofs.Common.{◌∙◌, sym, ap, subst, map, option_map, codes, None}
+use Rattle.std.proofs.Common.{◌≡◌, map, sym, subst, ap, ◌∙◌, arith}
+use Rattle.std.specs.List.{AllByRecursion}
+use Rattle.std.proofs.lemmas.Option.{slice_get_within}
 use Rattle.toml.specs.View.{table_view}
-use Rattle.board_tables.specs.Fields.{tables_in, tables_at}
-use Rattle.board_words.specs.View.{texts_of}
-use Rattle.board_names.specs.Files.{file_at, distinct}
-use Rattle.board_library.specs.Files.{described, missing_in, refused_in}
-use Rattle.board_library.specs.View.{files_of, IsFirstRefusal}
-use Rattle.board_file.specs.View.{PlansBoard}
-use Rattle.board_file.proofs.BoardLaws.{keys_fault, missing_fault, refused_fault, planned}
-use Rattle.board_file.proofs.FitLaws.{told_fits, told_said}
+use Rattle.core_loops.specs.Loops.{HasNoLoop, IsFirstOnLoop}
+use Rattle.board_library.specs.View.{files_of}
+use Rattle.board_plan.specs.View.{member, net, wiring}
+use Rattle.board_parts.specs.Strings.{HasStrings}
+use Rattle.board_loops.specs.Depending.{dependencies}
+use Rattle.board_file.specs.Wiring.{makes, targets_in}
+use Rattle.board_file.proofs.FitLaws.{board_targets}
+use Rattle.board_file.proofs.LoopLaws.{loop_told, no_memory_told, wiring_told}
 use Rattle.board_file.proofs.board.plan_in.Goals as goal
 
--- src/board.rt:59:9
 pub returns-in-Err-clause-told : goal.returns-in-Err-clause-told
 returns-in-Err-clause-told g c =
-    let says = g.R.Describe.says in
-    let refuses = g.R.Describe.refuses in
-    let files = files_of c.args.files.now in
     let t = table_view c.args.table.now in
-    let names = texts_of c.in-Ok.names in
-    let names_is = c.in-Ok.ensures ∙ ap (λ items. distinct (map file_at (tables_in items))) c.items_at.ensures in
-    let ds_is = c.deref.ensures.value ∙ c.in-Ok-read_files.ensures.devices ∙ ap (λ ks. map (described says files) (texts_of ks)) c.keys.ensures in
-    keys_fault refuses says files t names c.deref.result.now names_is ds_is c.in-Err.fault c.in-Err.ensures
+    wiring_told g.R.Describe.refuses (makes g.R.Describe.says (files_of c.args.files.now) t) (targets_in t) c.in-Err.fault c.in-Err.ensures.told
 
--- src/board.rt:62:9
-pub returns-in-Some-clause-told : goal.returns-in-Some-clause-told
-returns-in-Some-clause-told g c =
-    let says = g.R.Describe.says in
-    let refuses = g.R.Describe.refuses in
-    let files = files_of c.args.files.now in
+pub settle_strings-requires : goal.settle_strings-requires
+settle_strings-requires g c = subst (λ ds. AllByRecursion HasStrings (map member ds)) (sym c.deref-2.ensures.value) c.in-Ok.ensures.fits.strings
+
+-- the nets and devices that are settled are the plan's
+pub returns-in-Ok-Order-clause-told : goal.returns-in-Ok-Order-clause-told
+returns-in-Ok-Order-clause-told g c = (
+  c.in-Ok.ensures.told,
+  subst (λ ds. HasNoLoop (dependencies (record { members = map member ds; nets = map net c.in-Ok.plan.nets.items }))) c.deref-2.ensures.value
+      (subst (λ ns. HasNoLoop (dependencies (record { members = map member c.deref-2.result.now; nets = map net ns }))) c.deref.ensures.value (rw c.in-Ok-Order.field-0-is at c.in-Ok-Order.ensures).0),
+)
+
+pub core_loop-requires : goal.core_loop-requires
+core_loop-requires g c =
     let t = table_view c.args.table.now in
-    let names = texts_of c.in-Ok.names in
-    let names_is = c.in-Ok.ensures ∙ ap (λ items. distinct (map file_at (tables_in items))) c.items_at.ensures in
-    let ds_is = c.deref.ensures.value ∙ c.in-Ok-read_files.ensures.devices ∙ ap (λ ks. map (described says files) (texts_of ks)) c.keys.ensures in
-    let missing_is = ap (λ ks. missing_in files (texts_of ks)) (sym c.keys.ensures) ∙ sym c.in-Ok-read_files.ensures.missing in
-    missing_fault refuses says files t names c.deref.result.now names_is ds_is c.in_default-check_keys.ensures c.unknown_file.result c.in-Some.name.now
-    (missing_is ∙ ap (option_map (λ n. n.now)) c.in-Some.is) c.unknown_file.ensures
+    let w = wiring c.in-Ok.plan in
+    let place = c.in-Ok-Loop.place in
+    let first : IsFirstOnLoop (dependencies w) place =
+    subst (λ ds. IsFirstOnLoop (dependencies (record { members = map member ds; nets = map net c.in-Ok.plan.nets.items })) place) c.deref-2.ensures.value
+    (subst (λ ns. IsFirstOnLoop (dependencies (record { members = map member c.deref-2.result.now; nets = map net ns })) place) c.deref.ensures.value (rw c.in-Ok-Loop.field-0-is at c.in-Ok-Loop.ensures)) in
+    let long = board_targets g.R.Describe.says (files_of c.args.files.now) t w c.in-Ok.ensures.told in
+    omega (arith, long, slice_get_within (dependencies w) place first.on_loop.string first.on_loop.stands)
 
--- src/board.rt:65:9
-pub returns-in-Some-refused-clause-told : goal.returns-in-Some-refused-clause-told
-returns-in-Some-refused-clause-told g c =
-    let says = g.R.Describe.says in
-    let refuses = g.R.Describe.refuses in
-    let files = files_of c.args.files.now in
+pub returns-in-Ok-Loop-clause-told : goal.returns-in-Ok-Loop-clause-told
+returns-in-Ok-Loop-clause-told g c =
     let t = table_view c.args.table.now in
-    let names = texts_of c.in-Ok.names in
-    let names_is = c.in-Ok.ensures ∙ ap (λ items. distinct (map file_at (tables_in items))) c.items_at.ensures in
-    let ds_is = c.deref.ensures.value ∙ c.in-Ok-read_files.ensures.devices ∙ ap (λ ks. map (described says files) (texts_of ks)) c.keys.ensures in
-    let missing_is = ap (λ ks. missing_in files (texts_of ks)) (sym c.keys.ensures) ∙ sym c.in-Ok-read_files.ensures.missing in
-    let refused_is = ap (λ ks. refused_in says files (texts_of ks)) (sym c.keys.ensures) in
-    let (text, is, why) = subst (λ o. IsFirstRefusal refuses o None (refused_in says files (texts_of c.keys.result.now))) c.in-Some-refused.is c.in-Ok-read_files.ensures.refused in
-    refused_fault refuses says files t names c.deref.result.now names_is ds_is c.in_default-check_keys.ensures (missing_is ∙ ap (option_map (λ n. n.now)) c.in_default-missing.is)
-    c.in-Some-refused.fault text (refused_is ∙ is) why
+    let w = wiring c.in-Ok.plan in
+    let place = c.in-Ok-Loop.place in
+    let first : IsFirstOnLoop (dependencies w) place =
+    subst (λ ds. IsFirstOnLoop (dependencies (record { members = map member ds; nets = map net c.in-Ok.plan.nets.items })) place) c.deref-2.ensures.value
+    (subst (λ ns. IsFirstOnLoop (dependencies (record { members = map member c.deref-2.result.now; nets = map net ns })) place) c.deref.ensures.value (rw c.in-Ok-Loop.field-0-is at c.in-Ok-Loop.ensures)) in
+    loop_told g.R.Describe.refuses (makes g.R.Describe.says (files_of c.args.files.now) t) (targets_in t) c.core_loop.result w place c.in-Ok.ensures.told first c.core_loop.ensures
 
--- src/board.rt:39:1
-pub returns-clause-told : goal.returns-clause-told
-returns-clause-told g c =
-    let says = g.R.Describe.says in
-    let refuses = g.R.Describe.refuses in
-    let files = files_of c.args.files.now in
+pub returns-in-Err-settle_strings-clause-told : goal.returns-in-Err-settle_strings-clause-told
+returns-in-Err-settle_strings-clause-told g c =
     let t = table_view c.args.table.now in
-    let names = texts_of c.in-Ok.names in
-    let names_is = c.in-Ok.ensures ∙ ap (λ items. distinct (map file_at (tables_in items))) c.items_at.ensures in
-    let ds_is = c.deref.ensures.value ∙ c.in-Ok-read_files.ensures.devices ∙ ap (λ ks. map (described says files) (texts_of ks)) c.keys.ensures in
-    let missing_is = ap (λ ks. missing_in files (texts_of ks)) (sym c.keys.ensures) ∙ sym c.in-Ok-read_files.ensures.missing in
-    let refused_is = ap (λ ks. refused_in says files (texts_of ks)) (sym c.keys.ensures) in
-    let none = subst (λ o. IsFirstRefusal refuses o None (refused_in says files (texts_of c.keys.result.now))) c.in_default-refused.is c.in-Ok-read_files.ensures.refused in
-    planned refuses says files t names c.deref.result.now names_is ds_is c.in_default-check_keys.ensures (missing_is ∙ ap (option_map (λ n. n.now)) c.in_default-missing.is)
-    (refused_is ∙ sym none) c.plan_described.result
-    (subst (λ ds. PlansBoard c.plan_described.result names ds (tables_at (codes "device") t) (tables_at (codes "net") t)) (c.deref-2.ensures.value ∙ sym c.deref.ensures.value) c.plan_described.ensures)
+    no_memory_told g.R.Describe.refuses (makes g.R.Describe.says (files_of c.args.files.now) t) (targets_in t)
 
-pub returns-clause-fits : goal.returns-clause-fits
-returns-clause-fits g c = told_fits g.R.Describe.refuses g.R.Describe.says (files_of c.args.files.now) (table_view c.args.table.now) c.plan_described.result (returns-clause-told g c)
-
-pub returns-clause-said : goal.returns-clause-said
-returns-clause-said g c = told_said g.R.Describe.refuses g.R.Describe.says (files_of c.args.files.now) (table_view c.args.table.now) c.plan_described.result (returns-clause-told g c)
+pub returns-in-Ok-Order-clause-loops : goal.returns-in-Ok-Order-clause-loops
+returns-in-Ok-Order-clause-loops g c = (returns-in-Ok-Order-clause-told g c).1

@@ -24,7 +24,7 @@ pub loop-k-preserved : goal.loop-k-preserved
 loop-k-preserved g c =
     let chain = c.args.chain.now in
     let k = c.loop-k.k in
-    let line = net_line (members chain.chips) in
+    let line = net_line chain.nets (members chain.chips) in
     let below : k < length chain.nets = omega (arith, c.loop-k-test.true, c.nets-k-end.ensures) in
     record {
       none_lost = c.in_ok-write_level.ensures.ok.0 refl;
@@ -38,7 +38,7 @@ pub returns-in_err-write_level : goal.returns-in_err-write_level
 returns-in_err-write_level g c =
     let chain = c.args.chain.now in
     let k = c.loop-k.k in
-    let line = net_line (members chain.chips) in
+    let line = net_line chain.nets (members chain.chips) in
     let below : k < length chain.nets = omega (arith, c.loop-k-test.true, c.nets-k-end.ensures) in
     let more = ap (λ (x : List ℕ). flat_map line (take k chain.nets) ++ x) (net_said (members chain.chips) chain.nets k c.net_name.result.now c.level.result c.net_name.ensures c.level.ensures)
     ∙ flat_map-more line chain.nets k _ below in
@@ -49,7 +49,7 @@ returns-in_err-write_level g c =
 pub returns : goal.returns
 returns g c =
     let chain = c.args.chain.now in
-    let line = net_line (members chain.chips) in
+    let line = net_line chain.nets (members chain.chips) in
     WritesAll-done tt c.loop-k.invariant.none_lost
     (subst (λ (l : List Net). Appends (g.W.Write.contents c.args.out.now.inner) (g.W.Write.contents c.loop-k.out.inner) (flat_map line l))
     (take_all c.loop-k.k chain.nets (omega (arith, c.loop-k-test.false, c.nets-k-end.ensures))) c.loop-k.invariant.sent)

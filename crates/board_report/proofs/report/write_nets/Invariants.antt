@@ -8,5 +8,5 @@ use Rattle.board_report.proofs.report.write_nets.Given as goal
 abbrev pub invariant-loop-k : goal.invariant-loop-k
 invariant-loop-k g l = record {
   none_lost : l.out.failures ≡ 0;
-  sent : Appends (g.W.Write.contents l.initial.out.inner) (g.W.Write.contents l.out.inner) (flat_map (net_line (members l.chain.chips)) (take l.k l.chain.nets));
+  sent : Appends (g.W.Write.contents l.initial.out.inner) (g.W.Write.contents l.out.inner) (flat_map (net_line l.chain.nets (members l.chain.chips)) (take l.k l.chain.nets));
 }

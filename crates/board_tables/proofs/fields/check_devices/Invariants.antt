@@ -9,4 +9,4 @@ use Rattle.board_tables.proofs.fields.check_devices.Given as goal
 abbrev pub invariant-loop-device : goal.invariant-loop-device
 invariant-loop-device l =
     unfit_device (texts_of l.names) l.rest (tables_in (items_view (drop l.device-index l.devices)))
-    ≡ unfit_device [] l.cells (tables_in (items_view l.devices))
+    ≡ unfit_device [] l.known (tables_in (items_view l.devices))

@@ -2,7 +2,7 @@ use Rattle.std.proofs.Common.{◌<◌, length, map, refl, arith}
 use Rattle.std.proofs.lemmas.List.{length-map}
 use Rattle.std.proofs.lemmas.Option.{slice_get_read}
 use Rattle.chip_seats.specs.Blocks.{TellsBlock}
-use Rattle.chip_seats.specs.Seats.{member_of}
+use Rattle.chip_seats.specs.Seats.{held_of}
 use Rattle.chip_seats.specs.Tables.{targets}
 use Rattle.chip_seats.proofs.BlockLaws.{block_tells}
 use Rattle.chip_seats.proofs.RefreshLaws.{block_settled}
@@ -13,10 +13,10 @@ returns-clause-settled c =
     let seats = c.args.seats.now in
     let block = c.args.block in
     let s = c.index-seats-block.result in
-    let inside : block.device < length seats = omega (arith, c.requires.slots.device, length-map seats member_of) in
-    let tells : TellsBlock (map member_of seats) block c.plain_cells-now.result =
+    let inside : block.device < length seats = omega (arith, c.requires.slots.device, length-map seats held_of) in
+    let tells : TellsBlock (map held_of seats) block c.plain_cells-now.result =
     block_tells seats s block c.plain_cells-now.result (slice_get_read seats (length seats) block.device s refl inside c.index-seats-block.is) c.plain_cells-now.ensures in
-    block_settled (map member_of seats) (targets seats c.args.wiring.now.nets) c.args.wiring.now.drives c.put_slots.new.wiring.drives c.args.pins.now c.args.at block c.args.put
+    block_settled (map held_of seats) (targets seats c.args.wiring.now.nets) c.args.wiring.now.drives c.put_slots.new.wiring.drives c.args.pins.now c.args.at block c.args.put
     c.plain_cells-now.result c.changed_slots-changed.result c.requires.put tells c.put_slots.ensures.settles c.put_slots.ensures.settled c.changed_slots-changed.ensures
 
 pub returns-clause-tells : goal.returns-clause-tells
@@ -24,5 +24,5 @@ returns-clause-tells c =
     let seats = c.args.seats.now in
     let block = c.args.block in
     let s = c.index-seats-block.result in
-    let inside : block.device < length seats = omega (arith, c.requires.slots.device, length-map seats member_of) in
+    let inside : block.device < length seats = omega (arith, c.requires.slots.device, length-map seats held_of) in
     block_tells seats s block c.plain_cells-now.result (slice_get_read seats (length seats) block.device s refl inside c.index-seats-block.is) c.plain_cells-now.ensures

@@ -3,7 +3,7 @@ use Rattle.std.proofs.lemmas.List.{length-set}
 use Rattle.std.proofs.lemmas.Option.{slice_get-get_or, slice_get_within}
 use Rattle.boundary.specs.declared.PlainCells.{PlainCells}
 use Rattle.pin_nets.specs.Wired.{Net}
-use Rattle.chip_seats.specs.Seats.{member_of}
+use Rattle.chip_seats.specs.Seats.{held_of}
 use Rattle.chip_seats.specs.Tables.{AreTargeted, Settles, SlotsSettled, WasPut, targets}
 use Rattle.chip_seats.specs.declared.driving.Block.{Block}
 use Rattle.chip_seats.proofs.RefreshLaws.{refreshed_more, rest_more, was_put}
@@ -22,7 +22,7 @@ refresh_block-now-requires-clause-slots c =
     let blocks = c.args.blocks.now in
     let i = c.loop-i.i in
     let b = get_or blocks i none in
-    subst (λ (ns : List Net). AreTargeted (map member_of seats) (targets seats ns) c.args.pins.now (64 * i) b) (sym c.loop-i.invariant.nets)
+    subst (λ (ns : List Net). AreTargeted (map held_of seats) (targets seats ns) c.args.pins.now (64 * i) b) (sym c.loop-i.invariant.nets)
     (c.requires.slots i b (slice_get-get_or blocks i none c.loop-i-test.true))
 
 pub refresh_block-now-requires-clause-put : goal.refresh_block-now-requires-clause-put
@@ -36,8 +36,8 @@ refresh_block-now-requires-clause-put c =
     let at : slice_get blocks i ≡ Some b = slice_get-get_or blocks i none c.loop-i-test.true in
     let inside : i < length c.loop-i.put = omega (arith, c.loop-i-test.true, c.loop-i.invariant.long, c.requires.put.long) in
     let kept : slice_get c.args.put.now i ≡ Some p = sym (c.loop-i.invariant.rest i (omega arith)) ∙ slice_get-get_or c.loop-i.put i nothing inside in
-    subst (λ (ns : List Net). WasPut (map member_of seats) (targets seats ns) c.loop-i.wiring.drives c.args.pins.now (64 * i) b p) (sym c.loop-i.invariant.nets)
-    (was_put (map member_of seats) (targets seats nets) c.args.wiring.now.drives c.loop-i.wiring.drives blocks c.args.pins.now c.args.put.now i b p
+    subst (λ (ns : List Net). WasPut (map held_of seats) (targets seats ns) c.loop-i.wiring.drives c.args.pins.now (64 * i) b p) (sym c.loop-i.invariant.nets)
+    (was_put (map held_of seats) (targets seats nets) c.args.wiring.now.drives c.loop-i.wiring.drives blocks c.args.pins.now c.args.put.now i b p
     c.requires.put at kept (c.requires.slots i b at) c.loop-i.invariant.settles)
 
 pub loop-i-preserved : goal.loop-i-preserved
@@ -63,7 +63,7 @@ loop-i-preserved c =
       long = length-set c.loop-i.put i now ∙ so_far.long;
       rest = rest_more c.loop-i.put c.args.put.now i now so_far.rest;
       done =
-          refreshed_more (map member_of seats) target ds es blocks c.args.pins.now c.loop-i.put i b now at inside settles settled
+          refreshed_more (map held_of seats) target ds es blocks c.args.pins.now c.loop-i.put i b now at inside settles settled
           c.refresh_block-now.ensures.tells so_far.done;
     }
 

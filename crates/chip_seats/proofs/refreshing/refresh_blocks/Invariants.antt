@@ -1,5 +1,5 @@
 use Rattle.std.proofs.Common.{◌≡◌, ◌<◌, ◌≤◌, ℕ, length, map, slice_get, Some}
-use Rattle.chip_seats.specs.Seats.{member_of}
+use Rattle.chip_seats.specs.Seats.{held_of}
 use Rattle.chip_seats.specs.Tables.{IsRefreshed, Settles, targets}
 use Rattle.chip_seats.specs.declared.driving.Block.{Block}
 use Rattle.chip_seats.proofs.refreshing.refresh_blocks.Given as goal
@@ -11,5 +11,5 @@ invariant-loop-i l = record {
   long : length l.put ≡ length l.initial.put;
   rest : (k : ℕ) → l.i ≤ k → slice_get l.put k ≡ slice_get l.initial.put k;
   done : (k : ℕ) (b : Block) → k < l.i → slice_get l.blocks k ≡ Some b
-      → IsRefreshed (map member_of l.seats) (targets l.seats l.initial.wiring.nets) l.wiring.drives l.pins l.put k b;
+      → IsRefreshed (map held_of l.seats) (targets l.seats l.initial.wiring.nets) l.wiring.drives l.pins l.put k b;
 }

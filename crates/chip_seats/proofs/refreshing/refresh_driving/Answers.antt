@@ -7,7 +7,7 @@ use Rattle.pin_nets.specs.declared.Drive.{Drive}
 use Rattle.board_plan.specs.Planned.{all_pins}
 use Rattle.chip_seats.specs.Driving.{cells_of, driving_from}
 use Rattle.chip_seats.specs.DrivingTable.{DrivingTable}
-use Rattle.chip_seats.specs.Seats.{member_of}
+use Rattle.chip_seats.specs.Seats.{held_of}
 use Rattle.chip_seats.specs.Tables.{AreTargeted, IsDriving, IsRefreshed, IsTable, IsTargeted, Settled, Settles, WerePut, targets}
 use Rattle.chip_seats.specs.declared.driving.Block.{Block}
 use Rattle.chip_seats.specs.declared.driving.DrivingPin.{DrivingPin}
@@ -23,7 +23,7 @@ refresh_blocks-requires-clause-slots c = λ i b at.
     let given : IsDriving (map cells_of seats) c.args.wiring.now (the_view c.driving.inside) =
     subst (IsDriving (map cells_of seats) c.args.wiring.now) (sym c.driving.view_is) c.requires in
     let here = sym (ap (λ (l : List Block). slice_get l i) c.deref.ensures.value) ∙ at in
-    subst (λ (l : List ℕ). AreTargeted (map member_of seats) (targets seats nets) l (64 * i) b) (sym c.deref-2.ensures.value)
+    subst (λ (l : List ℕ). AreTargeted (map held_of seats) (targets seats nets) l (64 * i) b) (sym c.deref-2.ensures.value)
     (table_targeted seats nets (the_view c.driving.inside) given.table i b here)
 
 pub refresh_rest-requires-clause-rest : goal.refresh_rest-requires-clause-rest
@@ -32,7 +32,7 @@ refresh_rest-requires-clause-rest c = λ k e at.
     let given : IsDriving (map cells_of seats) c.args.wiring.now (the_view c.driving.inside) =
     subst (IsDriving (map cells_of seats) c.args.wiring.now) (sym c.driving.view_is) c.requires in
     let here = sym (ap (λ (l : List DrivingPin). slice_get l k) c.deref-3.ensures.value) ∙ at in
-    subst (λ (ns : List Net). IsTargeted (map member_of seats) (targets seats ns) e) (sym c.refresh_blocks.ensures.nets)
+    subst (λ (ns : List Net). IsTargeted (map held_of seats) (targets seats ns) e) (sym c.refresh_blocks.ensures.nets)
     (rest_targeted seats c.args.wiring.now.nets (the_view c.driving.inside) given.table k e here)
 
 pub returns-clause-driving : goal.returns-clause-driving
@@ -49,9 +49,9 @@ returns-clause-driving c =
     let drives = c.refresh_blocks.new.wiring.drives in
     let after = c.refresh_rest.new.wiring.drives in
     let put = c.refresh_blocks.new.put in
-    let blocks-are : (i : ℕ) (b : Block) → slice_get d.blocks.items i ≡ Some b → IsRefreshed (map member_of seats) target drives d.pins.items put i b =
+    let blocks-are : (i : ℕ) (b : Block) → slice_get d.blocks.items i ≡ Some b → IsRefreshed (map held_of seats) target drives d.pins.items put i b =
     λ i b at.
-    subst (λ (l : List ℕ). IsRefreshed (map member_of seats) target drives l put i b) c.deref-2.ensures.value
+    subst (λ (l : List ℕ). IsRefreshed (map held_of seats) target drives l put i b) c.deref-2.ensures.value
     (c.refresh_blocks.ensures.blocks i b (ap (λ (l : List Block). slice_get l i) c.deref.ensures.value ∙ at)) in
     let settles : Settles target drives after =
     subst (λ (ns : List Net). Settles (targets seats ns) drives after) c.refresh_blocks.ensures.nets c.refresh_rest.ensures.settles in
@@ -86,9 +86,9 @@ returns-clause-drives c = λ before same was.
     let drives = c.refresh_blocks.new.wiring.drives in
     let after = c.refresh_rest.new.wiring.drives in
     let put = c.refresh_blocks.new.put in
-    let blocks-are : (i : ℕ) (b : Block) → slice_get d.blocks.items i ≡ Some b → IsRefreshed (map member_of seats) target drives d.pins.items put i b =
+    let blocks-are : (i : ℕ) (b : Block) → slice_get d.blocks.items i ≡ Some b → IsRefreshed (map held_of seats) target drives d.pins.items put i b =
     λ i b at.
-    subst (λ (l : List ℕ). IsRefreshed (map member_of seats) target drives l put i b) c.deref-2.ensures.value
+    subst (λ (l : List ℕ). IsRefreshed (map held_of seats) target drives l put i b) c.deref-2.ensures.value
     (c.refresh_blocks.ensures.blocks i b (ap (λ (l : List Block). slice_get l i) c.deref.ensures.value ∙ at)) in
     let settles : Settles target drives after =
     subst (λ (ns : List Net). Settles (targets seats ns) drives after) c.refresh_blocks.ensures.nets c.refresh_rest.ensures.settles in

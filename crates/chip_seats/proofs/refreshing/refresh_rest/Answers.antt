@@ -7,7 +7,7 @@ use Rattle.pin_nets.specs.declared.Drive.{Drive}
 use Rattle.board_plan.specs.Planned.{all_pins}
 use Rattle.board_wiring.specs.Wires.{WiringValue}
 use Rattle.chip_seats.specs.Driving.{entry_drives}
-use Rattle.chip_seats.specs.Seats.{member_of}
+use Rattle.chip_seats.specs.Seats.{held_of}
 use Rattle.chip_seats.specs.Tables.{Settled, Settles, targets}
 use Rattle.chip_seats.specs.declared.driving.DrivingPin.{DrivingPin}
 use Rattle.chip_seats.proofs.SettleLaws.{put_settled, settles_both, settles_put, target_within, targets_long}
@@ -22,7 +22,7 @@ put_one-requires-clause-device c =
     let rest = c.args.rest.now in
     let i = c.loop-it.it-index in
     let r = c.requires.rest i (get_or rest i none) (slice_get-get_or rest i none c.loop-it-test.true) in
-    omega (arith, r.device, length-map seats member_of)
+    omega (arith, r.device, length-map seats held_of)
 
 pub put_one-requires-clause-pin : goal.put_one-requires-clause-pin
 put_one-requires-clause-pin c =
@@ -32,7 +32,7 @@ put_one-requires-clause-pin c =
     let i = c.loop-it.it-index in
     let e = get_or rest i none in
     let r = c.requires.rest i e (slice_get-get_or rest i none c.loop-it-test.true) in
-    subst (λ (ns : List Net). e.pin < length (all_pins ns)) (sym c.loop-it.invariant.nets) (target_within seats nets e.pin (entry_drives (map member_of seats) e) r.pin)
+    subst (λ (ns : List Net). e.pin < length (all_pins ns)) (sym c.loop-it.invariant.nets) (target_within seats nets e.pin (entry_drives (map held_of seats) e) r.pin)
 
 done_more : (target ds es : List Drive) (rest : List DrivingPin) (i : ℕ) (e : DrivingPin) → slice_get rest i ≡ Some e → Settles target ds es → Settled target es e.pin
     → ((k : ℕ) (x : DrivingPin) → k < i → slice_get rest k ≡ Some x → Settled target ds x.pin)
@@ -54,7 +54,7 @@ loop-it-preserved c =
     let e = get_or rest i none in
     let at : slice_get rest i ≡ Some e = slice_get-get_or rest i none c.loop-it-test.true in
     let r = c.requires.rest i e at in
-    let d = entry_drives (map member_of seats) e in
+    let d = entry_drives (map held_of seats) e in
     let ds = c.loop-it.wiring.drives in
     let es = c.put_one.new.wiring.drives in
     let so_far = c.loop-it.invariant in

@@ -4,13 +4,13 @@ use Rattle.pin_nets.specs.Wired.{Net}
 use Rattle.board_plan.specs.Planned.{all_pins}
 use Rattle.board_meaning.specs.Nets.{pin_drive}
 use Rattle.board_wiring.specs.Wires.{WiringValue}
-use Rattle.chip_seats.specs.Seats.{member_of}
+use Rattle.chip_seats.specs.Seats.{held_of}
 use Rattle.chip_seats.proofs.PutLaws.{pin_by_seat, put_more, seat_of}
 use Rattle.chip_seats.proofs.wires.refresh.Goals as goal
 
 pub loop-k-preserved : goal.loop-k-preserved
 loop-k-preserved c =
-    let f = pin_drive (map member_of c.args.seats.now) in
+    let f = pin_drive (map held_of c.args.seats.now) in
     let pins = all_pins c.args.wiring.now.nets in
     let pin = c.pin-pin.result in
     let here : slice_get pins c.loop-k.k ≡ Some pin = ap (λ (ns : List Net). slice_get (all_pins ns) c.loop-k.k) (sym c.loop-k.invariant.nets) ∙ c.pin-pin.ensures in

@@ -8,7 +8,7 @@ use Rattle.jt_board.proofs.report.write_report.Goals as goal
 
 -- the lines of the nets, among these devices
 abbrev net_lines : List ChipState → List Net → List ℕ
-net_lines chips nets = flat_map (net_line (members chips)) nets
+net_lines chips nets = flat_map (net_line nets (members chips)) nets
 
 pub returns-in_err-write_devices : goal.returns-in_err-write_devices
 returns-in_err-write_devices g c =

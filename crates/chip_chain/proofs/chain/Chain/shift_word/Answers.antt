@@ -8,10 +8,10 @@ use Rattle.whole_chain.specs.Words.{word_bits}
 use Rattle.chip_chain.specs.AtRest.{chain_as, shifted_through}
 use Rattle.chip_chain.specs.Chains.{ChainValue}
 use Rattle.chip_seats.specs.Seats.{AllTold, SeatValue, chip_state, member_of}
-use Rattle.chip_seats.specs.Wires.{IsWired}
+use Rattle.chip_chain.specs.Settled.{IsSettled}
 use Rattle.chip_chain.specs.contracts.chain.Chain.{the_view}
-use Rattle.chip_chain.proofs.ChainLaws.{kept_driving}
-use Rattle.chip_chain.proofs.RestLaws.{Cut, PutSome, cut_each, word_chips, shifted_long, shifted_told, shifted_wired}
+use Rattle.chip_chain.proofs.SettledLaws.{keeps, quiet_settled}
+use Rattle.chip_chain.proofs.RestLaws.{Cut, PutSome, cut_each, word_chips, shifted_long, shifted_still, shifted_told}
 use Rattle.chip_chain.proofs.chain.Chain.shift_word.Goals as goal
 
 pub invariant_of-self : goal.invariant_of-self
@@ -28,10 +28,10 @@ invariant_of-self c =
     record {
       told = subst (AllTold s.trst) (sym is)
           (shifted_told column s.trst (stays s.seats.items) s.seats.items new cut c.self.invariant.told);
-      wired = subst (λ (l : List SeatValue). IsWired l s.wiring) (sym is)
-          (shifted_wired column (stays s.seats.items) s.seats.items new s.wiring c.self.invariant.wired cut);
-      driving = kept_driving (PutSome column) (λ i s t r. r.is.kept) s.seats.items new (with_items s.seats new).items
-          (cut_each column 0 (stays s.seats.items) s.seats.items new cut) is s.wiring s.driving c.self.invariant.driving;
+      settled = subst (λ (l : List SeatValue). IsSettled l s.wiring s.driving s.strings.items) (sym is)
+          (quiet_settled s.seats.items new s.wiring s.driving s.strings.items c.self.invariant.settled
+          (keeps (PutSome column) (λ i s t r. r.is.kept) 0 s.seats.items new (cut_each column 0 (stays s.seats.items) s.seats.items new cut))
+          (shifted_still column (stays s.seats.items) s.seats.items new cut));
     }
 
 pub returns : goal.returns

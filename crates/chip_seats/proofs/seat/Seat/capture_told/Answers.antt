@@ -2,7 +2,7 @@ use Rattle.std.proofs.Common.{◌≡◌, ℕ, Bool, refl, ap, subst}
 use Rattle.boundary.specs.Cells.{BoundaryValue}
 use Rattle.board_meaning.specs.Whole.{capture_member}
 use Rattle.chip_seats.specs.AtRest.{IsSightedFor, as_member}
-use Rattle.chip_seats.specs.Seats.{SeatValue, chip_state, member_of}
+use Rattle.chip_seats.specs.Seats.{SeatValue, chip_state, member_of, told_by}
 use Rattle.chip_seats.specs.contracts.seat.Seat.{the_view}
 use Rattle.chip_seats.proofs.EdgeLaws.{captures}
 use Rattle.chip_seats.proofs.seat.Seat.capture_told.Goals as goal
@@ -11,9 +11,8 @@ pub returns-clause-chip : goal.returns-clause-chip
 returns-clause-chip c =
     let new = the_view (record c.self.inside { chip = c.capture.new.self }) in
     subst (λ (s : SeatValue). (sees : ℕ → Bool) → IsSightedFor c.args.column sees s
-    → chip_state new ≡ as_member (capture_member c.args.column sees (member_of s)) (chip_state s))
+    → chip_state new ≡ as_member (capture_member c.args.column (told_by sees s) (member_of s)) (chip_state s))
     c.self.view_is
     (λ sees sighted. captures
-    (the_view c.self.inside) c.self.invariant.cells new sees c.args.column c.capture.ensures.chip refl
-    (ap (λ (b : BoundaryValue). b.core) c.capture.ensures.boundary)
+    (the_view c.self.inside) c.self.invariant.cells new sees c.args.column c.capture.ensures.chip refl refl refl
     (ap (λ (b : BoundaryValue). b.extest_update) c.capture.ensures.boundary) sighted)

@@ -1,7 +1,7 @@
 use Rattle.std.proofs.Common.{◌≡◌, subst, sym, ap, ◌∙◌}
 use Rattle.boundary.specs.Cells.{driver_from}
 use Rattle.board_meaning.specs.Cells as meant
-use Rattle.chip_seats.specs.Seats.{SeatValue, member_of}
+use Rattle.chip_seats.specs.Seats.{SeatValue, held_of}
 use Rattle.chip_seats.specs.contracts.seat.Seat.{the_view}
 use Rattle.chip_seats.proofs.DriveLaws.{drives_port}
 use Rattle.chip_seats.proofs.seat.Seat.drive.Goals as goal
@@ -10,6 +10,6 @@ pub returns : goal.returns
 returns c =
     let s = c.self.inside in
     let driver-is = c.driver.ensures ∙ sym (ap (λ (v : SeatValue). driver_from c.args.port 0 v.chip.device.cells) c.self.view_is) in
-    subst (λ (v : SeatValue). c.driven.result ≡ meant.drive (member_of v) c.args.port) c.self.view_is
+    subst (λ (v : SeatValue). c.driven.result ≡ meant.drive (held_of v) c.args.port) c.self.view_is
     (drives_port (the_view s) c.args.port c.driver.result c.mode.result c.boundary.result.now c.driven.result c.self.invariant.cells driver-is
     c.mode.ensures c.boundary.ensures c.driven.ensures)

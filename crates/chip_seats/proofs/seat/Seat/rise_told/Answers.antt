@@ -1,7 +1,7 @@
 use Rattle.std.proofs.Common.{◌≡◌, ℕ, Bool, refl, ap, subst}
 use Rattle.boundary.specs.Cells.{BoundaryValue}
 use Rattle.board_meaning.specs.Chain as chain
-use Rattle.chip_seats.specs.Seats.{IsSighted, SeatValue, chip_state}
+use Rattle.chip_seats.specs.Seats.{IsSighted, SeatValue, chip_state, told_by}
 use Rattle.chip_seats.specs.contracts.seat.Seat.{the_view}
 use Rattle.chip_seats.proofs.EdgeLaws.{rises}
 use Rattle.chip_seats.proofs.seat.Seat.rise_told.Goals as goal
@@ -9,7 +9,7 @@ use Rattle.chip_seats.proofs.seat.Seat.rise_told.Goals as goal
 pub returns-clause-chip : goal.returns-clause-chip
 returns-clause-chip c =
     let new = the_view (record c.self.inside { chip = c.rise.new.self }) in
-    subst (λ (s : SeatValue). (sees : ℕ → Bool) → IsSighted sees s → chip_state new ≡ chain.rise s.chip.trst c.args.tms c.args.tdi sees (chip_state s))
+    subst (λ (s : SeatValue). (sees : ℕ → Bool) → IsSighted sees s → chip_state new ≡ chain.rise s.chip.trst c.args.tms c.args.tdi (told_by sees s) (chip_state s))
     c.self.view_is
-    (λ sees sighted. rises (the_view c.self.inside) c.self.invariant.cells new sees c.args.tms c.args.tdi c.rise.ensures.chip refl
-    (ap (λ (b : BoundaryValue). b.core) c.rise.ensures.boundary) (ap (λ (b : BoundaryValue). b.extest_update) c.rise.ensures.boundary) sighted)
+    (λ sees sighted. rises (the_view c.self.inside) c.self.invariant.cells new sees c.args.tms c.args.tdi c.rise.ensures.chip refl refl refl
+    (ap (λ (b : BoundaryValue). b.extest_update) c.rise.ensures.boundary) sighted)

@@ -1,0 +1,2 @@
+pub mod DependingLaws
+pub mod RenumberingLaws
