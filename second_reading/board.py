@@ -8,9 +8,10 @@ commands: it knows no clock and no TDO, and captures, shifts and updates whole r
 from __future__ import annotations
 
 import re
-from typing import NamedTuple
+from typing import Callable, NamedTuple
 
 import bsdl
+import follow
 from controller import NEXT
 from refusal import Refusal
 from svf import GoStep, PathStep, RunStep, ScanStep
@@ -22,6 +23,7 @@ class Part(NamedTuple):
     device: bsdl.Device
     core: list[int]
     extest_update: bool
+    follows: list[follow.String]
 
 
 class Net(NamedTuple):
@@ -36,15 +38,22 @@ class Board(NamedTuple):
     nets: list[Net]
 
 
+BARE_MODES = {"TDI": "IN", "TMS": "IN", "TCK": "IN", "TDO": "OUT"}
 BARE_DEVICE = bsdl.Device(
-    ports=dict.fromkeys(("TDI", "TMS", "TCK", "TDO")), taps=frozenset(("TDI", "TMS", "TCK", "TDO")),
-    has_trst=False, opcodes=[bsdl.OpcodeRow("BYPASS", ["11"]), bsdl.OpcodeRow("EXTEST", ["00"])],
+    ports=dict.fromkeys(BARE_MODES), modes=BARE_MODES, taps=frozenset(BARE_MODES), has_trst=False,
+    opcodes=[bsdl.OpcodeRow("BYPASS", ["11"]), bsdl.OpcodeRow("EXTEST", ["00"])],
     capture="01", codes={}, cells=[bsdl.Cell(0, None, "INTERNAL", None)], private=frozenset(), accesses={})
-BARE = Board([Part("U1", BARE_DEVICE, [0], False)], [])
+BARE = Board([Part("U1", BARE_DEVICE, [0], False, [])], [])
 """The board where none is named."""
 
 
 # One device
+
+class Sight(NamedTuple):
+    """What a device is told at one moment: the bit that a port sees, and its core's bits in force."""
+    sees: Callable[[tuple], int]
+    core: list[int]
+
 
 RESULT_DRIVES = {"WEAK0": ("weak", 0), "PULL0": ("weak", 0), "WEAK1": ("weak", 1), "PULL1": ("weak", 1)}
 
@@ -58,6 +67,7 @@ class Chip:
 
     def __init__(self, part: Part):
         self.device, self.core, self.extest_update = part.device, part.core, part.extest_update
+        self.follows = part.follows
         cells, accesses = len(self.device.cells), self.device.accesses.values()
         user = {access.register: access.length for access in accesses if access.length is not None}
         self.stages = {"instruction": [0] * len(self.device.capture), "boundary": [0] * cells, "bypass": [0],
@@ -106,8 +116,8 @@ class Chip:
     def stage(self, column: str) -> list[int]:
         return self.stages[self.register(column)]
 
-    def captured(self, register: str, sees) -> list[int]:
-        """What a register captures; `sees(port)` is the bit that a port sees."""
+    def captured(self, register: str, sight: Sight | None) -> list[int]:
+        """What a register captures; an instruction register needs no sight."""
         if register == "instruction":
             return bsdl.bits_of(self.device.capture)
         if register == "bypass":
@@ -115,20 +125,20 @@ class Chip:
         if register == "identification":
             return bsdl.bits_of(self.code())
         if register == "boundary":
-            return [self.captured_bit(cell, sees) for cell in self.device.cells]
+            return [self.captured_bit(cell, sight) for cell in self.device.cells]
         captures = self.device.accesses[self.meaning].captures
         return list(self.held[register]) if captures is None else bsdl.bits_of(captures)
 
-    def captured_bit(self, cell: bsdl.Cell, sees) -> int:
+    def captured_bit(self, cell: bsdl.Cell, sight: Sight) -> int:
         if cell.function in bsdl.SEEING:
-            return sees(cell.port)
+            return sight.sees(cell.port)
         if self.extest_update and self.meaning == "EXTEST" and cell.function != "INTERNAL":
             return self.held["boundary"][cell.number]
-        return self.core[cell.number]
+        return sight.core[cell.number]
 
-    def capture(self, column: str, sees) -> None:
+    def capture(self, column: str, sight: Sight | None) -> None:
         register = self.register(column)
-        self.stages[register] = self.captured(register, sees)
+        self.stages[register] = self.captured(register, sight)
 
     def update(self, column: str) -> None:
         """The latch, a boundary's update stage or a user register's latch takes the stage."""
@@ -138,11 +148,18 @@ class Chip:
         elif register in self.held:
             self.held[register] = list(self.stages[register])
 
-    def drives(self) -> dict[tuple, tuple]:
-        """By port bit that drives: ("strong" or "weak", bit)."""
+    def core_under(self, sees) -> list[int]:
+        """The core's bits: what the source sees, or its opposite, where a string says so."""
+        core = list(self.core)
+        for string in self.follows:
+            core[string.cell] = sees(string.source) ^ int(string.inverted)
+        return core
+
+    def drives(self, core: list[int]) -> dict[tuple, tuple]:
+        """By port bit that drives: ("strong" or "weak", bit); the core has these bits."""
         if self.meaning == "HIGHZ":
             return {}
-        bits = self.held["boundary"] if self.meaning in ("EXTEST", "CLAMP") else self.core
+        bits = self.held["boundary"] if self.meaning in ("EXTEST", "CLAMP") else core
         drives = {}
         for cell in self.device.cells:
             if cell.function not in bsdl.DRIVING:
@@ -170,10 +187,11 @@ def level(drives: list[tuple]) -> str:
 
 
 class Levels:
-    """The levels of the nets at one moment; a pull is one weak driver."""
+    """The levels of the nets at one moment, the cores having these bits; a pull is one weak driver."""
 
-    def __init__(self, nets: list[Net], chips: list[Chip]):
-        self.drives = [chip.drives() for chip in chips]
+    def __init__(self, nets: list[Net], chips: list[Chip], cores: list[list[int]]):
+        self.cores = cores
+        self.drives = [chip.drives(core) for chip, core in zip(chips, cores)]
         self.named, self.of_pin = [], {}
         for net in nets:
             drives = [self.drives[part][port] for part, port in net.pins if port in self.drives[part]]
@@ -186,8 +204,28 @@ class Levels:
         alone = [self.drives[part][port]] if port in self.drives[part] else []
         return int(self.of_pin.get((part, port), level(alone)) in ("One", "Float"))
 
-    def of(self, part: int):
-        return lambda port: self.seen(part, port)
+    def sight(self, part: int) -> Sight:
+        return Sight(lambda port: self.seen(part, port), self.cores[part])
+
+
+def levels_by_ranks(nets: list[Net], chips: list[Chip], groups: list[list[follow.Dependence]]) -> Levels:
+    """The levels with the core bits in force: of the nets of each rank once those below it have theirs."""
+    cores = [list(chip.core) for chip in chips]
+    for group in groups:
+        levels = Levels(nets, chips, cores)
+        for part, string, _, _ in group:
+            cores[part][string.cell] = levels.seen(part, string.source) ^ int(string.inverted)
+    return Levels(nets, chips, cores)
+
+
+def levels_by_rounds(nets: list[Net], chips: list[Chip]) -> Levels:
+    """The same: all followed bits by the levels of the round before, until a round changes none of them."""
+    levels = Levels(nets, chips, [chip.core for chip in chips])
+    while True:
+        cores = [chip.core_under(levels.sight(part).sees) for part, chip in enumerate(chips)]
+        if cores == levels.cores:
+            return levels
+        levels = Levels(nets, chips, cores)
 
 
 # By edges
@@ -197,9 +235,13 @@ class EdgeBoard:
 
     def __init__(self, board: Board):
         self.nets, self.chips = board.nets, [Chip(part) for part in board.parts]
+        self.groups = follow.by_rank(board.parts, board.nets)
         self.states = ["RESET"] * len(self.chips)
         self.outputs: list[int | None] = [None] * len(self.chips)
         self.clock, self.trst = 0, False
+
+    def levels(self) -> Levels:
+        return levels_by_ranks(self.nets, self.chips, self.groups)
 
     def byte(self, byte: str) -> int | None:
         """Take one byte; `R` answers TDO, an undriven one as 1."""
@@ -226,11 +268,11 @@ class EdgeBoard:
 
     def rise(self, tms: int, tdi: int) -> None:
         """All devices move at once, from the levels and TDOs before the edge; an undriven TDI reads 1."""
-        levels = Levels(self.nets, self.chips) if "DRCAPTURE" in self.states else None
+        levels = self.levels() if "DRCAPTURE" in self.states else None
         inputs = [1 if bit is None else bit for bit in self.outputs[1:]] + [tdi]
         for place, (chip, state) in enumerate(zip(self.chips, self.states)):
             if state.endswith("CAPTURE"):
-                chip.capture(state[:2], levels and levels.of(place))
+                chip.capture(state[:2], levels and levels.sight(place))
             elif state.endswith("SHIFT"):
                 stage = chip.stage(state[:2])
                 del stage[0]
@@ -257,11 +299,14 @@ class WholeBoard:
         self.nets, self.chips = board.nets, [Chip(part) for part in board.parts]
         self.place, self.trst = "RESET", False
 
+    def levels(self) -> Levels:
+        return levels_by_rounds(self.nets, self.chips)
+
     def capture(self, column: str) -> None:
-        """Every selected register captures, all from the levels before."""
-        levels = Levels(self.nets, self.chips)
+        """Every selected register captures, all from the levels and core bits before."""
+        levels = self.levels()
         for part, chip in enumerate(self.chips):
-            chip.capture(column, levels.of(part))
+            chip.capture(column, levels.sight(part))
 
     def shift(self, column: str, bits: list[int]) -> list[int]:
         """Of the joined registers with the bits behind them, as many as there are bits go out."""
@@ -349,9 +394,9 @@ class WholeBoard:
 
 # The board file
 
-FAULT_NAMES = {2: "BadField", 5: "UnknownPin", 6: "PinTwice", 7: "TooLarge"}
+FAULT_NAMES = {2: "BadField", 5: "UnknownPin", 6: "PinTwice", 7: "TooLarge", 9: "CoreLoop"}
 NAME = re.compile("[A-Za-z][A-Za-z0-9_]*")
-PIN = re.compile(rf"({NAME.pattern})\.({NAME.pattern})(?:\(([0-9]+)\))?")
+PIN = re.compile(rf"({NAME.pattern})\.{follow.PORT}")
 LIMITS = {"device": 32, "net": 4_096}
 
 
@@ -377,10 +422,13 @@ def is_pins(value) -> bool:
 
 
 KEYS = {
-    "device": {"name": is_name, "bsdl": is_text, "core": is_core, "extest": ("core", "update").__contains__},
+    "device": {"name": is_name, "bsdl": is_text, "core": is_core, "extest": ("core", "update").__contains__,
+               "follow": follow.has_form},
     "net": {"name": is_name, "pins": is_pins, "pull": ("up", "down", "none").__contains__},
 }
 NEEDED = ("name", "bsdl", "pins")
+FITS = {"core": lambda core, device: len(core) == len(device.cells), "follow": follow.fits}
+"""By key of a device what else its value needs once the description is known."""
 
 
 def judge_top(tree: dict) -> None:
@@ -394,11 +442,11 @@ def judge_top(tree: dict) -> None:
         raise refusal(2, min(bad, key=str.encode))
 
 
-def judge_tables(tree: dict, cells: dict[str, int]) -> None:
+def judge_tables(tree: dict, devices: dict[str, bsdl.Device]) -> None:
     """C2: the devices in order, then the nets; within a table the least key in byte order.
 
-    A key is missing, unknown or unfit; `name` is unfit a second time, and `core` where it hasn't a bit for
-    each cell of a description whose `cells` are known by its file's name.
+    A key is missing, unknown or unfit; `name` is unfit a second time, and `core` and `follow` also by the
+    description, where it is known by its file's name.
     """
     for word, keys in KEYS.items():
         names = set()
@@ -407,9 +455,10 @@ def judge_tables(tree: dict, cells: dict[str, int]) -> None:
             bad |= {key for key in keys if key in NEEDED and key not in table}
             if "name" not in bad and table["name"] in names:
                 bad.add("name")
-            if "bsdl" not in bad and "core" in table and "core" not in bad:
-                if len(table["core"]) != cells.get(table["bsdl"], len(table["core"])):
-                    bad.add("core")
+            device = None if "bsdl" in bad else devices.get(table.get("bsdl"))
+            if device:
+                bad |= {key for key, fits in FITS.items()
+                        if key in table and key not in bad and not fits(table[key], device)}
             if bad:
                 raise refusal(2, min(bad, key=str.encode))
             names.add(table["name"])
@@ -421,7 +470,7 @@ def find_pin(text: str, places: dict[str, int], devices: list[bsdl.Device]) -> t
     if form is None or form[1] not in places:
         raise refusal(5, text)
     place = places[form[1]]
-    port = (form[2].upper(), None if form[3] is None else bsdl.value_of(form[3]))
+    port = follow.port_bit(form[2], form[3])
     if port[0] in devices[place].taps or not bsdl.is_bit(devices[place].ports, port):
         raise refusal(5, text)
     return place, port
@@ -446,7 +495,7 @@ def read_board(tree: dict, files: dict[str, bytes]) -> Board:
         if table["bsdl"] not in files:
             raise Refusal(f"file {table['bsdl']}")
     readings = {name: described(files[name]) for name in {table["bsdl"] for table in tables}}
-    judge_tables(tree, {name: len(device.cells) for name, device in readings.items()
+    judge_tables(tree, {name: device for name, device in readings.items()
                         if isinstance(device, bsdl.Device)})
     devices = [readings[table["bsdl"]] for table in tables]
     for device in devices:
@@ -458,10 +507,19 @@ def read_board(tree: dict, files: dict[str, bytes]) -> Board:
     if any(len(tree.get(word, [])) > limit for word, limit in LIMITS.items()):
         raise refusal(7)
     cores = [table.get("core", "0" * len(device.cells)) for table, device in zip(tables, devices)]
-    parts = [Part(table["name"], device, bsdl.bits_of(core), table.get("extest") == "update")
+    parts = [Part(table["name"], device, bsdl.bits_of(core), table.get("extest") == "update",
+                  [follow.string_of(text, device) for text in table.get("follow", [])])
              for table, device, core in zip(tables, devices, cores)]
     nets = [Net(table["name"], row, table.get("pull", "none")) for table, row in zip(net_tables, pins)]
+    judge_circles(parts, nets)
     return Board(parts, nets)
+
+
+def judge_circles(parts: list[Part], nets: list[Net]) -> None:
+    """C9 for a net that depends on itself: the target of the first string on such a circle."""
+    found = follow.first_on_circle(parts, nets)
+    if found:
+        raise refusal(9, f"{parts[found.part].name}.{found.string.target}")
 
 
 def judge_pins(pins: list[list[tuple]], net_tables: list[dict]) -> None:

@@ -76,6 +76,7 @@ class Access(NamedTuple):
 class Device(NamedTuple):
     """A description: patterns with the highest bit first, ports with their subscripts (None: a scalar)."""
     ports: dict[str, range | None]
+    modes: dict[str, str]
     taps: frozenset[str]
     has_trst: bool
     opcodes: list[OpcodeRow]
@@ -226,6 +227,12 @@ class Inner:
     def bracketed(self, item) -> list:
         self.mark("(")
         return self.listed(item, ")")
+
+
+class Port(NamedTuple):
+    """A declared port: its mode, and its subscripts, None for a scalar."""
+    mode: str
+    subscripts: range | None
 
 
 class Named(NamedTuple):
@@ -411,7 +418,7 @@ class Outer:
             self.take(",")
             names.append(self.take("word"))
         self.take(":")
-        self.word("IN", "OUT", "INOUT", "BUFFER", "LINKAGE")
+        mode = self.word("IN", "OUT", "INOUT", "BUFFER", "LINKAGE")
         subscripts = None
         if self.word("BIT", "BIT_VECTOR") == "BIT_VECTOR":
             self.take("(")
@@ -422,7 +429,7 @@ class Outer:
                 raise refusal(2, place)
             subscripts = range(low, high + 1)
             self.take(")")
-        self.ports += [Named(name.text, name.start, subscripts) for name in names]
+        self.ports += [Named(name.text, name.start, Port(mode, subscripts)) for name in names]
 
     def attribute(self) -> None:
         """NAME of name : word is value; where NAME isn't in the table, anything up to a semicolon.
@@ -437,7 +444,7 @@ class Outer:
         self.word("OF")
         of = self.next.text.upper()
         declared = next((port for port in self.ports if port.name == of), None)
-        if key.startswith("TAP_SCAN") and (declared is None or declared.what is not None):
+        if key.startswith("TAP_SCAN") and (declared is None or declared.what.subscripts is not None):
             raise refusal(2, self.next.start)
         self.take("word", ":", "word")
         self.word("IS")
@@ -488,7 +495,8 @@ def read(text: bytes) -> Device:
     own_names = {row.name for row in value["INSTRUCTION_OPCODE"]} - STANDARD - private
     own = [access for row in value.get("REGISTER_ACCESS", ()) for access in row if access.name in own_names]
     cells = sorted(value["BOUNDARY_REGISTER"], key=lambda cell: cell.number)
-    ports = {port.name: port.what for port in reversed(outer.ports)}
+    declared = {port.name: port.what for port in reversed(outer.ports)}
+    ports = {name: port.subscripts for name, port in declared.items()}
     taps = frozenset(given.of for name, given in first.items() if name.startswith("TAP_SCAN"))
     accesses = {access.name: access.what for access in reversed(own)}
     opcodes = [row.what for row in value["INSTRUCTION_OPCODE"]]
@@ -504,7 +512,8 @@ def read(text: bytes) -> Device:
         raise refusal(7)
     judge_cells(cells, value["BOUNDARY_LENGTH"], ports, taps)
     judge_limits(value, cells, accesses, ports)
-    return Device(ports, taps, "TAP_SCAN_RESET" in first, opcodes, value["INSTRUCTION_CAPTURE"], codes,
+    modes = {name: port.mode for name, port in declared.items()}
+    return Device(ports, modes, taps, "TAP_SCAN_RESET" in first, opcodes, value["INSTRUCTION_CAPTURE"], codes,
                   cells, private, accesses)
 
 

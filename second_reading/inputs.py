@@ -474,14 +474,16 @@ class Description:
             rows[place:place + rng.randint(0, 1)] = [change]
         return rows
 
+    def mode(self, name: str) -> str:
+        return self.rng.choice(("in", "out", "inout", "buffer", "linkage"))
+
     def text(self) -> bytes:
         rng, gap = self.rng, self.gap
         items = [f"{self.recased(f'attribute {name} of')} {of}{gap()}: entity is{gap(' ')}{value};"
                  for name, of, value in self.attributes()]
         items += some(rng, *((0.2, [item]) for item in LOOSE_ITEMS))
         rng.shuffle(items)
-        modes = ("in", "out", "inout", "buffer", "linkage")
-        groups = [f"{self.recased(name)}{gap()}: {rng.choice(modes)} {kind}"
+        groups = [f"{self.recased(name)}{gap()}: {self.mode(name)} {kind}"
                   for name, kind in self.ports.items()]
         generic = rng.choice(("", "", 'generic (A : string := "X;)");', "generic ((;));"))
         head = f"entity{gap(' ')}K is {generic} port({';'.join(groups)}{rng.choice(('', '', ';'))});"
@@ -521,6 +523,17 @@ class Banks(Description):
             enabled = function in ("output3", "bidir") or function == "output2" and rng.random() < 0.04
             control = [rng.choice(controls), rng.choice("01"), rng.choice(bsdl.RESULTS)] if enabled else []
             self.cells.append([cell, port, function, control])
+
+
+class Followed(Description):
+    """A made description most of whose ports can be the target or the source of a string of `follow`."""
+
+    make_instructions = Banks.make_instructions
+
+    def mode(self, name: str) -> str:
+        driven = {port[0] for _, port, function, _ in self.cells if function.upper() in bsdl.DRIVING}
+        return self.rng.choice(("inout", "inout", "out", "buffer", "in") if name in driven
+                               else ("in", "in", "inout", "linkage"))
 
 
 def part_changes(rng, made: Description) -> list[tuple]:
@@ -623,7 +636,11 @@ def chained(rng, texts: list[bytes], more: float = 0.9) -> tuple[dict, dict]:
 
 def on_board(rng, texts: list[bytes], rounds: int, more: float = 0.9) -> Case:
     """A board of these descriptions, and a program for it if it is accepted."""
-    tree, files = chained(rng, texts, more)
+    return played_on(rng, *chained(rng, texts, more), rounds)
+
+
+def played_on(rng, tree: dict, files: dict, rounds: int) -> Case:
+    """The board of these tables and files, and a program for it if it is accepted."""
     try:
         board = read_board(tree, files)
     except Refusal:
@@ -663,6 +680,94 @@ def banks(rng, number: int) -> Case:
     return on_board(rng, described, rng.choice((2, 3, 5)), 0.99)
 
 
+# Cores that follow
+
+ODD_STRINGS = [
+    "", " ", "=", "!", "P0", "P0=", "=P0", "P0=!", "P0==P0", "P0=P0=P0", "P0 P0", "!P0=P0", "P0=!!P0",
+    "P0=! !P0", "P0=P0!", "P0=~P0", "P0=0", "P0=P0;", "P0=P0,P1=P0", "P0\t=P0", "P0=\tP0", "\nP0=P0",
+    "P0=P0\n", "P0=P0\r", "P0=\u00a0P0", "P0 (1)=P0", "P0( 1)=P0", "P0(1 )=P0", "P 0=P0", "P0=P 0",
+    "P0=P0 (1)", "U0.P0=P0", "P0=U0.P0", "P0()=P0", "P0=P0()", "P0=P0(1", "P0=P0 1)", "P0=P0(1x)",
+    "P0=P0(-1)", "P0=P0[1]", "1P=P0", "_P=P0", "P0=é", "P0=P0(１)", "P0=TDI", "P0=tck", "P0=TDO", "P0=TRST",
+    "TDO=P0", "TDI=TDI", "P0=NOPE", "NOPE=P0", "P0=P0", "P0=!P0", "P1=P0", "P0(0)=P1(0)", "P0=P0(65536)",
+    "P0(99999999999999999999)=P0",
+]
+
+
+def spelt(rng, port: tuple) -> str:
+    """A port bit in either case, its subscript seldom with a leading zero."""
+    name, subscript = port
+    zero = "0" if rng.random() < 0.1 else ""
+    return rng.choice((name, name, name.lower())) + ("" if subscript is None else f"({zero}{subscript})")
+
+
+def string(rng, target: tuple, source: tuple) -> str:
+    gaps = rng.choice((("", "", "", "", ""), ("", " ", " ", "", ""), rng.choices(("", " ", "   "), k=5)))
+    signs = ("", spelt(rng, target), "=", rng.choice(("", "", "!")), spelt(rng, source))
+    return "".join(sign + gap for sign, gap in zip(signs, gaps)) + gaps[0]
+
+
+def driven_bits(device: bsdl.Device) -> list[tuple]:
+    return [cell.port for cell in device.cells if cell.function in bsdl.DRIVING]
+
+
+def strings(rng, device: bsdl.Device, chance: float) -> list[str]:
+    """Strings for some of the port bits that the device drives, each with some source that is fit."""
+    sources = [(name, subscript) for name, subscripts in device.ports.items()
+               if name not in device.taps and device.modes[name] in ("IN", "INOUT")
+               for subscript in ([None] if subscripts is None else subscripts[:9])]
+    targets = [target for target in driven_bits(device) if sources and rng.random() < chance]
+    rng.shuffle(targets)
+    return [string(rng, target, rng.choice(sources)) for target in targets]
+
+
+def open_circles(rng, tree: dict, files: dict, chance: float) -> None:
+    """Take away the first string on a circle, mostly, until there is none."""
+    while rng.random() < chance:
+        try:
+            read_board(tree, files)
+            return
+        except Refusal as its_refusal:
+            if not str(its_refusal).startswith("board C9"):
+                return
+            name, target = its_refusal.value.split(".")
+        table = next(table for table in tree["device"] if table["name"] == name)
+        table["follow"] = [text for text in table["follow"] if text.split("=")[0].strip() != target]
+
+
+def spoil_strings(rng, tree: dict, devices: dict[str, bsdl.Device]) -> None:
+    """One fault of a device's strings, or of its description: then their form alone is judged."""
+    table = rng.choice([table for table in tree["device"] if "follow" in table] or tree["device"])
+    texts, device, kind = list(table.get("follow", [])), devices[table["bsdl"]], rng.randrange(8)
+    ports = [(name, subscripts and subscripts[0]) for name, subscripts in device.ports.items()]
+    if kind < 3:
+        texts.insert(rng.randint(0, len(texts)), rng.choice(ODD_STRINGS))
+    elif kind < 5:
+        texts.append(string(rng, rng.choice(driven_bits(device) or ports), rng.choice(ports)))
+    elif kind < 6:
+        texts = [rng.choice(ODD_TABLE_VALUES), *texts]
+    elif kind < 7:
+        texts = rng.choice(ODD_TABLE_VALUES)
+    else:
+        table["bsdl"] = rng.choice(("bad.bsdl", "missing.bsdl"))
+        texts += some(rng, (0.3, [rng.choice(ODD_STRINGS)]), (0.5, texts[:1]))
+    table["follow"] = texts
+
+
+def follows(rng, number: int) -> Case:
+    """Devices some of whose core bits follow pins, and programs for them; some of the boards are refused."""
+    texts = [Followed(rng).text() for _ in range(rng.choice((1, 2, 2, 3, 4)))]
+    tree, its_files = chained(rng, texts, rng.choice((0.8, 0.97)))
+    its_files["bad.bsdl"] = b"entity $"
+    devices = {name: bsdl.read(its_files[name]) for name in {table["bsdl"] for table in tree["device"]}}
+    chance = rng.choice((0.3, 0.6, 0.9, 1))
+    for table in tree["device"]:
+        table.update(some(rng, (0.9, [("follow", strings(rng, devices[table["bsdl"]], chance))])))
+    open_circles(rng, tree, its_files, 0.93)
+    if rng.random() < 0.2:
+        spoil_strings(rng, tree, devices)
+    return played_on(rng, tree, its_files, rng.choice((2, 3, 5)))
+
+
 # Board files
 
 ODD_TABLE_VALUES = [
@@ -672,7 +777,7 @@ ODD_TABLE_VALUES = [
 ]
 ODD_KEYS = [
     "Name", "color", "", "aaa", "zzz", "pull", "extest", "core", "pins", "bsdl", "é", "name.x", "NAME",
-    "name",
+    "name", "follow",
 ]
 ODD_PINS = [
     "", ".", "U0.", ".P0", "U0", "U0.P0 ", " U0.P0", "U0 .P0", "U0.P0 (1)", "U0.P0()", "U0.P1()", "U0.P2()",
@@ -726,7 +831,7 @@ def files(rng, number: int) -> Case:
 
 
 KINDS = {kind.__name__: kind for kind in (
-    programs, statements, mutants, numbers, descriptions, texts, boards, banks, files)}
+    programs, statements, mutants, numbers, descriptions, texts, boards, banks, follows, files)}
 
 
 def case_of(kind: str, number: int) -> Case:

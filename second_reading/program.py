@@ -7,7 +7,7 @@ from __future__ import annotations
 
 from typing import NamedTuple
 
-from board import BARE, Board, EdgeBoard, Levels, WholeBoard, read_board
+from board import BARE, Board, EdgeBoard, WholeBoard, read_board
 from controller import NEXT, default_path, path_from_exit1
 from refusal import Refusal
 from svf import GoStep, PathStep, Program, RunStep, ScanStep, TrstStep, accept
@@ -51,11 +51,14 @@ def play(board: Board, program: Program, to_the_end: bool = False) -> Answer:
         "the two ways of moving the board leave different registers"
     assert (set(edges.states), edges.trst, edges.clock) == ({whole.place}, whole.trst, 0), \
         "the two ways of moving the board leave it in different places"
+    levels, whole_levels = edges.levels(), whole.levels()
+    assert (levels.named, levels.cores) == (whole_levels.named, whole_levels.cores), \
+        "levels and cores by ranks aren't those by rounds"
     lines = [f"bytes {sent}"] + verdict(failures, to_the_end)
     for part, chip, state in zip(board.parts, edges.chips, edges.states):
         latch = "".join(str(bit) for bit in reversed(chip.latch))
         lines.append(f"{part.name} {state} {latch} {chip.instruction or '-'}")
-    lines += [f"{net.name} {level}" for net, level in zip(board.nets, Levels(board.nets, edges.chips).named)]
+    lines += [f"{net.name} {level}" for net, level in zip(board.nets, levels.named)]
     return Answer("".join(line + "\n" for line in lines), "", 1 if failures else 0)
 
 
