@@ -509,8 +509,9 @@ enum Drive { NOTHING, STRONG_0, STRONG_1, WEAK_0, WEAK_1 };
 typedef struct { int from, to; } Net; // the pins of the net by number
 static Chip ring[32];
 static int ring_count, ring_tck;
-static Net nets[32 * BUS];
-static enum Drive drives[64 * BUS]; // of each pin: 2 n is an output, 2 n + 1 an input
+enum { LINE = 25, WIDTH = 40, LINE_CELLS = 2 * WIDTH, LINE_UPDATES = 2000, LINE_SHIFTS = 8 }; // of the line of devices below
+static Net nets[LINE * WIDTH];
+static enum Drive drives[2 * LINE * WIDTH]; // of each pin: 2 n is an output, 2 n + 1 an input
 static uint64_t ring_bytes, ring_check;
 
 static int drive_bit(const Chip *c, size_t cell) { return c->latch == 0 ? get(&c->update, cell) : get(&c->core, cell); }
@@ -529,6 +530,11 @@ static int net_reads(const Net *n) {
 	return !drivers[WEAK_0];
 }
 
+static void set(Bits *b, size_t i, int bit) {
+	size_t p = place(b, i);
+	b->words[p / 64] = (b->words[p / 64] & ~(1ull << p % 64)) | (uint64_t)bit << p % 64;
+}
+
 static void ring_rise(int tms, int tdi) {
 	int tdos[33];
 	for (int i = 0; i < ring_count; i++) tdos[i] = ring[i].tdo != 0;
@@ -536,11 +542,8 @@ static void ring_rise(int tms, int tdi) {
 	for (int i = 0; i < ring_count; i++) {
 		Chip *c = &ring[i];
 		if (c->state == DR_CAPTURE && c->selects_boundary)
-			for (int k = 0; k < BUS; k++) {
-				size_t p = place(&c->core, INPUTS + k);
-				uint64_t bit = net_reads(&nets[((i + ring_count - 1) % ring_count) * BUS + k]);
-				c->core.words[p / 64] = (c->core.words[p / 64] & ~(1ull << p % 64)) | bit << p % 64;
-			}
+			for (int k = 0; k < BUS; k++)
+				set(&c->core, INPUTS + k, net_reads(&nets[((i + ring_count - 1) % ring_count) * BUS + k]));
 		rise(c, tms, tdos[i + 1]);
 	}
 }
@@ -625,6 +628,88 @@ static uint64_t run_shift_32(void) { return run_shift(32); }
 static uint64_t run_update_1(void) { return run_update(1); }
 static uint64_t run_update_8(void) { return run_update(8); }
 static uint64_t run_update_32(void) { return run_update(32); }
+
+// ---- a line of devices: what the last drives goes along all to the first, nearest TDO, by a string for each bit and device
+
+static Chip line[LINE]; // its inputs at the lower cells, the last of them first, and its outputs at the upper
+static int line_tck;
+
+static void make_line(void) {
+	for (int i = 0; i < LINE; i++) {
+		line[i] = (Chip){ .tdo = -1, .length = 2, .latch = 3, .core = zeros(LINE_CELLS), .boundary = zeros(LINE_CELLS), .update = zeros(LINE_CELLS) };
+		for (int k = 0; k < WIDTH; k++) {
+			int net = i * WIDTH + k; // on which the outputs of a device lie, and the inputs of the one before it
+			nets[net] = (Net){ 2 * net, 2 * net + 1 };
+			drives[2 * net] = drives[2 * net + 1] = NOTHING;
+		}
+	}
+	line_tck = 0;
+}
+
+static int input(int i, int k) { return i + 1 == LINE ? 1 : net_reads(&nets[(i + 1) * WIDTH + k]); }
+static void put_output(int i, int k) { drives[2 * (i * WIDTH + k)] = drive_bit(&line[i], WIDTH + k) ? STRONG_1 : STRONG_0; }
+
+static void put_line(void) {
+	for (int i = 0; i < LINE; i++)
+		for (int k = 0; k < WIDTH; k++) put_output(i, k);
+	for (int i = LINE - 1; i >= 0; i--)
+		for (int k = 0; k < WIDTH; k++) {
+			set(&line[i].core, WIDTH + k, input(i, k));
+			put_output(i, k);
+		}
+}
+
+static void line_edge(int tck, int tms, int tdi) {
+	if (tck && !line_tck) {
+		int tdos[LINE + 1];
+		for (int i = 0; i < LINE; i++) tdos[i] = line[i].tdo != 0;
+		tdos[LINE] = tdi;
+		for (int i = 0; i < LINE; i++) {
+			Chip *c = &line[i];
+			if (c->state == DR_CAPTURE && c->selects_boundary)
+				for (int k = 0; k < WIDTH; k++) set(&c->core, WIDTH - 1 - k, input(i, k));
+			rise(c, tms, tdos[i + 1]);
+		}
+	} else if (!tck && line_tck) {
+		int anew = 0;
+		for (int i = 0; i < LINE; i++) {
+			int state = line[i].state;
+			anew |= state == DR_UPDATE || state == IR_UPDATE || state == RESET;
+			fall(&line[i]);
+		}
+		if (anew) put_line();
+	}
+	line_tck = tck;
+}
+
+static void line_cycle(int tms, int tdi, int ask) {
+	line_edge(0, tms, tdi);
+	ring_bytes += 2;
+	if (ask && line[0].tdo != 0) ring_check += ring_bytes;
+	ring_bytes += ask;
+	line_edge(1, tms, tdi);
+}
+
+static void line_walk(const char *path) {
+	for (; *path; path++) line_cycle(*path - '0', 0, 0);
+}
+
+static uint64_t run_follow_1000(void) {
+	ring_bytes = ring_check = 0;
+	line_walk("1111101100");
+	line_cycle(0, 1, 0); // SAMPLE into the first
+	line_cycle(0, 0, 0);
+	for (int i = 2; i < 2 * LINE - 2; i++) line_cycle(0, 1, 0);
+	line_walk("0111"); // EXTEST into the last
+	for (int i = 0; i < LINE_UPDATES; i++) {
+		line_walk("00");
+		for (int k = 1; k < LINE_SHIFTS; k++) line_cycle(0, (i + k) % 3 == 0, 1);
+		line_cycle(1, i % 5 == 0, 1);
+		line_walk("11");
+	}
+	count = ring_bytes;
+	return ring_check;
+}
 
 // ---- descriptions of devices: a text is cut into words, names are sorted in upper case, and cells look their ports up
 
@@ -795,6 +880,8 @@ int main(void) {
 	row("update_8", "byte", run_update_8);
 	row("shift_32", "byte", run_shift_32);
 	row("update_32", "byte", run_update_32);
+	make_line();
+	row("follow_1000", "byte", run_follow_1000);
 	char start[LONG + 1] = { 0 };
 	memset(start, 'N', LONG);
 	many_len = write_description(many, "P", SEEN);

@@ -1,6 +1,8 @@
 //! Rows of the benchmark of boards of described devices with nets, byte by byte.
 #![tactic(auto)]
 
+mod line;
+
 use bench_rows::{Row, Unit, print_row};
 use jt_board::{Board, Reply};
 use std::alloc::{AllocError, Global};
@@ -47,7 +49,7 @@ pub fn rows(rt: &HostRuntime) -> io::Result<()> {
     for (devices, shift, update) in RINGS {
         rows_of_ring(rt, *devices, shift, update)?;
     }
-    Ok(())
+    line::rows(rt)
 }
 
 fn rows_of_ring(rt: &HostRuntime, devices: usize, shift: &str, update: &str) -> io::Result<()> {

@@ -42,6 +42,7 @@ impl<K: Ord + Copy> Places<K> {
     }
 
     /// Adds a key behind the others, also where it is there already. Refuses for want of memory alone.
+    /// No `alloc` is handed in: list and tree grow by the one that [`Places::new`] was given.
     pub fn push(&mut self, key: K) -> Result<(), AllocError>
         ensures pushed { OnOk result (self.new ≡ self.old ++ key ∷ []) }
         ensures err { OnErr result (self.new ≡ self.old) }
@@ -99,6 +100,7 @@ impl<'t> Places<&'t str> {
     }
 
     /// Adds a text, if it is not there yet. Refuses for want of memory alone.
+    /// No `alloc` is handed in: list and tree grow by the one that [`Places::new`] was given.
     #[tactic(auto, using(crate::proofs::TextLaws::list_any_map, crate::proofs::TextLaws::map_with))]
     pub fn add(&mut self, text: &'t str) -> Result<(), AllocError>
         ensures added { OnOk result (texts_of self.new ≡ with_name (texts_of self.old) text.now) }

@@ -24,6 +24,7 @@ impl Table {
     }
 
     /// A row of this number more. Refuses for want of memory alone.
+    /// No `alloc` is handed in: the tree grows by the one that [`Table::new`] was given.
     pub fn put(&mut self, number: usize, fits: bool) -> Result<(), AllocError>
         ensures put { OnOk result ((n : ℕ) → get nat_cmp self.new.cells n
             ≡ (if number == n then spec.with_row (get nat_cmp self.old.cells n) fits

@@ -40,6 +40,7 @@ impl Names {
     }
 
     /// These names and another behind them. Refuses for want of memory alone.
+    /// No `alloc` is handed in: the lists grow by the one that [`Names::new`] was given.
     pub fn with(mut self, name: String) -> Result<Names, AllocError>
         ensures { IfOk result (λ n. n ≡ self ++ string_bytes name ∷ []) }
     {

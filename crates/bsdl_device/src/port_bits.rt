@@ -86,6 +86,7 @@ impl Ports {
     }
 
     /// These ports and another behind them: one bit, or one for each of its indices. Refuses for want of memory alone.
+    /// No `alloc` is handed in: the lists grow by the one that [`Ports::new`] was given.
     pub fn with(mut self, port: Port, indices: Option<Indices>) -> Result<Ports, AllocError>
         requires { IfSome indices (λ i. i.low + i.len < 2 ^ 64) }
         ensures { IfOk result (λ p. p ≡ self ++ bits_of (string_bytes port.name) port.mode port.is_tap

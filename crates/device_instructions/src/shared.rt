@@ -58,7 +58,8 @@ impl SharedDevice {
         })
     }
 
-    /// One more that shares the same description, of which no copy is made. Refuses for want of memory alone.
+    /// One more that shares the same description, of which no copy is made. Refuses only where `usize::MAX` share it.
+    /// No `alloc` is handed in, since no memory is taken: those that share it are counted beside it.
     pub fn share(&self) -> Result<SharedDevice, AllocError>
         ensures { IfOk result (λ s. s ≡ self.now) }
     {
