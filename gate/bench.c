@@ -507,11 +507,11 @@ static uint64_t run_next_bytes(void) {
 enum { BUS = 8, INPUTS = 0, CONTROL = 8, OUTPUTS = 9, RING_CELLS = 17, RING_SHIFTS = 100000, RING_UPDATES = 10000 };
 enum Drive { NOTHING, STRONG_0, STRONG_1, WEAK_0, WEAK_1 };
 typedef struct { int from, to; } Net; // the pins of the net by number
-static Chip ring[32];
+static Chip ring[256];
 static int ring_count, ring_tck;
 enum { LINE = 25, WIDTH = 40, LINE_CELLS = 2 * WIDTH, LINE_UPDATES = 2000, LINE_SHIFTS = 8 }; // of the line of devices below
-static Net nets[LINE * WIDTH];
-static enum Drive drives[2 * LINE * WIDTH]; // of each pin: 2 n is an output, 2 n + 1 an input
+static Net nets[256 * BUS];
+static enum Drive drives[512 * BUS]; // of each pin: 2 n is an output, 2 n + 1 an input
 static uint64_t ring_bytes, ring_check;
 
 static int drive_bit(const Chip *c, size_t cell) { return c->latch == 0 ? get(&c->update, cell) : get(&c->core, cell); }
@@ -536,7 +536,7 @@ static void set(Bits *b, size_t i, int bit) {
 }
 
 static void ring_rise(int tms, int tdi) {
-	int tdos[33];
+	int tdos[257];
 	for (int i = 0; i < ring_count; i++) tdos[i] = ring[i].tdo != 0;
 	tdos[ring_count] = tdi;
 	for (int i = 0; i < ring_count; i++) {
@@ -625,9 +625,11 @@ static uint64_t run_update(int devices) {
 static uint64_t run_shift_1(void) { return run_shift(1); }
 static uint64_t run_shift_8(void) { return run_shift(8); }
 static uint64_t run_shift_32(void) { return run_shift(32); }
+static uint64_t run_shift_256(void) { return run_shift(256); }
 static uint64_t run_update_1(void) { return run_update(1); }
 static uint64_t run_update_8(void) { return run_update(8); }
 static uint64_t run_update_32(void) { return run_update(32); }
+static uint64_t run_update_256(void) { return run_update(256); }
 
 // ---- a line of devices: what the last drives goes along all to the first, nearest TDO, by a string for each bit and device
 
@@ -880,6 +882,8 @@ int main(void) {
 	row("update_8", "byte", run_update_8);
 	row("shift_32", "byte", run_shift_32);
 	row("update_32", "byte", run_update_32);
+	row("shift_256", "byte", run_shift_256);
+	row("update_256", "byte", run_update_256);
 	make_line();
 	row("follow_1000", "byte", run_follow_1000);
 	char start[LONG + 1] = { 0 };

@@ -397,7 +397,7 @@ class WholeBoard:
 FAULT_NAMES = {2: "BadField", 5: "UnknownPin", 6: "PinTwice", 7: "TooLarge", 9: "CoreLoop"}
 NAME = re.compile("[A-Za-z][A-Za-z0-9_]*")
 PIN = re.compile(rf"({NAME.pattern})\.{follow.PORT}")
-LIMITS = {"device": 32, "net": 4_096}
+LIMITS = {"device": 256, "net": 16_384}
 
 
 def refusal(code: int, value: str = "") -> Refusal:

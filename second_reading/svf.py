@@ -16,7 +16,7 @@ from refusal import Refusal
 
 TEXT_LIMIT = 16 * 1024 * 1024
 STATEMENT_LIMIT = 200_000
-BITS_LIMIT = 65_536
+BITS_LIMIT = 1_048_576
 CYCLES_LIMIT = 4_294_967_295
 PICOSECONDS_LIMIT = 10**18
 MANTISSA_LIMIT = 18
@@ -105,7 +105,7 @@ def round_up(value: Fraction) -> int:
 
 
 def read_length(run: bytes, codes: list[int]) -> int | None:
-    """Digits alone, else S5; above 65,536 it is S15, and still the length by which S6 is judged."""
+    """Digits alone, else S5; above 1,048,576 it is S15, and still the length by which S6 is judged."""
     if not run.isdigit():
         codes.append(5)
         return None

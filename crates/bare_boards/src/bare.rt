@@ -1,6 +1,7 @@
 //! The bare device, and the plan of a board of bare devices.
 
 ghost use Rattle.std.specs.Prelude.{◌≡◌, [], ◌∷◌, ◌≤◌, true, false, Some, map, string_bytes, IfOk};
+ghost use Rattle.jt_limits.specs.Limits.{limits};
 ghost use Rattle.board_plan.specs.View.{member, wiring};
 ghost use Rattle.board_meaning.specs.Bare.{bare};
 ghost use Rattle.bare_boards.specs.Bares.{bare_at, bare_planned, bare_wiring, two_bits};
@@ -13,7 +14,7 @@ use std::alloc::{AllocError, Global};
 
 /// So many bare devices, named U1, U2 and so on, whose cores are 0. Refuses for want of memory alone.
 pub fn bare_plan(alloc: Global, n: usize) -> Result<Plan, AllocError>
-    requires { n ≤ 32 }
+    requires { n ≤ limits.devices }
     ensures { IfOk result (λ p. wiring p ≡ bare_wiring n) }
 {
     let device = SharedDevice::new(alloc, bare_device(alloc)?)?;
@@ -30,7 +31,7 @@ fn bare_devices(
     device: &SharedDevice,
     n: usize,
 ) -> Result<Vec<PlannedDevice>, AllocError>
-    requires small { n ≤ 32 }
+    requires small { n ≤ limits.devices }
     requires bare { device.now ≡ bare }
     ensures { IfOk result (λ v. map member v.items ≡ bare_planned 1 n) }
 {

@@ -14,6 +14,9 @@ const SCAN: &[u8] = b"SDR 65536 TDI (0) TDO (0);";
 
 const SCAN_BYTES: usize = 12 + 8 + 3 * 65536 + 5 + 1;
 
+/// The longest scan, each bit wanted.
+const LONG_SCAN: &[u8] = b"SDR 1048576 TDI (0) TDO (0);";
+
 /// How often a round plays it.
 const PLAYS: usize = 100;
 
@@ -30,31 +33,36 @@ pub fn rows(rt: &HostRuntime) -> io::Result<()> {
 
 /// Prints the seconds of plays that have no row in C.
 pub fn tell(rt: &HostRuntime) -> io::Result<()> {
-    tell_play(
-        rt,
-        "RUNTEST of 4,294,967,295 cycles",
-        b"RUNTEST 4294967295 TCK;",
-    )?;
+    for devices in &[1, 32, 256][..] {
+        tell_play(
+            rt,
+            "RUNTEST of 4,294,967,295 cycles",
+            b"RUNTEST 4294967295 TCK;",
+            *devices,
+        )?;
+        tell_play(rt, "a scan of 65,536 bits", SCAN, *devices)?;
+        tell_play(rt, "a scan of 1,048,576 bits", LONG_SCAN, *devices)?;
+    }
     let mut text = Vec::new(rt.alloc());
     text.extend_from_slice(b"SDR 64 TDI (0) TDO (0);")?;
     for _ in 1..SHORT_SCANS {
         text.extend_from_slice(b"SDR 64;")?;
     }
-    tell_play(rt, "200,000 scans of 64 bits", &text)
+    tell_play(rt, "200,000 scans of 64 bits", &text, 32)
 }
 
-/// Prints how long a text takes to be accepted, and to be played on 32 devices.
-fn tell_play(rt: &HostRuntime, name: &str, text: &[u8]) -> io::Result<()> {
+/// Prints how long a text takes to be accepted, and to be played on so many devices.
+fn tell_play(rt: &HostRuntime, name: &str, text: &[u8], devices: usize) -> io::Result<()> {
     let start = Instant::now(rt)?;
     let Ok(program) = accept(rt.alloc(), text) else {
         return rt.println(format_args!("{name}: refused"));
     };
     let accepted = start.elapsed(rt)?.as_micros();
     let start = Instant::now(rt)?;
-    let passed = passes(rt.alloc(), &program, 32, 1);
+    let passed = passes(rt.alloc(), &program, devices, 1);
     let played = start.elapsed(rt)?.as_micros();
     rt.println(format_args!(
-        "{name} on 32 devices: {passed} passed, accept {accepted} us, play {played} us"
+        "{name} on {devices} devices: {passed} passed, accept {accepted} us, play {played} us"
     ))
 }
 

@@ -20,7 +20,7 @@ fn main(rt: HostRuntime) -> ExitCode {
         Some(word) if word.as_str() == "parse" => programs::tell_statements(&rt),
         Some(word) if word.as_str() == "accept" => programs::tell_program(&rt),
         Some(word) if word.as_str() == "describe" => descriptions::tell_device(&rt),
-        Some(word) if word.as_str() == "long" => long_plays::tell(&rt),
+        Some(word) if word.as_str() == "long" => tell(&rt),
         _ => rt.println("usage: bench run | bench long | bench (parse | accept | describe) <text"),
     };
     if told.is_ok() {
@@ -28,6 +28,12 @@ fn main(rt: HostRuntime) -> ExitCode {
     } else {
         ExitCode::FAILURE
     }
+}
+
+/// Tells the seconds that have no row in C.
+fn tell(rt: &HostRuntime) -> io::Result<()> {
+    long_plays::tell(rt)?;
+    bench_boards::tell(rt)
 }
 
 /// Measures each row and prints it.

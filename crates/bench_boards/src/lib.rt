@@ -7,6 +7,7 @@ use bench_rows::{Row, Unit, print_row};
 use jt_board::{Board, Reply};
 use std::alloc::{AllocError, Global};
 use std::io;
+use std::time::Instant;
 
 /// Eight outputs that one control cell turns off, and eight inputs.
 const DEVICE: &[u8] = b"entity W is
@@ -29,6 +30,27 @@ const DEVICE: &[u8] = b"entity W is
 end W;
 ";
 
+/// Sixty-four pins, and one cell without a pin.
+const PINS_DEVICE: &[u8] = b"entity X is
+  port (TDI, TMS, TCK : in bit; TDO : out bit; P : linkage bit_vector(0 to 63));
+  attribute TAP_SCAN_IN of TDI : signal is true;
+  attribute TAP_SCAN_MODE of TMS : signal is true;
+  attribute TAP_SCAN_OUT of TDO : signal is true;
+  attribute TAP_SCAN_CLOCK of TCK : signal is (10.0e6, BOTH);
+  attribute INSTRUCTION_LENGTH of X : entity is 2;
+  attribute INSTRUCTION_OPCODE of X : entity is \"BYPASS (11), EXTEST (00)\";
+  attribute INSTRUCTION_CAPTURE of X : entity is \"01\";
+  attribute BOUNDARY_LENGTH of X : entity is 1;
+  attribute BOUNDARY_REGISTER of X : entity is \"0 (BC_1, *, internal, X)\";
+end X;
+";
+
+/// The pins of one such device, each on a net of its own.
+const PINS: usize = 64;
+
+/// How many devices a board has that is made: by the earlier limit, and by the limit.
+const MADE: &[usize] = &[32, 256];
+
 /// The bits of a bus from a device to the next.
 const BUS: usize = 8;
 
@@ -43,6 +65,7 @@ const RINGS: &[(usize, &str, &str)] = &[
     (1, "shift_1", "update_1"),
     (8, "shift_8", "update_8"),
     (32, "shift_32", "update_32"),
+    (256, "shift_256", "update_256"),
 ];
 
 pub fn rows(rt: &HostRuntime) -> io::Result<()> {
@@ -50,6 +73,40 @@ pub fn rows(rt: &HostRuntime) -> io::Result<()> {
         rows_of_ring(rt, *devices, shift, update)?;
     }
     line::rows(rt)
+}
+
+/// Prints how long boards of many devices and nets take to be made.
+pub fn tell(rt: &HostRuntime) -> io::Result<()> {
+    for devices in MADE {
+        let nets = PINS.saturating_mul(*devices);
+        let text = pins_board(rt.alloc(), *devices)?;
+        let start = Instant::now(rt)?;
+        let made = Board::from_text(rt.alloc(), text.as_bytes(), &[("x", PINS_DEVICE)]);
+        let took = start.elapsed(rt)?.as_micros();
+        let told = if made.is_ok() { "made" } else { "refused" };
+        rt.println(format_args!(
+            "a board of {devices} devices and {nets} nets: {told} in {took} us"
+        ))?;
+    }
+    Ok(())
+}
+
+/// A board file of so many devices, each of whose pins is on a net of its own.
+fn pins_board(alloc: Global, devices: usize) -> Result<String, AllocError> {
+    let mut text = String::new(alloc);
+    for i in 0..devices {
+        let device = format!(in alloc; "[[device]]\nname = \"U{i}\"\nbsdl = \"x\"\n")?;
+        text.push_str(device.as_str())?;
+    }
+    for i in 0..devices {
+        for k in 0..PINS {
+            let net = format!(in alloc;
+                "[[net]]\nname = \"N{i}_{k}\"\npins = [\"U{i}.P({k})\"]\n"
+            )?;
+            text.push_str(net.as_str())?;
+        }
+    }
+    Ok(text)
 }
 
 fn rows_of_ring(rt: &HostRuntime, devices: usize, shift: &str, update: &str) -> io::Result<()> {

@@ -7,6 +7,7 @@ use Rattle.std.proofs.lemmas.Bool.{false≢true, and_parts, eqb-true, ltb-false}
 use Rattle.std.proofs.lemmas.List.{append-nil, length-append, length-map, length-replicate, length-reverse}
 use Rattle.std.proofs.lemmas.Slice.Eq.{bytes_eq-Decides}
 use Rattle.toml.specs.Data.{Data, string, integer, float, boolean, datetime, array, table, Items, no_items, item, Members, get_member, as_str, as_array}
+use Rattle.jt_limits.specs.Limits.{limits}
 use Rattle.bsdl_device.specs.Device.{Device}
 use Rattle.board_tables.specs.Fields.{passes, is_table, is_array_of, items_all, has_item, tables_in, text_at, name_at, tables_at, texts_at, texts_in}
 use Rattle.board_tables.specs.declared.keys.Known.{Known}
@@ -35,21 +36,21 @@ use Rattle.board_file.specs.Fits.{AreApart, AreSaid, FitsTogether, IsSaid, NoStr
 use Rattle.board_plan.specs.Planned.{HasCore, IsPinOf, all_pins}
 use Rattle.board_file.proofs.DescribedLaws.{Has, Named, named_from}
 
-neither : {A : Type 0} (a b : Option A) → option_or a b ≡ None → (a ≡ None) × (b ≡ None)
+pub neither : {A : Type 0} (a b : Option A) → option_or a b ≡ None → (a ≡ None) × (b ≡ None)
 neither None b h = (refl, h)
 neither (Some x) b h = absurd cc
 
-unmapped : {A B : Type 0} (f : A → B) (o : Option A) → option_map f o ≡ None → o ≡ None
+pub unmapped : {A B : Type 0} (f : A → B) (o : Option A) → option_map f o ≡ None → o ≡ None
 unmapped f None h = refl
 unmapped f (Some x) h = absurd cc
 
 -- ---- keys
 
 -- no key of a device's table is at fault, whatever names stand before it
-IsFit : (Members → Option Known) → Members → Type 0
+pub IsFit : (Members → Option Known) → Members → Type 0
 IsFit known t = (names : List (List ℕ)) × (unfit_key (device_keys names (known t)) t ≡ None)
 
-all_fit : (known : Members → Option Known) (names : List (List ℕ)) (ts : List Members) → unfit_device names (map known ts) ts ≡ None → AllByRecursion (IsFit known) ts
+pub all_fit : (known : Members → Option Known) (names : List (List ℕ)) (ts : List Members) → unfit_device names (map known ts) ts ≡ None → AllByRecursion (IsFit known) ts
 unfolding IsFit
 all_fit known names [] h = tt
 all_fit known names (t ∷ ts) h =
@@ -135,10 +136,14 @@ module _ (says : List ℕ → Option Device) (files : List File) where
       by (Some text) e more = at text e (rw (e, missing_in) at m) (neither (refused says text) (refused_in says files names) (rw (e, refused_in) at r)) (bytes_eq name n) refl h more
 
   -- the table's device is described, its core has a bit for each cell, and its strings fit
-  IsWhole : Members → Type 0
+  pub IsWhole : Members → Type 0
   IsWhole t = (d : Device) × (device_at says files t ≡ Some d) × (length (core_of (length d.cells) (text_at (codes "core") t)) ≡ length d.cells) × (is_some (strings_at d t) ≡ true)
 
-  all_whole : (names : List (List ℕ)) → missing_in files names ≡ None → refused_in says files names ≡ None → (ts : List Members) → Named names ts → AllByRecursion (IsFit (known_at says files)) ts → AllByRecursion IsWhole ts
+  pub whole_device : (t : Members) → IsWhole t → (d : Device) × (device_at says files t ≡ Some d)
+  unfolding IsWhole
+  whole_device t h = (h.0, h.1)
+
+  pub all_whole : (names : List (List ℕ)) → missing_in files names ≡ None → refused_in says files names ≡ None → (ts : List Members) → Named names ts → AllByRecursion (IsFit (known_at says files)) ts → AllByRecursion IsWhole ts
   unfolding IsFit IsWhole
   all_whole names m r [] named fit = tt
   all_whole names m r (t ∷ ts) named fit =
@@ -153,7 +158,7 @@ module _ (says : List ℕ → Option Device) (files : List File) where
         all_whole names m r ts named.1 fit.1,
       )
 
-  members_len : (ts : List Members) → AllByRecursion IsWhole ts → length (filter_map (member_at says files) ts) ≡ length ts
+  pub members_len : (ts : List Members) → AllByRecursion IsWhole ts → length (filter_map (member_at says files) ts) ≡ length ts
   unfolding IsWhole
   members_len [] h = refl
   members_len (t ∷ ts) h = rw (h.0.1, filter_map) (ap suc (members_len ts h.1))
@@ -310,13 +315,13 @@ some_device t h =
     let (d, is) = is_there (get_member (codes "device") t) one.0 in
     subst (λ o. 0 < length (tables_in (unwrap_or (option_and_then as_array o) no_items))) (sym is) (some_tables (as_array d) (fit (codes "device") d is))
 
-limits : (m n : ℕ) → large m n ≡ None → (m ≤ 32) × (n ≤ 4096)
-limits m n h = by (nat_lt 32 m) refl (nat_lt 4096 n) refl h
+few_of_each : (m n : ℕ) → large m n ≡ None → (m ≤ limits.devices) × (n ≤ limits.nets)
+few_of_each m n h = by (nat_lt limits.devices m) refl (nat_lt limits.nets n) refl h
   where
-    by : (a : Bool) → nat_lt 32 m ≡ a → (b : Bool) → nat_lt 4096 n ≡ b → cond (a || b) (Some TooLarge) None ≡ None → (m ≤ 32) × (n ≤ 4096)
+    by : (a : Bool) → nat_lt limits.devices m ≡ a → (b : Bool) → nat_lt limits.nets n ≡ b → cond (a || b) (Some TooLarge) None ≡ None → (m ≤ limits.devices) × (n ≤ limits.nets)
     by true p b q h = absurd (some_none TooLarge h)
     by false p true q h = absurd (some_none TooLarge h)
-    by false p false q h = (ltb-false 32 m p, ltb-false 4096 n q)
+    by false p false q h = (ltb-false limits.devices m p, ltb-false limits.nets n q)
 
 abbrev answer : Option Fault → Wiring → Result Wiring Fault
 answer o w = elim o [ None ↦ Ok w | Some f ↦ Err f ]
@@ -360,12 +365,12 @@ module _ (says : List ℕ → Option Device) (files : List File) (t : Members) w
       let (top, tables) = neither (unfit_key top_keys t) _ (unmapped _ _ keys) in
       let (unknown, rest) = neither (option_map (λ x. UnknownPin x) (unknown_in_nets names found nets)) _ wire in
       let (again, big) = neither _ _ rest in
-      let (few, few_nets) = limits (length names) (length nets) big in
+      let (few, few_nets) = few_of_each (length names) (length nets) big in
       let len = members_len says files devices (whole h) in
       record {
         some = subst (λ n. 0 < n) (sym len) (some_device t top);
-        most = subst (λ n. n ≤ 32) (length-map devices name_at ∙ sym len) few;
-        nets = subst (λ n. n ≤ 4096) (sym (length-map nets (net_of names found))) few_nets;
+        most = subst (λ n. n ≤ limits.devices) (length-map devices name_at ∙ sym len) few;
+        nets = subst (λ n. n ≤ limits.nets) (sym (length-map nets (net_of names found))) few_nets;
         cores = members_cores says files devices (whole h);
         strings = members_strings says files devices (whole h);
         pins = each (IsBitOf found) _ pin_of_member (all_pins (map (net_of names found) nets)) (nets_on names found nets);

@@ -4,3 +4,4 @@ pub mod BoardLaws
 pub mod FitLaws
 pub mod TwiceLaws
 pub mod LoopLaws
+pub mod WithinLaws

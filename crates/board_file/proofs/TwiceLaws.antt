@@ -5,6 +5,7 @@ use Rattle.std.specs.List.{list_any, filter_map, AllByRecursion}
 use Rattle.std.proofs.lemmas.Option.{slice_get_within}
 use Rattle.std.proofs.lemmas.Bool.{false≢true}
 use Rattle.std.proofs.lemmas.Bool.Decides.{nat_tests}
+use Rattle.jt_limits.specs.Limits.{limits}
 use Rattle.toml.specs.Data.{Members}
 use Rattle.bsdl_device.specs.Device.{Device}
 use Rattle.board_tables.specs.Fields.{texts_at}
@@ -117,15 +118,15 @@ module _ (names : List (List ℕ)) (ds : List Device) (ts : List Members) (known
   by_size : wire_fault names ds ts ≡ large (length names) (length ts)
   by_size = λ i. option_or (option_map UnknownPin (known i)) (option_or (option_map PinTwice (none i)) (large (length names) (length ts)))
 
-  pub told_large : (m : ℕ) → m ≡ length ts → 4096 < m → wire_fault names ds ts ≡ Some TooLarge
+  pub told_large : (m : ℕ) → m ≡ length ts → limits.nets < m → wire_fault names ds ts ≡ Some TooLarge
   told_large m is more =
       by_size ∙ ap (large (length names)) (sym is)
-      ∙ (λ i. if nat_lt 32 (length names) || is_above 4096 m more i then Some TooLarge else None) ∙ by (nat_lt 32 (length names))
+      ∙ (λ i. if nat_lt limits.devices (length names) || is_above limits.nets m more i then Some TooLarge else None) ∙ by (nat_lt limits.devices (length names))
     where
       by : (b : Bool) → (if b || true then Some TooLarge else None) ≡ Some TooLarge
       by true = refl
       by false = refl
 
-  pub told_none : (n m : ℕ) → length names ≡ n → m ≡ length ts → nat_lt 32 n ≡ false → m ≤ 4096 → wire_fault names ds ts ≡ None
+  pub told_none : (n m : ℕ) → length names ≡ n → m ≡ length ts → nat_lt limits.devices n ≡ false → m ≤ limits.nets → wire_fault names ds ts ≡ None
   told_none n m long is few less =
-      by_size ∙ (λ i. large (long i) (sym is i)) ∙ (λ i. if few i || not_above 4096 m less i then Some TooLarge else None)
+      by_size ∙ (λ i. large (long i) (sym is i)) ∙ (λ i. if few i || not_above limits.nets m less i then Some TooLarge else None)

@@ -2,6 +2,7 @@
 use Rattle.std.specs.Prelude.{◌≡◌, ◌<◌, ◌≤◌, false, ℕ, Option, List, [], ◌∷◌, ◌++◌, length, codes, Some, None, Ok}
 use Rattle.std.specs.List.{list_any, AllByRecursion}
 use Rattle.toml.specs.Data.{Members, get_member}
+use Rattle.jt_limits.specs.Limits.{limits}
 use Rattle.bsdl_device.specs.Device.{Device}
 use Rattle.board_tables.specs.Fields.{tables_at}
 use Rattle.board_library.specs.Files.{File}
@@ -16,12 +17,12 @@ abbrev pub AreApart : (before pins : List Pin) → Type 0
 AreApart before [] = Unit {0}
 AreApart before (p ∷ ps) = (list_any (same_pin p) before ≡ false) × AreApart (before ++ p ∷ []) ps
 
--- 1 to 32 devices with whole cores and strings that fit them, at most 4,096 nets, each pin a port bit of a device, and
--- none twice
+-- a device or more with whole cores and strings that fit them, no more devices and nets than the limits say, each pin a
+-- port bit of a device, and none twice
 pub record FitsTogether (w : Wiring) : Type 0 where
   pub some : 0 < length w.members
-  pub most : length w.members ≤ 32
-  pub nets : length w.nets ≤ 4096
+  pub most : length w.members ≤ limits.devices
+  pub nets : length w.nets ≤ limits.nets
   pub cores : AllByRecursion HasCore w.members
   pub strings : AllByRecursion HasStrings w.members
   pub pins : AllByRecursion (IsPinOf w.members) (all_pins w.nets)

@@ -2,3 +2,4 @@ pub mod Wiring
 pub mod View
 pub mod Fits
 pub mod Ports
+pub mod Within

@@ -4,6 +4,8 @@ use Rattle.std.specs.List.{flat_map}
 use Rattle.std.specs.Option.{option_or}
 use Rattle.std.specs.Prelude.{codes, option_map, Option, Some, None, Result, Ok, Err, if◌then◌else◌}
 use Rattle.toml.specs.Data.{Members}
+use Rattle.jt_limits.specs.declared.Limits.{Limits}
+use Rattle.jt_limits.specs.Limits.{limits}
 use Rattle.bsdl_device.specs.Device.{Device}
 use Rattle.core_loops.specs.Loops.{IsFirstOnLoop}
 use Rattle.board_words.specs.FollowTexts.{target_text}
@@ -41,15 +43,15 @@ pub data Fault : Type 0 where
   PinTwice : (text : List ℕ) → Fault
   TooLarge : Fault
 
--- at most 32 devices and 4,096 nets
-abbrev pub large : ℕ → ℕ → Option Fault
-large devices nets = if nat_lt 32 devices || nat_lt 4096 nets then Some TooLarge else None
+-- too many devices or nets
+abbrev pub large_within : Limits → ℕ → ℕ → Option Fault
+large_within l devices nets = if nat_lt l.devices devices || nat_lt l.nets nets then Some TooLarge else None
 
 -- of the pins, given the names of the devices and what is described of each
-abbrev pub wire_fault : List (List ℕ) → List Device → List Members → Option Fault
-wire_fault names ds nets =
+abbrev pub wire_fault_within : Limits → List (List ℕ) → List Device → List Members → Option Fault
+wire_fault_within l names ds nets =
     option_or (option_map UnknownPin (unknown_in_nets names ds nets))
-    (option_or (option_map PinTwice (twice_in_nets names ds [] nets)) (large (length names) (length nets)))
+    (option_or (option_map PinTwice (twice_in_nets names ds [] nets)) (large_within l (length names) (length nets)))
 
 -- what the keys of a device are judged by, where its description is there and not refused
 abbrev pub known_at : (List ℕ → Option Device) → List File → Members → Option Known
@@ -61,16 +63,31 @@ file_fault says files names =
     option_or (option_map UnknownFile (missing_in files names)) (option_map Bsdl (refused_in says files names))
 
 -- Of the whole: the first in the order of the cases, and in each the first device, net and pin.
-abbrev pub fault_of : (List ℕ → Option Device) → List File → Members → Option Fault
-fault_of says files t =
+abbrev pub fault_within : Limits → (List ℕ → Option Device) → List File → Members → Option Fault
+fault_within l says files t =
     let devices = tables_at (codes "device") t in
     option_or (option_map BadField (unfit (map (known_at says files) devices) t))
     (option_or (file_fault says files (file_names t))
-    (wire_fault (map name_at devices) (devices_of says files devices) (tables_at (codes "net") t)))
+    (wire_fault_within l (map name_at devices) (devices_of says files devices) (tables_at (codes "net") t)))
 
 -- the wiring, or why the table and the files make none
+abbrev pub makes_within : Limits → (List ℕ → Option Device) → List File → Members → Result Wiring Fault
+makes_within l says files t =
+    elim (fault_within l says files t) [ None ↦ Ok (wiring_of says files t) | Some f ↦ Err f ]
+
+-- ---- within the limits that stand
+
+abbrev pub large : ℕ → ℕ → Option Fault
+large devices nets = large_within limits devices nets
+
+abbrev pub wire_fault : List (List ℕ) → List Device → List Members → Option Fault
+wire_fault names ds nets = wire_fault_within limits names ds nets
+
+abbrev pub fault_of : (List ℕ → Option Device) → List File → Members → Option Fault
+fault_of says files t = fault_within limits says files t
+
 abbrev pub makes : (List ℕ → Option Device) → List File → Members → Result Wiring Fault
-makes says files t = elim (fault_of says files t) [ None ↦ Ok (wiring_of says files t) | Some f ↦ Err f ]
+makes says files t = makes_within limits says files t
 
 -- ---- cores that follow themselves
 

@@ -43,8 +43,8 @@ pub fn plan_of_text<'f, R: Describe>(
         → TellsBoard R.refuses result (makes R.says (files_of files.now) t) (targets_in t) }
     // What is no TOML is refused as that, unless memory runs out.
     ensures bad_toml { IsBadToml toml_text.now → TellsBadToml result }
-    // A board has 1 to 32 devices with whole cores and strings that fit them, and at most 4,096 nets; each pin is a
-    // port bit of a device, none twice.
+    // A board has a device or more with whole cores and strings that fit them, and no more devices and nets than the
+    // limits say; each pin is a port bit of a device, none twice.
     ensures fits { IfOk result (λ p. FitsTogether (wiring p)) }
     // Each device is one that a text says.
     ensures said { IfOk result (λ p. AreSaid R.says (wiring p)) }

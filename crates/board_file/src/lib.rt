@@ -9,5 +9,5 @@ mod wiring;
 pub use board::plan_of_text;
 pub use board_library::{Describe, Unread};
 pub use board_names::{BoardFault, bsdl_names};
-pub use laws::no_strings_without_follow;
+pub use laws::{boards_are_limited, no_strings_without_follow};
 pub use pin_nets::Pin;

@@ -2,6 +2,7 @@
 ghost use Rattle.std.specs.Prelude.{◌≡◌, ◌<◌, ◌||◌, not, nat_lt, [], length, map, None, IfOk};
 ghost use Rattle.std.specs.List.{AllByRecursion};
 ghost use Rattle.toml.specs.View.{items_view};
+ghost use Rattle.jt_limits.specs.Limits.{limits};
 ghost use Rattle.board_tables.specs.Fields.{tables_in};
 ghost use Rattle.board_words.specs.View.{texts_of};
 ghost use Rattle.board_pins.specs.Pins.{twice_in_nets, unknown_in_nets};
@@ -18,6 +19,7 @@ use board_pins::{Unfound, first_twice};
 use board_plan::PlannedNet;
 use board_words::Places;
 use device_instructions::SharedDevice;
+use jt_limits::LIMITS;
 use std::alloc::{AllocError, Global};
 use toml::Value;
 
@@ -32,11 +34,11 @@ pub(crate) enum Miswired<'t> {
     Memory,
 }
 
-/// A board has at most 32 devices.
-const MOST_DEVICES: usize = 32;
+/// A board has at most so many devices.
+const MOST_DEVICES: usize = LIMITS.devices;
 
-/// A board has at most 4,096 nets with a name.
-const MOST_NETS: usize = 4_096;
+/// A board has at most so many nets with a name.
+const MOST_NETS: usize = LIMITS.nets;
 
 /// The nets, where pins and nets fit, given the names of all devices, and the devices.
 pub(crate) fn plan_fitting<'t>(
@@ -80,7 +82,7 @@ fn may_fit(
     requires { AllByRecursion (IsAmong (length devices.now) (spec.most_ports devices.now))
         (all_pins (map planned_net planned.now)) }
     ensures { IfOk result (λ r. r
-        ≡ not (nat_lt 32 (length names.now) || is_some_twice [] (all_pins (map planned_net planned.now)))) }
+        ≡ not (nat_lt limits.devices (length names.now) || is_some_twice [] (all_pins (map planned_net planned.now)))) }
 {
     Ok(
         names.len() <= MOST_DEVICES
@@ -97,7 +99,7 @@ fn misfit<'t>(
 ) -> Miswired<'t>
     requires known { unknown_in_nets (texts_of names.now) devices.now (tables_in (items_view nets.now)) ≡ None }
     requires misfit { twice_in_nets (texts_of names.now) devices.now [] (tables_in (items_view nets.now)) ≡ None
-        → 32 < length names.now }
+        → limits.devices < length names.now }
     ensures { IsMisfit result (wire_fault (texts_of names.now) devices.now (tables_in (items_view nets.now))) }
 {
     match first_twice(alloc, names, devices, nets) {

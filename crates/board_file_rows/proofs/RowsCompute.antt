@@ -10,7 +10,7 @@ use Rattle.board_file_rows.specs.Rows.{BoardRows, FollowRows, LoopRows}
 
 pub board_rows : BoardRows
 unfolding pin_at pin_of port_of index_of
-board_rows = (refl, refl, refl, refl, refl, refl, refl, refl, refl, refl, refl, refl, refl, refl, refl, refl, refl, refl, refl, refl, refl, refl, refl, refl, refl, refl, refl, refl, refl, refl, refl, refl, refl)
+board_rows = (refl, refl, refl, refl, refl, refl, refl, refl, refl, refl, refl, refl, refl, refl, refl, refl, refl, refl, refl, refl, refl, refl, refl, refl, refl, refl, refl, refl, refl, refl, refl, refl, refl, refl, refl, refl)
 
 pub follow_rows : FollowRows
 unfolding string_of follow_of source_of trimmed port_of index_of

@@ -1,10 +1,11 @@
 -- Worked rows: what the definitions make of small board files.
 use Rattle.std.specs.Prelude.{◌≡◌, ℕ, Bool, true, false, List, [], ◌∷◌, codes, Some, None, Result, Ok, Err}
 use Rattle.toml.specs.Data.{Members, no_members, member, boolean}
+use Rattle.jt_limits.specs.Limits.{earlier_limits}
 use Rattle.pin_nets.specs.declared.Pull.TheVariants.{Up, Down, Free}
 use Rattle.board_names.specs.Files.{names_of}
 use Rattle.board_file.specs.Wiring.{Fault, BadField, UnknownFile, Bsdl, UnknownPin, PinTwice, TooLarge, large}
-use Rattle.board_file.specs.Wiring.{IsCoreLoop, targets_in}
+use Rattle.board_file.specs.Wiring.{large_within, IsCoreLoop, targets_in}
 use Rattle.pin_nets.specs.declared.Follow.{Follow}
 use Rattle.board_plan.specs.LeftOut.{left_out}
 use Rattle.board_file_rows.specs.Samples.{Shown, k, ki, kr, shows, pin, tables, file, device, cored, net, pulled}
@@ -64,9 +65,12 @@ BoardRows =
     (net (codes "N") (codes "U1.Q" ∷ []) ∷ net (codes "M") (codes "U1.D" ∷ codes "U1.Q" ∷ []) ∷ []))
     ≡ Err (PinTwice (codes "U1.Q")))
     -- limits
-    × (large 32 4096 ≡ None)
-    × (large 33 0 ≡ Some TooLarge)
-    × (large 1 4097 ≡ Some TooLarge)
+    × (large 256 16384 ≡ None)
+    × (large 257 0 ≡ Some TooLarge)
+    × (large 1 16385 ≡ Some TooLarge)
+    × (large_within earlier_limits 32 4096 ≡ None)
+    × (large_within earlier_limits 33 0 ≡ Some TooLarge)
+    × (large_within earlier_limits 1 4097 ≡ Some TooLarge)
     -- names of descriptions
     × (names_of (file (u1 (codes "k") ∷ device (codes "U2") (codes "p") ∷ device (codes "U3") (codes "k") ∷ []) [])
     ≡ Ok (codes "k" ∷ codes "p" ∷ []))

@@ -337,9 +337,9 @@ fn many(alloc: Global, devices: usize, nets: usize) -> Result<String, AllocError
 
 /// How many devices and nets there are, and what the board is told to be.
 const MANY: &[(usize, usize, &str)] = &[
-    (32, 4_096, "made"),
-    (33, 0, "C7 TooLarge"),
-    (1, 4_097, "C7 TooLarge"),
+    (256, 16_384, "made"),
+    (257, 0, "C7 TooLarge"),
+    (1, 16_385, "C7 TooLarge"),
 ];
 
 #[test]

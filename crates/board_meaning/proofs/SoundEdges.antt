@@ -1,6 +1,7 @@
 -- Every edge and every byte keeps the registers sound, and adds and removes no device.
 use Rattle.std.proofs.Common.{◌≡◌, ◌<◌, ◌≤◌, sym, subst, Bool, true, false, ℕ, suc, List, [], ◌∷◌, length, drop, map, refl, ap, ◌∙◌, arith, length-append, Some, None}
 use Rattle.std.specs.Prelude.{Option, if◌then◌else◌}
+use Rattle.jt_limits.specs.Limits.{limits}
 use Rattle.jt_tap.specs.declared.Work.{Work}
 use Rattle.jt_tap.specs.declared.Work.TheVariants.{Resets, Captures, Shifts, Updates, Waits}
 use Rattle.jt_tap.specs.Controller.{work}
@@ -121,6 +122,6 @@ count-bytes (byte ∷ bytes) b = count-bytes bytes (after_byte byte b) ∙ count
 pub IsChain-told : (m : Message) (b : BoardState) → IsChain b.chips → IsChain (after_message m b).chips
 IsChain-told m b is = record {
   some = subst (λ (n : ℕ). 0 < n) (sym (count-told m b)) is.some;
-  most = subst (λ (n : ℕ). n ≤ 32) (sym (count-told m b)) is.most;
+  most = subst (λ (n : ℕ). n ≤ limits.devices) (sym (count-told m b)) is.most;
   sound = sound-told m b is.sound;
 }

@@ -2,6 +2,7 @@
 -- 1149.1-2001, clauses 7 to 12, ask for that and more of every component).
 use Rattle.std.specs.Prelude.{◌≡◌, Bool, ◌<◌, ◌≤◌, List, [], length, Option, unwrap_or}
 use Rattle.std.specs.List.{AllByRecursion}
+use Rattle.jt_limits.specs.Limits.{limits}
 use Rattle.bsdl_device.specs.Device.{Device}
 use Rattle.bsdl_device.specs.Sound.{IsSoundDevice}
 use Rattle.device_instructions.specs.declared.Selected.{Selected}
@@ -52,8 +53,8 @@ pub record IsPoweredUp (m : Member) : Type 0 where
   pub description : IsSoundDevice m.device
   pub powered_up : m ≡ powered m.name m.device m.core m.follows m.extest_update
 
--- What a board keeps whatever bytes it takes: 1 to 32 devices, all sound.
+-- What a board keeps whatever bytes it takes: a device or more, no more than the limit, all sound.
 pub record IsChain (chips : List ChipState) : Type 0 where
   pub some : 0 < length chips
-  pub most : length chips ≤ 32
+  pub most : length chips ≤ limits.devices
   pub sound : AllSound (members chips)

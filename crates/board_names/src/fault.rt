@@ -28,7 +28,7 @@ pub enum BoardFault<F> {
     /// The first text whose pin stands before it, in its net or in another.
     #[error("C6 PinTwice")]
     PinTwice(String),
-    /// More than 32 devices or 4,096 nets.
+    /// More than 256 devices or 16,384 nets.
     #[error("C7 TooLarge")]
     TooLarge,
     /// A growth was refused.

@@ -1,9 +1,10 @@
 -- Which port bits the pins of the nets are. A pin is a port bit of a device; the TAP's ports are none.
-use Rattle.std.specs.Prelude.{ℕ, Bool, ◌&&◌, ◌==◌, nat_lt, List, [], ◌∷◌, ◌++◌, filter_map, codes, bytes_eq, option_map}
+use Rattle.std.specs.Prelude.{suc, ℕ, Bool, ◌&&◌, ◌==◌, nat_lt, List, [], ◌∷◌, ◌++◌, filter_map, codes, bytes_eq, option_map}
 use Rattle.std.specs.Option.{option_or}
 use Rattle.std.specs.Prelude.{option_and_then, Option, Some, None, position, slice_get, if◌then◌else◌}
 use Rattle.std.specs.List.{list_any}
 use Rattle.std.specs.Str.Parse.{digits_value}
+use Rattle.jt_limits.specs.Limits.{subscript_limit}
 use Rattle.toml.specs.Data.{Members}
 use Rattle.bsdl_device.specs.Device.{PortBit, Device}
 use Rattle.bsdl_device.specs.Ports.{bit_number}
@@ -13,7 +14,7 @@ use Rattle.pin_nets.specs.declared.Pin.{Pin}
 
 -- The index that digits write. No description has one above 65,535.
 abbrev pub index_of : List ℕ → Option ℕ
-index_of digits = if nat_lt (digits_value 10 digits) 65536 then Some (digits_value 10 digits) else None
+index_of digits = if nat_lt (digits_value 10 digits) (suc subscript_limit) then Some (digits_value 10 digits) else None
 
 -- the port bit of this name, in any case, and index
 abbrev pub bit_of : Device → List ℕ → Option (List ℕ) → Option ℕ

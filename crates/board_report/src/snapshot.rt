@@ -1,6 +1,7 @@
 //! What a board shows between two bytes.
 
 ghost use Rattle.std.specs.Prelude.{◌≡◌, ◌<◌, ◌≤◌, [], ◌∷◌, ℕ, Bool, List, Some, length, option_map, slice_get};
+ghost use Rattle.jt_limits.specs.Limits.{limits};
 ghost use Rattle.device_instructions.specs.Instruction.{instruction};
 ghost use Rattle.board_meaning.specs.Chain.{members};
 ghost use Rattle.board_meaning.specs.Sound.{IsChain};
@@ -60,11 +61,11 @@ impl<'a> Snapshot<'a> {
         self.chain.trst()
     }
 
-    /// How many devices the chain has: 1 to 32.
+    /// How many devices the chain has: 1 to 256.
     pub fn devices(&self) -> usize
         ensures count { result ≡ length self.now.chips }
         ensures some { 0 < result }
-        ensures most { result ≤ 32 }
+        ensures most { result ≤ limits.devices }
     {
         self.chain.devices()
     }

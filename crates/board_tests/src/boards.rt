@@ -166,9 +166,9 @@ fn reading(state: State) -> u8 {
 }
 
 /// How many devices a bare board may have, at its least and at its most, and how many it may not.
-const SIZES: &[usize] = &[1, 2, 32];
+const SIZES: &[usize] = &[1, 2, 33, 256];
 
-const NO_SIZES: &[usize] = &[0, 33, usize::MAX];
+const NO_SIZES: &[usize] = &[0, 257, usize::MAX];
 
 #[test]
 fn boards_of_every_size(rt: HostRuntime) -> Result<(), Fail> {
@@ -328,7 +328,7 @@ fn boards_of_board_files(rt: HostRuntime) -> Result<(), Fail> {
     ];
     assert_made(&rt, rt.alloc(), &rows)?;
     let mut many = String::new(rt.alloc());
-    for i in 0..33 {
+    for i in 0..257 {
         many.push_str(format!(in rt.alloc(); "[[device]]\nname='U{i}'\nbsdl='k'\n")?.as_str())?;
     }
     assert_eq!(rt;

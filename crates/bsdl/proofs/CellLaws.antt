@@ -5,6 +5,7 @@ use Rattle.std.specs.List.{AllByRecursion, flat_map, list_all, range_with_len}
 use Rattle.std.proofs.lemmas.Bool.Decides.{nat_tests}
 use Rattle.std.proofs.lemmas.List.{length-map}
 use Rattle.std.proofs.lemmas.Option.{slice_get_within}
+use Rattle.jt_limits.specs.Limits.{limits, subscript_limit}
 use Rattle.bsdl_device.specs.Device.{Device}
 use Rattle.bsdl_device.specs.Driving.{drives}
 use Rattle.bsdl_device.specs.Ports as found
@@ -13,14 +14,14 @@ use Rattle.bsdl_cells.specs.Rows.{CellRow, PortName}
 use Rattle.bsdl_entity.specs.Entity.{File}
 use Rattle.bsdl_described.specs.Describing.{Description, Refusal, described, ◌>>?◌}
 use Rattle.bsdl_fit.specs.Fits.{cells_end, has_no_port, is_driven_below, is_fit, names_tap, port_bit, port_fits, row_fits, rows_numbered}
-use Rattle.bsdl_limits.specs.Limits.{cells_within, instructions_within, ports_within, subscript_limit, users_within}
+use Rattle.bsdl_limits.specs.Limits.{cells_within, instructions_within, ports_within, users_within}
 use Rattle.bsdl_limits.specs.PortBits as declared
 use Rattle.bsdl_boundary.specs.Boundary.{cell}
 use Rattle.bsdl_built.specs.Built.{device}
 use Rattle.bsdl.specs.Form.{text_form}
 use Rattle.bsdl.specs.Judging.{fault, file_says, device_or_refusal, text_says}
 use Rattle.bsdl.specs.RowCells.{HasItsCell, HasRowCells, bit_named, row_cell, text_described}
-use Rattle.bsdl.proofs.OnceLaws.{at_least, both, cell_fits, each_cell_once, each_fits, limits}
+use Rattle.bsdl.proofs.OnceLaws.{at_least, both, cell_fits, each_cell_once, each_fits, limits_kept}
 use Rattle.bsdl.proofs.LimitedLaws.{cells_len}
 use Rattle.bsdl.proofs.OrderLaws.{same_ok}
 use Rattle.bsdl.proofs.BitLaws.{in_upper, is_found}
@@ -121,9 +122,9 @@ below_end n (r ∷ rows) =
 
 small_numbers : (d : Description) → fault d ≡ None → list_all (λ r. nat_le r.number subscript_limit) d.cells ≡ true
 small_numbers d e =
-    let behind = (both (instructions_within d) (cells_within d && (ports_within d && users_within d)) (limits d e)).1 in
+    let behind = (both (instructions_within d) (cells_within d && (ports_within d && users_within d)) (limits_kept d e)).1 in
     let within = (both (cells_within d) (ports_within d && users_within d) behind).0 in
-    (both (nat_le d.boundary_length 4096) (list_all (λ r. nat_le r.number subscript_limit) d.cells) within).1
+    (both (nat_le d.boundary_length limits.cells) (list_all (λ r. nat_le r.number subscript_limit) d.cells) within).1
 
 passes_at : {A : Type 0} (f : A → Bool) (xs : List A) → list_all f xs ≡ true → (j : ℕ) (x : A) → slice_get xs j ≡ Some x → f x ≡ true
 passes_at f [] all j x at = absurd cc
@@ -140,8 +141,8 @@ row_below d e j r at = by_test (nat_lt r.number d.boundary_length) refl
   where
     fit : is_fit d r.number ≡ true
     fit =
-        let small : nat_le r.number 65535 ≡ true = passes_at (λ s. nat_le s.number subscript_limit) d.cells (small_numbers d e) j r at in
-        let low : r.number ≤ 65535 = grind (arith, nat_tests, small) in
+        let small : nat_le r.number subscript_limit ≡ true = passes_at (λ s. nat_le s.number subscript_limit) d.cells (small_numbers d e) j r at in
+        let low : r.number ≤ subscript_limit = grind (arith, nat_tests, small) in
         let listed : r.number < cells_end d = one_of (λ s. s.number < cells_end d) d.cells (below_end d.boundary_length d.cells) j r at in
         each_fits d e r.number (omega (arith, low)) listed
 

@@ -14,7 +14,7 @@ use Rattle.bsdl_cell_maps.specs.Controls.{is_control}
 use Rattle.bsdl_described.specs.Describing.{Description}
 use Rattle.bsdl_own_instructions.specs.Own.{is_among}
 use Rattle.bsdl_fit.specs.Fits.{control_fits, has_no_port, is_control_cell, is_driven_below, names_tap, port_bit, port_fits, row_fits, same_bit}
-use Rattle.bsdl_limits.specs.Limits.{subscript_limit}
+use Rattle.jt_limits.specs.Limits.{subscript_limit}
 use Rattle.bsdl_boundary.specs.Boundary.{cell}
 use Rattle.bsdl_built.specs.Built.{device}
 use Rattle.bsdl.specs.FitCells.{CellFits, ControlFits, HasFitCells, IsControlCell, IsPinGiven, PortFits}

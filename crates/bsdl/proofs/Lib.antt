@@ -12,3 +12,4 @@ pub mod RowWeights
 pub mod SoundLaws
 pub mod SmallLaws
 pub mod Weights
+pub mod WithinLaws

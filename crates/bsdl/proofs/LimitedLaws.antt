@@ -1,5 +1,6 @@
 -- Every device that a text says keeps the limits.
 use Rattle.std.proofs.Common.{◌≡◌, ◌<◌, ◌≤◌, ℕ, zero, suc, ◌+◌, ◌-◌, true, false, List, [], ◌∷◌, length, map, refl, sym, ◌∙◌, arith}
+use Rattle.jt_limits.specs.Limits.{limits, subscript_limit}
 use Rattle.bsdl_device.specs.Opcodes.{x_as_0}
 use Rattle.std.specs.Prelude.{Option, Some, None, Result, Ok, Err, option_map, unwrap_or, nat_le, slice_get}
 use Rattle.std.specs.List.{AllByRecursion, flat_map, list_all, range_with_len, sum_by}
@@ -16,7 +17,7 @@ use Rattle.bsdl_entity.specs.Entity.{File}
 use Rattle.bsdl_described.specs.Describing.{Description, Refusal, bad_length, described, ◌>>?◌}
 use Rattle.bsdl_fit.specs.Fits.{rows_numbered}
 use Rattle.bsdl_lengths.specs.Lengths.{codes_fit, has_bits, has_len, instructions_fit, lengths_fit}
-use Rattle.bsdl_limits.specs.Limits.{cells_within, instructions_within, ports_within, subscript_limit, users_within}
+use Rattle.bsdl_limits.specs.Limits.{cells_within, instructions_within, ports_within, users_within}
 use Rattle.bsdl_limits.specs.PortBits.{highest, width}
 use Rattle.bsdl_limits.specs.Users.{users_of}
 use Rattle.bsdl_opcodes.specs.ResetOpcode.{opcode}
@@ -26,7 +27,7 @@ use Rattle.bsdl_built.specs.Built.{device}
 use Rattle.bsdl.specs.Form.{text_form}
 use Rattle.bsdl.specs.Judging.{fault, file_says, device_or_refusal, text_says, twice_in, unless}
 use Rattle.bsdl.specs.Limited.{HasLengthIfGiven, HasPatternsOf, IsIndexWithin, IsLimitedDevice}
-use Rattle.bsdl.proofs.OnceLaws.{both, each_cell_once, holds, limits, neither}
+use Rattle.bsdl.proofs.OnceLaws.{both, each_cell_once, holds, limits_kept, neither}
 use Rattle.bsdl.proofs.OrderLaws.{AreOrdered, IsOrdered, all_of_both, described_ordered, text_ordered}
 
 at_most : (n m : ℕ) → nat_le n m ≡ true → n ≤ m
@@ -48,30 +49,30 @@ ports_len taps (p ∷ ps) =
     let here = port_len taps p in
     omega (arith, length-append (port_bits taps p) (flat_map (port_bits taps) ps), sum_by-cons (λ (q : Port). width q.range) p ps, here, rest)
 
-indices_within : (f : ℕ → PortBit) → ((i : ℕ) → (f i).index ≡ Some i) → (a n : ℕ) → a + n ≤ 65536 → AllByRecursion (λ p. IsIndexWithin 65535 p.index) (map f (range_with_len a n))
+indices_within : (f : ℕ → PortBit) → ((i : ℕ) → (f i).index ≡ Some i) → (a n : ℕ) → a + n ≤ suc subscript_limit → AllByRecursion (λ p. IsIndexWithin subscript_limit p.index) (map f (range_with_len a n))
 indices_within f is a zero few = tt
 indices_within f is a (suc n) few =
-    let here : IsIndexWithin 65535 (f a).index = rw (is a) (omega (arith, few)) in
+    let here : IsIndexWithin subscript_limit (f a).index = rw (is a) (omega (arith, few)) in
     (here, indices_within f is (a + 1) n (omega (arith, few)))
 
-bits_within : (taps : List Name) (p : Port) → IsOrdered p.range → nat_le (highest p.range) subscript_limit ≡ true → AllByRecursion (λ b. IsIndexWithin 65535 b.index) (port_bits taps p)
+bits_within : (taps : List Name) (p : Port) → IsOrdered p.range → nat_le (highest p.range) subscript_limit ≡ true → AllByRecursion (λ b. IsIndexWithin subscript_limit b.index) (port_bits taps p)
 bits_within taps p runs within = by_range p.range refl runs within
   where
-    by_range : (r : Option Range) → p.range ≡ r → IsOrdered r → nat_le (highest r) subscript_limit ≡ true → AllByRecursion (λ b. IsIndexWithin 65535 b.index) (port_bits taps p)
+    by_range : (r : Option Range) → p.range ≡ r → IsOrdered r → nat_le (highest r) subscript_limit ≡ true → AllByRecursion (λ b. IsIndexWithin subscript_limit b.index) (port_bits taps p)
     by_range None is up h = rw is (tt, tt)
     by_range (Some r) is up h =
-        let most : r.high ≤ 65535 = at_most r.high 65535 h in
+        let most : r.high ≤ subscript_limit = at_most r.high subscript_limit h in
         let rises : r.low ≤ r.high = up in
         let name = upper p.name.text in
         rw is
         (indices_within (λ i. record { name = name; index = Some i; mode = p.mode; is_tap = is_among taps name }) (λ i. refl) r.low (r.high - r.low + 1) (omega (arith, most, rises)))
 
 ports_indices : (taps : List Name) (ps : List Port) → AreOrdered ps → list_all (λ p. nat_le (highest p.range) subscript_limit) ps ≡ true
-    → AllByRecursion (λ b. IsIndexWithin 65535 b.index) (flat_map (port_bits taps) ps)
+    → AllByRecursion (λ b. IsIndexWithin subscript_limit b.index) (flat_map (port_bits taps) ps)
 ports_indices taps [] run within = tt
 ports_indices taps (p ∷ ps) run within =
     let parts = both (nat_le (highest p.range) subscript_limit) (list_all (λ q. nat_le (highest q.range) subscript_limit) ps) within in
-    all_of_both (λ b. IsIndexWithin 65535 b.index) (port_bits taps p) (flat_map (port_bits taps) ps) (bits_within taps p run.0 parts.0) (ports_indices taps ps run.1 parts.1)
+    all_of_both (λ b. IsIndexWithin subscript_limit b.index) (port_bits taps p) (flat_map (port_bits taps) ps) (bits_within taps p run.0 parts.0) (ports_indices taps ps run.1 parts.1)
 
 -- ---- cells
 
@@ -109,11 +110,11 @@ code_long (p ∷ ps) fits = bits_len p ∙ is_long 32 p (both (has_len 32 p) (li
 
 -- ---- registers of the device's own
 
-users_long : (us : List (Name × ℕ)) → list_all (λ u. nat_le u.1 4096) us ≡ true → AllByRecursion (λ n. n ≤ 4096) (map (λ u. u.1) us)
+users_long : (us : List (Name × ℕ)) → list_all (λ u. nat_le u.1 limits.user_bits) us ≡ true → AllByRecursion (λ n. n ≤ limits.user_bits) (map (λ u. u.1) us)
 users_long [] fits = tt
 users_long (u ∷ us) fits =
-    let parts = both (nat_le u.1 4096) (list_all (λ v. nat_le v.1 4096) us) fits in
-    let here : u.1 ≤ 4096 = grind (arith, nat_tests, parts.0) in
+    let parts = both (nat_le u.1 limits.user_bits) (list_all (λ v. nat_le v.1 limits.user_bits) us) fits in
+    let here : u.1 ≤ limits.user_bits = grind (arith, nat_tests, parts.0) in
     (here, users_long us parts.1)
 
 -- ---- the whole
@@ -125,33 +126,33 @@ lengths d e =
 
 limited : (d : Description) → AreOrdered d.ports → fault d ≡ None → IsLimitedDevice (device d)
 limited d run e =
-    let one = both (instructions_within d) _ (limits d e) in
+    let one = both (instructions_within d) _ (limits_kept d e) in
     let two = both (cells_within d) _ one.1 in
     let three = both (ports_within d) (users_within d) two.1 in
-    let instructions = both (nat_le d.instruction_length 64) (nat_le (length d.opcodes) 256) one.0 in
-    let cells = both (nat_le d.boundary_length 4096) _ two.0 in
-    let ports = both (list_all (λ p. nat_le (highest p.range) subscript_limit) d.ports) (nat_le (sum_by (λ p. width p.range) d.ports) 8192) three.0 in
-    let users = both (nat_le (length (users_of d.accesses)) 64) _ three.1 in
+    let instructions = both (nat_le d.instruction_length limits.instruction_bits) (nat_le (length d.opcodes) limits.instructions) one.0 in
+    let cells = both (nat_le d.boundary_length limits.cells) _ two.0 in
+    let ports = both (list_all (λ p. nat_le (highest p.range) subscript_limit) d.ports) (nat_le (sum_by (λ p. width p.range) d.ports) limits.port_bits) three.0 in
+    let users = both (nat_le (length (users_of d.accesses)) limits.user_registers) _ three.1 in
     let fits = both (has_bits d) _ (lengths d e) in
     let bits = both (nat_le 2 d.instruction_length) (nat_le 1 d.boundary_length) fits.0 in
     let patterns = both (instructions_fit d) _ fits.1 in
     let codes = both (codes_fit d) _ patterns.1 in
     let written = both (list_all (λ r. list_all (has_len d.instruction_length) r.patterns) d.opcodes) (has_len d.instruction_length d.capture) patterns.0 in
     let code_fits = both (list_all (has_len 32) d.idcodes) (list_all (has_len 32) d.usercodes) codes.0 in
-    let bit_count = at_most (sum_by (λ p. width p.range) d.ports) 8192 ports.1 in
-    let cell_count = at_most d.boundary_length 4096 cells.0 in
+    let bit_count = at_most (sum_by (λ p. width p.range) d.ports) limits.port_bits ports.1 in
+    let cell_count = at_most d.boundary_length limits.cells cells.0 in
     record {
       ports = omega (arith, ports_len d.taps d.ports, bit_count);
       indices = ports_indices d.taps d.ports run ports.0;
       two = at_most 2 d.instruction_length bits.0;
-      instruction = at_most d.instruction_length 64 instructions.0;
-      opcodes = omega (arith, length-map d.opcodes opcode, at_most (length d.opcodes) 256 instructions.1);
+      instruction = at_most d.instruction_length limits.instruction_bits instructions.0;
+      opcodes = omega (arith, length-map d.opcodes opcode, at_most (length d.opcodes) limits.instructions instructions.1);
       patterns = rows_long d.instruction_length d.opcodes written.0;
       capture = bits_len d.capture ∙ is_long d.instruction_length d.capture written.1;
       idcode = code_long d.idcodes code_fits.0;
       usercode = code_long d.usercodes code_fits.1;
       cells = omega (arith, cells_len d 0 d.boundary_length (λ k low high. each_cell_once d e k (omega arith)), cell_count);
-      users = omega (arith, length-map (users_of d.accesses) (λ u. u.1), at_most (length (users_of d.accesses)) 64 users.0);
+      users = omega (arith, length-map (users_of d.accesses) (λ u. u.1), at_most (length (users_of d.accesses)) limits.user_registers users.0);
       user_lengths = users_long (users_of d.accesses) users.1;
     }
 

@@ -4,6 +4,7 @@ use Rattle.std.specs.Option.{option_or}
 use Rattle.std.specs.Prelude.{Option, Some, None, not, option_map, nat_le}
 use Rattle.std.specs.List.{find, fold, range_with_len, list_all}
 use Rattle.std.proofs.lemmas.Bool.Decides.{nat_tests}
+use Rattle.jt_limits.specs.Limits.{limits, subscript_limit}
 use Rattle.bsdl_cells.specs.Rows.{CellRow}
 use Rattle.bsdl_described.specs.Describing.{Description, Refusal, bad_capture, bad_cell, bad_id, bad_length, too_large}
 use Rattle.bsdl_fit.specs.Fits.{cells_end, is_fit, rows_numbered, row_fits, unfit_cell}
@@ -68,19 +69,19 @@ not_false true e = refl
 not_false false e = absurd cc
 
 -- of the cells up to 65,535 none is unfit
-pub each_fits : (d : Description) → fault d ≡ None → (k : ℕ) → k < 65536 → k < cells_end d → is_fit d k ≡ true
+pub each_fits : (d : Description) → fault d ≡ None → (k : ℕ) → k < suc subscript_limit → k < cells_end d → is_fit d k ≡ true
 each_fits d e k small listed =
     let names = neither (twice_in d (given_again d)) _ e in
     let lengths = neither (unless (lengths_fit d) bad_length) _ names.second in
     let ends = neither (option_or (unless (captures_one d.capture) bad_capture) (unless (ends_in_one d.idcodes) bad_id)) _ lengths.second in
     let cells = neither (option_map bad_cell (unfit_cell d)) (unless (is_within_limits d) too_large) ends.second in
     let unfit : unfit_cell d ≡ None = none_mapped (unfit_cell d) cells.first in
-    let inside : k < 0 + min 65536 (cells_end d) = omega (arith, small, listed) in
-    not_false (is_fit d k) (none_found (λ n. not (is_fit d n)) 0 (min 65536 (cells_end d)) k unfit (omega arith) inside)
+    let inside : k < 0 + min (suc subscript_limit) (cells_end d) = omega (arith, small, listed) in
+    not_false (is_fit d k) (none_found (λ n. not (is_fit d n)) 0 (min (suc subscript_limit) (cells_end d)) k unfit (omega arith) inside)
 
 -- no limit is passed
-pub limits : (d : Description) → fault d ≡ None → is_within_limits d ≡ true
-limits d e =
+pub limits_kept : (d : Description) → fault d ≡ None → is_within_limits d ≡ true
+limits_kept d e =
     let names = neither (twice_in d (given_again d)) _ e in
     let lengths = neither (unless (lengths_fit d) bad_length) _ names.second in
     let ends = neither (option_or (unless (captures_one d.capture) bad_capture) (unless (ends_in_one d.idcodes) bad_id)) _ lengths.second in
@@ -89,10 +90,10 @@ limits d e =
 
 pub cell_fits : (d : Description) → fault d ≡ None → (k : ℕ) → k < d.boundary_length → is_fit d k ≡ true
 cell_fits d e k h =
-    let behind = (both (instructions_within d) (cells_within d && (ports_within d && users_within d)) (limits d e)).1 in
+    let behind = (both (instructions_within d) (cells_within d && (ports_within d && users_within d)) (limits_kept d e)).1 in
     let within = (both (cells_within d) (ports_within d && users_within d) behind).0 in
-    let few : nat_le d.boundary_length 4096 ≡ true = (both (nat_le d.boundary_length 4096) _ within).0 in
-    let small : d.boundary_length ≤ 4096 = grind (arith, nat_tests, few) in
+    let few : nat_le d.boundary_length limits.cells ≡ true = (both (nat_le d.boundary_length limits.cells) _ within).0 in
+    let small : d.boundary_length ≤ limits.cells = grind (arith, nat_tests, few) in
     let reach : d.boundary_length ≤ cells_end d = at_least d.boundary_length d.cells in
     each_fits d e k (omega (arith, h, small)) (omega (arith, h, reach))
 

@@ -7,3 +7,4 @@ pub mod Limited
 pub mod RowCells
 pub mod Small
 pub mod View
+pub mod Within

@@ -2,6 +2,7 @@
 -- patterns an instruction has, private names, and own instructions with what they capture.
 use Rattle.std.specs.Prelude.{◌≡◌, ℕ, ◌≤◌, Bool, List, length, Option, Some, None}
 use Rattle.std.specs.List.{AllByRecursion}
+use Rattle.jt_limits.specs.Limits.{limits, subscript_limit}
 use Rattle.bsdl_device.specs.Device.{Device, Opcode}
 
 -- a list of bits that is not left out has this length
@@ -19,15 +20,15 @@ IsIndexWithin most None = Unit {0}
 IsIndexWithin most (Some index) = index ≤ most
 
 pub record IsLimitedDevice (d : Device) : Type 0 where
-  pub ports : length d.ports ≤ 8192
-  pub indices : AllByRecursion (λ p. IsIndexWithin 65535 p.index) d.ports
+  pub ports : length d.ports ≤ limits.port_bits
+  pub indices : AllByRecursion (λ p. IsIndexWithin subscript_limit p.index) d.ports
   pub two : 2 ≤ d.instruction_length
-  pub instruction : d.instruction_length ≤ 64
-  pub opcodes : length d.opcodes ≤ 256
+  pub instruction : d.instruction_length ≤ limits.instruction_bits
+  pub opcodes : length d.opcodes ≤ limits.instructions
   pub patterns : AllByRecursion (λ o. HasPatternsOf d.instruction_length o) d.opcodes
   pub capture : length d.capture ≡ d.instruction_length
   pub idcode : HasLengthIfGiven 32 d.idcode
   pub usercode : HasLengthIfGiven 32 d.usercode
-  pub cells : length d.cells ≤ 4096
-  pub users : length d.users ≤ 64
-  pub user_lengths : AllByRecursion (λ n. n ≤ 4096) d.users
+  pub cells : length d.cells ≤ limits.cells
+  pub users : length d.users ≤ limits.user_registers
+  pub user_lengths : AllByRecursion (λ n. n ≤ limits.user_bits) d.users

@@ -9,10 +9,11 @@ use bsdl_described::description::{Description, describe};
 use bsdl_entity::entity::{Outline, read_entity};
 use bsdl_lex::{Lexer, bad_byte};
 use bsdl_text::reading::Stop;
+use jt_limits::LIMITS;
 use std::alloc::Global;
 
-/// A text has at most 4 MiB.
-const TEXT_LIMIT: usize = 4_194_304;
+/// A text has at most so many bytes: 4 MiB.
+const TEXT_LIMIT: usize = LIMITS.description_bytes;
 
 /// The entity that a text spells, or its first refusal of B1, B2 and B9 (a text above 4 MiB, whatever it holds). Want
 /// of memory is B10; nothing is said of when it comes.

@@ -1,6 +1,7 @@
 //! What holds of all texts.
 ghost use Rattle.bsdl.specs.Laws.{EveryCellFitsItsDevice, EveryCellHasThePortThatItsRowNames, PinsFindTheBitsOfRows};
 ghost use Rattle.bsdl.specs.Laws.{EveryDeviceIsExact, EveryDeviceIsLimited, EveryDeviceIsSmall, EveryDeviceIsSound};
+ghost use Rattle.bsdl.specs.Within.{LargerLimitsSayMore, SaidIsWithin, WhatLiesWithinIsSaid};
 
 /// Every device that a text says is sound: each register that an instruction can select has a bit, and so has what it
 /// captures.
@@ -51,4 +52,12 @@ pub fn every_cell_has_the_port_that_its_row_names()
 /// has a control.
 pub fn every_cell_fits_its_device()
     ensures { EveryCellFitsItsDevice }
+{}
+
+/// What a text says hangs on the limits only by whether the text and what it describes lie within them: they do, what
+/// is said within some limits is said within others that it lies within, and so within all that are larger.
+pub fn descriptions_are_limited()
+    ensures within { SaidIsWithin }
+    ensures kept { WhatLiesWithinIsSaid }
+    ensures larger { LargerLimitsSayMore }
 {}

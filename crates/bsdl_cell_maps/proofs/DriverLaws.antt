@@ -1,5 +1,5 @@
 -- The lowest cells that drive port bits, one more.
-use Rattle.std.proofs.Common.{◌≡◌, ◌≤◌, ℕ, Bool, true, false, nat_eq, nat_lt, min, ◌&&◌, ◌||◌, cond, List, refl, sym, ap, ◌∙◌, inl, inr, arith}
+use Rattle.std.proofs.Common.{suc, ◌≡◌, ◌≤◌, ℕ, Bool, true, false, nat_eq, nat_lt, min, ◌&&◌, ◌||◌, cond, List, refl, sym, ap, ◌∙◌, inl, inr, arith}
 use Rattle.std.specs.Prelude.{Option, Some, bytes_eq, option_and_then}
 use Rattle.std.specs.Ordering.{is_eq, nat_cmp, ordering_then}
 use Rattle.std.specs.Cmp.Lexicographic.{slice_cmp}
@@ -8,6 +8,7 @@ use Rattle.std.proofs.lemmas.Bool.{cases_order}
 use Rattle.std.proofs.lemmas.Bool.Decides.{nat_tests}
 use Rattle.std.proofs.lemmas.Map.Text.{is_eq-slice_cmp}
 use Rattle.std.proofs.lemmas.Slice.Eq.{bytes_eq-Decides}
+use Rattle.jt_limits.specs.Limits.{subscript_limit}
 use Rattle.bsdl_numbers.proofs.SpellingLaws.{one_spelling}
 use Rattle.bsdl_cells.specs.Rows.{CellRow, PortName}
 use Rattle.bsdl_ports.specs.Ports.{Port}
@@ -76,11 +77,11 @@ port_indices_same a b = ap (λ t. nat_eq a.port b.port && t) by_index
     by_index : bytes_eq xs ys ≡ nat_eq (digits_value 10 xs) (digits_value 10 ys)
     by_index = by_value (nat_eq (digits_value 10 xs) (digits_value 10 ys)) refl
 
-capped_lt : (v n : ℕ) → n ≤ 65536 → nat_lt (min v 65536) n ≡ nat_lt v n
+capped_lt : (v n : ℕ) → n ≤ suc subscript_limit → nat_lt (min v (suc subscript_limit)) n ≡ nat_lt v n
 capped_lt v n few = grind (arith, nat_tests)
 
-pub row_drives : (ps : List Port) (a s : PortIndex) (n : ℕ) (r : CellRow) (name : PortName) → n ≤ 65536 → r.port ≡ Some name → drives r.function ≡ true → Some (port_index a) ≡ port_index_of ps name
-    → (same_bit a s && nat_lt (min r.number 65536) n) ≡ drives_below ps s n r
+pub row_drives : (ps : List Port) (a s : PortIndex) (n : ℕ) (r : CellRow) (name : PortName) → n ≤ suc subscript_limit → r.port ≡ Some name → drives r.function ≡ true → Some (port_index a) ≡ port_index_of ps name
+    → (same_bit a s && nat_lt (min r.number (suc subscript_limit)) n) ≡ drives_below ps s n r
 row_drives ps a s n r name few port driving at =
     let here : option_and_then (port_index_of ps) r.port ≡ Some (port_index a) = ap (option_and_then (port_index_of ps)) port ∙ sym at in
     rw (port_indices_same a s, capped_lt r.number n few, driving, here) (swapped (same_port_index (Some (port_index a)) (Some (port_index s))) (nat_lt r.number n))

@@ -3,19 +3,20 @@ ghost use Rattle.std.specs.Prelude.{◌≡◌, ◌≤◌, ◌||◌, ℕ, map, If
 ghost use Rattle.std.specs.List.{list_any};
 ghost use Rattle.std.specs.BTreeSet.{contains_by};
 ghost use Rattle.std.specs.Ordering.{nat_cmp};
+ghost use Rattle.jt_limits.specs.Limits.{subscript_limit};
 ghost use Rattle.bsdl_cells.specs.View.{cell_row};
 ghost use Rattle.bsdl_cell_maps.specs.Controls as spec;
 
-use crate::ABOVE_SUBSCRIPTS;
 use bsdl_cells::CellRow;
 use bsdl_device::Function;
+use jt_limits::ABOVE_SUBSCRIPTS;
 use std::alloc::{AllocError, Global};
 use std::collections::BTreeSet;
 
 /// The numbers of the cells that control others; numbers above 65,536 count as 65,536. Refuses for want of memory
 /// alone.
 pub fn controls_of(alloc: Global, rows: &[CellRow<'_>]) -> Result<BTreeSet<usize>, AllocError>
-    ensures { IfOk result (λ s. (n : ℕ) → n ≤ 65535 → contains_by (nat_cmp n) s
+    ensures { IfOk result (λ s. (n : ℕ) → n ≤ subscript_limit → contains_by (nat_cmp n) s
         ≡ list_any (spec.controls_as n) (map cell_row rows.now)) }
 {
     let mut controls = BTreeSet::new(alloc);
@@ -26,7 +27,7 @@ pub fn controls_of(alloc: Global, rows: &[CellRow<'_>]) -> Result<BTreeSet<usize
 }
 
 fn add_row(controls: &mut BTreeSet<usize>, row: &CellRow<'_>) -> Result<(), AllocError>
-    ensures { OnOk result ((n : ℕ) → n ≤ 65535 → contains_by (nat_cmp n) controls.new
+    ensures { OnOk result ((n : ℕ) → n ≤ subscript_limit → contains_by (nat_cmp n) controls.new
         ≡ contains_by (nat_cmp n) controls.old || spec.controls_as n (cell_row row.now)) }
 {
     if is_control(row.function) {

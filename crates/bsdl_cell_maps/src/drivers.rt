@@ -1,6 +1,7 @@
 //! The lowest cells that drive port bits.
-ghost use Rattle.std.specs.Prelude.{◌≡◌, ◌<◌, ◌≤◌, ◌||◌, ◌&&◌, ℕ, List, map, nat_lt, IfOk, OnOk};
+ghost use Rattle.std.specs.Prelude.{suc, ◌≡◌, ◌<◌, ◌≤◌, ◌||◌, ◌&&◌, ℕ, List, map, nat_lt, IfOk, OnOk};
 ghost use Rattle.std.specs.List.{list_any};
+ghost use Rattle.jt_limits.specs.Limits.{subscript_limit};
 ghost use Rattle.bsdl_cells.specs.Rows as rows;
 ghost use Rattle.bsdl_cells.specs.View.{cell_row};
 ghost use Rattle.bsdl_ports.specs.Ports as port_list;
@@ -9,11 +10,11 @@ ghost use Rattle.bsdl_cell_maps.specs.Drivers.{drives_below, driver_at, is_below
 ghost use Rattle.bsdl_port_names.specs.Keyed.{AreKeyed};
 ghost use Rattle.bsdl_port_names.specs.View.{AreNamed};
 
-use crate::ABOVE_SUBSCRIPTS;
 use bsdl_cells::CellRow;
 use bsdl_port_names::keyed_ports::{KeyedPorts, port_index_by_key};
 use bsdl_port_names::named_ports::{NamedPorts, port_index_of};
 use bsdl_port_names::port_index::PortIndex;
+use jt_limits::ABOVE_SUBSCRIPTS;
 use std::alloc::{AllocError, Global};
 use std::collections::BTreeMap;
 
@@ -31,7 +32,7 @@ pub fn drivers_of<'a>(
     rows: &[CellRow<'a>],
 ) -> Result<Drivers<'a>, AllocError>
     ensures { IfOk result (λ d. (ps : List port_list.Port) → AreNamed named.now ps
-        → (s : declared_port_index.PortIndex) (n : ℕ) → n ≤ 65536
+        → (s : declared_port_index.PortIndex) (n : ℕ) → n ≤ suc subscript_limit
         → is_below (driver_at d s) n ≡ list_any (drives_below ps s n) (map cell_row rows.now)) }
 {
     let mut drivers = Drivers {
@@ -50,7 +51,7 @@ fn add_row<'a>(
     row: &CellRow<'a>,
 ) -> Result<(), AllocError>
     ensures { OnOk result ((ps : List port_list.Port) → AreNamed named.now ps
-        → (s : declared_port_index.PortIndex) (n : ℕ) → n ≤ 65536
+        → (s : declared_port_index.PortIndex) (n : ℕ) → n ≤ suc subscript_limit
         → is_below (driver_at drivers.new s) n
         ≡ is_below (driver_at drivers.old s) n || drives_below ps s n (cell_row row.now)) }
 {
@@ -76,7 +77,7 @@ pub fn drivers_by_key<'a>(
     rows: &[CellRow<'a>],
 ) -> Result<Drivers<'a>, AllocError>
     ensures { IfOk result (λ d. (ps : List port_list.Port) → AreKeyed keyed.now ps
-        → (s : declared_port_index.PortIndex) (n : ℕ) → n ≤ 65536
+        → (s : declared_port_index.PortIndex) (n : ℕ) → n ≤ suc subscript_limit
         → is_below (driver_at d s) n ≡ list_any (drives_below ps s n) (map cell_row rows.now)) }
 {
     let mut drivers = Drivers {
@@ -95,7 +96,7 @@ fn add_row_by_key<'a>(
     row: &CellRow<'a>,
 ) -> Result<(), AllocError>
     ensures { OnOk result ((ps : List port_list.Port) → AreKeyed keyed.now ps
-        → (s : declared_port_index.PortIndex) (n : ℕ) → n ≤ 65536
+        → (s : declared_port_index.PortIndex) (n : ℕ) → n ≤ suc subscript_limit
         → is_below (driver_at drivers.new s) n
         ≡ is_below (driver_at drivers.old s) n || drives_below ps s n (cell_row row.now)) }
 {

@@ -5,6 +5,3 @@
 pub mod controls;
 pub mod drivers;
 pub mod table;
-
-/// One more than the largest number of a row of the boundary register: what is larger counts as this.
-pub(crate) const ABOVE_SUBSCRIPTS: usize = 65_536;

@@ -4,6 +4,7 @@ use Rattle.std.specs.Prelude.{Option, Some, filter, if◌then◌else◌}
 use Rattle.std.specs.List.{find, list_all, fold, range_with_len}
 use Rattle.std.proofs.lemmas.Bool.Decides.{nat_tests}
 use Rattle.std.proofs.lemmas.List.Elements.{filter-append}
+use Rattle.jt_limits.specs.Limits.{subscript_limit}
 use Rattle.bsdl_cells.specs.Rows.{CellRow}
 use Rattle.bsdl_described.specs.Describing.{Description}
 use Rattle.bsdl_fit.specs.Fits as fits
@@ -43,7 +44,7 @@ one_row test (r ∷ s ∷ rows) false =
     rw some refl
 
 -- a cell is fit by the table
-pub fit_by : (d : Description) (n length : ℕ) (found : Option Bool) → n ≤ 65535 → length ≡ min d.boundary_length 65536 → found ≡ only_row_fits (fits.row_fits d) d.cells n → fits.is_fit d n ≡ is_fit (nat_lt n length) found
+pub fit_by : (d : Description) (n length : ℕ) (found : Option Bool) → n ≤ subscript_limit → length ≡ min d.boundary_length (suc subscript_limit) → found ≡ only_row_fits (fits.row_fits d) d.cells n → fits.is_fit d n ≡ is_fit (nat_lt n length) found
 fit_by d n length found few len is =
     let below : nat_lt n length ≡ nat_lt n d.boundary_length = grind (arith, nat_tests) in
     one_row (fits.row_fits d) (fits.rows_numbered d n) (nat_lt n d.boundary_length) ∙ sym (rw (below, is) refl)
@@ -55,14 +56,14 @@ find_same f g a (suc n) same =
     let here : f a ≡ g a = same a (omega arith) in
     rw here (ap (λ o. cond (g a) (Some a) o) (find_same f g (a + 1) n (λ k h. same k (omega arith))))
 
-capped_fold : (a b : ℕ) (rows : List CellRow) → min a 65536 ≡ min b 65536 → min (fold (λ n r. max n (suc r.number)) a rows) 65536 ≡ min (fold (λ n r. max n (suc r.number)) b rows) 65536
+capped_fold : (a b : ℕ) (rows : List CellRow) → min a (suc subscript_limit) ≡ min b (suc subscript_limit) → min (fold (λ n r. max n (suc r.number)) a rows) (suc subscript_limit) ≡ min (fold (λ n r. max n (suc r.number)) b rows) (suc subscript_limit)
 capped_fold a b [] same = same
 capped_fold a b (r ∷ rows) same = capped_fold (max a (suc r.number)) (max b (suc r.number)) rows (grind arith)
 
-pub end_by : (d : Description) (length : ℕ) → length ≡ min d.boundary_length 65536 → min (fold (λ n r. max n (suc r.number)) length d.cells) 65536 ≡ min 65536 (fits.cells_end d)
+pub end_by : (d : Description) (length : ℕ) → length ≡ min d.boundary_length (suc subscript_limit) → min (fold (λ n r. max n (suc r.number)) length d.cells) (suc subscript_limit) ≡ min (suc subscript_limit) (fits.cells_end d)
 end_by d length len =
-    let same : min length 65536 ≡ min d.boundary_length 65536 = omega arith in
+    let same : min length (suc subscript_limit) ≡ min d.boundary_length (suc subscript_limit) = omega arith in
     capped_fold length d.boundary_length d.cells same ∙ swapped (fits.cells_end d)
   where
-    swapped : (n : ℕ) → min n 65536 ≡ min 65536 n
+    swapped : (n : ℕ) → min n (suc subscript_limit) ≡ min (suc subscript_limit) n
     swapped n = omega arith

@@ -9,7 +9,7 @@ use Rattle.bsdl_device.specs.declared.Control3.{Control3}
 use Rattle.bsdl_cells.specs.Rows.{PortName, CellRow}
 use Rattle.bsdl_described.specs.Describing.{Description}
 use Rattle.bsdl_own_instructions.specs.Own.{is_among}
-use Rattle.bsdl_limits.specs.Limits.{subscript_limit}
+use Rattle.jt_limits.specs.Limits.{subscript_limit}
 use Rattle.bsdl_limits.specs.PortBits.{bit_number}
 use Rattle.bsdl_cell_maps.specs.Controls.{is_control}
 

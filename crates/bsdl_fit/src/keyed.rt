@@ -2,6 +2,7 @@
 ghost use Rattle.std.specs.Prelude.{◌≡◌, ◌≤◌, ◌==◌, ℕ, map, IfOk, OnOk, if◌then◌else◌};
 ghost use Rattle.std.specs.BTreeMap.{get};
 ghost use Rattle.std.specs.Ordering.{nat_cmp};
+ghost use Rattle.jt_limits.specs.Limits.{subscript_limit};
 ghost use Rattle.bsdl_numbers.specs.View.{value};
 ghost use Rattle.bsdl_cells.specs.View.{cell_row};
 ghost use Rattle.bsdl_entity.specs.declared.entity.Outline as declared_outline;
@@ -19,8 +20,8 @@ use bsdl_cell_maps::table::Table;
 use bsdl_cells::CellRow;
 use bsdl_described::description::{Description, Taps};
 use bsdl_entity::entity::Outline;
-use bsdl_limits::limits::{ABOVE_SUBSCRIPTS, SUBSCRIPT_LIMIT};
 use bsdl_port_names::keyed_ports::{KeyedPorts, keyed_ports_of, port_index_by_key};
+use jt_limits::{ABOVE_SUBSCRIPTS, SUBSCRIPT_LIMIT};
 use std::alloc::{AllocError, Global};
 use std::collections::BTreeSet;
 
@@ -74,7 +75,7 @@ fn table_of<'a>(
     known: &KnownByKey<'_, 'a>,
     rows: &[CellRow<'a>],
 ) -> Result<Table, AllocError>
-    ensures { IfOk result (λ t. (d : described.Description) → HoldsByKey known.now d → (n : ℕ) → n ≤ 65535
+    ensures { IfOk result (λ t. (d : described.Description) → HoldsByKey known.now d → (n : ℕ) → n ≤ subscript_limit
         → get nat_cmp t.cells n ≡ cells.only_row_fits (spec.row_fits d) (map cell_row rows.now) n) }
 {
     let mut table = Table::new(alloc);
@@ -90,7 +91,7 @@ fn add_row<'a>(
     known: &KnownByKey<'_, 'a>,
     row: &CellRow<'a>,
 ) -> Result<(), AllocError>
-    ensures { OnOk result ((d : described.Description) → HoldsByKey known.now d → (n : ℕ) → n ≤ 65535
+    ensures { OnOk result ((d : described.Description) → HoldsByKey known.now d → (n : ℕ) → n ≤ subscript_limit
         → get nat_cmp table.new.cells n ≡ (if value row.now.number == n
         then cells.with_row (get nat_cmp table.old.cells n) (spec.row_fits d (cell_row row.now))
         else get nat_cmp table.old.cells n)) }
@@ -111,7 +112,7 @@ fn row_fits<'a>(
     row: &CellRow<'a>,
     number: usize,
 ) -> Result<bool, AllocError>
-    requires { number ≤ 65535 }
+    requires { number ≤ subscript_limit }
     ensures { IfOk result (λ b. (d : described.Description) → HoldsByKey known.now d → number ≡ value row.now.number
         → b ≡ spec.row_fits d (cell_row row.now)) }
 {
@@ -127,7 +128,7 @@ fn port_fits<'a>(
     row: &CellRow<'a>,
     number: usize,
 ) -> Result<bool, AllocError>
-    requires { number ≤ 65535 }
+    requires { number ≤ subscript_limit }
     ensures { IfOk result (λ b. (d : described.Description) → HoldsByKey known.now d → number ≡ value row.now.number
         → b ≡ spec.port_fits d (cell_row row.now)) }
 {

@@ -1,6 +1,7 @@
 //! Whether a row of the boundary register fits.
 ghost use Rattle.std.specs.Prelude.{◌≡◌, ◌≤◌, ◌&&◌, ℕ, List, not, option_map, option_to_list, bytes_eq, IfOk};
 ghost use Rattle.std.specs.List.{list_any};
+ghost use Rattle.jt_limits.specs.Limits.{subscript_limit};
 ghost use Rattle.bsdl_device.specs.Driving as driving;
 ghost use Rattle.bsdl_text.specs.Words.{upper};
 ghost use Rattle.bsdl_numbers.specs.View.{value};
@@ -17,12 +18,12 @@ use bsdl_cell_maps::drivers::Drivers;
 use bsdl_cells::{CellRow, Controlling, PortName};
 use bsdl_described::description::Taps;
 use bsdl_device::Function;
-use bsdl_limits::limits::{ABOVE_SUBSCRIPTS, SUBSCRIPT_LIMIT};
 use bsdl_numbers::Digits;
 use bsdl_port_names::named_ports::port_index_of;
 use bsdl_port_names::port_index::PortIndex;
 use bsdl_text::names::Word;
 use bsdl_text::reading::same_name;
+use jt_limits::{ABOVE_SUBSCRIPTS, SUBSCRIPT_LIMIT};
 use std::alloc::{AllocError, Global};
 use std::collections::BTreeSet;
 
@@ -33,7 +34,7 @@ pub fn row_fits<'a>(
     row: &CellRow<'a>,
     number: usize,
 ) -> Result<bool, AllocError>
-    requires { number ≤ 65535 }
+    requires { number ≤ subscript_limit }
     ensures { IfOk result (λ b. (d : described.Description) → Holds known.now d → number ≡ value row.now.number → b
         ≡ spec.row_fits d (cells_view.cell_row row.now)) }
 {
@@ -49,7 +50,7 @@ fn port_fits<'a>(
     row: &CellRow<'a>,
     number: usize,
 ) -> Result<bool, AllocError>
-    requires { number ≤ 65535 }
+    requires { number ≤ subscript_limit }
     ensures { IfOk result (λ b. (d : described.Description) → Holds known.now d → number ≡ value row.now.number → b
         ≡ spec.port_fits d (cells_view.cell_row row.now)) }
 {
@@ -133,7 +134,7 @@ pub(crate) fn control_fits(
     control: Option<Controlling<'_>>,
     number: usize,
 ) -> bool
-    requires { number ≤ 65535 }
+    requires { number ≤ subscript_limit }
     ensures { (d : described.Description) → AreControls controls.now d → result
         ≡ spec.control_fits d number function (option_map cells_view.control control.entry) }
 {

@@ -3,6 +3,7 @@ ghost use Rattle.std.specs.Prelude.{◌≡◌, ◌≤◌, ◌==◌, ℕ, suc, ma
 ghost use Rattle.std.specs.List.{find, fold, range_with_len};
 ghost use Rattle.std.specs.BTreeMap.{get};
 ghost use Rattle.std.specs.Ordering.{nat_cmp};
+ghost use Rattle.jt_limits.specs.Limits.{subscript_limit};
 ghost use Rattle.bsdl_numbers.specs.View.{value};
 ghost use Rattle.bsdl_cells.specs.View.{cell_row};
 ghost use Rattle.bsdl_described.specs.Describing as described;
@@ -17,7 +18,7 @@ use bsdl_cell_maps::table::Table;
 use bsdl_cells::CellRow;
 use bsdl_described::description::Description;
 use bsdl_entity::entity::Outline;
-use bsdl_limits::limits::{ABOVE_SUBSCRIPTS, SUBSCRIPT_LIMIT};
+use jt_limits::{ABOVE_SUBSCRIPTS, SUBSCRIPT_LIMIT};
 use std::alloc::{AllocError, Global};
 
 /// The least cell, of those up to 65,535, that is listed twice, missing or not below the length, or whose port,
@@ -42,7 +43,7 @@ fn table_of<'a>(
     known: &Known<'_, 'a>,
     rows: &[CellRow<'a>],
 ) -> Result<Table, AllocError>
-    ensures { IfOk result (λ t. (d : described.Description) → Holds known.now d → (n : ℕ) → n ≤ 65535
+    ensures { IfOk result (λ t. (d : described.Description) → Holds known.now d → (n : ℕ) → n ≤ subscript_limit
         → get nat_cmp t.cells n ≡ cells.only_row_fits (spec.row_fits d) (map cell_row rows.now) n) }
 {
     let mut table = Table::new(alloc);
@@ -58,7 +59,7 @@ fn add_row<'a>(
     known: &Known<'_, 'a>,
     row: &CellRow<'a>,
 ) -> Result<(), AllocError>
-    ensures { OnOk result ((d : described.Description) → Holds known.now d → (n : ℕ) → n ≤ 65535
+    ensures { OnOk result ((d : described.Description) → Holds known.now d → (n : ℕ) → n ≤ subscript_limit
         → get nat_cmp table.new.cells n ≡ (if value row.now.number == n
         then cells.with_row (get nat_cmp table.old.cells n) (spec.row_fits d (cell_row row.now))
         else get nat_cmp table.old.cells n)) }
@@ -74,8 +75,8 @@ fn add_row<'a>(
 
 /// No cell from here on is below the length or listed, at most 65,536.
 pub(crate) fn cells_end(length: usize, rows: &[CellRow<'_>]) -> usize
-    requires { length ≤ 65536 }
-    ensures { result ≡ min (fold (λ n r. max n (suc r.number)) length (map cell_row rows.now)) 65536 }
+    requires { length ≤ suc subscript_limit }
+    ensures { result ≡ min (fold (λ n r. max n (suc r.number)) length (map cell_row rows.now)) (suc subscript_limit) }
 {
     let mut end = length;
     for row in rows {

@@ -1,5 +1,5 @@
 -- How many bits ports have.
-use Rattle.std.proofs.Common.{◌≡◌, ◌≢◌, ℕ, ◌+◌, ◌*◌, ◌≤◌, ◌<◌, min, Bool, true, false, ◌&&◌, List, [], ◌∷◌, map, length, drop, get_or, refl, sym, ap, ◌∙◌, arith}
+use Rattle.std.proofs.Common.{suc, ◌≡◌, ◌≢◌, ℕ, ◌+◌, ◌*◌, ◌≤◌, ◌<◌, min, Bool, true, false, ◌&&◌, List, [], ◌∷◌, map, length, drop, get_or, refl, sym, ap, ◌∙◌, arith}
 use Rattle.std.specs.Prelude.{Option, Some, None, option_map, nat_le}
 use Rattle.std.specs.List.{list_all, sum_by}
 use Rattle.std.proofs.Math.Nat.{add_comm, mul-zero, mul-suc}
@@ -13,7 +13,7 @@ use Rattle.bsdl_ports.specs.declared.ports.Range as declared_range
 use Rattle.bsdl_ports.specs.declared.ports.Group.{Group}
 use Rattle.bsdl_ports.specs.Ports.{Port, Range}
 use Rattle.bsdl_ports.specs.View as view
-use Rattle.bsdl_limits.specs.Limits.{subscript_limit}
+use Rattle.jt_limits.specs.Limits.{limits, subscript_limit}
 use Rattle.bsdl_limits.specs.PortBits.{highest, width}
 use Rattle.bsdl_limits.specs.Widths.{capped_width}
 
@@ -24,7 +24,7 @@ ports_named mode r ws = map (λ n. record { name = n; mode = mode; range = optio
 abbrev pub total : List Port → ℕ
 total ps = sum_by (λ p. capped_width p.range) ps
 
-pub capped_more : (count w s : ℕ) → min (min (count + w) 8193 + s) 8193 ≡ min (count + (w + s)) 8193
+pub capped_more : (count w s : ℕ) → min (min (count + w) (suc limits.port_bits) + s) (suc limits.port_bits) ≡ min (count + (w + s)) (suc limits.port_bits)
 capped_more count w s = grind arith
 
 one_more : (mode : PortMode) (r : Option declared_range.Range) (w : Word) (ws : List Word) → total (ports_named mode r (w ∷ ws)) ≡ capped_width (option_map view.range r) + total (ports_named mode r ws)
@@ -59,7 +59,7 @@ groups_more g gs = sum_by-append (λ (p : Port). capped_width p.range) (view.gro
 exact : (r : Option Range) → nat_le (highest r) subscript_limit ≡ true → capped_width r ≡ width r
 exact None within = refl
 exact (Some r) within =
-    let high : r.high ≤ 65535 = grind (arith, nat_tests) in
+    let high : r.high ≤ subscript_limit = grind (arith, nat_tests) in
     omega arith
 
 pub all_exact : (ps : List Port) → list_all (λ p. nat_le (highest p.range) subscript_limit) ps ≡ true → total ps ≡ sum_by (λ p. width p.range) ps
@@ -73,28 +73,28 @@ all_exact (p ∷ ps) within =
     both true b h = (refl, h)
     both false b h = absurd cc
 
-pub ports_by : (ps : List Port) → (list_all (λ p. nat_le (highest p.range) subscript_limit) ps && nat_le (total ps) 8192)
-    ≡ (list_all (λ p. nat_le (highest p.range) subscript_limit) ps && nat_le (sum_by (λ p. width p.range) ps) 8192)
+pub ports_by : (ps : List Port) → (list_all (λ p. nat_le (highest p.range) subscript_limit) ps && nat_le (total ps) limits.port_bits)
+    ≡ (list_all (λ p. nat_le (highest p.range) subscript_limit) ps && nat_le (sum_by (λ p. width p.range) ps) limits.port_bits)
 ports_by ps = by_test (list_all (λ p. nat_le (highest p.range) subscript_limit) ps) refl
   where
-    by_test : (b : Bool) → list_all (λ p. nat_le (highest p.range) subscript_limit) ps ≡ b → (list_all (λ p. nat_le (highest p.range) subscript_limit) ps && nat_le (total ps) 8192)
-        ≡ (list_all (λ p. nat_le (highest p.range) subscript_limit) ps && nat_le (sum_by (λ p. width p.range) ps) 8192)
-    by_test true is = ap (λ (n : ℕ). list_all (λ p. nat_le (highest p.range) subscript_limit) ps && nat_le n 8192) (all_exact ps is)
+    by_test : (b : Bool) → list_all (λ p. nat_le (highest p.range) subscript_limit) ps ≡ b → (list_all (λ p. nat_le (highest p.range) subscript_limit) ps && nat_le (total ps) limits.port_bits)
+        ≡ (list_all (λ p. nat_le (highest p.range) subscript_limit) ps && nat_le (sum_by (λ p. width p.range) ps) limits.port_bits)
+    by_test true is = ap (λ (n : ℕ). list_all (λ p. nat_le (highest p.range) subscript_limit) ps && nat_le n limits.port_bits) (all_exact ps is)
     by_test false is = rw is refl
 
 -- ---- the count, one port and one group more
 
-pub group_counted : (gs : List Group) (i : ℕ) (g : Group) (count next : ℕ) → i < length gs → g ≡ get_or gs i g → next ≡ min (count + total (view.group g)) 8193
-    → min (next + total (view.ports (drop (i + 1) gs))) 8193 ≡ min (count + total (view.ports (drop i gs))) 8193
+pub group_counted : (gs : List Group) (i : ℕ) (g : Group) (count next : ℕ) → i < length gs → g ≡ get_or gs i g → next ≡ min (count + total (view.group g)) (suc limits.port_bits)
+    → min (next + total (view.ports (drop (i + 1) gs))) (suc limits.port_bits) ≡ min (count + total (view.ports (drop i gs))) (suc limits.port_bits)
 group_counted gs i g count next h is next_is =
     let rest = total (view.ports (drop (i + 1) gs)) in
     let whole : total (view.ports (drop i gs)) ≡ total (view.group g) + rest =
     at_drop_more (λ xs. total (view.ports xs)) gs i g h ∙ groups_more (get_or gs i g) (drop (i + 1) gs) ∙ ap (λ (k : Group). total (view.group k) + rest) (sym is) in
-    ap (λ (n : ℕ). min (n + rest) 8193) next_is ∙ capped_more count (total (view.group g)) rest ∙ ap (λ (n : ℕ). min (count + n) 8193) (sym whole)
+    ap (λ (n : ℕ). min (n + rest) (suc limits.port_bits)) next_is ∙ capped_more count (total (view.group g)) rest ∙ ap (λ (n : ℕ). min (count + n) (suc limits.port_bits)) (sym whole)
 
-pub is_counted : (count total : ℕ) → count ≤ 8193 → min (count + 0) 8193 ≡ min total 8193 → count ≡ min total 8193
+pub is_counted : (count total : ℕ) → count ≤ (suc limits.port_bits) → min (count + 0) (suc limits.port_bits) ≡ min total (suc limits.port_bits) → count ≡ min total (suc limits.port_bits)
 is_counted count total small e = omega arith
 
 pub counted : (before product total bits added result : ℕ) → product ≡ total → bits ≡ min product 18446744073709551615 → added ≡ min (before + bits) 18446744073709551615
-    → result ≡ min added 8193 → result ≡ min (before + total) 8193
+    → result ≡ min added (suc limits.port_bits) → result ≡ min (before + total) (suc limits.port_bits)
 counted before product total bits added result product_is bits_is added_is result_is = omega arith

@@ -1,33 +1,52 @@
 -- The limits of a description.
 use Rattle.std.specs.Prelude.{ℕ, nat_le, Bool, ◌&&◌, List, length}
 use Rattle.std.specs.List.{list_all, sum_by}
+use Rattle.jt_limits.specs.declared.Limits.{Limits}
+use Rattle.jt_limits.specs.Limits.{limits, subscript_limit}
 use Rattle.bsdl_ports.specs.Ports.{Port}
 use Rattle.bsdl_described.specs.Describing.{Description}
 use Rattle.bsdl_limits.specs.PortBits.{highest, width}
 use Rattle.bsdl_limits.specs.Users.{users_of}
 
--- the largest index of a port, and the largest number of a row of the boundary register
-abbrev pub subscript_limit : ℕ
-subscript_limit = 65535
+-- the bits of an instruction, and how many have opcodes
+abbrev pub instructions_fit : Limits → Description → Bool
+instructions_fit l d = nat_le d.instruction_length l.instruction_bits && nat_le (length d.opcodes) l.instructions
+
+-- the cells, and the numbers of their rows
+abbrev pub cells_fit : Limits → Description → Bool
+cells_fit l d = nat_le d.boundary_length l.cells && list_all (λ r. nat_le r.number subscript_limit) d.cells
+
+-- the indices of ports, and how many port bits there are
+abbrev pub port_bits_fit : Limits → List Port → Bool
+port_bits_fit l ps =
+    list_all (λ p. nat_le (highest p.range) subscript_limit) ps && nat_le (sum_by (λ p. width p.range) ps) l.port_bits
+
+-- the registers of the device's own, and the bits of each
+abbrev pub users_fit : Limits → Description → Bool
+users_fit l d =
+    nat_le (length (users_of d.accesses)) l.user_registers && list_all (λ u. nat_le u.1 l.user_bits)
+    (users_of d.accesses)
+
+-- a description keeps these limits
+abbrev pub keeps : Limits → Description → Bool
+keeps l d = instructions_fit l d && (cells_fit l d && (port_bits_fit l d.ports && users_fit l d))
+
+-- ---- the limits that stand
 
 abbrev pub instructions_within : Description → Bool
-instructions_within d = nat_le d.instruction_length 64 && nat_le (length d.opcodes) 256
+instructions_within d = instructions_fit limits d
 
 abbrev pub cells_within : Description → Bool
-cells_within d = nat_le d.boundary_length 4096 && list_all (λ r. nat_le r.number subscript_limit) d.cells
+cells_within d = cells_fit limits d
 
--- no index is larger, and there are at most 8,192 port bits
 abbrev pub ports_fit : List Port → Bool
-ports_fit ps =
-    list_all (λ p. nat_le (highest p.range) subscript_limit) ps && nat_le (sum_by (λ p. width p.range) ps) 8192
+ports_fit ps = port_bits_fit limits ps
 
 abbrev pub ports_within : Description → Bool
 ports_within d = ports_fit d.ports
 
 abbrev pub users_within : Description → Bool
-users_within d = nat_le (length (users_of d.accesses)) 64 && list_all (λ u. nat_le u.1 4096) (users_of d.accesses)
+users_within d = users_fit limits d
 
--- Instructions of 64 bits, 256 of them; 4,096 cells; 8,192 port bits; 64 registers of the device's own with 4,096
--- bits.
 abbrev pub is_within_limits : Description → Bool
-is_within_limits d = instructions_within d && (cells_within d && (ports_within d && users_within d))
+is_within_limits d = keeps limits d

@@ -1,6 +1,7 @@
 //! The limits of a description.
-ghost use Rattle.std.specs.Prelude.{◌≡◌, ◌+◌, ◌&&◌, map, min, nat_le, length, option_map, ◌≤◌, ◌<◌};
+ghost use Rattle.std.specs.Prelude.{◌≡◌, ◌+◌, ◌&&◌, map, min, nat_le, length, option_map, ◌≤◌, suc};
 ghost use Rattle.std.specs.List.{list_all, sum_by};
+ghost use Rattle.jt_limits.specs.Limits.{limits, subscript_limit};
 ghost use Rattle.bsdl_numbers.specs.View.{value};
 ghost use Rattle.bsdl_cells.specs.View.{cell_row};
 ghost use Rattle.bsdl_entity.specs.declared.entity.Outline as declared_outline;
@@ -18,33 +19,28 @@ use bsdl_described::description::Description;
 use bsdl_entity::entity::Outline;
 use bsdl_entity::ports::{Group, Range};
 use bsdl_numbers::Digits;
+use jt_limits::{ABOVE_SUBSCRIPTS, LIMITS, SUBSCRIPT_LIMIT};
 
 /// The bits of an instruction, at most.
-const INSTRUCTION_BITS: usize = 64;
+const INSTRUCTION_BITS: usize = LIMITS.instruction_bits;
 
 /// The instructions that have opcodes, at most.
-const INSTRUCTIONS: usize = 256;
+const INSTRUCTIONS: usize = LIMITS.instructions;
 
 /// The cells of the boundary register, at most.
-const CELLS: usize = 4_096;
+const CELLS: usize = LIMITS.cells;
 
 /// The bits of ports, at most.
-const PORT_BITS: usize = 8_192;
+const PORT_BITS: usize = LIMITS.port_bits;
 
 /// One bit too many: no more of them are counted.
-const ABOVE_PORT_BITS: usize = 8_193;
+const ABOVE_PORT_BITS: usize = LIMITS.port_bits + 1;
 
 /// The registers of the device's own, at most.
-const USER_REGISTERS: usize = 64;
+const USER_REGISTERS: usize = LIMITS.user_registers;
 
 /// The bits of a register of the device's own, at most.
-const USER_REGISTER_BITS: usize = 4_096;
-
-/// The largest index of a port, and the largest number of a row of the boundary register.
-pub const SUBSCRIPT_LIMIT: usize = 65_535;
-
-/// One more than the largest: what is larger counts as this.
-pub const ABOVE_SUBSCRIPTS: usize = 65_536;
+const USER_REGISTER_BITS: usize = LIMITS.user_bits;
 
 /// Whether a description keeps the limits: instructions of 64 bits, 256 of them; 4,096 cells; 8,192 port bits; 64
 /// registers of the device's own with 4,096 bits; indices and numbers of cells up to 65,535.
@@ -91,7 +87,7 @@ fn cells_within(described: &Description<'_>) -> bool
 }
 
 fn numbers_within(rows: &[CellRow<'_>]) -> bool
-    ensures { result ≡ list_all (λ r. nat_le r.number spec.subscript_limit) (map cell_row rows.now) }
+    ensures { result ≡ list_all (λ r. nat_le r.number subscript_limit) (map cell_row rows.now) }
 {
     for row in rows {
         if !is_at_most(row.number, SUBSCRIPT_LIMIT) {
@@ -108,14 +104,14 @@ fn ports_within(groups: &[Group<'_>]) -> bool
 }
 
 fn few_bits(groups: &[Group<'_>]) -> bool
-    ensures { result ≡ (list_all (λ p. nat_le (highest p.range) spec.subscript_limit) (ports_view.ports groups.now)
-        && nat_le (sum_by (λ p. capped_width p.range) (ports_view.ports groups.now)) 8192) }
+    ensures { result ≡ (list_all (λ p. nat_le (highest p.range) subscript_limit) (ports_view.ports groups.now)
+        && nat_le (sum_by (λ p. capped_width p.range) (ports_view.ports groups.now)) limits.port_bits) }
 {
     highs_within(groups) && bit_count(groups) <= PORT_BITS
 }
 
 fn highs_within(groups: &[Group<'_>]) -> bool
-    ensures { result ≡ list_all (λ p. nat_le (highest p.range) spec.subscript_limit) (ports_view.ports groups.now) }
+    ensures { result ≡ list_all (λ p. nat_le (highest p.range) subscript_limit) (ports_view.ports groups.now) }
 {
     for group in groups {
         if !high_within(group) {
@@ -127,13 +123,13 @@ fn highs_within(groups: &[Group<'_>]) -> bool
 
 /// Whether no index of a group's ports is above 65,535.
 fn high_within(group: &Group<'_>) -> bool
-    ensures { result ≡ list_all (λ p. nat_le (highest p.range) spec.subscript_limit) (ports_view.group group.now) }
+    ensures { result ≡ list_all (λ p. nat_le (highest p.range) subscript_limit) (ports_view.group group.now) }
 {
     group.names.is_empty() || is_range_within(group.range)
 }
 
 fn is_range_within(range: Option<Range<'_>>) -> bool
-    ensures { result ≡ nat_le (highest (option_map ports_view.range range.entry)) spec.subscript_limit }
+    ensures { result ≡ nat_le (highest (option_map ports_view.range range.entry)) subscript_limit }
 {
     match range {
         Some(range) => is_at_most(range.high, SUBSCRIPT_LIMIT),
@@ -141,9 +137,9 @@ fn is_range_within(range: Option<Range<'_>>) -> bool
     }
 }
 
-/// How many port bits there are, at most 8,193, where no index is above 65,535.
+/// How many port bits there are, at most one too many, where no index is above 65,535.
 fn bit_count(groups: &[Group<'_>]) -> usize
-    ensures { result ≡ min (sum_by (λ p. capped_width p.range) (ports_view.ports groups.now)) 8193 }
+    ensures { result ≡ min (sum_by (λ p. capped_width p.range) (ports_view.ports groups.now)) (suc limits.port_bits) }
 {
     let mut count = 0;
     for group in groups {
@@ -152,10 +148,11 @@ fn bit_count(groups: &[Group<'_>]) -> usize
     count
 }
 
-/// With the port bits of a group, at most 8,193.
+/// With the port bits of a group, at most one too many.
 fn with_group(before: usize, group: &Group<'_>) -> usize
-    requires { before ≤ 8193 }
-    ensures { result ≡ min (before + sum_by (λ p. capped_width p.range) (ports_view.group group.now)) 8193 }
+    requires { before ≤ suc limits.port_bits }
+    ensures { result ≡ min (before + sum_by (λ p. capped_width p.range) (ports_view.group group.now))
+        (suc limits.port_bits) }
 {
     let bits = width_of(group.range).saturating_mul(group.names.len());
     before.saturating_add(bits).min(ABOVE_PORT_BITS)
@@ -163,7 +160,7 @@ fn with_group(before: usize, group: &Group<'_>) -> usize
 
 /// How many bits a port of this range has, where no index is above 65,535.
 fn width_of(range: Option<Range<'_>>) -> usize
-    ensures within { result < 65_538 }
+    ensures within { result ≤ suc (suc subscript_limit) }
     ensures width { result ≡ capped_width (option_map ports_view.range range.entry) }
 {
     match range {
@@ -177,13 +174,14 @@ fn width_of(range: Option<Range<'_>>) -> usize
 }
 
 fn users_within(lengths: &[Digits<'_>]) -> bool
-    ensures { result ≡ (nat_le (length lengths.now) 64 && list_all (λ n. nat_le n 4096) (map value lengths.now)) }
+    ensures { result ≡ (nat_le (length lengths.now) limits.user_registers
+        && list_all (λ n. nat_le n limits.user_bits) (map value lengths.now)) }
 {
     lengths.len() <= USER_REGISTERS && are_lengths_within(lengths)
 }
 
 fn are_lengths_within(lengths: &[Digits<'_>]) -> bool
-    ensures { result ≡ list_all (λ n. nat_le n 4096) (map value lengths.now) }
+    ensures { result ≡ list_all (λ n. nat_le n limits.user_bits) (map value lengths.now) }
 {
     for length in lengths {
         if !is_at_most(*length, USER_REGISTER_BITS) {

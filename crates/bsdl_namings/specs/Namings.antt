@@ -14,6 +14,14 @@ pub record Naming : Type 0 where
   pub name : List ℕ
   pub spot : Spot
 
+-- where a token stands that begins at this byte: of the text itself, or of the text within quotes whose first is here
+abbrev pub spot_at : Option ℕ → ℕ → Spot
+spot_at None start = record { outer = start; within = 0 }
+spot_at (Some quote) start = record { outer = quote; within = start }
+
+abbrev pub naming_at : Option ℕ → List ℕ → ℕ → Naming
+naming_at quote name start = record { name = name; spot = spot_at quote start }
+
 -- one of the same name stands before
 abbrev pub is_repeated : List Naming → Naming → Bool
 is_repeated all n = list_any (λ m. same_name m.name n.name && stands_before m.spot n.spot) all

@@ -1,11 +1,11 @@
 //! Names at their places, and the first that is given again.
-ghost use Rattle.std.specs.Prelude.{◌≡◌, ◌||◌, ℕ, List, true, false, bytes_eq, map, not, option_map, IfOk, OnOk};
-ghost use Rattle.std.specs.BTreeMap.{get_by_text};
+ghost use Rattle.std.specs.Prelude.{◌≡◌, ◌||◌, ℕ, List, Option, true, false, bytes_eq, map, not, option_map, IfOk, OnOk};
+ghost use Rattle.std.specs.BTreeMap.{get};
 ghost use Rattle.std.specs.BTreeSet.{contains_by};
 ghost use Rattle.bsdl_namings.specs.Spots.{begins_before, either, has_repeated, is_naming, is_named_before};
 ghost use Rattle.bsdl_namings.specs.Namings as spec;
 ghost use Rattle.bsdl_text.specs.Words.{upper};
-ghost use Rattle.bsdl_namings.specs.View.{again, naming};
+ghost use Rattle.bsdl_namings.specs.View.{again, named, naming};
 ghost use Rattle.name_keys.specs.Keys.{key_order};
 
 use bsdl_text::names::Word;
@@ -85,14 +85,38 @@ pub fn earlier_again(one: Option<Again>, other: Option<Again>) -> Option<Again>
     }
 }
 
-/// The first of these that has the same name, in any case, before it, as it is spelt. Refuses for want of memory alone.
-pub fn first_again(alloc: Global, names: &[Naming<'_>]) -> Result<Option<Again>, AllocError>
-    ensures { IfOk result (λ o. option_map again o ≡ spec.earliest (spec.repeated (map naming names.now))) }
+/// A word at its place: in the text itself, or in the text within quotes of which the first stands at `quote`.
+fn naming_at<'a>(quote: Option<usize>, name: Word<'a>) -> Naming<'a>
+    ensures { naming result ≡ spec.naming_at quote name.entry.text.now name.entry.start }
+{
+    let spot = match quote {
+        Some(outer) => Spot {
+            outer,
+            within: name.start,
+        },
+        None => Spot {
+            outer: name.start,
+            within: 0,
+        },
+    };
+    Naming { name, spot }
+}
+
+/// The first of these words that has the same name, in any case, before it, as it is spelt. They stand in the text
+/// itself, or in the text within quotes of which the first stands at `quote`. Refuses for want of memory alone.
+///
+/// The words are lent, eight bytes each: a text of 4 MiB may have two million.
+pub fn first_again(
+    alloc: Global,
+    quote: Option<usize>,
+    names: &[&Word<'_>],
+) -> Result<Option<Again>, AllocError>
+    ensures { IfOk result (λ o. option_map again o ≡ spec.earliest (spec.repeated (map (named quote) names.now))) }
 {
     if are_distinct(alloc, names)? {
         return Ok(None);
     }
-    match first_repeat(alloc, names)? {
+    match first_repeat(alloc, quote, names)? {
         Some(found) => {
             let name = found.name.spelling(alloc)?;
             let spot = found.spot;
@@ -103,12 +127,12 @@ pub fn first_again(alloc: Global, names: &[Naming<'_>]) -> Result<Option<Again>,
 }
 
 /// Whether no two of these have the same name, in any case.
-fn are_distinct(alloc: Global, names: &[Naming<'_>]) -> Result<bool, AllocError>
-    ensures { IfOk result (λ b. b ≡ true → has_repeated (map naming names.now) ≡ false) }
+fn are_distinct(alloc: Global, names: &[&Word<'_>]) -> Result<bool, AllocError>
+    ensures { IfOk result (λ b. b ≡ true → (quote : Option ℕ) → has_repeated (map (named quote) names.now) ≡ false) }
 {
     let mut known = BTreeSet::new(alloc);
-    for found in names {
-        if !add_key(&mut known, *found)? {
+    for name in names {
+        if !add_key(&mut known, **name)? {
             return Ok(false);
         }
     }
@@ -116,45 +140,48 @@ fn are_distinct(alloc: Global, names: &[Naming<'_>]) -> Result<bool, AllocError>
 }
 
 /// Adds a name in any case. Answers whether it was not there yet.
-fn add_key<'a>(known: &mut BTreeSet<NameKey<'a>>, found: Naming<'a>) -> Result<bool, AllocError>
-    ensures new { IfOk result (λ b. b ≡ not (contains_by (key_order (upper found.entry.name.text.now)) known.old)) }
+fn add_key<'a>(known: &mut BTreeSet<NameKey<'a>>, name: Word<'a>) -> Result<bool, AllocError>
+    ensures new { IfOk result (λ b. b ≡ not (contains_by (key_order (upper name.entry.text.now)) known.old)) }
     ensures known { OnOk result ((q : List ℕ) → contains_by (key_order q) known.new
-        ≡ contains_by (key_order q) known.old || bytes_eq (upper found.entry.name.text.now) q) }
+        ≡ contains_by (key_order q) known.old || bytes_eq (upper name.entry.text.now) q) }
 {
-    let key = NameKey::new(found.name.text);
+    let key = NameKey::new(name.text);
     let is_new = known.insert(key)?;
     Ok(is_new)
 }
 
-/// The first place of each name, in upper case.
-fn first_spots(alloc: Global, names: &[Naming<'_>]) -> Result<BTreeMap<String, Spot>, AllocError>
-    ensures { IfOk result (λ m. (q : List ℕ) (s : Spot) → begins_before (get_by_text m q) s
-        ≡ is_named_before (map naming names.now) q s) }
+/// The first place of each name, in any case.
+fn first_spots<'a>(
+    alloc: Global,
+    quote: Option<usize>,
+    names: &[&Word<'a>],
+) -> Result<BTreeMap<NameKey<'a>, Spot>, AllocError>
+    ensures { IfOk result (λ m. (q : List ℕ) (s : Spot) → begins_before (get key_order m q) s
+        ≡ is_named_before (map (named quote) names.now) q s) }
 {
     let mut spots = BTreeMap::new(alloc);
-    for found in names {
-        add_spot(alloc, &mut spots, *found)?;
+    for name in names {
+        add_spot(&mut spots, naming_at(quote, **name))?;
     }
     Ok(spots)
 }
 
-fn add_spot(
-    alloc: Global,
-    spots: &mut BTreeMap<String, Spot>,
-    found: Naming<'_>,
+fn add_spot<'a>(
+    spots: &mut BTreeMap<NameKey<'a>, Spot>,
+    found: Naming<'a>,
 ) -> Result<(), AllocError>
-    ensures { OnOk result ((q : List ℕ) (s : Spot) → begins_before (get_by_text spots.new q) s
-        ≡ begins_before (get_by_text spots.old q) s || is_naming (naming found.entry) q s) }
+    ensures { OnOk result ((q : List ℕ) (s : Spot) → begins_before (get key_order spots.new q) s
+        ≡ begins_before (get key_order spots.old q) s || is_naming (naming found.entry) q s) }
 {
-    let key = found.name.upper_name(alloc)?;
-    let first = first_of(spots, key.as_str(), found.spot);
+    let key = NameKey::new(found.name.text);
+    let first = first_of(spots, &key, found.spot);
     spots.insert(key, first)?;
     Ok(())
 }
 
 /// The first place of a name, where it stands at this one too.
-fn first_of(spots: &BTreeMap<String, Spot>, key: &str, spot: Spot) -> Spot
-    ensures { (s : Spot) → spec.stands_before result s ≡ begins_before (get_by_text spots.now key.now) s
+fn first_of<'a>(spots: &BTreeMap<NameKey<'a>, Spot>, key: &NameKey<'a>, spot: Spot) -> Spot
+    ensures { (s : Spot) → spec.stands_before result s ≡ begins_before (get key_order spots.now key.now) s
         || spec.stands_before spot s }
 {
     match spots.get(key) {
@@ -164,37 +191,29 @@ fn first_of(spots: &BTreeMap<String, Spot>, key: &str, spot: Spot) -> Spot
 }
 
 /// Whether the same name stands before.
-fn is_repeated(
-    alloc: Global,
-    spots: &BTreeMap<String, Spot>,
-    found: Naming<'_>,
-) -> Result<bool, AllocError>
-    ensures { IfOk result (λ b. b ≡ begins_before (get_by_text spots.now
-        (upper found.entry.name.text.now)) found.entry.spot) }
+fn is_repeated<'a>(spots: &BTreeMap<NameKey<'a>, Spot>, found: Naming<'a>) -> bool
+    ensures { result ≡ begins_before (get key_order spots.now (upper found.entry.name.text.now)) found.entry.spot }
 {
-    let key = found.name.upper_name(alloc)?;
-    Ok(stands_before(spots, key.as_str(), found.spot))
-}
-
-/// Whether the first place of a name stands before this one.
-fn stands_before(spots: &BTreeMap<String, Spot>, key: &str, spot: Spot) -> bool
-    ensures { result ≡ begins_before (get_by_text spots.now key.now) spot }
-{
-    match spots.get(key) {
-        Some(first) => first.is_before(spot),
+    match spots.get(&NameKey::new(found.name.text)) {
+        Some(first) => first.is_before(found.spot),
         None => false,
     }
 }
 
 /// The first of these that has the same name, in any case, before it.
-fn first_repeat<'a>(alloc: Global, names: &[Naming<'a>]) -> Result<Option<Naming<'a>>, AllocError>
-    ensures { IfOk result (λ o. option_map naming o ≡ spec.earliest (spec.repeated (map naming names.now))) }
+fn first_repeat<'a>(
+    alloc: Global,
+    quote: Option<usize>,
+    names: &[&Word<'a>],
+) -> Result<Option<Naming<'a>>, AllocError>
+    ensures { IfOk result (λ o. option_map naming o ≡ spec.earliest (spec.repeated (map (named quote) names.now))) }
 {
-    let spots = first_spots(alloc, names)?;
+    let spots = first_spots(alloc, quote, names)?;
     let mut first = None;
-    for found in names {
-        if is_repeated(alloc, &spots, *found)? {
-            first = earlier(first, Some(*found));
+    for name in names {
+        let found = naming_at(quote, **name);
+        if is_repeated(&spots, found) {
+            first = earlier(first, Some(found));
         }
     }
     Ok(first)

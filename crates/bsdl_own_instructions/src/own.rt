@@ -1,14 +1,16 @@
 //! Which instructions are the device's own: they have an opcode, and are neither the standard's nor private.
-ghost use Rattle.std.specs.Prelude.{◌≡◌, ◌||◌, List, ℕ, map, filter, IfOk, OnOk, bytes_eq};
-ghost use Rattle.std.specs.BTreeSet.{contains_text};
+ghost use Rattle.std.specs.Prelude.{◌≡◌, ◌≤◌, ◌||◌, List, ℕ, length, map, filter, take, IfOk, OnOk, bytes_eq};
+ghost use Rattle.std.specs.BTreeSet.{contains_by};
+ghost use Rattle.name_keys.specs.Keys.{key_order};
 ghost use Rattle.bsdl_text.specs.Words.{upper};
 ghost use Rattle.bsdl_instructions.specs.View as rows_view;
 ghost use Rattle.bsdl_own_instructions.specs.Own as spec;
-ghost use Rattle.bsdl_own_instructions.specs.NameSets.{is_own_by, opcode_named, private_named};
+ghost use Rattle.bsdl_own_instructions.specs.NameSets.{has_some, is_own_by, opcode_named, private_named, row_with};
 
 use bsdl_instructions::names::{AccessRow, Instr, OpcodeRow, PrivateName};
 use bsdl_text::names::Word;
 use bsdl_text::reading::stands_for;
+use name_keys::NameKey;
 use std::alloc::{AllocError, Global};
 use std::collections::BTreeSet;
 
@@ -26,44 +28,49 @@ const STANDARD: [(&[u8], bool); 10] = [
     (b"RUNBIST", true),
 ];
 
-/// The names of the instructions that have an opcode, in upper case.
-fn opcode_names(alloc: Global, rows: &[OpcodeRow<'_>]) -> Result<BTreeSet<String>, AllocError>
-    ensures { IfOk result (λ s. (q : List ℕ) → contains_text s q
+/// The names of the instructions that have an opcode, in any case.
+fn opcode_names<'a>(
+    alloc: Global,
+    rows: &[OpcodeRow<'a>],
+) -> Result<BTreeSet<NameKey<'a>>, AllocError>
+    ensures { IfOk result (λ s. (q : List ℕ) → contains_by (key_order q) s
         ≡ opcode_named (map rows_view.opcode_row rows.now) q) }
 {
     let mut names = BTreeSet::new(alloc);
     for row in rows {
-        add_name(alloc, &mut names, row.name)?;
+        add_name(&mut names, row.name)?;
     }
     Ok(names)
 }
 
-/// The names of the private instructions, in upper case.
-fn private_names(alloc: Global, names: &[PrivateName<'_>]) -> Result<BTreeSet<String>, AllocError>
-    ensures { IfOk result (λ s. (q : List ℕ) → contains_text s q
+/// The names of the private instructions, in any case.
+fn private_names<'a>(
+    alloc: Global,
+    names: &[PrivateName<'a>],
+) -> Result<BTreeSet<NameKey<'a>>, AllocError>
+    ensures { IfOk result (λ s. (q : List ℕ) → contains_by (key_order q) s
         ≡ private_named (map rows_view.private_name names.now) q) }
 {
     let mut private = BTreeSet::new(alloc);
     for found in names {
-        add_name(alloc, &mut private, found.name)?;
+        add_name(&mut private, found.name)?;
     }
     Ok(private)
 }
 
-fn add_name(alloc: Global, names: &mut BTreeSet<String>, name: Word<'_>) -> Result<(), AllocError>
-    ensures { OnOk result ((q : List ℕ) → contains_text names.new q
-        ≡ (contains_text names.old q || bytes_eq (upper name.entry.text.now) q)) }
+fn add_name<'a>(names: &mut BTreeSet<NameKey<'a>>, name: Word<'a>) -> Result<(), AllocError>
+    ensures { OnOk result ((q : List ℕ) → contains_by (key_order q) names.new
+        ≡ (contains_by (key_order q) names.old || bytes_eq (upper name.entry.text.now) q)) }
 {
-    let key = name.upper_name(alloc)?;
+    let key = NameKey::new(name.text);
     names.insert(key)?;
     Ok(())
 }
 
-fn has_name(alloc: Global, names: &BTreeSet<String>, name: Word<'_>) -> Result<bool, AllocError>
-    ensures { IfOk result (λ b. b ≡ contains_text names.now (upper name.entry.text.now)) }
+fn has_name<'a>(names: &BTreeSet<NameKey<'a>>, name: Word<'a>) -> bool
+    ensures { result ≡ contains_by (key_order (upper name.entry.text.now)) names.now }
 {
-    let key = name.upper_name(alloc)?;
-    Ok(names.contains(key.as_str()))
+    names.contains(&NameKey::new(name.text))
 }
 
 /// Whether an instruction is one of the standard's.
@@ -74,40 +81,67 @@ fn is_standard(name: &[u8]) -> bool
 }
 
 /// Whether an instruction is the device's own.
-fn is_own(
-    alloc: Global,
-    with_opcode: &BTreeSet<String>,
-    private: &BTreeSet<String>,
-    name: Word<'_>,
-) -> Result<bool, AllocError>
-    ensures { IfOk result (λ b. b ≡ is_own_by with_opcode.now private.now name.entry.text.now) }
+fn is_own<'a>(
+    with_opcode: &BTreeSet<NameKey<'a>>,
+    private: &BTreeSet<NameKey<'a>>,
+    name: Word<'a>,
+) -> bool
+    ensures { result ≡ is_own_by (λ q. contains_by (key_order q) with_opcode.now)
+        (λ q. contains_by (key_order q) private.now) name.entry.text.now }
 {
-    if !has_name(alloc, with_opcode, name)? {
-        return Ok(false);
-    }
-    if is_standard(name.text) {
-        return Ok(false);
-    }
-    Ok(!has_name(alloc, private, name)?)
+    has_name(with_opcode, name) && !is_standard(name.text) && !has_name(private, name)
 }
 
-/// The own instructions of a row.
-fn own_instrs<'a>(
-    alloc: Global,
-    with_opcode: &BTreeSet<String>,
-    private: &BTreeSet<String>,
-    instrs: Vec<Instr<'a>>,
-) -> Result<Vec<Instr<'a>>, AllocError>
-    ensures { IfOk result (λ v. map rows_view.instr v.items
-        ≡ filter (λ i. is_own_by with_opcode.now private.now i.name.text) (map rows_view.instr instrs.entry.items)) }
+/// Moves the own instructions to the front, in their order. Answers how many they are.
+fn move_own<'a>(
+    with_opcode: &BTreeSet<NameKey<'a>>,
+    private: &BTreeSet<NameKey<'a>>,
+    instrs: &mut [Instr<'a>],
+) -> usize
+    ensures few { result ≤ length instrs.new }
+    ensures own { map rows_view.instr (take result instrs.new) ≡ filter (λ i. is_own_by
+        (λ q. contains_by (key_order q) with_opcode.now) (λ q. contains_by (key_order q) private.now) i.name.text)
+        (map rows_view.instr instrs.old) }
 {
-    let mut own = Vec::new(alloc);
-    for instr in instrs {
-        if is_own(alloc, with_opcode, private, instr.name)? {
-            own.push(instr)?;
+    let mut kept = 0;
+    for k in 0..instrs.len() {
+        if is_own(with_opcode, private, instrs[k].name) {
+            instrs.swap(kept, k);
+            kept += 1;
         }
     }
-    Ok(own)
+    kept
+}
+
+/// Leaves of a row's instructions the own ones. No list of them is made beside the row's: a text of 4 MiB may have two
+/// million in one row.
+fn keep_own<'a>(
+    with_opcode: &BTreeSet<NameKey<'a>>,
+    private: &BTreeSet<NameKey<'a>>,
+    row: &mut AccessRow<'a>,
+)
+    ensures { rows_view.access_row row.new ≡ row_with (λ i. is_own_by
+        (λ q. contains_by (key_order q) with_opcode.now) (λ q. contains_by (key_order q) private.now) i.name.text)
+        (rows_view.access_row row.old) }
+{
+    let kept = move_own(with_opcode, private, &mut row.instrs);
+    row.instrs.truncate(kept);
+}
+
+/// Leaves of the instructions of each row the own ones.
+fn keep_own_of_each<'a>(
+    with_opcode: &BTreeSet<NameKey<'a>>,
+    private: &BTreeSet<NameKey<'a>>,
+    rows: &mut [AccessRow<'a>],
+)
+    ensures long { length rows.new ≡ length rows.old }
+    ensures rows { map rows_view.access_row rows.new ≡ map (λ r. row_with (λ i. is_own_by
+        (λ q. contains_by (key_order q) with_opcode.now) (λ q. contains_by (key_order q) private.now) i.name.text)
+        (rows_view.access_row r)) rows.old }
+{
+    for row in rows.iter_mut() {
+        keep_own(with_opcode, private, row);
+    }
 }
 
 /// The rows that have own instructions, with those alone. Refuses for want of memory alone.
@@ -115,7 +149,7 @@ pub fn own_accesses<'a>(
     alloc: Global,
     opcodes: &[OpcodeRow<'a>],
     private: &[PrivateName<'a>],
-    rows: Vec<AccessRow<'a>>,
+    mut rows: Vec<AccessRow<'a>>,
 ) -> Result<Vec<AccessRow<'a>>, AllocError>
     ensures { IfOk result (λ v. map rows_view.access_row v.items
         ≡ spec.own_accesses (spec.is_own (map rows_view.opcode_row opcodes.now)
@@ -123,29 +157,34 @@ pub fn own_accesses<'a>(
 {
     let with_opcode = opcode_names(alloc, opcodes)?;
     let private = private_names(alloc, private)?;
-    own_rows(alloc, &with_opcode, &private, rows)
+    keep_own_rows(&with_opcode, &private, &mut rows);
+    Ok(rows)
 }
 
-fn own_rows<'a>(
-    alloc: Global,
-    with_opcode: &BTreeSet<String>,
-    private: &BTreeSet<String>,
-    rows: Vec<AccessRow<'a>>,
-) -> Result<Vec<AccessRow<'a>>, AllocError>
-    ensures { IfOk result (λ v. map rows_view.access_row v.items
-        ≡ spec.own_accesses (λ i. is_own_by with_opcode.now private.now i.name.text)
-        (map rows_view.access_row rows.entry.items)) }
+/// Leaves of the rows those that have own instructions, with those alone.
+fn keep_own_rows<'a>(
+    with_opcode: &BTreeSet<NameKey<'a>>,
+    private: &BTreeSet<NameKey<'a>>,
+    rows: &mut Vec<AccessRow<'a>>,
+)
+    ensures { map rows_view.access_row rows.new.items ≡ spec.own_accesses (λ i. is_own_by
+        (λ q. contains_by (key_order q) with_opcode.now) (λ q. contains_by (key_order q) private.now) i.name.text)
+        (map rows_view.access_row rows.old.items) }
 {
-    let mut own = Vec::new(alloc);
-    for row in rows {
-        let instrs = own_instrs(alloc, with_opcode, private, row.instrs)?;
-        if !instrs.is_empty() {
-            own.push(AccessRow {
-                register: row.register,
-                len: row.len,
-                instrs,
-            })?;
-        }
-    }
-    Ok(own)
+    keep_own_of_each(with_opcode, private, rows);
+    drop_empty(rows);
+}
+
+/// Leaves of the rows those that have instructions.
+fn drop_empty(rows: &mut Vec<AccessRow<'_>>)
+    ensures { map rows_view.access_row rows.new.items
+        ≡ filter has_some (map rows_view.access_row rows.old.items) }
+{
+    rows.retain(|row| has_instrs(row));
+}
+
+fn has_instrs(row: &AccessRow<'_>) -> bool
+    ensures { result ≡ has_some (rows_view.access_row row.now) }
+{
+    !row.instrs.is_empty()
 }

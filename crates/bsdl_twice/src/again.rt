@@ -1,52 +1,29 @@
 //! The first name that a description gives again.
-ghost use Rattle.std.specs.Prelude.{◌≡◌, ◌++◌, map, option_map, IfOk, OnOk};
+ghost use Rattle.std.specs.Prelude.{◌≡◌, ◌++◌, ℕ, Some, None, map, option_map, IfOk, OnOk};
 ghost use Rattle.std.specs.List.{flat_map};
 ghost use Rattle.bsdl_ports.specs.View as ports_view;
 ghost use Rattle.bsdl_entity.specs.GivenView.{given as given_view};
 ghost use Rattle.bsdl_instructions.specs.View as rows_view;
-ghost use Rattle.bsdl_text.specs.WordView.{word_lexeme};
 ghost use Rattle.bsdl_described.specs.View.{description};
 ghost use Rattle.bsdl_namings.specs.Namings as namings;
 ghost use Rattle.bsdl_twice.specs.Twice as spec;
-ghost use Rattle.bsdl_namings.specs.View.{again, naming};
+ghost use Rattle.bsdl_namings.specs.View.{again, named};
 
 use bsdl_described::description::Description;
 use bsdl_entity::entity::Outline;
 use bsdl_entity::items::Given;
 use bsdl_entity::ports::Group;
 use bsdl_instructions::names::{AccessRow, Instr, OpcodeRow};
-use bsdl_namings::naming::{Again, Naming, Spot, earlier_again, first_again};
+use bsdl_namings::naming::{Again, earlier_again, first_again};
 use bsdl_text::names::Word;
 use std::alloc::{AllocError, Global};
 
-/// A word of the text itself.
-fn outside<'a>(name: Word<'a>) -> Naming<'a>
-    ensures { naming result ≡ spec.outside (word_lexeme name.entry) }
-{
-    Naming {
-        name,
-        spot: Spot {
-            outer: name.start,
-            within: 0,
-        },
-    }
-}
-
-/// A word of a text within quotes, whose first quote is at this place.
-fn inside<'a>(start: usize, name: Word<'a>) -> Naming<'a>
-    ensures { naming result ≡ spec.inside start (word_lexeme name.entry) }
-{
-    Naming {
-        name,
-        spot: Spot {
-            outer: start,
-            within: name.start,
-        },
-    }
-}
-
-fn port_names<'a>(alloc: Global, groups: &[Group<'a>]) -> Result<Vec<Naming<'a>>, AllocError>
-    ensures { IfOk result (λ v. map naming v.items ≡ map (λ p. spec.outside p.name) (ports_view.ports groups.now)) }
+fn port_names<'g, 'a>(
+    alloc: Global,
+    groups: &'g [Group<'a>],
+) -> Result<Vec<&'g Word<'a>>, AllocError>
+    ensures { IfOk result (λ v. map (named None) v.items
+        ≡ map (λ p. spec.outside p.name) (ports_view.ports groups.now)) }
 {
     let mut names = Vec::new(alloc);
     for group in groups {
@@ -55,66 +32,68 @@ fn port_names<'a>(alloc: Global, groups: &[Group<'a>]) -> Result<Vec<Naming<'a>>
     Ok(names)
 }
 
-fn add_group<'a>(names: &mut Vec<Naming<'a>>, group: &Group<'a>) -> Result<(), AllocError>
-    ensures { OnOk result (map naming names.new.items ≡ map naming names.old.items
+fn add_group<'g, 'a>(names: &mut Vec<&'g Word<'a>>, group: &'g Group<'a>) -> Result<(), AllocError>
+    ensures { OnOk result (map (named None) names.new.items ≡ map (named None) names.old.items
         ++ map (λ p. spec.outside p.name) (ports_view.group group.now)) }
 {
     for name in &group.names {
-        names.push(outside(*name))?;
+        names.push(name)?;
     }
     Ok(())
 }
 
-fn attribute_names<'a>(alloc: Global, given: &[Given<'a>]) -> Result<Vec<Naming<'a>>, AllocError>
-    ensures { IfOk result (λ v. map naming v.items ≡ map (λ g. spec.outside g.name) (map given_view given.now)) }
+fn attribute_names<'g, 'a>(
+    alloc: Global,
+    given: &'g [Given<'a>],
+) -> Result<Vec<&'g Word<'a>>, AllocError>
+    ensures { IfOk result (λ v. map (named None) v.items
+        ≡ map (λ g. spec.outside g.name) (map given_view given.now)) }
 {
     let mut names = Vec::new(alloc);
     for giving in given {
-        names.push(outside(giving.name))?;
+        names.push(&giving.name)?;
     }
     Ok(names)
 }
 
-fn opcode_names<'a>(
+fn opcode_names<'r, 'a>(
     alloc: Global,
-    start: usize,
-    rows: &[OpcodeRow<'a>],
-) -> Result<Vec<Naming<'a>>, AllocError>
-    ensures { IfOk result (λ v. map naming v.items ≡ map (λ r. spec.inside start r.name)
-        (map rows_view.opcode_row rows.now)) }
+    rows: &'r [OpcodeRow<'a>],
+) -> Result<Vec<&'r Word<'a>>, AllocError>
+    ensures { IfOk result (λ v. (start : ℕ) → map (named (Some start)) v.items
+        ≡ map (λ r. spec.inside start r.name) (map rows_view.opcode_row rows.now)) }
 {
     let mut names = Vec::new(alloc);
     for row in rows {
-        names.push(inside(start, row.name))?;
+        names.push(&row.name)?;
     }
     Ok(names)
 }
 
-fn own_names<'a>(
+fn own_names<'r, 'a>(
     alloc: Global,
-    start: usize,
-    rows: &[AccessRow<'a>],
-) -> Result<Vec<Naming<'a>>, AllocError>
-    ensures { IfOk result (λ v. map naming v.items ≡ map (λ i. spec.inside start i.name)
-        (flat_map (λ r. r.instrs) (map rows_view.access_row rows.now))) }
+    rows: &'r [AccessRow<'a>],
+) -> Result<Vec<&'r Word<'a>>, AllocError>
+    ensures { IfOk result (λ v. (start : ℕ) → map (named (Some start)) v.items
+        ≡ map (λ i. spec.inside start i.name) (flat_map (λ r. r.instrs) (map rows_view.access_row rows.now))) }
 {
     let mut names = Vec::new(alloc);
     for row in rows {
-        add_instrs(&mut names, start, &row.instrs)?;
+        add_instrs(&mut names, &row.instrs)?;
     }
     Ok(names)
 }
 
-fn add_instrs<'a>(
-    names: &mut Vec<Naming<'a>>,
-    start: usize,
-    instrs: &[Instr<'a>],
+fn add_instrs<'r, 'a>(
+    names: &mut Vec<&'r Word<'a>>,
+    instrs: &'r [Instr<'a>],
 ) -> Result<(), AllocError>
-    ensures { OnOk result (map naming names.new.items ≡ map naming names.old.items
+    ensures { OnOk result ((start : ℕ) → map (named (Some start)) names.new.items
+        ≡ map (named (Some start)) names.old.items
         ++ map (λ i. spec.inside start i.name) (map rows_view.instr instrs.now)) }
 {
     for instr in instrs {
-        names.push(inside(start, instr.name))?;
+        names.push(&instr.name)?;
     }
     Ok(())
 }
@@ -124,7 +103,7 @@ fn port_again(alloc: Global, groups: &[Group<'_>]) -> Result<Option<Again>, Allo
         (namings.repeated (map (λ p. spec.outside p.name) (ports_view.ports groups.now)))) }
 {
     let names = port_names(alloc, groups)?;
-    first_again(alloc, &names)
+    first_again(alloc, None, &names)
 }
 
 fn attribute_again<'a>(alloc: Global, given: &[Given<'a>]) -> Result<Option<Again>, AllocError>
@@ -132,7 +111,7 @@ fn attribute_again<'a>(alloc: Global, given: &[Given<'a>]) -> Result<Option<Agai
         (namings.repeated (map (λ g. spec.outside g.name) (map given_view given.now)))) }
 {
     let names = attribute_names(alloc, given)?;
-    first_again(alloc, &names)
+    first_again(alloc, None, &names)
 }
 
 fn opcode_again(
@@ -143,8 +122,8 @@ fn opcode_again(
     ensures { IfOk result (λ o. option_map again o ≡ namings.earliest
         (namings.repeated (map (λ r. spec.inside start r.name) (map rows_view.opcode_row rows.now)))) }
 {
-    let names = opcode_names(alloc, start, rows)?;
-    first_again(alloc, &names)
+    let names = opcode_names(alloc, rows)?;
+    first_again(alloc, Some(start), &names)
 }
 
 fn own_again(
@@ -156,8 +135,8 @@ fn own_again(
         (namings.repeated (map (λ i. spec.inside start i.name)
         (flat_map (λ r. r.instrs) (map rows_view.access_row rows.now))))) }
 {
-    let names = own_names(alloc, start, rows)?;
-    first_again(alloc, &names)
+    let names = own_names(alloc, rows)?;
+    first_again(alloc, Some(start), &names)
 }
 
 /// The first name that is given again in the text itself: of a port, or of an attribute.

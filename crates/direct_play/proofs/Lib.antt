@@ -3,3 +3,4 @@ pub mod Failing
 pub mod WholePlay
 pub mod NotedPieces
 pub mod Buffers
+pub mod WithinLaws

@@ -1,3 +1,4 @@
 pub mod Accepting
 pub mod Noting
 pub mod ToTheEnd
+pub mod Within

@@ -4,11 +4,13 @@
 
 mod accepting;
 mod beside;
+mod laws;
 mod noted;
 mod playing;
 mod stepping;
 mod steps;
 
 pub use accepting::accept;
+pub use laws::texts_stay_accepted_within_larger_limits;
 pub use noted::{play_program_all_noted, play_program_noted};
 pub use playing::{play_program, play_program_all};

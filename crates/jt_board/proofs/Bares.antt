@@ -3,6 +3,7 @@ use Rattle.std.proofs.Common.{◌≡◌, ◌<◌, ◌≤◌, ℕ, zero, suc, Lis
 use Rattle.std.specs.List.{AllByRecursion}
 use Rattle.std.proofs.lemmas.List.{length-map}
 use Rattle.std.proofs.lemmas.Option.{none-some}
+use Rattle.jt_limits.specs.Limits.{limits}
 use Rattle.jt_tap.specs.declared.State.TheVariants.{Reset}
 use Rattle.bsdl_device.specs.Sound.{IsSoundDevice}
 use Rattle.device_instructions.specs.Fitting.{IsFormed}
@@ -33,7 +34,7 @@ sound_chain w is =
     let long : length (map (chip_at_rest Reset) (map powered_up w.members)) ≡ length w.members = length-map (map powered_up w.members) (chip_at_rest Reset) ∙ length-map w.members powered_up in
     record {
       some = subst (λ (n : ℕ). 0 < n) (sym long) is.some;
-      most = subst (λ (n : ℕ). n ≤ 32) (sym long) is.most;
+      most = subst (λ (n : ℕ). n ≤ limits.devices) (sym long) is.most;
       sound = all-sound w.members is.sound;
     }
 
@@ -90,10 +91,10 @@ bare_ready n = record {
   no_loop = no_loop (bare_wiring n) (no_strings 1 n);
 }
 
-pub bare_sound : (n : ℕ) → 0 < n → n ≤ 32 → IsSoundWiring (bare_wiring n)
+pub bare_sound : (n : ℕ) → 0 < n → n ≤ limits.devices → IsSoundWiring (bare_wiring n)
 bare_sound n some most = record {
   some = subst (λ (m : ℕ). 0 < m) (sym (bare-length 1 n)) some;
-  most = subst (λ (m : ℕ). m ≤ 32) (sym (bare-length 1 n)) most;
+  most = subst (λ (m : ℕ). m ≤ limits.devices) (sym (bare-length 1 n)) most;
   sound = sound 1 n;
 }
 

@@ -1,4 +1,4 @@
--- Boards in use are chains of 1 to 32 sound devices.
+-- Boards in use are chains of sound devices, one or more and no more than the limit.
 use Rattle.std.proofs.Common.{◌≡◌, ℕ, List, [], ◌∷◌, refl, sym, subst}
 use Rattle.std.specs.Prelude.{Option, Some, None}
 use Rattle.bitbang_table.specs.declared.Message.{Message}

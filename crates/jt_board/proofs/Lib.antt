@@ -6,3 +6,4 @@ pub mod Idling
 pub mod InUse
 pub mod ShiftRuns
 pub mod IdlePieces
+pub mod WithinLaws

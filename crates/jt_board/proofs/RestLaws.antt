@@ -3,6 +3,7 @@ use Rattle.std.proofs.Common.{◌≡◌, ◌≢◌, ◌<◌, ◌≤◌, ℕ, zer
 use Rattle.std.proofs.Common.{drop, slice_get, Some, refl, sym, ap, subst, ◌∙◌, arith}
 use Rattle.std.specs.Prelude.{if◌then◌else◌}
 use Rattle.std.proofs.lemmas.List.{length-append, length-drop, length-map}
+use Rattle.jt_limits.specs.Limits.{limits}
 use Rattle.jt_tap.specs.declared.Column.{Column}
 use Rattle.jt_tap.specs.declared.Column.TheVariants.{Dr, Ir}
 use Rattle.jt_tap.specs.Controller.{is_at}
@@ -47,7 +48,7 @@ chain-as ms cs long sound is =
     let same : length ms ≡ length cs = long ∙ count-members cs in
     record {
       some = subst (λ (n : ℕ). 0 < n) (sym (count-as ms cs same)) is.some;
-      most = subst (λ (n : ℕ). n ≤ 32) (sym (count-as ms cs same)) is.most;
+      most = subst (λ (n : ℕ). n ≤ limits.devices) (sym (count-as ms cs same)) is.most;
       sound = subst AllSound (sym (members-as ms cs same)) sound;
     }
 
@@ -62,7 +63,7 @@ chain-stands state cs is =
     ∙ count-members cs in
     record {
       some = subst (λ (n : ℕ). 0 < n) (sym long) is.some;
-      most = subst (λ (n : ℕ). n ≤ 32) (sym long) is.most;
+      most = subst (λ (n : ℕ). n ≤ limits.devices) (sym long) is.most;
       sound = subst AllSound (sym (standing-members state (members cs))) is.sound;
     }
 
@@ -228,7 +229,7 @@ chain-asserted place cs is =
     ∙ count-members cs in
     record {
       some = subst (λ (n : ℕ). 0 < n) (sym long) is.some;
-      most = subst (λ (n : ℕ). n ≤ 32) (sym long) is.most;
+      most = subst (λ (n : ℕ). n ≤ limits.devices) (sym long) is.most;
       sound = subst AllSound (sym (standing-members Reset ms)) (sound-asserted place (members cs) is.sound);
     }
 

@@ -1,7 +1,9 @@
 -- Boards that a board file and the descriptions it names make.
 use Rattle.std.specs.Prelude.{◌≡◌, ℕ, List, Option, Some, None, MatchOption, Result, Ok, Err}
+use Rattle.jt_limits.specs.declared.Limits.{Limits}
+use Rattle.jt_limits.specs.Limits.{limits}
 use Rattle.bsdl_device.specs.Device.{Device}
-use Rattle.bsdl.specs.Judging.{text_says}
+use Rattle.bsdl.specs.Judging.{text_says, text_says_within}
 use Rattle.bsdl.specs.View as reading
 use Rattle.bsdl.specs.declared.fault.BsdlFault.{BsdlFault}
 use Rattle.core_loops.specs.Loops.{HasNoLoop}
@@ -13,9 +15,13 @@ use Rattle.board_names.specs.declared.fault.BoardFault.{BoardFault}
 use Rattle.board_meaning.specs.Chain.{BoardState}
 use Rattle.jt_board.specs.Made.{board_of}
 
--- the device that a text in BSDL says, none where it is refused
+-- the device that a text in BSDL says within limits, none where it is refused
+abbrev pub said_device_within : Limits → List ℕ → Option Device
+said_device_within l text = elim (text_says_within l text) [ Ok d ↦ Some d | Err r ↦ None ]
+
+-- within those that stand
 abbrev pub said_device : List ℕ → Option Device
-said_device text = elim (text_says text) [ Ok d ↦ Some d | Err r ↦ None ]
+said_device text = said_device_within limits text
 
 -- why a text is refused; want of memory is no reason
 abbrev pub IsWhyRefused : List ℕ → BsdlFault → Type 0

@@ -11,7 +11,7 @@ use Rattle.jt_board.specs.InUse.{IsInUse}
 abbrev pub EveryDeviceReadIsFormed : Type 0
 EveryDeviceReadIsFormed = (text : List ℕ) (d : Device) → text_says text ≡ Ok d → IsFormed d
 
--- Every board in use has 1 to 32 devices, and in each of them the registers that an instruction can place between TDI
--- and TDO have at least one bit.
+-- Every board in use has a device or more, no more than the limit, and in each of them the registers that an
+-- instruction can place between TDI and TDO have at least one bit.
 abbrev pub EveryBoardInUseIsSound : Type 0
 EveryBoardInUseIsSound = (b : BoardState) → IsInUse b → IsChain b.chips

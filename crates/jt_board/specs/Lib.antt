@@ -5,3 +5,4 @@ pub mod Laws
 pub mod Made
 pub mod Resting
 pub mod Shifting
+pub mod Within

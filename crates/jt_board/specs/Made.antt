@@ -1,6 +1,7 @@
 -- Boards as they are made.
 use Rattle.std.specs.Prelude.{◌<◌, ◌≤◌, Bool, length}
 use Rattle.std.specs.List.{AllByRecursion}
+use Rattle.jt_limits.specs.Limits.{limits}
 use Rattle.bsdl_device.specs.Sound.{IsSoundDevice}
 use Rattle.board_plan.specs.Planned as planned
 use Rattle.board_meaning.specs.Chain.{BoardState}
@@ -16,8 +17,8 @@ board_at tck c = record { tck = tck; trst = c.trst; nets = c.nets; chips = c.chi
 abbrev pub board_of : planned.Wiring → BoardState
 board_of w = board_at_rest (power_up w.nets (members_of w))
 
--- 1 to 32 devices whose descriptions are sound
+-- a device or more, no more than the limit, whose descriptions are sound
 pub record IsSoundWiring (w : planned.Wiring) : Type 0 where
   pub some : 0 < length w.members
-  pub most : length w.members ≤ 32
+  pub most : length w.members ≤ limits.devices
   pub sound : AllByRecursion (λ (m : planned.Member). IsSoundDevice m.device) w.members

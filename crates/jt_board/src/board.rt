@@ -2,6 +2,7 @@
 
 ghost use Rattle.std.specs.Prelude.{◌≡◌, ◌<◌, ◌≤◌, ◌⊎◌, ℕ, List, Some, length, option_map, slice_get, IfOk};
 ghost use Rattle.std.specs.Prelude.{MatchResult};
+ghost use Rattle.jt_limits.specs.Limits.{limits};
 ghost use Rattle.board_plan.specs.LeftOut as spec;
 ghost use Rattle.board_plan.specs.View.{wiring};
 ghost use Rattle.board_names.specs.declared.fault.BoardFault.TheVariants as fault;
@@ -22,6 +23,7 @@ use board_plan::Plan;
 use board_report::Snapshot;
 use bsdl::BsdlFault;
 use chip_chain::Chain;
+use jt_limits::LIMITS;
 use std::alloc::{AllocError, Global};
 use std::marker::Model;
 
@@ -29,7 +31,7 @@ use std::marker::Model;
 pub type BoardFault = board_file::BoardFault<BsdlFault>;
 
 /// The most devices of a board.
-const MOST_DEVICES: usize = 32;
+const MOST_DEVICES: usize = LIMITS.devices;
 
 /// A chain of simulated devices on one TAP, the first nearest the board's TDO, with the nets between their pins.
 ///
@@ -56,10 +58,10 @@ impl Board {
     /// A board of `n` bare devices, `U1` nearest TDO, as they power up: two instruction bits, BYPASS and EXTEST, one
     /// boundary cell without a pin.
     ///
-    /// `n` outside 1 to 32 is C7, want of memory C8. No other call on a board takes memory.
+    /// `n` outside 1 to 256 is C7, want of memory C8. No other call on a board takes memory.
     pub fn bare(alloc: Global, n: usize) -> Result<Board, BoardFault>
-        ensures made { 0 < n → n ≤ 32 → MatchResult result (λ b. b ≡ bare_board n) (λ f. f ≡ fault.NoMemory) }
-        ensures too_large { (n ≡ 0) ⊎ (32 < n) → result ≡ Err fault.TooLarge }
+        ensures made { 0 < n → n ≤ limits.devices → MatchResult result (λ b. b ≡ bare_board n) (λ f. f ≡ fault.NoMemory) }
+        ensures too_large { (n ≡ 0) ⊎ (limits.devices < n) → result ≡ Err fault.TooLarge }
     {
         if n == 0 || n > MOST_DEVICES {
             return Err(BoardFault::TooLarge);
@@ -82,11 +84,11 @@ impl Board {
         })
     }
 
-    /// How many devices the chain has: 1 to 32.
+    /// How many devices the chain has: 1 to 256.
     pub fn devices(&self) -> usize
         ensures count { result ≡ length self.now.chips }
         ensures some { 0 < result }
-        ensures most { result ≤ 32 }
+        ensures most { result ≤ limits.devices }
         ensures sound { IsSoundBoard self.now }
     {
         self.chain.devices()
@@ -177,7 +179,7 @@ fn write(devices: &mut Chain, was: bool, tck: bool, tms: bool, tdi: bool)
 /// A board of so many bare devices.
 fn bare_devices(alloc: Global, n: usize) -> Result<Board, AllocError>
     requires some { 0 < n }
-    requires most { n ≤ 32 }
+    requires most { n ≤ limits.devices }
     ensures { IfOk result (λ b. b ≡ bare_board n) }
 {
     Board::powered_up(alloc, bare_plan(alloc, n)?)

@@ -1,6 +1,7 @@
 //! Laws of the devices of boards, and of boards in use.
 
 ghost use Rattle.jt_board.specs.Laws.{EveryBoardInUseIsSound, EveryDeviceReadIsFormed};
+ghost use Rattle.jt_board.specs.Within.{EarlierBoardsAreMade, LargerLimitsMakeTheSame, WhatLiesWithinIsTheSame};
 
 /// Every device that a text says has what a chip asks of it: instructions and a boundary register of one bit at least,
 /// a capture and a reset latch as long as instructions, codes of 32 bits, and for each own instruction of a user
@@ -9,8 +10,17 @@ pub fn every_device_read_is_formed()
     ensures { EveryDeviceReadIsFormed }
 {}
 
-/// Every board that a board file and its descriptions make, or that has 1 to 32 bare devices, has after any bytes what
-/// the laws of plays ask of it: 1 to 32 devices, of which each register that an instruction can select has a bit.
+/// Every board that a board file and its descriptions make, or that has 1 to 256 bare devices, has after any bytes what
+/// the laws of plays ask of it: 1 to 256 devices, of which each register that an instruction can select has a bit.
 pub fn every_board_in_use_is_sound()
     ensures { EveryBoardInUseIsSound }
+{}
+
+/// A board that a board file and its descriptions make within some limits is made the same within larger ones, each
+/// that the earlier limits made too; and one that is made within some limits is made the same within others, where it
+/// and the descriptions that the file names lie within those.
+pub fn boards_stay_within_larger_limits()
+    ensures larger { LargerLimitsMakeTheSame }
+    ensures kept { WhatLiesWithinIsTheSame }
+    ensures earlier { EarlierBoardsAreMade }
 {}

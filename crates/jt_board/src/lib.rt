@@ -12,6 +12,8 @@ pub use board_report::Snapshot;
 pub use bsdl::BsdlFault;
 pub use byte_ends::{Broken, Counted};
 pub use from_text::bsdl_names;
-pub use laws::{every_board_in_use_is_sound, every_device_read_is_formed};
+pub use laws::{
+    boards_stay_within_larger_limits, every_board_in_use_is_sound, every_device_read_is_formed,
+};
 pub use pin_nets::Level;
 pub use report::{write_left_out, write_report};

@@ -1,7 +1,7 @@
 //! The board that the command line asks for.
 
 use jt_player::{Board, BoardFault, bsdl_names};
-use program_input::{InputFault, read_board_file, read_description};
+use program_input::{Descriptions, InputFault, read_board_file};
 use std::alloc::{AllocError, Global};
 
 /// Why no board was made.
@@ -39,24 +39,27 @@ pub(crate) fn make_board(
         Err(fault) => return Err(unread(alloc, name, fault)),
     };
     let names = bsdl_names(alloc, &board_file)?;
-    let mut texts = Vec::with_capacity(alloc, names.len())?;
+    let mut descriptions = Descriptions::new(alloc);
     for name in &names {
-        match read_description(rt, alloc, name.as_str()) {
-            Ok(text) => keep(&mut texts, text)?,
-            Err(fault) => return Err(unread(alloc, name.as_str(), fault)),
+        if let Err(fault) = descriptions.read(rt, alloc, name.as_str()) {
+            return Err(unread(alloc, name.as_str(), fault));
         }
     }
-    let mut files = Vec::with_capacity(alloc, names.len())?;
-    for (name, text) in names.iter().zip(texts.iter()) {
-        keep(&mut files, (name.as_str(), text.as_slice()))?;
-    }
+    let files = files_of(alloc, &names, &descriptions)?;
     Ok(Board::from_text(alloc, &board_file, &files)?)
 }
 
-/// Puts an item behind the others.
-fn keep<T: Drop>(list: &mut Vec<T>, item: T) -> Result<(), AllocError> {
-    list.push(item)?;
-    Ok(())
+/// The texts of the descriptions, each by its name.
+fn files_of<'f>(
+    alloc: Global,
+    names: &'f [String],
+    descriptions: &'f Descriptions,
+) -> Result<Vec<(&'f str, &'f [u8])>, AllocError> {
+    let mut files = Vec::with_capacity(alloc, names.len())?;
+    for (k, name) in names.iter().enumerate() {
+        files.push((name.as_str(), descriptions.text(k)))?;
+    }
+    Ok(files)
 }
 
 /// A file that was not read.

@@ -21,7 +21,7 @@ fn fails(command: usize, part: Part, bit: usize) -> Ending {
 
 #[test]
 fn scans_end_as_they_mean(rt: HostRuntime) -> Result<(), Fail> {
-    let rows: [(&[u8], usize, Ending); 9] = [
+    let rows: [(&[u8], usize, Ending); 11] = [
         (b"", 1, Ending::Pass),
         (b"SIR 2 TDI (3) TDO (1);", 1, Ending::Pass),
         (b"SIR 4 TDI (F); SDR 3 TDI (5) TDO (4);", 2, Ending::Pass),
@@ -41,7 +41,14 @@ fn scans_end_as_they_mean(rt: HostRuntime) -> Result<(), Fail> {
             1,
             Ending::Pass,
         ),
-        (b"RUNTEST 4294967295 TCK;", 32, Ending::Pass),
+        (b"RUNTEST 4294967295 TCK;", 256, Ending::Pass),
+        (b"SDR 1048576 TDI (0) TDO (0);", 1, Ending::Pass),
+        // 256 bypass registers of one bit, and then what went in first
+        (
+            b"SDR 257 TDI (1) TDO (10000000000000000000000000000000000000000000000000000000000000000);",
+            256,
+            Ending::Pass,
+        ),
         (
             b"TRST ON; TRST OFF; STATE IDLE; FREQUENCY 3E6 HZ; RUNTEST 1E-6 SEC;",
             1,
@@ -71,7 +78,7 @@ fn each_pass_names_its_own_refusals(rt: HostRuntime) -> Result<(), Fail> {
         (b"SDR 4;", 1, Code::MissingTdi),
         (b"TRST ON; STATE IDLE;", 2, Code::TrstHeld),
         (b"SDR 0; STATE DRCAPTURE;", 1, Code::EmptyScan),
-        (b"HDR 1 TDI (0); SDR 65536 TDI (0);", 2, Code::TooLarge),
+        (b"HDR 1 TDI (0); SDR 1048576 TDI (0);", 2, Code::TooLarge),
     ];
     assert_refused(&rt, rt.alloc(), &rows)
 }
@@ -92,7 +99,7 @@ fn assert_refused(
 
 #[test]
 fn the_largest_scan_plays_on_the_longest_chain(rt: HostRuntime) -> Result<(), Fail> {
-    let text = b"SIR 64 TDI (FFFFFFFFFFFFFFFF); SDR 65536 TDI (0) TDO (0);";
-    assert_eq!(rt; ending(&rt, rt.alloc(), text, 32)?, Ending::Pass);
+    let text = b"SIR 64 TDI (FFFFFFFFFFFFFFFF); SDR 1048576 TDI (0) TDO (0);";
+    assert_eq!(rt; ending(&rt, rt.alloc(), text, 256)?, Ending::Pass);
     Ok(())
 }

@@ -188,17 +188,20 @@ fn a_play_on_a_used_board(rt: HostRuntime) -> Result<(), Fail> {
     Ok(())
 }
 
-/// With ample memory each size is played: chains of one to thirty-two, and a field of 65,536 bits.
+/// With ample memory each size is played: chains of one device to 256, and a field of 1,048,576 bits.
 #[test]
 fn boards_of_every_size(rt: HostRuntime) -> Result<(), Fail> {
-    for devices in 1..=32 {
+    for devices in 1..=256 {
         let (wrote, _, status) = ran(&rt, rt.alloc(), b"STATE RESET;", devices, false)?;
         assert_eq!(rt; status, 0);
         // a line of the verdict, and one of each device, U1 to U9 and on
-        assert_eq!(rt; wrote.len(), 5 + 19 * devices + devices.saturating_sub(9));
+        assert_eq!(rt;
+            wrote.len(),
+            5 + 19 * devices + devices.saturating_sub(9) + devices.saturating_sub(99)
+        );
     }
-    assert!(rt; Board::bare(rt.alloc(), 33).is_err());
-    let (_, _, status) = ran(&rt, rt.alloc(), b"SDR 65536 TDI (0) TDO (0);", 32, false)?;
+    assert!(rt; Board::bare(rt.alloc(), 257).is_err());
+    let (_, _, status) = ran(&rt, rt.alloc(), b"SDR 1048576 TDI (0) TDO (0);", 256, false)?;
     assert_eq!(rt; status, 0);
     Ok(())
 }

@@ -1,14 +1,15 @@
 //! The texts that are read: a program, a board file, descriptions of devices.
 
-use std::alloc::Global;
+use jt_limits::LIMITS;
+use std::alloc::{AllocError, Global};
 use std::io::{ErrorKind, Read};
 use std::rt::Files;
 use std::{fs, io};
 
 /// A text has at most 16 MiB; one byte more is read, so that a longer one is refused and not cut.
-const MOST_BYTES: u64 = 16 * 1024 * 1024 + 1;
+const MOST_BYTES: u64 = LIMITS.text_bytes as u64 + 1;
 /// A description of a device has at most 4 MiB; one byte more is read, so that a longer one is refused and not cut.
-const MOST_DESCRIPTION_BYTES: u64 = 4 * 1024 * 1024 + 1;
+const MOST_DESCRIPTION_BYTES: u64 = LIMITS.description_bytes as u64 + 1;
 
 /// Why a text was not read.
 #[derive(Debug, Clone, Copy, PartialEq, Eq)]
@@ -29,6 +30,12 @@ impl From<io::Error> for InputFault {
     }
 }
 
+impl From<AllocError> for InputFault {
+    fn from(_: AllocError) -> InputFault {
+        InputFault::NoMemory
+    }
+}
+
 /// Reads a board file; one of more than 16 MiB counts as unreadable.
 pub fn read_board_file<R: Files + Input + AllocGlobal>(
     rt: &R,
@@ -44,7 +51,7 @@ pub fn read_board_file<R: Files + Input + AllocGlobal>(
 
 /// Reads a description of a device: all of it, or its first 4 MiB and one byte, which the reader of descriptions
 /// refuses as too long.
-pub fn read_description<R: Files + Input + AllocGlobal>(
+pub(crate) fn read_description<R: Files + Input + AllocGlobal>(
     rt: &R,
     alloc: Global,
     name: &str,

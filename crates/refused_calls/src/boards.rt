@@ -3,6 +3,7 @@
 use crate::given::{REFUSED, USUAL};
 use byte_ends::{Counted, Plain};
 use jt_player::{Board, BoardFault, bsdl_names, write_report};
+use std::alloc::Global;
 use std::io;
 
 /// Two devices on one net, the second with a core of zeros.
@@ -14,6 +15,50 @@ device = [
 net = [
   { name = \"N\", pins = [\"U1.Q\", \"U2.D\"], pull = \"up\" },
   { name = \"M\", pins = [\"U2.Q\"] },
+]
+";
+
+/// Two devices of eight outputs without a control, which a chain keeps as blocks, and a flag with one.
+const BLOCKS: &[u8] = b"
+device = [
+  { name = \"U1\", bsdl = \"device\", core = \"0100000000\" },
+  { name = \"U2\", bsdl = \"device\", core = \"0100000001\" },
+]
+net = [
+  { name = \"N0\", pins = [\"U1.D(0)\", \"U2.D(0)\"] },
+  { name = \"N1\", pins = [\"U1.D(1)\", \"U2.D(1)\"] },
+  { name = \"N2\", pins = [\"U1.D(2)\", \"U2.D(2)\"] },
+  { name = \"N3\", pins = [\"U1.D(3)\", \"U2.D(3)\"] },
+  { name = \"N4\", pins = [\"U1.D(4)\", \"U2.D(4)\"] },
+  { name = \"N5\", pins = [\"U1.D(5)\", \"U2.D(5)\"] },
+  { name = \"N6\", pins = [\"U1.D(6)\", \"U2.D(6)\"] },
+  { name = \"N7\", pins = [\"U1.D(7)\", \"U2.D(7)\"] },
+  { name = \"F\", pins = [\"U1.FLAG\", \"U2.FLAG\"], pull = \"up\" },
+]
+";
+
+/// Two devices whose cores follow, the second what the first drives.
+const STRINGS: &[u8] = b"
+device = [
+  { name = \"U1\", bsdl = \"device\", core = \"010\", follow = [\"Q = !D\"] },
+  { name = \"U2\", bsdl = \"device\", core = \"010\", follow = [\"Q = D\"] },
+]
+net = [
+  { name = \"M\", pins = [\"U1.D\"], pull = \"down\" },
+  { name = \"N\", pins = [\"U1.Q\", \"U2.D\"] },
+  { name = \"V\", pins = [\"U2.Q\"] },
+]
+";
+
+/// Two devices whose cores follow each other, which is refused.
+const CIRCLE: &[u8] = b"
+device = [
+  { name = \"U1\", bsdl = \"device\", follow = [\"Q = D\"] },
+  { name = \"U2\", bsdl = \"device\", follow = [\"Q = D\"] },
+]
+net = [
+  { name = \"N\", pins = [\"U1.Q\", \"U2.D\"] },
+  { name = \"M\", pins = [\"U2.Q\", \"U1.D\"] },
 ]
 ";
 
@@ -43,16 +88,32 @@ fn tell_names(rt: &HostRuntime, found: Result<Vec<String>, BoardFault>) -> io::R
     }
 }
 
-/// A board is made of a board file and a device's description.
-pub(crate) fn from_text(rt: &HostRuntime, description: &[u8]) -> io::Result<()> {
+/// The board file of this name; of no name one without blocks and strings.
+fn board_file(name: &str) -> &'static [u8] {
+    match name {
+        "blocks" => BLOCKS,
+        "strings" => STRINGS,
+        "circle" => CIRCLE,
+        _ => BOARD,
+    }
+}
+
+/// A board is made of the board file of this name and a device's description.
+pub(crate) fn from_text(rt: &HostRuntime, name: &str, description: &[u8]) -> io::Result<()> {
+    let text = board_file(name);
     let files = [("device", description)];
-    let first = Board::from_text(rt.alloc(), BOARD, &files);
+    let first = Board::from_text(rt.alloc(), text, &files);
     if !matches!(first, Err(BoardFault::NoMemory)) {
         rt.println(USUAL)?;
         return tell_board(rt, first);
     }
     rt.println(REFUSED)?;
-    tell_board(rt, Board::from_text(rt.alloc(), BOARD, &files))
+    tell_board(rt, Board::from_text(rt.alloc(), text, &files))
+}
+
+/// The board of cores that follow, of devices of this description; `None` where it cannot be made.
+pub(crate) fn following(alloc: Global, description: &[u8]) -> Option<Board> {
+    Board::from_text(alloc, STRINGS, &[("device", description)]).ok()
 }
 
 /// A board of bare devices is made.

@@ -12,7 +12,7 @@ use Rattle.bitbang_table.specs.declared.Message.TheVariants.{Quit}
 use Rattle.bitbang.specs.declared.step_bytes.Spot.{Spot}
 use Rattle.bitbang.specs.StepMessages.{step_messages}
 use Rattle.scan_vectors.specs.Vector.{VectorBit, differs}
-use Rattle.svf_programs.specs.Sound.{AllWithin, IsSound, IsWithin, step_limit}
+use Rattle.svf_programs.specs.Sound.{AllWithin, IsSound, IsWithin, step_limit, vector_limit}
 use Rattle.svf_programs.specs.Steps.{Step, Scan, Go, Path, Run, Trst, Numbered, Program, place_after}
 use Rattle.plays.specs.Play.{Turn, is_bad, step_turns, turns, wants_of}
 use Rattle.plays.specs.Playing.{up_to_bad}
@@ -320,14 +320,14 @@ module _ (program : Program) (p r : Progress) (stands : IsProgressOf program.ste
   )
 
 -- a program wants no more bits than its steps may have
-wants-most : (s : Step) → IsWithin s → length (wants_of s) ≤ 65536
+wants-most : (s : Step) → IsWithin s → length (wants_of s) ≤ vector_limit
 wants-most (Scan column v end) within = omega (arith, within, wanted-most v)
 wants-most (Go s) within = omega arith
 wants-most (Path path) within = omega arith
 wants-most (Run run n end) within = omega arith
 wants-most (Trst w) within = omega arith
 
-answers-most : (n : ℕ) (place : State) (steps : List Numbered) → AllWithin steps → answers_in (take n (step_turns place steps)) ≤ 65536 * length steps
+answers-most : (n : ℕ) (place : State) (steps : List Numbered) → AllWithin steps → answers_in (take n (step_turns place steps)) ≤ vector_limit * length steps
 answers-most zero place steps all = omega arith
 answers-most (suc n) place [] all = omega arith
 answers-most (suc n) place (s ∷ steps) all =
@@ -335,11 +335,11 @@ answers-most (suc n) place (s ∷ steps) all =
     let others = answers-most n (place_after place s.what) steps all.1 in
     omega (arith, one-step, others)
 
-pub answered-most : (program : Program) (p : Progress) → IsSound program.steps → p.heard < 65536
-    → (state_of program p).answered < 65536 * (length program.steps + 1)
+pub answered-most : (program : Program) (p : Progress) → IsSound program.steps → p.heard < vector_limit
+    → (state_of program p).answered < vector_limit * (length program.steps + 1)
 answered-most program p sound few = by (over p)
   where
-    by : (n : ℕ) → answers_in (take n (turns program.steps)) + p.heard < 65536 * (length program.steps + 1)
+    by : (n : ℕ) → answers_in (take n (turns program.steps)) + p.heard < vector_limit * (length program.steps + 1)
     by zero = omega (arith, few)
     by (suc n) = let most = answers-most n Reset program.steps sound.within in omega (arith, few, most)
 

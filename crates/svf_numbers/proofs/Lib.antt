@@ -2,3 +2,4 @@ pub mod Digits
 pub mod MeasureLaws
 pub mod NumberLaws
 pub mod WrittenLaws
+pub mod WithinLaws

@@ -1,3 +1,4 @@
 pub mod Measures
 pub mod Numbers
 pub mod Written
+pub mod Within

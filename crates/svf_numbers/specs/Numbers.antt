@@ -6,6 +6,8 @@ use Rattle.std.specs.List.{list_all, prefix_len}
 use Rattle.std.specs.Char.{is_ascii_digit}
 use Rattle.std.specs.Str.Parse.{digits_value}
 use Rattle.std.specs.Int.{div_ceil}
+use Rattle.jt_limits.specs.declared.Limits.{Limits}
+use Rattle.jt_limits.specs.Limits.{limits, digit_limit, exponent_limit}
 use Rattle.svf_words.specs.declared.fault.Code.{Code}
 use Rattle.svf_words.specs.declared.fault.Code.TheVariants as code
 use Rattle.svf_words.specs.Words.{Word}
@@ -64,27 +66,28 @@ units_of n = digits_value 10 (n.whole ++ n.fraction) * 10 ^ power_of n
 abbrev pub numeral_value : Option Numeral → Result ℕ Code
 numeral_value None = Err code.BadNumber
 numeral_value (Some n) =
-    if nat_lt 18 (length n.whole + length n.fraction) || nat_lt 18 (digits_value 10 n.exponent) then Err code.TooLarge
-    else Ok (units_of n)
+    if nat_lt digit_limit (length n.whole + length n.fraction) || nat_lt exponent_limit (digits_value 10 n.exponent)
+    then Err code.TooLarge else Ok (units_of n)
 
 unfoldable pub number_value : Word → Result ℕ Code
 number_value w = numeral_value (numeral_of w)
 
 -- 10 ^ 12 ps over the frequency, rounded up
-abbrev pub period_of : ℕ → Result ℕ Code
-period_of units =
+abbrev pub period_within : Limits → ℕ → Result ℕ Code
+period_within l units =
     if units == 0 then Err code.BadNumber
-    else if nat_lt (10 ^ 18) (div_ceil (10 ^ 48) units) then Err code.TooLarge
+    else if nat_lt l.picoseconds (div_ceil (10 ^ 48) units) then Err code.TooLarge
     else Ok (div_ceil (10 ^ 48) units)
 
 -- 10 ^ 24 units are a picosecond: a time in picoseconds, rounded up
-abbrev pub time_of : ℕ → Result ℕ Code
-time_of units = if nat_lt (10 ^ 18) (div_ceil units (10 ^ 24)) then Err code.TooLarge else Ok (div_ceil units (10 ^ 24))
+abbrev pub time_within : Limits → ℕ → Result ℕ Code
+time_within l units =
+    if nat_lt l.picoseconds (div_ceil units (10 ^ 24)) then Err code.TooLarge else Ok (div_ceil units (10 ^ 24))
 
 -- 10 ^ 36 units are 1: a count, which is whole
-abbrev pub count_of : ℕ → Result ℕ Code
-count_of units =
-    if units % 10 ^ 36 == 0 then (if nat_lt 4294967295 (units / 10 ^ 36) then Err code.TooLarge
+abbrev pub count_within : Limits → ℕ → Result ℕ Code
+count_within l units =
+    if units % 10 ^ 36 == 0 then (if nat_lt l.cycles (units / 10 ^ 36) then Err code.TooLarge
     else Ok (units / 10 ^ 36)) else Err code.BadNumber
 
 -- what a number of units says, if the number has a value
@@ -92,23 +95,46 @@ abbrev pub valued : (ℕ → Result ℕ Code) → Result ℕ Code → Result ℕ
 valued says (Err c) = Err c
 valued says (Ok units) = says units
 
-abbrev pub period_says : Word → Result ℕ Code
-period_says w = valued period_of (number_value w)
+abbrev pub period_says_within : Limits → Word → Result ℕ Code
+period_says_within l w = valued (period_within l) (number_value w)
 
-abbrev pub time_says : Word → Result ℕ Code
-time_says w = valued time_of (number_value w)
+abbrev pub time_says_within : Limits → Word → Result ℕ Code
+time_says_within l w = valued (time_within l) (number_value w)
 
-abbrev pub count_says : Word → Result ℕ Code
-count_says w = valued count_of (number_value w)
+abbrev pub count_says_within : Limits → Word → Result ℕ Code
+count_says_within l w = valued (count_within l) (number_value w)
 
--- a length that has a value: digits alone, at most 18
+-- a length that has a value: digits alone, not too many
 abbrev pub len_value : Word → Option ℕ
-len_value w = if list_all is_ascii_digit w && nat_le (length w) 18 then Some (digits_value 10 w) else None
+len_value w = if list_all is_ascii_digit w && nat_le (length w) digit_limit then Some (digits_value 10 w) else None
 
--- a scan has at most 65,536 bits
-abbrev pub len_says : Word → Result ℕ Code
-len_says w =
+-- the length of a scan, S5 or S15
+abbrev pub len_says_within : Limits → Word → Result ℕ Code
+len_says_within l w =
     if list_all is_ascii_digit w
-    then (if nat_le (length w) 18 && nat_le (digits_value 10 w) 65536 then Ok (digits_value 10 w)
+    then (if nat_le (length w) digit_limit && nat_le (digits_value 10 w) l.scan_bits then Ok (digits_value 10 w)
     else Err code.TooLarge)
     else Err code.BadNumber
+
+-- ---- within the limits that stand
+
+abbrev pub period_of : ℕ → Result ℕ Code
+period_of units = period_within limits units
+
+abbrev pub time_of : ℕ → Result ℕ Code
+time_of units = time_within limits units
+
+abbrev pub count_of : ℕ → Result ℕ Code
+count_of units = count_within limits units
+
+abbrev pub period_says : Word → Result ℕ Code
+period_says w = period_says_within limits w
+
+abbrev pub time_says : Word → Result ℕ Code
+time_says w = time_says_within limits w
+
+abbrev pub count_says : Word → Result ℕ Code
+count_says w = count_says_within limits w
+
+abbrev pub len_says : Word → Result ℕ Code
+len_says w = len_says_within limits w

@@ -1,5 +1,6 @@
 //! What holds of every word that stands for a number.
 ghost use Rattle.svf_numbers.specs.Measures.{CountsAreWhole, PeriodsAreLeast, TimesAreLeast};
+ghost use Rattle.svf_numbers.specs.Within.{CountsAreLimited, LengthsAreLimited, PeriodsAreLimited, TimesAreLimited};
 ghost use Rattle.svf_numbers.specs.Written.{ReadsWhatIsWritten};
 
 /// What is made of a number that has a value, and when it is refused: a period is the least whole number of picoseconds
@@ -16,4 +17,13 @@ pub fn measures_are_exact()
 /// that number: digits with at most one point, and then, if wanted, an `E`, a sign if wanted, and digits.
 pub fn numbers_are_read_as_they_are_written()
     ensures { ReadsWhatIsWritten }
+{}
+
+/// What a number says hangs on the limits by one of them alone: what is said is at most that, and where it is at most
+/// that of other limits, those say it too.
+pub fn numbers_are_limited()
+    ensures period { PeriodsAreLimited }
+    ensures time { TimesAreLimited }
+    ensures count { CountsAreLimited }
+    ensures length { LengthsAreLimited }
 {}

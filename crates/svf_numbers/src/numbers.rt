@@ -8,22 +8,17 @@ ghost use Rattle.std.specs.Str.Parse.{digits_value, digits_value_after};
 ghost use Rattle.svf_numbers.specs.Numbers as spec;
 ghost use Rattle.svf_numbers.specs.Numbers.{Numeral};
 
+use jt_limits::{DIGITS_LIMIT, EXPONENT_LIMIT, LIMITS};
 use svf_words::Code;
 
 /// A frequency's period and a time are at most so many picoseconds.
-const PICOSECONDS_LIMIT: u128 = 1_000_000_000_000_000_000;
+const PICOSECONDS_LIMIT: u128 = LIMITS.picoseconds as u128;
 
 /// A count of cycles is at most this.
-const COUNT_LIMIT: u128 = 4_294_967_295;
+const COUNT_LIMIT: u128 = LIMITS.cycles as u128;
 
 /// A scan has at most so many bits.
-const LENGTH_LIMIT: usize = 65_536;
-
-/// A number has at most so many digits before its exponent.
-const DIGITS_LIMIT: usize = 18;
-
-/// An exponent is at most this, in either direction.
-const EXPONENT_LIMIT: u32 = 18;
+const LENGTH_LIMIT: usize = LIMITS.scan_bits;
 
 /// A number as it is written: digits, digits behind the point, and the exponent's sign and digits.
 #[derive(Clone, Copy)]
@@ -140,7 +135,7 @@ fn whole(mantissa: u64, zeros: u32) -> Option<u128>
 
 /// The length of a scan in bits.
 ///
-/// Refused are a word that is not decimal digits alone (S5), and more than 18 digits or more than 65,536 bits (S15). An
+/// Refused are a word that is not decimal digits alone (S5), and more than 18 digits or more than 1,048,576 bits (S15). An
 /// empty word, which no text has, is 0.
 pub fn length(word: &[u8]) -> Result<usize, Code>
     ensures { result ≡ spec.len_says word.now }

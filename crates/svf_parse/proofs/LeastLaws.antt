@@ -11,7 +11,7 @@ use Rattle.svf_forms.specs.Fields.{Fields}
 use Rattle.svf_forms.specs.RunTests.{RunTest}
 use Rattle.svf_numbers.specs.Numbers.{period_says, time_says, count_says, len_says, len_value}
 use Rattle.svf_forms.specs.Forms.{Form, end_dr_form, end_ir_form, frequency_form, scan_form, run_test_form, states_form, trst_form, port_form}
-use Rattle.svf_parse.specs.Judging.{◌>>=◌, checked, both, given, is_misspelt, is_wider, field_fault, clock_fault, cycles_say, scan_says, scan_with, run_test_says, run_test_with, frequency, form_says}
+use Rattle.svf_parse.specs.Judging.{◌>>=◌, scan_says_within, run_test_says_within, checked, both, given, is_misspelt, is_wider, field_fault, clock_fault, cycles_say, scan_says, scan_with, run_test_says, run_test_with, frequency, form_says}
 use Rattle.svf_parse.specs.Least.{GivenHas, FrequencyHas, TimeHas, LengthHas, FieldHas, CountHas, Has}
 
 -- what is told of the refusals that H names
@@ -141,7 +141,7 @@ least_clock clock.Sck = record { says = λ c e. (let p : code.Unsupported ≡ c 
 
 least_scan : (w : Word) (fs : Fields)
     → Least (scan_says w fs) (λ c. GivenHas (FieldHas (len_value w)) fs.tdi c ⊎ (GivenHas (FieldHas (len_value w)) fs.tdo c ⊎ (GivenHas (FieldHas (len_value w)) fs.mask c ⊎ (GivenHas (FieldHas (len_value w)) fs.smask c ⊎ LengthHas w c))))
-unfolding scan_says
+unfolding scan_says_within
 least_scan w fs =
     let n = len_value w in
     least_checked _ _ _ _ (least_field n fs.tdi) (least_checked _ _ _ _ (least_field n fs.tdo) (least_checked _ _ _ _ (least_field n fs.mask) (least_checked _ _ _ _ (least_field n fs.smask) (least_one (len_says w)))))
@@ -150,7 +150,7 @@ least_cycles : (p : Word × Clock) → Least (cycles_say p) (CountHas p)
 least_cycles p = least_checked _ _ _ _ (least_clock p.1) (least_one (count_says p.0))
 
 least_run_test : (r : RunTest) → Least (run_test_says r) (Has (run_test_form r))
-unfolding run_test_says
+unfolding run_test_says_within
 least_run_test r =
     least_then _ (run_test_with r) _ (least_both _ _ _ _ (least_given cycles_say CountHas r.count least_cycles) (least_both _ _ _ _ (least_given time_says TimeHas r.min (λ w. least_one (time_says w))) (least_given time_says TimeHas r.max (λ w. least_one (time_says w)))))
 

@@ -7,3 +7,4 @@ pub mod ScanLaws
 pub mod SizeLaws
 pub mod StatementLaws
 pub mod TextLaws
+pub mod WithinLaws

@@ -3,14 +3,15 @@ use Rattle.std.proofs.Common.{◌≡◌, ℕ, Bool, true, false, cond, ◌&&◌,
 use Rattle.std.specs.List.{list_all}
 use Rattle.std.specs.Char.{is_ascii_digit}
 use Rattle.std.specs.Str.Parse.{digits_value}
+use Rattle.jt_limits.specs.Limits.{limits, digit_limit}
 use Rattle.svf_words.specs.declared.fault.Code.{Code}
 use Rattle.svf_words.specs.declared.fault.Code.TheVariants as code
 use Rattle.svf_words.specs.Words.{Word}
 use Rattle.svf_forms.specs.Fields.{Fields}
 use Rattle.svf_numbers.specs.Numbers.{len_says, len_value}
-use Rattle.svf_parse.specs.Judging.{checked, field_fault, scan_says}
+use Rattle.svf_parse.specs.Judging.{checked, field_fault, scan_says, scan_says_within}
 
-checked_ok : {A : Type 0} (o : Option Code) (r : Result A Code) (x : A) → checked o r ≡ Ok x → (o ≡ None) × (r ≡ Ok x)
+pub checked_ok : {A : Type 0} (o : Option Code) (r : Result A Code) (x : A) → checked o r ≡ Ok x → (o ≡ None) × (r ≡ Ok x)
 checked_ok None r x e = (refl, e)
 checked_ok (Some c) (Ok y) x e = absurd cc
 checked_ok (Some c) (Err d) x e = absurd cc
@@ -21,8 +22,8 @@ len_by true true false v n e = absurd cc
 len_by true false c v n e = absurd cc
 len_by false b c v n e = absurd cc
 
-len_fits : (w : Word) (n : ℕ) → len_says w ≡ Ok n → len_value w ≡ Some n
-len_fits w n e = len_by (list_all is_ascii_digit w) (nat_le (length w) 18) (nat_le (digits_value 10 w) 65536) (digits_value 10 w) n e
+pub len_fits : (w : Word) (n : ℕ) → len_says w ≡ Ok n → len_value w ≡ Some n
+len_fits w n e = len_by (list_all is_ascii_digit w) (nat_le (length w) digit_limit) (nat_le (digits_value 10 w) limits.scan_bits) (digits_value 10 w) n e
 
 pub record Sound (fs : Fields) (n : ℕ) : Type 0 where
   pub tdi : field_fault (Some n) fs.tdi ≡ None
@@ -31,7 +32,7 @@ pub record Sound (fs : Fields) (n : ℕ) : Type 0 where
   pub smask : field_fault (Some n) fs.smask ≡ None
 
 pub scan_sound : (w : Word) (fs : Fields) (n : ℕ) → scan_says w fs ≡ Ok n → Sound fs n
-unfolding scan_says
+unfolding scan_says_within
 scan_sound w fs n e =
     let v = len_value w in
     let r3 = checked (field_fault v fs.smask) (len_says w) in

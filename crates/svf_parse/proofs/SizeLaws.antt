@@ -28,7 +28,7 @@ use Rattle.svf_words.specs.Words.{Word, Groups, last, group, with_word, with_tok
 use Rattle.svf_forms.specs.Fields.{Fields, no_fields, if_none, put}
 use Rattle.svf_words.specs.Keywords.{scan_word}
 use Rattle.svf_forms.specs.Forms.{Form, end_dr_form, end_ir_form, frequency_form, scan_form, run_test_form, states_form, trst_form, port_form}
-use Rattle.svf_parse.specs.Judging.{◌>>=◌, Said, end_dr, end_ir, frequency, states, trst, cycles_say, both, form_says, scan_says, scan_with, run_test_says, run_test_with, bits_written, bits, given}
+use Rattle.svf_parse.specs.Judging.{◌>>=◌, run_test_says_within, Said, end_dr, end_ir, frequency, states, trst, cycles_say, both, form_says, scan_says, scan_with, run_test_says, run_test_with, bits_written, bits, given}
 use Rattle.svf_numbers.specs.Numbers.{period_says, time_says}
 use Rattle.svf_forms.specs.Grammar.{Reads, AreStates, IsField, AreFields, IsForm}
 use Rattle.svf_parse.specs.Spelling.{EachSpells, closed_by, TextSpells}
@@ -234,7 +234,7 @@ scan_fits which fs n =
     omega (arith, tdi, tdo, mask, smask)
 
 form_fits : (ws : List Word) (f : Form) (s : Said) → IsForm ws f → form_says f ≡ Ok s → size s ≤ 4 * total ws
-unfolding run_test_says
+unfolding run_test_says_within
 form_fits ws (end_dr_form st) s h says = one_fits h.0 (codes "ENDDR") ws (h.1 ∷ []) s h.2 h.3 (omega arith) (size_said (end_dr st) s says)
 form_fits ws (end_ir_form st) s h says = one_fits h.0 (codes "ENDIR") ws (h.1 ∷ []) s h.2 h.3 (omega arith) (size_said (end_ir st) s says)
 form_fits ws (frequency_form None) s h says = one_fits h.0 (codes "FREQUENCY") ws [] s h.1 h.2 (omega arith) (size_said (frequency None) s says)

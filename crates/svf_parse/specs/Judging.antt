@@ -5,6 +5,8 @@ use Rattle.std.specs.List.{list_all}
 use Rattle.std.specs.Char.{is_ascii_hexdigit}
 use Rattle.jt_tap.specs.declared.State.{State}
 use Rattle.jt_bits.specs.Hex.{binary, has_one_beyond}
+use Rattle.jt_limits.specs.declared.Limits.{Limits}
+use Rattle.jt_limits.specs.Limits.{limits}
 use Rattle.svf_words.specs.declared.fault.Code.{Code}
 use Rattle.svf_words.specs.declared.fault.Code.TheVariants as code
 use Rattle.svf_words.specs.declared.keywords.TrstWord.{TrstWord}
@@ -15,7 +17,7 @@ use Rattle.svf_words.specs.Words.{Word}
 use Rattle.svf_words.specs.Faults.{lower_code}
 use Rattle.svf_forms.specs.Fields.{Fields}
 use Rattle.svf_forms.specs.RunTests.{RunTest}
-use Rattle.svf_numbers.specs.Numbers.{period_says, time_says, count_says, len_says, len_value}
+use Rattle.svf_numbers.specs.Numbers.{period_says_within, time_says_within, count_says_within, len_says_within, len_value}
 use Rattle.svf_forms.specs.Forms.{Form, end_dr_form, end_ir_form, frequency_form, scan_form, run_test_form, states_form}
 use Rattle.svf_forms.specs.Forms.{trst_form, port_form}
 
@@ -67,12 +69,12 @@ field_fault n None = None
 field_fault n (Some h) = if is_misspelt h then Some code.BadNumber else if is_wider n h then Some code.TooWide else None
 
 -- the length of a scan
-unfoldable pub scan_says : Word → Fields → Result ℕ Code
-scan_says w fs =
+unfoldable pub scan_says_within : Limits → Word → Fields → Result ℕ Code
+scan_says_within l w fs =
     let n = len_value w in
     checked (field_fault n fs.tdi)
     (checked (field_fault n fs.tdo)
-    (checked (field_fault n fs.mask) (checked (field_fault n fs.smask) (len_says w))))
+    (checked (field_fault n fs.mask) (checked (field_fault n fs.smask) (len_says_within l w))))
 
 -- the binary digits that a field of n bits writes, lowest first: those above them are 0, and are not kept
 abbrev pub bits_written : ℕ → List ℕ → List Bool
@@ -92,24 +94,39 @@ abbrev pub clock_fault : Clock → Option Code
 clock_fault clock.Tck = None
 clock_fault clock.Sck = Some code.Unsupported
 
-abbrev pub cycles_say : Word × Clock → Result ℕ Code
-cycles_say c = checked (clock_fault c.1) (count_says c.0)
+abbrev pub cycles_say_within : Limits → Word × Clock → Result ℕ Code
+cycles_say_within l c = checked (clock_fault c.1) (count_says_within l c.0)
 
 abbrev pub run_test_with : RunTest → Option ℕ × (Option ℕ × Option ℕ) → Said
 run_test_with r p = run_test r.run p.0 p.1.0 p.1.1 r.end
 
-unfoldable pub run_test_says : RunTest → Result Said Code
-run_test_says r = both (given cycles_say r.count) (both (given time_says r.min) (given time_says r.max)) >>= λ p. Ok
-    (run_test_with r p)
+unfoldable pub run_test_says_within : Limits → RunTest → Result Said Code
+run_test_says_within l r =
+    both (given (cycles_say_within l) r.count)
+    (both (given (time_says_within l) r.min) (given (time_says_within l) r.max)) >>= λ p. Ok (run_test_with r p)
 
 -- ---- each form
 
+abbrev pub form_says_within : Limits → Form → Result Said Code
+form_says_within l (end_dr_form s) = Ok (end_dr s)
+form_says_within l (end_ir_form s) = Ok (end_ir s)
+form_says_within l (frequency_form n) = given (period_says_within l) n >>= λ p. Ok (frequency p)
+form_says_within l (scan_form which w fs) = scan_says_within l w fs >>= λ n. Ok (scan_with which fs n)
+form_says_within l (run_test_form r) = run_test_says_within l r
+form_says_within l (states_form ss) = Ok (states ss)
+form_says_within l (trst_form t) = Ok (trst t)
+form_says_within l port_form = Err code.Unsupported
+
+-- ---- within the limits that stand
+
+abbrev pub scan_says : Word → Fields → Result ℕ Code
+scan_says w fs = scan_says_within limits w fs
+
+abbrev pub cycles_say : Word × Clock → Result ℕ Code
+cycles_say c = cycles_say_within limits c
+
+abbrev pub run_test_says : RunTest → Result Said Code
+run_test_says r = run_test_says_within limits r
+
 abbrev pub form_says : Form → Result Said Code
-form_says (end_dr_form s) = Ok (end_dr s)
-form_says (end_ir_form s) = Ok (end_ir s)
-form_says (frequency_form n) = given period_says n >>= λ p. Ok (frequency p)
-form_says (scan_form which w fs) = scan_says w fs >>= λ n. Ok (scan_with which fs n)
-form_says (run_test_form r) = run_test_says r
-form_says (states_form ss) = Ok (states ss)
-form_says (trst_form t) = Ok (trst t)
-form_says port_form = Err code.Unsupported
+form_says f = form_says_within limits f

@@ -5,3 +5,4 @@ pub mod Reading
 pub mod Sizes
 pub mod Spelling
 pub mod View
+pub mod Within

@@ -1,5 +1,6 @@
 -- What a whole text says: its statements, or its first refusal.
 use Rattle.std.specs.Prelude.{ℕ, ◌+◌, List, [], ◌∷◌, length, nat_lt, if◌then◌else◌, Option, Some, None, Result, Ok, Err}
+use Rattle.jt_limits.specs.Limits.{limits}
 use Rattle.svf_lex.specs.declared.LexFault.{LexFault}
 use Rattle.svf_lex.specs.declared.LexFault.TheVariants as fault
 use Rattle.svf_lex.specs.Cutting.{items_of}
@@ -26,12 +27,12 @@ unfoldable pub statement_says : List Word → Result Said Code
 statement_says [] = Err code.UnknownCommand
 statement_says (w ∷ ws) = or_refuse code.UnknownCommand (command_of w) >>= λ k. command_says k ws
 
--- a text has at most 16 MiB, and at most 200,000 statements
+-- a text has at most so many bytes, and so many statements
 abbrev pub text_limit : ℕ
-text_limit = 16777216
+text_limit = limits.text_bytes
 
 abbrev pub statement_limit : ℕ
-statement_limit = 200000
+statement_limit = limits.statements
 
 abbrev pub lex_code : LexFault → Code
 lex_code (fault.BadByte place) = code.BadByte place

@@ -1,6 +1,8 @@
 -- The grammar: which words are a statement, and which texts are a list of them. Nothing here reads from left to right.
 use Rattle.std.specs.Prelude.{◌≡◌, ℕ, ◌+◌, ◌<◌, ◌≤◌, ◌⊎◌, List, [], ◌∷◌, length}
 use Rattle.std.specs.Prelude.{Some, None, Result, Ok, Err}
+use Rattle.jt_limits.specs.declared.Limits.{Limits}
+use Rattle.jt_limits.specs.Limits.{limits}
 use Rattle.svf_lex.specs.declared.LexFault.{LexFault}
 use Rattle.svf_lex.specs.Cutting.{Lexeme}
 use Rattle.svf_lex.specs.Lexed.{Lexes}
@@ -10,12 +12,12 @@ use Rattle.svf_words.specs.declared.fault.SvfFault.{SvfFault}
 use Rattle.svf_words.specs.Words.{Word, Groups, last, group, groups_of}
 use Rattle.svf_forms.specs.Forms.{Form}
 use Rattle.svf_forms.specs.Grammar.{IsForm, HasCommand}
-use Rattle.svf_parse.specs.Judging.{Said, form_says}
+use Rattle.svf_parse.specs.Judging.{Said, form_says, form_says_within}
 use Rattle.svf_parse.specs.Reading.{text_limit, statement_limit, lex_code}
 
 -- the words spell this statement
-abbrev pub Spells : List Word → Said → Type 0
-Spells ws s = (f : Form) × IsForm ws f × (form_says f ≡ Ok s)
+abbrev pub SpellsWithin : Limits → List Word → Said → Type 0
+SpellsWithin l ws s = (f : Form) × IsForm ws f × (form_says_within l f ≡ Ok s)
 
 -- the words of one statement have this refusal
 pub data Refuses (ws : List Word) (c : Code) : Type 0 where
@@ -24,12 +26,12 @@ pub data Refuses (ws : List Word) (c : Code) : Type 0 where
   of_form : (f : Form) → IsForm ws f → form_says f ≡ Err c → Refuses ws c
 
 -- the words of each group that has any spell these statements, in order
-abbrev pub EachSpells : List (List Word) → List Said → Type 0
-EachSpells [] [] = Unit {0}
-EachSpells [] (s ∷ ss) = ⊥
-EachSpells ([] ∷ gs) ss = EachSpells gs ss
-EachSpells ((w ∷ ws) ∷ gs) [] = ⊥
-EachSpells ((w ∷ ws) ∷ gs) (s ∷ ss) = Spells (w ∷ ws) s × EachSpells gs ss
+abbrev pub EachSpellsWithin : Limits → List (List Word) → List Said → Type 0
+EachSpellsWithin l [] [] = Unit {0}
+EachSpellsWithin l [] (s ∷ ss) = ⊥
+EachSpellsWithin l ([] ∷ gs) ss = EachSpellsWithin l gs ss
+EachSpellsWithin l ((w ∷ ws) ∷ gs) [] = ⊥
+EachSpellsWithin l ((w ∷ ws) ∷ gs) (s ∷ ss) = SpellsWithin l (w ∷ ws) s × EachSpellsWithin l gs ss
 
 -- groups, each closed by a `;`, and then these groups
 abbrev pub closed_by : List (List Word) → Groups → Groups
@@ -38,11 +40,22 @@ closed_by (g ∷ gs) groups = group g (closed_by gs groups)
 
 -- The text spells these statements: its tokens are cut at each `;`, each group that has words spells one, and nothing
 -- stands after the last `;`.
+abbrev pub TextSpellsWithin : Limits → List ℕ → List Said → Type 0
+TextSpellsWithin l text ss =
+    (tokens : List (Result Lexeme LexFault)) × (gs : List (List Word)) × (length text ≤ l.text_bytes)
+    × (length ss ≤ l.statements)
+    × Lexes text tokens × (groups_of tokens ≡ closed_by gs (last [] None)) × EachSpellsWithin l gs ss
+
+-- ---- the same within the limits that stand
+
+abbrev pub Spells : List Word → Said → Type 0
+Spells ws s = SpellsWithin limits ws s
+
+abbrev pub EachSpells : List (List Word) → List Said → Type 0
+EachSpells gs ss = EachSpellsWithin limits gs ss
+
 abbrev pub TextSpells : List ℕ → List Said → Type 0
-TextSpells text ss =
-    (tokens : List (Result Lexeme LexFault)) × (gs : List (List Word)) × (length text ≤ text_limit)
-    × (length ss ≤ statement_limit)
-    × Lexes text tokens × (groups_of tokens ≡ closed_by gs (last [] None)) × EachSpells gs ss
+TextSpells text ss = TextSpellsWithin limits text ss
 
 -- the refusal of the statement behind these
 abbrev pub fault_behind : List Said → Code → SvfFault

@@ -123,7 +123,7 @@ fn scan(
 }
 
 /// The length of a scan, unless it or a field is refused.
-#[tactic(auto, unfolding(crate::specs::Judging::scan_says))]
+#[tactic(auto, unfolding(crate::specs::Judging::scan_says_within))]
 fn scan_length(len: &[u8], all: &LentFields<'_>) -> Result<usize, Code>
     ensures { result ≡ spec.scan_says len.now (lent all.now) }
 {
@@ -189,7 +189,7 @@ fn bits(alloc: Global, len: usize, field: Option<Digits<'_>>) -> Result<Option<B
 
 // ---- runs
 
-#[tactic(auto, unfolding(crate::specs::Judging::run_test_says))]
+#[tactic(auto, unfolding(crate::specs::Judging::run_test_says_within))]
 fn run_test(test: RunTest<'_>, all: &mut Vec<Statement>) -> Result<(), Refusal>
     ensures adds { Adds result all.old.items all.new.items (spec.run_test_says (view.run_test test.entry)) }
     ensures count { IfOk result (λ _. vec_len all.new ≡ vec_len all.old + 1) }

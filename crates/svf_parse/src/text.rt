@@ -20,17 +20,18 @@ ghost use Rattle.svf_parse.specs.View.{form_behind, said_of, memory_fault};
 use crate::fault::{Refusal, Stop};
 use crate::judging::say;
 use crate::statement::Statement;
+use jt_limits::LIMITS;
 use std::alloc::Global;
 use svf_forms::forms::{LentForm, take_form};
 use svf_lex::{Kind, LexFault, Lexer};
 use svf_words::keywords::command_of;
 use svf_words::{Code, SvfFault};
 
-/// A text has at most 16 MiB.
-const TEXT_LIMIT: usize = 16_777_216;
+/// A text has at most so many bytes: 16 MiB.
+const TEXT_LIMIT: usize = LIMITS.text_bytes;
 
 /// A text has at most so many statements.
-const STATEMENT_LIMIT: usize = 200_000;
+const STATEMENT_LIMIT: usize = LIMITS.statements;
 
 /// What stands at a lexer: the text's end, its fault, an empty statement, or a statement's first word; and the lexer
 /// behind it.
@@ -114,11 +115,11 @@ fn add<'a>(
     words: Lexer<'a>,
     all: &mut Vec<Statement>,
 ) -> Result<Lexer<'a>, Stop>
-    requires room { vec_len all.old ≤ 200000 }
+    requires room { vec_len all.old ≤ spec.statement_limit }
     requires open { IsOpen (groups_of (left words)) }
     ensures takes { Takes (vec_len all.old + 1) word.now (groups_of (left words.entry)) result
         all.old.items all.new.items }
-    ensures count { IfOk result (λ _. (vec_len all.new ≡ vec_len all.old + 1) × (vec_len all.new ≤ 200000)) }
+    ensures count { IfOk result (λ _. (vec_len all.new ≡ vec_len all.old + 1) × (vec_len all.new ≤ spec.statement_limit)) }
 {
     let number = all.len() + 1;
     let mut rest = words;

@@ -107,7 +107,7 @@ len_or_none : (o : Option Fields) → (unwrap_or o no_fields).len ≡ len_of o
 len_or_none None = refl
 len_or_none (Some f) = refl
 
-length-whole : (h t : Option Fields) (b : Fields)
+pub length-whole : (h t : Option Fields) (b : Fields)
     → length (vector_of (unwrap_or h no_fields) b (unwrap_or t no_fields)) ≡ len_of h + b.len + len_of t
 length-whole h t b =
     length-vector (unwrap_or h no_fields) b (unwrap_or t no_fields)

@@ -1,6 +1,8 @@
 -- Why a statement is refused, by the settings at it and the place where the program rests before it.
 use Rattle.std.specs.Prelude.{◌≡◌, ℕ, ◌+◌, ◌*◌, ◌≤◌, Bool, true, false, not, ◌&&◌, ◌==◌, nat_lt, List, [], ◌∷◌, Option}
 use Rattle.std.specs.Prelude.{Some, None, is_some, if◌then◌else◌}
+use Rattle.jt_limits.specs.declared.Limits.{Limits}
+use Rattle.jt_limits.specs.Limits.{limits}
 use Rattle.jt_tap.specs.Controller.{is_stable}
 use Rattle.jt_tap.specs.declared.State.{State}
 use Rattle.tap_paths.specs.Paths.{last_of}
@@ -16,7 +18,6 @@ use Rattle.svf_parse.specs.Judging as said
 use Rattle.scan_vectors.specs.Fields.{Fields}
 use Rattle.svf_programs.specs.Steps.{Step, Trst}
 use Rattle.svf_programs.specs.Legal.{leaves_reset}
-use Rattle.svf_programs.specs.Sound.{vector_limit, cycle_limit}
 use Rattle.svf_settings.specs.LookBack.{Settings, settings, cycle_count, field_or, last_of_command, runs_in, ends_in}
 use Rattle.svf_settings.specs.LookBack.{step}
 use Rattle.svf_settings.specs.LookBack.{place}
@@ -87,11 +88,14 @@ abbrev pub len_of : Option Fields → ℕ
 len_of None = 0
 len_of (Some f) = f.len
 
+abbrev pub is_above : Limits → Settings → Said → Bool
+is_above l st (said.scan Sdr n tdi tdo mask smask) = nat_lt l.vector_bits (len_of st.hdr + n + len_of st.tdr)
+is_above l st (said.scan Sir n tdi tdo mask smask) = nat_lt l.vector_bits (len_of st.hir + n + len_of st.tir)
+is_above l st (said.run_test run count min max end) = nat_lt l.cycles (cycle_count st.period count min)
+is_above l st _ = false
+
 abbrev pub is_too_large : Settings → Said → Bool
-is_too_large st (said.scan Sdr n tdi tdo mask smask) = nat_lt vector_limit (len_of st.hdr + n + len_of st.tdr)
-is_too_large st (said.scan Sir n tdi tdo mask smask) = nat_lt vector_limit (len_of st.hir + n + len_of st.tir)
-is_too_large st (said.run_test run count min max end) = nat_lt cycle_limit (cycle_count st.period count min)
-is_too_large st _ = false
+is_too_large st s = is_above limits st s
 
 -- a statement has this refusal
 abbrev pub Has : Settings → State → Said → Code → Type 0
@@ -106,8 +110,8 @@ Has st place s code.TooLarge = is_too_large st s ≡ true
 Has st place s _ = ⊥
 
 -- The refusal of a statement: the one with the lowest number among those that it has.
-abbrev pub refusal_at : Settings → State → Said → Option Code
-refusal_at st place s =
+abbrev pub refusal_at_within : Limits → Settings → State → Said → Option Code
+refusal_at_within l st place s =
     if misses_tdi st s then Some code.MissingTdi
     else if is_unstable st place s then Some code.BadState
     else if is_broken place s then Some code.BadPath
@@ -115,12 +119,20 @@ refusal_at st place s =
     else if uses_absent st s then Some code.TrstAbsent
     else if is_empty s then Some code.EmptyScan
     else if is_too_slow st s then Some code.TooSlow
-    else if is_too_large st s then Some code.TooLarge
+    else if is_above l st s then Some code.TooLarge
     else None
 
 -- The refusal of a statement behind those before it, the nearest first.
+abbrev pub refusal_within : Limits → List Said → Said → Option Code
+refusal_within l before s = refusal_at_within l (settings before) (place before) s
+
+-- ---- within the limits that stand
+
+abbrev pub refusal_at : Settings → State → Said → Option Code
+refusal_at st place s = refusal_at_within limits st place s
+
 abbrev pub refusal : List Said → Said → Option Code
-refusal before s = refusal_at (settings before) (place before) s
+refusal before s = refusal_within limits before s
 
 -- a statement that is refused has that refusal, and none of its refusals has a lower number
 abbrev pub LeastIsTold : Type 0

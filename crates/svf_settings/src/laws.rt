@@ -2,6 +2,7 @@
 ghost use Rattle.svf_settings.specs.Refusals.{LeastIsTold, AcceptedHasNone};
 ghost use Rattle.svf_settings.specs.Running.{RunningIsLookingBack};
 ghost use Rattle.svf_settings.specs.Laws.{AcceptedIsSound, CyclesAreLeast, RefusesIsFunction, ResolvesIsFunction};
+ghost use Rattle.svf_settings.specs.Laws.{ResolvedIsWithin, WhatLiesWithinResolves};
 
 /// Of the refusals that a statement has, the one with the lowest number is told, and a statement that is not refused
 /// has none.
@@ -29,4 +30,11 @@ pub fn statements_resolve_once()
 /// Every accepted program is legal from RESET with TRST released, and within the limits.
 pub fn accepted_programs_are_sound()
     ensures { AcceptedIsSound }
+{}
+
+/// Which program statements are hangs on the limits only by whether its steps lie within them: they do, and what is
+/// accepted within some limits is accepted within others that its steps lie within.
+pub fn programs_are_limited()
+    ensures within { ResolvedIsWithin }
+    ensures kept { WhatLiesWithinResolves }
 {}

@@ -9,3 +9,4 @@ mod running;
 mod stepping;
 
 pub use resolving::resolve;
+pub use svf_programs::{Action, Program, Step};

@@ -16,16 +16,17 @@ ghost use Rattle.svf_settings.specs.Held.{settings_in};
 
 use crate::running::Running;
 use jt_bits::Bits;
+use jt_limits::LIMITS;
 use jt_tap::State;
 use svf_parse::{Code, Statement, TrstWord, Which};
 use svf_programs::{KeptPart, len_at, tdi_at};
 use tap_paths::last_of;
 
 /// A whole vector has at most so many bits.
-const VECTOR_LIMIT: usize = 65_536;
+const VECTOR_LIMIT: usize = LIMITS.vector_bits;
 
 /// A run has at most so many cycles.
-const CYCLE_LIMIT: u64 = 4_294_967_295;
+const CYCLE_LIMIT: u64 = LIMITS.cycles;
 
 impl Running {
     /// The refusal of a statement here, where the program rests at this place: the one with the lowest number among

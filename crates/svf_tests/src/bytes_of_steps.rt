@@ -116,7 +116,7 @@ fn assert_scan(rt: &impl Abort, place: State, column: Column, vector: Vector, wa
     requires { is_stable place ≡ true }
 {
     let len = vector.len();
-    assert!(rt; len > 0 && len <= 65_536);
+    assert!(rt; len > 0 && len <= 1_048_576);
     let scan = Action::Scan {
         column,
         vector,

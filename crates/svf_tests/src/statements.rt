@@ -248,25 +248,26 @@ fn a_field_has_the_bits_that_are_written(rt: HostRuntime) {
         Some((*b"00A5", 8, 13))
     );
     assert_eq!(rt;
-        written(alloc, b"SDR 65536 TDI (0);"),
-        Some((*b"0000", 4, 65_536))
+        written(alloc, b"SDR 1048576 TDI (0);"),
+        Some((*b"0000", 4, 1_048_576))
     );
     assert_eq!(rt;
-        written(alloc, b"SDR 65536 TDI ();"),
-        Some((*b"0000", 0, 65_536))
+        written(alloc, b"SDR 1048576 TDI ();"),
+        Some((*b"0000", 0, 1_048_576))
     );
 }
 
 #[test]
 fn the_lowest_number_is_told(rt: HostRuntime) {
     let alloc = rt.alloc();
-    assert_count(&rt, alloc, b"SDR 65536 TDI (0);", 1);
+    assert_count(&rt, alloc, b"SDR 65537 TDI (0);", 1);
+    assert_count(&rt, alloc, b"SDR 1048576 TDI (0);", 1);
     assert_refusals(
         &rt,
         alloc,
         &[
-            (b"SDR 65537 TDI (0);", Code::TooLarge),
-            (b"SDR 65537 TDI (1F);", Code::TooLarge),
+            (b"SDR 1048577 TDI (0);", Code::TooLarge),
+            (b"SDR 1048577 TDI (1F);", Code::TooLarge),
             (b"SDR 999999999999999999 TDI (1F) TDO (G);", Code::BadNumber),
             (b"SDR 9999999999999999999 TDI (1F);", Code::TooLarge),
             (b"SDR 4 TDI (1F) TDO (G);", Code::BadNumber),
@@ -276,8 +277,8 @@ fn the_lowest_number_is_told(rt: HostRuntime) {
 
 #[test]
 fn a_length_above_the_limit_and_a_wider_field(rt: HostRuntime) -> Result<(), Fail> {
-    let mut text = b"SDR 65537 TDI (4".to_vec(rt.alloc())?;
-    for _ in 0..16384 {
+    let mut text = b"SDR 1048577 TDI (4".to_vec(rt.alloc())?;
+    for _ in 0..262_144 {
         text.push(b'0')?;
     }
     text.extend_from_slice(b");")?;

@@ -298,18 +298,21 @@ fn sizes(alloc: Global, text: &[u8]) -> Option<(usize, u64)> {
 
 #[test]
 fn long_vectors(rt: HostRuntime) -> Result<(), Fail> {
-    assert_eq!(rt; sizes(rt.alloc(), b"SDR 65536 TDI (0);"), Some((1, 65_536)));
     assert_eq!(rt;
-        sizes(rt.alloc(), b"HDR 1 TDI (0); SDR 65535 TDI (0);"),
-        Some((1, 65_536))
+        sizes(rt.alloc(), b"SDR 1048576 TDI (0);"),
+        Some((1, 1_048_576))
+    );
+    assert_eq!(rt;
+        sizes(rt.alloc(), b"HDR 1 TDI (0); SDR 1048575 TDI (0);"),
+        Some((1, 1_048_576))
     );
     assert_told(
         &rt,
         rt.alloc(),
         &[
-            (b"SDR 65537 TDI (0);", "svf S15 TooLarge statement 1"),
+            (b"SDR 1048577 TDI (0);", "svf S15 TooLarge statement 1"),
             (
-                b"HDR 1 TDI (0); SDR 65536 TDI (0);",
+                b"HDR 1 TDI (0); SDR 1048576 TDI (0);",
                 "svf S15 TooLarge statement 2",
             ),
         ],
@@ -320,10 +323,10 @@ fn long_vectors(rt: HostRuntime) -> Result<(), Fail> {
 #[test]
 fn many_long_vectors(rt: HostRuntime) -> Result<(), Fail> {
     let mut text = Vec::new(rt.alloc());
-    text.extend_from_slice(b"SDR 65536 TDI (0);")?;
+    text.extend_from_slice(b"SDR 1048576 TDI (0);")?;
     for _ in 1..200_000 {
-        text.extend_from_slice(b"SDR 65536;")?;
+        text.extend_from_slice(b"SDR 1048576;")?;
     }
-    assert_eq!(rt; sizes(rt.alloc(), &text), Some((200_000, 13_107_200_000)));
+    assert_eq!(rt; sizes(rt.alloc(), &text), Some((200_000, 209_715_200_000)));
     Ok(())
 }

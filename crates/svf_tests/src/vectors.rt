@@ -52,7 +52,7 @@ fn bits_that_are_not_written(rt: HostRuntime) -> Result<(), HexFault> {
         mask: None,
     };
     let body = Part3 {
-        len: 65_536,
+        len: 1_048_576,
         tdi: Some(&one),
         tdo: Some(&one),
         mask: Some(&five),
@@ -62,9 +62,9 @@ fn bits_that_are_not_written(rt: HostRuntime) -> Result<(), HexFault> {
     assert_bit(&rt, &vector, 0, (true, Some(true)));
     assert_bit(&rt, &vector, 1, (false, None));
     assert_bit(&rt, &vector, 2, (false, Some(false)));
-    assert_bit(&rt, &vector, 65_535, (false, None));
-    assert!(rt; vector.len() == 65_536);
-    assert_eq!(rt; vector.part(65_535), (Part::Data, 65_535));
+    assert_bit(&rt, &vector, 1_048_575, (false, None));
+    assert!(rt; vector.len() == 1_048_576);
+    assert_eq!(rt; vector.part(1_048_575), (Part::Data, 1_048_575));
     Ok(())
 }
 

@@ -2,9 +2,10 @@ use Rattle.std.proofs.Common.{◌≡◌, ◌≤◌, ℕ, map, take}
 use Rattle.std.specs.List.{list_any}
 use Rattle.std.specs.BTreeSet.{contains_by}
 use Rattle.std.specs.Ordering.{nat_cmp}
+use Rattle.jt_limits.specs.Limits.{subscript_limit}
 use Rattle.bsdl_cells.specs.View.{cell_row}
 use Rattle.bsdl_cell_maps.specs.Controls.{controls_as}
 use Rattle.bsdl_cell_maps.proofs.controls.controls_of.Given as goal
 
 abbrev pub invariant-loop-row : goal.invariant-loop-row
-invariant-loop-row l = (n : ℕ) → n ≤ 65535 → contains_by (nat_cmp n) l.controls ≡ list_any (controls_as n) (map cell_row (take l.row-index l.rows))
+invariant-loop-row l = (n : ℕ) → n ≤ subscript_limit → contains_by (nat_cmp n) l.controls ≡ list_any (controls_as n) (map cell_row (take l.row-index l.rows))

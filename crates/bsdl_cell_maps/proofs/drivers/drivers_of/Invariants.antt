@@ -1,5 +1,6 @@
-use Rattle.std.proofs.Common.{◌≡◌, ◌≤◌, ℕ, List, map, take}
+use Rattle.std.proofs.Common.{suc, ◌≡◌, ◌≤◌, ℕ, List, map, take}
 use Rattle.std.specs.List.{list_any}
+use Rattle.jt_limits.specs.Limits.{subscript_limit}
 use Rattle.bsdl_cells.specs.View.{cell_row}
 use Rattle.bsdl_ports.specs.Ports.{Port}
 use Rattle.bsdl_port_names.specs.declared.port_index.PortIndex.{PortIndex}
@@ -9,4 +10,4 @@ use Rattle.bsdl_cell_maps.proofs.drivers.drivers_of.Given as goal
 
 abbrev pub invariant-loop-row : goal.invariant-loop-row
 invariant-loop-row l =
-    (ps : List Port) → AreNamed l.named ps → (s : PortIndex) (n : ℕ) → n ≤ 65536 → is_below (driver_at l.drivers s) n ≡ list_any (drives_below ps s n) (map cell_row (take l.row-index l.rows))
+    (ps : List Port) → AreNamed l.named ps → (s : PortIndex) (n : ℕ) → n ≤ suc subscript_limit → is_below (driver_at l.drivers s) n ≡ list_any (drives_below ps s n) (map cell_row (take l.row-index l.rows))

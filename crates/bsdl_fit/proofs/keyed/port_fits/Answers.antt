@@ -1,6 +1,7 @@
-use Rattle.std.proofs.Common.{◌≤◌, ◌&&◌, ℕ, ap, sym, ◌∙◌, arith}
+use Rattle.std.proofs.Common.{suc, ◌≤◌, ◌&&◌, ℕ, ap, sym, ◌∙◌, arith}
 use Rattle.std.specs.Prelude.{not, option_map}
 use Rattle.std.specs.List.{list_any}
+use Rattle.jt_limits.specs.Limits.{subscript_limit}
 use Rattle.bsdl_cells.specs.View.{cell_row, port_name}
 use Rattle.bsdl_own_instructions.specs.Own.{is_among}
 use Rattle.bsdl_cell_maps.specs.Drivers.{driver_at, drives_below, is_below}
@@ -14,7 +15,7 @@ returns-in-Some-2 c = λ d holds same.
     let a = c.in-Some-2.port_index in
     let f = c.args.row.now.function in
     let name = (port_name c.in-Some.port).name in
-    let few : c.args.number ≤ 65536 = omega (arith, c.requires) in
+    let few : c.args.number ≤ suc subscript_limit = omega (arith, c.requires) in
     let below = is_below (driver_at c.args.known.now.drivers a) c.args.number in
     fits_at d (cell_row c.args.row.now) a (port_name c.in-Some.port) c.port_index_fits.result (sym c.if-has_no_port.ensures) (ap (option_map port_name) c.in-Some.is)
     (sym (ap (option_map port_index) c.in-Some-2.is) ∙ c.in_ok-port_index-in-Some.ensures d.ports holds.keyed)

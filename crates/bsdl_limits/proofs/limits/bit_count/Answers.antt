@@ -1,5 +1,6 @@
-use Rattle.std.proofs.Common.{◌+◌, min, sym, ◌∙◌, arith}
+use Rattle.std.proofs.Common.{suc, ◌+◌, min, sym, ◌∙◌, arith}
 use Rattle.std.proofs.lemmas.List.{at_drop_all}
+use Rattle.jt_limits.specs.Limits.{limits}
 use Rattle.bsdl_ports.specs.View.{ports}
 use Rattle.bsdl_limits.proofs.WidthLaws.{group_counted, is_counted, total}
 use Rattle.bsdl_limits.proofs.limits.bit_count.Goals as goal
@@ -13,4 +14,4 @@ loop-group-preserved c = record {
 pub returns : goal.returns
 returns c =
     is_counted c.loop-group.count (total (ports c.args.groups.now)) c.loop-group.invariant.small
-    (sym (at_drop_all (λ gs. min (c.loop-group.count + total (ports gs)) 8193) c.args.groups.now c.loop-group.group-index c.loop-group-test.false) ∙ c.loop-group.invariant.counted)
+    (sym (at_drop_all (λ gs. min (c.loop-group.count + total (ports gs)) (suc limits.port_bits)) c.args.groups.now c.loop-group.group-index c.loop-group-test.false) ∙ c.loop-group.invariant.counted)

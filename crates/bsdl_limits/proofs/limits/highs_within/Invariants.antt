@@ -2,7 +2,7 @@ use Rattle.std.proofs.Common.{◌≡◌, drop}
 use Rattle.std.specs.Prelude.{nat_le}
 use Rattle.std.specs.List.{list_all}
 use Rattle.bsdl_ports.specs.View.{ports}
-use Rattle.bsdl_limits.specs.Limits.{subscript_limit}
+use Rattle.jt_limits.specs.Limits.{subscript_limit}
 use Rattle.bsdl_limits.specs.PortBits.{highest}
 use Rattle.bsdl_limits.proofs.limits.highs_within.Given as goal
 

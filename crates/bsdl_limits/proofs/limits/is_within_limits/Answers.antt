@@ -2,6 +2,7 @@ use Rattle.std.proofs.Common.{◌≡◌, ◌&&◌, true, false, ℕ, ap, sym, �
 use Rattle.std.specs.Prelude.{nat_le}
 use Rattle.std.specs.List.{list_all}
 use Rattle.std.proofs.lemmas.List.{length-map}
+use Rattle.jt_limits.specs.Limits.{limits}
 use Rattle.bsdl_numbers.specs.View.{value}
 use Rattle.bsdl_ports.specs.View as ports_view
 use Rattle.bsdl_described.specs.View.{description}
@@ -28,6 +29,6 @@ pub returns : goal.returns
 returns c =
     let o = c.args.outline.now in
     let ports : ports_within (description o c.args.described.now) ≡ true = ap (λ gs. ports_fit (ports_view.ports gs)) (sym c.deref.ensures.value) ∙ sym c.if-not-ports_within.ensures in
-    c.users_within.ensures ∙ ap (λ ns. nat_le (length ns) 64 && list_all (λ n. nat_le n 4096) (map value ns)) c.deref-2.ensures.value
-    ∙ ap (λ (n : ℕ). nat_le n 64 && list_all (λ n. nat_le n 4096) (map value c.args.users.now.lengths.items)) (sym (length-map c.args.users.now.lengths.items value))
+    c.users_within.ensures ∙ ap (λ ns. nat_le (length ns) limits.user_registers && list_all (λ n. nat_le n limits.user_bits) (map value ns)) c.deref-2.ensures.value
+    ∙ ap (λ (n : ℕ). nat_le n limits.user_registers && list_all (λ n. nat_le n limits.user_bits) (map value c.args.users.now.lengths.items)) (sym (length-map c.args.users.now.lengths.items value))
     ∙ users_by (map value c.args.users.now.lengths.items) (users_of (description o c.args.described.now).accesses) c.requires.lengths ∙ rest_is _ _ ports ∙ rest_is _ _ (sym (c.if-not-cells_within.ensures o)) ∙ rest_is _ _ (sym (c.if-not-instructions_within.ensures o))

@@ -2,7 +2,7 @@ use Rattle.std.proofs.Common.{◌≡◌, map, drop}
 use Rattle.std.specs.Prelude.{nat_le}
 use Rattle.std.specs.List.{list_all}
 use Rattle.bsdl_cells.specs.View.{cell_row}
-use Rattle.bsdl_limits.specs.Limits.{subscript_limit}
+use Rattle.jt_limits.specs.Limits.{subscript_limit}
 use Rattle.bsdl_limits.proofs.limits.numbers_within.Given as goal
 
 abbrev pub invariant-loop-row : goal.invariant-loop-row

@@ -20,4 +20,4 @@ returns-clause-known c = λ q.
     let key = c.new-key.result in
     let before = contains_by (key_order q) c.args.known.now in
     c.in_ok-is_new.ensures.updates.0 q ∙ ap (λ b. cond b true before) (key_order_is key q)
-    ∙ put key (upper c.args.found.name.text.now) q before c.new-key.ensures
+    ∙ put key (upper c.args.name.text.now) q before c.new-key.ensures

@@ -1,12 +1,14 @@
-use Rattle.std.proofs.Common.{◌∙◌}
-use Rattle.std.specs.Prelude.{string_bytes}
-use Rattle.std.specs.BTreeSet.{contains_text}
-use Rattle.std.proofs.lemmas.Map.Text.{btree_set_updates_text}
+use Rattle.std.proofs.Common.{Bool, true, cond, ap, ◌∙◌}
+use Rattle.std.specs.BTreeSet.{contains_by}
+use Rattle.name_keys.specs.Keys.{key_order}
+use Rattle.name_keys.specs.OrderLaws.{key_order_is}
 use Rattle.bsdl_text.specs.Words.{upper}
 use Rattle.bsdl_own_instructions.proofs.NameSetLaws.{put_name}
 use Rattle.bsdl_own_instructions.proofs.own.add_name.Goals as goal
 
 pub returns : goal.returns
 returns c = λ q.
-    btree_set_updates_text (string_bytes c.in_ok-key.key) c.args.names.now c.insert.new.self _ c.in_ok-insert.ensures.updates q
-    ∙ put_name (string_bytes c.in_ok-key.key) (upper c.args.name.text.now) q (contains_text c.args.names.now q) c.in_ok-key.ensures
+    let key = c.new-key.result in
+    let before = contains_by (key_order q) c.args.names.now in
+    c.in_ok-insert.ensures.updates.0 q ∙ ap (λ (b : Bool). cond b true before) (key_order_is key q)
+    ∙ put_name key (upper c.args.name.text.now) q before c.new-key.ensures

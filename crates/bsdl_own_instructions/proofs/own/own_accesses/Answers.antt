@@ -1,9 +1,12 @@
-use Rattle.std.proofs.Common.{map}
+use Rattle.std.proofs.Common.{ℕ, List, map}
+use Rattle.std.specs.BTreeSet.{contains_by}
+use Rattle.name_keys.specs.Keys.{key_order}
 use Rattle.bsdl_instructions.specs.View as rows_view
 use Rattle.bsdl_own_instructions.proofs.OwnLaws.{own_test}
 use Rattle.bsdl_own_instructions.proofs.own.own_accesses.Goals as goal
 
 pub returns : goal.returns
 returns c =
-    rw (← own_test c.in_ok-with_opcode.with_opcode c.in_ok-private.private (map rows_view.opcode_row c.args.opcodes.now) (map rows_view.private_name c.args.private.now) c.in_ok-with_opcode.ensures c.in_ok-private.ensures)
-    c.own_rows.ensures
+    rw (← own_test (λ (q : List ℕ). contains_by (key_order q) c.in_ok-with_opcode.with_opcode) (λ (q : List ℕ). contains_by (key_order q) c.in_ok-private.private)
+    (map rows_view.opcode_row c.args.opcodes.now) (map rows_view.private_name c.args.private.now) c.in_ok-with_opcode.ensures c.in_ok-private.ensures)
+    c.keep_own_rows.ensures
