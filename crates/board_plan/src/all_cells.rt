@@ -49,8 +49,9 @@ pub fn all_port_nets(
     Ok(tables)
 }
 
-/// Of each port bit of each device no net.
-fn no_nets(alloc: Global, devices: &[PlannedDevice]) -> Result<Vec<Vec<Option<usize>>>, AllocError>
+/// Of each port bit of each device nothing yet: the device nearest the board's TDO first, of each port bit 0 first. Refused
+/// where memory runs out.
+pub fn no_nets(alloc: Global, devices: &[PlannedDevice]) -> Result<Vec<Vec<Option<usize>>>, AllocError>
     ensures { IfOk result (λ v. lists_of v.items ≡ empty_tables (map planned_member devices.now)) }
 {
     let mut tables = Vec::with_capacity(alloc, devices.len())?;

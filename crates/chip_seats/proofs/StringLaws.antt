@@ -176,7 +176,7 @@ first_below place port n m (x ∷ xs) e = by (first_below place port (suc n) m x
     by next true is = let here : n ≡ m = same_Some _ _ (rw is at e) in omega (arith, here)
     by next false is = let later = next (rw is at e) in omega (arith, later)
 
-wired_at : (nets : List Net) (place i : ℕ) (seats : List SeatValue) (t : SeatValue) → AreWired nets place seats → slice_get seats i ≡ Some t
+pub wired_at : (nets : List Net) (place i : ℕ) (seats : List SeatValue) (t : SeatValue) → AreWired nets place seats → slice_get seats i ≡ Some t
     → t.nets ≡ map (cell_net nets (place + i)) t.chip.device.cells
 wired_at nets place i [] t wired at = absurd (none-some t at)
 wired_at nets place zero (x ∷ seats) t wired at =

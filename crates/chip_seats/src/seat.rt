@@ -1,7 +1,7 @@
 //! One device at its place in the chain.
 
 ghost use Rattle.std.specs.Prelude.{◌≡◌, ◌≢◌, ◌<◌, ℕ, Bool, false, List, [], ◌∷◌, length, slice_get, Some, None};
-ghost use Rattle.std.specs.Prelude.{option_map, if◌then◌else◌, IfOk};
+ghost use Rattle.std.specs.Prelude.{option_and_then, option_map, if◌then◌else◌, IfOk};
 ghost use Rattle.jt_tap.specs.Controller.{work};
 ghost use Rattle.device_instructions.specs.Fitting.{IsFormed, has_code};
 ghost use Rattle.device_instructions.specs.Instruction.{instruction, meaning};
@@ -186,6 +186,23 @@ impl Seat {
             ≡ option_map (λ u. (u.stage, u.latch)) (slice_get self.now.chip.users k) }
     {
         self.chip.user(k)
+    }
+
+    /// The data register that the instruction in its latch selects.
+    pub fn selected(&self) -> Selected
+        ensures { result ≡ (meaning self.now.chip.device self.now.chip.latch).selected }
+    {
+        self.chip.selected()
+    }
+
+    /// The net that the port of a cell is on; `None` where the cell has no port, or that is on no net with a name.
+    pub fn cell_net(&self, cell: usize) -> Option<usize>
+        ensures { result ≡ option_and_then (λ net. net) (slice_get self.now.nets cell) }
+    {
+        match self.nets.get(cell) {
+            Some(net) => *net,
+            None => None,
+        }
     }
 
     /// The level of TDO since the last falling edge, `None` while it is not driven.
