@@ -9,7 +9,7 @@ use Rattle.bsdl_device.specs.declared.Cell.{Cell}
 use Rattle.pin_nets.specs.declared.Pin.{Pin}
 use Rattle.pin_nets.specs.Wired.{Net, has_port_bit}
 use Rattle.pin_nets.proofs.Counting.{eq_false, eq_true}
-use Rattle.board_plan.specs.AllCellNets.{AllPortsFit, EntersPins, HaveNets, all_cell_nets, empty_tables, lists_of, table_at}
+use Rattle.board_plan.specs.AllCellNets.{AllPortsFit, EntersPins, HaveNets, all_cell_nets, empty_tables, lists_of, table_at, with_pin}
 use Rattle.board_plan.specs.CellNets.{EntersNet, HasNets, cell_net, net_by}
 use Rattle.board_plan.specs.Planned as planned
 use Rattle.board_plan.specs.View.{member as planned_member}
@@ -17,10 +17,6 @@ use Rattle.board_plan.specs.declared.plan.PlannedDevice.{PlannedDevice}
 use Rattle.board_plan.proofs.CellLaws.{cells_by_table, entered}
 
 -- ---- a pin is entered
-
--- the pin is entered in the table of its device
-abbrev pub with_pin : ℕ → Pin → List (List (Option ℕ)) → List (List (Option ℕ))
-with_pin net pin tables = set tables pin.device (set (table_at tables pin.device) pin.port (Some net))
 
 either : (seen now : Bool) (x y : Option ℕ) → (if now then x else if seen then x else y) ≡ (if seen || now then x else y)
 either true true x y = refl

@@ -1,5 +1,5 @@
 -- The nets that the cells of all devices are on, and tables of the nets of all port bits.
-use Rattle.std.specs.Prelude.{◌≡◌, ◌<◌, ℕ, suc, List, [], ◌∷◌, length, map, replicate, slice_get, slice_index_or}
+use Rattle.std.specs.Prelude.{◌≡◌, ◌<◌, ℕ, suc, List, [], ◌∷◌, length, map, replicate, set, slice_get, slice_index_or}
 use Rattle.std.specs.Prelude.{Option, Some, None}
 use Rattle.std.specs.Global.{Vec}
 use Rattle.pin_nets.specs.declared.Pin.{Pin}
@@ -27,6 +27,10 @@ empty_tables members = map (λ m. replicate (length m.device.ports) None) member
 -- the table of the device at a place
 abbrev pub table_at : List (List (Option ℕ)) → ℕ → List (Option ℕ)
 table_at tables place = slice_index_or tables place []
+
+-- a number is entered in the table of a pin's device, at its port bit
+abbrev pub with_pin : ℕ → Pin → List (List (Option ℕ)) → List (List (Option ℕ))
+with_pin number pin tables = set tables pin.device (set (table_at tables pin.device) pin.port (Some number))
 
 -- the pins of a net are entered at their port bits
 pub record EntersPins (net : ℕ) (pins : List Pin) (old new : List (List (Option ℕ))) : Type 0 where

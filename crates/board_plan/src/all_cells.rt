@@ -1,7 +1,7 @@
 //! The nets that the cells of all devices are on.
 ghost use Rattle.std.specs.Prelude.{◌≡◌, map, IfOk};
 ghost use Rattle.board_plan.specs.AllCellNets.{AllPortsFit, EntersPins, HaveNets, all_cell_nets, empty_tables};
-ghost use Rattle.board_plan.specs.AllCellNets.{lists_of};
+ghost use Rattle.board_plan.specs.AllCellNets.{lists_of, with_pin};
 ghost use Rattle.board_plan.specs.View.{member as planned_member, net as planned_net};
 
 use crate::cells::nets_by;
@@ -51,7 +51,10 @@ pub fn all_port_nets(
 
 /// Of each port bit of each device nothing yet: the device nearest the board's TDO first, of each port bit 0 first. Refused
 /// where memory runs out.
-pub fn no_nets(alloc: Global, devices: &[PlannedDevice]) -> Result<Vec<Vec<Option<usize>>>, AllocError>
+pub fn no_nets(
+    alloc: Global,
+    devices: &[PlannedDevice],
+) -> Result<Vec<Vec<Option<usize>>>, AllocError>
     ensures { IfOk result (λ v. lists_of v.items ≡ empty_tables (map planned_member devices.now)) }
 {
     let mut tables = Vec::with_capacity(alloc, devices.len())?;
@@ -66,11 +69,18 @@ fn enter_pins(tables: &mut [Vec<Option<usize>>], net: usize, pins: &[Pin])
     ensures { EntersPins net pins.now (lists_of tables.old) (lists_of tables.new) }
 {
     for pin in pins {
-        if pin.device < tables.len() {
-            let table = &mut tables[pin.device];
-            if pin.port < table.len() {
-                table[pin.port] = Some(net);
-            }
+        enter_pin(tables, net, *pin);
+    }
+}
+
+/// Enters a number at the port bit that a pin is, if its device has it.
+pub fn enter_pin(tables: &mut [Vec<Option<usize>>], number: usize, pin: Pin)
+    ensures { lists_of tables.new ≡ with_pin number pin (lists_of tables.old) }
+{
+    if pin.device < tables.len() {
+        let table = &mut tables[pin.device];
+        if pin.port < table.len() {
+            table[pin.port] = Some(number);
         }
     }
 }

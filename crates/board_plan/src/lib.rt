@@ -9,7 +9,7 @@ mod numbers;
 mod plan;
 mod words;
 
-pub use all_cells::{all_cell_nets, all_port_nets, no_nets};
+pub use all_cells::{all_cell_nets, all_port_nets, enter_pin, no_nets};
 pub use cells::cell_nets;
 pub use instructions::{is_left_out, left_out, left_out_means_bypass};
 pub use numbers::number_nets;
