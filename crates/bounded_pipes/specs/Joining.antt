@@ -10,10 +10,11 @@ use Rattle.plays.specs.Events.{Event, Put, Serve, Take, Lose, Side, World, has_r
 use Rattle.plays.specs.Streams as stream
 use Rattle.plays.specs.Streams.{StreamState}
 use Rattle.streaming.specs.Histories.{bits_told}
+use Rattle.stream_player.specs.Window.{window}
 
 -- The player, as events see it, with up to 256 answers owed.
 abbrev pub side : Side StreamState
-side = stream.side 256
+side = stream.side window
 
 pub record JoinedState : Type 0 where
   pub world : World StreamState

@@ -5,6 +5,7 @@ use Rattle.plays.specs.declared.ending.Ending.TheVariants.{Lost}
 use Rattle.plays.specs.Events.{World}
 use Rattle.plays.specs.Streams as stream
 use Rattle.plays.specs.Streams.{StreamState}
+use Rattle.stream_player.specs.Window.{window}
 
 -- the play has ended or was lost
 abbrev pub is_over : World StreamState → Bool
@@ -14,4 +15,4 @@ is_over w = w.quit || w.lost
 abbrev pub ended_of : World StreamState → Option Ending
 ended_of w =
     if w.lost then Some (Lost (min (stream.working w.player) (2 ^ 64 - 1)))
-    else if w.quit then stream.ending_of_stream 256 w.player else None
+    else if w.quit then stream.ending_of_stream window w.player else None

@@ -92,7 +92,7 @@ number_entered members pins n p old new has at is = subst (HaveNumbers members p
   each = λ place. (each place).1;
 })
   where
-    abbrev put : List (Option ℕ)
+    put : List (Option ℕ)
     put = set (table_at old p.device) p.port (Some n)
 
     here : (place : ℕ) → place ≡ p.device → (p.port < length (table_at old p.device)) ⊎ (length (table_at old p.device) ≤ p.port)
@@ -104,8 +104,8 @@ number_entered members pins n p old new has at is = subst (HaveNumbers members p
     here place same (inr past) = (
       length-set (table_at old p.device) p.port (Some n) ∙ ap (λ (i : ℕ). length (table_at old i)) (sym same),
       subst (λ (i : ℕ). HasPins i pins (n + 1) put) (sym same)
-      (subst (HasPins p.device pins (n + 1)) (sym (set_past (table_at old p.device) p.port (Some n) past))
-      (pin_passed p.device pins n (table_at old p.device) p (has.each p.device) at (λ e below. omega (arith, below, past)))),
+          (subst (HasPins p.device pins (n + 1)) (sym (set_past (table_at old p.device) p.port (Some n) past))
+          (pin_passed p.device pins n (table_at old p.device) p (has.each p.device) at (λ e below. omega (arith, below, past)))),
     )
 
     by : (place : ℕ) → (place ≡ p.device) ⊎ (place ≡ p.device → ⊥) → (p.device < length old) ⊎ (length old ≤ p.device)
@@ -117,9 +117,11 @@ number_entered members pins n p old new has at is = subst (HaveNumbers members p
     by place (inl same) (inr past) =
         let now : table_at (with_pin n p old) place ≡ table_at old place = ap (λ (ts : List (List (Option ℕ))). table_at ts place) (set_past old p.device put past) in
         let none : table_at old place ≡ [] = get_or_past old place [] (omega (arith, past, same)) in
-        subst (λ (t : List (Option ℕ)). (length t ≡ length (table_at old place)) × HasPins place pins (n + 1) t) (sym now)
-        (refl, pin_passed place pins n (table_at old place) p (has.each place) at
-        (λ e below. omega (arith, below, ap length none)))
+        subst (λ (t : List (Option ℕ)). (length t ≡ length (table_at old place)) × HasPins place pins (n + 1) t) (sym now) (
+          refl,
+          pin_passed place pins n (table_at old place) p (has.each place) at
+              (λ e below. omega (arith, below, ap length none)),
+        )
     by place (inr other) _ =
         let now : table_at (with_pin n p old) place ≡ table_at old place = get_or-set_other old p.device place put [] other in
         subst (λ (t : List (Option ℕ)). (length t ≡ length (table_at old place)) × HasPins place pins (n + 1) t) (sym now)

@@ -7,6 +7,7 @@ ghost use Rattle.plays.specs.Streams.{new_stream};
 ghost use Rattle.scan_vectors.specs.Failures.{found};
 ghost use Rattle.play_links.specs.Loops.{LoopsAllOver, LoopsOver};
 ghost use Rattle.play_links.specs.Turns.{GivesAll, HearsWhole, Loops, ServesTurn, SomeTurn, TakesTurn, fits_stream};
+ghost use Rattle.stream_player.specs.Window.{window};
 
 use crate::serving::{Served, take_bytes};
 use byte_ends::{Counted, End, Sink, Source, put_all};
@@ -21,7 +22,7 @@ const TURN: usize = 1024;
 /// Gives out the first of the bytes that may be sent, so many.
 fn give_out_first(player: &mut Player, n: usize)
     requires few { n ≤ 1024 }
-    requires wait { n ≤ length (stream.bytes_to_send 256 player.old) }
+    requires wait { n ≤ length (stream.bytes_to_send window player.old) }
     ensures { player.new ≡ record player.old { given = player.old.given + n } }
 {
     let mut scratch = [0; TURN];
@@ -33,7 +34,7 @@ fn give_out_first(player: &mut Player, n: usize)
 fn give_all<W: Sink>(writer: &mut Counted<W>, player: &mut Player, piece: &[u8]) -> bool
     requires unlost { writer.old.failures ≡ 0 }
     requires few { length piece.now ≤ 1024 }
-    requires front { IsFront piece.now (stream.bytes_to_send 256 player.old) }
+    requires front { IsFront piece.now (stream.bytes_to_send window player.old) }
     ensures { GivesAll W.puts W.contents writer.old writer.new piece.now player.old player.new result }
 {
     let mut rest = piece;
@@ -108,7 +109,7 @@ fn serve_turn<B: End>(
 /// came.
 fn take_back<P: Source>(end: &mut Counted<P>, player: &mut Player, back: &mut [u8]) -> bool
     requires unlost { end.old.failures ≡ 0 }
-    requires owed { length back.old ≡ stream.owed 256 player.old }
+    requires owed { length back.old ≡ stream.owed window player.old }
     ensures { TakesTurn P.hears P.remaining end.old end.new player.old player.new result }
 {
     if !hear_all(end, back) {
@@ -153,8 +154,8 @@ fn turn<P: End, B: End>(
 ) -> bool
     requires player_end { player_end.old.failures ≡ 0 }
     requires board_end { board_end.old.failures ≡ 0 }
-    requires going { stream.ending_of_stream 256 player.old ≡ None }
-    requires unowed { stream.owed 256 player.old ≡ 0 }
+    requires going { stream.ending_of_stream window player.old ≡ None }
+    requires unowed { stream.owed window player.old ≡ 0 }
     ensures { SomeTurn P.puts P.hears B.puts B.hears P.contents P.remaining B.contents B.remaining player_end.old
         player_end.new board_end.old board_end.new board.old board.new player.old player.new result }
 {

@@ -7,6 +7,7 @@ ghost use Rattle.plays.specs.Streams.{new_stream};
 ghost use Rattle.play_links.specs.Calls.{Goes, IsCall, IsHeard, IsPut};
 ghost use Rattle.scan_vectors.specs.Failures.{found};
 ghost use Rattle.stream_player.specs.Shown.{IsShown};
+ghost use Rattle.stream_player.specs.Window.{window};
 ghost use Rattle.play_links.specs.Links.{PlaysAllOver, PlaysOver};
 
 use byte_ends::{Counted, Sink, Source};
@@ -28,7 +29,7 @@ fn put<W: Sink>(
     requires unlost { writer.old.failures ≡ 0 }
     requires shown { IsShown player.old shown }
     requires some { 0 < length piece.old }
-    requires front { IsFront piece.old (stream.bytes_to_send 256 player.old) }
+    requires front { IsFront piece.old (stream.bytes_to_send window player.old) }
     ensures { IsPut W.puts W.contents writer.old writer.new piece.old player.old player.new result }
 {
     match writer.put(piece) {
@@ -43,7 +44,7 @@ fn put<W: Sink>(
 /// Gives out the bytes that a writer took. Where they are all that were shown, they are not made again.
 fn give_out_taken(player: &mut Player, shown: Shown, taken: &mut [u8])
     requires shown { IsShown player.old shown }
-    requires wait { length taken.old ≤ length (stream.bytes_to_send 256 player.old) }
+    requires wait { length taken.old ≤ length (stream.bytes_to_send window player.old) }
     ensures { player.new ≡ record player.old { given = player.old.given + length taken.old } }
 {
     if taken.len() == shown.count() {
@@ -58,7 +59,7 @@ fn give_out_taken(player: &mut Player, shown: Shown, taken: &mut [u8])
 fn hear<R: Source>(reader: &mut Counted<R>, player: &mut Player, buffer: &mut [u8]) -> bool
     requires unlost { reader.old.failures ≡ 0 }
     requires some { 0 < length buffer.old }
-    requires most { length buffer.old ≤ stream.owed 256 player.old }
+    requires most { length buffer.old ≤ stream.owed window player.old }
     ensures { IsHeard R.hears R.remaining reader.old reader.new player.old player.new result }
 {
     match reader.hear(buffer) {
@@ -78,7 +79,7 @@ fn call<R: Source, W: Sink>(
 ) -> bool
     requires reader { reader.old.failures ≡ 0 }
     requires writer { writer.old.failures ≡ 0 }
-    requires going { stream.ending_of_stream 256 player.old ≡ None }
+    requires going { stream.ending_of_stream window player.old ≡ None }
     ensures { IsCall W.puts R.hears W.contents R.remaining writer.old writer.new reader.old reader.new player.old
         player.new result }
 {

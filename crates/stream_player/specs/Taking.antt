@@ -6,6 +6,7 @@ use Rattle.stream_player.specs.Each.{hear_each}
 use Rattle.stream_player.specs.Kept.{IsKeptOf, Keeping, keeping}
 use Rattle.stream_player.specs.Progress.{IsProgressOf, state_of}
 use Rattle.stream_player.specs.declared.progress.Progress.{Progress}
+use Rattle.stream_player.specs.Window.{window}
 
 -- where a player stands behind so many more answers, the last of them to a wanted bit before this one
 abbrev pub behind_answers : Progress → ℕ → ℕ → Progress
@@ -19,8 +20,8 @@ pub record TakesFirst (program : Program) (p : Progress) (before : Keeping) (byt
   pub stands : IsProgressOf program.steps next
   pub keeps : IsKeptOf (state_of program next) after
   pub at : next.at ≡ p.at
-  pub taken : answers_taken 256 (state_of program p) bytes
-      ≡ take n bytes ++ answers_taken 256 (state_of program next) (drop n bytes)
+  pub taken : answers_taken window (state_of program p) bytes
+      ≡ take n bytes ++ answers_taken window (state_of program next) (drop n bytes)
   pub state : keeping after (state_of program next) ≡ hear_bytes (take n bytes) (keeping before (state_of program p))
   pub each : hear_each bytes (keeping before (state_of program p))
       ≡ hear_each (drop n bytes) (keeping after (state_of program next))

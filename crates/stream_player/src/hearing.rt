@@ -19,6 +19,7 @@ ghost use Rattle.stream_player.specs.Progress.{IsProgressOf, state_of, vector_bi
 ghost use Rattle.stream_player.specs.PlaceInPlay.{differing_bit};
 ghost use Rattle.stream_player.specs.Taking as taking;
 ghost use Rattle.stream_player.specs.Taking.{TakesFirst};
+ghost use Rattle.stream_player.specs.Window.{window};
 
 use crate::kept::Kept;
 use crate::progress::Progress;
@@ -39,9 +40,9 @@ pub(crate) fn hear(
     requires keeps { IsKeptOf (state_of (program_of program.now) p) kept.old }
     ensures stands { IsProgressOf program.now.steps result.0 }
     ensures keeps { IsKeptOf (state_of (program_of program.now) result.0) kept.new }
-    ensures count { result.1 ≡ length (answers_taken 256 (state_of (program_of program.now) p) bytes.now) }
+    ensures count { result.1 ≡ length (answers_taken window (state_of (program_of program.now) p) bytes.now) }
     ensures state { keeping kept.new (state_of (program_of program.now) result.0)
-        ≡ hear_bytes (answers_taken 256 (state_of (program_of program.now) p) bytes.now)
+        ≡ hear_bytes (answers_taken window (state_of (program_of program.now) p) bytes.now)
         (keeping kept.old (state_of (program_of program.now) p)) }
     ensures each { keeping kept.new (state_of (program_of program.now) result.0)
         ≡ hear_each bytes.now (keeping kept.old (state_of (program_of program.now) p)) }

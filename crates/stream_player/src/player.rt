@@ -8,6 +8,7 @@ ghost use Rattle.plays.specs.Streams as stream;
 ghost use Rattle.plays.specs.Streams.{new_stream, hear_bytes, answers_taken, bytes_to_send};
 ghost use Rattle.stream_player.specs.Each.{hear_each};
 ghost use Rattle.stream_player.specs.Shown.{IsShown};
+ghost use Rattle.stream_player.specs.Window.{window};
 
 use crate::hearing::hear;
 use crate::kept::Kept;
@@ -90,8 +91,8 @@ impl Player {
     /// Fills the buffer with the next bytes that may be sent: as many as fit and as the owed answers allow. Answers
     /// how many they are.
     pub fn next_bytes(&mut self, buffer: &mut [u8]) -> usize
-        ensures count { result ≡ min (length buffer.old) (length (bytes_to_send 256 self.old)) }
-        ensures bytes { buffer.new ≡ take result (bytes_to_send 256 self.old) ++ drop result buffer.old }
+        ensures count { result ≡ min (length buffer.old) (length (bytes_to_send window self.old)) }
+        ensures bytes { buffer.new ≡ take result (bytes_to_send window self.old) ++ drop result buffer.old }
         ensures player { self.new ≡ record self.old { given = self.old.given + result } }
     {
         if self.progress.bad.is_some() {
@@ -105,8 +106,8 @@ impl Player {
     /// Fills the buffer as `next_bytes` does, and gives nothing out: a link shows its bytes to a writer first, and
     /// gives out those that were taken.
     pub fn show_bytes(&self, buffer: &mut [u8]) -> usize
-        ensures count { result ≡ min (length buffer.old) (length (bytes_to_send 256 self.now)) }
-        ensures bytes { buffer.new ≡ take result (bytes_to_send 256 self.now) ++ drop result buffer.old }
+        ensures count { result ≡ min (length buffer.old) (length (bytes_to_send window self.now)) }
+        ensures bytes { buffer.new ≡ take result (bytes_to_send window self.now) ++ drop result buffer.old }
     {
         if self.progress.bad.is_none() {
             let (_, count) = fill(&self.program, self.progress, buffer);
@@ -118,9 +119,9 @@ impl Player {
     /// Fills the buffer as `show_bytes` does. Answers how many bytes they are, and where the player stands once they
     /// are given out: a link whose writer took them all hands that to `give_shown`, and they are not made twice.
     pub fn show_ahead(&self, buffer: &mut [u8]) -> Shown
-        ensures count { result.count ≡ min (length buffer.old) (length (bytes_to_send 256 self.now)) }
+        ensures count { result.count ≡ min (length buffer.old) (length (bytes_to_send window self.now)) }
         ensures bytes { buffer.new
-            ≡ take result.count (bytes_to_send 256 self.now) ++ drop result.count buffer.old }
+            ≡ take result.count (bytes_to_send window self.now) ++ drop result.count buffer.old }
         ensures shown { IsShown self.now result }
     {
         if self.progress.bad.is_none() {
@@ -141,7 +142,7 @@ impl Player {
     /// How many answers are owed: those to the `R`s that were given out, without the answers taken; none once the play
     /// has ended.
     pub fn owed(&self) -> usize
-        ensures { result ≡ stream.owed 256 self.now }
+        ensures { result ≡ stream.owed window self.now }
     {
         let is_bad = self.progress.bad.is_some();
         if is_bad {
@@ -153,8 +154,8 @@ impl Player {
     /// Takes answers, the bytes that came back for the `R`s that were given out: as many as are owed, up to and with
     /// the first that is neither `0` nor `1`, which ends the play. Answers how many were taken.
     pub fn answers(&mut self, bytes: &[u8]) -> usize
-        ensures count { result ≡ length (answers_taken 256 self.old bytes.now) }
-        ensures player { self.new ≡ hear_bytes (answers_taken 256 self.old bytes.now) self.old }
+        ensures count { result ≡ length (answers_taken window self.old bytes.now) }
+        ensures player { self.new ≡ hear_bytes (answers_taken window self.old bytes.now) self.old }
     {
         let (progress, count) = hear(&self.program, self.progress, &mut self.kept, bytes);
         self.progress = progress;
@@ -172,7 +173,7 @@ impl Player {
 
     /// How the play ended: set once `Q` was given out, or after a bad answer.
     pub fn ended(&self) -> Option<Ending>
-        ensures { result ≡ stream.ending_of_stream 256 self.now }
+        ensures { result ≡ stream.ending_of_stream window self.now }
     {
         telling::ended(&self.program, self.progress, &self.kept)
     }

@@ -6,6 +6,7 @@ ghost use Rattle.plays.specs.PlayingOn.{ending_of};
 ghost use Rattle.plays.specs.Streams as stream;
 ghost use Rattle.stream_player.specs.Kept.{IsKeptOf, keeping};
 ghost use Rattle.stream_player.specs.Progress.{IsProgressOf, is_out, state_of};
+ghost use Rattle.stream_player.specs.Window.{window};
 
 use crate::kept::Kept;
 use crate::progress::{Phase, Progress, turn_at_work};
@@ -17,7 +18,7 @@ use svf_programs::Program;
 pub(crate) fn ended(program: &Program, p: Progress, kept: &Kept) -> Option<Ending>
     requires stands { IsProgressOf program.now.steps p }
     requires keeps { IsKeptOf (state_of (program_of program.now) p) kept.now }
-    ensures { result ≡ stream.ending_of_stream 256 (keeping kept.now (state_of (program_of program.now) p)) }
+    ensures { result ≡ stream.ending_of_stream window (keeping kept.now (state_of (program_of program.now) p)) }
 {
     if let Some(byte) = p.bad {
         let command = program.step(p.at).number;
