@@ -8,10 +8,7 @@ use Rattle.std.proofs.lemmas.List.Folds.{find_at}
 use Rattle.board_words.proofs.TextLaws.{position_map}
 use denote.Ref.{Bor}
 use Rattle.board_library.specs.Files.{File, text_of}
-use Rattle.bsdl_device.specs.Device.{Device}
-use Rattle.board_library.specs.declared.library.Reading.{Reading}
-use Rattle.board_library.specs.declared.library.Reading.TheVariants as reading
-use Rattle.board_library.specs.View.{file_of, files_of, IsRead, IsReading}
+use Rattle.board_library.specs.View.{file_of, files_of}
 
 abbrev pub Handed : Type 0
 Handed = Bor (List ℕ) × Bor (List ℕ)
@@ -59,9 +56,3 @@ no_file name files e = by_place name files None e
 pub a_file : (name : List ℕ) (files : List Handed) (i : ℕ) (o : Option Handed) → position (bytes_eq name) (map (λ f. f.0.now) files) ≡ Some i → slice_get files i ≡ o
     → text_of (files_of files) name ≡ option_map (λ f. f.1.now) o
 a_file name files i o e at = by_place name files (Some i) e ∙ ap (option_map (λ f. f.1.now)) at
-
-pub as_named : {F : Type 0} (says : List ℕ → Option Device) (refuses : List ℕ → F → Type 0) (files : List File) (name text : List ℕ) → text_of files name ≡ Some text
-    → (r : Reading F) → IsRead says refuses text r → IsReading says refuses files name r
-as_named says refuses files name text e reading.Missing h = absurd h
-as_named says refuses files name text e (reading.Refused f) h = (text, e, h)
-as_named says refuses files name text e (reading.Described d) h = (text, e, h)

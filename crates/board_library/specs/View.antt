@@ -1,6 +1,9 @@
 -- What the code's values stand for.
-use Rattle.std.specs.Prelude.{◌≡◌, ℕ, List, map, slice_get, position, bytes_eq, codes, Option}
+use Rattle.std.specs.Prelude.{◌≡◌, ℕ, Bool, true, false, List, map, slice_get, position, bytes_eq, codes, Option}
 use Rattle.std.specs.Prelude.{Some, None, option_and_then, Result, Ok, Err}
+use Rattle.std.specs.BTreeMap.{BTreeMap, get_by}
+use Rattle.std.specs.Cmp.Lexicographic.{slice_cmp}
+use Rattle.std.specs.Ordering.{nat_cmp}
 use denote.Ref.{Bor}
 use Rattle.toml.specs.Data.{Members}
 use Rattle.bsdl_device.specs.Device as described
@@ -9,7 +12,7 @@ use Rattle.board_library.specs.declared.library.Unread.{Unread}
 use Rattle.board_library.specs.declared.library.Unread.TheVariants as unread
 use Rattle.board_library.specs.declared.library.Reading.{Reading}
 use Rattle.board_library.specs.declared.library.Reading.TheVariants as reading
-use Rattle.board_library.specs.Files.{File, text_of}
+use Rattle.board_library.specs.Files.{File}
 
 -- the files handed in
 abbrev pub file_of : Bor (List ℕ) × Bor (List ℕ) → File
@@ -27,18 +30,35 @@ Describes says refuses text (Ok d) = says text ≡ Some d
 Describes says refuses text (Err (unread.Refused f)) = (says text ≡ None) × refuses text f
 Describes says refuses text (Err unread.Memory) = Unit {0}
 
--- what stands in a text
-abbrev pub IsRead : {F : Type 0} → (List ℕ → Option described.Device) → (List ℕ → F → Type 0) → List ℕ → Reading F
-    → Type 0
-IsRead says refuses text reading.Missing = ⊥
-IsRead says refuses text (reading.Refused f) = (says text ≡ None) × refuses text f
-IsRead says refuses text (reading.Described d) = says text ≡ Some d
-
--- what stands in the file of a name
-abbrev pub IsReading : {F : Type 0} → (List ℕ → Option described.Device) → (List ℕ → F → Type 0) → List File → List ℕ
+-- what stands in a text, and whether one that was read before it is refused
+abbrev pub IsRead : {F : Type 0} → (List ℕ → Option described.Device) → (List ℕ → F → Type 0) → Bool → List ℕ
     → Reading F → Type 0
-IsReading says refuses files name reading.Missing = text_of files name ≡ None
-IsReading says refuses files name r = (text : List ℕ) × (text_of files name ≡ Some text) × IsRead says refuses text r
+IsRead says refuses is_refused text reading.Missing = ⊥
+IsRead says refuses is_refused text (reading.Refused f) = (says text ≡ None) × refuses text f
+IsRead says refuses is_refused text reading.RefusedToo = (says text ≡ None) × (is_refused ≡ true)
+IsRead says refuses is_refused text (reading.Described d) = says text ≡ Some d
+
+-- what stands in a file of a text, if there is such a file
+abbrev pub IsReading : {F : Type 0} → (List ℕ → Option described.Device) → (List ℕ → F → Type 0) → Bool
+    → Option (List ℕ) → Reading F → Type 0
+IsReading says refuses is_refused None r = r ≡ reading.Missing
+IsReading says refuses is_refused (Some text) r = IsRead says refuses is_refused text r
+
+-- ---- the texts that were read, each with what it describes
+
+abbrev pub known_at : BTreeMap (Bor (List ℕ)) (Option described.Device) → List ℕ → Option (Option described.Device)
+known_at known text = get_by (λ k. slice_cmp nat_cmp text k.now) known
+
+abbrev pub AreKnown : (List ℕ → Option described.Device) → BTreeMap (Bor (List ℕ)) (Option described.Device) → Type 0
+AreKnown says known = (text : List ℕ) (found : Option described.Device) → known_at known text ≡ Some found
+    → says text ≡ found
+
+-- what stands in a text of which that is known, where it need not be read for why it is refused
+abbrev pub known_reading : {F : Type 0} → Bool → Option (Option described.Device) → Option (Reading F)
+known_reading is_refused (Some (Some d)) = Some (reading.Described d)
+known_reading true (Some None) = Some reading.RefusedToo
+known_reading false (Some None) = None
+known_reading is_refused None = None
 
 -- the device that is described there
 abbrev pub device_in : {F : Type 0} → Reading F → Option described.Device

@@ -1,5 +1,5 @@
 //! The descriptions that a board file names, each read once.
-ghost use Rattle.std.specs.Prelude.{◌≡◌, ℕ, List, Option, map, option_map, option_copied, IfOk, OnOk, None};
+ghost use Rattle.std.specs.Prelude.{◌≡◌, ℕ, List, Option, map, option_map, option_copied, IfOk, OnOk, None, false};
 ghost use Rattle.std.specs.Prelude.{◌++◌, ◌∷◌, []};
 ghost use Rattle.toml.specs.View.{table_view, items_view};
 ghost use Rattle.board_tables.specs.Fields.{tables_in};
@@ -7,14 +7,15 @@ ghost use Rattle.board_words.specs.View.{texts_of};
 ghost use Rattle.board_library.specs.Files as spec;
 ghost use Rattle.std.specs.List.{filter_map};
 ghost use Rattle.std.specs.Option.{option_or};
-ghost use Rattle.board_library.specs.View.{Describes, IsRead, IsReading, IsFirstRefusal, device_in, missing_with};
-ghost use Rattle.board_library.specs.View.{refused_with, files_of, stands_at};
+ghost use Rattle.board_library.specs.View.{AreKnown, Describes, IsRead, IsReading, IsFirstRefusal, device_in};
+ghost use Rattle.board_library.specs.View.{missing_with, refused_with, files_of, known_at, known_reading, stands_at};
 
 use board_tables::text_at;
 use board_words::Places;
 use bsdl_device::Device;
 use device_instructions::SharedDevice;
 use std::alloc::{AllocError, Global};
+use std::collections::BTreeMap;
 use toml::{Table, Value};
 
 /// Why a text gave no device.
@@ -51,6 +52,8 @@ enum Reading<F> {
     /// No such file was handed in.
     Missing,
     Refused(F),
+    /// It is refused, and so is one before it.
+    RefusedToo,
     Described(SharedDevice),
 }
 
@@ -65,7 +68,7 @@ pub struct Library<'t, F> {
     pub refused: Option<F>,
 }
 
-/// Reads the files of these names, each once. Refuses for want of memory alone.
+/// Reads the files of these names, each text once, whatever its files are called. Refuses for want of memory alone.
 pub fn read_files<'t, 'f, R: Describe>(
     alloc: Global,
     reader: &R,
@@ -91,10 +94,10 @@ pub fn read_files<'t, 'f, R: Describe>(
 }
 
 /// Notes what stands in the file of each of these names, given the places of all files.
-fn read_all<'t, R: Describe>(
+fn read_all<'t, 'f, R: Describe>(
     alloc: Global,
     reader: &R,
-    files: &[(&str, &[u8])],
+    files: &[(&'f str, &'f [u8])],
     places: &Places<&str>,
     names: &[&'t str],
     library: &mut Library<'t, R::Fault>,
@@ -110,8 +113,11 @@ fn read_all<'t, R: Describe>(
         (spec.refused_in R.says (files_of files.now) (texts_of names.now)) whole
         → IsFirstRefusal R.refuses library.new.refused None whole) }
 {
+    let mut known = BTreeMap::new(alloc);
     for name in names {
-        let reading = read_named(alloc, reader, files, places, name)?;
+        let text = text_named(files, places, name);
+        let is_refused = library.refused.is_some();
+        let reading = read_once(alloc, reader, text, &mut known, is_refused)?;
         note(library, name, reading)?;
     }
     Ok(())
@@ -141,27 +147,26 @@ fn note<'t, F: Drop>(
             }
             library.devices.push(None)?;
         }
+        Reading::RefusedToo => library.devices.push(None)?,
     }
     Ok(())
 }
 
-/// What stands in the file of a name, given the places of all names.
-fn read_named<R: Describe>(
-    alloc: Global,
-    reader: &R,
-    files: &[(&str, &[u8])],
+/// The text of the file of a name, given the places of all names.
+fn text_named<'f>(
+    files: &[(&'f str, &'f [u8])],
     places: &Places<&str>,
     name: &str,
-) -> Result<Reading<R::Fault>, AllocError>
+) -> Option<&'f [u8]>
     requires { texts_of places.now ≡ map (λ f. f.0.now) files.now }
-    ensures { IfOk result (IsReading R.says R.refuses (files_of files.now) name.now) }
+    ensures { option_map (λ t. t.now) result ≡ spec.text_of (files_of files.now) name.now }
 {
     let Some(place) = places.place_of(name) else {
-        return Ok(Reading::Missing);
+        return None;
     };
     match files.get(place) {
-        Some((_, text)) => read_file(alloc, reader, text),
-        None => Ok(Reading::Missing),
+        Some((_, text)) => Some(*text),
+        None => None,
     }
 }
 
@@ -179,13 +184,63 @@ fn file_places<'f>(
     Ok(places)
 }
 
+/// What stands in a file of this text, or that there is none, and whether one before it is refused. A text that was read
+/// already, since its file has another name too, is not read again.
+fn read_once<'f, R: Describe>(
+    alloc: Global,
+    reader: &R,
+    text: Option<&'f [u8]>,
+    known: &mut BTreeMap<&'f [u8], Option<SharedDevice>>,
+    is_refused: bool,
+) -> Result<Reading<R::Fault>, AllocError>
+    requires { AreKnown R.says known.old }
+    ensures read { IfOk result (IsReading R.says R.refuses is_refused (option_map (λ t. t.now) text.entry)) }
+    ensures known { OnOk result (AreKnown R.says known.new) }
+{
+    let Some(text) = text else {
+        return Ok(Reading::Missing);
+    };
+    if let Some(reading) = read_before(known, text, is_refused)? {
+        return Ok(reading);
+    }
+    let reading = read_file(alloc, reader, text)?;
+    let device = shared_in(&reading)?;
+    known.insert(text, device)?;
+    Ok(reading)
+}
+
+/// What a text was read as, where it was. Why it is refused is not kept: only the first refusal is told.
+fn read_before<'f, F>(
+    known: &BTreeMap<&'f [u8], Option<SharedDevice>>,
+    text: &'f [u8],
+    is_refused: bool,
+) -> Result<Option<Reading<F>>, AllocError>
+    ensures { IfOk result (λ r. r ≡ known_reading is_refused (known_at known.now text.now)) }
+{
+    match known.get(&text) {
+        Some(Some(device)) => Ok(Some(Reading::Described(device.share()?))),
+        Some(None) if is_refused => Ok(Some(Reading::RefusedToo)),
+        _ => Ok(None),
+    }
+}
+
+/// The device that is described, if there is one.
+fn shared_in<F>(reading: &Reading<F>) -> Result<Option<SharedDevice>, AllocError>
+    ensures { IfOk result (λ d. d ≡ device_in reading.now) }
+{
+    match reading {
+        Reading::Described(device) => Ok(Some(device.share()?)),
+        _ => Ok(None),
+    }
+}
+
 /// What a text describes.
 fn read_file<R: Describe>(
     alloc: Global,
     reader: &R,
     text: &[u8],
 ) -> Result<Reading<R::Fault>, AllocError>
-    ensures { IfOk result (IsRead R.says R.refuses text.now) }
+    ensures { IfOk result (IsRead R.says R.refuses false text.now) }
 {
     match reader.read(alloc, text) {
         Ok(device) => Ok(Reading::Described(SharedDevice::new(alloc, device)?)),

@@ -3,22 +3,17 @@ use Rattle.std.proofs.lemmas.Bool.{ltb-true}
 use Rattle.std.proofs.lemmas.Option.{slice_get_read}
 use Rattle.std.specs.List.{position}
 use Rattle.std.specs.Str.{bytes_eq}
-use Rattle.std.proofs.lemmas.Result.{IfOk-weaker}
-use Rattle.board_library.specs.View.{files_of}
-use Rattle.board_library.proofs.FileLaws.{no_file, a_file, as_named}
-use Rattle.board_library.proofs.library.read_named.Goals as goal
+use Rattle.board_library.proofs.FileLaws.{no_file, a_file}
+use Rattle.board_library.proofs.library.text_named.Goals as goal
 
--- src/library.rt:81:9
 pub returns-in_default : goal.returns-in_default
-returns-in_default g c =
-    no_file c.args.name.now c.args.files.now (ap (position (bytes_eq c.args.name.now)) (sym c.requires) ∙ sym c.place_of.ensures ∙ c.in_default.is)
+returns-in_default c =
+    sym (no_file c.args.name.now c.args.files.now (ap (position (bytes_eq c.args.name.now)) (sym c.requires) ∙ sym c.place_of.ensures ∙ c.in_default.is))
 
--- src/library.rt:70:1
 pub returns-in-Some-get : goal.returns-in-Some-get
-returns-in-Some-get g c =
+returns-in-Some-get c =
     let name = c.args.name.now in
     let place = ap (position (bytes_eq name)) (sym c.requires) ∙ sym c.place_of.ensures ∙ c.in-Some.is in
     let here : slice_get c.args.files.now c.in-Some.place ≡ Some c.in-Some-get.field-0.now =
     slice_get_read c.args.files.now (length c.args.files.now) c.in-Some.place c.in-Some-get.field-0.now refl (ltb-true c.in-Some.place (length c.args.files.now) (sym c.in-Some-get.ensures.lookup.0)) c.in-Some-get.ensures.lookup.1 in
-    let text = a_file name c.args.files.now c.in-Some.place (Some c.in-Some-get.field-0.now) place here in
-    IfOk-weaker c.read_file.result _ _ (as_named g.R.Describe.says g.R.Describe.refuses (files_of c.args.files.now) name _ text) c.read_file.ensures
+    sym (a_file name c.args.files.now c.in-Some.place (Some c.in-Some-get.field-0.now) place here)
