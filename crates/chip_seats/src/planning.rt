@@ -1,9 +1,10 @@
 //! The strings of a plan, each with the net of its source and the pin that takes its core bit.
 
 ghost use Rattle.std.specs.Prelude.{◌≡◌, ◌<◌, ◌+◌, ◌++◌, List, Some, length, map, slice_get, All, IfOk, OnOk};
+ghost use Rattle.pin_nets.specs.declared.Pin.{Pin as ThePin};
 ghost use Rattle.board_plan.specs.AllCellNets.{lists_of};
 ghost use Rattle.board_plan.specs.CellNets.{net_by};
-ghost use Rattle.board_plan.specs.Planned.{all_pins};
+ghost use Rattle.board_plan.specs.Planned.{Member, all_pins};
 ghost use Rattle.board_plan.specs.View.{member as planned_member, net as planned_net};
 ghost use Rattle.chip_seats.specs.Planning.{HaveNumbers, IsReadyForStrings, port_at, string_by, strings_of};
 ghost use Rattle.chip_seats.specs.Strings.{AreStrung, placed_of};
@@ -98,9 +99,17 @@ fn pin_numbers(
 {
     let mut tables = no_nets(alloc, devices)?;
     for number in 0..pins.len() {
-        enter_pin(&mut tables, number, pins[number]);
+        enter_number(&mut tables, number, pins[number]);
     }
     Ok(tables)
+}
+
+/// The number of a pin is entered at its port bit.
+fn enter_number(tables: &mut [Vec<Option<usize>>], number: usize, pin: Pin)
+    ensures { (members : List Member) (pins : List ThePin) → HaveNumbers members pins number (lists_of tables.old)
+        → slice_get pins number ≡ Some pin → HaveNumbers members pins (number + 1) (lists_of tables.new) }
+{
+    enter_pin(tables, number, pin);
 }
 
 /// Adds the strings of the device at a place, given of its port bits their nets and the numbers of their pins.

@@ -31,10 +31,10 @@ loop-place-preserved c =
     let is_table : c.deref-in-loop-place.result.now ≡ table_at (lists_of tables) place =
     c.deref-in-loop-place.ensures.value ∙ vector_at tables place c.index.result.now inside c.index.ensures in
     let is_numbers : c.deref-in-loop-place-2.result.now ≡ table_at (lists_of numbers) place =
-    c.deref-in-loop-place-2.ensures.value ∙ vector_at numbers place c.index-2.result.now inside_numbers c.index-2.ensures in
-    wired_more w (lists_of tables) (lists_of numbers) place (planned_member device) c.loop-place.all.items c.add_strings.new.all.items c.deref-in-loop-place.result.now c.deref-in-loop-place-2.result.now c.cells.result.now c.deref-in-loop-place-3.result.now
+    c.deref-in-loop-place-2.ensures.value ∙ vector_at numbers place c.index-in-loop-place.result.now inside_numbers c.index-in-loop-place.ensures in
+    wired_more w (lists_of tables) (lists_of numbers) place (planned_member device) c.loop-place.all.items c.add_strings.new.all.items c.deref-in-loop-place.result.now c.deref-in-loop-place-2.result.now c.cells-cells.result.now c.deref-in-loop-place-3.result.now
     c.requires c.in_ok-tables.ensures numbered (planned_at c.args.devices.now place device c.loop-place-test.true c.index-devices-place.is) c.loop-place.invariant is_table is_numbers
-    (c.cells.ensures ∙ ap (λ d. d.cells) c.get.ensures) c.deref-in-loop-place-3.ensures.value c.in_ok-add_strings.ensures
+    (c.cells-cells.ensures ∙ ap (λ d. d.cells) c.get.ensures) c.deref-in-loop-place-3.ensures.value c.in_ok-add_strings.ensures
 
 pub returns : goal.returns
 returns c =
