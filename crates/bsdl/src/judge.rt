@@ -38,11 +38,11 @@ pub fn judge(
 }
 
 /// The same, or else the ports by the keys of their names, which serve the device too.
-pub(crate) fn judge_ports<'t>(
+pub(crate) fn judge_ports<'o>(
     alloc: Global,
-    outline: &Outline<'t>,
-    described: &Description<'_>,
-) -> Result<KeyedPorts<'t>, BsdlFault>
+    outline: &Outline<'o>,
+    described: &Description<'o>,
+) -> Result<KeyedPorts<'o>, BsdlFault>
     ensures judges { Judges result (spec.fault (description outline.now described.now)) }
     ensures keyed { IfOk result (λ k. AreKeyed k (description outline.now described.now).ports) }
 {
@@ -118,11 +118,11 @@ fn judge_ends(outline: &Outline<'_>, described: &Description<'_>) -> Result<(), 
 }
 
 /// B8: every cell fits. Answers the ports by the keys of their names, which tell it.
-fn judge_cells<'t>(
+fn judge_cells<'o>(
     alloc: Global,
-    outline: &Outline<'t>,
-    described: &Description<'_>,
-) -> Result<KeyedPorts<'t>, BsdlFault>
+    outline: &Outline<'o>,
+    described: &Description<'o>,
+) -> Result<KeyedPorts<'o>, BsdlFault>
     ensures judges { Judges result (option_map bad_cell (unfit_cell_of (description outline.now described.now))) }
     ensures keyed { IfOk result (λ k. AreKeyed k (description outline.now described.now).ports) }
 {

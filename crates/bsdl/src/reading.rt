@@ -30,10 +30,10 @@ fn read_entity(alloc: Global, entity: &Outline<'_>) -> Result<Device, BsdlFault>
 }
 
 /// The device that a description says, once it is judged.
-fn read_description(
+fn read_description<'o>(
     alloc: Global,
-    entity: &Outline<'_>,
-    described: &Description<'_>,
+    entity: &Outline<'o>,
+    described: &Description<'o>,
 ) -> Result<Device, BsdlFault>
     ensures { Tells result (device_or_refusal (fault (description entity.now described.now))
         (description entity.now described.now)) }

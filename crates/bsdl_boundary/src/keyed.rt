@@ -22,11 +22,11 @@ use std::collections::BTreeMap;
 
 /// The cells by their numbers; each number below the length has one row. Refuses for want of memory, and where a number
 /// is 2^64 or more, which nothing that is judged has.
-pub fn cells_by_key(
+pub fn cells_by_key<'a>(
     alloc: Global,
-    keyed: &KeyedPorts<'_>,
+    keyed: &KeyedPorts<'a>,
     bits: &[usize],
-    rows: &[CellRow<'_>],
+    rows: &[CellRow<'a>],
     len: usize,
 ) -> Result<Vec<Cell>, AllocError>
     requires once { (k : ℕ) → k < len
@@ -39,11 +39,11 @@ pub fn cells_by_key(
 }
 
 /// The last cell of each number.
-fn table_of(
+fn table_of<'a>(
     alloc: Global,
-    keyed: &KeyedPorts<'_>,
+    keyed: &KeyedPorts<'a>,
     bits: &[usize],
-    rows: &[CellRow<'_>],
+    rows: &[CellRow<'a>],
 ) -> Result<BTreeMap<usize, Cell>, AllocError>
     ensures { IfOk result (λ t. (ps : List port_list.Port) → AreKeyed keyed.now ps → bits.now ≡ firsts 0 ps → (n : ℕ)
         → get nat_cmp t n ≡ last_of (map (spec.cell ps)
@@ -51,39 +51,37 @@ fn table_of(
 {
     let mut table = BTreeMap::new(alloc);
     for row in rows {
-        add_row(alloc, &mut table, keyed, bits, row)?;
+        add_row(&mut table, keyed, bits, row)?;
     }
     Ok(table)
 }
 
-fn add_row(
-    alloc: Global,
+fn add_row<'a>(
     table: &mut BTreeMap<usize, Cell>,
-    keyed: &KeyedPorts<'_>,
+    keyed: &KeyedPorts<'a>,
     bits: &[usize],
-    row: &CellRow<'_>,
+    row: &CellRow<'a>,
 ) -> Result<(), AllocError>
     ensures { OnOk result ((ps : List port_list.Port) → AreKeyed keyed.now ps → bits.now ≡ firsts 0 ps → (n : ℕ)
         → get nat_cmp table.new n ≡ (if value row.now.number == n
         then Some (spec.cell ps (cells_view.cell_row row.now)) else get nat_cmp table.old n)) }
 {
     let number = size_of(row.number)?;
-    let cell = cell_of(alloc, keyed, bits, row)?;
+    let cell = cell_of(keyed, bits, row)?;
     table.insert(number, cell)?;
     Ok(())
 }
 
 /// The cell of a row; its control counts where it drives.
-fn cell_of(
-    alloc: Global,
-    keyed: &KeyedPorts<'_>,
+fn cell_of<'a>(
+    keyed: &KeyedPorts<'a>,
     bits: &[usize],
-    row: &CellRow<'_>,
+    row: &CellRow<'a>,
 ) -> Result<Cell, AllocError>
     ensures { IfOk result (λ c. (ps : List port_list.Port) → AreKeyed keyed.now ps → bits.now ≡ firsts 0 ps → c
         ≡ spec.cell ps (cells_view.cell_row row.now)) }
 {
-    let port = port_of(alloc, keyed, bits, row.port)?;
+    let port = port_of(keyed, bits, row.port)?;
     let control = control_of(row.function, row.control)?;
     let function = row.function;
     Ok(Cell {
@@ -93,32 +91,30 @@ fn cell_of(
     })
 }
 
-fn port_of(
-    alloc: Global,
-    keyed: &KeyedPorts<'_>,
+fn port_of<'a>(
+    keyed: &KeyedPorts<'a>,
     bits: &[usize],
-    port: Option<PortName<'_>>,
+    port: Option<PortName<'a>>,
 ) -> Result<Option<usize>, AllocError>
     ensures { IfOk result (λ o. (ps : List port_list.Port) → AreKeyed keyed.now ps → bits.now ≡ firsts 0 ps → o
         ≡ option_and_then (bit_number 0 ps) (option_map cells_view.port_name port.entry)) }
 {
     match port {
-        Some(port) => bit_of_port(alloc, keyed, bits, port),
+        Some(port) => bit_of_port(keyed, bits, port),
         None => Ok(None),
     }
 }
 
 /// The number of the port bit that a row names, where it is declared.
-fn bit_of_port(
-    alloc: Global,
-    keyed: &KeyedPorts<'_>,
+fn bit_of_port<'a>(
+    keyed: &KeyedPorts<'a>,
     bits: &[usize],
-    port: PortName<'_>,
+    port: PortName<'a>,
 ) -> Result<Option<usize>, AllocError>
     ensures { IfOk result (λ o. (ps : List port_list.Port) → AreKeyed keyed.now ps → bits.now ≡ firsts 0 ps → o
         ≡ bit_number 0 ps (cells_view.port_name port.entry)) }
 {
-    match port_by_key(alloc, keyed, port.name)? {
+    match port_by_key(keyed, port.name) {
         Some(found) => bit_in(found, bits, port.index),
         None => Ok(None),
     }

@@ -39,11 +39,11 @@ pub fn device_of(
 }
 
 /// The same, where the ports are known by the keys of their names.
-pub fn device_by_key(
+pub fn device_by_key<'o>(
     alloc: Global,
-    outline: &Outline<'_>,
-    described: &Description<'_>,
-    keyed: &KeyedPorts<'_>,
+    outline: &Outline<'o>,
+    described: &Description<'o>,
+    keyed: &KeyedPorts<'o>,
 ) -> Result<Device, AllocError>
     requires keyed { AreKeyed keyed.now (description outline.now described.now).ports }
     requires once { (k : ℕ) → k < (description outline.now described.now).boundary_length
@@ -111,11 +111,11 @@ fn boundary_of(
 }
 
 /// The boundary register, where the ports are known by the keys of their names.
-fn boundary_by_key(
+fn boundary_by_key<'o>(
     alloc: Global,
-    outline: &Outline<'_>,
-    described: &Description<'_>,
-    keyed: &KeyedPorts<'_>,
+    outline: &Outline<'o>,
+    described: &Description<'o>,
+    keyed: &KeyedPorts<'o>,
 ) -> Result<Vec<Cell>, AllocError>
     requires keyed { AreKeyed keyed.now (description outline.now described.now).ports }
     requires once { (k : ℕ) → k < (description outline.now described.now).boundary_length

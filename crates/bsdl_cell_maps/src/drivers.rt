@@ -73,7 +73,7 @@ fn add_row<'a>(
 /// The same, where the ports are known by the keys of their names.
 pub fn drivers_by_key<'a>(
     alloc: Global,
-    keyed: &KeyedPorts<'_>,
+    keyed: &KeyedPorts<'a>,
     rows: &[CellRow<'a>],
 ) -> Result<Drivers<'a>, AllocError>
     ensures { IfOk result (λ d. (ps : List port_list.Port) → AreKeyed keyed.now ps
@@ -84,15 +84,14 @@ pub fn drivers_by_key<'a>(
         lowest: BTreeMap::new(alloc),
     };
     for row in rows {
-        add_row_by_key(alloc, &mut drivers, keyed, row)?;
+        add_row_by_key(&mut drivers, keyed, row)?;
     }
     Ok(drivers)
 }
 
 fn add_row_by_key<'a>(
-    alloc: Global,
     drivers: &mut Drivers<'a>,
-    keyed: &KeyedPorts<'_>,
+    keyed: &KeyedPorts<'a>,
     row: &CellRow<'a>,
 ) -> Result<(), AllocError>
     ensures { OnOk result ((ps : List port_list.Port) → AreKeyed keyed.now ps
@@ -104,7 +103,7 @@ fn add_row_by_key<'a>(
         return Ok(());
     }
     match row.port {
-        Some(port) => match port_index_by_key(alloc, keyed, port)? {
+        Some(port) => match port_index_by_key(keyed, port) {
             Some(port_index) => {
                 add_driver(drivers, port_index, row.number.up_to(ABOVE_SUBSCRIPTS))?;
                 Ok(())

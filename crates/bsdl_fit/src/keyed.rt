@@ -27,19 +27,19 @@ use std::collections::BTreeSet;
 
 /// The ports by the keys of their names, the lowest drivers, the controls and the ports of the TAP.
 #[derive(Debug, Drop)]
-pub struct KnownByKey<'t, 'o> {
-    pub keyed: KeyedPorts<'t>,
+pub struct KnownByKey<'o> {
+    pub keyed: KeyedPorts<'o>,
     pub drivers: Drivers<'o>,
     pub controls: BTreeSet<usize>,
     pub taps: Taps<'o>,
 }
 
 /// What is known of a description. Refuses for want of memory alone.
-pub fn known_by_key<'t, 'o>(
+pub fn known_by_key<'o>(
     alloc: Global,
-    outline: &Outline<'t>,
+    outline: &Outline<'o>,
     described: &Description<'o>,
-) -> Result<KnownByKey<'t, 'o>, AllocError>
+) -> Result<KnownByKey<'o>, AllocError>
     ensures { IfOk result (λ k. HoldsByKey k (description outline.now described.now)) }
 {
     let keyed = keyed_ports_of(alloc, &outline.groups)?;
@@ -57,7 +57,7 @@ pub fn known_by_key<'t, 'o>(
 /// function or control does not fit. Refuses for want of memory alone.
 pub fn unfit_cell_by_key<'a>(
     alloc: Global,
-    known: &KnownByKey<'_, 'a>,
+    known: &KnownByKey<'a>,
     described: &Description<'a>,
 ) -> Result<Option<usize>, AllocError>
     ensures { IfOk result (λ o. (f : declared_outline.Outline) → HoldsByKey known.now (description f described.now)
@@ -72,7 +72,7 @@ pub fn unfit_cell_by_key<'a>(
 /// The cells that rows list.
 fn table_of<'a>(
     alloc: Global,
-    known: &KnownByKey<'_, 'a>,
+    known: &KnownByKey<'a>,
     rows: &[CellRow<'a>],
 ) -> Result<Table, AllocError>
     ensures { IfOk result (λ t. (d : described.Description) → HoldsByKey known.now d → (n : ℕ) → n ≤ subscript_limit
@@ -80,15 +80,14 @@ fn table_of<'a>(
 {
     let mut table = Table::new(alloc);
     for row in rows {
-        add_row(alloc, &mut table, known, row)?;
+        add_row(&mut table, known, row)?;
     }
     Ok(table)
 }
 
 fn add_row<'a>(
-    alloc: Global,
     table: &mut Table,
-    known: &KnownByKey<'_, 'a>,
+    known: &KnownByKey<'a>,
     row: &CellRow<'a>,
 ) -> Result<(), AllocError>
     ensures { OnOk result ((d : described.Description) → HoldsByKey known.now d → (n : ℕ) → n ≤ subscript_limit
@@ -100,50 +99,40 @@ fn add_row<'a>(
     if number > SUBSCRIPT_LIMIT {
         return Ok(());
     }
-    let fits = row_fits(alloc, known, row, number)?;
+    let fits = row_fits(known, row, number);
     table.put(number, fits)?;
     Ok(())
 }
 
 /// Whether the row of a cell of this number fits.
-fn row_fits<'a>(
-    alloc: Global,
-    known: &KnownByKey<'_, 'a>,
-    row: &CellRow<'a>,
-    number: usize,
-) -> Result<bool, AllocError>
+fn row_fits<'a>(known: &KnownByKey<'a>, row: &CellRow<'a>, number: usize) -> bool
     requires { number ≤ subscript_limit }
-    ensures { IfOk result (λ b. (d : described.Description) → HoldsByKey known.now d → number ≡ value row.now.number
-        → b ≡ spec.row_fits d (cell_row row.now)) }
+    ensures { (d : described.Description) → HoldsByKey known.now d → number ≡ value row.now.number
+        → result ≡ spec.row_fits d (cell_row row.now) }
 {
-    let port = port_fits(alloc, known, row, number)?;
+    let port = port_fits(known, row, number);
     let control = control_fits(&known.controls, row.function, row.control, number);
-    Ok(port && control)
+    port && control
 }
 
 /// Whether the port of a row fits its function: `*`, or a port bit that is no TAP's and that no lower cell drives.
-fn port_fits<'a>(
-    alloc: Global,
-    known: &KnownByKey<'_, 'a>,
-    row: &CellRow<'a>,
-    number: usize,
-) -> Result<bool, AllocError>
+fn port_fits<'a>(known: &KnownByKey<'a>, row: &CellRow<'a>, number: usize) -> bool
     requires { number ≤ subscript_limit }
-    ensures { IfOk result (λ b. (d : described.Description) → HoldsByKey known.now d → number ≡ value row.now.number
-        → b ≡ spec.port_fits d (cell_row row.now)) }
+    ensures { (d : described.Description) → HoldsByKey known.now d → number ≡ value row.now.number
+        → result ≡ spec.port_fits d (cell_row row.now) }
 {
     if has_no_port(row.function) {
-        return Ok(row.port.is_none());
+        return row.port.is_none();
     }
     match row.port {
-        Some(port) => match port_index_by_key(alloc, &known.keyed, port)? {
+        Some(port) => match port_index_by_key(&known.keyed, port) {
             Some(port_index) => {
                 let (taps, drivers) = (&known.taps, &known.drivers);
                 let function = row.function;
-                Ok(port_index_fits(taps, drivers, function, port, port_index, number))
+                port_index_fits(taps, drivers, function, port, port_index, number)
             }
-            None => Ok(false),
+            None => false,
         },
-        None => Ok(false),
+        None => false,
     }
 }

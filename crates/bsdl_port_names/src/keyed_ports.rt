@@ -17,7 +17,7 @@ use crate::port_index::PortIndex;
 use bsdl_cells::PortName;
 use bsdl_entity::ports::{Group, Range};
 use bsdl_text::names::Word;
-use name_keys::OwnedNameKey;
+use name_keys::NameKey;
 use std::alloc::{AllocError, Global};
 use std::collections::BTreeMap;
 
@@ -25,7 +25,7 @@ use std::collections::BTreeMap;
 /// names that begin alike are told apart at once.
 #[derive(Debug, Drop)]
 pub struct KeyedPorts<'a> {
-    pub by_key: BTreeMap<OwnedNameKey, NumberedPort<'a>>,
+    pub by_key: BTreeMap<NameKey<'a>, NumberedPort<'a>>,
     next: usize,
 }
 
@@ -38,31 +38,26 @@ pub fn keyed_ports_of<'a>(alloc: Global, groups: &[Group<'a>]) -> Result<KeyedPo
         next: 0,
     };
     for group in groups {
-        add_group(alloc, &mut keyed, group)?;
+        add_group(&mut keyed, group)?;
     }
     Ok(keyed)
 }
 
-fn add_group<'a>(
-    alloc: Global,
-    keyed: &mut KeyedPorts<'a>,
-    group: &Group<'a>,
-) -> Result<(), AllocError>
+fn add_group<'a>(keyed: &mut KeyedPorts<'a>, group: &Group<'a>) -> Result<(), AllocError>
     ensures next { OnOk result (keyed.new.next ≡ keyed.old.next + length (ports_view.group group.now)) }
     ensures found { OnOk result ((q : List ℕ) → port_keyed keyed.new q
         ≡ option_or (port_keyed keyed.old q) (spec.find_port keyed.old.next (ports_view.group group.now) q)) }
 {
     let range = trimmed(group.range);
     for name in &group.names {
-        add_name(alloc, keyed, *name, range)?;
+        add_name(keyed, *name, range)?;
     }
     Ok(())
 }
 
 fn add_name<'a>(
-    alloc: Global,
     keyed: &mut KeyedPorts<'a>,
-    name: Word<'_>,
+    name: Word<'a>,
     range: Option<Range<'a>>,
 ) -> Result<(), AllocError>
     ensures next { OnOk result (keyed.new.next ≡ keyed.old.next + 1) }
@@ -70,7 +65,7 @@ fn add_name<'a>(
         ≡ option_or (port_keyed keyed.old q) (spec.at_name (upper name.entry.text.now)
         (keyed.old.next, option_map ports_view.range range.entry) q)) }
 {
-    let key = OwnedNameKey::new(name.upper_name(alloc)?);
+    let key = NameKey::new(name.text);
     let number = keyed.next;
     // Each port has bytes of its own in the text, so that there are fewer than 2^64: this refuses none.
     keyed.next = number.checked_add(1).ok_or(AllocError)?;
@@ -79,40 +74,31 @@ fn add_name<'a>(
 
 /// Puts a port at a key; where one stands already, that one stays.
 fn put_first<'a>(
-    by_key: &mut BTreeMap<OwnedNameKey, NumberedPort<'a>>,
-    key: OwnedNameKey,
+    by_key: &mut BTreeMap<NameKey<'a>, NumberedPort<'a>>,
+    key: NameKey<'a>,
     port: NumberedPort<'a>,
 ) -> Result<(), AllocError>
-    ensures { OnOk result ((q : List ℕ) → get key_order by_key.new q ≡ (if bytes_eq q key
-        then Some (unwrap_or (get key_order by_key.old key) port.entry) else get key_order by_key.old q)) }
+    ensures { OnOk result ((q : List ℕ) → get key_order by_key.new q ≡ (if bytes_eq q key.entry
+        then Some (unwrap_or (get key_order by_key.old key.entry) port.entry) else get key_order by_key.old q)) }
 {
     by_key.entry(key)?.or_insert(port);
     Ok(())
 }
 
-/// The port of a name, in any case, where there is one. Refuses for want of memory alone.
-pub fn port_by_key<'a>(
-    alloc: Global,
-    keyed: &KeyedPorts<'a>,
-    name: Word<'_>,
-) -> Result<Option<NumberedPort<'a>>, AllocError>
-    ensures { IfOk result (λ o. option_map port_view o ≡ port_keyed keyed.now (upper name.entry.text.now)) }
+/// The port of a name, in any case, where there is one.
+pub fn port_by_key<'a>(keyed: &KeyedPorts<'a>, name: Word<'a>) -> Option<NumberedPort<'a>>
+    ensures { option_map port_view result ≡ port_keyed keyed.now (upper name.entry.text.now) }
 {
-    let key = OwnedNameKey::new(name.upper_name(alloc)?);
-    Ok(keyed.by_key.get(&key).copied())
+    keyed.by_key.get(&NameKey::new(name.text)).copied()
 }
 
-/// The port bit that a row of the boundary register names, where it is declared. Refuses for want of memory alone.
-pub fn port_index_by_key<'a>(
-    alloc: Global,
-    keyed: &KeyedPorts<'_>,
-    port: PortName<'a>,
-) -> Result<Option<PortIndex<'a>>, AllocError>
-    ensures { IfOk result (λ o. (ps : List port_list.Port) → AreKeyed keyed.now ps → option_map port_index o
-        ≡ spec.port_index_of ps (port_name port.entry)) }
+/// The port bit that a row of the boundary register names, where it is declared.
+pub fn port_index_by_key<'a>(keyed: &KeyedPorts<'a>, port: PortName<'a>) -> Option<PortIndex<'a>>
+    ensures { (ps : List port_list.Port) → AreKeyed keyed.now ps → option_map port_index result
+        ≡ spec.port_index_of ps (port_name port.entry) }
 {
-    match port_by_key(alloc, keyed, port.name)? {
-        Some(found) => Ok(port_index_at(found, port.index)),
-        None => Ok(None),
+    match port_by_key(keyed, port.name) {
+        Some(found) => port_index_at(found, port.index),
+        None => None,
     }
 }

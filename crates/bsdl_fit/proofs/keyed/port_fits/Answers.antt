@@ -10,19 +10,19 @@ use Rattle.bsdl_port_names.specs.View.{port_index}
 use Rattle.bsdl_fit.proofs.PortIndexLaws.{fits_at, fits_nowhere}
 use Rattle.bsdl_fit.proofs.keyed.port_fits.Goals as goal
 
-pub returns-in-Some-2 : goal.returns-in-Some-2
-returns-in-Some-2 c = λ d holds same.
-    let a = c.in-Some-2.port_index in
+pub returns-in-Some-port_index_by_key : goal.returns-in-Some-port_index_by_key
+returns-in-Some-port_index_by_key c = λ d holds same.
+    let a = c.in-Some-port_index_by_key.port_index in
     let f = c.args.row.now.function in
     let name = (port_name c.in-Some.port).name in
     let few : c.args.number ≤ suc subscript_limit = omega (arith, c.requires) in
     let below = is_below (driver_at c.args.known.now.drivers a) c.args.number in
     fits_at d (cell_row c.args.row.now) a (port_name c.in-Some.port) c.port_index_fits.result (sym c.if-has_no_port.ensures) (ap (option_map port_name) c.in-Some.is)
-    (sym (ap (option_map port_index) c.in-Some-2.is) ∙ c.in_ok-port_index-in-Some.ensures d.ports holds.keyed)
+    (sym (ap (option_map port_index) c.in-Some-port_index_by_key.is) ∙ c.port_index_by_key.ensures d.ports holds.keyed)
     (c.port_index_fits.ensures ∙ ap (λ ts. not (is_among ts name) && not (drives f && below)) holds.taps_are
     ∙ ap (λ b. not (is_among d.taps name) && not (drives f && b)) (holds.drivers a c.args.number few ∙ ap (λ (n : ℕ). list_any (drives_below d.ports a n) d.cells) same))
 
-pub returns-in-None-2 : goal.returns-in-None-2
-returns-in-None-2 c = λ d holds same.
+pub returns-in-None-port_index_by_key : goal.returns-in-None-port_index_by_key
+returns-in-None-port_index_by_key c = λ d holds same.
     fits_nowhere d (cell_row c.args.row.now) (port_name c.in-Some.port) (sym c.if-has_no_port.ensures) (ap (option_map port_name) c.in-Some.is)
-    (sym (ap (option_map port_index) c.in-None-2.is) ∙ c.in_ok-port_index-in-Some.ensures d.ports holds.keyed)
+    (sym (ap (option_map port_index) c.in-None-port_index_by_key.is) ∙ c.port_index_by_key.ensures d.ports holds.keyed)
