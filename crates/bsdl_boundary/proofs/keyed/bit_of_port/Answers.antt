@@ -9,15 +9,15 @@ use Rattle.bsdl_boundary.specs.Bits.{firsts}
 use Rattle.bsdl_boundary.proofs.NumberLaws.{bit_by}
 use Rattle.bsdl_boundary.proofs.keyed.bit_of_port.Goals as goal
 
-pub returns-in-Some-port_by_key : goal.returns-in-Some-port_by_key
-returns-in-Some-port_by_key c = IfOk-weaker c.bit_in.result _ _ (λ o found ps at bits_are.
+pub returns-in-Some : goal.returns-in-Some
+returns-in-Some c = IfOk-weaker c.bit_in.result _ _ (λ o found ps at bits_are.
     let name = port_name c.args.port in
     let by = λ (bits : List ℕ) (x : ℕ × Option Range). option_map (λ k. unwrap_or (slice_get bits x.0) 0 + k) (bit_at x.1 name.index) in
-    found ∙ ap (λ (bits : List ℕ). by bits (numbered_port c.in-Some-port_by_key.found)) bits_are
-    ∙ ap (option_and_then (by (firsts 0 ps))) (sym (ap (option_map numbered_port) c.in-Some-port_by_key.is) ∙ c.port_by_key.ensures ∙ at name.name) ∙ sym (bit_by ps name)) c.bit_in.ensures
+    found ∙ ap (λ (bits : List ℕ). by bits (numbered_port c.in-Some.found)) bits_are
+    ∙ ap (option_and_then (by (firsts 0 ps))) (sym (ap (option_map numbered_port) c.in-Some.is) ∙ c.port_by_key.ensures ∙ at name.name) ∙ sym (bit_by ps name)) c.bit_in.ensures
 
-pub returns-in-None-port_by_key : goal.returns-in-None-port_by_key
-returns-in-None-port_by_key c = λ ps at bits_are.
+pub returns-in-None : goal.returns-in-None
+returns-in-None c = λ ps at bits_are.
     let name = port_name c.args.port in
     let by = λ (bits : List ℕ) (x : ℕ × Option Range). option_map (λ k. unwrap_or (slice_get bits x.0) 0 + k) (bit_at x.1 name.index) in
-    ap (option_and_then (by (firsts 0 ps))) (sym (ap (option_map numbered_port) c.in-None-port_by_key.is) ∙ c.port_by_key.ensures ∙ at name.name) ∙ sym (bit_by ps name)
+    ap (option_and_then (by (firsts 0 ps))) (sym (ap (option_map numbered_port) c.in-None.is) ∙ c.port_by_key.ensures ∙ at name.name) ∙ sym (bit_by ps name)
