@@ -43,10 +43,12 @@ impl From<BoardFault> for Unmade {
 }
 
 /// The board of a board file, whose descriptions are files of the working folder; one bare device where none is named.
+/// Where `explain` is set, a description that is refused comes with its file.
 pub(crate) fn make_board(
     rt: &HostRuntime,
     alloc: Global,
     name: Option<&str>,
+    explain: bool,
 ) -> Result<Board, Unmade> {
     let Some(name) = name else {
         return Ok(Board::bare(alloc, 1)?);
@@ -55,7 +57,11 @@ pub(crate) fn make_board(
     let files = files_of(alloc, &read.names, &read.descriptions)?;
     match Board::from_text(alloc, &read.board_file, &files) {
         Ok(board) => Ok(board),
-        Err(fault) => Err(refusal_of(alloc, fault, &files)),
+        Err(fault) => Err(if explain {
+            explained_refusal(alloc, fault, &files)
+        } else {
+            Unmade::Refused(fault)
+        }),
     }
 }
 
@@ -75,7 +81,7 @@ pub(crate) fn plan_board(rt: &HostRuntime, alloc: Global, name: &str) -> Result<
             files: description_names(alloc, &read.board_file)?,
             plan,
         }),
-        Err(fault) => Err(refusal_of(alloc, fault, &files)),
+        Err(fault) => Err(Unmade::Refused(fault)),
     }
 }
 
@@ -139,8 +145,8 @@ fn read_board(rt: &HostRuntime, alloc: Global, name: &str) -> Result<ReadBoard, 
     })
 }
 
-/// A board that is refused; where a description is, with its file.
-fn refusal_of(alloc: Global, fault: BoardFault, files: &[(&str, &[u8])]) -> Unmade {
+/// A board that is refused; where a description is, with its file, for which the descriptions are read again.
+fn explained_refusal(alloc: Global, fault: BoardFault, files: &[(&str, &[u8])]) -> Unmade {
     if let BoardFault::Bsdl(_) = &fault {
         if let Some((name, text)) = refused_file(alloc, files) {
             return match (String::from_str(alloc, name), text.to_vec(alloc)) {

@@ -23,7 +23,7 @@ pub(crate) fn check_text<W: Sink, E: Sink>(
     requires err { err.old.failures ≡ 0 }
 {
     let status = run_check(alloc, text, board, out, err)?;
-    if explain && status == REFUSED {
+    if explain && status == REFUSED && err.failures() == 0 {
         if let Err(fault) = accept(alloc, text) {
             refused_text(text, fault, err)?;
         }

@@ -87,9 +87,10 @@ fn run_request(rt: &HostRuntime, alloc: Global, request: &Request<'_>) -> u8 {
     if let (Task::Describe, Some(board)) = (request.task, request.board) {
         return describe_board(rt, alloc, board);
     }
-    match make_board(rt, alloc, request.board) {
+    let explain = explains(request.task);
+    match make_board(rt, alloc, request.board, explain) {
         Ok(board) => run_board(rt, alloc, request, board),
-        Err(fault) => refuse_board(rt, &fault, explains(request.task)),
+        Err(fault) => refuse_board(rt, &fault, explain),
     }
 }
 
