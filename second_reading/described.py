@@ -49,8 +49,9 @@ def register(device: bsdl.Device, name: str) -> str:
     if not device.is_left_out(name) and device.codes.get(name) is not None:
         return "identification 32"
     if access and access.length is not None:
-        # The accesses are kept from the last on.
-        first = [own for own, its in device.accesses.items() if its.register == access.register][-1]
+        # The accesses are kept from the last on; one without a length selects a register of the standard, whatever its name.
+        first = [own for own, its in device.accesses.items()
+                 if its.register == access.register and its.length is not None][-1]
         return f"of {first} {access.length}"
     if access and access.register == "DEVICE_ID" and "IDCODE" in device.codes:
         return "identification 32"
