@@ -2,6 +2,7 @@
 
     compare.py PROGRAM [KIND ..] [--cases N] [--from N]    compares N cases of each kind
     compare.py PROGRAM --show KIND NUMBER                  prints a case's input and both answers
+    compare.py PROGRAM --describe BOARD ..                 compares what is told of board files
 """
 
 from __future__ import annotations
@@ -21,7 +22,8 @@ CASES = 450
 LONGEST_PLAY = 60_000  # bits and cycles; a longer program is checked and not played
 TIMEOUT = 60
 BOARD_FILE = "board.toml"
-WORDS = {"check": ["check"], "play": ["play", "--bytes"], "play to the end": ["play", "--bytes", "--all"]}
+WORDS = {"check": ["check"], "play": ["play", "--bytes"], "play to the end": ["play", "--bytes", "--all"],
+         "describe": ["describe"]}
 
 
 def toml(value) -> str:
@@ -47,12 +49,13 @@ def toml_text(tree: dict) -> str:
 
 
 def expected(case: Case) -> dict[str, program.Answer]:
-    """By command, what the program should print; a long program isn't played."""
+    """By command, what the program should print; a long program isn't played, and a board is described whatever its program."""
+    answers = {} if case.tree is None else {"describe": program.described(case.tree, case.files)}
     try:
         board, its_program = program.read(*case)
     except Refusal as refusal:
-        return dict.fromkeys(WORDS, program.refused(refusal))
-    answers = {"check": program.check(board, its_program)}
+        return {**dict.fromkeys(("check", "play", "play to the end"), program.refused(refusal)), **answers}
+    answers["check"] = program.check(board, its_program)
     lengths = (len(getattr(step, "vector", ())) + getattr(step, "cycles", 0) for step in its_program.steps)
     if sum(lengths) <= LONGEST_PLAY:
         answers["play"] = program.play(board, its_program)
@@ -108,6 +111,27 @@ def compare(path: str, kind: str, start: int, cases: int) -> int:
     return differing
 
 
+def compare_boards(path: str, names: list[str]) -> int:
+    """Compare what is told of board files, whose descriptions are found from here; how many differ. It needs Python 3.11."""
+    import tomllib
+    differing = 0
+    for name in names:
+        with open(name, "rb") as file:
+            tree = tomllib.load(file)
+        files = {}
+        for table in tree["device"]:
+            with open(table["bsdl"], "rb") as file:
+                files[table["bsdl"]] = file.read()
+        wanted = program.described(tree, files)
+        done = subprocess.run([path, "describe", "--board", name], capture_output=True, timeout=TIMEOUT)
+        got = program.Answer(done.stdout.decode(), done.stderr.decode(), done.returncode)
+        if got != wanted:
+            differing += 1
+            print(f"{name} is told otherwise\n  program: {shortened(got, 400)}\n  expected: {shortened(wanted, 400)}")
+    print(f"board files: {len(names)} described, {differing} differ", flush=True)
+    return differing
+
+
 def show(path: str, kind: str, number: int) -> None:
     case = case_of(kind, number)
     for name, content in input_files(case).items():
@@ -124,8 +148,11 @@ def main() -> int:
     parser.add_argument("--cases", type=int, default=CASES, metavar="N")
     parser.add_argument("--from", type=int, default=0, metavar="N", dest="start")
     parser.add_argument("--show", nargs=2, metavar=("KIND", "NUMBER"))
+    parser.add_argument("--describe", nargs="+", metavar="BOARD")
     words = parser.parse_args()
     path = os.path.abspath(words.program)
+    if words.describe:
+        return int(compare_boards(path, words.describe) > 0)
     if words.show:
         show(path, words.show[0], int(words.show[1]))
         return 0

@@ -1,4 +1,4 @@
-"""What the program prints: the lines of `check [--board FILE]` and of `play [--board FILE] --bytes [--all]`.
+"""What the program prints: the lines of `check [--board FILE]`, of `describe --board FILE` and of `play [--board FILE] --bytes [--all]`.
 
 A play is made twice, by edges and by whole registers, and both must agree.
 """
@@ -9,6 +9,7 @@ from typing import NamedTuple
 
 from board import BARE, Board, EdgeBoard, WholeBoard, read_board
 from controller import NEXT, default_path, path_from_exit1
+from described import describe
 from refusal import Refusal
 from svf import GoStep, PathStep, Program, RunStep, ScanStep, TrstStep, accept
 
@@ -34,6 +35,13 @@ def read(text: bytes, tree: dict | None, files: dict[str, bytes]) -> tuple[Board
 
 def refused(refusal: Refusal) -> Answer:
     return Answer("", f"{refusal}\n", 2)
+
+
+def described(tree: dict, files: dict[str, bytes]) -> Answer:
+    try:
+        return Answer(describe(read_board(tree, files), tree), "", 0)
+    except Refusal as refusal:
+        return refused(refusal)
 
 
 def check(board: Board, program: Program) -> Answer:

@@ -29,13 +29,17 @@ bytes = record (new_rule (codes "bytes")) { long = Some (codes "bytes"); action 
 abbrev pub all : Rule
 all = record (new_rule (codes "all")) { long = Some (codes "all"); action = Some SetTrue }
 
+-- `[--explain]`
+abbrev pub explain : Rule
+explain = record (new_rule (codes "explain")) { long = Some (codes "explain"); action = Some SetTrue }
+
 -- `play [FILE] [--board BOARD] [--bytes] [--all]`
 abbrev pub play : Shape
 play = record (new_shape (codes "play")) { rules = svf ∷ board ∷ bytes ∷ all ∷ [] }
 
--- `check [FILE] [--board BOARD]`
+-- `check [FILE] [--board BOARD] [--explain]`
 abbrev pub check : Shape
-check = record (new_shape (codes "check")) { rules = svf ∷ board ∷ [] }
+check = record (new_shape (codes "check")) { rules = svf ∷ board ∷ explain ∷ [] }
 
 -- `loop [FILE] [--board BOARD] [--all]`
 abbrev pub loop : Shape
@@ -54,7 +58,7 @@ connection_counts = vp.Unsigned 1 1000000
 abbrev pub waits : ValueParser
 waits = vp.Unsigned 1 86400
 
--- `--board BOARD`, which must be named where a board is served
+-- `--board BOARD`, which must be named where a board is served or described
 abbrev pub served_board : Rule
 served_board = record board { required = true }
 
@@ -105,11 +109,15 @@ serve = record (new_shape (codes "serve")) {
 abbrev pub connect : Shape
 connect = record (new_shape (codes "connect")) { rules = svf ∷ port ∷ host ∷ timeout ∷ all ∷ [] }
 
+-- `describe --board BOARD`
+abbrev pub describe : Shape
+describe = record (new_shape (codes "describe")) { rules = served_board ∷ [] }
+
 -- the program's command line
 abbrev pub jt_tool : App
 jt_tool =
-    with_subcommand (with_subcommand (with_subcommand (with_subcommand
-    (with_subcommand (new_app (codes "jt_tool")) play) check) loop) serve) connect
+    with_subcommand (with_subcommand (with_subcommand (with_subcommand (with_subcommand
+    (with_subcommand (new_app (codes "jt_tool")) play) check) loop) serve) connect) describe
 
 -- a server that is played on
 pub record Host : Type 0 where
@@ -117,13 +125,15 @@ pub record Host : Type 0 where
   pub port : ℕ
   pub timeout : Option ℕ
 
--- what is done with a text or a board: whether the bytes are told, and whether all failures are
+-- what is done with a text or a board: whether the bytes are told, whether all failures are, and whether of a refusal it is
+-- told where it lies
 pub data Action : Type 0 where
   plays : (bytes all : Bool) → Action
-  checks : Action
+  checks : (explain : Bool) → Action
   loops : (all : Bool) → Action
   serves : Serving → Action
   connects : Host → (all : Bool) → Action
+  describes : Action
 
 -- what is asked for: the file of the program and the board file, where they are named, and what is done
 pub record Asked : Type 0 where
@@ -175,10 +185,11 @@ server_of rows = record { host = host_of rows; port = port_of rows; timeout = ti
 -- what is done by this subcommand with these arguments
 abbrev pub task_of : Text → List Row → Action
 task_of name rows =
-    if bytes_eq name (codes "check") then checks
+    if bytes_eq name (codes "check") then checks (is_given (codes "explain") rows)
     else if bytes_eq name (codes "loop") then loops (is_given (codes "all") rows)
     else if bytes_eq name (codes "serve") then serves (serving_of rows)
     else if bytes_eq name (codes "connect") then connects (server_of rows) (is_given (codes "all") rows)
+    else if bytes_eq name (codes "describe") then describes
     else plays (is_given (codes "bytes") rows) (is_given (codes "all") rows)
 
 -- what a subcommand and its arguments ask for; without any the bytes are told too

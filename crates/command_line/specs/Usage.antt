@@ -2,7 +2,7 @@
 use Rattle.std.specs.Prelude.{◌≡◌, true, false, List, [], ◌∷◌, Option, Some, None, codes}
 use Rattle.clap.specs.Words.{Kinds, Text, fault_of}
 use Rattle.clap.specs.declared.error.kind.ErrorKind.TheVariants as kind
-use Rattle.command_line.specs.Asking.{Action, Asked, asked, checks, connects, jt_tool, loops, plays, serves}
+use Rattle.command_line.specs.Asking.{Action, Asked, asked, checks, connects, describes, jt_tool, loops, plays, serves}
 
 -- the command line is taken, and asks for this
 abbrev pub Asks : List Text → Asked → Type 0
@@ -33,9 +33,11 @@ pub record UsageRows : Type 0 where
       (request (Some file) (Some board) (plays false false))
   pub dashed_file : Asks (codes "play" ∷ codes "--" ∷ codes "-a.svf" ∷ [])
       (request (Some (codes "-a.svf")) None (plays false false))
-  pub check : Asks (codes "check" ∷ []) (request None None checks)
+  pub check : Asks (codes "check" ∷ []) (request None None (checks false))
   pub check_file : Asks (codes "check" ∷ file ∷ codes "--board" ∷ board ∷ [])
-      (request (Some file) (Some board) checks)
+      (request (Some file) (Some board) (checks false))
+  pub check_explain : Asks (codes "check" ∷ codes "--explain" ∷ file ∷ [])
+      (request (Some file) None (checks true))
   pub play_all : Asks (codes "play" ∷ codes "--all" ∷ file ∷ codes "--bytes" ∷ [])
       (request (Some file) None (plays true true))
   pub loop_all : Asks (codes "loop" ∷ file ∷ codes "--all" ∷ []) (request (Some file) None (loops true))
@@ -63,6 +65,10 @@ pub record UsageRows : Type 0 where
   pub connect_host : Asks (codes "connect" ∷ codes "--port=5555" ∷ codes "--host=bench" ∷ codes "--timeout=1" ∷ [])
       (request None None (connects (record { host = codes "bench"; port = 5555; timeout = Some 1 }) false))
   pub loop_tells_no_bytes : IsRefused (codes "loop" ∷ codes "--bytes" ∷ []) (kind.UnknownArgument ∷ [])
+  pub describe : Asks (codes "describe" ∷ codes "--board" ∷ board ∷ []) (request None (Some board) describes)
+  pub describe_without_board : IsRefused (codes "describe" ∷ []) (kind.MissingRequiredArgument ∷ [])
+  pub describe_plays_nothing : IsRefused (codes "describe" ∷ file ∷ codes "--board=b.toml" ∷ [])
+      (kind.UnknownArgument ∷ [])
   pub serve_without_board : IsRefused (codes "serve" ∷ codes "--port=5555" ∷ []) (kind.MissingRequiredArgument ∷ [])
   pub connect_without_port : IsRefused (codes "connect" ∷ file ∷ []) (kind.MissingRequiredArgument ∷ [])
   pub no_port : IsRefused (codes "connect" ∷ codes "--port=0" ∷ []) (kind.ValueValidation ∷ [])

@@ -5,17 +5,18 @@ use Rattle.command_line.specs.Asking.{Action, Asked, Host}
 use Rattle.command_line.specs.declared.request.Request.{Request}
 use Rattle.command_line.specs.declared.request.Server.{Server}
 use Rattle.command_line.specs.declared.request.Task.{Task}
-use Rattle.command_line.specs.declared.request.Task.TheVariants.{Play, Check, Loop, Serve, Connect}
+use Rattle.command_line.specs.declared.request.Task.TheVariants.{Play, Check, Loop, Serve, Connect, Describe}
 
 abbrev pub server_view : Server → Host
 server_view s = record { host = s.host.now; port = s.port; timeout = s.timeout }
 
 abbrev pub action_of : Task → Action
 action_of (Play bytes all) = asking.plays bytes all
-action_of Check = asking.checks
+action_of (Check explain) = asking.checks explain
 action_of (Loop all) = asking.loops all
 action_of (Serve how) = asking.serves how
 action_of (Connect server all) = asking.connects (server_view server) all
+action_of Describe = asking.describes
 
 abbrev pub asked_of : Request → Asked
 asked_of r = record {

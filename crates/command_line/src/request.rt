@@ -32,14 +32,16 @@ pub enum Task<'a> {
     /// The text is played, and where `bytes` is set the bytes sent are told too. Where `all` is set it is played to the
     /// end, and all bits that fail are told.
     Play { bytes: bool, all: bool },
-    /// The text is only checked.
-    Check,
+    /// The text is only checked. Where `explain` is set, it is told of a refusal where it lies.
+    Check { explain: bool },
     /// The text is played over a connection of the program with itself; `all` as for `Play`.
     Loop { all: bool },
     /// The board is served to clients.
     Serve(Serving),
     /// The text is played on a server; `all` as for `Play`.
     Connect { server: Server<'a>, all: bool },
+    /// The board is described.
+    Describe,
 }
 
 /// How a board is served.
@@ -80,10 +82,11 @@ pub struct Request<'a> {
 /// Reads the words of a command line, of which the first is the program's name. Without any more it is `play --bytes`.
 ///
 /// The command line is one of
-/// - `play [FILE] [--board BOARD] [--bytes] [--all]`, `check [FILE] [--board BOARD]`,
+/// - `play [FILE] [--board BOARD] [--bytes] [--all]`, `check [FILE] [--board BOARD] [--explain]`,
 /// - `loop [FILE] [--board BOARD] [--all]`,
 /// - `serve --board BOARD --port PORT [--at-most BYTES] [--connections COUNT] [--timeout SECONDS]`,
-/// - `connect [FILE] --port PORT [--host HOST] [--timeout SECONDS] [--all]`.
+/// - `connect [FILE] --port PORT [--host HOST] [--timeout SECONDS] [--all]`,
+/// - `describe --board BOARD`.
 ///
 /// Refused are words that none of these takes, and a number that is not in its range; a call for help comes as such an
 /// error too.
@@ -123,7 +126,9 @@ fn task_of<'a>(name: &str, found: &ArgMatches<'a>) -> Task<'a>
     ensures { action_of result ≡ spec.task_of name.now (rows_of (found_of found.now)) }
 {
     match name {
-        "check" => Task::Check,
+        "check" => Task::Check {
+            explain: is_given(found, "explain"),
+        },
         "loop" => Task::Loop {
             all: is_given(found, "all"),
         },
@@ -132,6 +137,7 @@ fn task_of<'a>(name: &str, found: &ArgMatches<'a>) -> Task<'a>
             server: server_of(found),
             all: is_given(found, "all"),
         },
+        "describe" => Task::Describe,
         _ => Task::Play {
             bytes: is_given(found, "bytes"),
             all: is_given(found, "all"),
@@ -221,13 +227,15 @@ fn command<'a>(alloc: Global) -> Result<Command<'a>, AllocError>
     let round = loop_command(alloc)?;
     let serve = serve_command(alloc)?;
     let connect = connect_command(alloc)?;
+    let describe = describe_command(alloc)?;
     Command::new(alloc, "jt_tool")
         .about("Plays Serial Vector Format programs on a simulated boundary-scan board")
         .subcommand(play)?
         .subcommand(check)?
         .subcommand(round)?
         .subcommand(serve)?
-        .subcommand(connect)
+        .subcommand(connect)?
+        .subcommand(describe)
 }
 
 fn play_command<'a>(alloc: Global) -> Result<Command<'a>, AllocError>
@@ -251,7 +259,8 @@ fn check_command<'a>(alloc: Global) -> Result<Command<'a>, AllocError>
             "Tells whether a program is accepted, its statements and steps, and which instructions stand for BYPASS",
         )
         .arg(svf_arg(alloc))?
-        .arg(board_arg(alloc))
+        .arg(board_arg(alloc))?
+        .arg(explain_arg(alloc))
 }
 
 fn loop_command<'a>(alloc: Global) -> Result<Command<'a>, AllocError>
@@ -295,6 +304,15 @@ fn connect_command<'a>(alloc: Global) -> Result<Command<'a>, AllocError>
         .arg(all_arg(alloc))
 }
 
+fn describe_command<'a>(alloc: Global) -> Result<Command<'a>, AllocError>
+    ensures shape { IfOk result (λ c. shape_of c ≡ spec.describe) }
+    ensures local { IfOk result (λ c. (out-Command c).has_globals ≡ false) }
+{
+    Command::new(alloc, "describe")
+        .about("Prints a board's devices, instructions, cells and nets, one fact a line")
+        .arg(served_board_arg(alloc))
+}
+
 fn bytes_arg<'a>(alloc: Global) -> Arg<'a>
     ensures rule { rule_of result ≡ spec.bytes }
     ensures local { result.global ≡ false }
@@ -313,6 +331,16 @@ fn all_arg<'a>(alloc: Global) -> Arg<'a>
         .long("all")
         .action(ArgAction::SetTrue)
         .help("Plays to the end, and prints the first 256 bits that fail and how many do")
+}
+
+fn explain_arg<'a>(alloc: Global) -> Arg<'a>
+    ensures rule { rule_of result ≡ spec.explain }
+    ensures local { result.global ≡ false }
+{
+    Arg::new(alloc, "explain")
+        .long("explain")
+        .action(ArgAction::SetTrue)
+        .help("Also tells where a refusal lies, or the name that it speaks of")
 }
 
 fn board_arg<'a>(alloc: Global) -> Arg<'a>

@@ -1,5 +1,12 @@
-//! The board that the command line asks for.
+//! The board that the command line asks for, made or only described.
+ghost use Rattle.std.specs.Prelude.{◌≡◌};
 
+use board_description::{Untold, description_names, write_description};
+use board_file::{Describe, Unread, plan_of_text};
+use board_plan::Plan;
+use bsdl::{BsdlFault, read as read_device};
+use bsdl_device::Device;
+use byte_ends::{Counted, Sink};
 use jt_player::{Board, BoardFault, bsdl_names};
 use program_input::{Descriptions, InputFault, read_board_file};
 use std::alloc::{AllocError, Global};
@@ -11,6 +18,16 @@ pub(crate) enum Unmade {
     Unreadable(String),
     /// The board file or a description is refused, or memory ran out.
     Refused(BoardFault),
+    /// The description in a file is refused.
+    RefusedFile(RefusedFile),
+}
+
+/// A description that is refused: why, its file, and its text.
+#[derive(Drop)]
+pub(crate) struct RefusedFile {
+    pub(crate) fault: BoardFault,
+    pub(crate) name: String,
+    pub(crate) text: Vec<u8>,
 }
 
 impl From<AllocError> for Unmade {
@@ -26,14 +43,90 @@ impl From<BoardFault> for Unmade {
 }
 
 /// The board of a board file, whose descriptions are files of the working folder; one bare device where none is named.
+/// Where `explain` is set, a description that is refused comes with its file.
 pub(crate) fn make_board(
     rt: &HostRuntime,
     alloc: Global,
     name: Option<&str>,
+    explain: bool,
 ) -> Result<Board, Unmade> {
     let Some(name) = name else {
         return Ok(Board::bare(alloc, 1)?);
     };
+    let read = read_board(rt, alloc, name)?;
+    let files = files_of(alloc, &read.names, &read.descriptions)?;
+    match Board::from_text(alloc, &read.board_file, &files) {
+        Ok(board) => Ok(board),
+        Err(fault) => Err(if explain {
+            explained_refusal(alloc, fault, &files)
+        } else {
+            Unmade::Refused(fault)
+        }),
+    }
+}
+
+/// A board as it is wired, with the file of each device's description.
+#[derive(Drop)]
+pub(crate) struct Planned {
+    files: Vec<String>,
+    plan: Plan,
+}
+
+/// The board of a board file as `make_board` makes it, before power-up.
+pub(crate) fn plan_board(rt: &HostRuntime, alloc: Global, name: &str) -> Result<Planned, Unmade> {
+    let read = read_board(rt, alloc, name)?;
+    let files = files_of(alloc, &read.names, &read.descriptions)?;
+    match plan_of_text(alloc, &Bsdl, &read.board_file, &files) {
+        Ok(plan) => Ok(Planned {
+            files: description_names(alloc, &read.board_file)?,
+            plan,
+        }),
+        Err(fault) => Err(Unmade::Refused(fault)),
+    }
+}
+
+/// Writes what is to be known of a board.
+pub(crate) fn describe<W: Sink>(
+    alloc: Global,
+    board: &Planned,
+    out: &mut Counted<W>,
+) -> Result<(), Untold>
+    requires { out.old.failures ≡ 0 }
+{
+    write_description(alloc, &board.files, &board.plan, out)
+}
+
+/// The reader of descriptions in BSDL.
+struct Bsdl;
+
+impl Describe for Bsdl {
+    type Fault = BsdlFault;
+
+    ghost use Rattle.jt_board.specs.FromText as text;
+
+    ghost says = { text.said_device };
+
+    ghost refuses = { text.IsWhyRefused };
+
+    fn read(&self, alloc: Global, text: &[u8]) -> Result<Device, Unread<BsdlFault>> {
+        match read_device(alloc, text) {
+            Ok(device) => Ok(device),
+            Err(BsdlFault::NoMemory) => Err(Unread::Memory),
+            Err(fault) => Err(Unread::Refused(fault)),
+        }
+    }
+}
+
+/// A board file, and the descriptions that it names.
+#[derive(Drop)]
+struct ReadBoard {
+    board_file: Vec<u8>,
+    names: Vec<String>,
+    descriptions: Descriptions,
+}
+
+/// Reads a board file, and the descriptions that it names from the working folder.
+fn read_board(rt: &HostRuntime, alloc: Global, name: &str) -> Result<ReadBoard, Unmade> {
     let board_file = match read_board_file(rt, alloc, name) {
         Ok(text) => text,
         Err(fault) => return Err(unread(alloc, name, fault)),
@@ -45,8 +138,35 @@ pub(crate) fn make_board(
             return Err(unread(alloc, name.as_str(), fault));
         }
     }
-    let files = files_of(alloc, &names, &descriptions)?;
-    Ok(Board::from_text(alloc, &board_file, &files)?)
+    Ok(ReadBoard {
+        board_file,
+        names,
+        descriptions,
+    })
+}
+
+/// A board that is refused; where a description is, with its file, for which the descriptions are read again.
+fn explained_refusal(alloc: Global, fault: BoardFault, files: &[(&str, &[u8])]) -> Unmade {
+    if let BoardFault::Bsdl(_) = &fault {
+        if let Some((name, text)) = refused_file(alloc, files) {
+            return match (String::from_str(alloc, name), text.to_vec(alloc)) {
+                (Ok(name), Ok(text)) => Unmade::RefusedFile(RefusedFile { fault, name, text }),
+                _ => Unmade::Refused(fault),
+            };
+        }
+    }
+    Unmade::Refused(fault)
+}
+
+/// The first file whose description is refused.
+fn refused_file<'a>(alloc: Global, files: &[(&'a str, &'a [u8])]) -> Option<(&'a str, &'a [u8])> {
+    for (name, text) in files {
+        match read_device(alloc, text) {
+            Ok(_) | Err(BsdlFault::NoMemory) => {}
+            Err(_) => return Some((*name, *text)),
+        }
+    }
+    None
 }
 
 /// The texts of the descriptions, each by its name.

@@ -2,16 +2,19 @@
 #![tactic(auto)]
 
 mod described;
+mod explained;
 mod links;
 
-use crate::described::{Unmade, make_board};
+use crate::described::{Unmade, describe, make_board, plan_board};
+use crate::explained::{check_text, tell_unmade};
 use crate::links::{accept, connect, listen, pair};
+use board_description::Untold;
 use byte_ends::{Broken, Counted, Plain};
 use clap::error::ErrorKind as WordsFault;
 use command_line::{Request, Server, Serving, Task, parse};
 use jt_player::{
     Board, Ending, Kind, Program, Served, accept as accept_text, refuse_file, refuse_memory,
-    refuse_text, run_check, run_loop, run_over, run_play, run_play_all, run_serve, tell_listening,
+    refuse_text, run_loop, run_over, run_play, run_play_all, run_serve, tell_listening,
     tell_served, tell_unplayed, tell_verdict, write_report,
 };
 use program_input::{InputFault, command_words, read_text};
@@ -81,9 +84,34 @@ fn run_request(rt: &HostRuntime, alloc: Global, request: &Request<'_>) -> u8 {
             Err(status) => status,
         };
     }
-    match make_board(rt, alloc, request.board) {
+    if let (Task::Describe, Some(board)) = (request.task, request.board) {
+        return describe_board(rt, alloc, board);
+    }
+    let explain = explains(request.task);
+    match make_board(rt, alloc, request.board, explain) {
         Ok(board) => run_board(rt, alloc, request, board),
-        Err(fault) => refuse_board(rt, &fault),
+        Err(fault) => refuse_board(rt, &fault, explain),
+    }
+}
+
+/// Describes the board of a board file. Answers the exit status.
+fn describe_board(rt: &HostRuntime, alloc: Global, name: &str) -> u8 {
+    let board = match plan_board(rt, alloc, name) {
+        Ok(board) => board,
+        Err(fault) => return refuse_board(rt, &fault, false),
+    };
+    match describe(alloc, &board, &mut Counted::new(Plain(io::writer(rt)))) {
+        Ok(()) => DONE,
+        Err(Untold::Broken) => BROKEN,
+        Err(Untold::NoMemory) => tell_line(rt, "memory", MEMORY),
+    }
+}
+
+/// Whether it is to be told where a refusal lies.
+fn explains(task: Task<'_>) -> bool {
+    match task {
+        Task::Check { explain } => explain,
+        _ => false,
     }
 }
 
@@ -120,7 +148,7 @@ fn run_text(
         Task::Play { bytes, all: true } => {
             run_play_all(alloc, &text, board, bytes, &mut out, &mut err)
         }
-        _ => run_check(alloc, &text, board, &mut out, &mut err),
+        task => check_text(alloc, &text, board, explains(task), &mut out, &mut err),
     };
     status.unwrap_or(BROKEN)
 }
@@ -241,14 +269,10 @@ fn serve_client(
     }
 }
 
-/// Tells why no board was made. Answers the exit status.
-fn refuse_board(rt: &HostRuntime, fault: &Unmade) -> u8 {
+/// Tells why no board was made, and where it is asked for where that lies. Answers the exit status.
+fn refuse_board(rt: &HostRuntime, fault: &Unmade, explain: bool) -> u8 {
     let mut err = Counted::new(Plain(rt.stderr()));
-    let status = match fault {
-        Unmade::Unreadable(name) => refuse_file(name, &mut err),
-        Unmade::Refused(fault) => jt_player::refuse_board(fault, &mut err),
-    };
-    status.unwrap_or(BROKEN)
+    tell_unmade(fault, explain, &mut err).unwrap_or(BROKEN)
 }
 
 /// Tells that no text of a program was read. Answers the exit status.

@@ -1,0 +1,2 @@
+pub mod RowsCompute
+pub mod TextLaws

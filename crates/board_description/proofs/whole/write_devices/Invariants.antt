@@ -1,0 +1,19 @@
+use Rattle.std.proofs.Common.{◌≡◌, ◌≤◌, ◌++◌, ◌-◌, ℕ, List, map, drop, string_bytes}
+use Rattle.std.specs.Io.KnownBytes.{Appends}
+use Rattle.board_plan.specs.View.{member as planned_member, net as planned_net}
+use Rattle.board_description.specs.Described.{device_lines}
+use Rattle.board_description.proofs.whole.write_devices.Given as goal
+
+-- what was written, with the lines of the devices to come, is all
+abbrev pub invariant-loop-place : goal.invariant-loop-place
+invariant-loop-place g l = record {
+  none_lost : l.out.failures ≡ 0;
+  within : l.place ≤ l.count;
+  sent : List ℕ;
+  appends : Appends (g.W.Write.contents l.initial.out.inner) (g.W.Write.contents l.out.inner) sent;
+  all : sent ++ device_lines (map planned_net l.nets) l.place (drop l.place (map string_bytes l.files)) (drop l.place (map planned_member l.devices))
+      ≡ device_lines (map planned_net l.nets) 0 (map string_bytes l.files) (map planned_member l.devices);
+}
+
+abbrev pub decreases-loop-place : goal.decreases-loop-place
+decreases-loop-place g l = l.count - l.place

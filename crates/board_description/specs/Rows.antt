@@ -1,0 +1,25 @@
+-- A board of two devices, described.
+use Rattle.std.specs.Prelude.{◌≡◌, ℕ, List, [], ◌∷◌, ◌++◌, codes, flat_map}
+use Rattle.board_description.specs.Described.{cell_lines, device_line, instruction_lines, wiring_lines}
+use Rattle.board_description.specs.Names.{shown}
+use Rattle.board_description.specs.Samples.{pair, sample}
+
+abbrev pub first : List ℕ
+first = codes "U1"
+
+pub record DescribedRows : Type 0 where
+  pub device_row : device_line (codes "k.bsd") first sample
+      ≡ codes "U1 bsdl k.bsd length 3 capture 001 reset IDCODE idcode 0x00000005 trst no\n"
+  pub instructions : flat_map (instruction_lines first sample) sample.opcodes
+      ≡ codes "U1 instruction BYPASS 111 register bypass 1\nU1 instruction EXTEST 000 register boundary 4\n"
+      ++ (codes "U1 instruction SAMPLE 001 register boundary 4\nU1 instruction IDCODE 010 register identification 32\n"
+      ++ codes "U1 instruction READ 011 register of READ 4\n")
+  pub cells : cell_lines pair.nets 0 first sample 0 sample.cells
+      ≡ codes "U1 cell 0 output3 port Q(0) net N control 1 disables 0 leaves Z\nU1 cell 1 control\n"
+      ++ codes "U1 cell 2 input port D no net\nU1 cell 3 internal\n"
+  pub wiring : wiring_lines pair
+      ≡ codes "net N pull none U1.Q(0) U2.D\nchain 2 devices, 6 instruction bits, 8 boundary bits\n"
+  pub line_feed_in_a_name : shown (codes "a\nb") ≡ codes "a\\x0ab"
+  pub backslash_in_a_name : shown (codes "a\\x0ab") ≡ codes "a\\x5cx0ab"
+  pub delete_in_a_name : shown (127 ∷ []) ≡ codes "\\x7f"
+  pub other_bytes_stay : shown (195 ∷ 164 ∷ 32 ∷ []) ≡ 195 ∷ 164 ∷ 32 ∷ []

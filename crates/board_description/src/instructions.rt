@@ -1,0 +1,117 @@
+//! The lines of a device's instructions.
+ghost use Rattle.std.specs.Prelude.{◌≡◌, ◌<◌, ◌++◌, OnOk, flat_map, length, slice_get, Some};
+ghost use Rattle.board_plan.specs.LeftOut as plan;
+ghost use Rattle.board_words.specs.View.{texts_of};
+ghost use Rattle.board_description.specs.Described as spec;
+ghost use Rattle.board_description.specs.Described.{instruction_lines, register_words};
+ghost use Rattle.board_description.specs.Kept.{NamesUsers, own_names};
+
+use crate::registers::{own_places, selected_by, user_names};
+use crate::text::{put, put_pattern};
+use board_plan::is_left_out;
+use board_words::Places;
+use bsdl_device::{Device, Opcode, Pattern};
+use device_instructions::Selected;
+use itoa::Buffer;
+use std::alloc::{AllocError, Global};
+
+/// Puts a line for each opcode of a device behind a text. Refuses for want of memory alone.
+#[tactic(auto, using(crate::proofs::TextLaws::flat_map_more))]
+pub(crate) fn put_instructions(
+    alloc: Global,
+    text: &mut Vec<u8>,
+    name: &str,
+    device: &Device,
+) -> Result<(), AllocError>
+    ensures { OnOk result (text.new.items
+        ≡ text.old.items ++ flat_map (instruction_lines name.now device.now) device.now.opcodes) }
+{
+    let own = own_places(alloc, device)?;
+    let users = user_names(alloc, device)?;
+    for row in device.opcodes() {
+        put_instruction(text, name, device, &own, &users, row)?;
+    }
+    Ok(())
+}
+
+/// Puts the lines of an instruction behind a text.
+#[tactic(auto, using(crate::proofs::TextLaws::flat_map_more))]
+fn put_instruction(
+    text: &mut Vec<u8>,
+    name: &str,
+    device: &Device,
+    own: &Places<&str>,
+    users: &[&str],
+    row: &Opcode,
+) -> Result<(), AllocError>
+    requires own { texts_of own.now ≡ own_names device.now }
+    requires users { NamesUsers device.now.users device.now.accesses (texts_of users.now) }
+    ensures { OnOk result (text.new.items ≡ text.old.items ++ instruction_lines name.now device.now row.now) }
+{
+    let selected = selected_by(device, own, row.name());
+    for pattern in row.patterns() {
+        put_opcode(text, name, row.name(), pattern)?;
+        put_register(text, device, users, selected)?;
+        put_end(text, device, row.name())?;
+    }
+    Ok(())
+}
+
+/// Puts the front of an opcode's line behind a text.
+fn put_opcode(
+    text: &mut Vec<u8>,
+    device: &str,
+    name: &str,
+    pattern: &Pattern,
+) -> Result<(), AllocError>
+    ensures { OnOk result (text.new.items ≡ text.old.items ++ spec.opcode_front device.now name.now pattern.now) }
+{
+    put(
+        text,
+        &[device.as_bytes(), b" instruction ", name.as_bytes(), b" "],
+    )?;
+    put_pattern(text, pattern)?;
+    put(text, &[b" register "])
+}
+
+/// Puts what ends the line of an instruction behind a text.
+fn put_end(text: &mut Vec<u8>, device: &Device, name: &str) -> Result<(), AllocError>
+    ensures { OnOk result (text.new.items ≡ text.old.items ++ spec.left_out_words (plan.is_left_out device.now name.now)) }
+{
+    if is_left_out(device, name) {
+        put(text, &[b" stands for BYPASS\n"])
+    } else {
+        put(text, &[b"\n"])
+    }
+}
+
+/// Puts a register and its length behind a text, given the first instruction of each user register.
+fn put_register(
+    text: &mut Vec<u8>,
+    device: &Device,
+    users: &[&str],
+    selected: Selected,
+) -> Result<(), AllocError>
+    requires { NamesUsers device.now.users device.now.accesses (texts_of users.now) }
+    ensures { OnOk result (text.new.items ≡ text.old.items ++ register_words device.now selected) }
+{
+    let mut digits = Buffer::new();
+    match selected {
+        Selected::Bypass => put(text, &[b"bypass 1"]),
+        Selected::Identification => put(text, &[b"identification 32"]),
+        Selected::Boundary => put(
+            text,
+            &[b"boundary ", digits.format(device.cells().len()).as_bytes()],
+        ),
+        Selected::User(k) if k < device.users().len() => put(
+            text,
+            &[
+                b"of ",
+                users[k].as_bytes(),
+                b" ",
+                digits.format(device.users()[k]).as_bytes(),
+            ],
+        ),
+        Selected::User(_) => Ok(()),
+    }
+}

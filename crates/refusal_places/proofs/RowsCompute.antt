@@ -1,0 +1,17 @@
+-- The worked refusals compute.
+use Rattle.std.proofs.Common.{refl}
+use Rattle.svf_lex.specs.Cutting.{cut}
+use Rattle.refusal_places.specs.Rows.{PlaceRows}
+
+pub place_rows : PlaceRows
+unfolding cut
+place_rows = record {
+  by_statement = refl;
+  by_byte = refl;
+  unclosed = refl;
+  too_long = refl;
+  no_memory = refl;
+  missing = refl;
+  of_the_file = refl;
+  no_name = refl;
+}

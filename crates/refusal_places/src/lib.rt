@@ -1,0 +1,16 @@
+//! The second line of a refusal, for a user who asks why: where in which text it lies, or the name that it speaks of.
+//!
+//! A control byte in a name, and the backslash, stand as `\x0a` does, so that no name is told as two lines.
+#![tactic(auto)]
+
+ghost use Rattle.refusal_places.specs.Rows.{PlaceRows};
+
+pub use lines::{refused_board, refused_description, refused_text, statement_at};
+
+mod lines;
+mod names;
+
+/// Refusals with their second lines.
+pub fn places_compute()
+    ensures { PlaceRows }
+{}

@@ -1,0 +1,4 @@
+pub mod FirstTokens
+pub mod Order
+pub mod RowsCompute
+pub mod Small

@@ -1,0 +1,70 @@
+"""What `describe` prints of a board: its devices from TDO on with their instructions and cells, its nets, its chain."""
+
+from __future__ import annotations
+
+import bsdl
+from board import Board, Part
+
+WORDS_BY_ESCAPE = {code: f"\\x{code:02x}" for code in (*range(32), 92, 127)}
+
+
+def describe(board: Board, tree: dict) -> str:
+    nets = {pin: net.name for net in reversed(board.nets) for pin in net.pins}
+    lines = []
+    for place, (part, table) in enumerate(zip(board.parts, tree["device"])):
+        lines += device_lines(part, table["bsdl"])
+        lines += [cell_line(part, cell, nets, place) for cell in part.device.cells]
+    for net in board.nets:
+        pins = "".join(f" {board.parts[place].name}.{spelt(port)}" for place, port in net.pins)
+        lines.append(f"net {net.name} pull {net.pull}{pins}")
+    devices = [part.device for part in board.parts]
+    lines.append(f"chain {len(devices)} devices, {sum(len(device.capture) for device in devices)} instruction bits, "
+                 f"{sum(len(device.cells) for device in devices)} boundary bits")
+    return "".join(line + "\n" for line in lines)
+
+
+def spelt(port: tuple) -> str:
+    name, subscript = port
+    return name if subscript is None else f"{name}({subscript})"
+
+
+def device_lines(part: Part, file: str) -> list[str]:
+    device = part.device
+    code = device.codes.get("IDCODE")
+    code = "none" if code is None else f"0x{int(code.replace('X', '0'), 2):08X}"
+    reset = bsdl.instruction(device.opcodes, device.reset_latch()) or "-"
+    capture = device.capture.replace("X", "0")
+    lines = [f"{part.name} bsdl {file.translate(WORDS_BY_ESCAPE)} length {len(capture)} capture {capture} reset {reset} "
+             f"idcode {code} trst {'yes' if device.has_trst else 'no'}"]
+    for row in device.opcodes:
+        end = " stands for BYPASS" if device.is_left_out(row.name) else ""
+        lines += [f"{part.name} instruction {row.name} {pattern} register {register(device, row.name)}{end}"
+                  for pattern in row.patterns]
+    return lines
+
+
+def register(device: bsdl.Device, name: str) -> str:
+    """The register that an instruction selects, a user's by the first that selects it, and its length."""
+    access = None if device.is_left_out(name) else device.accesses.get(name)
+    if not device.is_left_out(name) and device.codes.get(name) is not None:
+        return "identification 32"
+    if access and access.length is not None:
+        # The accesses are kept from the last on; one without a length selects a register of the standard, whatever its name.
+        first = [own for own, its in device.accesses.items()
+                 if its.register == access.register and its.length is not None][-1]
+        return f"of {first} {access.length}"
+    if access and access.register == "DEVICE_ID" and "IDCODE" in device.codes:
+        return "identification 32"
+    if not device.is_left_out(name) and name in ("EXTEST", "SAMPLE", "PRELOAD") or access and access.register == "BOUNDARY":
+        return f"boundary {len(device.cells)}"
+    return "bypass 1"
+
+
+def cell_line(part: Part, cell: bsdl.Cell, nets: dict, place: int) -> str:
+    line = f"{part.name} cell {cell.number} {cell.function.lower()}"
+    if cell.port:
+        net = nets.get((place, cell.port))
+        line += f" port {spelt(cell.port)}" + (f" net {net}" if net else " no net")
+    if cell.control:
+        line += f" control {cell.control.cell} disables {cell.control.disabling} leaves {cell.control.result}"
+    return line
