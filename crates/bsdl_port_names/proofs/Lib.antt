@@ -1,2 +1,3 @@
 pub mod KeyLaws
 pub mod NamedPortLaws
+pub mod RangeLaws

@@ -5,6 +5,7 @@ ghost use Rattle.std.specs.List.{list_all, prefix_len};
 ghost use Rattle.std.specs.Int.{div_ceil};
 ghost use Rattle.std.specs.Char.{is_ascii_digit};
 ghost use Rattle.std.specs.Str.Parse.{digits_value, digits_value_after};
+ghost use Rattle.jt_limits.specs.Limits.{digit_limit, exponent_limit};
 ghost use Rattle.svf_numbers.specs.Numbers as spec;
 ghost use Rattle.svf_numbers.specs.Numbers.{Numeral};
 
@@ -89,7 +90,7 @@ pub fn time(word: &[u8]) -> Result<u64, Code>
 
 /// A time in picoseconds, rounded up.
 fn picoseconds(mantissa: u64, zeros: u32) -> u128
-    requires mantissa { mantissa < 10 ^ 18 }
+    requires mantissa { mantissa < 10 ^ digit_limit }
     requires zeros { zeros ≤ 42 }
     ensures { result ≡ div_ceil (mantissa * 10 ^ zeros) (10 ^ 24) }
 {
@@ -117,8 +118,8 @@ pub fn count(word: &[u8]) -> Result<u32, Code>
 
 /// The value of a number, if it is whole.
 fn whole(mantissa: u64, zeros: u32) -> Option<u128>
-    requires mantissa { mantissa < 10 ^ 18 }
-    requires zeros { zeros ≤ 54 }
+    requires mantissa { mantissa < 10 ^ digit_limit }
+    requires zeros { zeros ≤ spec.unit_power + exponent_limit }
     ensures { MatchOption result ((mantissa * 10 ^ zeros) % 10 ^ 36 ≢ 0) (λ n. mantissa * 10 ^ zeros ≡ n * 10 ^ 36) }
 {
     let mantissa = u128::from(mantissa);
@@ -166,7 +167,8 @@ pub fn length_value(word: &[u8]) -> Option<usize>
 fn number_value(word: &[u8]) -> Result<Scaled, Code>
     ensures value { MatchResult result (λ s. spec.number_value word.now ≡ Ok (s.mantissa * 10 ^ s.zeros))
         (λ c. spec.number_value word.now ≡ Err c) }
-    ensures small { MatchResult result (λ s. (s.mantissa < 10 ^ 18) × (s.zeros ≤ 54)) (λ c. ⊤) }
+    ensures small { MatchResult result
+        (λ s. (s.mantissa < 10 ^ digit_limit) × (s.zeros ≤ spec.unit_power + exponent_limit)) (λ c. ⊤) }
 {
     let Some(spelt) = numeral_of(word) else {
         return Err(Code::BadNumber);
@@ -281,9 +283,9 @@ fn are_digits(text: &[u8]) -> bool
 /// The number that the digits write after those of `start`.
 fn digits_after(start: u64, digits: &[u8]) -> u64
     requires digits { list_all is_ascii_digit digits.now ≡ true }
-    requires room { (start + 1) * 10 ^ length digits.now ≤ 10 ^ 18 }
+    requires room { (start + 1) * 10 ^ length digits.now ≤ 10 ^ digit_limit }
     ensures value { result ≡ digits_value_after 10 start digits.now }
-    ensures small { result < 10 ^ 18 }
+    ensures small { result < 10 ^ digit_limit }
     ensures bound { result + 1 ≤ (start + 1) * 10 ^ length digits.now }
 {
     let mut value = start;
@@ -296,7 +298,7 @@ fn digits_after(start: u64, digits: &[u8]) -> u64
 /// The number that the digits write, or the first one above the limit of exponents where it is above that.
 fn capped_value(digits: &[u8]) -> u32
     requires { list_all is_ascii_digit digits.now ≡ true }
-    ensures { result ≡ min 19 (digits_value 10 digits.now) }
+    ensures { result ≡ min (exponent_limit + 1) (digits_value 10 digits.now) }
 {
     let mut value = 0;
     for byte in digits {

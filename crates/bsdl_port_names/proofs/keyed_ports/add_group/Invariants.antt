@@ -8,6 +8,7 @@ use Rattle.bsdl_port_names.proofs.keyed_ports.add_group.Given as goal
 
 abbrev pub invariant-loop-name : goal.invariant-loop-name
 invariant-loop-name l = record {
+  ranges : l.keyed.ranges ≡ l.initial.keyed.ranges;
   counted : l.keyed.next ≡ l.initial.keyed.next + l.name-index;
   kept :
       (q : List ℕ)
