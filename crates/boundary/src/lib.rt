@@ -33,14 +33,14 @@ use std::marker::Model;
 /// take their disabling values.
 #[derive(Drop)]
 pub struct Boundary {
-    device: SharedDevice,
-    masks: Masks,
-    disabling: Bits,
-    core: Bits,
-    extest_update: bool,
-    seen: Sights,
     stage: Bits,
     update: Bits,
+    seen: Sights,
+    core: Bits,
+    masks: Masks,
+    disabling: Bits,
+    device: SharedDevice,
+    extest_update: bool,
 }
 
 impl Model for Boundary {

@@ -21,10 +21,10 @@ use std::alloc::{AllocError, Global};
 pub struct DataRegisters<B: Register> {
     /// The one bit of the bypass register (clause 10).
     pub bypass: bool,
-    /// The stage of the identification register, bit 0 nearest TDO; empty on a device without a code (clause 12).
-    pub identification: Bits,
     /// The boundary register (clause 11).
     pub boundary: B,
+    /// The stage of the identification register, bit 0 nearest TDO; empty on a device without a code (clause 12).
+    pub identification: Bits,
     /// The user registers, in the order in which the description first names them.
     pub users: Vec<UserRegister>,
 }

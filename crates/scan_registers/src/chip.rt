@@ -26,18 +26,18 @@ use std::marker::Model;
 /// A device with its controller, round a boundary register.
 ///
 /// The instruction in the latch is decoded when the latch changes, and not at each edge nor at each update; that of the
-/// reset latch once.
+/// reset latch once. What each edge looks at stands together, since fields lie in this order.
 #[derive(Drop)]
 pub struct Chip<B: Register> {
-    device: SharedDevice,
     reset_latch: Bits,
     reset_decoded: Decoded,
+    latch: Bits,
+    stage: Bits,
+    device: SharedDevice,
     decoded: Decoded,
     state: State,
     tdo: Option<bool>,
     trst: bool,
-    latch: Bits,
-    stage: Bits,
     registers: DataRegisters<B>,
 }
 
