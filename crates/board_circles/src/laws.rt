@@ -1,8 +1,8 @@
 //! Loops by the numbers of nets are circles over the nets.
 ghost use Rattle.board_circles.specs.Circles.{LoopsAreCircles, NoLoopIsNoCircle};
 
-/// Where strings fit their devices, one is on a loop by the numbers of nets exactly where its source's net depends, in any
-/// number of steps, on its target's net.
+/// Where strings fit their devices, one is on a loop by the numbers of nets exactly where its source's net depends, in
+/// any number of steps, on its target's net.
 pub fn loops_are_circles()
     ensures { LoopsAreCircles }
 {}

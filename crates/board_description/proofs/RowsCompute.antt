@@ -1,5 +1,5 @@
 -- The lines compute.
-use Rattle.std.proofs.Common.{◌<◌, refl, arith}
+use Rattle.std.proofs.Common.{refl, arith}
 use Rattle.std.proofs.lemmas.Fmt.{decimal_digit}
 use Rattle.board_description.specs.Rows.{DescribedRows}
 

@@ -152,7 +152,8 @@ cell_lines nets device name d k (cell ∷ cells) =
 -- the device at a place, with the file of its description
 abbrev pub device_part : List Net → (device : ℕ) → (file name : List ℕ) → Device → List ℕ
 device_part nets device file name d =
-    device_line file name d ++ (flat_map (instruction_lines name d) d.opcodes ++ cell_lines nets device name d 0 d.cells)
+    device_line file name d
+    ++ (flat_map (instruction_lines name d) d.opcodes ++ cell_lines nets device name d 0 d.cells)
 
 -- the devices from a place on, with the files of their descriptions
 abbrev pub device_lines : List Net → (device : ℕ) → (files : List (List ℕ)) → List Member → List ℕ
@@ -174,7 +175,8 @@ pin_words ms pin = unwrap_or (option_map (pin_of pin.port) (slice_get ms pin.dev
 
 abbrev pub net_line : List Member → Net → List ℕ
 net_line ms net =
-    texts (codes "net " ∷ net.name ∷ codes " pull " ∷ []) ++ (pull_word net.pull ++ (flat_map (pin_words ms) net.pins ++ codes "\n"))
+    texts (codes "net " ∷ net.name ∷ codes " pull " ∷ [])
+    ++ (pull_word net.pull ++ (flat_map (pin_words ms) net.pins ++ codes "\n"))
 
 abbrev pub total : (Member → ℕ) → List Member → ℕ
 total long [] = 0

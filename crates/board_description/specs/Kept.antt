@@ -29,9 +29,10 @@ abbrev pub with_name : Place → List ℕ → List (List ℕ) → List (List ℕ
 with_name (AtUser k) name names = slice_set names k name
 with_name _ name names = names
 
--- These bytes were written, or memory ran out with no write lost, or the writer's first loss came; there a front part of
--- them was.
-abbrev pub Told : {W A : Type 0} → (W → Option (List ℕ)) → CountedView W → CountedView W → List ℕ → Result A Untold → Type 0
+-- These bytes were written, or memory ran out with no write lost, or the writer's first loss came; there a front part
+-- of them was.
+abbrev pub Told : {W A : Type 0} → (W → Option (List ℕ)) → CountedView W → CountedView W → List ℕ → Result A Untold
+    → Type 0
 Told contents old new bytes (Ok x) = (new.failures ≡ 0) × Appends (contents old.inner) (contents new.inner) bytes
 Told contents old new bytes (Err NoMemory) =
     (new.failures ≡ 0) × AppendsFront (contents old.inner) (contents new.inner) bytes

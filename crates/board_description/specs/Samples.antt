@@ -28,8 +28,9 @@ abbrev pub sample : Device
 sample = record {
   ports = port (codes "Q") (Some 0) ∷ port (codes "D") None ∷ [];
   instruction_length = 3;
-  opcodes = opcode (codes "BYPASS") 7 ∷ opcode (codes "EXTEST") 0 ∷ opcode (codes "SAMPLE") 1 ∷ opcode (codes "IDCODE") 2
-      ∷ opcode (codes "READ") 3 ∷ [];
+  opcodes =
+      opcode (codes "BYPASS") 7 ∷ opcode (codes "EXTEST") 0 ∷ opcode (codes "SAMPLE") 1
+      ∷ opcode (codes "IDCODE") 2 ∷ opcode (codes "READ") 3 ∷ [];
   capture = bits 3 1;
   idcode = Some (bits 32 5);
   usercode = None;

@@ -76,7 +76,8 @@ fn put_opcode(
 
 /// Puts what ends the line of an instruction behind a text.
 fn put_end(text: &mut Vec<u8>, device: &Device, name: &str) -> Result<(), AllocError>
-    ensures { OnOk result (text.new.items ≡ text.old.items ++ spec.left_out_words (plan.is_left_out device.now name.now)) }
+    ensures { OnOk result
+        (text.new.items ≡ text.old.items ++ spec.left_out_words (plan.is_left_out device.now name.now)) }
 {
     if is_left_out(device, name) {
         put(text, &[b" stands for BYPASS\n"])

@@ -119,7 +119,8 @@ fn own_register(device: &Device, own: &Places<&str>, name: &str) -> Selected
 fn own_access<'d>(device: &'d Device, own: &Places<&str>, name: &str) -> Option<&'d Access>
     requires { texts_of own.now ≡ own_names device.now }
     ensures { option_map {U = described.Access} (λ a. a.now) result
-        ≡ option_and_then (λ place. slice_get device.now.accesses place) (position (bytes_eq name.now) (own_names device.now)) }
+        ≡ option_and_then (λ place. slice_get device.now.accesses place)
+        (position (bytes_eq name.now) (own_names device.now)) }
 {
     let place = own.place_of(name)?;
     device.accesses().get(place)

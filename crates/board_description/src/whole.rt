@@ -81,7 +81,8 @@ fn write_devices<W: Sink>(
     requires whole { out.old.failures ≡ 0 }
     requires tables { HaveNets 0 (map planned_member devices.now) (map planned_net nets.now) (lists_of tables.now) }
     ensures { Told W.contents out.old out.new
-        (device_lines (map planned_net nets.now) 0 (map string_bytes files.now) (map planned_member devices.now)) result }
+        (device_lines (map planned_net nets.now) 0 (map string_bytes files.now) (map planned_member devices.now))
+        result }
 {
     let count = files.len().min(devices.len());
     let mut place = 0;

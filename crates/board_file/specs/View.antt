@@ -78,7 +78,8 @@ IsMiswired miswired.TooLarge fault.TooLarge = Unit {0}
 IsMiswired _ _ = ⊥
 
 -- The wiring, or the fault that the refusal names, unless memory runs out.
-abbrev pub TellsWiring : {F : Type 0} → (List ℕ → F → Type 0) → Result Plan (BoardFault F) → Result Wiring Fault → Type 0
+abbrev pub TellsWiring : {F : Type 0} → (List ℕ → F → Type 0) → Result Plan (BoardFault F) → Result Wiring Fault
+    → Type 0
 TellsWiring refuses (Ok p) said = said ≡ Ok (wiring p)
 TellsWiring refuses (Err f) (Ok w) = TellsFault refuses f None
 TellsWiring refuses (Err f) (Err e) = TellsFault refuses f (Some e)

@@ -11,8 +11,8 @@ use board_words::target_text;
 use std::alloc::{AllocError, Global};
 use toml::Value;
 
-/// The target of the string at a place, by the tables of devices and then strings, as `U1.Q`. Refuses for want of memory
-/// alone.
+/// The target of the string at a place, by the tables of devices and then strings, as `U1.Q`. Refuses for want of
+/// memory alone.
 ///
 /// Asks that there are so many strings.
 pub(crate) fn target_at(

@@ -137,5 +137,6 @@ LoopRows =
     -- through two devices
     × IsRefusedLoop (file
     (following (codes "U1") (codes "k") (codes "Q = D" ∷ []) ∷ following (codes "U2") (codes "k") (codes "Q = D" ∷ [])
-    ∷ []) (net (codes "N") (codes "U1.Q" ∷ codes "U2.D" ∷ []) ∷ net (codes "M") (codes "U2.Q" ∷ codes "U1.D" ∷ []) ∷ []))
+    ∷ [])
+    (net (codes "N") (codes "U1.Q" ∷ codes "U2.D" ∷ []) ∷ net (codes "M") (codes "U2.Q" ∷ codes "U1.D" ∷ []) ∷ []))
     (codes "U1.Q")

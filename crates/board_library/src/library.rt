@@ -184,8 +184,8 @@ fn file_places<'f>(
     Ok(places)
 }
 
-/// What stands in a file of this text, or that there is none, and whether one before it is refused. A text that was read
-/// already, since its file has another name too, is not read again.
+/// What stands in a file of this text, or that there is none, and whether one before it is refused. A text that was
+/// read already, since its file has another name too, is not read again.
 fn read_once<'f, R: Describe>(
     alloc: Global,
     reader: &R,

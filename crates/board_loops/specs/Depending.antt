@@ -1,5 +1,5 @@
--- Which nets of a planned board depend on which, by the strings of its devices. Nets are numbers: one with a name has its
--- place, and each port bit that none of these joins is a net by itself behind them, device after device.
+-- Which nets of a planned board depend on which, by the strings of its devices. Nets are numbers: one with a name has
+-- its place, and each port bit that none of these joins is a net by itself behind them, device after device.
 use Rattle.std.specs.Prelude.{◌≡◌, ℕ, zero, suc, ◌+◌, List, [], ◌∷◌, ◌++◌, length, map, slice_get, slice_index_or}
 use Rattle.std.specs.Prelude.{Option, None, option_and_then, unwrap_or}
 use Rattle.std.specs.List.{AllByRecursion}

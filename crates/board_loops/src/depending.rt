@@ -78,8 +78,8 @@ fn has_strings(device: &PlannedDevice) -> bool
     !device.follows.is_empty()
 }
 
-/// Adds the strings of a device, by a table of the nets of its port bits, and the number of the first of these for where
-/// it is on none.
+/// Adds the strings of a device, by a table of the nets of its port bits, and the number of the first of these for
+/// where it is on none.
 fn add_strings(
     all: &mut Vec<Dependency>,
     table: &[Option<usize>],

@@ -139,8 +139,8 @@ AreFound nets = (net : Net) → IsAmong net nets → (pin : Pin) → IsAmong pin
 
 -- the law: where pins are on one net each and no string is for the control of another cell, that is no circle
 abbrev pub NoLoopIsNoCircle : Type 0
-NoLoopIsNoCircle = (nets : List Net) (ms : List Member) → AreFound nets → AllByRecursion (λ m. FollowsNoOtherControl m) ms
-    → HasNoLoop nets ms → HasNoCircle nets ms
+NoLoopIsNoCircle = (nets : List Net) (ms : List Member) → AreFound nets
+    → AllByRecursion (λ m. FollowsNoOtherControl m) ms → HasNoLoop nets ms → HasNoCircle nets ms
 
 -- the law: a circle of targets and sources is a net that depends on itself
 abbrev pub NoCircleIsNoLoop : Type 0

@@ -34,8 +34,8 @@ pub enum BoardFault<F> {
     /// A growth was refused.
     #[error("C8 NoMemory")]
     NoMemory,
-    /// The target of the first string on a loop, as `U1.Q` in the file's spelling, by devices and then strings: some net
-    /// depends on itself. It comes only where none of C1 to C7 does.
+    /// The target of the first string on a loop, as `U1.Q` in the file's spelling, by devices and then strings: some
+    /// net depends on itself. It comes only where none of C1 to C7 does.
     #[error("C9 CoreLoop")]
     CoreLoop(String),
 }

@@ -1,7 +1,7 @@
 -- Which port bits the pins of the nets are. A pin is a port bit of a device; the TAP's ports are none.
-use Rattle.std.specs.Prelude.{suc, ℕ, Bool, ◌&&◌, ◌==◌, nat_lt, List, [], ◌∷◌, ◌++◌, filter_map, codes, bytes_eq, option_map}
+use Rattle.std.specs.Prelude.{suc, ℕ, Bool, ◌&&◌, ◌==◌, nat_lt, List, [], ◌∷◌, ◌++◌, filter_map, codes, bytes_eq}
 use Rattle.std.specs.Option.{option_or}
-use Rattle.std.specs.Prelude.{option_and_then, Option, Some, None, position, slice_get, if◌then◌else◌}
+use Rattle.std.specs.Prelude.{option_and_then, option_map, Option, Some, None, position, slice_get, if◌then◌else◌}
 use Rattle.std.specs.List.{list_any}
 use Rattle.std.specs.Str.Parse.{digits_value}
 use Rattle.jt_limits.specs.Limits.{subscript_limit}

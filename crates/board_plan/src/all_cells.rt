@@ -49,8 +49,8 @@ pub fn all_port_nets(
     Ok(tables)
 }
 
-/// Of each port bit of each device nothing yet: the device nearest the board's TDO first, of each port bit 0 first. Refused
-/// where memory runs out.
+/// Of each port bit of each device nothing yet: the device nearest the board's TDO first, of each port bit 0 first.
+/// Refused where memory runs out.
 pub fn no_nets(
     alloc: Global,
     devices: &[PlannedDevice],

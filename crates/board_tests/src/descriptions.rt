@@ -39,8 +39,8 @@ pub(crate) const P: &str = "entity P is port (TDI, TMS, TCK : in bit; TDO : out 
   attribute BOUNDARY_REGISTER of P : entity is \"0 (BC_1, *, internal, X)\";
 end;";
 
-/// A device with ports of every mode and a cell of each kind that drives: cell 4 is its own control, cell 8 drives a port
-/// of mode in.
+/// A device with ports of every mode and a cell of each kind that drives: cell 4 is its own control, cell 8 drives a
+/// port of mode in.
 pub(crate) const W: &str = "entity W is
   port (TDI, TMS, TCK, TRST : in bit; TDO : out bit;
         A : inout bit_vector (0 to 3); I : in bit_vector (7 downto 6); X : in bit;

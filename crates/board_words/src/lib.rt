@@ -1,5 +1,5 @@
-//! What the words of a board file mean: names, pins and strings as they are written, and the places at which names first
-//! come.
+//! What the words of a board file mean: names, pins and strings as they are written, and the places at which names
+//! first come.
 #![tactic(auto)]
 
 mod follows;

@@ -1,5 +1,5 @@
--- What a sight, a core's bit or a new update stage changes of a capture. These proof terms stand here since `impl Register` names
--- them: there is nothing to judge.
+-- What a sight, a core's bit or a new update stage changes of a capture. These proof terms stand here since `impl
+-- Register` names them: there is nothing to judge.
 use Rattle.std.proofs.Common.{◌≡◌, ◌≢◌, ◌⊎◌, ⊎_elim, inl, inr, ℕ, zero, suc, Bool, true, false, List, [], ◌∷◌, length}
 use Rattle.std.proofs.Common.{slice_get, slice_set, Option, Some, None, refl, sym, ap, ◌∙◌}
 use Rattle.std.proofs.Math.Nat.{suc_inj, suc-ne-zero}

@@ -1,5 +1,6 @@
 //! Names at their places, and the first that is given again.
-ghost use Rattle.std.specs.Prelude.{◌≡◌, ◌||◌, ℕ, List, Option, true, false, bytes_eq, map, not, option_map, IfOk, OnOk};
+ghost use Rattle.std.specs.Prelude.{◌≡◌, ◌||◌, ℕ, List, Option, true, false, bytes_eq, map, not, option_map};
+ghost use Rattle.std.specs.Prelude.{IfOk, OnOk};
 ghost use Rattle.std.specs.BTreeMap.{get};
 ghost use Rattle.std.specs.BTreeSet.{contains_by};
 ghost use Rattle.bsdl_namings.specs.Spots.{begins_before, either, has_repeated, is_naming, is_named_before};

@@ -40,7 +40,10 @@ puts k s = elim s.pin [
 -- a device whose boundary holds this core bit at a cell
 abbrev pub with_core : SeatValue → (cell : ℕ) → Bool → SeatValue
 with_core s cell b =
-    record s { chip = record s.chip { boundary = record s.chip.boundary { core = slice_set s.chip.boundary.core cell b } } }
+    record s {
+      chip =
+          record s.chip { boundary = record s.chip.boundary { core = slice_set s.chip.boundary.core cell b } };
+    }
 
 -- the device without the core bits that its boundary holds, which strings alone change
 abbrev pub less_core : SeatValue → SeatValue

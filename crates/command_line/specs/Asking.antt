@@ -125,8 +125,8 @@ pub record Host : Type 0 where
   pub port : ℕ
   pub timeout : Option ℕ
 
--- what is done with a text or a board: whether the bytes are told, whether all failures are, and whether of a refusal it is
--- told where it lies
+-- what is done with a text or a board: whether the bytes are told, whether all failures are, and whether of a refusal
+-- it is told where it lies
 pub data Action : Type 0 where
   plays : (bytes all : Bool) → Action
   checks : (explain : Bool) → Action

@@ -1,5 +1,5 @@
--- What a board file and its descriptions make within limits hangs on them only by whether it lies within them. Whether a
--- string is on a loop is a matter of the wiring alone.
+-- What a board file and its descriptions make within limits hangs on them only by whether it lies within them. Whether
+-- a string is on a loop is a matter of the wiring alone.
 use Rattle.std.specs.Prelude.{◌≡◌, ℕ, List, Option, Some, None, Ok}
 use Rattle.std.specs.List.{AllByRecursion}
 use Rattle.jt_limits.specs.declared.Limits.{Limits}

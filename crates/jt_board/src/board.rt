@@ -60,7 +60,8 @@ impl Board {
     ///
     /// `n` outside 1 to 256 is C7, want of memory C8. No other call on a board takes memory.
     pub fn bare(alloc: Global, n: usize) -> Result<Board, BoardFault>
-        ensures made { 0 < n → n ≤ limits.devices → MatchResult result (λ b. b ≡ bare_board n) (λ f. f ≡ fault.NoMemory) }
+        ensures made { 0 < n → n ≤ limits.devices
+            → MatchResult result (λ b. b ≡ bare_board n) (λ f. f ≡ fault.NoMemory) }
         ensures too_large { (n ≡ 0) ⊎ (limits.devices < n) → result ≡ Err fault.TooLarge }
     {
         if n == 0 || n > MOST_DEVICES {

@@ -60,8 +60,8 @@ abbrev pub DirectPlaysPassOrFail : Type 0
 DirectPlaysPassOrFail =
     (kind : Kind) (program : Program) (start : BoardState) → PassesOrFails (ending_in kind program start)
 
--- What the exit status of a run says: 0 and 1 that its text is accepted and was played, and passed or failed; 2 that the
--- text is refused; 4 that memory ran out.
+-- What the exit status of a run says: 0 and 1 that its text is accepted and was played, and passed or failed; 2 that
+-- the text is refused; 4 that memory ran out.
 pub data EndsIn (kind : Kind) (text : List ℕ) (start : BoardState) : (status : ℕ) → Type 0 where
   passes : (program : Program) → Accepts text program → ending_in kind program start ≡ Pass
       → EndsIn kind text start 0

@@ -31,8 +31,8 @@ pub(crate) fn check_text<W: Sink, E: Sink>(
     Ok(status)
 }
 
-/// Tells why no board was made, and where it is asked for what the refusal names, or where in which file it lies. Answers
-/// the exit status.
+/// Tells why no board was made, and where it is asked for what the refusal names, or where in which file it lies.
+/// Answers the exit status.
 pub(crate) fn tell_unmade<E: Sink>(
     fault: &Unmade,
     explain: bool,

@@ -1,5 +1,5 @@
 -- The second line of a refusal: where in which text it lies, or the name that it speaks of.
-use Rattle.std.specs.Prelude.{ℕ, List, [], ◌∷◌, ◌++◌, codes, decimal, flat_map, string_bytes, Option, Some, None}
+use Rattle.std.specs.Prelude.{ℕ, List, [], ◌∷◌, ◌++◌, codes, decimal, string_bytes, Option, Some, None}
 use Rattle.std.specs.Prelude.{option_map, unwrap_or}
 use Rattle.svf_words.specs.declared.fault.Code.{Code}
 use Rattle.svf_words.specs.declared.fault.Code.TheVariants as code
@@ -11,13 +11,10 @@ use Rattle.bsdl.specs.declared.fault.BsdlFault.TheVariants as bsdl
 use Rattle.board_names.specs.declared.fault.BoardFault.{BoardFault}
 use Rattle.board_names.specs.declared.fault.BoardFault.TheVariants as board
 use Rattle.board_description.specs.Names.{shown}
+use Rattle.board_description.specs.Words.{texts}
 use Rattle.text_places.specs.declared.Position.{Position}
 use Rattle.text_places.specs.Positions.{position_of}
 use Rattle.text_places.specs.Starts.{statement_position}
-
--- texts, one after another
-abbrev pub texts : List (List ℕ) → List ℕ
-texts pieces = flat_map (λ p. p) pieces
 
 abbrev pub place_words : Position → List ℕ
 place_words p = texts (codes "at line " ∷ decimal p.line ∷ codes " column " ∷ decimal p.column ∷ [])

@@ -136,8 +136,8 @@ fn whole(mantissa: u64, zeros: u32) -> Option<u128>
 
 /// The length of a scan in bits.
 ///
-/// Refused are a word that is not decimal digits alone (S5), and more than 18 digits or more than 1,048,576 bits (S15). An
-/// empty word, which no text has, is 0.
+/// Refused are a word that is not decimal digits alone (S5), and more than 18 digits or more than 1,048,576 bits (S15).
+/// An empty word, which no text has, is 0.
 pub fn length(word: &[u8]) -> Result<usize, Code>
     ensures { result ≡ spec.len_says word.now }
 {

@@ -119,7 +119,8 @@ fn add<'a>(
     requires open { IsOpen (groups_of (left words)) }
     ensures takes { Takes (vec_len all.old + 1) word.now (groups_of (left words.entry)) result
         all.old.items all.new.items }
-    ensures count { IfOk result (λ _. (vec_len all.new ≡ vec_len all.old + 1) × (vec_len all.new ≤ spec.statement_limit)) }
+    ensures count { IfOk result
+        (λ _. (vec_len all.new ≡ vec_len all.old + 1) × (vec_len all.new ≤ spec.statement_limit)) }
 {
     let number = all.len() + 1;
     let mut rest = words;

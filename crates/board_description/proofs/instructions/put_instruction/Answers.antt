@@ -1,4 +1,4 @@
-use Rattle.std.proofs.Common.{◌≡◌, ◌∷◌, ◌++◌, ℕ, List, Some, get_or, codes, sym, ap, ◌∙◌, arith}
+use Rattle.std.proofs.Common.{◌≡◌, ◌++◌, Some, ap, ◌∙◌, arith}
 use Rattle.bsdl_device.specs.Device.{Name, Pattern}
 use Rattle.device_instructions.specs.declared.Selected.{Selected}
 use Rattle.device_instructions.specs.Instruction.{meaning_of}

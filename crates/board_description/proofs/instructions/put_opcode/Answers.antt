@@ -1,4 +1,4 @@
-use Rattle.std.proofs.Common.{◌≡◌, ◌∷◌, ◌++◌, ℕ, List, codes, sym, ap, ◌∙◌}
+use Rattle.std.proofs.Common.{◌++◌, ℕ, List, codes, ap, ◌∙◌}
 use Rattle.board_description.specs.Described.{pattern_digits}
 use Rattle.board_description.proofs.TextLaws.{OnOk-behind, OnOk-is}
 use Rattle.board_description.proofs.instructions.put_opcode.Goals as goal

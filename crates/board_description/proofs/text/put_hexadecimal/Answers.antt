@@ -1,4 +1,4 @@
-use Rattle.std.proofs.Common.{◌≡◌, ◌-◌, ◌∷◌, ◌++◌, ℕ, List, sym, ap, ◌∙◌, arith}
+use Rattle.std.proofs.Common.{◌-◌, ◌++◌, ℕ, List, sym, ap, ◌∙◌, arith}
 use Rattle.jt_bits.specs.Hex.{hex_digit_of}
 use Rattle.board_description.specs.Described.{hex_from}
 use Rattle.board_description.proofs.TextLaws.{grow, hex_down}

@@ -1,5 +1,5 @@
-use Rattle.std.proofs.Common.{◌≡◌, ◌++◌, ℕ, List, [], map, refl, sym, ap, subst, ◌∙◌}
-use Rattle.std.specs.Prelude.{string_bytes, Err, Ok}
+use Rattle.std.proofs.Common.{◌≡◌, ◌++◌, ℕ, List, [], map, refl, ap, subst, ◌∙◌}
+use Rattle.std.specs.Prelude.{string_bytes, Err}
 use Rattle.std.proofs.lemmas.List.{append-nil}
 use Rattle.std.specs.Io.KnownBytes.{Appends}
 use Rattle.board_plan.specs.declared.plan.PlannedDevice.{PlannedDevice}
