@@ -14,3 +14,4 @@ pub use accepting::accept;
 pub use laws::texts_stay_accepted_within_larger_limits;
 pub use noted::{play_program_all_noted, play_program_noted};
 pub use playing::{play_program, play_program_all};
+pub use stepping::{end_scan, play_opening, play_step};

@@ -28,7 +28,7 @@ pub(crate) const OPENING: &[u8] = b"r26262626260";
 
 /// Opens a play, edge by edge, for a board may stand in the middle of a scan: TRST is released, and five cycles with
 /// TMS 1 follow.
-pub(crate) fn play_opening(board: &mut Board)
+pub fn play_opening(board: &mut Board)
     ensures { board.new ≡ (hear opening board.old).board }
 {
     take_all(board, OPENING);
@@ -44,7 +44,7 @@ fn take_all(board: &mut Board, bytes: &[u8])
 }
 
 /// Plays a step on a board at rest (asked), and notes every wanted bit that came out otherwise.
-pub(crate) fn play_step(step: &Step<'_>, board: &mut Board, failures: &mut Failures)
+pub fn play_step(step: &Step<'_>, board: &mut Board, failures: &mut Failures)
     requires rests { IsResting board.old }
     requires within { IsWithin (seen.step step.now.what) }
     requires room { failures.old.total + vector_limit < 2 ^ 64 }
@@ -97,8 +97,9 @@ fn scan(
     end_scan(column, end, board);
 }
 
-/// A scan ends: one that ends in its own pause rests there with the update pending.
-fn end_scan(column: Column, end: State, board: &mut Board)
+/// A scan of a board at rest (asked) ends, its bits shifted: one that ends in its own pause rests there with the update
+/// pending.
+pub fn end_scan(column: Column, end: State, board: &mut Board)
     requires { IsResting board.old }
     ensures { (m : AtRest) → IsAtRest board.old m → IsAtRest board.new (meaning.scan_end column end m) }
 {

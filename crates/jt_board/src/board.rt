@@ -112,7 +112,8 @@ impl Board {
         Snapshot::new(self.tck, &self.chain)
     }
 
-    pub(crate) fn chain(&self) -> &Chain
+    /// The chain of the board's devices, with the nets between their pins.
+    pub fn chain(&self) -> &Chain
         ensures chips { result.now.chips ≡ self.now.chips }
         ensures nets { result.now.nets ≡ self.now.nets }
     {
