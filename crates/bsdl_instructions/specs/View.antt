@@ -21,7 +21,7 @@ abbrev pub private_name : declared_private.PrivateName → Name
 private_name p = upper p.name.text.now
 
 abbrev pub instr : declared_instr.Instr → Instr
-instr i = record { name = word_lexeme i.name; captures = option_map pattern i.captures }
+instr i = record { name = word_lexeme i.name; captures = option_map (λ b. pattern b.value) i.captures }
 
 abbrev pub access_row : declared_access.AccessRow → AccessRow
 access_row r =

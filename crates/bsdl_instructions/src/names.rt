@@ -1,5 +1,5 @@
 //! Instructions: their opcodes, private names, and the registers that they select.
-ghost use Rattle.std.specs.Prelude.{◌≡◌, ◌<◌, ◌≤◌, length, option_map, IfOk};
+ghost use Rattle.std.specs.Prelude.{◌≡◌, ◌<◌, ◌≤◌, length, option_map, IfErr, IfOk};
 ghost use Rattle.bsdl_lex.specs.Left.{left};
 ghost use Rattle.bsdl_text.specs.WordView.{word_lexeme};
 ghost use Rattle.bsdl_numbers.specs.View as number_view;
@@ -56,11 +56,11 @@ impl<'a> Entry<'a> for PrivateName<'a> {
     }
 }
 
-/// An instruction of a register, and what the register captures for it.
+/// An instruction of a register, and what the register captures for it: in a box, since most say nothing of it.
 #[derive(Debug, Drop)]
 pub struct Instr<'a> {
     pub name: Word<'a>,
-    pub captures: Option<WrittenPattern>,
+    pub captures: Option<Box<WrittenPattern>>,
 }
 
 impl<'a> Entry<'a> for Instr<'a> {
@@ -75,7 +75,7 @@ impl<'a> Entry<'a> for Instr<'a> {
         match rest.next() {
             Some((token, after)) if same_name(token.text, b"CAPTURES") => {
                 let (found, behind) = digits_of(alloc, after)?;
-                let captures = Some(found);
+                let captures = Some(boxed(alloc, found)?);
                 Ok((Instr { name, captures }, behind))
             }
             _ => Ok((
@@ -86,6 +86,16 @@ impl<'a> Entry<'a> for Instr<'a> {
                 rest,
             )),
         }
+    }
+}
+
+fn boxed(alloc: Global, pattern: WrittenPattern) -> Result<Box<WrittenPattern>, Stop>
+    ensures boxed { IfOk result (λ b. b.value ≡ pattern.entry) }
+    ensures stops { IfErr result (λ e. e ≡ Stop.Memory) }
+{
+    match Box::new(alloc, pattern) {
+        Ok(boxed) => Ok(boxed),
+        Err(_) => Err(Stop::Memory),
     }
 }
 
