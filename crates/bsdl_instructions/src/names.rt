@@ -8,6 +8,7 @@ ghost use Rattle.bsdl_instructions.specs.Values as spec;
 ghost use Rattle.bsdl_device.specs.Device as device;
 ghost use Rattle.bsdl_instructions.specs.View as view;
 
+use crate::pattern_lists::{Patterns, bracketed_patterns};
 use crate::patterns::{WrittenPattern, bracketed, digits_of};
 use bsdl_lex::Lexer;
 use bsdl_numbers::Digits;
@@ -20,7 +21,7 @@ use std::alloc::Global;
 #[derive(Debug, Drop)]
 pub struct OpcodeRow<'a> {
     pub name: Word<'a>,
-    pub patterns: Vec<WrittenPattern>,
+    pub patterns: Patterns,
 }
 
 impl<'a> Entry<'a> for OpcodeRow<'a> {
@@ -32,7 +33,7 @@ impl<'a> Entry<'a> for OpcodeRow<'a> {
 
     fn read(alloc: Global, lexer: Lexer<'a>) -> Result<(OpcodeRow<'a>, Lexer<'a>), Stop> {
         let (name, rest) = word(lexer)?;
-        let (patterns, rest) = bracketed(alloc, rest)?;
+        let (patterns, rest) = bracketed_patterns(alloc, rest)?;
         Ok((OpcodeRow { name, patterns }, rest))
     }
 }
@@ -90,7 +91,7 @@ impl<'a> Entry<'a> for Instr<'a> {
 }
 
 fn boxed(alloc: Global, pattern: WrittenPattern) -> Result<Box<WrittenPattern>, Stop>
-    ensures boxed { IfOk result (λ b. b.value ≡ pattern.entry) }
+    ensures boxed { IfOk result (λ b. b.value ≡ pattern) }
     ensures stops { IfErr result (λ e. e ≡ Stop.Memory) }
 {
     match Box::new(alloc, pattern) {

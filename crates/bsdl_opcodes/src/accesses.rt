@@ -79,7 +79,7 @@ fn captures_of(
         return Ok(None);
     }
     match captures {
-        Some(pattern) => Ok(Some(bits_of(alloc, pattern)?)),
+        Some(pattern) => Ok(Some(bits_of(alloc, &pattern.digits)?)),
         None => Ok(None),
     }
 }

@@ -5,9 +5,9 @@ use Rattle.bsdl_opcodes.proofs.patterns.bits_of.Goals as goal
 
 pub loop-i-preserved : goal.loop-i-preserved
 loop-i-preserved c =
-    let ds = c.args.pattern.now.digits.items in
+    let ds = c.args.digits.now in
     let i = c.loop-i.i in
-    let len : c.len-len.result ≡ length ds = c.len-len.ensures ∙ c.args.pattern.now.digits.ok.0 in
+    let len : c.len-len.result ≡ length ds = c.len-len.ensures in
     let within : i < length ds = omega (arith, c.loop-i-test.true, len) in
     let digit : c.index.result.now ≡ get_or ds (length ds - 1 - i) c.index.result.now = c.index.ensures ∙ ap (λ (n : ℕ). get_or ds (n - 1 - i) c.index.result.now) len in
     record {
