@@ -29,9 +29,20 @@ fn reset_pattern<'r>(rows: &'r [OpcodeRow<'_>]) -> Option<&'r [u8]>
         ≡ option_and_then (λ o. slice_get o.patterns 0)
         (find (λ o. bytes_eq (codes "IDCODE") o.name) (map spec.opcode (map rows_view.opcode_row rows.now))) }
 {
+    match idcode_row(rows) {
+        Some(row) => row.patterns.first(),
+        None => None,
+    }
+}
+
+/// The first row of IDCODE.
+fn idcode_row<'r, 't>(rows: &'r [OpcodeRow<'t>]) -> Option<&'r OpcodeRow<'t>>
+    ensures { option_map {U = device.Opcode} (λ row. spec.opcode (rows_view.opcode_row row.now)) result
+        ≡ find (λ o. bytes_eq (codes "IDCODE") o.name) (map spec.opcode (map rows_view.opcode_row rows.now)) }
+{
     for row in rows {
         if same_name(b"IDCODE", row.name.text) {
-            return row.patterns.first();
+            return Some(row);
         }
     }
     None
