@@ -1,8 +1,8 @@
 -- The strings of a planned board, wired by tables of port bits.
-use Rattle.std.proofs.Common.{◌≡◌, ◌≢◌, ◌<◌, ◌≤◌, ◌+◌, ℕ, zero, suc, Bool, true, false, ◌&&◌, List, [], ◌∷◌, ◌++◌, append_assoc, length, map, take, get_or, set, replicate, slice_get, Option, Some, None, option_map, refl, sym, ap, subst, ◌∙◌, arith, ◌⊎◌, inl, inr, ⊎_elim, cond}
+use Rattle.std.proofs.Common.{◌≡◌, ◌≢◌, ◌<◌, ◌≤◌, ◌+◌, ℕ, zero, suc, Bool, true, false, ◌&&◌, List, [], ◌∷◌, ◌++◌, append_assoc, length, map, take, get_or, set, slice_get, Option, Some, None, option_map, refl, sym, ap, subst, ◌∙◌, arith, ◌⊎◌, inl, inr, ⊎_elim, cond}
 use Rattle.std.specs.List.{AllPairs, Contains}
 use Rattle.std.proofs.lemmas.Bool.{cases_eq, cases_lt, eqb-true, false≢true}
-use Rattle.std.proofs.lemmas.List.{append-nil, get_or-replicate, get_or-set_other, get_or-set_same, get_or_past, length-replicate, length-set, map-append, map_more, map_push}
+use Rattle.std.proofs.lemmas.List.{append-nil, get_or-set_other, get_or-set_same, get_or_past, length-set, map-append, map_more, map_push, set_past}
 use Rattle.std.proofs.lemmas.List.Elements.{Contains-append_cases, Contains-push_cases}
 use Rattle.std.proofs.lemmas.Option.{get_or_from_slice_get, none-some, same_Some, slice_get-get_or, slice_get-map, slice_get_within}
 use Rattle.bsdl_device.specs.Driving.{drives}
@@ -11,31 +11,20 @@ use Rattle.boundary.specs.Cells.{driver_from, is_port}
 use Rattle.pin_nets.specs.declared.Follow.{Follow}
 use Rattle.pin_nets.specs.declared.Pin.{Pin}
 use Rattle.pin_nets.specs.Wired.{Net}
-use Rattle.board_plan.specs.AllCellNets.{HaveNets, table_at}
+use Rattle.board_plan.specs.AllCellNets.{HaveNets, empty_tables, table_at, with_pin}
 use Rattle.board_plan.specs.CellNets.{first_net, net_by}
 use Rattle.board_plan.specs.Planned.{IsPinOf, all_pins}
 use Rattle.board_plan.specs.Planned as planned
+use Rattle.board_plan.proofs.TableLaws.{empty_have}
 use Rattle.board_meaning.specs.Following.{IsAmong, Placed, takes_from}
-use Rattle.chip_seats.specs.Planning.{CanBeWired, HasPins, HasStringsToWire, IsReadyForStrings, at_place, port_at, string_by, strings_from}
+use Rattle.chip_seats.specs.Planning.{CanBeWired, HasPins, HasStringsToWire, HaveNumbers, IsReadyForStrings, at_place, port_at, string_by, strings_from}
 use Rattle.chip_seats.specs.Strings.{AreStrung, IsStrung, placed_of}
 use Rattle.chip_seats.specs.declared.strings.WiredString.{WiredString}
 use Rattle.chip_seats.proofs.BuildLaws.{all_at}
 
 -- ---- numbers of pins
 
-pub no_pins : (place : ℕ) (pins : List Pin) (n : ℕ) (table : List (Option ℕ)) → table ≡ replicate n None → HasPins place pins 0 table
-no_pins place pins n table is = record {
-  only = λ port k e. absurd (none-some k (sym (by port (cases_lt port n)) ∙ e));
-  all = λ k port below at inside. absurd (omega (arith, below));
-}
-  where
-    by : (port : ℕ) → (port < n) ⊎ (n ≤ port) → get_or table port None ≡ None
-    by port (inl h) = ap (λ (t : List (Option ℕ)). get_or t port None) is ∙ get_or-replicate n port None None h
-    by port (inr h) =
-        ap (λ (t : List (Option ℕ)). get_or t port None) is
-        ∙ get_or_past (replicate n None) port None (omega (arith, h, length-replicate {A = Option ℕ} n None))
-
-pub pin_entered : (place : ℕ) (pins : List Pin) (n : ℕ) (old : List (Option ℕ)) (p : Pin) → HasPins place pins n old → slice_get pins n ≡ Some p
+pin_entered : (place : ℕ) (pins : List Pin) (n : ℕ) (old : List (Option ℕ)) (p : Pin) → HasPins place pins n old → slice_get pins n ≡ Some p
     → p.device ≡ place → p.port < length old → HasPins place pins (n + 1) (set old p.port (Some n))
 pin_entered place pins n old p has at here inside = record { only = only; all = all }
   where
@@ -65,7 +54,7 @@ pin_entered place pins n old p has at here inside = record { only = only; all = 
         length-set-is : length new ≡ length old
         length-set-is = length-set old p.port (Some n)
 
-pub pin_passed : (place : ℕ) (pins : List Pin) (n : ℕ) (old : List (Option ℕ)) (p : Pin) → HasPins place pins n old → slice_get pins n ≡ Some p
+pin_passed : (place : ℕ) (pins : List Pin) (n : ℕ) (old : List (Option ℕ)) (p : Pin) → HasPins place pins n old → slice_get pins n ≡ Some p
     → (p.device ≡ place → p.port < length old → ⊥) → HasPins place pins (n + 1) old
 pin_passed place pins n old p has at none = record {
   only = has.only;
@@ -75,6 +64,71 @@ pin_passed place pins n old p has at none = record {
       none (ap (λ (q : Pin). q.device) is) (omega (arith, within, ap (λ (q : Pin). q.port) is)) in
       has.all k port (omega (arith, below, not-last)) there within;
 }
+
+-- no number is entered
+pub no_numbers : (members : List planned.Member) (pins : List Pin) (tables : List (List (Option ℕ))) → tables ≡ empty_tables members → HaveNumbers members pins 0 tables
+no_numbers members pins tables is =
+    let have = empty_have members 0 tables is in
+    record {
+      long = have.long;
+      ports = have.ports;
+      each = λ place. record {
+        only = λ port k e. absurd (none-some k (sym (nothing place port (cases_lt port (length (table_at tables place))) have) ∙ e));
+        all = λ k port below at inside. absurd (omega (arith, below));
+      };
+    }
+  where
+    nothing : (place port : ℕ) → (port < length (table_at tables place)) ⊎ (length (table_at tables place) ≤ port) → HaveNets 0 members [] tables
+        → get_or (table_at tables place) port None ≡ None
+    nothing place port (inl h) have = have.each place port h
+    nothing place port (inr h) have = get_or_past (table_at tables place) port None h
+
+-- one more number
+pub number_entered : (members : List planned.Member) (pins : List Pin) (n : ℕ) (p : Pin) (old new : List (List (Option ℕ))) → HaveNumbers members pins n old → slice_get pins n ≡ Some p
+    → new ≡ with_pin n p old → HaveNumbers members pins (n + 1) new
+number_entered members pins n p old new has at is = subst (HaveNumbers members pins (n + 1)) (sym is) (record {
+  long = length-set old p.device put ∙ has.long;
+  ports = λ place m stands. (each place).0 ∙ has.ports place m stands;
+  each = λ place. (each place).1;
+})
+  where
+    put : List (Option ℕ)
+    put = set (table_at old p.device) p.port (Some n)
+
+    here : (place : ℕ) → place ≡ p.device → (p.port < length (table_at old p.device)) ⊎ (length (table_at old p.device) ≤ p.port)
+        → (length put ≡ length (table_at old place)) × HasPins place pins (n + 1) put
+    here place same (inl inside) = (
+      length-set (table_at old p.device) p.port (Some n) ∙ ap (λ (i : ℕ). length (table_at old i)) (sym same),
+      subst (λ (i : ℕ). HasPins i pins (n + 1) put) (sym same) (pin_entered p.device pins n (table_at old p.device) p (has.each p.device) at refl inside),
+    )
+    here place same (inr past) = (
+      length-set (table_at old p.device) p.port (Some n) ∙ ap (λ (i : ℕ). length (table_at old i)) (sym same),
+      subst (λ (i : ℕ). HasPins i pins (n + 1) put) (sym same)
+          (subst (HasPins p.device pins (n + 1)) (sym (set_past (table_at old p.device) p.port (Some n) past))
+          (pin_passed p.device pins n (table_at old p.device) p (has.each p.device) at (λ e below. omega (arith, below, past)))),
+    )
+
+    by : (place : ℕ) → (place ≡ p.device) ⊎ (place ≡ p.device → ⊥) → (p.device < length old) ⊎ (length old ≤ p.device)
+        → (length (table_at (with_pin n p old) place) ≡ length (table_at old place)) × HasPins place pins (n + 1) (table_at (with_pin n p old) place)
+    by place (inl same) (inl inside) =
+        let now : table_at (with_pin n p old) place ≡ put = ap (table_at (with_pin n p old)) same ∙ get_or-set_same old p.device put [] inside in
+        subst (λ (t : List (Option ℕ)). (length t ≡ length (table_at old place)) × HasPins place pins (n + 1) t) (sym now)
+        (here place same (cases_lt p.port (length (table_at old p.device))))
+    by place (inl same) (inr past) =
+        let now : table_at (with_pin n p old) place ≡ table_at old place = ap (λ (ts : List (List (Option ℕ))). table_at ts place) (set_past old p.device put past) in
+        let none : table_at old place ≡ [] = get_or_past old place [] (omega (arith, past, same)) in
+        subst (λ (t : List (Option ℕ)). (length t ≡ length (table_at old place)) × HasPins place pins (n + 1) t) (sym now) (
+          refl,
+          pin_passed place pins n (table_at old place) p (has.each place) at
+              (λ e below. omega (arith, below, ap length none)),
+        )
+    by place (inr other) _ =
+        let now : table_at (with_pin n p old) place ≡ table_at old place = get_or-set_other old p.device place put [] other in
+        subst (λ (t : List (Option ℕ)). (length t ≡ length (table_at old place)) × HasPins place pins (n + 1) t) (sym now)
+        (refl, pin_passed place pins n (table_at old place) p (has.each place) at (λ e below. other (sym e)))
+
+    each : (place : ℕ) → (length (table_at (with_pin n p old) place) ≡ length (table_at old place)) × HasPins place pins (n + 1) (table_at (with_pin n p old) place)
+    each place = by place (cases_eq place p.device) (cases_lt p.device (length old))
 
 -- where none stands twice, a pin has one number
 pub one_number : (pins : List Pin) → AllPairs (λ (p q : Pin). p ≢ q) pins → (i j : ℕ) (p : Pin) → slice_get pins i ≡ Some p → slice_get pins j ≡ Some p → i ≡ j
@@ -205,12 +259,14 @@ pub record AreWiredSoFar (w : planned.Wiring) (i : ℕ) (all : List WiredString)
 pub wired_none : (w : planned.Wiring) → AreWiredSoFar w 0 []
 wired_none w = record { strung = λ s has. absurd (omega (arith, has.1)); placed = refl }
 
-pub wired_more : (w : planned.Wiring) (tables : List (List (Option ℕ))) (i : ℕ) (m : planned.Member) (all new : List WiredString) (nets pins : List (Option ℕ)) (cells : List Cell) (strings : List Follow)
-    → IsReadyForStrings w → HaveNets 0 w.members w.nets tables → slice_get w.members i ≡ Some m → AreWiredSoFar w i all
-    → nets ≡ table_at tables i → cells ≡ m.device.cells → strings ≡ m.follows → length pins ≡ length m.device.ports
-    → HasPins i (all_pins w.nets) (length (all_pins w.nets)) pins
+pub wired_more : (w : planned.Wiring) (tables numbers : List (List (Option ℕ))) (i : ℕ) (m : planned.Member) (all new : List WiredString) (nets pins : List (Option ℕ)) (cells : List Cell) (strings : List Follow)
+    → IsReadyForStrings w → HaveNets 0 w.members w.nets tables → HaveNumbers w.members (all_pins w.nets) (length (all_pins w.nets)) numbers
+    → slice_get w.members i ≡ Some m → AreWiredSoFar w i all → nets ≡ table_at tables i → pins ≡ table_at numbers i → cells ≡ m.device.cells → strings ≡ m.follows
     → new ≡ all ++ map (string_by i cells nets pins) strings → AreWiredSoFar w (i + 1) new
-wired_more w tables i m all new nets pins cells strings ready have at so_far is_table is_cells is_strings long has e =
+wired_more w tables numbers i m all new nets pins cells strings ready have numbered at so_far is_table is_numbers is_cells is_strings e =
+    let long : length pins ≡ length m.device.ports = ap length is_numbers ∙ numbered.ports i m at in
+    let has : HasPins i (all_pins w.nets) (length (all_pins w.nets)) pins =
+    subst (HasPins i (all_pins w.nets) (length (all_pins w.nets))) (sym is_numbers) (numbered.each i) in
     let nets-long : length nets ≡ length m.device.ports = ap length is_table ∙ have.ports i m at in
     let nets-are : (p : ℕ) → p < length nets → get_or nets p None ≡ first_net i p 0 w.nets =
     subst (λ (t : List (Option ℕ)). (p : ℕ) → p < length t → get_or t p None ≡ first_net i p 0 w.nets) (sym is_table) (have.each i) in

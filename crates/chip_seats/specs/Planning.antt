@@ -7,6 +7,7 @@ use Rattle.bsdl_device.specs.declared.Cell.{Cell}
 use Rattle.boundary.specs.Cells.{driver_from}
 use Rattle.pin_nets.specs.declared.Follow.{Follow}
 use Rattle.pin_nets.specs.declared.Pin.{Pin}
+use Rattle.board_plan.specs.AllCellNets.{table_at}
 use Rattle.board_plan.specs.CellNets.{net_by}
 use Rattle.board_plan.specs.Planned.{IsPinOf, all_pins}
 use Rattle.board_plan.specs.Planned as planned
@@ -65,3 +66,10 @@ pub record HasPins (place : ℕ) (pins : List Pin) (n : ℕ) (table : List (Opti
       → slice_get pins k ≡ Some (record { device = place; port = port })
   pub all : (k port : ℕ) → k < n → slice_get pins k ≡ Some (record { device = place; port = port })
       → port < length table → (j : ℕ) × (slice_index_or table port None ≡ Some j)
+
+-- Of each port bit of each device the number of a pin that it is, among the first n of these, if it is one.
+pub record HaveNumbers (members : List planned.Member) (pins : List Pin) (n : ℕ) (tables : List (List (Option ℕ))) : Type 0 where
+  pub long : length tables ≡ length members
+  pub ports : (place : ℕ) (m : planned.Member) → slice_get members place ≡ Some m
+      → length (table_at tables place) ≡ length m.device.ports
+  pub each : (place : ℕ) → HasPins place pins n (table_at tables place)

@@ -1,15 +1,15 @@
 //! The strings of a plan, each with the net of its source and the pin that takes its core bit.
 
 ghost use Rattle.std.specs.Prelude.{◌≡◌, ◌<◌, ◌+◌, ◌++◌, List, Some, length, map, slice_get, All, IfOk, OnOk};
-ghost use Rattle.pin_nets.specs.declared.Pin.{Pin as ThePin};
+ghost use Rattle.board_plan.specs.AllCellNets.{lists_of};
 ghost use Rattle.board_plan.specs.CellNets.{net_by};
 ghost use Rattle.board_plan.specs.Planned.{all_pins};
 ghost use Rattle.board_plan.specs.View.{member as planned_member, net as planned_net};
-ghost use Rattle.chip_seats.specs.Planning.{HasPins, IsReadyForStrings, port_at, string_by, strings_of};
+ghost use Rattle.chip_seats.specs.Planning.{HaveNumbers, IsReadyForStrings, port_at, string_by, strings_of};
 ghost use Rattle.chip_seats.specs.Strings.{AreStrung, placed_of};
 
 use crate::strings::WiredString;
-use board_plan::{PlannedDevice, PlannedNet, all_port_nets};
+use board_plan::{PlannedDevice, PlannedNet, all_port_nets, enter_pin, no_nets};
 use bsdl_device::Cell;
 use pin_nets::{Follow, Pin};
 use std::alloc::{AllocError, Global};
@@ -58,17 +58,17 @@ fn all_strings(
     ensures placed { IfOk result (λ v. map placed_of v.items ≡ strings_of (map planned_member devices.now)) }
 {
     let pins = pins_of(alloc, nets)?;
+    let numbers = pin_numbers(alloc, &pins, devices)?;
     let tables = all_port_nets(alloc, nets, devices)?;
     let mut all = Vec::new(alloc);
     for (place, device) in devices.iter().enumerate() {
-        let description = device.device.get();
-        let numbers = pin_numbers(alloc, &pins, place, description.port_count())?;
+        let cells = device.device.get().cells();
         add_strings(
             &mut all,
             place,
-            description.cells(),
+            cells,
             &tables[place],
-            &numbers,
+            &numbers[place],
             &device.follows,
         )?;
     }
@@ -86,32 +86,21 @@ fn pins_of(alloc: Global, nets: &[PlannedNet]) -> Result<Vec<Pin>, AllocError>
     Ok(pins)
 }
 
-/// Of each of the first `ports` port bits of the device at a place its pin, by its number.
+/// Of each port bit of each device its pin, by its number: the device nearest the board's TDO first, of each port bit 0
+/// first. The pins are gone through once, however many devices there are.
 fn pin_numbers(
     alloc: Global,
     pins: &[Pin],
-    place: usize,
-    ports: usize,
-) -> Result<Vec<Option<usize>>, AllocError>
-    ensures long { IfOk result (λ v. length v.items ≡ ports) }
-    ensures pins { IfOk result (λ v. HasPins place pins.now (length pins.now) v.items) }
+    devices: &[PlannedDevice],
+) -> Result<Vec<Vec<Option<usize>>>, AllocError>
+    ensures { IfOk result (λ v. HaveNumbers (map planned_member devices.now) pins.now (length pins.now)
+        (lists_of v.items)) }
 {
-    let mut table = Vec::from_elem(alloc, None, ports)?;
-    for number in 0..pins.len() {
-        enter_pin(&mut table, place, number, pins[number]);
+    let mut tables = no_nets(alloc, devices)?;
+    for (number, pin) in pins.iter().enumerate() {
+        enter_pin(&mut tables, number, *pin);
     }
-    Ok(table)
-}
-
-/// The number of a pin is entered at its port bit, if it is one of the device at a place.
-fn enter_pin(table: &mut [Option<usize>], place: usize, number: usize, pin: Pin)
-    ensures long { length table.new ≡ length table.old }
-    ensures pins { (pins : List ThePin) → HasPins place pins number table.old → slice_get pins number ≡ Some pin
-        → HasPins place pins (number + 1) table.new }
-{
-    if pin.device == place && pin.port < table.len() {
-        table[pin.port] = Some(number);
-    }
+    Ok(tables)
 }
 
 /// Adds the strings of the device at a place, given of its port bits their nets and the numbers of their pins.

@@ -1,16 +1,17 @@
 -- Text that is hexadecimal digits alone, sixteen of them at a time from its end.
-use Rattle.std.proofs.Common.{◌≡◌, ℕ, suc, ◌+◌, ◌-◌, ◌*◌, ◌^◌, ◌<◌, ◌≤◌, ⊎_elim, inl, inr, Bool, true, false, not, ◌||◌, List, ◌++◌, length, take, drop, get_or, None, refl, sym, ap, ◌∙◌, arith}
+use Rattle.std.proofs.Common.{◌≡◌, ℕ, suc, ◌+◌, ◌-◌, ◌*◌, ◌/◌, ◌%◌, ◌^◌, ◌<◌, ◌≤◌, ◌⊎◌, ⊎_elim, inl, inr, Bool, true, false, not, ◌||◌, List, [], ◌++◌, length, take, drop, get_or, None, refl, sym, ap, ◌∙◌, arith}
 use Rattle.std.specs.Char.{digit_value, is_ascii_hexdigit}
-use Rattle.std.specs.List.{list_all, position, position_or_len}
+use Rattle.std.specs.List.{list_all, list_any, position, position_or_len}
 use Rattle.std.proofs.Math.Nat.{pow-suc, pow-le-pow_right}
 use Rattle.std.proofs.lemmas.Bool.{cases_lt, and_parts}
 use Rattle.std.proofs.lemmas.List.{take_more, length-append}
 use Rattle.std.proofs.lemmas.List.Elements.{All-get_or}
 use Rattle.std.proofs.lemmas.List.Folds.{list_all-append}
 use Rattle.std.proofs.lemmas.List.Sums.{AllPass-from_list_all, position_or_len_is}
-use Rattle.jt_bits.specs.Hex.{is_bad, is_white, four_bits, binary}
+use Rattle.std.proofs.Math.ListN.{drop_of_length-le}
+use Rattle.jt_bits.specs.Hex.{is_bad, is_white, four_bits, binary, has_one_beyond}
 use Rattle.jt_bits.specs.Words.{number}
-use Rattle.jt_bits.proofs.HexLaws.{binary-push, binary-none, digit_bits}
+use Rattle.jt_bits.proofs.HexLaws.{beyond-none, beyond_short, binary-push, binary-none, digit_bits, drop-append}
 use Rattle.jt_bits.proofs.Pieces.{Digit, Good, digit_is, hex_digit, number-append, number_four, binary-append, parts_of, good_long, none_past}
 
 pub digit_at : (ds : List ℕ) (i : ℕ) → list_all is_ascii_hexdigit ds ≡ true → i < length ds → is_ascii_hexdigit (get_or ds i 0) ≡ true
@@ -85,3 +86,19 @@ last_solid front piece text split at solid =
       worth = ap number (sym parts.0) ∙ ap (λ (b : List Bool). number (take 64 b)) (sym whole);
       rest_is = sym parts.2 ∙ ap (drop 64) (sym whole);
     }
+
+-- of digits alone, those that lie below as a whole have nothing beyond
+pub beyond_high : (n : ℕ) (high low text : List ℕ) → text ≡ high ++ low → length high ≡ length text - n / 4 → list_all is_ascii_hexdigit text ≡ true
+    → has_one_beyond (n % 4) high ≡ has_one_beyond n text
+beyond_high n high low text split at solid = by (cases_lt (length text) (n / 4))
+  where
+    by : (length text < n / 4) ⊎ (n / 4 ≤ length text) → has_one_beyond (n % 4) high ≡ has_one_beyond n text
+    by (inl less) = beyond-none (n % 4) high (omega (arith, at, less)) ∙ sym (beyond_short n text (omega (arith, less)))
+    by (inr more) =
+        let below : length low ≡ n / 4 = omega (arith, at, more, ap length split ∙ length-append high low) in
+        let bits : length (binary low) ≡ 4 * length low = good_long low (good_all low (solid_front high low text split solid).1) in
+        let left : n % 4 ≡ n - length (binary low) = omega (arith, below, bits) in
+        let none : drop n (binary low) ≡ [] = drop_of_length-le (binary low) (omega (arith, below, bits)) in
+        ap (λ (k : ℕ). list_any (λ bit. bit) (drop k (binary high))) left
+        ∙ sym (ap (λ (b : List Bool). list_any (λ bit. bit) (drop n b)) (ap binary split ∙ binary-append high low)
+        ∙ ap (list_any (λ bit. bit)) (drop-append n (binary low) (binary high) ∙ ap (λ (b : List Bool). b ++ drop (n - length (binary low)) (binary high)) none))

@@ -48,7 +48,7 @@ impl Bits {
         if let Some(place) = bad_place(digits, is_solid) {
             return Err(HexFault::BadDigit(place));
         }
-        if has_one_beyond(digits, n) {
+        if is_wider(digits, n, is_solid) {
             return Err(HexFault::TooWide);
         }
         lowest(alloc, digits, n, is_solid).map_err(|_| HexFault::NoMemory)
@@ -75,6 +75,28 @@ impl Bits {
     {
         if i < self.len() && self.get(i) { 1 } else { 0 }
     }
+}
+
+/// Whether hexadecimal text has a 1 beyond its `n` lowest binary digits. A solid text is digits alone.
+fn is_wider(digits: &[u8], n: usize, is_solid: bool) -> bool
+    requires { is_solid ≡ true → list_all is_ascii_hexdigit digits.now ≡ true }
+    ensures { result ≡ spec.has_one_beyond n digits.now }
+{
+    if is_solid {
+        digits_have_one_beyond(digits, n)
+    } else {
+        has_one_beyond(digits, n)
+    }
+}
+
+/// Whether digits with no white space between them (asked) have a 1 beyond their `n` lowest binary digits. Looks at
+/// those alone that do not lie below as a whole, so a long field takes no longer than a short one.
+pub fn digits_have_one_beyond(digits: &[u8], n: usize) -> bool
+    requires { list_all is_ascii_hexdigit digits.now ≡ true }
+    ensures { result ≡ spec.has_one_beyond n digits.now }
+{
+    let (high, _) = digits.split_at(digits.len().saturating_sub(n / 4));
+    has_one_beyond(high, n % 4)
 }
 
 /// Whether hexadecimal text has a 1 beyond its `n` lowest binary digits. Takes no memory, so that any length can be

@@ -9,7 +9,7 @@ ghost use Rattle.jt_bits.specs.Runs.{RunSet, copied};
 ghost use Rattle.jt_bits.specs.Shifting.{after_shift, after_shifts};
 ghost use Rattle.jt_bits.specs.Words.{bit_of, word_bits, word_of, word_from, is_bad_at, is_bad_bit, IsFirst};
 
-pub use digits::{HexFault, has_one_beyond, is_hexadecimal};
+pub use digits::{HexFault, digits_have_one_beyond, has_one_beyond, is_hexadecimal};
 use std::alloc::{AllocError, Global};
 use std::marker::Model;
 

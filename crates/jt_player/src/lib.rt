@@ -20,7 +20,8 @@ pub use jt_board::{
     Board, BoardFault, Broken, BsdlFault, Counted, Level, Reply, Snapshot, bsdl_names, write_report,
 };
 pub use linking::{
-    run_loop, run_over, run_serve, tell_listening, tell_served, tell_unplayed, tell_verdict,
+    fresh_player, run_loop, run_over, run_serve, tell_listening, tell_served, tell_unplayed,
+    tell_verdict,
 };
 pub use play::{play_board, play_board_all, play_noted};
 pub use play_links::{
@@ -33,8 +34,9 @@ pub use play_links::{
 };
 pub use plays::{Ending, Kind};
 pub use refusing::{refuse_board, refuse_file, refuse_memory};
-pub use run::{refuse_text, run_check, run_play, run_play_all};
+pub use run::{play_and_note, refuse_text, run_check, run_play, run_play_all};
 pub use scan_vectors::{Failures, Mismatch, Part};
+pub use showing::write_verdict;
 pub use stop::Stop;
 pub use stream_player::Player;
 pub use svf_parse::{Code, SvfFault};

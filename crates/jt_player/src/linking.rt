@@ -105,7 +105,7 @@ pub fn run_serve<R: Source, W: Sink, O: Sink>(
 }
 
 /// A player of this kind, of which nothing was played yet.
-fn fresh_player(alloc: Global, kind: Kind, program: Program) -> Player
+pub fn fresh_player(alloc: Global, kind: Kind, program: Program) -> Player
     ensures { result ≡ new_stream kind (program_of program) }
 {
     match kind {

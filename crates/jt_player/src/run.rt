@@ -164,8 +164,12 @@ fn play_and_tell<W: Sink>(
     Ok(ending.status())
 }
 
-/// Plays, and writes the line of the bytes sent where they are asked for.
-fn play_and_note<W: Sink>(
+/// Plays a program on a board by a player of this kind, and writes the line of the bytes sent where they are asked for.
+/// Answers how the play ended, and what it found.
+///
+/// `Broken` comes exactly where the writer's first failure came in this call. Then the board is as it was or as the
+/// whole play leaves it.
+pub fn play_and_note<W: Sink>(
     kind: Kind,
     program: &Program,
     board: &mut Board,

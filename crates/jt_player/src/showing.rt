@@ -17,7 +17,9 @@ use svf_parse::{Code, SvfFault};
 use svf_programs::Program;
 
 /// Writes the line of a verdict.
-pub(crate) fn write_verdict<W: Sink>(ending: Ending, out: &mut Counted<W>) -> Result<(), Broken>
+///
+/// `Broken` comes exactly where the writer's first failure came in this call.
+pub fn write_verdict<W: Sink>(ending: Ending, out: &mut Counted<W>) -> Result<(), Broken>
     requires { out.old.failures ≡ 0 }
     ensures { WritesAll W.contents out.old out.new (verdict_line ending) result }
 {

@@ -1,5 +1,7 @@
 //! What a statement says that is written in a form.
-ghost use Rattle.std.specs.Prelude.{◌≡◌, ◌+◌, Some, None, Ok, IfOk, Option, option_map};
+ghost use Rattle.std.specs.Prelude.{◌≡◌, ◌+◌, true, Some, None, Ok, IfOk, Option, option_map};
+ghost use Rattle.std.specs.Char.{is_ascii_hexdigit};
+ghost use Rattle.std.specs.List.{list_all};
 ghost use Rattle.svf_parse.specs.Judging as spec;
 ghost use Rattle.svf_forms.specs.Forms.{scan_form};
 ghost use Rattle.svf_words.specs.Words.{Word};
@@ -12,7 +14,7 @@ ghost use Rattle.svf_words.specs.declared.keywords.Clock as declared_clock;
 
 use crate::fault::Refusal;
 use crate::statement::Statement;
-use jt_bits::{Bits, has_one_beyond, is_hexadecimal};
+use jt_bits::{Bits, digits_have_one_beyond, is_hexadecimal};
 use std::alloc::Global;
 use svf_forms::fields::{Digits, LentFields};
 use svf_forms::forms::LentForm;
@@ -160,11 +162,13 @@ fn field_fault(len: Option<usize>, digits: Option<&[u8]>) -> Option<Code>
     }
 }
 
+/// Whether digits have a 1 beyond a length, where there is one.
 fn is_wider(len: Option<usize>, digits: &[u8]) -> bool
+    requires { list_all is_ascii_hexdigit digits.now ≡ true }
     ensures { result ≡ spec.is_wider len digits.now }
 {
     match len {
-        Some(len) => has_one_beyond(digits, len),
+        Some(len) => digits_have_one_beyond(digits, len),
         None => false,
     }
 }

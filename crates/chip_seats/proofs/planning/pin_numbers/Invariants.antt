@@ -1,9 +1,8 @@
-use Rattle.std.proofs.Common.{◌≡◌, length}
-use Rattle.chip_seats.specs.Planning.{HasPins}
+use Rattle.board_plan.specs.AllCellNets.{lists_of}
+use Rattle.board_plan.specs.View.{member as planned_member}
+use Rattle.std.proofs.Common.{map}
+use Rattle.chip_seats.specs.Planning.{HaveNumbers}
 use Rattle.chip_seats.proofs.planning.pin_numbers.Given as goal
 
 abbrev pub invariant-loop-number : goal.invariant-loop-number
-invariant-loop-number l = record {
-  long : length l.table.items ≡ l.ports;
-  pins : HasPins l.place l.pins l.number l.table.items;
-}
+invariant-loop-number l = HaveNumbers (map planned_member l.devices) l.pins l.number (lists_of l.tables.items)
