@@ -1,8 +1,9 @@
 //! Plays over connections: on a server, and of the program with itself.
+ghost use Rattle.std.specs.Prelude.{◌≡◌};
 
 use crate::explained::refuse_program;
-use crate::links::{connect, pair};
-use byte_ends::{Counted, Plain};
+use crate::links::{Link, connect, pair};
+use byte_ends::{Broken, Counted, End, Plain, Sink};
 use command_line::Server;
 use explained_play::{Accepted, run_loop_explained, run_over_explained};
 use jt_player::{
@@ -72,36 +73,47 @@ pub(crate) fn play_on_server(
 ) -> u8 {
     let mut out = Counted::new(Plain(io::writer(rt)));
     let status = match connect(rt, server) {
-        Ok(link) => {
-            let AcceptedText {
-                text,
-                program,
-                again,
-            } = accepted;
-            let mut reader = Counted::new(link.reader);
-            let mut writer = Counted::new(link.writer);
-            match &again {
-                Some(again) => {
-                    let accepted = Accepted {
-                        text: &text,
-                        program: again,
-                    };
-                    run_over_explained(
-                        alloc,
-                        kind,
-                        program,
-                        &mut reader,
-                        &mut writer,
-                        accepted,
-                        &mut out,
-                    )
-                }
-                None => run_over(alloc, kind, program, &mut reader, &mut writer, &mut out),
-            }
-        }
+        Ok(link) => play_over_link(alloc, kind, accepted, link, &mut out),
         Err(_) => tell_verdict(UNREACHED, &mut out),
     };
     status.unwrap_or(BROKEN)
+}
+
+/// Plays a text over a link; where the play is explained, by what the program wants.
+fn play_over_link<O: Sink>(
+    alloc: Global,
+    kind: Kind,
+    accepted: AcceptedText,
+    link: Link,
+    out: &mut Counted<O>,
+) -> Result<u8, Broken>
+    requires { out.old.failures ≡ 0 }
+{
+    let AcceptedText {
+        text,
+        program,
+        again,
+    } = accepted;
+    let mut reader = Counted::new(link.reader);
+    let mut writer = Counted::new(link.writer);
+    match again {
+        Some(again) => {
+            let accepted = Accepted {
+                text: &text,
+                program: &again,
+            };
+            run_over_explained(
+                alloc,
+                kind,
+                program,
+                &mut reader,
+                &mut writer,
+                accepted,
+                out,
+            )
+        }
+        None => run_over(alloc, kind, program, &mut reader, &mut writer, out),
+    }
 }
 
 /// Plays a text on a board over a connection of the program with itself; where the play is explained, by the same board
@@ -117,43 +129,54 @@ pub(crate) fn loop_over_socket(
     let mut out = Counted::new(Plain(io::writer(rt)));
     let status = match pair(rt) {
         Ok((player, server)) => {
-            let AcceptedText {
-                text,
-                program,
-                again,
-            } = accepted;
             let mut player_end = Counted::new(player);
             let mut board_end = Counted::new(server);
-            match (&again, other) {
-                (Some(again), Some(mut other)) => {
-                    let accepted = Accepted {
-                        text: &text,
-                        program: again,
-                    };
-                    run_loop_explained(
-                        alloc,
-                        kind,
-                        program,
-                        &mut player_end,
-                        &mut board_end,
-                        board,
-                        accepted,
-                        &mut other,
-                        &mut out,
-                    )
-                }
-                _ => run_loop(
-                    alloc,
-                    kind,
-                    program,
-                    &mut player_end,
-                    &mut board_end,
-                    board,
-                    &mut out,
-                ),
-            }
+            loop_over_ends(
+                alloc,
+                kind,
+                accepted,
+                &mut player_end,
+                &mut board_end,
+                board,
+                other,
+                &mut out,
+            )
         }
         Err(_) => tell_unplayed(UNREACHED, board, &mut out),
     };
     status.unwrap_or(BROKEN)
+}
+
+/// Plays a text on a board over the two ends of a connection; where the play is explained, by the same board once more.
+fn loop_over_ends<P: End, B: End, O: Sink>(
+    alloc: Global,
+    kind: Kind,
+    accepted: AcceptedText,
+    player_end: &mut Counted<P>,
+    board_end: &mut Counted<B>,
+    board: &mut Board,
+    other: Option<Board>,
+    out: &mut Counted<O>,
+) -> Result<u8, Broken>
+    requires player_end { player_end.old.failures ≡ 0 }
+    requires board_end { board_end.old.failures ≡ 0 }
+    requires out { out.old.failures ≡ 0 }
+{
+    let AcceptedText {
+        text,
+        program,
+        again,
+    } = accepted;
+    match (again, other) {
+        (Some(again), Some(mut other)) => {
+            let accepted = Accepted {
+                text: &text,
+                program: &again,
+            };
+            run_loop_explained(
+                alloc, kind, program, player_end, board_end, board, accepted, &mut other, out,
+            )
+        }
+        (_again, _other) => run_loop(alloc, kind, program, player_end, board_end, board, out),
+    }
 }
