@@ -68,7 +68,7 @@ fn device_with(
     let ports = ports_of(alloc, &described.taps, &outline.groups)?;
     let instruction_length = size_of(described.instruction_length)?;
     let opcodes = opcodes_of(alloc, &described.opcodes)?;
-    let capture = bits_of(alloc, &described.capture)?;
+    let capture = bits_of(alloc, &described.capture.digits)?;
     let idcode = code_of(alloc, &described.idcodes)?;
     let usercode = code_of(alloc, &described.usercodes)?;
     let private_names = private_names_of(alloc, &described.private_names)?;

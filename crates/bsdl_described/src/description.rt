@@ -17,6 +17,7 @@ use bsdl_givings::givings::{
     port_given, private_names_given,
 };
 use bsdl_instructions::names::{AccessRow, OpcodeRow, PrivateName};
+use bsdl_instructions::pattern_lists::Patterns;
 use bsdl_instructions::patterns::WrittenPattern;
 use bsdl_numbers::Digits;
 use bsdl_own_instructions::own::own_accesses;
@@ -44,8 +45,8 @@ pub struct Description<'a> {
     pub opcodes: Vec<OpcodeRow<'a>>,
     pub capture: WrittenPattern,
     pub cells: Vec<CellRow<'a>>,
-    pub idcodes: Vec<WrittenPattern>,
-    pub usercodes: Vec<WrittenPattern>,
+    pub idcodes: Patterns,
+    pub usercodes: Patterns,
     pub private_names: Vec<PrivateName<'a>>,
     /// Where the text of the registers begins.
     pub access_start: usize,

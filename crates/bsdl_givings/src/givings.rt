@@ -17,6 +17,7 @@ use bsdl_entity::Attribute;
 use bsdl_entity::items::Given;
 use bsdl_entity::values::{Language, Value, entry_of, rows_of};
 use bsdl_instructions::names::{AccessRow, OpcodeRow, PrivateName};
+use bsdl_instructions::pattern_lists::Patterns;
 use bsdl_instructions::patterns::WrittenPattern;
 use bsdl_numbers::Digits;
 use bsdl_text::lists::Entry;
@@ -117,16 +118,27 @@ pub fn codes_given(
     alloc: Global,
     given: &[Given<'_>],
     attribute: Attribute,
-) -> Result<Vec<WrittenPattern>, AllocError>
-    ensures { IfOk result (λ v. map rows_view.pattern v.items
+) -> Result<Patterns, AllocError>
+    ensures { IfOk result (λ p. rows_view.patterns p
         ≡ spec.as_codes (spec.value_given attribute (map given_view given.now))) }
 {
     match value_given(given, attribute) {
         Some(Value::Text(quoted)) => match quoted.language {
-            Language::Codes => rows_in::<WrittenPattern>(alloc, &quoted.text),
-            _ => Ok(Vec::new(alloc)),
+            Language::Codes => patterns_in(alloc, &quoted.text),
+            _ => Ok(Patterns::new(alloc)),
         },
-        _ => Ok(Vec::new(alloc)),
+        _ => Ok(Patterns::new(alloc)),
+    }
+}
+
+/// The patterns of a text that says patterns; none of another.
+fn patterns_in(alloc: Global, text: &[u8]) -> Result<Patterns, AllocError>
+    ensures { IfOk result (λ p. rows_view.patterns p
+        ≡ unwrap_or (quoted_value (rows.rows rows.pattern) text.now) []) }
+{
+    match entry_of::<Patterns>(alloc, text)? {
+        Some(found) => Ok(found),
+        None => Ok(Patterns::new(alloc)),
     }
 }
 

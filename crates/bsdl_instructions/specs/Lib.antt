@@ -1,2 +1,4 @@
+pub mod Left
+pub mod Parts
 pub mod Values
 pub mod View

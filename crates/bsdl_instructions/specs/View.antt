@@ -1,5 +1,5 @@
 -- What values of the code stand for.
-use Rattle.std.specs.Prelude.{option_map, map, reverse}
+use Rattle.std.specs.Prelude.{ℕ, List, option_map, map}
 use Rattle.bsdl_text.specs.Words.{upper}
 use Rattle.bsdl_numbers.specs.View.{value}
 use Rattle.bsdl_text.specs.WordView.{word_lexeme}
@@ -9,19 +9,23 @@ use Rattle.bsdl_instructions.specs.declared.names.PrivateName as declared_privat
 use Rattle.bsdl_instructions.specs.declared.names.Instr as declared_instr
 use Rattle.bsdl_instructions.specs.declared.names.AccessRow as declared_access
 use Rattle.bsdl_device.specs.Device.{Name, Pattern}
-use Rattle.bsdl_instructions.specs.Values.{bit, OpcodeRow, Instr, AccessRow}
+use Rattle.bsdl_instructions.specs.Values.{pattern_of, OpcodeRow, Instr, AccessRow}
 
 abbrev pub pattern : declared_pattern.WrittenPattern → Pattern
-pattern p = reverse (map bit p.digits.items)
+pattern p = pattern_of p.digits.items
+
+-- each by its digits
+abbrev pub patterns : List (List ℕ) → List Pattern
+patterns digits = map pattern_of digits
 
 abbrev pub opcode_row : declared_opcodes.OpcodeRow → OpcodeRow
-opcode_row r = record { name = word_lexeme r.name; patterns = map pattern r.patterns.items }
+opcode_row r = record { name = word_lexeme r.name; patterns = patterns r.patterns }
 
 abbrev pub private_name : declared_private.PrivateName → Name
 private_name p = upper p.name.text.now
 
 abbrev pub instr : declared_instr.Instr → Instr
-instr i = record { name = word_lexeme i.name; captures = option_map pattern i.captures }
+instr i = record { name = word_lexeme i.name; captures = option_map (λ b. pattern b.value) i.captures }
 
 abbrev pub access_row : declared_access.AccessRow → AccessRow
 access_row r =

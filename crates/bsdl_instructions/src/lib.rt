@@ -3,4 +3,5 @@
 #![tactic(auto)]
 
 pub mod names;
+pub mod pattern_lists;
 pub mod patterns;

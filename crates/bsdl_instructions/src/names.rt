@@ -1,5 +1,5 @@
 //! Instructions: their opcodes, private names, and the registers that they select.
-ghost use Rattle.std.specs.Prelude.{◌≡◌, ◌<◌, ◌≤◌, length, option_map, IfOk};
+ghost use Rattle.std.specs.Prelude.{◌≡◌, ◌<◌, ◌≤◌, length, option_map, IfErr, IfOk};
 ghost use Rattle.bsdl_lex.specs.Left.{left};
 ghost use Rattle.bsdl_text.specs.WordView.{word_lexeme};
 ghost use Rattle.bsdl_numbers.specs.View as number_view;
@@ -8,6 +8,7 @@ ghost use Rattle.bsdl_instructions.specs.Values as spec;
 ghost use Rattle.bsdl_device.specs.Device as device;
 ghost use Rattle.bsdl_instructions.specs.View as view;
 
+use crate::pattern_lists::{Patterns, bracketed_patterns};
 use crate::patterns::{WrittenPattern, bracketed, digits_of};
 use bsdl_lex::Lexer;
 use bsdl_numbers::Digits;
@@ -20,7 +21,7 @@ use std::alloc::Global;
 #[derive(Debug, Drop)]
 pub struct OpcodeRow<'a> {
     pub name: Word<'a>,
-    pub patterns: Vec<WrittenPattern>,
+    pub patterns: Patterns,
 }
 
 impl<'a> Entry<'a> for OpcodeRow<'a> {
@@ -32,7 +33,7 @@ impl<'a> Entry<'a> for OpcodeRow<'a> {
 
     fn read(alloc: Global, lexer: Lexer<'a>) -> Result<(OpcodeRow<'a>, Lexer<'a>), Stop> {
         let (name, rest) = word(lexer)?;
-        let (patterns, rest) = bracketed(alloc, rest)?;
+        let (patterns, rest) = bracketed_patterns(alloc, rest)?;
         Ok((OpcodeRow { name, patterns }, rest))
     }
 }
@@ -56,11 +57,11 @@ impl<'a> Entry<'a> for PrivateName<'a> {
     }
 }
 
-/// An instruction of a register, and what the register captures for it.
+/// An instruction of a register, and what the register captures for it: in a box, since most say nothing of it.
 #[derive(Debug, Drop)]
 pub struct Instr<'a> {
     pub name: Word<'a>,
-    pub captures: Option<WrittenPattern>,
+    pub captures: Option<Box<WrittenPattern>>,
 }
 
 impl<'a> Entry<'a> for Instr<'a> {
@@ -75,7 +76,7 @@ impl<'a> Entry<'a> for Instr<'a> {
         match rest.next() {
             Some((token, after)) if same_name(token.text, b"CAPTURES") => {
                 let (found, behind) = digits_of(alloc, after)?;
-                let captures = Some(found);
+                let captures = Some(boxed(alloc, found)?);
                 Ok((Instr { name, captures }, behind))
             }
             _ => Ok((
@@ -86,6 +87,16 @@ impl<'a> Entry<'a> for Instr<'a> {
                 rest,
             )),
         }
+    }
+}
+
+fn boxed(alloc: Global, pattern: WrittenPattern) -> Result<Box<WrittenPattern>, Stop>
+    ensures boxed { IfOk result (λ b. b.value ≡ pattern) }
+    ensures stops { IfErr result (λ e. e ≡ Stop.Memory) }
+{
+    match Box::new(alloc, pattern) {
+        Ok(boxed) => Ok(boxed),
+        Err(_) => Err(Stop::Memory),
     }
 }
 

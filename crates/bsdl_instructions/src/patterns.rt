@@ -1,5 +1,5 @@
 //! Patterns of 0, 1 and X.
-ghost use Rattle.std.specs.Prelude.{◌≡◌, ◌<◌, length, map, IfOk};
+ghost use Rattle.std.specs.Prelude.{◌≡◌, ◌<◌, length, map, true, IfOk};
 ghost use Rattle.bsdl_lex.specs.Left.{left};
 ghost use Rattle.bsdl_text.specs.View.{Gives};
 ghost use Rattle.bsdl_instructions.specs.Values as spec;
@@ -35,6 +35,7 @@ impl<'a> Entry<'a> for WrittenPattern {
 pub fn digits_of<'a>(alloc: Global, lexer: Lexer<'a>) -> Result<(WrittenPattern, Lexer<'a>), Stop>
     ensures gives { Gives view.pattern result (spec.pattern (left lexer.entry)) }
     ensures shorter { IfOk result (λ p. length (left p.1) < length (left lexer.entry)) }
+    ensures digits { IfOk result (λ p. list_all spec.is_digit p.0.digits.items ≡ true) }
 {
     let mut digits = Vec::new(alloc);
     let behind = match lexer.next() {

@@ -1,5 +1,5 @@
 -- Lengths of patterns of the code.
-use Rattle.std.proofs.Common.{◌≡◌, ◌<◌, ◌^◌, ℕ, Bool, true, false, ◌&&◌, List, [], ◌∷◌, length, map, refl, sym, ap, ◌∙◌, arith}
+use Rattle.std.proofs.Common.{◌≡◌, ◌<◌, ◌^◌, ℕ, Box, Global, Bool, true, false, ◌&&◌, List, [], ◌∷◌, length, map, refl, sym, ap, ◌∙◌, arith}
 use Rattle.std.specs.Prelude.{Option, Some, None, option_map, not}
 use Rattle.std.specs.List.{list_all}
 use Rattle.std.proofs.lemmas.Bool.Decides.{nat_tests}
@@ -27,9 +27,10 @@ sized p (Some m) n is = ap (λ k. has_len k (view.pattern p)) is.1
 pub instr_sized : (i : Instr) (s : Option ℕ) (n : ℕ) → IsSize s n → captures_are s (view.instr i) ≡ captures_fit n (view.instr i)
 instr_sized i s n is = by_captures i.captures
   where
-    by_captures : (c : Option WrittenPattern) → list_all (is_len s) (patterns_captured (option_map view.pattern c)) ≡ list_all (has_len n) (patterns_captured (option_map view.pattern c))
+    by_captures : (c : Option (Box WrittenPattern Global))
+        → list_all (is_len s) (patterns_captured (option_map (λ b. view.pattern b.value) c)) ≡ list_all (has_len n) (patterns_captured (option_map (λ b. view.pattern b.value) c))
     by_captures None = refl
-    by_captures (Some p) = ap (λ b. b && true) (sized p s n is)
+    by_captures (Some b) = ap (λ t. t && true) (sized b.value s n is)
 
 pub all_captures : (is : List Instr) (s : Option ℕ) (n : ℕ) → IsSize s n → list_all (captures_are s) (map view.instr is) ≡ list_all (captures_fit n) (map view.instr is)
 all_captures [] s n is = refl

@@ -1,10 +1,11 @@
 //! What patterns end in, as written: an X is neither 0 nor 1.
-ghost use Rattle.std.specs.Prelude.{◌≡◌, Some, map, slice_get};
-ghost use Rattle.bsdl_instructions.specs.Values.{bit as bit_of};
+ghost use Rattle.std.specs.Prelude.{◌≡◌, Some, slice_get};
+ghost use Rattle.bsdl_instructions.specs.Values.{bit as bit_of, pattern_of};
 ghost use Rattle.bsdl_instructions.specs.View as rows_view;
 ghost use Rattle.bsdl_lengths.specs.Lengths as spec;
 ghost use Rattle.bsdl_lengths.specs.Sizes.{is_bit};
 
+use bsdl_instructions::pattern_lists::Patterns;
 use bsdl_instructions::patterns::WrittenPattern;
 
 /// Whether the two rightmost bits that the instruction register captures are 01.
@@ -12,29 +13,29 @@ use bsdl_instructions::patterns::WrittenPattern;
 pub fn captures_one(pattern: &WrittenPattern) -> bool
     ensures { result ≡ spec.captures_one (rows_view.pattern pattern.now) }
 {
-    has_bit(pattern, 0, true) && has_bit(pattern, 1, false)
+    has_bit(&pattern.digits, 0, true) && has_bit(&pattern.digits, 1, false)
 }
 
 /// Whether the rightmost bit of the first code is 1, where there is one.
-#[tactic(auto, using(crate::proofs::EndLaws::ends_by_bit))]
-pub fn ends_in_one(codes: &[WrittenPattern]) -> bool
-    ensures { result ≡ spec.ends_in_one (map rows_view.pattern codes.now) }
+#[tactic(auto, using(crate::proofs::EndLaws::first_ends, crate::proofs::EndLaws::none_ends))]
+pub fn ends_in_one(codes: &Patterns) -> bool
+    ensures { result ≡ spec.ends_in_one (rows_view.patterns codes.now) }
 {
     match codes.first() {
-        Some(code) => has_bit(code, 0, true),
+        Some(digits) => has_bit(digits, 0, true),
         None => true,
     }
 }
 
-/// Whether a pattern has this bit so many places from the right.
-fn has_bit(pattern: &WrittenPattern, place: usize, bit: bool) -> bool
-    ensures { result ≡ is_bit (slice_get (rows_view.pattern pattern.now) place) bit }
+/// Whether a pattern of these digits has this bit so many places from the right.
+fn has_bit(digits: &[u8], place: usize, bit: bool) -> bool
+    ensures { result ≡ is_bit (slice_get (pattern_of digits.now) place) bit }
 {
-    let len = pattern.digits.len();
+    let len = digits.len();
     if place >= len {
         return false;
     }
-    is_digit(pattern.digits[len - 1 - place], bit)
+    is_digit(digits[len - 1 - place], bit)
 }
 
 fn is_digit(digit: u8, bit: bool) -> bool

@@ -3,6 +3,7 @@ ghost use Rattle.std.specs.Prelude.{◌≡◌, ◌&&◌, ℕ, map, option_map, u
 ghost use Rattle.std.specs.List.{list_all};
 ghost use Rattle.bsdl_numbers.specs.View.{value};
 ghost use Rattle.bsdl_entity.specs.declared.entity.Outline.{Outline};
+ghost use Rattle.bsdl_instructions.specs.Values.{pattern_of};
 ghost use Rattle.bsdl_instructions.specs.View as rows_view;
 ghost use Rattle.bsdl_described.specs.View.{description};
 ghost use Rattle.bsdl_lengths.specs.Lengths as spec;
@@ -11,7 +12,7 @@ ghost use Rattle.bsdl_lengths.specs.Sizes.{IsSize, captures_are, is_len};
 use crate::agreeing::agree;
 use bsdl_described::description::Description;
 use bsdl_instructions::names::{AccessRow, Instr, OpcodeRow};
-use bsdl_instructions::patterns::WrittenPattern;
+use bsdl_instructions::pattern_lists::Patterns;
 use bsdl_numbers::Digits;
 use bsdl_text::reading::same_name;
 use std::alloc::{AllocError, Global};
@@ -48,7 +49,7 @@ fn instructions_fit(described: &Description<'_>) -> bool
     ensures { (o : Outline) → result ≡ spec.instructions_fit (description o described.now) }
 {
     let size = described.instruction_length.size();
-    opcodes_fit(&described.opcodes, size) && has_len(&described.capture, size)
+    opcodes_fit(&described.opcodes, size) && has_len(&described.capture.digits, size)
 }
 
 /// Whether codes have 32 bits.
@@ -58,20 +59,21 @@ fn codes_fit(described: &Description<'_>) -> bool
     all_have_len(&described.idcodes, Some(32)) && all_have_len(&described.usercodes, Some(32))
 }
 
-fn has_len(pattern: &WrittenPattern, size: Option<usize>) -> bool
-    ensures { result ≡ is_len size (rows_view.pattern pattern.now) }
+/// Whether a pattern of these digits is so long.
+fn has_len(digits: &[u8], size: Option<usize>) -> bool
+    ensures { result ≡ is_len size (pattern_of digits.now) }
 {
     match size {
-        Some(size) => pattern.digits.len() == size,
+        Some(size) => digits.len() == size,
         None => false,
     }
 }
 
-fn all_have_len(patterns: &[WrittenPattern], size: Option<usize>) -> bool
-    ensures { result ≡ list_all (is_len size) (map rows_view.pattern patterns.now) }
+fn all_have_len(patterns: &Patterns, size: Option<usize>) -> bool
+    ensures { result ≡ list_all (is_len size) (rows_view.patterns patterns.now) }
 {
-    for pattern in patterns {
-        if !has_len(pattern, size) {
+    for digits in patterns.iter() {
+        if !has_len(digits, size) {
             return false;
         }
     }
@@ -150,7 +152,7 @@ fn capture_fits(instr: &Instr<'_>, size: Option<usize>) -> bool
     ensures { result ≡ captures_are size (rows_view.instr instr.now) }
 {
     match &instr.captures {
-        Some(pattern) => has_len(pattern, size),
+        Some(pattern) => has_len(&pattern.digits, size),
         None => true,
     }
 }

@@ -19,6 +19,10 @@ from_right ds k d h =
     ∙ sym (slice_get-get_or (map bit ds) (length ds - 1 - k) (bit d) place_in)
     ∙ slice_get-map bit ds (length ds - 1 - k) ∙ ap (option_map bit) (slice_get-get_or ds (length ds - 1 - k) d place)
 
+-- what stands at a place that is there, whatever would stand where none is
+pub same_digit : (ds : List ℕ) (k c d : ℕ) → k < length ds → get_or ds k c ≡ get_or ds k d
+same_digit ds k c d h = let same : Some (get_or ds k c) ≡ Some (get_or ds k d) = sym (slice_get-get_or ds k c h) ∙ slice_get-get_or ds k d h in cc
+
 one_is : (d : ℕ) → unwrap_or (bit d) false ≡ nat_eq d 49
 one_is d = grind (arith, nat_tests)
 

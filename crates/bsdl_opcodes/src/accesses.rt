@@ -70,16 +70,16 @@ fn access_of(
 fn captures_of(
     alloc: Global,
     is_own: bool,
-    captures: &Option<WrittenPattern>,
+    captures: &Option<Box<WrittenPattern>>,
 ) -> Result<Option<Bits>, AllocError>
     ensures { IfOk result (λ o. o ≡ (if is_own then option_map bits_of_pattern
-        (option_map rows_view.pattern captures.now) else None)) }
+        (option_map (λ b. rows_view.pattern b.value) captures.now) else None)) }
 {
     if !is_own {
         return Ok(None);
     }
     match captures {
-        Some(pattern) => Ok(Some(bits_of(alloc, pattern)?)),
+        Some(pattern) => Ok(Some(bits_of(alloc, &pattern.digits)?)),
         None => Ok(None),
     }
 }

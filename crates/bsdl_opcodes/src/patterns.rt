@@ -1,34 +1,35 @@
 //! Patterns and opcodes of a device.
 ghost use Rattle.std.specs.Prelude.{◌≡◌, map, option_map, slice_get, IfOk};
 ghost use Rattle.bsdl_device.specs.Opcodes.{x_as_0 as bits_of_pattern};
-ghost use Rattle.bsdl_instructions.specs.Values.{bit};
+ghost use Rattle.bsdl_instructions.specs.Values.{bit, pattern_of as pattern_of_digits};
 ghost use Rattle.bsdl_instructions.specs.View as rows_view;
 ghost use Rattle.bsdl_opcodes.specs.ResetOpcode.{opcode};
 
 use bsdl_device::{Names, Opcode, Pattern};
 use bsdl_instructions::names::{OpcodeRow, PrivateName};
-use bsdl_instructions::patterns::WrittenPattern;
+use bsdl_instructions::pattern_lists::Patterns;
 use jt_bits::Bits;
 use std::alloc::{AllocError, Global};
 
-/// The bits of a pattern, the rightmost first, X as 0. Refuses for want of memory alone.
-pub fn bits_of(alloc: Global, pattern: &WrittenPattern) -> Result<Bits, AllocError>
-    ensures { IfOk result (λ b. b ≡ bits_of_pattern (rows_view.pattern pattern.now)) }
+/// The bits of a pattern by its digits, the rightmost first, X as 0. Refuses for want of memory alone.
+pub fn bits_of(alloc: Global, digits: &[u8]) -> Result<Bits, AllocError>
+    ensures { IfOk result (λ b. b ≡ bits_of_pattern (pattern_of_digits digits.now)) }
 {
-    let len = pattern.digits.len();
+    let len = digits.len();
     let mut bits = Bits::zeros(alloc, len)?;
     for i in 0..len {
-        bits.set(i, pattern.digits[len - 1 - i] == b'1');
+        bits.set(i, digits[len - 1 - i] == b'1');
     }
     Ok(bits)
 }
 
 /// The first code, where there is one. Refuses for want of memory alone.
-pub fn code_of(alloc: Global, codes: &[WrittenPattern]) -> Result<Option<Bits>, AllocError>
-    ensures { IfOk result (λ o. o ≡ option_map bits_of_pattern (slice_get (map rows_view.pattern codes.now) 0)) }
+#[tactic(auto, using(crate::proofs::FirstLaws::first_there, crate::proofs::FirstLaws::none_there))]
+pub fn code_of(alloc: Global, codes: &Patterns) -> Result<Option<Bits>, AllocError>
+    ensures { IfOk result (λ o. o ≡ option_map bits_of_pattern (slice_get (rows_view.patterns codes.now) 0)) }
 {
     match codes.first() {
-        Some(code) => Ok(Some(bits_of(alloc, code)?)),
+        Some(digits) => Ok(Some(bits_of(alloc, digits)?)),
         None => Ok(None),
     }
 }
@@ -53,23 +54,23 @@ fn opcode_of(alloc: Global, row: &OpcodeRow<'_>) -> Result<Opcode, AllocError>
     Ok(Opcode::new(name, patterns))
 }
 
-fn patterns_of(alloc: Global, patterns: &[WrittenPattern]) -> Result<Vec<Pattern>, AllocError>
-    ensures { IfOk result (λ v. v.items ≡ map rows_view.pattern patterns.now) }
+fn patterns_of(alloc: Global, patterns: &Patterns) -> Result<Vec<Pattern>, AllocError>
+    ensures { IfOk result (λ v. v.items ≡ rows_view.patterns patterns.now) }
 {
     let mut all = Vec::new(alloc);
-    for pattern in patterns {
-        let found = pattern_of(alloc, pattern)?;
+    for digits in patterns.iter() {
+        let found = pattern_of(alloc, digits)?;
         all.push(found)?;
     }
     Ok(all)
 }
 
-/// A pattern, the rightmost bit first.
-fn pattern_of(alloc: Global, pattern: &WrittenPattern) -> Result<Pattern, AllocError>
-    ensures { IfOk result (λ p. p ≡ rows_view.pattern pattern.now) }
+/// A pattern by its digits, the rightmost bit first.
+fn pattern_of(alloc: Global, digits: &[u8]) -> Result<Pattern, AllocError>
+    ensures { IfOk result (λ p. p ≡ pattern_of_digits digits.now) }
 {
-    let mut bits = Vec::with_capacity(alloc, pattern.digits.len())?;
-    for digit in &pattern.digits {
+    let mut bits = Vec::with_capacity(alloc, digits.len())?;
+    for digit in digits {
         bits.push(bit_of(*digit))?;
     }
     bits.reverse();

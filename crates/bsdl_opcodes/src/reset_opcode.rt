@@ -5,12 +5,11 @@ ghost use Rattle.std.specs.Prelude.{bytes_eq, codes, slice_get, false};
 ghost use Rattle.std.specs.List.{list_all, find};
 ghost use Rattle.bsdl_device.specs.Device as device;
 ghost use Rattle.bsdl_device.specs.Opcodes as opcodes;
-ghost use Rattle.bsdl_instructions.specs.Values.{bit};
+ghost use Rattle.bsdl_instructions.specs.Values.{bit, pattern_of};
 ghost use Rattle.bsdl_instructions.specs.View as rows_view;
 ghost use Rattle.bsdl_opcodes.specs.ResetOpcode as spec;
 
 use bsdl_instructions::names::OpcodeRow;
-use bsdl_instructions::patterns::WrittenPattern;
 use bsdl_text::reading::same_name;
 
 /// Whether the opcode that a reset loads, if there is one, names IDCODE.
@@ -18,20 +17,32 @@ pub fn resets_to_idcode(rows: &[OpcodeRow<'_>]) -> bool
     ensures { result ≡ spec.resets_to_idcode (map spec.opcode (map rows_view.opcode_row rows.now)) }
 {
     match reset_pattern(rows) {
-        Some(pattern) => names_idcode(rows, &pattern.digits),
+        Some(digits) => names_idcode(rows, digits),
         None => true,
     }
 }
 
-/// The first opcode of IDCODE.
-fn reset_pattern<'r>(rows: &'r [OpcodeRow<'_>]) -> Option<&'r WrittenPattern>
-    ensures { option_map {U = device.Pattern} (λ p. rows_view.pattern p.now) result
+/// The first opcode of IDCODE, by its digits.
+#[tactic(auto, using(crate::proofs::FirstLaws::first_seen))]
+fn reset_pattern<'r>(rows: &'r [OpcodeRow<'_>]) -> Option<&'r [u8]>
+    ensures { option_map {U = device.Pattern} (λ digits. pattern_of digits.now) result
         ≡ option_and_then (λ o. slice_get o.patterns 0)
         (find (λ o. bytes_eq (codes "IDCODE") o.name) (map spec.opcode (map rows_view.opcode_row rows.now))) }
 {
+    match idcode_row(rows) {
+        Some(row) => row.patterns.first(),
+        None => None,
+    }
+}
+
+/// The first row of IDCODE.
+fn idcode_row<'r, 't>(rows: &'r [OpcodeRow<'t>]) -> Option<&'r OpcodeRow<'t>>
+    ensures { option_map {U = device.Opcode} (λ row. spec.opcode (rows_view.opcode_row row.now)) result
+        ≡ find (λ o. bytes_eq (codes "IDCODE") o.name) (map spec.opcode (map rows_view.opcode_row rows.now)) }
+{
     for row in rows {
         if same_name(b"IDCODE", row.name.text) {
-            return row.patterns.first();
+            return Some(row);
         }
     }
     None
@@ -72,8 +83,8 @@ fn is_named(row: &OpcodeRow<'_>, latch: &[u8]) -> bool
     ensures { result ≡ opcodes.names_it (x_as_0 (reverse (map bit latch.now)))
         (spec.opcode (rows_view.opcode_row row.now)) }
 {
-    for pattern in &row.patterns {
-        if is_match(&pattern.digits, latch) {
+    for digits in row.patterns.iter() {
+        if is_match(digits, latch) {
             return true;
         }
     }

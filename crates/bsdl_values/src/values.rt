@@ -13,6 +13,7 @@ use crate::keywords::TRUTHS;
 use crate::passing::brackets;
 use bsdl_cells::CellRow;
 use bsdl_instructions::names::{AccessRow, OpcodeRow, PrivateName};
+use bsdl_instructions::pattern_lists::Patterns;
 use bsdl_instructions::patterns::WrittenPattern;
 use bsdl_lex::{Lexer, bad_byte};
 use bsdl_numbers::Digits;
@@ -122,7 +123,7 @@ fn says(alloc: Global, language: Language, text: &[u8]) -> Result<bool, AllocErr
         Language::Opcodes => Ok(rows_of::<OpcodeRow>(alloc, text)?.is_some()),
         Language::Capture => Ok(entry_of::<WrittenPattern>(alloc, text)?.is_some()),
         Language::Cells => Ok(rows_of::<CellRow>(alloc, text)?.is_some()),
-        Language::Codes => Ok(rows_of::<WrittenPattern>(alloc, text)?.is_some()),
+        Language::Codes => Ok(entry_of::<Patterns>(alloc, text)?.is_some()),
         Language::PrivateNames => Ok(rows_of::<PrivateName>(alloc, text)?.is_some()),
         Language::Accesses => Ok(rows_of::<AccessRow>(alloc, text)?.is_some()),
     }

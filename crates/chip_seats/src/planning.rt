@@ -3,7 +3,7 @@
 ghost use Rattle.std.specs.Prelude.{◌≡◌, ◌<◌, ◌+◌, ◌++◌, List, Some, length, map, slice_get, All, IfOk, OnOk};
 ghost use Rattle.board_plan.specs.AllCellNets.{lists_of};
 ghost use Rattle.board_plan.specs.CellNets.{net_by};
-ghost use Rattle.board_plan.specs.Planned.{Member, all_pins};
+ghost use Rattle.board_plan.specs.Planned.{all_pins};
 ghost use Rattle.board_plan.specs.View.{member as planned_member, net as planned_net};
 ghost use Rattle.chip_seats.specs.Planning.{HaveNumbers, IsReadyForStrings, port_at, string_by, strings_of};
 ghost use Rattle.chip_seats.specs.Strings.{AreStrung, placed_of};
@@ -97,19 +97,10 @@ fn pin_numbers(
         (lists_of v.items)) }
 {
     let mut tables = no_nets(alloc, devices)?;
-    for number in 0..pins.len() {
-        enter_number(&mut tables, pins, number);
+    for (number, pin) in pins.iter().enumerate() {
+        enter_pin(&mut tables, number, *pin);
     }
     Ok(tables)
-}
-
-/// The number of a pin is entered at its port bit.
-fn enter_number(tables: &mut [Vec<Option<usize>>], pins: &[Pin], number: usize)
-    requires { number < length pins.now }
-    ensures { (members : List Member) → HaveNumbers members pins.now number (lists_of tables.old)
-        → HaveNumbers members pins.now (number + 1) (lists_of tables.new) }
-{
-    enter_pin(tables, number, pins[number]);
 }
 
 /// Adds the strings of the device at a place, given of its port bits their nets and the numbers of their pins.

@@ -33,17 +33,17 @@ all = record (new_rule (codes "all")) { long = Some (codes "all"); action = Some
 abbrev pub explain : Rule
 explain = record (new_rule (codes "explain")) { long = Some (codes "explain"); action = Some SetTrue }
 
--- `play [FILE] [--board BOARD] [--bytes] [--all]`
+-- `play [FILE] [--board BOARD] [--bytes] [--all] [--explain]`
 abbrev pub play : Shape
-play = record (new_shape (codes "play")) { rules = svf ∷ board ∷ bytes ∷ all ∷ [] }
+play = record (new_shape (codes "play")) { rules = svf ∷ board ∷ bytes ∷ all ∷ explain ∷ [] }
 
 -- `check [FILE] [--board BOARD] [--explain]`
 abbrev pub check : Shape
 check = record (new_shape (codes "check")) { rules = svf ∷ board ∷ explain ∷ [] }
 
--- `loop [FILE] [--board BOARD] [--all]`
+-- `loop [FILE] [--board BOARD] [--all] [--explain]`
 abbrev pub loop : Shape
-loop = record (new_shape (codes "loop")) { rules = svf ∷ board ∷ all ∷ [] }
+loop = record (new_shape (codes "loop")) { rules = svf ∷ board ∷ all ∷ explain ∷ [] }
 
 -- the numbers that are taken: ports, bytes of a connection, connections, and seconds of waiting
 abbrev pub ports : ValueParser
@@ -105,9 +105,9 @@ serve = record (new_shape (codes "serve")) {
   rules = served_board ∷ port ∷ at_most ∷ connections ∷ timeout ∷ [];
 }
 
--- `connect [FILE] --port PORT [--host HOST] [--timeout SECONDS] [--all]`
+-- `connect [FILE] --port PORT [--host HOST] [--timeout SECONDS] [--all] [--explain]`
 abbrev pub connect : Shape
-connect = record (new_shape (codes "connect")) { rules = svf ∷ port ∷ host ∷ timeout ∷ all ∷ [] }
+connect = record (new_shape (codes "connect")) { rules = svf ∷ port ∷ host ∷ timeout ∷ all ∷ explain ∷ [] }
 
 -- `describe --board BOARD`
 abbrev pub describe : Shape
@@ -125,14 +125,14 @@ pub record Host : Type 0 where
   pub port : ℕ
   pub timeout : Option ℕ
 
--- what is done with a text or a board: whether the bytes are told, whether all failures are, and whether of a refusal
--- it is told where it lies
+-- what is done with a text or a board: whether the bytes are told, whether all failures are, and whether it is told why
+-- a bit fails and where a refusal lies
 pub data Action : Type 0 where
-  plays : (bytes all : Bool) → Action
+  plays : (bytes all explain : Bool) → Action
   checks : (explain : Bool) → Action
-  loops : (all : Bool) → Action
+  loops : (all explain : Bool) → Action
   serves : Serving → Action
-  connects : Host → (all : Bool) → Action
+  connects : Host → (all explain : Bool) → Action
   describes : Action
 
 -- what is asked for: the file of the program and the board file, where they are named, and what is done
@@ -186,15 +186,16 @@ server_of rows = record { host = host_of rows; port = port_of rows; timeout = ti
 abbrev pub task_of : Text → List Row → Action
 task_of name rows =
     if bytes_eq name (codes "check") then checks (is_given (codes "explain") rows)
-    else if bytes_eq name (codes "loop") then loops (is_given (codes "all") rows)
+    else if bytes_eq name (codes "loop") then loops (is_given (codes "all") rows) (is_given (codes "explain") rows)
     else if bytes_eq name (codes "serve") then serves (serving_of rows)
-    else if bytes_eq name (codes "connect") then connects (server_of rows) (is_given (codes "all") rows)
+    else if bytes_eq name (codes "connect")
+    then connects (server_of rows) (is_given (codes "all") rows) (is_given (codes "explain") rows)
     else if bytes_eq name (codes "describe") then describes
-    else plays (is_given (codes "bytes") rows) (is_given (codes "all") rows)
+    else plays (is_given (codes "bytes") rows) (is_given (codes "all") rows) (is_given (codes "explain") rows)
 
 -- what a subcommand and its arguments ask for; without any the bytes are told too
 abbrev pub asked_by : Option (Text × List Row) → Asked
-asked_by None = record { svf = None; board = None; task = plays true false }
+asked_by None = record { svf = None; board = None; task = plays true false false }
 asked_by (Some found) = record {
   svf = first_of (codes "svf") found.1;
   board = first_of (codes "board") found.1;

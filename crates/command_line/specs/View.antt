@@ -11,11 +11,11 @@ abbrev pub server_view : Server → Host
 server_view s = record { host = s.host.now; port = s.port; timeout = s.timeout }
 
 abbrev pub action_of : Task → Action
-action_of (Play bytes all) = asking.plays bytes all
+action_of (Play bytes all explain) = asking.plays bytes all explain
 action_of (Check explain) = asking.checks explain
-action_of (Loop all) = asking.loops all
+action_of (Loop all explain) = asking.loops all explain
 action_of (Serve how) = asking.serves how
-action_of (Connect server all) = asking.connects (server_view server) all
+action_of (Connect server all explain) = asking.connects (server_view server) all explain
 action_of Describe = asking.describes
 
 abbrev pub asked_of : Request → Asked

@@ -30,16 +30,30 @@ const THIS_HOST: &str = "127.0.0.1";
 #[derive(Debug, Clone, Copy)]
 pub enum Task<'a> {
     /// The text is played, and where `bytes` is set the bytes sent are told too. Where `all` is set it is played to the
-    /// end, and all bits that fail are told.
-    Play { bytes: bool, all: bool },
+    /// end, and all bits that fail are told. Where `explain` is set, it is told of each bit that fails why, and of a
+    /// refusal where it lies.
+    Play {
+        bytes: bool,
+        all: bool,
+        explain: bool,
+    },
     /// The text is only checked. Where `explain` is set, it is told of a refusal where it lies.
-    Check { explain: bool },
-    /// The text is played over a connection of the program with itself; `all` as for `Play`.
-    Loop { all: bool },
+    Check {
+        explain: bool,
+    },
+    /// The text is played over a connection of the program with itself; `all` and `explain` as for `Play`.
+    Loop {
+        all: bool,
+        explain: bool,
+    },
     /// The board is served to clients.
     Serve(Serving),
-    /// The text is played on a server; `all` as for `Play`.
-    Connect { server: Server<'a>, all: bool },
+    /// The text is played on a server; `all` and `explain` as for `Play`.
+    Connect {
+        server: Server<'a>,
+        all: bool,
+        explain: bool,
+    },
     /// The board is described.
     Describe,
 }
@@ -82,10 +96,10 @@ pub struct Request<'a> {
 /// Reads the words of a command line, of which the first is the program's name. Without any more it is `play --bytes`.
 ///
 /// The command line is one of
-/// - `play [FILE] [--board BOARD] [--bytes] [--all]`, `check [FILE] [--board BOARD] [--explain]`,
-/// - `loop [FILE] [--board BOARD] [--all]`,
+/// - `play [FILE] [--board BOARD] [--bytes] [--all] [--explain]`, `check [FILE] [--board BOARD] [--explain]`,
+/// - `loop [FILE] [--board BOARD] [--all] [--explain]`,
 /// - `serve --board BOARD --port PORT [--at-most BYTES] [--connections COUNT] [--timeout SECONDS]`,
-/// - `connect [FILE] --port PORT [--host HOST] [--timeout SECONDS] [--all]`,
+/// - `connect [FILE] --port PORT [--host HOST] [--timeout SECONDS] [--all] [--explain]`,
 /// - `describe --board BOARD`.
 ///
 /// Refused are words that none of these takes, and a number that is not in its range; a call for help comes as such an
@@ -116,6 +130,7 @@ fn request_of<'a>(matches: &ArgMatches<'a>) -> Request<'a>
             task: Task::Play {
                 bytes: true,
                 all: false,
+                explain: false,
             },
         },
     }
@@ -131,16 +146,19 @@ fn task_of<'a>(name: &str, found: &ArgMatches<'a>) -> Task<'a>
         },
         "loop" => Task::Loop {
             all: is_given(found, "all"),
+            explain: is_given(found, "explain"),
         },
         "serve" => Task::Serve(serving_of(found)),
         "connect" => Task::Connect {
             server: server_of(found),
             all: is_given(found, "all"),
+            explain: is_given(found, "explain"),
         },
         "describe" => Task::Describe,
         _ => Task::Play {
             bytes: is_given(found, "bytes"),
             all: is_given(found, "all"),
+            explain: is_given(found, "explain"),
         },
     }
 }
@@ -247,7 +265,8 @@ fn play_command<'a>(alloc: Global) -> Result<Command<'a>, AllocError>
         .arg(svf_arg(alloc))?
         .arg(board_arg(alloc))?
         .arg(bytes_arg(alloc))?
-        .arg(all_arg(alloc))
+        .arg(all_arg(alloc))?
+        .arg(reasons_arg(alloc))
 }
 
 fn check_command<'a>(alloc: Global) -> Result<Command<'a>, AllocError>
@@ -273,7 +292,8 @@ fn loop_command<'a>(alloc: Global) -> Result<Command<'a>, AllocError>
         )
         .arg(svf_arg(alloc))?
         .arg(board_arg(alloc))?
-        .arg(all_arg(alloc))
+        .arg(all_arg(alloc))?
+        .arg(reasons_arg(alloc))
 }
 
 fn serve_command<'a>(alloc: Global) -> Result<Command<'a>, AllocError>
@@ -301,7 +321,8 @@ fn connect_command<'a>(alloc: Global) -> Result<Command<'a>, AllocError>
         .arg(port_arg(alloc))?
         .arg(host_arg(alloc))?
         .arg(timeout_arg(alloc))?
-        .arg(all_arg(alloc))
+        .arg(all_arg(alloc))?
+        .arg(reasons_arg(alloc))
 }
 
 fn describe_command<'a>(alloc: Global) -> Result<Command<'a>, AllocError>
@@ -341,6 +362,16 @@ fn explain_arg<'a>(alloc: Global) -> Arg<'a>
         .long("explain")
         .action(ArgAction::SetTrue)
         .help("Also tells where a refusal lies, or the name that it speaks of")
+}
+
+fn reasons_arg<'a>(alloc: Global) -> Arg<'a>
+    ensures rule { rule_of result ≡ spec.explain }
+    ensures local { result.global ≡ false }
+{
+    Arg::new(alloc, "explain")
+        .long("explain")
+        .action(ArgAction::SetTrue)
+        .help("Also tells why a bit fails, and where a refusal lies")
 }
 
 fn board_arg<'a>(alloc: Global) -> Arg<'a>

@@ -42,27 +42,65 @@ impl From<BoardFault> for Unmade {
     }
 }
 
+/// A board, and where it is asked for the same board once more.
+#[derive(Drop)]
+pub(crate) struct Boards {
+    pub(crate) board: Board,
+    pub(crate) other: Option<Board>,
+}
+
 /// The board of a board file, whose descriptions are files of the working folder; one bare device where none is named.
-/// Where `explain` is set, a description that is refused comes with its file.
-pub(crate) fn make_board(
+/// Where `explain` is set, a description that is refused comes with its file. Where `twice` is set, the board is made
+/// twice.
+pub(crate) fn make_boards(
     rt: &HostRuntime,
     alloc: Global,
     name: Option<&str>,
     explain: bool,
-) -> Result<Board, Unmade> {
+    twice: bool,
+) -> Result<Boards, Unmade> {
     let Some(name) = name else {
-        return Ok(Board::bare(alloc, 1)?);
+        return bare_boards(alloc, twice);
     };
     let read = read_board(rt, alloc, name)?;
     let files = files_of(alloc, &read.names, &read.descriptions)?;
-    match Board::from_text(alloc, &read.board_file, &files) {
-        Ok(board) => Ok(board),
+    match boards_of(alloc, &read.board_file, &files, twice) {
+        Ok(boards) => Ok(boards),
         Err(fault) => Err(if explain {
             explained_refusal(alloc, fault, &files)
         } else {
             Unmade::Refused(fault)
         }),
     }
+}
+
+/// The board of one bare device.
+fn bare_boards(alloc: Global, twice: bool) -> Result<Boards, Unmade> {
+    Ok(Boards {
+        board: Board::bare(alloc, 1)?,
+        other: if twice {
+            Some(Board::bare(alloc, 1)?)
+        } else {
+            None
+        },
+    })
+}
+
+/// The board of a board file and its descriptions.
+fn boards_of(
+    alloc: Global,
+    board_file: &[u8],
+    files: &[(&str, &[u8])],
+    twice: bool,
+) -> Result<Boards, BoardFault> {
+    Ok(Boards {
+        board: Board::from_text(alloc, board_file, files)?,
+        other: if twice {
+            Some(Board::from_text(alloc, board_file, files)?)
+        } else {
+            None
+        },
+    })
 }
 
 /// A board as it is wired, with the file of each device's description.

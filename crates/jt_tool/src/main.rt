@@ -3,19 +3,20 @@
 
 mod described;
 mod explained;
+mod linked;
 mod links;
 
-use crate::described::{Unmade, describe, make_board, plan_board};
-use crate::explained::{check_text, tell_unmade};
-use crate::links::{accept, connect, listen, pair};
+use crate::described::{Boards, Unmade, describe, make_boards, plan_board};
+use crate::explained::{check_text, play_text, tell_unmade};
+use crate::linked::{AcceptedText, loop_over_socket, play_on_server};
+use crate::links::{accept, listen};
 use board_description::Untold;
 use byte_ends::{Broken, Counted, Plain};
 use clap::error::ErrorKind as WordsFault;
-use command_line::{Request, Server, Serving, Task, parse};
+use command_line::{Request, Serving, Task, parse};
 use jt_player::{
-    Board, Ending, Kind, Program, Served, accept as accept_text, refuse_file, refuse_memory,
-    refuse_text, run_loop, run_over, run_play, run_play_all, run_serve, tell_listening,
-    tell_served, tell_unplayed, tell_verdict, write_report,
+    Board, Kind, Served, refuse_file, refuse_memory, run_serve, tell_listening, tell_served,
+    write_report,
 };
 use program_input::{InputFault, command_words, read_text};
 use std::alloc::Global;
@@ -32,8 +33,6 @@ const REFUSED: u8 = 2;
 const BROKEN: u8 = 3;
 /// Memory ran out.
 const MEMORY: u8 = 4;
-/// How a play ends whose server was not reached.
-const UNREACHED: Ending = Ending::Lost { command: 0 };
 
 fn main(rt: HostRuntime) -> ExitCode {
     let alloc = rt.alloc();
@@ -78,18 +77,24 @@ fn refuse_words<R: Print + Eprint>(rt: &R, fault: &clap::Error) -> u8 {
 
 /// Does what is asked for. A board is made before a text is read.
 fn run_request(rt: &HostRuntime, alloc: Global, request: &Request<'_>) -> u8 {
-    if let Task::Connect { server, all } = request.task {
-        return match read_program(rt, alloc, request.svf) {
-            Ok(program) => play_on_server(rt, alloc, kind_of(all), program, server),
+    let explain = explains(request.task);
+    if let Task::Connect { server, all, .. } = request.task {
+        return match read_program(rt, alloc, request.svf, explain) {
+            Ok(accepted) => play_on_server(rt, alloc, kind_of(all), accepted, server),
             Err(status) => status,
         };
     }
     if let (Task::Describe, Some(board)) = (request.task, request.board) {
         return describe_board(rt, alloc, board);
     }
-    let explain = explains(request.task);
-    match make_board(rt, alloc, request.board, explain) {
-        Ok(board) => run_board(rt, alloc, request, board),
+    match make_boards(
+        rt,
+        alloc,
+        request.board,
+        explain,
+        plays(request.task) && explain,
+    ) {
+        Ok(boards) => run_boards(rt, alloc, request, boards),
         Err(fault) => refuse_board(rt, &fault, explain),
     }
 }
@@ -107,23 +112,35 @@ fn describe_board(rt: &HostRuntime, alloc: Global, name: &str) -> u8 {
     }
 }
 
-/// Whether it is to be told where a refusal lies.
+/// Whether it is to be told why a bit fails, and where a refusal lies.
 fn explains(task: Task<'_>) -> bool {
     match task {
-        Task::Check { explain } => explain,
-        _ => false,
+        Task::Play { explain, .. }
+        | Task::Check { explain }
+        | Task::Loop { explain, .. }
+        | Task::Connect { explain, .. } => explain,
+        Task::Serve(_) | Task::Describe => false,
+    }
+}
+
+/// Whether a text is played on a board of the program.
+fn plays(task: Task<'_>) -> bool {
+    match task {
+        Task::Play { .. } | Task::Loop { .. } => true,
+        Task::Check { .. } | Task::Connect { .. } | Task::Serve(_) | Task::Describe => false,
     }
 }
 
 /// Does with a board what is asked for.
-fn run_board(rt: &HostRuntime, alloc: Global, request: &Request<'_>, mut board: Board) -> u8 {
+fn run_boards(rt: &HostRuntime, alloc: Global, request: &Request<'_>, boards: Boards) -> u8 {
+    let Boards { mut board, other } = boards;
     match request.task {
         Task::Serve(serving) => serve(rt, &mut board, serving).unwrap_or(BROKEN),
-        Task::Loop { all } => match read_program(rt, alloc, request.svf) {
-            Ok(program) => loop_over_socket(rt, alloc, kind_of(all), program, &mut board),
+        Task::Loop { all, explain } => match read_program(rt, alloc, request.svf, explain) {
+            Ok(accepted) => loop_over_socket(rt, alloc, kind_of(all), accepted, &mut board, other),
             Err(status) => status,
         },
-        task => run_text(rt, alloc, request.svf, task, &mut board),
+        task => run_text(rt, alloc, request.svf, task, &mut board, other),
     }
 }
 
@@ -134,6 +151,7 @@ fn run_text(
     name: Option<&str>,
     task: Task<'_>,
     board: &mut Board,
+    other: Option<Board>,
 ) -> u8 {
     let text = match read_text(rt, alloc, name) {
         Ok(text) => text,
@@ -142,11 +160,9 @@ fn run_text(
     let mut out = Counted::new(Plain(io::writer(rt)));
     let mut err = Counted::new(Plain(rt.stderr()));
     let status = match task {
-        Task::Play { bytes, all: false } => {
-            run_play(alloc, &text, board, bytes, &mut out, &mut err)
-        }
-        Task::Play { bytes, all: true } => {
-            run_play_all(alloc, &text, board, bytes, &mut out, &mut err)
+        Task::Play { bytes, all, .. } => {
+            let kind = kind_of(all);
+            play_text(alloc, kind, &text, bytes, board, other, &mut out, &mut err)
         }
         task => check_text(alloc, &text, board, explains(task), &mut out, &mut err),
     };
@@ -154,72 +170,21 @@ fn run_text(
 }
 
 /// Reads and accepts a text. Else tells why not, and answers the exit status: no connection is opened then.
-fn read_program(rt: &HostRuntime, alloc: Global, name: Option<&str>) -> Result<Program, u8> {
-    let text = match read_text(rt, alloc, name) {
-        Ok(text) => text,
-        Err(fault) => return Err(refuse_input(rt, name.unwrap_or("-"), fault)),
-    };
-    match accept_text(alloc, &text) {
-        Ok(program) => Ok(program),
-        Err(fault) => {
-            let mut err = Counted::new(Plain(rt.stderr()));
-            Err(refuse_text(fault, &mut err).unwrap_or(BROKEN))
-        }
+fn read_program(
+    rt: &HostRuntime,
+    alloc: Global,
+    name: Option<&str>,
+    explain: bool,
+) -> Result<AcceptedText, u8> {
+    match read_text(rt, alloc, name) {
+        Ok(text) => AcceptedText::accept(rt, alloc, text, explain),
+        Err(fault) => Err(refuse_input(rt, name.unwrap_or("-"), fault)),
     }
 }
 
 /// The kind of player that is asked for: one that tells all failures plays on.
 fn kind_of(all: bool) -> Kind {
     if all { Kind::PlaysOn } else { Kind::Stops }
-}
-
-/// Plays a program on a server. One that cannot be reached loses the play before its first command. Answers the exit
-/// status.
-fn play_on_server(
-    rt: &HostRuntime,
-    alloc: Global,
-    kind: Kind,
-    program: Program,
-    server: Server<'_>,
-) -> u8 {
-    let mut out = Counted::new(Plain(io::writer(rt)));
-    let status = match connect(rt, server) {
-        Ok(link) => {
-            let mut reader = Counted::new(link.reader);
-            let mut writer = Counted::new(link.writer);
-            run_over(alloc, kind, program, &mut reader, &mut writer, &mut out)
-        }
-        Err(_) => tell_verdict(UNREACHED, &mut out),
-    };
-    status.unwrap_or(BROKEN)
-}
-
-/// Plays a program on a board over a connection of the program with itself. Answers the exit status.
-fn loop_over_socket(
-    rt: &HostRuntime,
-    alloc: Global,
-    kind: Kind,
-    program: Program,
-    board: &mut Board,
-) -> u8 {
-    let mut out = Counted::new(Plain(io::writer(rt)));
-    let status = match pair(rt) {
-        Ok((player, server)) => {
-            let mut player_end = Counted::new(player);
-            let mut board_end = Counted::new(server);
-            run_loop(
-                alloc,
-                kind,
-                program,
-                &mut player_end,
-                &mut board_end,
-                board,
-                &mut out,
-            )
-        }
-        Err(_) => tell_unplayed(UNREACHED, board, &mut out),
-    };
-    status.unwrap_or(BROKEN)
 }
 
 /// Serves a board to clients, one after another, and tells how each ended and how the board then stands. Answers the

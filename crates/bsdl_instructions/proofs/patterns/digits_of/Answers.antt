@@ -1,4 +1,5 @@
 use Rattle.std.proofs.Common.{◌≡◌, true, false, ◌+◌, ◌∷◌, length, ap, ◌∙◌, arith}
+use Rattle.std.proofs.lemmas.List.Folds.{list_all-append}
 use Rattle.bsdl_lex.specs.Left.{left, lexeme}
 use Rattle.bsdl_instructions.specs.Values.{are_digits}
 use Rattle.bsdl_instructions.proofs.PatternLaws.{more_digits, no_digits, digits_end}
@@ -11,6 +12,7 @@ tokens-preserved c =
     let less : length (left c.tokens.rest) ≡ length (left c.in-Some-next.after) + 1 = omega (arith, ap length here) in (
       rw c.in-Ok-extend_from_slice.ensures.items (c.tokens.invariant.0 ∙ more_digits c.tokens.digits.items (left c.tokens.rest) (lexeme c.in-Some-next.token) (left c.in-Some-next.after) here is),
       omega (arith, less, c.tokens.invariant.1),
+      rw (c.in-Ok-extend_from_slice.ensures.items, list_all-append, c.tokens.invariant.2) is,
     )
 
 pub returns-then-not-are_digits-clause-gives : goal.returns-then-not-are_digits-clause-gives

@@ -1,7 +1,7 @@
 use Rattle.std.proofs.Common.{◌≡◌, take, length}
 use Rattle.bsdl_device.specs.Opcodes.{x_as_0}
-use Rattle.bsdl_instructions.specs.View.{pattern}
+use Rattle.bsdl_instructions.specs.Values.{pattern_of}
 use Rattle.bsdl_opcodes.proofs.patterns.bits_of.Given as goal
 
 abbrev pub invariant-loop-i : goal.invariant-loop-i
-invariant-loop-i l = record { len : length l.bits ≡ l.len; front : take l.i l.bits ≡ take l.i (x_as_0 (pattern l.pattern)) }
+invariant-loop-i l = record { len : length l.bits ≡ l.len; front : take l.i l.bits ≡ take l.i (x_as_0 (pattern_of l.digits)) }

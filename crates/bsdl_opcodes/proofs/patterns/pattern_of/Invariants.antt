@@ -3,4 +3,4 @@ use Rattle.bsdl_instructions.specs.Values.{bit}
 use Rattle.bsdl_opcodes.proofs.patterns.pattern_of.Given as goal
 
 abbrev pub invariant-loop-digit : goal.invariant-loop-digit
-invariant-loop-digit l = l.bits.items ≡ map bit (take l.digit-index l.pattern.digits.items)
+invariant-loop-digit l = l.bits.items ≡ map bit (take l.digit-index l.digits)

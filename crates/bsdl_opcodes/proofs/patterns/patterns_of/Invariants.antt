@@ -1,6 +1,7 @@
-use Rattle.std.proofs.Common.{◌≡◌, map, take}
-use Rattle.bsdl_instructions.specs.View as view
+use Rattle.std.proofs.Common.{◌≡◌, ◌++◌}
+use Rattle.bsdl_instructions.specs.Left.{digits_left}
+use Rattle.bsdl_instructions.specs.View.{patterns}
 use Rattle.bsdl_opcodes.proofs.patterns.patterns_of.Given as goal
 
-abbrev pub invariant-loop-pattern : goal.invariant-loop-pattern
-invariant-loop-pattern l = l.all.items ≡ map view.pattern (take l.pattern-index l.patterns)
+abbrev pub invariant-loop-digits : goal.invariant-loop-digits
+invariant-loop-digits l = l.all.items ++ patterns (digits_left l.digits-iterator) ≡ patterns l.patterns

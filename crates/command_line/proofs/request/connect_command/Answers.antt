@@ -1,7 +1,7 @@
 use Rattle.std.proofs.Common.{◌≡◌, false, ap, ◌∙◌, codes}
 use Rattle.clap.specs.Simple.{app_of_fields}
 use Rattle.clap.specs.Words.{app_of, new_app, with_rule}
-use Rattle.command_line.specs.Asking.{all, host, port, svf, timeout}
+use Rattle.command_line.specs.Asking.{all, explain, host, port, svf, timeout}
 use Rattle.clap.specs.declared.builder.command.Command.TheViews.{out-Command}
 use Rattle.clap.specs.declared.builder.command.Command.{Command}
 use Rattle.clap.specs.declared.builder.command.Command.TheOpen.{Command-F}
@@ -16,7 +16,8 @@ returns-clause-shape c =
     let arg1 = with_argument c.in_ok-arg.field-0 c.in_ok-arg-2.field-0 c.port_arg.result (with_rule (none) svf) port c.in_ok-arg-2.ensures c.port_arg.ensures.local c.port_arg.ensures.rule arg0 in
     let arg2 = with_argument c.in_ok-arg-2.field-0 c.in_ok-arg-3.field-0 c.host_arg.result (with_rule (with_rule (none) svf) port) host c.in_ok-arg-3.ensures c.host_arg.ensures.local c.host_arg.ensures.rule arg1 in
     let arg3 = with_argument c.in_ok-arg-3.field-0 c.in_ok-arg-4.field-0 c.timeout_arg.result (with_rule (with_rule (with_rule (none) svf) port) host) timeout c.in_ok-arg-4.ensures c.timeout_arg.ensures.local c.timeout_arg.ensures.rule arg2 in
-    with_last_argument c.in_ok-arg-4.field-0 c.all_arg.result (with_rule (with_rule (with_rule (with_rule (none) svf) port) host) timeout) all c.arg-5.result c.arg-5.ensures c.all_arg.ensures.local c.all_arg.ensures.rule arg3
+    let arg4 = with_argument c.in_ok-arg-4.field-0 c.in_ok-arg-5.field-0 c.all_arg.result (with_rule (with_rule (with_rule (with_rule (none) svf) port) host) timeout) all c.in_ok-arg-5.ensures c.all_arg.ensures.local c.all_arg.ensures.rule arg3 in
+    with_last_argument c.in_ok-arg-5.field-0 c.reasons_arg.result (with_rule (with_rule (with_rule (with_rule (with_rule (none) svf) port) host) timeout) all) explain c.arg-6.result c.arg-6.ensures c.reasons_arg.ensures.local c.reasons_arg.ensures.rule arg4
 
 pub returns-clause-local : goal.returns-clause-local
 returns-clause-local c =
@@ -25,4 +26,5 @@ returns-clause-local c =
     let l1 = no_globals c.in_ok-arg.field-0 c.in_ok-arg-2.field-0 c.port_arg.result c.in_ok-arg-2.ensures c.port_arg.ensures.local l0 in
     let l2 = no_globals c.in_ok-arg-2.field-0 c.in_ok-arg-3.field-0 c.host_arg.result c.in_ok-arg-3.ensures c.host_arg.ensures.local l1 in
     let l3 = no_globals c.in_ok-arg-3.field-0 c.in_ok-arg-4.field-0 c.timeout_arg.result c.in_ok-arg-4.ensures c.timeout_arg.ensures.local l2 in
-    last_no_globals c.in_ok-arg-4.field-0 c.all_arg.result c.arg-5.result c.arg-5.ensures c.all_arg.ensures.local l3
+    let l4 = no_globals c.in_ok-arg-4.field-0 c.in_ok-arg-5.field-0 c.all_arg.result c.in_ok-arg-5.ensures c.all_arg.ensures.local l3 in
+    last_no_globals c.in_ok-arg-5.field-0 c.reasons_arg.result c.arg-6.result c.arg-6.ensures c.reasons_arg.ensures.local l4

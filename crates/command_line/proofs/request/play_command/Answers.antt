@@ -1,8 +1,11 @@
-use Rattle.std.proofs.Common.{◌≡◌, ap, ◌∙◌, codes}
+use Rattle.std.proofs.Common.{◌≡◌, false, ap, ◌∙◌, codes}
 use Rattle.clap.specs.Simple.{app_of_fields}
 use Rattle.clap.specs.Words.{app_of, new_app, with_rule}
-use Rattle.command_line.specs.Asking.{all, board, bytes, svf}
-use Rattle.command_line.proofs.CommandLaws.{with_argument, with_last_argument}
+use Rattle.command_line.specs.Asking.{all, board, bytes, explain, svf}
+use Rattle.clap.specs.declared.builder.command.Command.TheViews.{out-Command}
+use Rattle.clap.specs.declared.builder.command.Command.{Command}
+use Rattle.clap.specs.declared.builder.command.Command.TheOpen.{Command-F}
+use Rattle.command_line.proofs.CommandLaws.{last_no_globals, no_globals, with_argument, with_last_argument}
 use Rattle.command_line.proofs.request.play_command.Goals as goal
 
 pub returns-clause-shape : goal.returns-clause-shape
@@ -12,4 +15,14 @@ returns-clause-shape c =
     let one = with_argument c.about.result c.in_ok-arg.field-0 c.svf_arg.result none svf c.in_ok-arg.ensures c.svf_arg.ensures.local c.svf_arg.ensures.rule named in
     let two = with_argument c.in_ok-arg.field-0 c.in_ok-arg-2.field-0 c.board_arg.result (with_rule none svf) board c.in_ok-arg-2.ensures c.board_arg.ensures.local c.board_arg.ensures.rule one in
     let three = with_argument c.in_ok-arg-2.field-0 c.in_ok-arg-3.field-0 c.bytes_arg.result (with_rule (with_rule none svf) board) bytes c.in_ok-arg-3.ensures c.bytes_arg.ensures.local c.bytes_arg.ensures.rule two in
-    with_last_argument c.in_ok-arg-3.field-0 c.all_arg.result (with_rule (with_rule (with_rule none svf) board) bytes) all c.arg-4.result c.arg-4.ensures c.all_arg.ensures.local c.all_arg.ensures.rule three
+    let four = with_argument c.in_ok-arg-3.field-0 c.in_ok-arg-4.field-0 c.all_arg.result (with_rule (with_rule (with_rule none svf) board) bytes) all c.in_ok-arg-4.ensures c.all_arg.ensures.local c.all_arg.ensures.rule three in
+    with_last_argument c.in_ok-arg-4.field-0 c.reasons_arg.result (with_rule (with_rule (with_rule (with_rule none svf) board) bytes) all) explain c.arg-5.result c.arg-5.ensures c.reasons_arg.ensures.local c.reasons_arg.ensures.rule four
+
+pub returns-clause-local : goal.returns-clause-local
+returns-clause-local c =
+    let named : (out-Command c.about.result).has_globals ≡ false = ap (λ (f : Command-F Command). f.has_globals) c.about.ensures ∙ c.new.ensures.local in
+    let l0 = no_globals c.about.result c.in_ok-arg.field-0 c.svf_arg.result c.in_ok-arg.ensures c.svf_arg.ensures.local named in
+    let l1 = no_globals c.in_ok-arg.field-0 c.in_ok-arg-2.field-0 c.board_arg.result c.in_ok-arg-2.ensures c.board_arg.ensures.local l0 in
+    let l2 = no_globals c.in_ok-arg-2.field-0 c.in_ok-arg-3.field-0 c.bytes_arg.result c.in_ok-arg-3.ensures c.bytes_arg.ensures.local l1 in
+    let l3 = no_globals c.in_ok-arg-3.field-0 c.in_ok-arg-4.field-0 c.all_arg.result c.in_ok-arg-4.ensures c.all_arg.ensures.local l2 in
+    last_no_globals c.in_ok-arg-4.field-0 c.reasons_arg.result c.arg-5.result c.arg-5.ensures c.reasons_arg.ensures.local l3

@@ -1,0 +1,9 @@
+-- A place of a chain of so many devices.
+use Rattle.std.specs.Prelude.{ℕ, ◌<◌, ⊤}
+use Rattle.scan_origins.specs.declared.Origin.{Origin}
+use Rattle.scan_origins.specs.declared.Origin.TheVariants.{Register, Tdi}
+
+-- a place in a register is in one of so many devices
+abbrev pub IsOfDevice : ℕ → Origin → Type 0
+IsOfDevice devices (Register device bit) = device < devices
+IsOfDevice devices (Tdi bit) = ⊤

@@ -1,0 +1,5 @@
+pub mod Explanations
+pub mod Passing
+pub mod Plates
+pub mod Reasons
+pub mod WantedSteps

@@ -1,0 +1,7 @@
+pub mod Explaining
+pub mod Kept
+pub mod Laws
+pub mod Lines
+pub mod Passed
+pub mod Runs
+pub mod Wanted

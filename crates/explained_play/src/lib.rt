@@ -1,0 +1,18 @@
+//! Why wanted bits of a play do not come out: what was wanted, and what held the bit that came. And the runs that say
+//! so.
+//!
+//! The reasons are found on a board of their own, on which the program is played once more, so that the play itself is
+//! as without them.
+#![tactic(auto)]
+
+pub use explaining::{Explained, Reasons, explain};
+pub use laws::every_failure_is_explained;
+pub use runs::{run_loop_explained, run_over_explained, run_play_explained};
+pub use telling::{Accepted, Known, write_explained};
+
+mod explaining;
+mod laws;
+mod places;
+mod runs;
+mod telling;
+mod wanted;
