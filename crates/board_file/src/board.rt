@@ -52,14 +52,15 @@ pub fn plan_of_text<'f, R: Describe>(
     ensures loops { IfOk result (λ p. HasNoLoop (dependencies (wiring p))) }
 {
     let table = read_table(alloc, toml_text)?;
-    plan_in(alloc, reader, files, &table)
+    plan_of_table(alloc, reader, &table, files)
 }
 
-fn plan_in<'f, R: Describe>(
+/// The same, given the board file's table.
+pub fn plan_of_table<'f, R: Describe>(
     alloc: Global,
     reader: &R,
-    files: &[(&'f str, &'f [u8])],
     table: &Table,
+    files: &[(&'f str, &'f [u8])],
 ) -> Result<Plan, BoardFault<R::Fault>>
     ensures told { TellsBoard R.refuses result (makes R.says (files_of files.now) (table_view table.now))
         (targets_in (table_view table.now)) }

@@ -23,10 +23,10 @@ pub fn bsdl_names<F>(alloc: Global, toml_text: &[u8]) -> Result<Vec<String>, Boa
     ensures bad_toml { IsBadToml toml_text.now → TellsBadToml result }
 {
     let table = read_table(alloc, toml_text)?;
-    names_in(alloc, &table)
+    names_of_table(alloc, &table)
 }
 
-/// The table that a text is.
+/// The table that a text is, or that it is no TOML (C1). Want of memory is C8.
 pub fn read_table<F>(alloc: Global, text: &[u8]) -> Result<Table, BoardFault<F>>
     ensures { ReadsToml text.now result }
 {
@@ -37,7 +37,8 @@ pub fn read_table<F>(alloc: Global, text: &[u8]) -> Result<Table, BoardFault<F>>
     }
 }
 
-fn names_in<F>(alloc: Global, table: &Table) -> Result<Vec<String>, BoardFault<F>>
+/// The same of a board file's table.
+pub fn names_of_table<F>(alloc: Global, table: &Table) -> Result<Vec<String>, BoardFault<F>>
     ensures { TellsNames result (names_of (table_view table.now)) }
 {
     if let Err(unfit) = check_fields(alloc, table, &[]) {

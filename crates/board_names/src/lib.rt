@@ -5,4 +5,4 @@ mod fault;
 mod files;
 
 pub use fault::{BoardFault, told};
-pub use files::{bsdl_names, distinct_files, read_table};
+pub use files::{bsdl_names, distinct_files, names_of_table, read_table};

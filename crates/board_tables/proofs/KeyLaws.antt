@@ -1,20 +1,19 @@
 -- What it means that no key of a table is at fault.
-use Rattle.std.proofs.Common.{◌≡◌, ℕ, Bool, true, false, not, ◌&&◌, cond, List, [], ◌∷◌, ◌++◌, fold, codes, Option, Some, None, is_some, unwrap_or, option_and_then, nat_cmp, refl, ap, sym, ◌∙◌}
+use Rattle.std.proofs.Common.{◌≡◌, ℕ, Bor, Bool, true, false, not, cond, List, [], ◌∷◌, ◌++◌, fold, codes, Option, Some, None, nat_cmp, refl, ap, sym, ◌∙◌}
 use Rattle.std.specs.Ordering.{is_eq, is_lt, match_ordering}
 use Rattle.std.specs.declared.cmp.Ordering.{Ordering}
 use Rattle.std.specs.declared.cmp.Ordering.TheVariants.{Less, Equal, Greater}
 use Rattle.std.specs.Str.{bytes_eq}
-use Rattle.std.specs.List.{list_any}
 use Rattle.std.specs.Cmp.Lexicographic.{slice_cmp}
-use Rattle.std.proofs.lemmas.Bool.{false≢true, and_parts}
+use Rattle.std.proofs.lemmas.Bool.{false≢true}
 use Rattle.std.proofs.lemmas.Map.Lookups.{exact_bytes}
 use Rattle.std.proofs.lemmas.Map.Text.{is_eq-slice_cmp}
 use Rattle.std.proofs.lemmas.Slice.Eq.{bytes_eq-Decides}
-use Rattle.toml.specs.Data.{Data, Members, no_members, member, get_member, as_str}
-use Rattle.board_words.specs.Names.{is_name}
+use Rattle.toml.specs.Data.{Data, Members, no_members, member, get_member}
+use Rattle.std.proofs.lemmas.List.{map-append}
+use Rattle.board_words.specs.View.{texts_of}
 use Rattle.board_tables.specs.declared.keys.Known.{Known}
-use Rattle.board_tables.specs.Fields.{name_at, passes}
-use Rattle.board_tables.specs.Keys.{JudgedByOtherKeys, Key, device_keys, keys_but_follow, net_keys, unfit_key, earlier, earliest, misfits, missing, needed, fits_one, is_new_name}
+use Rattle.board_tables.specs.Keys.{JudgedByOtherKeys, Key, device_keys, keys_but_follow, unfit_key, earlier, earliest, misfits, missing, needed, fits_one}
 
 both : (b : Bool) (k l : List ℕ) (ks : List (List ℕ)) → (fold earlier (Some l) ks ≡ None → ⊥) → (fold earlier (Some k) ks ≡ None → ⊥) → fold earlier (cond b (Some l) (Some k)) ks ≡ None → ⊥
 both true k l ks one other h = one h
@@ -61,31 +60,10 @@ fitting keys t h =
     let parts = parts_empty (misfits (fits_one keys) t) (missing (needed keys) t) (none_left _ h) in
     (each_fits (fits_one keys) t parts.0, parts.1)
 
-new_text : (names : List (List ℕ)) (s : Option (List ℕ)) → passes (λ s. is_name s && not (list_any (bytes_eq s) names)) s ≡ true → list_any (bytes_eq (unwrap_or s [])) names ≡ false
-new_text names None h = absurd (false≢true h)
-new_text names (Some s) h = not_true (list_any (bytes_eq s) names) ((and_parts (is_name s) _ h).1)
-  where
-    not_true : (b : Bool) → not b ≡ true → b ≡ false
-    not_true true h = absurd (false≢true h)
-    not_true false h = refl
-
-new_value : (names : List (List ℕ)) (g : Option Data) → not (is_some g) ≡ false → ((d : Data) → g ≡ Some d → is_new_name names d ≡ true) → list_any (bytes_eq (unwrap_or (option_and_then as_str g) [])) names ≡ false
-new_value names None h f = absurd cc
-new_value names (Some d) h f = new_text names (as_str d) (f d refl)
-
--- the name of a device that is not at fault is none of those before it
-pub new_device : (names : List (List ℕ)) (known : Option Known) (t : Members) → unfit_key (device_keys names known) t ≡ None → list_any (bytes_eq (name_at t)) names ≡ false
-new_device names known t h =
-    let (fit, none) = fitting (device_keys names known) t h in
-    let one = head_in (not (is_some (get_member (codes "bsdl") t))) (codes "bsdl") _ none in
-    let two = head_in (not (is_some (get_member (codes "name") t))) (codes "name") [] one.1 in
-    new_value names (get_member (codes "name") t) two.0 (λ d g. fit (codes "name") d g)
-
-pub new_net : (names : List (List ℕ)) (t : Members) → unfit_key (net_keys names) t ≡ None → list_any (bytes_eq (name_at t)) names ≡ false
-new_net names t h =
-    let (fit, none) = fitting (net_keys names) t h in
-    let one = head_in (not (is_some (get_member (codes "name") t))) (codes "name") _ none in
-    new_value names (get_member (codes "name") t) one.0 (λ d g. fit (codes "name") d g)
+-- the name of a table behind those before it
+pub one_name_more : (before after : List (Bor (List ℕ))) (key : Bor (List ℕ)) (name : List ℕ) → after ≡ before ++ key ∷ [] → key.now ≡ name
+    → texts_of after ≡ texts_of before ++ name ∷ []
+one_name_more before after key name is same = rw (is, map-append, same) refl
 
 -- ---- a table without the key `follow`
 

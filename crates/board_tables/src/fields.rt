@@ -70,6 +70,7 @@ fn check_nets<'t>(alloc: Global, nets: &'t [Value]) -> Result<(), Unfit<'t>>
 }
 
 /// Judges the keys of a device, given the names of those before it, and adds its name.
+#[tactic(auto, using(crate::proofs::KeyLaws::one_name_more))]
 fn check_device<'t>(
     names: &mut Places<&'t str>,
     known: Option<Known>,
@@ -83,13 +84,13 @@ fn check_device<'t>(
     if let Some(key) = unfit_key(Keys::Device(names, known), table) {
         return Err(Unfit::Field(key));
     }
-    match names.add(name_at(table)) {
+    match names.push(name_at(table)) {
         Ok(()) => Ok(()),
         Err(_) => Err(Unfit::Memory),
     }
 }
 
-#[tactic(auto, using(crate::proofs::KeyLaws::new_net))]
+#[tactic(auto, using(crate::proofs::KeyLaws::one_name_more))]
 fn check_net<'t>(names: &mut Places<&'t str>, table: &'t Table) -> Result<(), Unfit<'t>>
     ensures judged { Checks result (keys.unfit_key (keys.net_keys (texts_of names.old)) (table_view table.now)) }
     ensures named { OnOk result
@@ -98,7 +99,7 @@ fn check_net<'t>(names: &mut Places<&'t str>, table: &'t Table) -> Result<(), Un
     if let Some(key) = unfit_key(Keys::Net(names), table) {
         return Err(Unfit::Field(key));
     }
-    match names.add(name_at(table)) {
+    match names.push(name_at(table)) {
         Ok(()) => Ok(()),
         Err(_) => Err(Unfit::Memory),
     }

@@ -1,17 +1,19 @@
 //! Boards by their board file and the descriptions that it names.
 
 ghost use Rattle.toml.specs.Data.{Members};
+ghost use Rattle.toml.specs.View.{table_view};
 ghost use Rattle.board_names.specs.Files.{IsBadToml, Reads, names_of};
-ghost use Rattle.board_names.specs.View.{TellsBadToml, TellsNames};
+ghost use Rattle.board_names.specs.View.{ReadsToml, TellsBadToml, TellsNames};
 ghost use Rattle.board_library.specs.View.{files_of};
 ghost use Rattle.board_file.specs.Wiring.{makes, targets_in};
 ghost use Rattle.jt_board.specs.FromText.{TellsMade, said_device};
 
 use crate::board::{Board, BoardFault};
-use board_file::{Describe, Unread, plan_of_text};
+use board_file::{Describe, Unread, names_of_table, plan_of_table, read_table};
 use bsdl::{BsdlFault, read};
 use bsdl_device::Device;
 use std::alloc::Global;
+use toml::Table;
 
 /// The reader of descriptions in BSDL.
 struct Bsdl;
@@ -46,6 +48,20 @@ pub fn bsdl_names(alloc: Global, toml_text: &[u8]) -> Result<Vec<String>, BoardF
     board_file::bsdl_names(alloc, toml_text)
 }
 
+/// The table that a board file is, or that it is no TOML (C1). Want of memory is C8.
+pub fn board_table(alloc: Global, toml_text: &[u8]) -> Result<Table, BoardFault>
+    ensures { ReadsToml toml_text.now result }
+{
+    read_table(alloc, toml_text)
+}
+
+/// `bsdl_names`, given the board file's table.
+pub fn table_names(alloc: Global, table: &Table) -> Result<Vec<String>, BoardFault>
+    ensures { TellsNames result (names_of (table_view table.now)) }
+{
+    names_of_table(alloc, table)
+}
+
 impl Board {
     /// The board that a board file and the descriptions in these files make, as it powers up, each file given by its
     /// name and its text; or the first refusal. Of two files of one name the first counts; files that no device names
@@ -61,7 +77,24 @@ impl Board {
         // What is no TOML is refused as that, unless memory runs out.
         ensures bad_toml { IsBadToml toml_text.now → TellsBadToml result }
     {
-        let plan = match plan_of_text(alloc, &Bsdl, toml_text, files) {
+        let table = match board_table(alloc, toml_text) {
+            Ok(table) => table,
+            Err(fault) => return Err(fault),
+        };
+        Board::from_table(alloc, &table, files)
+    }
+
+    /// The same, given the board file's table: a program that has asked for the names of its descriptions need not read
+    /// the file again.
+    pub fn from_table<'f>(
+        alloc: Global,
+        table: &Table,
+        files: &[(&'f str, &'f [u8])],
+    ) -> Result<Board, BoardFault>
+        ensures { TellsMade result (makes said_device (files_of files.now) (table_view table.now))
+            (targets_in (table_view table.now)) }
+    {
+        let plan = match plan_of_table(alloc, &Bsdl, table, files) {
             Ok(plan) => plan,
             Err(fault) => return Err(fault),
         };

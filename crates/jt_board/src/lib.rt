@@ -11,7 +11,7 @@ pub use board_meaning::Reply;
 pub use board_report::Snapshot;
 pub use bsdl::BsdlFault;
 pub use byte_ends::{Broken, Counted};
-pub use from_text::bsdl_names;
+pub use from_text::{board_table, bsdl_names, table_names};
 pub use laws::{
     boards_stay_within_larger_limits, every_board_in_use_is_sound, every_device_read_is_formed,
 };

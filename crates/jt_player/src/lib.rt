@@ -17,7 +17,8 @@ pub use headline::{
 };
 pub use joined::{Event, Joined, Standing, Unjoined};
 pub use jt_board::{
-    Board, BoardFault, Broken, BsdlFault, Counted, Level, Reply, Snapshot, bsdl_names, write_report,
+    Board, BoardFault, Broken, BsdlFault, Counted, Level, Reply, Snapshot, board_table, bsdl_names,
+    table_names, write_report,
 };
 pub use linking::{
     fresh_player, run_loop, run_over, run_serve, tell_listening, tell_served, tell_unplayed,

@@ -2,14 +2,15 @@
 ghost use Rattle.std.specs.Prelude.{◌≡◌};
 
 use board_description::{Untold, description_names, write_description};
-use board_file::{Describe, Unread, plan_of_text};
+use board_file::{Describe, Unread, plan_of_table};
 use board_plan::Plan;
 use bsdl::{BsdlFault, read as read_device};
 use bsdl_device::Device;
 use byte_ends::{Counted, Sink};
-use jt_player::{Board, BoardFault, bsdl_names};
+use jt_player::{Board, BoardFault, board_table, table_names};
 use program_input::{Descriptions, InputFault, read_board_file};
 use std::alloc::{AllocError, Global};
+use toml::Table;
 
 /// Why no board was made.
 #[derive(Drop)]
@@ -64,7 +65,7 @@ pub(crate) fn make_boards(
     };
     let read = read_board(rt, alloc, name)?;
     let files = files_of(alloc, &read.names, &read.descriptions)?;
-    match boards_of(alloc, &read.board_file, &files, twice) {
+    match boards_of(alloc, &read.table, &files, twice) {
         Ok(boards) => Ok(boards),
         Err(fault) => Err(if explain {
             explained_refusal(alloc, fault, &files)
@@ -89,14 +90,14 @@ fn bare_boards(alloc: Global, twice: bool) -> Result<Boards, Unmade> {
 /// The board of a board file and its descriptions.
 fn boards_of(
     alloc: Global,
-    board_file: &[u8],
+    table: &Table,
     files: &[(&str, &[u8])],
     twice: bool,
 ) -> Result<Boards, BoardFault> {
     Ok(Boards {
-        board: Board::from_text(alloc, board_file, files)?,
+        board: Board::from_table(alloc, table, files)?,
         other: if twice {
-            Some(Board::from_text(alloc, board_file, files)?)
+            Some(Board::from_table(alloc, table, files)?)
         } else {
             None
         },
@@ -114,7 +115,7 @@ pub(crate) struct Planned {
 pub(crate) fn plan_board(rt: &HostRuntime, alloc: Global, name: &str) -> Result<Planned, Unmade> {
     let read = read_board(rt, alloc, name)?;
     let files = files_of(alloc, &read.names, &read.descriptions)?;
-    match plan_of_text(alloc, &Bsdl, &read.board_file, &files) {
+    match plan_of_table(alloc, &Bsdl, &read.table, &files) {
         Ok(plan) => Ok(Planned {
             files: description_names(alloc, &read.board_file)?,
             plan,
@@ -159,6 +160,7 @@ impl Describe for Bsdl {
 #[derive(Drop)]
 struct ReadBoard {
     board_file: Vec<u8>,
+    table: Table,
     names: Vec<String>,
     descriptions: Descriptions,
 }
@@ -169,7 +171,8 @@ fn read_board(rt: &HostRuntime, alloc: Global, name: &str) -> Result<ReadBoard, 
         Ok(text) => text,
         Err(fault) => return Err(unread(alloc, name, fault)),
     };
-    let names = bsdl_names(alloc, &board_file)?;
+    let table = board_table(alloc, &board_file)?;
+    let names = table_names(alloc, &table)?;
     let mut descriptions = Descriptions::new(alloc);
     for name in &names {
         if let Err(fault) = descriptions.read(rt, alloc, name.as_str()) {
@@ -178,6 +181,7 @@ fn read_board(rt: &HostRuntime, alloc: Global, name: &str) -> Result<ReadBoard, 
     }
     Ok(ReadBoard {
         board_file,
+        table,
         names,
         descriptions,
     })

@@ -10,7 +10,7 @@ use Rattle.board_loops.specs.Depending.{dependencies}
 use Rattle.board_file.specs.Wiring.{makes, targets_in}
 use Rattle.board_file.proofs.FitLaws.{board_targets}
 use Rattle.board_file.proofs.LoopLaws.{loop_told, no_memory_told, wiring_told}
-use Rattle.board_file.proofs.board.plan_in.Goals as goal
+use Rattle.board_file.proofs.board.plan_of_table.Goals as goal
 
 pub returns-in-Err-clause-told : goal.returns-in-Err-clause-told
 returns-in-Err-clause-told g c =
