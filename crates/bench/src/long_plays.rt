@@ -1,9 +1,9 @@
 //! Long plays: whole registers beside edges.
 
-use bench_rows::{Row, Unit, print_row};
-use direct_play::{accept, play_program, play_program_noted};
+use crate::rows::{Row, Unit, print_row};
 use jt_board::{Board, Counted, Reply};
-use plays::Ending;
+use play_direct::{accept, play_program, play_program_noted};
+use play_model::Ending;
 use std::alloc::{AllocError, Global};
 use std::io;
 use std::time::Instant;

@@ -1,13 +1,18 @@
 //! Measures calls of the crates below, for `gate/bench_calls`, which measures the same work in C beside them.
 #![tactic(auto)]
 
-mod long_plays;
-mod whole_plays;
-
-use bench_bits::{bits, scans};
-use bench_texts::{descriptions, programs};
 use std::process::ExitCode;
 use std::{env, io};
+
+pub mod bits;
+mod boards;
+mod chips;
+pub mod descriptions;
+mod long_plays;
+pub mod programs;
+mod rows;
+pub mod scans;
+mod whole_plays;
 
 fn main(rt: HostRuntime) -> ExitCode {
     let mut words = match env::args(&rt) {
@@ -33,16 +38,16 @@ fn main(rt: HostRuntime) -> ExitCode {
 /// Tells the seconds that have no row in C.
 fn tell(rt: &HostRuntime) -> io::Result<()> {
     long_plays::tell(rt)?;
-    bench_boards::tell(rt)
+    boards::tell(rt)
 }
 
 /// Measures each row and prints it.
 fn measure(rt: &HostRuntime) -> io::Result<()> {
     bits::rows(rt)?;
     scans::rows(rt)?;
-    bench_chips::rows(rt)?;
+    chips::rows(rt)?;
     whole_plays::rows(rt)?;
     long_plays::rows(rt)?;
-    bench_boards::rows(rt)?;
+    boards::rows(rt)?;
     descriptions::rows(rt)
 }

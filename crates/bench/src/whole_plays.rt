@@ -1,14 +1,14 @@
 //! Whole plays over pipes: the bytes of a player, and the edges of a board of a bare device.
 ghost use Rattle.std.specs.Prelude.{◌<◌};
 
-use bench_rows::{Row, Unit, digest, print_row};
-use direct_play::accept;
-use joined::Joined;
+use crate::rows::{Row, Unit, digest, print_row};
 use jt_board::Board;
-use plays::Ending;
+use play_direct::accept;
+use play_model::Ending;
+use play_pipes::Joined;
+use player::Player;
 use std::alloc::{AllocError, Global};
 use std::io;
-use stream_player::Player;
 
 /// A scan of 65,536 bits, each of which is wanted, and the bytes of its play: the opening, the way to the scan, three a
 /// bit, the way back, and `Q`.

@@ -7,7 +7,7 @@ use Rattle.std.proofs.lemmas.List.{append-nil, drop-drop, take-append-drop, repl
 use Rattle.std.proofs.lemmas.List.FromFn.{map-range_with_len_more}
 use Rattle.std.proofs.lemmas.List.Sums.{count_by-le-length}
 use borrow.Rule.Slice.PartMut.{put_mid}
-use Rattle.bitbang_table.specs.declared.Cycle.{Cycle}
+use Rattle.bitbang_protocol.specs.declared.Cycle.{Cycle}
 use Rattle.bitbang.specs.declared.begun.Begun.{Begun}
 use Rattle.bitbang.specs.Left.{Fills, bytes_left, bytes_of, bytes_of_cycle, closing, rest}
 use Rattle.bitbang.proofs.CycleBytes.{bytes_more, later_left, length-bytes}

@@ -5,10 +5,10 @@ use Rattle.std.specs.Int.{from_bool}
 use Rattle.std.proofs.lemmas.Bool.Decides.{nat_tests}
 use Rattle.std.proofs.lemmas.List.{map-append}
 use Rattle.std.proofs.lemmas.List.Sums.{sum_by-cons}
-use Rattle.bitbang_table.specs.declared.Message.TheVariants.{Write}
-use Rattle.bitbang_table.specs.declared.Cycle.{Cycle}
-use Rattle.bitbang_table.specs.Protocol.{cycle_messages, encode}
-use Rattle.bitbang_table.specs.Cycles.{closed_messages}
+use Rattle.bitbang_protocol.specs.declared.Message.TheVariants.{Write}
+use Rattle.bitbang_protocol.specs.declared.Cycle.{Cycle}
+use Rattle.bitbang_protocol.specs.Protocol.{cycle_messages, encode}
+use Rattle.bitbang_protocol.specs.Cycles.{closed_messages}
 use Rattle.bitbang.specs.declared.begun.Begun.{Begun}
 use Rattle.bitbang.specs.Left.{bytes_left, bytes_of, closing, rest}
 

@@ -1,9 +1,9 @@
 -- The bytes of a step that are left, some of them being out.
 use Rattle.std.specs.Prelude.{◌≡◌, ◌≤◌, ◌<◌, true, false, ℕ, Bool, List, [], ◌∷◌, ◌++◌, length, map, take, drop}
 use Rattle.std.specs.Prelude.{flat_map, Option, option_to_list}
-use Rattle.bitbang_table.specs.declared.Message.TheVariants.{Write}
-use Rattle.bitbang_table.specs.declared.Cycle.{Cycle}
-use Rattle.bitbang_table.specs.Protocol.{cycle_messages, encode}
+use Rattle.bitbang_protocol.specs.declared.Message.TheVariants.{Write}
+use Rattle.bitbang_protocol.specs.declared.Cycle.{Cycle}
+use Rattle.bitbang_protocol.specs.Protocol.{cycle_messages, encode}
 use Rattle.tck_cycles.specs.Sources as source
 use Rattle.bitbang.specs.declared.begun.Begun.{Begun}
 use Rattle.bitbang.specs.declared.step_bytes.Spot.{Spot}

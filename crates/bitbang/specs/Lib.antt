@@ -1,4 +1,4 @@
-pub use Rattle.bitbang_table.specs.Protocol
-pub use Rattle.bitbang_table.specs.Cycles
+pub use Rattle.bitbang_protocol.specs.Protocol
+pub use Rattle.bitbang_protocol.specs.Cycles
 pub mod StepMessages
 pub mod Left

@@ -1,10 +1,10 @@
 -- The messages of a step (Serial Vector Format, revision E; OpenOCD's remote_bitbang).
 use Rattle.std.specs.Prelude.{true, false, ℕ, List, [], ◌∷◌, ◌++◌, map}
 use Rattle.jt_tap.specs.declared.State.{State}
-use Rattle.bitbang_table.specs.declared.Message.{Message}
-use Rattle.bitbang_table.specs.declared.Message.TheVariants.{Lines}
-use Rattle.bitbang_table.specs.Protocol.{encode}
-use Rattle.bitbang_table.specs.Cycles.{closed_messages}
+use Rattle.bitbang_protocol.specs.declared.Message.{Message}
+use Rattle.bitbang_protocol.specs.declared.Message.TheVariants.{Lines}
+use Rattle.bitbang_protocol.specs.Protocol.{encode}
+use Rattle.bitbang_protocol.specs.Cycles.{closed_messages}
 use Rattle.svf_words.specs.declared.keywords.TrstWord.TheVariants as word
 use Rattle.svf_programs.specs.Steps.{Step, Trst}
 use Rattle.tck_cycles.specs.Cycles.{cycles}

@@ -1,10 +1,10 @@
 //! A cycle of which some bytes are out.
 
 ghost use Rattle.std.specs.Prelude.{◌≡◌};
-ghost use Rattle.bitbang_table.specs.Protocol.{encode};
-ghost use Rattle.bitbang_table.specs.declared.Message.TheVariants.{Write};
+ghost use Rattle.bitbang_protocol.specs.Protocol.{encode};
+ghost use Rattle.bitbang_protocol.specs.declared.Message.TheVariants.{Write};
 
-use bitbang_table::{Cycle, Message};
+use bitbang_protocol::{Cycle, Message};
 
 /// A cycle, and how many of its bytes are out.
 #[derive(Debug, Clone, Copy, PartialEq, Eq)]
@@ -35,7 +35,7 @@ impl Begun {
         let Cycle { tms, tdi, read } = self.cycle;
         match (self.out, read) {
             (0, _) => Some(written(false, tms, tdi)),
-            (1, true) => Some(bitbang_table::encode(Message::Ask)),
+            (1, true) => Some(bitbang_protocol::encode(Message::Ask)),
             (1, false) | (2, true) => Some(written(true, tms, tdi)),
             _ => None,
         }
@@ -54,5 +54,5 @@ impl Begun {
 fn written(tck: bool, tms: bool, tdi: bool) -> u8
     ensures { result ≡ encode (Write tck tms tdi) }
 {
-    bitbang_table::encode(Message::Write { tck, tms, tdi })
+    bitbang_protocol::encode(Message::Write { tck, tms, tdi })
 }

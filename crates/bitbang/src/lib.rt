@@ -5,7 +5,7 @@ mod begun;
 mod putting;
 mod step_bytes;
 
-pub use bitbang_table::{
+pub use bitbang_protocol::{
     Cycle, Message, answer, cycle_bytes, decode, decoding_undoes_encoding, encode, read_answer,
 };
 pub use step_bytes::{Spot, StepBytes};

@@ -4,7 +4,7 @@ ghost use Rattle.std.specs.Prelude.{◌≡◌, ◌≤◌, ◌+◌, ◌*◌, ◌+
 ghost use Rattle.tck_cycles.specs.Shifts.{shift_cycles};
 ghost use Rattle.bitbang.specs.Left.{bytes_of, bytes_of_cycle};
 
-use bitbang_table::{Cycle, Message, encode};
+use bitbang_protocol::{Cycle, Message, encode};
 use tck_cycles::Shifts;
 
 /// Puts the bytes of a cycle, so many times, to the front of a buffer. Answers how many bytes they are.

@@ -2,14 +2,14 @@
 
 ghost use Rattle.std.specs.Prelude.{◌≡◌, ◌==◌, ◌-◌, ◌^◌, false, length, min, not, option_to_list, map};
 ghost use Rattle.tck_cycles.specs.Sources.{left as cycles_left};
-ghost use Rattle.bitbang_table.specs.Protocol.{encode};
-ghost use Rattle.bitbang_table.specs.declared.Message.TheVariants.{Write};
+ghost use Rattle.bitbang_protocol.specs.Protocol.{encode};
+ghost use Rattle.bitbang_protocol.specs.declared.Message.TheVariants.{Write};
 ghost use Rattle.bitbang.specs.StepMessages.{line_message};
 ghost use Rattle.svf_programs.specs.Seen as seen;
 
 use crate::begun::Begun;
 use crate::putting::{put_cycles, put_shifts};
-use bitbang_table::Message;
+use bitbang_protocol::Message;
 use jt_tap::State;
 use svf_parse::TrstWord;
 use svf_programs::{Action, Step};
@@ -26,7 +26,7 @@ pub struct Spot {
 
 impl Spot {
     ghost use Rattle.std.specs.Prelude.{◌≡◌, List, IfSome, Some, drop, slice_get};
-    ghost use Rattle.bitbang_table.specs.declared.Cycle.{Cycle};
+    ghost use Rattle.bitbang_protocol.specs.declared.Cycle.{Cycle};
     ghost use Rattle.bitbang.specs.Left.{behind};
 
     /// The next byte and the spot behind it, where that byte is one of a cycle that is begun: it is known without the
@@ -278,14 +278,14 @@ fn line_byte(what: &Action) -> Option<u8>
 fn line(trst: bool) -> u8
     ensures { result ≡ encode (Message.Lines trst false) }
 {
-    bitbang_table::encode(Message::Lines { trst, srst: false })
+    bitbang_protocol::encode(Message::Lines { trst, srst: false })
 }
 
 /// The byte that closes a step with cycles: TCK, TMS and TDI low.
 fn low() -> u8
     ensures { result ≡ encode (Write false false false) }
 {
-    bitbang_table::encode(Message::Write {
+    bitbang_protocol::encode(Message::Write {
         tck: false,
         tms: false,
         tdi: false,

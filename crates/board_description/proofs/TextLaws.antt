@@ -5,11 +5,11 @@ use Rattle.std.specs.List.{find, position, position_or_len}
 use Rattle.std.proofs.lemmas.Option.{slice_get_past}
 use Rattle.std.proofs.lemmas.Bool.Decides.{nat_tests}
 use Rattle.std.proofs.lemmas.List.Folds.{find_at}
-use Rattle.board_words.proofs.TextLaws.{position_map}
+use Rattle.board_tables.proofs.TextLaws.{position_map}
 use Rattle.std.proofs.Math.Seq.{drop-cons}
 use Rattle.std.proofs.lemmas.List.{drop_all}
 use Rattle.bsdl_device.specs.Device.{Access, Device, Name}
-use Rattle.device_instructions.specs.Instruction.{access_meaning, as_bypass, look_up, Meaning}
+use Rattle.chip_instructions.specs.Instruction.{access_meaning, as_bypass, look_up, Meaning}
 use Rattle.board_description.specs.Words.{first_user, is_user}
 use Rattle.board_description.specs.Kept.{NamesUsers, NoNames, Told, own_names}
 use Rattle.jt_bits.specs.Hex.{hex_digit_of}
@@ -25,10 +25,10 @@ use Rattle.std.proofs.lemmas.List.{get_or-map}
 use Rattle.std.specs.Io.KnownBytes.{Appends}
 use Rattle.std.proofs.lemmas.List.{length-map, map-append}
 use Rattle.std.proofs.lemmas.Option.{slice_get-get_or}
-use Rattle.byte_ends.specs.Counts.{CountedView}
-use Rattle.byte_ends.specs.Writes.{AppendsFront, WritesAll}
-use Rattle.byte_ends.proofs.Fronts.{AppendsFront-first, AppendsFront-next}
-use Rattle.board_words.specs.View.{texts_of}
+use Rattle.byte_streams.specs.Counts.{CountedView}
+use Rattle.byte_streams.specs.Writes.{AppendsFront, WritesAll}
+use Rattle.byte_streams.proofs.Fronts.{AppendsFront-first, AppendsFront-next}
+use Rattle.board_tables.specs.WordView.{texts_of}
 use Rattle.board_description.specs.declared.whole.Untold.{Untold}
 use Rattle.board_description.specs.declared.whole.Untold.TheVariants.{Broken, NoMemory}
 use Rattle.std.specs.Prelude.{OnOk, Result, Ok, Err}
@@ -41,7 +41,7 @@ use Rattle.board_plan.specs.CellNets.{HasNets}
 use Rattle.bsdl_device.specs.declared.Cell.{Cell}
 use Rattle.pin_nets.specs.Wired.{Net}
 use Rattle.board_plan.specs.Planned.{Member}
-use Rattle.byte_ends.proofs.Pieces.{flat_map-more}
+use Rattle.byte_streams.proofs.Pieces.{flat_map-more}
 use Rattle.board_description.specs.Described.{cell_line, cell_lines, pin_of, pin_words, device_lines, device_part, digit, digits_from, hex_from, pattern_digit, pattern_from, total}
 
 -- a list of texts with one of them replaced

@@ -9,9 +9,9 @@ use Rattle.bsdl_device.specs.declared.Control3.{Control3}
 use Rattle.bsdl_device.specs.declared.Disabled.{Disabled}
 use Rattle.bsdl_device.specs.declared.Disabled.TheVariants as leaves
 use Rattle.bsdl_device.specs.Device.{Device, Name, Opcode, Pattern, PortBit}
-use Rattle.device_instructions.specs.declared.Selected.{Selected}
-use Rattle.device_instructions.specs.declared.Selected.TheVariants as select
-use Rattle.device_instructions.specs.Instruction.{instruction, meaning_of, reset_latch}
+use Rattle.chip_instructions.specs.declared.Selected.{Selected}
+use Rattle.chip_instructions.specs.declared.Selected.TheVariants as select
+use Rattle.chip_instructions.specs.Instruction.{instruction, meaning_of, reset_latch}
 use Rattle.pin_nets.specs.declared.Pin.{Pin}
 use Rattle.pin_nets.specs.declared.Pull.{Pull}
 use Rattle.pin_nets.specs.declared.Pull.TheVariants as pulls

@@ -1,8 +1,8 @@
 -- What is kept of a device while its lines are made, and how much of a board was told.
 use Rattle.std.specs.Prelude.{◌≡◌, ◌<◌, ℕ, List, [], get_or, length, map, slice_set, Result, Ok, Err, Option}
 use Rattle.std.specs.Io.KnownBytes.{Appends}
-use Rattle.byte_ends.specs.Counts.{CountedView}
-use Rattle.byte_ends.specs.Writes.{AppendsFront}
+use Rattle.byte_streams.specs.Counts.{CountedView}
+use Rattle.byte_streams.specs.Writes.{AppendsFront}
 use Rattle.bsdl_device.specs.declared.Place.{Place}
 use Rattle.bsdl_device.specs.declared.Place.TheVariants.{AtUser}
 use Rattle.bsdl_device.specs.Device.{Access, Device}

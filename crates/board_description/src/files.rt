@@ -3,10 +3,9 @@ ghost use Rattle.std.specs.Prelude.{◌≡◌, IfOk, codes, map, string_bytes};
 ghost use Rattle.toml.specs.Data.{Members};
 ghost use Rattle.toml.specs.View.{items_view, table_view};
 ghost use Rattle.board_tables.specs.Fields.{tables_at, tables_in};
-ghost use Rattle.board_names.specs.Files.{Reads, file_at};
+ghost use Rattle.board_tables.specs.Files.{Reads, file_at};
 
-use board_names::{BoardFault, read_table};
-use board_tables::{items_at, text_at};
+use board_tables::{BoardFault, items_at, read_table, text_at};
 use std::alloc::{AllocError, Global};
 use toml::{Table, Value};
 

@@ -1,7 +1,7 @@
 //! The lines of a device's instructions.
 ghost use Rattle.std.specs.Prelude.{◌≡◌, ◌<◌, ◌++◌, OnOk, flat_map, length, slice_get, Some};
 ghost use Rattle.board_plan.specs.LeftOut as plan;
-ghost use Rattle.board_words.specs.View.{texts_of};
+ghost use Rattle.board_tables.specs.WordView.{texts_of};
 ghost use Rattle.board_description.specs.Described as spec;
 ghost use Rattle.board_description.specs.Described.{instruction_lines, register_words};
 ghost use Rattle.board_description.specs.Kept.{NamesUsers, own_names};
@@ -9,9 +9,9 @@ ghost use Rattle.board_description.specs.Kept.{NamesUsers, own_names};
 use crate::registers::{own_places, selected_by, user_names};
 use crate::text::{put, put_pattern};
 use board_plan::is_left_out;
-use board_words::Places;
+use board_tables::Places;
 use bsdl_device::{Device, Opcode, Pattern};
-use device_instructions::Selected;
+use chip_instructions::Selected;
 use itoa::Buffer;
 use std::alloc::{AllocError, Global};
 

@@ -2,13 +2,13 @@
 ghost use Rattle.std.specs.Prelude.{◌≡◌, Some, bytes_eq, map, option_and_then, option_map, slice_get, IfOk};
 ghost use Rattle.std.specs.List.{position};
 ghost use Rattle.bsdl_device.specs.Device as described;
-ghost use Rattle.board_words.specs.View.{texts_of};
-ghost use Rattle.device_instructions.specs.Instruction.{access_meaning, look_up, meaning_of, reads_code};
+ghost use Rattle.board_tables.specs.WordView.{texts_of};
+ghost use Rattle.chip_instructions.specs.Instruction.{access_meaning, look_up, meaning_of, reads_code};
 ghost use Rattle.board_description.specs.Kept.{NamesUsers, NoNames, own_names, with_name};
 
-use board_words::Places;
+use board_tables::Places;
 use bsdl_device::{Access, Device, Place};
-use device_instructions::Selected;
+use chip_instructions::Selected;
 use std::alloc::{AllocError, Global};
 
 /// The names of a device's own instructions, to be found by. Refuses for want of memory alone.

@@ -13,8 +13,8 @@ use crate::nets::put_wiring;
 use crate::text::{put, put_bits, put_code, put_shown};
 use board_plan::{Plan, PlannedDevice, PlannedNet, all_port_nets};
 use bsdl_device::Device;
-use byte_ends::{Broken, Counted, Sink, put_all};
-use device_instructions::{instruction_of, reset_latch};
+use byte_streams::{Broken, Counted, Sink, put_all};
+use chip_instructions::{instruction_of, reset_latch};
 use itoa::Buffer;
 use std::alloc::{AllocError, Global};
 

@@ -6,17 +6,17 @@ use Rattle.toml.specs.Data.{Members}
 use Rattle.bsdl_device.specs.Device.{Device}
 use Rattle.board_tables.specs.Fields.{name_at, tables_at}
 use Rattle.board_tables.specs.Faults.{unfit}
-use Rattle.board_names.specs.declared.fault.BoardFault.{BoardFault}
-use Rattle.board_names.specs.declared.fault.BoardFault.TheVariants as fault
+use Rattle.board_tables.specs.declared.fault.BoardFault.{BoardFault}
+use Rattle.board_tables.specs.declared.fault.BoardFault.TheVariants as fault
 use Rattle.board_plan.specs.declared.plan.Plan.{Plan}
-use Rattle.board_library.specs.Files.{File, described, device_at, missing_in, refused_in}
-use Rattle.board_names.specs.Files.{file_names}
+use Rattle.board_parts.specs.Files.{File, described, device_at, missing_in, refused_in}
+use Rattle.board_tables.specs.Files.{file_names}
 use Rattle.board_file.specs.Wiring.{Fault, BadField, UnknownFile, Bsdl, makes, wiring_of, wire_fault, known_at, member_at}
 use Rattle.board_parts.specs.Parts.{net_of}
 use Rattle.board_plan.specs.Planned.{Wiring}
 use Rattle.board_file.specs.View.{JudgesKeys, IsUnknownFile, TellsFault, TellsWiring, PlansBoard}
 use Rattle.board_parts.specs.Parts.{known_in, member_in}
-use Rattle.board_library.specs.View.{stands_at}
+use Rattle.board_parts.specs.LibraryView.{stands_at}
 use Rattle.board_file.proofs.DescribedLaws.{Named, named_from, same_devices, same_known, same_members}
 
 abbrev made : Option Fault → Wiring → Result Wiring Fault

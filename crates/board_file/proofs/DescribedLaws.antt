@@ -8,13 +8,13 @@ use Rattle.std.proofs.lemmas.Slice.Eq.{bytes_eq-Decides}
 use Rattle.toml.specs.Data.{Members}
 use Rattle.bsdl_device.specs.Device.{Device}
 use Rattle.board_tables.specs.Fields.{text_at}
-use Rattle.board_words.specs.FirstPlaces.{with_name}
-use Rattle.board_library.specs.Files.{File, described, device_at}
-use Rattle.board_names.specs.Files.{file_at}
+use Rattle.board_tables.specs.FirstPlaces.{with_name}
+use Rattle.board_parts.specs.Files.{File, described, device_at}
+use Rattle.board_tables.specs.Files.{file_at}
 use Rattle.board_file.specs.Wiring.{known_at, member_at}
-use Rattle.board_library.specs.View.{stands_at}
+use Rattle.board_parts.specs.LibraryView.{stands_at}
 use Rattle.board_parts.specs.Parts.{known_in, member_in}
-use Rattle.board_library.proofs.FileLaws.{found_at}
+use Rattle.board_parts.proofs.FileLaws.{found_at}
 
 -- ---- each name is among those that are distinct
 

@@ -13,14 +13,14 @@ use Rattle.board_tables.specs.Fields.{passes, is_table, is_array_of, items_all, 
 use Rattle.board_tables.specs.declared.keys.Known.{Known}
 use Rattle.board_tables.specs.Keys.{device_keys, top_keys, unfit_key, is_core, is_bit, is_string}
 use Rattle.board_tables.specs.Faults.{unfit_device}
-use Rattle.board_words.specs.PinTexts.{PinText, pin_of}
-use Rattle.board_words.specs.FollowTexts.{target_text}
+use Rattle.board_tables.specs.PinTexts.{PinText, pin_of}
+use Rattle.board_tables.specs.FollowTexts.{target_text}
 use Rattle.board_tables.proofs.KeyLaws.{fitting, head_in}
 use Rattle.pin_nets.specs.declared.Pin.{Pin}
-use Rattle.board_library.specs.Files.{File, text_of, described, device_at, devices_of, missing_in, refused, refused_in}
-use Rattle.board_names.specs.Files.{file_at, file_names}
-use Rattle.board_pins.specs.Pins.{pin_bit, bit_at, pin_at, same_pin, twice, pins_at, twice_in_nets, unknown_in_nets}
-use Rattle.board_pins.proofs.PinLaws.{bit_inside}
+use Rattle.board_parts.specs.Files.{File, text_of, described, device_at, devices_of, missing_in, refused, refused_in}
+use Rattle.board_tables.specs.Files.{file_at, file_names}
+use Rattle.board_parts.specs.Pins.{pin_bit, bit_at, pin_at, same_pin, twice, pins_at, twice_in_nets, unknown_in_nets}
+use Rattle.board_parts.proofs.PinLaws.{bit_inside}
 use Rattle.board_file.specs.Wiring.{Fault, PinTwice, TooLarge, UnknownPin, file_fault, known_at, member_at, wiring_of, large, fault_of, makes, targets_in, targets_of}
 use Rattle.board_parts.specs.Parts.{known_of, member_of, net_of, strings_at}
 use Rattle.board_parts.specs.Strings.{HasStrings, strings_of}
@@ -28,7 +28,7 @@ use Rattle.board_parts.proofs.StringLaws.{strings_fit, strings_long}
 use Rattle.board_loops.specs.Depending.{dependencies, dependencies_from, dependency}
 use Rattle.board_plan.specs.Words.{core_of}
 use Rattle.board_plan.specs.Planned.{Member, Wiring}
-use Rattle.board_names.specs.declared.fault.BoardFault.{BoardFault}
+use Rattle.board_tables.specs.declared.fault.BoardFault.{BoardFault}
 use Rattle.board_plan.specs.declared.plan.Plan.{Plan}
 use Rattle.board_file.specs.View.{TellsWiring}
 use Rattle.board_plan.specs.View.{wiring}

@@ -7,10 +7,10 @@ use Rattle.toml.specs.Data.{Data, string, integer, float, boolean, datetime, arr
 use Rattle.toml.specs.View.{items_view, view}
 use Rattle.toml.specs.declared.value.Value.{Value}
 use Rattle.board_tables.specs.Fields.{name_at, tables_in, texts_at}
-use Rattle.board_words.specs.FollowTexts.{target_text}
-use Rattle.core_loops.specs.Loops.{IsFirstOnLoop}
-use Rattle.board_names.specs.declared.fault.BoardFault.{BoardFault}
-use Rattle.board_names.specs.declared.fault.BoardFault.TheVariants as fault
+use Rattle.board_tables.specs.FollowTexts.{target_text}
+use Rattle.board_loops.specs.Loops.{IsFirstOnLoop}
+use Rattle.board_tables.specs.declared.fault.BoardFault.{BoardFault}
+use Rattle.board_tables.specs.declared.fault.BoardFault.TheVariants as fault
 use Rattle.board_plan.specs.Planned.{Wiring}
 use Rattle.board_plan.specs.declared.plan.Plan.{Plan}
 use Rattle.board_loops.specs.Depending.{dependencies}

@@ -10,7 +10,7 @@ use Rattle.toml.specs.Data.{Members}
 use Rattle.bsdl_device.specs.Device.{Device}
 use Rattle.board_tables.specs.Fields.{texts_at}
 use Rattle.pin_nets.specs.declared.Pin.{Pin}
-use Rattle.board_pins.specs.Pins.{pin_at, same_pin, twice, pins_at, twice_in_nets, unknown_in_nets}
+use Rattle.board_parts.specs.Pins.{pin_at, same_pin, twice, pins_at, twice_in_nets, unknown_in_nets}
 use Rattle.board_parts.specs.Parts.{net_of}
 use Rattle.board_parts.specs.Twice.{IsAmong, is_some_twice}
 use Rattle.board_file.specs.Ports.{most_ports}

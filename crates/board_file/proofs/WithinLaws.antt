@@ -15,9 +15,9 @@ use Rattle.board_tables.specs.Fields.{text_at, name_at, tables_at}
 use Rattle.board_tables.specs.declared.keys.Known.{Known}
 use Rattle.board_tables.specs.Faults.{unfit, unfit_device}
 use Rattle.board_tables.specs.Keys.{top_keys, unfit_key}
-use Rattle.board_library.specs.Files.{File, text_of, described, device_at, devices_of, missing_in, refused, refused_in}
-use Rattle.board_names.specs.Files.{file_at, file_names}
-use Rattle.board_pins.specs.Pins.{twice_in_nets, unknown_in_nets}
+use Rattle.board_parts.specs.Files.{File, text_of, described, device_at, devices_of, missing_in, refused, refused_in}
+use Rattle.board_tables.specs.Files.{file_at, file_names}
+use Rattle.board_parts.specs.Pins.{twice_in_nets, unknown_in_nets}
 use Rattle.board_parts.specs.Parts.{known_of, member_of, net_of}
 use Rattle.pin_nets.specs.Wired.{Net}
 use Rattle.board_plan.specs.Planned.{Member, Wiring}

@@ -1,20 +1,21 @@
 -- What holds of every board that a board file makes.
+use Rattle.std.specs.Prelude.{⊤}
 use Rattle.std.specs.Prelude.{◌≡◌, ◌<◌, ◌≤◌, false, ℕ, Option, List, [], ◌∷◌, ◌++◌, length, codes, Some, None, Ok}
 use Rattle.std.specs.List.{list_any, AllByRecursion}
 use Rattle.toml.specs.Data.{Members, get_member}
 use Rattle.jt_limits.specs.Limits.{limits}
 use Rattle.bsdl_device.specs.Device.{Device}
 use Rattle.board_tables.specs.Fields.{tables_at}
-use Rattle.board_library.specs.Files.{File}
+use Rattle.board_parts.specs.Files.{File}
 use Rattle.pin_nets.specs.declared.Pin.{Pin}
-use Rattle.board_pins.specs.Pins.{same_pin}
+use Rattle.board_parts.specs.Pins.{same_pin}
 use Rattle.board_plan.specs.Planned.{HasCore, IsPinOf, Member, Wiring, all_pins}
 use Rattle.board_parts.specs.Strings.{HasStrings}
 use Rattle.board_file.specs.Wiring.{makes}
 
 -- each pin differs from those before it
 abbrev pub AreApart : (before pins : List Pin) → Type 0
-AreApart before [] = Unit {0}
+AreApart before [] = ⊤
 AreApart before (p ∷ ps) = (list_any (same_pin p) before ≡ false) × AreApart (before ++ p ∷ []) ps
 
 -- a device or more with whole cores and strings that fit them, no more devices and nets than the limits say, each pin a

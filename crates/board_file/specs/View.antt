@@ -1,18 +1,19 @@
 -- What the code's values stand for.
+use Rattle.std.specs.Prelude.{⊤}
 use Rattle.std.specs.Prelude.{◌≡◌, ℕ, ◌+◌, List, length, map, slice_get, string_bytes, Option}
 use Rattle.std.specs.Prelude.{Some, None, Result, Ok, Err}
 use denote.Ref.{Bor}
 use Rattle.bsdl_device.specs.Device as described
-use Rattle.board_names.specs.declared.fault.BoardFault.{BoardFault}
-use Rattle.board_names.specs.declared.fault.BoardFault.TheVariants as fault
+use Rattle.board_tables.specs.declared.fault.BoardFault.{BoardFault}
+use Rattle.board_tables.specs.declared.fault.BoardFault.TheVariants as fault
 use Rattle.board_file.specs.declared.wiring.Miswired.{Miswired}
 use Rattle.board_file.specs.declared.wiring.Miswired.TheVariants as miswired
 use Rattle.board_plan.specs.declared.plan.Plan.{Plan}
-use Rattle.board_library.specs.View.{stands_at}
+use Rattle.board_parts.specs.LibraryView.{stands_at}
 use Rattle.toml.specs.Data.{Members}
 use Rattle.std.specs.List.{filter_map}
 use Rattle.board_tables.specs.Fields.{name_at}
-use Rattle.core_loops.specs.Loops.{HasNoLoop}
+use Rattle.board_loops.specs.Loops.{HasNoLoop}
 use Rattle.board_loops.specs.Depending.{dependencies}
 use Rattle.board_file.specs.Wiring.{wire_fault, Fault, BadField, UnknownFile, Bsdl, IsCoreLoop}
 use Rattle.board_parts.specs.Parts.{member_in, net_of}
@@ -30,7 +31,7 @@ TellsFault refuses (fault.Bsdl f) o = (text : List ℕ) × (o ≡ Some (Bsdl tex
 TellsFault refuses (fault.UnknownPin s) o = o ≡ Some (UnknownPin (string_bytes s))
 TellsFault refuses (fault.PinTwice s) o = o ≡ Some (PinTwice (string_bytes s))
 TellsFault refuses fault.TooLarge o = o ≡ Some TooLarge
-TellsFault refuses fault.NoMemory o = Unit {0}
+TellsFault refuses fault.NoMemory o = ⊤
 TellsFault refuses fault.BadToml o = ⊥
 TellsFault refuses (fault.CoreLoop s) o = ⊥
 
@@ -38,18 +39,18 @@ TellsFault refuses (fault.CoreLoop s) o = ⊥
 abbrev pub JudgesKeys : {F : Type 0} → Result (Unit {0}) (BoardFault F) → Option (List ℕ) → Type 0
 JudgesKeys (Ok x) o = o ≡ None
 JudgesKeys (Err (fault.BadField k)) o = o ≡ Some (string_bytes k)
-JudgesKeys (Err fault.NoMemory) o = Unit {0}
+JudgesKeys (Err fault.NoMemory) o = ⊤
 JudgesKeys (Err _) o = ⊥
 
 abbrev pub IsUnknownFile : {F : Type 0} → List ℕ → BoardFault F → Type 0
 IsUnknownFile name (fault.UnknownFile s) = string_bytes s ≡ name
-IsUnknownFile name fault.NoMemory = Unit {0}
+IsUnknownFile name fault.NoMemory = ⊤
 IsUnknownFile name _ = ⊥
 
 -- the target at this place, unless memory runs out
 abbrev pub IsLoopOf : {F : Type 0} → (place : ℕ) → (targets : List (List ℕ)) → BoardFault F → Type 0
 IsLoopOf place targets (fault.CoreLoop s) = slice_get targets place ≡ Some (string_bytes s)
-IsLoopOf place targets fault.NoMemory = Unit {0}
+IsLoopOf place targets fault.NoMemory = ⊤
 IsLoopOf place targets _ = ⊥
 
 -- the text at a place, or how far the place is behind the last
@@ -63,7 +64,7 @@ ChecksPins (Ok x) o = o ≡ None
 ChecksPins (Err (miswired.UnknownPin s)) o = o ≡ Some (UnknownPin s.now)
 ChecksPins (Err (miswired.PinTwice s)) o = o ≡ Some (PinTwice s.now)
 ChecksPins (Err miswired.TooLarge) o = o ≡ Some TooLarge
-ChecksPins (Err miswired.Memory) o = Unit {0}
+ChecksPins (Err miswired.Memory) o = ⊤
 
 -- why pins are refused
 abbrev pub IsMisfit : Miswired → Option Fault → Type 0
@@ -71,10 +72,10 @@ IsMisfit f o = ChecksPins {A = Unit {0}} (Err f) o
 
 -- as a caller sees it
 abbrev pub IsMiswired : {F : Type 0} → Miswired → BoardFault F → Type 0
-IsMiswired f fault.NoMemory = Unit {0}
+IsMiswired f fault.NoMemory = ⊤
 IsMiswired (miswired.UnknownPin t) (fault.UnknownPin s) = string_bytes s ≡ t.now
 IsMiswired (miswired.PinTwice t) (fault.PinTwice s) = string_bytes s ≡ t.now
-IsMiswired miswired.TooLarge fault.TooLarge = Unit {0}
+IsMiswired miswired.TooLarge fault.TooLarge = ⊤
 IsMiswired _ _ = ⊥
 
 -- The wiring, or the fault that the refusal names, unless memory runs out.
@@ -114,5 +115,5 @@ PlansBoard {F} r files ds devices nets = by r (map name_at devices) (filter_map 
     by (Err (fault.UnknownPin s)) names found = wire_fault names found nets ≡ Some (UnknownPin (string_bytes s))
     by (Err (fault.PinTwice s)) names found = wire_fault names found nets ≡ Some (PinTwice (string_bytes s))
     by (Err fault.TooLarge) names found = wire_fault names found nets ≡ Some TooLarge
-    by (Err fault.NoMemory) names found = Unit {0}
+    by (Err fault.NoMemory) names found = ⊤
     by (Err _) names found = ⊥

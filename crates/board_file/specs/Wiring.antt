@@ -7,16 +7,16 @@ use Rattle.toml.specs.Data.{Members}
 use Rattle.jt_limits.specs.declared.Limits.{Limits}
 use Rattle.jt_limits.specs.Limits.{limits}
 use Rattle.bsdl_device.specs.Device.{Device}
-use Rattle.core_loops.specs.Loops.{IsFirstOnLoop}
-use Rattle.board_words.specs.FollowTexts.{target_text}
+use Rattle.board_loops.specs.Loops.{IsFirstOnLoop}
+use Rattle.board_tables.specs.FollowTexts.{target_text}
 use Rattle.board_tables.specs.Fields.{name_at, tables_at, texts_at}
 use Rattle.board_tables.specs.Faults.{unfit}
 use Rattle.board_tables.specs.declared.keys.Known.{Known}
-use Rattle.board_library.specs.Files.{File, device_at, devices_of, missing_in, refused_in}
-use Rattle.board_names.specs.Files.{file_names}
+use Rattle.board_parts.specs.Files.{File, device_at, devices_of, missing_in, refused_in}
+use Rattle.board_tables.specs.Files.{file_names}
 use Rattle.board_plan.specs.Planned.{Member, Wiring}
 use Rattle.board_parts.specs.Parts.{known_of, member_of, net_of}
-use Rattle.board_pins.specs.Pins.{unknown_in_nets, twice_in_nets}
+use Rattle.board_parts.specs.Pins.{unknown_in_nets, twice_in_nets}
 use Rattle.board_loops.specs.Depending.{dependencies}
 
 -- ---- the board that the tables say

@@ -1,11 +1,12 @@
 -- Which boards lie within limits, and that nothing else of the limits decides what a board file makes.
+use Rattle.std.specs.Prelude.{⊤}
 use Rattle.std.specs.Prelude.{◌≡◌, ℕ, ◌≤◌, List, length, Option, Some, None, Ok}
 use Rattle.std.specs.List.{AllByRecursion}
 use Rattle.jt_limits.specs.declared.Limits.{Limits}
 use Rattle.toml.specs.Data.{Members}
 use Rattle.bsdl_device.specs.Device.{Device}
-use Rattle.board_names.specs.Files.{file_names}
-use Rattle.board_library.specs.Files.{File, text_of}
+use Rattle.board_tables.specs.Files.{file_names}
+use Rattle.board_parts.specs.Files.{File, text_of}
 use Rattle.board_plan.specs.Planned.{Wiring}
 use Rattle.board_file.specs.Wiring.{makes_within}
 
@@ -16,7 +17,7 @@ pub record WiringWithin (l : Limits) (w : Wiring) : Type 0 where
 
 -- a device that a text says is said by another reader of descriptions too
 abbrev pub SaysToo : (says other : List ℕ → Option Device) → Option (List ℕ) → Type 0
-SaysToo says other None = Unit {0}
+SaysToo says other None = ⊤
 SaysToo says other (Some text) = (d : Device) → says text ≡ Some d → other text ≡ Some d
 
 -- so is each one that the table names

@@ -4,29 +4,28 @@ ghost use Rattle.toml.specs.Data.{Members};
 ghost use Rattle.toml.specs.View.{table_view, items_view};
 ghost use Rattle.board_tables.specs.Fields.{name_at, tables_at, tables_in};
 ghost use Rattle.board_tables.specs.Faults.{unfit};
-ghost use Rattle.board_words.specs.View.{texts_of};
-ghost use Rattle.board_names.specs.Files.{Reads, IsBadToml};
-ghost use Rattle.core_loops.specs.Loops.{HasNoLoop};
+ghost use Rattle.board_tables.specs.WordView.{texts_of};
+ghost use Rattle.board_tables.specs.Files.{Reads, IsBadToml};
+ghost use Rattle.board_loops.specs.Loops.{HasNoLoop};
 ghost use Rattle.board_loops.specs.Depending.{dependencies};
 ghost use Rattle.board_file.specs.Wiring.{makes, targets_in};
 ghost use Rattle.board_file.specs.View.{IsLoopOf, IsMiswired, IsUnknownFile, JudgesKeys, PlansBoard, TellsBoard};
 ghost use Rattle.board_file.specs.View.{TellsWiring};
-ghost use Rattle.board_names.specs.View.{TellsBadToml};
-ghost use Rattle.board_library.specs.View.{files_of};
+ghost use Rattle.board_tables.specs.FileView.{TellsBadToml};
+ghost use Rattle.board_parts.specs.LibraryView.{files_of};
 ghost use Rattle.board_parts.specs.Parts.{known_in};
 ghost use Rattle.board_plan.specs.View.{wiring};
 ghost use Rattle.board_file.specs.Fits.{AreSaid, FitsTogether};
 
 use crate::targets::target_at;
 use crate::wiring::{Miswired, plan_fitting};
-use board_library::{Describe, Library, devices_of, read_files};
 use board_loops::{Settling, settle_strings};
-use board_names::{BoardFault, distinct_files, read_table, told};
-use board_parts::{known_of, plan_devices};
+use board_parts::{Describe, Library, devices_of, known_of, plan_devices, read_files};
 use board_plan::Plan;
-use board_tables::{check_fields, items_at, name_at};
-use board_words::Places;
-use device_instructions::SharedDevice;
+use board_tables::{
+    BoardFault, Places, check_fields, distinct_files, items_at, name_at, read_table, told,
+};
+use chip_instructions::SharedDevice;
 use std::alloc::{AllocError, Global};
 use toml::{Table, Value};
 

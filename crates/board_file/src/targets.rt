@@ -6,8 +6,7 @@ ghost use Rattle.board_tables.specs.Fields.{tables_in, texts_in};
 ghost use Rattle.board_file.specs.Wiring.{targets_of};
 ghost use Rattle.board_file.specs.View.{CountsOn};
 
-use board_tables::{items_at, name_at};
-use board_words::target_text;
+use board_tables::{items_at, name_at, target_text};
 use std::alloc::{AllocError, Global};
 use toml::Value;
 

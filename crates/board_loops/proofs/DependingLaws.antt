@@ -7,8 +7,8 @@ use Rattle.std.proofs.lemmas.Option.{none-some, same_Some}
 use Rattle.bsdl_device.specs.Driving.{drives}
 use Rattle.bsdl_device.specs.declared.Cell.{Cell}
 use Rattle.boundary.specs.Cells.{driver_from, is_port}
-use Rattle.core_loops.specs.Loops.{IsOnLoop}
-use Rattle.core_loops.specs.declared.Dependency.{Dependency}
+use Rattle.board_loops.specs.Loops.{IsOnLoop}
+use Rattle.board_loops.specs.declared.net_loops.Dependency.{Dependency}
 use Rattle.board_plan.specs.AllCellNets.{HaveNets, table_at}
 use Rattle.board_plan.specs.CellNets.{first_net}
 use Rattle.board_plan.specs.Planned.{Member, Wiring}

@@ -8,12 +8,12 @@ use Rattle.std.proofs.lemmas.List.Elements.{All-nil, All-push, All-weaker}
 use Rattle.std.proofs.lemmas.List.Quantifiers.{all_pairs_push, position-Some}
 use Rattle.std.proofs.lemmas.List.Sums.{fails_before_first}
 use Rattle.std.proofs.lemmas.Option.{none-some, same_Some, slice_get-map}
-use Rattle.core_loops.specs.Loops.{HasNoLoop, InSteps, IsFirstOnLoop, IsInOrder, IsOnLoop, IsWithin, Settles, nth_string}
-use Rattle.core_loops.specs.declared.Dependency.{Dependency}
-use Rattle.core_loops.specs.declared.Settling.{Settling}
-use Rattle.core_loops.specs.declared.Settling.TheVariants.{Order, Loop}
-use Rattle.core_loops.proofs.LoopLaws.{all_at}
-use Rattle.board_pins.proofs.PinLaws.{same_number}
+use Rattle.board_loops.specs.Loops.{HasNoLoop, InSteps, IsFirstOnLoop, IsInOrder, IsOnLoop, IsWithin, Settles, nth_string}
+use Rattle.board_loops.specs.declared.net_loops.Dependency.{Dependency}
+use Rattle.board_loops.specs.declared.net_loops.Settling.{Settling}
+use Rattle.board_loops.specs.declared.net_loops.Settling.TheVariants.{Order, Loop}
+use Rattle.board_loops.proofs.LoopLaws.{all_at}
+use Rattle.board_parts.proofs.PinLaws.{same_number}
 use Rattle.board_loops.specs.Renumbering.{AreApart, AreRenumbered, HasPlace, named_by}
 
 -- ---- what is on a loop, and what is an order

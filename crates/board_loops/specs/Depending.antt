@@ -4,8 +4,8 @@ use Rattle.std.specs.Prelude.{◌≡◌, ℕ, zero, suc, ◌+◌, List, [], ◌�
 use Rattle.std.specs.Prelude.{Option, None, option_and_then, unwrap_or}
 use Rattle.std.specs.List.{AllByRecursion}
 use Rattle.bsdl_device.specs.declared.Cell.{Cell}
-use Rattle.core_loops.specs.Loops.{HasNoLoop}
-use Rattle.core_loops.specs.declared.Dependency.{Dependency}
+use Rattle.board_loops.specs.Loops.{HasNoLoop}
+use Rattle.board_loops.specs.declared.net_loops.Dependency.{Dependency}
 use Rattle.board_plan.specs.CellNets.{first_net}
 use Rattle.board_plan.specs.Planned.{Member, Wiring}
 use Rattle.board_plan.specs.View.{member as planned_member, net as planned_net}

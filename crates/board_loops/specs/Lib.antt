@@ -1,2 +1,6 @@
+pub mod Loops
+pub mod Marks
+pub mod Numbers
+pub mod Jobs
 pub mod Depending
 pub mod Renumbering

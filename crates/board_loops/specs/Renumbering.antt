@@ -1,8 +1,8 @@
 -- Strings with other numbers for their nets, so that there are no more numbers than nets that a string names.
 use Rattle.std.specs.Prelude.{◌≡◌, ◌≢◌, ◌<◌, ◌++◌, ℕ, List, All, length, map, slice_index_or}
 use Rattle.std.specs.List.{AllPairs}
-use Rattle.core_loops.specs.Loops.{IsWithin}
-use Rattle.core_loops.specs.declared.Dependency.{Dependency}
+use Rattle.board_loops.specs.Loops.{IsWithin}
+use Rattle.board_loops.specs.declared.net_loops.Dependency.{Dependency}
 
 -- no number stands twice
 abbrev pub AreApart : List ℕ → Type 0

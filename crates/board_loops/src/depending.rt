@@ -1,16 +1,16 @@
 //! Which nets of a planned board depend on which, by the strings of its devices.
 ghost use Rattle.std.specs.Prelude.{◌≡◌, ◌+◌, ◌++◌, None, nat_lt, IfOk, OnOk, length, map, slice_index_or};
 ghost use Rattle.std.specs.List.{AllByRecursion, list_any};
-ghost use Rattle.core_loops.specs.Loops.{Settles};
+ghost use Rattle.board_loops.specs.Loops.{Settles};
 ghost use Rattle.board_plan.specs.View.{member as planned_member};
 ghost use Rattle.board_parts.specs.Strings.{HasStrings};
 ghost use Rattle.board_loops.specs.Depending as spec;
 
+use crate::net_loops::{Dependency, Settling, settle_order};
 use crate::renumbering::renumber;
 use board_plan::{PlannedDevice, PlannedNet, all_port_nets};
-use board_words::Places;
+use board_tables::Places;
 use bsdl_device::Cell;
-use core_loops::{Dependency, Settling, settle_order};
 use pin_nets::Follow;
 use std::alloc::{AllocError, Global};
 

@@ -2,8 +2,8 @@
 ghost use Rattle.std.specs.Prelude.{◌≡◌, [], IfOk};
 ghost use Rattle.board_loops.specs.Renumbering.{AreRenumbered, HasPlace};
 
-use board_words::Places;
-use core_loops::Dependency;
+use crate::net_loops::Dependency;
+use board_tables::Places;
 use std::alloc::{AllocError, Global};
 
 /// The strings with each net by its place among those that they name, which are added to none. Refused where memory

@@ -10,11 +10,11 @@ use Rattle.bsdl_device.specs.Device.{Device, PortBit}
 use Rattle.bsdl_device.specs.Driving.{drives}
 use Rattle.bsdl_device.specs.declared.Cell.{Cell}
 use Rattle.boundary.specs.Cells.{AreDrivers, driver_from, is_port}
-use Rattle.board_words.specs.PinTexts.{PortText}
-use Rattle.board_words.specs.FollowTexts.{FollowText, follow_of}
-use Rattle.board_words.proofs.TextLaws.{is_there, list_any_map}
-use Rattle.board_pins.specs.Pins.{pin_bit}
-use Rattle.board_pins.proofs.PinLaws.{bit_inside, same_number}
+use Rattle.board_tables.specs.PinTexts.{PortText}
+use Rattle.board_tables.specs.FollowTexts.{FollowText, follow_of}
+use Rattle.board_tables.proofs.TextLaws.{is_there, list_any_map}
+use Rattle.board_parts.specs.Pins.{pin_bit}
+use Rattle.board_parts.proofs.PinLaws.{bit_inside, same_number}
 use Rattle.pin_nets.specs.declared.Follow.{Follow}
 use Rattle.board_parts.specs.Strings.{HaveOneEach, IsStringOf, cells_of, has_cell, is_source, readable, said_by, source_of, string_of, string_to, strings_after, strings_of, target_of}
 

@@ -9,7 +9,7 @@ use Rattle.std.proofs.lemmas.List.Folds.{list_any-append}
 use Rattle.std.proofs.lemmas.Grind.{get_or-set_at}
 use Rattle.std.specs.List.{list_any, flat_map, AllByRecursion}
 use Rattle.pin_nets.specs.declared.Pin.{Pin}
-use Rattle.board_pins.specs.Pins.{same_pin}
+use Rattle.board_parts.specs.Pins.{same_pin}
 use Rattle.board_plan.specs.Planned.{all_pins}
 use Rattle.board_plan.specs.View.{net}
 use Rattle.board_plan.specs.declared.plan.PlannedNet.{PlannedNet}

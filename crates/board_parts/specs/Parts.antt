@@ -5,8 +5,8 @@ use Rattle.bsdl_device.specs.Device.{Device}
 use Rattle.pin_nets.specs.Wired.{Net}
 use Rattle.board_tables.specs.declared.keys.Known.{Known}
 use Rattle.board_tables.specs.Fields.{text_at, texts_at, name_at}
-use Rattle.board_library.specs.View.{stands_at}
-use Rattle.board_pins.specs.Pins.{pins_at}
+use Rattle.board_parts.specs.LibraryView.{stands_at}
+use Rattle.board_parts.specs.Pins.{pins_at}
 use Rattle.pin_nets.specs.declared.Follow.{Follow}
 use Rattle.board_plan.specs.Planned.{Member}
 use Rattle.board_plan.specs.Words.{core_of, is_update, pull_of}

@@ -1,4 +1,5 @@
 -- The strings of a core that follows: which core bit of a device takes what which of its port bits sees.
+use Rattle.std.specs.Prelude.{⊤}
 use Rattle.std.specs.Prelude.{◌≡◌, ◌<◌, ℕ, Bool, true, false, ◌==◌, List, [], ◌∷◌, ◌++◌, length, map, slice_get}
 use Rattle.std.specs.Prelude.{Option, Some, None, option_map, option_and_then, if◌then◌else◌}
 use Rattle.std.specs.List.{list_any, AllByRecursion}
@@ -6,9 +7,9 @@ use Rattle.bsdl_device.specs.Device.{Device, PortBit}
 use Rattle.bsdl_device.specs.declared.PortMode.{PortMode}
 use Rattle.bsdl_device.specs.declared.PortMode.TheVariants.{In, InOut}
 use Rattle.boundary.specs.Cells.{driver_from}
-use Rattle.board_words.specs.PinTexts.{PortText}
-use Rattle.board_words.specs.FollowTexts.{FollowText, follow_of}
-use Rattle.board_pins.specs.Pins.{pin_bit}
+use Rattle.board_tables.specs.PinTexts.{PortText}
+use Rattle.board_tables.specs.FollowTexts.{FollowText, follow_of}
+use Rattle.board_parts.specs.Pins.{pin_bit}
 use Rattle.pin_nets.specs.declared.Follow.{Follow}
 use Rattle.board_plan.specs.Planned.{Member}
 
@@ -73,7 +74,7 @@ pub record IsStringOf (d : Device) (f : Follow) : Type 0 where
 
 -- each is for another cell than those before it
 abbrev pub HaveOneEach : (before strings : List Follow) → Type 0
-HaveOneEach before [] = Unit {0}
+HaveOneEach before [] = ⊤
 HaveOneEach before (f ∷ fs) = (has_cell f.cell before ≡ false) × HaveOneEach (before ++ f ∷ []) fs
 
 -- a device's strings fit it, and no cell has two

@@ -2,7 +2,7 @@
 use Rattle.std.specs.Prelude.{◌≡◌, ◌<◌, ◌+◌, ◌*◌, ℕ, Bool, false, ◌||◌, List, [], ◌∷◌, ◌++◌, length, slice_index_or}
 use Rattle.std.specs.List.{list_any}
 use Rattle.pin_nets.specs.declared.Pin.{Pin}
-use Rattle.board_pins.specs.Pins.{same_pin}
+use Rattle.board_parts.specs.Pins.{same_pin}
 
 -- whether one of the pins stands before it, given the pins before them
 abbrev pub is_some_twice : (before pins : List Pin) → Bool

@@ -2,14 +2,13 @@
 ghost use Rattle.std.specs.Prelude.{◌≡◌, map, option_map, option_copied, is_some, IfOk};
 ghost use Rattle.toml.specs.View.{table_view, items_view};
 ghost use Rattle.board_tables.specs.Fields.{tables_in};
-ghost use Rattle.board_words.specs.View.{texts_of};
-ghost use Rattle.board_library.specs.View.{stands_at};
+ghost use Rattle.board_tables.specs.WordView.{texts_of};
+ghost use Rattle.board_parts.specs.LibraryView.{stands_at};
 ghost use Rattle.board_parts.specs.Parts as spec;
 
 use crate::strings::DrivenDevice;
-use board_tables::{Known, items_at, text_at};
-use board_words::Places;
-use device_instructions::SharedDevice;
+use board_tables::{Known, Places, items_at, text_at};
+use chip_instructions::SharedDevice;
 use std::alloc::{AllocError, Global};
 use toml::{Table, Value};
 

@@ -2,17 +2,16 @@
 ghost use Rattle.std.specs.Prelude.{◌≡◌, codes, map, IfOk};
 ghost use Rattle.toml.specs.View.{table_view, items_view};
 ghost use Rattle.board_tables.specs.Fields.{tables_in, texts_at};
-ghost use Rattle.board_words.specs.View.{texts_of};
-ghost use Rattle.board_pins.specs.Pins.{unknown_pin, unknown_in_nets};
-ghost use Rattle.board_pins.specs.View.{Knows};
+ghost use Rattle.board_tables.specs.WordView.{texts_of};
+ghost use Rattle.board_parts.specs.Pins.{unknown_pin, unknown_in_nets};
+ghost use Rattle.board_parts.specs.PinView.{Knows};
 ghost use Rattle.board_parts.specs.Parts as spec;
 ghost use Rattle.board_plan.specs.View as planned;
 
-use board_pins::{Unfound, find_pins};
+use crate::found::{Unfound, find_pins};
 use board_plan::{PlannedNet, pull_of};
-use board_tables::{items_at, name_at, text_at};
-use board_words::Places;
-use device_instructions::SharedDevice;
+use board_tables::{Places, items_at, name_at, text_at};
+use chip_instructions::SharedDevice;
 use std::alloc::Global;
 use toml::{Table, Value};
 

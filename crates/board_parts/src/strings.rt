@@ -4,14 +4,14 @@ ghost use Rattle.std.specs.List.{list_any};
 ghost use Rattle.toml.specs.View.{items_view};
 ghost use Rattle.boundary.specs.Cells.{AreDrivers};
 ghost use Rattle.board_tables.specs.Fields.{texts_in};
-ghost use Rattle.board_words.specs.View.{HasDigits, port as port_value};
+ghost use Rattle.board_tables.specs.WordView.{HasDigits, port as port_value};
 ghost use Rattle.board_parts.specs.Strings as spec;
 
-use board_pins::port_bit;
-use board_words::{Places, PortText, follow_of};
+use crate::pins::port_bit;
+use board_tables::{Places, PortText, follow_of};
 use boundary::drivers;
 use bsdl_device::{Device, PortMode};
-use device_instructions::SharedDevice;
+use chip_instructions::SharedDevice;
 use pin_nets::Follow;
 use std::alloc::{AllocError, Global};
 use std::marker::Model;

@@ -2,13 +2,13 @@
 ghost use Rattle.std.specs.Prelude.{◌≡◌, ◌++◌, [], List, false, length, map, IfOk};
 ghost use Rattle.std.specs.List.{AllByRecursion, list_any};
 ghost use Rattle.pin_nets.specs.declared.Pin.{Pin};
-ghost use Rattle.board_pins.specs.Pins.{same_pin};
+ghost use Rattle.board_parts.specs.Pins.{same_pin};
 ghost use Rattle.board_plan.specs.Planned.{all_pins};
 ghost use Rattle.board_plan.specs.View as planned;
 ghost use Rattle.board_parts.specs.Twice.{IsAmong, IsWithin, Marks, is_some_twice};
 
 use board_plan::PlannedNet;
-use board_words::Places;
+use board_tables::Places;
 use pin_nets::Pin;
 use std::alloc::{AllocError, Global};
 

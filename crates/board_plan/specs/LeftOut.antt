@@ -2,7 +2,7 @@
 use Rattle.std.specs.Prelude.{◌≡◌, Bool, true, ◌||◌, List, map, filter, Some, codes, bytes_eq}
 use Rattle.std.specs.List.{list_any}
 use Rattle.bsdl_device.specs.Device.{Name, Opcode, Device}
-use Rattle.device_instructions.specs.Instruction.{as_bypass, meaning_of}
+use Rattle.chip_instructions.specs.Instruction.{as_bypass, meaning_of}
 
 -- the standard's INTEST and RUNBIST, and the private ones
 abbrev pub is_left_out : Device → Name → Bool

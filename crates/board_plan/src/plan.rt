@@ -1,5 +1,5 @@
 //! A board as it is wired, before power-up.
-use device_instructions::SharedDevice;
+use chip_instructions::SharedDevice;
 use jt_bits::Bits;
 use pin_nets::{Follow, Pin, Pull};
 

@@ -1,2 +1,9 @@
+pub mod Captures
+pub mod Lists
+pub mod Places
+pub mod Registers
+pub mod RowsCompute
+pub mod Streams
+pub mod Verdicts
 pub mod Walks
 pub mod VectorBits

@@ -4,8 +4,8 @@ use Rattle.std.specs.Prelude.{◌&&◌, ◌==◌, if◌then◌else◌}
 use Rattle.std.proofs.lemmas.List.{drop_all}
 use Rattle.scan_vectors.specs.declared.part.Part.{Part}
 use Rattle.scan_vectors.specs.Vector.{PartBits, VectorBit, join}
-use Rattle.scan_origins.specs.Reasons.{is_bit, is_one, is_same_part, place_in, wanted_at}
-use Rattle.scan_origins.proofs.Places.{place_low}
+use Rattle.board_reasons.specs.Reasons.{is_bit, is_one, is_same_part, place_in, wanted_at}
+use Rattle.board_reasons.proofs.Places.{place_low}
 
 some_is : {A : Type 0} → (x y : A) → Some x ≡ Some y → x ≡ y
 some_is x y e = cc

@@ -5,14 +5,14 @@ use Rattle.std.proofs.lemmas.Bool.{lt-ltb, le-ltb}
 use Rattle.std.proofs.lemmas.List.{drop_all, drop_more}
 use Rattle.std.proofs.lemmas.Option.{get_or_from_slice_get, slice_get-map, slice_get_within}
 use Rattle.jt_tap.specs.declared.Column.{Column}
-use Rattle.board_meaning.specs.Cells.{Member}
-use Rattle.board_meaning.specs.Chain.{ChipState, members}
-use Rattle.board_meaning.specs.Whole.{selected_bits_of}
+use Rattle.board_model.specs.Cells.{Member}
+use Rattle.board_model.specs.Chain.{ChipState, members}
+use Rattle.board_model.specs.Whole.{selected_bits_of}
 use Rattle.pin_nets.specs.Wired.{Net}
-use Rattle.scan_origins.specs.declared.Holder.{Holder}
-use Rattle.scan_origins.specs.declared.Origin.{Origin}
-use Rattle.scan_origins.specs.declared.Origin.TheVariants.{Register, Tdi}
-use Rattle.scan_origins.specs.Origins.{origin_from}
+use Rattle.board_reasons.specs.declared.origins.Holder.{Holder}
+use Rattle.board_reasons.specs.declared.origins.Origin.{Origin}
+use Rattle.board_reasons.specs.declared.origins.Origin.TheVariants.{Register, Tdi}
+use Rattle.board_reasons.specs.Origins.{origin_from}
 
 pub member_there : (chips : List ChipState) (i : ℕ) (s : ChipState) → slice_get chips i ≡ Some s → slice_get (members chips) i ≡ Some s.member
 member_there chips i s here = slice_get-map (λ (c : ChipState). c.member) chips i ∙ ap (option_map (λ (c : ChipState). c.member)) here

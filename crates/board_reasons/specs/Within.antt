@@ -1,7 +1,7 @@
 -- A place of a chain of so many devices.
 use Rattle.std.specs.Prelude.{ℕ, ◌<◌, ⊤}
-use Rattle.scan_origins.specs.declared.Origin.{Origin}
-use Rattle.scan_origins.specs.declared.Origin.TheVariants.{Register, Tdi}
+use Rattle.board_reasons.specs.declared.origins.Origin.{Origin}
+use Rattle.board_reasons.specs.declared.origins.Origin.TheVariants.{Register, Tdi}
 
 -- a place in a register is in one of so many devices
 abbrev pub IsOfDevice : ℕ → Origin → Type 0

@@ -1,18 +1,18 @@
 //! Where a bit that came out of a scan stood.
 ghost use Rattle.std.specs.Prelude.{◌≡◌, ◌<◌, Some, length, option_and_then, option_map, slice_get};
 ghost use Rattle.jt_tap.specs.declared.Column.TheVariants.{Dr};
-ghost use Rattle.board_meaning.specs.Chain.{members};
-ghost use Rattle.chip_seats.specs.Seats.{chip_state};
-ghost use Rattle.scan_origins.specs.Holders as spec;
-ghost use Rattle.scan_origins.specs.Origins.{origin};
-ghost use Rattle.scan_origins.specs.Reasons.{reason};
+ghost use Rattle.board_model.specs.Chain.{members};
+ghost use Rattle.board_chips.specs.WiredChips.{chip_state};
+ghost use Rattle.board_reasons.specs.Holders as spec;
+ghost use Rattle.board_reasons.specs.Origins.{origin};
+ghost use Rattle.board_reasons.specs.Reasons.{reason};
 ghost use Rattle.scan_vectors.specs.Held.{bits};
 ghost use Rattle.board_reasons.specs.Within.{IsOfDevice};
 
+use crate::origins::{Holder, NetLevel, Origin, Reason};
 use crate::vectors::{place_in, wanted_at};
-use chip_chain::{Chain, Seat};
+use board_chain::{Chain, WiredChip};
 use jt_tap::Column;
-use scan_origins::{Holder, NetLevel, Origin, Reason};
 use scan_registers::{Link, Selected};
 use scan_vectors::{Mismatch, Vector};
 
@@ -70,7 +70,7 @@ fn held_in(chain: &Chain, column: Column, device: usize, bit: usize) -> Holder
 }
 
 /// What holds a bit of the data register that the instruction of this device selects.
-fn in_register(chain: &Chain, seat: &Seat, device: usize, bit: usize) -> Holder
+fn in_register(chain: &Chain, seat: &WiredChip, device: usize, bit: usize) -> Holder
     requires inside { device < length chain.now.chips }
     requires seat { slice_get chain.now.chips device ≡ Some (chip_state seat.now) }
     ensures { option_map (spec.held_in chain.now.nets (members chain.now.chips) Dr device bit)

@@ -1,11 +1,14 @@
-//! Where a bit that came out of a scan of a board's chain stood, and the lines that say so.
+//! Where a bit that fails came from: which register of which device held it, or that it went in at TDI, and the line
+//! that says so.
 #![tactic(auto)]
 
-pub use finding::{holder_of, origin_of, reason_of};
-pub use vectors::{is_same_part, place_in, wanted_at};
-pub use writing::{write_reason, write_wanted};
-
 mod finding;
+pub mod origins;
 mod vectors;
 mod words;
 mod writing;
+
+pub use finding::{holder_of, origin_of, reason_of};
+pub use origins::{Holder, NetLevel, Origin, Reason};
+pub use vectors::{is_same_part, place_in, wanted_at};
+pub use writing::{write_reason, write_wanted};

@@ -2,7 +2,7 @@
 
 ghost use Rattle.std.specs.Prelude.{◌≡◌, ◌<◌, ◌==◌, ◌&&◌, length, option_map, slice_get, Some};
 ghost use Rattle.scan_vectors.specs.Held.{bits};
-ghost use Rattle.scan_origins.specs.Reasons as spec;
+ghost use Rattle.board_reasons.specs.Reasons as spec;
 
 use scan_vectors::{Part, Vector};
 

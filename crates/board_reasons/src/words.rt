@@ -1,7 +1,7 @@
 //! The words of levels and user registers.
 ghost use Rattle.std.specs.Prelude.{◌≡◌};
 ghost use Rattle.board_description.specs.Words as words;
-ghost use Rattle.scan_origins.specs.Lines as spec;
+ghost use Rattle.board_reasons.specs.Lines as spec;
 
 use bsdl_device::{Access, Device, Place};
 use pin_nets::Level;

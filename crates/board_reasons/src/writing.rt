@@ -1,21 +1,21 @@
 //! The lines that say why a bit of a scan failed.
 ghost use Rattle.std.specs.Prelude.{◌≡◌, [], ◌∷◌, codes, decimal, slice_get};
 ghost use Rattle.board_description.specs.Words.{texts};
-ghost use Rattle.byte_ends.specs.Writes.{WritesAll};
-ghost use Rattle.board_meaning.specs.Chain.{members};
-ghost use Rattle.chip_seats.specs.Seats.{member_of};
+ghost use Rattle.byte_streams.specs.Writes.{WritesAll};
+ghost use Rattle.board_model.specs.Chain.{members};
+ghost use Rattle.board_chips.specs.WiredChips.{member_of};
 ghost use Rattle.bsdl_device.specs.View.{port_bit};
 ghost use Rattle.board_description.specs.Words as words;
-ghost use Rattle.scan_origins.specs.Lines as spec;
-ghost use Rattle.scan_origins.specs.Reasons.{reason_lines};
+ghost use Rattle.board_reasons.specs.Lines as spec;
+ghost use Rattle.board_reasons.specs.Reasons.{reason_lines};
 
+use crate::origins::{Holder, NetLevel, Reason};
 use crate::words::{level_word, user_words};
+use board_chain::{Chain, WiredChip};
 use board_description::function_word;
 use bsdl_device::{Cell, Device, PortBit};
-use byte_ends::{Broken, Counted, Sink, put_all, put_pieces};
-use chip_chain::{Chain, Seat};
+use byte_streams::{Broken, Counted, Sink, put_all, put_pieces};
 use itoa::Buffer;
-use scan_origins::{Holder, NetLevel, Reason};
 
 /// Writes why a bit of a scan failed: what was wanted, and where the bit that came in its place had stood.
 ///
@@ -97,7 +97,7 @@ fn write_of_device<W: Sink>(
 /// Writes the line of a bit that this device held.
 fn write_of_seat<W: Sink>(
     chain: &Chain,
-    seat: &Seat,
+    seat: &WiredChip,
     holder: Holder,
     out: &mut Counted<W>,
 ) -> Result<(), Broken>

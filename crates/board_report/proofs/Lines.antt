@@ -9,8 +9,8 @@ use Rattle.board_report.specs.LeftOut.{left_out_line, name_lines}
 use Rattle.pin_nets.specs.declared.Level.{Level}
 use Rattle.pin_nets.specs.declared.Pull.TheVariants.{Free}
 use Rattle.pin_nets.specs.Wired.{Net}
-use Rattle.board_meaning.specs.Cells.{Member}
-use Rattle.board_meaning.specs.Nets.{level}
+use Rattle.board_model.specs.Cells.{Member}
+use Rattle.board_model.specs.Nets.{level}
 use Rattle.std.proofs.lemmas.List.{map-append, reverse-append, take-append-drop}
 use Rattle.board_report.specs.Report.{digit, digits, level_line, net_line}
 

@@ -2,13 +2,13 @@
 use Rattle.std.specs.Prelude.{Bool, true, false, ℕ, List, ◌++◌, map, reverse, flat_map, codes, Option, Some, None}
 use Rattle.jt_tap.specs.Words.{word}
 use Rattle.bsdl_device.specs.Device.{Name}
-use Rattle.device_instructions.specs.Instruction.{instruction}
-use Rattle.board_meaning.specs.Cells.{Member}
+use Rattle.chip_instructions.specs.Instruction.{instruction}
+use Rattle.board_model.specs.Cells.{Member}
 use Rattle.pin_nets.specs.declared.Level.{Level}
 use Rattle.pin_nets.specs.declared.Level.TheVariants.{Zero, One, Contend, Float}
 use Rattle.pin_nets.specs.Wired.{Net}
-use Rattle.board_meaning.specs.Nets.{level}
-use Rattle.board_meaning.specs.Chain.{BoardState, ChipState, members}
+use Rattle.board_model.specs.Nets.{level}
+use Rattle.board_model.specs.Chain.{BoardState, ChipState, members}
 
 abbrev pub digit : Bool → ℕ
 digit true = 49

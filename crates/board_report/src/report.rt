@@ -1,18 +1,18 @@
 //! The lines of a board's report, and of the instructions that stand for BYPASS.
 
 ghost use Rattle.std.specs.Prelude.{◌≡◌, ◌++◌, flat_map};
-ghost use Rattle.byte_ends.specs.Writes.{WritesAll};
+ghost use Rattle.byte_streams.specs.Writes.{WritesAll};
 ghost use Rattle.board_report.specs.Report.{device_line, digit, digits, instruction_part, level_line, net_line};
 ghost use Rattle.board_report.specs.Report as spec;
 ghost use Rattle.board_report.specs.LeftOut.{device_lines, left_out_line, name_lines};
 ghost use Rattle.board_report.specs.Report.{level_word as said_level};
-ghost use Rattle.board_meaning.specs.Chain.{members};
-ghost use Rattle.chip_seats.specs.Seats.{chip_state};
-ghost use Rattle.device_instructions.specs.Instruction.{instruction};
+ghost use Rattle.board_model.specs.Chain.{members};
+ghost use Rattle.board_chips.specs.WiredChips.{chip_state};
+ghost use Rattle.chip_instructions.specs.Instruction.{instruction};
 
+use board_chain::{Chain, WiredChip};
 use board_plan::is_left_out;
-use byte_ends::{Broken, Counted, Sink, put_all};
-use chip_chain::{Chain, Seat};
+use byte_streams::{Broken, Counted, Sink, put_all};
 use jt_bits::Bits;
 use pin_nets::Level;
 
@@ -31,7 +31,7 @@ pub fn write_all_left_out<W: Sink>(chain: &Chain, out: &mut Counted<W>) -> Resul
 }
 
 /// Writes the lines of a device.
-fn write_instructions<W: Sink>(seat: &Seat, out: &mut Counted<W>) -> Result<(), Broken>
+fn write_instructions<W: Sink>(seat: &WiredChip, out: &mut Counted<W>) -> Result<(), Broken>
     requires { out.old.failures ≡ 0 }
     ensures { WritesAll W.contents out.old out.new (device_lines (chip_state seat.now)) result }
 {
@@ -43,7 +43,11 @@ fn write_instructions<W: Sink>(seat: &Seat, out: &mut Counted<W>) -> Result<(), 
 }
 
 /// Writes the line of an instruction, if it stands for BYPASS.
-fn write_if_left_out<W: Sink>(seat: &Seat, name: &str, out: &mut Counted<W>) -> Result<(), Broken>
+fn write_if_left_out<W: Sink>(
+    seat: &WiredChip,
+    name: &str,
+    out: &mut Counted<W>,
+) -> Result<(), Broken>
     requires { out.old.failures ≡ 0 }
     ensures { WritesAll W.contents out.old out.new (name_lines seat.now.name seat.now.chip.device name.now) result }
 {
@@ -54,7 +58,7 @@ fn write_if_left_out<W: Sink>(seat: &Seat, name: &str, out: &mut Counted<W>) -> 
 }
 
 /// Writes the line of an instruction.
-#[tactic(auto, using(byte_ends::proofs::Fronts::fronts))]
+#[tactic(auto, using(byte_streams::proofs::Fronts::fronts))]
 fn write_instruction_line<W: Sink>(
     device: &str,
     name: &str,
@@ -117,8 +121,8 @@ fn level_word(level: Level) -> &'static [u8]
 }
 
 /// Writes the line of one device.
-#[tactic(auto, using(byte_ends::proofs::Fronts::fronts))]
-fn write_device<W: Sink>(seat: &Seat, out: &mut Counted<W>) -> Result<(), Broken>
+#[tactic(auto, using(byte_streams::proofs::Fronts::fronts))]
+fn write_device<W: Sink>(seat: &WiredChip, out: &mut Counted<W>) -> Result<(), Broken>
     requires { out.old.failures ≡ 0 }
     ensures { WritesAll W.contents out.old out.new (device_line (chip_state seat.now)) result }
 {
@@ -128,8 +132,8 @@ fn write_device<W: Sink>(seat: &Seat, out: &mut Counted<W>) -> Result<(), Broken
 }
 
 /// Writes a device's instruction, its bits and its name, and ends the line.
-#[tactic(auto, using(byte_ends::proofs::Fronts::fronts))]
-fn write_instruction<W: Sink>(seat: &Seat, out: &mut Counted<W>) -> Result<(), Broken>
+#[tactic(auto, using(byte_streams::proofs::Fronts::fronts))]
+fn write_instruction<W: Sink>(seat: &WiredChip, out: &mut Counted<W>) -> Result<(), Broken>
     requires { out.old.failures ≡ 0 }
     ensures { WritesAll W.contents out.old out.new (instruction_part (chip_state seat.now)) result }
 {
@@ -139,7 +143,7 @@ fn write_instruction<W: Sink>(seat: &Seat, out: &mut Counted<W>) -> Result<(), B
 }
 
 /// The name of a device's instruction, `-` where it has none.
-fn name_or_dash(seat: &Seat) -> &[u8]
+fn name_or_dash(seat: &WiredChip) -> &[u8]
     ensures { result.now ≡ spec.name_or_dash (instruction seat.now.chip.device seat.now.chip.latch) }
 {
     match seat.instruction() {
@@ -149,7 +153,7 @@ fn name_or_dash(seat: &Seat) -> &[u8]
 }
 
 /// Writes a field and what ends it.
-#[tactic(auto, using(byte_ends::proofs::Fronts::fronts))]
+#[tactic(auto, using(byte_streams::proofs::Fronts::fronts))]
 fn write_field<W: Sink>(field: &[u8], end: &[u8], out: &mut Counted<W>) -> Result<(), Broken>
     requires { out.old.failures ≡ 0 }
     ensures { WritesAll W.contents out.old out.new (field.now ++ end.now) result }

@@ -11,7 +11,7 @@ use Rattle.std.proofs.lemmas.Map.Text.{is_eq-slice_cmp}
 use Rattle.std.proofs.lemmas.Slice.Eq.{bytes_eq-Decides}
 use Rattle.toml.specs.Data.{Data, Members, no_members, member, get_member}
 use Rattle.std.proofs.lemmas.List.{map-append}
-use Rattle.board_words.specs.View.{texts_of}
+use Rattle.board_tables.specs.WordView.{texts_of}
 use Rattle.board_tables.specs.declared.keys.Known.{Known}
 use Rattle.board_tables.specs.Keys.{JudgedByOtherKeys, Key, device_keys, keys_but_follow, unfit_key, earlier, earliest, misfits, missing, needed, fits_one}
 

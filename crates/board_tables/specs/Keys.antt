@@ -5,8 +5,8 @@ use Rattle.std.specs.List.{list_any, list_all}
 use Rattle.std.specs.Ordering.{nat_cmp, is_lt}
 use Rattle.std.specs.Cmp.Lexicographic.{slice_cmp}
 use Rattle.toml.specs.Data.{Data, Members, no_members, member, get_member}
-use Rattle.board_words.specs.Names.{is_name}
-use Rattle.board_words.specs.FollowTexts.{follow_of}
+use Rattle.board_tables.specs.Names.{is_name}
+use Rattle.board_tables.specs.FollowTexts.{follow_of}
 use Rattle.board_tables.specs.declared.keys.Known.{Known}
 use Rattle.board_tables.specs.Fields.{is_text, is_text_that, is_one_of, is_table, is_array_of, is_some_of}
 

@@ -1,4 +1,11 @@
+pub mod FirstPlaces
+pub mod FollowTexts
+pub mod Names
+pub mod PinTexts
+pub mod WordView
 pub mod Fields
 pub mod Keys
 pub mod Faults
 pub mod View
+pub mod Files
+pub mod FileView

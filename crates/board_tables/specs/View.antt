@@ -1,10 +1,11 @@
 -- What the code's values stand for.
+use Rattle.std.specs.Prelude.{⊤}
 use Rattle.std.specs.Prelude.{◌≡◌, ℕ, List, Option, Some, None, Result, Ok, Err}
 use Rattle.board_tables.specs.declared.fields.Unfit.{Unfit}
 use Rattle.board_tables.specs.declared.fields.Unfit.TheVariants.{Field, Memory}
 use Rattle.board_tables.specs.declared.keys.Keys.{Keys}
 use Rattle.board_tables.specs.declared.keys.Keys.TheVariants.{Top, Device, Net}
-use Rattle.board_words.specs.View.{texts_of}
+use Rattle.board_tables.specs.WordView.{texts_of}
 use Rattle.board_tables.specs.Keys.{Key, top_keys, device_keys, net_keys}
 
 abbrev pub keys_of : Keys → List Key
@@ -16,4 +17,4 @@ keys_of (Net names) = net_keys (texts_of names.now)
 abbrev pub Checks : {A : Type 0} → Result A Unfit → Option (List ℕ) → Type 0
 Checks (Ok x) unfit = unfit ≡ None
 Checks (Err (Field k)) unfit = unfit ≡ Some k.now
-Checks (Err Memory) unfit = Unit {0}
+Checks (Err Memory) unfit = ⊤

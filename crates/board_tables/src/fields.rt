@@ -6,11 +6,11 @@ ghost use Rattle.board_tables.specs.Fields.{tables_in};
 ghost use Rattle.board_tables.specs.Keys as keys;
 ghost use Rattle.board_tables.specs.Faults as spec;
 ghost use Rattle.board_tables.specs.View.{Checks};
-ghost use Rattle.board_words.specs.View.{texts_of};
+ghost use Rattle.board_tables.specs.WordView.{texts_of};
 
 use crate::keys::{Keys, Known, unfit_key};
+use crate::places::Places;
 use crate::tables::{items_at, name_at};
-use board_words::Places;
 use std::alloc::Global;
 use toml::{Table, Value};
 

@@ -5,12 +5,12 @@ ghost use Rattle.toml.specs.View.{view, table_view};
 ghost use Rattle.board_tables.specs.declared.keys.Known as declared_known;
 ghost use Rattle.board_tables.specs.Keys as spec;
 ghost use Rattle.board_tables.specs.View.{keys_of};
-ghost use Rattle.board_words.specs.View.{texts_of};
+ghost use Rattle.board_tables.specs.WordView.{texts_of};
 
+use crate::places::Places;
 use crate::values::{
     is_core, is_follow, is_new_name, is_one_of, is_some_tables, is_tables, is_texts,
 };
-use board_words::Places;
 use std::cmp::Ordering;
 use toml::{Table, Value};
 

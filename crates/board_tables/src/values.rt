@@ -4,11 +4,13 @@ ghost use Rattle.std.specs.List.{list_all, list_any};
 ghost use Rattle.toml.specs.View.{view};
 ghost use Rattle.board_tables.specs.Fields as fields;
 ghost use Rattle.board_tables.specs.Keys as spec;
-ghost use Rattle.board_words.specs.View.{texts_of};
-ghost use Rattle.board_words.specs.FollowTexts.{follow_of as follow_text};
+ghost use Rattle.board_tables.specs.WordView.{texts_of};
+ghost use Rattle.board_tables.specs.FollowTexts.{follow_of as follow_text};
 
+use crate::follows::follow_of;
 use crate::keys::Known;
-use board_words::{Places, follow_of, is_name};
+use crate::names::is_name;
+use crate::places::Places;
 use toml::Value;
 
 /// Whether the value is an array of at least one table.
@@ -57,7 +59,7 @@ fn all_texts(items: &[Value]) -> bool
 }
 
 /// Whether the value is a name that none of these is.
-#[tactic(auto, using(board_words::proofs::TextLaws::list_any_map))]
+#[tactic(auto, using(crate::proofs::TextLaws::list_any_map))]
 pub(crate) fn is_new_name(names: &Places<&str>, value: &Value) -> bool
     ensures { result ≡ spec.is_new_name (texts_of names.now) (view value.now) }
 {
@@ -135,7 +137,7 @@ fn spells_string(text: &str) -> bool
 }
 
 /// Whether the value is a text, and one of the words.
-#[tactic(auto, using(board_words::proofs::TextLaws::list_any_map))]
+#[tactic(auto, using(crate::proofs::TextLaws::list_any_map))]
 pub(crate) fn is_one_of(words: &[&str], value: &Value) -> bool
     ensures { result ≡ fields.is_one_of (map (λ w. w.now) words.now) (view value.now) }
 {

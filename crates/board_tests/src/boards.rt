@@ -1,5 +1,5 @@
 use crate::descriptions::{K, W};
-use byte_ends::Counted;
+use byte_streams::Counted;
 use jt_bits::Bits;
 use jt_board::{Board, BoardFault, Reply, Snapshot, write_report};
 use jt_tap::State;

@@ -2,13 +2,13 @@
 ghost use Rattle.std.specs.Prelude.{◌≡◌};
 
 use crate::descriptions::{P, device};
+use board_scan::{note_chain, shift_chain};
 use jt_bits::{Bits, HexFault};
 use jt_tap::Column;
 use scan_registers::{Chip, Plain, SharedDevice, is_formed};
 use scan_vectors::{Failures, Mismatch, Part, Part3, Vector, join};
 use std::alloc::Global;
 use std::test::Fail;
-use whole_chain::{note_chain, shift_chain};
 
 /// A chip whose bypass bit is 0, without a code, so that its reset instruction selects bypass.
 fn chip(alloc: Global) -> Result<Chip<Plain>, Fail> {

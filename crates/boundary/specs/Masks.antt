@@ -1,4 +1,5 @@
 -- Which cells capture what their port sees and which their core's bit, as masks, and a capture by them.
+use Rattle.std.specs.Prelude.{⊤}
 use Rattle.std.specs.Prelude.{◌≡◌, ◌<◌, Bool, true, false, ℕ, List, ◌∷◌, map, length, Option, Some, None}
 use Rattle.std.specs.Prelude.{if◌then◌else◌}
 use Rattle.jt_bits.specs.Packed.{has_bit}
@@ -23,7 +24,7 @@ sighted_port port function = if is_sighted port function then port else None
 abbrev pub SeesSighted : (ℕ → Bool) → List Cell → List Bool → Type 0
 SeesSighted sees (c ∷ cs) (s ∷ seen) =
     (is_sighted c.port c.function ≡ true → (p : ℕ) → c.port ≡ Some p → s ≡ sees p) × SeesSighted sees cs seen
-SeesSighted sees _ _ = Unit {0}
+SeesSighted sees _ _ = ⊤
 
 -- an internal cell captures its core bit in every mode
 abbrev pub is_inner : Function → Bool

@@ -2,8 +2,8 @@
 use Rattle.std.specs.Prelude.{Bool, true, false, ℕ, List, map, slice_get, option_map, unwrap_or, Option, Some, None}
 use Rattle.bsdl_device.specs.declared.Cell.{Cell}
 use Rattle.bsdl_device.specs.declared.Control3.{Control3}
-use Rattle.device_instructions.specs.declared.Mode.{Mode}
-use Rattle.device_instructions.specs.declared.Mode.TheVariants.{HighZ}
+use Rattle.chip_instructions.specs.declared.Mode.{Mode}
+use Rattle.chip_instructions.specs.declared.Mode.TheVariants.{HighZ}
 
 abbrev pub has_no_control : Option Control3 → Bool
 has_no_control None = true

@@ -1,8 +1,9 @@
 -- The whole boundary's capture by what the ports see, as the board's meaning has it.
+use Rattle.std.specs.Prelude.{⊤}
 use Rattle.std.specs.Prelude.{◌≡◌, Bool, ℕ, suc, false, List, [], ◌∷◌, length, Option, Some, None}
 use Rattle.jt_bits.specs.Words.{bit_of}
 use Rattle.bsdl_device.specs.declared.Cell.{Cell}
-use Rattle.device_instructions.specs.declared.Mode.{Mode}
+use Rattle.chip_instructions.specs.declared.Mode.{Mode}
 use Rattle.boundary.specs.Cells.{BoundaryValue, captured_bits, cell_captures, takes_update}
 
 -- what the port of a cell sees; a cell without one sees nothing
@@ -20,7 +21,7 @@ capture_by_sight sees from_update update core k (c ∷ cs) =
 -- each cell with a port was told what its port sees
 abbrev pub SeesItsPorts : (ℕ → Bool) → List Cell → List Bool → Type 0
 SeesItsPorts sees (c ∷ cs) (s ∷ seen) = ((p : ℕ) → c.port ≡ Some p → s ≡ sees p) × SeesItsPorts sees cs seen
-SeesItsPorts sees _ _ = Unit {0}
+SeesItsPorts sees _ _ = ⊤
 
 -- the law: with every cell told, and all lists of the cells' number
 abbrev pub CapturesBySight : Type 0

@@ -11,11 +11,12 @@ use Rattle.bsdl_device.specs.Device.{Name, PortBit}
 use Rattle.bsdl_device.specs.Ports as found
 use Rattle.bsdl_text.specs.Words.{upper}
 use Rattle.bsdl_text.proofs.NameLaws.{names_match_in_any_case}
-use Rattle.bsdl_cells.specs.Rows.{PortName}
+use Rattle.bsdl_values.specs.CellRows.{PortName}
 use Rattle.bsdl_ports.specs.Ports.{Port, Range}
-use Rattle.bsdl_limits.specs.PortBits as declared
-use Rattle.bsdl_own_instructions.specs.Own.{is_among}
-use Rattle.bsdl_boundary.specs.Boundary.{port_bits}
+use Rattle.bsdl_ports.specs.PortBits as declared
+use Rattle.bsdl_lookup.specs.PortNumbers as port_numbers
+use Rattle.bsdl_text.specs.Words.{is_among}
+use Rattle.bsdl_build.specs.Boundary.{port_bits}
 use Rattle.bsdl.specs.Laws.{PinsFindTheBitsOfRows}
 use Rattle.bsdl.proofs.LimitedLaws.{port_len}
 
@@ -182,7 +183,7 @@ this_port taps p x i k same at = by_range p.range refl i refl
 abbrev IsFoundFrom : ℕ → List Name → List Port → List ℕ → PortName → ℕ → Type 0
 IsFoundFrom m taps ps x name k = (j : ℕ) × (m + j ≡ k) × IsFound x name.index (is_among taps name.name) (flat_map (port_bits taps) ps) j
 
-found_from : (m : ℕ) (taps : List Name) (ps : List Port) (x : List ℕ) (name : PortName) (k : ℕ) → upper x ≡ name.name → declared.bit_number m ps name ≡ Some k → IsFoundFrom m taps ps x name k
+found_from : (m : ℕ) (taps : List Name) (ps : List Port) (x : List ℕ) (name : PortName) (k : ℕ) → upper x ≡ name.name → port_numbers.bit_number m ps name ≡ Some k → IsFoundFrom m taps ps x name k
 found_from m taps [] x name k spelt e = absurd cc
 found_from m taps (p ∷ ps) x name k spelt e = by_test (bytes_eq (upper p.name.text) name.name) refl (λ there. found_from (m + declared.width p.range) taps ps x name k spelt there)
   where
@@ -219,15 +220,15 @@ found_from m taps (p ∷ ps) x name k spelt e = by_test (bytes_eq (upper p.name.
         )
 
     by_test : (b : Bool) → bytes_eq (upper p.name.text) name.name ≡ b
-        → (declared.bit_number (m + declared.width p.range) ps name ≡ Some k → IsFoundFrom (m + declared.width p.range) taps ps x name k) → IsFoundFrom m taps (p ∷ ps) x name k
+        → (port_numbers.bit_number (m + declared.width p.range) ps name ≡ Some k → IsFoundFrom (m + declared.width p.range) taps ps x name k) → IsFoundFrom m taps (p ∷ ps) x name k
     by_test true is rest =
         let here : option_map (λ j. m + j) (declared.bit_at p.range name.index) ≡ Some k = rw is at e in
         by_bit (declared.bit_at p.range name.index) refl here is
     by_test false is rest =
-        let there : declared.bit_number (m + declared.width p.range) ps name ≡ Some k = rw is at e in
+        let there : port_numbers.bit_number (m + declared.width p.range) ps name ≡ Some k = rw is at e in
         behind (rest there) is
 
-pub is_found : (taps : List Name) (ps : List Port) (x : List ℕ) (name : PortName) (k : ℕ) → upper x ≡ name.name → declared.bit_number 0 ps name ≡ Some k
+pub is_found : (taps : List Name) (ps : List Port) (x : List ℕ) (name : PortName) (k : ℕ) → upper x ≡ name.name → port_numbers.bit_number 0 ps name ≡ Some k
     → IsFound x name.index (is_among taps name.name) (flat_map (port_bits taps) ps) k
 is_found taps ps x name k spelt e =
     let there = found_from 0 taps ps x name k spelt e in
@@ -235,16 +236,16 @@ is_found taps ps x name k spelt e =
     subst (IsFound x name.index (is_among taps name.name) (flat_map (port_bits taps) ps)) place there.2
 
 -- a name that has a number is that of a port, and so in upper case
-pub in_upper : (m : ℕ) (ps : List Port) (name : PortName) (k : ℕ) → declared.bit_number m ps name ≡ Some k → upper name.name ≡ name.name
+pub in_upper : (m : ℕ) (ps : List Port) (name : PortName) (k : ℕ) → port_numbers.bit_number m ps name ≡ Some k → upper name.name ≡ name.name
 in_upper m [] name k e = absurd cc
 in_upper m (p ∷ ps) name k e = by_test (bytes_eq (upper p.name.text) name.name) refl (λ there. in_upper (m + declared.width p.range) ps name k there)
   where
-    by_test : (b : Bool) → bytes_eq (upper p.name.text) name.name ≡ b → (declared.bit_number (m + declared.width p.range) ps name ≡ Some k → upper name.name ≡ name.name) → upper name.name ≡ name.name
+    by_test : (b : Bool) → bytes_eq (upper p.name.text) name.name ≡ b → (port_numbers.bit_number (m + declared.width p.range) ps name ≡ Some k → upper name.name ≡ name.name) → upper name.name ≡ name.name
     by_test true is rest =
         let same : upper p.name.text ≡ name.name = (bytes_eq-Decides (upper p.name.text) name.name).0 is in
         subst (λ (n : List ℕ). upper n ≡ n) same (upper_upper p.name.text)
     by_test false is rest =
-        let there : declared.bit_number (m + declared.width p.range) ps name ≡ Some k = rw is at e in
+        let there : port_numbers.bit_number (m + declared.width p.range) ps name ≡ Some k = rw is at e in
         rest there
 
 pub pins_find : PinsFindTheBitsOfRows

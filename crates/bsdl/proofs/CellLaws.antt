@@ -10,14 +10,15 @@ use Rattle.bsdl_device.specs.Device.{Device}
 use Rattle.bsdl_device.specs.Driving.{drives}
 use Rattle.bsdl_device.specs.Ports as found
 use Rattle.bsdl_device.specs.declared.Cell.{Cell}
-use Rattle.bsdl_cells.specs.Rows.{CellRow, PortName}
+use Rattle.bsdl_values.specs.CellRows.{CellRow, PortName}
 use Rattle.bsdl_entity.specs.Entity.{File}
-use Rattle.bsdl_described.specs.Describing.{Description, Refusal, described, ◌>>?◌}
-use Rattle.bsdl_fit.specs.Fits.{cells_end, has_no_port, is_driven_below, is_fit, names_tap, port_bit, port_fits, row_fits, rows_numbered}
-use Rattle.bsdl_limits.specs.Limits.{cells_within, instructions_within, ports_within, users_within}
-use Rattle.bsdl_limits.specs.PortBits as declared
-use Rattle.bsdl_boundary.specs.Boundary.{cell}
-use Rattle.bsdl_built.specs.Built.{device}
+use Rattle.bsdl_description.specs.Describing.{Description, Refusal, described, ◌>>?◌}
+use Rattle.bsdl_rules.specs.Fits.{cells_end, has_no_port, is_driven_below, is_fit, names_tap, port_bit, port_fits, row_fits, rows_numbered}
+use Rattle.bsdl_rules.specs.Limits.{cells_within, instructions_within, ports_within, users_within}
+use Rattle.bsdl_ports.specs.PortBits as declared
+use Rattle.bsdl_lookup.specs.PortNumbers as port_numbers
+use Rattle.bsdl_build.specs.Boundary.{cell}
+use Rattle.bsdl_build.specs.Built.{device}
 use Rattle.bsdl.specs.Form.{text_form}
 use Rattle.bsdl.specs.Judging.{fault, file_says, device_or_refusal, text_says}
 use Rattle.bsdl.specs.RowCells.{HasItsCell, HasRowCells, bit_named, row_cell, text_described}
@@ -216,22 +217,22 @@ row_of d e k c at =
 -- ---- the port of a row
 
 -- a row with a port names one that is there
-pub numbered : (d : Description) (r : CellRow) (name : PortName) → port_fits d r ≡ true → r.port ≡ Some name → (k : ℕ) × (declared.bit_number 0 d.ports name ≡ Some k)
+pub numbered : (d : Description) (r : CellRow) (name : PortName) → port_fits d r ≡ true → r.port ≡ Some name → (k : ℕ) × (port_numbers.bit_number 0 d.ports name ≡ Some k)
 numbered d r name fits is = by_function (has_no_port r.function) refl
   where
-    by_number : (o : Option ℕ) → declared.bit_number 0 d.ports name ≡ o → is_some o ≡ true → (k : ℕ) × (declared.bit_number 0 d.ports name ≡ Some k)
+    by_number : (o : Option ℕ) → port_numbers.bit_number 0 d.ports name ≡ o → is_some o ≡ true → (k : ℕ) × (port_numbers.bit_number 0 d.ports name ≡ Some k)
     by_number None at some = absurd cc
     by_number (Some k) at some = (k, at)
 
-    by_function : (b : Bool) → has_no_port r.function ≡ b → (k : ℕ) × (declared.bit_number 0 d.ports name ≡ Some k)
+    by_function : (b : Bool) → has_no_port r.function ≡ b → (k : ℕ) × (port_numbers.bit_number 0 d.ports name ≡ Some k)
     by_function true inner =
         let none : is_none (Some name) ≡ true = rw (inner, is) at fits in
         absurd cc
     by_function false outer =
         let here : (is_some (port_bit d r) && (not (names_tap d r.port) && not (drives r.function && is_driven_below d r))) ≡ true = rw outer at fits in
         let some = (both (is_some (port_bit d r)) (not (names_tap d r.port) && not (drives r.function && is_driven_below d r)) here).0 in
-        let there : is_some (declared.bit_number 0 d.ports name) ≡ true = rw is at some in
-        by_number (declared.bit_number 0 d.ports name) refl there
+        let there : is_some (port_numbers.bit_number 0 d.ports name) ≡ true = rw is at some in
+        by_number (port_numbers.bit_number 0 d.ports name) refl there
 
 -- the port of a row is found as it is numbered
 pub record IsNamed (d : Description) (r : CellRow) : Type 0 where

@@ -3,11 +3,11 @@ use Rattle.std.proofs.Common.{◌≡◌, ◌≤◌, ℕ, zero, suc, ◌+◌, Boo
 use Rattle.std.specs.Prelude.{Option, Some, None, codes, pred, ◌&&◌, ◌||◌, ◌==◌, not, if◌then◌else◌}
 use Rattle.bsdl_device.specs.Device.{Name}
 use Rattle.bsdl_device.specs.declared.PortMode.{PortMode}
-use Rattle.bsdl_lex.specs.Cutting.{Lexeme}
+use Rattle.bsdl_text.specs.Cutting.{Lexeme}
 use Rattle.bsdl_text.specs.Marks.{closing, colon, comma, opening, semi}
 use Rattle.bsdl_text.specs.Reading.{Read, fits, misfit, is_mark_of, joined_by, joined_text, keyword, separated, mark, number, quoted_value, refused_at, stands, word}
-use Rattle.bsdl_instructions.specs.Values.{access_row, begins, opcode_row, pattern, private_name, rows}
-use Rattle.bsdl_cells.specs.Rows.{cell_row}
+use Rattle.bsdl_values.specs.InstructionValues.{access_row, begins, opcode_row, pattern, private_name, rows}
+use Rattle.bsdl_values.specs.CellRows.{cell_row}
 use Rattle.bsdl_values.specs.declared.Attribute.{Attribute}
 use Rattle.bsdl_values.specs.declared.Attribute.TheVariants.{TapScanIn, TapScanOut, TapScanMode, TapScanClock, TapScanReset, InstructionLength, BoundaryLength, InstructionOpcode, InstructionCapture, BoundaryRegister, IdcodeRegister, UsercodeRegister, InstructionPrivate, RegisterAccess}
 use Rattle.bsdl_values.specs.declared.values.Language.{Language}
@@ -15,7 +15,7 @@ use Rattle.bsdl_values.specs.declared.values.Language.TheVariants.{Opcodes, Capt
 use Rattle.bsdl_entity.specs.Attributes.{attribute_of}
 use Rattle.bsdl_ports.specs.Keywords.{is_rising, is_vector, mode_of, this_word}
 use Rattle.bsdl_values.specs.Keywords.{truth_of}
-use Rattle.bsdl_scalars.specs.Scalars.{is_scalar}
+use Rattle.bsdl_ports.specs.Scalars.{is_scalar}
 use Rattle.bsdl_ports.specs.Ports.{Port, Range, concat, in_order, kind_of_port, ordered, port_group, ports, range, upto}
 use Rattle.bsdl_values.specs.Values.{Value, absent, accesses_value, cells_value, codes_value, count, first_start, length_value, names_value, opcodes_value, pattern_value, port, quoted, text_in, truth, value_of}
 use Rattle.bsdl_values.specs.Passing.{brackets, past_closing, past_semi}

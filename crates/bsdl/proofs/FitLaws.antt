@@ -9,14 +9,14 @@ use Rattle.bsdl_device.specs.declared.Cell.{Cell}
 use Rattle.bsdl_device.specs.declared.Control3.{Control3}
 use Rattle.bsdl_device.specs.declared.Function.{Function}
 use Rattle.bsdl_device.specs.declared.Function.TheVariants.{Input, Clock, ObserveOnly, Bidir, Output2, Output3, Control, ControlR, Internal}
-use Rattle.bsdl_cells.specs.Rows.{CellRow, PortName}
-use Rattle.bsdl_cell_maps.specs.Controls.{is_control}
-use Rattle.bsdl_described.specs.Describing.{Description}
-use Rattle.bsdl_own_instructions.specs.Own.{is_among}
-use Rattle.bsdl_fit.specs.Fits.{control_fits, has_no_port, is_control_cell, is_driven_below, names_tap, port_bit, port_fits, row_fits, same_bit}
+use Rattle.bsdl_values.specs.CellRows.{CellRow, PortName}
+use Rattle.bsdl_lookup.specs.Controls.{is_control}
+use Rattle.bsdl_description.specs.Describing.{Description}
+use Rattle.bsdl_text.specs.Words.{is_among}
+use Rattle.bsdl_rules.specs.Fits.{control_fits, has_no_port, is_control_cell, is_driven_below, names_tap, port_bit, port_fits, row_fits, same_bit}
 use Rattle.jt_limits.specs.Limits.{subscript_limit}
-use Rattle.bsdl_boundary.specs.Boundary.{cell}
-use Rattle.bsdl_built.specs.Built.{device}
+use Rattle.bsdl_build.specs.Boundary.{cell}
+use Rattle.bsdl_build.specs.Built.{device}
 use Rattle.bsdl.specs.FitCells.{CellFits, ControlFits, HasFitCells, IsControlCell, IsPinGiven, PortFits}
 use Rattle.bsdl.specs.Judging.{fault, text_says}
 use Rattle.bsdl.proofs.OnceLaws.{both}

@@ -2,13 +2,13 @@
 use Rattle.std.proofs.Common.{◌≡◌, ◌≤◌, ◌<◌, ℕ, false, List, length, refl, sym, ap, ◌∙◌, Option, None, Some}
 use Rattle.std.specs.Prelude.{Ok, Err}
 use Rattle.std.proofs.lemmas.Bool.{le-ltb, lt-ltb}
-use Rattle.bsdl_lex.specs.Cutting.{Lexeme, tokens, bad_place, cuts_of}
+use Rattle.bsdl_text.specs.Cutting.{Lexeme, tokens, bad_place, cuts_of}
 use Rattle.bsdl_text.specs.Reading.{Read, fits, misfit}
 use Rattle.bsdl_text.specs.View.{Stops}
 use Rattle.bsdl_text.specs.declared.reading.Stop.{Stop}
 use Rattle.bsdl_text.specs.declared.reading.Stop.TheVariants as stop
 use Rattle.bsdl_entity.specs.Entity.{File, file}
-use Rattle.bsdl_described.specs.Describing.{bad_token, too_large}
+use Rattle.bsdl_description.specs.Describing.{bad_token, too_large}
 use Rattle.bsdl.specs.Form.{text_limit, at_misfit, tokens_form, text_form}
 
 pub form_of_large : (text : List ℕ) → text_limit < length text → text_form text ≡ Err too_large

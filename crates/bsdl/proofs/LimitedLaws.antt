@@ -10,20 +10,20 @@ use Rattle.std.proofs.lemmas.List.FromFn.{length-map-range_with_len}
 use Rattle.std.proofs.lemmas.List.Sums.{sum_by-cons}
 use Rattle.bsdl_device.specs.Device.{Device, Name, Pattern, PortBit}
 use Rattle.bsdl_text.specs.Words.{upper}
-use Rattle.bsdl_instructions.specs.Values.{OpcodeRow}
-use Rattle.bsdl_own_instructions.specs.Own.{is_among}
+use Rattle.bsdl_values.specs.InstructionValues.{OpcodeRow}
+use Rattle.bsdl_text.specs.Words.{is_among}
 use Rattle.bsdl_ports.specs.Ports.{Port, Range}
 use Rattle.bsdl_entity.specs.Entity.{File}
-use Rattle.bsdl_described.specs.Describing.{Description, Refusal, bad_length, described, ◌>>?◌}
-use Rattle.bsdl_fit.specs.Fits.{rows_numbered}
-use Rattle.bsdl_lengths.specs.Lengths.{codes_fit, has_bits, has_len, instructions_fit, lengths_fit}
-use Rattle.bsdl_limits.specs.Limits.{cells_within, instructions_within, ports_within, users_within}
-use Rattle.bsdl_limits.specs.PortBits.{highest, width}
-use Rattle.bsdl_limits.specs.Users.{users_of}
+use Rattle.bsdl_description.specs.Describing.{Description, Refusal, bad_length, described, ◌>>?◌}
+use Rattle.bsdl_rules.specs.Fits.{rows_numbered}
+use Rattle.bsdl_rules.specs.Lengths.{codes_fit, has_bits, has_len, instructions_fit, lengths_fit}
+use Rattle.bsdl_rules.specs.Limits.{cells_within, instructions_within, ports_within, users_within}
+use Rattle.bsdl_ports.specs.PortBits.{highest, width}
+use Rattle.bsdl_opcodes.specs.Users.{users_of}
 use Rattle.bsdl_opcodes.specs.ResetOpcode.{opcode}
-use Rattle.bsdl_twice.specs.Twice.{given_again}
-use Rattle.bsdl_boundary.specs.Boundary.{cell, port_bits}
-use Rattle.bsdl_built.specs.Built.{device}
+use Rattle.bsdl_rules.specs.Twice.{given_again}
+use Rattle.bsdl_build.specs.Boundary.{cell, port_bits}
+use Rattle.bsdl_build.specs.Built.{device}
 use Rattle.bsdl.specs.Form.{text_form}
 use Rattle.bsdl.specs.Judging.{fault, file_says, device_or_refusal, text_says, twice_in, unless}
 use Rattle.bsdl.specs.Limited.{HasLengthIfGiven, HasPatternsOf, IsIndexWithin, IsLimitedDevice}

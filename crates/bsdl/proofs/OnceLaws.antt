@@ -5,12 +5,12 @@ use Rattle.std.specs.Prelude.{Option, Some, None, not, option_map, nat_le}
 use Rattle.std.specs.List.{find, fold, range_with_len, list_all}
 use Rattle.std.proofs.lemmas.Bool.Decides.{nat_tests}
 use Rattle.jt_limits.specs.Limits.{limits, subscript_limit}
-use Rattle.bsdl_cells.specs.Rows.{CellRow}
-use Rattle.bsdl_described.specs.Describing.{Description, Refusal, bad_capture, bad_cell, bad_id, bad_length, too_large}
-use Rattle.bsdl_fit.specs.Fits.{cells_end, is_fit, rows_numbered, row_fits, unfit_cell}
-use Rattle.bsdl_lengths.specs.Lengths.{captures_one, ends_in_one, lengths_fit}
-use Rattle.bsdl_limits.specs.Limits.{instructions_within, cells_within, is_within_limits, ports_within, users_within}
-use Rattle.bsdl_twice.specs.Twice.{given_again}
+use Rattle.bsdl_values.specs.CellRows.{CellRow}
+use Rattle.bsdl_description.specs.Describing.{Description, Refusal, bad_capture, bad_cell, bad_id, bad_length, too_large}
+use Rattle.bsdl_rules.specs.Fits.{cells_end, is_fit, rows_numbered, row_fits, unfit_cell}
+use Rattle.bsdl_rules.specs.Lengths.{captures_one, ends_in_one, lengths_fit}
+use Rattle.bsdl_rules.specs.Limits.{instructions_within, cells_within, is_within_limits, ports_within, users_within}
+use Rattle.bsdl_rules.specs.Twice.{given_again}
 use Rattle.bsdl.specs.Judging.{fault, twice_in, unless}
 
 pub record Neither (a b : Option Refusal) : Type 0 where

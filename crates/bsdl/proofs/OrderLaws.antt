@@ -1,23 +1,24 @@
 -- Every range that a text declares runs from its lowest index to its highest.
+use Rattle.std.specs.Prelude.{⊤}
 use Rattle.std.proofs.Common.{◌≡◌, ◌≤◌, ℕ, zero, suc, Bool, true, false, min, max, nat_le, List, [], ◌∷◌, ◌++◌, length, map, refl, subst, arith}
 use Rattle.std.specs.Prelude.{Option, Some, None, Result, Ok, Err, codes, if◌then◌else◌, nat_lt}
 use Rattle.std.specs.List.{AllByRecursion}
 use Rattle.bsdl_device.specs.declared.PortMode.{PortMode}
-use Rattle.bsdl_lex.specs.Cutting.{Lexeme, bad_place, cuts_of, tokens}
+use Rattle.bsdl_text.specs.Cutting.{Lexeme, bad_place, cuts_of, tokens}
 use Rattle.bsdl_text.specs.Marks.{closing, colon, comma, opening, semi}
 use Rattle.bsdl_text.specs.Reading.{Read, fits, misfit, ◌>>=◌, further, joined_by, keyword, mark, number, refused_at, separated, stands, word}
 use Rattle.bsdl_ports.specs.Keywords.{is_rising, is_vector, mode_of, this_word}
-use Rattle.bsdl_scalars.specs.Scalars.{is_scalar}
+use Rattle.bsdl_ports.specs.Scalars.{is_scalar}
 use Rattle.bsdl_ports.specs.Ports.{Port, Range, concat, kind_of_port, ordered, port_group, ports, range, upto}
 use Rattle.bsdl_values.specs.declared.Attribute.{Attribute}
 use Rattle.bsdl_values.specs.declared.Attribute.TheVariants.{InstructionLength, BoundaryLength, InstructionOpcode, InstructionCapture, BoundaryRegister}
 use Rattle.bsdl_entity.specs.Entity.{File, ending, file, heading, items}
-use Rattle.bsdl_givings.specs.Givings.{as_cells, as_count, as_opcodes, as_pattern, value_given}
-use Rattle.bsdl_described.specs.Describing.{Description, Refusal, described, need, taps_given, too_large, ◌>>?◌}
+use Rattle.bsdl_description.specs.FirstValues.{as_cells, as_count, as_opcodes, as_pattern, value_given}
+use Rattle.bsdl_description.specs.Describing.{Description, Refusal, described, need, taps_given, too_large, ◌>>?◌}
 use Rattle.bsdl.specs.Form.{read_form, text_form, text_limit, tokens_form}
 
 abbrev pub IsOrdered : Option Range → Type 0
-IsOrdered None = Unit {0}
+IsOrdered None = ⊤
 IsOrdered (Some r) = r.low ≤ r.high
 
 abbrev pub AreOrdered : List Port → Type 0
@@ -26,7 +27,7 @@ AreOrdered ps = AllByRecursion (λ p. IsOrdered p.range) ps
 -- what is read has this property
 abbrev Reads : {A : Type 0} → (A → Type 0) → Read A → Type 0
 Reads P (fits x rest) = P x
-Reads P (misfit at) = Unit {0}
+Reads P (misfit at) = ⊤
 
 -- ---- one after the other
 

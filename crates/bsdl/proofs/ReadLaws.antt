@@ -2,7 +2,7 @@
 use Rattle.std.proofs.Common.{◌≡◌, ap, ◌∙◌}
 use Rattle.std.specs.Prelude.{⊤, Option, Some, None, MatchOption, Result, Ok, Err}
 use Rattle.bsdl_device.specs.Device.{Device}
-use Rattle.bsdl_described.specs.Describing.{Refusal, Description, ◌>>?◌}
+use Rattle.bsdl_description.specs.Describing.{Refusal, Description, ◌>>?◌}
 use Rattle.bsdl.specs.Judging.{fault, device_or_refusal}
 use Rattle.bsdl.specs.View.{Tells, refusal}
 use Rattle.bsdl.specs.declared.fault.BsdlFault.{BsdlFault}

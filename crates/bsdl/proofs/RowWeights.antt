@@ -4,11 +4,11 @@ use Rattle.std.specs.Prelude.{Option, Some, None, codes}
 use Rattle.std.proofs.lemmas.List.{length-append, length-map, length-reverse}
 use Rattle.std.specs.Char.{to_ascii_uppercase}
 use Rattle.bsdl_device.specs.Device.{Pattern}
-use Rattle.bsdl_lex.specs.Cutting.{Lexeme}
+use Rattle.bsdl_text.specs.Cutting.{Lexeme}
 use Rattle.bsdl_text.specs.Words.{upper}
 use Rattle.bsdl_text.specs.Marks.{comma, opening, closing}
 use Rattle.bsdl_text.specs.Reading.{Read, fits, mark, number, one, stands, word, separated, is_over}
-use Rattle.bsdl_instructions.specs.Values.{AccessRow, Instr, OpcodeRow, access_row, are_digits, begins, bit, bracketed, digits_on, instr, is_public, opcode_row, pattern, pattern_of, private_name, register_len, rows}
+use Rattle.bsdl_values.specs.InstructionValues.{AccessRow, Instr, OpcodeRow, access_row, are_digits, begins, bit, bracketed, digits_on, instr, is_public, opcode_row, pattern, pattern_of, private_name, register_len, rows}
 use Rattle.bsdl.specs.Small.{total}
 use Rattle.bsdl.proofs.Weights.{Weighs, bind, choose, dropped, heft, keyword_weighs, listed_weighs, one_weighs, size}
 

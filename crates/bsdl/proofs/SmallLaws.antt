@@ -5,23 +5,24 @@ use Rattle.std.specs.List.{AllByRecursion, flat_map, range_with_len}
 use Rattle.std.proofs.lemmas.List.{length-append, length-map}
 use Rattle.bsdl_device.specs.Device.{Device, Name, PortBit}
 use Rattle.bsdl_device.specs.declared.Place.{Place}
-use Rattle.bsdl_lex.specs.Cutting.{Lexeme, bad_place, cuts_of, tokens}
+use Rattle.bsdl_text.specs.Cutting.{Lexeme, bad_place, cuts_of, tokens}
 use Rattle.bsdl_text.specs.Reading.{Read, fits, misfit}
 use Rattle.bsdl_text.specs.Words.{upper}
 use Rattle.bsdl_ports.specs.Ports.{Port, Range}
-use Rattle.bsdl_instructions.specs.Values.{AccessRow, Instr, OpcodeRow}
+use Rattle.bsdl_values.specs.InstructionValues.{AccessRow, Instr, OpcodeRow}
 use Rattle.bsdl_values.specs.declared.Attribute.{Attribute}
 use Rattle.bsdl_values.specs.declared.Attribute.TheVariants.{InstructionLength, BoundaryLength, InstructionOpcode, InstructionCapture, BoundaryRegister, InstructionPrivate, RegisterAccess}
 use Rattle.bsdl_values.specs.Values.{Value, absent, accesses_value, cells_value, codes_value, count, names_value, opcodes_value, pattern_value, port}
 use Rattle.bsdl_entity.specs.Entity.{File, Given, file}
-use Rattle.bsdl_givings.specs.Givings.{as_accesses, as_cells, as_count, as_names, as_opcodes, as_pattern, is_attribute, value_given}
-use Rattle.bsdl_described.specs.Describing.{Description, Refusal, described, taps_given, too_large, ◌>>?◌}
-use Rattle.bsdl_own_instructions.specs.Own.{is_among, is_own, own_accesses, with_own}
+use Rattle.bsdl_description.specs.FirstValues.{as_accesses, as_cells, as_count, as_names, as_opcodes, as_pattern, is_attribute, value_given}
+use Rattle.bsdl_description.specs.Describing.{Description, Refusal, described, taps_given, too_large, ◌>>?◌}
+use Rattle.bsdl_opcodes.specs.Own.{is_own, own_accesses, with_own}
+use Rattle.bsdl_text.specs.Words.{is_among}
 use Rattle.bsdl_opcodes.specs.ResetOpcode.{opcode}
-use Rattle.bsdl_limits.specs.Users.{users_of}
+use Rattle.bsdl_opcodes.specs.Users.{users_of}
 use Rattle.bsdl_opcodes.specs.Accesses.{access, accesses_of_row}
-use Rattle.bsdl_boundary.specs.Boundary.{port_bits}
-use Rattle.bsdl_built.specs.Built.{device}
+use Rattle.bsdl_build.specs.Boundary.{port_bits}
+use Rattle.bsdl_build.specs.Built.{device}
 use Rattle.bsdl.specs.Form.{read_form, text_form, text_limit, tokens_form}
 use Rattle.bsdl.specs.Judging.{fault, file_says, device_or_refusal, text_says}
 use Rattle.bsdl.specs.Small.{IsSmallDevice, access_size, opcode_size, total}

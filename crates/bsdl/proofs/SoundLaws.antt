@@ -8,16 +8,16 @@ use Rattle.std.proofs.lemmas.List.{length-append, length-map}
 use Rattle.bsdl_device.specs.Device.{Access, Device, Name, Pattern}
 use Rattle.bsdl_device.specs.declared.Place.TheVariants.{AtUser}
 use Rattle.bsdl_device.specs.Sound.{HasBitIfGiven, IsSoundAccess, IsSoundAt, IsSoundDevice, user_length}
-use Rattle.bsdl_instructions.specs.Values.{AccessRow, Instr}
+use Rattle.bsdl_values.specs.InstructionValues.{AccessRow, Instr}
 use Rattle.bsdl_entity.specs.Entity.{File}
-use Rattle.bsdl_described.specs.Describing.{Description, Refusal, bad_length, described, ◌>>?◌}
-use Rattle.bsdl_fit.specs.Fits.{rows_numbered}
-use Rattle.bsdl_lengths.specs.Lengths.{access_fits, agree, patterns_captured, captures_fit, codes_fit, has_bits, has_len, instructions_fit, is_empty, lengths_fit, row_len}
-use Rattle.bsdl_limits.specs.Users.{is_other, user_number, users_of}
-use Rattle.bsdl_twice.specs.Twice.{given_again}
+use Rattle.bsdl_description.specs.Describing.{Description, Refusal, bad_length, described, ◌>>?◌}
+use Rattle.bsdl_rules.specs.Fits.{rows_numbered}
+use Rattle.bsdl_rules.specs.Lengths.{access_fits, agree, patterns_captured, captures_fit, codes_fit, has_bits, has_len, instructions_fit, is_empty, lengths_fit, row_len}
+use Rattle.bsdl_opcodes.specs.Users.{is_other, user_number, users_of}
+use Rattle.bsdl_rules.specs.Twice.{given_again}
 use Rattle.bsdl_opcodes.specs.Accesses.{access, accesses_of_row, public_place}
-use Rattle.bsdl_boundary.specs.Boundary.{cell, cells_of}
-use Rattle.bsdl_built.specs.Built.{device}
+use Rattle.bsdl_build.specs.Boundary.{cell, cells_of}
+use Rattle.bsdl_build.specs.Built.{device}
 use Rattle.bsdl.specs.Form.{text_form}
 use Rattle.bsdl.specs.Judging.{fault, file_says, device_or_refusal, text_says, twice_in, unless}
 use Rattle.bsdl.proofs.OnceLaws.{both, each_cell_once, holds, neither}

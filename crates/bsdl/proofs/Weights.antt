@@ -1,9 +1,10 @@
 -- What reading gives weighs no more than the tokens that it takes, and tokens no more than their text.
+use Rattle.std.specs.Prelude.{⊤}
 use Rattle.std.proofs.Common.{◌≡◌, ◌≤◌, ℕ, zero, suc, ◌+◌, ◌-◌, Bool, true, false, List, [], ◌∷◌, length, drop, refl, ap, arith}
 use Rattle.std.specs.Prelude.{Option, Some, None, if◌then◌else◌}
 use Rattle.std.proofs.lemmas.List.{length-append, length-drop, length-take-le}
-use Rattle.bsdl_lex.specs.Cutting.{Lexeme, bad_place, cuts_of, tokens}
-pub use Rattle.bsdl_lex.proofs.Heft.{heft, size, tokens_weigh}
+use Rattle.bsdl_text.specs.Cutting.{Lexeme, bad_place, cuts_of, tokens}
+pub use Rattle.bsdl_text.proofs.Heft.{heft, size, tokens_weigh}
 use Rattle.bsdl_text.specs.Words.{inner, text_within}
 use Rattle.bsdl_text.specs.Reading.{Read, fits, misfit, ◌>>=◌, chain, complete, further, joined_by, joined_text, keyword, separated, mark, meant, one, quoted_value, refused_at, stands, string}
 use Rattle.bsdl.specs.Small.{total}
@@ -11,7 +12,7 @@ use Rattle.bsdl.specs.Small.{total}
 -- what is read and what stands behind it weigh no more than this
 abbrev pub Weighs : {A : Type 0} → (A → ℕ) → ℕ → Read A → Type 0
 Weighs w n (fits x rest) = w x + size rest ≤ n
-Weighs w n (misfit at) = Unit {0}
+Weighs w n (misfit at) = ⊤
 
 -- ---- one after the other
 

@@ -6,18 +6,18 @@ use Rattle.std.specs.List.{list_all, sum_by}
 use Rattle.std.proofs.lemmas.Bool.Decides.{nat_tests}
 use Rattle.jt_limits.specs.declared.Limits.{Limits}
 use Rattle.jt_limits.specs.Limits.{IsAtMost, subscript_limit}
-use Rattle.bsdl_lex.specs.Cutting.{tokens, bad_place, cuts_of}
+use Rattle.bsdl_text.specs.Cutting.{tokens, bad_place, cuts_of}
 use Rattle.bsdl_device.specs.Device.{Device, Name}
 use Rattle.bsdl_entity.specs.Entity.{File}
 use Rattle.bsdl_ports.specs.Ports.{Port}
-use Rattle.bsdl_described.specs.Describing.{Description, Refusal, described, bad_capture, bad_cell, bad_id, bad_length, too_large, ◌>>?◌}
-use Rattle.bsdl_built.specs.Built.{device}
-use Rattle.bsdl_fit.specs.Fits.{unfit_cell}
-use Rattle.bsdl_lengths.specs.Lengths.{captures_one, ends_in_one, lengths_fit}
-use Rattle.bsdl_limits.specs.Limits.{instructions_fit, cells_fit, port_bits_fit, users_fit, keeps}
-use Rattle.bsdl_limits.specs.PortBits.{highest, width}
-use Rattle.bsdl_limits.specs.Users.{users_of}
-use Rattle.bsdl_twice.specs.Twice.{given_again}
+use Rattle.bsdl_description.specs.Describing.{Description, Refusal, described, bad_capture, bad_cell, bad_id, bad_length, too_large, ◌>>?◌}
+use Rattle.bsdl_build.specs.Built.{device}
+use Rattle.bsdl_rules.specs.Fits.{unfit_cell}
+use Rattle.bsdl_rules.specs.Lengths.{captures_one, ends_in_one, lengths_fit}
+use Rattle.bsdl_rules.specs.Limits.{instructions_fit, cells_fit, port_bits_fit, users_fit, keeps}
+use Rattle.bsdl_ports.specs.PortBits.{highest, width}
+use Rattle.bsdl_opcodes.specs.Users.{users_of}
+use Rattle.bsdl_rules.specs.Twice.{given_again}
 use Rattle.bsdl.specs.Form.{tokens_form, text_form_within}
 use Rattle.bsdl.specs.Judging.{twice_in, unless, fault_within, device_or_refusal, file_says_within, text_says_within}
 use Rattle.bsdl.specs.Within.{DescribedWithin, SaidIsWithin, WhatLiesWithinIsSaid, LargerLimitsSayMore}

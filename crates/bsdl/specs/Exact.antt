@@ -1,5 +1,6 @@
 -- Every list that a register takes has that register's length. What the instruction register and the codes take stands
 -- with the limits; here is what user registers take (IEEE Std 1149.1-2001, Annex B.8.13).
+use Rattle.std.specs.Prelude.{⊤}
 use Rattle.std.specs.Prelude.{ℕ, ◌<◌, Bool, List, Option, Some, None, slice_get}
 use Rattle.std.specs.List.{AllByRecursion}
 use Rattle.bsdl_device.specs.declared.Place.{Place}
@@ -14,9 +15,9 @@ Takes (Some n) captures = (0 < n) × HasLengthIfGiven n captures
 
 abbrev pub IsExactAt : List ℕ → Place → Option (List Bool) → Type 0
 IsExactAt users (AtUser k) captures = Takes (slice_get users k) captures
-IsExactAt users AtBypass captures = Unit {0}
-IsExactAt users AtBoundary captures = Unit {0}
-IsExactAt users AtDeviceId captures = Unit {0}
+IsExactAt users AtBypass captures = ⊤
+IsExactAt users AtBoundary captures = ⊤
+IsExactAt users AtDeviceId captures = ⊤
 
 abbrev pub IsExactAccess : List ℕ → Access → Type 0
 IsExactAccess users a = IsExactAt users a.place a.captures

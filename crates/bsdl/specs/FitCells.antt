@@ -1,4 +1,5 @@
 -- Which cells fit their device, by its port bits and cells alone (IEEE Std 1149.1-2001, Annex B.8.14).
+use Rattle.std.specs.Prelude.{⊤}
 use Rattle.std.specs.Prelude.{◌≡◌, ◌⊎◌, ℕ, true, false, List, slice_get, Option, Some, None}
 use Rattle.bsdl_device.specs.Device.{Device, PortBit}
 use Rattle.bsdl_device.specs.Driving.{drives}
@@ -6,7 +7,7 @@ use Rattle.bsdl_device.specs.declared.Cell.{Cell}
 use Rattle.bsdl_device.specs.declared.Control3.{Control3}
 use Rattle.bsdl_device.specs.declared.Function.{Function}
 use Rattle.bsdl_device.specs.declared.Function.TheVariants.{Bidir, Output2, Output3, Control, ControlR, Internal}
-use Rattle.bsdl_cell_maps.specs.Controls.{is_control}
+use Rattle.bsdl_lookup.specs.Controls.{is_control}
 
 -- the port bit of this number is there, and is none of the TAP's
 abbrev pub IsPin : List PortBit → ℕ → Type 0
@@ -34,7 +35,7 @@ ControlFits cells k Output3 None = ⊥
 ControlFits cells k Output3 (Some c) = IsControlCell cells c.cell
 ControlFits cells k Bidir None = ⊥
 ControlFits cells k Bidir (Some c) = IsControlCell cells c.cell
-ControlFits cells k Output2 None = Unit {0}
+ControlFits cells k Output2 None = ⊤
 ControlFits cells k Output2 (Some c) = (c.cell ≡ k) ⊎ IsControlCell cells c.cell
 ControlFits cells k _ control = control ≡ None
 

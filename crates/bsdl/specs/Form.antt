@@ -3,10 +3,10 @@
 use Rattle.std.specs.Prelude.{ℕ, false, nat_lt, if◌then◌else◌, List, length, Option, Some, None, Result, Ok, Err}
 use Rattle.jt_limits.specs.declared.Limits.{Limits}
 use Rattle.jt_limits.specs.Limits.{limits}
-use Rattle.bsdl_lex.specs.Cutting.{Lexeme, tokens, bad_place, cuts_of}
+use Rattle.bsdl_text.specs.Cutting.{Lexeme, tokens, bad_place, cuts_of}
 use Rattle.bsdl_text.specs.Reading.{Read, fits, misfit}
 use Rattle.bsdl_entity.specs.Entity.{File, file}
-use Rattle.bsdl_described.specs.Describing.{Refusal, bad_token, bad_form, too_large}
+use Rattle.bsdl_description.specs.Describing.{Refusal, bad_token, bad_form, too_large}
 
 -- what does not fit stands at a place, or at the end of a text of this size
 abbrev pub at_misfit : ℕ → Option ℕ → Refusal

@@ -8,15 +8,15 @@ use Rattle.jt_limits.specs.Limits.{limits}
 use Rattle.bsdl.specs.Form.{text_form_within}
 use Rattle.bsdl_device.specs.Device.{Device}
 use Rattle.bsdl_entity.specs.Entity.{File}
-use Rattle.bsdl_built.specs.Built.{device}
+use Rattle.bsdl_build.specs.Built.{device}
 use Rattle.bsdl_opcodes.specs.ResetOpcode.{opcode, resets_to_idcode}
-use Rattle.bsdl_namings.specs.Namings.{Naming}
-use Rattle.bsdl_twice.specs.Twice.{given_again}
-use Rattle.bsdl_lengths.specs.Lengths.{captures_one, ends_in_one, lengths_fit}
-use Rattle.bsdl_fit.specs.Fits.{unfit_cell}
-use Rattle.bsdl_limits.specs.Limits.{keeps}
-use Rattle.bsdl_described.specs.Describing.{Refusal, twice, bad_length, bad_capture, bad_id, bad_cell, too_large}
-use Rattle.bsdl_described.specs.Describing.{Description, described, ◌>>?◌}
+use Rattle.bsdl_rules.specs.Namings.{Naming}
+use Rattle.bsdl_rules.specs.Twice.{given_again}
+use Rattle.bsdl_rules.specs.Lengths.{captures_one, ends_in_one, lengths_fit}
+use Rattle.bsdl_rules.specs.Fits.{unfit_cell}
+use Rattle.bsdl_rules.specs.Limits.{keeps}
+use Rattle.bsdl_description.specs.Describing.{Refusal, twice, bad_length, bad_capture, bad_id, bad_cell, too_large}
+use Rattle.bsdl_description.specs.Describing.{Description, described, ◌>>?◌}
 
 -- ---- given twice
 

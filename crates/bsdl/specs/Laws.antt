@@ -6,9 +6,10 @@ use Rattle.bsdl_device.specs.Device.{Device, Name}
 use Rattle.bsdl_device.specs.Ports as found
 use Rattle.bsdl_device.specs.Sound.{IsSoundDevice}
 use Rattle.bsdl_ports.specs.Ports.{Port}
-use Rattle.bsdl_limits.specs.PortBits as declared
-use Rattle.bsdl_described.specs.Describing.{Description}
-use Rattle.bsdl_boundary.specs.Boundary.{port_bits}
+use Rattle.bsdl_ports.specs.PortBits as declared
+use Rattle.bsdl_lookup.specs.PortNumbers as port_numbers
+use Rattle.bsdl_description.specs.Describing.{Description}
+use Rattle.bsdl_build.specs.Boundary.{port_bits}
 use Rattle.bsdl.specs.Judging.{text_says}
 use Rattle.bsdl.specs.Exact.{IsExactDevice}
 use Rattle.bsdl.specs.FitCells.{HasFitCells}
@@ -35,7 +36,7 @@ EveryDeviceIsSmall = (text : List ℕ) (d : Device) → text_says text ≡ Ok d 
 -- the number that a cell's row has for its port bit is that by which a pin finds it
 abbrev pub PinsFindTheBitsOfRows : Type 0
 PinsFindTheBitsOfRows = (taps : List Name) (ps : List Port) (x : List ℕ) (i : Option ℕ) (k : ℕ)
-    → declared.bit_number 0 ps (record { name = upper x; index = i }) ≡ Some k
+    → port_numbers.bit_number 0 ps (record { name = upper x; index = i }) ≡ Some k
     → found.bit_number x i (flat_map (port_bits taps) ps) ≡ Some k
 
 -- in every device that a text says, each cell is as its row describes it, and has the port that its row names

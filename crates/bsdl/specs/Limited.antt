@@ -1,5 +1,6 @@
 -- What no text can pass, whatever numbers it names. The lists that are left out here, the text bounds: names, how many
 -- patterns an instruction has, private names, and own instructions with what they capture.
+use Rattle.std.specs.Prelude.{⊤}
 use Rattle.std.specs.Prelude.{◌≡◌, ℕ, ◌≤◌, Bool, List, length, Option, Some, None}
 use Rattle.std.specs.List.{AllByRecursion}
 use Rattle.jt_limits.specs.Limits.{limits, subscript_limit}
@@ -7,7 +8,7 @@ use Rattle.bsdl_device.specs.Device.{Device, Opcode}
 
 -- a list of bits that is not left out has this length
 abbrev pub HasLengthIfGiven : ℕ → Option (List Bool) → Type 0
-HasLengthIfGiven n None = Unit {0}
+HasLengthIfGiven n None = ⊤
 HasLengthIfGiven n (Some bits) = length bits ≡ n
 
 -- each pattern of an instruction is as long as the instruction register
@@ -16,7 +17,7 @@ HasPatternsOf n o = AllByRecursion (λ p. length p ≡ n) o.patterns
 
 -- an index that is not left out is at most this
 abbrev pub IsIndexWithin : ℕ → Option ℕ → Type 0
-IsIndexWithin most None = Unit {0}
+IsIndexWithin most None = ⊤
 IsIndexWithin most (Some index) = index ≤ most
 
 pub record IsLimitedDevice (d : Device) : Type 0 where

@@ -7,9 +7,9 @@ use Rattle.bsdl_device.specs.Device.{Device, PortBit}
 use Rattle.bsdl_device.specs.Driving.{drives}
 use Rattle.bsdl_device.specs.Ports.{bit_number}
 use Rattle.bsdl_device.specs.declared.Cell.{Cell}
-use Rattle.bsdl_cells.specs.Rows.{CellRow, PortName}
-use Rattle.bsdl_described.specs.Describing.{Description, Refusal, described, ◌>>?◌}
-use Rattle.bsdl_fit.specs.Fits.{rows_numbered}
+use Rattle.bsdl_values.specs.CellRows.{CellRow, PortName}
+use Rattle.bsdl_description.specs.Describing.{Description, Refusal, described, ◌>>?◌}
+use Rattle.bsdl_rules.specs.Fits.{rows_numbered}
 use Rattle.bsdl.specs.Form.{text_form}
 
 -- what a text describes, before it is judged

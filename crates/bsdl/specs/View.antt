@@ -7,10 +7,10 @@ use Rattle.bsdl.specs.declared.fault.BsdlFault.TheVariants.{BadId, BadCell, TooL
 use Rattle.bsdl_entity.specs.declared.entity.Outline.{Outline}
 use Rattle.bsdl_entity.specs.Entity.{File}
 use Rattle.bsdl_entity.specs.OutlineView.{outline}
-use Rattle.bsdl_described.specs.declared.description.Description as declared_description
-use Rattle.bsdl_described.specs.Describing.{Refusal, bad_token, bad_form, missing, twice, bad_length, bad_capture}
-use Rattle.bsdl_described.specs.Describing.{bad_id, bad_cell, too_large, Description}
-use Rattle.bsdl_described.specs.View.{description}
+use Rattle.bsdl_description.specs.declared.description.Description as declared_description
+use Rattle.bsdl_description.specs.Describing.{Refusal, bad_token, bad_form, missing, twice, bad_length, bad_capture}
+use Rattle.bsdl_description.specs.Describing.{bad_id, bad_cell, too_large, Description}
+use Rattle.bsdl_description.specs.View.{description}
 
 -- want of memory is no refusal of the text
 abbrev pub refusal : BsdlFault → Option Refusal

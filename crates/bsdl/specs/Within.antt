@@ -3,8 +3,8 @@ use Rattle.std.specs.Prelude.{◌≡◌, ℕ, ◌≤◌, true, List, length, Res
 use Rattle.jt_limits.specs.declared.Limits.{Limits}
 use Rattle.jt_limits.specs.Limits.{IsAtMost}
 use Rattle.bsdl_device.specs.Device.{Device}
-use Rattle.bsdl_described.specs.Describing.{Description, Refusal, described, ◌>>?◌}
-use Rattle.bsdl_limits.specs.Limits.{keeps}
+use Rattle.bsdl_description.specs.Describing.{Description, Refusal, described, ◌>>?◌}
+use Rattle.bsdl_rules.specs.Limits.{keeps}
 use Rattle.bsdl.specs.Form.{text_form_within}
 use Rattle.bsdl.specs.Judging.{text_says_within}
 

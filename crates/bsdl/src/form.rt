@@ -1,14 +1,14 @@
 //! The entity that a text spells, and what it describes.
 ghost use Rattle.bsdl.specs.Form.{text_form};
 ghost use Rattle.bsdl.specs.View.{TellsDescription, TellsForm};
-ghost use Rattle.bsdl_described.specs.Describing.{described};
+ghost use Rattle.bsdl_description.specs.Describing.{described};
 ghost use Rattle.bsdl_entity.specs.OutlineView.{outline};
 
 use crate::fault::BsdlFault;
-use bsdl_described::description::{Description, describe};
+use bsdl_description::description::{Description, describe};
 use bsdl_entity::entity::{Outline, read_entity};
-use bsdl_lex::{Lexer, bad_byte};
 use bsdl_text::reading::Stop;
+use bsdl_text::{Lexer, bad_byte};
 use jt_limits::LIMITS;
 use std::alloc::Global;
 

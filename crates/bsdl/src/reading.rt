@@ -1,14 +1,14 @@
 //! Reading a description: the device that it says, or its first refusal.
 ghost use Rattle.bsdl.specs.Judging.{device_or_refusal, fault, file_says, text_says};
 ghost use Rattle.bsdl.specs.View.{Tells};
-ghost use Rattle.bsdl_described.specs.View.{description};
+ghost use Rattle.bsdl_description.specs.View.{description};
 ghost use Rattle.bsdl_entity.specs.OutlineView.{outline};
 
 use crate::fault::BsdlFault;
 use crate::form::{description_of, outline_of};
 use crate::judge::judge_ports;
-use bsdl_built::device::device_by_key;
-use bsdl_described::description::Description;
+use bsdl_build::device::device_by_key;
+use bsdl_description::description::Description;
 use bsdl_device::Device;
 use bsdl_entity::entity::Outline;
 use std::alloc::Global;

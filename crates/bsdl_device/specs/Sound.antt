@@ -1,5 +1,6 @@
 -- Every register that an instruction can select has at least one bit, and so has what it captures (IEEE Std
 -- 1149.1-2001, clauses 7 to 12, ask for that and more of every component).
+use Rattle.std.specs.Prelude.{⊤}
 use Rattle.std.specs.Prelude.{Bool, ℕ, zero, suc, ◌<◌, List, [], ◌∷◌, length, Option, Some, None}
 use Rattle.std.specs.List.{AllByRecursion}
 use Rattle.bsdl_device.specs.declared.Place.{Place}
@@ -8,7 +9,7 @@ use Rattle.bsdl_device.specs.Device.{Access, Device}
 
 -- a list of bits that is not left out has a bit
 abbrev pub HasBitIfGiven : Option (List Bool) → Type 0
-HasBitIfGiven None = Unit {0}
+HasBitIfGiven None = ⊤
 HasBitIfGiven (Some bits) = 0 < length bits
 
 -- the length of the k-th user register, 0 where there is none
@@ -20,9 +21,9 @@ user_length (suc k) (n ∷ ns) = user_length k ns
 -- An own instruction that selects a user register selects one of at least one bit, and what it captures has one.
 abbrev pub IsSoundAt : List ℕ → Place → Option (List Bool) → Type 0
 IsSoundAt users (AtUser k) captures = (0 < user_length k users) × HasBitIfGiven captures
-IsSoundAt users AtBypass captures = Unit {0}
-IsSoundAt users AtBoundary captures = Unit {0}
-IsSoundAt users AtDeviceId captures = Unit {0}
+IsSoundAt users AtBypass captures = ⊤
+IsSoundAt users AtBoundary captures = ⊤
+IsSoundAt users AtDeviceId captures = ⊤
 
 abbrev pub IsSoundAccess : List ℕ → Access → Type 0
 IsSoundAccess users a = IsSoundAt users a.place a.captures

@@ -2,10 +2,10 @@
 use Rattle.std.proofs.Common.{◌≡◌, ℕ, zero, suc, ◌≤◌, ◌<◌, Bool, true, false, List, [], ◌∷◌, ◌++◌, length, refl, sym, ap, ◌∙◌, Option, None, Some, arith}
 use Rattle.std.proofs.lemmas.List.{append-nil}
 use Rattle.std.specs.Prelude.{codes}
-use Rattle.bsdl_lex.specs.Cutting.{Lexeme}
+use Rattle.bsdl_text.specs.Cutting.{Lexeme}
 use Rattle.bsdl_text.specs.Reading.{Read, fits, misfit, ◌>>=◌, refused_at}
 use Rattle.bsdl_text.proofs.ListLaws.{prepend, prepend-prepend}
-use Rattle.bsdl_instructions.specs.Values.{begins}
+use Rattle.bsdl_values.specs.InstructionValues.{begins}
 use Rattle.bsdl_entity.specs.Entity.{Given, and_given, item, items}
 
 -- none or one

@@ -2,14 +2,14 @@
 -- B.8.8).
 use Rattle.std.specs.Prelude.{ℕ, zero, suc, Bool, true, false, ◌&&◌, ◌||◌, not, if◌then◌else◌, List, [], ◌∷◌, length}
 use Rattle.std.specs.Prelude.{drop, codes, Option, Some, None}
-use Rattle.bsdl_lex.specs.Cutting.{Lexeme}
+use Rattle.bsdl_text.specs.Cutting.{Lexeme}
 use Rattle.bsdl_text.specs.Words.{upper}
 use Rattle.bsdl_text.specs.Reading.{Read, fits, misfit, ◌>>=◌, refused_at, word, mark}
 use Rattle.bsdl_text.specs.Marks.{semi, colon}
 use Rattle.bsdl_device.specs.Device.{Name}
-use Rattle.bsdl_instructions.specs.Values.{begins}
+use Rattle.bsdl_values.specs.InstructionValues.{begins}
 use Rattle.bsdl_ports.specs.Keywords.{this_word}
-use Rattle.bsdl_scalars.specs.Scalars.{is_scalar}
+use Rattle.bsdl_ports.specs.Scalars.{is_scalar}
 use Rattle.bsdl_ports.specs.Ports.{Port, ports}
 use Rattle.bsdl_values.specs.declared.Attribute.{Attribute}
 use Rattle.bsdl_values.specs.declared.Attribute.TheVariants.{TapScanIn, TapScanOut, TapScanMode, TapScanClock}

@@ -1,19 +1,19 @@
 //! A whole description.
 ghost use Rattle.std.specs.Prelude.{◌≡◌, ◌≤◌, length, map, IfOk, true};
-ghost use Rattle.bsdl_lex.specs.Left.{left};
+ghost use Rattle.bsdl_text.specs.Left.{left};
 ghost use Rattle.bsdl_text.specs.View.{Gives, Passes, StopsAtMisfit};
 ghost use Rattle.bsdl_entity.specs.Entity as spec;
 ghost use Rattle.bsdl_text.specs.Reading.{fits};
 ghost use Rattle.bsdl_entity.specs.GivenView.{given};
 ghost use Rattle.bsdl_entity.specs.OutlineView.{outline};
-ghost use Rattle.bsdl_scalars.specs.Scalars.{is_scalar};
+ghost use Rattle.bsdl_ports.specs.Scalars.{is_scalar};
 ghost use Rattle.bsdl_ports.specs.View.{ports};
 
 use crate::items::{Given, behind_word, items};
 use crate::keywords::{END, ENTITY, IS};
-use bsdl_lex::{Kind, Lexer};
 use bsdl_ports::ports::{Group, read_ports};
 use bsdl_text::reading::{Stop, keyword, mark, word};
+use bsdl_text::{Kind, Lexer};
 use bsdl_values::passing::brackets;
 use std::alloc::Global;
 

@@ -1,7 +1,7 @@
 //! The attributes of an entity.
 ghost use Rattle.std.specs.Prelude.{◌≡◌, ◌<◌, ◌≤◌, ◌||◌, length, map, drop, codes, option_map, is_some, IfOk, IfSome};
-ghost use Rattle.bsdl_instructions.specs.Values.{begins};
-ghost use Rattle.bsdl_lex.specs.Left.{left};
+ghost use Rattle.bsdl_values.specs.InstructionValues.{begins};
+ghost use Rattle.bsdl_text.specs.Left.{left};
 ghost use Rattle.bsdl_text.specs.View.{Gives};
 ghost use Rattle.bsdl_text.specs.WordView.{word_lexeme};
 ghost use Rattle.bsdl_entity.specs.Attributes.{attribute_of};
@@ -9,13 +9,13 @@ ghost use Rattle.bsdl_text.specs.Words.{upper};
 ghost use Rattle.bsdl_values.specs.View.{value as value_view};
 ghost use Rattle.bsdl_entity.specs.Entity as spec;
 ghost use Rattle.bsdl_entity.specs.GivenView as given_view;
-ghost use Rattle.bsdl_scalars.specs.Scalars.{is_scalar};
+ghost use Rattle.bsdl_ports.specs.Scalars.{is_scalar};
 ghost use Rattle.bsdl_ports.specs.View.{ports};
 
 use crate::keywords::{ATTRIBUTE, ATTRIBUTES, IS, OF};
-use bsdl_lex::Lexer;
+use bsdl_ports::asking::Scalars;
 use bsdl_ports::ports::Group;
-use bsdl_scalars::asking::Scalars;
+use bsdl_text::Lexer;
 use bsdl_text::names::Word;
 use bsdl_text::reading::{Stop, keyword, mark, same_name, stands_for, word};
 use bsdl_values::Attribute;

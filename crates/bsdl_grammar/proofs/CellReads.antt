@@ -1,15 +1,15 @@
 -- Rows of cells are read as they are written.
 use Rattle.std.proofs.Common.{◌≡◌, ℕ, Bool, true, false, cond, List, [], ◌∷◌, ◌++◌, Option, Some, None, refl, sym, ap, subst, ◌∙◌, append_assoc}
-use Rattle.bsdl_lex.specs.Cutting.{Lexeme}
+use Rattle.bsdl_text.specs.Cutting.{Lexeme}
 use Rattle.bsdl_text.specs.Words.{upper}
 use Rattle.bsdl_text.specs.Marks.{comma, opening, closing}
 use Rattle.bsdl_text.specs.Reading.{Read, fits, ◌>>=◌, word, mark, stands, number, keyword, whole_number}
 use Rattle.bsdl_device.specs.Device.{Name}
 use Rattle.bsdl_device.specs.declared.Function.{Function}
 use Rattle.bsdl_device.specs.declared.Control3.{Control3}
-use Rattle.bsdl_instructions.specs.Values.{rows}
-use Rattle.bsdl_cells.specs.Keywords.{function_of, disabled_of, safe_of, bit_of}
-use Rattle.bsdl_cells.specs.Rows.{PortName, CellRow, port_index, named_port, cell_port, control, cell_control, cell_row}
+use Rattle.bsdl_values.specs.InstructionValues.{rows}
+use Rattle.bsdl_values.specs.CellKeywords.{function_of, disabled_of, safe_of, bit_of}
+use Rattle.bsdl_values.specs.CellRows.{PortName, CellRow, port_index, named_port, cell_port, control, cell_control, cell_row}
 use Rattle.bsdl_grammar.specs.Lists.{IsMark, IsWord, StandsFor}
 use Rattle.bsdl_grammar.specs.Quoted.{AreRows, IsIndex, IsPort, IsControl, IsCellRow}
 use Rattle.bsdl_grammar.proofs.Steps.{Found, Finds, Reads, AreTokens, Anything, bound, same_read, joined_split, front_tokens, mark_found, mark_is, word_found, keyword_found}

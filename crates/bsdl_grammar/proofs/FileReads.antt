@@ -3,14 +3,14 @@ use Rattle.std.proofs.Common.{◌≡◌, ℕ, ◌≤◌, Bool, true, false, cond
 use Rattle.std.specs.Prelude.{codes, drop}
 use Rattle.std.specs.List.{AllByRecursion}
 use Rattle.std.proofs.lemmas.List.{length-append}
-use Rattle.bsdl_lex.specs.Bytes.{begins_word}
-use Rattle.bsdl_lex.specs.Cutting.{Lexeme, tokens}
+use Rattle.bsdl_text.specs.Bytes.{begins_word}
+use Rattle.bsdl_text.specs.Cutting.{Lexeme, tokens}
 use Rattle.bsdl_text.specs.Marks.{semi}
 use Rattle.bsdl_text.specs.Reading.{Read, fits, misfit, ◌>>=◌, word, mark, is_word_kind}
-use Rattle.bsdl_instructions.specs.Values.{begins}
+use Rattle.bsdl_values.specs.InstructionValues.{begins}
 use Rattle.bsdl_ports.specs.Keywords.{this_word}
 use Rattle.bsdl_ports.specs.Ports.{Port, ports}
-use Rattle.bsdl_scalars.specs.Scalars.{is_scalar}
+use Rattle.bsdl_ports.specs.Scalars.{is_scalar}
 use Rattle.bsdl_values.specs.Passing.{brackets}
 use Rattle.bsdl_entity.specs.Entity.{Given, items, File, generic, any_word, end_of_text, ending, heading, file}
 use Rattle.bsdl_grammar.specs.Lists.{IsMark, IsWord, IsToken, Spells}

@@ -1,12 +1,12 @@
 -- The rows of the attributes of instructions are read as they are written.
 use Rattle.std.proofs.Common.{◌≡◌, ℕ, Bool, true, false, cond, List, [], ◌∷◌, ◌++◌, Option, Some, None, refl, sym, ap, subst, ◌∙◌, append_assoc}
 use Rattle.std.specs.Prelude.{codes, drop}
-use Rattle.bsdl_lex.specs.Cutting.{Lexeme}
+use Rattle.bsdl_text.specs.Cutting.{Lexeme}
 use Rattle.bsdl_text.specs.Words.{upper, same_name}
 use Rattle.bsdl_text.specs.Marks.{comma, opening, closing}
 use Rattle.bsdl_text.specs.Reading.{Read, fits, ◌>>=◌, refused_at, word, mark, stands, number, whole_number}
 use Rattle.bsdl_device.specs.Device.{Name, Pattern}
-use Rattle.bsdl_instructions.specs.Values.{rows, bracketed, pattern, opcode_row, private_name, Instr, instr, begins, AccessRow, access_row, is_public, register_len}
+use Rattle.bsdl_values.specs.InstructionValues.{rows, bracketed, pattern, opcode_row, private_name, Instr, instr, begins, AccessRow, access_row, is_public, register_len}
 use Rattle.bsdl_grammar.specs.Lists.{IsMark, IsWord}
 use Rattle.bsdl_grammar.specs.Quoted.{AreRows, IsPattern, IsOpcodeRow, IsPrivateName, IsCapture, IsInstr, IsLength, IsAccessRow}
 use Rattle.bsdl_grammar.proofs.Steps.{Found, Finds, Reads, AreTokens, Anything, bound, same_read, joined_split, back_tokens, mark_found, mark_is, word_found, keyword_found}

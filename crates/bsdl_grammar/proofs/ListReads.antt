@@ -1,7 +1,7 @@
 -- Lists with separators are read as they are written.
 use Rattle.std.proofs.Common.{◌≡◌, ℕ, zero, suc, ◌≤◌, Bool, true, false, cond, List, [], ◌∷◌, ◌++◌, length, refl, sym, ap, subst, ◌∙◌, append_assoc, inl, inr, arith}
 use Rattle.std.proofs.lemmas.List.{length-append}
-use Rattle.bsdl_lex.specs.Cutting.{Lexeme}
+use Rattle.bsdl_text.specs.Cutting.{Lexeme}
 use Rattle.bsdl_text.specs.Reading.{Read, fits, ◌>>=◌, mark, stands, chain, joined_by, further, separated, refused_at}
 use Rattle.bsdl_grammar.specs.Lists.{IsMark, IsNothing, IsMarkOrNothing, AreMore, AreListed, IsChain, IsList}
 use Rattle.bsdl_grammar.proofs.Steps.{Found, Finds, Reads, AreTokens, bound, same_read, joined_split, front_tokens, back_tokens, mark_found, mark_is}

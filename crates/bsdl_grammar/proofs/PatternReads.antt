@@ -1,12 +1,13 @@
 -- Rows within quotes, and their patterns, are read as they are written.
+use Rattle.std.specs.Prelude.{⊤}
 use Rattle.std.proofs.Common.{◌≡◌, ℕ, Bool, true, false, cond, List, [], ◌∷◌, ◌++◌, refl, sym, ap, subst, ◌∙◌, append_assoc}
 use Rattle.std.specs.List.{flat_map, list_all, AllByRecursion}
 use Rattle.std.proofs.lemmas.List.{append-nil}
-use Rattle.bsdl_lex.specs.Cutting.{Lexeme}
+use Rattle.bsdl_text.specs.Cutting.{Lexeme}
 use Rattle.bsdl_text.specs.Marks.{comma, opening, closing}
 use Rattle.bsdl_text.specs.Reading.{Read, fits, ◌>>=◌, one, mark, stands, is_over, is_mark_of, separated}
 use Rattle.bsdl_device.specs.Device.{Pattern}
-use Rattle.bsdl_instructions.specs.Values.{rows, bracketed, is_digit, are_digits, digits_on, pattern, pattern_of}
+use Rattle.bsdl_values.specs.InstructionValues.{rows, bracketed, is_digit, are_digits, digits_on, pattern, pattern_of}
 use Rattle.bsdl_grammar.specs.Lists.{IsMark}
 use Rattle.bsdl_grammar.specs.Quoted.{AreRows, AreBracketed, IsDigits, IsPattern}
 use Rattle.bsdl_grammar.proofs.Steps.{Found, Finds, Reads, AreTokens, Anything, bound, same_read, joined_split, front_tokens, one_found, mark_found, mark_is, is_mark}
@@ -103,7 +104,7 @@ digits_found (t ∷ ts) ds rest e = digits_by t ts (are_digits t) ds rest refl e
 
 -- tokens that do not begin with digits
 abbrev pub NoDigits : List Lexeme → Type 0
-NoDigits [] = Unit {0}
+NoDigits [] = ⊤
 NoDigits (t ∷ ts) = are_digits t ≡ false
 
 digits_end : (rest : List Lexeme) → NoDigits rest → digits_on rest ≡ fits [] rest

@@ -2,8 +2,8 @@
 use Rattle.std.proofs.Common.{◌≡◌, ℕ, ◌≤◌, Bool, true, false, cond, nat_le, List, [], ◌∷◌, ◌++◌, map, Option, Some, None, refl, sym, ap, subst, ◌∙◌, append_assoc, arith}
 use Rattle.std.specs.Prelude.{codes, min, max, bytes_eq}
 use Rattle.std.proofs.lemmas.Bool.Decides.{nat_tests}
-use Rattle.bsdl_lex.specs.Bytes.{begins_word}
-use Rattle.bsdl_lex.specs.Cutting.{Lexeme}
+use Rattle.bsdl_text.specs.Bytes.{begins_word}
+use Rattle.bsdl_text.specs.Cutting.{Lexeme}
 use Rattle.bsdl_text.specs.Marks.{comma, opening, closing, semi, colon}
 use Rattle.bsdl_text.specs.Reading.{Read, fits, ◌>>=◌, word, mark, stands, is_mark_of, keyword, number, whole_number, joined_by, separated}
 use Rattle.bsdl_device.specs.declared.PortMode.{PortMode}

@@ -3,15 +3,15 @@ use Rattle.std.proofs.Common.{◌≡◌, ℕ, ◌≤◌, Bool, true, false, cond
 use Rattle.std.specs.Prelude.{nat_lt, Result, Ok, Err}
 use Rattle.std.proofs.lemmas.Bool.Decides.{nat_tests}
 use Rattle.std.proofs.lemmas.List.{append-nil}
-use Rattle.bsdl_lex.specs.Cutting.{Lexeme, tokens, bad_place, cuts_of}
+use Rattle.bsdl_text.specs.Cutting.{Lexeme, tokens, bad_place, cuts_of}
 use Rattle.bsdl_text.specs.Reading.{Read, fits, misfit}
 use Rattle.bsdl_device.specs.Device.{Device}
-use Rattle.bsdl_instructions.specs.Values.{rows, pattern, opcode_row, private_name, access_row}
-use Rattle.bsdl_cells.specs.Rows.{cell_row}
+use Rattle.bsdl_values.specs.InstructionValues.{rows, pattern, opcode_row, private_name, access_row}
+use Rattle.bsdl_values.specs.CellRows.{cell_row}
 use Rattle.bsdl_values.specs.Values.{value_of}
 use Rattle.bsdl_ports.specs.Ports.{ports}
 use Rattle.bsdl_entity.specs.Entity.{File, file}
-use Rattle.bsdl_described.specs.Describing.{Refusal, too_large, ◌>>?◌}
+use Rattle.bsdl_description.specs.Describing.{Refusal, too_large, ◌>>?◌}
 use Rattle.bsdl.specs.Form.{read_form, tokens_form, text_limit, text_form}
 use Rattle.bsdl.specs.Judging.{file_says, text_says}
 use Rattle.bsdl_grammar.specs.Ports.{IsPorts}

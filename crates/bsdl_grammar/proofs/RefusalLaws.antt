@@ -2,12 +2,12 @@
 use Rattle.std.proofs.Common.{◌≡◌, ℕ, ◌≤◌, ◌<◌, Bool, true, false, List, [], ◌∷◌, ◌++◌, length, map, Option, Some, None, refl, sym, ap, ◌∙◌, inl, inr, ◌⊎◌, arith}
 use Rattle.std.specs.Prelude.{nat_lt, Result, Ok, Err}
 use Rattle.std.proofs.lemmas.Bool.Decides.{nat_tests}
-use Rattle.bsdl_lex.specs.Cutting.{Lexeme, piece, bad, bad_place, cuts_of}
-use Rattle.bsdl_lex.specs.Gaps.{TokensOf, BadAfter}
-use Rattle.bsdl_lex.proofs.Cuttings.{each_is_cut, bad_byte_is_cut}
+use Rattle.bsdl_text.specs.Cutting.{Lexeme, piece, bad, bad_place, cuts_of}
+use Rattle.bsdl_text.specs.Gaps.{TokensOf, BadAfter}
+use Rattle.bsdl_text.proofs.Cuttings.{each_is_cut, bad_byte_is_cut}
 use Rattle.bsdl_text.specs.Reading.{Read, fits, misfit}
 use Rattle.bsdl_entity.specs.Entity.{File, file}
-use Rattle.bsdl_described.specs.Describing.{bad_token, bad_form, too_large}
+use Rattle.bsdl_description.specs.Describing.{bad_token, bad_form, too_large}
 use Rattle.bsdl.specs.Form.{read_form, text_limit, text_form}
 use Rattle.bsdl_grammar.specs.Entity.{IsFile}
 use Rattle.bsdl_grammar.specs.Texts.{SpellsEntity, HasBadByte, SpellsNothing}

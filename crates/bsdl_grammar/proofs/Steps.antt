@@ -1,10 +1,11 @@
 -- Readers one after another, and tokens one by one.
+use Rattle.std.specs.Prelude.{⊤}
 use Rattle.std.proofs.Common.{◌≡◌, ℕ, Bool, true, false, cond, List, [], ◌∷◌, ◌++◌, Option, Some, None, refl, sym, ap, ◌∙◌, append_assoc}
 use Rattle.std.specs.List.{AllByRecursion}
 use Rattle.std.proofs.lemmas.Slice.Eq.{bytes_eq-Decides}
-use Rattle.bsdl_lex.specs.declared.Kind.{Kind}
-use Rattle.bsdl_lex.specs.declared.Kind.TheVariants as kind
-use Rattle.bsdl_lex.specs.Cutting.{Lexeme}
+use Rattle.bsdl_text.specs.declared.tokens.Kind.{Kind}
+use Rattle.bsdl_text.specs.declared.tokens.Kind.TheVariants as kind
+use Rattle.bsdl_text.specs.Cutting.{Lexeme}
 use Rattle.bsdl_text.specs.Words.{same_name}
 use Rattle.bsdl_text.specs.Reading.{Read, fits, misfit, ◌>>=◌, one, word, string, mark, is_mark_of, is_word_kind, is_text_kind, meant, keyword}
 use Rattle.bsdl_ports.specs.Keywords.{is_word, this_word}
@@ -29,7 +30,7 @@ abbrev pub Reads : {A : Type 0} → (List Lexeme → Read A) → (A → List Lex
 Reads {A} r Is Before = (front : List Lexeme) (x : A) (rest : List Lexeme) → Is x front → AreTokens front → Before rest → r (front ++ rest) ≡ fits x rest
 
 abbrev pub Anything : List Lexeme → Type 0
-Anything ts = Unit {0}
+Anything ts = ⊤
 
 pub record Bound {A B : Type 0} (r : Read A) (f : A → List Lexeme → Read B) (y : B) (rest : List Lexeme) : Type 0 where
   pub x : A

@@ -1,10 +1,10 @@
 -- The tokens of a text, and what a text within quotes says.
 use Rattle.std.proofs.Common.{◌≡◌, ℕ, ◌+◌, Bool, true, List, [], ◌∷◌, length, map, Option, Some, None, refl, sym, ap, subst, ◌∙◌}
-use Rattle.bsdl_lex.specs.declared.Kind.{Kind}
-use Rattle.bsdl_lex.specs.declared.Kind.TheVariants as kind
-use Rattle.bsdl_lex.specs.Cutting.{Lexeme, Cut, piece, bad, tokens, bad_place, cuts_of}
-use Rattle.bsdl_lex.specs.Gaps.{Part, white, comment, token, Divides, IsPart, tokens_at, TokensOf}
-use Rattle.bsdl_lex.proofs.Cuttings.{tokens_are_cut}
+use Rattle.bsdl_text.specs.declared.tokens.Kind.{Kind}
+use Rattle.bsdl_text.specs.declared.tokens.Kind.TheVariants as kind
+use Rattle.bsdl_text.specs.Cutting.{Lexeme, Cut, piece, bad, tokens, bad_place, cuts_of}
+use Rattle.bsdl_text.specs.Gaps.{Part, white, comment, token, Divides, IsPart, tokens_at, TokensOf}
+use Rattle.bsdl_text.proofs.Cuttings.{tokens_are_cut}
 use Rattle.bsdl_text.specs.Reading.{Read, fits, misfit, complete, quoted_value}
 use Rattle.bsdl_grammar.specs.Lists.{IsToken}
 use Rattle.bsdl_grammar.specs.Quoted.{SpellsWithin}

@@ -1,11 +1,11 @@
 -- Values of attributes are read as they are written.
 use Rattle.std.proofs.Common.{◌≡◌, ℕ, false, cond, List, [], ◌∷◌, ◌++◌, Option, Some, None, refl, sym, ap, subst, ◌∙◌}
-use Rattle.bsdl_lex.specs.Cutting.{Lexeme}
+use Rattle.bsdl_text.specs.Cutting.{Lexeme}
 use Rattle.bsdl_text.specs.Words.{text_within}
 use Rattle.bsdl_text.specs.Reading.{Read, fits, ◌>>=◌, string, stands, keyword, number, whole_number, joined_by, joined_text, meant, quoted_value}
 use Rattle.bsdl_device.specs.Device.{Name}
-use Rattle.bsdl_instructions.specs.Values.{rows, pattern, opcode_row, private_name, access_row}
-use Rattle.bsdl_cells.specs.Rows.{cell_row}
+use Rattle.bsdl_values.specs.InstructionValues.{rows, pattern, opcode_row, private_name, access_row}
+use Rattle.bsdl_values.specs.CellRows.{cell_row}
 use Rattle.bsdl_values.specs.declared.Attribute.{Attribute}
 use Rattle.bsdl_values.specs.declared.Attribute.TheVariants.{TapScanIn, TapScanOut, TapScanMode, TapScanClock, TapScanReset, InstructionLength, BoundaryLength, InstructionOpcode, InstructionCapture, BoundaryRegister, IdcodeRegister, UsercodeRegister, InstructionPrivate, RegisterAccess}
 use Rattle.bsdl_values.specs.Keywords.{truth_of}

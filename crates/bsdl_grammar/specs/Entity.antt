@@ -1,10 +1,10 @@
 -- The outer form of a description: its ports and its attributes in order (IEEE Std 1149.1-2001, Annex B.8.1 to B.8.8).
 use Rattle.std.specs.Prelude.{◌≡◌, ℕ, ◌≤◌, ◌⊎◌, Bool, true, List, [], ◌∷◌, ◌++◌, length, codes, Option, None}
 use Rattle.std.specs.List.{AllByRecursion}
-use Rattle.bsdl_lex.specs.Cutting.{Lexeme}
+use Rattle.bsdl_text.specs.Cutting.{Lexeme}
 use Rattle.bsdl_text.specs.Words.{upper}
 use Rattle.bsdl_text.specs.Marks.{semi, colon}
-use Rattle.bsdl_scalars.specs.Scalars.{is_scalar}
+use Rattle.bsdl_ports.specs.Scalars.{is_scalar}
 use Rattle.bsdl_values.specs.declared.Attribute.{Attribute}
 use Rattle.bsdl_values.specs.Values.{Value}
 use Rattle.bsdl_entity.specs.Attributes.{attribute_of}

@@ -1,16 +1,16 @@
 -- Laws over all lists of tokens and all texts, which public functions ensure.
 use Rattle.std.specs.Prelude.{◌≡◌, ℕ, ◌<◌, ◌↔◌, ◌⊎◌, List, [], length, Some, Ok, Err}
 use Rattle.std.specs.List.{AllByRecursion}
-use Rattle.bsdl_lex.specs.Cutting.{Lexeme}
+use Rattle.bsdl_text.specs.Cutting.{Lexeme}
 use Rattle.bsdl_text.specs.Reading.{Read, fits, quoted_value}
 use Rattle.bsdl_device.specs.Device.{Name, Device}
-use Rattle.bsdl_instructions.specs.Values.{rows, pattern, opcode_row, private_name, access_row}
-use Rattle.bsdl_cells.specs.Rows.{cell_row}
+use Rattle.bsdl_values.specs.InstructionValues.{rows, pattern, opcode_row, private_name, access_row}
+use Rattle.bsdl_values.specs.CellRows.{cell_row}
 use Rattle.bsdl_ports.specs.Ports.{ports}
 use Rattle.bsdl_values.specs.declared.Attribute.{Attribute}
 use Rattle.bsdl_values.specs.Values.{value_of}
 use Rattle.bsdl_entity.specs.Entity.{File, file}
-use Rattle.bsdl_described.specs.Describing.{bad_token, bad_form, too_large}
+use Rattle.bsdl_description.specs.Describing.{bad_token, bad_form, too_large}
 use Rattle.bsdl.specs.Form.{text_limit, text_form}
 use Rattle.bsdl.specs.Judging.{text_says}
 use Rattle.bsdl_grammar.specs.Lists.{IsToken}

@@ -1,9 +1,9 @@
 -- Tokens, one by one, and lists of what is written with tokens. All of the tokens belong to it, and nothing reads from
 -- left to right.
 use Rattle.std.specs.Prelude.{◌≡◌, ℕ, ◌⊎◌, true, List, [], ◌∷◌, ◌++◌, Option, Some}
-use Rattle.bsdl_lex.specs.declared.Kind.TheVariants as kind
-use Rattle.bsdl_lex.specs.Bytes.{begins_word}
-use Rattle.bsdl_lex.specs.Cutting.{Lexeme}
+use Rattle.bsdl_text.specs.declared.tokens.Kind.TheVariants as kind
+use Rattle.bsdl_text.specs.Bytes.{begins_word}
+use Rattle.bsdl_text.specs.Cutting.{Lexeme}
 use Rattle.bsdl_text.specs.Words.{same_name}
 
 -- a token that is this mark

@@ -1,6 +1,6 @@
 -- The ports that an entity declares (IEEE Std 1149.1-2001, Annex B.8.3).
 use Rattle.std.specs.Prelude.{◌≡◌, ℕ, ◌≤◌, Bool, true, false, List, [], ◌∷◌, ◌++◌, map, codes, Option, Some, None}
-use Rattle.bsdl_lex.specs.Cutting.{Lexeme}
+use Rattle.bsdl_text.specs.Cutting.{Lexeme}
 use Rattle.bsdl_text.specs.Marks.{comma, opening, closing, semi, colon}
 use Rattle.bsdl_text.specs.Reading.{whole_number}
 use Rattle.bsdl_device.specs.declared.PortMode.{PortMode}

@@ -1,16 +1,16 @@
 -- What stands within the quotes of attributes (IEEE Std 1149.1-2001, Annex B.8.11 to B.8.14).
 use Rattle.std.specs.Prelude.{◌≡◌, ℕ, Bool, true, List, [], ◌∷◌, ◌++◌, codes, Option, Some, None}
 use Rattle.std.specs.List.{flat_map, AllByRecursion}
-use Rattle.bsdl_lex.specs.Cutting.{Lexeme}
-use Rattle.bsdl_lex.specs.Gaps.{TokensOf}
+use Rattle.bsdl_text.specs.Cutting.{Lexeme}
+use Rattle.bsdl_text.specs.Gaps.{TokensOf}
 use Rattle.bsdl_text.specs.Words.{upper, text_within}
 use Rattle.bsdl_text.specs.Marks.{comma, opening, closing}
 use Rattle.bsdl_text.specs.Reading.{whole_number}
 use Rattle.bsdl_device.specs.Device.{Name, Pattern}
 use Rattle.bsdl_device.specs.declared.Control3.{Control3}
-use Rattle.bsdl_instructions.specs.Values.{are_digits, pattern_of, OpcodeRow, Instr, AccessRow, is_public}
-use Rattle.bsdl_cells.specs.Keywords.{function_of, disabled_of, safe_of, bit_of}
-use Rattle.bsdl_cells.specs.Rows.{PortName, CellRow}
+use Rattle.bsdl_values.specs.InstructionValues.{are_digits, pattern_of, OpcodeRow, Instr, AccessRow, is_public}
+use Rattle.bsdl_values.specs.CellKeywords.{function_of, disabled_of, safe_of, bit_of}
+use Rattle.bsdl_values.specs.CellRows.{PortName, CellRow}
 use Rattle.bsdl_grammar.specs.Lists.{IsMark, IsWord, Spells, StandsFor, IsOneString, IsChain, IsList}
 
 -- a text within quotes says this: it is tokens and gaps to its end, and the tokens are so

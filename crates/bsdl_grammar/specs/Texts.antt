@@ -1,7 +1,7 @@
 -- What whole texts spell, and the devices that they describe.
 use Rattle.std.specs.Prelude.{◌≡◌, ℕ, ◌≤◌, false, List, length, Ok}
-use Rattle.bsdl_lex.specs.Cutting.{Lexeme}
-use Rattle.bsdl_lex.specs.Gaps.{TokensOf, BadAfter}
+use Rattle.bsdl_text.specs.Cutting.{Lexeme}
+use Rattle.bsdl_text.specs.Gaps.{TokensOf, BadAfter}
 use Rattle.bsdl_device.specs.Device.{Device}
 use Rattle.bsdl_entity.specs.Entity.{File}
 use Rattle.bsdl.specs.Form.{text_limit}

@@ -1,11 +1,11 @@
 -- The values of attributes (IEEE Std 1149.1-2001, Annex B.8.9 to B.8.14).
 use Rattle.std.specs.Prelude.{◌≡◌, ℕ, Bool, if◌then◌else◌, List, [], ◌∷◌, ◌++◌}
-use Rattle.bsdl_lex.specs.Cutting.{Lexeme}
+use Rattle.bsdl_text.specs.Cutting.{Lexeme}
 use Rattle.bsdl_text.specs.Marks.{opening, closing}
 use Rattle.bsdl_text.specs.Reading.{whole_number}
 use Rattle.bsdl_device.specs.Device.{Name, Pattern}
-use Rattle.bsdl_instructions.specs.Values.{OpcodeRow, AccessRow}
-use Rattle.bsdl_cells.specs.Rows.{CellRow}
+use Rattle.bsdl_values.specs.InstructionValues.{OpcodeRow, AccessRow}
+use Rattle.bsdl_values.specs.CellRows.{CellRow}
 use Rattle.bsdl_values.specs.declared.Attribute.{Attribute}
 use Rattle.bsdl_values.specs.declared.Attribute.TheVariants.{TapScanIn, TapScanOut, TapScanMode, TapScanClock}
 use Rattle.bsdl_values.specs.declared.Attribute.TheVariants.{TapScanReset, InstructionLength, BoundaryLength}

@@ -5,7 +5,7 @@ use Rattle.std.specs.Prelude.{Some, option_map, reverse, slice_get, slice_set, u
 use Rattle.std.proofs.lemmas.Bool.Decides.{nat_tests}
 use Rattle.std.proofs.lemmas.List.{get_or-reverse, length-map, length-reverse, take_more, take_more_set}
 use Rattle.std.proofs.lemmas.Option.{get_or_from_slice_get, slice_get-get_or, slice_get-map}
-use Rattle.bsdl_instructions.specs.Values.{bit}
+use Rattle.bsdl_values.specs.InstructionValues.{bit}
 
 from_right : (ds : List ℕ) (k d : ℕ) → k < length ds → slice_get (reverse (map bit ds)) k ≡ Some (bit (get_or ds (length ds - 1 - k) d))
 from_right ds k d h =

@@ -2,8 +2,8 @@
 use Rattle.std.proofs.Common.{◌≡◌, ℕ, List, [], ◌∷◌, ap, refl, Bor}
 use Rattle.std.specs.Prelude.{Option, Some, None, option_map, slice_get}
 use Rattle.bsdl_device.specs.Device.{Pattern}
-use Rattle.bsdl_instructions.specs.Values.{pattern_of}
-use Rattle.bsdl_instructions.specs.View.{patterns}
+use Rattle.bsdl_values.specs.InstructionValues.{pattern_of}
+use Rattle.bsdl_values.specs.InstructionView.{patterns}
 
 pub first_seen : (found : Option (Bor (List ℕ))) (all : List (List ℕ)) → option_map {U = List ℕ} (λ digits. digits.now) found ≡ slice_get all 0
     → option_map {U = Pattern} (λ digits. pattern_of digits.now) found ≡ slice_get (patterns all) 0

@@ -6,7 +6,7 @@ use Rattle.std.proofs.lemmas.List.{reverse-append}
 use Rattle.std.proofs.lemmas.List.Folds.{list_all-append}
 use Rattle.std.proofs.lemmas.Bool.Decides.{nat_tests}
 use Rattle.bsdl_device.specs.Device.{Pattern}
-use Rattle.bsdl_instructions.specs.Values.{bit}
+use Rattle.bsdl_values.specs.InstructionValues.{bit}
 use Rattle.bsdl_device.specs.Opcodes.{matches, matches_bit, x_as_0}
 
 and_swap : (a b : Bool) → (a && b) ≡ (b && a)

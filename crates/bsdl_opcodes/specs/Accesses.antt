@@ -6,8 +6,8 @@ use Rattle.bsdl_device.specs.Device.{Name, Access}
 use Rattle.bsdl_device.specs.Opcodes.{x_as_0}
 use Rattle.bsdl_device.specs.declared.Place.{Place}
 use Rattle.bsdl_device.specs.declared.Place.TheVariants.{AtBypass, AtBoundary, AtDeviceId, AtUser}
-use Rattle.bsdl_instructions.specs.Values.{AccessRow, Instr}
-use Rattle.bsdl_limits.specs.Users.{user_number}
+use Rattle.bsdl_values.specs.InstructionValues.{AccessRow, Instr}
+use Rattle.bsdl_opcodes.specs.Users.{user_number}
 
 -- a register that is not the device's own
 abbrev pub public_place : Name → Place

@@ -4,7 +4,7 @@ use Rattle.std.specs.Prelude.{option_map, unwrap_or, bytes_eq, codes}
 use Rattle.bsdl_text.specs.Words.{upper}
 use Rattle.bsdl_device.specs.Device.{Opcode}
 use Rattle.bsdl_device.specs.Opcodes.{idcode_opcode, named_instruction, x_as_0}
-use Rattle.bsdl_instructions.specs.Values.{OpcodeRow}
+use Rattle.bsdl_values.specs.InstructionValues.{OpcodeRow}
 
 abbrev pub opcode : OpcodeRow → Opcode
 opcode r = record { name = upper r.name.text; patterns = r.patterns }

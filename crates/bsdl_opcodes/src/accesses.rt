@@ -4,18 +4,18 @@ ghost use Rattle.bsdl_device.specs.Opcodes.{x_as_0 as bits_of_pattern};
 ghost use Rattle.std.specs.Prelude.{OnOk};
 ghost use Rattle.std.specs.List.{flat_map};
 ghost use Rattle.bsdl_text.specs.Words.{upper};
-ghost use Rattle.bsdl_instructions.specs.View as rows_view;
+ghost use Rattle.bsdl_values.specs.InstructionView as rows_view;
 ghost use Rattle.bsdl_device.specs.declared.Place.TheVariants.{AtUser};
-ghost use Rattle.bsdl_limits.specs.Users.{user_number};
-ghost use Rattle.bsdl_limits.specs.View.{Lists};
+ghost use Rattle.bsdl_opcodes.specs.Users.{user_number};
+ghost use Rattle.bsdl_opcodes.specs.UserView.{Lists};
 ghost use Rattle.bsdl_opcodes.specs.Accesses as spec;
 
 use crate::patterns::bits_of;
+use crate::users::Users;
 use bsdl_device::{Access, Place};
-use bsdl_instructions::names::{AccessRow, Instr};
-use bsdl_instructions::patterns::WrittenPattern;
-use bsdl_limits::users::Users;
 use bsdl_text::reading::same_name;
+use bsdl_values::instructions::names::{AccessRow, Instr};
+use bsdl_values::instructions::patterns::WrittenPattern;
 use jt_bits::Bits;
 use std::alloc::{AllocError, Global};
 

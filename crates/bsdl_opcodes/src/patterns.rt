@@ -1,13 +1,13 @@
 //! Patterns and opcodes of a device.
 ghost use Rattle.std.specs.Prelude.{◌≡◌, map, option_map, slice_get, IfOk};
 ghost use Rattle.bsdl_device.specs.Opcodes.{x_as_0 as bits_of_pattern};
-ghost use Rattle.bsdl_instructions.specs.Values.{bit, pattern_of as pattern_of_digits};
-ghost use Rattle.bsdl_instructions.specs.View as rows_view;
+ghost use Rattle.bsdl_values.specs.InstructionValues.{bit, pattern_of as pattern_of_digits};
+ghost use Rattle.bsdl_values.specs.InstructionView as rows_view;
 ghost use Rattle.bsdl_opcodes.specs.ResetOpcode.{opcode};
 
 use bsdl_device::{Names, Opcode, Pattern};
-use bsdl_instructions::names::{OpcodeRow, PrivateName};
-use bsdl_instructions::pattern_lists::Patterns;
+use bsdl_values::instructions::names::{OpcodeRow, PrivateName};
+use bsdl_values::instructions::pattern_lists::Patterns;
 use jt_bits::Bits;
 use std::alloc::{AllocError, Global};
 

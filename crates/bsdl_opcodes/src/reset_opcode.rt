@@ -5,12 +5,12 @@ ghost use Rattle.std.specs.Prelude.{bytes_eq, codes, slice_get, false};
 ghost use Rattle.std.specs.List.{list_all, find};
 ghost use Rattle.bsdl_device.specs.Device as device;
 ghost use Rattle.bsdl_device.specs.Opcodes as opcodes;
-ghost use Rattle.bsdl_instructions.specs.Values.{bit, pattern_of};
-ghost use Rattle.bsdl_instructions.specs.View as rows_view;
+ghost use Rattle.bsdl_values.specs.InstructionValues.{bit, pattern_of};
+ghost use Rattle.bsdl_values.specs.InstructionView as rows_view;
 ghost use Rattle.bsdl_opcodes.specs.ResetOpcode as spec;
 
-use bsdl_instructions::names::OpcodeRow;
 use bsdl_text::reading::same_name;
+use bsdl_values::instructions::names::OpcodeRow;
 
 /// Whether the opcode that a reset loads, if there is one, names IDCODE.
 pub fn resets_to_idcode(rows: &[OpcodeRow<'_>]) -> bool

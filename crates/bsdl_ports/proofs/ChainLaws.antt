@@ -1,7 +1,7 @@
 -- Entries with separators between them, one entry more.
 use Rattle.std.proofs.Common.{◌≡◌, ℕ, zero, suc, ◌≤◌, ◌<◌, true, false, List, [], ◌∷◌, ◌++◌, length, refl, ap, ◌∙◌, Option, arith}
 use Rattle.std.proofs.lemmas.List.{append-nil}
-use Rattle.bsdl_lex.specs.Cutting.{Lexeme}
+use Rattle.bsdl_text.specs.Cutting.{Lexeme}
 use Rattle.bsdl_text.specs.Reading.{Read, fits, misfit, ◌>>=◌, mark, stands, chain, joined_by}
 use Rattle.bsdl_text.proofs.ListLaws.{prepend, prepend-prepend}
 

@@ -1,1 +1,4 @@
 pub mod ChainLaws
+pub mod AskingLaws
+pub mod ScalarLaws
+pub mod PortsNamed

@@ -1,6 +1,6 @@
 -- The words of a port list, in any case (IEEE Std 1149.1-2001, Annex B.8.3).
 use Rattle.std.specs.Prelude.{ℕ, Bool, true, false, List, [], ◌∷◌, codes, Option}
-use Rattle.bsdl_lex.specs.Cutting.{Lexeme}
+use Rattle.bsdl_text.specs.Cutting.{Lexeme}
 use Rattle.bsdl_text.specs.Reading.{Read, keyword}
 use Rattle.bsdl_text.specs.Words.{stands_for}
 use Rattle.bsdl_device.specs.declared.PortMode.{PortMode}

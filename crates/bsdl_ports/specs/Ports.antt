@@ -1,7 +1,7 @@
 -- The ports that an entity declares (IEEE Std 1149.1-2001, Annex B.8.3).
 use Rattle.std.specs.Prelude.{ℕ, nat_le, min, max, Bool, if◌then◌else◌, List, [], ◌∷◌, ◌++◌, map, codes}
 use Rattle.std.specs.Prelude.{Option, Some, None}
-use Rattle.bsdl_lex.specs.Cutting.{Lexeme}
+use Rattle.bsdl_text.specs.Cutting.{Lexeme}
 use Rattle.bsdl_text.specs.Reading.{Read, fits, ◌>>=◌, refused_at, word, mark, stands, keyword, number, joined_by}
 use Rattle.bsdl_text.specs.Reading.{separated}
 use Rattle.bsdl_text.specs.Marks.{comma, opening, closing, semi, colon}

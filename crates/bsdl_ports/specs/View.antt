@@ -1,6 +1,6 @@
 -- What the port lists of the code stand for.
 use Rattle.std.specs.Prelude.{List, map, option_map}
-use Rattle.bsdl_numbers.specs.View.{value as number_value}
+use Rattle.bsdl_text.specs.NumberView.{value as number_value}
 use Rattle.bsdl_text.specs.WordView.{word_lexeme}
 use Rattle.bsdl_ports.specs.declared.ports.Range as declared_range
 use Rattle.bsdl_ports.specs.declared.ports.Group as declared_group

@@ -1,20 +1,19 @@
 //! The ports of an entity.
 ghost use Rattle.std.specs.Prelude.{◌≡◌, ◌<◌, List, length, map, option_map, IfOk};
-ghost use Rattle.bsdl_lex.specs.Left.{left};
+ghost use Rattle.bsdl_text.specs.Left.{left};
 ghost use Rattle.bsdl_text.specs.Reading as reading;
 ghost use Rattle.bsdl_text.specs.View.{Gives, StopsAtMisfit};
-ghost use Rattle.bsdl_numbers.specs.View as number_view;
+ghost use Rattle.bsdl_text.specs.NumberView as number_view;
 ghost use Rattle.bsdl_text.specs.WordView.{word_lexeme};
 ghost use Rattle.bsdl_ports.specs.Ports as spec;
 ghost use Rattle.bsdl_ports.specs.View as view;
 
 use crate::keywords::{DIRECTIONS, KINDS, MODES, PORT};
 use bsdl_device::PortMode;
-use bsdl_lex::Lexer;
-use bsdl_numbers::Digits;
 use bsdl_text::lists::{Entry, listed, room_for_one};
 use bsdl_text::names::Word;
 use bsdl_text::reading::{Stop, keyword, mark, number, stands, word};
+use bsdl_text::{Digits, Lexer};
 use std::alloc::Global;
 use std::cmp::Ordering;
 

@@ -1,7 +1,7 @@
 -- Strings joined by `&`, one string more.
 use Rattle.std.proofs.Common.{◌≡◌, ℕ, zero, suc, ◌≤◌, ◌<◌, true, false, List, [], ◌∷◌, ◌++◌, length, refl, sym, ap, ◌∙◌, Option, arith}
 use Rattle.std.proofs.lemmas.List.{append-nil, append_assoc}
-use Rattle.bsdl_lex.specs.Cutting.{Lexeme}
+use Rattle.bsdl_text.specs.Cutting.{Lexeme}
 use Rattle.bsdl_text.specs.Words.{inner, text_within}
 use Rattle.bsdl_text.specs.Reading.{Read, fits, misfit, ◌>>=◌, string, mark, stands, chain, joined_by}
 use Rattle.bsdl_text.proofs.ListLaws.{prepend, prepend-prepend}

@@ -4,7 +4,7 @@ use Rattle.std.proofs.lemmas.List.{append-nil}
 use Rattle.bsdl_text.specs.declared.reading.Stop.{Stop}
 use Rattle.bsdl_text.specs.declared.reading.Stop.TheVariants as stop
 use Rattle.bsdl_text.specs.View.{Stops}
-use Rattle.bsdl_lex.specs.Cutting.{Lexeme}
+use Rattle.bsdl_text.specs.Cutting.{Lexeme}
 use Rattle.bsdl_text.specs.Reading.{Read, fits, misfit, ◌>>=◌, refused_at, mark, further, separated}
 
 -- a reader that stops where another one does

@@ -1,3 +1,14 @@
+pub mod Alone
+pub mod Ascii
+pub mod Bytes
+pub mod Cutting
+pub mod Gaps
+pub mod TokenLaws
+pub mod Left
+pub mod Plain
+pub mod Scanning
+pub mod Numbers
+pub mod NumberView
 pub mod Laws
 pub mod Marks
 pub mod Reading

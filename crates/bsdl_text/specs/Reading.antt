@@ -4,9 +4,9 @@ use Rattle.std.specs.Prelude.{None, bytes_eq}
 use Rattle.std.specs.List.{list_all}
 use Rattle.std.specs.Char.{is_ascii_digit}
 use Rattle.std.specs.Str.Parse.{digits_value}
-use Rattle.bsdl_lex.specs.declared.Kind.{Kind}
-use Rattle.bsdl_lex.specs.declared.Kind.TheVariants as kind
-use Rattle.bsdl_lex.specs.Cutting.{Lexeme, tokens, bad_place, cuts_of}
+use Rattle.bsdl_text.specs.declared.tokens.Kind.{Kind}
+use Rattle.bsdl_text.specs.declared.tokens.Kind.TheVariants as kind
+use Rattle.bsdl_text.specs.Cutting.{Lexeme, tokens, bad_place, cuts_of}
 use Rattle.bsdl_text.specs.Words.{text_within}
 
 -- what is read at the front of tokens, and the tokens behind it; or where the first token that does not fit stands,

@@ -1,15 +1,15 @@
 -- What a reader of the code answers, beside what the tokens say.
 use Rattle.std.specs.Prelude.{◌≡◌, ⊤, ℕ, Bool, List, Result, Ok, Err, Option, Some, None}
-use Rattle.bsdl_lex.specs.declared.Lexer.{Lexer}
+use Rattle.bsdl_text.specs.declared.tokens.Lexer.{Lexer}
 use Rattle.bsdl_text.specs.declared.reading.Stop.{Stop}
 use Rattle.bsdl_text.specs.declared.reading.Stop.TheVariants as stop
-use Rattle.bsdl_lex.specs.Cutting.{Lexeme}
+use Rattle.bsdl_text.specs.Cutting.{Lexeme}
 use Rattle.bsdl_text.specs.Reading.{Read, fits, misfit, stands, is_over}
-use Rattle.bsdl_lex.specs.Left.{left}
+use Rattle.bsdl_text.specs.Left.{left}
 
 -- unless memory ran out, the misfit is that of the definition
 abbrev pub Stops : {Y : Type 0} → Stop → Read Y → Type 0
-Stops stop.Memory says = Unit {0}
+Stops stop.Memory says = ⊤
 Stops (stop.Misfit at) says = says ≡ misfit at
 
 -- what a reader answered, seen by view, is what the tokens say, unless memory ran out

@@ -3,7 +3,8 @@ use Rattle.std.specs.Prelude.{ℕ, Bool, List, [], ◌∷◌, map, length, take,
 use Rattle.std.specs.Prelude.{bytes_eq}
 use Rattle.std.specs.List.{flat_map}
 use Rattle.std.specs.Char.{to_ascii_uppercase}
-use Rattle.bsdl_lex.specs.Cutting.{Lexeme}
+use Rattle.bsdl_text.specs.Cutting.{Lexeme}
+use Rattle.std.specs.List.{list_any}
 
 -- a name in upper case
 abbrev pub upper : List ℕ → List ℕ
@@ -25,3 +26,7 @@ inner t = take (length t.text - 2) (drop 1 t.text)
 -- the text of strings that `&` joins
 abbrev pub text_within : List Lexeme → List ℕ
 text_within strings = flat_map inner strings
+
+-- whether a name is one of these
+abbrev pub is_among : List (List ℕ) → List ℕ → Bool
+is_among names name = list_any (bytes_eq name) names

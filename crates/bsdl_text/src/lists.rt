@@ -1,15 +1,15 @@
 //! Lists of entries with separators between them.
 ghost use Rattle.std.specs.Prelude.{◌≡◌, ◌<◌, [], List, length, map, IfErr, IfOk};
 ghost use Rattle.std.specs.Vec.{vec_capacity};
-ghost use Rattle.bsdl_lex.specs.Cutting.{Lexeme};
-ghost use Rattle.bsdl_lex.specs.Left.{left};
+ghost use Rattle.bsdl_text.specs.Cutting.{Lexeme};
+ghost use Rattle.bsdl_text.specs.Left.{left};
 ghost use Rattle.bsdl_text.specs.Reading as spec;
 ghost use Rattle.bsdl_text.specs.Reading.{Read};
 ghost use Rattle.bsdl_text.specs.View as view;
 ghost use Rattle.bsdl_text.specs.View.{Gives};
 
 use crate::reading::{Stop, closes, mark};
-use bsdl_lex::Lexer;
+use crate::tokens::Lexer;
 use std::alloc::Global;
 
 /// What lists have for entries.

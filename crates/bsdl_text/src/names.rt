@@ -1,6 +1,6 @@
 //! Names, which are ASCII.
 ghost use Rattle.std.specs.Prelude.{◌≡◌, IfOk, string_bytes};
-ghost use Rattle.bsdl_lex.specs.Ascii.{IsAscii};
+ghost use Rattle.bsdl_text.specs.Ascii.{IsAscii};
 ghost use Rattle.bsdl_text.specs.Words.{upper};
 
 use std::alloc::{AllocError, Global};

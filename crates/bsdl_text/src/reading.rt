@@ -4,18 +4,18 @@ ghost use Rattle.std.specs.List.{list_all};
 ghost use Rattle.std.specs.Char.{is_ascii_digit};
 ghost use Rattle.std.specs.Str.{str_eq_ignore_ascii_case};
 ghost use Rattle.std.proofs.Common.{Bor};
-ghost use Rattle.bsdl_lex.specs.Cutting.{Lexeme};
-ghost use Rattle.bsdl_lex.specs.Left.{left, lexeme};
-ghost use Rattle.bsdl_numbers.specs.View.{value};
+ghost use Rattle.bsdl_text.specs.Cutting.{Lexeme};
+ghost use Rattle.bsdl_text.specs.Left.{left, lexeme};
+ghost use Rattle.bsdl_text.specs.NumberView.{value};
 ghost use Rattle.bsdl_text.specs.WordView.{word_lexeme};
 ghost use Rattle.bsdl_text.specs.Reading as spec;
 ghost use Rattle.bsdl_text.specs.Words as words;
 ghost use Rattle.bsdl_text.specs.View as view;
 ghost use Rattle.bsdl_text.specs.View.{Gives, Passes, StopsAtMisfit};
 
+use crate::digits::Digits;
 use crate::names::Word;
-use bsdl_lex::{Kind, Lexer, Token};
-use bsdl_numbers::Digits;
+use crate::tokens::{Kind, Lexer, Token};
 
 /// Why reading stops.
 #[derive(Debug, Drop, Clone, Copy, PartialEq, Eq)]

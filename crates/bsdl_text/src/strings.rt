@@ -1,12 +1,12 @@
 //! Strings, and the text that strings joined by `&` make.
 ghost use Rattle.std.specs.Prelude.{◌≡◌, ◌<◌, length, IfOk};
-ghost use Rattle.bsdl_lex.specs.Left.{left, lexeme};
+ghost use Rattle.bsdl_text.specs.Left.{left, lexeme};
 ghost use Rattle.bsdl_text.specs.Reading as spec;
 ghost use Rattle.bsdl_text.specs.Words as words;
 ghost use Rattle.bsdl_text.specs.View.{Gives};
 
 use crate::reading::{Stop, behind, string};
-use bsdl_lex::{Lexer, Token};
+use crate::tokens::{Lexer, Token};
 use std::alloc::Global;
 
 /// The text of a string, or of several joined by `&`, and the lexer behind them. Refuses at the next token where it is

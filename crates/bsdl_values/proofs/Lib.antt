@@ -1,1 +1,3 @@
+pub mod PartLaws
+pub mod PatternLaws
 pub mod PassingLaws

@@ -1,7 +1,7 @@
 -- Tokens that are passed over, one token more.
 use Rattle.std.proofs.Common.{◌≡◌, ℕ, ◌+◌, ◌-◌, ◌≢◌, zero, suc, true, false, List, [], ◌∷◌, refl, sym, ap, ◌∙◌, None, arith}
 use Rattle.std.proofs.lemmas.Bool.Decides.{nat_tests}
-use Rattle.bsdl_lex.specs.Cutting.{Lexeme}
+use Rattle.bsdl_text.specs.Cutting.{Lexeme}
 use Rattle.bsdl_text.specs.Reading.{fits, misfit, stands}
 use Rattle.bsdl_values.specs.Passing.{past_closing, past_semi}
 

@@ -1,3 +1,10 @@
+pub mod CellKeywords
+pub mod CellRows
+pub mod CellView
+pub mod Left
+pub mod Parts
+pub mod InstructionValues
+pub mod InstructionView
 pub mod Keywords
 pub mod Passing
 pub mod Values

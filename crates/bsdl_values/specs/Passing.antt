@@ -1,6 +1,6 @@
 -- Tokens that are passed over.
 use Rattle.std.specs.Prelude.{ℕ, suc, pred, ◌==◌, Bool, true, if◌then◌else◌, List, [], ◌∷◌, None}
-use Rattle.bsdl_lex.specs.Cutting.{Lexeme}
+use Rattle.bsdl_text.specs.Cutting.{Lexeme}
 use Rattle.bsdl_text.specs.Reading.{Read, fits, misfit, ◌>>=◌, mark, is_mark_of}
 use Rattle.bsdl_text.specs.Marks.{opening, closing, semi}
 

@@ -1,10 +1,11 @@
 -- What the attributes of an entity say (IEEE Std 1149.1-2001, Annex B.8.9 to B.8.14).
 use Rattle.std.specs.Prelude.{ℕ, if◌then◌else◌, List, [], ◌∷◌}
-use Rattle.bsdl_lex.specs.Cutting.{Lexeme}
+use Rattle.bsdl_text.specs.Cutting.{Lexeme}
 use Rattle.bsdl_text.specs.Reading.{Read, fits, ◌>>=◌, meant, joined_text, keyword, number, quoted_value}
 use Rattle.bsdl_device.specs.Device.{Name, Pattern}
-use Rattle.bsdl_cells.specs.Rows.{CellRow, cell_row}
-use Rattle.bsdl_instructions.specs.Values.{rows, pattern, OpcodeRow, opcode_row, private_name, AccessRow, access_row}
+use Rattle.bsdl_values.specs.CellRows.{CellRow, cell_row}
+use Rattle.bsdl_values.specs.InstructionValues.{rows, pattern, OpcodeRow, opcode_row, private_name, AccessRow}
+use Rattle.bsdl_values.specs.InstructionValues.{access_row}
 use Rattle.bsdl_values.specs.declared.values.Language.{Language}
 use Rattle.bsdl_values.specs.declared.values.Language.TheVariants.{Opcodes, Capture, Cells, Codes, PrivateNames}
 use Rattle.bsdl_values.specs.declared.values.Language.TheVariants.{Accesses}

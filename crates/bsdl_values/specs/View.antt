@@ -2,9 +2,9 @@
 use Rattle.std.specs.Prelude.{ℕ, Bool, List, [], unwrap_or, is_some}
 use Rattle.bsdl_text.specs.Reading.{quoted_value}
 use Rattle.bsdl_text.specs.Words.{upper}
-use Rattle.bsdl_numbers.specs.View.{value as number_value}
-use Rattle.bsdl_instructions.specs.Values.{rows, pattern, opcode_row, private_name, access_row}
-use Rattle.bsdl_cells.specs.Rows.{cell_row}
+use Rattle.bsdl_text.specs.NumberView.{value as number_value}
+use Rattle.bsdl_values.specs.InstructionValues.{rows, pattern, opcode_row, private_name, access_row}
+use Rattle.bsdl_values.specs.CellRows.{cell_row}
 use Rattle.bsdl_values.specs.declared.values.Language.{Language}
 use Rattle.bsdl_values.specs.declared.values.Language.TheVariants.{Opcodes, Capture, Cells, Codes, PrivateNames}
 use Rattle.bsdl_values.specs.declared.values.Language.TheVariants.{Accesses}

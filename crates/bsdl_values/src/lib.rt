@@ -1,7 +1,12 @@
-//! What the attributes of a device description say: ports, numbers, and texts in the languages within quotes (BSDL:
-//! IEEE Std 1149.1-2001, Annex B.8.9 to B.8.14).
+//! What the attributes of a device description say: ports, numbers, and texts in the languages within quotes, which are
+//! opcodes, patterns, names and registers, and the rows of a boundary register (BSDL: IEEE Std 1149.1-2001, Annex B.8.9
+//! to B.8.14).
 #![tactic(auto)]
 
+pub use cells::{CellRow, Controlling, PortName};
+
+mod cells;
+pub mod instructions;
 mod keywords;
 pub mod passing;
 pub mod values;

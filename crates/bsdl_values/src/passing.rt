@@ -1,10 +1,10 @@
 //! Tokens that are passed over.
 ghost use Rattle.std.specs.Prelude.{◌<◌, length, IfOk};
-ghost use Rattle.bsdl_lex.specs.Left.{left};
+ghost use Rattle.bsdl_text.specs.Left.{left};
 ghost use Rattle.bsdl_text.specs.View.{Passes, StopsAtMisfit};
 ghost use Rattle.bsdl_values.specs.Passing as spec;
 
-use bsdl_lex::Lexer;
+use bsdl_text::Lexer;
 use bsdl_text::reading::{Stop, mark, stands};
 
 /// The lexer behind tokens between matching brackets.

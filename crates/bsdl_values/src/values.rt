@@ -1,26 +1,25 @@
 //! What attributes say.
 ghost use Rattle.std.specs.Prelude.{◌≡◌, ◌<◌, length, map, option_map, IfOk};
-ghost use Rattle.bsdl_lex.specs.Left.{left};
+ghost use Rattle.bsdl_text.specs.Left.{left};
 ghost use Rattle.bsdl_text.specs.Reading.{quoted_value};
 ghost use Rattle.bsdl_text.specs.View.{Gives, StopsAtMisfit};
 ghost use Rattle.bsdl_text.specs.Words.{upper};
-ghost use Rattle.bsdl_instructions.specs.Values as rows;
+ghost use Rattle.bsdl_values.specs.InstructionValues as rows;
 ghost use Rattle.bsdl_values.specs.Values as spec;
 ghost use Rattle.bsdl_values.specs.View as view;
 
 use crate::Attribute;
+use crate::cells::CellRow;
+use crate::instructions::names::{AccessRow, OpcodeRow, PrivateName};
+use crate::instructions::pattern_lists::Patterns;
+use crate::instructions::patterns::WrittenPattern;
 use crate::keywords::TRUTHS;
 use crate::passing::brackets;
-use bsdl_cells::CellRow;
-use bsdl_instructions::names::{AccessRow, OpcodeRow, PrivateName};
-use bsdl_instructions::pattern_lists::Patterns;
-use bsdl_instructions::patterns::WrittenPattern;
-use bsdl_lex::{Lexer, bad_byte};
-use bsdl_numbers::Digits;
 use bsdl_text::lists::{Entry, listed};
 use bsdl_text::names::Word;
 use bsdl_text::reading::{Stop, is_over, keyword, number};
 use bsdl_text::strings::joined_text;
+use bsdl_text::{Digits, Lexer, bad_byte};
 use std::alloc::{AllocError, Global};
 
 /// What the text of an attribute is written in.

@@ -1,8 +1,14 @@
-//! What the words of the command line ask for.
+//! What the words of a command line ask for, and the words and texts of the program as they come.
 #![tactic(auto)]
 
+mod descriptions;
 mod request;
+mod texts;
 mod usage;
+mod words;
 
+pub use descriptions::Descriptions;
 pub use request::{Request, Server, Serving, Task, parse};
+pub use texts::{InputFault, read_board_file, read_text};
 pub use usage::usage_is_read;
+pub use words::command_words;

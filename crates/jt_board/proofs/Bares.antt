@@ -6,22 +6,22 @@ use Rattle.std.proofs.lemmas.Option.{none-some}
 use Rattle.jt_limits.specs.Limits.{limits}
 use Rattle.jt_tap.specs.declared.State.TheVariants.{Reset}
 use Rattle.bsdl_device.specs.Sound.{IsSoundDevice}
-use Rattle.device_instructions.specs.Fitting.{IsFormed}
+use Rattle.chip_instructions.specs.Fitting.{IsFormed}
 use Rattle.board_plan.specs.Planned.{HasCore}
 use Rattle.board_plan.specs.Planned as planned
-use Rattle.board_meaning.specs.Bare.{bare, bare_board, bare_from}
-use Rattle.board_meaning.specs.Cells.{Member}
-use Rattle.board_meaning.specs.Chain.{members}
-use Rattle.board_meaning.specs.Resting.{power_up, board_at_rest, chip_at_rest}
-use Rattle.board_meaning.specs.Sound.{AllSound, IsChain}
-use Rattle.board_meaning.proofs.Powered.{powered_sound}
+use Rattle.board_model.specs.Bare.{bare, bare_board, bare_from}
+use Rattle.board_model.specs.Cells.{Member}
+use Rattle.board_model.specs.Chain.{members}
+use Rattle.board_model.specs.Resting.{power_up, board_at_rest, chip_at_rest}
+use Rattle.board_model.specs.Sound.{AllSound, IsChain}
+use Rattle.board_model.proofs.Powered.{powered_sound}
 use Rattle.board_parts.specs.Strings.{HasStrings}
 use Rattle.board_loops.proofs.DependingLaws.{no_loop}
-use Rattle.board_meaning.specs.Following.{FollowsNoOtherControl}
-use Rattle.board_meaning.specs.Planned.{powered_up}
-use Rattle.chip_chain.specs.Ready.{IsReady}
+use Rattle.board_model.specs.Following.{FollowsNoOtherControl}
+use Rattle.board_model.specs.Planned.{powered_up}
+use Rattle.board_chain.specs.Ready.{IsReady}
 use Rattle.jt_board.specs.Made.{IsSoundWiring, board_of}
-use Rattle.bare_boards.specs.Bares.{bare_at, bare_planned, bare_wiring}
+use Rattle.jt_board.specs.Bares.{bare_at, bare_planned, bare_wiring}
 
 -- ---- sound devices
 

@@ -7,8 +7,8 @@ use Rattle.std.proofs.lemmas.List.{length-map, length-replicate}
 use Rattle.bsdl_device.specs.Device.{Access, Device, Opcode, Pattern}
 use Rattle.bsdl_device.specs.Sound.{IsSoundDevice}
 use Rattle.bsdl_device.specs.declared.Place.TheVariants.{AtUser}
-use Rattle.device_instructions.specs.Fitting.{AccessFits, IsFormed}
-use Rattle.device_instructions.specs.Instruction.{reset_latch}
+use Rattle.chip_instructions.specs.Fitting.{AccessFits, IsFormed}
+use Rattle.chip_instructions.specs.Instruction.{reset_latch}
 use Rattle.bsdl.specs.Exact.{IsExactAccess, IsExactAt, IsExactDevice, Takes}
 use Rattle.bsdl.specs.Judging.{text_says}
 use Rattle.bsdl.specs.Limited.{HasLengthIfGiven, HasPatternsOf}

@@ -6,7 +6,7 @@ use Rattle.std.proofs.lemmas.List.Elements.{All-get_or}
 use Rattle.std.proofs.lemmas.List.{take_all}
 use Rattle.std.proofs.lemmas.Option.{get_or_from_slice_get, slice_get_within}
 use Rattle.std.specs.Prelude.{Some, slice_get}
-use Rattle.bitbang_table.specs.Protocol.{decode}
+use Rattle.bitbang_protocol.specs.Protocol.{decode}
 use Rattle.jt_board.specs.Idling.{Moved, is_idle_byte, level}
 use Rattle.jt_board.proofs.Idling.{idle_front, moved_none, moved_more}
 

@@ -7,12 +7,12 @@ use Rattle.std.proofs.lemmas.List.Elements.{All-from_get_or}
 use Rattle.std.proofs.lemmas.List.Sums.{list_all-from_AllPass, prefix_len_is}
 use Rattle.jt_tap.specs.declared.State.{State}
 use Rattle.jt_tap.specs.declared.State.TheVariants.{Idle, DrPause, IrPause}
-use Rattle.bitbang_table.specs.declared.Message.{Message}
-use Rattle.bitbang_table.specs.declared.Message.TheVariants.{Write}
-use Rattle.bitbang_table.specs.Protocol.{decode}
-use Rattle.board_meaning.specs.Cells.{Member, Told}
-use Rattle.board_meaning.specs.Nets as nets
-use Rattle.board_meaning.specs.Chain.{BoardState, ChipState, after_byte, after_bytes, after_levels, after_message, fall, members, rise, rise_all, tdi_before}
+use Rattle.bitbang_protocol.specs.declared.Message.{Message}
+use Rattle.bitbang_protocol.specs.declared.Message.TheVariants.{Write}
+use Rattle.bitbang_protocol.specs.Protocol.{decode}
+use Rattle.board_model.specs.Cells.{Member, Told}
+use Rattle.board_model.specs.Nets as nets
+use Rattle.board_model.specs.Chain.{BoardState, ChipState, after_byte, after_bytes, after_levels, after_message, fall, members, rise, rise_all, tdi_before}
 use Rattle.jt_board.specs.Idling.{Moved, idles, is_idle_byte, level, rests, writes_idle}
 
 pub both : (x y : Bool) → (x && y) ≡ true → (x ≡ true) × (y ≡ true)

@@ -1,18 +1,18 @@
 -- Boards in use are chains of sound devices, one or more and no more than the limit.
 use Rattle.std.proofs.Common.{◌≡◌, ℕ, List, [], ◌∷◌, refl, sym, subst}
 use Rattle.std.specs.Prelude.{Option, Some, None}
-use Rattle.bitbang_table.specs.declared.Message.{Message}
-use Rattle.bitbang_table.specs.Protocol.{decode}
+use Rattle.bitbang_protocol.specs.declared.Message.{Message}
+use Rattle.bitbang_protocol.specs.Protocol.{decode}
 use Rattle.board_file.proofs.FitLaws.{board_fits, board_said}
-use Rattle.board_meaning.specs.Chain.{BoardState, after_byte, after_bytes}
-use Rattle.board_meaning.specs.Sound.{IsChain}
-use Rattle.board_meaning.proofs.SoundEdges.{IsChain-told}
+use Rattle.board_model.specs.Chain.{BoardState, after_byte, after_bytes}
+use Rattle.board_model.specs.Sound.{IsChain}
+use Rattle.board_model.proofs.SoundEdges.{IsChain-told}
 use Rattle.jt_board.specs.FromText.{said_device}
 use Rattle.jt_board.specs.InUse.{IsMade, bare, described}
 use Rattle.jt_board.specs.Laws.{EveryBoardInUseIsSound}
 use Rattle.jt_board.proofs.Bares.{bare_is, bare_sound, sound_chain}
 use Rattle.jt_board.proofs.TextLaws.{sound_wiring}
-use Rattle.bare_boards.specs.Bares.{bare_wiring}
+use Rattle.jt_board.specs.Bares.{bare_wiring}
 
 -- ---- as they are made
 

@@ -1,3 +1,9 @@
+pub mod Lists
+pub mod NetLaws
+pub mod PlacedLaws
+pub mod PathLaws
+pub mod CircleLaws
+pub mod BareLaws
 pub mod Bares
 pub mod FormedLaws
 pub mod TextLaws

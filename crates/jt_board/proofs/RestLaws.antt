@@ -10,18 +10,18 @@ use Rattle.jt_tap.specs.Controller.{is_at}
 use Rattle.jt_tap.specs.declared.State.{State}
 use Rattle.jt_tap.specs.declared.State.TheVariants.{DrPause, IrPause, Reset}
 use Rattle.pin_nets.specs.Wired.{Net}
-use Rattle.board_meaning.specs.Cells.{Member, Told}
-use Rattle.board_meaning.specs.Chain.{BoardState, ChipState, members}
-use Rattle.board_meaning.specs.Nets.{told}
-use Rattle.board_meaning.specs.Resting.{IsAtRest, chip_at_rest}
-use Rattle.board_meaning.specs.Sound.{AllSound, IsChain, IsSound}
-use Rattle.board_meaning.specs.Whole.{AtRest, arrive, capture, capture_all, selected_bits_of, cut_back, joined_bits, reset_all}
-use Rattle.board_meaning.specs.Whole.{reset_member, settle, settled_member, shift, trst_asserted, trst_member, update}
-use Rattle.board_meaning.specs.Whole.{update_member}
-use Rattle.board_meaning.proofs.Sound.{Sound-capture_all, Sound-cut_back, Sound-reset, Sound-update, sound-other}
-use Rattle.board_meaning.proofs.Sound.{sound-updated}
-use Rattle.chip_chain.specs.AtRest.{as_members, chain_as, shifted_through}
-use Rattle.chip_chain.specs.Chains.{ChainValue}
+use Rattle.board_model.specs.Cells.{Member, Told}
+use Rattle.board_model.specs.Chain.{BoardState, ChipState, members}
+use Rattle.board_model.specs.Nets.{told}
+use Rattle.board_model.specs.Resting.{IsAtRest, chip_at_rest}
+use Rattle.board_model.specs.Sound.{AllSound, IsChain, IsSound}
+use Rattle.board_model.specs.Whole.{AtRest, arrive, capture, capture_all, selected_bits_of, cut_back, joined_bits, reset_all}
+use Rattle.board_model.specs.Whole.{reset_member, settle, settled_member, shift, trst_asserted, trst_member, update}
+use Rattle.board_model.specs.Whole.{update_member}
+use Rattle.board_model.proofs.Sound.{Sound-capture_all, Sound-cut_back, Sound-reset, Sound-update, sound-other}
+use Rattle.board_model.proofs.Sound.{sound-updated}
+use Rattle.board_chain.specs.AtRest.{as_members, chain_as, shifted_through}
+use Rattle.board_chain.specs.Chains.{ChainValue}
 use Rattle.jt_board.specs.Made.{board_at}
 
 -- ---- members and chips

@@ -7,24 +7,24 @@ use Rattle.jt_tap.specs.declared.State.{State}
 use Rattle.jt_tap.specs.declared.State.TheVariants.{DrShift, IrShift}
 use Rattle.jt_tap.specs.Controller.{next}
 use Rattle.bsdl_device.specs.Device.{Device}
-use Rattle.device_instructions.specs.declared.Selected.{Selected}
-use Rattle.device_instructions.specs.declared.Selected.TheVariants.{Bypass, Identification, Boundary, User}
-use Rattle.device_instructions.specs.Instruction.{meaning}
-use Rattle.device_registers.specs.Registers.{Registers, selected_bits, put, stage_of, with_stage, user_stage, with_user_stage}
-use Rattle.device_registers.specs.declared.users.UserRegister.{UserRegister}
+use Rattle.chip_instructions.specs.declared.Selected.{Selected}
+use Rattle.chip_instructions.specs.declared.Selected.TheVariants.{Bypass, Identification, Boundary, User}
+use Rattle.chip_instructions.specs.Instruction.{meaning}
+use Rattle.chip_registers.specs.Registers.{Registers, selected_bits, put, stage_of, with_stage, user_stage, with_user_stage}
+use Rattle.chip_registers.specs.declared.users.UserRegister.{UserRegister}
 use Rattle.pin_nets.specs.Wired.{Net}
 use Rattle.jt_bits.specs.Words.{bit_of}
-use Rattle.bitbang_table.specs.Cycles.{closed_messages}
-use Rattle.board_meaning.specs.Cells.{Member}
-use Rattle.board_meaning.specs.Chain.{BoardState, ChipState, fall, hear, members}
-use Rattle.board_meaning.specs.Nets.{told}
-use Rattle.board_meaning.specs.Sound.{AllSound}
-use Rattle.board_meaning.specs.Whole.{selected_bits_of, joined_bits, cut_back, out_of_members}
-use Rattle.board_meaning.proofs.OneCycle.{Free, given, cycled, fallen_one, ran, Ran, hear-tail, heard_of, low, lowered}
-use Rattle.board_meaning.proofs.Shift.{shift_state, Full, given-joined, left-part, right-part, shift-one}
-use Rattle.board_meaning.proofs.Sound.{Sound-Full}
-use Rattle.chip_chain.specs.AtRest.{as_members, shifted_through}
-use Rattle.chip_chain.specs.Shifting.{all_shift, is_shift_of, shows}
+use Rattle.bitbang_protocol.specs.Cycles.{closed_messages}
+use Rattle.board_model.specs.Cells.{Member}
+use Rattle.board_model.specs.Chain.{BoardState, ChipState, fall, hear, members}
+use Rattle.board_model.specs.Nets.{told}
+use Rattle.board_model.specs.Sound.{AllSound}
+use Rattle.board_model.specs.Whole.{selected_bits_of, joined_bits, cut_back, out_of_members}
+use Rattle.board_model.proofs.OneCycle.{Free, given, cycled, fallen_one, ran, Ran, hear-tail, heard_of, low, lowered}
+use Rattle.board_model.proofs.Shift.{shift_state, Full, given-joined, left-part, right-part, shift-one}
+use Rattle.board_model.proofs.Sound.{Sound-Full}
+use Rattle.board_chain.specs.AtRest.{as_members, shifted_through}
+use Rattle.board_chain.specs.Shifting.{all_shift, is_shift_of, shows}
 use Rattle.jt_board.specs.Shifting.{shift_cycles, shifts}
 
 user-put : (k : ℕ) (bits : List Bool) (us : List UserRegister) → 0 < length (user_stage k us) → user_stage k (with_user_stage k bits us) ≡ bits

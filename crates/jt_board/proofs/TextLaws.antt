@@ -10,21 +10,21 @@ use Rattle.bsdl_device.specs.declared.Control3.{Control3}
 use Rattle.bsdl_device.specs.declared.Function.{Function}
 use Rattle.bsdl_device.specs.declared.Function.TheVariants.{Input, Clock, ObserveOnly, Bidir, Output2, Output3, Control, ControlR, Internal}
 use Rattle.boundary.specs.Cells.{driver_from, is_port}
-use Rattle.bsdl_cell_maps.specs.Controls.{is_control as is_control_cell}
+use Rattle.bsdl_lookup.specs.Controls.{is_control as is_control_cell}
 use Rattle.bsdl.specs.FitCells.{ControlFits, HasFitCells, IsControlCell}
 use Rattle.bsdl.proofs.FitLaws.{every_device as every_fit}
-use Rattle.core_loops.specs.Loops.{HasNoLoop}
+use Rattle.board_loops.specs.Loops.{HasNoLoop}
 use Rattle.pin_nets.specs.declared.Follow.{Follow}
 use Rattle.pin_nets.specs.declared.Pin.{Pin}
-use Rattle.board_pins.specs.Pins.{same_pin}
+use Rattle.board_parts.specs.Pins.{same_pin}
 use Rattle.board_parts.specs.Strings.{HasStrings, IsStringOf}
 use Rattle.board_loops.specs.Depending.{dependencies}
-use Rattle.board_meaning.specs.Cells.{Member}
-use Rattle.board_meaning.specs.Following.{FollowsNoOtherControl, IsAmong, is_control}
-use Rattle.board_meaning.specs.Planned.{powered_up}
+use Rattle.board_model.specs.Cells.{Member}
+use Rattle.board_model.specs.Following.{FollowsNoOtherControl, IsAmong, is_control}
+use Rattle.board_model.specs.Planned.{powered_up}
 use Rattle.bsdl_device.specs.Sound.{IsSoundDevice}
-use Rattle.device_instructions.specs.Fitting.{IsFormed}
-use Rattle.bsdl_described.specs.Describing.{Refusal}
+use Rattle.chip_instructions.specs.Fitting.{IsFormed}
+use Rattle.bsdl_description.specs.Describing.{Refusal}
 use Rattle.bsdl.specs.Judging.{text_says}
 use Rattle.bsdl.specs.declared.fault.BsdlFault.{BsdlFault}
 use Rattle.bsdl.proofs.SoundLaws.{every_device}
@@ -35,11 +35,11 @@ use Rattle.board_plan.specs.View.{wiring}
 use Rattle.board_file.specs.Wiring.{Fault}
 use Rattle.board_plan.specs.Planned.{all_pins}
 use Rattle.board_plan.specs.Planned as planned
-use Rattle.board_names.specs.declared.fault.BoardFault.{BoardFault}
-use Rattle.board_names.specs.declared.fault.BoardFault.TheVariants.{NoMemory}
+use Rattle.board_tables.specs.declared.fault.BoardFault.{BoardFault}
+use Rattle.board_tables.specs.declared.fault.BoardFault.TheVariants.{NoMemory}
 use Rattle.board_plan.specs.declared.plan.Plan.{Plan}
-use Rattle.board_meaning.specs.Chain.{BoardState}
-use Rattle.chip_chain.specs.Ready.{IsReady}
+use Rattle.board_model.specs.Chain.{BoardState}
+use Rattle.board_chain.specs.Ready.{IsReady}
 use Rattle.jt_board.specs.FromText.{TellsMade, IsWhyRefused, said_device}
 use Rattle.jt_board.specs.Made.{IsSoundWiring, board_of}
 

@@ -5,11 +5,11 @@ use Rattle.jt_limits.specs.declared.Limits.{Limits}
 use Rattle.jt_limits.specs.Limits.{IsAtMost, earlier_limits, limits}
 use Rattle.toml.specs.Data.{Members}
 use Rattle.bsdl_device.specs.Device.{Device}
-use Rattle.bsdl_described.specs.Describing.{Refusal}
+use Rattle.bsdl_description.specs.Describing.{Refusal}
 use Rattle.bsdl.specs.Judging.{text_says_within}
 use Rattle.bsdl.proofs.WithinLaws as bsdl
-use Rattle.board_names.specs.Files.{file_names}
-use Rattle.board_library.specs.Files.{File, text_of}
+use Rattle.board_tables.specs.Files.{file_names}
+use Rattle.board_parts.specs.Files.{File, text_of}
 use Rattle.board_file.specs.Within.{WiringWithin, SaysToo}
 use Rattle.board_file.proofs.WithinLaws as board
 use Rattle.jt_board.specs.FromText.{said_device_within}

@@ -6,13 +6,13 @@ use Rattle.bsdl_device.specs.Device.{Device}
 use Rattle.bsdl.specs.Judging.{text_says, text_says_within}
 use Rattle.bsdl.specs.View as reading
 use Rattle.bsdl.specs.declared.fault.BsdlFault.{BsdlFault}
-use Rattle.core_loops.specs.Loops.{HasNoLoop}
+use Rattle.board_loops.specs.Loops.{HasNoLoop}
 use Rattle.board_loops.specs.Depending.{dependencies}
 use Rattle.board_file.specs.View.{TellsRefusal}
 use Rattle.board_file.specs.Wiring.{Fault}
 use Rattle.board_plan.specs.Planned as planned
-use Rattle.board_names.specs.declared.fault.BoardFault.{BoardFault}
-use Rattle.board_meaning.specs.Chain.{BoardState}
+use Rattle.board_tables.specs.declared.fault.BoardFault.{BoardFault}
+use Rattle.board_model.specs.Chain.{BoardState}
 use Rattle.jt_board.specs.Made.{board_of}
 
 -- the device that a text in BSDL says within limits, none where it is refused

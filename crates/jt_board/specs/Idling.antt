@@ -3,10 +3,10 @@ use Rattle.std.specs.Prelude.{◌≡◌, Bool, true, false, ◌&&◌, not, ℕ, 
 use Rattle.std.specs.List.{list_all, prefix_len}
 use Rattle.jt_tap.specs.declared.State.{State}
 use Rattle.jt_tap.specs.declared.State.TheVariants.{Idle, DrPause, IrPause}
-use Rattle.bitbang_table.specs.declared.Message.{Message}
-use Rattle.bitbang_table.specs.declared.Message.TheVariants.{Write}
-use Rattle.bitbang_table.specs.Protocol.{decode}
-use Rattle.board_meaning.specs.Chain.{BoardState, after_bytes}
+use Rattle.bitbang_protocol.specs.declared.Message.{Message}
+use Rattle.bitbang_protocol.specs.declared.Message.TheVariants.{Write}
+use Rattle.bitbang_protocol.specs.Protocol.{decode}
+use Rattle.board_model.specs.Chain.{BoardState, after_bytes}
 
 -- written levels with TMS low
 abbrev pub writes_idle : Option Message → Bool

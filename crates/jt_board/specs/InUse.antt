@@ -2,14 +2,14 @@
 use Rattle.std.specs.Prelude.{◌≡◌, ◌<◌, ◌≤◌, ℕ, List, Ok}
 use Rattle.jt_limits.specs.Limits.{limits}
 use Rattle.toml.specs.Data.{Members}
-use Rattle.core_loops.specs.Loops.{HasNoLoop}
-use Rattle.board_library.specs.Files.{File}
+use Rattle.board_loops.specs.Loops.{HasNoLoop}
+use Rattle.board_parts.specs.Files.{File}
 use Rattle.board_loops.specs.Depending.{dependencies}
-use Rattle.board_names.specs.Files.{Reads}
+use Rattle.board_tables.specs.Files.{Reads}
 use Rattle.board_plan.specs.Planned as planned
 use Rattle.board_file.specs.Wiring.{makes}
-use Rattle.board_meaning.specs.Bare.{bare_board}
-use Rattle.board_meaning.specs.Chain.{BoardState, after_bytes}
+use Rattle.board_model.specs.Bare.{bare_board}
+use Rattle.board_model.specs.Chain.{BoardState, after_bytes}
 use Rattle.jt_board.specs.FromText.{said_device}
 use Rattle.jt_board.specs.Made.{board_of}
 

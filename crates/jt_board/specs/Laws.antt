@@ -1,10 +1,10 @@
 -- Laws over all texts and all boards in use, which public functions ensure.
 use Rattle.std.specs.Prelude.{◌≡◌, ℕ, List, Ok}
 use Rattle.bsdl_device.specs.Device.{Device}
-use Rattle.device_instructions.specs.Fitting.{IsFormed}
+use Rattle.chip_instructions.specs.Fitting.{IsFormed}
 use Rattle.bsdl.specs.Judging.{text_says}
-use Rattle.board_meaning.specs.Chain.{BoardState}
-use Rattle.board_meaning.specs.Sound.{IsChain}
+use Rattle.board_model.specs.Chain.{BoardState}
+use Rattle.board_model.specs.Sound.{IsChain}
 use Rattle.jt_board.specs.InUse.{IsInUse}
 
 -- every device that a text says can be made a chip

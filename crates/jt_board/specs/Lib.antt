@@ -1,3 +1,5 @@
+pub mod Circles
+pub mod Bares
 pub mod FromText
 pub mod Idling
 pub mod InUse

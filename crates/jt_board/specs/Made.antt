@@ -4,10 +4,10 @@ use Rattle.std.specs.List.{AllByRecursion}
 use Rattle.jt_limits.specs.Limits.{limits}
 use Rattle.bsdl_device.specs.Sound.{IsSoundDevice}
 use Rattle.board_plan.specs.Planned as planned
-use Rattle.board_meaning.specs.Chain.{BoardState}
-use Rattle.board_meaning.specs.Resting.{power_up, board_at_rest}
-use Rattle.board_meaning.specs.Planned.{members_of}
-use Rattle.chip_chain.specs.Chains.{ChainValue}
+use Rattle.board_model.specs.Chain.{BoardState}
+use Rattle.board_model.specs.Resting.{power_up, board_at_rest}
+use Rattle.board_model.specs.Planned.{members_of}
+use Rattle.board_chain.specs.Chains.{ChainValue}
 
 -- a board of this chain, at this level of TCK
 abbrev pub board_at : Bool → ChainValue → BoardState

@@ -3,9 +3,9 @@
 use Rattle.std.specs.Prelude.{Bool, true, false, ◌&&◌, ◌||◌, not, List, map, if◌then◌else◌}
 use Rattle.jt_tap.specs.declared.Column.{Column}
 use Rattle.jt_tap.specs.declared.Column.TheVariants.{Dr, Ir}
-use Rattle.bitbang_table.specs.declared.Cycle.{Cycle}
-use Rattle.board_meaning.specs.Chain.{BoardState}
-use Rattle.chip_chain.specs.Shifting.{all_shift}
+use Rattle.bitbang_protocol.specs.declared.Cycle.{Cycle}
+use Rattle.board_model.specs.Chain.{BoardState}
+use Rattle.board_chain.specs.Shifting.{all_shift}
 
 -- TCK is low, TRST released, and all devices shift.
 abbrev pub shifts : BoardState → Bool

@@ -1,14 +1,15 @@
 -- What a board file and its descriptions make within limits hangs on them only by whether it lies within them. Whether
 -- a string is on a loop is a matter of the wiring alone.
+use Rattle.std.specs.Prelude.{⊤}
 use Rattle.std.specs.Prelude.{◌≡◌, ℕ, List, Option, Some, None, Ok}
 use Rattle.std.specs.List.{AllByRecursion}
 use Rattle.jt_limits.specs.declared.Limits.{Limits}
 use Rattle.jt_limits.specs.Limits.{IsAtMost, earlier_limits}
 use Rattle.toml.specs.Data.{Members}
-use Rattle.bsdl_described.specs.Describing.{Description}
+use Rattle.bsdl_description.specs.Describing.{Description}
 use Rattle.bsdl.specs.Within.{DescribedWithin, describes_within}
-use Rattle.board_names.specs.Files.{file_names}
-use Rattle.board_library.specs.Files.{File, text_of}
+use Rattle.board_tables.specs.Files.{file_names}
+use Rattle.board_parts.specs.Files.{File, text_of}
 use Rattle.board_file.specs.Wiring.{makes, makes_within}
 use Rattle.board_file.specs.Within.{WiringWithin}
 use Rattle.board_plan.specs.Planned as planned
@@ -20,7 +21,7 @@ MakesWithin l files t w = makes_within l (said_device_within l) files t ≡ Ok w
 
 -- what a file describes within the limits b lies within a
 abbrev pub FileWithin : (a b : Limits) → Option (List ℕ) → Type 0
-FileWithin a b None = Unit {0}
+FileWithin a b None = ⊤
 FileWithin a b (Some text) = (d : Description) → describes_within b text ≡ Ok d → DescribedWithin a text d
 
 -- so does each file that the table names

@@ -5,24 +5,24 @@ ghost use Rattle.std.specs.Prelude.{MatchResult};
 ghost use Rattle.jt_limits.specs.Limits.{limits};
 ghost use Rattle.board_plan.specs.LeftOut as spec;
 ghost use Rattle.board_plan.specs.View.{wiring};
-ghost use Rattle.board_names.specs.declared.fault.BoardFault.TheVariants as fault;
-ghost use Rattle.board_meaning.specs.Bare.{bare_board};
-ghost use Rattle.board_meaning.specs.Chain as chain;
-ghost use Rattle.board_meaning.specs.Sound.{IsSoundBoard};
-ghost use Rattle.chip_chain.specs.Ready.{IsReady};
+ghost use Rattle.board_tables.specs.declared.fault.BoardFault.TheVariants as fault;
+ghost use Rattle.board_model.specs.Bare.{bare_board};
+ghost use Rattle.board_model.specs.Chain as chain;
+ghost use Rattle.board_model.specs.Sound.{IsSoundBoard};
+ghost use Rattle.board_chain.specs.Ready.{IsReady};
 ghost use Rattle.jt_board.specs.Made.{IsSoundWiring, board_at, board_of};
 
 mod at_rest;
 mod idle;
 mod shifting;
 
-use bare_boards::bare_plan;
-use bitbang_table::Message;
-use board_meaning::Reply;
+use crate::bare::bare_plan;
+use bitbang_protocol::Message;
+use board_chain::Chain;
+use board_model::Reply;
 use board_plan::Plan;
 use board_report::Snapshot;
 use bsdl::BsdlFault;
-use chip_chain::Chain;
 use jt_limits::LIMITS;
 use std::alloc::{AllocError, Global};
 use std::marker::Model;
@@ -44,8 +44,8 @@ pub struct Board {
 }
 
 impl Model for Board {
-    ghost use Rattle.board_meaning.specs.Chain.{BoardState};
-    ghost use Rattle.board_meaning.specs.Sound.{IsChain};
+    ghost use Rattle.board_model.specs.Chain.{BoardState};
+    ghost use Rattle.board_model.specs.Sound.{IsChain};
 
     ghost Value = { BoardState };
 
@@ -128,7 +128,7 @@ impl Board {
         ensures reply { result ≡ chain.reply byte self.old }
         ensures board { self.new ≡ chain.after_byte byte self.old }
     {
-        match bitbang_table::decode(byte) {
+        match bitbang_protocol::decode(byte) {
             None => Reply::Refused(byte),
             Some(message) => {
                 let reply = self.reply(message);
@@ -143,7 +143,7 @@ impl Board {
         ensures { result ≡ chain.reply_of message self.now }
     {
         match message {
-            Message::Ask => Reply::Answer(bitbang_table::answer(self.chain.tdo())),
+            Message::Ask => Reply::Answer(bitbang_protocol::answer(self.chain.tdo())),
             Message::Quit => Reply::Quit,
             _ => Reply::Nothing,
         }

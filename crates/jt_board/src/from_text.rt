@@ -2,9 +2,9 @@
 
 ghost use Rattle.toml.specs.Data.{Members};
 ghost use Rattle.toml.specs.View.{table_view};
-ghost use Rattle.board_names.specs.Files.{IsBadToml, Reads, names_of};
-ghost use Rattle.board_names.specs.View.{ReadsToml, TellsBadToml, TellsNames};
-ghost use Rattle.board_library.specs.View.{files_of};
+ghost use Rattle.board_tables.specs.Files.{IsBadToml, Reads, names_of};
+ghost use Rattle.board_tables.specs.FileView.{ReadsToml, TellsBadToml, TellsNames};
+ghost use Rattle.board_parts.specs.LibraryView.{files_of};
 ghost use Rattle.board_file.specs.Wiring.{makes, targets_in};
 ghost use Rattle.jt_board.specs.FromText.{TellsMade, said_device};
 

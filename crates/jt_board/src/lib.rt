@@ -1,16 +1,20 @@
 //! A simulated board of boundary-scan devices: IEEE Std 1149.1-2001, edge by edge.
 #![tactic(auto)]
 
+mod bare;
 mod board;
+mod circle_laws;
 mod from_text;
 mod laws;
 mod report;
 
+pub use bare::bare_plan;
 pub use board::{Board, BoardFault};
-pub use board_meaning::Reply;
+pub use board_model::Reply;
 pub use board_report::Snapshot;
 pub use bsdl::BsdlFault;
-pub use byte_ends::{Broken, Counted};
+pub use byte_streams::{Broken, Counted};
+pub use circle_laws::{loops_are_circles, no_loop_is_no_circle};
 pub use from_text::{board_table, bsdl_names, table_names};
 pub use laws::{
     boards_stay_within_larger_limits, every_board_in_use_is_sound, every_device_read_is_formed,

@@ -3,28 +3,28 @@ use Rattle.svf_programs.specs.Steps.{Program}
 use Rattle.svf_programs.specs.Legal.{IsLegalProgram}
 use Rattle.std.proofs.Common.{◌≡◌, inl, inr, ℕ, List, [], ◌∷◌, ◌++◌, refl, sym, ap, subst, ◌∙◌, Option, Some, None}
 use Rattle.svf_settings.proofs.FirstRefusals.{accepted_is_sound}
-use Rattle.board_meaning.specs.Chain.{BoardState, after_byte, after_bytes, hear}
-use Rattle.board_meaning.proofs.BytesAndMessages.{after_all-encoded}
-use Rattle.every_schedule.specs.Laws.{bytes_of_full_play, full}
+use Rattle.board_model.specs.Chain.{BoardState, after_byte, after_bytes, hear}
+use Rattle.board_model.proofs.BytesAndMessages.{after_all-encoded}
+use Rattle.play_schedules.specs.Laws.{bytes_of_full_play, full}
 use Rattle.jt_board.proofs.InUse.{every_board}
-use Rattle.plays.proofs.Described.{means_from_opening}
-use Rattle.direct_play.specs.Accepting.{Accepts}
-use Rattle.plays.specs.declared.kind.Kind.TheVariants.{Stops, PlaysOn}
-use Rattle.plays.specs.Endings.{status_of}
-use Rattle.plays.specs.Play.{Turn, full_play, turns}
-use Rattle.plays.specs.PlayingOn.{Mismatch, ending_of, turns_for}
-use Rattle.plays.proofs.Asks.{hear-full, played_of}
+use Rattle.play_model.proofs.Described.{means_from_opening}
+use Rattle.play_direct.specs.Accepting.{Accepts}
+use Rattle.play_model.specs.declared.kind.Kind.TheVariants.{Stops, PlaysOn}
+use Rattle.play_model.specs.Endings.{status_of}
+use Rattle.play_model.specs.Play.{Turn, full_play, turns}
+use Rattle.play_model.specs.PlayingOn.{Mismatch, ending_of, turns_for}
+use Rattle.play_model.proofs.Asks.{hear-full, played_of}
 use Rattle.scan_vectors.specs.Vector.{judge}
 use Rattle.scan_vectors.specs.declared.part.Part.{Part}
-use Rattle.joined.proofs.Ends.{means}
-use Rattle.joined.proofs.Inside.{inside}
-use Rattle.joined.specs.Inside.{taken_by_board}
+use Rattle.play_pipes.proofs.Ends.{means}
+use Rattle.play_pipes.proofs.Inside.{inside}
+use Rattle.play_pipes.specs.Inside.{taken_by_board}
 use Rattle.jt_player.specs.Headline.{DirectPlayMeansWhatTheTextMeans, EveryScheduleMeansWhatTheTextMeans}
 use Rattle.jt_player.specs.Headline.{DirectPlaysPassOrFail, EndsIn, EveryRunEnds, PassesOrFails, passes, fails, is_refused, wants_memory}
 use Rattle.jt_player.specs.Headline.{WhatDirectPlaysLeaveIsInUse, WhatEventsLeaveIsInUse, WhatRunsLeaveIsInUse}
 use Rattle.jt_player.specs.Kinds.{ending_in}
 use Rattle.jt_player.specs.Running.{no_memory, played, refused}
-use Rattle.direct_play.specs.ToTheEnd.{all_failures}
+use Rattle.play_direct.specs.ToTheEnd.{all_failures}
 
 legal : (text : List ℕ) (program : Program) → Accepts text program → IsLegalProgram program.steps
 legal text program (statements, spelt, resolved) = (accepted_is_sound statements program resolved).legal

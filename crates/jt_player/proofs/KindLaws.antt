@@ -1,18 +1,18 @@
 -- Plays of either kind: what a player that stops keeps is what its ending says, and each play is what its program means.
 use Rattle.std.proofs.Common.{◌≡◌, List, [], ◌∷◌, length, min, refl, ap, ◌∙◌, arith}
-use Rattle.board_meaning.specs.Chain.{BoardState}
-use Rattle.board_meaning.specs.Sound.{HasDevice, IsSoundBoard}
+use Rattle.board_model.specs.Chain.{BoardState}
+use Rattle.board_model.specs.Sound.{HasDevice, IsSoundBoard}
 use Rattle.svf_programs.specs.Legal.{IsLegalProgram}
-use Rattle.plays.proofs.Described.{means_from_opening}
-use Rattle.every_schedule.proofs.AllFailures.{first_of_all_played}
-use Rattle.every_schedule.proofs.AllMeaning.{plays_all}
-use Rattle.plays.specs.Play.{play}
-use Rattle.plays.specs.declared.kind.Kind.{Kind}
-use Rattle.plays.specs.declared.kind.Kind.TheVariants.{Stops, PlaysOn}
-use Rattle.plays.specs.PlayingOn.{Mismatch, ending_of}
-use Rattle.plays.specs.Streams.{found_of}
+use Rattle.play_model.proofs.Described.{means_from_opening}
+use Rattle.play_schedules.proofs.AllFailures.{first_of_all_played}
+use Rattle.play_schedules.proofs.AllMeaning.{plays_all}
+use Rattle.play_model.specs.Play.{play}
+use Rattle.play_model.specs.declared.kind.Kind.{Kind}
+use Rattle.play_model.specs.declared.kind.Kind.TheVariants.{Stops, PlaysOn}
+use Rattle.play_model.specs.PlayingOn.{Mismatch, ending_of}
+use Rattle.play_model.specs.Streams.{found_of}
 use Rattle.svf_programs.specs.Steps.{Program}
-use Rattle.direct_play.specs.ToTheEnd.{all_failures}
+use Rattle.play_direct.specs.ToTheEnd.{all_failures}
 use Rattle.jt_player.specs.Kinds.{MeansAsPlayed, found_in, found_of_ending}
 
 by-ending : (all : List Mismatch) → found_of Stops all ≡ found_of_ending (ending_of all)

@@ -3,14 +3,14 @@ use Rattle.std.proofs.Common.{◌≡◌, ◌≢◌, ◌⊎◌, false, ℕ, List,
 use Rattle.std.specs.Prelude.{IfOk, OnOk, Option, IsErr, codes, is_ok}
 use Rattle.std.specs.Io.KnownBytes.{Appends}
 use Rattle.std.proofs.KnownBytes.{Appends-nil}
-use Rattle.byte_ends.specs.Counts.{CountedView}
-use Rattle.byte_ends.specs.Writes.{AppendsFront, WritesAll}
-use Rattle.byte_ends.specs.declared.counting.Broken.{Broken}
-use Rattle.board_meaning.specs.Chain.{BoardState}
+use Rattle.byte_streams.specs.Counts.{CountedView}
+use Rattle.byte_streams.specs.Writes.{AppendsFront, WritesAll}
+use Rattle.byte_streams.specs.declared.counting.Broken.{Broken}
+use Rattle.board_model.specs.Chain.{BoardState}
 use Rattle.svf_words.specs.declared.fault.Code.TheVariants.{NoMemory}
 use Rattle.svf_words.specs.declared.fault.SvfFault.{SvfFault}
 use Rattle.svf_parse.specs.View.{memory_fault}
-use Rattle.direct_play.specs.Accepting.{Refuses}
+use Rattle.play_direct.specs.Accepting.{Refuses}
 use Rattle.jt_player.specs.Running.{Happens, Run, Tells, memory_run, refused_run}
 use Rattle.jt_player.specs.Showing.{refusal_line}
 

@@ -1,22 +1,22 @@
 -- The headline: an accepted text, a board in use, and whatever order of events over two bounded pipes.
 use Rattle.std.specs.Prelude.{◌≡◌, ◌⊎◌, Bool, false, ℕ, List, Some}
 use Rattle.svf_programs.specs.Steps.{Program}
-use Rattle.board_meaning.specs.Chain.{BoardState}
+use Rattle.board_model.specs.Chain.{BoardState}
 use Rattle.jt_board.specs.InUse.{IsInUse}
-use Rattle.every_schedule.specs.Laws.{full}
-use Rattle.plays.specs.declared.ending.Ending.{Ending}
-use Rattle.plays.specs.declared.ending.Ending.TheVariants.{Pass, Fail}
-use Rattle.plays.specs.declared.kind.Kind.{Kind}
-use Rattle.plays.specs.DirectPlay.{MeansFromOpening}
-use Rattle.plays.specs.Events.{Event}
-use Rattle.plays.specs.Play.{play}
+use Rattle.play_schedules.specs.Laws.{full}
+use Rattle.play_model.specs.declared.ending.Ending.{Ending}
+use Rattle.play_model.specs.declared.ending.Ending.TheVariants.{Pass, Fail}
+use Rattle.play_model.specs.declared.kind.Kind.{Kind}
+use Rattle.play_model.specs.DirectPlay.{MeansFromOpening}
+use Rattle.play_model.specs.Events.{Event}
+use Rattle.play_model.specs.Play.{play}
 use Rattle.scan_vectors.specs.declared.part.Part.{Part}
 use Rattle.svf_words.specs.declared.fault.SvfFault.{SvfFault}
-use Rattle.direct_play.specs.Accepting.{Accepts, Refuses}
+use Rattle.play_direct.specs.Accepting.{Accepts, Refuses}
 use Rattle.jt_player.specs.Kinds.{ending_in}
 use Rattle.jt_player.specs.Running.{IsRunOf, Run}
-use Rattle.bounded_pipes.specs.Standing.{ended_of}
-use Rattle.joined.specs.Laws.{joined_after}
+use Rattle.play_pipes.specs.Standing.{ended_of}
+use Rattle.play_pipes.specs.Laws.{joined_after}
 
 -- For every accepted text, every board in use, every room of the two pipes and every order of events: a play that ends
 -- unlost gives exactly the verdict, and leaves exactly the registers and pin levels, of the program's meaning over

@@ -1,17 +1,17 @@
 -- A play of either kind, each byte taken at once: how it ends, what it finds, and what it means.
 use Rattle.std.specs.Prelude.{[], ◌∷◌}
-use Rattle.board_meaning.specs.Chain.{BoardState}
-use Rattle.every_schedule.specs.AllFailures.{MeansAllFromOpening}
-use Rattle.every_schedule.specs.Laws.{full}
-use Rattle.plays.specs.declared.ending.Ending.{Ending}
-use Rattle.plays.specs.declared.ending.Ending.TheVariants.{Fail}
-use Rattle.plays.specs.DirectPlay.{MeansFromOpening}
-use Rattle.plays.specs.Play.{play}
-use Rattle.plays.specs.declared.kind.Kind.{Kind}
-use Rattle.plays.specs.declared.kind.Kind.TheVariants.{Stops, PlaysOn}
-use Rattle.plays.specs.PlayingOn.{ending_of}
-use Rattle.plays.specs.Streams.{found_of}
-use Rattle.direct_play.specs.ToTheEnd.{all_failures}
+use Rattle.board_model.specs.Chain.{BoardState}
+use Rattle.play_schedules.specs.AllFailures.{MeansAllFromOpening}
+use Rattle.play_schedules.specs.Laws.{full}
+use Rattle.play_model.specs.declared.ending.Ending.{Ending}
+use Rattle.play_model.specs.declared.ending.Ending.TheVariants.{Fail}
+use Rattle.play_model.specs.DirectPlay.{MeansFromOpening}
+use Rattle.play_model.specs.Play.{play}
+use Rattle.play_model.specs.declared.kind.Kind.{Kind}
+use Rattle.play_model.specs.declared.kind.Kind.TheVariants.{Stops, PlaysOn}
+use Rattle.play_model.specs.PlayingOn.{ending_of}
+use Rattle.play_model.specs.Streams.{found_of}
+use Rattle.play_direct.specs.ToTheEnd.{all_failures}
 use Rattle.scan_vectors.specs.Failures.{Found, none_found}
 use Rattle.svf_programs.specs.Steps.{Program}
 

@@ -1,6 +1,6 @@
 -- What is told of a play over a connection, and of a board that was served.
 use Rattle.std.specs.Prelude.{ℕ, List, [], ◌∷◌, codes, decimal}
-use Rattle.plays.specs.Endings.{hex_byte, texts}
+use Rattle.play_model.specs.Endings.{hex_byte, texts}
 use Rattle.play_links.specs.declared.serving.Served.{Served}
 use Rattle.play_links.specs.declared.serving.Served.TheVariants.{Quit, Closed, Refused, Bound, Broken}
 

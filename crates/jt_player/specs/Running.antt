@@ -2,18 +2,18 @@
 use Rattle.std.specs.Prelude.{◌≡◌, ◌↔◌, ◌⊎◌, Bool, true, false, ℕ, List, [], ◌++◌, codes, Option, Result, IsErr, IfOk}
 use Rattle.std.specs.Prelude.{OnOk}
 use Rattle.std.specs.Io.KnownBytes.{Appends}
-use Rattle.byte_ends.specs.Counts.{CountedView}
-use Rattle.byte_ends.specs.Writes.{AppendsFront, WritesAll}
-use Rattle.byte_ends.specs.declared.counting.Broken.{Broken}
+use Rattle.byte_streams.specs.Counts.{CountedView}
+use Rattle.byte_streams.specs.Writes.{AppendsFront, WritesAll}
+use Rattle.byte_streams.specs.declared.counting.Broken.{Broken}
 use Rattle.svf_words.specs.declared.fault.SvfFault.{SvfFault}
 use Rattle.svf_programs.specs.Steps.{Program}
-use Rattle.board_meaning.specs.Chain.{BoardState}
+use Rattle.board_model.specs.Chain.{BoardState}
 use Rattle.board_report.specs.LeftOut.{left_out_lines}
 use Rattle.board_report.specs.Report.{report}
-use Rattle.every_schedule.specs.Laws.{bytes_of_full_play, full}
-use Rattle.plays.specs.Endings.{status_of}
-use Rattle.plays.specs.declared.kind.Kind.{Kind}
-use Rattle.direct_play.specs.Accepting.{Accepts, Refuses}
+use Rattle.play_schedules.specs.Laws.{bytes_of_full_play, full}
+use Rattle.play_model.specs.Endings.{status_of}
+use Rattle.play_model.specs.declared.kind.Kind.{Kind}
+use Rattle.play_direct.specs.Accepting.{Accepts, Refuses}
 use Rattle.jt_player.specs.Kinds.{MeansAsPlayed, ending_in, found_in}
 use Rattle.jt_player.specs.Showing.{accepted_line, ending_lines, refusal_line}
 

@@ -1,19 +1,19 @@
 -- The lines of endings, of refusals and of an accepted text.
 use Rattle.std.specs.Prelude.{ℕ, ◌==◌, ◌||◌, nat_lt, List, [], ◌∷◌, ◌++◌, codes, decimal, flat_map, length}
 use Rattle.std.specs.Prelude.{if◌then◌else◌}
-use Rattle.plays.specs.Endings.{hex_byte, texts, verdict_line}
-use Rattle.plays.specs.declared.kind.Kind.{Kind}
-use Rattle.plays.specs.declared.kind.Kind.TheVariants.{PlaysOn}
-use Rattle.plays.specs.PlayingOn.{Mismatch}
-use Rattle.plays.specs.declared.ending.Ending.{Ending}
-use Rattle.plays.specs.declared.ending.Ending.TheVariants.{Fail}
+use Rattle.play_model.specs.Endings.{hex_byte, texts, verdict_line}
+use Rattle.play_model.specs.declared.kind.Kind.{Kind}
+use Rattle.play_model.specs.declared.kind.Kind.TheVariants.{PlaysOn}
+use Rattle.play_model.specs.PlayingOn.{Mismatch}
+use Rattle.play_model.specs.declared.ending.Ending.{Ending}
+use Rattle.play_model.specs.declared.ending.Ending.TheVariants.{Fail}
 use Rattle.scan_vectors.specs.Failures.{Found}
 use Rattle.svf_words.specs.declared.fault.Code.{Code}
 use Rattle.svf_words.specs.declared.fault.Code.TheVariants as code
 use Rattle.svf_words.specs.declared.fault.SvfFault.{SvfFault}
 use Rattle.svf_programs.specs.Steps.{Program}
-use Rattle.board_names.specs.declared.fault.BoardFault.{BoardFault}
-use Rattle.board_names.specs.declared.fault.BoardFault.TheVariants as board
+use Rattle.board_tables.specs.declared.fault.BoardFault.{BoardFault}
+use Rattle.board_tables.specs.declared.fault.BoardFault.TheVariants as board
 use Rattle.bsdl.specs.declared.fault.BsdlFault.{BsdlFault}
 use Rattle.bsdl.specs.declared.fault.BsdlFault.TheVariants as bsdl
 

@@ -9,13 +9,11 @@ mod run;
 mod showing;
 mod stop;
 
-pub use byte_ends::{Both, End, Sink, Source};
-pub use direct_play::accept;
+pub use byte_streams::{Both, End, Sink, Source};
 pub use headline::{
     direct_plays_pass_or_fail, every_run_ends, every_schedule_means_what_the_text_means,
     what_direct_plays_leave_is_in_use, what_events_leave_is_in_use,
 };
-pub use joined::{Event, Joined, Standing, Unjoined};
 pub use jt_board::{
     Board, BoardFault, Broken, BsdlFault, Counted, Level, Reply, Snapshot, board_table, bsdl_names,
     table_names, write_report,
@@ -25,6 +23,7 @@ pub use linking::{
     tell_verdict,
 };
 pub use play::{play_board, play_board_all, play_noted};
+pub use play_direct::accept;
 pub use play_links::{
     Served, a_loop_over_linked_ends_finds_all_failures,
     a_loop_over_linked_ends_is_lost_only_by_a_lost_call, a_loop_over_linked_ends_means_the_program,
@@ -33,12 +32,13 @@ pub use play_links::{
     an_honest_link_stays_inside_the_full_play, an_honest_play_served_is_the_full_play,
     linked_ends_are_honest, loop_over, loop_over_all, play_over, play_over_all, serve_over,
 };
-pub use plays::{Ending, Kind};
+pub use play_model::{Ending, Kind};
+pub use play_pipes::{Event, Joined, Standing, Unjoined};
+pub use player::Player;
 pub use refusing::{refuse_board, refuse_file, refuse_memory};
 pub use run::{play_and_note, refuse_text, run_check, run_play, run_play_all};
 pub use scan_vectors::{Failures, Mismatch, Part};
 pub use showing::write_verdict;
 pub use stop::Stop;
-pub use stream_player::Player;
 pub use svf_parse::{Code, SvfFault};
 pub use svf_programs::{Action, Program, Step};

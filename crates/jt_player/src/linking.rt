@@ -2,15 +2,15 @@
 
 ghost use Rattle.std.specs.Prelude.{◌≡◌, ◌++◌};
 ghost use Rattle.board_report.specs.Report.{report};
-ghost use Rattle.byte_ends.specs.Writes.{WritesAll};
+ghost use Rattle.byte_streams.specs.Writes.{WritesAll};
 ghost use Rattle.play_links.specs.Links.{PlaysAllOver};
 ghost use Rattle.play_links.specs.Loops.{LoopsAllOver};
 ghost use Rattle.play_links.specs.Serves.{ServesOver};
-ghost use Rattle.plays.specs.Endings.{status_of, verdict_line};
-ghost use Rattle.plays.specs.declared.kind.Kind.TheVariants.{Stops};
-ghost use Rattle.plays.specs.Streams.{new_stream};
+ghost use Rattle.play_model.specs.Endings.{status_of, verdict_line};
+ghost use Rattle.play_model.specs.declared.kind.Kind.TheVariants.{Stops};
+ghost use Rattle.play_model.specs.Streams.{new_stream};
 ghost use Rattle.svf_programs.specs.Sizes.{program_of};
-ghost use Rattle.plays.specs.declared.ending.Ending as end;
+ghost use Rattle.play_model.specs.declared.ending.Ending as end;
 ghost use Rattle.play_links.specs.declared.serving.Served as serving;
 ghost use Rattle.jt_player.specs.Linking.{listening_line, served_line, served_status};
 ghost use Rattle.jt_player.specs.Running.{Tells};
@@ -18,14 +18,14 @@ ghost use Rattle.jt_player.specs.Showing.{ending_lines};
 ghost use Rattle.scan_vectors.specs.Failures.{Found, found};
 
 use crate::showing::{hex_byte, write_ending, write_verdict};
-use byte_ends::{Broken, Counted, End, Sink, Source, put_all, put_pieces};
+use byte_streams::{Broken, Counted, End, Sink, Source, put_all, put_pieces};
 use itoa::Buffer;
 use jt_board::{Board, write_report};
 use play_links::{Served, loop_over_all, play_over_all, serve_over};
-use plays::{Ending, Kind};
+use play_model::{Ending, Kind};
+use player::Player;
 use scan_vectors::Failures;
 use std::alloc::Global;
-use stream_player::Player;
 use svf_programs::Program;
 
 /// Plays a program over a reader and a writer by a player of this kind, and writes to `out` the line of its verdict, or

@@ -1,19 +1,19 @@
 //! Direct play: player and board joined without pipes.
 
 ghost use Rattle.std.specs.Prelude.{◌≡◌};
-ghost use Rattle.byte_ends.specs.Writes.{WritesAll, flagged};
-ghost use Rattle.every_schedule.specs.Laws.{bytes_of_full_play, full};
-ghost use Rattle.plays.specs.Streams.{new_stream};
+ghost use Rattle.byte_streams.specs.Writes.{WritesAll, flagged};
+ghost use Rattle.play_schedules.specs.Laws.{bytes_of_full_play, full};
+ghost use Rattle.play_model.specs.Streams.{new_stream};
 ghost use Rattle.scan_vectors.specs.Failures.{found};
 ghost use Rattle.svf_programs.specs.Sizes.{program_of};
 ghost use Rattle.jt_player.specs.Kinds.{MeansAsPlayed, ending_in, found_of_ending, found_in};
 
-use byte_ends::{Counted, Sink};
-use direct_play::{play_program, play_program_all, play_program_all_noted, play_program_noted};
+use byte_streams::{Counted, Sink};
 use jt_board::Board;
-use plays::{Ending, Kind};
+use play_direct::{play_program, play_program_all, play_program_all_noted, play_program_noted};
+use play_model::{Ending, Kind};
+use player::Player;
 use scan_vectors::{Failures, Mismatch};
-use stream_player::Player;
 use svf_programs::Program;
 
 /// Plays the program of a fresh player on a board, as if each byte were taken by the board as soon as it is made, and

@@ -1,13 +1,13 @@
 //! What is told of input that no run comes of: a board that is not made, a file that cannot be read, want of memory.
 
 ghost use Rattle.std.specs.Prelude.{◌≡◌, codes, flat_map};
-ghost use Rattle.byte_ends.specs.Writes.{WritesAll};
+ghost use Rattle.byte_streams.specs.Writes.{WritesAll};
 ghost use Rattle.jt_player.specs.Running.{Tells};
 ghost use Rattle.jt_player.specs.Showing as showing;
 ghost use Rattle.jt_player.specs.Showing.{board_refusal_line, board_refusal_status, name_byte, unreadable_line};
 
 use crate::showing::hex_byte;
-use byte_ends::{Broken, Counted, Sink, put_all, put_pieces};
+use byte_streams::{Broken, Counted, Sink, put_all, put_pieces};
 use jt_board::{BoardFault, BsdlFault};
 
 /// The exit status of input that is refused.
@@ -43,7 +43,7 @@ pub fn refuse_file<E: Sink>(name: &str, err: &mut Counted<E>) -> Result<u8, Brok
 }
 
 /// Writes the line of a file that cannot be read.
-#[tactic(auto, using(byte_ends::proofs::Fronts::fronts))]
+#[tactic(auto, using(byte_streams::proofs::Fronts::fronts))]
 fn write_unreadable<E: Sink>(name: &str, err: &mut Counted<E>) -> Result<(), Broken>
     requires { err.old.failures ≡ 0 }
     ensures { WritesAll E.contents err.old err.new (unreadable_line name.now) result }

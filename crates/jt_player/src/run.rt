@@ -1,10 +1,10 @@
 //! A whole run: a text is accepted or refused, played or only checked, and told of.
 
 ghost use Rattle.std.specs.Prelude.{◌≡◌, ◌≢◌, ◌⊎◌, ◌++◌, IfOk, OnOk, codes};
-ghost use Rattle.byte_ends.specs.Writes.{WritesAll};
+ghost use Rattle.byte_streams.specs.Writes.{WritesAll};
 ghost use Rattle.board_report.specs.LeftOut.{left_out_lines};
-ghost use Rattle.every_schedule.specs.Laws.{full};
-ghost use Rattle.plays.specs.declared.kind.Kind.TheVariants.{Stops, PlaysOn};
+ghost use Rattle.play_schedules.specs.Laws.{full};
+ghost use Rattle.play_model.specs.declared.kind.Kind.TheVariants.{Stops, PlaysOn};
 ghost use Rattle.scan_vectors.specs.Failures.{found};
 ghost use Rattle.svf_programs.specs.Sizes.{program_of};
 ghost use Rattle.jt_player.specs.Kinds.{ending_in, found_in};
@@ -14,10 +14,10 @@ ghost use Rattle.jt_player.specs.Showing.{accepted_line, refusal_line};
 use crate::play::{play_kind, play_kind_noted};
 use crate::refusing::refuse_memory;
 use crate::showing::{write_accepted, write_ending, write_refusal};
-use byte_ends::{Broken, Counted, Sink, put_all};
-use direct_play::accept;
+use byte_streams::{Broken, Counted, Sink, put_all};
 use jt_board::{Board, write_left_out, write_report};
-use plays::{Ending, Kind};
+use play_direct::accept;
+use play_model::{Ending, Kind};
 use scan_vectors::Failures;
 use std::alloc::Global;
 use svf_parse::{Code, SvfFault};

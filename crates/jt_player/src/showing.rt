@@ -1,17 +1,17 @@
 //! The lines that a run shows.
 
 ghost use Rattle.std.specs.Prelude.{◌≡◌, ◌++◌, flat_map};
-ghost use Rattle.byte_ends.specs.Writes.{WritesAll};
+ghost use Rattle.byte_streams.specs.Writes.{WritesAll};
 ghost use Rattle.jt_player.specs.Showing as showing;
 ghost use Rattle.jt_player.specs.Showing.{accepted_line, ending_lines, mismatch_line, refusal_line, total_line};
 ghost use Rattle.scan_vectors.specs.Failures.{found};
 ghost use Rattle.svf_programs.specs.Sizes.{program_of};
-ghost use Rattle.plays.specs.Endings as endings;
-ghost use Rattle.plays.specs.Endings.{verdict_line};
+ghost use Rattle.play_model.specs.Endings as endings;
+ghost use Rattle.play_model.specs.Endings.{verdict_line};
 
-use byte_ends::{Broken, Counted, Sink, put_all, put_pieces};
+use byte_streams::{Broken, Counted, Sink, put_all, put_pieces};
 use itoa::Buffer;
-use plays::{Ending, Kind};
+use play_model::{Ending, Kind};
 use scan_vectors::{Failures, Mismatch, Part};
 use svf_parse::{Code, SvfFault};
 use svf_programs::Program;

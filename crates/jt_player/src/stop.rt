@@ -3,7 +3,7 @@
 ghost use Rattle.std.specs.Prelude.{◌≡◌, ◌≤◌, ⊤};
 ghost use Rattle.jt_player.specs.Stopping.{StopCalls};
 
-use byte_ends::{Sink, Source};
+use byte_streams::{Sink, Source};
 use std::io;
 use std::io::{Error, ErrorKind, Read, Write};
 

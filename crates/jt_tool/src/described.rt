@@ -6,9 +6,9 @@ use board_file::{Describe, Unread, plan_of_table};
 use board_plan::Plan;
 use bsdl::{BsdlFault, read as read_device};
 use bsdl_device::Device;
-use byte_ends::{Counted, Sink};
+use byte_streams::{Counted, Sink};
+use command_line::{Descriptions, InputFault, read_board_file};
 use jt_player::{Board, BoardFault, board_table, table_names};
-use program_input::{Descriptions, InputFault, read_board_file};
 use std::alloc::{AllocError, Global};
 use toml::Table;
 

@@ -2,12 +2,12 @@
 ghost use Rattle.std.specs.Prelude.{◌≡◌};
 
 use crate::described::{RefusedFile, Unmade};
-use byte_ends::{Broken, Counted, Sink};
-use explained_play::run_play_explained;
+use byte_streams::{Broken, Counted, Sink};
 use jt_player::{
     Board, BoardFault, Kind, SvfFault, accept, refuse_board, refuse_file, refuse_text, run_check,
     run_play, run_play_all,
 };
+use play_explained::run_play_explained;
 use refusal_places::{refused_board, refused_description, refused_text};
 use std::alloc::Global;
 

@@ -3,12 +3,12 @@ ghost use Rattle.std.specs.Prelude.{◌≡◌};
 
 use crate::explained::refuse_program;
 use crate::links::{Link, connect, pair};
-use byte_ends::{Broken, Counted, End, Plain, Sink};
+use byte_streams::{Broken, Counted, End, Plain, Sink};
 use command_line::Server;
-use explained_play::{Accepted, run_loop_explained, run_over_explained};
 use jt_player::{
     Board, Ending, Kind, Program, SvfFault, accept, run_loop, run_over, tell_unplayed, tell_verdict,
 };
+use play_explained::{Accepted, run_loop_explained, run_over_explained};
 use std::alloc::Global;
 use std::io;
 

@@ -11,14 +11,13 @@ use crate::explained::{check_text, play_text, tell_unmade};
 use crate::linked::{AcceptedText, loop_over_socket, play_on_server};
 use crate::links::{accept, listen};
 use board_description::Untold;
-use byte_ends::{Broken, Counted, Plain};
+use byte_streams::{Broken, Counted, Plain};
 use clap::error::ErrorKind as WordsFault;
-use command_line::{Request, Serving, Task, parse};
+use command_line::{InputFault, Request, Serving, Task, command_words, parse, read_text};
 use jt_player::{
     Board, Kind, Served, refuse_file, refuse_memory, run_serve, tell_listening, tell_served,
     write_report,
 };
-use program_input::{InputFault, command_words, read_text};
 use std::alloc::Global;
 use std::io::ErrorKind;
 use std::net::TcpListener;

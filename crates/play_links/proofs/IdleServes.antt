@@ -3,11 +3,11 @@ use Rattle.std.proofs.Common.{◌≡◌, ℕ, Bool, true, false, ◌&&◌, List,
 use Rattle.std.proofs.lemmas.List.{take-append-drop}
 use Rattle.std.specs.Prelude.{Option, Some, None}
 use Rattle.std.specs.List.{list_all}
-use Rattle.bitbang_table.specs.declared.Message.{Message}
-use Rattle.bitbang_table.specs.declared.Message.TheVariants.{Write}
-use Rattle.bitbang_table.specs.Protocol.{decode}
-use Rattle.board_meaning.specs.Chain.{BoardState, after_byte, after_bytes, reply_of}
-use Rattle.board_meaning.specs.declared.Reply.TheVariants as said
+use Rattle.bitbang_protocol.specs.declared.Message.{Message}
+use Rattle.bitbang_protocol.specs.declared.Message.TheVariants.{Write}
+use Rattle.bitbang_protocol.specs.Protocol.{decode}
+use Rattle.board_model.specs.Chain.{BoardState, after_byte, after_bytes, reply_of}
+use Rattle.board_model.specs.declared.Reply.TheVariants as said
 use Rattle.jt_board.specs.Idling.{is_idle_byte, writes_idle}
 use Rattle.play_links.specs.Leaving.{left_after, left_behind}
 use Rattle.play_links.specs.Serves.{serve_bytes, serve_one}

@@ -3,7 +3,7 @@ use Rattle.std.proofs.Common.{Bool, ℕ, suc, List, Option, Result}
 use Rattle.std.specs.Prelude.{Ok}
 use Rattle.std.specs.Io.KnownBytes.{Keeps}
 use Rattle.std.proofs.KnownBytes.{Keeps-refl, Keeps-trans}
-use Rattle.byte_ends.specs.Writes.{PutsAll, call_lost, none_left, some_put}
+use Rattle.byte_streams.specs.Writes.{PutsAll, call_lost, none_left, some_put}
 use Rattle.play_links.specs.Loops.{HearsAll, PutsCount, all_in, all_out, in_lost, out_lost, some_in, some_out}
 
 -- a law of an end

@@ -4,25 +4,25 @@ use Rattle.std.specs.Prelude.{◌==◌, is_some, if◌then◌else◌}
 use Rattle.std.specs.List.{list_any}
 use Rattle.std.proofs.lemmas.Bool.{eq-eqb, eqb-true}
 use Rattle.std.proofs.lemmas.List.{drop_all}
-use Rattle.bitbang_table.specs.declared.Message.{Message}
-use Rattle.bitbang_table.specs.declared.Message.TheVariants.{Write, Ask, Quit, Light, Lines}
-use Rattle.bitbang_table.specs.Protocol.{encode}
-use Rattle.board_meaning.specs.Chain.{BoardState, after_message, hear}
-use Rattle.byte_ends.specs.Counts.{CountedView}
+use Rattle.bitbang_protocol.specs.declared.Message.{Message}
+use Rattle.bitbang_protocol.specs.declared.Message.TheVariants.{Write, Ask, Quit, Light, Lines}
+use Rattle.bitbang_protocol.specs.Protocol.{encode}
+use Rattle.board_model.specs.Chain.{BoardState, after_message, hear}
+use Rattle.byte_streams.specs.Counts.{CountedView}
 use Rattle.svf_programs.specs.Steps.{Program}
-use Rattle.every_schedule.specs.Fronts.{IsFront}
-use Rattle.every_schedule.proofs.BothPlayers.{no-quit-for}
-use Rattle.every_schedule.proofs.Fronts.{front-take}
-use Rattle.every_schedule.proofs.Quits.{has_quit, quit-append, quit-last}
-use Rattle.plays.specs.declared.ending.Ending.{Ending}
-use Rattle.plays.specs.Play.{sent}
-use Rattle.plays.specs.Playing.{PlayerState, has_bad_answer, new_player}
-use Rattle.plays.specs.declared.kind.Kind.{Kind}
-use Rattle.plays.specs.PlayingOn.{turns_for}
-use Rattle.plays.proofs.Asks.{asks, hear-asks}
-use Rattle.streaming.specs.Histories as history
-use Rattle.streaming.specs.Histories.{bits_told}
-use Rattle.streaming.proofs.Agree.{ask-count, counts, quit-byte}
+use Rattle.play_schedules.specs.Fronts.{IsPrefix}
+use Rattle.play_schedules.proofs.BothPlayers.{no-quit-for}
+use Rattle.play_schedules.proofs.Fronts.{front-take}
+use Rattle.play_schedules.proofs.Quits.{has_quit, quit-append, quit-last}
+use Rattle.play_model.specs.declared.ending.Ending.{Ending}
+use Rattle.play_model.specs.Play.{sent}
+use Rattle.play_model.specs.Playing.{PlayerState, has_bad_answer, new_player}
+use Rattle.play_model.specs.declared.kind.Kind.{Kind}
+use Rattle.play_model.specs.PlayingOn.{turns_for}
+use Rattle.play_model.proofs.Asks.{asks, hear-asks}
+use Rattle.play_schedules.specs.Histories as history
+use Rattle.play_schedules.specs.Histories.{bits_told}
+use Rattle.play_schedules.proofs.Agree.{ask-count, counts, quit-byte}
 use Rattle.play_links.specs.declared.serving.Served.{Served}
 use Rattle.play_links.specs.declared.serving.Served.TheVariants as stopping
 use Rattle.play_links.specs.Honest.{AreLinked, CountsWhereLinked}
@@ -31,7 +31,7 @@ use Rattle.play_links.specs.Loops.{Counts, HearsAll, LoopRuns, LoopsOver, Loss, 
 use Rattle.play_links.specs.Loops.{a_turn, answer_lost, arrival_lost, no_turn, quit_turn, return_lost, send_lost, unfit}
 use Rattle.play_links.specs.Serves.{ServedBytes, serve_bytes}
 use Rattle.play_links.proofs.Histories.{Stands, heard-stands, put-stands, stands-new}
-use Rattle.streaming.proofs.HonestWindow.{take-encoded}
+use Rattle.play_schedules.proofs.HonestWindow.{take-encoded}
 use Rattle.play_links.proofs.HonestLink.{encoded-one, ends_whole, length-answers, linked_honest, same-length, serve-encoded}
 use Rattle.play_links.proofs.LoopHonest.{all-read, all-taken, one-turn}
 use Rattle.play_links.proofs.LoopSo.{fits-none}
@@ -140,7 +140,7 @@ module _ {P B E : Type 0} (kind : Kind) (puts : P → List ℕ → Result ℕ E 
     stop : (serve_bytes read start).stop ≡ None
     answers : length (serve_bytes read start).answers ≡ length p.got
 
-  waits-good : (p : PlayerState) (piece : List ℕ) → IsFront piece (waiting kind p) → 0 < length piece → has_bad_answer p ≡ false
+  waits-good : (p : PlayerState) (piece : List ℕ) → IsPrefix piece (waiting kind p) → 0 < length piece → has_bad_answer p ≡ false
   waits-good p piece front some = by (has_bad_answer p) refl
     where
       by : (bad : Bool) → has_bad_answer p ≡ bad → has_bad_answer p ≡ false

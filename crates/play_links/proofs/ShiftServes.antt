@@ -11,19 +11,19 @@ use Rattle.jt_bits.specs.Packed.{has_bit}
 use Rattle.jt_bits.specs.Words.{bit_of}
 use Rattle.jt_bits.proofs.PackedWords.{bit_read, or_bit, shl_high, shl_low}
 use Rattle.std.specs.Prelude.{Option, Some, None, slice_index_or}
-use Rattle.bitbang_table.specs.declared.Cycle.{Cycle}
-use Rattle.bitbang_table.specs.declared.Message.{Message}
-use Rattle.bitbang_table.specs.declared.Message.TheVariants.{Write}
-use Rattle.bitbang_table.specs.Cycles.{closed_messages}
-use Rattle.bitbang_table.specs.Protocol.{answer, decode}
-use Rattle.board_meaning.specs.Chain.{BoardState, ChipState, Heard, after_message, fall, hear, members, reply_of, rise_all, tdi_before}
-use Rattle.board_meaning.specs.declared.Reply.{Reply}
-use Rattle.board_meaning.specs.declared.Reply.TheVariants as said
-use Rattle.board_meaning.specs.Nets.{told}
-use Rattle.whole_chain.specs.Words.{word_bits}
-use Rattle.whole_chain.proofs.Rows.{bit-left, bit-right}
+use Rattle.bitbang_protocol.specs.declared.Cycle.{Cycle}
+use Rattle.bitbang_protocol.specs.declared.Message.{Message}
+use Rattle.bitbang_protocol.specs.declared.Message.TheVariants.{Write}
+use Rattle.bitbang_protocol.specs.Cycles.{closed_messages}
+use Rattle.bitbang_protocol.specs.Protocol.{answer, decode}
+use Rattle.board_model.specs.Chain.{BoardState, ChipState, Heard, after_message, fall, hear, members, reply_of, rise_all, tdi_before}
+use Rattle.board_model.specs.declared.Reply.{Reply}
+use Rattle.board_model.specs.declared.Reply.TheVariants as said
+use Rattle.board_model.specs.Nets.{told}
+use Rattle.board_scan.specs.Words.{word_bits}
+use Rattle.board_scan.proofs.Rows.{bit-left, bit-right}
 use Rattle.jt_bits.proofs.WordShifts.{length-word}
-use Rattle.whole_chain.proofs.WordLaws.{is_front}
+use Rattle.board_scan.proofs.WordLaws.{is_front}
 use Rattle.jt_board.specs.Shifting.{shift_cycles, shifts}
 use Rattle.play_links.specs.Leaving.{left_after, left_behind}
 use Rattle.play_links.specs.Serves.{ServedBytes, serve_bytes, serve_one}

@@ -2,19 +2,19 @@
 use Rattle.std.proofs.Common.{◌≡◌, Bool, true, false, ℕ, zero, suc, ◌+◌, ◌-◌, ◌<◌, ◌≤◌, List, [], ◌∷◌, ◌++◌, length, take, drop, refl, sym, ap, ◌∙◌, subst, arith, append_assoc, append-nil, length-append, length-drop, length-take, Option, Result, Ok}
 use Rattle.std.proofs.Math.Seq.{drop-append-le, take-add, take-length}
 use Rattle.std.proofs.lemmas.List.{drop-drop}
-use Rattle.stream_player.proofs.BufferFills.{waiting-more}
+use Rattle.player.proofs.BufferFills.{waiting-more}
 use Rattle.play_links.proofs.Waiting.{hears-all, take-all}
 use borrow.Rule.Slice.PartMut.{put_mid}
-use Rattle.byte_ends.specs.Counts.{CountedView, ended_after, is_end, is_lost, lost_after}
-use Rattle.every_schedule.specs.Fronts.{IsFront}
-use Rattle.plays.specs.Streams as stream
-use Rattle.plays.specs.Streams.{StreamState, hear_bytes}
+use Rattle.byte_streams.specs.Counts.{CountedView, ended_after, is_end, is_lost, lost_after}
+use Rattle.play_schedules.specs.Fronts.{IsPrefix}
+use Rattle.play_model.specs.Streams as stream
+use Rattle.play_model.specs.Streams.{StreamState, hear_bytes}
 use Rattle.play_links.specs.Loops.{HearsAll, IsLost, PutsCount, hears_end, all_in, all_out, in_lost, out_lost, some_in, some_out}
 use Rattle.play_links.specs.Turns.{GivesAll, HearsWhole, ServesTurn, TakesTurn, answered, fits_stream, not_answered, not_fit, not_read}
 use Rattle.play_links.specs.Serves.{serve_bytes}
 use Rattle.play_links.specs.declared.serving.Served.{Served}
-use Rattle.board_meaning.specs.Chain.{BoardState}
-use Rattle.byte_ends.specs.Writes.{AppendsFront, PutsAll, WritesAll}
+use Rattle.board_model.specs.Chain.{BoardState}
+use Rattle.byte_streams.specs.Writes.{AppendsFront, PutsAll, WritesAll}
 use Rattle.std.specs.Io.KnownBytes.{Appends, Consumes, ReadConsumes, WriteAppends}
 use Rattle.std.proofs.KnownBytes.{Appends-nil, Appends-trans, Consumes-nil, Consumes-trans}
 use Rattle.std.specs.Prelude.{◌&&◌, ◌||◌, Err, is_err, is_ok}
@@ -36,7 +36,7 @@ module _ {W E : Type 0} (puts : W → List ℕ → Result ℕ E → W → Type 0
     pub counted : taken + length rest ≡ length piece
     pub calls : (k : ℕ) (whole : Bool) (u : W) → PutsCount puts w.inner rest k whole u → PutsCount puts w₀.inner piece (taken + k) whole u
     pub given : s ≡ record s₀ { given = s₀.given + taken }
-    pub front : IsFront rest (stream.bytes_to_send 256 s)
+    pub front : IsPrefix rest (stream.bytes_to_send 256 s)
     pub unlost : w.failures ≡ 0
     pub same_end : w.at_end ≡ w₀.at_end
     pub rest_is : rest ≡ drop taken piece
@@ -48,7 +48,7 @@ module _ {W E : Type 0} (puts : W → List ℕ → Result ℕ E → W → Type 0
   none-more : (k : ℕ) → k ≡ 0 + k
   none-more k = omega arith
 
-  pub giving-new : (piece : List ℕ) (s : StreamState) → IsFront piece (stream.bytes_to_send 256 s) → w₀.failures ≡ 0 → Giving w₀ piece piece s s
+  pub giving-new : (piece : List ℕ) (s : StreamState) → IsPrefix piece (stream.bytes_to_send 256 s) → w₀.failures ≡ 0 → Giving w₀ piece piece s s
   giving-new piece s front unlost = record {
     taken = 0;
     counted = omega arith;

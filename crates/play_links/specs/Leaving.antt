@@ -1,8 +1,8 @@
 -- The bytes that a board leaves where it stops.
 use Rattle.std.specs.Prelude.{ℕ, List, [], ◌∷◌}
-use Rattle.board_meaning.specs.Chain.{BoardState, after_byte, reply}
-use Rattle.board_meaning.specs.declared.Reply.{Reply}
-use Rattle.board_meaning.specs.declared.Reply.TheVariants as said
+use Rattle.board_model.specs.Chain.{BoardState, after_byte, reply}
+use Rattle.board_model.specs.declared.Reply.{Reply}
+use Rattle.board_model.specs.declared.Reply.TheVariants as said
 
 -- after a reply: those behind the byte where it stops there, and else those that it leaves of them
 abbrev pub left_after : Reply → (behind left : List ℕ) → List ℕ

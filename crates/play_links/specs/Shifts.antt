@@ -1,12 +1,12 @@
 -- Cycles with TMS low among the bytes that a board is served.
 use Rattle.std.specs.Prelude.{◌≡◌, Bool, true, false, ℕ, ◌+◌, ◌≤◌, List, [], ◌∷◌, ◌++◌, map, length, Option, Some}
 use Rattle.std.specs.Prelude.{if◌then◌else◌}
-use Rattle.bitbang_table.specs.declared.Cycle.{Cycle}
-use Rattle.bitbang_table.specs.declared.Message.{Message}
-use Rattle.bitbang_table.specs.declared.Message.TheVariants.{Write}
-use Rattle.bitbang_table.specs.Protocol.{answer}
-use Rattle.board_meaning.specs.Chain.{BoardState, Heard, after_message, tdi_before}
-use Rattle.whole_chain.specs.Words.{word_bits}
+use Rattle.bitbang_protocol.specs.declared.Cycle.{Cycle}
+use Rattle.bitbang_protocol.specs.declared.Message.{Message}
+use Rattle.bitbang_protocol.specs.declared.Message.TheVariants.{Write}
+use Rattle.bitbang_protocol.specs.Protocol.{answer}
+use Rattle.board_model.specs.Chain.{BoardState, Heard, after_message, tdi_before}
+use Rattle.board_scan.specs.Words.{word_bits}
 use Rattle.play_links.specs.Leaving.{left_behind}
 use Rattle.play_links.specs.Serves.{ServedBytes, serve_bytes}
 

@@ -1,20 +1,20 @@
 //! Both ends of a connection, in turn and in one thread.
 
 ghost use Rattle.std.specs.Prelude.{◌≡◌, ◌<◌, ◌≤◌, ◌+◌, length, not, None};
-ghost use Rattle.every_schedule.specs.Fronts.{IsFront};
-ghost use Rattle.plays.specs.Streams as stream;
-ghost use Rattle.plays.specs.Streams.{new_stream};
+ghost use Rattle.play_schedules.specs.Fronts.{IsPrefix};
+ghost use Rattle.play_model.specs.Streams as stream;
+ghost use Rattle.play_model.specs.Streams.{new_stream};
 ghost use Rattle.scan_vectors.specs.Failures.{found};
 ghost use Rattle.play_links.specs.Loops.{LoopsAllOver, LoopsOver};
 ghost use Rattle.play_links.specs.Turns.{GivesAll, HearsWhole, Loops, ServesTurn, SomeTurn, TakesTurn, fits_stream};
-ghost use Rattle.stream_player.specs.Window.{window};
+ghost use Rattle.player.specs.Window.{window};
 
 use crate::serving::{Served, take_bytes};
-use byte_ends::{Counted, End, Sink, Source, put_all};
+use byte_streams::{Counted, End, Sink, Source, put_all};
 use jt_board::Board;
-use plays::Ending;
+use play_model::Ending;
+use player::Player;
 use scan_vectors::Failures;
-use stream_player::Player;
 
 /// The most bytes that go one way in a turn.
 const TURN: usize = 1024;
@@ -34,7 +34,7 @@ fn give_out_first(player: &mut Player, n: usize)
 fn give_all<W: Sink>(writer: &mut Counted<W>, player: &mut Player, piece: &[u8]) -> bool
     requires unlost { writer.old.failures ≡ 0 }
     requires few { length piece.now ≤ 1024 }
-    requires front { IsFront piece.now (stream.bytes_to_send window player.old) }
+    requires front { IsPrefix piece.now (stream.bytes_to_send window player.old) }
     ensures { GivesAll W.puts W.contents writer.old writer.new piece.now player.old player.new result }
 {
     let mut rest = piece;

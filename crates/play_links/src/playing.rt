@@ -1,19 +1,19 @@
 //! The player's end of a connection.
 
 ghost use Rattle.std.specs.Prelude.{◌≡◌, ◌<◌, ◌≤◌, ◌+◌, [], None, length, not};
-ghost use Rattle.every_schedule.specs.Fronts.{IsFront};
-ghost use Rattle.plays.specs.Streams as stream;
-ghost use Rattle.plays.specs.Streams.{new_stream};
+ghost use Rattle.play_schedules.specs.Fronts.{IsPrefix};
+ghost use Rattle.play_model.specs.Streams as stream;
+ghost use Rattle.play_model.specs.Streams.{new_stream};
 ghost use Rattle.play_links.specs.Calls.{Goes, IsCall, IsHeard, IsPut};
 ghost use Rattle.scan_vectors.specs.Failures.{found};
-ghost use Rattle.stream_player.specs.Shown.{IsShown};
-ghost use Rattle.stream_player.specs.Window.{window};
+ghost use Rattle.player.specs.Shown.{IsShown};
+ghost use Rattle.player.specs.Window.{window};
 ghost use Rattle.play_links.specs.Links.{PlaysAllOver, PlaysOver};
 
-use byte_ends::{Counted, Sink, Source};
-use plays::Ending;
+use byte_streams::{Counted, Sink, Source};
+use play_model::Ending;
+use player::{Player, Shown};
 use scan_vectors::Failures;
-use stream_player::{Player, Shown};
 
 /// The most bytes that are handed to a writer, or asked of a reader, at once.
 const PIECE: usize = 1024;
@@ -29,7 +29,7 @@ fn put<W: Sink>(
     requires unlost { writer.old.failures ≡ 0 }
     requires shown { IsShown player.old shown }
     requires some { 0 < length piece.old }
-    requires front { IsFront piece.old (stream.bytes_to_send window player.old) }
+    requires front { IsPrefix piece.old (stream.bytes_to_send window player.old) }
     ensures { IsPut W.puts W.contents writer.old writer.new piece.old player.old player.new result }
 {
     match writer.put(piece) {

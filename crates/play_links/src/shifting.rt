@@ -2,14 +2,14 @@
 
 ghost use Rattle.std.specs.Prelude.{◌≡◌, ◌+◌, ◌<◌, ◌≤◌, ◌++◌, true, false, length, map, take};
 ghost use Rattle.std.specs.Prelude.{MatchOption, Some, ⊤};
-ghost use Rattle.bitbang_table.specs.Protocol.{answer, decode};
-ghost use Rattle.bitbang_table.specs.declared.Message.TheVariants.{Write};
+ghost use Rattle.bitbang_protocol.specs.Protocol.{answer, decode};
+ghost use Rattle.bitbang_protocol.specs.declared.Message.TheVariants.{Write};
 ghost use Rattle.play_links.specs.Leaving.{left_behind};
 ghost use Rattle.play_links.specs.Serves.{serve_bytes};
 ghost use Rattle.play_links.specs.Shifts.{IsCycle, IsRun, picked, writes_low};
-ghost use Rattle.whole_chain.specs.Words.{word_bits};
+ghost use Rattle.board_scan.specs.Words.{word_bits};
 
-use bitbang_table::Cycle;
+use bitbang_protocol::Cycle;
 use jt_board::Board;
 
 /// The fewest cycles that the board takes at once: edge by edge each asks every device, a word asks each once.
@@ -86,7 +86,7 @@ fn put_answers(answers: &mut [u8], count: usize, run: Run, out: u64) -> usize
     let mut at = count;
     for k in 0..run.count {
         if run.reads >> k & 1 == 1 {
-            answers[at] = bitbang_table::answer(out >> k & 1 == 1);
+            answers[at] = bitbang_protocol::answer(out >> k & 1 == 1);
             at += 1;
         }
     }

@@ -2,7 +2,7 @@
 //! counts, and that the calls succeed.
 ghost use Rattle.std.specs.Prelude.{⊤};
 
-use byte_ends::{Both, Broken, Counted, End, Plain, Sink, Source, put_all};
+use byte_streams::{Both, Broken, Counted, End, Plain, Sink, Source, put_all};
 use std::alloc::Global;
 use std::io;
 use std::io::{Error, ErrorKind, Read, Write};

@@ -1,5 +1,5 @@
 use crate::players::player_of;
-use byte_ends::{Counted, Plain};
+use byte_streams::{Counted, Plain};
 use jt_player::{Board, Ending, play_board, run_check, run_play};
 use std::alloc::Global;
 use std::process::Abort;

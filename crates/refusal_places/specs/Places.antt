@@ -8,13 +8,13 @@ use Rattle.bsdl_values.specs.declared.Attribute.{Attribute}
 use Rattle.bsdl_values.specs.declared.Attribute.TheVariants as attribute
 use Rattle.bsdl.specs.declared.fault.BsdlFault.{BsdlFault}
 use Rattle.bsdl.specs.declared.fault.BsdlFault.TheVariants as bsdl
-use Rattle.board_names.specs.declared.fault.BoardFault.{BoardFault}
-use Rattle.board_names.specs.declared.fault.BoardFault.TheVariants as board
+use Rattle.board_tables.specs.declared.fault.BoardFault.{BoardFault}
+use Rattle.board_tables.specs.declared.fault.BoardFault.TheVariants as board
 use Rattle.board_description.specs.Names.{shown}
 use Rattle.board_description.specs.Words.{texts}
-use Rattle.text_places.specs.declared.Position.{Position}
-use Rattle.text_places.specs.Positions.{position_of}
-use Rattle.text_places.specs.Starts.{statement_position}
+use Rattle.refusal_places.specs.declared.text_positions.Position.{Position}
+use Rattle.refusal_places.specs.Positions.{position_of}
+use Rattle.refusal_places.specs.Starts.{statement_position}
 
 abbrev pub place_words : Position → List ℕ
 place_words p = texts (codes "at line " ∷ decimal p.line ∷ codes " column " ∷ decimal p.column ∷ [])

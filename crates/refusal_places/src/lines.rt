@@ -1,16 +1,16 @@
 //! The second line of a refusal.
 ghost use Rattle.std.specs.Prelude.{◌≡◌, ◌++◌, codes};
-ghost use Rattle.byte_ends.specs.Writes.{WritesAll};
+ghost use Rattle.byte_streams.specs.Writes.{WritesAll};
 ghost use Rattle.board_description.specs.Names.{shown};
 ghost use Rattle.refusal_places.specs.Places as places;
 
 use crate::names::write_shown;
-use board_names::BoardFault;
+use crate::text_positions::{Position, position_of, statement_position};
+use board_tables::BoardFault;
 use bsdl::{Attribute, BsdlFault};
-use byte_ends::{Broken, Counted, Sink, put_all, put_pieces};
+use byte_streams::{Broken, Counted, Sink, put_all, put_pieces};
 use itoa::Buffer;
 use svf_words::{Code, SvfFault};
-use text_places::{Position, position_of, statement_position};
 
 /// Writes where a refusal of SVF text lies, `at line 3 column 1`: a byte that begins nothing and a statement that is
 /// not closed at their places, any other where its statement starts. Nothing where the text is too long or memory ran

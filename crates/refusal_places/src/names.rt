@@ -1,9 +1,9 @@
 //! Names as they are told.
 ghost use Rattle.std.specs.Prelude.{◌≡◌, flat_map};
-ghost use Rattle.byte_ends.specs.Writes.{WritesAll};
+ghost use Rattle.byte_streams.specs.Writes.{WritesAll};
 ghost use Rattle.board_description.specs.Names as told;
 
-use byte_ends::{Broken, Counted, Sink, put_all, put_pieces};
+use byte_streams::{Broken, Counted, Sink, put_all, put_pieces};
 
 /// The byte DEL of ASCII, a control byte as those below the blank are.
 const DELETE: u8 = 127;

@@ -1,7 +1,7 @@
 //! Calls that make a board.
 
 use crate::given::{REFUSED, USUAL};
-use byte_ends::{Counted, Plain};
+use byte_streams::{Counted, Plain};
 use jt_player::{Board, BoardFault, bsdl_names, write_report};
 use std::alloc::Global;
 use std::io;

@@ -1,6 +1,6 @@
 //! What a call is given, and how it is told that it wanted memory.
 
-use byte_ends::Counted;
+use byte_streams::Counted;
 use jt_player::{Board, write_report};
 use std::alloc::{AllocError, Global};
 use std::env;

@@ -2,7 +2,7 @@
 
 use crate::boards::tell_report;
 use crate::given::{BEFORE, CHANGED, REFUSED, USUAL, report_of};
-use byte_ends::{Counted, Plain};
+use byte_streams::{Counted, Plain};
 use jt_player::{
     Board, Ending, Joined, Kind, Player, Unjoined, accept, run_check, run_play, run_play_all,
 };

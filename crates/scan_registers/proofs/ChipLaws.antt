@@ -1,17 +1,17 @@
 -- What a decoded instruction gives a chip.
 use Rattle.std.proofs.Common.{◌≡◌, ◌<◌, ℕ, List, [], ◌∷◌, Bool, false, length, map, slice_get, Option, Some, option_map, refl, sym, ap, subst, ◌∙◌, arith, if◌then◌else◌}
 use Rattle.bsdl_device.specs.Device.{Device}
-use Rattle.device_instructions.specs.declared.Selected.{Selected}
-use Rattle.device_instructions.specs.declared.Selected.TheVariants.{Bypass, Identification, Boundary, User}
-use Rattle.device_instructions.specs.declared.decoding.Decoded.{Decoded}
-use Rattle.device_instructions.specs.Fitting.{IsFormed, Fits, FitsAt, fixed_of, has_code, meaning_by}
-use Rattle.device_instructions.specs.Instruction.{meaning, reset_latch}
+use Rattle.chip_instructions.specs.declared.Selected.{Selected}
+use Rattle.chip_instructions.specs.declared.Selected.TheVariants.{Bypass, Identification, Boundary, User}
+use Rattle.chip_instructions.specs.declared.decoding.Decoded.{Decoded}
+use Rattle.chip_instructions.specs.Fitting.{IsFormed, Fits, FitsAt, fixed_of, has_code, meaning_by}
+use Rattle.chip_instructions.specs.Instruction.{meaning, reset_latch}
 use Rattle.std.proofs.lemmas.List.{length-replicate}
 use Rattle.std.proofs.lemmas.Option.{slice_get-map}
-use Rattle.device_registers.specs.declared.data.DataRegisters.{DataRegisters}
-use Rattle.device_registers.specs.declared.users.UserRegister.{UserRegister}
-use Rattle.device_registers.specs.Data.{Lengths, IsThere, FixedFits, lengths_of}
-use Rattle.device_registers.specs.Registers.{new_user, zeros}
+use Rattle.chip_registers.specs.declared.data.DataRegisters.{DataRegisters}
+use Rattle.chip_registers.specs.declared.users.UserRegister.{UserRegister}
+use Rattle.chip_registers.specs.Data.{Lengths, IsThere, FixedFits, lengths_of}
+use Rattle.chip_registers.specs.Registers.{new_user, zeros}
 use Rattle.scan_registers.specs.Chips.{lengths_in}
 
 -- the lengths of a user register, by its place

@@ -4,13 +4,13 @@ use Rattle.jt_tap.specs.declared.Column.{Column}
 use Rattle.jt_tap.specs.declared.State.{State}
 use Rattle.jt_tap.specs.declared.State.TheVariants.{Reset}
 use Rattle.bsdl_device.specs.Device.{Device}
-use Rattle.device_instructions.specs.declared.Mode.{Mode}
-use Rattle.device_registers.specs.declared.users.UserRegister.{UserRegister}
-use Rattle.device_registers.specs.Data.{Lengths}
-use Rattle.device_registers.specs.Registers.{Registers, Surroundings, put, zeros, new_user}
+use Rattle.chip_instructions.specs.declared.Mode.{Mode}
+use Rattle.chip_registers.specs.declared.users.UserRegister.{UserRegister}
+use Rattle.chip_registers.specs.Data.{Lengths}
+use Rattle.chip_registers.specs.Registers.{Registers, Surroundings, put, zeros, new_user}
 use Rattle.scan_registers.specs.Edges.{OneChip}
-use Rattle.device_instructions.specs.Fitting.{has_code}
-use Rattle.device_instructions.specs.Instruction.{reset_latch}
+use Rattle.chip_instructions.specs.Fitting.{has_code}
+use Rattle.chip_instructions.specs.Instruction.{reset_latch}
 
 pub record ChipValue (B : Type 0) : Type 0 where
   pub device : Device

@@ -8,8 +8,8 @@ use Rattle.jt_tap.specs.declared.Work.{Work}
 use Rattle.jt_tap.specs.declared.Work.TheVariants.{Resets, Captures, Shifts, Updates}
 use Rattle.jt_bits.specs.Shifting.{after_shift}
 use Rattle.bsdl_device.specs.Device.{Device}
-use Rattle.device_registers.specs.Registers.{Registers, Surroundings, selected_bits, put, after_capture, after_update}
-use Rattle.device_registers.specs.Registers.{after_reset}
+use Rattle.chip_registers.specs.Registers.{Registers, Surroundings, selected_bits, put, after_capture, after_update}
+use Rattle.chip_registers.specs.Registers.{after_reset}
 
 -- The registers after a rising edge on which the controller stands in a state of this work.
 abbrev pub after_rise : Work → Device → Surroundings → Bool → Registers → Registers

@@ -5,12 +5,12 @@ use Rattle.std.proofs.Common.{sym, ap, ◌∙◌}
 use Rattle.jt_tap.specs.declared.Column.{Column}
 use Rattle.jt_tap.specs.declared.Column.TheVariants.{Dr, Ir}
 use Rattle.bsdl_device.specs.Device.{Device}
-use Rattle.device_instructions.specs.declared.Selected.{Selected}
-use Rattle.device_instructions.specs.declared.Selected.TheVariants.{Bypass, Identification, Boundary, User}
-use Rattle.device_registers.specs.declared.users.UserRegister.{UserRegister}
-use Rattle.device_instructions.specs.Instruction.{meaning}
-use Rattle.device_registers.specs.Registers.{Registers, selected_bits, put, stage_of, with_stage, user_stage}
-use Rattle.device_registers.specs.Registers.{with_user_stage}
+use Rattle.chip_instructions.specs.declared.Selected.{Selected}
+use Rattle.chip_instructions.specs.declared.Selected.TheVariants.{Bypass, Identification, Boundary, User}
+use Rattle.chip_registers.specs.declared.users.UserRegister.{UserRegister}
+use Rattle.chip_instructions.specs.Instruction.{meaning}
+use Rattle.chip_registers.specs.Registers.{Registers, selected_bits, put, stage_of, with_stage, user_stage}
+use Rattle.chip_registers.specs.Registers.{with_user_stage}
 use Rattle.scan_registers.specs.Edges.{OneChip}
 use Rattle.scan_registers.specs.Chips.{ChipValue, IsPut, one_chip, registers, with_registers}
 

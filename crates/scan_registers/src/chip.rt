@@ -7,17 +7,17 @@ ghost use Rattle.scan_registers.specs.Chips.{ChipValue, one_chip, surroundings_o
 ghost use Rattle.jt_bits.specs.Shifting.{after_shift};
 ghost use Rattle.scan_registers.specs.Edges.{rise, fall, after_trst};
 ghost use Rattle.scan_registers.specs.Edges.{tdo_after};
-ghost use Rattle.device_instructions.specs.Fitting.{IsFormed, meaning_by, has_code as is_coded};
-ghost use Rattle.device_instructions.specs.Instruction.{instruction, meaning};
-ghost use Rattle.device_registers.specs.Registers.{after_capture, put, selected_bits, after_update, after_reset};
+ghost use Rattle.chip_instructions.specs.Fitting.{IsFormed, meaning_by, has_code as is_coded};
+ghost use Rattle.chip_instructions.specs.Instruction.{instruction, meaning};
+ghost use Rattle.chip_registers.specs.Registers.{after_capture, put, selected_bits, after_update, after_reset};
 
 use crate::{Link, WordLink, same_bits};
 use bsdl_device::Device;
-use device_instructions::{
+use chip_instructions::{
     Decoded, Mode, Selected, SharedDevice, code_length, fixed_bits, has_code, instruction_of,
     reset_latch,
 };
-use device_registers::{DataRegisters, Register, WordRegister};
+use chip_registers::{DataRegisters, Register, WordRegister};
 use jt_bits::Bits;
 use jt_tap::{Column, State, Work};
 use std::alloc::{AllocError, Global};
@@ -44,9 +44,9 @@ pub struct Chip<B: Register> {
 impl<B: Register> Model for Chip<B> {
     ghost use Rattle.std.specs.Prelude.{◌≡◌, length};
     ghost use Rattle.scan_registers.specs.Chips.{ChipValue, lengths_in};
-    ghost use Rattle.device_instructions.specs.Fitting.{IsFormed, Fits, meaning_by};
-    ghost use Rattle.device_instructions.specs.Instruction as named;
-    ghost use Rattle.device_registers.specs.Data.{lengths_of};
+    ghost use Rattle.chip_instructions.specs.Fitting.{IsFormed, Fits, meaning_by};
+    ghost use Rattle.chip_instructions.specs.Instruction as named;
+    ghost use Rattle.chip_registers.specs.Data.{lengths_of};
 
     ghost Value = { ChipValue B };
 
@@ -366,7 +366,7 @@ impl<B: Register> Chip<B> {
 
 impl<B: Register> Link for Chip<B> {
     ghost use Rattle.scan_registers.specs.Chips.{IsPut, registers};
-    ghost use Rattle.device_registers.specs.Registers as meant;
+    ghost use Rattle.chip_registers.specs.Registers as meant;
     ghost use Rattle.scan_registers.specs.Puts.{put_nothing, put_both};
 
     ghost register = { λ c column. meant.selected_bits c.device column (registers B.stage B.update_part c) };

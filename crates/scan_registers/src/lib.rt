@@ -6,7 +6,7 @@ mod link;
 mod same;
 
 pub use chip::Chip;
-pub use device_instructions::{Mode, Selected, SharedDevice, is_formed};
-pub use device_registers::{Plain, Register, UserRegister, WordRegister};
+pub use chip_instructions::{Mode, Selected, SharedDevice, is_formed};
+pub use chip_registers::{Plain, Register, UserRegister, WordRegister};
 pub use link::{Link, WordLink};
 pub use same::same_bits;

@@ -1,4 +1,5 @@
 -- The cut of a text that is a row of parts.
+use Rattle.std.specs.Prelude.{⊤}
 use Rattle.std.proofs.Common.{◌≡◌, ℕ, suc, ◌+◌, ◌<◌, Bool, true, false, not, List, [], ◌∷◌, ◌++◌, length, drop, map, refl, sym, ap, ◌∙◌, subst, inl, inr, arith}
 use Rattle.std.proofs.lemmas.List.{drop_at, take_at}
 use Rattle.std.specs.List.{prefix_len, AllByRecursion}
@@ -14,7 +15,7 @@ use Rattle.svf_lex.proofs.Steps.{cut-cons}
 -- all of a front passes, and what follows it does not begin with more that passes
 module _ (p : ℕ → Bool) where
   abbrev pub Ends : List ℕ → Type 0
-  Ends [] = Unit {0}
+  Ends [] = ⊤
   Ends (c ∷ rest) = p c ≡ false
 
   prefix_len-append : (body after : List ℕ) → AllByRecursion (λ c. p c ≡ true) body → Ends after → prefix_len p (body ++ after) ≡ length body

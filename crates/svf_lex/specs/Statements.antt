@@ -1,4 +1,5 @@
 -- The tokens of a statement, up to its `;`.
+use Rattle.std.specs.Prelude.{⊤}
 use Rattle.std.specs.Prelude.{◌≡◌, ◌≢◌, List, [], ◌∷◌, Option, Some, None, Result, Ok, Err}
 use Rattle.svf_lex.specs.declared.Kind.TheVariants as kind
 use Rattle.svf_lex.specs.declared.LexFault.{LexFault}
@@ -8,8 +9,8 @@ use Rattle.svf_lex.specs.Scanning.{lexeme}
 
 -- a statement ends here: at its `;`, at a fault, or with the text
 abbrev pub IsOver : List (Result Lexeme LexFault) → Type 0
-IsOver [] = Unit {0}
-IsOver (Err e ∷ items) = Unit {0}
+IsOver [] = ⊤
+IsOver (Err e ∷ items) = ⊤
 IsOver (Ok t ∷ items) = t.kind ≡ kind.Semi
 
 -- the next token of a statement was taken, or the statement ends here and all stays

@@ -12,7 +12,7 @@ use Rattle.svf_words.specs.declared.fault.Code.TheVariants as code
 use Rattle.jt_bits.specs.declared.digits.HexFault.TheVariants.{TooWide}
 use Rattle.svf_parse.specs.Sizes.{ValuesAreWritten}
 use Rattle.svf_parse.specs.Judging.{bits, bits_written, field_fault}
-use Rattle.svf_numbers.proofs.Digits.{and_true}
+use Rattle.svf_words.proofs.Digits.{and_true}
 
 digit_is_no_white : (c : ℕ) → is_ascii_hexdigit c ≡ true → is_white c ≡ false
 digit_is_no_white c h = grind (arith, nat_tests)

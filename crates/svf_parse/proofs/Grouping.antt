@@ -11,11 +11,11 @@ use Rattle.svf_lex.specs.Left.{left}
 use Rattle.svf_words.specs.declared.fault.Code.TheVariants as code
 use Rattle.svf_words.specs.declared.fault.SvfFault.{SvfFault}
 use Rattle.svf_words.specs.Words.{Word, Groups, last, group, with_word, with_token, groups_of, first_words}
-use Rattle.svf_forms.specs.Behind.{with_words, Behind}
+use Rattle.svf_parse.specs.Behind.{with_words, Behind}
 use Rattle.svf_words.specs.declared.fault.Code.{Code}
 use Rattle.svf_words.specs.declared.keywords.Command.{Command}
 use Rattle.svf_words.specs.Keywords.{command_of}
-use Rattle.svf_forms.specs.Forms.{Form, form_of}
+use Rattle.svf_parse.specs.Forms.{Form, form_of}
 use Rattle.svf_parse.specs.declared.fault.Refusal.{Refusal}
 use Rattle.svf_parse.specs.declared.fault.Refusal.TheVariants as refusal
 use Rattle.svf_parse.specs.declared.fault.Stop.{Stop}

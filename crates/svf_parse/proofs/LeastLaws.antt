@@ -7,10 +7,10 @@ use Rattle.svf_words.specs.declared.keywords.Clock.{Clock}
 use Rattle.svf_words.specs.declared.keywords.Clock.TheVariants as clock
 use Rattle.svf_words.specs.Words.{Word}
 use Rattle.svf_words.specs.Faults.{number, lower_code}
-use Rattle.svf_forms.specs.Fields.{Fields}
-use Rattle.svf_forms.specs.RunTests.{RunTest}
-use Rattle.svf_numbers.specs.Numbers.{period_says, time_says, count_says, len_says, len_value}
-use Rattle.svf_forms.specs.Forms.{Form, end_dr_form, end_ir_form, frequency_form, scan_form, run_test_form, states_form, trst_form, port_form}
+use Rattle.svf_parse.specs.Fields.{Fields}
+use Rattle.svf_parse.specs.RunTests.{RunTest}
+use Rattle.svf_words.specs.Numbers.{period_says, time_says, count_says, len_says, len_value}
+use Rattle.svf_parse.specs.Forms.{Form, end_dr_form, end_ir_form, frequency_form, scan_form, run_test_form, states_form, trst_form, port_form}
 use Rattle.svf_parse.specs.Judging.{◌>>=◌, scan_says_within, run_test_says_within, checked, both, given, is_misspelt, is_wider, field_fault, clock_fault, cycles_say, scan_says, scan_with, run_test_says, run_test_with, frequency, form_says}
 use Rattle.svf_parse.specs.Least.{GivenHas, FrequencyHas, TimeHas, LengthHas, FieldHas, CountHas, Has}
 

@@ -1,3 +1,9 @@
+pub mod AheadLaws
+pub mod FieldLaws
+pub mod FormLaws
+pub mod RunTestLaws
+pub mod NextWords
+pub mod StateLists
 pub mod FieldValues
 pub mod Grouping
 pub mod JudgedLaws

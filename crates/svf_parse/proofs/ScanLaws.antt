@@ -7,8 +7,8 @@ use Rattle.jt_limits.specs.Limits.{limits, digit_limit}
 use Rattle.svf_words.specs.declared.fault.Code.{Code}
 use Rattle.svf_words.specs.declared.fault.Code.TheVariants as code
 use Rattle.svf_words.specs.Words.{Word}
-use Rattle.svf_forms.specs.Fields.{Fields}
-use Rattle.svf_numbers.specs.Numbers.{len_says, len_value}
+use Rattle.svf_parse.specs.Fields.{Fields}
+use Rattle.svf_words.specs.Numbers.{len_says, len_value}
 use Rattle.svf_parse.specs.Judging.{checked, field_fault, scan_says, scan_says_within}
 
 pub checked_ok : {A : Type 0} (o : Option Code) (r : Result A Code) (x : A) → checked o r ≡ Ok x → (o ≡ None) × (r ≡ Ok x)

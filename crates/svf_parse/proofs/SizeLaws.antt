@@ -25,12 +25,12 @@ use Rattle.svf_words.specs.declared.keywords.FieldName.TheVariants.{Tdi, Tdo, Ma
 use Rattle.svf_words.specs.declared.keywords.Which.{Which}
 use Rattle.svf_words.specs.declared.keywords.Which.TheVariants as which
 use Rattle.svf_words.specs.Words.{Word, Groups, last, group, with_word, with_token, groups_of}
-use Rattle.svf_forms.specs.Fields.{Fields, no_fields, if_none, put}
+use Rattle.svf_parse.specs.Fields.{Fields, no_fields, if_none, put}
 use Rattle.svf_words.specs.Keywords.{scan_word}
-use Rattle.svf_forms.specs.Forms.{Form, end_dr_form, end_ir_form, frequency_form, scan_form, run_test_form, states_form, trst_form, port_form}
+use Rattle.svf_parse.specs.Forms.{Form, end_dr_form, end_ir_form, frequency_form, scan_form, run_test_form, states_form, trst_form, port_form}
 use Rattle.svf_parse.specs.Judging.{◌>>=◌, run_test_says_within, Said, end_dr, end_ir, frequency, states, trst, cycles_say, both, form_says, scan_says, scan_with, run_test_says, run_test_with, bits_written, bits, given}
-use Rattle.svf_numbers.specs.Numbers.{period_says, time_says}
-use Rattle.svf_forms.specs.Grammar.{Reads, AreStates, IsField, AreFields, IsForm}
+use Rattle.svf_words.specs.Numbers.{period_says, time_says}
+use Rattle.svf_parse.specs.Grammar.{Reads, AreStates, IsField, AreFields, IsForm}
 use Rattle.svf_parse.specs.Spelling.{EachSpells, closed_by, TextSpells}
 use Rattle.svf_parse.specs.Sizes.{bits_in, size}
 use Rattle.svf_parse.proofs.FieldValues.{binary-cons}

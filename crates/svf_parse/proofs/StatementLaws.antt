@@ -5,13 +5,13 @@ use Rattle.svf_words.specs.declared.fault.Code.TheVariants as code
 use Rattle.svf_words.specs.declared.keywords.Command.{Command}
 use Rattle.svf_words.specs.Words.{Word}
 use Rattle.svf_words.specs.Keywords.{command_of}
-use Rattle.svf_forms.specs.Forms.{Form, form_of}
+use Rattle.svf_parse.specs.Forms.{Form, form_of}
 use Rattle.svf_parse.specs.Judging.{◌>>=◌, Said, form_says}
 use Rattle.svf_parse.specs.Reading.{or_refuse, command_says, statement_says}
-use Rattle.svf_forms.specs.Grammar.{IsForm, HasCommand}
+use Rattle.svf_parse.specs.Grammar.{IsForm, HasCommand}
 use Rattle.svf_parse.specs.Spelling.{Spells, Refuses, unknown, misfit, of_form}
 use Rattle.svf_words.proofs.KeywordLaws.{command_found, command_read}
-use Rattle.svf_forms.proofs.FormLaws.{form_found, form_read}
+use Rattle.svf_parse.proofs.FormLaws.{form_found, form_read}
 
 -- what is spelled in a form says what the form says
 pub says_form : (ws : List Word) (f : Form) → IsForm ws f → statement_says ws ≡ form_says f

@@ -1,4 +1,5 @@
 -- A text that is read is spelled so, and what is spelled so is read.
+use Rattle.std.specs.Prelude.{⊤}
 use Rattle.std.proofs.Common.{◌≡◌, ℕ, ◌+◌, ◌≤◌, Bool, true, false, cond, nat_lt, List, [], ◌∷◌, length, Option, Some, None, Result, Ok, Err, refl, sym, ap, subst, ◌∙◌, arith, unwrap_or}
 use Rattle.std.proofs.lemmas.Bool.Decides.{nat_tests}
 use Rattle.svf_lex.specs.declared.Kind.{Kind}
@@ -19,7 +20,7 @@ use Rattle.svf_parse.proofs.Grouping.{short_text}
 
 abbrev EndsWell : Groups → Option ℕ → Type 0
 EndsWell (last ws None) begun = (ws ≡ []) × (begun ≡ None)
-EndsWell (last ws (Some e)) begun = Unit {0}
+EndsWell (last ws (Some e)) begun = ⊤
 EndsWell (group ws groups) begun = EndsWell groups None
 
 one_word : (w : Word) (groups : Groups) (first : ℕ) (begun : Option ℕ) → EndsWell groups (Some first) → EndsWell (with_word w groups) begun

@@ -6,11 +6,11 @@ use Rattle.svf_words.specs.declared.fault.Code.{Code}
 use Rattle.svf_words.specs.declared.fault.Code.TheVariants as code
 use Rattle.svf_words.specs.declared.keywords.Clock.{Clock}
 use Rattle.svf_words.specs.Words.{Word}
-use Rattle.svf_forms.specs.Fields.{Fields}
-use Rattle.svf_forms.specs.RunTests.{RunTest}
-use Rattle.svf_forms.specs.Forms.{Form, end_dr_form, end_ir_form, frequency_form, scan_form, run_test_form, states_form, trst_form, port_form}
-use Rattle.svf_numbers.specs.Numbers.{period_says_within, time_says_within, count_says_within, len_says_within, len_value}
-use Rattle.svf_numbers.proofs.WithinLaws.{periods_limited, times_limited, counts_limited, lengths_limited}
+use Rattle.svf_parse.specs.Fields.{Fields}
+use Rattle.svf_parse.specs.RunTests.{RunTest}
+use Rattle.svf_parse.specs.Forms.{Form, end_dr_form, end_ir_form, frequency_form, scan_form, run_test_form, states_form, trst_form, port_form}
+use Rattle.svf_words.specs.Numbers.{period_says_within, time_says_within, count_says_within, len_says_within, len_value}
+use Rattle.svf_words.proofs.WithinLaws.{periods_limited, times_limited, counts_limited, lengths_limited}
 use Rattle.svf_parse.specs.Judging.{◌>>=◌, Said, end_dr, end_ir, frequency, states, trst, checked, both, given, clock_fault, field_fault, scan_with, run_test_with, scan_says_within, cycles_say_within, run_test_says_within, form_says_within}
 use Rattle.svf_parse.specs.Spelling.{SpellsWithin, EachSpellsWithin, TextSpellsWithin}
 use Rattle.svf_parse.specs.Within.{IsAtMostIfGiven, SaidWithin, SpelledIsWithin, WhatLiesWithinIsSpelled}

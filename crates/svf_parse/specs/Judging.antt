@@ -15,12 +15,12 @@ use Rattle.svf_words.specs.declared.keywords.Clock.{Clock}
 use Rattle.svf_words.specs.declared.keywords.Clock.TheVariants as clock
 use Rattle.svf_words.specs.Words.{Word}
 use Rattle.svf_words.specs.Faults.{lower_code}
-use Rattle.svf_forms.specs.Fields.{Fields}
-use Rattle.svf_forms.specs.RunTests.{RunTest}
-use Rattle.svf_numbers.specs.Numbers.{period_says_within, time_says_within, count_says_within, len_says_within}
-use Rattle.svf_numbers.specs.Numbers.{len_value}
-use Rattle.svf_forms.specs.Forms.{Form, end_dr_form, end_ir_form, frequency_form, scan_form, run_test_form, states_form}
-use Rattle.svf_forms.specs.Forms.{trst_form, port_form}
+use Rattle.svf_parse.specs.Fields.{Fields}
+use Rattle.svf_parse.specs.RunTests.{RunTest}
+use Rattle.svf_words.specs.Numbers.{period_says_within, time_says_within, count_says_within, len_says_within}
+use Rattle.svf_words.specs.Numbers.{len_value}
+use Rattle.svf_parse.specs.Forms.{Form, end_dr_form, end_ir_form, frequency_form, scan_form, run_test_form, states_form}
+use Rattle.svf_parse.specs.Forms.{trst_form, port_form}
 
 -- a statement, without where it lies in memory
 pub data Said : Type 0 where

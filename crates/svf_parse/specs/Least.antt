@@ -6,9 +6,9 @@ use Rattle.svf_words.specs.declared.keywords.Clock.{Clock}
 use Rattle.svf_words.specs.declared.keywords.Clock.TheVariants as clock
 use Rattle.svf_words.specs.Words.{Word}
 use Rattle.svf_words.specs.Faults.{number}
-use Rattle.svf_numbers.specs.Numbers.{period_says, time_says, count_says, len_says, len_value}
-use Rattle.svf_forms.specs.Forms.{Form, end_dr_form, end_ir_form, frequency_form, scan_form, run_test_form, states_form}
-use Rattle.svf_forms.specs.Forms.{trst_form, port_form}
+use Rattle.svf_words.specs.Numbers.{period_says, time_says, count_says, len_says, len_value}
+use Rattle.svf_parse.specs.Forms.{Form, end_dr_form, end_ir_form, frequency_form, scan_form, run_test_form, states_form}
+use Rattle.svf_parse.specs.Forms.{trst_form, port_form}
 use Rattle.svf_parse.specs.Judging.{Said, is_misspelt, is_wider, form_says}
 
 -- what is given has this refusal

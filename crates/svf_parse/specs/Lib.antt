@@ -1,3 +1,10 @@
+pub mod Ahead
+pub mod Behind
+pub mod Fields
+pub mod Forms
+pub mod Grammar
+pub mod RunTests
+pub mod FormView
 pub mod Judged
 pub mod Judging
 pub mod Least

@@ -10,7 +10,7 @@ use Rattle.svf_words.specs.declared.fault.SvfFault.{SvfFault}
 use Rattle.svf_words.specs.declared.keywords.Command.{Command}
 use Rattle.svf_words.specs.Words.{Word, Groups, last, group, groups_of}
 use Rattle.svf_words.specs.Keywords.{command_of}
-use Rattle.svf_forms.specs.Forms.{form_of}
+use Rattle.svf_parse.specs.Forms.{form_of}
 use Rattle.svf_parse.specs.Judging.{◌>>=◌, Said, form_says}
 
 -- the value, or this refusal

@@ -1,4 +1,5 @@
 -- The grammar: which words are a statement, and which texts are a list of them. Nothing here reads from left to right.
+use Rattle.std.specs.Prelude.{⊤}
 use Rattle.std.specs.Prelude.{◌≡◌, ℕ, ◌+◌, ◌<◌, ◌≤◌, ◌⊎◌, List, [], ◌∷◌, length}
 use Rattle.std.specs.Prelude.{Some, None, Result, Ok, Err}
 use Rattle.jt_limits.specs.declared.Limits.{Limits}
@@ -10,8 +11,8 @@ use Rattle.svf_words.specs.declared.fault.Code.{Code}
 use Rattle.svf_words.specs.declared.fault.Code.TheVariants as code
 use Rattle.svf_words.specs.declared.fault.SvfFault.{SvfFault}
 use Rattle.svf_words.specs.Words.{Word, Groups, last, group, groups_of}
-use Rattle.svf_forms.specs.Forms.{Form}
-use Rattle.svf_forms.specs.Grammar.{IsForm, HasCommand}
+use Rattle.svf_parse.specs.Forms.{Form}
+use Rattle.svf_parse.specs.Grammar.{IsForm, HasCommand}
 use Rattle.svf_parse.specs.Judging.{Said, form_says, form_says_within}
 use Rattle.svf_parse.specs.Reading.{text_limit, statement_limit, lex_code}
 
@@ -27,7 +28,7 @@ pub data Refuses (ws : List Word) (c : Code) : Type 0 where
 
 -- the words of each group that has any spell these statements, in order
 abbrev pub EachSpellsWithin : Limits → List (List Word) → List Said → Type 0
-EachSpellsWithin l [] [] = Unit {0}
+EachSpellsWithin l [] [] = ⊤
 EachSpellsWithin l [] (s ∷ ss) = ⊥
 EachSpellsWithin l ([] ∷ gs) ss = EachSpellsWithin l gs ss
 EachSpellsWithin l ((w ∷ ws) ∷ gs) [] = ⊥

@@ -1,4 +1,5 @@
 -- What a reader of the code answers, beside what the words say.
+use Rattle.std.specs.Prelude.{⊤}
 use Rattle.std.specs.Prelude.{◌≡◌, ◌≢◌, ℕ, List, [], ◌∷◌, ◌++◌, map, Some, None, Result, Ok, Err}
 use Rattle.std.specs.Global.{Vec}
 use Rattle.svf_lex.specs.declared.Lexer.{Lexer}
@@ -19,7 +20,7 @@ use Rattle.svf_parse.specs.declared.text.End.{End}
 use Rattle.svf_parse.specs.declared.text.End.TheVariants as end
 use Rattle.svf_words.specs.Words.{Word, Groups, last, group, with_word, groups_of}
 use Rattle.svf_words.specs.Keywords.{command_of}
-use Rattle.svf_forms.specs.Forms.{Form, form_of}
+use Rattle.svf_parse.specs.Forms.{Form, form_of}
 use Rattle.svf_parse.specs.Reading.{or_refuse, statement_says, at_statement, within_limit, groups_say}
 use Rattle.svf_parse.specs.Judging.{◌>>=◌, Said, end_dr, end_ir, frequency, scan, states, trst}
 use Rattle.svf_parse.specs.Judging as judging
@@ -35,7 +36,7 @@ said_of (statement.Trst t) = trst t
 
 -- unless memory ran out, the refusal is that of the definition
 abbrev pub Fails : {Y : Type 0} → Refusal → Result Y Code → Type 0
-Fails refusal.Memory says = Unit {0}
+Fails refusal.Memory says = ⊤
 Fails (refusal.Code c) says = says ≡ Err c
 
 -- what a function answered, seen by view, is what the words say, unless memory ran out
@@ -54,7 +55,7 @@ form_behind w ws = or_refuse code.UnknownCommand (command_of w) >>= λ k. or_ref
 
 -- unless memory ran out, the refusal of a text is that of the definition
 abbrev pub Stops : {Y : Type 0} → Stop → Result Y SvfFault → Type 0
-Stops stop.Memory says = Unit {0}
+Stops stop.Memory says = ⊤
 Stops (stop.Fault f) says = says ≡ Err f
 
 -- what a function answered of a text is what the text says, unless memory ran out

@@ -1,4 +1,5 @@
 -- Which statements and texts lie within limits, and that nothing else of the limits decides what is spelled.
+use Rattle.std.specs.Prelude.{⊤}
 use Rattle.std.specs.Prelude.{ℕ, ◌≤◌, List, length, Option, Some, None}
 use Rattle.std.specs.List.{AllByRecursion}
 use Rattle.jt_limits.specs.declared.Limits.{Limits}
@@ -7,7 +8,7 @@ use Rattle.svf_parse.specs.Spelling.{TextSpellsWithin}
 
 -- a number, if it is given, is at most this
 abbrev pub IsAtMostIfGiven : ℕ → Option ℕ → Type 0
-IsAtMostIfGiven most None = Unit {0}
+IsAtMostIfGiven most None = ⊤
 IsAtMostIfGiven most (Some n) = n ≤ most
 
 -- the numbers of a statement lie within these limits
@@ -16,7 +17,7 @@ SaidWithin l (frequency period) = IsAtMostIfGiven l.picoseconds period
 SaidWithin l (scan which n tdi tdo mask smask) = n ≤ l.scan_bits
 SaidWithin l (run_test run count min max end) =
     IsAtMostIfGiven l.cycles count × (IsAtMostIfGiven l.picoseconds min × IsAtMostIfGiven l.picoseconds max)
-SaidWithin l _ = Unit {0}
+SaidWithin l _ = ⊤
 
 -- a text of these statements lies within these limits
 pub record TextWithin (l : Limits) (text : List ℕ) (ss : List Said) : Type 0 where

@@ -3,25 +3,24 @@ ghost use Rattle.std.specs.Prelude.{◌≡◌, ◌+◌, true, Some, None, Ok, If
 ghost use Rattle.std.specs.Char.{is_ascii_hexdigit};
 ghost use Rattle.std.specs.List.{list_all};
 ghost use Rattle.svf_parse.specs.Judging as spec;
-ghost use Rattle.svf_forms.specs.Forms.{scan_form};
+ghost use Rattle.svf_parse.specs.Forms.{scan_form};
 ghost use Rattle.svf_words.specs.Words.{Word};
-ghost use Rattle.svf_numbers.specs.Numbers as numbers_spec;
-ghost use Rattle.svf_forms.specs.View as view;
-ghost use Rattle.svf_forms.specs.View.{lent, given};
+ghost use Rattle.svf_words.specs.Numbers as numbers_spec;
+ghost use Rattle.svf_parse.specs.FormView as view;
+ghost use Rattle.svf_parse.specs.FormView.{lent, given};
 ghost use Rattle.svf_parse.specs.View.{Adds, said_of};
 ghost use Rattle.std.specs.Vec.{vec_len};
 ghost use Rattle.svf_words.specs.declared.keywords.Clock as declared_clock;
 
 use crate::fault::Refusal;
+use crate::fields::{Digits, LentFields};
+use crate::forms::LentForm;
+use crate::run_test::RunTest;
 use crate::statement::Statement;
 use jt_bits::{Bits, digits_have_one_beyond, is_hexadecimal};
 use std::alloc::Global;
-use svf_forms::fields::{Digits, LentFields};
-use svf_forms::forms::LentForm;
-use svf_forms::run_test::RunTest;
-use svf_numbers::{count, length, length_value, period, time};
-use svf_words::Code;
 use svf_words::keywords::{Clock, Which};
+use svf_words::{Code, count, length, length_value, period, time};
 
 /// Adds the statement, or gives the refusal with the lowest number among its own.
 pub(crate) fn say(

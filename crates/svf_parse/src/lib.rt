@@ -1,16 +1,21 @@
-//! The statements of SVF text (Serial Vector Format, revision E).
+//! The statements of SVF text (Serial Vector Format, revision E): as they are written, with each number as its word
+//! and each field as its digits, and what they say.
 //!
 //! [`parse`] reads a whole text: either all its statements in order, or its first refusal. What the statements set for
 //! each other, such as the lengths and masks that a scan takes over, is not looked at here.
 #![tactic(auto)]
 
+mod fault;
+pub mod fields;
+pub mod form_laws;
+pub mod forms;
+mod judging;
+pub mod laws;
+pub mod run_test;
+mod statement;
+mod text;
+
 pub use statement::Statement;
 pub use svf_words::keywords::{TrstWord, Which};
 pub use svf_words::{Code, SvfFault};
 pub use text::parse;
-
-mod fault;
-mod judging;
-pub mod laws;
-mod statement;
-mod text;

@@ -1,4 +1,5 @@
 -- Which steps are legal where they begin, and which programs are.
+use Rattle.std.specs.Prelude.{⊤}
 use Rattle.std.specs.Prelude.{◌≡◌, ◌≢◌, ◌<◌, Bool, true, false, not, ◌&&◌, List, [], ◌∷◌, length}
 use Rattle.std.specs.List.{list_all}
 use Rattle.jt_tap.specs.Controller.{is_at, is_stable}
@@ -30,7 +31,7 @@ IsFormed place (Scan column v end) = (0 < length v) × (is_stable end ≡ true)
 IsFormed place (Go s) = is_stable s ≡ true
 IsFormed place (Path path) = IsPath place path
 IsFormed place (Run run n end) = (is_stable run ≡ true) × (is_stable end ≡ true)
-IsFormed place (Trst w) = Unit {0}
+IsFormed place (Trst w) = ⊤
 
 -- A step is legal at a place by whether TRST is asserted there.
 pub record IsLegalAt (place : State) (trst : Bool) (step : Step) : Type 0 where
@@ -39,7 +40,7 @@ pub record IsLegalAt (place : State) (trst : Bool) (step : Step) : Type 0 where
   pub not_absent : trst ≡ true → step ≢ Trst word.Absent
 
 abbrev pub AllLegalFrom : State → Bool → List Numbered → Type 0
-AllLegalFrom place trst [] = Unit {0}
+AllLegalFrom place trst [] = ⊤
 AllLegalFrom place trst (s ∷ ss) =
     IsLegalAt place trst s.what × AllLegalFrom (place_after place s.what) (line_after trst s.what) ss
 

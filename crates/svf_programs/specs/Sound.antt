@@ -1,4 +1,5 @@
 -- Which programs are sound: what a player is promised of each that is accepted.
+use Rattle.std.specs.Prelude.{⊤}
 use Rattle.std.specs.Prelude.{ℕ, ◌≤◌, List, length}
 use Rattle.std.specs.List.{AllByRecursion}
 use Rattle.jt_limits.specs.declared.Limits.{Limits}
@@ -21,10 +22,10 @@ step_limit = 4294967295
 -- a step is within limits
 abbrev pub StepWithin : Limits → Step → Type 0
 StepWithin l (Scan column v end) = length v ≤ l.vector_bits
-StepWithin l (Go s) = Unit {0}
-StepWithin l (Path path) = Unit {0}
+StepWithin l (Go s) = ⊤
+StepWithin l (Path path) = ⊤
 StepWithin l (Run run n end) = n ≤ l.cycles
-StepWithin l (Trst w) = Unit {0}
+StepWithin l (Trst w) = ⊤
 
 abbrev pub StepsWithin : Limits → List Numbered → Type 0
 StepsWithin l steps = AllByRecursion (λ s. StepWithin l s.what) steps

@@ -1,4 +1,5 @@
 -- Every accepted program is legal, and within the limits.
+use Rattle.std.specs.Prelude.{⊤}
 use Rattle.std.proofs.Common.{◌≡◌, ℕ, zero, suc, ◌+◌, ◌==◌, ◌<◌, ◌≤◌, Bool, true, false, not, ◌&&◌, List, [], ◌∷◌, ◌++◌, length, refl, sym, ap, ◌∙◌, Option, Some, None, arith, if◌then◌else◌, subst}
 use Rattle.std.specs.Prelude.{nat_lt, is_some, unwrap_or}
 use Rattle.std.proofs.lemmas.List.{append-nil}
@@ -125,7 +126,7 @@ scan_good at line column h t b end s p l e =
     record { legal = legal at line (Scan column (vector_of (unwrap_or h no_fields) b (unwrap_or t no_fields)) end) (omega arith, s) e; within = omega arith }
 
 abbrev GoodIf : State → Bool → Option Step → Type 0
-GoodIf at line None = Unit {0}
+GoodIf at line None = ⊤
 GoodIf at line (Some x) = IsGood at line x
 
 good : (st : Settings) (at : State) (s : Said) → is_stable st.dr_end ≡ true → is_stable st.ir_end ≡ true → Clear st at s

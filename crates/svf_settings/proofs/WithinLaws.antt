@@ -1,4 +1,5 @@
 -- What is accepted within some limits and lies within others is accepted within those too.
+use Rattle.std.specs.Prelude.{⊤}
 use Rattle.std.proofs.Common.{◌≡◌, ℕ, ◌+◌, ◌≤◌, Bool, true, false, nat_lt, if◌then◌else◌, List, [], ◌∷◌, ◌++◌, length, reverse, Option, Some, None, refl, sym, ap, subst, arith}
 use Rattle.std.proofs.lemmas.Bool.Decides.{nat_tests}
 use Rattle.std.specs.List.{AllByRecursion}
@@ -47,7 +48,7 @@ by_last a b past s e =
 -- ---- the step of a statement
 
 abbrev StepIfMade : Limits → Option Step → Type 0
-StepIfMade l None = Unit {0}
+StepIfMade l None = ⊤
 StepIfMade l (Some x) = StepWithin l x
 
 few : (most n : ℕ) → nat_lt most n ≡ false → n ≤ most

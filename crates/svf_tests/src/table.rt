@@ -1,5 +1,5 @@
 //! The bytes of the protocol, each of the 256.
-use bitbang_table::{Cycle, Message, answer, cycle_bytes, decode, encode, read_answer};
+use bitbang_protocol::{Cycle, Message, answer, cycle_bytes, decode, encode, read_answer};
 
 #[test]
 fn sixteen_bytes_decode(rt: HostRuntime) {

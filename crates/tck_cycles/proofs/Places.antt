@@ -12,7 +12,7 @@ use Rattle.std.specs.List.{range_with_len}
 use Rattle.scan_vectors.specs.Held.{wanted_of}
 use Rattle.scan_vectors.specs.Vector.{VectorBit, tdis}
 use Rattle.scan_vectors.proofs.Places.{get-left, get-right}
-use Rattle.bitbang_table.specs.declared.Cycle.{Cycle}
+use Rattle.bitbang_protocol.specs.declared.Cycle.{Cycle}
 use Rattle.tck_cycles.specs.Cycles.{entering, scan_cycles}
 use Rattle.jt_tap.specs.declared.Column.{Column}
 use Rattle.jt_tap.specs.declared.Column.TheVariants.{Dr, Ir}

@@ -6,8 +6,8 @@ use Rattle.tap_paths.specs.Paths.{go, to_shift, from_exit1}
 use Rattle.svf_words.specs.declared.keywords.TrstWord.TheVariants as word
 use Rattle.scan_vectors.specs.Vector.{VectorBit}
 use Rattle.svf_programs.specs.Steps.{Step, Scan, Go, Path, Run, Trst}
-use Rattle.bitbang_table.specs.declared.Cycle.{Cycle}
-pub use Rattle.bitbang_table.specs.Cycles.{entering, five_resets}
+use Rattle.bitbang_protocol.specs.declared.Cycle.{Cycle}
+pub use Rattle.bitbang_protocol.specs.Cycles.{entering, five_resets}
 
 -- one cycle a bit, TMS 1 on the last
 abbrev pub scan_cycles : List VectorBit → List Cycle

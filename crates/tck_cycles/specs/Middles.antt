@@ -1,7 +1,7 @@
 -- The cycles of a step between its paths.
 use Rattle.std.specs.Prelude.{ℕ, ◌-◌, min, false, List, map, replicate, length}
 use Rattle.scan_vectors.specs.Held.{bits, left_in_part}
-use Rattle.bitbang_table.specs.declared.Cycle.{Cycle}
+use Rattle.bitbang_protocol.specs.declared.Cycle.{Cycle}
 use Rattle.tck_cycles.specs.declared.middle.Middle.{Middle}
 use Rattle.tck_cycles.specs.declared.middle.Middle.TheVariants as middle
 use Rattle.tck_cycles.specs.Cycles.{entering, scan_cycles}

@@ -2,7 +2,7 @@
 use Rattle.std.specs.Prelude.{ℕ, false, List, map}
 use Rattle.std.specs.List.{range_with_len}
 use Rattle.jt_bits.specs.Packed.{has_bit}
-use Rattle.bitbang_table.specs.declared.Cycle.{Cycle}
+use Rattle.bitbang_protocol.specs.declared.Cycle.{Cycle}
 use Rattle.tck_cycles.specs.declared.shifts.Shifts.{Shifts}
 
 -- cycle j: TMS 0, and bit j of each word

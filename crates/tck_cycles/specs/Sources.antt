@@ -1,6 +1,6 @@
 -- The cycles that a source has, and those that it has left.
 use Rattle.std.specs.Prelude.{ℕ, ◌-◌, min, max, nat_lt, if◌then◌else◌, List, ◌++◌, map, drop, length}
-use Rattle.bitbang_table.specs.declared.Cycle.{Cycle}
+use Rattle.bitbang_protocol.specs.declared.Cycle.{Cycle}
 use Rattle.tck_cycles.specs.declared.middle.Middle.{Middle}
 use Rattle.tck_cycles.specs.declared.source.Source.{Source}
 use Rattle.tck_cycles.specs.declared.source.Spot.{Spot}

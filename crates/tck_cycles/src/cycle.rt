@@ -1,9 +1,9 @@
 //! Cycles of TCK.
 
 ghost use Rattle.std.specs.Prelude.{◌≡◌};
-ghost use Rattle.bitbang_table.specs.Cycles as spec;
+ghost use Rattle.bitbang_protocol.specs.Cycles as spec;
 
-use bitbang_table::Cycle;
+use bitbang_protocol::Cycle;
 use jt_tap::State;
 
 /// The cycle that enters a state.

@@ -10,7 +10,7 @@ mod place;
 mod shifts;
 mod source;
 
-pub use bitbang_table::Cycle;
+pub use bitbang_protocol::Cycle;
 pub use place::place_after;
 pub use shifts::Shifts;
 pub use source::{Source, Spot};

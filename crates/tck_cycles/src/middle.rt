@@ -10,7 +10,7 @@ ghost use Rattle.tck_cycles.specs.declared.middle.Middle.TheVariants as middle;
 
 use crate::cycle::entering;
 use crate::shifts::Shifts;
-use bitbang_table::Cycle;
+use bitbang_protocol::Cycle;
 use jt_tap::State;
 use scan_vectors::Vector;
 

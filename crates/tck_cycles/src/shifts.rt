@@ -3,7 +3,7 @@
 ghost use Rattle.std.specs.Prelude.{◌≡◌, ◌<◌};
 ghost use Rattle.tck_cycles.specs.Shifts as spec;
 
-use bitbang_table::Cycle;
+use bitbang_protocol::Cycle;
 
 /// Up to 64 cycles that shift and do not leave the Shift state: TMS is 0 in each, and what goes in at TDI and whether
 /// TDO is read are the bits of two words, the first cycle's lowest.

@@ -9,7 +9,7 @@ ghost use Rattle.tck_cycles.specs.Cycles as spec;
 use crate::middle::{Middle, path_cycle};
 use crate::shifts::Shifts;
 use arrayvec::ArrayVec;
-use bitbang_table::Cycle;
+use bitbang_protocol::Cycle;
 use jt_tap::State;
 use svf_parse::TrstWord;
 use svf_programs::{Action, Step};

@@ -2,9 +2,9 @@
 //! clauses 6, 7 and 9).
 
 ghost use Rattle.std.specs.Prelude.{◌≡◌, ◌+◌, ◌<◌, ◌^◌, false, [], ◌∷◌, None, length};
-ghost use Rattle.board_meaning.specs.Resting.{IsAtRest};
-ghost use Rattle.board_meaning.specs.Whole as whole;
-ghost use Rattle.board_meaning.specs.Whole.{AtRest};
+ghost use Rattle.board_model.specs.Resting.{IsAtRest};
+ghost use Rattle.board_model.specs.Whole as whole;
+ghost use Rattle.board_model.specs.Whole.{AtRest};
 ghost use Rattle.scan_vectors.specs.Failures.{differing, found, with_found};
 ghost use Rattle.scan_vectors.specs.Held.{bits, fields};
 ghost use Rattle.scan_vectors.specs.Vector.{tdis};

@@ -2,10 +2,10 @@
 
 ghost use Rattle.std.specs.Prelude.{◌≡◌, ◌≤◌, Bool, true, length, take};
 ghost use Rattle.std.specs.List.{list_all, prefix_len};
-ghost use Rattle.board_meaning.specs.Chain as chain;
+ghost use Rattle.board_model.specs.Chain as chain;
 ghost use Rattle.jt_board.specs.Idling as idling;
 ghost use Rattle.jt_board.specs.Idling.{Moved, idle_count, idles, is_idle_byte, level};
-ghost use Rattle.bitbang_table.specs.Protocol.{decode};
+ghost use Rattle.bitbang_protocol.specs.Protocol.{decode};
 
 use super::Board;
 use jt_tap::State;

@@ -1,7 +1,7 @@
 use Rattle.std.proofs.Common.{◌≡◌, ◌++◌, drop, map, string_bytes}
 use Rattle.toml.specs.View.{items_view}
 use Rattle.board_tables.specs.Fields.{tables_in}
-use Rattle.board_names.specs.Files.{file_at}
+use Rattle.board_tables.specs.Files.{file_at}
 use Rattle.board_description.proofs.files.names_of.Given as goal
 
 -- the names so far, with those to come, are all

@@ -1,7 +1,7 @@
 use Rattle.std.proofs.Common.{◌≡◌, ◌++◌, Some, ap, ◌∙◌, arith}
 use Rattle.bsdl_device.specs.Device.{Name, Pattern}
-use Rattle.device_instructions.specs.declared.Selected.{Selected}
-use Rattle.device_instructions.specs.Instruction.{meaning_of}
+use Rattle.chip_instructions.specs.declared.Selected.{Selected}
+use Rattle.chip_instructions.specs.Instruction.{meaning_of}
 use Rattle.board_plan.specs.LeftOut.{is_left_out}
 use Rattle.board_description.specs.Described.{left_out_words, opcode_front, opcode_line, register_words}
 use Rattle.board_description.proofs.TextLaws.{behind, line_more}

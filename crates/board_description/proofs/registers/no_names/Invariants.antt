@@ -1,5 +1,5 @@
 use Rattle.std.proofs.Common.{◌≤◌, ◌-◌}
-use Rattle.board_words.specs.View.{texts_of}
+use Rattle.board_tables.specs.WordView.{texts_of}
 use Rattle.board_description.specs.Kept.{NoNames}
 use Rattle.board_description.proofs.registers.no_names.Given as goal
 

@@ -1,6 +1,6 @@
 use Rattle.std.proofs.Common.{◌≡◌, ◌++◌, drop, map}
 use Rattle.bsdl_device.specs.Device.{Access}
-use Rattle.board_words.specs.View.{texts_of}
+use Rattle.board_tables.specs.WordView.{texts_of}
 use Rattle.board_description.proofs.registers.own_places.Given as goal
 
 -- the names so far, with those to come, are all

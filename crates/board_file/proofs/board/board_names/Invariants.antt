@@ -1,7 +1,7 @@
 use Rattle.std.proofs.Common.{◌≡◌, ◌++◌, drop, map}
 use Rattle.toml.specs.View.{items_view}
 use Rattle.board_tables.specs.Fields.{name_at, tables_in}
-use Rattle.board_words.specs.View.{texts_of}
+use Rattle.board_tables.specs.WordView.{texts_of}
 use Rattle.board_file.proofs.board.board_names.Given as goal
 
 -- the names so far, with those to come, are all

@@ -2,8 +2,8 @@ use Rattle.std.proofs.Common.{◌≡◌, map, sym, subst, ap, ◌∙◌, arith}
 use Rattle.std.specs.List.{AllByRecursion}
 use Rattle.std.proofs.lemmas.Option.{slice_get_within}
 use Rattle.toml.specs.View.{table_view}
-use Rattle.core_loops.specs.Loops.{HasNoLoop, IsFirstOnLoop}
-use Rattle.board_library.specs.View.{files_of}
+use Rattle.board_loops.specs.Loops.{HasNoLoop, IsFirstOnLoop}
+use Rattle.board_parts.specs.LibraryView.{files_of}
 use Rattle.board_plan.specs.View.{member, net, wiring}
 use Rattle.board_parts.specs.Strings.{HasStrings}
 use Rattle.board_loops.specs.Depending.{dependencies}

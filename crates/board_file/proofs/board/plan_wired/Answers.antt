@@ -1,10 +1,10 @@
 use Rattle.std.proofs.Common.{◌∙◌, sym, ap, subst, map, option_map, codes, None}
 use Rattle.toml.specs.View.{table_view}
 use Rattle.board_tables.specs.Fields.{tables_in, tables_at}
-use Rattle.board_words.specs.View.{texts_of}
-use Rattle.board_names.specs.Files.{file_at, distinct}
-use Rattle.board_library.specs.Files.{described, missing_in, refused_in}
-use Rattle.board_library.specs.View.{files_of, IsFirstRefusal}
+use Rattle.board_tables.specs.WordView.{texts_of}
+use Rattle.board_tables.specs.Files.{file_at, distinct}
+use Rattle.board_parts.specs.Files.{described, missing_in, refused_in}
+use Rattle.board_parts.specs.LibraryView.{files_of, IsFirstRefusal}
 use Rattle.board_file.specs.View.{PlansBoard}
 use Rattle.board_file.proofs.BoardLaws.{keys_fault, missing_fault, refused_fault, planned}
 use Rattle.board_file.proofs.FitLaws.{told_fits, told_said}

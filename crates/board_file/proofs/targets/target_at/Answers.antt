@@ -4,7 +4,7 @@ use Rattle.std.proofs.lemmas.Result.{IfOk-weaker}
 use Rattle.toml.specs.Data.{as_table}
 use Rattle.toml.specs.View.{items_view, table_view, view}
 use Rattle.board_tables.specs.Fields.{name_at, tables_in, texts_at, texts_in}
-use Rattle.board_words.specs.FollowTexts.{target_text}
+use Rattle.board_tables.specs.FollowTexts.{target_text}
 use Rattle.board_file.specs.Wiring.{targets_of}
 use Rattle.board_file.proofs.LoopLaws.{none_past, not_there, past_it, within_it}
 use Rattle.board_file.proofs.targets.target_at.Goals as goal

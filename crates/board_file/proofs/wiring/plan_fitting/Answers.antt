@@ -5,8 +5,8 @@ use Rattle.std.proofs.lemmas.Bool.{ltb-true}
 use Rattle.jt_limits.specs.Limits.{limits}
 use Rattle.toml.specs.View.{items_view}
 use Rattle.board_tables.specs.Fields.{tables_in}
-use Rattle.board_words.specs.View.{texts_of}
-use Rattle.board_pins.specs.Pins.{twice_in_nets}
+use Rattle.board_tables.specs.WordView.{texts_of}
+use Rattle.board_parts.specs.Pins.{twice_in_nets}
 use Rattle.board_plan.specs.Planned.{all_pins}
 use Rattle.board_plan.specs.View.{net}
 use Rattle.board_parts.specs.Parts.{net_of}

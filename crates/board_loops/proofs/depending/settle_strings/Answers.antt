@@ -1,7 +1,7 @@
 use Rattle.std.proofs.Common.{◌∙◌, List, length, subst, sym, ap, All}
 use Rattle.std.proofs.lemmas.Result.{IfOk-weaker}
-use Rattle.core_loops.specs.Loops.{IsWithin, Settles}
-use Rattle.core_loops.specs.declared.Dependency.{Dependency}
+use Rattle.board_loops.specs.Loops.{IsWithin, Settles}
+use Rattle.board_loops.specs.declared.net_loops.Dependency.{Dependency}
 use Rattle.board_loops.specs.Depending.{dependencies, wired}
 use Rattle.board_loops.specs.Renumbering.{AreRenumbered}
 use Rattle.board_loops.proofs.RenumberingLaws.{settles_as}

@@ -1,6 +1,6 @@
 use Rattle.std.proofs.Common.{ℕ, ◌+◌, ◌++◌, ◌∷◌, List, [], get_or, subst, sym, take, take_all, arith}
 use Rattle.std.proofs.lemmas.List.{take_more}
-use Rattle.core_loops.specs.declared.Dependency.{Dependency}
+use Rattle.board_loops.specs.declared.net_loops.Dependency.{Dependency}
 use Rattle.board_loops.specs.Renumbering.{AreRenumbered}
 use Rattle.board_loops.proofs.RenumberingLaws.{renumbered_more, renumbered_none}
 use Rattle.board_loops.proofs.renumbering.renumber.Goals as goal

@@ -1,8 +1,8 @@
 use Rattle.std.proofs.Common.{◌≡◌, ◌++◌, drop, map}
 use Rattle.toml.specs.View.{items_view}
 use Rattle.board_tables.specs.Fields.{tables_in}
-use Rattle.board_words.specs.View.{texts_of}
-use Rattle.board_pins.specs.Pins.{unknown_in_nets}
+use Rattle.board_tables.specs.WordView.{texts_of}
+use Rattle.board_parts.specs.Pins.{unknown_in_nets}
 use Rattle.board_plan.specs.View.{net}
 use Rattle.board_parts.specs.Parts.{net_of}
 use Rattle.board_parts.proofs.known.plan_known_nets.Given as goal

@@ -2,8 +2,8 @@ use Rattle.std.proofs.Common.{◌≡◌, ◌++◌, drop}
 use Rattle.std.specs.List.{filter_map}
 use Rattle.toml.specs.View.{items_view}
 use Rattle.board_tables.specs.Fields.{texts_in}
-use Rattle.board_words.specs.View.{texts_of}
-use Rattle.board_pins.specs.Pins.{pin_at}
+use Rattle.board_tables.specs.WordView.{texts_of}
+use Rattle.board_parts.specs.Pins.{pin_at}
 use Rattle.board_parts.proofs.plan.pins_of.Given as goal
 
 -- the pins so far, with those to come, are all

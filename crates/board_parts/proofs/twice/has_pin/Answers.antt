@@ -1,5 +1,5 @@
 use Rattle.std.proofs.Common.{◌∙◌, ap, is_some}
-use Rattle.board_pins.proofs.PinLaws.{pin_there}
+use Rattle.board_parts.proofs.PinLaws.{pin_there}
 use Rattle.board_parts.proofs.twice.has_pin.Goals as goal
 
 pub returns : goal.returns

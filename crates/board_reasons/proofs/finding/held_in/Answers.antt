@@ -1,10 +1,10 @@
 use Rattle.std.proofs.Common.{◌∙◌, ap, option_map, refl, slice_get}
 use Rattle.jt_tap.specs.declared.Column.{Column}
 use Rattle.jt_tap.specs.declared.Column.TheVariants.{Ir}
-use Rattle.board_meaning.specs.Chain.{members}
-use Rattle.chip_seats.specs.Seats.{chip_state}
-use Rattle.scan_origins.specs.declared.Holder.TheVariants.{Instruction}
-use Rattle.scan_origins.specs.Holders.{held_in}
+use Rattle.board_model.specs.Chain.{members}
+use Rattle.board_chips.specs.WiredChips.{chip_state}
+use Rattle.board_reasons.specs.declared.origins.Holder.TheVariants.{Instruction}
+use Rattle.board_reasons.specs.Holders.{held_in}
 use Rattle.board_reasons.proofs.Walks.{held_alike}
 use Rattle.board_reasons.proofs.finding.held_in.Goals as goal
 

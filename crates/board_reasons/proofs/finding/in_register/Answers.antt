@@ -3,11 +3,11 @@ use Rattle.std.specs.Prelude.{option_and_then}
 use Rattle.std.proofs.lemmas.Option.{same_Some}
 use Rattle.jt_tap.specs.declared.Column.TheVariants.{Dr}
 use Rattle.board_plan.specs.CellNets.{cell_net}
-use Rattle.board_meaning.specs.Chain.{ChipState, members}
-use Rattle.chip_seats.specs.Seats.{chip_state}
-use Rattle.scan_origins.specs.declared.Holder.TheVariants.{Bypass, Identification, Cell, User}
-use Rattle.scan_origins.specs.declared.NetLevel.{NetLevel}
-use Rattle.scan_origins.specs.Holders.{cell_level, held_in, in_register, net_level}
+use Rattle.board_model.specs.Chain.{ChipState, members}
+use Rattle.board_chips.specs.WiredChips.{chip_state}
+use Rattle.board_reasons.specs.declared.origins.Holder.TheVariants.{Bypass, Identification, Cell, User}
+use Rattle.board_reasons.specs.declared.origins.NetLevel.{NetLevel}
+use Rattle.board_reasons.specs.Holders.{cell_level, held_in, in_register, net_level}
 use Rattle.board_reasons.proofs.Walks.{held_alike}
 use Rattle.board_reasons.proofs.finding.in_register.Goals as goal
 

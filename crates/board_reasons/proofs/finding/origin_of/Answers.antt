@@ -1,8 +1,8 @@
 use Rattle.std.proofs.Common.{◌≡◌, ◌+◌, ◌-◌, ℕ, drop, length, sym, ap, ◌∙◌, arith}
 use Rattle.std.proofs.lemmas.List.{length-map}
-use Rattle.board_meaning.specs.Chain.{ChipState, members}
-use Rattle.chip_seats.specs.Seats.{chip_state, member_of}
-use Rattle.scan_origins.specs.Origins.{origin_from}
+use Rattle.board_model.specs.Chain.{ChipState, members}
+use Rattle.board_chips.specs.WiredChips.{chip_state, member_of}
+use Rattle.board_reasons.specs.Origins.{origin_from}
 use Rattle.board_reasons.proofs.Walks.{found_here, further_on, member_there, past_all}
 use Rattle.board_reasons.proofs.finding.origin_of.Goals as goal
 

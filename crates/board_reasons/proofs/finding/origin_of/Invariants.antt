@@ -1,6 +1,6 @@
 use Rattle.std.proofs.Common.{◌≡◌, drop}
-use Rattle.board_meaning.specs.Chain.{members}
-use Rattle.scan_origins.specs.Origins.{origin, origin_from}
+use Rattle.board_model.specs.Chain.{members}
+use Rattle.board_reasons.specs.Origins.{origin, origin_from}
 use Rattle.board_reasons.proofs.finding.origin_of.Given as goal
 
 -- what is left stands among the devices that are left

@@ -1,7 +1,7 @@
 use Rattle.std.proofs.Common.{◌≡◌, ◌+◌, ◌≤◌, ℕ, suc, Bool, drop, length, Some, sym, ap, ◌∙◌, arith}
 use Rattle.scan_vectors.specs.Fields.{part_of}
 use Rattle.scan_vectors.specs.Held.{bits, fields}
-use Rattle.scan_origins.specs.Reasons as reasons
+use Rattle.board_reasons.specs.Reasons as reasons
 use Rattle.board_reasons.proofs.VectorBits.{found_first, found_later, found_nowhere, not_earlier}
 use Rattle.board_reasons.proofs.vectors.place_in.Goals as goal
 

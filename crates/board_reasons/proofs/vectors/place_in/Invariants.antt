@@ -1,6 +1,6 @@
 use Rattle.std.proofs.Common.{◌≡◌, ◌+◌, drop}
 use Rattle.scan_vectors.specs.Held.{bits}
-use Rattle.scan_origins.specs.Reasons as reasons
+use Rattle.board_reasons.specs.Reasons as reasons
 use Rattle.board_reasons.proofs.vectors.place_in.Given as goal
 
 -- it stands among the bits that are left

@@ -1,7 +1,7 @@
 use Rattle.std.proofs.Common.{◌++◌, refl}
-use Rattle.byte_ends.proofs.Fronts.{WritesAll-stopped, WritesAll-then}
+use Rattle.byte_streams.proofs.Fronts.{WritesAll-stopped, WritesAll-then}
 use Rattle.board_description.specs.Words.{port_of}
-use Rattle.scan_origins.specs.Lines.{net_words}
+use Rattle.board_reasons.specs.Lines.{net_words}
 use Rattle.board_reasons.proofs.writing.write_at_port.Goals as goal
 
 pub returns-in_err-put_all : goal.returns-in_err-put_all

@@ -1,6 +1,6 @@
 use Rattle.std.proofs.Common.{slice_get, refl, ap}
-use Rattle.byte_ends.proofs.Fronts.{WritesAll-is, WritesAll-stopped, WritesAll-then}
-use Rattle.scan_origins.specs.Lines.{found_cell}
+use Rattle.byte_streams.proofs.Fronts.{WritesAll-is, WritesAll-stopped, WritesAll-then}
+use Rattle.board_reasons.specs.Lines.{found_cell}
 use Rattle.board_reasons.proofs.writing.write_cell.Goals as goal
 
 pub returns-in_err-write_number : goal.returns-in_err-write_number

@@ -1,7 +1,7 @@
 use Rattle.std.proofs.Common.{ℕ, List, [], ◌∷◌, ◌++◌, refl, ap, ◌∙◌, codes}
-use Rattle.byte_ends.proofs.Fronts.{WritesAll-is, WritesAll-stopped, WritesAll-then}
+use Rattle.byte_streams.proofs.Fronts.{WritesAll-is, WritesAll-stopped, WritesAll-then}
 use Rattle.board_description.specs.Words.{net_name, texts}
-use Rattle.scan_origins.specs.Lines.{level_word}
+use Rattle.board_reasons.specs.Lines.{level_word}
 use Rattle.board_reasons.proofs.writing.write_level.Goals as goal
 
 pub returns-in_err-write_net_name : goal.returns-in_err-write_net_name

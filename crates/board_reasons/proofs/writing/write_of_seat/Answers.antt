@@ -1,7 +1,7 @@
 use Rattle.std.proofs.Common.{ℕ, List, ◌++◌, refl, ap, ◌∙◌, codes}
-use Rattle.byte_ends.proofs.Fronts.{WritesAll-is, WritesAll-stopped, WritesAll-then}
+use Rattle.byte_streams.proofs.Fronts.{WritesAll-is, WritesAll-stopped, WritesAll-then}
 use Rattle.bsdl_device.specs.Device.{Device}
-use Rattle.scan_origins.specs.Lines.{holder_words}
+use Rattle.board_reasons.specs.Lines.{holder_words}
 use Rattle.board_reasons.proofs.writing.write_of_seat.Goals as goal
 
 pub returns-in_err-put_pieces : goal.returns-in_err-put_pieces

@@ -1,7 +1,7 @@
 use Rattle.std.proofs.Common.{refl}
-use Rattle.byte_ends.proofs.Fronts.{WritesAll-stopped, WritesAll-then}
-use Rattle.board_meaning.specs.Chain.{members}
-use Rattle.scan_origins.specs.Lines.{from_line}
+use Rattle.byte_streams.proofs.Fronts.{WritesAll-stopped, WritesAll-then}
+use Rattle.board_model.specs.Chain.{members}
+use Rattle.board_reasons.specs.Lines.{from_line}
 use Rattle.board_reasons.proofs.writing.write_reason.Goals as goal
 
 pub returns-in_err-write_wanted : goal.returns-in_err-write_wanted

@@ -1,5 +1,5 @@
 use Rattle.std.proofs.Common.{◌≡◌, ℕ, List, [], ◌∷◌, codes, decimal, ap, ◌∙◌}
-use Rattle.byte_ends.proofs.Fronts.{WritesAll-is}
+use Rattle.byte_streams.proofs.Fronts.{WritesAll-is}
 use Rattle.board_description.specs.Words.{texts, user_words}
 use Rattle.board_reasons.proofs.writing.write_user.Goals as goal
 

@@ -4,10 +4,10 @@ use Rattle.std.proofs.lemmas.Option.{get_or_from_slice_get}
 use Rattle.std.specs.Prelude.{flat_map}
 use Rattle.std.specs.Io.KnownBytes.{Appends}
 use Rattle.std.proofs.KnownBytes.{Appends-trans}
-use Rattle.byte_ends.proofs.Fronts.{WritesAll-lost, WritesAll-done}
-use Rattle.byte_ends.proofs.Pieces.{flat_map-more, flat_map-split}
-use Rattle.board_meaning.specs.Chain.{ChipState}
-use Rattle.chip_seats.specs.Seats.{chip_state}
+use Rattle.byte_streams.proofs.Fronts.{WritesAll-lost, WritesAll-done}
+use Rattle.byte_streams.proofs.Pieces.{flat_map-more, flat_map-split}
+use Rattle.board_model.specs.Chain.{ChipState}
+use Rattle.board_chips.specs.WiredChips.{chip_state}
 use Rattle.board_report.specs.LeftOut.{device_lines}
 use Rattle.board_report.proofs.report.write_all_left_out.Goals as goal
 

@@ -2,7 +2,7 @@ use Rattle.std.proofs.Common.{◌≡◌, ℕ, ◌+◌, ◌-◌, List, [], ◌∷
 use Rattle.std.specs.Io.KnownBytes.{Appends}
 use Rattle.std.proofs.KnownBytes.{Appends-trans}
 use Rattle.board_report.specs.Report.{digits}
-use Rattle.byte_ends.proofs.Fronts.{WritesAll-lost, WritesAll-done}
+use Rattle.byte_streams.proofs.Fronts.{WritesAll-lost, WritesAll-done}
 use Rattle.board_report.proofs.Lines.{digits-more, digits-split}
 use Rattle.board_report.proofs.report.write_bits.Goals as goal
 

@@ -1,5 +1,5 @@
 use Rattle.std.proofs.Common.{refl}
-use Rattle.byte_ends.proofs.Fronts.{WritesAll-then, WritesAll-stopped}
+use Rattle.byte_streams.proofs.Fronts.{WritesAll-then, WritesAll-stopped}
 use Rattle.board_report.proofs.report.write_field.Goals as goal
 
 pub returns-in_err-put_all : goal.returns-in_err-put_all

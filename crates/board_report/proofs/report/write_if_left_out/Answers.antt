@@ -1,7 +1,7 @@
 use Rattle.std.proofs.Common.{◌≡◌, Bool, true, false, List, ℕ, [], sym, ap, ◌∙◌, if◌then◌else◌}
 use Rattle.std.proofs.KnownBytes.{Appends-nil}
 use Rattle.bsdl_device.specs.Device.{Device}
-use Rattle.byte_ends.proofs.Fronts.{WritesAll-is, WritesAll-done}
+use Rattle.byte_streams.proofs.Fronts.{WritesAll-is, WritesAll-done}
 use Rattle.board_plan.specs.LeftOut.{is_left_out}
 use Rattle.board_report.specs.LeftOut.{left_out_line}
 use Rattle.board_report.proofs.report.write_if_left_out.Goals as goal

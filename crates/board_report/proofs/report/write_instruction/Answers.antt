@@ -1,8 +1,8 @@
 use Rattle.std.proofs.Common.{refl, arith, ◌++◌}
 use Rattle.std.proofs.lemmas.Grind.{common_steps}
 use Rattle.std.specs.Prelude.{codes}
-use Rattle.byte_ends.proofs.Fronts.{WritesAll-is, WritesAll-then, WritesAll-stopped}
-use Rattle.device_instructions.specs.Instruction.{instruction}
+use Rattle.byte_streams.proofs.Fronts.{WritesAll-is, WritesAll-then, WritesAll-stopped}
+use Rattle.chip_instructions.specs.Instruction.{instruction}
 use Rattle.board_report.specs.Report.{name_or_dash}
 use Rattle.board_report.proofs.report.write_instruction.Goals as goal
 

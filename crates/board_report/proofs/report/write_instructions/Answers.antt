@@ -4,8 +4,8 @@ use Rattle.std.specs.Prelude.{flat_map}
 use Rattle.std.specs.Io.KnownBytes.{Appends}
 use Rattle.std.proofs.KnownBytes.{Appends-trans}
 use Rattle.bsdl_device.specs.Device.{Device, Opcode}
-use Rattle.byte_ends.proofs.Fronts.{WritesAll-is, WritesAll-lost, WritesAll-done}
-use Rattle.byte_ends.proofs.Pieces.{flat_map-more, flat_map-split}
+use Rattle.byte_streams.proofs.Fronts.{WritesAll-is, WritesAll-lost, WritesAll-done}
+use Rattle.byte_streams.proofs.Pieces.{flat_map-more, flat_map-split}
 use Rattle.board_plan.specs.LeftOut.{is_left_out}
 use Rattle.board_report.specs.LeftOut.{left_out_line, name_lines}
 use Rattle.board_report.proofs.Lines.{lines_by_rows, row_lines}

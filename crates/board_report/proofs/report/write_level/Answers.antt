@@ -1,7 +1,7 @@
 use Rattle.std.proofs.Common.{refl, arith, ◌++◌}
 use Rattle.std.proofs.lemmas.Grind.{common_steps}
 use Rattle.std.specs.Prelude.{codes}
-use Rattle.byte_ends.proofs.Fronts.{WritesAll-is, WritesAll-then, WritesAll-stopped}
+use Rattle.byte_streams.proofs.Fronts.{WritesAll-is, WritesAll-then, WritesAll-stopped}
 use Rattle.board_report.specs.Report.{level_word}
 use Rattle.board_report.proofs.report.write_level.Goals as goal
 

@@ -2,7 +2,7 @@ use Rattle.std.proofs.Common.{◌≡◌, drop, []}
 use Rattle.toml.specs.View.{items_view}
 use Rattle.board_tables.specs.Fields.{tables_in}
 use Rattle.board_tables.specs.Faults.{unfit_device}
-use Rattle.board_words.specs.View.{texts_of}
+use Rattle.board_tables.specs.WordView.{texts_of}
 use Rattle.board_tables.proofs.fields.check_devices.Given as goal
 
 -- what is left is judged as the whole is

@@ -1,5 +1,5 @@
 use Rattle.std.proofs.Common.{◌∙◌, ap, is_some}
-use Rattle.board_words.specs.View.{follow}
+use Rattle.board_tables.specs.WordView.{follow}
 use Rattle.board_tables.proofs.ValueLaws.{same_some}
 use Rattle.board_tables.proofs.values.spells_string.Goals as goal
 

@@ -6,7 +6,7 @@ use Rattle.boundary.specs.Cells.{AreDisabling, reset_from}
 use Rattle.boundary.specs.Masks.{AreMasks}
 use Rattle.boundary.specs.Plain.{plain_cells}
 use Rattle.boundary.specs.Resets.{reset_cells}
-use Rattle.device_registers.specs.Registers.{zeros}
+use Rattle.chip_registers.specs.Registers.{zeros}
 use Rattle.boundary.proofs.ResetLaws.{reset_by_mask}
 use Rattle.boundary.proofs.Boundary.new.Goals as goal
 

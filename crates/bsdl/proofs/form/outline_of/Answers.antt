@@ -1,5 +1,5 @@
 use Rattle.std.proofs.Common.{sym, Some, None}
-use Rattle.bsdl_lex.specs.Left.{left}
+use Rattle.bsdl_text.specs.Left.{left}
 use Rattle.bsdl_entity.specs.Entity.{file}
 use Rattle.bsdl_entity.specs.OutlineView.{outline}
 use Rattle.bsdl.proofs.FormLaws.{form_of_large, form_of_bad_byte, form_that_fits, form_that_does_not_fit, stopped}

@@ -1,7 +1,7 @@
 use Rattle.std.proofs.Common.{◌≡◌, ℕ, None, Some, option_map, ap}
-use Rattle.bsdl_described.specs.Describing.{bad_cell}
-use Rattle.bsdl_described.specs.View.{description}
-use Rattle.bsdl_fit.specs.Fits.{unfit_cell as unfit_cell_of}
+use Rattle.bsdl_description.specs.Describing.{bad_cell}
+use Rattle.bsdl_description.specs.View.{description}
+use Rattle.bsdl_rules.specs.Fits.{unfit_cell as unfit_cell_of}
 use Rattle.bsdl.proofs.judge.judge_cells.Goals as goal
 
 pub returns-in-Ok-Some-clause-judges : goal.returns-in-Ok-Some-clause-judges

@@ -1,6 +1,6 @@
 use Rattle.std.proofs.Common.{ap, sym, ◌∙◌}
 use Rattle.bsdl.specs.Judging.{unless}
-use Rattle.bsdl_described.specs.Describing.{bad_length}
+use Rattle.bsdl_description.specs.Describing.{bad_length}
 use Rattle.bsdl.proofs.judge.judge_lengths.Goals as goal
 
 pub returns-in-Ok-true : goal.returns-in-Ok-true

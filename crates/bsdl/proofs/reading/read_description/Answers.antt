@@ -1,7 +1,7 @@
 use Rattle.std.proofs.Common.{ap, ◌∙◌, sym}
 use Rattle.std.specs.Prelude.{Ok}
 use Rattle.std.proofs.lemmas.Result.{err_from_is_err_and}
-use Rattle.bsdl_described.specs.View.{description}
+use Rattle.bsdl_description.specs.View.{description}
 use Rattle.bsdl.specs.Judging.{device_or_refusal}
 use Rattle.bsdl.specs.View.{refusal}
 use Rattle.bsdl.proofs.ReadLaws.{refused_last}

@@ -1,6 +1,6 @@
 use Rattle.std.proofs.lemmas.Result.{err_from_is_err_and}
-use Rattle.bsdl_described.specs.Describing.{described}
-use Rattle.bsdl_described.specs.View.{description}
+use Rattle.bsdl_description.specs.Describing.{described}
+use Rattle.bsdl_description.specs.View.{description}
 use Rattle.bsdl_entity.specs.OutlineView.{outline}
 use Rattle.bsdl.specs.Judging.{fault, device_or_refusal}
 use Rattle.bsdl.specs.View.{refusal}

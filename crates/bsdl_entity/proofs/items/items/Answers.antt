@@ -2,15 +2,15 @@ use Rattle.std.proofs.Common.{◌≡◌, List, true, false, length, map, sym, ap
 use Rattle.std.specs.Prelude.{codes, option_map}
 use Rattle.std.proofs.lemmas.List.{map-append, append-nil}
 use Rattle.std.proofs.lemmas.Result.{err_from_is_err_and}
-use Rattle.bsdl_lex.specs.Left.{left}
+use Rattle.bsdl_text.specs.Left.{left}
 use Rattle.bsdl_text.specs.Reading.{fits}
 use Rattle.bsdl_text.proofs.ListLaws.{stops_where, prepend}
-use Rattle.bsdl_instructions.specs.Values.{begins}
+use Rattle.bsdl_values.specs.InstructionValues.{begins}
 use Rattle.bsdl_entity.specs.Entity.{item, items}
 use Rattle.bsdl_entity.specs.GivenView.{given}
 use Rattle.bsdl_ports.specs.View.{ports}
 use Rattle.bsdl_ports.specs.declared.ports.Group.{Group}
-use Rattle.bsdl_scalars.specs.Scalars.{is_scalar}
+use Rattle.bsdl_ports.specs.Scalars.{is_scalar}
 use Rattle.bsdl_entity.proofs.ItemLaws.{all_items, no_item, one_item}
 use Rattle.bsdl_entity.proofs.items.items.Goals as goal
 

@@ -1,10 +1,10 @@
 use Rattle.std.proofs.Common.{◌≡◌, ℕ, ◌≤◌, length, map}
-use Rattle.bsdl_lex.specs.Left.{left}
+use Rattle.bsdl_text.specs.Left.{left}
 use Rattle.bsdl_text.proofs.ListLaws.{prepend}
 use Rattle.bsdl_entity.specs.Entity.{items}
 use Rattle.bsdl_entity.specs.GivenView.{given}
 use Rattle.bsdl_ports.specs.View.{ports}
-use Rattle.bsdl_scalars.specs.Scalars.{is_scalar}
+use Rattle.bsdl_ports.specs.Scalars.{is_scalar}
 use Rattle.bsdl_entity.proofs.items.items.Given as goal
 
 -- what was said so far, and what is said behind it, are the whole

@@ -1,7 +1,7 @@
 use Rattle.std.proofs.Common.{◌≡◌, ◌++◌, ℕ, List, map, drop}
 use Rattle.std.specs.List.{flat_map}
-use Rattle.bsdl_instructions.specs.View.{access_row}
-use Rattle.bsdl_limits.specs.View.{Lists}
+use Rattle.bsdl_values.specs.InstructionView.{access_row}
+use Rattle.bsdl_opcodes.specs.UserView.{Lists}
 use Rattle.bsdl_opcodes.specs.Accesses.{accesses_of_row}
 use Rattle.bsdl_opcodes.proofs.accesses.accesses_of.Given as goal
 

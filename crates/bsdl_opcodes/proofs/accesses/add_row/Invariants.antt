@@ -1,5 +1,5 @@
 use Rattle.std.proofs.Common.{◌≡◌, ◌++◌, map, take}
-use Rattle.bsdl_instructions.specs.View.{instr}
+use Rattle.bsdl_values.specs.InstructionView.{instr}
 use Rattle.bsdl_opcodes.specs.Accesses.{access}
 use Rattle.bsdl_opcodes.proofs.accesses.add_row.Given as goal
 

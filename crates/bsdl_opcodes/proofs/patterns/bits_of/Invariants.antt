@@ -1,6 +1,6 @@
 use Rattle.std.proofs.Common.{◌≡◌, take, length}
 use Rattle.bsdl_device.specs.Opcodes.{x_as_0}
-use Rattle.bsdl_instructions.specs.Values.{pattern_of}
+use Rattle.bsdl_values.specs.InstructionValues.{pattern_of}
 use Rattle.bsdl_opcodes.proofs.patterns.bits_of.Given as goal
 
 abbrev pub invariant-loop-i : goal.invariant-loop-i

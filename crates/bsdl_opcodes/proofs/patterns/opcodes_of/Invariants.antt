@@ -1,5 +1,5 @@
 use Rattle.std.proofs.Common.{◌≡◌, map, take}
-use Rattle.bsdl_instructions.specs.View.{opcode_row}
+use Rattle.bsdl_values.specs.InstructionView.{opcode_row}
 use Rattle.bsdl_opcodes.specs.ResetOpcode.{opcode}
 use Rattle.bsdl_opcodes.proofs.patterns.opcodes_of.Given as goal
 

@@ -1,6 +1,6 @@
 use Rattle.std.proofs.Common.{◌≡◌, ◌++◌}
-use Rattle.bsdl_instructions.specs.Left.{digits_left}
-use Rattle.bsdl_instructions.specs.View.{patterns}
+use Rattle.bsdl_values.specs.Left.{digits_left}
+use Rattle.bsdl_values.specs.InstructionView.{patterns}
 use Rattle.bsdl_opcodes.proofs.patterns.patterns_of.Given as goal
 
 abbrev pub invariant-loop-digits : goal.invariant-loop-digits

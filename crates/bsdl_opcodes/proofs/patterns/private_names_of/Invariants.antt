@@ -1,5 +1,5 @@
 use Rattle.std.proofs.Common.{◌≡◌, map, take}
-use Rattle.bsdl_instructions.specs.View.{private_name}
+use Rattle.bsdl_values.specs.InstructionView.{private_name}
 use Rattle.bsdl_opcodes.proofs.patterns.private_names_of.Given as goal
 
 abbrev pub invariant-loop-private : goal.invariant-loop-private

@@ -1,5 +1,5 @@
 use Rattle.std.proofs.Common.{◌≡◌, map, drop}
-use Rattle.bsdl_instructions.specs.Values.{bit}
+use Rattle.bsdl_values.specs.InstructionValues.{bit}
 use Rattle.bsdl_device.specs.Opcodes.{matches, x_as_0}
 use Rattle.bsdl_opcodes.proofs.reset_opcode.digits_match.Given as goal
 

@@ -1,7 +1,7 @@
 use Rattle.std.proofs.Common.{◌≡◌, map, drop}
 use Rattle.std.specs.Prelude.{bytes_eq, codes}
 use Rattle.std.specs.List.{find}
-use Rattle.bsdl_instructions.specs.View.{opcode_row}
+use Rattle.bsdl_values.specs.InstructionView.{opcode_row}
 use Rattle.bsdl_opcodes.specs.ResetOpcode.{opcode}
 use Rattle.bsdl_opcodes.proofs.reset_opcode.idcode_row.Given as goal
 

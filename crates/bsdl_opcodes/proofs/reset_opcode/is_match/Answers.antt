@@ -1,5 +1,5 @@
 use Rattle.std.proofs.Common.{map, sym, ◌∙◌}
-use Rattle.bsdl_instructions.specs.Values.{bit}
+use Rattle.bsdl_values.specs.InstructionValues.{bit}
 use Rattle.bsdl_opcodes.proofs.MatchLaws.{written_match}
 use Rattle.bsdl_opcodes.proofs.reset_opcode.is_match.Goals as goal
 

@@ -1,9 +1,9 @@
 use Rattle.std.proofs.Common.{◌≡◌, map}
 use Rattle.std.specs.Prelude.{reverse}
 use Rattle.std.specs.List.{list_any}
-use Rattle.bsdl_instructions.specs.Values.{bit}
-use Rattle.bsdl_instructions.specs.Left.{digits_left}
-use Rattle.bsdl_instructions.specs.View.{patterns}
+use Rattle.bsdl_values.specs.InstructionValues.{bit}
+use Rattle.bsdl_values.specs.Left.{digits_left}
+use Rattle.bsdl_values.specs.InstructionView.{patterns}
 use Rattle.bsdl_device.specs.Opcodes.{matches, x_as_0}
 use Rattle.bsdl_opcodes.proofs.reset_opcode.is_named.Given as goal
 

@@ -1,7 +1,7 @@
 use Rattle.std.proofs.Common.{◌<◌, length, map, sym, ◌∙◌, arith}
 use Rattle.std.proofs.lemmas.List.{map-append}
 use Rattle.std.proofs.lemmas.Result.{err_from_is_err_and}
-use Rattle.bsdl_lex.specs.Left.{left}
+use Rattle.bsdl_text.specs.Left.{left}
 use Rattle.bsdl_text.specs.Reading.{mark, separated}
 use Rattle.bsdl_text.specs.View.{closes}
 use Rattle.bsdl_text.proofs.ListLaws.{stops_where, ends_here, ends_behind, stops_at_mark, stops_at_entry, goes_on}

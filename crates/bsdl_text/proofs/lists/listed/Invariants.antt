@@ -1,5 +1,5 @@
 use Rattle.std.proofs.Common.{◌≡◌, ℕ, ◌≤◌, ◌<◌, length, map}
-use Rattle.bsdl_lex.specs.Left.{left}
+use Rattle.bsdl_text.specs.Left.{left}
 use Rattle.bsdl_text.specs.Reading.{further, separated}
 use Rattle.bsdl_text.specs.View.{closes}
 use Rattle.bsdl_text.proofs.ListLaws.{prepend}

@@ -1,8 +1,8 @@
 use Rattle.std.proofs.Common.{◌≡◌, ℕ, true, List, [], ◌∷◌, drop, Option, Some, None, is_some, IfSome, sym, ap}
-use Rattle.bsdl_lex.specs.declared.Lexer.{Lexer}
-use Rattle.bsdl_lex.specs.Alone.{stands_alone}
-use Rattle.bsdl_lex.specs.Cutting.{Lexeme}
-use Rattle.bsdl_lex.specs.Left.{left}
+use Rattle.bsdl_text.specs.declared.tokens.Lexer.{Lexer}
+use Rattle.bsdl_text.specs.Alone.{stands_alone}
+use Rattle.bsdl_text.specs.Cutting.{Lexeme}
+use Rattle.bsdl_text.specs.Left.{left}
 use Rattle.bsdl_text.specs.Reading.{fits, mark, is_mark_of}
 use Rattle.bsdl_text.proofs.reading.behind.Goals as goal
 

@@ -1,6 +1,6 @@
 use Rattle.std.proofs.Common.{◌≡◌, ◌<◌, length, true, false, sym, arith}
 use Rattle.std.proofs.lemmas.Result.{err_from_is_err_and}
-use Rattle.bsdl_lex.specs.Left.{left, lexeme}
+use Rattle.bsdl_text.specs.Left.{left, lexeme}
 use Rattle.bsdl_text.specs.Reading.{stands, string, joined_by, joined_text}
 use Rattle.bsdl_text.proofs.ListLaws.{stops_where}
 use Rattle.bsdl_text.proofs.JoinedLaws.{all_joined, joined_no_string, one_joined, first_joined}

@@ -1,6 +1,6 @@
 use Rattle.std.proofs.Common.{◌≡◌, ◌≢◌, ◌∷◌, length, true, sym, ap, ◌∙◌, arith}
-use Rattle.bsdl_lex.specs.Left.{left, lexeme}
-use Rattle.bsdl_lex.proofs.TokenCounts.{few}
+use Rattle.bsdl_text.specs.Left.{left, lexeme}
+use Rattle.bsdl_text.proofs.TokenCounts.{few}
 use Rattle.bsdl_values.specs.Passing.{past_closing}
 use Rattle.bsdl_values.proofs.PassingLaws.{closes_here, closes_next, opens_next, passes_one, closes_none}
 use Rattle.bsdl_values.proofs.passing.past_closing.Goals as goal

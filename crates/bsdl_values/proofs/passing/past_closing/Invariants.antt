@@ -1,5 +1,5 @@
 use Rattle.std.proofs.Common.{◌≡◌, ◌≤◌, ◌+◌, length}
-use Rattle.bsdl_lex.specs.Left.{left}
+use Rattle.bsdl_text.specs.Left.{left}
 use Rattle.bsdl_values.specs.Passing.{past_closing}
 use Rattle.bsdl_values.proofs.passing.past_closing.Given as goal
 

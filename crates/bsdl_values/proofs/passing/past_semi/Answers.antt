@@ -1,5 +1,5 @@
 use Rattle.std.proofs.Common.{◌≡◌, ◌∷◌, length, true, sym, ap, ◌∙◌, arith}
-use Rattle.bsdl_lex.specs.Left.{left, lexeme}
+use Rattle.bsdl_text.specs.Left.{left, lexeme}
 use Rattle.bsdl_values.proofs.PassingLaws.{semi_here, semi_on, semi_none}
 use Rattle.bsdl_values.proofs.passing.past_semi.Goals as goal
 

@@ -1,6 +1,6 @@
 use Rattle.std.proofs.Common.{◌≡◌, IfOk, sym, ap, subst, ◌∙◌}
-use Rattle.board_meaning.specs.Chain.{BoardState}
-use Rattle.chip_chain.specs.Ready.{IsReady}
+use Rattle.board_model.specs.Chain.{BoardState}
+use Rattle.board_chain.specs.Ready.{IsReady}
 use Rattle.jt_board.specs.Made.{IsSoundWiring, board_of}
 use Rattle.jt_board.proofs.Bares.{bare_is, bare_ready, bare_sound}
 use Rattle.jt_board.proofs.board.bare_devices.Goals as goal

@@ -1,8 +1,8 @@
 use Rattle.std.proofs.Common.{◌++◌, ◌∙◌, ℕ, List, refl, ap}
 use Rattle.std.specs.Prelude.{flat_map}
-use Rattle.byte_ends.proofs.Fronts.{WritesAll-is, WritesAll-then, WritesAll-stopped}
+use Rattle.byte_streams.proofs.Fronts.{WritesAll-is, WritesAll-then, WritesAll-stopped}
 use Rattle.pin_nets.specs.Wired.{Net}
-use Rattle.board_meaning.specs.Chain.{ChipState, members}
+use Rattle.board_model.specs.Chain.{ChipState, members}
 use Rattle.board_report.specs.Report.{device_line, net_line}
 use Rattle.jt_board.proofs.report.write_report.Goals as goal
 

@@ -1,6 +1,6 @@
 use Rattle.std.proofs.Common.{arith}
 use Rattle.std.proofs.lemmas.Grind.{common_steps}
-use Rattle.byte_ends.proofs.Fronts.{WritesAll-is}
+use Rattle.byte_streams.proofs.Fronts.{WritesAll-is}
 use Rattle.jt_player.proofs.linking.tell_listening.Goals as goal
 
 pub returns : goal.returns

@@ -1,5 +1,5 @@
 use Rattle.std.proofs.Common.{refl}
-use Rattle.byte_ends.proofs.Fronts.{WritesAll-then, WritesAll-stopped}
+use Rattle.byte_streams.proofs.Fronts.{WritesAll-then, WritesAll-stopped}
 use Rattle.board_report.specs.Report.{report}
 use Rattle.jt_player.proofs.linking.write_played.Goals as goal
 

@@ -1,5 +1,5 @@
 use Rattle.std.proofs.Common.{ap, sym, ◌∙◌}
-use Rattle.plays.specs.declared.kind.Kind.{Kind}
+use Rattle.play_model.specs.declared.kind.Kind.{Kind}
 use Rattle.svf_programs.specs.Sizes.{program_of}
 use Rattle.jt_player.specs.Kinds.{found_in, found_of_ending}
 use Rattle.jt_player.proofs.KindLaws.{stopped}

@@ -1,5 +1,5 @@
 use Rattle.std.proofs.Common.{refl, flat_map, ◌∷◌, ◌++◌, []}
-use Rattle.byte_ends.proofs.Fronts.{WritesAll-then, WritesAll-stopped}
+use Rattle.byte_streams.proofs.Fronts.{WritesAll-then, WritesAll-stopped}
 use Rattle.jt_player.specs.Showing.{name_byte}
 use Rattle.jt_player.proofs.refusing.write_unreadable.Goals as goal
 

@@ -1,5 +1,5 @@
 use Rattle.std.proofs.Common.{refl}
-use Rattle.byte_ends.proofs.Fronts.{WritesAll-then, WritesAll-stopped}
+use Rattle.byte_streams.proofs.Fronts.{WritesAll-then, WritesAll-stopped}
 use Rattle.board_report.specs.LeftOut.{left_out_lines}
 use Rattle.jt_player.proofs.run.write_check.Goals as goal
 

@@ -1,6 +1,6 @@
 use Rattle.std.proofs.Common.{refl, ap, flat_map, ◌++◌, arith}
 use Rattle.std.proofs.lemmas.Grind.{common_steps}
-use Rattle.byte_ends.proofs.Fronts.{WritesAll-is, WritesAll-stopped, WritesAll-then}
+use Rattle.byte_streams.proofs.Fronts.{WritesAll-is, WritesAll-stopped, WritesAll-then}
 use Rattle.jt_player.specs.Showing.{mismatch_line, total_line}
 use Rattle.jt_player.proofs.showing.write_failures.Goals as goal
 

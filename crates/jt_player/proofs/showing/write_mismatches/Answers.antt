@@ -3,9 +3,9 @@ use Rattle.std.proofs.lemmas.List.{take_all}
 use Rattle.std.specs.Prelude.{flat_map}
 use Rattle.std.specs.Io.KnownBytes.{Appends}
 use Rattle.std.proofs.KnownBytes.{Appends-trans}
-use Rattle.byte_ends.proofs.Fronts.{WritesAll-lost, WritesAll-done}
-use Rattle.byte_ends.proofs.Pieces.{flat_map-more, flat_map-split}
-use Rattle.plays.specs.PlayingOn.{Mismatch}
+use Rattle.byte_streams.proofs.Fronts.{WritesAll-lost, WritesAll-done}
+use Rattle.byte_streams.proofs.Pieces.{flat_map-more, flat_map-split}
+use Rattle.play_model.specs.PlayingOn.{Mismatch}
 use Rattle.jt_player.specs.Showing.{mismatch_line}
 use Rattle.jt_player.proofs.showing.write_mismatches.Goals as goal
 

@@ -1,10 +1,10 @@
 use Rattle.std.proofs.Common.{◌≡◌, [], ◌∷◌, sym, subst, arith}
 use Rattle.std.specs.Prelude.{codes, decimal}
 use Rattle.std.proofs.lemmas.Grind.{common_steps}
-use Rattle.byte_ends.specs.Writes.{WritesAll}
-use Rattle.byte_ends.proofs.Fronts.{WritesAll-is}
-use Rattle.plays.specs.declared.ending.Ending.{Ending}
-use Rattle.plays.specs.Endings.{texts, verdict_line}
+use Rattle.byte_streams.specs.Writes.{WritesAll}
+use Rattle.byte_streams.proofs.Fronts.{WritesAll-is}
+use Rattle.play_model.specs.declared.ending.Ending.{Ending}
+use Rattle.play_model.specs.Endings.{texts, verdict_line}
 use Rattle.jt_player.proofs.showing.write_verdict.Goals as goal
 
 pub returns-in-Fail : goal.returns-in-Fail

@@ -1,7 +1,7 @@
 -- The test is held against the definition at each of the 256 bytes, by computing.
 use Rattle.std.proofs.Common.{nat_eq, bit_and, refl}
 use Rattle.std.proofs.lemmas.Bool.{agree_below_at}
-use Rattle.bitbang_table.specs.Protocol.{decode}
+use Rattle.bitbang_protocol.specs.Protocol.{decode}
 use Rattle.play_links.specs.Shifts.{writes_low}
 use Rattle.play_links.proofs.shifting.is_low.Goals as goal
 

@@ -1,5 +1,5 @@
 use Rattle.std.proofs.Common.{refl, ◌∷◌, ◌++◌, []}
-use Rattle.byte_ends.proofs.Fronts.{WritesAll-then, WritesAll-stopped}
+use Rattle.byte_streams.proofs.Fronts.{WritesAll-then, WritesAll-stopped}
 use Rattle.board_description.specs.Names.{shown}
 use Rattle.refusal_places.specs.Places.{bsdl_words}
 use Rattle.refusal_places.proofs.lines.refused_description.Goals as goal

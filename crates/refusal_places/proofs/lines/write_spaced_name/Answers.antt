@@ -1,5 +1,5 @@
 use Rattle.std.proofs.Common.{refl}
-use Rattle.byte_ends.proofs.Fronts.{WritesAll-then, WritesAll-stopped}
+use Rattle.byte_streams.proofs.Fronts.{WritesAll-then, WritesAll-stopped}
 use Rattle.board_description.specs.Names.{shown}
 use Rattle.refusal_places.proofs.lines.write_spaced_name.Goals as goal
 

@@ -3,8 +3,8 @@ use Rattle.std.proofs.lemmas.List.{take_all}
 use Rattle.std.specs.Prelude.{flat_map}
 use Rattle.std.specs.Io.KnownBytes.{Appends}
 use Rattle.std.proofs.KnownBytes.{Appends-trans}
-use Rattle.byte_ends.proofs.Fronts.{WritesAll-lost, WritesAll-done}
-use Rattle.byte_ends.proofs.Pieces.{flat_map-more, flat_map-split}
+use Rattle.byte_streams.proofs.Fronts.{WritesAll-lost, WritesAll-done}
+use Rattle.byte_streams.proofs.Pieces.{flat_map-more, flat_map-split}
 use Rattle.board_description.specs.Names.{shown_byte}
 use Rattle.refusal_places.proofs.names.write_shown.Goals as goal
 

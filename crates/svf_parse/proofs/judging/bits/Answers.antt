@@ -1,5 +1,5 @@
 use Rattle.std.proofs.Common.{◌∙◌, Some, sym, ap, arith, ℕ, List}
-use Rattle.svf_forms.specs.View.{given}
+use Rattle.svf_parse.specs.FormView.{given}
 use Rattle.svf_parse.proofs.FieldValues.{field_bits}
 use Rattle.svf_parse.proofs.judging.bits.Goals as goal
 

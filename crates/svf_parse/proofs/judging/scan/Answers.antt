@@ -1,5 +1,5 @@
 use Rattle.std.proofs.Common.{sym}
-use Rattle.svf_forms.specs.View.{lent}
+use Rattle.svf_parse.specs.FormView.{lent}
 use Rattle.svf_parse.proofs.ScanLaws.{scan_sound}
 use Rattle.svf_parse.proofs.judging.scan.Goals as goal
 

@@ -2,7 +2,7 @@ use Rattle.std.proofs.Common.{◌+◌, ◌∷◌, Some, vec_len, arith}
 use Rattle.svf_lex.specs.Left.{left}
 use Rattle.svf_words.specs.declared.fault.Code.TheVariants as code
 use Rattle.svf_words.specs.Words.{groups_of, words_left}
-use Rattle.svf_forms.specs.View as view
+use Rattle.svf_parse.specs.FormView as view
 use Rattle.svf_parse.specs.declared.fault.Stop.TheVariants as stop
 use Rattle.svf_parse.specs.Reading.{statement_says}
 use Rattle.svf_parse.specs.View.{said_of}

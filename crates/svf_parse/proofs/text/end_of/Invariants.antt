@@ -1,6 +1,6 @@
 use Rattle.std.proofs.Common.{length}
 use Rattle.svf_lex.specs.Left.{left}
-use Rattle.svf_forms.specs.Behind.{Behind}
+use Rattle.svf_parse.specs.Behind.{Behind}
 use Rattle.svf_parse.proofs.text.end_of.Given as goal
 
 abbrev pub invariant-loop-fault : goal.invariant-loop-fault

@@ -1,6 +1,6 @@
 use Rattle.std.proofs.Common.{Bool, refl, ap, sym, ◌∙◌, Some}
 use Rattle.std.specs.Prelude.{option_map}
-use Rattle.bitbang_table.specs.declared.Cycle.{Cycle}
+use Rattle.bitbang_protocol.specs.declared.Cycle.{Cycle}
 use Rattle.scan_vectors.specs.Held.{bits}
 use Rattle.tck_cycles.proofs.Places.{scan_at}
 use Rattle.tck_cycles.proofs.middle.reads_at.Goals as goal

@@ -1,8 +1,8 @@
 use Rattle.std.proofs.Common.{Bool, ℕ, List, ◌++◌, not, nat_eq, map, length, sym, ap, ◌∙◌}
 use Rattle.std.proofs.lemmas.List.{map-append}
-use Rattle.bitbang_table.specs.declared.Cycle.{Cycle}
-use Rattle.bitbang_table.specs.Protocol.{encode}
-use Rattle.bitbang_table.specs.Cycles.{closed_messages}
+use Rattle.bitbang_protocol.specs.declared.Cycle.{Cycle}
+use Rattle.bitbang_protocol.specs.Protocol.{encode}
+use Rattle.bitbang_protocol.specs.Cycles.{closed_messages}
 use Rattle.svf_programs.specs.Seen as seen
 use Rattle.tck_cycles.specs.Cycles.{cycles}
 use Rattle.bitbang.specs.StepMessages.{line_message}

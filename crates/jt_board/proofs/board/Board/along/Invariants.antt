@@ -1,6 +1,6 @@
 use Rattle.std.proofs.Common.{◌≡◌, drop}
-use Rattle.board_meaning.specs.Resting.{IsAtRest}
-use Rattle.board_meaning.specs.Whole.{AtRest, along}
+use Rattle.board_model.specs.Resting.{IsAtRest}
+use Rattle.board_model.specs.Whole.{AtRest, along}
 use Rattle.jt_board.proofs.board.Board.along.Given as goal
 
 -- where the board rests now, the states that are left lead where all of them lead from where it rested

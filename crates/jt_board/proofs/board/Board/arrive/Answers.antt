@@ -1,7 +1,7 @@
 use Rattle.std.proofs.Common.{◌≡◌, sym, subst}
-use Rattle.board_meaning.specs.Chain.{BoardState}
-use Rattle.board_meaning.specs.Resting.{IsAtRest}
-use Rattle.board_meaning.specs.Whole.{AtRest, arrive}
+use Rattle.board_model.specs.Chain.{BoardState}
+use Rattle.board_model.specs.Resting.{IsAtRest}
+use Rattle.board_model.specs.Whole.{AtRest, arrive}
 use Rattle.jt_board.specs.Resting.{IsResting}
 use Rattle.jt_board.proofs.RestLaws.{arrive_else, arrive_in_dr, arrive_in_ir, arrive_in_reset}
 use Rattle.jt_board.proofs.board.Board.arrive.Goals as goal

@@ -1,8 +1,8 @@
 use Rattle.std.proofs.Common.{false, sym, ap, subst}
-use Rattle.bitbang_table.specs.declared.Message.TheVariants.{Lines, Write}
-use Rattle.board_meaning.specs.Sound.{IsChain}
-use Rattle.board_meaning.proofs.SoundEdges.{IsChain-told}
-use Rattle.chip_chain.specs.Chains.{ChainValue}
+use Rattle.bitbang_protocol.specs.declared.Message.TheVariants.{Lines, Write}
+use Rattle.board_model.specs.Sound.{IsChain}
+use Rattle.board_model.proofs.SoundEdges.{IsChain-told}
+use Rattle.board_chain.specs.Chains.{ChainValue}
 use Rattle.jt_board.specs.contracts.board.Board.{the_view}
 use Rattle.jt_board.proofs.board.Board.hear.Goals as goal
 

@@ -1,9 +1,9 @@
 use Rattle.std.proofs.Common.{◌≡◌, ◌∙◌, List, ap, subst}
-use Rattle.board_meaning.specs.Cells.{Member}
-use Rattle.board_meaning.specs.Chain.{BoardState}
-use Rattle.board_meaning.specs.Resting.{IsAtRest}
-use Rattle.board_meaning.specs.Whole as whole
-use Rattle.board_meaning.specs.Whole.{AtRest, out_of_members}
+use Rattle.board_model.specs.Cells.{Member}
+use Rattle.board_model.specs.Chain.{BoardState}
+use Rattle.board_model.specs.Resting.{IsAtRest}
+use Rattle.board_model.specs.Whole as whole
+use Rattle.board_model.specs.Whole.{AtRest, out_of_members}
 use Rattle.scan_vectors.specs.Failures.{differing, found, with_found}
 use Rattle.scan_vectors.specs.Held.{bits}
 use Rattle.scan_vectors.specs.Vector.{tdis}

@@ -1,7 +1,7 @@
 use Rattle.std.proofs.Common.{◌≡◌, ◌∙◌, subst}
-use Rattle.board_meaning.specs.Chain.{BoardState}
-use Rattle.board_meaning.specs.Resting.{IsAtRest}
-use Rattle.board_meaning.specs.Whole.{AtRest}
+use Rattle.board_model.specs.Chain.{BoardState}
+use Rattle.board_model.specs.Resting.{IsAtRest}
+use Rattle.board_model.specs.Whole.{AtRest}
 use Rattle.jt_board.specs.contracts.board.Board.{the_view}
 use Rattle.jt_board.proofs.RestLaws.{rests_place}
 use Rattle.jt_board.proofs.board.Board.place.Goals as goal

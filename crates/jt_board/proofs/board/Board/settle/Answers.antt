@@ -1,6 +1,6 @@
 use Rattle.std.proofs.Common.{◌∙◌, sym, subst}
-use Rattle.board_meaning.specs.Resting.{IsAtRest}
-use Rattle.board_meaning.specs.Whole.{AtRest}
+use Rattle.board_model.specs.Resting.{IsAtRest}
+use Rattle.board_model.specs.Whole.{AtRest}
 use Rattle.jt_board.proofs.RestLaws.{settle_else, settle_in_dr, settle_in_ir}
 use Rattle.jt_board.proofs.board.Board.settle.Goals as goal
 

@@ -1,9 +1,9 @@
 use Rattle.std.proofs.Common.{sym, ap, subst}
-use Rattle.board_meaning.specs.Chain.{BoardState}
-use Rattle.board_meaning.specs.Resting.{IsAtRest}
-use Rattle.board_meaning.specs.Sound.{IsChain}
-use Rattle.board_meaning.specs.Whole.{AtRest}
-use Rattle.chip_chain.specs.Chains.{ChainValue}
+use Rattle.board_model.specs.Chain.{BoardState}
+use Rattle.board_model.specs.Resting.{IsAtRest}
+use Rattle.board_model.specs.Sound.{IsChain}
+use Rattle.board_model.specs.Whole.{AtRest}
+use Rattle.board_chain.specs.Chains.{ChainValue}
 use Rattle.jt_board.specs.Made.{board_at}
 use Rattle.jt_board.specs.contracts.board.Board.{the_view}
 use Rattle.jt_board.proofs.RestLaws.{chain-stands, rests_standing}

@@ -1,7 +1,7 @@
 -- The test is held against the definition at each of the 256 bytes, by computing.
 use Rattle.std.proofs.Common.{◌≡◌, ℕ, ◌<◌, Bool, true, false, ◌&&◌, not, nat_eq, bit_and, refl, sym, ◌∙◌}
 use Rattle.std.proofs.lemmas.Bool.{agree_below_at}
-use Rattle.bitbang_table.specs.Protocol.{decode}
+use Rattle.bitbang_protocol.specs.Protocol.{decode}
 use Rattle.jt_board.specs.Idling.{is_idle_byte, level}
 use Rattle.jt_board.proofs.Idling.{level_any}
 use Rattle.jt_board.proofs.board.idle.is_high.Goals as goal

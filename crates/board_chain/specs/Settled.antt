@@ -1,0 +1,35 @@
+-- What stands between two edges: every level is put, and every string holds.
+use Rattle.std.specs.Prelude.{◌≡◌, ℕ, List, map}
+use Rattle.board_model.specs.Following.{IsOrderOf}
+use Rattle.board_model.specs.Nets.{in_force}
+use Rattle.board_wiring.specs.Wires.{WiringValue}
+use Rattle.board_chips.specs.Driving.{cells_of}
+use Rattle.board_chips.specs.DrivingTable.{DrivingTable}
+use Rattle.board_chips.specs.WiredChips.{IsKept, WiredChipValue, held_of, member_of}
+use Rattle.board_chips.specs.Strings.{AreStrung, placed_of}
+use Rattle.board_chips.specs.Tables.{IsApart, IsDriving}
+use Rattle.board_chips.specs.Wires.{IsWired}
+use Rattle.board_chain.specs.Sweeping.{EachFrom}
+use Rattle.board_chips.specs.declared.strings.WiredString.{WiredString}
+
+-- What was put to the nets last is what each pin drives by the core bits that the boundaries hold, and these are those
+-- in force: the strings are an order of work.
+pub record IsSettled (seats : List WiredChipValue) (w : WiringValue) (d : DrivingTable) (strings : List WiredString) : Type 0
+  where
+    pub wired : IsWired seats w
+    pub driving : IsDriving (map cells_of seats) w d
+    pub apart : IsApart strings d
+    pub strung : AreStrung w.nets (map cells_of seats) strings
+    pub order : IsOrderOf w.nets (map member_of seats) (map placed_of strings)
+    pub in_force : in_force w.nets (map member_of seats) ≡ map held_of seats
+
+-- the registers of a device may be others
+abbrev pub Keeps : ℕ → WiredChipValue → WiredChipValue → Type 0
+Keeps place s t = IsKept s t
+
+-- the same, while the registers of the devices were others
+pub record WasSettled (seats : List WiredChipValue) (w : WiringValue) (d : DrivingTable) (strings : List WiredString)
+    : Type 0 where
+  pub before : List WiredChipValue
+  pub settled : IsSettled before w d strings
+  pub kept : EachFrom Keeps 0 before seats

@@ -1,0 +1,80 @@
+//! A planned chain, powered up.
+
+ghost use Rattle.std.specs.Prelude.{◌≡◌, false, map, IfOk};
+ghost use Rattle.board_model.specs.Following.{AreHeld, IsOrderOf};
+ghost use Rattle.board_model.specs.Planned.{powered_up};
+ghost use Rattle.board_plan.specs.View.{member as planned_member, net as planned_net, wiring};
+ghost use Rattle.board_chips.specs.Driving.{cells_of};
+ghost use Rattle.board_chips.specs.WiredChips.{AllTold, chip_state, held_of, member_of};
+ghost use Rattle.board_chips.specs.Strings.{AreStrung, placed_of};
+ghost use Rattle.board_chips.specs.Wires.{IsWired};
+ghost use Rattle.board_chain.specs.Chains.{chain_of};
+ghost use Rattle.board_chain.specs.Ready.{IsReady};
+
+use crate::chain::Chain;
+use board_chips::{
+    WiredChip, WiredString, all_seats, driving_pins, refresh, settle, wired_strings,
+};
+use board_loops::{Settling, settle_strings};
+use board_plan::{Plan, PlannedDevice, PlannedNet};
+use board_wiring::Wiring;
+use std::alloc::{AllocError, Global};
+
+impl Chain {
+    /// A planned chain as it powers up: TRST released, each device in RESET with its reset instruction, all else 0 but
+    /// the `controlr` cells. Refuses for want of memory alone.
+    pub fn new(alloc: Global, plan: Plan) -> Result<Chain, AllocError>
+        requires { IsReady (wiring plan) }
+        ensures { IfOk result (λ c. c ≡ chain_of (wiring plan)) }
+    {
+        let Plan { devices, nets } = plan;
+        let strings = strings_in_order(alloc, &devices, &nets)?;
+        let seats = all_seats(alloc, &devices, &nets)?;
+        let mut wiring = Wiring::new(alloc, nets)?;
+        refresh(&mut wiring, &seats);
+        first_settled(alloc, seats, wiring, strings)
+    }
+}
+
+/// The strings of a plan, each behind those that its source's net depends on.
+fn strings_in_order(
+    alloc: Global,
+    devices: &[PlannedDevice],
+    nets: &[PlannedNet],
+) -> Result<Vec<WiredString>, AllocError>
+    requires { IsReady (record { members = map planned_member devices.now; nets = map planned_net nets.now }) }
+    ensures strung { IfOk result (λ v. AreStrung (map planned_net nets.now)
+        (map (λ m. m.device.cells) (map planned_member devices.now)) v.items) }
+    ensures order { IfOk result (λ v. IsOrderOf (map planned_net nets.now)
+        (map powered_up (map planned_member devices.now)) (map placed_of v.items)) }
+{
+    match settle_strings(alloc, nets, devices)? {
+        Settling::Order(order) => wired_strings(alloc, devices, nets, &order),
+        Settling::Loop(_) => unreachable!(),
+    }
+}
+
+/// Devices that have put to their nets what they drive: the strings are put behind that.
+fn first_settled(
+    alloc: Global,
+    seats: Vec<WiredChip>,
+    wiring: Wiring,
+    strings: Vec<WiredString>,
+) -> Result<Chain, AllocError>
+    requires told { AllTold false seats.items }
+    requires wired { IsWired seats.items wiring }
+    requires held { AreHeld (map member_of seats.items) (map held_of seats.items) }
+    requires strung { AreStrung wiring.nets (map cells_of seats.items) strings.items }
+    requires order { IsOrderOf wiring.nets (map member_of seats.items) (map placed_of strings.items) }
+    ensures { IfOk result (λ c. c ≡ record {
+      trst = false;
+      nets = wiring.nets;
+      chips = map chip_state seats.items;
+    }) }
+{
+    let mut seats = seats;
+    let mut wiring = wiring;
+    let driving = driving_pins(alloc, &wiring, &seats, &strings)?;
+    settle(&mut seats, &mut wiring, &strings);
+    Ok(Chain::of(seats, wiring, driving, strings))
+}

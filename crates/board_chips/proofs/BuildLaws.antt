@@ -1,0 +1,165 @@
+-- How a planned chain is made, device after device and net after net.
+use Rattle.std.proofs.Common.{◌≡◌, ◌<◌, ◌≤◌, ℕ, zero, suc, ◌+◌, false, List, [], ◌∷◌, ◌++◌, length, map, take, get_or, slice_get, Option, Some, None, refl, sym, ap, subst, ◌∙◌, arith, take_all}
+use Rattle.std.proofs.Common.{Global}
+use Rattle.std.specs.Global.{Vec}
+use Rattle.std.specs.List.{AllByRecursion, zip}
+use Rattle.std.proofs.lemmas.List.{length-map}
+use Rattle.std.proofs.iter.Yields.{fronts}
+use Rattle.std.proofs.lemmas.Iterator.{YieldsList, YieldsList-from_slice, YieldsList-from_zip, zips}
+use Rattle.std.proofs.lemmas.Iterator.Adapters.{YieldsList-from_vec}
+use Rattle.std.proofs.lemmas.Iterator.Consumers.{YieldsList-end, YieldsList-turn}
+use Rattle.std.specs.Iterator.{Yields}
+use Rattle.std.specs.Iterator.Adapters.{zip_first, zip_second}
+use Rattle.std.specs.Slice.Iter.{iter_rest}
+use Rattle.std.specs.Vec.Iter.{into_iter_items, into_iter_len, into_iter_steps}
+use Rattle.std.proofs.lemmas.Slice.Zip.{get_or-zip, length-zip}
+use Rattle.std.proofs.lemmas.Option.{none-some, same_Some, slice_get_within}
+use Rattle.bsdl_device.specs.Device.{Device}
+use Rattle.pin_nets.specs.declared.Pin.{Pin}
+use Rattle.pin_nets.specs.Wired.{Net}
+use Rattle.board_plan.specs.AllCellNets.{AllPortsFit, all_cell_nets, lists_of}
+use Rattle.board_plan.specs.CellNets.{cell_net}
+use Rattle.board_plan.specs.Planned.{IsPinOf, all_pins}
+use Rattle.board_plan.specs.Planned as planned
+use Rattle.board_plan.specs.View.{member as planned_member}
+use Rattle.board_plan.specs.declared.plan.PlannedDevice.{PlannedDevice}
+use Rattle.board_plan.proofs.CellLaws.{ports_fit}
+use Rattle.board_plan.proofs.TableLaws.{length-all_cell_nets, planned_at, vector_at}
+use Rattle.board_model.specs.Nets.{pin_drive}
+use Rattle.board_chips.specs.Building.{seat_of, seats_of}
+use Rattle.board_chips.specs.WiredChips.{AllTold, WiredChipValue, held_of}
+use Rattle.board_wiring.specs.Wires.{WiringValue}
+use Rattle.board_chips.specs.Wires.{ArePinsBelow, AreWired, IsWired}
+
+-- ---- pins are port bits
+
+pub seated : (members : List planned.Member) (pins : List Pin) → AllByRecursion (IsPinOf members) pins → ArePinsBelow (length members) pins
+seated members [] all = tt
+seated members (q ∷ pins) all = let its = all.0 in (slice_get_within members q.device its.0 its.1, seated members pins all.1)
+
+pub all_fit : (members : List planned.Member) (nets : List Net) → AllByRecursion (IsPinOf members) (all_pins nets) → AllPortsFit members nets
+all_fit members nets pins = record { each = λ place m at. ports_fit place members m nets at pins }
+
+-- ---- seats
+
+pub length-seats : (nets : List Net) (k : ℕ) (ms : List planned.Member) → length (seats_of nets k ms) ≡ length ms
+length-seats nets k [] = refl
+length-seats nets k (m ∷ ms) = let rest = length-seats nets (suc k) ms in omega (arith, rest)
+
+pub seat_more : (nets : List Net) (k i : ℕ) (ms : List planned.Member) (m : planned.Member) → slice_get ms i ≡ Some m
+    → take (i + 1) (seats_of nets k ms) ≡ take i (seats_of nets k ms) ++ seat_of (map (cell_net nets (k + i)) m.device.cells) m ∷ []
+seat_more nets k i [] m at = absurd (none-some m at)
+seat_more nets k zero (x ∷ ms) m at =
+    let same : k ≡ k + 0 = omega arith in
+    λ i. seat_of (map (cell_net nets (same i)) (same_Some _ _ at i).device.cells) (same_Some _ _ at i) ∷ []
+seat_more nets k (suc i) (x ∷ ms) m at =
+    let next : suc i + 1 ≡ suc (i + 1) = omega arith in
+    let same : suc k + i ≡ k + suc i = omega arith in
+    let first = seat_of (map (cell_net nets k) x.device.cells) x in
+    ap (λ (j : ℕ). take j (seats_of nets k (x ∷ ms))) next
+    ∙ ap (λ (r : List WiredChipValue). first ∷ r) (seat_more nets (suc k) i ms m at)
+    ∙ ap (λ (j : ℕ). first ∷ take i (seats_of nets (suc k) ms) ++ seat_of (map (cell_net nets j) m.device.cells) m ∷ []) same
+
+pub seats_wired : (nets : List Net) (k : ℕ) (ms : List planned.Member) → AreWired nets k (seats_of nets k ms)
+seats_wired nets k [] = tt
+seats_wired nets k (m ∷ ms) = (refl, seats_wired nets (suc k) ms)
+
+pub seats_told : (nets : List Net) (k : ℕ) (ms : List planned.Member) → AllTold false (seats_of nets k ms)
+seats_told nets k [] = tt
+seats_told nets k (m ∷ ms) = (refl, seats_told nets (suc k) ms)
+
+pub all_at : {A : Type 0} (P : A → Type 0) (l : List A) (i : ℕ) (x : A) → AllByRecursion P l → slice_get l i ≡ Some x → P x
+all_at P [] i x all at = absurd (none-some x at)
+all_at P (y ∷ l) zero x all at = subst P (same_Some _ _ at) all.0
+all_at P (y ∷ l) (suc i) x all at = all_at P l i x all.1 at
+
+-- ---- lists that grow
+
+pub seats_end : (nets : List Net) (ms : List planned.Member) (seats : List WiredChipValue) (i : ℕ) → seats ≡ take i (seats_of nets 0 ms) → length ms ≤ i → seats ≡ seats_of nets 0 ms
+seats_end nets ms seats i e h = e ∙ take_all i (seats_of nets 0 ms) (omega (arith, h, length-seats nets 0 ms))
+
+pub seat_push : (nets : List Net) (ms : List planned.Member) (i : ℕ) (m : planned.Member) (seats new : List WiredChipValue) (s : WiredChipValue) (cells : List (Option ℕ)) (d : Device)
+    → slice_get ms i ≡ Some m → seats ≡ take i (seats_of nets 0 ms) → d ≡ m.device → cells ≡ map (cell_net nets i) d.cells → s ≡ seat_of cells m → new ≡ seats ++ s ∷ []
+    → new ≡ take (i + 1) (seats_of nets 0 ms)
+seat_push nets ms i m seats new s cells d at are described wired is e =
+    let place : i ≡ 0 + i = omega arith in
+    let cells-are : cells ≡ map (cell_net nets (0 + i)) m.device.cells =
+    wired ∙ ap (λ (x : Device). map (cell_net nets i) x.cells) described ∙ ap (λ (k : ℕ). map (cell_net nets k) m.device.cells) place in
+    e ∙ ap (λ (l : List WiredChipValue). l ++ s ∷ []) are
+    ∙ ap (λ (x : WiredChipValue). take i (seats_of nets 0 ms) ++ x ∷ []) (is ∙ ap (λ (cs : List (Option ℕ)). seat_of cs m) cells-are)
+    ∙ sym (seat_more nets 0 i ms m at)
+
+-- ---- each device with its cells
+
+-- where a device of a chain stands, and what nets its cells are on
+pub record IsTurn (nets : List Net) (devices : List PlannedDevice) (i : ℕ) (d : PlannedDevice) (cells : List (Option ℕ)) : Type 0 where
+  pub at : slice_get (map planned_member devices) i ≡ Some (planned_member d)
+  pub wired : cells ≡ map (cell_net nets i) d.device.cells
+
+get_or-all_cell_nets : (nets : List Net) (k i : ℕ) (ms : List planned.Member) (m : planned.Member) → slice_get ms i ≡ Some m → get_or (all_cell_nets nets k ms) i [] ≡ map (cell_net nets (k + i)) m.device.cells
+get_or-all_cell_nets nets k i [] m at = absurd (none-some m at)
+get_or-all_cell_nets nets k zero (x ∷ ms) m at =
+    let same : k ≡ k + 0 = omega arith in
+    ap (λ (y : planned.Member). map (cell_net nets k) y.device.cells) (same_Some _ _ at) ∙ ap (λ (j : ℕ). map (cell_net nets j) m.device.cells) same
+get_or-all_cell_nets nets k (suc i) (x ∷ ms) m at =
+    let same : suc k + i ≡ k + suc i = omega arith in
+    get_or-all_cell_nets nets (suc k) i ms m at ∙ ap (λ (j : ℕ). map (cell_net nets j) m.device.cells) same
+
+long-zip : (nets : List Net) (devices : List PlannedDevice) (all : List (Vec (Option ℕ))) → lists_of all ≡ all_cell_nets nets 0 (map planned_member devices) → length all ≡ length devices
+long-zip nets devices all are =
+    sym (length-map all (λ v. v.items)) ∙ ap length are ∙ length-all_cell_nets nets 0 (map planned_member devices) ∙ length-map devices planned_member
+
+turn_at : (nets : List Net) (devices : List PlannedDevice) (all : List (Vec (Option ℕ))) (i : ℕ) (d : PlannedDevice) (cells : Vec (Option ℕ)) → lists_of all ≡ all_cell_nets nets 0 (map planned_member devices)
+    → i < length (zip devices all) → (d, cells) ≡ get_or (zip devices all) i (d, cells) → IsTurn nets devices i d cells.items
+turn_at nets devices all i d cells are h is =
+    let long : length all ≡ length devices = long-zip nets devices all are in
+    let inside : i < length devices = omega (arith, h, long, length-zip devices all) in
+    let within : i < length all = omega (arith, inside, long) in
+    let both = is ∙ get_or-zip devices all i (d, cells) inside within in
+    let at = planned_at devices i d inside (ap (λ (p : PlannedDevice × Vec (Option ℕ)). p.0) both) in
+    let place : 0 + i ≡ i = omega arith in
+    record {
+      at = at;
+      wired =
+          vector_at all i cells within (ap (λ (p : PlannedDevice × Vec (Option ℕ)). p.1) both)
+          ∙ ap (λ (ls : List (List (Option ℕ))). get_or ls i []) are
+          ∙ get_or-all_cell_nets nets 0 i (map planned_member devices) (planned_member d) at
+          ∙ ap (λ (k : ℕ). map (cell_net nets k) d.device.cells) place;
+    }
+
+-- a loop over the devices and the vectors of the nets of their cells
+road : (s z it : _) (devices : List PlannedDevice) (all : Vec (Vec (Option ℕ))) → s ≡ z → zip_first z ≡ it → iter_rest it ≡ devices
+    → (into_iter_items {Z = Global} (zip_second z) ≡ all.items) × (into_iter_len (zip_second z) ≡ all.len) → YieldsList (zips fronts into_iter_steps) (λ p. (p.0.now, p.1)) s (zip devices all.items)
+road s z it devices all same first rest second =
+    YieldsList-from_zip (YieldsList-from_slice devices (ap (λ x. iter_rest (zip_first x)) same ∙ ap iter_rest first ∙ rest))
+    (YieldsList-from_vec all.items (ap (λ x. into_iter_items (zip_second x)) same ∙ second.0) (ap (λ x. into_iter_len (zip_second x)) same ∙ second.1 ∙ all.ok.0))
+
+pub turn : (s z it t u : _) (nets : List Net) (devices : List PlannedDevice) (all : Vec (Vec (Option ℕ))) → s ≡ z → zip_first z ≡ it → iter_rest it ≡ devices
+    → (into_iter_items {Z = Global} (zip_second z) ≡ all.items) × (into_iter_len (zip_second z) ≡ all.len) → lists_of all.items ≡ all_cell_nets nets 0 (map planned_member devices)
+    → (xs : _) → Yields (zips fronts into_iter_steps) s xs t → (r : _) (x : _) → r ≡ Some x → zips fronts into_iter_steps t r u → IsTurn nets devices (length xs) x.0.now x.1.items
+turn s z it t u nets devices all same first rest second are xs so_far r x is steps =
+    let at = YieldsList-turn (road s z it devices all same first rest second) xs t so_far r u x is steps in
+    turn_at nets devices all.items (length xs) x.0.now x.1 are at.0 at.1
+
+pub turns_end : (s z it t u : _) (nets : List Net) (devices : List PlannedDevice) (all : Vec (Vec (Option ℕ))) → s ≡ z → zip_first z ≡ it → iter_rest it ≡ devices
+    → (into_iter_items {Z = Global} (zip_second z) ≡ all.items) × (into_iter_len (zip_second z) ≡ all.len) → lists_of all.items ≡ all_cell_nets nets 0 (map planned_member devices)
+    → (xs : _) → Yields (zips fronts into_iter_steps) s xs t → (r : _) → r ≡ None → zips fronts into_iter_steps t r u → length (map planned_member devices) ≤ length xs
+turns_end s z it t u nets devices all same first rest second are xs so_far r is steps =
+    let end = YieldsList-end (road s z it devices all same first rest second) xs t so_far r u is steps in
+    omega (arith, end.1, long-zip nets devices all.items are, length-zip devices all.items, length-map devices planned_member)
+
+-- ---- the start
+
+pub start_seated : (nets : List Net) (ms : List planned.Member) (seats : List WiredChipValue) (w : WiringValue) → AllByRecursion (IsPinOf ms) (all_pins nets)
+    → seats ≡ seats_of nets 0 ms → w.nets ≡ nets → ArePinsBelow (length seats) (all_pins w.nets)
+start_seated nets ms seats w all are same =
+    subst (λ (l : List Net). ArePinsBelow (length seats) (all_pins l)) (sym same)
+    (subst (λ (n : ℕ). ArePinsBelow n (all_pins nets)) (sym (ap length are ∙ length-seats nets 0 ms)) (seated ms (all_pins nets) all))
+
+pub start_wired : (nets : List Net) (ms : List planned.Member) (w v : WiringValue) → AllByRecursion (IsPinOf ms) (all_pins nets) → w.nets ≡ nets
+    → v ≡ record w { drives = map (pin_drive (map held_of (seats_of nets 0 ms))) (all_pins w.nets) } → IsWired (seats_of nets 0 ms) v
+start_wired nets ms w v all same is = subst (λ (x : WiringValue). IsWired (seats_of nets 0 ms) x) (sym is) (record {
+  drives = refl;
+  cells = subst (λ (l : List Net). AreWired l 0 (seats_of nets 0 ms)) (sym same) (seats_wired nets 0 ms);
+  pins = start_seated nets ms (seats_of nets 0 ms) w all refl same;
+})

@@ -1,0 +1,12 @@
+pub mod WiredChips
+pub mod Wires
+pub mod Telling
+pub mod Building
+pub mod AtRest
+pub mod Sighted
+pub mod Driving
+pub mod Blocks
+pub mod DrivingTable
+pub mod Strings
+pub mod Planning
+pub mod Tables

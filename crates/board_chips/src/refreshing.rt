@@ -1,0 +1,176 @@
+//! What the pins that a cell drives drive is put to their nets, where it has changed.
+
+ghost use Rattle.std.specs.Prelude.{◌≡◌, ◌<◌, ◌≤◌, ◌+◌, ◌*◌, ◌%◌, ◌&&◌, not, ℕ, List, Some, map, length, slice_get};
+ghost use Rattle.std.specs.Prelude.{slice_set};
+ghost use Rattle.jt_bits.specs.Packed.{has_bit};
+ghost use Rattle.board_plan.specs.Planned.{all_pins};
+ghost use Rattle.board_model.specs.Nets.{pin_drive};
+ghost use Rattle.board_chips.specs.Blocks.{TellsBlock, stands};
+ghost use Rattle.board_chips.specs.Driving.{cells_of, drives_at, entry_drives};
+ghost use Rattle.board_chips.specs.WiredChips.{WiredChipValue, held_of};
+ghost use Rattle.board_chips.specs.Tables.{AreTargeted, IsDriving, IsRefreshed, SlotsSettled, HasTargets, WerePut};
+ghost use Rattle.board_chips.specs.Tables.{Settled, Settles, IsTargeted, WasPut, targets};
+ghost use Rattle.board_chips.specs.declared.driving.Block.{Block as TheBlock};
+ghost use Rattle.board_chips.specs.declared.driving.DrivingPin.{DrivingPin as Entry};
+
+use crate::driving::{Block, DrivingPin, DrivingPins};
+use crate::seat::WiredChip;
+use crate::words::{bit, lowest, without_bit};
+use board_wiring::Wiring;
+use boundary::{Drive, PlainCells};
+
+/// What each pin drives is put to its net, given the pins that a cell drives; what was put to the nets before is what
+/// each pin drove while the registers of the devices were others.
+///
+/// Of cells without a control, where eight or more of 64 drive a pin and the mode drives the pins, only those are put
+/// whose bit is another than was last put. All others are put each time: pins whose cell has a control, few among 64,
+/// and those of a device in HIGHZ.
+pub fn refresh_driving(wiring: &mut Wiring, seats: &[WiredChip], driving: &mut DrivingPins)
+    requires { IsDriving (map cells_of seats.now) wiring.old driving.old }
+    ensures nets { wiring.new.nets ≡ wiring.old.nets }
+    ensures driving { IsDriving (map cells_of seats.now) wiring.new driving.new }
+    ensures table { driving.new ≡ record driving.old { put = driving.new.put } }
+    ensures drives { (before : List WiredChipValue) → map cells_of before ≡ map cells_of seats.now
+        → wiring.old.drives ≡ map (pin_drive (map held_of before)) (all_pins wiring.old.nets)
+        → wiring.new ≡ record wiring.old {
+          drives = map (pin_drive (map held_of seats.now))
+              (all_pins wiring.old.nets);
+        } }
+{
+    refresh_blocks(
+        wiring,
+        seats,
+        &driving.blocks,
+        &driving.pins,
+        &mut driving.put,
+    );
+    refresh_rest(wiring, seats, &driving.rest);
+}
+
+/// What the cells of all blocks drive is put to their nets.
+fn refresh_blocks(
+    wiring: &mut Wiring,
+    seats: &[WiredChip],
+    blocks: &[Block],
+    pins: &[usize],
+    put: &mut [PlainCells],
+)
+    requires full { length wiring.old.drives ≡ length (all_pins wiring.old.nets) }
+    requires long { length pins.now ≡ 64 * length blocks.now }
+    requires slots { (i : ℕ) (b : TheBlock) → slice_get blocks.now i ≡ Some b
+        → AreTargeted (map held_of seats.now) (targets seats.now wiring.old.nets) pins.now (64 * i) b }
+    requires put { WerePut blocks.now pins.now put.old wiring.old.drives }
+    ensures nets { wiring.new.nets ≡ wiring.old.nets }
+    ensures settles { Settles (targets seats.now wiring.old.nets) wiring.old.drives wiring.new.drives }
+    ensures long { length put.new ≡ length put.old }
+    ensures blocks { (i : ℕ) (b : TheBlock) → slice_get blocks.now i ≡ Some b
+        → IsRefreshed (map held_of seats.now) (targets seats.now wiring.old.nets) wiring.new.drives pins.now put.new i
+        b }
+{
+    for i in 0..blocks.len() {
+        let now = refresh_block(wiring, seats, blocks[i], pins, 64 * i, put[i]);
+        put[i] = now;
+    }
+}
+
+/// What the cells of a block drive is put to their nets. Answers which of them drive their own bits, and these.
+fn refresh_block(
+    wiring: &mut Wiring,
+    seats: &[WiredChip],
+    block: Block,
+    pins: &[usize],
+    at: usize,
+    put: PlainCells,
+) -> PlainCells
+    requires full { length wiring.old.drives ≡ length (all_pins wiring.old.nets) }
+    requires room { at + 64 ≤ length pins.now }
+    requires slots { AreTargeted (map held_of seats.now) (targets seats.now wiring.old.nets) pins.now at block }
+    requires put { WasPut (map held_of seats.now) (targets seats.now wiring.old.nets) wiring.old.drives pins.now at
+        block put }
+    ensures nets { wiring.new.nets ≡ wiring.old.nets }
+    ensures settles { Settles (targets seats.now wiring.old.nets) wiring.old.drives wiring.new.drives }
+    ensures settled { SlotsSettled (targets seats.now wiring.old.nets) wiring.new.drives pins.now at block.slots }
+    ensures tells { TellsBlock (map held_of seats.now) block result }
+{
+    let now = seats[block.device].plain_cells(block.first);
+    let changed = changed_slots(block.slots, put, now);
+    put_slots(wiring, seats, block, now, pins, at, changed);
+    now
+}
+
+/// The slots of which it is not known that their cells drive what was put.
+fn changed_slots(slots: u64, put: PlainCells, now: PlainCells) -> u64
+    ensures { (j : ℕ) → j < 64 → has_bit result j ≡ (has_bit slots j && not (stands put now j)) }
+{
+    let known = slots & put.mask & now.mask;
+    slots & !known | known & (put.bits ^ now.bits)
+}
+
+/// What the cells of these slots of a block drive is put to their nets.
+fn put_slots(
+    wiring: &mut Wiring,
+    seats: &[WiredChip],
+    block: Block,
+    now: PlainCells,
+    pins: &[usize],
+    at: usize,
+    slots: u64,
+)
+    requires full { length wiring.old.drives ≡ length (all_pins wiring.old.nets) }
+    requires room { at + 64 ≤ length pins.now }
+    requires device { block.device < length seats.now }
+    requires first { block.first % 64 ≡ 0 }
+    requires now { TellsBlock (map held_of seats.now) block now }
+    requires slots { HasTargets (map held_of seats.now) (targets seats.now wiring.old.nets) pins.now at block slots }
+    ensures nets { wiring.new.nets ≡ wiring.old.nets }
+    ensures settles { Settles (targets seats.now wiring.old.nets) wiring.old.drives wiring.new.drives }
+    ensures settled { SlotsSettled (targets seats.now wiring.old.nets) wiring.new.drives pins.now at slots }
+{
+    let mut left = slots;
+    while left != 0 {
+        let j = lowest(left);
+        let drive = drive_in(seats, block, now, j);
+        wiring.place(pins[at + j], drive);
+        left = without_bit(left, j);
+    }
+}
+
+/// What cell `j` of a block drives: its own bit, or what its device says.
+fn drive_in(seats: &[WiredChip], block: Block, now: PlainCells, j: usize) -> Drive
+    requires within { j < 64 }
+    requires device { block.device < length seats.now }
+    requires first { block.first % 64 ≡ 0 }
+    requires now { TellsBlock (map held_of seats.now) block now }
+    ensures { result ≡ drives_at (map held_of seats.now) block.device (block.first + j) }
+{
+    if bit(now.mask, j) {
+        return Drive::Strong(bit(now.bits, j));
+    }
+    seats[block.device].driven(block.first + j)
+}
+
+/// What the cells of pins that stand in no block drive is put to their nets.
+fn refresh_rest(wiring: &mut Wiring, seats: &[WiredChip], rest: &[DrivingPin])
+    requires full { length wiring.old.drives ≡ length (all_pins wiring.old.nets) }
+    requires rest { (k : ℕ) (e : Entry) → slice_get rest.now k ≡ Some e
+        → IsTargeted (map held_of seats.now) (targets seats.now wiring.old.nets) e }
+    ensures nets { wiring.new.nets ≡ wiring.old.nets }
+    ensures settles { Settles (targets seats.now wiring.old.nets) wiring.old.drives wiring.new.drives }
+    ensures settled { (k : ℕ) (e : Entry) → slice_get rest.now k ≡ Some e
+        → Settled (targets seats.now wiring.old.nets) wiring.new.drives e.pin }
+{
+    for it in rest {
+        put_one(wiring, seats, *it);
+    }
+}
+
+/// What the cell of a pin drives is put to its net.
+fn put_one(wiring: &mut Wiring, seats: &[WiredChip], it: DrivingPin)
+    requires device { it.device < length seats.now }
+    requires pin { it.pin < length (all_pins wiring.old.nets) }
+    ensures { wiring.new ≡ record wiring.old {
+      drives = slice_set wiring.old.drives it.pin (entry_drives (map held_of seats.now) it);
+    } }
+{
+    wiring.place(it.pin, seats[it.device].driven(it.cell));
+}

@@ -1,3 +1,0 @@
-pub mod Samples
-pub mod Rows
-pub mod Small

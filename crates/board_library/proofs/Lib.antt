@@ -1,2 +1,0 @@
-pub mod FileLaws
-pub mod LibraryLaws

@@ -1,5 +1,0 @@
-use Rattle.board_meaning.proofs.Following.{constants_in_force}
-use Rattle.board_meaning.proofs.laws.constants_stand_without_strings.Goals as goal
-
-pub returns : goal.returns
-returns c = constants_in_force

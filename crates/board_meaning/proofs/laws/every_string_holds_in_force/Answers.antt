@@ -1,5 +1,0 @@
-use Rattle.board_meaning.proofs.Following.{every_string_holds}
-use Rattle.board_meaning.proofs.laws.every_string_holds_in_force.Goals as goal
-
-pub returns : goal.returns
-returns c = every_string_holds

@@ -1,5 +1,0 @@
-use Rattle.board_meaning.proofs.BoardLaws.{five_ones_rest}
-use Rattle.board_meaning.proofs.laws.five_ones_reset_every_board.Goals as goal
-
-pub returns : goal.returns
-returns c = five_ones_rest

@@ -1,5 +1,0 @@
-use Rattle.board_meaning.proofs.Following.{lowered_numbers}
-use Rattle.board_meaning.proofs.laws.lowered_numbers_show_no_loop.Goals as goal
-
-pub returns : goal.returns
-returns c = lowered_numbers

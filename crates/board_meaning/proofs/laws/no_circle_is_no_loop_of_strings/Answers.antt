@@ -1,5 +1,0 @@
-use Rattle.board_meaning.proofs.Following.{no_circle}
-use Rattle.board_meaning.proofs.laws.no_circle_is_no_loop_of_strings.Goals as goal
-
-pub returns : goal.returns
-returns c = no_circle

@@ -1,5 +1,0 @@
-use Rattle.board_meaning.proofs.Following.{only_in_force}
-use Rattle.board_meaning.proofs.laws.only_the_bits_in_force_hold.Goals as goal
-
-pub returns : goal.returns
-returns c = only_in_force

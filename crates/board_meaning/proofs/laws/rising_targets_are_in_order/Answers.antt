@@ -1,5 +1,0 @@
-use Rattle.board_meaning.proofs.InOrder.{rising_targets}
-use Rattle.board_meaning.proofs.laws.rising_targets_are_in_order.Goals as goal
-
-pub returns : goal.returns
-returns c = rising_targets

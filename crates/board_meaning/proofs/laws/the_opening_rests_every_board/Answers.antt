@@ -1,5 +1,0 @@
-use Rattle.board_meaning.proofs.BoardLaws.{opening_rests}
-use Rattle.board_meaning.proofs.laws.the_opening_rests_every_board.Goals as goal
-
-pub returns : goal.returns
-returns c = opening_rests

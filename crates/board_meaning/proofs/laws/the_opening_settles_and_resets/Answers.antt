@@ -1,5 +1,0 @@
-use Rattle.board_meaning.proofs.BoardLaws.{opening_settles}
-use Rattle.board_meaning.proofs.laws.the_opening_settles_and_resets.Goals as goal
-
-pub returns : goal.returns
-returns c = opening_settles

@@ -1,0 +1,38 @@
+//! What holds of where bits come from, on every chain.
+ghost use Rattle.board_reasons.specs.Laws.{ComesFromOrigin, TurningItTurnsThatBit, NoOtherTurnsIt, VerdictTurnsOnIt};
+ghost use Rattle.board_reasons.specs.Laws.{CaptureKeepsLevels, ReasonTellsTheBit};
+ghost use Rattle.board_reasons.specs.Rows.{ReasonRows};
+
+/// The bit that comes out is the one that stood at its origin.
+pub fn each_bit_comes_from_its_origin()
+    ensures { ComesFromOrigin }
+{}
+
+/// Where the bit at the origin is turned, that bit of what comes out is turned and no other; where any other bit is
+/// turned, that bit stays.
+pub fn only_its_origin_turns_a_bit()
+    ensures turned { TurningItTurnsThatBit }
+    ensures others { NoOtherTurnsIt }
+{}
+
+/// A wanted bit that did not come out comes out once the bit at its origin is turned, and with no other bit turned.
+pub fn only_its_origin_mends_a_failure()
+    ensures { VerdictTurnsOnIt }
+{}
+
+/// A failing bit of a scan stands where its reason says: the bit there is the opposite of the one that was wanted.
+pub fn reasons_tell_the_bit_that_differed()
+    ensures { ReasonTellsTheBit }
+{}
+
+/// A capture leaves the level of every net as it is.
+pub fn captures_keep_levels()
+    ensures { CaptureKeepsLevels }
+{
+    board_model::the_bits_in_force_stay();
+}
+
+/// The reasons of failing scans of a small board, and their lines.
+pub fn reasons_compute()
+    ensures { ReasonRows }
+{}

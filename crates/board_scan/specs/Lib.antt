@@ -1,0 +1,3 @@
+pub mod Pieces
+pub mod Rows
+pub mod Words

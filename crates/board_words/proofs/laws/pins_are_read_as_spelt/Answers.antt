@@ -1,5 +1,0 @@
-use Rattle.board_words.proofs.SpellLaws.{read_as_spelt}
-use Rattle.board_words.proofs.laws.pins_are_read_as_spelt.Goals as goal
-
-pub returns : goal.returns
-returns c = read_as_spelt

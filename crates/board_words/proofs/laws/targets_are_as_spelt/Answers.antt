@@ -1,5 +1,0 @@
-use Rattle.board_words.proofs.FollowLaws.{targets_as_spelt}
-use Rattle.board_words.proofs.laws.targets_are_as_spelt.Goals as goal
-
-pub returns : goal.returns
-returns c = targets_as_spelt

@@ -1,5 +1,0 @@
-pub mod FirstPlaces
-pub mod FollowTexts
-pub mod Names
-pub mod PinTexts
-pub mod View

@@ -1,3 +1,0 @@
-pub mod Joining
-pub mod Standing
-pub mod Together

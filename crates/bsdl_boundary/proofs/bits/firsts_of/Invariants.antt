@@ -1,7 +1,0 @@
-use Rattle.std.proofs.Common.{◌≡◌, ◌++◌, drop}
-use Rattle.bsdl_ports.specs.View.{ports}
-use Rattle.bsdl_boundary.specs.Bits.{firsts}
-use Rattle.bsdl_boundary.proofs.bits.firsts_of.Given as goal
-
-abbrev pub invariant-loop-group : goal.invariant-loop-group
-invariant-loop-group l = l.all.bits.items ++ firsts l.all.next (ports (drop l.group-index l.groups)) ≡ firsts 0 (ports l.groups)

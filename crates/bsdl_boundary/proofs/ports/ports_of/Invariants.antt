@@ -1,9 +1,0 @@
-use Rattle.std.proofs.Common.{◌≡◌, ◌++◌, drop}
-use Rattle.std.specs.List.{flat_map}
-use Rattle.bsdl_ports.specs.View as view
-use Rattle.bsdl_described.specs.View.{taps}
-use Rattle.bsdl_boundary.specs.Boundary.{port_bits}
-use Rattle.bsdl_boundary.proofs.ports.ports_of.Given as goal
-
-abbrev pub invariant-loop-group : goal.invariant-loop-group
-invariant-loop-group l = l.ports ++ flat_map (port_bits (taps l.taps)) (view.ports (drop l.group-index l.groups)) ≡ flat_map (port_bits (taps l.taps)) (view.ports l.groups)

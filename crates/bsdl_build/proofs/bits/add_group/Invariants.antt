@@ -1,0 +1,12 @@
+use Rattle.std.proofs.Common.{◌≡◌, ◌++◌, List, drop}
+use Rattle.bsdl_ports.specs.Ports.{Port}
+use Rattle.bsdl_ports.specs.View.{group}
+use Rattle.bsdl_ports.proofs.PortsNamed.{ports_named}
+use Rattle.bsdl_build.specs.Bits.{firsts}
+use Rattle.bsdl_build.proofs.bits.add_group.Given as goal
+
+abbrev pub invariant-loop-name : goal.invariant-loop-name
+invariant-loop-name l =
+    (more : List Port)
+    → l.all.bits.items ++ firsts l.all.next (ports_named l.group.mode l.group.range (drop l._name-index l.group.names.items) ++ more)
+    ≡ l.initial.all.bits.items ++ firsts l.initial.all.next (group l.group ++ more)

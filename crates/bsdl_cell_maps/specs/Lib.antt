@@ -1,3 +1,0 @@
-pub mod Controls
-pub mod Drivers
-pub mod Table

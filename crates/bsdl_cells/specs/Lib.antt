@@ -1,3 +1,0 @@
-pub mod Keywords
-pub mod Rows
-pub mod View

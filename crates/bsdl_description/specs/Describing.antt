@@ -1,0 +1,111 @@
+-- What a description gives as a whole: each attribute's value is that of its first giving (IEEE Std 1149.1-2001, Annex
+-- B.8.3 to B.8.14).
+use Rattle.std.specs.Prelude.{ℕ, Bool, is_some, List, [], ◌∷◌, Option, Some, None}
+use Rattle.std.specs.Prelude.{Result, Ok, Err}
+use Rattle.bsdl_values.specs.declared.Attribute.{Attribute}
+use Rattle.bsdl_values.specs.declared.Attribute.TheVariants.{TapScanIn, TapScanOut, TapScanMode, TapScanClock}
+use Rattle.bsdl_values.specs.declared.Attribute.TheVariants.{TapScanReset, InstructionLength, BoundaryLength}
+use Rattle.bsdl_values.specs.declared.Attribute.TheVariants.{InstructionOpcode, InstructionCapture, BoundaryRegister}
+use Rattle.bsdl_values.specs.declared.Attribute.TheVariants.{IdcodeRegister, UsercodeRegister, InstructionPrivate}
+use Rattle.bsdl_values.specs.declared.Attribute.TheVariants.{RegisterAccess}
+use Rattle.bsdl_device.specs.Device.{Name, Pattern}
+use Rattle.bsdl_values.specs.InstructionValues.{OpcodeRow, AccessRow}
+use Rattle.bsdl_opcodes.specs.Own.{is_own, own_accesses}
+use Rattle.bsdl_values.specs.CellRows.{CellRow}
+use Rattle.bsdl_ports.specs.Ports.{Port}
+use Rattle.bsdl_entity.specs.Entity.{File, Given}
+use Rattle.bsdl_description.specs.FirstValues.{value_given, as_port, as_count, as_pattern, as_codes, as_names}
+use Rattle.bsdl_description.specs.FirstValues.{as_opcodes}
+use Rattle.bsdl_description.specs.FirstValues.{as_accesses, as_cells}
+
+-- why a description is refused; a place is counted in bytes from 0
+pub data Refusal : Type 0 where
+  bad_token : ℕ → Refusal
+  bad_form : ℕ → Refusal
+  missing : Attribute → Refusal
+  twice : List ℕ → Refusal
+  bad_length : Refusal
+  bad_capture : Refusal
+  bad_id : Refusal
+  bad_cell : ℕ → Refusal
+  too_large : Refusal
+
+-- ---- what is needed
+
+pub record Description : Type 0 where
+  pub ports : List Port
+  pub given : List Given
+  -- the TAP's ports, TRST among them if there is one
+  pub taps : List Name
+  pub has_trst : Bool
+  pub instruction_length : ℕ
+  pub boundary_length : ℕ
+  pub opcode_start : ℕ
+  pub opcodes : List OpcodeRow
+  pub capture : Pattern
+  pub cells : List CellRow
+  pub idcodes : List Pattern
+  pub usercodes : List Pattern
+  pub private_names : List Name
+  pub access_start : ℕ
+  -- each row with the own instructions in it, where it has any
+  pub accesses : List AccessRow
+
+infixl 10 ◌>>?◌
+abbrev pub ◌>>?◌ : {A B : Type 0} → Result A Refusal → (A → Result B Refusal) → Result B Refusal
+(Ok x) >>? f = f x
+(Err e) >>? f = Err e
+
+abbrev pub need : {A : Type 0} → Attribute → Option A → Result A Refusal
+need a None = Err (missing a)
+need a (Some x) = Ok x
+
+abbrev pub and_reset : Name → Option Name → List Name
+and_reset tck None = tck ∷ []
+and_reset tck (Some trst) = tck ∷ trst ∷ []
+
+-- the TAP's ports, TRST last if there is one, or the first needed attribute that is missing
+abbrev pub taps_given : List Given → Result (List Name) Refusal
+taps_given gs =
+    let v = λ (a : Attribute). as_port (value_given a gs) in
+    need TapScanIn (v TapScanIn) >>? λ tdi.
+    need TapScanOut (v TapScanOut) >>? λ tdo.
+    need TapScanMode (v TapScanMode) >>? λ tms.
+    need TapScanClock (v TapScanClock) >>? λ tck.
+    Ok (tdi ∷ tdo ∷ tms ∷ and_reset tck (v TapScanReset))
+
+-- the description with this TAP and these lengths, or the first needed attribute with a text that is missing
+abbrev pub texts_described : File → List Name → Bool → ℕ → ℕ → Result Description Refusal
+texts_described f taps has_trst instruction_length boundary_length =
+    let v = λ (a : Attribute). value_given a f.given in
+    let accesses = as_accesses (v RegisterAccess) in
+    let private = as_names (v InstructionPrivate) in
+    need InstructionOpcode (as_opcodes (v InstructionOpcode)) >>? λ opcodes.
+    need InstructionCapture (as_pattern (v InstructionCapture)) >>? λ capture.
+    need BoundaryRegister (as_cells (v BoundaryRegister)) >>? λ cells.
+    Ok (record {
+      ports = f.ports;
+      given = f.given;
+      taps = taps;
+      has_trst = has_trst;
+      instruction_length = instruction_length;
+      boundary_length = boundary_length;
+      opcode_start = opcodes.0;
+      opcodes = opcodes.1;
+      capture = capture;
+      cells = cells;
+      idcodes = as_codes (v IdcodeRegister);
+      usercodes = as_codes (v UsercodeRegister);
+      private_names = private;
+      access_start = accesses.0;
+      accesses = own_accesses (is_own opcodes.1 private) accesses.1;
+    })
+
+-- the whole description, or the first needed attribute that is missing
+abbrev pub described : File → Result Description Refusal
+described f =
+    let v = λ (a : Attribute). value_given a f.given in
+    taps_given f.given >>? λ taps.
+    need InstructionLength (as_count (v InstructionLength)) >>? λ len.
+    need BoundaryLength (as_count (v BoundaryLength)) >>? λ cells_len.
+    texts_described f taps (is_some (as_port (v TapScanReset))) len cells_len

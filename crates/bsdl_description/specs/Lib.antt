@@ -1,0 +1,3 @@
+pub mod FirstValues
+pub mod Describing
+pub mod View

@@ -1,2 +1,0 @@
-pub mod PortIndexLaws
-pub mod TableLaws

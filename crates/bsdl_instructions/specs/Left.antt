@@ -1,8 +1,0 @@
--- The patterns that are left.
-use Rattle.std.specs.Prelude.{ℕ, List}
-use Rattle.bsdl_instructions.specs.declared.pattern_lists.PatternIter.{PatternIter}
-use Rattle.bsdl_instructions.specs.Parts.{parts}
-
--- the digits of each
-abbrev pub digits_left : PatternIter → List (List ℕ)
-digits_left p = parts p.rest.now

@@ -1,4 +1,0 @@
-pub mod Left
-pub mod Parts
-pub mod Values
-pub mod View

@@ -1,3 +1,0 @@
-pub mod AgreeLaws
-pub mod EndLaws
-pub mod SizeLaws

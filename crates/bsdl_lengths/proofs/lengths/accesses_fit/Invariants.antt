@@ -1,9 +1,0 @@
-use Rattle.std.proofs.Common.{◌≡◌, ℕ, map, drop}
-use Rattle.std.specs.List.{list_all}
-use Rattle.bsdl_instructions.specs.View.{access_row}
-use Rattle.bsdl_lengths.specs.Lengths.{access_fits}
-use Rattle.bsdl_lengths.specs.Sizes.{IsSize}
-use Rattle.bsdl_lengths.proofs.lengths.accesses_fit.Given as goal
-
-abbrev pub invariant-loop-row : goal.invariant-loop-row
-invariant-loop-row l = (n : ℕ) → IsSize l.boundary n → list_all (access_fits n) (map access_row (drop l.row-index l.rows)) ≡ list_all (access_fits n) (map access_row l.rows)

@@ -1,3 +1,0 @@
-pub mod Agreeing
-pub mod Lengths
-pub mod Sizes

@@ -1,5 +1,0 @@
-use Rattle.bsdl_lex.proofs.Cuttings.{each_is_cut, tokens_are_one, bad_byte_is_one, never_both}
-use Rattle.bsdl_lex.proofs.laws.a_text_has_one_cutting.Goals as goal
-
-pub returns : goal.returns
-returns c = record { some = each_is_cut; one = tokens_are_one; one_bad_byte = bad_byte_is_one; never_both = never_both }

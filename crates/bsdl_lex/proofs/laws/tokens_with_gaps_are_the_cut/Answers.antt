@@ -1,5 +1,0 @@
-use Rattle.bsdl_lex.proofs.Cuttings.{tokens_are_cut, bad_byte_is_cut}
-use Rattle.bsdl_lex.proofs.laws.tokens_with_gaps_are_the_cut.Goals as goal
-
-pub returns : goal.returns
-returns c = record { tokens = tokens_are_cut; bad_byte = bad_byte_is_cut }

@@ -1,3 +1,0 @@
-pub mod LimitLaws
-pub mod UserLaws
-pub mod WidthLaws

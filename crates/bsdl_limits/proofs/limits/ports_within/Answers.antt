@@ -1,7 +1,0 @@
-use Rattle.std.proofs.Common.{◌∙◌}
-use Rattle.bsdl_ports.specs.View.{ports}
-use Rattle.bsdl_limits.proofs.WidthLaws.{ports_by}
-use Rattle.bsdl_limits.proofs.limits.ports_within.Goals as goal
-
-pub returns : goal.returns
-returns c = c.few_bits.ensures ∙ ports_by (ports c.args.groups.now)

@@ -1,8 +1,0 @@
-use Rattle.std.proofs.Common.{map, take}
-use Rattle.bsdl_instructions.specs.View.{access_row}
-use Rattle.bsdl_limits.specs.Users.{users_of}
-use Rattle.bsdl_limits.specs.View.{Lists}
-use Rattle.bsdl_limits.proofs.users.users_of.Given as goal
-
-abbrev pub invariant-loop-row : goal.invariant-loop-row
-invariant-loop-row l = Lists l.users (users_of (map access_row (take l.row-index l.rows)))

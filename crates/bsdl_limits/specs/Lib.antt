@@ -1,5 +1,0 @@
-pub mod Limits
-pub mod PortBits
-pub mod Users
-pub mod View
-pub mod Widths

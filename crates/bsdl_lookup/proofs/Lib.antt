@@ -1,0 +1,4 @@
+pub mod KeyLaws
+pub mod NamedPortLaws
+pub mod RangeLaws
+pub mod DriverLaws

@@ -1,3 +1,0 @@
-pub mod Namings
-pub mod Spots
-pub mod View

@@ -1,2 +1,0 @@
-pub mod NumberLaws
-pub mod SpellingLaws

@@ -1,7 +1,0 @@
-use Rattle.std.proofs.Common.{◌∙◌}
-use Rattle.std.proofs.lemmas.List.{take_rest}
-use Rattle.bsdl_numbers.proofs.SpellingLaws.{behind_zeros}
-use Rattle.bsdl_numbers.proofs.digits.behind_zeros.Goals as goal
-
-pub returns : goal.returns
-returns c = take_rest c.args.digits.now c.zeros.result ∙ rw c.zeros.ensures.value (behind_zeros c.args.digits.now)

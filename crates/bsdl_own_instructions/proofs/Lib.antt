@@ -1,2 +1,0 @@
-pub mod NameSetLaws
-pub mod OwnLaws

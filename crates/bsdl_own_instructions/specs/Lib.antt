@@ -1,2 +1,0 @@
-pub mod NameSets
-pub mod Own

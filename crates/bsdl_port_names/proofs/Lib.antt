@@ -1,3 +1,0 @@
-pub mod KeyLaws
-pub mod NamedPortLaws
-pub mod RangeLaws

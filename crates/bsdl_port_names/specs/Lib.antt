@@ -1,3 +1,0 @@
-pub mod Keyed
-pub mod NamedPorts
-pub mod View

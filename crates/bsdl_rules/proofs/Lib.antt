@@ -1,0 +1,9 @@
+pub mod DistinctLaws
+pub mod PositionLaws
+pub mod AgreeLaws
+pub mod EndLaws
+pub mod SizeLaws
+pub mod LimitLaws
+pub mod WidthLaws
+pub mod PortIndexLaws
+pub mod TableLaws

@@ -1,0 +1,7 @@
+use Rattle.std.proofs.Common.{◌∙◌}
+use Rattle.bsdl_ports.specs.View.{ports}
+use Rattle.bsdl_rules.proofs.WidthLaws.{ports_by}
+use Rattle.bsdl_rules.proofs.limits.ports_within.Goals as goal
+
+pub returns : goal.returns
+returns c = c.few_bits.ensures ∙ ports_by (ports c.args.groups.now)

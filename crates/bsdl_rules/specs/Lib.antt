@@ -1,0 +1,11 @@
+pub mod Namings
+pub mod Positions
+pub mod NamingView
+pub mod Twice
+pub mod Agreeing
+pub mod Lengths
+pub mod Sizes
+pub mod Limits
+pub mod Widths
+pub mod Fits
+pub mod Holds

@@ -1,0 +1,138 @@
+//! The least cell that is not fit, where the ports are found by the keys of their names.
+ghost use Rattle.std.specs.Prelude.{◌≡◌, ◌≤◌, ◌==◌, ℕ, map, IfOk, OnOk, if◌then◌else◌};
+ghost use Rattle.std.specs.BTreeMap.{get};
+ghost use Rattle.std.specs.Ordering.{nat_cmp};
+ghost use Rattle.jt_limits.specs.Limits.{subscript_limit};
+ghost use Rattle.bsdl_text.specs.NumberView.{value};
+ghost use Rattle.bsdl_values.specs.CellView.{cell_row};
+ghost use Rattle.bsdl_entity.specs.declared.entity.Outline as declared_outline;
+ghost use Rattle.bsdl_description.specs.Describing as described;
+ghost use Rattle.bsdl_description.specs.View.{description};
+ghost use Rattle.bsdl_lookup.specs.Table as cells;
+ghost use Rattle.bsdl_rules.specs.Fits as spec;
+ghost use Rattle.bsdl_rules.specs.Holds.{HoldsByKey};
+
+use crate::cell_rows::{control_fits, has_no_port, port_index_fits};
+use crate::unfit::{cells_end, first_unfit};
+use bsdl_description::description::{Description, Taps};
+use bsdl_entity::entity::Outline;
+use bsdl_lookup::controls::controls_of;
+use bsdl_lookup::drivers::{Drivers, drivers_by_key};
+use bsdl_lookup::keyed_ports::{KeyedPorts, keyed_ports_of, port_index_by_key};
+use bsdl_lookup::table::Table;
+use bsdl_values::CellRow;
+use jt_limits::{ABOVE_SUBSCRIPTS, SUBSCRIPT_LIMIT};
+use std::alloc::{AllocError, Global};
+use std::collections::BTreeSet;
+
+/// The ports by the keys of their names, the lowest drivers, the controls and the ports of the TAP.
+#[derive(Debug, Drop)]
+pub struct KnownByKey<'o> {
+    pub keyed: KeyedPorts<'o>,
+    pub drivers: Drivers<'o>,
+    pub controls: BTreeSet<usize>,
+    pub taps: Taps<'o>,
+}
+
+/// What is known of a description. Refuses for want of memory alone.
+pub fn known_by_key<'o>(
+    alloc: Global,
+    outline: &Outline<'o>,
+    described: &Description<'o>,
+) -> Result<KnownByKey<'o>, AllocError>
+    ensures { IfOk result (λ k. HoldsByKey k (description outline.now described.now)) }
+{
+    let keyed = keyed_ports_of(alloc, &outline.groups)?;
+    let drivers = drivers_by_key(alloc, &keyed, &described.cells)?;
+    let controls = controls_of(alloc, &described.cells)?;
+    Ok(KnownByKey {
+        keyed,
+        drivers,
+        controls,
+        taps: described.taps,
+    })
+}
+
+/// The least cell, of those up to 65,535, that is listed twice, missing or not below the length, or whose port,
+/// function or control does not fit. Refuses for want of memory alone.
+pub fn unfit_cell_by_key<'a>(
+    alloc: Global,
+    known: &KnownByKey<'a>,
+    described: &Description<'a>,
+) -> Result<Option<usize>, AllocError>
+    ensures { IfOk result (λ o. (f : declared_outline.Outline) → HoldsByKey known.now (description f described.now)
+        → o ≡ spec.unfit_cell (description f described.now)) }
+{
+    let table = table_of(alloc, known, &described.cells)?;
+    let length = described.boundary_length.up_to(ABOVE_SUBSCRIPTS);
+    let end = cells_end(length, &described.cells);
+    Ok(first_unfit(&table, length, end))
+}
+
+/// The cells that rows list.
+fn table_of<'a>(
+    alloc: Global,
+    known: &KnownByKey<'a>,
+    rows: &[CellRow<'a>],
+) -> Result<Table, AllocError>
+    ensures { IfOk result (λ t. (d : described.Description) → HoldsByKey known.now d → (n : ℕ) → n ≤ subscript_limit
+        → get nat_cmp t.cells n ≡ cells.only_row_fits (spec.row_fits d) (map cell_row rows.now) n) }
+{
+    let mut table = Table::new(alloc);
+    for row in rows {
+        add_row(&mut table, known, row)?;
+    }
+    Ok(table)
+}
+
+fn add_row<'a>(
+    table: &mut Table,
+    known: &KnownByKey<'a>,
+    row: &CellRow<'a>,
+) -> Result<(), AllocError>
+    ensures { OnOk result ((d : described.Description) → HoldsByKey known.now d → (n : ℕ) → n ≤ subscript_limit
+        → get nat_cmp table.new.cells n ≡ (if value row.now.number == n
+        then cells.with_row (get nat_cmp table.old.cells n) (spec.row_fits d (cell_row row.now))
+        else get nat_cmp table.old.cells n)) }
+{
+    let number = row.number.up_to(ABOVE_SUBSCRIPTS);
+    if number > SUBSCRIPT_LIMIT {
+        return Ok(());
+    }
+    let fits = row_fits(known, row, number);
+    table.put(number, fits)?;
+    Ok(())
+}
+
+/// Whether the row of a cell of this number fits.
+fn row_fits<'a>(known: &KnownByKey<'a>, row: &CellRow<'a>, number: usize) -> bool
+    requires { number ≤ subscript_limit }
+    ensures { (d : described.Description) → HoldsByKey known.now d → number ≡ value row.now.number
+        → result ≡ spec.row_fits d (cell_row row.now) }
+{
+    let port = port_fits(known, row, number);
+    let control = control_fits(&known.controls, row.function, row.control, number);
+    port && control
+}
+
+/// Whether the port of a row fits its function: `*`, or a port bit that is no TAP's and that no lower cell drives.
+fn port_fits<'a>(known: &KnownByKey<'a>, row: &CellRow<'a>, number: usize) -> bool
+    requires { number ≤ subscript_limit }
+    ensures { (d : described.Description) → HoldsByKey known.now d → number ≡ value row.now.number
+        → result ≡ spec.port_fits d (cell_row row.now) }
+{
+    if has_no_port(row.function) {
+        return row.port.is_none();
+    }
+    match row.port {
+        Some(port) => match port_index_by_key(&known.keyed, port) {
+            Some(port_index) => {
+                let (taps, drivers) = (&known.taps, &known.drivers);
+                let function = row.function;
+                port_index_fits(taps, drivers, function, port, port_index, number)
+            }
+            None => false,
+        },
+        None => false,
+    }
+}

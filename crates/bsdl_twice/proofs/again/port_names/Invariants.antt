@@ -1,9 +1,0 @@
-use Rattle.std.proofs.Common.{◌≡◌, ◌++◌, map, drop}
-use Rattle.std.specs.Prelude.{None}
-use Rattle.bsdl_ports.specs.View.{ports}
-use Rattle.bsdl_twice.specs.Twice.{outside}
-use Rattle.bsdl_namings.specs.View.{named}
-use Rattle.bsdl_twice.proofs.again.port_names.Given as goal
-
-abbrev pub invariant-loop-group : goal.invariant-loop-group
-invariant-loop-group l = map (named None) l.names.items ++ map (λ p. outside p.name) (ports (drop l.group-index l.groups)) ≡ map (λ p. outside p.name) (ports l.groups)

@@ -1,4 +1,0 @@
-//! Names that a device description gives twice (BSDL: IEEE Std 1149.1-2001, Annex B.8.3 to B.8.14).
-#![tactic(auto)]
-
-pub mod again;

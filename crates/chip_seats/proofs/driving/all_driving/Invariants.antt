@@ -1,7 +1,0 @@
-use Rattle.std.proofs.Common.{◌≡◌, ◌++◌, drop, map}
-use Rattle.board_plan.specs.Planned.{all_pins}
-use Rattle.chip_seats.specs.Driving.{cells_of, driving_from, driving_of}
-use Rattle.chip_seats.proofs.driving.all_driving.Given as goal
-
-abbrev pub invariant-loop-k : goal.invariant-loop-k
-invariant-loop-k l = l.driving.items ++ driving_from (map cells_of l.seats) l.k (drop l.k (all_pins l.wiring.nets)) ≡ driving_of l.seats l.wiring.nets

@@ -1,6 +1,0 @@
-use Rattle.std.proofs.Common.{◌<◌, ℕ}
-use Rattle.core_loops.specs.Loops.{IsOnLoop}
-use Rattle.core_loops.proofs.loops.first_on_loop.Given as goal
-
-abbrev pub invariant-loop-place : goal.invariant-loop-place
-invariant-loop-place l = (before : ℕ) → before < l.place → IsOnLoop l.strings before → ⊥

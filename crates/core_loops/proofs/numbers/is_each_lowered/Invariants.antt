@@ -1,7 +1,0 @@
-use Rattle.std.proofs.Common.{◌<◌, ℕ, get_or}
-use Rattle.core_loops.specs.Numbers.{IsLowered}
-use Rattle.core_loops.specs.declared.Dependency.{Dependency}
-use Rattle.core_loops.proofs.numbers.is_each_lowered.Given as goal
-
-abbrev pub invariant-loop-string : goal.invariant-loop-string
-invariant-loop-string l = (k : ℕ) → k < l.string-index → (d : Dependency) → IsLowered l.numbers (get_or l.strings k d)

@@ -1,6 +1,0 @@
-use Rattle.std.proofs.Common.{All}
-use Rattle.core_loops.specs.Loops.{IsWithin}
-use Rattle.core_loops.proofs.tests.strings_of.Given as goal
-
-abbrev pub invariant-loop-pair : goal.invariant-loop-pair
-invariant-loop-pair l = All (IsWithin l.nets) l.strings.items

@@ -1,4 +1,0 @@
-pub mod Loops
-pub mod Marks
-pub mod Numbers
-pub mod Jobs

@@ -1,8 +1,0 @@
-use Rattle.std.proofs.Common.{refl}
-use Rattle.device_registers.specs.Data.{lengths_of}
-use Rattle.device_registers.proofs.DataLaws.{selected_there}
-use Rattle.device_registers.proofs.data.DataRegisters.len.Goals as goal
-
-pub len-requires-in-User : goal.len-requires-in-User
-len-requires-in-User g c =
-    selected_there (lengths_of g.B.Register.stage c.args.self.now) c.args.selected c.in-User.k c.args.self.now.users.items c.deref.result.now c.requires c.in-User.is refl c.deref.ensures.value

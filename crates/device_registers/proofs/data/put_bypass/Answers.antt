@@ -1,6 +1,0 @@
-use Rattle.std.proofs.Common.{refl}
-use Rattle.device_registers.proofs.DataLaws.{bypass_put}
-use Rattle.device_registers.proofs.data.put_bypass.Goals as goal
-
-pub returns : goal.returns
-returns c = bypass_put c.args.bypass.now _ c.args.at c.args.bits c.args.n c.requires.some c.requires.inside refl

@@ -1,4 +1,0 @@
-use Rattle.direct_play.proofs.stepping.end_scan.Goals as goal
-
-pub arrive-requires : goal.arrive-requires
-arrive-requires c = record { state = _; is = c.update.ensures c.requires.state c.requires.is }

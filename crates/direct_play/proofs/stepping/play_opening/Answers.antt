@@ -1,7 +1,0 @@
-use Rattle.std.proofs.Common.{◌∙◌}
-use Rattle.bitbang_table.specs.Cycles.{opening}
-use Rattle.board_meaning.proofs.BytesAndMessages.{after_all-encoded}
-use Rattle.direct_play.proofs.stepping.play_opening.Goals as goal
-
-pub returns : goal.returns
-returns c = c.take_all.ensures ∙ after_all-encoded opening c.args.board.now

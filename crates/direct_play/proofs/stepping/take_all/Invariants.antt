@@ -1,6 +1,0 @@
-use Rattle.std.proofs.Common.{◌≡◌, drop}
-use Rattle.board_meaning.specs.Chain.{after_bytes}
-use Rattle.direct_play.proofs.stepping.take_all.Given as goal
-
-abbrev pub invariant-loop-byte : goal.invariant-loop-byte
-invariant-loop-byte l = after_bytes (drop l.byte-index l.bytes) l.board ≡ after_bytes l.bytes l.initial.board

@@ -1,8 +1,0 @@
-use Rattle.std.proofs.Common.{◌≡◌}
-use Rattle.svf_programs.specs.Left.{left}
-use Rattle.explained_play.specs.Wanted as wanted
-use Rattle.explained_play.proofs.wanted.wanted_of.Given as goal
-
--- what the steps that are left want of it
-abbrev pub invariant-loop-step : goal.invariant-loop-step
-invariant-loop-step l = wanted.wanted_of (left l.step-iterator) l.failure ≡ wanted.wanted_of l.program.steps l.failure

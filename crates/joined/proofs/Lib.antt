@@ -1,3 +1,0 @@
-pub mod RoundsEnd
-pub mod Ends
-pub mod Inside

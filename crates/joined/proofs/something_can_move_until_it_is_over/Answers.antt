@@ -1,5 +1,0 @@
-use Rattle.joined.proofs.Inside.{can_move}
-use Rattle.joined.proofs.something_can_move_until_it_is_over.Goals as goal
-
-pub returns : goal.returns
-returns c = can_move

@@ -1,5 +1,0 @@
-use Rattle.joined.proofs.Ends.{ends}
-use Rattle.joined.proofs.what_is_joined_ends_as_the_full_play.Goals as goal
-
-pub returns : goal.returns
-returns c = ends

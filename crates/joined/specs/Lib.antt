@@ -1,3 +1,0 @@
-pub mod Finishing
-pub mod Laws
-pub mod Inside

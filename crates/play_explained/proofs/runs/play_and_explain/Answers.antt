@@ -1,0 +1,43 @@
+use Rattle.std.proofs.Common.{refl, ap}
+use Rattle.byte_streams.proofs.Fronts.{WritesAll-is, WritesAll-then, WritesAll-stopped}
+use Rattle.board_report.specs.Report.{report}
+use Rattle.play_schedules.specs.Laws.{full}
+use Rattle.svf_programs.specs.Sizes.{program_of}
+use Rattle.jt_player.proofs.RunLaws.{WritesAll-like, not-ok}
+use Rattle.play_explained.specs.Lines.{explained_lines}
+use Rattle.play_explained.specs.Runs.{why_on}
+use Rattle.play_explained.proofs.runs.play_and_explain.Goals as goal
+
+pub returns-in_err-ending-clause-writes : goal.returns-in_err-ending-clause-writes
+returns-in_err-ending-clause-writes g c =
+    let left = (full c.args.kind c.args.program.now.steps c.args.board.now).board in
+    let so = c.from_residual.ensures.0 in
+    WritesAll-stopped (report left) (WritesAll-stopped _ c.in_err-ending.ensures.writes refl so) so so
+
+pub returns-in_err-write_on_board-clause-writes : goal.returns-in_err-write_on_board-clause-writes
+returns-in_err-write_on_board-clause-writes g c =
+    let left = (full c.args.kind c.args.program.now.steps c.args.board.now).board in
+    let why = why_on c.args.kind (program_of c.args.program.now) c.args.other.now in
+    let so = c.from_residual-in_err-write_on_board.ensures.0 in
+    WritesAll-stopped (report left)
+    (WritesAll-then c.in_ok-ending.ensures.writes refl
+    (WritesAll-is (λ k. explained_lines c.args.text.now why c.args.kind (c.in_ok-ending.ensures.ending k) (c.in_ok-ending.ensures.found k)) c.in_err-write_on_board.ensures)) refl so
+
+pub returns-in_err-write_report-clause-writes : goal.returns-in_err-write_report-clause-writes
+returns-in_err-write_report-clause-writes g c =
+    let why = why_on c.args.kind (program_of c.args.program.now) c.args.other.now in
+    let so = c.from_residual-in_err-write_report.ensures.0 in
+    WritesAll-like _ _ (not-ok _ so)
+    (WritesAll-then
+    (WritesAll-then c.in_ok-ending.ensures.writes refl
+    (WritesAll-is (λ k. explained_lines c.args.text.now why c.args.kind (c.in_ok-ending.ensures.ending k) (c.in_ok-ending.ensures.found k)) c.in_ok-write_on_board.ensures)) refl
+    (WritesAll-is (ap report c.in_ok-ending.ensures.left) c.in_err-write_report.ensures))
+
+pub returns-clause-writes : goal.returns-clause-writes
+returns-clause-writes g c =
+    let why = why_on c.args.kind (program_of c.args.program.now) c.args.other.now in
+    WritesAll-like _ _ refl
+    (WritesAll-then
+    (WritesAll-then c.in_ok-ending.ensures.writes refl
+    (WritesAll-is (λ k. explained_lines c.args.text.now why c.args.kind (c.in_ok-ending.ensures.ending k) (c.in_ok-ending.ensures.found k)) c.in_ok-write_on_board.ensures)) refl
+    (WritesAll-is (ap report c.in_ok-ending.ensures.left) c.in_ok-write_report.ensures))

@@ -1,0 +1,231 @@
+//! Runs that say why bits fail.
+
+ghost use Rattle.std.specs.Prelude.{◌≡◌, ◌⊎◌, ◌++◌, IfOk, OnOk};
+ghost use Rattle.byte_streams.specs.Writes.{WritesAll};
+ghost use Rattle.board_report.specs.Report.{report};
+ghost use Rattle.play_schedules.specs.Laws.{full};
+ghost use Rattle.play_links.specs.Links.{PlaysAllOver};
+ghost use Rattle.play_links.specs.Loops.{LoopsAllOver};
+ghost use Rattle.play_model.specs.Endings.{status_of};
+ghost use Rattle.play_model.specs.declared.ending.Ending as end;
+ghost use Rattle.scan_vectors.specs.Failures.{Found, found};
+ghost use Rattle.svf_programs.specs.Sizes.{program_of};
+ghost use Rattle.jt_player.specs.Running.{Happens, Run, Tells};
+ghost use Rattle.play_explained.specs.Lines.{explained_lines, lines_in_program};
+ghost use Rattle.play_explained.specs.Runs.{IsExplainedRunOf, explained_run, why_on};
+
+use crate::explaining::explain;
+use crate::telling::{Accepted, Known, write_explained};
+use byte_streams::{Broken, Counted, End, Sink, Source};
+use jt_board::{Board, write_report};
+use jt_player::{fresh_player, play_and_note, refuse_text};
+use play_direct::accept;
+use play_links::{loop_over_all, play_over_all};
+use play_model::{Ending, Kind};
+use scan_vectors::Failures;
+use std::alloc::Global;
+use svf_programs::Program;
+
+/// Plays a text on a board by a player of this kind and tells of it as `jt_player::run_play` and `run_play_all` do, and
+/// behind the line of each failing bit why it failed, as it is found on the other board. Answers the exit status: 0
+/// pass, 1 fail, 2 a refused text, 4 want of memory.
+///
+/// `Broken` comes exactly where the first failure of one of the two writers came in this call. Then each was told a
+/// front part of what it was owed, and the board is as it was or as the whole play leaves it.
+pub fn run_play_explained<W: Sink, E: Sink>(
+    alloc: Global,
+    kind: Kind,
+    svf: &[u8],
+    bytes: bool,
+    board: &mut Board,
+    other: &mut Board,
+    out: &mut Counted<W>,
+    err: &mut Counted<E>,
+) -> Result<u8, Broken>
+    requires out_whole { out.old.failures ≡ 0 }
+    requires err_whole { err.old.failures ≡ 0 }
+    ensures { (run : Run) × IsExplainedRunOf kind svf.now bytes board.old other.old run
+        × Happens W.contents E.contents run board.old board.new out.old out.new err.old err.new result }
+{
+    match accept(alloc, svf) {
+        Ok(program) => {
+            // For the proof alone: what the types keep of a program's steps and of a board's devices.
+            let _ = program.len();
+            let _ = board.devices();
+            play_and_explain(kind, &program, svf, bytes, board, other, out)
+        }
+        Err(fault) => refuse_text(fault, err),
+    }
+}
+
+/// Plays and writes the bytes where they are asked for, how it ended with the reasons, and the report. Answers the exit
+/// status of the ending.
+fn play_and_explain<W: Sink>(
+    kind: Kind,
+    program: &Program,
+    text: &[u8],
+    bytes: bool,
+    board: &mut Board,
+    other: &mut Board,
+    out: &mut Counted<W>,
+) -> Result<u8, Broken>
+    requires none_lost { out.old.failures ≡ 0 }
+    ensures writes { WritesAll W.contents out.old out.new
+        (explained_run kind bytes text.now (program_of program.now) board.old other.old).out result }
+    ensures status { IfOk result (λ status. status
+        ≡ (explained_run kind bytes text.now (program_of program.now) board.old other.old).status) }
+    ensures left { OnOk result (board.new ≡ (full kind program.now.steps board.old).board) }
+    ensures board { (board.new ≡ board.old) ⊎ (board.new ≡ (full kind program.now.steps board.old).board) }
+{
+    let (ending, failures) = play_and_note(kind, program, board, bytes, out)?;
+    write_on_board(kind, ending, &failures, program, text, other, out)?;
+    write_report(board, out)?;
+    Ok(ending.status())
+}
+
+/// Writes how a play of this kind ended, with the reasons as they are found on this board.
+fn write_on_board<W: Sink>(
+    kind: Kind,
+    ending: Ending,
+    failures: &Failures,
+    program: &Program,
+    text: &[u8],
+    board: &mut Board,
+    out: &mut Counted<W>,
+) -> Result<(), Broken>
+    requires { out.old.failures ≡ 0 }
+    ensures { WritesAll W.contents out.old out.new (explained_lines text.now
+        (why_on kind (program_of program.now) board.old) kind ending (found failures.now)) result }
+{
+    let reasons = explain(program, kind, board);
+    let known = Known::OnBoard {
+        chain: board.chain(),
+        explained: reasons.as_slice(),
+    };
+    write_explained(kind, ending, failures, text, known, out)
+}
+
+/// Plays a program on a board over the two ends of one connection and tells of it as `jt_player::run_loop` does, and
+/// behind the line of each failing bit why it failed: what was accepted is played once more on the other board.
+/// Answers the exit status: 0 pass, 1 fail, 3 a lost connection or a byte that is no answer.
+///
+/// `Broken` comes exactly where the first failure of `out` came in this call.
+pub fn run_loop_explained<P: End, B: End, O: Sink>(
+    alloc: Global,
+    kind: Kind,
+    program: Program,
+    player_end: &mut Counted<P>,
+    board_end: &mut Counted<B>,
+    board: &mut Board,
+    accepted: Accepted<'_>,
+    other: &mut Board,
+    out: &mut Counted<O>,
+) -> Result<u8, Broken>
+    requires player_end { player_end.old.failures ≡ 0 }
+    requires board_end { board_end.old.failures ≡ 0 }
+    requires out_whole { out.old.failures ≡ 0 }
+    ensures { (ending : end.Ending) × (all : Found)
+        × LoopsAllOver P.puts P.hears B.puts B.hears P.contents P.remaining B.contents B.remaining player_end.old
+        player_end.new board_end.old board_end.new kind (program_of program) board.old board.new ending all
+        × Tells O.contents out.old out.new (explained_lines accepted.entry.text.now
+        (why_on kind (program_of accepted.entry.program.now) other.old) kind ending all ++ report board.new)
+        (status_of ending) result }
+{
+    let player = fresh_player(alloc, kind, program);
+    let (ending, failures) = loop_over_all(player_end, board_end, player, board);
+    tell_on_board(kind, ending, &failures, accepted, other, board, out)
+}
+
+/// Writes how a play of this kind ended, with the reasons as they are found on the other board, and the report of a
+/// board. Answers the exit status of the ending.
+fn tell_on_board<O: Sink>(
+    kind: Kind,
+    ending: Ending,
+    failures: &Failures,
+    accepted: Accepted<'_>,
+    other: &mut Board,
+    board: &Board,
+    out: &mut Counted<O>,
+) -> Result<u8, Broken>
+    requires { out.old.failures ≡ 0 }
+    ensures { Tells O.contents out.old out.new (explained_lines accepted.entry.text.now
+        (why_on kind (program_of accepted.entry.program.now) other.old) kind ending (found failures.now)
+        ++ report board.now) (status_of ending) result }
+{
+    write_with_report(kind, ending, failures, accepted, other, board, out)?;
+    Ok(ending.status())
+}
+
+/// Writes how a play of this kind ended, with the reasons as they are found on the other board, and the report of a
+/// board.
+fn write_with_report<O: Sink>(
+    kind: Kind,
+    ending: Ending,
+    failures: &Failures,
+    accepted: Accepted<'_>,
+    other: &mut Board,
+    board: &Board,
+    out: &mut Counted<O>,
+) -> Result<(), Broken>
+    requires { out.old.failures ≡ 0 }
+    ensures { WritesAll O.contents out.old out.new (explained_lines accepted.entry.text.now
+        (why_on kind (program_of accepted.entry.program.now) other.old) kind ending (found failures.now)
+        ++ report board.now) result }
+{
+    write_on_board(
+        kind,
+        ending,
+        failures,
+        accepted.program,
+        accepted.text,
+        other,
+        out,
+    )?;
+    write_report(board, out)
+}
+
+/// Plays a program over a reader and a writer and tells of it as `jt_player::run_over` does, and behind the line of
+/// each failing bit where its statement starts and what is wanted of it: of the board nothing is known. Answers the
+/// exit status: 0 pass, 1 fail, 3 a lost connection or a byte that is no answer.
+///
+/// `Broken` comes exactly where the first failure of `out` came in this call.
+pub fn run_over_explained<R: Source, W: Sink, O: Sink>(
+    alloc: Global,
+    kind: Kind,
+    program: Program,
+    reader: &mut Counted<R>,
+    writer: &mut Counted<W>,
+    accepted: Accepted<'_>,
+    out: &mut Counted<O>,
+) -> Result<u8, Broken>
+    requires reader { reader.old.failures ≡ 0 }
+    requires writer { writer.old.failures ≡ 0 }
+    requires out_whole { out.old.failures ≡ 0 }
+    ensures { (ending : end.Ending) × (all : Found)
+        × PlaysAllOver W.puts R.hears W.contents R.remaining writer.old writer.new reader.old reader.new kind
+        (program_of program) ending all
+        × Tells O.contents out.old out.new (explained_lines accepted.entry.text.now
+        (lines_in_program accepted.entry.program.now.steps) kind ending all) (status_of ending) result }
+{
+    let (ending, failures) = play_over_all(reader, writer, fresh_player(alloc, kind, program));
+    tell_in_program(kind, ending, &failures, accepted, out)
+}
+
+/// Writes how a play of this kind ended, with what is wanted of the bits that failed. Answers the exit status of the
+/// ending.
+fn tell_in_program<O: Sink>(
+    kind: Kind,
+    ending: Ending,
+    failures: &Failures,
+    accepted: Accepted<'_>,
+    out: &mut Counted<O>,
+) -> Result<u8, Broken>
+    requires { out.old.failures ≡ 0 }
+    ensures { Tells O.contents out.old out.new (explained_lines accepted.entry.text.now
+        (lines_in_program accepted.entry.program.now.steps) kind ending (found failures.now)) (status_of ending)
+        result }
+{
+    let known = Known::InProgram(accepted.program);
+    write_explained(kind, ending, failures, accepted.text, known, out)?;
+    Ok(ending.status())
+}

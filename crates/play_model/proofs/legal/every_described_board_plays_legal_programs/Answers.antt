@@ -1,0 +1,5 @@
+use Rattle.play_model.proofs.Described.{described}
+use Rattle.play_model.proofs.legal.every_described_board_plays_legal_programs.Goals as goal
+
+pub returns : goal.returns
+returns c = described

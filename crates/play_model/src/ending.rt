@@ -1,0 +1,43 @@
+//! How a play ends.
+
+ghost use Rattle.std.specs.Prelude.{◌≡◌};
+ghost use Rattle.play_model.specs.Endings.{status_of};
+
+use scan_vectors::Part;
+
+/// How a play ended. A command is the number of its statement in the program's text, counted from 1.
+#[derive(Debug, Clone, Copy, PartialEq, Eq)]
+pub enum Ending {
+    /// Every bit that was wanted came out.
+    Pass,
+    /// The first scan of which a wanted bit did not come out, and the part of the least such bit with its place there,
+    /// counted from 0.
+    Fail {
+        command: usize,
+        part: Part,
+        bit: usize,
+    },
+    /// The connection was lost while this command was in work: 0 until the opening is given out, and the count of
+    /// statements plus 1 once `Q` alone is left, after a failing step too.
+    Lost {
+        command: usize,
+    },
+    /// An answer to this command was a byte other than `0` or `1`.
+    BadAnswer {
+        command: usize,
+        byte: u8,
+    },
+}
+
+impl Ending {
+    /// The exit status of the program: 0 for a pass, 1 for a fail, 3 for a play that gave no verdict.
+    pub fn status(self) -> u8
+        ensures { result ≡ status_of self }
+    {
+        match self {
+            Ending::Pass => 0,
+            Ending::Fail { .. } => 1,
+            Ending::Lost { .. } | Ending::BadAnswer { .. } => 3,
+        }
+    }
+}

@@ -1,0 +1,5 @@
+pub mod Steps
+pub mod Together
+pub mod RoundsEnd
+pub mod Ends
+pub mod Inside

@@ -1,0 +1,10 @@
+pub mod Fronts
+pub mod Fair
+pub mod Sides
+pub mod InWork
+pub mod Laws
+pub mod AllFailures
+pub mod Samples
+pub mod Histories
+pub mod StreamLaws
+pub mod StreamSamples

@@ -1,5 +1,0 @@
-use Rattle.plays.proofs.StepLaws.{step_means}
-use Rattle.plays.proofs.legal.each_legal_step_plays_as_it_means.Goals as goal
-
-pub returns : goal.returns
-returns c = step_means

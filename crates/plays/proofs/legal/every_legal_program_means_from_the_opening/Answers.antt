@@ -1,5 +1,0 @@
-use Rattle.plays.proofs.Described.{means_from_opening}
-use Rattle.plays.proofs.legal.every_legal_program_means_from_the_opening.Goals as goal
-
-pub returns : goal.returns
-returns c = means_from_opening

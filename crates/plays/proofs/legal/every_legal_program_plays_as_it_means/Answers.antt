@@ -1,5 +1,0 @@
-use Rattle.plays.proofs.Programs.{program_means}
-use Rattle.plays.proofs.legal.every_legal_program_plays_as_it_means.Goals as goal
-
-pub returns : goal.returns
-returns c = program_means

@@ -1,8 +1,0 @@
-use Rattle.scan_origins.proofs.Verdicts.{turning, no_other}
-use Rattle.scan_origins.proofs.laws.only_its_origin_turns_a_bit.Goals as goal
-
-pub returns-clause-turned : goal.returns-clause-turned
-returns-clause-turned c = turning
-
-pub returns-clause-others : goal.returns-clause-others
-returns-clause-others c = no_other

@@ -1,6 +1,0 @@
-use Rattle.std.proofs.Common.{ap}
-use Rattle.svf_forms.specs.View.{given, digits_of}
-use Rattle.svf_forms.proofs.fields.put_once.Goals as goal
-
-pub returns-in-Some : goal.returns-in-Some
-returns-in-Some c = (digits_of c.in-Some.field-0, ap given c.in-Some.is)

@@ -1,5 +1,0 @@
-pub mod Digits
-pub mod MeasureLaws
-pub mod NumberLaws
-pub mod WrittenLaws
-pub mod WithinLaws

@@ -1,5 +1,0 @@
-use Rattle.svf_numbers.proofs.Digits.{digits_taken}
-use Rattle.svf_numbers.proofs.numbers.split_digits.Goals as goal
-
-pub returns-clause-digits : goal.returns-clause-digits
-returns-clause-digits c = rw (c.split_at.ensures.front, c.digits_len.ensures.value) (digits_taken c.args.text.now)

@@ -1,4 +1,0 @@
-pub mod Measures
-pub mod Numbers
-pub mod Written
-pub mod Within

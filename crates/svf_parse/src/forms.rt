@@ -1,0 +1,221 @@
+//! The forms of the statements.
+ghost use Rattle.std.specs.Prelude.{◌≡◌, List, Option, IfOk, IfSome, option_map};
+ghost use Rattle.jt_tap.specs.declared.State as declared_state;
+ghost use Rattle.svf_lex.specs.Left.{left};
+ghost use Rattle.svf_words.specs.Words.{Word, words_left};
+ghost use Rattle.svf_parse.specs.Behind.{Behind};
+ghost use Rattle.svf_parse.specs.Forms as spec;
+ghost use Rattle.svf_parse.specs.Forms.{scan_form};
+ghost use Rattle.svf_words.specs.declared.keywords.Which as declared_which;
+ghost use Rattle.svf_parse.specs.FormView as view;
+
+use crate::fields::{Fields, LentFields, copied, take_fields};
+use crate::run_test::{RunTest, take_run_test};
+use jt_tap::State;
+use std::alloc::{AllocError, Global};
+use svf_lex::Lexer;
+use svf_words::keywords::{Command, TrstWord, Which, state_of, trst_of};
+use svf_words::words::{is_number, reads, take_word};
+
+/// A statement as it is written: each number as its word, each field as its digits.
+#[derive(Debug, Drop)]
+pub enum Written<'a> {
+    /// `ENDDR state`.
+    EndDr(State),
+    /// `ENDIR state`.
+    EndIr(State),
+    /// `FREQUENCY [number HZ]`.
+    Frequency(Option<&'a [u8]>),
+    /// `HDR`, `HIR`, `TDR`, `TIR`, `SDR` or `SIR`, its length and its fields.
+    Scan(Which, &'a [u8], Fields),
+    /// `RUNTEST` and its parts.
+    RunTest(RunTest<'a>),
+    /// `STATE` and its states, at least one.
+    States(Vec<State>),
+    /// `TRST` and its word.
+    Trst(TrstWord),
+    /// `PIO` or `PIOMAP`, whatever follows.
+    Port,
+}
+
+/// [`Written`], but that digits of a scan's field which are one run are not copied.
+#[derive(Debug, Drop)]
+pub enum LentForm<'a> {
+    /// `ENDDR state`.
+    EndDr(State),
+    /// `ENDIR state`.
+    EndIr(State),
+    /// `FREQUENCY [number HZ]`.
+    Frequency(Option<&'a [u8]>),
+    /// `HDR`, `HIR`, `TDR`, `TIR`, `SDR` or `SIR`, its length and its fields.
+    Scan(Which, &'a [u8], LentFields<'a>),
+    /// `RUNTEST` and its parts.
+    RunTest(RunTest<'a>),
+    /// `STATE` and its states, at least one.
+    States(Vec<State>),
+    /// `TRST` and its word.
+    Trst(TrstWord),
+    /// `PIO` or `PIOMAP`, whatever follows.
+    Port,
+}
+
+/// The form that the words after a command have, up to the `;`. There is none where they do not fit the command. Memory
+/// is taken for the digits of fields and for the states of a path. Refuses for want of memory alone.
+pub fn form_of<'a>(
+    alloc: Global,
+    command: Command,
+    words: Lexer<'a>,
+) -> Result<Option<Written<'a>>, AllocError>
+    ensures { IfOk result (λ o. option_map view.form o ≡ spec.form_of command (words_left words.entry)) }
+{
+    let Some((form, _)) = lent_form(alloc, command, words)? else {
+        return Ok(None);
+    };
+    Ok(Some(with_own_digits(alloc, form)?))
+}
+
+/// The same form with digits of its own.
+fn with_own_digits<'a>(alloc: Global, form: LentForm<'a>) -> Result<Written<'a>, AllocError>
+    ensures { IfOk result (λ w. view.form w ≡ view.lent_form form.entry) }
+{
+    Ok(match form {
+        LentForm::EndDr(state) => Written::EndDr(state),
+        LentForm::EndIr(state) => Written::EndIr(state),
+        LentForm::Frequency(number) => Written::Frequency(number),
+        LentForm::Scan(which, len, fields) => Written::Scan(which, len, copied(alloc, fields)?),
+        LentForm::RunTest(test) => Written::RunTest(test),
+        LentForm::States(states) => Written::States(states),
+        LentForm::Trst(word) => Written::Trst(word),
+        LentForm::Port => Written::Port,
+    })
+}
+
+/// The same, with fields that the text lends, and the lexer behind the words that were read, so that nobody has to look
+/// for the `;` through all of them.
+pub fn lent_form<'a>(
+    alloc: Global,
+    command: Command,
+    words: Lexer<'a>,
+) -> Result<Option<(LentForm<'a>, Option<Lexer<'a>>)>, AllocError>
+    ensures says { IfOk result
+        (λ o. option_map (λ p. view.lent_form p.0) o ≡ spec.form_of command (words_left words.entry)) }
+    ensures behind { IfOk result
+        (λ o. IfSome o (λ p. IfSome p.1 (λ rest. Behind (left words.entry) (left rest)))) }
+{
+    let mut rest = words;
+    match take_form(alloc, command, &mut rest)? {
+        Some(form) => Ok(Some((form, Some(rest)))),
+        None => Ok(None),
+    }
+}
+
+/// The same, taken from a lexer, which stands behind the words that were read, also where they have no form.
+pub fn take_form<'a>(
+    alloc: Global,
+    command: Command,
+    words: &mut Lexer<'a>,
+) -> Result<Option<LentForm<'a>>, AllocError>
+    ensures says { IfOk result
+        (λ o. option_map view.lent_form o ≡ spec.form_of command (words_left words.old)) }
+    ensures behind { Behind (left words.old) (left words.new) }
+{
+    Ok(match command {
+        Command::Scan(which) => match take_scan(alloc, words)? {
+            Some((len, fields)) => Some(LentForm::Scan(which, len, fields)),
+            None => None,
+        },
+        Command::RunTest => take_run_test(words).map(|test| LentForm::RunTest(test)),
+        Command::State => some_states(alloc, words)?.map(|all| LentForm::States(all)),
+        Command::EndDr => one_state(words).map(|state| LentForm::EndDr(state)),
+        Command::EndIr => one_state(words).map(|state| LentForm::EndIr(state)),
+        Command::Frequency => hertz(words).map(|number| LentForm::Frequency(number)),
+        Command::Trst => one_trst(words).map(|word| LentForm::Trst(word)),
+        Command::Pio | Command::PioMap => Some(LentForm::Port),
+    })
+}
+
+/// One state.
+#[tactic(auto, unfolding(crate::specs::Forms::one_state))]
+fn one_state(words: &mut Lexer<'_>) -> Option<State>
+    ensures says { result ≡ spec.one_state (words_left words.old) }
+    ensures behind { Behind (left words.old) (left words.new) }
+{
+    let word = take_word(words)?;
+    match take_word(words) {
+        None => state_of(word),
+        Some(_) => None,
+    }
+}
+
+/// One word of TRST.
+#[tactic(auto, unfolding(crate::specs::Forms::one_trst))]
+fn one_trst(words: &mut Lexer<'_>) -> Option<TrstWord>
+    ensures says { result ≡ spec.one_trst (words_left words.old) }
+    ensures behind { Behind (left words.old) (left words.new) }
+{
+    let word = take_word(words)?;
+    match take_word(words) {
+        None => trst_of(word),
+        Some(_) => None,
+    }
+}
+
+/// States, at least one.
+fn some_states(alloc: Global, words: &mut Lexer<'_>) -> Result<Option<Vec<State>>, AllocError>
+    ensures says { IfOk result (λ o. option_map {U = List declared_state.State} (λ v. v.items) o
+        ≡ spec.some_states (words_left words.old)) }
+    ensures behind { Behind (left words.old) (left words.new) }
+{
+    let mut all = Vec::new(alloc);
+    while let Some(word) = take_word(words) {
+        let Some(state) = state_of(word) else {
+            return Ok(None);
+        };
+        all.push(state)?;
+    }
+    if all.is_empty() {
+        return Ok(None);
+    }
+    Ok(Some(all))
+}
+
+/// `[number HZ]`.
+#[tactic(auto, unfolding(crate::specs::Forms::hertz))]
+fn hertz<'a>(words: &mut Lexer<'a>) -> Option<Option<&'a [u8]>>
+    ensures says { option_map {U = Option Word} (λ o. option_map {U = Word} (λ w. w.now) o) result
+        ≡ spec.hertz (words_left words.old) }
+    ensures behind { Behind (left words.old) (left words.new) }
+{
+    let Some(number) = take_word(words) else {
+        return Some(None);
+    };
+    let unit = take_word(words)?;
+    if take_word(words).is_none() && is_number(number) && reads(unit, b"HZ") {
+        Some(Some(number))
+    } else {
+        None
+    }
+}
+
+/// A length and fields.
+#[tactic(auto, unfolding(crate::specs::Forms::scan_of))]
+fn take_scan<'a>(
+    alloc: Global,
+    words: &mut Lexer<'a>,
+) -> Result<Option<(&'a [u8], LentFields<'a>)>, AllocError>
+    ensures says { (which : declared_which.Which) → IfOk result
+        (λ o. option_map (λ p. scan_form which p.0.now (view.lent p.1)) o
+        ≡ spec.scan_of which (words_left words.old)) }
+    ensures behind { Behind (left words.old) (left words.new) }
+{
+    let Some(len) = take_word(words) else {
+        return Ok(None);
+    };
+    if !is_number(len) {
+        return Ok(None);
+    }
+    match take_fields(alloc, words)? {
+        Some(fields) => Ok(Some((len, fields))),
+        None => Ok(None),
+    }
+}

@@ -1,4 +1,0 @@
-pub mod FirstTokens
-pub mod Order
-pub mod RowsCompute
-pub mod Small

@@ -1,8 +1,0 @@
-use Rattle.text_places.proofs.RowsCompute.{statement_rows, offset_rows}
-use Rattle.text_places.proofs.laws.positions_compute.Goals as goal
-
-pub returns-clause-statements : goal.returns-clause-statements
-returns-clause-statements c = statement_rows
-
-pub returns-clause-offsets : goal.returns-clause-offsets
-returns-clause-offsets c = offset_rows

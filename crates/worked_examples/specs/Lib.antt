@@ -1,0 +1,13 @@
+pub mod Flat
+pub mod SettingsRows
+pub mod NumberRows
+pub mod PlaySamples
+pub mod Agree
+pub mod Plays
+pub mod Single
+pub mod Following
+pub mod Texts
+pub mod Expected
+pub mod BoardFileSamples
+pub mod BoardFileRows
+pub mod Small

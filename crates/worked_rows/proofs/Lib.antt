@@ -1,3 +1,0 @@
-pub mod PlaysCompute
-pub mod SingleCompute
-pub mod FollowingCompute

@@ -1,5 +1,0 @@
-pub mod Samples
-pub mod Agree
-pub mod Plays
-pub mod Single
-pub mod Following
