@@ -1,4 +1,4 @@
-//! Measures calls of the crates below, for `gate/bench_calls`, which measures the same work in C beside them.
+//! Measures calls of the crates below, for `ci/bench_calls`, which measures the same work in C beside them.
 #![tactic(auto)]
 
 use std::process::ExitCode;

@@ -1,4 +1,4 @@
-//! One public call that takes memory, made so that `gate/refused_memory` can refuse each of its requests in turn. One
+//! One public call that takes memory, made so that `ci/refused_memory` can refuse each of its requests in turn. One
 //! line tells whether the call wanted memory; the others tell what it answered in the end. A call that wanted memory
 //! has told nothing else and left what it was given as it was, and the same call, made again, gives the usual answer.
 #![tactic(auto)]

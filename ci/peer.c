@@ -1,4 +1,4 @@
-// A server of the remote_bitbang protocol that shares no code with the program: one device as gate/boards/k.bsdl describes it, alone
+// A server of the remote_bitbang protocol that shares no code with the program: one device as ci/boards/k.bsdl describes it, alone
 // and on no net. It listens on a port of 127.0.0.1 that the system chooses, prints it, serves one connection, and prints the
 // bytes that it took. How it serves, its words say:
 //

@@ -1,5 +1,5 @@
 // Both ends of a play over a socket in plain C, for bench: a client that makes the bytes of scans from their vectors, keeps up to 256
-// answers owed and judges them, and a server with a chain of bare devices (gate/boards/p.bsdl), each a state, a latch, a stage and a bypass bit.
+// answers owed and judges them, and a server with a chain of bare devices (ci/boards/p.bsdl), each a state, a latch, a stage and a bypass bit.
 //
 //     svf DEVICES SCANS WANTED           prints the SVF text: all devices into BYPASS, and scans of 65,536 bits, their bits all wanted or none
 //     client PORT DEVICES SCANS WANTED   plays what that text says
