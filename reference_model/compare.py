@@ -1,4 +1,4 @@
-"""Compares a program with the second reading on made-up inputs.
+"""Compares a program with the reference model on made-up inputs.
 
     compare.py PROGRAM [KIND ..] [--cases N] [--from N]    compares N cases of each kind
     compare.py PROGRAM --show KIND NUMBER                  prints a case's input and both answers

@@ -1,4 +1,4 @@
-"""The one way in which the readings refuse an input."""
+"""The one way in which the reference model refuses an input."""
 
 from __future__ import annotations
 
