@@ -1,5 +1,5 @@
-//! What a device description gives as a whole: of each attribute what its first giving says (BSDL: IEEE Std
-//! 1149.1-2001, Annex B.8).
+//! What a device description gives as a whole (BSDL: IEEE Std 1149.1-2001, Annex B.8): of each attribute what its first
+//! giving says, or the first attribute that is missing; and which ports are the TAP's.
 #![tactic(auto)]
 
 pub mod description;

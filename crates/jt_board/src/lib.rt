@@ -1,4 +1,7 @@
 //! A simulated board of boundary-scan devices: IEEE Std 1149.1-2001, edge by edge.
+//!
+//! A board file and its descriptions make it, or it has bare devices. Laws tell what every board in use is, and that a
+//! loop of strings by the numbers of nets is a circle of the nets.
 #![tactic(auto)]
 
 mod bare;

@@ -111,7 +111,7 @@ pub(crate) struct Planned {
     plan: Plan,
 }
 
-/// The board of a board file as `make_board` makes it, before power-up.
+/// The board of a board file as `make_boards` makes it, before power-up.
 pub(crate) fn plan_board(rt: &HostRuntime, alloc: Global, name: &str) -> Result<Planned, Unmade> {
     let read = read_board(rt, alloc, name)?;
     let files = files_of(alloc, &read.names, &read.descriptions)?;
