@@ -23,7 +23,7 @@ use Rattle.play_schedules.proofs.Runs.{run-append}
 use Rattle.play_schedules.proofs.SafetyLaws.{every_schedule_inside}
 use Rattle.play_schedules.specs.StreamLaws.{history_of}
 use Rattle.play_schedules.proofs.Agree.{agree}
-use Rattle.play_schedules.proofs.Schedules.{asked}
+use Rattle.play_schedules.proofs.ScheduleSteps.{asked}
 use Rattle.play_pipes.specs.Inside.{ALossNamesWhatIsInWork, FewEventsMoveSomething, OnlyALoseLoses, SomethingCanMoveUntilItIsOver, WhatIsJoinedStaysInsideTheFullPlay}
 use Rattle.play_pipes.specs.Joining.{side}
 use Rattle.play_pipes.specs.Standing.{is_over}

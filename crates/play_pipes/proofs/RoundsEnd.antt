@@ -9,7 +9,7 @@ use Rattle.play_model.specs.Play.{Turn, Played, full_play, player, sent}
 use Rattle.play_model.specs.Streams.{StreamState, new_stream}
 use Rattle.bitbang_protocol.specs.Protocol.{answer}
 use Rattle.play_schedules.specs.StreamLaws.{good, history_of, stream_of, with_player}
-use Rattle.play_schedules.proofs.Schedules.{carry_over}
+use Rattle.play_schedules.proofs.ScheduleSteps.{carry_over}
 use Rattle.play_schedules.specs.Laws.{Connection}
 use Rattle.svf_programs.specs.Steps.{Program}
 use Rattle.play_model.proofs.Asks.{AllAsk, hear-asks, played_of}

@@ -1,4 +1,4 @@
-use Rattle.play_schedules.proofs.Schedules.{calls_alike}
+use Rattle.play_schedules.proofs.ScheduleSteps.{calls_alike}
 use Rattle.play_schedules.proofs.streams.calls_go_alike.Goals as goal
 
 pub returns : goal.returns

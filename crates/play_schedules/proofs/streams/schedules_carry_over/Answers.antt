@@ -1,4 +1,4 @@
-use Rattle.play_schedules.proofs.Schedules.{carry_over}
+use Rattle.play_schedules.proofs.ScheduleSteps.{carry_over}
 use Rattle.play_schedules.proofs.streams.schedules_carry_over.Goals as goal
 
 pub returns : goal.returns
