@@ -77,10 +77,7 @@ impl Board {
         // What is no TOML is refused as that, unless memory runs out.
         ensures bad_toml { IsBadToml toml_text.now → TellsBadToml result }
     {
-        let table = match board_table(alloc, toml_text) {
-            Ok(table) => table,
-            Err(fault) => return Err(fault),
-        };
+        let table = board_table(alloc, toml_text)?;
         Board::from_table(alloc, &table, files)
     }
 
@@ -94,10 +91,7 @@ impl Board {
         ensures { TellsMade result (makes said_device (files_of files.now) (table_view table.now))
             (targets_in (table_view table.now)) }
     {
-        let plan = match plan_of_table(alloc, &Bsdl, table, files) {
-            Ok(plan) => plan,
-            Err(fault) => return Err(fault),
-        };
+        let plan = plan_of_table(alloc, &Bsdl, table, files)?;
         match Board::powered_up(alloc, plan) {
             Ok(board) => Ok(board),
             Err(_) => Err(BoardFault::NoMemory),
