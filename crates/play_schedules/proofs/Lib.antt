@@ -19,6 +19,6 @@ pub mod SameByCount
 pub mod Agree
 pub mod Alike
 pub mod Carried
-pub mod Schedules
+pub mod ScheduleSteps
 pub mod Window
 pub mod HonestWindow
