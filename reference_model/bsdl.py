@@ -200,6 +200,15 @@ class Inner:
     def mark(self, character: str) -> None:
         self.take(re.escape(character))
 
+    def number_within(self, opening: str, closing: str) -> int | None:
+        """A number between these marks, None where the first doesn't stand."""
+        if not self.peek(opening):
+            return None
+        self.mark(opening)
+        number = self.number()
+        self.mark(closing)
+        return number
+
     def one_of(self, choices) -> str:
         token = self.take(f"{WORD}|{NUMBER}").upper()
         if token not in choices:
@@ -265,12 +274,7 @@ def cell_row(inner: Inner) -> Cell:
         port = None
         inner.mark("*")
     else:
-        name, subscript = inner.word().upper(), None
-        if inner.peek("("):
-            inner.mark("(")
-            subscript = inner.number()
-            inner.mark(")")
-        port = (name, subscript)
+        port = (inner.word().upper(), inner.number_within("(", ")"))
     inner.mark(",")
     function = inner.one_of(FUNCTIONS)
     inner.mark(",")
@@ -289,12 +293,8 @@ def cell_row(inner: Inner) -> Cell:
 
 def access_row(inner: Inner) -> list[Named]:
     """`register (name [CAPTURES pattern] {, ..})`, with BOUNDARY, BYPASS, DEVICE_ID or `name[length]`."""
-    register, length = inner.word().upper(), None
-    if inner.peek("["):
-        inner.mark("[")
-        length = inner.number()
-        inner.mark("]")
-    elif register not in ("BOUNDARY", "BYPASS", "DEVICE_ID"):
+    register, length = inner.word().upper(), inner.number_within("[", "]")
+    if length is None and register not in ("BOUNDARY", "BYPASS", "DEVICE_ID"):
         raise Misfit
 
     def access() -> Named:
