@@ -29,9 +29,9 @@ pub record IsTaken (all past : List Said) (s : Said) (r : Reader) (made : Option
   pub place : r.place ≡ place (s ∷ past)
   pub step : option_map (step_in all) made ≡ step (settings past) s
 
-abbrev pub Takes : List Said → List Said → Said → Result (Reader × Option Kept) Code → Type 0
-Takes all past s (Ok p) = IsTaken all past s p.0 p.1
-Takes all past s (Err code) = refusal past s ≡ Some code
+abbrev pub Takes : List Said → List Said → Said → Reader → Result (Option Kept) Code → Type 0
+Takes all past s r (Ok made) = IsTaken all past s r made
+Takes all past s r (Err code) = refusal past s ≡ Some code
 
 -- the step of a statement with this number, if it made one
 abbrev pub kept_as : ℕ → Option Kept → List KeptStep

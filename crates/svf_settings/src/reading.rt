@@ -8,7 +8,7 @@ ghost use Rattle.svf_programs.specs.Sound.{step_limit};
 ghost use Rattle.svf_settings.specs.Reading.{IsBehind, Keeps, Takes, kept_as};
 
 use crate::running::Running;
-use crate::stepping::place_after;
+use crate::stepping::place_behind;
 use jt_tap::State;
 use std::alloc::{AllocError, Global};
 use svf_parse::{Code, Statement, SvfFault};
@@ -32,37 +32,25 @@ impl Reader {
         }
     }
 
-    /// Takes the next statement, which stands at this place: the reader behind it, and its step, or its refusal.
+    /// Takes the next statement, which stands at this place, and goes behind it: its step, if it makes one, or its
+    /// refusal.
     fn take(
-        &self,
+        &mut self,
         statements: &[Statement],
         index: u32,
         statement: &Statement,
-    ) -> Result<(Reader, Option<Kept>), Code>
+    ) -> Result<Option<Kept>, Code>
         requires { slice_get (map said_of statements.now) index ≡ Some (said_of statement.now) }
-        ensures { (past : List Said) → IsBehind (map said_of statements.now) past self.now → length past ≡ index
-            → Takes (map said_of statements.now) past (said_of statement.now) result }
+        ensures { (past : List Said) → IsBehind (map said_of statements.now) past self.old → length past ≡ index
+            → Takes (map said_of statements.now) past (said_of statement.now) self.new result }
     {
         if let Some(code) = self.running.refusal(self.place, statements, statement) {
             return Err(code);
         }
-        let running = self.running.next(statements, index, statement);
-        match self.running.step(statements, index, statement) {
-            None => Ok((
-                Reader {
-                    running,
-                    place: self.place,
-                },
-                None,
-            )),
-            Some(what) => Ok((
-                Reader {
-                    running,
-                    place: place_after(self.place, statements, what),
-                },
-                Some(what),
-            )),
-        }
+        let made = self.running.step(statements, index, statement);
+        self.running.pass(statements, index, statement);
+        self.place = place_behind(self.place, statements, made);
+        Ok(made)
     }
 }
 
@@ -81,9 +69,9 @@ pub(crate) fn kept_steps(alloc: Global, statements: &[Statement]) -> Result<Vec<
             Err(code) => {
                 return Err(fault_at(index, code));
             }
-            Ok((behind, made)) => match push_made(&mut steps, place + 1, made) {
+            Ok(made) => match push_made(&mut steps, place + 1, made) {
                 Err(_) => return Err(memory()),
-                Ok(()) => reader = behind,
+                Ok(()) => {}
             },
         }
     }

@@ -112,83 +112,48 @@ impl Running {
         }
     }
 
-    /// The settings behind a statement, which stands at this place of the statements.
-    pub(crate) fn next(
-        &self,
-        statements: &[Statement],
-        index: u32,
-        statement: &Statement,
-    ) -> Running
+    /// Goes behind a statement, which stands at this place of the statements.
+    pub(crate) fn pass(&mut self, statements: &[Statement], index: u32, statement: &Statement)
         requires { slice_get (map said_of statements.now) index ≡ Some (said_of statement.now) }
         ensures { let all = map said_of statements.now in
-            settings_in all result ≡ running.next (settings_in all self.now) (said_of statement.now) }
+            settings_in all self.new ≡ running.next (settings_in all self.old) (said_of statement.now) }
     {
         match statement {
-            Statement::EndDr(state) => Running {
-                dr_end: *state,
-                ..*self
-            },
-            Statement::EndIr(state) => Running {
-                ir_end: *state,
-                ..*self
-            },
-            Statement::Frequency(period) => Running {
-                period: period.unwrap_or(DEFAULT_PERIOD),
-                ..*self
-            },
+            Statement::EndDr(state) => self.dr_end = *state,
+            Statement::EndIr(state) => self.ir_end = *state,
+            Statement::Frequency(period) => self.period = period.unwrap_or(DEFAULT_PERIOD),
             Statement::Scan {
                 which,
                 len,
                 tdi,
                 mask,
                 ..
-            } => self.with_scan(
-                *which,
-                self.in_force(statements, index, *which, *len, tdi, mask),
-            ),
-            Statement::RunTest { run, end, .. } => Running {
-                run_state: self.runs_in(*run),
-                run_end: self.ends_in(*run, *end),
-                ..*self
-            },
-            Statement::States(_) => *self,
-            Statement::Trst(word) => Running {
-                trst: Some(*word),
-                ..*self
-            },
+            } => {
+                let part = self.in_force(statements, index, *which, *len, tdi, mask);
+                self.put_scan(*which, part);
+            }
+            Statement::RunTest { run, end, .. } => {
+                let run_end = self.ends_in(*run, *end);
+                self.run_state = self.runs_in(*run);
+                self.run_end = run_end;
+            }
+            Statement::States(_) => {}
+            Statement::Trst(word) => self.trst = Some(*word),
         }
     }
 
-    /// The settings with another last part of a scan command.
-    fn with_scan(&self, which: Which, part: KeptPart) -> Running
+    /// Makes this the last part of a scan command.
+    fn put_scan(&mut self, which: Which, part: KeptPart)
         ensures { (all : List Said)
-            → settings_in all result ≡ running.with_scan which (part_in all part) (settings_in all self.now) }
+            → settings_in all self.new ≡ running.with_scan which (part_in all part) (settings_in all self.old) }
     {
         match which {
-            Which::Hdr => Running {
-                hdr: Some(part),
-                ..*self
-            },
-            Which::Hir => Running {
-                hir: Some(part),
-                ..*self
-            },
-            Which::Tdr => Running {
-                tdr: Some(part),
-                ..*self
-            },
-            Which::Tir => Running {
-                tir: Some(part),
-                ..*self
-            },
-            Which::Sdr => Running {
-                sdr: Some(part),
-                ..*self
-            },
-            Which::Sir => Running {
-                sir: Some(part),
-                ..*self
-            },
+            Which::Hdr => self.hdr = Some(part),
+            Which::Hir => self.hir = Some(part),
+            Which::Tdr => self.tdr = Some(part),
+            Which::Tir => self.tir = Some(part),
+            Which::Sdr => self.sdr = Some(part),
+            Which::Sir => self.sir = Some(part),
         }
     }
 }
@@ -216,8 +181,18 @@ fn path_step(index: u32, path: &[State]) -> Option<Kept>
     }
 }
 
+/// Where the program rests behind a statement that makes this step, or none.
+pub(crate) fn place_behind(place: State, statements: &[Statement], made: Option<Kept>) -> State
+    ensures { result ≡ look.place_after_some place (option_map (step_in (map said_of statements.now)) made) }
+{
+    match made {
+        None => place,
+        Some(what) => place_after(place, statements, what),
+    }
+}
+
 /// Where the program rests behind a step.
-pub(crate) fn place_after(place: State, statements: &[Statement], step: Kept) -> State
+fn place_after(place: State, statements: &[Statement], step: Kept) -> State
     ensures { result ≡ steps.place_after place (step_in (map said_of statements.now) step) }
 {
     match step {

@@ -46,7 +46,7 @@ loop-index-preserved c =
     let here = (rw c.in-Some.is at c.place_of.ensures.found).0 in
     let taken = c.take.ensures (before k all) c.loop-index.invariant.0.behind (l ∙ sym here) in (
       rw (c.in-Ok-push_made.ensures, here)
-          (after_more all k s c.in-Ok.behind c.in-Ok.made c.loop-index.steps.items at c.loop-index.invariant.0.fine c.loop-index.invariant.0.kept_are (rw c.in-Ok.is at taken)),
+          (after_more all k s c.take.new.self c.in-Ok.made c.loop-index.steps.items at c.loop-index.invariant.0.fine c.loop-index.invariant.0.kept_are (rw c.in-Ok.is at taken)),
       omega (arith, (rw c.in-Some.is at c.place_of.ensures.found).1, here),
     )
 

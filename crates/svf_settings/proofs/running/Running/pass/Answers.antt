@@ -3,11 +3,11 @@ use Rattle.svf_parse.specs.View.{said_of}
 use Rattle.scan_vectors.specs.Fields.{Fields}
 use Rattle.svf_settings.specs.Running.{with_scan}
 use Rattle.svf_settings.specs.Held.{settings_in}
-use Rattle.svf_settings.proofs.running.Running.next.Goals as goal
+use Rattle.svf_settings.proofs.running.Running.pass.Goals as goal
 
 pub returns-in-Scan : goal.returns-in-Scan
 returns-in-Scan c =
     let all = map said_of c.args.statements.now in
     let i = c.in-Scan in
-    rw i.is (c.with_scan.ensures all
-    ∙ ap (λ (f : Fields). with_scan i.which f (settings_in all c.args.self.now)) (c.in_force.ensures i.tdo i.smask (rw i.is at c.requires)))
+    rw i.is (c.put_scan.ensures all
+    ∙ ap (λ (f : Fields). with_scan i.which f (settings_in all c.args.self.now)) (c.in_force-part.ensures i.tdo i.smask (rw i.is at c.requires)))
