@@ -15,7 +15,7 @@ use Rattle.svf_words.specs.declared.keywords.FieldName.{FieldName}
 use Rattle.svf_words.specs.declared.keywords.FieldName.TheVariants as field
 use Rattle.svf_words.specs.declared.keywords.Clock.{Clock}
 use Rattle.svf_words.specs.declared.keywords.Clock.TheVariants as clock
-use Rattle.svf_words.specs.declared.keywords.TheConstants.{COMMANDS, FIELDS, CLOCKS, TRST_WORDS}
+use Rattle.svf_words.specs.declared.keywords.TheConstants.{COMMANDS, FREQUENT, FIELDS, CLOCKS, TRST_WORDS, STABLE}
 use Rattle.svf_words.specs.Words.{Word, lower, reads}
 use Rattle.svf_words.specs.Keywords.{command_word, field_word, clock_word, trst_word, command_of, field_of, clock_of, trst_of, all_states, state_of}
 
@@ -59,6 +59,9 @@ command_read w c h = ap (found_by command_word COMMANDS) (lowered w (command_wor
 pub command_found : (w : Word) (c : Command) → command_of w ≡ Some c → reads w (command_word c) ≡ true
 unfolding command_of
 command_found w c e = found_passes (λ c. reads w (command_word c)) COMMANDS c e
+
+pub frequent_read : (w : Word) (c : Command) → find (λ c. reads w (command_word c)) FREQUENT ≡ Some c → Some c ≡ command_of w
+frequent_read w c e = sym (command_read w c (found_passes (λ c. reads w (command_word c)) FREQUENT c e))
 
 field_known : (f : FieldName) → found_by field_word FIELDS (lower (field_word f)) ≡ Some f
 field_known field.Tdi = refl
@@ -112,6 +115,9 @@ state_read w s h = find-word w s (lowered w (states.word s) h)
 pub state_found : (w : Word) (s : State) → state_of w ≡ Some s → reads w (states.word s) ≡ true
 unfolding state_of
 state_found w s e = found_passes (λ s. reads w (states.word s)) all_states s e
+
+pub stable_read : (w : Word) (s : State) → find (λ s. reads w (states.word s)) STABLE ≡ Some s → Some s ≡ state_of w
+stable_read w s e = sym (state_read w s (found_passes (λ s. reads w (states.word s)) STABLE s e))
 
 -- what a reader of state words answers, by what it ensures
 pub same_state : (w : Word) (r : Option State) → IfSome r (λ s. states.IsWordOf s w) → ((s : State) → states.IsWordOf s w → r ≡ Some s) → r ≡ state_of w

@@ -2,6 +2,7 @@
 ghost use Rattle.std.specs.Prelude.{◌≡◌, ℕ, List, find};
 ghost use Rattle.svf_words.specs.Keywords as spec;
 ghost use Rattle.svf_words.specs.Words as words_spec;
+ghost use Rattle.jt_tap.specs.Words as states;
 
 use crate::words::reads;
 use jt_tap::State;
@@ -81,6 +82,14 @@ pub enum Clock {
     Sck,
 }
 
+/// Those that programs have most of, which a word is tried as first.
+const FREQUENT: [Command; 4] = [
+    Command::Scan(Which::Sdr),
+    Command::Scan(Which::Sir),
+    Command::RunTest,
+    Command::State,
+];
+
 /// Those that programs have most of stand first, since a word is tried as one after another.
 const COMMANDS: [Command; 14] = [
     Command::Scan(Which::Sdr),
@@ -108,6 +117,9 @@ const FIELDS: [FieldName; 4] = [
 
 const CLOCKS: [Clock; 2] = [Clock::Tck, Clock::Sck];
 
+/// The states in which a program may rest, which a word is tried as first.
+const STABLE: [State; 4] = [State::Idle, State::Reset, State::DrPause, State::IrPause];
+
 const TRST_WORDS: [TrstWord; 4] = [TrstWord::On, TrstWord::Off, TrstWord::Z, TrstWord::Absent];
 
 /// A kind of keywords.
@@ -124,7 +136,10 @@ trait Keyword: Copy {
 pub fn command_of(word: &[u8]) -> Option<Command>
     ensures { result ≡ spec.command_of word.now }
 {
-    first_read(&COMMANDS, word)
+    match first_read(&FREQUENT, word) {
+        Some(command) => Some(command),
+        None => first_read(&COMMANDS, word),
+    }
 }
 
 /// The name of a field that the word is, in any case, if it is one.
@@ -155,7 +170,10 @@ pub fn trst_of(word: &[u8]) -> Option<TrstWord>
 pub fn state_of(word: &[u8]) -> Option<State>
     ensures { result ≡ spec.state_of word.now }
 {
-    State::from_word(word)
+    match first_read(&STABLE, word) {
+        Some(state) => Some(state),
+        None => State::from_word(word),
+    }
 }
 
 /// The first of these keywords that the word is, in any case.
@@ -222,6 +240,14 @@ impl Keyword for Clock {
             Clock::Tck => b"TCK",
             Clock::Sck => b"SCK",
         }
+    }
+}
+
+impl Keyword for State {
+    ghost spelling = { states.word };
+
+    fn letters(self) -> &'static [u8] {
+        self.word().as_bytes()
     }
 }
 
