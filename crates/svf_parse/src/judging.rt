@@ -47,7 +47,9 @@ pub(crate) fn say(
     }
 }
 
-/// Adds a statement. Who makes one adds it: the largest has 208 bytes, and whoever hands one back moves it twice.
+/// Adds a statement. Who makes one adds it: the largest has 208 bytes, and whoever hands one back moves it twice. In
+/// line, so that its parts are written where it stands in the list.
+#[inline(always)]
 fn put(all: &mut Vec<Statement>, said: Statement) -> Result<(), Refusal>
     ensures adds { Adds result all.old.items all.new.items (Ok (said_of said)) }
     ensures count { IfOk result (λ _. vec_len all.new ≡ vec_len all.old + 1) }
