@@ -1,5 +1,5 @@
 -- A text is read as the string that it spells.
-use Rattle.std.proofs.Common.{◌≡◌, ◌<◌, ℕ, zero, suc, ◌+◌, ◌==◌, Bool, true, false, not, ◌&&◌, cond, List, [], ◌∷◌, ◌++◌, append_assoc, length, replicate, reverse, Option, Some, None, option_map, option_and_then, refl, ap, sym, ◌∙◌, subst, arith}
+use Rattle.std.proofs.Common.{◌≡◌, ◌<◌, ℕ, zero, suc, ◌+◌, ◌==◌, Bool, true, false, not, ◌&&◌, cond, List, [], ◌∷◌, ◌++◌, append_assoc, length, reverse, Option, Some, None, option_map, option_and_then, refl, ap, sym, ◌∙◌, subst, arith}
 use Rattle.std.specs.Char.{is_ascii_alphabetic, is_ascii_digit}
 use Rattle.std.specs.List.{list_all}
 use Rattle.std.proofs.lemmas.Bool.{false≢true, and_parts, eqb-true}
@@ -7,7 +7,7 @@ use Rattle.std.proofs.lemmas.List.{append-nil, length-reverse, replicate-append-
 use Rattle.std.proofs.lemmas.List.Folds.{list_all-append}
 use Rattle.board_tables.specs.Names.{continues, is_name}
 use Rattle.board_tables.specs.PinTexts.{IsPortText, PortText, index_text, is_index, port_of, port_text, split_at}
-use Rattle.board_tables.specs.FollowTexts.{FollowText, FollowsAreReadAsSpelt, SpellsFollow, TargetsAreAsSpelt, behind_mark, follow_of, mark, source_of, spaces, target_text, trimmed, with_mark, with_source, without_before, without_behind}
+use Rattle.board_tables.specs.FollowTexts.{FollowText, FollowsAreReadAsSpelt, SpellsFollow, TargetsAreAsSpelt, behind_mark, follow_of, mark, source_of, spaces, trimmed, with_mark, with_source, without_before, without_behind}
 use Rattle.board_tables.proofs.SpellLaws.{apart_at, digits_lack, lacks, name_lacks, none_some, port_made, port_says, same_some, split_made, split_says}
 
 not_true : (b : Bool) → not b ≡ true → b ≡ false

@@ -1,5 +1,5 @@
 -- What it means that no key of a table is at fault.
-use Rattle.std.proofs.Common.{◌≡◌, ℕ, Bor, Bool, true, false, not, cond, List, [], ◌∷◌, ◌++◌, fold, codes, Option, Some, None, nat_cmp, refl, ap, sym, ◌∙◌}
+use Rattle.std.proofs.Common.{◌≡◌, ℕ, Bor, Bool, true, false, cond, List, [], ◌∷◌, ◌++◌, fold, codes, Option, Some, None, nat_cmp, refl, ap, sym, ◌∙◌}
 use Rattle.std.specs.Ordering.{is_eq, is_lt, match_ordering}
 use Rattle.std.specs.declared.cmp.Ordering.{Ordering}
 use Rattle.std.specs.declared.cmp.Ordering.TheVariants.{Less, Equal, Greater}

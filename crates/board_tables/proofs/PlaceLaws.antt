@@ -1,12 +1,12 @@
 -- One more key in a list and in the tree of first places.
-use Rattle.std.proofs.Common.{◌≡◌, ℕ, suc, ◌+◌, nat_lt, ◌==◌, Bool, true, false, not, cond, List, [], ◌∷◌, ◌++◌, length, Option, Some, None, is_some, refl, ap, sym, ◌∙◌, arith}
+use Rattle.std.proofs.Common.{◌≡◌, ℕ, suc, ◌+◌, nat_lt, ◌==◌, Bool, true, false, not, cond, List, [], ◌∷◌, ◌++◌, length, Option, Some, None, refl, ap, sym, ◌∙◌, arith}
 use Rattle.std.specs.List.{position, position_or_len}
+use Rattle.std.specs.Option.{unwrap_or}
 use Rattle.std.specs.BTreeMap.{BTreeMap, get, is_at, Updates}
 use Rattle.std.specs.declared.cmp.Ordering.{Ordering}
 use Rattle.std.specs.Cmp.{IsTotalOrder, eq_by_cmp_equiv}
 use Rattle.std.proofs.lemmas.List.Folds.{position_or_len_push}
 use Rattle.std.proofs.lemmas.List.{length-append}
-use Rattle.std.proofs.lemmas.Bool.{false≢true}
 use Rattle.std.proofs.lemmas.Bool.Decides.{nat_tests}
 use Rattle.board_tables.specs.FirstPlaces.{AreFirst}
 
@@ -43,6 +43,10 @@ or_none : (o : Option ℕ) (n : ℕ) → or_last o false n ≡ o
 or_none None n = refl
 or_none (Some k) n = refl
 
+found_or_last : (o : Option ℕ) (n : ℕ) → Some (unwrap_or o n) ≡ or_last o true n
+found_or_last None n = refl
+found_or_last (Some k) n = refl
+
 module _ {K : Type 0} (cmp : K → K → Ordering) (order : IsTotalOrder cmp) (m : BTreeMap K ℕ) (ks : List K) (first : AreFirst cmp m ks) (key : K) where
   -- a key equal to this one has the same place
   same_place : (q : K) → is_at (cmp key) q ≡ true → position (is_at (cmp q)) ks ≡ get cmp m key
@@ -51,13 +55,9 @@ module _ {K : Type 0} (cmp : K → K → Ordering) (order : IsTotalOrder cmp) (m
   turned : (q : K) → is_at (cmp q) key ≡ is_at (cmp key) q
   turned q = (eq_by_cmp_equiv order).symm q key
 
-  pub one_more : (n : BTreeMap K ℕ) (place : ℕ) → place ≡ length ks → get cmp m key ≡ None → Updates cmp m n key (Some place) → AreFirst cmp n (ks ++ key ∷ [])
-  one_more n place is new u q = u.0 q ∙ by (is_at (cmp key) q) refl ∙ sym (position_push (is_at (cmp q)) ks key)
+  pub one_more : (n : BTreeMap K ℕ) (place w : ℕ) → place ≡ length ks → w ≡ unwrap_or (get cmp m key) place → Updates cmp m n key (Some w) → AreFirst cmp n (ks ++ key ∷ [])
+  one_more n place w is value u q = u.0 q ∙ by (is_at (cmp key) q) refl ∙ sym (position_push (is_at (cmp q)) ks key)
     where
-      by : (b : Bool) → is_at (cmp key) q ≡ b → cond b (Some place) (get cmp m q) ≡ or_last (position (is_at (cmp q)) ks) (is_at (cmp q) key) (length ks)
-      by true h = rw (same_place q h ∙ new, turned q, h, is) refl
+      by : (b : Bool) → is_at (cmp key) q ≡ b → cond b (Some w) (get cmp m q) ≡ or_last (position (is_at (cmp q)) ks) (is_at (cmp q) key) (length ks)
+      by true h = rw (same_place q h, turned q, h, value, is) (found_or_last (get cmp m key) (length ks))
       by false h = rw (turned q, h) (first q ∙ sym (or_none _ _))
-
-pub none_there : {A : Type 0} (o : Option A) → is_some o ≡ false → o ≡ None
-none_there None h = refl
-none_there (Some x) h = absurd (false≢true (sym h))

@@ -3,7 +3,8 @@ ghost use Rattle.std.specs.Prelude.{◌≡◌, [], ◌∷◌, ◌++◌, length, 
 ghost use Rattle.std.specs.List.{list_any};
 ghost use Rattle.board_tables.specs.FirstPlaces.{with_name};
 ghost use Rattle.board_tables.specs.WordView.{texts_of};
-ghost use Rattle.std.specs.BTreeMap.{is_at};
+ghost use Rattle.std.specs.BTreeMap.{get, is_at, IsUnchanged, Updates};
+ghost use Rattle.std.specs.Option.{unwrap_or};
 
 use std::alloc::{AllocError, Global};
 use std::collections::BTreeMap;
@@ -49,14 +50,11 @@ impl<K: Ord + Copy> Places<K> {
     {
         let place = self.len();
         self.keys.push(key)?;
-        if self.first.contains_key(&key) {
-            return Ok(());
-        }
-        match self.first.insert(key, place) {
-            Ok(_) => Ok(()),
-            Err(_) => {
+        match enter(&mut self.first, key, place) {
+            Ok(()) => Ok(()),
+            Err(error) => {
                 self.keys.pop();
-                Err(AllocError)
+                Err(error)
             }
         }
     }
@@ -110,5 +108,24 @@ impl<'t> Places<&'t str> {
             return Ok(());
         }
         self.push(text)
+    }
+}
+
+/// Puts a key that is not in the tree yet at its place; one that is there keeps the place that it has.
+fn enter<K: Ord + Copy>(
+    first: &mut BTreeMap<K, usize>,
+    key: K,
+    place: usize,
+) -> Result<(), AllocError>
+    ensures entered { OnOk result
+        (Updates K.cmp first.old first.new key (Some (unwrap_or (get K.cmp first.old key) place))) }
+    ensures err { OnErr result (IsUnchanged first.old first.new) }
+{
+    match first.entry(key) {
+        Ok(entry) => {
+            entry.or_insert(place);
+            Ok(())
+        }
+        Err(_) => Err(AllocError),
     }
 }
