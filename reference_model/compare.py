@@ -1,8 +1,9 @@
 """Compares a program with the reference model on made-up inputs.
 
     compare.py PROGRAM [KIND ..] [--cases N] [--from N]    compares N cases of each kind
-    compare.py PROGRAM --show KIND NUMBER                  prints a case's input and both answers
+    compare.py PROGRAM --show KIND NUMBER [--waves]        prints a case's input and both answers
     compare.py PROGRAM --describe BOARD ..                 compares what is told of board files
+    compare.py PROGRAM [KIND ..] --waves [--cases N] [--from N]    compares the waves of short plays
 """
 
 from __future__ import annotations
@@ -15,15 +16,20 @@ import sys
 import tempfile
 
 import program
-from inputs import KINDS, Case, case_of
+from inputs import KINDS, WAVE_KINDS, Case, case_of
 from refusal import Refusal
+from waves import waves
 
 CASES = 450
+WAVE_CASES = 40
 LONGEST_PLAY = 60_000  # bits and cycles; a longer program is checked and not played
+LONGEST_WAVE = 2_000  # and its waves are not compared
 TIMEOUT = 60
 BOARD_FILE = "board.toml"
+WAVE_FILE = "waves.vcd"
 WORDS = {"check": ["check"], "play": ["play", "--bytes"], "play to the end": ["play", "--bytes", "--all"],
-         "describe": ["describe"]}
+         "describe": ["describe"], "waves": ["play", "--vcd", WAVE_FILE],
+         "waves to the end": ["play", "--all", f"--vcd={WAVE_FILE}"]}
 
 
 def toml(value) -> str:
@@ -56,22 +62,45 @@ def expected(case: Case) -> dict[str, program.Answer]:
     except Refusal as refusal:
         return {**dict.fromkeys(("check", "play", "play to the end"), program.refused(refusal)), **answers}
     answers["check"] = program.check(board, its_program)
-    lengths = (len(getattr(step, "vector", ())) + getattr(step, "cycles", 0) for step in its_program.steps)
-    if sum(lengths) <= LONGEST_PLAY:
+    if length_of(its_program) <= LONGEST_PLAY:
         answers["play"] = program.play(board, its_program)
         if answers["play"].status:  # a play that passes is the same to the end
             answers["play to the end"] = program.play(board, its_program, to_the_end=True)
     return answers
 
 
+def length_of(its_program: program.Program) -> int:
+    """The bits and cycles of a program."""
+    return sum(len(getattr(step, "vector", ())) + getattr(step, "cycles", 0) for step in its_program.steps)
+
+
+def expected_waves(case: Case) -> dict[str, program.Answer]:
+    """By command, the waves that the program should draw, with its status; nothing of a refused or a long program."""
+    try:
+        board, its_program = program.read(*case)
+    except Refusal:
+        return {}
+    if length_of(its_program) > LONGEST_WAVE:
+        return {}
+    ends = {"waves": False, "waves to the end": True}
+    return {command: program.play(board, its_program, end)._replace(out=waves(board, case.text, end))
+            for command, end in ends.items()}
+
+
 def obtained(path: str, command: str, case: Case, folder: str) -> program.Answer:
-    """What the program prints, its files being in the folder."""
+    """What the program prints, its files being in the folder, or the waves that it draws."""
     words = [path, *WORDS[command]] + ([] if case.tree is None else ["--board", BOARD_FILE])
     try:
         done = subprocess.run(words, input=case.text, cwd=folder, capture_output=True, timeout=TIMEOUT)
     except subprocess.TimeoutExpired:
         return program.Answer("", f"hangs for {TIMEOUT} seconds", -1)
-    out, err = (stream.decode("utf-8", "replace") for stream in (done.stdout, done.stderr))
+    drawn = os.path.join(folder, WAVE_FILE)
+    content = done.stdout
+    if os.path.exists(drawn):
+        with open(drawn, "rb") as file:
+            content = file.read()
+        os.remove(drawn)
+    out, err = (stream.decode("utf-8", "replace") for stream in (content, done.stderr))
     return program.Answer(out, err, done.returncode)
 
 
@@ -81,14 +110,14 @@ def input_files(case: Case) -> dict[str, bytes]:
     return {**case.files, **board, "-": case.text}
 
 
-def both_answers(path: str, case: Case) -> list[tuple]:
+def both_answers(path: str, case: Case, expect) -> list[tuple]:
     """By command: its name, the program's answer and the expected one."""
     with tempfile.TemporaryDirectory() as folder:
         for name, content in input_files(case).items():
             with open(os.path.join(folder, name), "wb") as file:
                 file.write(content)
         return [(command, obtained(path, command, case, folder), answer)
-                for command, answer in expected(case).items()]
+                for command, answer in expect(case).items()]
 
 
 def shortened(value, most: int) -> str:
@@ -96,18 +125,21 @@ def shortened(value, most: int) -> str:
     return text if len(text) <= most else f"{text[:most // 2]} ... {text[-most // 2:]}"
 
 
-def compare(path: str, kind: str, start: int, cases: int) -> int:
+def compare(path: str, kind: str, numbers: range, expect) -> int:
     """Compare some cases of a kind; the number of those that differ."""
-    differing = 0
-    for number in range(start, start + cases):
+    differing = answered = 0
+    for number in numbers:
         case = case_of(kind, number)
-        different = [answers for answers in both_answers(path, case) if answers[1] != answers[2]]
+        both = both_answers(path, case, expect)
+        different = [answers for answers in both if answers[1] != answers[2]]
         differing += bool(different)
+        answered += bool(both)
         for command, got, wanted in different:
             print(f"{kind} {number} {command} differs")
             for what, value in (("input", input_files(case)), ("program", got), ("expected", wanted)):
                 print(f"  {what}: {shortened(value, 400)}")
-    print(f"{kind}: {cases} cases, {differing} differ", flush=True)
+    what = f"{kind}: {len(numbers)} cases" if expect is expected else f"waves of {kind}: {answered} plays"
+    print(f"{what}, {differing} differ", flush=True)
     return differing
 
 
@@ -132,11 +164,11 @@ def compare_boards(path: str, names: list[str]) -> int:
     return differing
 
 
-def show(path: str, kind: str, number: int) -> None:
+def show(path: str, kind: str, number: int, expect) -> None:
     case = case_of(kind, number)
     for name, content in input_files(case).items():
         print(f"--- {name}\n{content.decode('utf-8', 'backslashreplace')}")
-    for command, got, wanted in both_answers(path, case):
+    for command, got, wanted in both_answers(path, case, expect):
         for who, answer in (("program", got), ("expected", wanted)):
             print(f"--- {command}, {who}, status {answer.status}\n{answer.out}{answer.err}")
 
@@ -144,19 +176,22 @@ def show(path: str, kind: str, number: int) -> None:
 def main() -> int:
     parser = argparse.ArgumentParser(description=__doc__.splitlines()[0])
     parser.add_argument("program")
-    parser.add_argument("kinds", nargs="*", metavar="KIND", help=", ".join(KINDS))
-    parser.add_argument("--cases", type=int, default=CASES, metavar="N")
+    parser.add_argument("kinds", nargs="*", metavar="KIND", help=", ".join({**KINDS, **WAVE_KINDS}))
+    parser.add_argument("--cases", type=int, metavar="N")
     parser.add_argument("--from", type=int, default=0, metavar="N", dest="start")
+    parser.add_argument("--waves", action="store_true", help="compare the waves of short plays")
     parser.add_argument("--show", nargs=2, metavar=("KIND", "NUMBER"))
     parser.add_argument("--describe", nargs="+", metavar="BOARD")
     words = parser.parse_args()
     path = os.path.abspath(words.program)
     if words.describe:
         return int(compare_boards(path, words.describe) > 0)
+    expect, kinds, usual = (expected_waves, WAVE_KINDS, WAVE_CASES) if words.waves else (expected, KINDS, CASES)
     if words.show:
-        show(path, words.show[0], int(words.show[1]))
+        show(path, words.show[0], int(words.show[1]), expect)
         return 0
-    return int(sum(compare(path, kind, words.start, words.cases) for kind in words.kinds or KINDS) > 0)
+    numbers = range(words.start, words.start + (usual if words.cases is None else words.cases))
+    return int(sum(compare(path, kind, numbers, expect) for kind in words.kinds or kinds) > 0)
 
 
 if __name__ == "__main__":

@@ -770,6 +770,33 @@ def follows(rng, number: int) -> Case:
     return played_on(rng, tree, its_files, rng.choice((2, 3, 5)))
 
 
+# Waves
+
+FREQUENCIES = ("1E6", "3E6", "7E5", "1.5E7", "3E11", "1E12", "1E-3", "2E-6")
+RESTS = ("1", "2", "60", "62", "63", "64", "65", "66", "67", "130", "400")
+
+
+def rests(rng, number: int) -> Case:
+    """Programs that rest about as long as each cycle of a rest is drawn, at all kinds of frequencies."""
+    tree, its_files, board = None, {}, BARE
+    if number % 3:
+        tree, its_files = chained(rng, [Description(rng).text() for _ in range(rng.choice((1, 1, 2)))])
+        try:
+            board = read_board(tree, its_files)
+        except Refusal:
+            tree, its_files = None, {}
+    writer = Writer(rng, board, rng.choice((0, 0, 0.01)))
+    for _ in range(rng.choice((2, 4, 6))):
+        writer.add(["FREQUENCY", *some(rng, (0.9, [rng.choice(FREQUENCIES), "HZ"]))])
+        run, end = some(rng, (0.6, [rng.choice(STABLE)])), some(rng, (0.4, ["ENDSTATE", rng.choice(STABLE)]))
+        writer.add(["RUNTEST", *run, rng.choice(RESTS), "TCK", *end], 1)
+        if rng.random() < 0.4:
+            writer.add(["TRST", rng.choice(("ON", "ON", "OFF", "Z"))], 1)
+        if rng.random() < 0.6:
+            writer.go_on()
+    return Case(spell(rng, writer.statements, 0.97), tree, its_files)
+
+
 # Board files
 
 ODD_TABLE_VALUES = [
@@ -834,7 +861,8 @@ def files(rng, number: int) -> Case:
 
 KINDS = {kind.__name__: kind for kind in (
     programs, statements, mutants, numbers, descriptions, texts, boards, banks, follows, files)}
+WAVE_KINDS = {kind.__name__: kind for kind in (rests, programs, boards, banks, follows)}
 
 
 def case_of(kind: str, number: int) -> Case:
-    return KINDS[kind](random.Random(f"{kind} {number}"), number)
+    return {**KINDS, **WAVE_KINDS}[kind](random.Random(f"{kind} {number}"), number)

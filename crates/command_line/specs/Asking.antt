@@ -33,9 +33,13 @@ all = record (new_rule (codes "all")) { long = Some (codes "all"); action = Some
 abbrev pub explain : Rule
 explain = record (new_rule (codes "explain")) { long = Some (codes "explain"); action = Some SetTrue }
 
--- `play [FILE] [--board BOARD] [--bytes] [--all] [--explain]`
+-- `[--vcd FILE]`
+abbrev pub vcd : Rule
+vcd = record (new_rule (codes "vcd")) { long = Some (codes "vcd"); action = Some Set }
+
+-- `play [FILE] [--board BOARD] [--bytes] [--all] [--explain] [--vcd FILE]`
 abbrev pub play : Shape
-play = record (new_shape (codes "play")) { rules = svf ∷ board ∷ bytes ∷ all ∷ explain ∷ [] }
+play = record (new_shape (codes "play")) { rules = svf ∷ board ∷ bytes ∷ all ∷ explain ∷ vcd ∷ [] }
 
 -- `check [FILE] [--board BOARD] [--explain]`
 abbrev pub check : Shape
@@ -126,9 +130,9 @@ pub record Host : Type 0 where
   pub timeout : Option ℕ
 
 -- what is done with a text or a board: whether the bytes are told, whether all failures are, and whether it is told why
--- a bit fails and where a refusal lies
+-- a bit fails and where a refusal lies; and the file of the waves of a play, where it is named
 pub data Action : Type 0 where
-  plays : (bytes all explain : Bool) → Action
+  plays : (bytes all explain : Bool) → (vcd : Option Text) → Action
   checks : (explain : Bool) → Action
   loops : (all explain : Bool) → Action
   serves : Serving → Action
@@ -192,10 +196,11 @@ task_of name rows =
     then connects (server_of rows) (is_given (codes "all") rows) (is_given (codes "explain") rows)
     else if bytes_eq name (codes "describe") then describes
     else plays (is_given (codes "bytes") rows) (is_given (codes "all") rows) (is_given (codes "explain") rows)
+    (first_of (codes "vcd") rows)
 
 -- what a subcommand and its arguments ask for; without any the bytes are told too
 abbrev pub asked_by : Option (Text × List Row) → Asked
-asked_by None = record { svf = None; board = None; task = plays true false false }
+asked_by None = record { svf = None; board = None; task = plays true false false None }
 asked_by (Some found) = record {
   svf = first_of (codes "svf") found.1;
   board = first_of (codes "board") found.1;

@@ -11,7 +11,7 @@ abbrev pub server_view : Server → Host
 server_view s = record { host = s.host.now; port = s.port; timeout = s.timeout }
 
 abbrev pub action_of : Task → Action
-action_of (Play bytes all explain) = asking.plays bytes all explain
+action_of (Play bytes all explain vcd) = asking.plays bytes all explain (option_map (λ s. s.now) vcd)
 action_of (Check explain) = asking.checks explain
 action_of (Loop all explain) = asking.loops all explain
 action_of (Serve how) = asking.serves how

@@ -31,11 +31,12 @@ const THIS_HOST: &str = "127.0.0.1";
 pub enum Task<'a> {
     /// The text is played, and where `bytes` is set the bytes sent are told too. Where `all` is set it is played to the
     /// end, and all bits that fail are told. Where `explain` is set, it is told of each bit that fails why, and of a
-    /// refusal where it lies.
+    /// refusal where it lies. Where `vcd` names a file, the waves of the play are drawn into it.
     Play {
         bytes: bool,
         all: bool,
         explain: bool,
+        vcd: Option<&'a str>,
     },
     /// The text is only checked. Where `explain` is set, it is told of a refusal where it lies.
     Check {
@@ -96,7 +97,8 @@ pub struct Request<'a> {
 /// Reads the words of a command line, of which the first is the program's name. Without any more it is `play --bytes`.
 ///
 /// The command line is one of
-/// - `play [FILE] [--board BOARD] [--bytes] [--all] [--explain]`, `check [FILE] [--board BOARD] [--explain]`,
+/// - `play [FILE] [--board BOARD] [--bytes] [--all] [--explain] [--vcd FILE]`,
+/// - `check [FILE] [--board BOARD] [--explain]`,
 /// - `loop [FILE] [--board BOARD] [--all] [--explain]`,
 /// - `serve --board BOARD --port PORT [--at-most BYTES] [--connections COUNT] [--timeout SECONDS]`,
 /// - `connect [FILE] --port PORT [--host HOST] [--timeout SECONDS] [--all] [--explain]`,
@@ -131,6 +133,7 @@ fn request_of<'a>(matches: &ArgMatches<'a>) -> Request<'a>
                 bytes: true,
                 all: false,
                 explain: false,
+                vcd: None,
             },
         },
     }
@@ -159,6 +162,7 @@ fn task_of<'a>(name: &str, found: &ArgMatches<'a>) -> Task<'a>
             bytes: is_given(found, "bytes"),
             all: is_given(found, "all"),
             explain: is_given(found, "explain"),
+            vcd: found.get_str("vcd"),
         },
     }
 }
@@ -266,7 +270,8 @@ fn play_command<'a>(alloc: Global) -> Result<Command<'a>, AllocError>
         .arg(board_arg(alloc))?
         .arg(bytes_arg(alloc))?
         .arg(all_arg(alloc))?
-        .arg(reasons_arg(alloc))
+        .arg(reasons_arg(alloc))?
+        .arg(vcd_arg(alloc))
 }
 
 fn check_command<'a>(alloc: Global) -> Result<Command<'a>, AllocError>
@@ -372,6 +377,16 @@ fn reasons_arg<'a>(alloc: Global) -> Arg<'a>
         .long("explain")
         .action(ArgAction::SetTrue)
         .help("Also tells why a bit fails, and where a refusal lies")
+}
+
+fn vcd_arg<'a>(alloc: Global) -> Arg<'a>
+    ensures rule { rule_of result ≡ spec.vcd }
+    ensures local { result.global ≡ false }
+{
+    Arg::new(alloc, "vcd")
+        .long("vcd")
+        .action(ArgAction::Set)
+        .help("The file that the waves of the play are drawn into")
 }
 
 fn board_arg<'a>(alloc: Global) -> Arg<'a>

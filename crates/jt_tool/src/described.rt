@@ -9,6 +9,7 @@ use bsdl_device::Device;
 use byte_streams::{Counted, Sink};
 use command_line::{Descriptions, InputFault, read_board_file};
 use jt_player::{Board, BoardFault, board_table, table_names};
+use play_waves::Stage;
 use std::alloc::{AllocError, Global};
 use toml::Table;
 
@@ -43,29 +44,37 @@ impl From<BoardFault> for Unmade {
     }
 }
 
-/// A board, and where it is asked for the same board once more.
+/// A board, and where it is asked for the same board once more, and as a stage of waves.
 #[derive(Drop)]
 pub(crate) struct Boards {
     pub(crate) board: Board,
     pub(crate) other: Option<Board>,
+    pub(crate) stage: Option<Stage>,
+}
+
+/// Which boards are made beside the first: the same once more, and a stage of waves.
+#[derive(Clone, Copy)]
+pub(crate) struct Beside {
+    pub(crate) other: bool,
+    pub(crate) stage: bool,
 }
 
 /// The board of a board file, whose descriptions are files of the working folder; one bare device where none is named.
-/// Where `explain` is set, a description that is refused comes with its file. Where `twice` is set, the board is made
-/// twice.
+/// Where `explain` is set, a description that is refused comes with its file. Beside it are made those that are asked
+/// for.
 pub(crate) fn make_boards(
     rt: &HostRuntime,
     alloc: Global,
     name: Option<&str>,
     explain: bool,
-    twice: bool,
+    beside: Beside,
 ) -> Result<Boards, Unmade> {
     let Some(name) = name else {
-        return bare_boards(alloc, twice);
+        return bare_boards(alloc, beside);
     };
     let read = read_board(rt, alloc, name)?;
     let files = files_of(alloc, &read.names, &read.descriptions)?;
-    match boards_of(alloc, &read.table, &files, twice) {
+    match boards_of(alloc, &read.table, &files, beside) {
         Ok(boards) => Ok(boards),
         Err(fault) => Err(if explain {
             explained_refusal(alloc, fault, &files)
@@ -76,11 +85,16 @@ pub(crate) fn make_boards(
 }
 
 /// The board of one bare device.
-fn bare_boards(alloc: Global, twice: bool) -> Result<Boards, Unmade> {
+fn bare_boards(alloc: Global, beside: Beside) -> Result<Boards, Unmade> {
     Ok(Boards {
         board: Board::bare(alloc, 1)?,
-        other: if twice {
+        other: if beside.other {
             Some(Board::bare(alloc, 1)?)
+        } else {
+            None
+        },
+        stage: if beside.stage {
+            Some(Stage::bare(alloc)?)
         } else {
             None
         },
@@ -92,12 +106,17 @@ fn boards_of(
     alloc: Global,
     table: &Table,
     files: &[(&str, &[u8])],
-    twice: bool,
+    beside: Beside,
 ) -> Result<Boards, BoardFault> {
     Ok(Boards {
         board: Board::from_table(alloc, table, files)?,
-        other: if twice {
+        other: if beside.other {
             Some(Board::from_table(alloc, table, files)?)
+        } else {
+            None
+        },
+        stage: if beside.stage {
+            Some(Stage::from_table(alloc, table, files)?)
         } else {
             None
         },

@@ -5,11 +5,13 @@ mod described;
 mod explained;
 mod linked;
 mod links;
+mod waves;
 
-use crate::described::{Boards, Unmade, describe, make_boards, plan_board};
+use crate::described::{Beside, Boards, Unmade, describe, make_boards, plan_board};
 use crate::explained::{check_text, play_text, tell_unmade};
 use crate::linked::{AcceptedText, loop_over_socket, play_on_server};
 use crate::links::{accept, listen};
+use crate::waves::draw_waves;
 use board_description::Untold;
 use byte_streams::{Broken, Counted, Plain};
 use clap::error::ErrorKind as WordsFault;
@@ -18,14 +20,18 @@ use jt_player::{
     Board, Kind, Served, refuse_file, refuse_memory, run_serve, tell_listening, tell_served,
     write_report,
 };
+use play_waves::{Stage, Undrawn, status_behind};
 use std::alloc::Global;
+use std::fs::File;
 use std::io::ErrorKind;
 use std::net::TcpListener;
 use std::process::ExitCode;
-use std::{fmt, io};
+use std::{fmt, fs, io};
 
 /// Help was asked for, and given.
 const DONE: u8 = 0;
+/// A bit of the program failed.
+const FAILED: u8 = 1;
 /// The input or the command line was refused.
 const REFUSED: u8 = 2;
 /// Something that was written was lost.
@@ -86,13 +92,11 @@ fn run_request(rt: &HostRuntime, alloc: Global, request: &Request<'_>) -> u8 {
     if let (Task::Describe, Some(board)) = (request.task, request.board) {
         return describe_board(rt, alloc, board);
     }
-    match make_boards(
-        rt,
-        alloc,
-        request.board,
-        explain,
-        plays(request.task) && explain,
-    ) {
+    let beside = Beside {
+        other: plays(request.task) && explain,
+        stage: waves_of(request.task).is_some(),
+    };
+    match make_boards(rt, alloc, request.board, explain, beside) {
         Ok(boards) => run_boards(rt, alloc, request, boards),
         Err(fault) => refuse_board(rt, &fault, explain),
     }
@@ -130,20 +134,32 @@ fn plays(task: Task<'_>) -> bool {
     }
 }
 
+/// The file that waves are drawn into, where one is named.
+fn waves_of<'a>(task: Task<'a>) -> Option<&'a str> {
+    match task {
+        Task::Play { vcd, .. } => vcd,
+        _ => None,
+    }
+}
+
 /// Does with a board what is asked for.
 fn run_boards(rt: &HostRuntime, alloc: Global, request: &Request<'_>, boards: Boards) -> u8 {
-    let Boards { mut board, other } = boards;
+    let Boards {
+        mut board,
+        other,
+        stage,
+    } = boards;
     match request.task {
         Task::Serve(serving) => serve(rt, &mut board, serving).unwrap_or(BROKEN),
         Task::Loop { all, explain } => match read_program(rt, alloc, request.svf, explain) {
             Ok(accepted) => loop_over_socket(rt, alloc, kind_of(all), accepted, &mut board, other),
             Err(status) => status,
         },
-        task => run_text(rt, alloc, request.svf, task, &mut board, other),
+        task => run_text(rt, alloc, request.svf, task, &mut board, other, stage),
     }
 }
 
-/// Plays a text on a board, or checks it.
+/// Plays a text on a board, or checks it. The file of waves is made before the play, and drawn behind it.
 fn run_text(
     rt: &HostRuntime,
     alloc: Global,
@@ -151,21 +167,74 @@ fn run_text(
     task: Task<'_>,
     board: &mut Board,
     other: Option<Board>,
+    stage: Option<Stage>,
 ) -> u8 {
     let text = match read_text(rt, alloc, name) {
         Ok(text) => text,
         Err(fault) => return refuse_input(rt, name.unwrap_or("-"), fault),
     };
+    match (waves_of(task), stage) {
+        (Some(waves), Some(stage)) => match fs::create(rt, waves) {
+            Ok(file) => {
+                let status = told(rt, alloc, &text, task, board, other);
+                if status == DONE || status == FAILED {
+                    return drawn(rt, alloc, &text, task, stage, file, status);
+                }
+                status
+            }
+            Err(fault) => refuse_waves(rt, waves, InputFault::from(fault)),
+        },
+        _ => told(rt, alloc, &text, task, board, other),
+    }
+}
+
+/// Plays a text on a board, or checks it. Answers the exit status.
+fn told(
+    rt: &HostRuntime,
+    alloc: Global,
+    text: &[u8],
+    task: Task<'_>,
+    board: &mut Board,
+    other: Option<Board>,
+) -> u8 {
     let mut out = Counted::new(Plain(io::writer(rt)));
     let mut err = Counted::new(Plain(rt.stderr()));
     let status = match task {
         Task::Play { bytes, all, .. } => {
             let kind = kind_of(all);
-            play_text(alloc, kind, &text, bytes, board, other, &mut out, &mut err)
+            play_text(alloc, kind, text, bytes, board, other, &mut out, &mut err)
         }
-        task => check_text(alloc, &text, board, explains(task), &mut out, &mut err),
+        task => check_text(alloc, text, board, explains(task), &mut out, &mut err),
     };
     status.unwrap_or(BROKEN)
+}
+
+/// Draws the waves of a play that ended with this status. Answers it, or that they are not all drawn.
+fn drawn(
+    rt: &HostRuntime,
+    alloc: Global,
+    text: &[u8],
+    task: Task<'_>,
+    stage: Stage,
+    file: File,
+    status: u8,
+) -> u8 {
+    let all = matches!(task, Task::Play { all: true, .. });
+    let drawn = draw_waves(alloc, kind_of(all), text, stage, file);
+    let status = status_behind(status, drawn);
+    if matches!(drawn, Err(Undrawn::NoMemory)) {
+        return tell_line(rt, "memory", status);
+    }
+    status
+}
+
+/// Tells that a file of waves cannot be made, or that memory ran out for it. Answers the exit status.
+fn refuse_waves(rt: &HostRuntime, name: &str, fault: InputFault) -> u8 {
+    let status = refuse_input(rt, name, fault);
+    match fault {
+        InputFault::Unreadable => BROKEN,
+        InputFault::NoMemory => status,
+    }
 }
 
 /// Reads and accepts a text. Else tells why not, and answers the exit status: no connection is opened then.

@@ -1,4 +1,4 @@
-use Rattle.std.proofs.Common.{List, Result, ◌≡◌, ℕ, Option, Some, None, arith, ap, ◌∙◌, codes}
+use Rattle.std.proofs.Common.{◌≡◌, ℕ, Option, Some, None, arith, ap, ◌∙◌, codes}
 use Rattle.std.specs.Prelude.{option_and_then, unwrap_or}
 use Rattle.std.specs.Str.Parse.{ExplainsUnsignedError, HasUnsignedDigitsIfOk, ParsesUnsigned}
 use Rattle.clap.specs.Words.{found_of, one_text, rows_of}

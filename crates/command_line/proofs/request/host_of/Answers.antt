@@ -1,4 +1,4 @@
-use Rattle.std.proofs.Common.{List, ℕ, Option, ap, ◌∙◌, codes}
+use Rattle.std.proofs.Common.{Option, ap, ◌∙◌, codes}
 use Rattle.std.specs.Prelude.{unwrap_or}
 use Rattle.clap.specs.Words.{Text, found_of}
 use Rattle.clap.proofs.WalkLemmas.{first_value-rows}

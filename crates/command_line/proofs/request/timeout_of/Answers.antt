@@ -1,4 +1,4 @@
-use Rattle.std.proofs.Common.{ℕ, List, Result, arith, ap, ◌∙◌, codes}
+use Rattle.std.proofs.Common.{arith, ap, ◌∙◌, codes}
 use Rattle.std.specs.Prelude.{option_and_then}
 use Rattle.std.specs.Str.Parse.{ExplainsUnsignedError, HasUnsignedDigitsIfOk, ParsesUnsigned}
 use Rattle.clap.specs.Words.{found_of, one_text}

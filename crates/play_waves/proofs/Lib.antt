@@ -1,0 +1,14 @@
+pub mod Cycles
+pub mod Drawn
+pub mod Held
+pub mod Levels
+pub mod Messages
+pub mod Nets
+pub mod Numbers
+pub mod Passed
+pub mod Played
+pub mod RowsCompute
+pub mod Runs
+pub mod Sides
+pub mod Stages
+pub mod Strokes

@@ -1,0 +1,17 @@
+-- The rows compute.
+use Rattle.std.proofs.Common.{refl, arith}
+use Rattle.std.proofs.lemmas.Fmt.{decimal_digit}
+use Rattle.play_waves.specs.Rows.{WaveRows}
+
+pub wave_rows : WaveRows
+wave_rows = record {
+  first_code = refl;
+  last_of_one = refl;
+  first_of_two = refl;
+  last_of_two = refl;
+  first_of_three = refl;
+  heading_row = rw (decimal_digit 1 (omega arith), decimal_digit 2 (omega arith)) refl;
+  odd_period = rw (decimal_digit 0 (omega arith), decimal_digit 2 (omega arith), decimal_digit 3 (omega arith), decimal_digit 5 (omega arith)) refl;
+  short_rest = refl;
+  long_rest = refl;
+}

@@ -1,0 +1,25 @@
+use Rattle.std.proofs.Common.{refl}
+use Rattle.byte_streams.proofs.Fronts.{WritesAll-stopped, WritesAll-then}
+use Rattle.play_waves.proofs.heading.write_first_values.Goals as goal
+
+pub returns-in_err-put_all : goal.returns-in_err-put_all
+returns-in_err-put_all g c =
+    WritesAll-stopped _ c.in_err-put_all.ensures.writes refl c.from_residual.ensures.0
+
+pub returns-in_err-write_lines : goal.returns-in_err-write_lines
+returns-in_err-write_lines g c =
+    WritesAll-then c.in_ok-put_all.ensures.writes refl
+    (WritesAll-stopped _ c.in_err-write_lines.ensures refl c.from_residual-in_err-write_lines.ensures.0)
+
+pub returns-in_err-write_board : goal.returns-in_err-write_board
+returns-in_err-write_board g c =
+    WritesAll-then c.in_ok-put_all.ensures.writes refl
+    (WritesAll-then c.in_ok-write_lines.ensures refl
+    (WritesAll-stopped _ c.in_err-write_board.ensures refl c.from_residual-in_err-write_board.ensures.0))
+
+pub returns : goal.returns
+returns g c =
+    WritesAll-then c.in_ok-put_all.ensures.writes refl
+    (WritesAll-then c.in_ok-write_lines.ensures refl
+    (WritesAll-then c.in_ok-write_board.ensures refl
+    (c.put_all-2.ensures.writes)))

@@ -1,0 +1,11 @@
+pub mod Codes
+pub mod Drawing
+pub mod Heading
+pub mod Holding
+pub mod Pens
+pub mod Periods
+pub mod Quiet
+pub mod Rows
+pub mod Texts
+pub mod Values
+pub mod Waves

@@ -1,0 +1,58 @@
+-- The wave file of a play.
+use Rattle.std.specs.Prelude.{ℕ, Bool, true, nat_le, List, [], ◌∷◌, ◌++◌, Option, Some, None}
+use Rattle.std.specs.Prelude.{if◌then◌else◌}
+use Rattle.svf_parse.specs.Judging.{Said}
+use Rattle.svf_programs.specs.Steps.{Program}
+use Rattle.board_model.specs.Chain.{BoardState}
+use Rattle.play_model.specs.declared.ending.Ending.{Ending}
+use Rattle.play_model.specs.declared.ending.Ending.TheVariants.{Fail}
+use Rattle.play_model.specs.declared.kind.Kind.{Kind}
+use Rattle.play_model.specs.declared.kind.Kind.TheVariants.{Stops, PlaysOn}
+use Rattle.play_model.specs.Play.{Turn, play, turns}
+use Rattle.board_report.specs.Report.{digit}
+use Rattle.play_waves.specs.declared.marks.Marks.{Marks}
+use Rattle.play_waves.specs.Drawing.{after_drawing, draw, stamp}
+use Rattle.play_waves.specs.Heading.{heading}
+use Rattle.play_waves.specs.Pens.{Pen, begun}
+use Rattle.play_waves.specs.Periods.{period_at}
+use Rattle.play_waves.specs.Values.{byte_line}
+
+-- TCK, where it was drawn as unknown
+abbrev pub last_tck : (drawn : Option Bool) → Bool → List ℕ
+last_tck (Some b) tck = []
+last_tck None tck = byte_line 0 (digit tck)
+
+-- The end of a file: the time at which the play ends, and TCK, where it was drawn as unknown.
+abbrev pub closing_of : Marks → (tck : Bool) → List ℕ
+closing_of marks tck = stamp marks.time ++ last_tck marks.tck tck
+
+abbrev pub closing : Pen → List ℕ
+closing p = closing_of p.marks p.board.tck
+
+-- whether a turn is one of the play, which may fail in a statement and stop
+abbrev pub is_played : (failed : Option ℕ) → (command : ℕ) → Bool
+is_played None command = true
+is_played (Some failed) command = nat_le command failed
+
+-- The turns of a play, up to and with that of the statement that fails.
+abbrev pub wave : (period_of : ℕ → ℕ) → (failed : Option ℕ) → List Turn → Pen → List ℕ
+wave period_of failed [] p = closing p
+wave period_of failed (t ∷ ts) p =
+    if is_played failed t.command then
+    draw (period_of t.command) t.messages p
+    ++ wave period_of failed ts (after_drawing (period_of t.command) t.messages p)
+    else closing p
+
+abbrev pub failed_in : Ending → Option ℕ
+failed_in (Fail command part bit) = Some command
+failed_in _ = None
+
+-- the statement in which a play stops, if it does
+abbrev pub stopped_in : Kind → Program → BoardState → Option ℕ
+stopped_in Stops program b = failed_in (play program b).ending
+stopped_in PlaysOn program b = None
+
+-- the file of a program's play, made of these statements, on a board
+abbrev pub wave_file : List Said → Kind → Program → BoardState → List ℕ
+wave_file said kind program b =
+    heading (begun b) ++ wave (period_at said) (stopped_in kind program b) (turns program.steps) (begun b)

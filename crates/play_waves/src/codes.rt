@@ -1,0 +1,175 @@
+//! The codes of variables, and the lines of values.
+
+ghost use Rattle.std.specs.Prelude.{◌≡◌, ◌≤◌};
+ghost use Rattle.byte_streams.specs.Writes.{WritesAll};
+ghost use Rattle.play_waves.specs.Codes as spec;
+ghost use Rattle.play_waves.specs.Codes.{code, code_digit, further_digits};
+ghost use Rattle.play_waves.specs.Values.{byte_line, bits_line, ended, instruction_line, state_lines, word_line};
+ghost use Rattle.board_report.specs.Report.{digit, digits};
+
+use byte_streams::{Broken, Counted, Sink, put_all};
+use jt_bits::Bits;
+use jt_tap::State;
+
+/// How many digits a code has to choose from.
+const BASE: usize = 94;
+/// The first of them.
+const FIRST_DIGIT: u8 = b'!';
+
+/// Writes the code of a variable.
+pub(crate) fn write_code<W: Sink>(number: usize, out: &mut Counted<W>) -> Result<(), Broken>
+    requires { out.old.failures ≡ 0 }
+    ensures { WritesAll W.contents out.old out.new (code number) result }
+{
+    let further = number / BASE;
+    if further == 0 {
+        return put_all(out, &[digit_of_code(number)]);
+    }
+    if further / BASE == 0 {
+        return put_all(out, &[digit_of_code(number), digit_of_code(further)]);
+    }
+    put_all(
+        out,
+        &[
+            digit_of_code(number),
+            digit_of_code(further),
+            digit_of_code(further / BASE),
+        ],
+    )
+}
+
+/// The lowest digit of a number.
+fn digit_of_code(number: usize) -> u8
+    ensures { result ≡ code_digit number }
+{
+    (number % BASE) as u8 + FIRST_DIGIT
+}
+
+/// Writes what ends a line.
+fn write_end<W: Sink>(number: usize, out: &mut Counted<W>) -> Result<(), Broken>
+    requires { out.old.failures ≡ 0 }
+    ensures { WritesAll W.contents out.old out.new (ended number) result }
+{
+    write_code(number, out)?;
+    put_all(out, b"\n")
+}
+
+/// Writes the line of a level.
+pub(crate) fn write_byte<W: Sink>(
+    number: usize,
+    value: u8,
+    out: &mut Counted<W>,
+) -> Result<(), Broken>
+    requires { out.old.failures ≡ 0 }
+    ensures { WritesAll W.contents out.old out.new (byte_line number value) result }
+{
+    if number / BASE == 0 {
+        return put_all(out, &[value, digit_of_code(number), b'\n']);
+    }
+    put_all(out, &[value])?;
+    write_end(number, out)
+}
+
+/// Writes the two lines of a controller's state.
+pub(crate) fn write_state<W: Sink>(
+    number: usize,
+    state: State,
+    out: &mut Counted<W>,
+) -> Result<(), Broken>
+    requires none_lost { out.old.failures ≡ 0 }
+    requires few { number ≤ 1000000 }
+    ensures { WritesAll W.contents out.old out.new (state_lines number state) result }
+{
+    write_bits_line(number, state_code(state), out)?;
+    write_word_line(number + 1, state.word().as_bytes(), out)
+}
+
+/// Writes the line of bits.
+fn write_bits_line<W: Sink>(
+    number: usize,
+    digits: &[u8],
+    out: &mut Counted<W>,
+) -> Result<(), Broken>
+    requires { out.old.failures ≡ 0 }
+    ensures { WritesAll W.contents out.old out.new (bits_line number digits.now) result }
+{
+    put_all(out, b"b")?;
+    put_all(out, digits)?;
+    put_all(out, b" ")?;
+    write_end(number, out)
+}
+
+/// Writes the line of a word.
+fn write_word_line<W: Sink>(
+    number: usize,
+    letters: &[u8],
+    out: &mut Counted<W>,
+) -> Result<(), Broken>
+    requires { out.old.failures ≡ 0 }
+    ensures { WritesAll W.contents out.old out.new (word_line number letters.now) result }
+{
+    put_all(out, b"s")?;
+    put_all(out, letters)?;
+    put_all(out, b" ")?;
+    write_end(number, out)
+}
+
+/// Writes the line of an instruction, the third variable of its device.
+pub(crate) fn write_instruction<W: Sink>(
+    number: usize,
+    bits: &Bits,
+    out: &mut Counted<W>,
+) -> Result<(), Broken>
+    requires none_lost { out.old.failures ≡ 0 }
+    requires few { number ≤ 1000000 }
+    ensures { WritesAll W.contents out.old out.new (instruction_line number bits.now) result }
+{
+    put_all(out, b"b")?;
+    write_bits(bits, out)?;
+    put_all(out, b" ")?;
+    write_end(number + 2, out)
+}
+
+/// Writes bits as digits, the highest first.
+fn write_bits<W: Sink>(bits: &Bits, out: &mut Counted<W>) -> Result<(), Broken>
+    requires { out.old.failures ≡ 0 }
+    ensures { WritesAll W.contents out.old out.new (digits bits.now) result }
+{
+    let mut i = bits.len();
+    while i > 0 {
+        i -= 1;
+        put_all(out, &[digit_of(bits.get(i))])?;
+    }
+    Ok(())
+}
+
+/// The digit of a bit.
+pub(crate) fn digit_of(bit: bool) -> u8
+    ensures { result ≡ digit bit }
+{
+    if bit { b'1' } else { b'0' }
+}
+
+/// The code of a state in the standard's own example of a controller (IEEE Std 1149.1-2001, clause 6.1).
+fn state_code(state: State) -> &'static [u8]
+    ensures { result.now ≡ spec.state_code state }
+{
+    match state {
+        State::DrExit2 => b"0000",
+        State::DrExit1 => b"0001",
+        State::DrShift => b"0010",
+        State::DrPause => b"0011",
+        State::IrSelect => b"0100",
+        State::DrUpdate => b"0101",
+        State::DrCapture => b"0110",
+        State::DrSelect => b"0111",
+        State::IrExit2 => b"1000",
+        State::IrExit1 => b"1001",
+        State::IrShift => b"1010",
+        State::IrPause => b"1011",
+        State::Idle => b"1100",
+        State::IrUpdate => b"1101",
+        State::IrCapture => b"1110",
+        State::Reset => b"1111",
+    }
+}

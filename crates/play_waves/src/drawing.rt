@@ -1,0 +1,248 @@
+//! A wave that is drawn message by message.
+
+ghost use Rattle.std.specs.Prelude.{◌≡◌, ◌≤◌, ◌*◌, ◌&&◌, true, length, is_none};
+ghost use Rattle.byte_streams.specs.Writes.{WritesAll};
+ghost use Rattle.jt_limits.specs.Limits.{limits};
+ghost use Rattle.play_waves.specs.Drawing as spec;
+ghost use Rattle.play_waves.specs.Drawing.{after_mark, board_changes, lasting, mark, stamp, stamped_changes};
+ghost use Rattle.play_waves.specs.Heading.{heading};
+ghost use Rattle.play_waves.specs.Holding as held;
+ghost use Rattle.play_waves.specs.Pens.{Pen, begun};
+ghost use Rattle.play_waves.specs.Quiet.{TellsNoNet};
+ghost use Rattle.play_waves.specs.Waves as waves;
+
+use crate::changes::{write_device_changes, write_line_changes, write_net_changes};
+use crate::codes::{digit_of, write_byte};
+use crate::heading::write_heading;
+use crate::holding::is_held_by;
+use crate::marks::{Marks, duration, marks_after, time_after};
+use crate::quiet::keeps_levels;
+use crate::shown::{Shown, shown_on};
+use bitbang_protocol::{Cycle, Message, encode};
+use board_chain::Chain;
+use byte_streams::{Broken, Counted, Sink, put_all, put_pieces};
+use itoa::Buffer;
+use jt_board::Board;
+use std::marker::Model;
+
+/// Two boards that take the same messages: what differs between them while one of them has taken a message more is what
+/// that message changed. So a wave takes no memory. Contracts see it as what was drawn last, and the board.
+#[derive(Drop)]
+pub(crate) struct Drawing {
+    marks: Marks,
+    behind: Board,
+    ahead: Board,
+}
+
+impl Model for Drawing {
+    ghost use Rattle.play_waves.specs.Pens.{Pen};
+
+    ghost Value = { Pen };
+
+    ghost use Rattle.std.specs.Prelude.{◌≡◌, ◌≤◌, length};
+    ghost use Rattle.jt_limits.specs.Limits.{limits};
+
+    ghost view = { λ d. record { marks = d.marks; board = d.ahead } };
+
+    ghost invariant = { λ d. (d.ahead ≡ d.behind) × (length d.ahead.chips ≤ limits.devices)
+        × (length d.ahead.nets ≤ limits.nets) };
+}
+
+impl Drawing {
+    /// A wave as it begins, on two boards that are the same.
+    pub(crate) fn new(behind: Board, ahead: Board) -> Drawing
+        requires same { ahead ≡ behind }
+        requires few_nets { length behind.nets ≤ limits.nets }
+        ensures { result ≡ begun behind }
+    {
+        // For the proof alone: what is kept of a board's devices.
+        let _ = ahead.devices();
+        Drawing {
+            marks: Marks {
+                tck: Some(ahead.snapshot().tck()),
+                tms: None,
+                tdi: None,
+                time: 0,
+                rested: 0,
+            },
+            behind,
+            ahead,
+        }
+    }
+
+    /// Writes what stands before the first message.
+    pub(crate) fn head<W: Sink>(&self, out: &mut Counted<W>) -> Result<(), Broken>
+        requires { out.old.failures ≡ 0 }
+        ensures { WritesAll W.contents out.old out.new (heading self.now) result }
+    {
+        write_heading(shown_on(self.marks, &self.ahead), self.ahead.chain(), out)
+    }
+
+    /// Draws a message of the lines.
+    pub(crate) fn draw<W: Sink>(
+        &mut self,
+        message: Message,
+        period: u64,
+        out: &mut Counted<W>,
+    ) -> Result<(), Broken>
+        requires none_lost { out.old.failures ≡ 0 }
+        requires drawn { spec.is_drawn message ≡ true }
+        ensures writes { WritesAll W.contents out.old out.new (mark message self.old) result }
+        ensures pen { self.new ≡ after_mark period message self.old }
+    {
+        let _ = self.ahead.byte(encode(message));
+        let tck = self.ahead.snapshot().tck();
+        let after = marks_after(message, self.marks, tck, self.ahead.chain());
+        let quiet = keeps_levels(message, self.behind.chain());
+        let written = write_between(self.marks, &self.behind, after, &self.ahead, quiet, out);
+        let _ = self.behind.byte(encode(message));
+        self.marks = Marks {
+            time: time_after(after.time, duration(period, message)),
+            ..after
+        };
+        written
+    }
+
+    /// Whether a cycle comes again, in a stretch, to devices that stay.
+    pub(crate) fn holds(&self, cycle: Cycle) -> bool
+        ensures { result ≡ held.is_held_by cycle self.now }
+    {
+        is_held_by(cycle, self.marks, &self.ahead)
+    }
+
+    /// So many periods pass in which nothing is drawn.
+    pub(crate) fn wait(&mut self, periods: u64, period: u64)
+        ensures { self.new ≡ lasting (periods * period) self.old }
+    {
+        self.marks.time = time_after(self.marks.time, periods.saturating_mul(period));
+    }
+
+    /// Writes the end of a wave.
+    pub(crate) fn close<W: Sink>(&self, out: &mut Counted<W>) -> Result<(), Broken>
+        requires { out.old.failures ≡ 0 }
+        ensures { WritesAll W.contents out.old out.new (waves.closing self.now) result }
+    {
+        write_closing(self.marks, self.ahead.snapshot().tck(), out)
+    }
+}
+
+/// Writes the time of the end, and TCK, where it was drawn as unknown.
+fn write_closing<W: Sink>(marks: Marks, tck: bool, out: &mut Counted<W>) -> Result<(), Broken>
+    requires { out.old.failures ≡ 0 }
+    ensures { WritesAll W.contents out.old out.new (waves.closing_of marks tck) result }
+{
+    write_stamp(marks.time, out)?;
+    write_last_tck(marks.tck, tck, out)
+}
+
+/// Writes TCK, where it was drawn as unknown.
+fn write_last_tck<W: Sink>(
+    drawn: Option<bool>,
+    tck: bool,
+    out: &mut Counted<W>,
+) -> Result<(), Broken>
+    requires { out.old.failures ≡ 0 }
+    ensures { WritesAll W.contents out.old out.new (waves.last_tck drawn tck) result }
+{
+    match drawn {
+        Some(_) => put_all(out, b""),
+        None => write_byte(0, digit_of(tck), out),
+    }
+}
+
+/// Writes a time.
+fn write_stamp<W: Sink>(time: u64, out: &mut Counted<W>) -> Result<(), Broken>
+    requires { out.old.failures ≡ 0 }
+    ensures { WritesAll W.contents out.old out.new (stamp time) result }
+{
+    let mut number = Buffer::new();
+    put_pieces(out, &[b"#", number.format(time).as_bytes(), b"\n"])
+}
+
+/// Writes what changed from one pen to the next: nothing within a stretch.
+fn write_between<W: Sink>(
+    marks: Marks,
+    behind: &Board,
+    after: Marks,
+    ahead: &Board,
+    quiet: bool,
+    out: &mut Counted<W>,
+) -> Result<(), Broken>
+    requires none_lost { out.old.failures ≡ 0 }
+    requires few { length behind.now.chips ≤ limits.devices }
+    requires few_nets { length behind.now.nets ≤ limits.nets }
+    requires alike { length ahead.now.chips ≡ length behind.now.chips }
+    requires alike_nets { ahead.now.nets ≡ behind.now.nets }
+    requires quiet { quiet ≡ true → TellsNoNet behind.now.nets behind.now.chips ahead.now.chips }
+    ensures { WritesAll W.contents out.old out.new (spec.between (record { marks = marks; board = behind.now })
+        (record { marks = after; board = ahead.now })) result }
+{
+    if is_still(marks.tck, after.tck) {
+        return put_all(out, b"");
+    }
+    let before = shown_on(marks, behind);
+    let next = shown_on(after, ahead);
+    write_changes(
+        marks.time,
+        before,
+        next,
+        behind.chain(),
+        ahead.chain(),
+        quiet,
+        out,
+    )
+}
+
+/// Whether TCK was drawn as unknown, and is.
+fn is_still(was: Option<bool>, is: Option<bool>) -> bool
+    ensures { result ≡ (is_none was && is_none is) }
+{
+    was.is_none() && is.is_none()
+}
+
+/// Writes the time, and what changed.
+fn write_changes<W: Sink>(
+    time: u64,
+    before: Shown,
+    after: Shown,
+    behind: &Chain,
+    ahead: &Chain,
+    quiet: bool,
+    out: &mut Counted<W>,
+) -> Result<(), Broken>
+    requires none_lost { out.old.failures ≡ 0 }
+    requires few { length behind.now.chips ≤ limits.devices }
+    requires few_nets { length behind.now.nets ≤ limits.nets }
+    requires alike { length ahead.now.chips ≡ length behind.now.chips }
+    requires alike_nets { ahead.now.nets ≡ behind.now.nets }
+    requires quiet { quiet ≡ true → TellsNoNet behind.now.nets behind.now.chips ahead.now.chips }
+    ensures { WritesAll W.contents out.old out.new
+        (stamped_changes time before after behind.now.nets behind.now.chips ahead.now.chips) result }
+{
+    write_stamp(time, out)?;
+    write_line_changes(before, after, out)?;
+    write_board_changes(behind, ahead, quiet, out)
+}
+
+/// Writes what changed of the devices, and of the nets, none of which is looked at where it is known that none changed.
+fn write_board_changes<W: Sink>(
+    behind: &Chain,
+    ahead: &Chain,
+    quiet: bool,
+    out: &mut Counted<W>,
+) -> Result<(), Broken>
+    requires none_lost { out.old.failures ≡ 0 }
+    requires few { length behind.now.chips ≤ limits.devices }
+    requires few_nets { length behind.now.nets ≤ limits.nets }
+    requires alike { length ahead.now.chips ≡ length behind.now.chips }
+    requires alike_nets { ahead.now.nets ≡ behind.now.nets }
+    requires quiet { quiet ≡ true → TellsNoNet behind.now.nets behind.now.chips ahead.now.chips }
+    ensures { WritesAll W.contents out.old out.new
+        (board_changes behind.now.nets behind.now.chips ahead.now.chips) result }
+{
+    write_device_changes(behind, ahead, out)?;
+    if quiet {
+        return put_all(out, b"");
+    }
+    write_net_changes(behind, ahead, out)
+}

@@ -1,0 +1,119 @@
+//! The wave file of a play.
+
+ghost use Rattle.std.specs.Prelude.{◌≡◌, map};
+ghost use Rattle.byte_streams.specs.Writes.{WritesAll};
+ghost use Rattle.jt_tap.specs.declared.State.TheVariants.{Reset};
+ghost use Rattle.svf_parse.specs.View.{said_of};
+ghost use Rattle.svf_programs.specs.Sizes.{program_of};
+ghost use Rattle.play_model.specs.Play.{step_turns, turns};
+ghost use Rattle.play_waves.specs.Heading.{heading};
+ghost use Rattle.play_waves.specs.Pens.{begun};
+ghost use Rattle.play_waves.specs.Periods.{period_at};
+ghost use Rattle.play_waves.specs.Waves as spec;
+
+use crate::drawing::Drawing;
+use crate::periods::{none_passed, passed_to};
+use crate::stage::Stage;
+use crate::steps::{draw_opening, draw_step};
+use byte_streams::{Broken, Counted, Sink};
+use jt_board::Board;
+use jt_tap::State;
+use play_direct::play_program;
+use play_model::{Ending, Kind};
+use svf_parse::Statement;
+use svf_programs::Program;
+use tck_cycles::place_after;
+
+/// Writes the wave file of a program, made of these statements: as a player of this kind plays it on the board of a
+/// stage. It takes no memory.
+///
+/// `Broken` comes exactly where the writer's first failure came in this call.
+pub fn write_waves<W: Sink>(
+    statements: &[Statement],
+    program: &Program,
+    kind: Kind,
+    stage: Stage,
+    out: &mut Counted<W>,
+) -> Result<(), Broken>
+    requires { out.old.failures ≡ 0 }
+    ensures { WritesAll W.contents out.old out.new
+        (spec.wave_file (map said_of statements.now) kind (program_of program.now) stage) result }
+{
+    let (mut judge, mut drawing) = stage.opened();
+    let failed = stopped_in(kind, program, &mut judge);
+    drawing.head(out)?;
+    draw_program(statements, program, failed, &mut drawing, out)
+}
+
+/// The statement in which a play stops, if it does.
+fn stopped_in(kind: Kind, program: &Program, board: &mut Board) -> Option<usize>
+    ensures { result ≡ spec.stopped_in kind (program_of program.now) board.old }
+{
+    match kind {
+        Kind::PlaysOn => None,
+        Kind::Stops => failed_in(play_program(program, board)),
+    }
+}
+
+/// The statement that fails.
+fn failed_in(ending: Ending) -> Option<usize>
+    ensures { result ≡ spec.failed_in ending }
+{
+    match ending {
+        Ending::Fail { command, .. } => Some(command),
+        _ => None,
+    }
+}
+
+/// Draws a program, up to and with the statement that fails.
+fn draw_program<W: Sink>(
+    statements: &[Statement],
+    program: &Program,
+    failed: Option<usize>,
+    drawing: &mut Drawing,
+    out: &mut Counted<W>,
+) -> Result<(), Broken>
+    requires { out.old.failures ≡ 0 }
+    ensures { WritesAll W.contents out.old out.new (spec.wave (period_at (map said_of statements.now)) failed
+        (turns program.now.steps) drawing.old) result }
+{
+    draw_opening(drawing, none_passed().period, out)?;
+    draw_steps(statements, program, failed, drawing, out)
+}
+
+/// Draws the steps of a program, up to and with that of the statement that fails.
+fn draw_steps<W: Sink>(
+    statements: &[Statement],
+    program: &Program,
+    failed: Option<usize>,
+    drawing: &mut Drawing,
+    out: &mut Counted<W>,
+) -> Result<(), Broken>
+    requires { out.old.failures ≡ 0 }
+    ensures { WritesAll W.contents out.old out.new (spec.wave (period_at (map said_of statements.now)) failed
+        (step_turns Reset program.now.steps) drawing.old) result }
+{
+    // For the proof alone: what is kept of a program's steps.
+    let _ = program.len();
+    let mut place = State::Reset;
+    let mut passed = none_passed();
+    for step in program.steps() {
+        if !is_played(failed, step.number) {
+            return drawing.close(out);
+        }
+        passed = passed_to(statements, passed, step.number);
+        draw_step(drawing, place, &step, passed.period, out)?;
+        place = place_after(place, &step);
+    }
+    drawing.close(out)
+}
+
+/// Whether a statement is one of the play.
+fn is_played(failed: Option<usize>, command: usize) -> bool
+    ensures { result ≡ spec.is_played failed command }
+{
+    match failed {
+        None => true,
+        Some(failed) => command <= failed,
+    }
+}

@@ -1,0 +1,137 @@
+"""The waves of a play: the value change dump that `play --vcd FILE [--all]` draws.
+
+Each message of the play is put to the board of edges, and behind it all that is shown is worked out anew: what
+differs from what was drawn last is written.
+"""
+
+from __future__ import annotations
+
+from itertools import count
+
+from board import Board, EdgeBoard
+from controller import STABLE
+from program import OPENING, place_after, step_bytes
+from svf import USUAL_PERIOD, Frequency, ScanStep, accept, parse
+
+DRAWN_RESTS = 128  # messages of a rest, after which TCK is drawn as unknown
+LATEST = 2 ** 63 - 2
+FIRST_SIGN, SIGNS = 33, 94  # `!` to `~`
+LINES = ("TCK", "TMS", "TDI", "TDO", "TRST")
+STATE_CODES = {
+    "DREXIT2": 0x0, "DREXIT1": 0x1, "DRSHIFT": 0x2, "DRPAUSE": 0x3, "IRSELECT": 0x4, "DRUPDATE": 0x5, "DRCAPTURE": 0x6,
+    "DRSELECT": 0x7, "IREXIT2": 0x8, "IREXIT1": 0x9, "IRSHIFT": 0xA, "IRPAUSE": 0xB, "IDLE": 0xC, "IRUPDATE": 0xD,
+    "IRCAPTURE": 0xE, "RESET": 0xF,
+}
+"""The codes of the standard's own example (IEEE Std 1149.1-2001, 6.1)."""
+LEVELS = {"Zero": "0", "One": "1", "Float": "z", "Contend": "x"}
+
+
+def sign(number: int) -> str:
+    """What stands for a variable: its number in base 94, the lowest digit first."""
+    rest, digit = divmod(number, SIGNS)
+    return chr(FIRST_SIGN + digit) + (sign(rest) if rest else "")
+
+
+def heading(board: Board) -> str:
+    """The variables in their scopes, numbered in order."""
+    numbers = count()
+
+    def variable(kind: str, name: str) -> str:
+        return f"$var {kind} {sign(next(numbers))} {name} $end"
+
+    lines = ["$timescale 1 ps $end", "$scope module board $end", "$scope module tap $end"]
+    lines += [variable("wire 1", name) for name in LINES] + ["$upscope $end"]
+    for part in board.parts:
+        instruction = f"reg {len(part.device.capture)}"
+        lines += [f"$scope module {part.name} $end", variable("reg 4", "state"), variable("string 1", "word"),
+                  variable(instruction, "instruction"), "$upscope $end"]
+    lines += [variable("wire 1", net.name) for net in board.nets]
+    return "".join(line + "\n" for line in [*lines, "$upscope $end", "$enddefinitions $end"])
+
+
+def level(bit: int | None, none: str) -> str:
+    return none if bit is None else str(bit)
+
+
+class Drawing:
+    """A board that takes a play, and what was drawn of it last; `tck` is None within a stretch of rest."""
+
+    def __init__(self, board: Board):
+        self.edges = EdgeBoard(board)
+        self.tck, self.tms, self.tdi = 0, None, None
+        self.time = self.rested = 0
+        self.values = self.shown()
+        first = "".join(f"{value}{sign(number)}\n" for number, value in enumerate(self.values))
+        self.pieces = [heading(board), f"#0\n$dumpvars\n{first}$end\n"]
+
+    def shown(self) -> list[str]:
+        """All values in the order of the variables, with the blank behind those of more than one letter."""
+        edges = self.edges
+        values = [level(self.tck, "x"), level(self.tms, "x"), level(self.tdi, "x"),
+                  level(edges.outputs[0], "z"), "0" if edges.trst else "1"]
+        for chip, state in zip(edges.chips, edges.states):
+            latch = "".join(str(bit) for bit in reversed(chip.latch))
+            values += [f"b{STATE_CODES[state]:04b} ", f"s{state} ", f"b{latch} "]
+        return values + [LEVELS[its_level] for its_level in edges.levels().named]
+
+    def byte(self, byte: str, period: int) -> int | None:
+        """Take a byte and draw it; its answer. Only what sets a level takes time."""
+        answer = self.edges.byte(byte)
+        if byte in "01234567":
+            self.rest(int(byte) >> 1 & 1, int(byte) & 1)
+            self.mark(None if self.rested > DRAWN_RESTS else self.edges.clock)
+            self.go_on(period // 2 if self.edges.clock else period - period // 2)
+        elif byte in "rt":
+            self.rested = 0
+            self.mark(self.edges.clock)
+            self.go_on(period)
+        return answer
+
+    def rest(self, tms: int, tdi: int) -> None:
+        """Count the messages in a row that moved TCK alone while every device stands in a stable state."""
+        still = (tms, tdi) == (self.tms, self.tdi) and set(self.edges.states) <= set(STABLE)
+        self.rested = self.rested + 1 if still else 0
+        self.tms, self.tdi = tms, tdi
+
+    def mark(self, tck: int | None) -> None:
+        """Write the time and what differs from what was drawn last; nothing within a stretch."""
+        if tck is None and self.tck is None:
+            return
+        self.tck = tck
+        before, self.values = self.values, self.shown()
+        self.pieces.append(f"#{self.time}\n")
+        self.pieces += [f"{value}{sign(number)}\n" for number, (value, old) in enumerate(zip(self.values, before))
+                        if value != old]
+
+    def go_on(self, time: int) -> None:
+        self.time = min(self.time + time, LATEST)
+
+    def text(self) -> str:
+        """The whole file, which ends with the time, and with TCK where it was left unknown."""
+        last = f"{self.edges.clock}{sign(0)}\n" if self.tck is None else ""
+        return "".join(self.pieces) + f"#{self.time}\n" + last
+
+
+def periods(text: bytes) -> dict[int, int]:
+    """By the number of each statement the period in force at it, in picoseconds."""
+    period, found = USUAL_PERIOD, {}
+    for number, statement in enumerate(parse(text), 1):
+        found[number] = period
+        if isinstance(statement, Frequency):
+            period = statement.period
+    return found
+
+
+def waves(board: Board, text: bytes, to_the_end: bool = False) -> str:
+    """The file of an accepted text, drawn up to and with the first statement that fails."""
+    drawing, place, period_at = Drawing(board), "RESET", periods(text)
+    for byte in OPENING:
+        drawing.byte(byte, USUAL_PERIOD)
+    for step in accept(text).steps:
+        answers = [drawing.byte(byte, period_at[step.number]) for byte in step_bytes(place, step)]
+        place = place_after(place, step)
+        if isinstance(step, ScanStep) and not to_the_end:
+            wanted = [bit.want for bit in step.vector if bit.want is not None]
+            if wanted != [answer for answer in answers if answer is not None]:
+                break
+    return drawing.text()
