@@ -14,7 +14,7 @@ enum { MOST_DEVICES = 8, NETS = 8, CELLS = 3, MOST_BITS = 1 << 20, OPCODE = 2, D
 enum { RESET, IDLE, DR_SELECT, DR_CAPTURE, DR_SHIFT, DR_EXIT1, DR_PAUSE, DR_EXIT2, DR_UPDATE,
 	IR_SELECT, IR_CAPTURE, IR_SHIFT, IR_EXIT1, IR_PAUSE, IR_EXIT2, IR_UPDATE, STATES };
 enum { EXTEST, SAMPLE, IDCODE, BYPASS };
-enum { TCK, TMS, TDI, TDO, TRST, FIRST_OF_DEVICES, OF_DEVICE = 3 }; // the variables by number
+enum { TCK, TMS, TDI, TDO, TRST, STATEMENT, FIRST_OF_DEVICES, OF_DEVICE = 3 }; // the variables by number
 
 static const struct { uint8_t after[2], stable; const char *code, *word; } states[STATES] = {
 	[RESET] = { { IDLE, RESET }, 1, "1111", "RESET" }, [IDLE] = { { IDLE, DR_SELECT }, 1, "1100", "IDLE" },
@@ -173,7 +173,7 @@ static void put_heading(void) {
 	at += sprintf(at, "$timescale 1 ps $end\n$scope module board $end\n$scope module tap $end\n");
 	const char *const lines[] = { "TCK", "TMS", "TDI", "TDO", "TRST" };
 	for (int n = TCK; n <= TRST; n++) at += sprintf(at, "$var wire 1 %c %s $end\n", code(n), lines[n]);
-	at += sprintf(at, "$upscope $end\n");
+	at += sprintf(at, "$var integer 32 %c statement $end\n$upscope $end\n", code(STATEMENT));
 	for (int k = 0; k < devices; k++) {
 		int n = FIRST_OF_DEVICES + OF_DEVICE * k;
 		at += sprintf(at, "$scope module U%d $end\n$var reg 4 %c state $end\n$var string 1 %c word $end\n$var reg %d %c instruction $end\n$upscope $end\n",
@@ -182,7 +182,7 @@ static void put_heading(void) {
 			state_lines[k][s].len = sprintf(state_lines[k][s].text, "b%s %c\ns%s %c\n", states[s].code, code(n), states[s].word, code(n + 1));
 	}
 	for (int n = 0; n < nets; n++) at += sprintf(at, "$var wire 1 %c N%d $end\n", code(FIRST_OF_DEVICES + OF_DEVICE * devices + n), n);
-	at += sprintf(at, "$upscope $end\n$enddefinitions $end\n#0\n$dumpvars\n0!\nx\"\nx#\nz$\n1%%\n");
+	at += sprintf(at, "$upscope $end\n$enddefinitions $end\n#0\n$dumpvars\n0!\nx\"\nx#\nz$\n1%%\nb0 &\n");
 	for (int k = 0; k < devices; k++) {
 		put_state(k);
 		put_instruction(k);
@@ -195,6 +195,7 @@ static void put_heading(void) {
 
 static struct { int tck, tms, tdi, tdo, rested; uint64_t time; } drawn = { 0, -1, -1, -1, 0, 0 }; // TCK is -1 within a long rest
 static uint64_t period = USUAL_PERIOD;
+static unsigned statement; // its number
 
 // The lines of an instant. After a rising edge states may have changed; after a falling one TDO, and where it did something instructions and nets.
 static void put_changes(int tck, int tms, int tdi, int edge, int anew) {
@@ -240,6 +241,17 @@ static void walk(const char *path) { // a digit for the TMS of each state
 	for (; *path; path++) cycle(*path - '0', 0);
 }
 
+// The number of a statement that has cycles.
+static void put_statement(void) {
+	if (at > buffer + ROOM - LONGEST) flush();
+	put_stamp(drawn.time);
+	*at++ = 'b';
+	for (int i = 31 - __builtin_clz(statement); i >= 0; i--) *at++ = '0' + (statement >> i & 1);
+	*at++ = ' ';
+	*at++ = code(STATEMENT);
+	*at++ = '\n';
+}
+
 static void close_step(void) { put_levels(0, 0, 0); }
 
 static void open_play(void) {
@@ -264,7 +276,9 @@ static uint64_t last = 88172645463325252ull;
 static uint64_t random_number(void) { last ^= last << 13; last ^= last >> 7; last ^= last << 17; return last; }
 
 static void scan(const char *command, const char *path, size_t length) {
+	statement++;
 	if (!is_told) {
+		put_statement();
 		walk(path);
 		for (size_t i = 0; i < length; i++) cycle(i + 1 == length, bits[i]);
 		walk("10");
@@ -286,25 +300,31 @@ static void random_scan(const char *command, const char *path, size_t length) {
 }
 
 static void rest(uint64_t cycles) {
+	statement++;
 	if (is_told) {
 		printf("RUNTEST %llu TCK;\n", (unsigned long long)cycles);
 		return;
 	}
+	put_statement();
 	for (; cycles && drawn.tck >= 0; cycles--) cycle(0, 0);
 	drawn.time += cycles * period;
 	close_step();
 }
 
-static void tell(const char *statement) { if (is_told) puts(statement); }
+static void tell(const char *text) {
+	statement++;
+	if (is_told) puts(text);
+}
 
-static void set_period(const char *statement, uint64_t picoseconds) {
-	tell(statement);
+static void set_period(const char *text, uint64_t picoseconds) {
+	tell(text);
 	period = picoseconds;
 }
 
 static void go_to_idle(void) {
 	tell("STATE IDLE;");
 	if (is_told) return;
+	put_statement();
 	walk("0");
 	close_step();
 }

@@ -40,7 +40,7 @@ def heading(board: Board) -> str:
         return f"$var {kind} {sign(next(numbers))} {name} $end"
 
     lines = ["$timescale 1 ps $end", "$scope module board $end", "$scope module tap $end"]
-    lines += [variable("wire 1", name) for name in LINES] + ["$upscope $end"]
+    lines += [variable("wire 1", name) for name in LINES] + [variable("integer 32", "statement"), "$upscope $end"]
     for part in board.parts:
         instruction = f"reg {len(part.device.capture)}"
         lines += [f"$scope module {part.name} $end", variable("reg 4", "state"), variable("string 1", "word"),
@@ -59,7 +59,7 @@ class Drawing:
     def __init__(self, board: Board):
         self.edges = EdgeBoard(board)
         self.tck, self.tms, self.tdi = 0, None, None
-        self.time = self.rested = 0
+        self.time = self.rested = self.statement = 0
         self.values = self.shown()
         first = "".join(f"{value}{sign(number)}\n" for number, value in enumerate(self.values))
         self.pieces = [heading(board), f"#0\n$dumpvars\n{first}$end\n"]
@@ -68,11 +68,17 @@ class Drawing:
         """All values in the order of the variables, with the blank behind those of more than one letter."""
         edges = self.edges
         values = [level(self.tck, "x"), level(self.tms, "x"), level(self.tdi, "x"),
-                  level(edges.outputs[0], "z"), "0" if edges.trst else "1"]
+                  level(edges.outputs[0], "z"), "0" if edges.trst else "1", f"b{self.statement:b} "]
         for chip, state in zip(edges.chips, edges.states):
             latch = "".join(str(bit) for bit in reversed(chip.latch))
             values += [f"b{STATE_CODES[state]:04b} ", f"s{state} ", f"b{latch} "]
         return values + [LEVELS[its_level] for its_level in edges.levels().named]
+
+    def begin(self, statement: int) -> None:
+        """Write the time at which a statement begins, and its number."""
+        self.statement = statement
+        self.values[len(LINES)] = f"b{statement:b} "
+        self.pieces.append(f"#{self.time}\n{self.values[len(LINES)]}{sign(len(LINES))}\n")
 
     def byte(self, byte: str, period: int) -> int | None:
         """Take a byte and draw it; its answer. Only what sets a level takes time."""
@@ -128,6 +134,7 @@ def waves(board: Board, text: bytes, to_the_end: bool = False) -> str:
     for byte in OPENING:
         drawing.byte(byte, USUAL_PERIOD)
     for step in accept(text).steps:
+        drawing.begin(step.number)
         answers = [drawing.byte(byte, period_at[step.number]) for byte in step_bytes(place, step)]
         place = place_after(place, step)
         if isinstance(step, ScanStep) and not to_the_end:

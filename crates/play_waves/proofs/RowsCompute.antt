@@ -12,6 +12,8 @@ wave_rows = record {
   first_of_three = refl;
   heading_row = rw (decimal_digit 1 (omega arith), decimal_digit 2 (omega arith)) refl;
   odd_period = rw (decimal_digit 0 (omega arith), decimal_digit 2 (omega arith), decimal_digit 3 (omega arith), decimal_digit 5 (omega arith)) refl;
+  second_statement = rw (decimal_digit 0 (omega arith)) refl;
+  opening_is_none = refl;
   short_rest = refl;
   long_rest = refl;
 }

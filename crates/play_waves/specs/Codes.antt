@@ -1,5 +1,6 @@
 -- How variables and states are written in a value change dump (IEEE Std 1364-2001, clause 18).
-use Rattle.std.specs.Prelude.{ℕ, ◌+◌, ◌/◌, ◌%◌, ◌==◌, List, [], ◌∷◌, codes, if◌then◌else◌}
+use Rattle.std.specs.Prelude.{ℕ, ◌+◌, ◌/◌, ◌%◌, ◌==◌, List, [], ◌∷◌, codes, map, if◌then◌else◌}
+use Rattle.std.specs.Int.Digits.{digits_of}
 use Rattle.jt_tap.specs.declared.State.{State}
 use Rattle.jt_tap.specs.declared.State.TheVariants.{Reset, Idle, DrSelect, DrCapture, DrShift, DrExit1, DrPause}
 use Rattle.jt_tap.specs.declared.State.TheVariants.{DrExit2, DrUpdate, IrSelect, IrCapture, IrShift, IrExit1, IrPause}
@@ -22,6 +23,17 @@ further_digits n = code_digit n ∷ (if n / base == 0 then [] else code_digit (n
 -- A variable's code is its number in that base, the lowest digit first, of one to three digits.
 abbrev pub code : ℕ → List ℕ
 code n = code_digit n ∷ (if n / base == 0 then [] else further_digits (n / base))
+
+-- `0`
+abbrev pub zero_digit : ℕ
+zero_digit = 48
+
+abbrev pub digit_byte : ℕ → ℕ
+digit_byte d = zero_digit + d
+
+-- a number above 0 as its binary digits, the highest first
+abbrev pub binary : ℕ → List ℕ
+binary n = map digit_byte (digits_of 2 n)
 
 -- the codes of the states in the standard's own example of a controller (IEEE Std 1149.1-2001, clause 6.1)
 abbrev pub state_code : State → List ℕ

@@ -23,7 +23,8 @@ scope name = codes "$scope module " ++ (name ++ codes " $end\n")
 abbrev pub line_variables : List ℕ
 line_variables =
     codes "$scope module tap $end\n$var wire 1 ! TCK $end\n$var wire 1 \" TMS $end\n"
-    ++ codes "$var wire 1 # TDI $end\n$var wire 1 $ TDO $end\n$var wire 1 % TRST $end\n$upscope $end\n"
+    ++ (codes "$var wire 1 # TDI $end\n$var wire 1 $ TDO $end\n$var wire 1 % TRST $end\n"
+    ++ codes "$var integer 32 & statement $end\n$upscope $end\n")
 
 -- an instruction has as many bits as its device gives it
 abbrev pub bits_kind : (bits : ℕ) → List ℕ
@@ -57,6 +58,10 @@ first_lines s =
     byte_line 0 s.tck
     ++ (byte_line 1 s.tms ++ (byte_line 2 s.tdi ++ (byte_line 3 s.tdo ++ byte_line 4 s.trst)))
 
+-- before the first statement
+abbrev pub first_number : List ℕ
+first_number = codes "b0 &\n"
+
 abbrev pub net_line : List Net → List ChipState → ℕ → Net → List ℕ
 net_line nets cs n net = byte_line n (level_byte (level nets (members cs) net))
 
@@ -67,7 +72,8 @@ board_lines cs nets =
     ++ by_numbers (net_line nets cs) 1 (first_of_nets cs) nets
 
 abbrev pub first_values : Shown → List ChipState → List Net → List ℕ
-first_values s cs nets = codes "#0\n$dumpvars\n" ++ (first_lines s ++ (board_lines cs nets ++ codes "$end\n"))
+first_values s cs nets =
+    codes "#0\n$dumpvars\n" ++ (first_lines s ++ (first_number ++ (board_lines cs nets ++ codes "$end\n")))
 
 abbrev pub heading_of : Shown → List ChipState → List Net → List ℕ
 heading_of s cs nets = variables cs nets ++ first_values s cs nets

@@ -7,6 +7,7 @@ use Rattle.play_waves.specs.Codes.{code}
 use Rattle.play_waves.specs.Drawing.{after_drawing, draw}
 use Rattle.play_waves.specs.Heading.{heading}
 use Rattle.play_waves.specs.Pens.{Pen, begun}
+use Rattle.play_waves.specs.Waves.{begins}
 
 abbrev pub fresh : Pen
 fresh = begun (bare_board 1)
@@ -26,13 +27,15 @@ pub record WaveRows : Type 0 where
   pub heading_row : heading fresh
       ≡ codes "$timescale 1 ps $end\n$scope module board $end\n$scope module tap $end\n$var wire 1 ! TCK $end\n"
       ++ (codes "$var wire 1 \" TMS $end\n$var wire 1 # TDI $end\n$var wire 1 $ TDO $end\n"
-      ++ (codes "$var wire 1 % TRST $end\n$upscope $end\n$scope module U1 $end\n$var reg 4 & state $end\n"
-      ++ (codes "$var string 1 ' word $end\n$var reg 2 ( instruction $end\n$upscope $end\n"
-      ++ (codes "$upscope $end\n$enddefinitions $end\n#0\n$dumpvars\n0!\nx\"\nx#\nz$\n1%\n"
-      ++ (codes "b1111 &\nsRESET '\nb11 (\n$end\n")))))
+      ++ (codes "$var wire 1 % TRST $end\n$var integer 32 & statement $end\n$upscope $end\n$scope module U1 $end\n"
+      ++ (codes "$var reg 4 ' state $end\n$var string 1 ( word $end\n$var reg 2 ) instruction $end\n$upscope $end\n"
+      ++ (codes "$upscope $end\n$enddefinitions $end\n#0\n$dumpvars\n0!\nx\"\nx#\nz$\n1%\nb0 &\n"
+      ++ (codes "b1111 '\nsRESET (\nb11 )\n$end\n")))))
   -- of a period of 3 the low half lasts 2
   pub odd_period : draw 3 (resets ++ cycle) fresh
-      ≡ codes "#0\n1\"\n0#\n#2\n1!\n#3\n0!\n0\"\n#5\n1!\nb1100 &\nsIDLE '\n"
+      ≡ codes "#0\n1\"\n0#\n#2\n1!\n#3\n0!\n0\"\n#5\n1!\nb1100 '\nsIDLE (\n"
+  pub second_statement : begins 2 fresh ≡ codes "#0\nb10 &\n"
+  pub opening_is_none : begins 0 fresh ≡ []
   -- so many cycles in IDLE, five in RESET before them: each is drawn
   pub short_rest : (after_drawing 2 (flat_map (λ ms. ms) (replicate 5 resets ++ replicate 64 cycle)) fresh).marks
       ≡ record { tck = Some true; tms = Some false; tdi = Some false; time = 138; rested = 127 }

@@ -1,6 +1,6 @@
 -- The values of variables as a value change dump writes them, each on a line with its variable's code (IEEE Std
 -- 1364-2001, clause 18).
-use Rattle.std.specs.Prelude.{ℕ, ◌+◌, ◌*◌, ◌==◌, Bool, not, List, [], ◌∷◌, ◌++◌, codes, length}
+use Rattle.std.specs.Prelude.{ℕ, ◌+◌, ◌*◌, ◌==◌, Bool, true, false, not, List, [], ◌∷◌, ◌++◌, codes, length}
 use Rattle.std.specs.Prelude.{Option, Some, None, if◌then◌else◌}
 use Rattle.std.specs.Cmp.Lexicographic.{pointwise}
 use mathlib.Core.Bool.{beq}
@@ -33,8 +33,8 @@ abbrev pub trst_byte : Bool → ℕ
 trst_byte asserted = digit (not asserted)
 
 abbrev pub level_byte : Level → ℕ
-level_byte Zero = 48
-level_byte One = 49
+level_byte Zero = digit false
+level_byte One = digit true
 level_byte Float = undriven
 level_byte Contend = unknown
 
@@ -104,9 +104,12 @@ abbrev pub by_numbers : {X : Type 0} → (ℕ → X → List ℕ) → (step n : 
 by_numbers say step n [] = []
 by_numbers say step n (x ∷ xs) = say n x ++ by_numbers say step (n + step) xs
 
--- the lines of the TAP come first: TCK 0, TMS 1, TDI 2, TDO 3, TRST 4
+-- the lines of the TAP come first: TCK 0, TMS 1, TDI 2, TDO 3, TRST 4; behind them the number of the statement
+abbrev pub statement_variable : ℕ
+statement_variable = 5
+
 abbrev pub first_of_devices : ℕ
-first_of_devices = 5
+first_of_devices = 6
 
 -- the named nets come last
 abbrev pub first_of_nets : List ChipState → ℕ

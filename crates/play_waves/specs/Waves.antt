@@ -1,8 +1,9 @@
 -- The wave file of a play.
-use Rattle.std.specs.Prelude.{ℕ, Bool, true, nat_le, List, [], ◌∷◌, ◌++◌, Option, Some, None}
+use Rattle.std.specs.Prelude.{ℕ, ◌==◌, Bool, true, nat_le, List, [], ◌∷◌, ◌++◌, Option, Some, None}
 use Rattle.std.specs.Prelude.{if◌then◌else◌}
 use Rattle.svf_parse.specs.Judging.{Said}
 use Rattle.svf_programs.specs.Steps.{Program}
+use Rattle.bitbang_protocol.specs.declared.Message.{Message}
 use Rattle.board_model.specs.Chain.{BoardState}
 use Rattle.play_model.specs.declared.ending.Ending.{Ending}
 use Rattle.play_model.specs.declared.ending.Ending.TheVariants.{Fail}
@@ -11,11 +12,12 @@ use Rattle.play_model.specs.declared.kind.Kind.TheVariants.{Stops, PlaysOn}
 use Rattle.play_model.specs.Play.{Turn, play, turns}
 use Rattle.board_report.specs.Report.{digit}
 use Rattle.play_waves.specs.declared.marks.Marks.{Marks}
+use Rattle.play_waves.specs.Codes.{binary}
 use Rattle.play_waves.specs.Drawing.{after_drawing, draw, stamp}
 use Rattle.play_waves.specs.Heading.{heading}
 use Rattle.play_waves.specs.Pens.{Pen, begun}
 use Rattle.play_waves.specs.Periods.{period_at}
-use Rattle.play_waves.specs.Values.{byte_line}
+use Rattle.play_waves.specs.Values.{bits_line, byte_line, statement_variable}
 
 -- TCK, where it was drawn as unknown
 abbrev pub last_tck : (drawn : Option Bool) → Bool → List ℕ
@@ -34,12 +36,24 @@ abbrev pub is_played : (failed : Option ℕ) → (command : ℕ) → Bool
 is_played None command = true
 is_played (Some failed) command = nat_le command failed
 
+-- The number of a statement, where it begins; the opening is none.
+abbrev pub begins_at : (command time : ℕ) → List ℕ
+begins_at command time =
+    if command == 0 then [] else stamp time ++ bits_line statement_variable (binary command)
+
+abbrev pub begins : (command : ℕ) → Pen → List ℕ
+begins command p = begins_at command p.marks.time
+
+-- A turn: its number, and what its messages change.
+abbrev pub draw_turn : (period command : ℕ) → List Message → Pen → List ℕ
+draw_turn period command messages p = begins command p ++ draw period messages p
+
 -- The turns of a play, up to and with that of the statement that fails.
 abbrev pub wave : (period_of : ℕ → ℕ) → (failed : Option ℕ) → List Turn → Pen → List ℕ
 wave period_of failed [] p = closing p
 wave period_of failed (t ∷ ts) p =
     if is_played failed t.command then
-    draw (period_of t.command) t.messages p
+    draw_turn (period_of t.command) t.command t.messages p
     ++ wave period_of failed ts (after_drawing (period_of t.command) t.messages p)
     else closing p
 

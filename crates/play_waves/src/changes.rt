@@ -20,8 +20,10 @@ use jt_bits::Bits;
 use jt_tap::State;
 use pin_nets::Level;
 
+/// The number of the variable that shows which statement is played.
+pub(crate) const STATEMENT_VARIABLE: usize = 5;
 /// The number of the first variable of the first device.
-pub(crate) const FIRST_OF_DEVICES: usize = 5;
+pub(crate) const FIRST_OF_DEVICES: usize = 6;
 /// So many variables has a device.
 pub(crate) const VARIABLES_OF_DEVICE: usize = 3;
 

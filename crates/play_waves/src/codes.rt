@@ -3,10 +3,11 @@
 ghost use Rattle.std.specs.Prelude.{◌≡◌, ◌≤◌};
 ghost use Rattle.byte_streams.specs.Writes.{WritesAll};
 ghost use Rattle.play_waves.specs.Codes as spec;
-ghost use Rattle.play_waves.specs.Codes.{code, code_digit, further_digits};
+ghost use Rattle.play_waves.specs.Codes.{binary, code, code_digit, further_digits};
 ghost use Rattle.play_waves.specs.Values.{byte_line, bits_line, ended, instruction_line, state_lines, word_line};
 ghost use Rattle.board_report.specs.Report.{digit, digits};
 
+use crate::binary::binary_digits;
 use byte_streams::{Broken, Counted, Sink, put_all};
 use jt_bits::Bits;
 use jt_tap::State;
@@ -82,6 +83,19 @@ pub(crate) fn write_state<W: Sink>(
 {
     write_bits_line(number, state_code(state), out)?;
     write_word_line(number + 1, state.word().as_bytes(), out)
+}
+
+/// Writes the line of a number above 0.
+pub(crate) fn write_number<W: Sink>(
+    number: usize,
+    value: usize,
+    out: &mut Counted<W>,
+) -> Result<(), Broken>
+    requires { out.old.failures ≡ 0 }
+    ensures { WritesAll W.contents out.old out.new (bits_line number (binary value)) result }
+{
+    let (digits, start) = binary_digits(value);
+    write_bits_line(number, &digits[start..], out)
 }
 
 /// Writes the line of bits.

@@ -11,8 +11,10 @@ ghost use Rattle.play_waves.specs.Pens.{Pen, begun};
 ghost use Rattle.play_waves.specs.Quiet.{TellsNoNet};
 ghost use Rattle.play_waves.specs.Waves as waves;
 
-use crate::changes::{write_device_changes, write_line_changes, write_net_changes};
-use crate::codes::{digit_of, write_byte};
+use crate::changes::{
+    STATEMENT_VARIABLE, write_device_changes, write_line_changes, write_net_changes,
+};
+use crate::codes::{digit_of, write_byte, write_number};
 use crate::heading::write_heading;
 use crate::holding::is_held_by;
 use crate::marks::{Marks, duration, marks_after, time_after};
@@ -78,6 +80,14 @@ impl Drawing {
         write_heading(shown_on(self.marks, &self.ahead), self.ahead.chain(), out)
     }
 
+    /// Draws that a statement begins, by its number: 0 stands for the opening, and is drawn at the start.
+    pub(crate) fn begin<W: Sink>(&self, command: usize, out: &mut Counted<W>) -> Result<(), Broken>
+        requires { out.old.failures ≡ 0 }
+        ensures { WritesAll W.contents out.old out.new (waves.begins command self.now) result }
+    {
+        write_beginning(self.marks.time, command, out)
+    }
+
     /// Draws a message of the lines.
     pub(crate) fn draw<W: Sink>(
         &mut self,
@@ -124,6 +134,18 @@ impl Drawing {
     {
         write_closing(self.marks, self.ahead.snapshot().tck(), out)
     }
+}
+
+/// Writes the time at which a statement begins, and its number.
+fn write_beginning<W: Sink>(time: u64, command: usize, out: &mut Counted<W>) -> Result<(), Broken>
+    requires { out.old.failures ≡ 0 }
+    ensures { WritesAll W.contents out.old out.new (waves.begins_at command time) result }
+{
+    if command == 0 {
+        return put_all(out, b"");
+    }
+    write_stamp(time, out)?;
+    write_number(STATEMENT_VARIABLE, command, out)
 }
 
 /// Writes the time of the end, and TCK, where it was drawn as unknown.

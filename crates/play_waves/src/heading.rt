@@ -46,7 +46,7 @@ fn write_variables<W: Sink>(chain: &Chain, out: &mut Counted<W>) -> Result<(), B
     put_all(out, b"$upscope $end\n$enddefinitions $end\n")
 }
 
-/// Writes the variables of the TAP's lines.
+/// Writes the variables of the TAP's lines, and that of the statement.
 fn write_line_variables<W: Sink>(out: &mut Counted<W>) -> Result<(), Broken>
     requires { out.old.failures ≡ 0 }
     ensures { WritesAll W.contents out.old out.new spec.line_variables result }
@@ -57,8 +57,9 @@ fn write_line_variables<W: Sink>(out: &mut Counted<W>) -> Result<(), Broken>
     )?;
     put_all(
         out,
-        b"$var wire 1 # TDI $end\n$var wire 1 $ TDO $end\n$var wire 1 % TRST $end\n$upscope $end\n",
-    )
+        b"$var wire 1 # TDI $end\n$var wire 1 $ TDO $end\n$var wire 1 % TRST $end\n",
+    )?;
+    put_all(out, b"$var integer 32 & statement $end\n$upscope $end\n")
 }
 
 /// Writes the variables of the devices.
@@ -173,6 +174,7 @@ fn write_first_values<W: Sink>(
 {
     put_all(out, b"#0\n$dumpvars\n")?;
     write_lines(shown, out)?;
+    put_all(out, b"b0 &\n")?;
     write_board(chain, out)?;
     put_all(out, b"$end\n")
 }

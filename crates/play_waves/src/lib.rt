@@ -5,6 +5,7 @@
 //! without them.
 #![tactic(auto)]
 
+mod binary;
 mod changes;
 mod codes;
 mod drawing;

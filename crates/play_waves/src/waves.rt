@@ -1,11 +1,17 @@
 //! The wave file of a play.
 
-ghost use Rattle.std.specs.Prelude.{◌≡◌, map};
+ghost use Rattle.std.specs.Prelude.{◌≡◌, true, OnOk, map};
 ghost use Rattle.byte_streams.specs.Writes.{WritesAll};
 ghost use Rattle.jt_tap.specs.declared.State.TheVariants.{Reset};
+ghost use Rattle.jt_tap.specs.Controller.{is_stable};
 ghost use Rattle.svf_parse.specs.View.{said_of};
+ghost use Rattle.svf_programs.specs.Legal.{IsFormed};
+ghost use Rattle.svf_programs.specs.Seen as seen;
 ghost use Rattle.svf_programs.specs.Sizes.{program_of};
+ghost use Rattle.svf_programs.specs.Sound.{IsWithin};
+ghost use Rattle.bitbang.specs.StepMessages.{step_messages};
 ghost use Rattle.play_model.specs.Play.{step_turns, turns};
+ghost use Rattle.play_waves.specs.Drawing.{after_drawing};
 ghost use Rattle.play_waves.specs.Heading.{heading};
 ghost use Rattle.play_waves.specs.Pens.{begun};
 ghost use Rattle.play_waves.specs.Periods.{period_at};
@@ -21,7 +27,7 @@ use jt_tap::State;
 use play_direct::play_program;
 use play_model::{Ending, Kind};
 use svf_parse::Statement;
-use svf_programs::Program;
+use svf_programs::{Program, Step};
 use tck_cycles::place_after;
 
 /// Writes the wave file of a program, made of these statements: as a player of this kind plays it on the board of a
@@ -102,10 +108,31 @@ fn draw_steps<W: Sink>(
             return drawing.close(out);
         }
         passed = passed_to(statements, passed, step.number);
-        draw_step(drawing, place, &step, passed.period, out)?;
+        draw_turn(drawing, place, &step, passed.period, out)?;
         place = place_after(place, &step);
     }
     drawing.close(out)
+}
+
+/// Draws the number of a step's statement, and the step, from a resting place.
+fn draw_turn<W: Sink>(
+    drawing: &mut Drawing,
+    place: State,
+    step: &Step<'_>,
+    period: u64,
+    out: &mut Counted<W>,
+) -> Result<(), Broken>
+    requires none_lost { out.old.failures ≡ 0 }
+    requires rests { is_stable place ≡ true }
+    requires formed { IsFormed place (seen.step step.now.what) }
+    requires within { IsWithin (seen.step step.now.what) }
+    ensures writes { WritesAll W.contents out.old out.new
+        (spec.draw_turn period step.now.number (step_messages place (seen.step step.now.what)) drawing.old) result }
+    ensures pen { OnOk result
+        (drawing.new ≡ after_drawing period (step_messages place (seen.step step.now.what)) drawing.old) }
+{
+    drawing.begin(step.number, out)?;
+    draw_step(drawing, place, step, period, out)
 }
 
 /// Whether a statement is one of the play.

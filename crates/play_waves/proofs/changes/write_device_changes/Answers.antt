@@ -11,8 +11,8 @@ loop-i-preserved g c =
     let i = c.loop-i.i in
     record {
       none_lost = c.in_ok-write_device_change.ensures.ok.0 refl;
-      sent = written device_change 3 5 (zip cs ds) i (5 + 3 * i) (chip_state c.seat.result.now, chip_state c.seat-in-loop-i.result.now)
-          (both_there cs ds i _ _ c.seat.ensures c.seat-in-loop-i.ensures) (sym (by_three 5 i)) _ _ _
+      sent = written device_change 3 6 (zip cs ds) i (6 + 3 * i) (chip_state c.seat.result.now, chip_state c.seat-in-loop-i.result.now)
+          (both_there cs ds i _ _ c.seat.ensures c.seat-in-loop-i.ensures) (sym (by_three 6 i)) _ _ _
           c.loop-i.invariant.sent c.in_ok-write_device_change.ensures.whole;
     }
 
@@ -21,14 +21,14 @@ returns-in_err-write_device_change g c =
     let cs = c.args.behind.now.chips in
     let ds = c.args.ahead.now.chips in
     let i = c.loop-i.i in
-    lost device_change 3 5 (zip cs ds) i (5 + 3 * i) (chip_state c.seat.result.now, chip_state c.seat-in-loop-i.result.now)
-    (both_there cs ds i _ _ c.seat.ensures c.seat-in-loop-i.ensures) (sym (by_three 5 i))
+    lost device_change 3 6 (zip cs ds) i (6 + 3 * i) (chip_state c.seat.result.now, chip_state c.seat-in-loop-i.result.now)
+    (both_there cs ds i _ _ c.seat.ensures c.seat-in-loop-i.ensures) (sym (by_three 6 i))
     c.loop-i.invariant.sent c.in_err-write_device_change.ensures refl c.from_residual.ensures.0
 
 pub returns : goal.returns
 returns g c =
     let cs = c.args.behind.now.chips in
     let ds = c.args.ahead.now.chips in
-    done device_change 3 tt 5 (zip cs ds) c.loop-i.i
+    done device_change 3 tt 6 (zip cs ds) c.loop-i.i
     (omega (arith, both_long cs ds c.requires.alike, c.loop-i-test.false, c.devices-i-end.ensures))
     c.loop-i.invariant.none_lost c.loop-i.invariant.sent

@@ -13,9 +13,9 @@ use Rattle.svf_programs.specs.Steps.{Numbered, line_after, place_after}
 use Rattle.bitbang.specs.StepMessages.{step_messages}
 use Rattle.play_model.proofs.Legality.{place-stable}
 use Rattle.play_model.specs.Play.{Turn, step_turns, wants_of}
-use Rattle.play_waves.specs.Drawing.{after_drawing, draw}
+use Rattle.play_waves.specs.Drawing.{after_drawing}
 use Rattle.play_waves.specs.Periods.{period_at}
-use Rattle.play_waves.specs.Waves.{wave}
+use Rattle.play_waves.specs.Waves.{draw_turn, wave}
 use Rattle.play_waves.proofs.Passed.{none_at}
 use Rattle.play_waves.proofs.Played.{not_drawn, one_more}
 use Rattle.play_waves.proofs.waves.draw_steps.Goals as goal
@@ -41,16 +41,16 @@ loop-step-init g c =
       split = ap (λ (l : List Numbered). wave (period_at said) c.args.failed (step_turns Reset l) c.args.drawing.now) steps-are;
     }
 
-pub draw_step-requires-clause-rests : goal.draw_step-requires-clause-rests
-draw_step-requires-clause-rests g c = c.loop-step.invariant.stable
+pub draw_turn-requires-clause-rests : goal.draw_turn-requires-clause-rests
+draw_turn-requires-clause-rests g c = c.loop-step.invariant.stable
 
-pub draw_step-requires-clause-formed : goal.draw_step-requires-clause-formed
-draw_step-requires-clause-formed g c =
+pub draw_turn-requires-clause-formed : goal.draw_turn-requires-clause-formed
+draw_turn-requires-clause-formed g c =
     let i = c.loop-step.invariant in
     (subst (λ (l : List Numbered). AllLegalFrom c.loop-step.place i.trst l) c.in-Some.ensures.steps i.legal).0.formed
 
-pub draw_step-requires-clause-within : goal.draw_step-requires-clause-within
-draw_step-requires-clause-within g c = (subst AllWithin c.in-Some.ensures.steps c.loop-step.invariant.within).0
+pub draw_turn-requires-clause-within : goal.draw_turn-requires-clause-within
+draw_turn-requires-clause-within g c = (subst AllWithin c.in-Some.ensures.steps c.loop-step.invariant.within).0
 
 pub loop-step-preserved : goal.loop-step-preserved
 loop-step-preserved g c =
@@ -63,8 +63,8 @@ loop-step-preserved g c =
     let legal : AllLegalFrom place i.trst (s ∷ ss) = subst (λ (l : List Numbered). AllLegalFrom place i.trst l) next-are i.legal in
     let now : ℕ = c.passed_to-passed.result.period in
     let p = c.loop-step.drawing in
-    let q = c.draw_step.new.drawing in
-    let bytes : List ℕ = draw now (step_messages place s.what) p in
+    let q = c.draw_turn.new.drawing in
+    let bytes : List ℕ = draw_turn now s.number (step_messages place s.what) p in
     let rests = sym c.place_after-place.ensures in
     record {
       trst = line_after i.trst s.what;
@@ -72,17 +72,17 @@ loop-step-preserved g c =
       legal = subst (λ (x : State). AllLegalFrom x (line_after i.trst s.what) ss) rests legal.1;
       within = (subst AllWithin next-are i.within).1;
       at = c.passed_to-passed.ensures.at;
-      none_lost = c.in_ok-draw_step.ensures.writes.ok.0 refl;
+      none_lost = c.in_ok-draw_turn.ensures.writes.ok.0 refl;
       sent = i.sent ++ bytes;
-      writes = Appends-trans _ _ _ _ _ i.writes c.in_ok-draw_step.ensures.writes.whole;
+      writes = Appends-trans _ _ _ _ _ i.writes c.in_ok-draw_turn.ensures.writes.whole;
       split = one_more (period_at said) c.args.failed (turn place s) (step_turns (place_after place s.what) ss) p _ i.sent now q
           (i.split ∙ ap (λ (l : List Numbered). i.sent ++ wave (period_at said) c.args.failed (step_turns place l) p) next-are)
-          (sym c.is_played.ensures ∙ c.if-not-is_played.false) c.passed_to-passed.ensures.period c.in_ok-draw_step.ensures.pen
+          (sym c.is_played.ensures ∙ c.if-not-is_played.false) c.passed_to-passed.ensures.period c.in_ok-draw_turn.ensures.pen
           ∙ ap (λ (x : State). (i.sent ++ bytes) ++ wave (period_at said) c.args.failed (step_turns x ss) q) rests;
     }
 
-pub returns-in_err-draw_step : goal.returns-in_err-draw_step
-returns-in_err-draw_step g c =
+pub returns-in_err-draw_turn : goal.returns-in_err-draw_turn
+returns-in_err-draw_turn g c =
     let i = c.loop-step.invariant in
     let said = map said_of c.args.statements.now in
     let s : Numbered = numbered c.in-Some.step in
@@ -96,7 +96,7 @@ returns-in_err-draw_step g c =
     (one_more (period_at said) c.args.failed (turn place s) ts p _ i.sent now q
     (i.split ∙ ap (λ (l : List Numbered). i.sent ++ wave (period_at said) c.args.failed (step_turns place l) p) c.in-Some.ensures.steps)
     (sym c.is_played.ensures ∙ c.if-not-is_played.false) c.passed_to-passed.ensures.period refl)
-    i.writes c.in_err-draw_step.ensures.writes refl c.from_residual.ensures.0
+    i.writes c.in_err-draw_turn.ensures.writes refl c.from_residual.ensures.0
 
 pub returns-then-not-is_played : goal.returns-then-not-is_played
 returns-then-not-is_played g c =
