@@ -44,57 +44,74 @@ impl From<BoardFault> for Unmade {
     }
 }
 
-/// A board, and where it is asked for the same board once more, and as a stage of waves.
+/// A board, and where it is asked for the same board once more.
 #[derive(Drop)]
 pub(crate) struct Boards {
     pub(crate) board: Board,
     pub(crate) other: Option<Board>,
-    pub(crate) stage: Option<Stage>,
 }
 
-/// Which boards are made beside the first: the same once more, and a stage of waves.
-#[derive(Clone, Copy)]
-pub(crate) struct Beside {
-    pub(crate) other: bool,
-    pub(crate) stage: bool,
+/// What boards are made of: one bare device, or a board file with its descriptions.
+#[derive(Drop)]
+pub(crate) enum Wired {
+    Bare,
+    Read(ReadBoard),
 }
 
-/// The board of a board file, whose descriptions are files of the working folder; one bare device where none is named.
-/// Where `explain` is set, a description that is refused comes with its file. Beside it are made those that are asked
-/// for.
-pub(crate) fn make_boards(
+/// Reads a board file, whose descriptions are files of the working folder; one bare device where none is named.
+pub(crate) fn read_wired(
     rt: &HostRuntime,
     alloc: Global,
     name: Option<&str>,
-    explain: bool,
-    beside: Beside,
-) -> Result<Boards, Unmade> {
-    let Some(name) = name else {
-        return bare_boards(alloc, beside);
-    };
-    let read = read_board(rt, alloc, name)?;
-    let files = files_of(alloc, &read.names, &read.descriptions)?;
-    match boards_of(alloc, &read.table, &files, beside) {
-        Ok(boards) => Ok(boards),
-        Err(fault) => Err(if explain {
-            explained_refusal(alloc, fault, &files)
-        } else {
-            Unmade::Refused(fault)
-        }),
+) -> Result<Wired, Unmade> {
+    match name {
+        None => Ok(Wired::Bare),
+        Some(name) => Ok(Wired::Read(read_board(rt, alloc, name)?)),
+    }
+}
+
+impl Wired {
+    /// The board, and where `twice` is set the same once more. Where `explain` is set, a description that is refused
+    /// comes with its file.
+    pub(crate) fn boards(
+        &self,
+        alloc: Global,
+        explain: bool,
+        twice: bool,
+    ) -> Result<Boards, Unmade> {
+        let read = match self {
+            Wired::Bare => return bare_boards(alloc, twice),
+            Wired::Read(read) => read,
+        };
+        let files = files_of(alloc, &read.names, &read.descriptions)?;
+        match boards_of(alloc, &read.table, &files, twice) {
+            Ok(boards) => Ok(boards),
+            Err(fault) => Err(if explain {
+                explained_refusal(alloc, fault, &files)
+            } else {
+                Unmade::Refused(fault)
+            }),
+        }
+    }
+
+    /// The same board, as a stage of waves.
+    pub(crate) fn stage(&self, alloc: Global) -> Result<Stage, Unmade> {
+        match self {
+            Wired::Bare => Ok(Stage::bare(alloc)?),
+            Wired::Read(read) => {
+                let files = files_of(alloc, &read.names, &read.descriptions)?;
+                Ok(Stage::from_table(alloc, &read.table, &files)?)
+            }
+        }
     }
 }
 
 /// The board of one bare device.
-fn bare_boards(alloc: Global, beside: Beside) -> Result<Boards, Unmade> {
+fn bare_boards(alloc: Global, twice: bool) -> Result<Boards, Unmade> {
     Ok(Boards {
         board: Board::bare(alloc, 1)?,
-        other: if beside.other {
+        other: if twice {
             Some(Board::bare(alloc, 1)?)
-        } else {
-            None
-        },
-        stage: if beside.stage {
-            Some(Stage::bare(alloc)?)
         } else {
             None
         },
@@ -106,17 +123,12 @@ fn boards_of(
     alloc: Global,
     table: &Table,
     files: &[(&str, &[u8])],
-    beside: Beside,
+    twice: bool,
 ) -> Result<Boards, BoardFault> {
     Ok(Boards {
         board: Board::from_table(alloc, table, files)?,
-        other: if beside.other {
+        other: if twice {
             Some(Board::from_table(alloc, table, files)?)
-        } else {
-            None
-        },
-        stage: if beside.stage {
-            Some(Stage::from_table(alloc, table, files)?)
         } else {
             None
         },
@@ -130,7 +142,7 @@ pub(crate) struct Planned {
     plan: Plan,
 }
 
-/// The board of a board file as `make_boards` makes it, before power-up.
+/// The board of a board file, before power-up.
 pub(crate) fn plan_board(rt: &HostRuntime, alloc: Global, name: &str) -> Result<Planned, Unmade> {
     let read = read_board(rt, alloc, name)?;
     let files = files_of(alloc, &read.names, &read.descriptions)?;
@@ -177,7 +189,7 @@ impl Describe for Bsdl {
 
 /// A board file, and the descriptions that it names.
 #[derive(Drop)]
-struct ReadBoard {
+pub(crate) struct ReadBoard {
     board_file: Vec<u8>,
     table: Table,
     names: Vec<String>,

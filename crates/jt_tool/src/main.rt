@@ -7,7 +7,7 @@ mod linked;
 mod links;
 mod waves;
 
-use crate::described::{Beside, Boards, Unmade, describe, make_boards, plan_board};
+use crate::described::{Boards, Unmade, Wired, describe, plan_board, read_wired};
 use crate::explained::{check_text, play_text, tell_unmade};
 use crate::linked::{AcceptedText, loop_over_socket, play_on_server};
 use crate::links::{accept, listen};
@@ -20,7 +20,7 @@ use jt_player::{
     Board, Kind, Served, refuse_file, refuse_memory, run_serve, tell_listening, tell_served,
     write_report,
 };
-use play_waves::{Stage, Undrawn, status_behind};
+use play_waves::{Undrawn, status_behind};
 use std::alloc::Global;
 use std::fs::File;
 use std::io::ErrorKind;
@@ -92,13 +92,26 @@ fn run_request(rt: &HostRuntime, alloc: Global, request: &Request<'_>) -> u8 {
     if let (Task::Describe, Some(board)) = (request.task, request.board) {
         return describe_board(rt, alloc, board);
     }
-    let beside = Beside {
-        other: plays(request.task) && explain,
-        stage: waves_of(request.task).is_some(),
-    };
-    match make_boards(rt, alloc, request.board, explain, beside) {
-        Ok(boards) => run_boards(rt, alloc, request, boards),
+    match read_wired(rt, alloc, request.board) {
+        Ok(wired) => run_wired(rt, alloc, request, wired),
         Err(fault) => refuse_board(rt, &fault, explain),
+    }
+}
+
+/// Makes the board, and does with it what is asked for. What it was made of is kept only where waves are drawn on the
+/// same board.
+fn run_wired(rt: &HostRuntime, alloc: Global, request: &Request<'_>, wired: Wired) -> u8 {
+    let explain = explains(request.task);
+    let boards = match wired.boards(alloc, explain, explain && plays(request.task)) {
+        Ok(boards) => boards,
+        Err(fault) => return refuse_board(rt, &fault, explain),
+    };
+    match waves_of(request.task) {
+        Some(waves) => draw_play(rt, alloc, request, waves, &wired, boards),
+        None => {
+            drop(wired);
+            run_boards(rt, alloc, request, boards)
+        }
     }
 }
 
@@ -144,22 +157,18 @@ fn waves_of<'a>(task: Task<'a>) -> Option<&'a str> {
 
 /// Does with a board what is asked for.
 fn run_boards(rt: &HostRuntime, alloc: Global, request: &Request<'_>, boards: Boards) -> u8 {
-    let Boards {
-        mut board,
-        other,
-        stage,
-    } = boards;
+    let Boards { mut board, other } = boards;
     match request.task {
         Task::Serve(serving) => serve(rt, &mut board, serving).unwrap_or(BROKEN),
         Task::Loop { all, explain } => match read_program(rt, alloc, request.svf, explain) {
             Ok(accepted) => loop_over_socket(rt, alloc, kind_of(all), accepted, &mut board, other),
             Err(status) => status,
         },
-        task => run_text(rt, alloc, request.svf, task, &mut board, other, stage),
+        task => run_text(rt, alloc, request.svf, task, &mut board, other),
     }
 }
 
-/// Plays a text on a board, or checks it. The file of waves is made before the play, and drawn behind it.
+/// Plays a text on a board, or checks it.
 fn run_text(
     rt: &HostRuntime,
     alloc: Global,
@@ -167,25 +176,39 @@ fn run_text(
     task: Task<'_>,
     board: &mut Board,
     other: Option<Board>,
-    stage: Option<Stage>,
 ) -> u8 {
-    let text = match read_text(rt, alloc, name) {
-        Ok(text) => text,
-        Err(fault) => return refuse_input(rt, name.unwrap_or("-"), fault),
-    };
-    match (waves_of(task), stage) {
-        (Some(waves), Some(stage)) => match fs::create(rt, waves) {
-            Ok(file) => {
-                let status = told(rt, alloc, &text, task, board, other);
-                if status == DONE || status == FAILED {
-                    return drawn(rt, alloc, &text, task, stage, file, status);
-                }
-                status
-            }
-            Err(fault) => refuse_waves(rt, waves, InputFault::from(fault)),
-        },
-        _ => told(rt, alloc, &text, task, board, other),
+    match read_text(rt, alloc, name) {
+        Ok(text) => told(rt, alloc, &text, task, board, other),
+        Err(fault) => refuse_input(rt, name.unwrap_or("-"), fault),
     }
+}
+
+/// Plays a text on a board, and draws its waves. Their file is made before the play, and drawn behind it.
+fn draw_play(
+    rt: &HostRuntime,
+    alloc: Global,
+    request: &Request<'_>,
+    waves: &str,
+    wired: &Wired,
+    boards: Boards,
+) -> u8 {
+    let text = match read_text(rt, alloc, request.svf) {
+        Ok(text) => text,
+        Err(fault) => return refuse_input(rt, request.svf.unwrap_or("-"), fault),
+    };
+    match fs::create(rt, waves) {
+        Ok(file) => {
+            let status = told_on(rt, alloc, &text, request.task, boards);
+            draw_behind(rt, alloc, &text, request.task, wired, file, status)
+        }
+        Err(fault) => refuse_waves(rt, waves, InputFault::from(fault)),
+    }
+}
+
+/// Plays a text on a board. Answers the exit status.
+fn told_on(rt: &HostRuntime, alloc: Global, text: &[u8], task: Task<'_>, boards: Boards) -> u8 {
+    let Boards { mut board, other } = boards;
+    told(rt, alloc, text, task, &mut board, other)
 }
 
 /// Plays a text on a board, or checks it. Answers the exit status.
@@ -209,18 +232,25 @@ fn told(
     status.unwrap_or(BROKEN)
 }
 
-/// Draws the waves of a play that ended with this status. Answers it, or that they are not all drawn.
-fn drawn(
+/// Draws the waves of a play that ended with this status, where it was played at all. Answers the status, or that they
+/// are not all drawn.
+fn draw_behind(
     rt: &HostRuntime,
     alloc: Global,
     text: &[u8],
     task: Task<'_>,
-    stage: Stage,
+    wired: &Wired,
     file: File,
     status: u8,
 ) -> u8 {
+    if status != DONE && status != FAILED {
+        return status;
+    }
     let all = matches!(task, Task::Play { all: true, .. });
-    let drawn = draw_waves(alloc, kind_of(all), text, stage, file);
+    let drawn = match wired.stage(alloc) {
+        Ok(stage) => draw_waves(alloc, kind_of(all), text, stage, file),
+        Err(_) => Err(Undrawn::NoMemory), // the same board was made for the play
+    };
     let status = status_behind(status, drawn);
     if matches!(drawn, Err(Undrawn::NoMemory)) {
         return tell_line(rt, "memory", status);
