@@ -1,4 +1,4 @@
--- A message that leaves what every pin drives changes no net.
+-- A message that leaves what every pin drives changes no net, and no instruction.
 use Rattle.std.proofs.Common.{◌≡◌, ◌+◌, ◌==◌, ℕ, suc, Bool, true, false, ◌&&◌, List, [], ◌∷◌, ◌++◌, map, refl, sym, ap, ap₂, ◌∙◌, arith}
 use Rattle.std.specs.List.{list_all}
 use Rattle.jt_tap.specs.declared.Column.TheVariants.{Dr, Ir}
@@ -20,8 +20,8 @@ use Rattle.board_model.specs.Following.{AllDriveAlike, DrivesAlike}
 use Rattle.board_model.specs.Nets.{level, told}
 use Rattle.board_model.proofs.Staying.{bits_stay}
 use Rattle.play_waves.specs.Drawing.{net_change}
-use Rattle.play_waves.specs.Quiet.{keeps_drives, keeps_levels}
-use Rattle.play_waves.specs.Values.{by_numbers, byte_change, level_byte}
+use Rattle.play_waves.specs.Quiet.{IsQuiet, KeepsInstructions, keeps_drives, keeps_levels}
+use Rattle.play_waves.specs.Values.{by_numbers, byte_change, first_of_nets, latch, level_byte}
 
 -- ---- one device
 
@@ -127,8 +127,74 @@ none_changed nets before after same n (x ∷ ns) =
     ∙ unchanged n (level_byte (level nets (members before) x)))
     (none_changed nets before after same (n + 1) ns)
 
-pub nets_stay : (m : Message) (b : BoardState) → keeps_levels m b.chips ≡ true → (n : ℕ)
+nets_stay : (m : Message) (b : BoardState) → keeps_levels m b.chips ≡ true → (n : ℕ)
     → by_numbers (net_change b.nets b.chips (after_message m b).chips) 1 n b.nets ≡ []
 nets_stay m b h n =
     none_changed b.nets b.chips (after_message m b).chips
     (bits_stay b.nets (members b.chips) (members (after_message m b).chips) (drives_stay m b h)).levels n b.nets
+
+-- ---- instructions
+
+held_staged : (s : Selected) (bits : List Bool) (m : Member) → m.registers.latch ≡ (with_stage s bits m.registers).latch
+held_staged Bypass bits m = refl
+held_staged Identification bits m = refl
+held_staged Boundary bits m = refl
+held_staged (User k) bits m = refl
+
+held_worked : (w : Work) (around : Surroundings) (tdi : Bool) (m : Member)
+    → m.registers.latch ≡ (after_rise w m.device around tdi m.registers).latch
+held_worked (Captures Ir) around tdi m = refl
+held_worked (Captures Dr) around tdi m =
+    let it = meaning m.device m.registers.latch in
+    held_staged it.selected (capture_of it.selected it.fixed (around.captures it.mode) m.registers) m
+held_worked (Shifts Ir) around tdi m = refl
+held_worked (Shifts Dr) around tdi m =
+    held_staged (meaning m.device m.registers.latch).selected (after_shift (selected_bits m.device Dr m.registers) tdi) m
+held_worked (Updates column) around tdi m = refl
+held_worked Resets around tdi m = refl
+held_worked Waits around tdi m = refl
+
+held_risen : (trst tms tdi : Bool) (about : Told) (c : ChipState) → latch c ≡ latch (rise trst tms tdi about c)
+held_risen trst tms tdi about c = by (is_held trst c.member) refl
+  where
+    by : (b : Bool) → is_held trst c.member ≡ b → latch c ≡ latch (rise trst tms tdi about c)
+    by true held = rw held refl
+    by false held = rw held (held_worked (work c.state) (surroundings about c.member) tdi c.member)
+
+held_fallen : (w : Work) (around : Surroundings) (m : Member) → keeps_drives w ≡ true
+    → m.registers.latch ≡ (after_fall w m.device around m.registers).latch
+held_fallen (Captures column) around m h = refl
+held_fallen (Shifts column) around m h = refl
+held_fallen (Updates column) around m h = absurd cc
+held_fallen Resets around m h = absurd cc
+held_fallen Waits around m h = refl
+
+all_held_risen : (trst tms tdi : Bool) (about : ℕ → Told) (k : ℕ) (cs : List ChipState) → KeepsInstructions cs (rise_all trst tms tdi about k cs)
+all_held_risen trst tms tdi about k [] = refl
+all_held_risen trst tms tdi about k (c ∷ cs) =
+    λ i. held_risen trst tms (tdi_before tdi cs) (about k) c i ∷ all_held_risen trst tms tdi about (suc k) cs i
+
+all_held_fallen : (cs : List ChipState) → list_all (λ c. keeps_drives (work c.state)) cs ≡ true → KeepsInstructions cs (map fall cs)
+all_held_fallen [] h = refl
+all_held_fallen (c ∷ cs) h =
+    let here = keeps_drives (work c.state) in
+    let others = list_all (λ (d : ChipState). keeps_drives (work d.state)) cs in
+    λ i. held_fallen (work c.state) (surroundings untold c.member) c.member (first_true here others h) i
+    ∷ all_held_fallen cs (then_true here others h) i
+
+held_written : (was tck tms tdi : Bool) (b : BoardState) → keeps_levels (Write tck tms tdi) b.chips ≡ true
+    → KeepsInstructions b.chips (after_levels was tck tms tdi b)
+held_written false true tms tdi b h = all_held_risen b.trst tms tdi (told b.nets (members b.chips)) 0 b.chips
+held_written true false tms tdi b h = all_held_fallen b.chips h
+held_written true true tms tdi b h = refl
+held_written false false tms tdi b h = refl
+
+instructions_stay : (m : Message) (b : BoardState) → keeps_levels m b.chips ≡ true → KeepsInstructions b.chips (after_message m b).chips
+instructions_stay (Write tck tms tdi) b h = held_written b.tck tck tms tdi b h
+instructions_stay (Lines trst srst) b h = absurd cc
+instructions_stay Ask b h = absurd cc
+instructions_stay Quit b h = absurd cc
+instructions_stay (Light on) b h = absurd cc
+
+pub is_quiet : (m : Message) (b : BoardState) → keeps_levels m b.chips ≡ true → IsQuiet b.nets b.chips (after_message m b).chips
+is_quiet m b h = record { no_net = nets_stay m b h (first_of_nets b.chips); no_instruction = instructions_stay m b h }

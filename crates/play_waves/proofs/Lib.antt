@@ -1,6 +1,7 @@
 pub mod Cycles
 pub mod Drawn
 pub mod Held
+pub mod Instructions
 pub mod Levels
 pub mod Messages
 pub mod Nets

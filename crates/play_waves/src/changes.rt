@@ -1,6 +1,6 @@
 //! What changed from one state of a board to the next.
 
-ghost use Rattle.std.specs.Prelude.{◌≡◌, ◌≤◌, length, zip};
+ghost use Rattle.std.specs.Prelude.{◌≡◌, ◌≤◌, true, length, zip};
 ghost use Rattle.std.specs.Cmp.Lexicographic.{pointwise};
 ghost use mathlib.Core.Bool.{beq};
 ghost use Rattle.byte_streams.specs.Writes.{WritesAll};
@@ -8,7 +8,8 @@ ghost use Rattle.jt_limits.specs.Limits.{limits};
 ghost use Rattle.board_chips.specs.WiredChips.{chip_state};
 ghost use Rattle.play_waves.specs.Drawing.{line_changes, net_change};
 ghost use Rattle.play_waves.specs.Values.{by_numbers, byte_change, device_change, first_of_devices, first_of_nets};
-ghost use Rattle.play_waves.specs.Values.{instruction_change, level_byte, state_change};
+ghost use Rattle.play_waves.specs.Quiet.{KeepsInstructions};
+ghost use Rattle.play_waves.specs.Values.{instruction_change, latch, level_byte, state_change};
 ghost use Rattle.play_waves.specs.Values.{variables_of_device};
 
 use crate::codes::{write_byte, write_instruction, write_state};
@@ -71,21 +72,23 @@ pub(crate) fn level_of(level: Level) -> u8
     }
 }
 
-/// Writes what changed of the devices.
+/// Writes what changed of the devices, no instruction of which is looked at where it is known that none changed.
 pub(crate) fn write_device_changes<W: Sink>(
     behind: &Chain,
     ahead: &Chain,
+    quiet: bool,
     out: &mut Counted<W>,
 ) -> Result<(), Broken>
     requires none_lost { out.old.failures ≡ 0 }
     requires few { length behind.now.chips ≤ limits.devices }
     requires alike { length ahead.now.chips ≡ length behind.now.chips }
+    requires quiet { quiet ≡ true → KeepsInstructions behind.now.chips ahead.now.chips }
     ensures { WritesAll W.contents out.old out.new
         (by_numbers device_change variables_of_device first_of_devices (zip behind.now.chips ahead.now.chips)) result }
 {
     for i in 0..behind.devices() {
         let number = FIRST_OF_DEVICES + VARIABLES_OF_DEVICE * i;
-        write_device_change(number, behind.seat(i), ahead.seat(i), out)?;
+        write_device_change(number, behind.seat(i), ahead.seat(i), quiet, out)?;
     }
     Ok(())
 }
@@ -95,14 +98,19 @@ fn write_device_change<W: Sink>(
     number: usize,
     before: &WiredChip,
     after: &WiredChip,
+    quiet: bool,
     out: &mut Counted<W>,
 ) -> Result<(), Broken>
     requires none_lost { out.old.failures ≡ 0 }
     requires few { number ≤ 1000000 }
+    requires quiet { quiet ≡ true → latch (chip_state before.now) ≡ latch (chip_state after.now) }
     ensures { WritesAll W.contents out.old out.new (device_change number (chip_state before.now, chip_state after.now))
         result }
 {
     write_state_change(number, before.state(), after.state(), out)?;
+    if quiet {
+        return put_all(out, b"");
+    }
     write_instruction_change(number, before.latch(), after.latch(), out)
 }
 

@@ -8,7 +8,7 @@ ghost use Rattle.play_waves.specs.Drawing.{after_mark, board_changes, lasting, m
 ghost use Rattle.play_waves.specs.Heading.{heading};
 ghost use Rattle.play_waves.specs.Holding as held;
 ghost use Rattle.play_waves.specs.Pens.{Pen, begun};
-ghost use Rattle.play_waves.specs.Quiet.{TellsNoNet};
+ghost use Rattle.play_waves.specs.Quiet.{IsQuiet};
 ghost use Rattle.play_waves.specs.Waves as waves;
 
 use crate::changes::{
@@ -195,7 +195,7 @@ fn write_between<W: Sink>(
     requires few_nets { length behind.now.nets ≤ limits.nets }
     requires alike { length ahead.now.chips ≡ length behind.now.chips }
     requires alike_nets { ahead.now.nets ≡ behind.now.nets }
-    requires quiet { quiet ≡ true → TellsNoNet behind.now.nets behind.now.chips ahead.now.chips }
+    requires quiet { quiet ≡ true → IsQuiet behind.now.nets behind.now.chips ahead.now.chips }
     ensures { WritesAll W.contents out.old out.new (spec.between (record { marks = marks; board = behind.now })
         (record { marks = after; board = ahead.now })) result }
 {
@@ -237,7 +237,7 @@ fn write_changes<W: Sink>(
     requires few_nets { length behind.now.nets ≤ limits.nets }
     requires alike { length ahead.now.chips ≡ length behind.now.chips }
     requires alike_nets { ahead.now.nets ≡ behind.now.nets }
-    requires quiet { quiet ≡ true → TellsNoNet behind.now.nets behind.now.chips ahead.now.chips }
+    requires quiet { quiet ≡ true → IsQuiet behind.now.nets behind.now.chips ahead.now.chips }
     ensures { WritesAll W.contents out.old out.new
         (stamped_changes time before after behind.now.nets behind.now.chips ahead.now.chips) result }
 {
@@ -258,11 +258,11 @@ fn write_board_changes<W: Sink>(
     requires few_nets { length behind.now.nets ≤ limits.nets }
     requires alike { length ahead.now.chips ≡ length behind.now.chips }
     requires alike_nets { ahead.now.nets ≡ behind.now.nets }
-    requires quiet { quiet ≡ true → TellsNoNet behind.now.nets behind.now.chips ahead.now.chips }
+    requires quiet { quiet ≡ true → IsQuiet behind.now.nets behind.now.chips ahead.now.chips }
     ensures { WritesAll W.contents out.old out.new
         (board_changes behind.now.nets behind.now.chips ahead.now.chips) result }
 {
-    write_device_changes(behind, ahead, out)?;
+    write_device_changes(behind, ahead, quiet, out)?;
     if quiet {
         return put_all(out, b"");
     }

@@ -1,8 +1,14 @@
 use Rattle.std.proofs.Common.{◌+◌, ◌*◌, refl, sym, arith, zip}
 use Rattle.board_chips.specs.WiredChips.{chip_state}
 use Rattle.play_waves.specs.Values.{device_change}
+use Rattle.play_waves.proofs.Instructions.{keeps_at}
 use Rattle.play_waves.proofs.Numbers.{both_long, both_there, by_three, done, lost, written}
 use Rattle.play_waves.proofs.changes.write_device_changes.Goals as goal
+
+pub write_device_change-requires-clause-quiet : goal.write_device_change-requires-clause-quiet
+write_device_change-requires-clause-quiet g c = λ quiet.
+    keeps_at c.args.behind.now.chips c.args.ahead.now.chips c.loop-i.i (chip_state c.seat.result.now) (chip_state c.seat-in-loop-i.result.now)
+    c.seat.ensures c.seat-in-loop-i.ensures (c.requires.quiet quiet)
 
 pub loop-i-preserved : goal.loop-i-preserved
 loop-i-preserved g c =

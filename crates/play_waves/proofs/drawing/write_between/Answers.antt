@@ -3,7 +3,7 @@ use Rattle.pin_nets.specs.Wired.{Net}
 use Rattle.board_model.specs.Chain.{ChipState}
 use Rattle.byte_streams.proofs.Fronts.{WritesAll-is}
 use Rattle.play_waves.specs.Drawing.{stamped_changes}
-use Rattle.play_waves.specs.Quiet.{TellsNoNet}
+use Rattle.play_waves.specs.Quiet.{IsQuiet}
 use Rattle.play_waves.proofs.Strokes.{pen, silent, told}
 use Rattle.play_waves.proofs.drawing.write_between.Goals as goal
 
@@ -23,9 +23,9 @@ write_changes-requires-clause-alike_nets g c = c.chain-2.ensures.nets ∙ c.requ
 
 pub write_changes-requires-clause-quiet : goal.write_changes-requires-clause-quiet
 write_changes-requires-clause-quiet g c = λ quiet.
-    subst (λ (ns : List Net). TellsNoNet ns c.chain.result.now.chips c.chain-2.result.now.chips) (sym c.chain.ensures.nets)
-    (subst (λ (cs : List ChipState). TellsNoNet c.args.behind.now.nets cs c.chain-2.result.now.chips) (sym c.chain.ensures.chips)
-    (subst (λ (cs : List ChipState). TellsNoNet c.args.behind.now.nets c.args.behind.now.chips cs) (sym c.chain-2.ensures.chips) (c.requires.quiet quiet)))
+    subst (λ (ns : List Net). IsQuiet ns c.chain.result.now.chips c.chain-2.result.now.chips) (sym c.chain.ensures.nets)
+    (subst (λ (cs : List ChipState). IsQuiet c.args.behind.now.nets cs c.chain-2.result.now.chips) (sym c.chain.ensures.chips)
+    (subst (λ (cs : List ChipState). IsQuiet c.args.behind.now.nets c.args.behind.now.chips cs) (sym c.chain-2.ensures.chips) (c.requires.quiet quiet)))
 
 pub returns-then-is_still : goal.returns-then-is_still
 returns-then-is_still g c =

@@ -3,9 +3,8 @@ use Rattle.board_model.specs.Chain.{BoardState, after_message}
 use Rattle.board_model.proofs.SoundEdges.{count-told}
 use Rattle.byte_streams.proofs.Fronts.{WritesAll-is}
 use Rattle.play_waves.specs.Drawing.{later, taken}
-use Rattle.play_waves.specs.Quiet.{TellsNoNet, keeps_levels}
-use Rattle.play_waves.specs.Values.{first_of_nets}
-use Rattle.play_waves.proofs.Levels.{nets_stay}
+use Rattle.play_waves.specs.Quiet.{IsQuiet, keeps_levels}
+use Rattle.play_waves.proofs.Levels.{is_quiet}
 use Rattle.play_waves.proofs.Messages.{same_nets}
 use Rattle.play_waves.proofs.Strokes.{heard, is_after, is_mark, is_taken, pen, still_alike}
 use Rattle.play_waves.proofs.drawing.Drawing.draw.Goals as goal
@@ -42,8 +41,8 @@ write_between-written-requires-clause-quiet g c =
     let same = c.self.invariant.0 in
     let next : c.byte.new.self ≡ after_message m behind =
     heard m c.encode.result was c.byte.new.self c.encode.ensures c.byte.ensures.board ∙ ap (after_message m) same in
-    λ quiet. subst (λ (b : BoardState). TellsNoNet behind.nets behind.chips b.chips) (sym next)
-    (nets_stay m behind (ap (keeps_levels m) (sym c.chain-2.ensures.chips) ∙ sym c.keeps_levels-quiet.ensures ∙ quiet) (first_of_nets behind.chips))
+    λ quiet. subst (λ (b : BoardState). IsQuiet behind.nets behind.chips b.chips) (sym next)
+    (is_quiet m behind (ap (keeps_levels m) (sym c.chain-2.ensures.chips) ∙ sym c.keeps_levels-quiet.ensures ∙ quiet))
 
 pub invariant_of-self : goal.invariant_of-self
 invariant_of-self g c =
