@@ -47,14 +47,14 @@ risen _ m o false tms tdi about trst e h stay = absurd cc
 
 -- ---- all devices
 
-fallen_all : (trst tms : Bool) (cs : List ChipState) → list_all (stays trst tms) cs ≡ true → map fall (map fall cs) ≡ map fall cs
+pub fallen_all : (trst tms : Bool) (cs : List ChipState) → list_all (stays trst tms) cs ≡ true → map fall (map fall cs) ≡ map fall cs
 fallen_all trst tms [] h = refl
 fallen_all trst tms (c ∷ cs) h =
     let parts = and_both (stays trst tms c) (list_all (stays trst tms) cs) h in
     let own = and_both (is_stable c.state) (is_held trst c.member || is_at (next c.state tms) c.state) parts.0 in
     λ i. fallen c.state c.member c.tdo own.0 i ∷ fallen_all trst tms cs parts.1 i
 
-risen_all : (trst tms tdi : Bool) (about : ℕ → Told) (k : ℕ) (cs : List ChipState) → list_all (stays trst tms) cs ≡ true
+pub risen_all : (trst tms tdi : Bool) (about : ℕ → Told) (k : ℕ) (cs : List ChipState) → list_all (stays trst tms) cs ≡ true
     → rise_all trst tms tdi about k cs ≡ cs
 risen_all trst tms tdi about k [] h = refl
 risen_all trst tms tdi about k (c ∷ cs) h =
@@ -63,16 +63,16 @@ risen_all trst tms tdi about k (c ∷ cs) h =
     λ i. risen c.state c.member c.tdo (is_held trst c.member) tms (tdi_before tdi cs) (about k) trst refl own.0 own.1 i
     ∷ risen_all trst tms tdi about (suc k) cs parts.1 i
 
-and_made : (x y : Bool) → x ≡ true → y ≡ true → (x && y) ≡ true
+pub and_made : (x y : Bool) → x ≡ true → y ≡ true → (x && y) ≡ true
 and_made x y ex ey = λ i. ex i && ey i
 
-stay_fallen : (trst tms : Bool) (cs : List ChipState) → list_all (stays trst tms) cs ≡ true → list_all (stays trst tms) (map fall cs) ≡ true
+pub stay_fallen : (trst tms : Bool) (cs : List ChipState) → list_all (stays trst tms) cs ≡ true → list_all (stays trst tms) (map fall cs) ≡ true
 stay_fallen trst tms [] h = refl
 stay_fallen trst tms (c ∷ cs) h =
     let parts = and_both (stays trst tms c) (list_all (stays trst tms) cs) h in
     and_made (stays trst tms c) (list_all (stays trst tms) (map fall cs)) parts.0 (stay_fallen trst tms cs parts.1)
 
-rest_there : (trst tms : Bool) (cs : List ChipState) → list_all (stays trst tms) cs ≡ true → is_resting cs ≡ true
+pub rest_there : (trst tms : Bool) (cs : List ChipState) → list_all (stays trst tms) cs ≡ true → is_resting cs ≡ true
 rest_there trst tms [] h = refl
 rest_there trst tms (c ∷ cs) h =
     let parts = and_both (stays trst tms c) (list_all (stays trst tms) cs) h in
@@ -92,13 +92,13 @@ halves period = omega arith
 
 -- ---- a pen within a stretch
 
-abbrev pen : Option Bool → Option Bool → Option Bool → ℕ → ℕ → Bool → Bool → List Net → List ChipState → Pen
+abbrev pub pen : Option Bool → Option Bool → Option Bool → ℕ → ℕ → Bool → Bool → List Net → List ChipState → Pen
 pen k a b t r tck trst nets cs = record {
   marks = record { tck = k; tms = a; tdi = b; time = t; rested = r };
   board = record { tck = tck; trst = trst; nets = nets; chips = cs };
 }
 
-drawn-same : (x : Bool) → is_drawn_so (Some x) x ≡ true
+pub drawn-same : (x : Bool) → is_drawn_so (Some x) x ≡ true
 drawn-same true = refl
 drawn-same false = refl
 

@@ -111,13 +111,13 @@ drives_stay (Light on) b h = absurd cc
 
 -- ---- what is written of the nets
 
-unchanged : (n value : ℕ) → byte_change n value value ≡ []
+pub unchanged : (n value : ℕ) → byte_change n value value ≡ []
 unchanged n value = rw (the_same value) refl
   where
     the_same : (k : ℕ) → (k == k) ≡ true
     the_same k = grind arith
 
-none_changed : (nets : List Net) (before after : List ChipState)
+pub none_changed : (nets : List Net) (before after : List ChipState)
     → ((net : Net) → level nets (members before) net ≡ level nets (members after) net)
     → (n : ℕ) (ns : List Net) → by_numbers (net_change nets before after) 1 n ns ≡ []
 none_changed nets before after same n [] = refl

@@ -3,6 +3,7 @@ pub mod Drawn
 pub mod Held
 pub mod Instructions
 pub mod Levels
+pub mod Lines
 pub mod Messages
 pub mod Nets
 pub mod Numbers
@@ -10,6 +11,10 @@ pub mod Passed
 pub mod Played
 pub mod RowsCompute
 pub mod Runs
+pub mod Settled
+pub mod Shifted
 pub mod Sides
 pub mod Stages
 pub mod Strokes
+pub mod Unmoved
+pub mod Words

@@ -22,7 +22,7 @@ pub by_one : (n i : ℕ) → number 1 n i ≡ n + i
 by_one n zero = omega arith
 by_one n (suc i) = let rest = by_one (n + 1) i in omega (arith, rest)
 
-same_some : {X : Type 0} (x y : X) → Some x ≡ Some y → x ≡ y
+pub same_some : {X : Type 0} (x y : X) → Some x ≡ Some y → x ≡ y
 same_some x y e = ap (λ (o : Option _). unwrap_or o x) e
 
 module _ {X : Type 0} (say : ℕ → X → List ℕ) (step : ℕ) where

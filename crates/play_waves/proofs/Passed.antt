@@ -1,6 +1,6 @@
 -- The period behind one statement more.
-use Rattle.std.proofs.Common.{◌≡◌, ◌<◌, ◌≤◌, ◌+◌, ℕ, zero, suc, min, List, [], ◌∷◌, ◌++◌, length, reverse, take, map, get_or, refl, sym, ap, ◌∙◌, arith, Option, Some, ⊎_elim}
-use Rattle.std.specs.Prelude.{slice_get, unwrap_or}
+use Rattle.std.proofs.Common.{◌≡◌, ◌<◌, ◌≤◌, ◌+◌, ℕ, zero, suc, min, List, [], ◌∷◌, ◌++◌, length, reverse, take, map, get_or, refl, sym, ap, ◌∙◌, arith, Some, ⊎_elim}
+use Rattle.std.specs.Prelude.{slice_get}
 use Rattle.std.proofs.lemmas.Bool.{cases_lt}
 use Rattle.std.proofs.lemmas.List.{take_all, reverse-append}
 use Rattle.svf_parse.specs.Judging.{Said}
@@ -9,14 +9,12 @@ use Rattle.svf_parse.specs.View.{said_of}
 use Rattle.svf_parse.specs.declared.statement.Statement.{Statement}
 use Rattle.svf_settings.specs.LookBack.{default_period, period}
 use Rattle.play_waves.specs.Periods.{IsAt, period_after, period_behind}
-
-some_same : {X : Type 0} (x y : X) → Some x ≡ Some y → x ≡ y
-some_same x y e = ap (λ (o : Option _). unwrap_or o x) e
+use Rattle.play_waves.proofs.Numbers.{same_some}
 
 one_more : (ss : List Said) (k : ℕ) (s : Said) → slice_get ss k ≡ Some s → take (suc k) ss ≡ take k ss ++ s ∷ []
 one_more [] zero s e = absurd cc
 one_more [] (suc k) s e = absurd cc
-one_more (r ∷ ss) zero s e = ap (λ x. x ∷ []) (some_same r s e)
+one_more (r ∷ ss) zero s e = ap (λ x. x ∷ []) (same_some r s e)
 one_more (r ∷ ss) (suc k) s e = ap (λ l. r ∷ l) (one_more ss k s e)
 
 looks : (s : Said) (before : List Said) → period (s ∷ before) ≡ period_after s (period before)

@@ -1,5 +1,5 @@
 -- Cycles that are drawn one after another, and what is left of a step.
-use Rattle.std.proofs.Common.{◌≡◌, ◌<◌, ℕ, ◌+◌, ◌-◌, ◌*◌, true, List, [], ◌∷◌, ◌++◌, length, refl, sym, ap, ◌∙◌, arith, Result, Ok, Err}
+use Rattle.std.proofs.Common.{◌≡◌, ◌<◌, ℕ, ◌+◌, ◌-◌, ◌*◌, true, List, [], ◌∷◌, ◌++◌, length, refl, sym, ap, ◌∙◌, append_assoc, arith, Result, Ok, Err}
 use Rattle.std.specs.Prelude.{flat_map, OnOk}
 use Rattle.std.proofs.lemmas.List.{append-nil}
 use Rattle.std.proofs.lemmas.Grind.{flat_map-append}
@@ -52,6 +52,14 @@ module _ (period : ℕ) (c : Cycle) (i : ℕ) (p q : Pen) (at : q ≡ after_draw
         ∙ both period (cycles_of c (i + 1)) (cycles_of c others) p
         ∙ ap (λ (l : List ℕ). l ++ draw period (cycles_of c others) (after_drawing period (cycles_of c (i + 1)) p)) (sym drawn_more)
 
+    -- the others from where the next cycle left the pen
+    pub pen_cut : (r end : Pen) → r ≡ after_drawing period (cycle_messages c) q → end ≡ after_drawing period (cycles_of c others) r
+        → end ≡ after_drawing period (cycles_of c times) p
+    pen_cut r end next last =
+        last ∙ ap (after_drawing period (cycles_of c others)) (pen_more r next)
+        ∙ sym (pen-both period (cycles_of c (i + 1)) (cycles_of c others) p)
+        ∙ sym (ap (λ (ms : List Message). after_drawing period ms p) split_times)
+
     -- where what is behind the next cycle is held
     module _ (held : is_held_by c q ≡ true) where
       pub drawn_all : draw period (cycles_of c i) p ++ draw period (cycle_messages c) q ≡ draw period (cycles_of c times) p
@@ -81,6 +89,32 @@ messages_of cs = flat_map cycle_messages cs
 
 pub both_of : (xs ys : List Cycle) → messages_of (xs ++ ys) ≡ messages_of xs ++ messages_of ys
 both_of xs ys = flat_map-append cycle_messages xs ys
+
+-- the next cycles of those that are left
+pub next_split : (whole past left word rest : List Cycle) → whole ≡ past ++ left → left ≡ word ++ rest → whole ≡ (past ++ word) ++ rest
+next_split whole past left word rest split next = split ∙ ap (λ (cs : List Cycle). past ++ cs) next ∙ sym (append_assoc past word rest)
+
+module _ (period : ℕ) (past word : List Cycle) (p q : Pen) (at : q ≡ after_drawing period (messages_of past) p) where
+  pub next_text : draw period (messages_of past) p ++ draw period (messages_of word) q ≡ draw period (messages_of (past ++ word)) p
+  next_text =
+      then_drawn period (messages_of past) (messages_of word) p q at
+      ∙ ap (λ (ms : List Message). draw period ms p) (sym (both_of past word))
+
+  pub next_pen : (r : Pen) → r ≡ after_drawing period (messages_of word) q → r ≡ after_drawing period (messages_of (past ++ word)) p
+  next_pen r next =
+      then_pen period (messages_of past) (messages_of word) p q r at next
+      ∙ ap (λ (ms : List Message). after_drawing period ms p) (sym (both_of past word))
+
+  -- and those behind them
+  pub all_text : (whole rest : List Cycle) → whole ≡ (past ++ word) ++ rest
+      → draw period (messages_of whole) p
+      ≡ (draw period (messages_of past) p ++ draw period (messages_of word) q)
+      ++ draw period (messages_of rest) (after_drawing period (messages_of (past ++ word)) p)
+  all_text whole rest split =
+      ap (λ (cs : List Cycle). draw period (messages_of cs) p) split
+      ∙ ap (λ (ms : List Message). draw period ms p) (both_of (past ++ word) rest)
+      ∙ both period (messages_of (past ++ word)) (messages_of rest) p
+      ∙ ap (λ (l : List ℕ). l ++ draw period (messages_of rest) (after_drawing period (messages_of (past ++ word)) p)) (sym next_text)
 
 -- a pen that is known anyway
 pub always : {A E : Type 0} {P : Type 0} (r : Result A E) → P → OnOk r P

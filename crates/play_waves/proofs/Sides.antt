@@ -1,16 +1,14 @@
 -- A truth that is tested from a place on.
 use Rattle.std.proofs.Common.{◌≡◌, ◌+◌, ◌≤◌, ℕ, zero, suc, Bool, true, ◌&&◌, List, [], ◌∷◌, drop, length, Some, refl, ap, ◌∙◌, arith}
-use Rattle.std.specs.Prelude.{slice_get, Option, unwrap_or}
+use Rattle.std.specs.Prelude.{slice_get}
 use Rattle.std.specs.List.{list_all}
-
-some_same : {X : Type 0} (x y : X) → Some x ≡ Some y → x ≡ y
-some_same x y e = ap (λ (o : Option _). unwrap_or o x) e
+use Rattle.play_waves.proofs.Numbers.{same_some}
 
 module _ {X : Type 0} (test : X → Bool) where
   at : (xs : List X) (i : ℕ) (x : X) → slice_get xs i ≡ Some x → list_all test (drop i xs) ≡ (test x && list_all test (drop (suc i) xs))
   at [] zero x e = absurd cc
   at [] (suc i) x e = absurd cc
-  at (y ∷ xs) zero x e = ap (λ z. test z && list_all test xs) (some_same y x e)
+  at (y ∷ xs) zero x e = ap (λ z. test z && list_all test xs) (same_some y x e)
   at (y ∷ xs) (suc i) x e = at xs i x e
 
   pub next : (xs : List X) (i : ℕ) (x : X) → slice_get xs i ≡ Some x → list_all test (drop i xs) ≡ (test x && list_all test (drop (i + 1) xs))

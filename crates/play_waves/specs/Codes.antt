@@ -1,5 +1,5 @@
 -- How variables and states are written in a value change dump (IEEE Std 1364-2001, clause 18).
-use Rattle.std.specs.Prelude.{ℕ, ◌+◌, ◌/◌, ◌%◌, ◌==◌, List, [], ◌∷◌, codes, map, if◌then◌else◌}
+use Rattle.std.specs.Prelude.{ℕ, ◌+◌, ◌/◌, ◌%◌, ◌==◌, List, [], ◌∷◌, ◌++◌, codes, map, if◌then◌else◌}
 use Rattle.std.specs.Int.Digits.{digits_of}
 use Rattle.jt_tap.specs.declared.State.{State}
 use Rattle.jt_tap.specs.declared.State.TheVariants.{Reset, Idle, DrSelect, DrCapture, DrShift, DrExit1, DrPause}
@@ -53,3 +53,7 @@ state_code Idle = codes "1100"
 state_code IrUpdate = codes "1101"
 state_code IrCapture = codes "1110"
 state_code Reset = codes "1111"
+
+-- the line of a state up to its variable's code: `b1100 `
+abbrev pub state_bits : State → List ℕ
+state_bits s = codes "b" ++ (state_code s ++ codes " ")

@@ -6,6 +6,8 @@ pub mod Pens
 pub mod Periods
 pub mod Quiet
 pub mod Rows
+pub mod Settled
+pub mod Shifted
 pub mod Texts
 pub mod Values
 pub mod Waves

@@ -45,7 +45,7 @@ pub(crate) fn write_line_changes<W: Sink>(
 }
 
 /// Writes a level where it differs from the one before.
-fn write_byte_change<W: Sink>(
+pub(crate) fn write_byte_change<W: Sink>(
     number: usize,
     before: u8,
     after: u8,

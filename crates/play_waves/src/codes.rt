@@ -1,14 +1,14 @@
 //! The codes of variables, and the lines of values.
 
-ghost use Rattle.std.specs.Prelude.{◌≡◌, ◌≤◌};
+ghost use Rattle.std.specs.Prelude.{◌≡◌, ◌<◌, ◌≤◌, ◌+◌};
 ghost use Rattle.byte_streams.specs.Writes.{WritesAll};
 ghost use Rattle.play_waves.specs.Codes as spec;
-ghost use Rattle.play_waves.specs.Codes.{binary, code, code_digit, further_digits};
+ghost use Rattle.play_waves.specs.Codes.{base, binary, code, code_digit, further_digits};
 ghost use Rattle.play_waves.specs.Values.{byte_line, bits_line, ended, instruction_line, state_lines, word_line};
 ghost use Rattle.board_report.specs.Report.{digit, digits};
 
 use crate::binary::binary_digits;
-use byte_streams::{Broken, Counted, Sink, put_all};
+use byte_streams::{Broken, Counted, Sink, put_all, put_pieces};
 use jt_bits::Bits;
 use jt_tap::State;
 
@@ -81,8 +81,33 @@ pub(crate) fn write_state<W: Sink>(
     requires few { number ≤ 1000000 }
     ensures { WritesAll W.contents out.old out.new (state_lines number state) result }
 {
-    write_bits_line(number, state_code(state), out)?;
+    if (number + 1) / BASE == 0 {
+        return write_short_state(number, state, out);
+    }
+    put_all(out, state_bits(state))?;
+    write_end(number, out)?;
     write_word_line(number + 1, state.word().as_bytes(), out)
+}
+
+/// The same where both codes have one digit.
+fn write_short_state<W: Sink>(
+    number: usize,
+    state: State,
+    out: &mut Counted<W>,
+) -> Result<(), Broken>
+    requires none_lost { out.old.failures ≡ 0 }
+    requires short { number + 1 < base }
+    ensures { WritesAll W.contents out.old out.new (state_lines number state) result }
+{
+    put_pieces(
+        out,
+        &[
+            state_bits(state),
+            &[digit_of_code(number), b'\n', b's'],
+            state.word().as_bytes(),
+            &[b' ', digit_of_code(number + 1), b'\n'],
+        ],
+    )
 }
 
 /// Writes the line of a number above 0.
@@ -164,26 +189,27 @@ pub(crate) fn digit_of(bit: bool) -> u8
     if bit { b'1' } else { b'0' }
 }
 
-/// The code of a state in the standard's own example of a controller (IEEE Std 1149.1-2001, clause 6.1).
-fn state_code(state: State) -> &'static [u8]
-    ensures { result.now ≡ spec.state_code state }
+/// The line of a state in the coding of the standard's own example of a controller (IEEE Std 1149.1-2001, clause 6.1), up
+/// to its variable's code.
+fn state_bits(state: State) -> &'static [u8]
+    ensures { result.now ≡ spec.state_bits state }
 {
     match state {
-        State::DrExit2 => b"0000",
-        State::DrExit1 => b"0001",
-        State::DrShift => b"0010",
-        State::DrPause => b"0011",
-        State::IrSelect => b"0100",
-        State::DrUpdate => b"0101",
-        State::DrCapture => b"0110",
-        State::DrSelect => b"0111",
-        State::IrExit2 => b"1000",
-        State::IrExit1 => b"1001",
-        State::IrShift => b"1010",
-        State::IrPause => b"1011",
-        State::Idle => b"1100",
-        State::IrUpdate => b"1101",
-        State::IrCapture => b"1110",
-        State::Reset => b"1111",
+        State::DrExit2 => b"b0000 ",
+        State::DrExit1 => b"b0001 ",
+        State::DrShift => b"b0010 ",
+        State::DrPause => b"b0011 ",
+        State::IrSelect => b"b0100 ",
+        State::DrUpdate => b"b0101 ",
+        State::DrCapture => b"b0110 ",
+        State::DrSelect => b"b0111 ",
+        State::IrExit2 => b"b1000 ",
+        State::IrExit1 => b"b1001 ",
+        State::IrShift => b"b1010 ",
+        State::IrPause => b"b1011 ",
+        State::Idle => b"b1100 ",
+        State::IrUpdate => b"b1101 ",
+        State::IrCapture => b"b1110 ",
+        State::Reset => b"b1111 ",
     }
 }

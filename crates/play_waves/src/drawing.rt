@@ -11,6 +11,9 @@ ghost use Rattle.play_waves.specs.Pens.{Pen, begun};
 ghost use Rattle.play_waves.specs.Quiet.{IsQuiet};
 ghost use Rattle.play_waves.specs.Waves as waves;
 
+mod resting;
+mod shifting;
+
 use crate::changes::{
     STATEMENT_VARIABLE, write_device_changes, write_line_changes, write_net_changes,
 };

@@ -24,7 +24,7 @@ pub(crate) fn is_held_by(cycle: Cycle, marks: Marks, board: &Board) -> bool
 }
 
 /// Whether TCK is high and a rising edge with this TMS leaves every controller where it is.
-fn is_left(board: &Board, tms: bool) -> bool
+pub(crate) fn is_left(board: &Board, tms: bool) -> bool
     ensures { result ≡ (board.now.tck && list_all (spec.stays board.now.trst tms) board.now.chips) }
 {
     let lines = board.snapshot();

@@ -55,7 +55,7 @@ fn rests_after(message: Message, marks: Marks, chain: &Chain) -> u64
 }
 
 /// One message of a rest more, counted to one more than are drawn.
-fn one_more(rested: u64) -> u64
+pub(crate) fn one_more(rested: u64) -> u64
     ensures { result ≡ min (suc rested) (suc spec.drawn_rests) }
 {
     if rested > DRAWN_RESTS {
@@ -89,7 +89,7 @@ fn rests(chain: &Chain) -> bool
 }
 
 /// TCK as it is drawn after so many messages of a rest.
-fn tck_of(rested: u64, tck: bool) -> Option<bool>
+pub(crate) fn tck_of(rested: u64, tck: bool) -> Option<bool>
     ensures { result ≡ tck_drawn rested tck }
 {
     if rested <= DRAWN_RESTS {

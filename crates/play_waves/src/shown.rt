@@ -39,7 +39,7 @@ pub(crate) fn shown_on(marks: Marks, board: &Board) -> Shown
 }
 
 /// What is written for a line.
-fn wire(none: u8, level: Option<bool>) -> u8
+pub(crate) fn wire(none: u8, level: Option<bool>) -> u8
     ensures { result ≡ values.wire none level }
 {
     match level {

@@ -1,10 +1,11 @@
 //! The waves of cycles, of steps and of whole programs.
 
-ghost use Rattle.std.specs.Prelude.{◌≡◌, ◌<◌, true, OnOk, flat_map, replicate};
+ghost use Rattle.std.specs.Prelude.{◌≡◌, ◌<◌, ◌≤◌, true, OnOk, flat_map, replicate};
 ghost use Rattle.byte_streams.specs.Writes.{WritesAll};
 ghost use Rattle.jt_tap.specs.Controller.{is_stable};
 ghost use Rattle.bitbang_protocol.specs.Cycles.{closed_messages, opening};
 ghost use Rattle.bitbang_protocol.specs.Protocol.{cycle_messages};
+ghost use Rattle.tck_cycles.specs.Shifts.{shift_cycles};
 ghost use Rattle.tck_cycles.specs.Sources.{left};
 ghost use Rattle.bitbang.specs.StepMessages.{line_message, step_messages};
 ghost use Rattle.svf_programs.specs.Legal.{IsFormed};
@@ -12,6 +13,8 @@ ghost use Rattle.svf_programs.specs.Seen as seen;
 ghost use Rattle.svf_programs.specs.Sound.{IsWithin};
 ghost use Rattle.play_waves.specs.Drawing.{after_drawing};
 ghost use Rattle.play_waves.specs.Drawing as spec;
+ghost use Rattle.play_waves.specs.Settled.{IsSettled};
+ghost use Rattle.play_waves.specs.Shifted.{StandsInShift};
 
 use crate::drawing::Drawing;
 use bitbang_protocol::{Cycle, Message};
@@ -19,7 +22,7 @@ use byte_streams::{Broken, Counted, Sink, put_all};
 use jt_tap::State;
 use svf_parse::TrstWord;
 use svf_programs::{Action, Step};
-use tck_cycles::Source;
+use tck_cycles::{Shifts, Source};
 
 /// Opens a wave as a play opens: TRST is released, and five cycles with TMS 1 follow.
 pub(crate) fn draw_opening<W: Sink>(
@@ -144,7 +147,7 @@ fn draw_closed<W: Sink>(
     draw_low(drawing, period, out)
 }
 
-/// Draws the cycles of a step, as many at once as are known to be alike.
+/// Draws the cycles of a step, as many at once as are known to shift or to be alike.
 fn draw_source<W: Sink>(
     drawing: &mut Drawing,
     source: Source<'_>,
@@ -159,6 +162,8 @@ fn draw_source<W: Sink>(
 {
     let mut source = source;
     loop {
+        let shifts = source.next_shifts(drawing.shifts_at_once());
+        draw_shifts(drawing, shifts, period, out)?;
         let (cycle, times) = source.next_alike(u64::MAX);
         if times == 0 {
             return Ok(());
@@ -167,8 +172,31 @@ fn draw_source<W: Sink>(
     }
 }
 
-/// Draws a cycle that comes so many times. Where it comes again and again to a board that rests, what is behind the
-/// first of them is time alone.
+/// Draws cycles that shift, on a board that stands in Shift.
+fn draw_shifts<W: Sink>(
+    drawing: &mut Drawing,
+    shifts: Shifts,
+    period: u64,
+    out: &mut Counted<W>,
+) -> Result<(), Broken>
+    requires none_lost { out.old.failures ≡ 0 }
+    requires few { shifts.len ≤ 64 }
+    requires stands { 0 < shifts.len → StandsInShift drawing.old.board }
+    ensures writes { WritesAll W.contents out.old out.new
+        (spec.draw period (flat_map cycle_messages (shift_cycles shifts)) drawing.old) result }
+    ensures pen { OnOk result
+        (drawing.new ≡ after_drawing period (flat_map cycle_messages (shift_cycles shifts)) drawing.old) }
+{
+    if shifts.len == 0 {
+        return put_all(out, b"");
+    }
+    let last = shifts.len - 1;
+    drawing.draw(level(false, shifts.cycle(0)), period, out)?;
+    drawing.shift(shifts.tdi, last, period, out)?;
+    drawing.draw(level(true, shifts.cycle(last)), period, out)
+}
+
+/// Draws a cycle that comes so many times.
 fn draw_cycles<W: Sink>(
     drawing: &mut Drawing,
     cycle: Cycle,
@@ -183,8 +211,34 @@ fn draw_cycles<W: Sink>(
         (drawing.new ≡ after_drawing period (flat_map cycle_messages (replicate times cycle)) drawing.old) }
 {
     for i in 0..times {
-        let held = drawing.holds(cycle);
+        let left = drawing.is_left(cycle.tms);
         draw_cycle(drawing, cycle, period, out)?;
+        if left {
+            return draw_rest(drawing, cycle, times - i - 1, period, out);
+        }
+    }
+    Ok(())
+}
+
+/// Draws a cycle that comes so many times and changes nothing but TCK. What is behind the first of them in a stretch is
+/// time alone.
+fn draw_rest<W: Sink>(
+    drawing: &mut Drawing,
+    cycle: Cycle,
+    times: u64,
+    period: u64,
+    out: &mut Counted<W>,
+) -> Result<(), Broken>
+    requires none_lost { out.old.failures ≡ 0 }
+    requires settled { IsSettled cycle drawing.old }
+    ensures writes { WritesAll W.contents out.old out.new
+        (spec.draw period (flat_map cycle_messages (replicate times cycle)) drawing.old) result }
+    ensures pen { OnOk result
+        (drawing.new ≡ after_drawing period (flat_map cycle_messages (replicate times cycle)) drawing.old) }
+{
+    for i in 0..times {
+        let held = drawing.holds(cycle);
+        drawing.rest(period, out)?;
         if held {
             drawing.wait(times - i - 1, period);
             return Ok(());
