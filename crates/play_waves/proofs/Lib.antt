@@ -16,5 +16,6 @@ pub mod Shifted
 pub mod Sides
 pub mod Stages
 pub mod Strokes
+pub mod Times
 pub mod Unmoved
 pub mod Words

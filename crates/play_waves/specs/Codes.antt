@@ -2,6 +2,7 @@
 use Rattle.std.specs.Prelude.{ℕ, ◌+◌, ◌/◌, ◌%◌, ◌==◌, List, [], ◌∷◌, ◌++◌, codes, map, if◌then◌else◌}
 use Rattle.std.specs.Int.Digits.{digits_of}
 use Rattle.jt_tap.specs.declared.State.{State}
+use Rattle.jt_tap.specs.Words.{word}
 use Rattle.jt_tap.specs.declared.State.TheVariants.{Reset, Idle, DrSelect, DrCapture, DrShift, DrExit1, DrPause}
 use Rattle.jt_tap.specs.declared.State.TheVariants.{DrExit2, DrUpdate, IrSelect, IrCapture, IrShift, IrExit1, IrPause}
 use Rattle.jt_tap.specs.declared.State.TheVariants.{IrExit2, IrUpdate}
@@ -57,3 +58,7 @@ state_code Reset = codes "1111"
 -- the line of a state up to its variable's code: `b1100 `
 abbrev pub state_bits : State → List ℕ
 state_bits s = codes "b" ++ (state_code s ++ codes " ")
+
+-- the two lines of a state, with a blank for each of the codes
+abbrev pub state_form : State → List ℕ
+state_form s = state_bits s ++ (codes " \ns" ++ (word s ++ codes "  \n"))

@@ -6,7 +6,7 @@ ghost use mathlib.Core.Bool.{beq};
 ghost use Rattle.byte_streams.specs.Writes.{WritesAll};
 ghost use Rattle.jt_limits.specs.Limits.{limits};
 ghost use Rattle.board_chips.specs.WiredChips.{chip_state};
-ghost use Rattle.play_waves.specs.Drawing.{line_changes, net_change};
+ghost use Rattle.play_waves.specs.Drawing.{further_lines, net_change};
 ghost use Rattle.play_waves.specs.Values.{by_numbers, byte_change, device_change, first_of_devices, first_of_nets};
 ghost use Rattle.play_waves.specs.Quiet.{KeepsInstructions};
 ghost use Rattle.play_waves.specs.Values.{instruction_change, latch, level_byte, state_change};
@@ -28,16 +28,15 @@ pub(crate) const FIRST_OF_DEVICES: usize = 6;
 /// So many variables has a device.
 pub(crate) const VARIABLES_OF_DEVICE: usize = 3;
 
-/// Writes each line of the TAP that changed.
-pub(crate) fn write_line_changes<W: Sink>(
+/// Writes each line of the TAP but TCK that changed.
+pub(crate) fn write_further_lines<W: Sink>(
     before: Shown,
     after: Shown,
     out: &mut Counted<W>,
 ) -> Result<(), Broken>
     requires { out.old.failures ≡ 0 }
-    ensures { WritesAll W.contents out.old out.new (line_changes before after) result }
+    ensures { WritesAll W.contents out.old out.new (further_lines before after) result }
 {
-    write_byte_change(0, before.tck, after.tck, out)?;
     write_byte_change(1, before.tms, after.tms, out)?;
     write_byte_change(2, before.tdi, after.tdi, out)?;
     write_byte_change(3, before.tdo, after.tdo, out)?;
@@ -45,7 +44,7 @@ pub(crate) fn write_line_changes<W: Sink>(
 }
 
 /// Writes a level where it differs from the one before.
-pub(crate) fn write_byte_change<W: Sink>(
+fn write_byte_change<W: Sink>(
     number: usize,
     before: u8,
     after: u8,

@@ -8,7 +8,7 @@ ghost use Rattle.play_waves.specs.Values.{byte_line, bits_line, ended, instructi
 ghost use Rattle.board_report.specs.Report.{digit, digits};
 
 use crate::binary::binary_digits;
-use byte_streams::{Broken, Counted, Sink, put_all, put_pieces};
+use byte_streams::{Broken, Counted, Sink, put_all};
 use jt_bits::Bits;
 use jt_tap::State;
 
@@ -16,6 +16,13 @@ use jt_tap::State;
 const BASE: usize = 94;
 /// The first of them.
 const FIRST_DIGIT: u8 = b'!';
+
+/// A form of a state's two lines has no more bytes than this.
+const MOST_IN_FORM: usize = 24;
+/// Where the first code stands in a form.
+const FIRST_CODE_IN_FORM: usize = 6;
+/// How far from its end the second one stands.
+const SECOND_CODE_FROM_END: usize = 2;
 
 /// Writes the code of a variable.
 pub(crate) fn write_code<W: Sink>(number: usize, out: &mut Counted<W>) -> Result<(), Broken>
@@ -84,7 +91,7 @@ pub(crate) fn write_state<W: Sink>(
     if (number + 1) / BASE == 0 {
         return write_short_state(number, state, out);
     }
-    put_all(out, state_bits(state))?;
+    put_all(out, &state_form(state)[..FIRST_CODE_IN_FORM])?;
     write_end(number, out)?;
     write_word_line(number + 1, state.word().as_bytes(), out)
 }
@@ -99,15 +106,12 @@ fn write_short_state<W: Sink>(
     requires short { number + 1 < base }
     ensures { WritesAll W.contents out.old out.new (state_lines number state) result }
 {
-    put_pieces(
-        out,
-        &[
-            state_bits(state),
-            &[digit_of_code(number), b'\n', b's'],
-            state.word().as_bytes(),
-            &[b' ', digit_of_code(number + 1), b'\n'],
-        ],
-    )
+    let form = state_form(state);
+    let mut lines = [0; MOST_IN_FORM];
+    lines[..form.len()].copy_from_slice(form);
+    lines[FIRST_CODE_IN_FORM] = digit_of_code(number);
+    lines[form.len() - SECOND_CODE_FROM_END] = digit_of_code(number + 1);
+    put_all(out, &lines[..form.len()])
 }
 
 /// Writes the line of a number above 0.
@@ -189,27 +193,27 @@ pub(crate) fn digit_of(bit: bool) -> u8
     if bit { b'1' } else { b'0' }
 }
 
-/// The line of a state in the coding of the standard's own example of a controller (IEEE Std 1149.1-2001, clause 6.1), up
-/// to its variable's code.
-fn state_bits(state: State) -> &'static [u8]
-    ensures { result.now ≡ spec.state_bits state }
+/// The two lines of a state, in the coding of the standard's own example of a controller (IEEE Std 1149.1-2001, clause
+/// 6.1) and as a word, with a blank for each of the codes.
+fn state_form(state: State) -> &'static [u8]
+    ensures { result.now ≡ spec.state_form state }
 {
     match state {
-        State::DrExit2 => b"b0000 ",
-        State::DrExit1 => b"b0001 ",
-        State::DrShift => b"b0010 ",
-        State::DrPause => b"b0011 ",
-        State::IrSelect => b"b0100 ",
-        State::DrUpdate => b"b0101 ",
-        State::DrCapture => b"b0110 ",
-        State::DrSelect => b"b0111 ",
-        State::IrExit2 => b"b1000 ",
-        State::IrExit1 => b"b1001 ",
-        State::IrShift => b"b1010 ",
-        State::IrPause => b"b1011 ",
-        State::Idle => b"b1100 ",
-        State::IrUpdate => b"b1101 ",
-        State::IrCapture => b"b1110 ",
-        State::Reset => b"b1111 ",
+        State::DrExit2 => b"b0000  \nsDREXIT2  \n",
+        State::DrExit1 => b"b0001  \nsDREXIT1  \n",
+        State::DrShift => b"b0010  \nsDRSHIFT  \n",
+        State::DrPause => b"b0011  \nsDRPAUSE  \n",
+        State::IrSelect => b"b0100  \nsIRSELECT  \n",
+        State::DrUpdate => b"b0101  \nsDRUPDATE  \n",
+        State::DrCapture => b"b0110  \nsDRCAPTURE  \n",
+        State::DrSelect => b"b0111  \nsDRSELECT  \n",
+        State::IrExit2 => b"b1000  \nsIREXIT2  \n",
+        State::IrExit1 => b"b1001  \nsIREXIT1  \n",
+        State::IrShift => b"b1010  \nsIRSHIFT  \n",
+        State::IrPause => b"b1011  \nsIRPAUSE  \n",
+        State::Idle => b"b1100  \nsIDLE  \n",
+        State::IrUpdate => b"b1101  \nsIRUPDATE  \n",
+        State::IrCapture => b"b1110  \nsIRCAPTURE  \n",
+        State::Reset => b"b1111  \nsRESET  \n",
     }
 }

@@ -4,7 +4,7 @@ ghost use Rattle.std.specs.Prelude.{◌≡◌, ◌≤◌, ◌*◌, ◌&&◌, tru
 ghost use Rattle.byte_streams.specs.Writes.{WritesAll};
 ghost use Rattle.jt_limits.specs.Limits.{limits};
 ghost use Rattle.play_waves.specs.Drawing as spec;
-ghost use Rattle.play_waves.specs.Drawing.{after_mark, board_changes, lasting, mark, stamp, stamped_changes};
+ghost use Rattle.play_waves.specs.Drawing.{after_mark, board_changes, lasting, mark, stamped_changes};
 ghost use Rattle.play_waves.specs.Heading.{heading};
 ghost use Rattle.play_waves.specs.Holding as held;
 ghost use Rattle.play_waves.specs.Pens.{Pen, begun};
@@ -15,7 +15,7 @@ mod resting;
 mod shifting;
 
 use crate::changes::{
-    STATEMENT_VARIABLE, write_device_changes, write_line_changes, write_net_changes,
+    STATEMENT_VARIABLE, write_device_changes, write_further_lines, write_net_changes,
 };
 use crate::codes::{digit_of, write_byte, write_number};
 use crate::heading::write_heading;
@@ -23,10 +23,10 @@ use crate::holding::is_held_by;
 use crate::marks::{Marks, duration, marks_after, time_after};
 use crate::quiet::keeps_levels;
 use crate::shown::{Shown, shown_on};
+use crate::stamps::{write_stamp, write_time};
 use bitbang_protocol::{Cycle, Message, encode};
 use board_chain::Chain;
-use byte_streams::{Broken, Counted, Sink, put_all, put_pieces};
-use itoa::Buffer;
+use byte_streams::{Broken, Counted, Sink, put_all};
 use jt_board::Board;
 use std::marker::Model;
 
@@ -175,15 +175,6 @@ fn write_last_tck<W: Sink>(
     }
 }
 
-/// Writes a time.
-fn write_stamp<W: Sink>(time: u64, out: &mut Counted<W>) -> Result<(), Broken>
-    requires { out.old.failures ≡ 0 }
-    ensures { WritesAll W.contents out.old out.new (stamp time) result }
-{
-    let mut number = Buffer::new();
-    put_pieces(out, &[b"#", number.format(time).as_bytes(), b"\n"])
-}
-
 /// Writes what changed from one pen to the next: nothing within a stretch.
 fn write_between<W: Sink>(
     marks: Marks,
@@ -244,8 +235,8 @@ fn write_changes<W: Sink>(
     ensures { WritesAll W.contents out.old out.new
         (stamped_changes time before after behind.now.nets behind.now.chips ahead.now.chips) result }
 {
-    write_stamp(time, out)?;
-    write_line_changes(before, after, out)?;
+    write_time(time, before.tck, after.tck, out)?;
+    write_further_lines(before, after, out)?;
     write_board_changes(behind, ahead, quiet, out)
 }
 

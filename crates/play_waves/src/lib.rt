@@ -17,6 +17,7 @@ mod periods;
 mod quiet;
 mod shown;
 mod stage;
+mod stamps;
 mod steps;
 mod texts;
 mod waves;

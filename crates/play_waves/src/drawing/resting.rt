@@ -10,11 +10,11 @@ ghost use Rattle.play_waves.specs.Holding.{stays};
 ghost use Rattle.play_waves.specs.Settled as spec;
 ghost use Rattle.play_waves.specs.Settled.{IsSettled};
 
-use super::{Drawing, is_still, write_stamp};
-use crate::changes::write_byte_change;
+use super::{Drawing, is_still};
 use crate::holding::is_left;
 use crate::marks::{Marks, one_more, tck_of, time_after};
 use crate::shown::{UNKNOWN, wire};
+use crate::stamps::write_time;
 use byte_streams::{Broken, Counted, Sink, put_all};
 
 impl Drawing {
@@ -82,6 +82,5 @@ fn write_tick<W: Sink>(
     if is_still(was, is) {
         return put_all(out, b"");
     }
-    write_stamp(time, out)?;
-    write_byte_change(0, wire(UNKNOWN, was), wire(UNKNOWN, is), out)
+    write_time(time, wire(UNKNOWN, was), wire(UNKNOWN, is), out)
 }

@@ -14,9 +14,9 @@ ghost use Rattle.play_waves.specs.Values.{byte_change, byte_line};
 use super::Drawing;
 use crate::holding::is_same_state;
 use crate::marks::{Marks, time_after};
+use crate::stamps::write_tck;
 use board_chain::Chain;
-use byte_streams::{Broken, Counted, Sink, put_all, put_pieces};
-use itoa::Buffer;
+use byte_streams::{Broken, Counted, Sink, put_all};
 use jt_board::Board;
 use jt_tap::State;
 
@@ -170,20 +170,10 @@ fn write_two_edges<W: Sink>(
     ensures { WritesAll W.contents out.old out.new
         (spec.high_text high ++ (stamp low ++ (byte_line 0 (digit false) ++ (tdi.now ++ tdo.now)))) result }
 {
-    let mut at_high = Buffer::new();
-    let mut at_low = Buffer::new();
-    put_pieces(
-        out,
-        &[
-            b"#",
-            at_high.format(high).as_bytes(),
-            b"\n1!\n#",
-            at_low.format(low).as_bytes(),
-            b"\n0!\n",
-            tdi,
-            tdo,
-        ],
-    )
+    write_tck(high, b'1', out)?;
+    write_tck(low, b'0', out)?;
+    put_all(out, tdi)?;
+    put_all(out, tdo)
 }
 
 /// The line of TDI where it changes.

@@ -1,14 +1,15 @@
-use Rattle.std.proofs.Common.{◌++◌, ◌∷◌, [], ◌∙◌}
-use Rattle.std.specs.Prelude.{codes}
+use Rattle.std.proofs.Common.{◌≡◌, ◌++◌, ◌-◌, List, ℕ, length, take, drop, set, replicate, ◌∙◌}
 use Rattle.byte_streams.proofs.Fronts.{WritesAll-is}
+use Rattle.play_waves.specs.Codes.{state_form}
 use Rattle.play_waves.proofs.Lines.{short_lines}
 use Rattle.play_waves.proofs.codes.write_short_state.Goals as goal
 
 pub returns : goal.returns
 returns g c =
+    let form : c.state_form-form.result.now ≡ state_form c.args.state = c.state_form-form.ensures in
+    let copied : c.copy_from_slice.new.self ≡ state_form c.args.state = c.copy_from_slice.ensures.after ∙ form in
+    let rest : List ℕ = drop (length c.state_form-form.result.now) (replicate 24 0) in
     WritesAll-is
-    ((λ i. c.state_bits.ensures i
-    ++ ((c.digit_of_code.ensures i ∷ codes "\ns")
-    ++ ((c.as_bytes.ensures.value ∙ c.word.ensures) i ++ ((32 ∷ c.digit_of_code-2.ensures i ∷ codes "\n") ++ []))))
-    ∙ short_lines c.args.number c.args.state c.requires.short)
-    c.put_pieces.ensures.writes
+    ((λ i. take (length (form i)) (set (set (copied i ++ rest) 6 (c.digit_of_code.ensures i)) (length (form i) - 2) (c.digit_of_code-2.ensures i)))
+    ∙ short_lines c.args.number c.args.state rest c.requires.short)
+    c.put_all.ensures.writes
