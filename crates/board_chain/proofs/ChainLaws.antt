@@ -20,7 +20,7 @@ use Rattle.board_chips.specs.Tables.{IsDriving, IsTable, WerePut}
 use Rattle.board_chips.specs.DrivingTable.{DrivingTable}
 use Rattle.board_chips.specs.WiredChips.{AllTold, AreBelow, DrivesStill, IsKept, WiredChipValue, chip_state, held_of, member_of, told_by}
 use Rattle.board_chain.specs.Sweeping.{EachFrom, Rises, Still, TakesTrst}
-use Rattle.board_wiring.specs.Wires.{WiringValue}
+use Rattle.board_chips.specs.WiringValues.{WiringValue}
 use Rattle.board_chips.specs.Wires.{ArePinsBelow, AreWired, IsWired}
 use Rattle.board_chips.proofs.EdgeLaws.{rise_drives}
 use Rattle.board_chips.proofs.StringLaws.{first_below}

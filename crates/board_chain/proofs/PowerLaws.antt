@@ -7,7 +7,7 @@ use Rattle.pin_nets.specs.declared.Drive.{Drive}
 use Rattle.pin_nets.specs.Wired.{Net}
 use Rattle.board_plan.specs.Planned.{all_pins}
 use Rattle.board_plan.specs.Planned as planned
-use Rattle.board_wiring.specs.Wires.{WiringValue}
+use Rattle.board_chips.specs.WiringValues.{WiringValue}
 use Rattle.board_model.specs.Cells.{Member}
 use Rattle.board_model.specs.Chain.{ChipState}
 use Rattle.board_model.specs.Following.{AreHeld, IsOrderOf, Placed, after_strings}

@@ -28,7 +28,7 @@ use Rattle.board_chips.specs.AtRest.{IsPutInto, as_member}
 use Rattle.board_chain.specs.AtRest.{shifted_through}
 use Rattle.board_chips.specs.WiredChips.{AllTold, IsKept, WiredChipValue, chip_state, held_of, member_of}
 use Rattle.board_chain.specs.Sweeping.{EachFrom, Still}
-use Rattle.board_wiring.specs.Wires.{WiringValue}
+use Rattle.board_chips.specs.WiringValues.{WiringValue}
 use Rattle.board_chips.specs.Wires.{AreWired, IsWired}
 use Rattle.board_chain.proofs.ChainLaws.{all_chips, all_told, chips_in_force, drives_with, each_still, seats_members, told_here}
 use Rattle.board_chips.proofs.EdgeLaws.{rise_drives, put-latch, put-update}

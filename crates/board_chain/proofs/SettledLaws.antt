@@ -8,7 +8,7 @@ use Rattle.pin_nets.specs.declared.Drive.{Drive}
 use Rattle.pin_nets.specs.declared.Follow.{Follow}
 use Rattle.pin_nets.specs.Wired.{Net}
 use Rattle.board_plan.specs.Planned.{all_pins}
-use Rattle.board_wiring.specs.Wires.{WiringValue}
+use Rattle.board_chips.specs.WiringValues.{WiringValue}
 use Rattle.board_model.specs.Cells.{Member}
 use Rattle.board_model.specs.Following.{AllDriveAlike, AreHeld, InOtherRegisters, IsAmong, IsHeld, IsOrderOf, Placed, after_strings}
 use Rattle.board_model.specs.Nets.{core_at, in_force, pin_drive}

@@ -10,7 +10,7 @@ use Rattle.board_model.specs.Whole.{capture_member, cut_back, joined_bits, settl
 use Rattle.board_chips.specs.AtRest.{as_member}
 use Rattle.board_chips.specs.WiredChips.{IsKept, WiredChipValue, chip_state, member_of, told_by}
 use Rattle.board_chips.specs.Telling.{IsAt, sight}
-use Rattle.board_wiring.specs.Wires.{WiringValue}
+use Rattle.board_chips.specs.WiringValues.{WiringValue}
 use Rattle.board_chain.specs.Chains.{ChainValue}
 
 -- the devices in these registers, one after another

@@ -2,7 +2,7 @@
 use Rattle.std.specs.Prelude.{◌≡◌, ℕ, List, map}
 use Rattle.board_model.specs.Following.{IsOrderOf}
 use Rattle.board_model.specs.Nets.{in_force}
-use Rattle.board_wiring.specs.Wires.{WiringValue}
+use Rattle.board_chips.specs.WiringValues.{WiringValue}
 use Rattle.board_chips.specs.Driving.{cells_of}
 use Rattle.board_chips.specs.DrivingTable.{DrivingTable}
 use Rattle.board_chips.specs.WiredChips.{IsKept, WiredChipValue, held_of, member_of}

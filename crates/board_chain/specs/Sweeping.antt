@@ -5,7 +5,7 @@ use Rattle.board_model.specs.Cells.{Member}
 use Rattle.board_model.specs.Chain as chain
 use Rattle.board_chips.specs.WiredChips.{DrivesStill, IsKept, WiredChipValue, chip_state, member_of, told_by}
 use Rattle.board_chips.specs.Telling.{IsAt, sight}
-use Rattle.board_wiring.specs.Wires.{WiringValue}
+use Rattle.board_chips.specs.WiringValues.{WiringValue}
 
 -- each device, from this place on, stands to the one it became as R has it
 abbrev pub EachFrom : (R : ℕ → WiredChipValue → WiredChipValue → Type 0) → ℕ → List WiredChipValue → List WiredChipValue → Type 0

@@ -13,11 +13,10 @@ ghost use Rattle.board_chain.specs.Ready.{IsReady};
 
 use crate::chain::Chain;
 use board_chips::{
-    WiredChip, WiredString, all_seats, driving_pins, refresh, settle, wired_strings,
+    WiredChip, WiredString, Wiring, all_seats, driving_pins, refresh, settle, wired_strings,
 };
 use board_loops::{Settling, settle_strings};
 use board_plan::{Plan, PlannedDevice, PlannedNet};
-use board_wiring::Wiring;
 use std::alloc::{AllocError, Global};
 
 impl Chain {

@@ -15,8 +15,7 @@ mod settling;
 mod shifting;
 
 use self::settling::put_anew;
-use board_chips::{DrivingPins, WiredChip, WiredString};
-use board_wiring::Wiring;
+use board_chips::{DrivingPins, WiredChip, WiredString, Wiring};
 use pin_nets::Level;
 use std::marker::Model;
 

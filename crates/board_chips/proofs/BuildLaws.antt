@@ -28,7 +28,7 @@ use Rattle.board_plan.proofs.TableLaws.{length-all_cell_nets, planned_at, vector
 use Rattle.board_model.specs.Nets.{pin_drive}
 use Rattle.board_chips.specs.Building.{seat_of, seats_of}
 use Rattle.board_chips.specs.WiredChips.{AllTold, WiredChipValue, held_of}
-use Rattle.board_wiring.specs.Wires.{WiringValue}
+use Rattle.board_chips.specs.WiringValues.{WiringValue}
 use Rattle.board_chips.specs.Wires.{ArePinsBelow, AreWired, IsWired}
 
 -- ---- pins are port bits

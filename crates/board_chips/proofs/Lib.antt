@@ -3,6 +3,7 @@ pub mod DriveLaws
 pub mod PutLaws
 pub mod TellLaws
 pub mod BuildLaws
+pub mod LevelLaws
 pub mod SightedLaws
 pub mod BlockLaws
 pub mod DrivingLaws

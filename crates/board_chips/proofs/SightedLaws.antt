@@ -7,7 +7,7 @@ use Rattle.bsdl_device.specs.declared.Function.{Function}
 use Rattle.boundary.specs.Masks.{is_sighted, sighted_port}
 use Rattle.board_plan.specs.CellNets.{cell_net, first_net}
 use Rattle.board_model.specs.Cells.{Member}
-use Rattle.board_wiring.specs.Wires.{WiringValue}
+use Rattle.board_chips.specs.WiringValues.{WiringValue}
 use Rattle.board_chips.specs.WiredChips.{AreBelow, WiredChipValue}
 use Rattle.board_chips.specs.Sighted.{IsBelow, sighted_from, sighted_of, with_sighted}
 use Rattle.board_chips.specs.Telling.{IsAt}

@@ -12,7 +12,7 @@ use Rattle.pin_nets.specs.Wired.{Net, joins}
 use Rattle.chip_instructions.specs.Instruction.{meaning}
 use Rattle.board_plan.specs.CellNets.{cell_net, first_net}
 use Rattle.board_plan.specs.Planned.{all_pins}
-use Rattle.board_wiring.specs.Wires.{WiringValue}
+use Rattle.board_chips.specs.WiringValues.{WiringValue}
 use Rattle.board_model.specs.Cells.{Member, drive}
 use Rattle.board_model.specs.Following.{Placed, after_string, after_strings, takes_from, with_core_bit}
 use Rattle.board_model.specs.Nets.{pin_drive, sees_under}

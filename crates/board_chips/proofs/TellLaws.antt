@@ -13,7 +13,7 @@ use Rattle.boundary.specs.Masks.{SeesSighted, is_sighted}
 use Rattle.board_model.specs.Cells.{Member, drive}
 use Rattle.board_model.specs.Nets.{level_under, lone_net, pin_drive, sees_under}
 use Rattle.board_plan.specs.CellNets.{first_net}
-use Rattle.board_wiring.specs.Wires.{WiringValue}
+use Rattle.board_chips.specs.WiringValues.{WiringValue}
 
 -- ---- the first net is the one that is found
 

@@ -1,4 +1,5 @@
 pub mod WiredChips
+pub mod WiringValues
 pub mod Wires
 pub mod Telling
 pub mod Building

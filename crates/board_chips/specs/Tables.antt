@@ -10,7 +10,7 @@ use Rattle.pin_nets.specs.declared.Drive.TheVariants.{Strong}
 use Rattle.board_plan.specs.Planned.{all_pins}
 use Rattle.board_model.specs.Cells.{Member}
 use Rattle.board_model.specs.Nets.{pin_drive}
-use Rattle.board_wiring.specs.Wires.{WiringValue}
+use Rattle.board_chips.specs.WiringValues.{WiringValue}
 use Rattle.board_chips.specs.Blocks.{AreParts, AreSlots, TellsBlock}
 use Rattle.board_chips.specs.Driving.{driving_from, drives_at, entry_drives}
 use Rattle.board_chips.specs.DrivingTable.{DrivingTable}

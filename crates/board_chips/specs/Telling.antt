@@ -6,7 +6,7 @@ use Rattle.board_model.specs.Cells.{Member}
 use Rattle.board_model.specs.Nets.{pin_drive, sees_under}
 use Rattle.board_plan.specs.CellNets.{cell_net}
 use Rattle.board_chips.specs.WiredChips.{WiredChipValue, held_of}
-use Rattle.board_wiring.specs.Wires.{WiringValue}
+use Rattle.board_chips.specs.WiringValues.{WiringValue}
 
 -- Of these devices, each with the core bits that its boundary holds, this one stands at this place, wired to these
 -- nets, and what was put to the nets last is what each pin drives.

@@ -7,7 +7,7 @@ use Rattle.pin_nets.specs.Wired.{Net}
 use Rattle.board_plan.specs.Planned.{all_pins}
 use Rattle.board_model.specs.Nets.{pin_drive}
 use Rattle.board_plan.specs.CellNets.{cell_net}
-use Rattle.board_wiring.specs.Wires.{WiringValue}
+use Rattle.board_chips.specs.WiringValues.{WiringValue}
 use Rattle.board_chips.specs.WiredChips.{WiredChipValue, held_of}
 
 -- each pin's device is one of so many

@@ -1,5 +1,6 @@
-//! The devices of a chain, each with the nets that its cells are on: what an edge of TCK, TRST and each change at rest
-//! do to one of them, and what its pins put to the nets (IEEE Std 1149.1-2001).
+//! The nets of a board, with what was last put to each pin, and the devices of its chain, each with the nets that its
+//! cells are on: what an edge of TCK, TRST and each change at rest do to one of them, and what its pins put to the nets
+//! (IEEE Std 1149.1-2001).
 #![tactic(auto)]
 
 mod block_numbers;
@@ -11,6 +12,7 @@ mod seat;
 mod sighted;
 mod strings;
 mod wires;
+mod wiring;
 mod words;
 
 pub use build::all_seats;
@@ -20,3 +22,4 @@ pub use refreshing::refresh_driving;
 pub use seat::WiredChip;
 pub use strings::{WiredString, settle};
 pub use wires::refresh;
+pub use wiring::Wiring;

@@ -15,8 +15,8 @@ ghost use Rattle.board_chips.specs.declared.driving.DrivingPin.{DrivingPin as En
 
 use crate::driving::{Block, DrivingPin, DrivingPins};
 use crate::seat::WiredChip;
+use crate::wiring::Wiring;
 use crate::words::{bit, lowest, without_bit};
-use board_wiring::Wiring;
 use boundary::{Drive, PlainCells};
 
 /// What each pin drives is put to its net, given the pins that a cell drives; what was put to the nets before is what

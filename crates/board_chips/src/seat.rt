@@ -26,8 +26,8 @@ mod at_rest;
 
 use crate::driving::first_driver;
 use crate::sighted::{SightedCell, sighted_cells};
+use crate::wiring::Wiring;
 use board_plan::PlannedDevice;
-use board_wiring::Wiring;
 use boundary::{Boundary, Drive, PlainCells, drivers};
 use bsdl_device::Device;
 use jt_bits::Bits;

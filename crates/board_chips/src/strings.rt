@@ -12,7 +12,7 @@ ghost use Rattle.board_chips.specs.Strings.{AreStrung, IsStrung, less_core, plac
 ghost use Rattle.board_chips.specs.Wires.{ArePinsBelow, IsWired};
 
 use crate::seat::WiredChip;
-use board_wiring::Wiring;
+use crate::wiring::Wiring;
 
 /// A core bit of a device that is what a port bit of the same device sees, or its opposite.
 #[derive(Debug, Clone, Copy, Drop)]

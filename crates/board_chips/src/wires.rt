@@ -7,7 +7,7 @@ ghost use Rattle.board_chips.specs.WiredChips.{held_of};
 ghost use Rattle.board_chips.specs.Wires.{ArePinsBelow};
 
 use crate::seat::WiredChip;
-use board_wiring::Wiring;
+use crate::wiring::Wiring;
 
 /// What each pin drives is put to its net.
 pub fn refresh(wiring: &mut Wiring, seats: &[WiredChip])

@@ -22,9 +22,16 @@ use Rattle.board_plan.specs.Planned.{Member, Wiring}
 use Rattle.board_description.specs.Names.{shown}
 use Rattle.board_description.specs.Words.{texts, function_word, net_name, port_of, port_words, user_words}
 
+-- the digits `1` and `0`
+abbrev pub one_digit : ℕ
+one_digit = 49
+
+abbrev pub zero_digit : ℕ
+zero_digit = 48
+
 abbrev pub digit : Bool → ℕ
-digit true = 49
-digit false = 48
+digit true = one_digit
+digit false = zero_digit
 
 -- the lowest n bits as digits, the highest of them first
 abbrev pub digits_from : (n : ℕ) → List Bool → List ℕ

@@ -4,10 +4,14 @@ use Rattle.std.specs.Prelude.{Option, Some, None, if◌then◌else◌}
 use Rattle.pin_nets.specs.declared.Pull.{Pull}
 use Rattle.pin_nets.specs.declared.Pull.TheVariants.{Up, Down, Free}
 
+-- the digit `1`
+abbrev pub one_digit : ℕ
+one_digit = 49
+
 -- the core's bits, cell 0 rightmost; all 0 where none are given
 abbrev pub core_of : ℕ → Option (List ℕ) → List Bool
 core_of cells None = replicate cells false
-core_of cells (Some s) = map (λ c. c == 49) (reverse s)
+core_of cells (Some s) = map (λ c. c == one_digit) (reverse s)
 
 abbrev pub is_update : Option (List ℕ) → Bool
 is_update None = false

@@ -19,7 +19,7 @@ pub fn core_bits(alloc: Global, cells: usize, core: Option<&str>) -> Result<Bits
 
 /// The bits that 0s and 1s write, the rightmost first.
 fn written_bits(alloc: Global, text: &[u8]) -> Result<Bits, AllocError>
-    ensures { IfOk result (λ b. b ≡ map (λ c. c == 49) (reverse text.now)) }
+    ensures { IfOk result (λ b. b ≡ map (λ c. c == spec.one_digit) (reverse text.now)) }
 {
     let len = text.len();
     let mut bits = Bits::zeros(alloc, len)?;

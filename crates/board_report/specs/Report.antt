@@ -10,9 +10,16 @@ use Rattle.pin_nets.specs.Wired.{Net}
 use Rattle.board_model.specs.Nets.{level}
 use Rattle.board_model.specs.Chain.{BoardState, ChipState, members}
 
+-- the digits `1` and `0`
+abbrev pub one_digit : ℕ
+one_digit = 49
+
+abbrev pub zero_digit : ℕ
+zero_digit = 48
+
 abbrev pub digit : Bool → ℕ
-digit true = 49
-digit false = 48
+digit true = one_digit
+digit false = zero_digit
 
 -- bits as digits, the highest first
 abbrev pub digits : List Bool → List ℕ

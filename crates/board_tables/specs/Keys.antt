@@ -29,8 +29,15 @@ top_keys =
 abbrev pub is_new_name : List (List ℕ) → Data → Bool
 is_new_name names d = is_text_that (λ s. is_name s && not (list_any (bytes_eq s) names)) d
 
+-- the digits `0` and `1`
+abbrev pub zero_digit : ℕ
+zero_digit = 48
+
+abbrev pub one_digit : ℕ
+one_digit = 49
+
 abbrev pub is_bit : ℕ → Bool
-is_bit c = c == 48 || c == 49
+is_bit c = c == zero_digit || c == one_digit
 
 -- as many bits as the device has cells, where they are known
 abbrev pub fits_cells : Option ℕ → List ℕ → Bool

@@ -5,7 +5,7 @@ ghost use Rattle.std.specs.Prelude.{bytes_eq, codes, slice_get, false};
 ghost use Rattle.std.specs.List.{list_all, find};
 ghost use Rattle.bsdl_device.specs.Device as device;
 ghost use Rattle.bsdl_device.specs.Opcodes as opcodes;
-ghost use Rattle.bsdl_values.specs.InstructionValues.{bit, pattern_of};
+ghost use Rattle.bsdl_values.specs.InstructionValues.{bit, one_digit, pattern_of};
 ghost use Rattle.bsdl_values.specs.InstructionView as rows_view;
 ghost use Rattle.bsdl_opcodes.specs.ResetOpcode as spec;
 
@@ -73,7 +73,7 @@ fn are_ones(latch: &[u8]) -> bool
 }
 
 fn are_all_ones(latch: &[u8]) -> bool
-    ensures { result ≡ list_all (λ d. d == 49) latch.now }
+    ensures { result ≡ list_all (λ d. d == one_digit) latch.now }
 {
     latch.iter().all(|digit| *digit == b'1')
 }

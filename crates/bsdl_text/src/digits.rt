@@ -4,7 +4,7 @@ ghost use Rattle.std.specs.Char.{is_ascii_digit};
 ghost use Rattle.std.specs.List.{list_all, prefix_len};
 ghost use Rattle.std.specs.Ordering.{nat_cmp};
 ghost use Rattle.std.specs.Str.Parse.{digits_value};
-ghost use Rattle.bsdl_text.specs.Numbers.{significant};
+ghost use Rattle.bsdl_text.specs.Numbers.{significant, zero_digit};
 
 use std::cmp::Ordering;
 
@@ -74,7 +74,7 @@ fn behind_zeros(digits: &[u8]) -> &[u8]
 /// How many zeros stand before the other digits.
 fn zeros(digits: &[u8]) -> usize
     ensures within { result ≤ length digits.now }
-    ensures value { result ≡ prefix_len (λ d. d == 48) digits.now }
+    ensures value { result ≡ prefix_len (λ d. d == zero_digit) digits.now }
 {
     digits.iter().take_while(|digit| **digit == b'0').count()
 }

@@ -18,15 +18,27 @@ bracketed item ts =
 
 -- ---- patterns
 
--- `0`, `1`, `X`
+-- `0`, `1`, and `X` in either case
+abbrev pub zero_digit : ℕ
+zero_digit = 48
+
+abbrev pub one_digit : ℕ
+one_digit = 49
+
+abbrev pub either_digit : ℕ
+either_digit = 88
+
+abbrev pub small_either_digit : ℕ
+small_either_digit = 120
+
 abbrev pub is_digit : ℕ → Bool
-is_digit c = c == 48 || (c == 49 || (c == 88 || c == 120))
+is_digit c = c == zero_digit || (c == one_digit || (c == either_digit || c == small_either_digit))
 
 abbrev pub are_digits : Lexeme → Bool
 are_digits t = list_all is_digit t.text
 
 abbrev pub bit : ℕ → Option Bool
-bit c = if c == 48 then Some false else if c == 49 then Some true else None
+bit c = if c == zero_digit then Some false else if c == one_digit then Some true else None
 
 -- as written, so the rightmost is bit 0
 abbrev pub pattern_of : List ℕ → Pattern

@@ -5,7 +5,7 @@ use Rattle.jt_tap.specs.declared.State.{State}
 use Rattle.jt_tap.specs.declared.State.TheVariants.{Reset}
 use Rattle.bitbang_protocol.specs.declared.Message.{Message}
 use Rattle.bitbang_protocol.specs.declared.Message.TheVariants.{Ask, Quit}
-use Rattle.bitbang_protocol.specs.Protocol.{encode, read_answer}
+use Rattle.bitbang_protocol.specs.Protocol.{encode, one_byte, read_answer}
 use Rattle.board_model.specs.Chain.{BoardState, hear}
 use Rattle.scan_vectors.specs.Vector.{VectorBit, judge, wanted_bits}
 use Rattle.svf_programs.specs.Steps.{Step, Scan, Numbered, Program, place_after}
@@ -75,7 +75,7 @@ ending_for (t ∷ ts) got =
     elim (find is_bad (take (length t.wants) got)) [
       | Some b ↦ Some (BadAnswer t.command b)
       | None ↦ if nat_lt (length got) (length t.wants) then None else
-          elim (judge t.wants (map (λ b. b == 49) got)) [ None ↦ rest | Some f ↦ Some (Fail t.command f.0 f.1) ]
+          elim (judge t.wants (map (λ b. b == one_byte) got)) [ None ↦ rest | Some f ↦ Some (Fail t.command f.0 f.1) ]
     ]
 
 -- The command in work, when so many messages were given out and these answers taken: the first turn that the play

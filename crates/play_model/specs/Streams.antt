@@ -4,7 +4,7 @@ use Rattle.std.specs.Prelude.{◌++◌, map, length, take, drop, count_by, is_so
 use Rattle.std.specs.List.{list_any}
 use Rattle.bitbang_protocol.specs.declared.Message.{Message}
 use Rattle.bitbang_protocol.specs.declared.Message.TheVariants.{Quit}
-use Rattle.bitbang_protocol.specs.Protocol.{answer, encode}
+use Rattle.bitbang_protocol.specs.Protocol.{answer, ask_byte, encode, one_byte, quit_byte}
 pub use Rattle.scan_vectors.specs.Failures.{Found, most_listed, none_found}
 use Rattle.scan_vectors.specs.Vector.{VectorBit, differs}
 use Rattle.play_model.specs.declared.ending.Ending.{Ending}
@@ -88,7 +88,7 @@ abbrev pub hear : ℕ → StreamState → StreamState
 hear byte s =
     if is_some s.bad then s else
     if is_bad byte then record s { bad = Some byte } else
-    record s { answered = s.answered + 1; found = with_more s.kind (mismatch_of (unanswered s) (byte == 49)) s.found }
+    record s { answered = s.answered + 1; found = with_more s.kind (mismatch_of (unanswered s) (byte == one_byte)) s.found }
 
 abbrev pub hear_bytes : List ℕ → StreamState → StreamState
 hear_bytes [] s = s
@@ -138,7 +138,7 @@ module _ (window : ℕ) where
   given_out s = take s.given (bytes_of s)
 
   abbrev pub owed : StreamState → ℕ
-  owed s = if is_some s.bad then 0 else count_by (λ b. b == 82) (given_out s) - s.answered
+  owed s = if is_some s.bad then 0 else count_by (λ b. b == ask_byte) (given_out s) - s.answered
 
   abbrev pub answers_taken : StreamState → List ℕ → List ℕ
   answers_taken s bytes = up_to_bad (take (owed s) bytes)
@@ -146,7 +146,7 @@ module _ (window : ℕ) where
   abbrev pub ending_of_stream : StreamState → Option Ending
   ending_of_stream s = elim s.bad [
     | Some byte ↦ Some (BadAnswer (command_at (turns_of s) s.answered) byte)
-    | None ↦ if list_any (λ b. b == 81) (given_out s) then Some (ending_of s.found.list) else None
+    | None ↦ if list_any (λ b. b == quit_byte) (given_out s) then Some (ending_of s.found.list) else None
   ]
 
   -- as events see it

@@ -2,6 +2,7 @@
 use Rattle.std.specs.Prelude.{◌≤◌, Bool, ◌||◌, ℕ, ◌-◌, ◌==◌, List, [], map, length, take, drop}
 use Rattle.std.specs.Prelude.{count_by, Option, Some, None, if◌then◌else◌}
 use Rattle.std.specs.List.{list_any}
+use Rattle.bitbang_protocol.specs.Protocol.{ask_byte, one_byte, quit_byte}
 use Rattle.play_model.specs.declared.ending.Ending.{Ending}
 use Rattle.play_model.specs.declared.ending.Ending.TheVariants.{Pass}
 use Rattle.play_model.specs.Play.{Turn, ending_for, in_work, player, turns}
@@ -12,7 +13,7 @@ use Rattle.play_model.specs.PlayingOn.{ending_of, failures, turns_for}
 
 -- the bits that answer bytes tell
 abbrev pub bits_told : List ℕ → List Bool
-bits_told bytes = map (λ b. b == 49) bytes
+bits_told bytes = map (λ b. b == one_byte) bytes
 
 module _ (kind : Kind) (window : ℕ) where
   abbrev pub turns_in : PlayerState → List Turn
@@ -28,13 +29,13 @@ module _ (kind : Kind) (window : ℕ) where
   given_out p = take p.given (bytes_of p)
 
   abbrev pub owed : PlayerState → ℕ
-  owed p = if has_bad_answer p then 0 else count_by (λ b. b == 82) (given_out p) - length p.got
+  owed p = if has_bad_answer p then 0 else count_by (λ b. b == ask_byte) (given_out p) - length p.got
 
   abbrev pub answers_taken : PlayerState → List ℕ → List ℕ
   answers_taken p bytes = up_to_bad (take (owed p) bytes)
 
   abbrev pub has_ended : PlayerState → Bool
-  has_ended p = has_bad_answer p || list_any (λ b. b == 81) (given_out p)
+  has_ended p = has_bad_answer p || list_any (λ b. b == quit_byte) (given_out p)
 
   -- One that plays on fails, once it has passed to the end, by the first of all failures.
   abbrev pub verdict_of : PlayerState → Option Ending → Option Ending
@@ -56,4 +57,4 @@ module _ (kind : Kind) (window : ℕ) where
 
   -- No answer was taken that was not asked for.
   abbrev pub WasAsked : PlayerState → Type 0
-  WasAsked p = length p.got ≤ count_by (λ b. b == 82) (bytes_of p)
+  WasAsked p = length p.got ≤ count_by (λ b. b == ask_byte) (bytes_of p)

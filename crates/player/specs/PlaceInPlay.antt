@@ -2,6 +2,7 @@
 use Rattle.std.specs.Prelude.{ℕ, Bool, true, false, zero, suc, ◌+◌, ◌*◌, ◌==◌, List, [], ◌∷◌, ◌++◌, length, take}
 use Rattle.std.specs.Prelude.{◌≤◌, drop, Option, Some, None, if◌then◌else◌}
 use Rattle.bitbang_protocol.specs.declared.Message.{Message}
+use Rattle.bitbang_protocol.specs.Protocol.{ask_byte}
 use Rattle.scan_vectors.specs.Vector.{VectorBit, differs}
 use Rattle.scan_vectors.specs.declared.part.Part.TheVariants.{Header}
 use Rattle.svf_programs.specs.Steps.{Program}
@@ -46,12 +47,12 @@ state_at program s =
 abbrev pub up_to_reads : List ℕ → ℕ → List ℕ
 up_to_reads [] n = []
 up_to_reads (b ∷ bytes) n =
-    if b == 82 then elim n [ zero ↦ [] | suc m ↦ b ∷ up_to_reads bytes m ] else b ∷ up_to_reads bytes n
+    if b == ask_byte then elim n [ zero ↦ [] | suc m ↦ b ∷ up_to_reads bytes m ] else b ∷ up_to_reads bytes n
 
 -- how many `R` there are
 abbrev pub reads : List ℕ → ℕ
 reads [] = 0
-reads (b ∷ bytes) = if b == 82 then suc (reads bytes) else reads bytes
+reads (b ∷ bytes) = if b == ask_byte then suc (reads bytes) else reads bytes
 
 -- Between two `R` there are two other bytes at least: of so many in a row, wherever they begin, a third at most is `R`.
 abbrev pub IsSpaced : List ℕ → Type 0

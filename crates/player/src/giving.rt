@@ -2,6 +2,7 @@
 
 ghost use Rattle.std.specs.Prelude.{◌≡◌, [], false, IsTrue, ◌≤◌, ◌<◌, ◌==◌, ◌+◌, ◌-◌, ◌++◌, ◌∷◌, ℕ, List, Some, drop};
 ghost use Rattle.std.specs.Prelude.{◌*◌, length, min, slice_get, take, if◌then◌else◌};
+ghost use Rattle.bitbang_protocol.specs.Protocol.{ask_byte};
 ghost use Rattle.bitbang.specs.Left.{left, whole};
 ghost use Rattle.player.specs.PlaceInPlay.{IsSpaced, reads, up_to_reads};
 ghost use Rattle.player.specs.Window.{window};
@@ -84,15 +85,15 @@ fn is_held(bytes: &StepBytes<'_>, owed: usize) -> bool
     requires { owed ≤ window }
     ensures held { IsTrue result → up_to_reads (left bytes.now) (window - owed) ≡ [] }
     ensures free { result ≡ false → owed ≡ window → (b : ℕ) (rest : List ℕ) → left bytes.now ≡ b ∷ rest
-        → (b == 82) ≡ false }
+        → (b == ask_byte) ≡ false }
 {
     owed == WINDOW && asks_next(bytes)
 }
 
 /// Whether the next byte asks for TDO.
 fn asks_next(bytes: &StepBytes<'_>) -> bool
-    ensures first { (b : ℕ) (rest : List ℕ) → left bytes.now ≡ b ∷ rest → result ≡ (b == 82) }
-    ensures some { IsTrue result → slice_get (left bytes.now) 0 ≡ Some 82 }
+    ensures first { (b : ℕ) (rest : List ℕ) → left bytes.now ≡ b ∷ rest → result ≡ (b == ask_byte) }
+    ensures some { IsTrue result → slice_get (left bytes.now) 0 ≡ Some ask_byte }
 {
     match bytes.peek() {
         Some(byte) => byte == b'R',

@@ -54,6 +54,16 @@ numeral_of w =
 abbrev pub unit_power : ℕ
 unit_power = 36
 
+-- 1 itself; a picosecond, of a number that tells seconds; and 10 ^ 12 hertz, of which a period is a picosecond
+abbrev pub whole_units : ℕ
+whole_units = 10 ^ unit_power
+
+abbrev pub picosecond_units : ℕ
+picosecond_units = 10 ^ 24
+
+abbrev pub terahertz_units : ℕ
+terahertz_units = 10 ^ 48
+
 -- the power of ten of the last mantissa digit, in those units
 abbrev pub power_of : Numeral → ℕ
 power_of n = if n.negative then unit_power - length n.fraction - digits_value 10 n.exponent
@@ -72,23 +82,23 @@ numeral_value (Some n) =
 unfoldable pub number_value : Word → Result ℕ Code
 number_value w = numeral_value (numeral_of w)
 
--- 10 ^ 12 ps over the frequency, rounded up
+-- a second, which is 10 ^ 12 ps, over the frequency, rounded up
 abbrev pub period_within : Limits → ℕ → Result ℕ Code
 period_within l units =
     if units == 0 then Err code.BadNumber
-    else if nat_lt l.picoseconds (div_ceil (10 ^ 48) units) then Err code.TooLarge
-    else Ok (div_ceil (10 ^ 48) units)
+    else if nat_lt l.picoseconds (div_ceil terahertz_units units) then Err code.TooLarge
+    else Ok (div_ceil terahertz_units units)
 
--- 10 ^ 24 units are a picosecond: a time in picoseconds, rounded up
+-- a time in picoseconds, rounded up
 abbrev pub time_within : Limits → ℕ → Result ℕ Code
 time_within l units =
-    if nat_lt l.picoseconds (div_ceil units (10 ^ 24)) then Err code.TooLarge else Ok (div_ceil units (10 ^ 24))
+    if nat_lt l.picoseconds (div_ceil units picosecond_units) then Err code.TooLarge else Ok (div_ceil units picosecond_units)
 
--- 10 ^ 36 units are 1: a count, which is whole
+-- a count, which is whole
 abbrev pub count_within : Limits → ℕ → Result ℕ Code
 count_within l units =
-    if units % 10 ^ 36 == 0 then (if nat_lt l.cycles (units / 10 ^ 36) then Err code.TooLarge
-    else Ok (units / 10 ^ 36)) else Err code.BadNumber
+    if units % whole_units == 0 then (if nat_lt l.cycles (units / whole_units) then Err code.TooLarge
+    else Ok (units / whole_units)) else Err code.BadNumber
 
 -- what a number of units says, if the number has a value
 abbrev pub valued : (ℕ → Result ℕ Code) → Result ℕ Code → Result ℕ Code

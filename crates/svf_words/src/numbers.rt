@@ -92,7 +92,7 @@ pub fn time(word: &[u8]) -> Result<u64, Code>
 fn picoseconds(mantissa: u64, zeros: u32) -> u128
     requires mantissa { mantissa < 10 ^ digit_limit }
     requires zeros { zeros ≤ 42 }
-    ensures { result ≡ div_ceil (mantissa * 10 ^ zeros) (10 ^ 24) }
+    ensures { result ≡ div_ceil (mantissa * 10 ^ zeros) spec.picosecond_units }
 {
     if zeros >= 24 {
         u128::from(mantissa) * 10u128.pow(zeros - 24)
@@ -120,7 +120,7 @@ pub fn count(word: &[u8]) -> Result<u32, Code>
 fn whole(mantissa: u64, zeros: u32) -> Option<u128>
     requires mantissa { mantissa < 10 ^ digit_limit }
     requires zeros { zeros ≤ spec.unit_power + exponent_limit }
-    ensures { MatchOption result ((mantissa * 10 ^ zeros) % 10 ^ 36 ≢ 0) (λ n. mantissa * 10 ^ zeros ≡ n * 10 ^ 36) }
+    ensures { MatchOption result ((mantissa * 10 ^ zeros) % spec.whole_units ≢ 0) (λ n. mantissa * 10 ^ zeros ≡ n * spec.whole_units) }
 {
     let mantissa = u128::from(mantissa);
     if zeros >= 36 {

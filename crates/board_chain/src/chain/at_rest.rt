@@ -19,9 +19,8 @@ ghost use Rattle.scan_vectors.specs.Vector.{tdis};
 
 use super::Chain;
 use super::settling::put_anew;
-use board_chips::{DrivingPins, WiredChip, WiredString};
+use board_chips::{DrivingPins, WiredChip, WiredString, Wiring};
 use board_scan::{note_chain, shift_chain};
-use board_wiring::Wiring;
 use jt_tap::{Column, State};
 use scan_vectors::{Failures, Vector};
 

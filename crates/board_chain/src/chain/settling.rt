@@ -4,8 +4,7 @@ ghost use Rattle.std.specs.Prelude.{◌≡◌, map};
 ghost use Rattle.board_chain.specs.Settled.{IsSettled, WasSettled};
 ghost use Rattle.board_chips.specs.Strings.{less_core};
 
-use board_chips::{DrivingPins, WiredChip, WiredString, refresh_driving, settle};
-use board_wiring::Wiring;
+use board_chips::{DrivingPins, WiredChip, WiredString, Wiring, refresh_driving, settle};
 
 /// Devices whose registers have changed put what they drive to the nets, by the core bits that they held; then the
 /// strings, each behind those that its source's net depends on, make the core bits that are in force.

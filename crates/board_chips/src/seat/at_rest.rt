@@ -13,7 +13,7 @@ ghost use Rattle.jt_tap.specs.declared.Work.TheVariants.{Captures};
 ghost use Rattle.chip_instructions.specs.Instruction.{meaning};
 
 use super::WiredChip;
-use board_wiring::Wiring;
+use crate::wiring::Wiring;
 use jt_tap::{Column, State};
 use scan_registers::{Link, Mode, Selected, WordLink, same_bits};
 

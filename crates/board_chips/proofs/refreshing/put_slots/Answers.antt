@@ -1,6 +1,6 @@
 use Rattle.std.proofs.Common.{◌≡◌, ◌+◌, ℕ, Some, length, set, slice_get, slice_index, sym, ap, ◌∙◌}
 use Rattle.jt_bits.specs.Packed.{has_bit}
-use Rattle.board_wiring.specs.Wires.{WiringValue}
+use Rattle.board_chips.specs.WiringValues.{WiringValue}
 use Rattle.board_chips.specs.Tables.{targets}
 use Rattle.boundary.proofs.MaskLaws.{zero_bit}
 use Rattle.board_chips.proofs.RefreshLaws.{done_more, part_more}

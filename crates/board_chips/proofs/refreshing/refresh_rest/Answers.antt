@@ -5,7 +5,7 @@ use Rattle.std.proofs.lemmas.Option.{same_Some, slice_get-get_or, slice_get_with
 use Rattle.pin_nets.specs.Wired.{Net}
 use Rattle.pin_nets.specs.declared.Drive.{Drive}
 use Rattle.board_plan.specs.Planned.{all_pins}
-use Rattle.board_wiring.specs.Wires.{WiringValue}
+use Rattle.board_chips.specs.WiringValues.{WiringValue}
 use Rattle.board_chips.specs.Driving.{entry_drives}
 use Rattle.board_chips.specs.WiredChips.{held_of}
 use Rattle.board_chips.specs.Tables.{Settled, Settles, targets}

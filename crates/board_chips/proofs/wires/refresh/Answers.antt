@@ -3,7 +3,7 @@ use Rattle.std.proofs.lemmas.Option.{slice_get_read}
 use Rattle.pin_nets.specs.Wired.{Net}
 use Rattle.board_plan.specs.Planned.{all_pins}
 use Rattle.board_model.specs.Nets.{pin_drive}
-use Rattle.board_wiring.specs.Wires.{WiringValue}
+use Rattle.board_chips.specs.WiringValues.{WiringValue}
 use Rattle.board_chips.specs.WiredChips.{held_of}
 use Rattle.board_chips.proofs.PutLaws.{pin_by_seat, put_more, seat_of}
 use Rattle.board_chips.proofs.wires.refresh.Goals as goal

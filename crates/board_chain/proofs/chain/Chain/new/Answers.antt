@@ -16,7 +16,7 @@ use Rattle.board_chips.specs.Building.{seats_of, IsReady as HasReadyChips}
 use Rattle.board_chips.specs.Driving.{cells_of}
 use Rattle.board_chips.specs.WiredChips.{AllTold, WiredChipValue, chip_state, held_of, member_of}
 use Rattle.board_chips.specs.Strings.{AreStrung, placed_of}
-use Rattle.board_wiring.specs.Wires.{WiringValue}
+use Rattle.board_chips.specs.WiringValues.{WiringValue}
 use Rattle.board_chips.specs.Wires.{IsWired}
 use Rattle.board_chips.proofs.BuildLaws.{seats_told, start_seated, start_wired}
 use Rattle.board_chain.specs.Ready.{IsReady}

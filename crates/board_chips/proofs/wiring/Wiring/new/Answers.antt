@@ -3,7 +3,7 @@ use Rattle.pin_nets.specs.Building.{HasPinsBelow, net_value}
 use Rattle.pin_nets.specs.Places.{IsOnce}
 use Rattle.board_plan.specs.View.{net as planned_net}
 use Rattle.board_plan.proofs.NumberLaws.{numbered_below, numbered_once}
-use Rattle.board_wiring.proofs.wiring.Wiring.new.Goals as goal
+use Rattle.board_chips.proofs.wiring.Wiring.new.Goals as goal
 
 pub build-requires-clause-once : goal.build-requires-clause-once
 build-requires-clause-once c =

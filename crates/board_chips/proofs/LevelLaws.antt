@@ -12,7 +12,7 @@ use Rattle.pin_nets.specs.Levels.{drive_at, level, level_of, pull_drive, reads}
 use Rattle.pin_nets.specs.Wired.{Net}
 use Rattle.board_plan.specs.Planned.{all_pins}
 use Rattle.board_plan.specs.PinNumbers.{with_pin_numbers}
-use Rattle.board_wiring.specs.Wires.{all_nets}
+use Rattle.board_chips.specs.WiringValues.{all_nets}
 
 pub length-numbered : (k : ℕ) (ns : List Net) → length (with_pin_numbers k ns) ≡ length ns
 length-numbered k [] = refl

@@ -4,10 +4,10 @@ use Rattle.pin_nets.specs.declared.Pin.{Pin}
 use Rattle.pin_nets.specs.Levels.{NetValue, level, level_of, pull_drive, reads}
 use Rattle.board_plan.specs.PinNumbers.{with_pin_numbers}
 use Rattle.board_plan.specs.Planned.{all_pins}
-use Rattle.board_wiring.specs.Wires.{WiringValue}
-use Rattle.board_wiring.specs.contracts.wiring.Wiring.{the_view}
-use Rattle.board_wiring.proofs.LevelLaws.{net_there, seen_driven, seen_put}
-use Rattle.board_wiring.proofs.wiring.Wiring.seen.Goals as goal
+use Rattle.board_chips.specs.WiringValues.{WiringValue}
+use Rattle.board_chips.specs.contracts.wiring.Wiring.{the_view}
+use Rattle.board_chips.proofs.LevelLaws.{net_there, seen_driven, seen_put}
+use Rattle.board_chips.proofs.wiring.Wiring.seen.Goals as goal
 
 pub seen-requires : goal.seen-requires
 seen-requires c =

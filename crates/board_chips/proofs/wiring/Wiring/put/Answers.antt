@@ -1,8 +1,8 @@
 use Rattle.std.proofs.Common.{◌≡◌, ap, sym, ◌∙◌, slice_get, Some}
 use Rattle.pin_nets.specs.declared.Drive.{Drive as TheDrive}
-use Rattle.board_wiring.specs.Wires.{WiringValue}
-use Rattle.board_wiring.proofs.LevelLaws.{set-same}
-use Rattle.board_wiring.proofs.wiring.Wiring.put.Goals as goal
+use Rattle.board_chips.specs.WiringValues.{WiringValue}
+use Rattle.board_chips.proofs.LevelLaws.{set-same}
+use Rattle.board_chips.proofs.wiring.Wiring.put.Goals as goal
 
 pub returns-then-is_same : goal.returns-then-is_same
 returns-then-is_same c =

@@ -9,7 +9,7 @@ ghost use Rattle.pin_nets.specs.Levels as levels;
 ghost use Rattle.board_plan.specs.PinNumbers.{with_pin_numbers};
 ghost use Rattle.board_plan.specs.Planned.{all_pins};
 ghost use Rattle.board_plan.specs.View.{net as planned_net};
-ghost use Rattle.board_wiring.specs.Wires.{WiringValue};
+ghost use Rattle.board_chips.specs.WiringValues.{WiringValue};
 
 use board_plan::{PlannedNet, number_nets};
 use pin_nets::{Drive, Level, Nets, Pin};
@@ -29,7 +29,7 @@ impl Model for Wiring {
     ghost use Rattle.std.specs.Prelude.{◌≡◌, map, length};
     ghost use Rattle.board_plan.specs.Planned.{all_pins};
     ghost use Rattle.board_plan.specs.View.{net as planned_net};
-    ghost use Rattle.board_wiring.specs.Wires.{WiringValue, all_nets};
+    ghost use Rattle.board_chips.specs.WiringValues.{WiringValue, all_nets};
 
     ghost Value = { WiringValue };
 
