@@ -1,30 +1,17 @@
 //! The fields of a scan.
-ghost use Rattle.std.specs.Prelude.{◌≡◌, ◌++◌, List, ℕ, IfOk, IfSome, MatchBool, Some, None, option_map};
+ghost use Rattle.std.specs.Prelude.{◌≡◌, ◌++◌, List, ℕ, IfOk, MatchBool, Some, None, option_map};
 ghost use Rattle.std.specs.Prelude.{if◌then◌else◌};
 ghost use Rattle.svf_lex.specs.Left.{left};
 ghost use Rattle.svf_words.specs.Words.{words_left};
 ghost use Rattle.svf_parse.specs.Behind.{Behind};
 ghost use Rattle.svf_parse.specs.Fields as spec;
 ghost use Rattle.svf_parse.specs.Fields.{◌>>?◌, Closed, cut_at_close, no_fields, fields_say};
-ghost use Rattle.svf_parse.specs.FormView.{fields, bytes_of, digits_of, given, lent};
+ghost use Rattle.svf_parse.specs.FormView.{digits_of, fields, given};
 
 use std::alloc::{AllocError, Global};
 use svf_lex::Lexer;
 use svf_words::keywords::{FieldName, field_of};
 use svf_words::words::{is_close, is_open, take_word};
-
-/// The hexadecimal digits of each field that is given, as they are written.
-#[derive(Debug, Drop)]
-pub struct Fields {
-    /// What goes in (TDI).
-    pub tdi: Option<Vec<u8>>,
-    /// What must come out (TDO).
-    pub tdo: Option<Vec<u8>>,
-    /// Which bits of TDO count (MASK).
-    pub mask: Option<Vec<u8>>,
-    /// Which bits of TDI count (SMASK).
-    pub smask: Option<Vec<u8>>,
-}
 
 /// The hexadecimal digits of a field as they are written: one run of the text, or any number of runs, joined.
 #[derive(Debug, Drop)]
@@ -47,9 +34,9 @@ impl<'a> Digits<'a> {
     }
 }
 
-/// [`Fields`], but that digits which are one run are not copied.
+/// The hexadecimal digits of each field that is given, as they are written. Digits that are one run are not copied.
 #[derive(Debug, Drop)]
-pub struct LentFields<'a> {
+pub struct Fields<'a> {
     /// What goes in (TDI).
     pub tdi: Option<Digits<'a>>,
     /// What must come out (TDO).
@@ -60,43 +47,18 @@ pub struct LentFields<'a> {
     pub smask: Option<Digits<'a>>,
 }
 
-/// The fields that the words up to the `;` are: each a name and digits between brackets, at most once. There are none
-/// where the words are anything else. Memory is taken for the digits. Refuses for want of memory alone.
-pub fn fields_of(alloc: Global, words: Lexer<'_>) -> Result<Option<Fields>, AllocError>
-    ensures { IfOk result (λ o. option_map fields o ≡ fields_say no_fields (cut_at_close (words_left words.entry))) }
-{
-    match lent_fields(alloc, words)? {
-        Some((all, _)) => Ok(Some(copied(alloc, all)?)),
-        None => Ok(None),
-    }
-}
-
-/// The same, where memory is taken for digits of more than one run alone, and the lexer behind the fields.
-pub fn lent_fields<'a>(
-    alloc: Global,
-    words: Lexer<'a>,
-) -> Result<Option<(LentFields<'a>, Lexer<'a>)>, AllocError>
-    ensures says { IfOk result
-        (λ o. option_map (λ p. lent p.0) o ≡ fields_say no_fields (cut_at_close (words_left words.entry))) }
-    ensures behind { IfOk result (λ o. IfSome o (λ p. Behind (left words.entry) (left p.1))) }
-{
-    let mut rest = words;
-    match take_fields(alloc, &mut rest)? {
-        Some(all) => Ok(Some((all, rest))),
-        None => Ok(None),
-    }
-}
-
-/// The same, taken from a lexer, which stands behind the words that were read, also where they are no fields.
+/// Takes the fields that the words up to the `;` are: each a name and digits between brackets, at most once. There are
+/// none where the words are anything else; the lexer stands behind the words that were read, also then. Memory is taken
+/// for digits of more than one run. Refuses for want of memory alone.
 pub(crate) fn take_fields<'a>(
     alloc: Global,
     words: &mut Lexer<'a>,
-) -> Result<Option<LentFields<'a>>, AllocError>
+) -> Result<Option<Fields<'a>>, AllocError>
     ensures says { IfOk result
-        (λ o. option_map lent o ≡ fields_say no_fields (cut_at_close (words_left words.old))) }
+        (λ o. option_map fields o ≡ fields_say no_fields (cut_at_close (words_left words.old))) }
     ensures behind { Behind (left words.old) (left words.new) }
 {
-    let mut all = LentFields {
+    let mut all = Fields {
         tdi: None,
         tdo: None,
         mask: None,
@@ -116,35 +78,9 @@ pub(crate) fn take_fields<'a>(
     Ok(Some(all))
 }
 
-/// The same fields with digits of their own.
-pub(crate) fn copied(alloc: Global, all: LentFields<'_>) -> Result<Fields, AllocError>
-    ensures { IfOk result (λ f. fields f ≡ lent all.entry) }
-{
-    Ok(Fields {
-        tdi: copy(alloc, all.tdi)?,
-        tdo: copy(alloc, all.tdo)?,
-        mask: copy(alloc, all.mask)?,
-        smask: copy(alloc, all.smask)?,
-    })
-}
-
-fn copy(alloc: Global, digits: Option<Digits<'_>>) -> Result<Option<Vec<u8>>, AllocError>
-    ensures { IfOk result (λ o. bytes_of o ≡ given digits.entry) }
-{
-    match digits {
-        None => Ok(None),
-        Some(Digits::Joined(digits)) => Ok(Some(digits)),
-        Some(Digits::Run(run)) => {
-            let mut digits = Vec::new(alloc);
-            digits.extend_from_slice(run)?;
-            Ok(Some(digits))
-        }
-    }
-}
-
 /// Puts a field's digits, unless it is given already.
-fn put<'a>(all: &mut LentFields<'a>, name: FieldName, digits: Digits<'a>) -> bool
-    ensures { spec.put name (digits_of digits.entry) (lent all.old) ≡ (if result then Some (lent all.new) else None) }
+fn put<'a>(all: &mut Fields<'a>, name: FieldName, digits: Digits<'a>) -> bool
+    ensures { spec.put name (digits_of digits.entry) (fields all.old) ≡ (if result then Some (fields all.new) else None) }
 {
     match name {
         FieldName::Tdi => put_once(&mut all.tdi, digits),

@@ -1,5 +1,5 @@
 //! The forms of the statements.
-ghost use Rattle.std.specs.Prelude.{◌≡◌, List, Option, IfOk, IfSome, option_map};
+ghost use Rattle.std.specs.Prelude.{◌≡◌, List, Option, IfOk, option_map};
 ghost use Rattle.jt_tap.specs.declared.State as declared_state;
 ghost use Rattle.svf_lex.specs.Left.{left};
 ghost use Rattle.svf_words.specs.Words.{Word, words_left};
@@ -9,7 +9,7 @@ ghost use Rattle.svf_parse.specs.Forms.{scan_form};
 ghost use Rattle.svf_words.specs.declared.keywords.Which as declared_which;
 ghost use Rattle.svf_parse.specs.FormView as view;
 
-use crate::fields::{Fields, LentFields, copied, take_fields};
+use crate::fields::{Fields, take_fields};
 use crate::run_test::{RunTest, take_run_test};
 use jt_tap::State;
 use std::alloc::{AllocError, Global};
@@ -17,7 +17,8 @@ use svf_lex::Lexer;
 use svf_words::keywords::{Command, TrstWord, Which, state_of, trst_of};
 use svf_words::words::{is_number, reads, take_word};
 
-/// A statement as it is written: each number as its word, each field as its digits.
+/// A statement as it is written: each number as its word, each field as its digits. Those that are one run are lent by
+/// the text.
 #[derive(Debug, Drop)]
 pub enum Written<'a> {
     /// `ENDDR state`.
@@ -27,7 +28,7 @@ pub enum Written<'a> {
     /// `FREQUENCY [number HZ]`.
     Frequency(Option<&'a [u8]>),
     /// `HDR`, `HIR`, `TDR`, `TIR`, `SDR` or `SIR`, its length and its fields.
-    Scan(Which, &'a [u8], Fields),
+    Scan(Which, &'a [u8], Fields<'a>),
     /// `RUNTEST` and its parts.
     RunTest(RunTest<'a>),
     /// `STATE` and its states, at least one.
@@ -38,99 +39,30 @@ pub enum Written<'a> {
     Port,
 }
 
-/// [`Written`], but that digits of a scan's field which are one run are not copied.
-#[derive(Debug, Drop)]
-pub enum LentForm<'a> {
-    /// `ENDDR state`.
-    EndDr(State),
-    /// `ENDIR state`.
-    EndIr(State),
-    /// `FREQUENCY [number HZ]`.
-    Frequency(Option<&'a [u8]>),
-    /// `HDR`, `HIR`, `TDR`, `TIR`, `SDR` or `SIR`, its length and its fields.
-    Scan(Which, &'a [u8], LentFields<'a>),
-    /// `RUNTEST` and its parts.
-    RunTest(RunTest<'a>),
-    /// `STATE` and its states, at least one.
-    States(Vec<State>),
-    /// `TRST` and its word.
-    Trst(TrstWord),
-    /// `PIO` or `PIOMAP`, whatever follows.
-    Port,
-}
-
-/// The form that the words after a command have, up to the `;`. There is none where they do not fit the command. Memory
-/// is taken for the digits of fields and for the states of a path. Refuses for want of memory alone.
-pub fn form_of<'a>(
-    alloc: Global,
-    command: Command,
-    words: Lexer<'a>,
-) -> Result<Option<Written<'a>>, AllocError>
-    ensures { IfOk result (λ o. option_map view.form o ≡ spec.form_of command (words_left words.entry)) }
-{
-    let Some((form, _)) = lent_form(alloc, command, words)? else {
-        return Ok(None);
-    };
-    Ok(Some(with_own_digits(alloc, form)?))
-}
-
-/// The same form with digits of its own.
-fn with_own_digits<'a>(alloc: Global, form: LentForm<'a>) -> Result<Written<'a>, AllocError>
-    ensures { IfOk result (λ w. view.form w ≡ view.lent_form form.entry) }
-{
-    Ok(match form {
-        LentForm::EndDr(state) => Written::EndDr(state),
-        LentForm::EndIr(state) => Written::EndIr(state),
-        LentForm::Frequency(number) => Written::Frequency(number),
-        LentForm::Scan(which, len, fields) => Written::Scan(which, len, copied(alloc, fields)?),
-        LentForm::RunTest(test) => Written::RunTest(test),
-        LentForm::States(states) => Written::States(states),
-        LentForm::Trst(word) => Written::Trst(word),
-        LentForm::Port => Written::Port,
-    })
-}
-
-/// The same, with fields that the text lends, and the lexer behind the words that were read, so that nobody has to look
-/// for the `;` through all of them.
-pub fn lent_form<'a>(
-    alloc: Global,
-    command: Command,
-    words: Lexer<'a>,
-) -> Result<Option<(LentForm<'a>, Option<Lexer<'a>>)>, AllocError>
-    ensures says { IfOk result
-        (λ o. option_map (λ p. view.lent_form p.0) o ≡ spec.form_of command (words_left words.entry)) }
-    ensures behind { IfOk result
-        (λ o. IfSome o (λ p. IfSome p.1 (λ rest. Behind (left words.entry) (left rest)))) }
-{
-    let mut rest = words;
-    match take_form(alloc, command, &mut rest)? {
-        Some(form) => Ok(Some((form, Some(rest)))),
-        None => Ok(None),
-    }
-}
-
-/// The same, taken from a lexer, which stands behind the words that were read, also where they have no form.
+/// Takes the form that the words after a command have, up to the `;`. There is none where they do not fit the command;
+/// the lexer stands behind the words that were read, also then. Memory is taken for the digits of fields that are more
+/// than one run, and for the states of a path. Refuses for want of memory alone.
 pub fn take_form<'a>(
     alloc: Global,
     command: Command,
     words: &mut Lexer<'a>,
-) -> Result<Option<LentForm<'a>>, AllocError>
+) -> Result<Option<Written<'a>>, AllocError>
     ensures says { IfOk result
-        (λ o. option_map view.lent_form o ≡ spec.form_of command (words_left words.old)) }
+        (λ o. option_map view.form o ≡ spec.form_of command (words_left words.old)) }
     ensures behind { Behind (left words.old) (left words.new) }
 {
     Ok(match command {
         Command::Scan(which) => match take_scan(alloc, words)? {
-            Some((len, fields)) => Some(LentForm::Scan(which, len, fields)),
+            Some((len, fields)) => Some(Written::Scan(which, len, fields)),
             None => None,
         },
-        Command::RunTest => take_run_test(words).map(|test| LentForm::RunTest(test)),
-        Command::State => some_states(alloc, words)?.map(|all| LentForm::States(all)),
-        Command::EndDr => one_state(words).map(|state| LentForm::EndDr(state)),
-        Command::EndIr => one_state(words).map(|state| LentForm::EndIr(state)),
-        Command::Frequency => hertz(words).map(|number| LentForm::Frequency(number)),
-        Command::Trst => one_trst(words).map(|word| LentForm::Trst(word)),
-        Command::Pio | Command::PioMap => Some(LentForm::Port),
+        Command::RunTest => take_run_test(words).map(|test| Written::RunTest(test)),
+        Command::State => some_states(alloc, words)?.map(|all| Written::States(all)),
+        Command::EndDr => one_state(words).map(|state| Written::EndDr(state)),
+        Command::EndIr => one_state(words).map(|state| Written::EndIr(state)),
+        Command::Frequency => hertz(words).map(|number| Written::Frequency(number)),
+        Command::Trst => one_trst(words).map(|word| Written::Trst(word)),
+        Command::Pio | Command::PioMap => Some(Written::Port),
     })
 }
 
@@ -202,9 +134,9 @@ fn hertz<'a>(words: &mut Lexer<'a>) -> Option<Option<&'a [u8]>>
 fn take_scan<'a>(
     alloc: Global,
     words: &mut Lexer<'a>,
-) -> Result<Option<(&'a [u8], LentFields<'a>)>, AllocError>
+) -> Result<Option<(&'a [u8], Fields<'a>)>, AllocError>
     ensures says { (which : declared_which.Which) → IfOk result
-        (λ o. option_map (λ p. scan_form which p.0.now (view.lent p.1)) o
+        (λ o. option_map (λ p. scan_form which p.0.now (view.fields p.1)) o
         ≡ spec.scan_of which (words_left words.old)) }
     ensures behind { Behind (left words.old) (left words.new) }
 {

@@ -7,14 +7,14 @@ ghost use Rattle.svf_parse.specs.Forms.{scan_form};
 ghost use Rattle.svf_words.specs.Words.{Word};
 ghost use Rattle.svf_words.specs.Numbers as numbers_spec;
 ghost use Rattle.svf_parse.specs.FormView as view;
-ghost use Rattle.svf_parse.specs.FormView.{lent, given};
+ghost use Rattle.svf_parse.specs.FormView.{given};
 ghost use Rattle.svf_parse.specs.View.{Adds, said_of};
 ghost use Rattle.std.specs.Vec.{vec_len};
 ghost use Rattle.svf_words.specs.declared.keywords.Clock as declared_clock;
 
 use crate::fault::Refusal;
-use crate::fields::{Digits, LentFields};
-use crate::forms::LentForm;
+use crate::fields::{Digits, Fields};
+use crate::forms::Written;
 use crate::run_test::RunTest;
 use crate::statement::Statement;
 use jt_bits::{Bits, digits_have_one_beyond, is_hexadecimal};
@@ -23,27 +23,23 @@ use svf_words::keywords::{Clock, Which};
 use svf_words::{Code, count, length, length_value, period, time};
 
 /// Adds the statement, or gives the refusal with the lowest number among its own.
-pub(crate) fn say(
-    alloc: Global,
-    form: LentForm<'_>,
-    all: &mut Vec<Statement>,
-) -> Result<(), Refusal>
-    ensures adds { Adds result all.old.items all.new.items (spec.form_says (view.lent_form form.entry)) }
+pub(crate) fn say(alloc: Global, form: Written<'_>, all: &mut Vec<Statement>) -> Result<(), Refusal>
+    ensures adds { Adds result all.old.items all.new.items (spec.form_says (view.form form.entry)) }
     ensures count { IfOk result (λ _. vec_len all.new ≡ vec_len all.old + 1) }
 {
     match form {
-        LentForm::EndDr(state) => put(all, Statement::EndDr(state)),
-        LentForm::EndIr(state) => put(all, Statement::EndIr(state)),
-        LentForm::Frequency(None) => put(all, Statement::Frequency(None)),
-        LentForm::Frequency(Some(word)) => match period(word) {
+        Written::EndDr(state) => put(all, Statement::EndDr(state)),
+        Written::EndIr(state) => put(all, Statement::EndIr(state)),
+        Written::Frequency(None) => put(all, Statement::Frequency(None)),
+        Written::Frequency(Some(word)) => match period(word) {
             Ok(period) => put(all, Statement::Frequency(Some(period))),
             Err(code) => Err(Refusal::Code(code)),
         },
-        LentForm::Scan(which, len, fields) => scan(alloc, which, len, fields, all),
-        LentForm::RunTest(test) => run_test(test, all),
-        LentForm::States(states) => put(all, Statement::States(states)),
-        LentForm::Trst(word) => put(all, Statement::Trst(word)),
-        LentForm::Port => Err(Refusal::Code(Code::Unsupported)),
+        Written::Scan(which, len, fields) => scan(alloc, which, len, fields, all),
+        Written::RunTest(test) => run_test(test, all),
+        Written::States(states) => put(all, Statement::States(states)),
+        Written::Trst(word) => put(all, Statement::Trst(word)),
+        Written::Port => Err(Refusal::Code(Code::Unsupported)),
     }
 }
 
@@ -89,18 +85,18 @@ fn scan(
     alloc: Global,
     which: Which,
     len: &[u8],
-    fields: LentFields<'_>,
+    fields: Fields<'_>,
     all: &mut Vec<Statement>,
 ) -> Result<(), Refusal>
     ensures adds { Adds result all.old.items all.new.items
-        (spec.form_says (scan_form which len.now (lent fields.entry))) }
+        (spec.form_says (scan_form which len.now (view.fields fields.entry))) }
     ensures count { IfOk result (λ _. vec_len all.new ≡ vec_len all.old + 1) }
 {
     let len = match scan_length(len, &fields) {
         Ok(len) => len,
         Err(code) => return Err(Refusal::Code(code)),
     };
-    let LentFields {
+    let Fields {
         tdi,
         tdo,
         mask,
@@ -127,8 +123,8 @@ fn scan(
 
 /// The length of a scan, unless it or a field is refused.
 #[tactic(auto, unfolding(crate::specs::Judging::scan_says_within))]
-fn scan_length(len: &[u8], all: &LentFields<'_>) -> Result<usize, Code>
-    ensures { result ≡ spec.scan_says len.now (lent all.now) }
+fn scan_length(len: &[u8], all: &Fields<'_>) -> Result<usize, Code>
+    ensures { result ≡ spec.scan_says len.now (view.fields all.now) }
 {
     let value = length_value(len);
     let says = checked(field_fault(value, digits_in(&all.smask)), length(len));

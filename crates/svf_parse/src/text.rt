@@ -18,7 +18,7 @@ ghost use Rattle.svf_parse.specs.View.{Gives, Tells, Stops, Fails, Takes, Parses
 ghost use Rattle.svf_parse.specs.View.{form_behind, said_of, memory_fault};
 
 use crate::fault::{Refusal, Stop};
-use crate::forms::{LentForm, take_form};
+use crate::forms::{Written, take_form};
 use crate::judging::say;
 use crate::statement::Statement;
 use jt_limits::LIMITS;
@@ -170,12 +170,8 @@ fn stop_at(number: usize, refusal: Refusal) -> Stop
 
 /// The form of a statement of this word and those at the lexer, which then stands behind the words that were read, also
 /// where they have no form.
-fn form_at<'a>(
-    alloc: Global,
-    word: &'a [u8],
-    words: &mut Lexer<'a>,
-) -> Result<LentForm<'a>, Refusal>
-    ensures says { Gives view.lent_form result (form_behind word.now (words_left words.old)) }
+fn form_at<'a>(alloc: Global, word: &'a [u8], words: &mut Lexer<'a>) -> Result<Written<'a>, Refusal>
+    ensures says { Gives view.form result (form_behind word.now (words_left words.old)) }
     ensures behind { Behind (left words.old) (left words.new) }
 {
     let Some(command) = command_of(word) else {

@@ -1,27 +1,10 @@
 //! The words of a statement, one after another.
-ghost use Rattle.std.specs.Prelude.{◌≡◌, ◌∷◌, [], MatchOption, IfSome, drop};
+ghost use Rattle.std.specs.Prelude.{◌≡◌, ◌∷◌, [], MatchOption};
 ghost use Rattle.svf_lex.specs.Left.{left};
 ghost use Rattle.svf_words.specs.Words as spec;
 ghost use Rattle.svf_words.specs.Words.{words_left, groups_of, with_word};
 
-use svf_lex::{Kind, Lexer};
-
-/// The next word of the statement, and the lexer after it. There is none at the `;`, at the text's end and at a fault.
-#[tactic(auto, unfolding(crate::specs::Words::words_left))]
-pub fn next_word<'a>(lexer: Lexer<'a>) -> Option<(&'a [u8], Lexer<'a>)>
-    ensures word { MatchOption result (words_left lexer.entry ≡ [])
-        (λ p. words_left lexer.entry ≡ p.0.now ∷ words_left p.1) }
-    ensures after { IfSome result (λ p. left p.1 ≡ drop 1 (left lexer.entry)) }
-{
-    let mut after = lexer;
-    match after.next() {
-        Some(Ok(token)) => match token.kind {
-            Kind::Semi => None,
-            _ => Some((token.text, after)),
-        },
-        _ => None,
-    }
-}
+use svf_lex::Lexer;
 
 /// Takes the next word of the statement. There is none at the `;`, at the text's end and at a fault: what is left stays
 /// then, but the gap before that is passed, so that nobody walks through it again.

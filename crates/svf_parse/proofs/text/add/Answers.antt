@@ -35,7 +35,7 @@ returns-in-Ok-say-clause-takes c =
     rw c.len-number.ensures
     (refused_behind (vec_len c.args.all.now + 1) c.args.word.now (groups_of (left c.args.words)) end.0 after (stop.Fault (record { statement = vec_len c.args.all.now + 1; code = code.TooLarge })) end.1
     (past_limit (vec_len c.args.all.now + 1) (c.args.word.now ∷ words_left c.args.words) (said_of c.in-Ok-say.ensures.adds.0)
-    (form_said c.args.word.now (words_left c.args.words) (view.lent_form c.in-Ok.form) (said_of c.in-Ok-say.ensures.adds.0) c.in-Ok.ensures.says c.in-Ok-say.ensures.adds.2)
+    (form_said c.args.word.now (words_left c.args.words) (view.form c.in-Ok.form) (said_of c.in-Ok-say.ensures.adds.0) c.in-Ok.ensures.says c.in-Ok-say.ensures.adds.2)
     (omega (arith, c.if-number-gt-STATEMENT_LIMIT.true, c.len-number.ensures))))
 
 pub returns-in-Ok-2-clause-takes : goal.returns-in-Ok-2-clause-takes
@@ -49,7 +49,7 @@ returns-in-Ok-2-clause-takes c =
       c.in-Ok-say.ensures.adds.1,
       taken_behind (vec_len c.args.all.now + 1) c.args.word.now (groups_of (left c.args.words)) end.0 after (said_of c.in-Ok-say.ensures.adds.0) end.1
           (inside_limit (vec_len c.args.all.now + 1) (c.args.word.now ∷ words_left c.args.words) (said_of c.in-Ok-say.ensures.adds.0)
-          (form_said c.args.word.now (words_left c.args.words) (view.lent_form c.in-Ok.form) (said_of c.in-Ok-say.ensures.adds.0) c.in-Ok.ensures.says c.in-Ok-say.ensures.adds.2)
+          (form_said c.args.word.now (words_left c.args.words) (view.form c.in-Ok.form) (said_of c.in-Ok-say.ensures.adds.0) c.in-Ok.ensures.says c.in-Ok-say.ensures.adds.2)
           (omega (arith, c.if-number-gt-STATEMENT_LIMIT.false, c.len-number.ensures))),
     )
 
@@ -61,4 +61,4 @@ returns-in-Err-say-clause-takes c =
     refused_behind (vec_len c.args.all.now + 1) c.args.word.now (groups_of (left c.args.words)) end.0 after c.stop_at-in-Err-say.result end.1
     (rw c.len-number.ensures at
     (c.stop_at-in-Err-say.ensures (statement_says (c.args.word.now ∷ words_left c.args.words))
-    (said_fails c.args.word.now (words_left c.args.words) (view.lent_form c.in-Ok.form) c.in-Err-say.refusal c.in-Ok.ensures.says c.in-Err-say.ensures.adds)))
+    (said_fails c.args.word.now (words_left c.args.words) (view.form c.in-Ok.form) c.in-Err-say.refusal c.in-Ok.ensures.says c.in-Err-say.ensures.adds)))
