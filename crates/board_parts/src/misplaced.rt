@@ -1,4 +1,4 @@
-//! Texts that name no pin, and pins that stand twice.
+//! Pins that stand twice.
 ghost use Rattle.std.specs.Prelude.{◌≡◌, option_map, ◌++◌, ◌∷◌, [], not, true, IfOk, None};
 ghost use Rattle.std.specs.List.{list_any, filter_map};
 ghost use Rattle.toml.specs.View.{items_view};
@@ -12,45 +12,6 @@ use chip_instructions::SharedDevice;
 use pin_nets::Pin;
 use std::alloc::{AllocError, Global};
 use toml::Value;
-
-/// The first text among the pins of all nets that names no pin. Refuses for want of memory alone.
-pub fn first_unknown<'t>(
-    alloc: Global,
-    names: &Places<&str>,
-    devices: &[SharedDevice],
-    nets: &'t [Value],
-) -> Result<Option<&'t str>, AllocError>
-    ensures { IfOk result (λ r. option_map (λ s. s.now) r
-        ≡ spec.unknown_in_nets (texts_of names.now) devices.now (tables_in (items_view nets.now))) }
-{
-    for net in nets {
-        if let Some(table) = net.as_table() {
-            if let Some(text) = unknown_in(alloc, names, devices, items_at(table, "pins"))? {
-                return Ok(Some(text));
-            }
-        }
-    }
-    Ok(None)
-}
-
-fn unknown_in<'t>(
-    alloc: Global,
-    names: &Places<&str>,
-    devices: &[SharedDevice],
-    pins: &'t [Value],
-) -> Result<Option<&'t str>, AllocError>
-    ensures { IfOk result (λ r. option_map (λ s. s.now) r
-        ≡ spec.unknown_pin (texts_of names.now) devices.now (texts_in (items_view pins.now))) }
-{
-    for pin in pins {
-        if let Some(text) = pin.as_str() {
-            if find_pin(alloc, names, devices, text)?.is_none() {
-                return Ok(Some(text));
-            }
-        }
-    }
-    Ok(None)
-}
 
 /// The first text among the pins of all nets whose pin stands before it. Refuses for want of memory alone.
 pub fn first_twice<'t>(

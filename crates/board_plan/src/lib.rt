@@ -10,7 +10,6 @@ mod plan;
 mod words;
 
 pub use all_cells::{all_cell_nets, all_port_nets, enter_pin, no_nets};
-pub use cells::cell_nets;
 pub use instructions::{is_left_out, left_out, left_out_means_bypass};
 pub use numbers::number_nets;
 pub use plan::{Plan, PlannedDevice, PlannedNet};
