@@ -479,7 +479,80 @@ static uint64_t run_play(int devices) {
 	count = n;
 	return passed;
 }
-static uint64_t run_play_1(void) { return run_play(1); }
+
+// ---- the same scan by a player and a board with a pipe of bounded room each way
+
+typedef struct { unsigned char *bytes; size_t room, first, len; } Pipe;
+
+static int push(Pipe *p, int byte) { // whether there was room
+	if (p->len == p->room) return 0;
+	size_t at = p->first + p->len;
+	p->bytes[at < p->room ? at : at - p->room] = byte;
+	p->len++;
+	return 1;
+}
+
+static int pop(Pipe *p) { // the next byte, or -1
+	if (p->len == 0) return -1;
+	int byte = p->bytes[p->first];
+	p->first = p->first + 1 < p->room ? p->first + 1 : 0;
+	p->len--;
+	return byte;
+}
+
+enum { WINDOW = 256 };
+static const char before[] = "r26262626260" "04260404", behind[] = "26040";
+static struct { size_t at, bit, phase, owed, heard; int failed, over; } sender;
+
+// The next byte of the play, 0 where it waits for answers: of no more than 256 may the player be owed, and `Q` waits for all.
+static int next_of_play(void) {
+	if (sender.at < sizeof before - 1) return before[sender.at];
+	if (sender.bit < SCAN) {
+		int tms = sender.bit + 1 == SCAN;
+		if (sender.phase == 1) return sender.owed == WINDOW ? 0 : 'R';
+		return (sender.phase == 0 ? '0' : '4') + 2 * tms;
+	}
+	if (sender.at < sizeof before + sizeof behind - 2) return behind[sender.at - (sizeof before - 1)];
+	return sender.owed ? 0 : 'Q';
+}
+
+static void pass_byte(int byte) {
+	if (byte == 'R') sender.owed++;
+	if (byte == 'Q') sender.over = 1;
+	if (sender.at < sizeof before - 1 || sender.bit == SCAN) sender.at++;
+	else if (++sender.phase == 3) sender.phase = 0, sender.bit++;
+}
+
+static uint64_t run_finish(size_t room) {
+	Pipe down = { malloc(room), room, 0, 0 }, up = { malloc(room), room, 0, 0 };
+	Bits wanted = zeros(SCAN);
+	size_t n = 0;
+	int byte;
+	bare_count = 1;
+	bare_tck = 0;
+	bare[0] = (Bare){ RESET, 3, 0, 0, -1 };
+	memset(&sender, 0, sizeof sender);
+	while (!sender.over && !sender.failed) {
+		while (!sender.over && (byte = next_of_play()) && push(&down, byte)) pass_byte(byte), n++;
+		while (up.len < up.room && (byte = pop(&down)) >= 0) {
+			int answer = bare_byte(byte);
+			if (answer >= 0) push(&up, '0' + answer);
+		}
+		while ((byte = pop(&up)) >= 0) {
+			if (byte - '0' != (int)(wanted.words[sender.heard / 64] >> sender.heard % 64 & 1)) sender.failed = 1;
+			sender.heard++;
+			sender.owed--;
+		}
+	}
+	count = n;
+	free(down.bytes);
+	free(up.bytes);
+	free(wanted.words);
+	return !sender.failed;
+}
+static uint64_t run_finish_1(void) { return run_finish(1); }
+static uint64_t run_finish_64(void) { return run_finish(64); }
+static uint64_t run_finish_65536(void) { return run_finish(65536); }
 
 // The same play a hundred times.
 enum { PLAYS = 100 };
@@ -869,9 +942,9 @@ int main(void) {
 	make_opcodes();
 	row("decode_32", "edge", run_decode_32);
 	row("next_bytes", "byte", run_next_bytes);
-	row("finish_1", "byte", run_play_1); // by edges, without pipes
-	row("finish_64", "byte", run_play_1);
-	row("finish_65536", "byte", run_play_1);
+	row("finish_1", "byte", run_finish_1);
+	row("finish_64", "byte", run_finish_64);
+	row("finish_65536", "byte", run_finish_65536);
 	row("play_1", "byte", run_plays_1); // by edges
 	row("edges_1", "byte", run_plays_1);
 	row("play_32", "byte", run_plays_32); // by edges

@@ -54,6 +54,15 @@ impl Bits {
         lowest(alloc, digits, n, is_solid).map_err(|_| HexFault::NoMemory)
     }
 
+    /// The `n` lowest binary digits of hexadecimal digits with no white space between them (asked), as [`Bits::from_hex`]
+    /// gives them; a 1 beyond them is not looked for. Refused for want of memory alone.
+    pub fn of_digits(alloc: Global, digits: &[u8], n: usize) -> Result<Bits, AllocError>
+        requires { list_all is_ascii_hexdigit digits.now ≡ true }
+        ensures { IfOk result (λ b. b ≡ spec.lowest n digits.now) }
+    {
+        lowest(alloc, digits, n, true)
+    }
+
     /// The hexadecimal digit of the bits from `4 * k` on, in upper case. Digit 0 is the lowest; bits that are missing
     /// are 0.
     pub fn hex_digit(&self, k: usize) -> u8

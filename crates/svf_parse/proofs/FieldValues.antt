@@ -55,22 +55,15 @@ lowest_written n w h sound is =
     let least : w ≡ min n (length (binary h)) = omega (arith, is, long) in
     missing_none w (binary h) (omega (arith, least)) ∙ ap (λ (k : ℕ). take k (binary h)) least ∙ take_min n (binary h)
 
-value_kept : (h : List ℕ) (w : ℕ) (b : List Bool) → Ok b ≡ hex_value h w → b ≡ lowest w h
-value_kept h w b e = by (position is_bad h) e
-  where
-    within : (beyond : Bool) → Ok b ≡ cond beyond (Err TooWide) (Ok (lowest w h)) → b ≡ lowest w h
-    within true e = absurd cc
-    within false e = cc
-
-    by : (o : Option ℕ) → Ok b ≡ value_by o h w → b ≡ lowest w h
-    by None e = within (has_one_beyond w h) e
-    by (Some place) e = absurd cc
-
 -- what the code answers of a field is the bits that are written
-pub field_bits : (n w : ℕ) (o : Option (List ℕ)) (h : List ℕ) (b : List Bool) → o ≡ Some h → field_fault (Some n) o ≡ None → w ≡ min (4 * length h) n → Ok b ≡ hex_value h w → Some b ≡ bits n o
+pub field_bits : (n w : ℕ) (o : Option (List ℕ)) (h : List ℕ) (b : List Bool) → o ≡ Some h → field_fault (Some n) o ≡ None → w ≡ min (4 * length h) n → b ≡ lowest w h → Some b ≡ bits n o
 field_bits n w o h b is sound least e =
     let spelt : field_fault (Some n) (Some h) ≡ None = ap (field_fault (Some n)) (sym is) ∙ sound in
-    ap Some (value_kept h w b e ∙ lowest_written n w h spelt least) ∙ ap (bits n) (sym is)
+    ap Some (e ∙ lowest_written n w h spelt least) ∙ ap (bits n) (sym is)
+
+-- the digits of a field without a fault are digits
+pub field_digits : (n : ℕ) (o : Option (List ℕ)) (h : List ℕ) → o ≡ Some h → field_fault (Some n) o ≡ None → list_all is_ascii_hexdigit h ≡ true
+field_digits n o h is sound = (all_spelt n h (ap (field_fault (Some n)) (sym is) ∙ sound)).0
 
 -- ---- the value of a field
 

@@ -1,5 +1,5 @@
 -- The statements of a text, one group after another.
-use Rattle.std.proofs.Common.{◌≡◌, ℕ, suc, ◌+◌, ◌<◌, ◌≤◌, nat_lt, true, false, List, [], ◌∷◌, ◌++◌, length, map, drop, unwrap_or, Option, Some, None, Result, Ok, Err, refl, sym, ap, ◌∙◌, append_assoc, arith}
+use Rattle.std.proofs.Common.{◌≡◌, ℕ, suc, ◌+◌, ◌<◌, ◌≤◌, nat_lt, true, false, List, [], ◌∷◌, ◌++◌, length, map, drop, unwrap_or, Option, Some, None, Result, Ok, Err, refl, sym, ap, ◌∙◌, subst, append_assoc, arith}
 use Rattle.std.proofs.lemmas.List.{append-nil, map-append}
 use Rattle.std.proofs.lemmas.Bool.Decides.{nat_tests}
 use Rattle.svf_lex.specs.declared.Kind.{Kind}
@@ -21,7 +21,7 @@ use Rattle.svf_parse.specs.declared.fault.Refusal.TheVariants as refusal
 use Rattle.svf_parse.specs.declared.fault.Stop.{Stop}
 use Rattle.svf_parse.specs.declared.fault.Stop.TheVariants as stop
 use Rattle.svf_parse.specs.declared.statement.Statement.{Statement}
-use Rattle.svf_parse.specs.View.{said_of, Fails, Stops, IsOpen, form_behind}
+use Rattle.svf_parse.specs.View.{said_of, Adds, Stops, IsOpen}
 use Rattle.svf_parse.specs.Judging.{◌>>=◌, Said, form_says}
 use Rattle.svf_parse.specs.Reading.{or_refuse, command_says, statement_says, groups_say, text_says, at_statement, within_limit, lex_code}
 
@@ -98,24 +98,21 @@ is_within a b h = grind (arith, nat_tests)
 
 -- ---- what a statement says, by its form
 
-says_by : (o : Option Command) (ws : List Word) → (or_refuse code.UnknownCommand o >>= λ k. command_says k ws) ≡ ((or_refuse code.UnknownCommand o >>= λ k. or_refuse code.BadForm (form_of k ws)) >>= form_says)
-says_by None ws = refl
-says_by (Some k) ws = refl
+-- a statement whose first word is no command, or this one, says what its words say
+abbrev pub says_of : List Word → Option Command → Result Said Code
+says_of ws o = or_refuse code.UnknownCommand o >>= λ k. command_says k ws
 
-says_behind : (w : Word) (ws : List Word) → statement_says (w ∷ ws) ≡ (form_behind w ws >>= form_says)
+pub is_unknown : (w : Word) (ws : List Word) → command_of w ≡ None → statement_says (w ∷ ws) ≡ Err code.UnknownCommand
 unfolding statement_says
-says_behind w ws = says_by (command_of w) ws
+is_unknown w ws none = ap (says_of ws) none
 
-pub form_fails : (w : Word) (ws : List Word) (e : Refusal) → Fails e (form_behind w ws) → Fails e (statement_says (w ∷ ws))
-form_fails w ws refusal.Memory is = tt
-form_fails w ws (refusal.Code c) is = says_behind w ws ∙ ap (λ (r : Result Form Code). r >>= form_says) is
+pub is_of : (w : Word) (ws : List Word) (k : Command) → command_of w ≡ Some k → statement_says (w ∷ ws) ≡ command_says k ws
+unfolding statement_says
+is_of w ws k some = ap (says_of ws) some
 
-pub said_fails : (w : Word) (ws : List Word) (f : Form) (e : Refusal) → form_behind w ws ≡ Ok f → Fails e (form_says f) → Fails e (statement_says (w ∷ ws))
-said_fails w ws f refusal.Memory form is = tt
-said_fails w ws f (refusal.Code c) form is = says_behind w ws ∙ ap (λ (r : Result Form Code). r >>= form_says) form ∙ is
-
-pub form_said : (w : Word) (ws : List Word) (f : Form) (s : Said) → form_behind w ws ≡ Ok f → form_says f ≡ Ok s → statement_says (w ∷ ws) ≡ Ok s
-form_said w ws f s form is = says_behind w ws ∙ ap (λ (r : Result Form Code). r >>= form_says) form ∙ is
+-- what was added as some words say, or refused, is told of what is the same
+pub adds_so : {X : Type 0} (r : Result X Refusal) (old new : List Statement) (one other : Result Said Code) → other ≡ one → Adds r old new one → Adds r old new other
+adds_so r old new one other same adds = subst (λ (says : Result Said Code). Adds r old new says) (sym same) adds
 
 pub past_limit : (n : ℕ) (ws : List Word) (s : Said) → statement_says ws ≡ Ok s → 200000 < n → group_says n ws ≡ Err (record { statement = n; code = code.TooLarge })
 past_limit n ws s says h = ap (λ (r : Result Said Code). at_statement n (within_limit n r)) says ∙ rw (is_above 200000 n h) refl

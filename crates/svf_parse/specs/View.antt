@@ -39,19 +39,10 @@ abbrev pub Fails : {Y : Type 0} → Refusal → Result Y Code → Type 0
 Fails refusal.Memory says = ⊤
 Fails (refusal.Code c) says = says ≡ Err c
 
--- what a function answered, seen by view, is what the words say, unless memory ran out
-abbrev pub Gives : {X Y : Type 0} → (X → Y) → Result X Refusal → Result Y Code → Type 0
-Gives view (Ok x) says = says ≡ Ok (view x)
-Gives view (Err e) says = Fails e says
-
 -- a statement was added to a list as the words say, or they are refused so, unless memory ran out
 abbrev pub Adds : {X : Type 0} → Result X Refusal → List Statement → List Statement → Result Said Code → Type 0
 Adds (Ok x) old new says = (s : Statement) × (new ≡ old ++ s ∷ []) × (says ≡ Ok (said_of s))
 Adds (Err e) old new says = Fails e says
-
--- the form of a statement with this first word
-abbrev pub form_behind : Word → List Word → Result Form Code
-form_behind w ws = or_refuse code.UnknownCommand (command_of w) >>= λ k. or_refuse code.BadForm (form_of k ws)
 
 -- unless memory ran out, the refusal of a text is that of the definition
 abbrev pub Stops : {Y : Type 0} → Stop → Result Y SvfFault → Type 0

@@ -2,14 +2,14 @@
 use svf_words::{Code, SvfFault};
 
 /// Why a statement is not read.
-#[derive(Debug, Drop, Clone, Copy, PartialEq, Eq)]
+#[derive(Drop, Clone, Copy)]
 pub(crate) enum Refusal {
     Code(Code),
     Memory,
 }
 
 /// Why a text is not read.
-#[derive(Debug, Drop, Clone, Copy, PartialEq, Eq)]
+#[derive(Drop, Clone, Copy)]
 pub(crate) enum Stop {
     Fault(SvfFault),
     Memory,

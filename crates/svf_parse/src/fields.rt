@@ -14,7 +14,7 @@ use svf_words::keywords::{FieldName, field_of};
 use svf_words::words::{is_close, is_open, take_word};
 
 /// The hexadecimal digits of a field as they are written: one run of the text, or any number of runs, joined.
-#[derive(Debug, Drop)]
+#[derive(Drop)]
 pub enum Digits<'a> {
     /// One run.
     Run(&'a [u8]),
@@ -35,7 +35,7 @@ impl<'a> Digits<'a> {
 }
 
 /// The hexadecimal digits of each field that is given, as they are written. Digits that are one run are not copied.
-#[derive(Debug, Drop)]
+#[derive(Drop)]
 pub struct Fields<'a> {
     /// What goes in (TDI).
     pub tdi: Option<Digits<'a>>,

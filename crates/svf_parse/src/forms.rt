@@ -1,4 +1,6 @@
-//! The forms of the statements.
+//! The forms of the statements: what the words after a command are, up to the `;`. There is none where they do not fit
+//! the command. Each is taken from a lexer, which then stands behind the words that were read, also where they have no
+//! form.
 ghost use Rattle.std.specs.Prelude.{◌≡◌, List, Option, IfOk, option_map};
 ghost use Rattle.jt_tap.specs.declared.State as declared_state;
 ghost use Rattle.svf_lex.specs.Left.{left};
@@ -10,65 +12,15 @@ ghost use Rattle.svf_words.specs.declared.keywords.Which as declared_which;
 ghost use Rattle.svf_parse.specs.FormView as view;
 
 use crate::fields::{Fields, take_fields};
-use crate::run_test::{RunTest, take_run_test};
 use jt_tap::State;
 use std::alloc::{AllocError, Global};
 use svf_lex::Lexer;
-use svf_words::keywords::{Command, TrstWord, Which, state_of, trst_of};
+use svf_words::keywords::{TrstWord, state_of, trst_of};
 use svf_words::words::{is_number, reads, take_word};
-
-/// A statement as it is written: each number as its word, each field as its digits. Those that are one run are lent by
-/// the text.
-#[derive(Debug, Drop)]
-pub enum Written<'a> {
-    /// `ENDDR state`.
-    EndDr(State),
-    /// `ENDIR state`.
-    EndIr(State),
-    /// `FREQUENCY [number HZ]`.
-    Frequency(Option<&'a [u8]>),
-    /// `HDR`, `HIR`, `TDR`, `TIR`, `SDR` or `SIR`, its length and its fields.
-    Scan(Which, &'a [u8], Fields<'a>),
-    /// `RUNTEST` and its parts.
-    RunTest(RunTest<'a>),
-    /// `STATE` and its states, at least one.
-    States(Vec<State>),
-    /// `TRST` and its word.
-    Trst(TrstWord),
-    /// `PIO` or `PIOMAP`, whatever follows.
-    Port,
-}
-
-/// Takes the form that the words after a command have, up to the `;`. There is none where they do not fit the command;
-/// the lexer stands behind the words that were read, also then. Memory is taken for the digits of fields that are more
-/// than one run, and for the states of a path. Refuses for want of memory alone.
-pub fn take_form<'a>(
-    alloc: Global,
-    command: Command,
-    words: &mut Lexer<'a>,
-) -> Result<Option<Written<'a>>, AllocError>
-    ensures says { IfOk result
-        (λ o. option_map view.form o ≡ spec.form_of command (words_left words.old)) }
-    ensures behind { Behind (left words.old) (left words.new) }
-{
-    Ok(match command {
-        Command::Scan(which) => match take_scan(alloc, words)? {
-            Some((len, fields)) => Some(Written::Scan(which, len, fields)),
-            None => None,
-        },
-        Command::RunTest => take_run_test(words).map(|test| Written::RunTest(test)),
-        Command::State => some_states(alloc, words)?.map(|all| Written::States(all)),
-        Command::EndDr => one_state(words).map(|state| Written::EndDr(state)),
-        Command::EndIr => one_state(words).map(|state| Written::EndIr(state)),
-        Command::Frequency => hertz(words).map(|number| Written::Frequency(number)),
-        Command::Trst => one_trst(words).map(|word| Written::Trst(word)),
-        Command::Pio | Command::PioMap => Some(Written::Port),
-    })
-}
 
 /// One state.
 #[tactic(auto, unfolding(crate::specs::Forms::one_state))]
-fn one_state(words: &mut Lexer<'_>) -> Option<State>
+pub(crate) fn one_state(words: &mut Lexer<'_>) -> Option<State>
     ensures says { result ≡ spec.one_state (words_left words.old) }
     ensures behind { Behind (left words.old) (left words.new) }
 {
@@ -81,7 +33,7 @@ fn one_state(words: &mut Lexer<'_>) -> Option<State>
 
 /// One word of TRST.
 #[tactic(auto, unfolding(crate::specs::Forms::one_trst))]
-fn one_trst(words: &mut Lexer<'_>) -> Option<TrstWord>
+pub(crate) fn one_trst(words: &mut Lexer<'_>) -> Option<TrstWord>
     ensures says { result ≡ spec.one_trst (words_left words.old) }
     ensures behind { Behind (left words.old) (left words.new) }
 {
@@ -92,8 +44,11 @@ fn one_trst(words: &mut Lexer<'_>) -> Option<TrstWord>
     }
 }
 
-/// States, at least one.
-fn some_states(alloc: Global, words: &mut Lexer<'_>) -> Result<Option<Vec<State>>, AllocError>
+/// States, at least one. Memory is taken for them.
+pub(crate) fn some_states(
+    alloc: Global,
+    words: &mut Lexer<'_>,
+) -> Result<Option<Vec<State>>, AllocError>
     ensures says { IfOk result (λ o. option_map {U = List declared_state.State} (λ v. v.items) o
         ≡ spec.some_states (words_left words.old)) }
     ensures behind { Behind (left words.old) (left words.new) }
@@ -113,7 +68,7 @@ fn some_states(alloc: Global, words: &mut Lexer<'_>) -> Result<Option<Vec<State>
 
 /// `[number HZ]`.
 #[tactic(auto, unfolding(crate::specs::Forms::hertz))]
-fn hertz<'a>(words: &mut Lexer<'a>) -> Option<Option<&'a [u8]>>
+pub(crate) fn hertz<'a>(words: &mut Lexer<'a>) -> Option<Option<&'a [u8]>>
     ensures says { option_map {U = Option Word} (λ o. option_map {U = Word} (λ w. w.now) o) result
         ≡ spec.hertz (words_left words.old) }
     ensures behind { Behind (left words.old) (left words.new) }
@@ -129,9 +84,9 @@ fn hertz<'a>(words: &mut Lexer<'a>) -> Option<Option<&'a [u8]>>
     }
 }
 
-/// A length and fields.
+/// A length and fields. Memory is taken for the digits of fields that are more than one run.
 #[tactic(auto, unfolding(crate::specs::Forms::scan_of))]
-fn take_scan<'a>(
+pub(crate) fn take_scan<'a>(
     alloc: Global,
     words: &mut Lexer<'a>,
 ) -> Result<Option<(&'a [u8], Fields<'a>)>, AllocError>

@@ -4,7 +4,11 @@ ghost use Rattle.std.specs.Char.{is_ascii_hexdigit};
 ghost use Rattle.std.specs.List.{list_all};
 ghost use Rattle.svf_parse.specs.Judging as spec;
 ghost use Rattle.svf_parse.specs.Forms.{scan_form};
-ghost use Rattle.svf_words.specs.Words.{Word};
+ghost use Rattle.svf_lex.specs.Left.{left};
+ghost use Rattle.svf_words.specs.declared.keywords.Command.TheVariants as commands;
+ghost use Rattle.svf_words.specs.Words.{Word, words_left};
+ghost use Rattle.svf_parse.specs.Behind.{Behind};
+ghost use Rattle.svf_parse.specs.Reading.{command_says};
 ghost use Rattle.svf_words.specs.Numbers as numbers_spec;
 ghost use Rattle.svf_parse.specs.FormView as view;
 ghost use Rattle.svf_parse.specs.FormView.{given};
@@ -14,32 +18,101 @@ ghost use Rattle.svf_words.specs.declared.keywords.Clock as declared_clock;
 
 use crate::fault::Refusal;
 use crate::fields::{Digits, Fields};
-use crate::forms::Written;
-use crate::run_test::RunTest;
+use crate::forms::{hertz, one_state, one_trst, some_states, take_scan};
+use crate::run_test::{RunTest, take_run_test};
 use crate::statement::Statement;
 use jt_bits::{Bits, digits_have_one_beyond, is_hexadecimal};
 use std::alloc::Global;
-use svf_words::keywords::{Clock, Which};
+use svf_lex::Lexer;
+use svf_words::keywords::{Clock, Command, Which};
 use svf_words::{Code, count, length, length_value, period, time};
 
-/// Adds the statement, or gives the refusal with the lowest number among its own.
-pub(crate) fn say(alloc: Global, form: Written<'_>, all: &mut Vec<Statement>) -> Result<(), Refusal>
-    ensures adds { Adds result all.old.items all.new.items (spec.form_says (view.form form.entry)) }
+/// Adds the statement of this command and the words at the lexer, or gives the refusal with the lowest number among its
+/// own. The lexer stands behind the words that were read for its form, also where they have none. What is read goes into
+/// the statement by the command alone, and through no form that has room for all of them.
+pub(crate) fn say(
+    alloc: Global,
+    command: Command,
+    words: &mut Lexer<'_>,
+    all: &mut Vec<Statement>,
+) -> Result<(), Refusal>
+    ensures adds { Adds result all.old.items all.new.items (command_says command (words_left words.old)) }
     ensures count { IfOk result (λ _. vec_len all.new ≡ vec_len all.old + 1) }
+    ensures behind { Behind (left words.old) (left words.new) }
 {
-    match form {
-        Written::EndDr(state) => put(all, Statement::EndDr(state)),
-        Written::EndIr(state) => put(all, Statement::EndIr(state)),
-        Written::Frequency(None) => put(all, Statement::Frequency(None)),
-        Written::Frequency(Some(word)) => match period(word) {
+    match command {
+        Command::Scan(which) => say_scan(alloc, which, words, all),
+        Command::RunTest => say_run_test(words, all),
+        Command::State => say_states(alloc, words, all),
+        Command::EndDr => match one_state(words) {
+            Some(state) => put(all, Statement::EndDr(state)),
+            None => Err(Refusal::Code(Code::BadForm)),
+        },
+        Command::EndIr => match one_state(words) {
+            Some(state) => put(all, Statement::EndIr(state)),
+            None => Err(Refusal::Code(Code::BadForm)),
+        },
+        Command::Frequency => say_frequency(words, all),
+        Command::Trst => match one_trst(words) {
+            Some(word) => put(all, Statement::Trst(word)),
+            None => Err(Refusal::Code(Code::BadForm)),
+        },
+        Command::Pio | Command::PioMap => Err(Refusal::Code(Code::Unsupported)),
+    }
+}
+
+fn say_states(alloc: Global, words: &mut Lexer<'_>, all: &mut Vec<Statement>) -> Result<(), Refusal>
+    ensures adds { Adds result all.old.items all.new.items (command_says commands.State (words_left words.old)) }
+    ensures count { IfOk result (λ _. vec_len all.new ≡ vec_len all.old + 1) }
+    ensures behind { Behind (left words.old) (left words.new) }
+{
+    match some_states(alloc, words) {
+        Ok(Some(states)) => put(all, Statement::States(states)),
+        Ok(None) => Err(Refusal::Code(Code::BadForm)),
+        Err(_) => Err(Refusal::Memory),
+    }
+}
+
+fn say_frequency(words: &mut Lexer<'_>, all: &mut Vec<Statement>) -> Result<(), Refusal>
+    ensures adds { Adds result all.old.items all.new.items (command_says commands.Frequency (words_left words.old)) }
+    ensures count { IfOk result (λ _. vec_len all.new ≡ vec_len all.old + 1) }
+    ensures behind { Behind (left words.old) (left words.new) }
+{
+    match hertz(words) {
+        None => Err(Refusal::Code(Code::BadForm)),
+        Some(None) => put(all, Statement::Frequency(None)),
+        Some(Some(word)) => match period(word) {
             Ok(period) => put(all, Statement::Frequency(Some(period))),
             Err(code) => Err(Refusal::Code(code)),
         },
-        Written::Scan(which, len, fields) => scan(alloc, which, len, fields, all),
-        Written::RunTest(test) => run_test(test, all),
-        Written::States(states) => put(all, Statement::States(states)),
-        Written::Trst(word) => put(all, Statement::Trst(word)),
-        Written::Port => Err(Refusal::Code(Code::Unsupported)),
+    }
+}
+
+fn say_scan(
+    alloc: Global,
+    which: Which,
+    words: &mut Lexer<'_>,
+    all: &mut Vec<Statement>,
+) -> Result<(), Refusal>
+    ensures adds { Adds result all.old.items all.new.items (command_says (commands.Scan which) (words_left words.old)) }
+    ensures count { IfOk result (λ _. vec_len all.new ≡ vec_len all.old + 1) }
+    ensures behind { Behind (left words.old) (left words.new) }
+{
+    match take_scan(alloc, words) {
+        Ok(Some((len, fields))) => scan(alloc, which, len, fields, all),
+        Ok(None) => Err(Refusal::Code(Code::BadForm)),
+        Err(_) => Err(Refusal::Memory),
+    }
+}
+
+fn say_run_test(words: &mut Lexer<'_>, all: &mut Vec<Statement>) -> Result<(), Refusal>
+    ensures adds { Adds result all.old.items all.new.items (command_says commands.RunTest (words_left words.old)) }
+    ensures count { IfOk result (λ _. vec_len all.new ≡ vec_len all.old + 1) }
+    ensures behind { Behind (left words.old) (left words.new) }
+{
+    match take_run_test(words) {
+        Some(test) => run_test(test, all),
+        None => Err(Refusal::Code(Code::BadForm)),
     }
 }
 
@@ -180,7 +253,7 @@ fn bits(alloc: Global, len: usize, field: Option<Digits<'_>>) -> Result<Option<B
         Some(field) => {
             let digits = field.bytes();
             let written = digits.len().saturating_mul(4).min(len);
-            match Bits::from_hex(alloc, digits, written) {
+            match Bits::of_digits(alloc, digits, written) {
                 Ok(bits) => Ok(Some(bits)),
                 Err(_) => Err(Refusal::Memory),
             }

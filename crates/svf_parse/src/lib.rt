@@ -6,12 +6,12 @@
 #![tactic(auto)]
 
 mod fault;
-pub mod fields;
+mod fields;
 pub mod form_laws;
-pub mod forms;
+mod forms;
 mod judging;
 pub mod laws;
-pub mod run_test;
+mod run_test;
 mod statement;
 mod text;
 

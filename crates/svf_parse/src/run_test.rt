@@ -14,7 +14,7 @@ use svf_words::keywords::{Clock, clock_of, state_of};
 use svf_words::words::{is_number, reads, take_word};
 
 /// A RUNTEST as it is written: each number as its word.
-#[derive(Debug, Drop, Clone, Copy)]
+#[derive(Drop, Clone, Copy)]
 pub struct RunTest<'a> {
     /// The state to run in.
     pub run: Option<State>,
@@ -40,16 +40,9 @@ enum Ahead<'a> {
     Two(&'a [u8], &'a [u8], Lexer<'a>),
 }
 
-/// The RUNTEST that the words are: `[state] [number TCK or SCK] [number SEC [MAXIMUM number SEC]] [ENDSTATE state]`,
-/// with at least one of the count and the first time.
-pub fn run_test_of(words: Lexer<'_>) -> Option<RunTest<'_>>
-    ensures { option_map view.run_test result ≡ spec.run_test_of (words_left words.entry) }
-{
-    let mut rest = words;
-    take_run_test(&mut rest)
-}
-
-/// The same, taken from a lexer, which stands behind the words that were read, also where they are no RUNTEST.
+/// Takes the RUNTEST that the words are: `[state] [number TCK or SCK] [number SEC [MAXIMUM number SEC]] [ENDSTATE
+/// state]`, with at least one of the count and the first time. The lexer stands behind the words that were read, also
+/// where they are no RUNTEST.
 #[tactic(auto, unfolding(crate::specs::RunTests::run_test_of))]
 pub(crate) fn take_run_test<'a>(words: &mut Lexer<'a>) -> Option<RunTest<'a>>
     ensures value { option_map view.run_test result ≡ spec.run_test_of (words_left words.old) }

@@ -1,24 +1,22 @@
 //! A text's statements, one after another.
-ghost use Rattle.std.specs.Prelude.{◌≡◌, ◌≢◌, ◌+◌, ◌*◌, ◌≤◌, length, map, List, Result, Ok, Err, None};
+ghost use Rattle.std.specs.Prelude.{◌≡◌, ◌≢◌, ◌+◌, ◌*◌, ◌≤◌, ◌∷◌, length, map, List, Result, Ok, Err, None};
 ghost use Rattle.std.specs.Prelude.{IfOk, IfErr};
 ghost use Rattle.std.specs.Vec.{vec_len};
 ghost use Rattle.std.specs.List.{sum_by};
 ghost use Rattle.svf_lex.specs.Left.{left};
-ghost use Rattle.svf_parse.specs.Behind.{Behind};
 ghost use Rattle.svf_parse.specs.Judging.{Said};
 ghost use Rattle.svf_words.specs.declared.fault.Code as declared_code;
 ghost use Rattle.svf_parse.specs.declared.statement.Statement as declared_statement;
 ghost use Rattle.svf_words.specs.Words.{words_left, groups_of};
+ghost use Rattle.svf_parse.specs.Behind.{Behind};
 ghost use Rattle.svf_parse.specs.Reading as spec;
-ghost use Rattle.svf_parse.specs.Reading.{text_says, groups_say, at_statement, within_limit};
+ghost use Rattle.svf_parse.specs.Reading.{text_says, groups_say, statement_says, at_statement, within_limit};
 ghost use Rattle.svf_parse.specs.Spelling.{TextSpells, TextRefuses};
 ghost use Rattle.svf_parse.specs.Sizes.{size};
-ghost use Rattle.svf_parse.specs.FormView as view;
-ghost use Rattle.svf_parse.specs.View.{Gives, Tells, Stops, Fails, Takes, Parses, IsFront, IsEnd, IsOpen};
-ghost use Rattle.svf_parse.specs.View.{form_behind, said_of, memory_fault};
+ghost use Rattle.svf_parse.specs.View.{Adds, Tells, Stops, Fails, Takes, Parses, IsFront, IsEnd, IsOpen};
+ghost use Rattle.svf_parse.specs.View.{said_of, memory_fault};
 
 use crate::fault::{Refusal, Stop};
-use crate::forms::{Written, take_form};
 use crate::judging::say;
 use crate::statement::Statement;
 use jt_limits::LIMITS;
@@ -124,17 +122,13 @@ fn add<'a>(
 {
     let number = all.len() + 1;
     let mut rest = words;
-    let form = form_at(alloc, word, &mut rest);
-    // A fault of the text comes before one of the form. Words that were read for the form are not cut again.
+    let said = say_word(alloc, word, &mut rest, all);
+    // A fault of the text comes before one of the statement. Words that were read for its form are not cut again.
     let after = match end_of(rest) {
         End::Broken(fault) => return Err(broken(number, fault)),
         End::Closed(after) => after,
     };
-    let form = match form {
-        Ok(form) => form,
-        Err(refusal) => return Err(stop_at(number, refusal)),
-    };
-    match say(alloc, form, all) {
+    match said {
         Ok(()) if number > STATEMENT_LIMIT => Err(Stop::Fault(SvfFault {
             statement: number,
             code: Code::TooLarge,
@@ -168,19 +162,21 @@ fn stop_at(number: usize, refusal: Refusal) -> Stop
     }
 }
 
-/// The form of a statement of this word and those at the lexer, which then stands behind the words that were read, also
-/// where they have no form.
-fn form_at<'a>(alloc: Global, word: &'a [u8], words: &mut Lexer<'a>) -> Result<Written<'a>, Refusal>
-    ensures says { Gives view.form result (form_behind word.now (words_left words.old)) }
+/// Adds the statement of this word and those at the lexer, which then stands behind the words that were read, also where
+/// they are refused.
+fn say_word<'a>(
+    alloc: Global,
+    word: &'a [u8],
+    words: &mut Lexer<'a>,
+    all: &mut Vec<Statement>,
+) -> Result<(), Refusal>
+    ensures adds { Adds result all.old.items all.new.items (statement_says (word.now ∷ words_left words.old)) }
+    ensures count { IfOk result (λ _. vec_len all.new ≡ vec_len all.old + 1) }
     ensures behind { Behind (left words.old) (left words.new) }
 {
-    let Some(command) = command_of(word) else {
-        return Err(Refusal::Code(Code::UnknownCommand));
-    };
-    match take_form(alloc, command, words) {
-        Ok(Some(form)) => Ok(form),
-        Ok(None) => Err(Refusal::Code(Code::BadForm)),
-        Err(_) => Err(Refusal::Memory),
+    match command_of(word) {
+        Some(command) => say(alloc, command, words, all),
+        None => Err(Refusal::Code(Code::UnknownCommand)),
     }
 }
 

@@ -60,8 +60,12 @@ pub command_found : (w : Word) (c : Command) → command_of w ≡ Some c → rea
 unfolding command_of
 command_found w c e = found_passes (λ c. reads w (command_word c)) COMMANDS c e
 
-pub frequent_read : (w : Word) (c : Command) → find (λ c. reads w (command_word c)) FREQUENT ≡ Some c → Some c ≡ command_of w
-frequent_read w c e = sym (command_read w c (found_passes (λ c. reads w (command_word c)) FREQUENT c e))
+-- what is spelled as a keyword reads it
+spelt_reads : (w k : Word) → bytes_eq w k ≡ true → reads w k ≡ true
+spelt_reads w k h = (bytes_eq-Decides (lower w) (lower k)).1 (ap lower ((bytes_eq-Decides w k).0 h))
+
+pub command_spelt : (w : Word) (c : Command) → find (λ c. bytes_eq w (command_word c)) FREQUENT ≡ Some c → Some c ≡ command_of w
+command_spelt w c e = sym (command_read w c (spelt_reads w (command_word c) (found_passes (λ c. bytes_eq w (command_word c)) FREQUENT c e)))
 
 field_known : (f : FieldName) → found_by field_word FIELDS (lower (field_word f)) ≡ Some f
 field_known field.Tdi = refl
@@ -72,6 +76,9 @@ field_known field.Smask = refl
 pub field_read : (w : Word) (f : FieldName) → reads w (field_word f) ≡ true → field_of w ≡ Some f
 unfolding field_of
 field_read w f h = ap (found_by field_word FIELDS) (lowered w (field_word f) h) ∙ field_known f
+
+pub field_spelt : (w : Word) (f : FieldName) → find (λ f. bytes_eq w (field_word f)) FIELDS ≡ Some f → Some f ≡ field_of w
+field_spelt w f e = sym (field_read w f (spelt_reads w (field_word f) (found_passes (λ f. bytes_eq w (field_word f)) FIELDS f e)))
 
 pub field_found : (w : Word) (f : FieldName) → field_of w ≡ Some f → reads w (field_word f) ≡ true
 unfolding field_of
@@ -116,8 +123,8 @@ pub state_found : (w : Word) (s : State) → state_of w ≡ Some s → reads w (
 unfolding state_of
 state_found w s e = found_passes (λ s. reads w (states.word s)) all_states s e
 
-pub stable_read : (w : Word) (s : State) → find (λ s. reads w (states.word s)) STABLE ≡ Some s → Some s ≡ state_of w
-stable_read w s e = sym (state_read w s (found_passes (λ s. reads w (states.word s)) STABLE s e))
+pub state_spelt : (w : Word) (s : State) → find (λ s. bytes_eq w (states.word s)) STABLE ≡ Some s → Some s ≡ state_of w
+state_spelt w s e = sym (state_read w s (spelt_reads w (states.word s) (found_passes (λ s. bytes_eq w (states.word s)) STABLE s e)))
 
 -- what a reader of state words answers, by what it ensures
 pub same_state : (w : Word) (r : Option State) → IfSome r (λ s. states.IsWordOf s w) → ((s : State) → states.IsWordOf s w → r ≡ Some s) → r ≡ state_of w

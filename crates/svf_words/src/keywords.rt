@@ -1,5 +1,6 @@
 //! The keywords of SVF.
 ghost use Rattle.std.specs.Prelude.{◌≡◌, ℕ, List, find};
+ghost use Rattle.std.specs.Str.{bytes_eq};
 ghost use Rattle.svf_words.specs.Keywords as spec;
 ghost use Rattle.svf_words.specs.Words as words_spec;
 ghost use Rattle.jt_tap.specs.Words as states;
@@ -82,7 +83,7 @@ pub enum Clock {
     Sck,
 }
 
-/// Those that programs have most of, which a word is tried as first.
+/// Those that programs have most of, which a word is tried as first, as they are spelled.
 const FREQUENT: [Command; 4] = [
     Command::Scan(Which::Sdr),
     Command::Scan(Which::Sir),
@@ -117,7 +118,7 @@ const FIELDS: [FieldName; 4] = [
 
 const CLOCKS: [Clock; 2] = [Clock::Tck, Clock::Sck];
 
-/// The states in which a program may rest, which a word is tried as first.
+/// The states in which a program may rest, which a word is tried as first, as they are spelled.
 const STABLE: [State; 4] = [State::Idle, State::Reset, State::DrPause, State::IrPause];
 
 const TRST_WORDS: [TrstWord; 4] = [TrstWord::On, TrstWord::Off, TrstWord::Z, TrstWord::Absent];
@@ -136,7 +137,7 @@ trait Keyword: Copy {
 pub fn command_of(word: &[u8]) -> Option<Command>
     ensures { result ≡ spec.command_of word.now }
 {
-    match first_read(&FREQUENT, word) {
+    match first_spelt(&FREQUENT, word) {
         Some(command) => Some(command),
         None => first_read(&COMMANDS, word),
     }
@@ -147,7 +148,10 @@ pub fn command_of(word: &[u8]) -> Option<Command>
 pub fn field_of(word: &[u8]) -> Option<FieldName>
     ensures { result ≡ spec.field_of word.now }
 {
-    first_read(&FIELDS, word)
+    match first_spelt(&FIELDS, word) {
+        Some(field) => Some(field),
+        None => first_read(&FIELDS, word),
+    }
 }
 
 /// The clock that the word is, in any case, if it is one.
@@ -170,10 +174,21 @@ pub fn trst_of(word: &[u8]) -> Option<TrstWord>
 pub fn state_of(word: &[u8]) -> Option<State>
     ensures { result ≡ spec.state_of word.now }
 {
-    match first_read(&STABLE, word) {
+    match first_spelt(&STABLE, word) {
         Some(state) => Some(state),
         None => State::from_word(word),
     }
+}
+
+/// The first of these keywords that the word is as it is spelled, in upper case: most programs are written so, and it is
+/// soonest seen.
+fn first_spelt<K: Keyword>(keywords: &[K], word: &[u8]) -> Option<K>
+    ensures { result ≡ find (λ k. bytes_eq word.now (K.spelling k)) keywords.now }
+{
+    keywords
+        .iter()
+        .copied()
+        .find(|keyword| word == keyword.letters())
 }
 
 /// The first of these keywords that the word is, in any case.
