@@ -1,5 +1,8 @@
 //! Why a description is refused.
+ghost use Rattle.std.specs.Prelude.{◌≡◌};
+
 use bsdl_values::Attribute;
+use std::alloc::AllocError;
 use thiserror::Error;
 
 /// The refusals of a device description, the least number first. Places are counted in bytes of the text from 0.
@@ -39,4 +42,14 @@ pub enum BsdlFault {
     /// A growth was refused.
     #[error("B10 NoMemory")]
     NoMemory,
+}
+
+impl From<AllocError> for BsdlFault {
+    ghost use Rattle.bsdl.specs.declared.fault.BsdlFault.TheVariants.{NoMemory};
+
+    ghost from_gives = { λ _ e. e ≡ NoMemory };
+
+    fn from(_: AllocError) -> BsdlFault {
+        BsdlFault::NoMemory
+    }
 }

@@ -41,9 +41,8 @@ pub(crate) fn description_of<'o, 't: 'o>(
 ) -> Result<Description<'o>, BsdlFault>
     ensures { TellsDescription entity.now result (described (outline entity.now)) }
 {
-    match describe(alloc, entity) {
-        Ok(Ok(found)) => Ok(found),
-        Ok(Err(attribute)) => Err(BsdlFault::Missing(attribute)),
-        Err(_) => Err(BsdlFault::NoMemory),
+    match describe(alloc, entity)? {
+        Ok(found) => Ok(found),
+        Err(attribute) => Err(BsdlFault::Missing(attribute)),
     }
 }

@@ -63,10 +63,9 @@ fn judge_names(
     ensures { Judges result (spec.twice_in (description outline.now described.now)
         (first_given_again (description outline.now described.now))) }
 {
-    match given_again(alloc, outline, described) {
-        Ok(Some(again)) => Err(BsdlFault::Twice(again.name)),
-        Ok(None) => judge_reset(alloc, outline, described),
-        Err(_) => Err(BsdlFault::NoMemory),
+    match given_again(alloc, outline, described)? {
+        Some(again) => Err(BsdlFault::Twice(again.name)),
+        None => judge_reset(alloc, outline, described),
     }
 }
 
@@ -81,10 +80,7 @@ fn judge_reset(
     if resets_to_idcode(&described.opcodes) {
         return Ok(());
     }
-    match String::from_str(alloc, "IDCODE") {
-        Ok(name) => Err(BsdlFault::Twice(name)),
-        Err(_) => Err(BsdlFault::NoMemory),
-    }
+    Err(BsdlFault::Twice(String::from_str(alloc, "IDCODE")?))
 }
 
 /// B5: lengths fit.
@@ -95,11 +91,10 @@ fn judge_lengths(
 ) -> Result<(), BsdlFault>
     ensures { Judges result (spec.unless (lengths.lengths_fit (description outline.now described.now)) bad_length) }
 {
-    match lengths_fit(alloc, described) {
-        Ok(true) => Ok(()),
-        Ok(false) => Err(BsdlFault::BadLength),
-        Err(_) => Err(BsdlFault::NoMemory),
+    if !lengths_fit(alloc, described)? {
+        return Err(BsdlFault::BadLength);
     }
+    Ok(())
 }
 
 /// B6 and B7: what captures and codes end in.
@@ -126,13 +121,10 @@ fn judge_cells<'o>(
     ensures judges { Judges result (option_map bad_cell (unfit_cell_of (description outline.now described.now))) }
     ensures keyed { IfOk result (λ k. AreKeyed k (description outline.now described.now).ports) }
 {
-    let Ok(known) = known_by_key(alloc, outline, described) else {
-        return Err(BsdlFault::NoMemory);
-    };
-    match unfit_cell_by_key(alloc, &known, described) {
-        Ok(Some(number)) => Err(BsdlFault::BadCell(number)),
-        Ok(None) => Ok(known.keyed),
-        Err(_) => Err(BsdlFault::NoMemory),
+    let known = known_by_key(alloc, outline, described)?;
+    match unfit_cell_by_key(alloc, &known, described)? {
+        Some(number) => Err(BsdlFault::BadCell(number)),
+        None => Ok(known.keyed),
     }
 }
 
@@ -144,14 +136,9 @@ fn judge_limits(
 ) -> Result<(), BsdlFault>
     ensures { Judges result (spec.unless (keeps_limits (description outline.now described.now)) too_large) }
 {
-    match users_of(alloc, &described.accesses) {
-        Ok(users) => {
-            if is_within_limits(outline, described, &users) {
-                Ok(())
-            } else {
-                Err(BsdlFault::TooLarge)
-            }
-        }
-        Err(_) => Err(BsdlFault::NoMemory),
+    let users = users_of(alloc, &described.accesses)?;
+    if !is_within_limits(outline, described, &users) {
+        return Err(BsdlFault::TooLarge);
     }
+    Ok(())
 }

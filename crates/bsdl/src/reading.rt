@@ -39,8 +39,5 @@ fn read_description<'o>(
         (description entity.now described.now)) }
 {
     let keyed = judge_ports(alloc, entity, described)?;
-    match device_by_key(alloc, entity, described, &keyed) {
-        Ok(device) => Ok(device),
-        Err(_) => Err(BsdlFault::NoMemory),
-    }
+    Ok(device_by_key(alloc, entity, described, &keyed)?)
 }

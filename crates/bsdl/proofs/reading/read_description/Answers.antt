@@ -14,10 +14,10 @@ device_by_key-requires c = record {
   once = each_cell_once (description c.args.entity.now c.args.described.now) c.in_ok-keyed.ensures.judges;
 }
 
-pub returns-in-Ok : goal.returns-in-Ok
-returns-in-Ok c =
+pub returns : goal.returns
+returns c =
     let d = description c.args.entity.now c.args.described.now in
-    ap (λ o. device_or_refusal o d) c.in_ok-keyed.ensures.judges ∙ ap Ok (sym c.in-Ok.ensures)
+    ap (λ o. device_or_refusal o d) c.in_ok-keyed.ensures.judges ∙ ap Ok (sym c.in_ok-device_by_key.ensures)
 
 pub returns-in_err-keyed : goal.returns-in_err-keyed
 returns-in_err-keyed c =
