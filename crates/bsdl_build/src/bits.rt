@@ -1,20 +1,17 @@
 //! The numbers of port bits.
-ghost use Rattle.std.specs.Prelude.{◌≡◌, ◌+◌, ◌++◌, ◌∷◌, [], List, Some, option_map, option_and_then, unwrap_or};
+ghost use Rattle.std.specs.Prelude.{◌≡◌, ◌+◌, ◌++◌, ◌∷◌, [], List, Some, option_map, unwrap_or};
 ghost use Rattle.std.specs.Prelude.{slice_get, IfOk, OnOk};
 ghost use Rattle.bsdl_text.specs.NumberView.{value};
-ghost use Rattle.bsdl_values.specs.CellView.{port_name};
 ghost use Rattle.bsdl_ports.specs.Ports as port_list;
 ghost use Rattle.bsdl_ports.specs.View as ports_view;
-ghost use Rattle.bsdl_lookup.specs.View.{AreNamed, port_named, numbered_port as port_view};
+ghost use Rattle.bsdl_lookup.specs.View.{numbered_port as port_view};
 ghost use Rattle.bsdl_ports.specs.PortBits.{bit_at, width};
-ghost use Rattle.bsdl_lookup.specs.PortNumbers.{bit_number};
 ghost use Rattle.bsdl_build.specs.Bits.{firsts};
 
 use crate::ports::size_of;
 use bsdl_entity::ports::{Group, Range};
-use bsdl_lookup::named_ports::{NamedPorts, NumberedPort};
+use bsdl_lookup::numbered_ports::NumberedPort;
 use bsdl_text::Digits;
-use bsdl_values::PortName;
 use std::alloc::{AllocError, Global};
 
 /// The number of the first bit of each port so far, and that of the next.
@@ -73,37 +70,8 @@ fn width_of(range: Option<Range<'_>>) -> Result<usize, AllocError>
     }
 }
 
-/// The number of the port bit that a row names, where it is declared. Refuses for want of memory, and where a number is
-/// 2^64 or more, which nothing that is judged has.
-pub fn bit_of_port(
-    alloc: Global,
-    named: &NamedPorts<'_>,
-    bits: &[usize],
-    port: PortName<'_>,
-) -> Result<Option<usize>, AllocError>
-    ensures { IfOk result (λ o. (ps : List port_list.Port) → AreNamed named.now ps → bits.now ≡ firsts 0 ps → o
-        ≡ bit_number 0 ps (port_name port.entry)) }
-{
-    let key = port.name.upper_name(alloc)?;
-    bit_named(named, bits, key.as_str(), port.index)
-}
-
-fn bit_named(
-    named: &NamedPorts<'_>,
-    bits: &[usize],
-    name: &str,
-    index: Option<Digits<'_>>,
-) -> Result<Option<usize>, AllocError>
-    ensures { IfOk result (λ o. o ≡ option_and_then
-        (λ x. option_map (λ k. unwrap_or (slice_get bits.now x.0) 0 + k) (bit_at x.1 (option_map value index.entry)))
-        (port_named named.now name.now)) }
-{
-    match named.by_name.get(name) {
-        Some(port) => bit_in(*port, bits, index),
-        None => Ok(None),
-    }
-}
-
+/// The number of the bit of a port that an index names, where the port has it. Refuses where a number is 2^64 or more,
+/// which nothing that is judged has.
 pub(crate) fn bit_in(
     port: NumberedPort<'_>,
     bits: &[usize],

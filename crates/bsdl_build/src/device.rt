@@ -3,42 +3,25 @@ ghost use Rattle.std.specs.Prelude.{◌≡◌, ◌<◌, ◌==◌, ℕ, filter, l
 ghost use Rattle.bsdl_text.specs.NumberView.{value};
 ghost use Rattle.bsdl_description.specs.View.{description};
 ghost use Rattle.bsdl_lookup.specs.Keyed.{AreKeyed};
-ghost use Rattle.bsdl_lookup.specs.View.{AreNamed};
 ghost use Rattle.bsdl_build.specs.Boundary as boundary;
 ghost use Rattle.bsdl_build.specs.Built as spec;
 
 use crate::bits::firsts_of;
-use crate::cells::cells_of;
-use crate::keyed::cells_by_key;
+use crate::cells::cells_by_key;
 use crate::ports::{ports_of, size_of};
 use bsdl_description::description::Description;
 use bsdl_device::{Cell, Device, Parts};
 use bsdl_entity::entity::Outline;
 use bsdl_lookup::keyed_ports::KeyedPorts;
-use bsdl_lookup::named_ports::{NamedPorts, named_ports_of};
 use bsdl_opcodes::accesses::accesses_of;
 use bsdl_opcodes::patterns::{bits_of, code_of, opcodes_of, private_names_of};
 use bsdl_opcodes::users::users_of;
 use bsdl_text::Digits;
 use std::alloc::{AllocError, Global};
 
-/// The device that a description says; each cell below the length of the boundary register has one row. Refuses for
-/// want of memory, and where a number is 2^64 or more, which nothing that is judged has.
-pub fn device_of(
-    alloc: Global,
-    outline: &Outline<'_>,
-    described: &Description<'_>,
-) -> Result<Device, AllocError>
-    requires once { (k : ℕ) → k < (description outline.now described.now).boundary_length
-        → length (filter (λ r. r.number == k) (description outline.now described.now).cells) ≡ 1 }
-    ensures { IfOk result (λ v. v ≡ spec.device (description outline.now described.now)) }
-{
-    let named = named_ports_of(alloc, &outline.groups)?;
-    let cells = boundary_of(alloc, outline, described, &named)?;
-    device_with(alloc, outline, described, cells)
-}
-
-/// The same, where the ports are known by the keys of their names.
+/// The device that a description says, where the ports are known by the keys of their names; each cell below the length
+/// of the boundary register has one row. Refuses for want of memory, and where a number is 2^64 or more, which nothing
+/// that is judged has.
 pub fn device_by_key<'o>(
     alloc: Global,
     outline: &Outline<'o>,
@@ -89,25 +72,6 @@ fn device_with(
         users,
         has_trst,
     }))
-}
-
-/// The boundary register.
-fn boundary_of(
-    alloc: Global,
-    outline: &Outline<'_>,
-    described: &Description<'_>,
-    named: &NamedPorts<'_>,
-) -> Result<Vec<Cell>, AllocError>
-    requires named { AreNamed named.now (description outline.now described.now).ports }
-    requires once { (k : ℕ) → k < (description outline.now described.now).boundary_length
-        → length (filter (λ r. r.number == k) (description outline.now described.now).cells) ≡ 1 }
-    ensures { IfOk result (λ v. v.items
-        ≡ boundary.cells_of (description outline.now described.now).ports (description outline.now described.now).cells
-        (description outline.now described.now).boundary_length) }
-{
-    let firsts = firsts_of(alloc, &outline.groups)?;
-    let len = size_of(described.boundary_length)?;
-    cells_of(alloc, named, &firsts, &described.cells, len)
 }
 
 /// The boundary register, where the ports are known by the keys of their names.

@@ -5,5 +5,4 @@
 pub mod bits;
 pub mod cells;
 pub mod device;
-pub mod keyed;
 pub mod ports;

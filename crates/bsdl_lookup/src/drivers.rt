@@ -8,10 +8,8 @@ ghost use Rattle.bsdl_ports.specs.Ports as port_list;
 ghost use Rattle.bsdl_lookup.specs.declared.port_index.PortIndex as declared_port_index;
 ghost use Rattle.bsdl_lookup.specs.Drivers.{drives_below, driver_at, is_below, same_bit};
 ghost use Rattle.bsdl_lookup.specs.Keyed.{AreKeyed};
-ghost use Rattle.bsdl_lookup.specs.View.{AreNamed};
 
 use crate::keyed_ports::{KeyedPorts, port_index_by_key};
-use crate::named_ports::{NamedPorts, port_index_of};
 use crate::port_index::PortIndex;
 use bsdl_values::CellRow;
 use jt_limits::ABOVE_SUBSCRIPTS;
@@ -25,52 +23,8 @@ pub struct Drivers<'a> {
     pub lowest: BTreeMap<(usize, &'a [u8]), usize>,
 }
 
-/// The lowest cells that drive port bits. Refuses for want of memory alone.
-pub fn drivers_of<'a>(
-    alloc: Global,
-    named: &NamedPorts<'_>,
-    rows: &[CellRow<'a>],
-) -> Result<Drivers<'a>, AllocError>
-    ensures { IfOk result (λ d. (ps : List port_list.Port) → AreNamed named.now ps
-        → (s : declared_port_index.PortIndex) (n : ℕ) → n ≤ suc subscript_limit
-        → is_below (driver_at d s) n ≡ list_any (drives_below ps s n) (map cell_row rows.now)) }
-{
-    let mut drivers = Drivers {
-        lowest: BTreeMap::new(alloc),
-    };
-    for row in rows {
-        add_row(alloc, &mut drivers, named, row)?;
-    }
-    Ok(drivers)
-}
-
-fn add_row<'a>(
-    alloc: Global,
-    drivers: &mut Drivers<'a>,
-    named: &NamedPorts<'_>,
-    row: &CellRow<'a>,
-) -> Result<(), AllocError>
-    ensures { OnOk result ((ps : List port_list.Port) → AreNamed named.now ps
-        → (s : declared_port_index.PortIndex) (n : ℕ) → n ≤ suc subscript_limit
-        → is_below (driver_at drivers.new s) n
-        ≡ is_below (driver_at drivers.old s) n || drives_below ps s n (cell_row row.now)) }
-{
-    if !row.function.drives() {
-        return Ok(());
-    }
-    match row.port {
-        Some(port) => match port_index_of(alloc, named, port)? {
-            Some(port_index) => {
-                add_driver(drivers, port_index, row.number.up_to(ABOVE_SUBSCRIPTS))?;
-                Ok(())
-            }
-            None => Ok(()),
-        },
-        None => Ok(()),
-    }
-}
-
-/// The same, where the ports are known by the keys of their names.
+/// The lowest cells that drive port bits, where the ports are known by the keys of their names. Refuses for want of
+/// memory alone.
 pub fn drivers_by_key<'a>(
     alloc: Global,
     keyed: &KeyedPorts<'a>,

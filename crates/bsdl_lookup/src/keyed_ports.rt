@@ -12,7 +12,7 @@ ghost use Rattle.bsdl_lookup.specs.NamedPorts as spec;
 ghost use Rattle.bsdl_lookup.specs.Keyed.{AreKeyed, port_keyed, range_at};
 ghost use Rattle.bsdl_lookup.specs.View.{numbered_port as port_view, port_index};
 
-use crate::named_ports::{NumberedPort, port_index_at, trimmed};
+use crate::numbered_ports::{NumberedPort, port_index_at};
 use crate::port_index::PortIndex;
 use bsdl_entity::ports::{Group, Range};
 use bsdl_text::names::Word;
@@ -21,8 +21,7 @@ use name_keys::NameKey;
 use std::alloc::{AllocError, Global};
 use std::collections::BTreeMap;
 
-/// The first port of each name, in upper case. The same as [`crate::named_ports::NamedPorts`], in an order in which
-/// names that begin alike are told apart at once.
+/// The first port of each name, in upper case, in an order in which names that begin alike are told apart at once.
 ///
 /// A port of the tree takes 40 bytes, since a text of 4 MiB may declare a million of them.
 #[derive(Debug, Drop)]
@@ -65,6 +64,19 @@ fn ranges_of<'a>(alloc: Global, groups: &[Group<'a>]) -> Result<Vec<Option<Range
         ranges.push(trimmed(group.range))?;
     }
     Ok(ranges)
+}
+
+/// A range whose numbers have no zeros before them.
+fn trimmed<'a>(range: Option<Range<'a>>) -> Option<Range<'a>>
+    ensures { option_map ports_view.range result ≡ option_map ports_view.range range.entry }
+{
+    match range {
+        Some(range) => Some(Range {
+            low: range.low.significant(),
+            high: range.high.significant(),
+        }),
+        None => None,
+    }
 }
 
 fn add_group<'a>(

@@ -6,6 +6,6 @@
 pub mod controls;
 pub mod drivers;
 pub mod keyed_ports;
-pub mod named_ports;
+pub mod numbered_ports;
 pub mod port_index;
 pub mod table;

@@ -7,25 +7,16 @@ use Rattle.jt_limits.specs.Limits.{subscript_limit}
 use Rattle.bsdl_description.specs.Describing.{Description}
 use Rattle.bsdl_description.specs.View.{taps}
 use Rattle.bsdl_rules.specs.declared.keyed.KnownByKey as declared_known_by_key
-use Rattle.bsdl_rules.specs.declared.known.Known as declared_known
 use Rattle.bsdl_lookup.specs.declared.port_index.PortIndex.{PortIndex}
 use Rattle.bsdl_lookup.specs.Controls.{controls_as}
 use Rattle.bsdl_lookup.specs.Drivers.{driver_at, drives_below, is_below}
 use Rattle.bsdl_lookup.specs.Keyed.{AreKeyed}
-use Rattle.bsdl_lookup.specs.View.{AreNamed}
-
-pub record Holds (k : declared_known.Known) (d : Description) : Type 0 where
-  pub named : AreNamed k.named d.ports
-  pub drivers : (s : PortIndex) (n : ℕ) → n ≤ suc subscript_limit → is_below (driver_at k.drivers s) n
-      ≡ list_any (drives_below d.ports s n) d.cells
-  pub controls : (n : ℕ) → n ≤ subscript_limit → contains_by (nat_cmp n) k.controls ≡ list_any (controls_as n) d.cells
-  pub taps_are : taps k.taps ≡ d.taps
 
 -- the numbers of the cells that control others
 abbrev pub AreControls : BTreeSet ℕ → Description → Type 0
 AreControls s d = (n : ℕ) → n ≤ subscript_limit → contains_by (nat_cmp n) s ≡ list_any (controls_as n) d.cells
 
--- what is known, where the ports are found by the keys of their names
+-- what is known of a description, where the ports are found by the keys of their names
 pub record HoldsByKey (k : declared_known_by_key.KnownByKey) (d : Description) : Type 0 where
   pub keyed : AreKeyed k.keyed d.ports
   pub drivers : (s : PortIndex) (n : ℕ) → n ≤ suc subscript_limit → is_below (driver_at k.drivers s) n

@@ -1,5 +1,5 @@
-//! Whether a row of the boundary register fits.
-ghost use Rattle.std.specs.Prelude.{◌≡◌, ◌≤◌, ◌&&◌, not, option_map, IfOk};
+//! Whether the port and the control of a row of the boundary register fit.
+ghost use Rattle.std.specs.Prelude.{◌≡◌, ◌≤◌, ◌&&◌, not, option_map};
 ghost use Rattle.jt_limits.specs.Limits.{subscript_limit};
 ghost use Rattle.bsdl_device.specs.Driving as driving;
 ghost use Rattle.bsdl_text.specs.Words.{upper};
@@ -10,63 +10,17 @@ ghost use Rattle.bsdl_description.specs.Describing as described;
 ghost use Rattle.bsdl_description.specs.View.{taps as taps_view};
 ghost use Rattle.bsdl_lookup.specs.Drivers.{driver_at, is_below};
 ghost use Rattle.bsdl_rules.specs.Fits as spec;
-ghost use Rattle.bsdl_rules.specs.Holds.{AreControls, Holds};
+ghost use Rattle.bsdl_rules.specs.Holds.{AreControls};
 
-use crate::known::Known;
 use bsdl_description::description::Taps;
 use bsdl_description::taps::names_tap;
 use bsdl_device::Function;
 use bsdl_lookup::drivers::Drivers;
-use bsdl_lookup::named_ports::port_index_of;
 use bsdl_lookup::port_index::PortIndex;
 use bsdl_text::Digits;
 use bsdl_values::{CellRow, Controlling, PortName};
 use jt_limits::{ABOVE_SUBSCRIPTS, SUBSCRIPT_LIMIT};
-use std::alloc::{AllocError, Global};
 use std::collections::BTreeSet;
-
-/// Whether the row of a cell of this number fits. Refuses for want of memory alone.
-pub fn row_fits<'a>(
-    alloc: Global,
-    known: &Known<'_, 'a>,
-    row: &CellRow<'a>,
-    number: usize,
-) -> Result<bool, AllocError>
-    requires { number ≤ subscript_limit }
-    ensures { IfOk result (λ b. (d : described.Description) → Holds known.now d → number ≡ value row.now.number → b
-        ≡ spec.row_fits d (cells_view.cell_row row.now)) }
-{
-    let port = port_fits(alloc, known, row, number)?;
-    let control = control_fits(&known.controls, row.function, row.control, number);
-    Ok(port && control)
-}
-
-/// Whether the port of a row fits its function: `*`, or a port bit that is no TAP's and that no lower cell drives.
-fn port_fits<'a>(
-    alloc: Global,
-    known: &Known<'_, 'a>,
-    row: &CellRow<'a>,
-    number: usize,
-) -> Result<bool, AllocError>
-    requires { number ≤ subscript_limit }
-    ensures { IfOk result (λ b. (d : described.Description) → Holds known.now d → number ≡ value row.now.number → b
-        ≡ spec.port_fits d (cells_view.cell_row row.now)) }
-{
-    if has_no_port(row.function) {
-        return Ok(row.port.is_none());
-    }
-    match row.port {
-        Some(port) => match port_index_of(alloc, &known.named, port)? {
-            Some(port_index) => {
-                let (taps, drivers) = (&known.taps, &known.drivers);
-                let function = row.function;
-                Ok(port_index_fits(taps, drivers, function, port, port_index, number))
-            }
-            None => Ok(false),
-        },
-        None => Ok(false),
-    }
-}
 
 pub(crate) fn has_no_port(function: Function) -> bool
     ensures { result ≡ spec.has_no_port function }

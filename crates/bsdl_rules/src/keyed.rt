@@ -1,5 +1,7 @@
-//! The least cell that is not fit, where the ports are found by the keys of their names.
-ghost use Rattle.std.specs.Prelude.{◌≡◌, ◌≤◌, ◌==◌, ℕ, map, IfOk, OnOk, if◌then◌else◌};
+//! What is known of the ports and cells of a description, where the ports are found by the keys of their names, and the
+//! least cell that is not fit.
+ghost use Rattle.std.specs.Prelude.{◌≡◌, ◌≤◌, ◌==◌, ℕ, suc, max, min, not, nat_lt, map, IfOk, OnOk, if◌then◌else◌};
+ghost use Rattle.std.specs.List.{find, fold, range_with_len};
 ghost use Rattle.std.specs.BTreeMap.{get};
 ghost use Rattle.std.specs.Ordering.{nat_cmp};
 ghost use Rattle.jt_limits.specs.Limits.{subscript_limit};
@@ -13,7 +15,6 @@ ghost use Rattle.bsdl_rules.specs.Fits as spec;
 ghost use Rattle.bsdl_rules.specs.Holds.{HoldsByKey};
 
 use crate::cell_rows::{control_fits, has_no_port, port_index_fits};
-use crate::unfit::{cells_end, first_unfit};
 use bsdl_description::description::{Description, Taps};
 use bsdl_entity::entity::Outline;
 use bsdl_lookup::controls::controls_of;
@@ -67,6 +68,25 @@ pub fn unfit_cell_by_key<'a>(
     let length = described.boundary_length.up_to(ABOVE_SUBSCRIPTS);
     let end = cells_end(length, &described.cells);
     Ok(first_unfit(&table, length, end))
+}
+
+/// No cell from here on is below the length or listed, at most 65,536.
+fn cells_end(length: usize, rows: &[CellRow<'_>]) -> usize
+    requires { length ≤ suc subscript_limit }
+    ensures { result ≡ min (fold (λ n r. max n (suc r.number)) length (map cell_row rows.now)) (suc subscript_limit) }
+{
+    let mut end = length;
+    for row in rows {
+        end = end.max(row.number.up_to(SUBSCRIPT_LIMIT) + 1);
+    }
+    end
+}
+
+fn first_unfit(table: &Table, length: usize, end: usize) -> Option<usize>
+    ensures { result ≡ find (λ n. not (cells.is_fit (nat_lt n length) (get nat_cmp table.now.cells n)))
+        (range_with_len 0 end) }
+{
+    (0..end).find(|number| !table.is_fit(*number, length))
 }
 
 /// The cells that rows list.

@@ -5,11 +5,9 @@
 
 pub mod again;
 mod agreeing;
-pub mod cell_rows;
+mod cell_rows;
 pub mod ends;
 pub mod keyed;
-pub mod known;
 pub mod lengths;
 pub mod limits;
 pub mod naming;
-pub mod unfit;

@@ -4,12 +4,12 @@ use Rattle.std.specs.BTreeMap.{get}
 use Rattle.std.specs.Ordering.{nat_cmp}
 use Rattle.bsdl_values.specs.CellView.{cell_row}
 use Rattle.bsdl_ports.specs.Ports.{Port}
-use Rattle.bsdl_lookup.specs.View.{AreNamed}
+use Rattle.bsdl_lookup.specs.Keyed.{AreKeyed}
 use Rattle.bsdl_build.specs.Bits.{firsts, last_of}
 use Rattle.bsdl_build.specs.Boundary.{cell}
 use Rattle.bsdl_build.proofs.cells.table_of.Given as goal
 
 abbrev pub invariant-loop-row : goal.invariant-loop-row
 invariant-loop-row l =
-    (ps : List Port) → AreNamed l.named ps → l.bits ≡ firsts 0 ps → (n : ℕ)
+    (ps : List Port) → AreKeyed l.keyed ps → l.bits ≡ firsts 0 ps → (n : ℕ)
     → get nat_cmp l.table n ≡ last_of (map (cell ps) (filter (λ r. nat_eq r.number n) (map cell_row (take l.row-index l.rows))))

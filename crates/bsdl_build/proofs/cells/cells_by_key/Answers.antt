@@ -5,7 +5,7 @@ use Rattle.std.specs.Ordering.{nat_cmp}
 use Rattle.bsdl_values.specs.CellView.{cell_row}
 use Rattle.bsdl_build.specs.Boundary.{cell}
 use Rattle.bsdl_build.proofs.CellLaws.{each_once}
-use Rattle.bsdl_build.proofs.keyed.cells_by_key.Goals as goal
+use Rattle.bsdl_build.proofs.cells.cells_by_key.Goals as goal
 
 pub returns : goal.returns
 returns c = IfOk-weaker c.listed.result _ _ (λ cells listed ps at bits_are.

@@ -7,7 +7,7 @@ use Rattle.bsdl_ports.specs.Ports.{Range}
 use Rattle.bsdl_lookup.specs.View.{numbered_port}
 use Rattle.bsdl_build.specs.Bits.{firsts}
 use Rattle.bsdl_build.proofs.NumberLaws.{bit_by}
-use Rattle.bsdl_build.proofs.keyed.bit_of_port.Goals as goal
+use Rattle.bsdl_build.proofs.cells.bit_of_port.Goals as goal
 
 pub returns-in-Some : goal.returns-in-Some
 returns-in-Some c = IfOk-weaker c.bit_in.result _ _ (λ o found ps at bits_are.
