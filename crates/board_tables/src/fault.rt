@@ -1,8 +1,9 @@
 //! Why a board file is refused.
+ghost use Rattle.std.specs.Prelude.{◌≡◌};
 ghost use Rattle.board_tables.specs.FileView.{IsTold};
 
 use crate::fields::Unfit;
-use std::alloc::Global;
+use std::alloc::{AllocError, Global};
 use thiserror::Error;
 
 /// The refusals of a board file, the least number first; `F` is why a description is refused. What is shown is the line
@@ -38,6 +39,16 @@ pub enum BoardFault<F> {
     /// net depends on itself. It comes only where none of C1 to C7 does.
     #[error("C9 CoreLoop")]
     CoreLoop(String),
+}
+
+impl<F> From<AllocError> for BoardFault<F> {
+    ghost use Rattle.board_tables.specs.declared.fault.BoardFault.TheVariants.{NoMemory};
+
+    ghost from_gives = { λ _ e. e ≡ NoMemory };
+
+    fn from(_: AllocError) -> BoardFault<F> {
+        BoardFault::NoMemory
+    }
 }
 
 /// The refusal for a key at fault.

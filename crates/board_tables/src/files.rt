@@ -45,13 +45,8 @@ pub fn names_of_table<F>(alloc: Global, table: &Table) -> Result<Vec<String>, Bo
     if let Err(unfit) = check_fields(alloc, table, &[]) {
         return Err(told(alloc, unfit));
     }
-    match distinct_files(alloc, items_at(table, "device")) {
-        Ok(names) => match owned(alloc, names.keys()) {
-            Ok(names) => Ok(names),
-            Err(_) => Err(BoardFault::NoMemory),
-        },
-        Err(_) => Err(BoardFault::NoMemory),
-    }
+    let names = distinct_files(alloc, items_at(table, "device"))?;
+    Ok(owned(alloc, names.keys())?)
 }
 
 /// The names of the devices' descriptions, each once. Refuses for want of memory alone.
