@@ -54,8 +54,8 @@ impl Bits {
         lowest(alloc, digits, n, is_solid).map_err(|_| HexFault::NoMemory)
     }
 
-    /// The `n` lowest binary digits of hexadecimal digits with no white space between them (asked), as [`Bits::from_hex`]
-    /// gives them; a 1 beyond them is not looked for. Refused for want of memory alone.
+    /// The `n` lowest binary digits of hexadecimal digits with no white space between them (asked), as
+    /// [`Bits::from_hex`] gives them; a 1 beyond them is not looked for. Refused for want of memory alone.
     pub fn of_digits(alloc: Global, digits: &[u8], n: usize) -> Result<Bits, AllocError>
         requires { list_all is_ascii_hexdigit digits.now ≡ true }
         ensures { IfOk result (λ b. b ≡ spec.lowest n digits.now) }

@@ -88,7 +88,10 @@ abbrev pub hear : ℕ → StreamState → StreamState
 hear byte s =
     if is_some s.bad then s else
     if is_bad byte then record s { bad = Some byte } else
-    record s { answered = s.answered + 1; found = with_more s.kind (mismatch_of (unanswered s) (byte == one_byte)) s.found }
+    record s {
+      answered = s.answered + 1;
+      found = with_more s.kind (mismatch_of (unanswered s) (byte == one_byte)) s.found;
+    }
 
 abbrev pub hear_bytes : List ℕ → StreamState → StreamState
 hear_bytes [] s = s

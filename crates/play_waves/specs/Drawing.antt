@@ -30,7 +30,8 @@ shown p = record {
 
 abbrev pub further_lines : (before after : Shown) → List ℕ
 further_lines a b =
-    byte_change 1 a.tms b.tms ++ (byte_change 2 a.tdi b.tdi ++ (byte_change 3 a.tdo b.tdo ++ byte_change 4 a.trst b.trst))
+    byte_change 1 a.tms b.tms
+    ++ (byte_change 2 a.tdi b.tdi ++ (byte_change 3 a.tdo b.tdo ++ byte_change 4 a.trst b.trst))
 
 abbrev pub line_changes : (before after : Shown) → List ℕ
 line_changes a b = byte_change 0 a.tck b.tck ++ further_lines a b

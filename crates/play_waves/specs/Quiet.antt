@@ -1,5 +1,6 @@
--- Messages that leave what every pin drives, and every instruction: a level of a net and an instruction change only where
--- a device updates or resets on a falling edge, and where the line TRST is told (IEEE Std 1149.1-2001, clauses 6.1, 7, 8).
+-- Messages that leave what every pin drives, and every instruction: a level of a net and an instruction change only
+-- where a device updates or resets on a falling edge, and where the line TRST is told (IEEE Std 1149.1-2001, clauses
+-- 6.1, 7, 8).
 use Rattle.std.specs.Prelude.{◌≡◌, Bool, true, false, List, [], map}
 use Rattle.std.specs.List.{list_all}
 use Rattle.jt_tap.specs.declared.Work.{Work}

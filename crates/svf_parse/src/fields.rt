@@ -80,7 +80,8 @@ pub(crate) fn take_fields<'a>(
 
 /// Puts a field's digits, unless it is given already.
 fn put<'a>(all: &mut Fields<'a>, name: FieldName, digits: Digits<'a>) -> bool
-    ensures { spec.put name (digits_of digits.entry) (fields all.old) ≡ (if result then Some (fields all.new) else None) }
+    ensures { spec.put name (digits_of digits.entry) (fields all.old)
+        ≡ (if result then Some (fields all.new) else None) }
 {
     match name {
         FieldName::Tdi => put_once(&mut all.tdi, digits),

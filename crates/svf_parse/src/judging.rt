@@ -28,8 +28,8 @@ use svf_words::keywords::{Clock, Command, Which};
 use svf_words::{Code, count, length, length_value, period, time};
 
 /// Adds the statement of this command and the words at the lexer, or gives the refusal with the lowest number among its
-/// own. The lexer stands behind the words that were read for its form, also where they have none. What is read goes into
-/// the statement by the command alone, and through no form that has room for all of them.
+/// own. The lexer stands behind the words that were read for its form, also where they have none. What is read goes
+/// into the statement by the command alone, and through no form that has room for all of them.
 pub(crate) fn say(
     alloc: Global,
     command: Command,

@@ -162,8 +162,8 @@ fn stop_at(number: usize, refusal: Refusal) -> Stop
     }
 }
 
-/// Adds the statement of this word and those at the lexer, which then stands behind the words that were read, also where
-/// they are refused.
+/// Adds the statement of this word and those at the lexer, which then stands behind the words that were read, also
+/// where they are refused.
 fn say_word<'a>(
     alloc: Global,
     word: &'a [u8],

@@ -92,7 +92,8 @@ period_within l units =
 -- a time in picoseconds, rounded up
 abbrev pub time_within : Limits → ℕ → Result ℕ Code
 time_within l units =
-    if nat_lt l.picoseconds (div_ceil units picosecond_units) then Err code.TooLarge else Ok (div_ceil units picosecond_units)
+    if nat_lt l.picoseconds (div_ceil units picosecond_units) then Err code.TooLarge
+    else Ok (div_ceil units picosecond_units)
 
 -- a count, which is whole
 abbrev pub count_within : Limits → ℕ → Result ℕ Code

@@ -180,8 +180,8 @@ pub fn state_of(word: &[u8]) -> Option<State>
     }
 }
 
-/// The first of these keywords that the word is as it is spelled, in upper case: most programs are written so, and it is
-/// soonest seen.
+/// The first of these keywords that the word is as it is spelled, in upper case: most programs are written so, and it
+/// is soonest seen.
 fn first_spelt<K: Keyword>(keywords: &[K], word: &[u8]) -> Option<K>
     ensures { result ≡ find (λ k. bytes_eq word.now (K.spelling k)) keywords.now }
 {

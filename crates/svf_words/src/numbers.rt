@@ -120,7 +120,8 @@ pub fn count(word: &[u8]) -> Result<u32, Code>
 fn whole(mantissa: u64, zeros: u32) -> Option<u128>
     requires mantissa { mantissa < 10 ^ digit_limit }
     requires zeros { zeros ≤ spec.unit_power + exponent_limit }
-    ensures { MatchOption result ((mantissa * 10 ^ zeros) % spec.whole_units ≢ 0) (λ n. mantissa * 10 ^ zeros ≡ n * spec.whole_units) }
+    ensures { MatchOption result ((mantissa * 10 ^ zeros) % spec.whole_units ≢ 0)
+        (λ n. mantissa * 10 ^ zeros ≡ n * spec.whole_units) }
 {
     let mantissa = u128::from(mantissa);
     if zeros >= 36 {
