@@ -16,10 +16,7 @@ pub fn description_names<F>(alloc: Global, toml_text: &[u8]) -> Result<Vec<Strin
         → IfOk result (λ v. map string_bytes v.items ≡ map file_at (tables_at (codes "device") t)) }
 {
     let table = read_table(alloc, toml_text)?;
-    match names_of(alloc, items_at(&table, "device")) {
-        Ok(names) => Ok(names),
-        Err(_) => Err(BoardFault::NoMemory),
-    }
+    Ok(names_of(alloc, items_at(&table, "device"))?)
 }
 
 /// The files that the tables of devices name.

@@ -1,5 +1,5 @@
 //! A board by its file and its descriptions.
-ghost use Rattle.std.specs.Prelude.{◌≡◌, ◌<◌, codes, length, map, Ok, IfOk, IfErr};
+ghost use Rattle.std.specs.Prelude.{◌≡◌, ◌<◌, codes, length, map, IfOk};
 ghost use Rattle.toml.specs.Data.{Members};
 ghost use Rattle.toml.specs.View.{table_view, items_view};
 ghost use Rattle.board_tables.specs.Fields.{name_at, tables_at, tables_in};
@@ -67,14 +67,10 @@ pub fn plan_of_table<'f, R: Describe>(
     ensures said { IfOk result (λ p. AreSaid R.says (wiring p)) }
     ensures loops { IfOk result (λ p. HasNoLoop (dependencies (wiring p))) }
 {
-    let plan = match plan_wired(alloc, reader, files, table) {
-        Ok(plan) => plan,
-        Err(fault) => return Err(fault),
-    };
-    match settle_strings(alloc, &plan.nets, &plan.devices) {
-        Ok(Settling::Order(_)) => Ok(plan),
-        Ok(Settling::Loop(place)) => Err(core_loop(alloc, table, place)),
-        Err(_) => Err(BoardFault::NoMemory),
+    let plan = plan_wired(alloc, reader, files, table)?;
+    match settle_strings(alloc, &plan.nets, &plan.devices)? {
+        Settling::Order(_) => Ok(plan),
+        Settling::Loop(place) => Err(core_loop(alloc, table, place)),
     }
 }
 
@@ -100,20 +96,13 @@ fn plan_wired<'f, R: Describe>(
     ensures fits { IfOk result (λ p. FitsTogether (wiring p)) }
     ensures said { IfOk result (λ p. AreSaid R.says (wiring p)) }
 {
-    let Ok(names) = distinct_files(alloc, items_at(table, "device")) else {
-        return Err(BoardFault::NoMemory);
-    };
-    let Ok(library) = read_files(alloc, reader, files, names.keys()) else {
-        return Err(BoardFault::NoMemory);
-    };
+    let names = distinct_files(alloc, items_at(table, "device"))?;
     let Library {
         devices,
         missing,
         refused,
-    } = library;
-    if let Err(fault) = check_keys(alloc, table, &names, &devices) {
-        return Err(fault);
-    }
+    } = read_files(alloc, reader, files, names.keys())?;
+    check_keys(alloc, table, &names, &devices)?;
     if let Some(name) = missing {
         return Err(unknown_file(alloc, name));
     }
@@ -121,17 +110,6 @@ fn plan_wired<'f, R: Describe>(
         return Err(BoardFault::Bsdl(fault));
     }
     plan_described(alloc, table, &names, &devices)
-}
-
-/// Want of memory, as a refusal.
-fn no_memory<T, F>(outcome: Result<T, AllocError>) -> Result<T, BoardFault<F>>
-    ensures ok { IfOk result (λ x. outcome ≡ Ok x) }
-    ensures err { IfErr result (λ e. e ≡ BoardFault.NoMemory) }
-{
-    match outcome {
-        Ok(value) => Ok(value),
-        Err(_) => Err(BoardFault::NoMemory),
-    }
 }
 
 /// Judges the keys of the whole file, given all names of files and what is described in each.
@@ -145,10 +123,7 @@ fn check_keys<F>(
         (unfit (map (known_in (texts_of names.now) described.now) (tables_at (codes "device") (table_view table.now)))
         (table_view table.now)) }
 {
-    let known = match known_of(alloc, names, described, items_at(table, "device")) {
-        Ok(known) => known,
-        Err(_) => return Err(BoardFault::NoMemory),
-    };
+    let known = known_of(alloc, names, described, items_at(table, "device"))?;
     match check_fields(alloc, table, &known) {
         Ok(()) => Ok(()),
         Err(unfit) => Err(told(alloc, unfit)),
@@ -178,14 +153,14 @@ fn plan_described<F>(
 {
     let entries = items_at(table, "device");
     let nets = items_at(table, "net");
-    let board = no_memory(board_names(alloc, entries))?;
-    let devices = no_memory(devices_of(alloc, names, described, entries))?;
+    let board = board_names(alloc, entries)?;
+    let devices = devices_of(alloc, names, described, entries)?;
     let nets = match plan_fitting(alloc, &board, &devices, nets) {
         Ok(nets) => nets,
         Err(fault) => return Err(miswired(alloc, fault)),
     };
     Ok(Plan {
-        devices: no_memory(plan_devices(alloc, names, described, entries))?,
+        devices: plan_devices(alloc, names, described, entries)?,
         nets,
     })
 }

@@ -67,10 +67,7 @@ impl Board {
         if n == 0 || n > MOST_DEVICES {
             return Err(BoardFault::TooLarge);
         }
-        match bare_devices(alloc, n) {
-            Ok(board) => Ok(board),
-            Err(_) => Err(BoardFault::NoMemory),
-        }
+        Ok(bare_devices(alloc, n)?)
     }
 
     /// A planned board as it powers up.

@@ -91,13 +91,7 @@ impl Board {
         ensures { TellsMade result (makes said_device (files_of files.now) (table_view table.now))
             (targets_in (table_view table.now)) }
     {
-        let plan = match plan_of_table(alloc, &Bsdl, table, files) {
-            Ok(plan) => plan,
-            Err(fault) => return Err(fault),
-        };
-        match Board::powered_up(alloc, plan) {
-            Ok(board) => Ok(board),
-            Err(_) => Err(BoardFault::NoMemory),
-        }
+        let plan = plan_of_table(alloc, &Bsdl, table, files)?;
+        Ok(Board::powered_up(alloc, plan)?)
     }
 }

@@ -1,6 +1,7 @@
 use Rattle.std.proofs.Common.{◌≡◌, map, sym, subst, ap, ◌∙◌, arith}
 use Rattle.std.specs.List.{AllByRecursion}
 use Rattle.std.proofs.lemmas.Option.{slice_get_within}
+use Rattle.std.proofs.lemmas.Result.{err_from_is_err_and}
 use Rattle.toml.specs.View.{table_view}
 use Rattle.board_loops.specs.Loops.{HasNoLoop, IsFirstOnLoop}
 use Rattle.board_parts.specs.LibraryView.{files_of}
@@ -12,47 +13,49 @@ use Rattle.board_file.proofs.FitLaws.{board_targets}
 use Rattle.board_file.proofs.LoopLaws.{loop_told, no_memory_told, wiring_told}
 use Rattle.board_file.proofs.board.plan_of_table.Goals as goal
 
-pub returns-in-Err-clause-told : goal.returns-in-Err-clause-told
-returns-in-Err-clause-told g c =
+pub returns-in_err-plan-clause-told : goal.returns-in_err-plan-clause-told
+returns-in_err-plan-clause-told g c =
     let t = table_view c.args.table.now in
-    wiring_told g.R.Describe.refuses (makes g.R.Describe.says (files_of c.args.files.now) t) (targets_in t) c.in-Err.fault c.in-Err.ensures.told
+    let stop = err_from_is_err_and c.from_residual.result c.from_residual.ensures.1 in
+    rw (stop.1, stop.2) (wiring_told g.R.Describe.refuses (makes g.R.Describe.says (files_of c.args.files.now) t) (targets_in t) c.in_err-plan.field-0.0 c.in_err-plan.ensures.told)
 
 pub settle_strings-requires : goal.settle_strings-requires
-settle_strings-requires g c = subst (λ ds. AllByRecursion HasStrings (map member ds)) (sym c.deref-2.ensures.value) c.in-Ok.ensures.fits.strings
+settle_strings-requires g c = subst (λ ds. AllByRecursion HasStrings (map member ds)) (sym c.deref-2.ensures.value) c.in_ok-plan.ensures.fits.strings
 
 -- the nets and devices that are settled are the plan's
-pub returns-in-Ok-Order-clause-told : goal.returns-in-Ok-Order-clause-told
-returns-in-Ok-Order-clause-told g c = (
-  c.in-Ok.ensures.told,
-  subst (λ ds. HasNoLoop (dependencies (record { members = map member ds; nets = map net c.in-Ok.plan.nets.items }))) c.deref-2.ensures.value
-      (subst (λ ns. HasNoLoop (dependencies (record { members = map member c.deref-2.result.now; nets = map net ns }))) c.deref.ensures.value (rw c.in-Ok-Order.field-0-is at c.in-Ok-Order.ensures).0),
+pub returns-in-Order-clause-told : goal.returns-in-Order-clause-told
+returns-in-Order-clause-told g c = (
+  c.in_ok-plan.ensures.told,
+  subst (λ ds. HasNoLoop (dependencies (record { members = map member ds; nets = map net c.in_ok-plan.plan.nets.items }))) c.deref-2.ensures.value
+      (subst (λ ns. HasNoLoop (dependencies (record { members = map member c.deref-2.result.now; nets = map net ns }))) c.deref.ensures.value (rw c.in-Order.is at c.in_ok-settle_strings.ensures).0),
 )
 
 pub core_loop-requires : goal.core_loop-requires
 core_loop-requires g c =
     let t = table_view c.args.table.now in
-    let w = wiring c.in-Ok.plan in
-    let place = c.in-Ok-Loop.place in
+    let w = wiring c.in_ok-plan.plan in
+    let place = c.in-Loop.place in
     let first : IsFirstOnLoop (dependencies w) place =
-    subst (λ ds. IsFirstOnLoop (dependencies (record { members = map member ds; nets = map net c.in-Ok.plan.nets.items })) place) c.deref-2.ensures.value
-    (subst (λ ns. IsFirstOnLoop (dependencies (record { members = map member c.deref-2.result.now; nets = map net ns })) place) c.deref.ensures.value (rw c.in-Ok-Loop.field-0-is at c.in-Ok-Loop.ensures)) in
-    let long = board_targets g.R.Describe.says (files_of c.args.files.now) t w c.in-Ok.ensures.told in
+    subst (λ ds. IsFirstOnLoop (dependencies (record { members = map member ds; nets = map net c.in_ok-plan.plan.nets.items })) place) c.deref-2.ensures.value
+    (subst (λ ns. IsFirstOnLoop (dependencies (record { members = map member c.deref-2.result.now; nets = map net ns })) place) c.deref.ensures.value (rw c.in-Loop.is at c.in_ok-settle_strings.ensures)) in
+    let long = board_targets g.R.Describe.says (files_of c.args.files.now) t w c.in_ok-plan.ensures.told in
     omega (arith, long, slice_get_within (dependencies w) place first.on_loop.string first.on_loop.stands)
 
-pub returns-in-Ok-Loop-clause-told : goal.returns-in-Ok-Loop-clause-told
-returns-in-Ok-Loop-clause-told g c =
+pub returns-in-Loop-clause-told : goal.returns-in-Loop-clause-told
+returns-in-Loop-clause-told g c =
     let t = table_view c.args.table.now in
-    let w = wiring c.in-Ok.plan in
-    let place = c.in-Ok-Loop.place in
+    let w = wiring c.in_ok-plan.plan in
+    let place = c.in-Loop.place in
     let first : IsFirstOnLoop (dependencies w) place =
-    subst (λ ds. IsFirstOnLoop (dependencies (record { members = map member ds; nets = map net c.in-Ok.plan.nets.items })) place) c.deref-2.ensures.value
-    (subst (λ ns. IsFirstOnLoop (dependencies (record { members = map member c.deref-2.result.now; nets = map net ns })) place) c.deref.ensures.value (rw c.in-Ok-Loop.field-0-is at c.in-Ok-Loop.ensures)) in
-    loop_told g.R.Describe.refuses (makes g.R.Describe.says (files_of c.args.files.now) t) (targets_in t) c.core_loop.result w place c.in-Ok.ensures.told first c.core_loop.ensures
+    subst (λ ds. IsFirstOnLoop (dependencies (record { members = map member ds; nets = map net c.in_ok-plan.plan.nets.items })) place) c.deref-2.ensures.value
+    (subst (λ ns. IsFirstOnLoop (dependencies (record { members = map member c.deref-2.result.now; nets = map net ns })) place) c.deref.ensures.value (rw c.in-Loop.is at c.in_ok-settle_strings.ensures)) in
+    loop_told g.R.Describe.refuses (makes g.R.Describe.says (files_of c.args.files.now) t) (targets_in t) c.core_loop.result w place c.in_ok-plan.ensures.told first c.core_loop.ensures
 
-pub returns-in-Err-settle_strings-clause-told : goal.returns-in-Err-settle_strings-clause-told
-returns-in-Err-settle_strings-clause-told g c =
+pub returns-in_err-settle_strings-clause-told : goal.returns-in_err-settle_strings-clause-told
+returns-in_err-settle_strings-clause-told g c =
     let t = table_view c.args.table.now in
-    no_memory_told g.R.Describe.refuses (makes g.R.Describe.says (files_of c.args.files.now) t) (targets_in t)
+    let stop = err_from_is_err_and c.from_residual-in_err-settle_strings.result c.from_residual-in_err-settle_strings.ensures.1 in
+    rw (stop.1, stop.2) (no_memory_told g.R.Describe.refuses (makes g.R.Describe.says (files_of c.args.files.now) t) (targets_in t))
 
-pub returns-in-Ok-Order-clause-loops : goal.returns-in-Ok-Order-clause-loops
-returns-in-Ok-Order-clause-loops g c = (returns-in-Ok-Order-clause-told g c).1
+pub returns-in-Order-clause-loops : goal.returns-in-Order-clause-loops
+returns-in-Order-clause-loops g c = (returns-in-Order-clause-told g c).1

@@ -1,4 +1,5 @@
 use Rattle.std.proofs.Common.{◌∙◌, sym, ap, subst, map, option_map, codes, None}
+use Rattle.std.proofs.lemmas.Result.{err_from_is_err_and}
 use Rattle.toml.specs.View.{table_view}
 use Rattle.board_tables.specs.Fields.{tables_in, tables_at}
 use Rattle.board_tables.specs.WordView.{texts_of}
@@ -10,16 +11,17 @@ use Rattle.board_file.proofs.BoardLaws.{keys_fault, missing_fault, refused_fault
 use Rattle.board_file.proofs.FitLaws.{told_fits, told_said}
 use Rattle.board_file.proofs.board.plan_wired.Goals as goal
 
-pub returns-in-Err-clause-told : goal.returns-in-Err-clause-told
-returns-in-Err-clause-told g c =
+pub returns-in_err-check_keys-clause-told : goal.returns-in_err-check_keys-clause-told
+returns-in_err-check_keys-clause-told g c =
     let says = g.R.Describe.says in
     let refuses = g.R.Describe.refuses in
     let files = files_of c.args.files.now in
     let t = table_view c.args.table.now in
-    let names = texts_of c.in-Ok.names in
-    let names_is = c.in-Ok.ensures ∙ ap (λ items. distinct (map file_at (tables_in items))) c.items_at.ensures in
-    let ds_is = c.deref.ensures.value ∙ c.in-Ok-read_files.ensures.devices ∙ ap (λ ks. map (described says files) (texts_of ks)) c.keys.ensures in
-    keys_fault refuses says files t names c.deref.result.now names_is ds_is c.in-Err.fault c.in-Err.ensures
+    let names = texts_of c.in_ok-names.names in
+    let names_is = c.in_ok-names.ensures ∙ ap (λ items. distinct (map file_at (tables_in items))) c.items_at.ensures in
+    let ds_is = c.deref.ensures.value ∙ c.in_ok-devices.ensures.devices ∙ ap (λ ks. map (described says files) (texts_of ks)) c.keys.ensures in
+    let stop = err_from_is_err_and c.from_residual-in_err-check_keys.result c.from_residual-in_err-check_keys.ensures.1 in
+    rw (stop.1, stop.2) (keys_fault refuses says files t names c.deref.result.now names_is ds_is c.in_err-check_keys.field-0.0 c.in_err-check_keys.ensures)
 
 pub returns-in-Some-clause-told : goal.returns-in-Some-clause-told
 returns-in-Some-clause-told g c =
@@ -27,11 +29,11 @@ returns-in-Some-clause-told g c =
     let refuses = g.R.Describe.refuses in
     let files = files_of c.args.files.now in
     let t = table_view c.args.table.now in
-    let names = texts_of c.in-Ok.names in
-    let names_is = c.in-Ok.ensures ∙ ap (λ items. distinct (map file_at (tables_in items))) c.items_at.ensures in
-    let ds_is = c.deref.ensures.value ∙ c.in-Ok-read_files.ensures.devices ∙ ap (λ ks. map (described says files) (texts_of ks)) c.keys.ensures in
-    let missing_is = ap (λ ks. missing_in files (texts_of ks)) (sym c.keys.ensures) ∙ sym c.in-Ok-read_files.ensures.missing in
-    missing_fault refuses says files t names c.deref.result.now names_is ds_is c.in_default-check_keys.ensures c.unknown_file.result c.in-Some.name.now
+    let names = texts_of c.in_ok-names.names in
+    let names_is = c.in_ok-names.ensures ∙ ap (λ items. distinct (map file_at (tables_in items))) c.items_at.ensures in
+    let ds_is = c.deref.ensures.value ∙ c.in_ok-devices.ensures.devices ∙ ap (λ ks. map (described says files) (texts_of ks)) c.keys.ensures in
+    let missing_is = ap (λ ks. missing_in files (texts_of ks)) (sym c.keys.ensures) ∙ sym c.in_ok-devices.ensures.missing in
+    missing_fault refuses says files t names c.deref.result.now names_is ds_is c.in_ok-check_keys.ensures c.unknown_file.result c.in-Some.name.now
     (missing_is ∙ ap (option_map (λ n. n.now)) c.in-Some.is) c.unknown_file.ensures
 
 pub returns-in-Some-refused-clause-told : goal.returns-in-Some-refused-clause-told
@@ -40,13 +42,13 @@ returns-in-Some-refused-clause-told g c =
     let refuses = g.R.Describe.refuses in
     let files = files_of c.args.files.now in
     let t = table_view c.args.table.now in
-    let names = texts_of c.in-Ok.names in
-    let names_is = c.in-Ok.ensures ∙ ap (λ items. distinct (map file_at (tables_in items))) c.items_at.ensures in
-    let ds_is = c.deref.ensures.value ∙ c.in-Ok-read_files.ensures.devices ∙ ap (λ ks. map (described says files) (texts_of ks)) c.keys.ensures in
-    let missing_is = ap (λ ks. missing_in files (texts_of ks)) (sym c.keys.ensures) ∙ sym c.in-Ok-read_files.ensures.missing in
+    let names = texts_of c.in_ok-names.names in
+    let names_is = c.in_ok-names.ensures ∙ ap (λ items. distinct (map file_at (tables_in items))) c.items_at.ensures in
+    let ds_is = c.deref.ensures.value ∙ c.in_ok-devices.ensures.devices ∙ ap (λ ks. map (described says files) (texts_of ks)) c.keys.ensures in
+    let missing_is = ap (λ ks. missing_in files (texts_of ks)) (sym c.keys.ensures) ∙ sym c.in_ok-devices.ensures.missing in
     let refused_is = ap (λ ks. refused_in says files (texts_of ks)) (sym c.keys.ensures) in
-    let (text, is, why) = subst (λ o. IsFirstRefusal refuses o None (refused_in says files (texts_of c.keys.result.now))) c.in-Some-refused.is c.in-Ok-read_files.ensures.refused in
-    refused_fault refuses says files t names c.deref.result.now names_is ds_is c.in_default-check_keys.ensures (missing_is ∙ ap (option_map (λ n. n.now)) c.in_default-missing.is)
+    let (text, is, why) = subst (λ o. IsFirstRefusal refuses o None (refused_in says files (texts_of c.keys.result.now))) c.in-Some-refused.is c.in_ok-devices.ensures.refused in
+    refused_fault refuses says files t names c.deref.result.now names_is ds_is c.in_ok-check_keys.ensures (missing_is ∙ ap (option_map (λ n. n.now)) c.in_default.is)
     c.in-Some-refused.fault text (refused_is ∙ is) why
 
 pub returns-clause-told : goal.returns-clause-told
@@ -55,13 +57,13 @@ returns-clause-told g c =
     let refuses = g.R.Describe.refuses in
     let files = files_of c.args.files.now in
     let t = table_view c.args.table.now in
-    let names = texts_of c.in-Ok.names in
-    let names_is = c.in-Ok.ensures ∙ ap (λ items. distinct (map file_at (tables_in items))) c.items_at.ensures in
-    let ds_is = c.deref.ensures.value ∙ c.in-Ok-read_files.ensures.devices ∙ ap (λ ks. map (described says files) (texts_of ks)) c.keys.ensures in
-    let missing_is = ap (λ ks. missing_in files (texts_of ks)) (sym c.keys.ensures) ∙ sym c.in-Ok-read_files.ensures.missing in
+    let names = texts_of c.in_ok-names.names in
+    let names_is = c.in_ok-names.ensures ∙ ap (λ items. distinct (map file_at (tables_in items))) c.items_at.ensures in
+    let ds_is = c.deref.ensures.value ∙ c.in_ok-devices.ensures.devices ∙ ap (λ ks. map (described says files) (texts_of ks)) c.keys.ensures in
+    let missing_is = ap (λ ks. missing_in files (texts_of ks)) (sym c.keys.ensures) ∙ sym c.in_ok-devices.ensures.missing in
     let refused_is = ap (λ ks. refused_in says files (texts_of ks)) (sym c.keys.ensures) in
-    let none = subst (λ o. IsFirstRefusal refuses o None (refused_in says files (texts_of c.keys.result.now))) c.in_default-refused.is c.in-Ok-read_files.ensures.refused in
-    planned refuses says files t names c.deref.result.now names_is ds_is c.in_default-check_keys.ensures (missing_is ∙ ap (option_map (λ n. n.now)) c.in_default-missing.is)
+    let none = subst (λ o. IsFirstRefusal refuses o None (refused_in says files (texts_of c.keys.result.now))) c.in_default-refused.is c.in_ok-devices.ensures.refused in
+    planned refuses says files t names c.deref.result.now names_is ds_is c.in_ok-check_keys.ensures (missing_is ∙ ap (option_map (λ n. n.now)) c.in_default.is)
     (refused_is ∙ sym none) c.plan_described.result
     (subst (λ ds. PlansBoard c.plan_described.result names ds (tables_at (codes "device") t) (tables_at (codes "net") t)) (c.deref-2.ensures.value ∙ sym c.deref.ensures.value) c.plan_described.ensures)
 
