@@ -93,12 +93,13 @@ static void copy_bits(Bits *to, size_t at, const Bits *from, size_t from_at, siz
 		put_run(to, at + done, window(from, from_at + done), n - done < 64 ? n - done : 64);
 }
 
+static const uint64_t FIRST_NUMBER = 88172645463325252ull;
 static uint64_t last;
 static uint64_t next_number(void) { last ^= last << 13; last ^= last >> 7; last ^= last << 17; return last; }
 
 static Bits mixed(size_t n, size_t turned) {
 	Bits b = zeros(n);
-	last = 88172645463325252ull;
+	last = FIRST_NUMBER;
 	for (size_t i = 0; i < n + turned; i++)
 		shift_in(&b, next_number() & 1);
 	return b;
@@ -902,6 +903,140 @@ static size_t many_len, alike_len;
 static uint64_t run_bsdl_read(void) { count = many_len; return read_description(many, many_len); }
 static uint64_t run_bsdl_alike(void) { count = alike_len; return read_description(alike, alike_len); }
 
+// ---- texts of SVF: cut into tokens, read as statements of STATE and of scans, each with states or bits of its own
+
+enum { PATHS = 100000, SHORT_SCANS = 50000, LONG_SCANS = 60, LONG_DIGITS = 16384 };
+
+typedef struct { size_t len; Bits fields[4]; unsigned char *states; size_t state_count; } Statement;
+
+static int in_run(int c) { return isalnum(c) || c == '.' || c == '+' || c == '-' || c == '_'; }
+
+static Word next_token(Lexer *l) { // a run, `(`, `)` or `;`; none at the end and at a fault
+	for (;;) {
+		while (l->at < l->end && isspace((unsigned char)*l->at)) l->at++;
+		if (l->at == l->end || (*l->at != '!' && (*l->at != '/' || l->end - l->at < 2 || l->at[1] != '/'))) break;
+		while (l->at < l->end && *l->at != '\n' && *l->at != '\r') l->at++;
+	}
+	const char *start = l->at;
+	if (start == l->end) return (Word){ start, 0 };
+	if (in_run((unsigned char)*start)) while (l->at < l->end && in_run((unsigned char)*l->at)) l->at++;
+	else if (*start == '(' || *start == ')' || *start == ';') l->at++;
+	return (Word){ start, l->at - start };
+}
+
+static int is_mark(Word w, char mark) { return w.len == 1 && *w.text == mark; }
+
+static int which_of(Word w, const char *const *words, int n) { // -1 where it is none
+	for (int i = 0; i < n; i++)
+		if (is(w, words[i])) return i;
+	return -1;
+}
+
+// The bits that the last of these digits write, or none where one is no digit or has a 1 beyond.
+static int read_bits(Bits *bits, const char *digits, size_t n, size_t len) {
+	size_t written = 4 * n < len ? 4 * n : len;
+	*bits = (Bits){ malloc((written + 63) / 64 * 8), (written + 63) / 64, 0, written };
+	memset(bits->words, 0, bits->count * 8);
+	for (size_t i = 0; i < n; i++) {
+		int v = value(digits[n - 1 - i]);
+		if (v > 15 || (4 * i + 4 > len && v >> (4 * i < len ? len - 4 * i : 0))) return 0;
+		if (4 * i < written) bits->words[i / 16] |= (uint64_t)v << 4 * (i % 16);
+	}
+	return 1;
+}
+
+static int read_scan(Statement *s, Lexer *l) {
+	static const char *const names[] = { "TDI", "TDO", "MASK", "SMASK" };
+	Word w = next_token(l);
+	for (size_t i = 0; i < w.len; i++) {
+		if (w.text[i] < '0' || w.text[i] > '9' || i == 18) return 0;
+		s->len = 10 * s->len + (w.text[i] - '0');
+	}
+	if (!w.len || s->len > 1 << 20) return 0;
+	for (w = next_token(l); !is_mark(w, ';'); w = next_token(l)) {
+		int field = which_of(w, names, 4);
+		if (field < 0 || s->fields[field].words || !is_mark(next_token(l), '(')) return 0;
+		Word digits = next_token(l);
+		if (!digits.len || !in_run(*digits.text) || !is_mark(next_token(l), ')')) return 0; // one run
+		if (!read_bits(&s->fields[field], digits.text, digits.len, s->len)) return 0;
+	}
+	return 1;
+}
+
+static int read_path(Statement *s, Lexer *l) {
+	static const char *const names[] = { "IDLE", "RESET", "DRPAUSE", "IRPAUSE", "DRSELECT", "DRCAPTURE", "DRSHIFT", "DREXIT1",
+		"DREXIT2", "DRUPDATE", "IRSELECT", "IRCAPTURE", "IRSHIFT", "IREXIT1", "IREXIT2", "IRUPDATE" };
+	size_t room = 0;
+	for (Word w = next_token(l); !is_mark(w, ';'); w = next_token(l)) {
+		int state = which_of(w, names, 16);
+		if (state < 0) return 0;
+		if (s->state_count == room) s->states = realloc(s->states, room = room ? 2 * room : 8);
+		s->states[s->state_count++] = state;
+	}
+	return s->state_count != 0;
+}
+
+static uint64_t read_svf(const char *text, size_t len) {
+	static const char *const commands[] = { "SDR", "SIR", "RUNTEST", "STATE", "ENDDR", "ENDIR", "FREQUENCY", "HDR", "HIR", "TDR",
+		"TIR", "TRST", "PIO", "PIOMAP" };
+	Lexer l = { text, text + len };
+	Statement *all = 0;
+	size_t n = 0, room = 0;
+	uint64_t check = 0;
+	int good = 1;
+	for (Word w = next_token(&l); good && w.len; w = next_token(&l)) {
+		if (n == room) all = realloc(all, (room = room ? 2 * room : 4) * sizeof *all);
+		all[n] = (Statement){ 0 };
+		int command = which_of(w, commands, 14);
+		good = command == 0 ? read_scan(&all[n], &l) : command == 3 ? read_path(&all[n], &l) : 0;
+		n++;
+	}
+	for (size_t i = 0; i < n; i++) {
+		check += 1 + all[i].state_count;
+		free(all[i].states);
+		for (int k = 0; k < 4; k++) {
+			Bits *b = &all[i].fields[k];
+			if (b->len) check += b->len + 2 * (b->words[0] & 1);
+			free(b->words);
+		}
+	}
+	free(all);
+	count = len;
+	return good ? check : 0;
+}
+
+static char *states_text, *short_text, *long_text;
+static size_t states_len, short_len, long_len;
+
+static char *write_digits(char *at, int n) {
+	for (; n; n--) *at++ = "0123456789ABCDEF"[next_number() & 15];
+	return at;
+}
+
+static void make_texts(void) {
+	char *at = states_text = malloc(PATHS * 12);
+	for (int i = 0; i < PATHS; i++) at += sprintf(at, "STATE IDLE;");
+	states_len = at - states_text;
+	last = FIRST_NUMBER;
+	at = short_text = malloc(SHORT_SCANS * 32);
+	for (int i = 0; i < SHORT_SCANS; i++) {
+		at = write_digits(at + sprintf(at, "SDR 8 TDI ("), 2);
+		at = write_digits(at + sprintf(at, ") TDO ("), 2);
+		at += sprintf(at, ");\n");
+	}
+	short_len = at - short_text;
+	last = FIRST_NUMBER;
+	at = long_text = malloc(LONG_SCANS * (LONG_DIGITS + 32));
+	for (int i = 0; i < LONG_SCANS; i++) {
+		at = write_digits(at + sprintf(at, "SDR 65536 TDI ("), LONG_DIGITS);
+		at += sprintf(at, ");\n");
+	}
+	long_len = at - long_text;
+}
+static uint64_t run_svf_states(void) { return read_svf(states_text, states_len); }
+static uint64_t run_svf_short(void) { return read_svf(short_text, short_len); }
+static uint64_t run_svf_long(void) { return read_svf(long_text, long_len); }
+
 static void row(const char *name, const char *unit, uint64_t (*round)(void)) {
 	uint64_t least = UINT64_MAX, check = 0;
 	for (int r = 0; r < ROUNDS; r++) {
@@ -963,6 +1098,10 @@ int main(void) {
 	memset(start, 'N', LONG);
 	many_len = write_description(many, "P", SEEN);
 	alike_len = write_description(alike, start, 1);
+	make_texts();
+	row("svf_states", "byte", run_svf_states);
+	row("svf_short", "byte", run_svf_short);
+	row("svf_long", "byte", run_svf_long);
 	row("bsdl_read", "byte", run_bsdl_read);
 	row("bsdl_alike", "byte", run_bsdl_alike);
 	return 0;

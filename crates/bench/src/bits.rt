@@ -16,18 +16,18 @@ const TIMES: usize = 100;
 
 /// A row of numbers that look random, the same as C's.
 #[derive(Drop)]
-struct Numbers {
+pub struct Numbers {
     last: u64,
 }
 
 impl Numbers {
-    fn new() -> Numbers {
+    pub fn new() -> Numbers {
         Numbers {
             last: 88172645463325252,
         }
     }
 
-    fn next(&mut self) -> u64 {
+    pub fn next(&mut self) -> u64 {
         self.last ^= self.last << 13;
         self.last ^= self.last >> 7;
         self.last ^= self.last << 17;

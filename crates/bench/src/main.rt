@@ -12,6 +12,7 @@ mod long_plays;
 pub mod programs;
 mod rows;
 pub mod scans;
+mod texts;
 mod whole_plays;
 
 fn main(rt: HostRuntime) -> ExitCode {
@@ -49,5 +50,6 @@ fn measure(rt: &HostRuntime) -> io::Result<()> {
     whole_plays::rows(rt)?;
     long_plays::rows(rt)?;
     boards::rows(rt)?;
+    texts::rows(rt)?;
     descriptions::rows(rt)
 }
