@@ -53,7 +53,7 @@ enum End<'a> {
 /// said of when it comes. The time is linear in the text's length. The answer has at most four bits for each byte of
 /// the text, since a field has those that its digits write; beside text and answer, memory is taken only for one
 /// statement: the digits of its fields that are more than one run, and, where it is refused or never closed, the states
-/// that were read of it before.
+/// that were read of it before; where it is never closed, also the bits of its fields.
 pub fn parse(alloc: Global, text: &[u8]) -> Result<Vec<Statement>, SvfFault>
     // What is read is spelled so.
     ensures found { IfOk result (λ v. TextSpells text.now (map said_of v.items)) }
