@@ -493,7 +493,7 @@ class Description:
 
 
 class Banks(Description):
-    """A made description most of whose ports are driven by cells without a control, close together."""
+    """A made description whose ports are driven by cells close together: most without a control, or most with one."""
 
     def make_ports(self) -> None:
         self.ports = {name: "bit" for name in (*TAPS.values(), "TRST")}
@@ -512,8 +512,9 @@ class Banks(Description):
 
     def make_cells(self) -> None:
         rng, rows = self.rng, []
+        without = rng.choice((0.85, 0.85, 0.5, 0.05))
         for port in rng.sample(self.free, len(self.free)):
-            rows.append((port, "output2" if rng.random() < 0.85 else rng.choice(("output3", "bidir"))))
+            rows.append((port, "output2" if rng.random() < without else rng.choice(("output3", "bidir"))))
         rows += [(rng.choice(self.free), "input") for _ in range(rng.choice((0, 3, 9)))]
         rows += [(None, rng.choice(("control", "controlr", "internal"))) for _ in range(rng.choice((0, 1, 3)))]
         rows.append((None, "controlr"))

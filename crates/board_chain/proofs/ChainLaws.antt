@@ -228,11 +228,11 @@ same-cells R kept place (s ∷ old) (t ∷ new) each =
 
 -- the table of a chain that powers up
 pub start_driving : (seats items : List WiredChipValue) (w v : WiringValue) (f : Pin → Drive) (d : DrivingTable) → seats ≡ items → v ≡ record w { drives = map f (all_pins w.nets) }
-    → IsTable (driving_of seats v.nets) (length seats) d → ((drives : List Drive) → WerePut d.blocks d.pins d.put drives) → IsDriving (map cells_of items) v d
+    → IsTable (driving_of seats v.nets) (length seats) d → ((cells : List (List Cell)) (drives : List Drive) → WerePut cells d.blocks d.pins d.put drives) → IsDriving (map cells_of items) v d
 start_driving seats items w v f d is put table none =
     subst (λ (l : List WiredChipValue). IsDriving (map cells_of l) v d) is (record {
       table = subst (λ (n : ℕ). IsTable (driving_of seats v.nets) n d) (sym (length-map seats cells_of)) table;
-      put = none v.drives;
+      put = none (map cells_of seats) v.drives;
       full =
           ap (λ (x : WiringValue). length x.drives) put ∙ length-map (all_pins w.nets) f
           ∙ sym (ap (λ (x : WiringValue). length (all_pins x.nets)) put);

@@ -47,7 +47,7 @@ seats_hold nets k (m ∷ ms) = (record { same = refl; long = refl; constant = λ
 
 pub first_settled : (old new : List WiredChipValue) (w1 w2 : WiringValue) (d : DrivingTable) (strings : List WiredString) → IsWired old w1
     → AreHeld (map member_of old) (map held_of old) → AreStrung w1.nets (map cells_of old) strings → IsOrderOf w1.nets (map member_of old) (map placed_of strings)
-    → IsTable (driving_of old w1.nets) (length old) d → ((drives : List Drive) → WerePut d.blocks d.pins d.put drives) → IsApart strings d
+    → IsTable (driving_of old w1.nets) (length old) d → ((cells : List (List Cell)) (drives : List Drive) → WerePut cells d.blocks d.pins d.put drives) → IsApart strings d
     → w2.nets ≡ w1.nets → IsWired new w2 → map held_of new ≡ after_strings w1.nets (map placed_of strings) (map held_of old)
     → map less_core new ≡ map less_core old → IsSettled new w2 d strings
 first_settled old new w1 w2 d strings before holds strung order table put apart nets wired held less =
@@ -62,7 +62,7 @@ first_settled old new w1 w2 d strings before holds strung order table put apart 
         table = subst (λ (ns : List Net). IsTable (driving_from (map cells_of new) 0 (all_pins ns)) (length (map cells_of new)) d) (sym nets)
             (subst (λ (cs : List (List Cell)). IsTable (driving_from cs 0 (all_pins w1.nets)) (length cs) d) (sym cells-are)
             (subst (λ (n : ℕ). IsTable (driving_of old w1.nets) n d) (sym (length-map old cells_of)) table));
-        put = put w2.drives;
+        put = put (map cells_of new) w2.drives;
         full = ap (λ (ds : List Drive). length ds) wired.drives ∙ length-map (all_pins w2.nets) (pin_drive (map held_of new));
       };
       apart = apart;

@@ -15,7 +15,8 @@ use Rattle.board_model.specs.Nets.{core_at, in_force, pin_drive}
 use Rattle.board_model.proofs.Held.{held_in_force, held_stay}
 use Rattle.board_model.proofs.InOrder.{strings_in_order}
 use Rattle.board_model.proofs.OtherRegisters.{order_of_stands}
-use Rattle.board_chips.specs.Driving.{cells_of, driving_from}
+use Rattle.boundary.specs.Driven.{Tells}
+use Rattle.board_chips.specs.Driving.{cells_of, driving_from, leaves_at}
 use Rattle.board_chips.specs.DrivingTable.{DrivingTable}
 use Rattle.board_chips.specs.WiredChips.{AllTold, IsKept, WiredChipValue, chip_state, held_of, member_of}
 use Rattle.board_chips.specs.Strings.{AreStrung, less_core, placed_of, puts}
@@ -131,8 +132,11 @@ anew_settled old mid new w0 w1 w2 d0 d1 strings is each first driving table seco
             (subst (λ (cs : List (List Cell)). IsTable (driving_from cs 0 (all_pins w1.nets)) (length cs) d1) (sym cells-are) driving.table);
         put = record {
           long = driving.put.long;
-          each = λ i j b p block bits within slot plain.
-              others (slice_index d1.pins (64 * i + j)) (apart.each i j b block within slot) ∙ driving.put.each i j b p block bits within slot plain;
+          each = λ i j b p block words within slot.
+              subst (λ (cs : List (List Cell)). Tells p (leaves_at cs b.device (b.first + j)) j (slice_get w2.drives (slice_index d1.pins (64 * i + j)))) (sym cells-are)
+              (subst (Tells p (leaves_at (map cells_of mid) b.device (b.first + j)) j)
+              (sym (others (slice_index d1.pins (64 * i + j)) (apart.each i j b block within slot)))
+              (driving.put.each i j b p block words within slot));
         };
         full = ap (λ (ds : List Drive). length ds) wired.drives ∙ length-map (all_pins w2.nets) (pin_drive (map held_of new));
       };

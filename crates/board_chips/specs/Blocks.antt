@@ -1,31 +1,33 @@
 -- The pins that a cell drives, by blocks of 64 cells of a device.
-use Rattle.std.specs.Prelude.{◌≡◌, ◌<◌, ◌+◌, ◌*◌, ◌%◌, Bool, true, false, ◌&&◌, ℕ, List, length, slice_get, slice_index}
-use Rattle.std.specs.Prelude.{Some, ◌⊎◌}
+use Rattle.std.specs.Prelude.{◌≡◌, ◌<◌, ◌+◌, ◌*◌, ◌%◌, Bool, true, false, ◌&&◌, ◌||◌, ℕ, List, length, slice_get}
+use Rattle.std.specs.Prelude.{slice_index, Some, ◌⊎◌}
 use Rattle.std.specs.List.{Contains}
 use Rattle.jt_bits.specs.Packed.{has_bit}
+use Rattle.bsdl_device.specs.declared.Cell.{Cell}
 use Rattle.boundary.specs.Cells.{same_bit}
-use Rattle.boundary.specs.declared.PlainCells.{PlainCells}
-use Rattle.pin_nets.specs.declared.Drive.TheVariants.{Strong}
+use Rattle.boundary.specs.Driven.{Tells, cell_leaves}
+use Rattle.boundary.specs.declared.DrivenCells.{DrivenCells}
 use Rattle.board_model.specs.Cells.{Member}
-use Rattle.board_chips.specs.Driving.{cell_drives, drives_at}
+use Rattle.board_chips.specs.Driving.{cell_drives, drives_at, leaves_at}
 use Rattle.board_chips.specs.declared.driving.Block.{Block}
 use Rattle.board_chips.specs.declared.driving.DrivingPin.{DrivingPin}
 
 -- ---- what 64 cells drive
 
--- of the cells from the first on, those in the mask drive these bits
-pub record TellsOwn (m : Member) (first : ℕ) (plain : PlainCells) : Type 0 where
-  pub each : (j : ℕ) → j < 64 → has_bit plain.mask j ≡ true → cell_drives m (first + j) ≡ Strong (has_bit plain.bits j)
+-- the cells of a device from the first on drive what these words tell
+pub record TellsOwn (m : Member) (first : ℕ) (now : DrivenCells) : Type 0 where
+  pub each : (j : ℕ) → j < 64 → Tells now (cell_leaves m.device.cells (first + j)) j (Some (cell_drives m (first + j)))
 
--- so do those of a block
-pub record TellsBlock (ms : List Member) (b : Block) (plain : PlainCells) : Type 0 where
-  pub each : (j : ℕ) → j < 64 → has_bit plain.mask j ≡ true
-      → drives_at ms b.device (b.first + j) ≡ Strong (has_bit plain.bits j)
+-- so do those of a block, given the cells of each device
+pub record TellsBlock (cells : List (List Cell)) (ms : List Member) (b : Block) (now : DrivenCells) : Type 0 where
+  pub each : (j : ℕ) → j < 64
+      → Tells now (leaves_at cells b.device (b.first + j)) j (Some (drives_at ms b.device (b.first + j)))
 
--- cell j drove its own bit, and drives the same
-abbrev pub stands : (put now : PlainCells) → ℕ → Bool
+-- cell j drove its own bit, and drives the same; or it was disabled, and is; or it drove nothing in HIGHZ, and does
+abbrev pub stands : (put now : DrivenCells) → ℕ → Bool
 stands put now j =
-    (has_bit put.mask j && has_bit now.mask j) && same_bit (has_bit put.bits j) (has_bit now.bits j)
+    ((has_bit put.own j && has_bit now.own j) && same_bit (has_bit put.bits j) (has_bit now.bits j))
+    || ((has_bit put.off j && has_bit now.off j) || (has_bit put.mute j && has_bit now.mute j))
 
 -- ---- a pin at its place in a block
 

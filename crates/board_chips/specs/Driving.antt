@@ -8,6 +8,7 @@ use Rattle.pin_nets.specs.declared.Drive.TheVariants.{Nothing}
 use Rattle.pin_nets.specs.declared.Pin.{Pin}
 use Rattle.pin_nets.specs.Wired.{Net}
 use Rattle.boundary.specs.Cells.{driven_in, driver_from}
+use Rattle.boundary.specs.Driven.{cell_leaves}
 use Rattle.board_plan.specs.Planned.{all_pins}
 use Rattle.board_model.specs.Cells.{Member}
 use Rattle.board_chips.specs.declared.driving.DrivingPin.{DrivingPin}
@@ -24,6 +25,10 @@ cell_drives m k =
 -- what a cell of one of these devices drives
 abbrev pub drives_at : List Member → (device cell : ℕ) → Drive
 drives_at ms device cell = unwrap_or (option_map (λ m. cell_drives m cell) (slice_get ms device)) Nothing
+
+-- what the control of a cell of one of these devices leaves on its pin, given the cells of each device
+abbrev pub leaves_at : List (List Cell) → (device cell : ℕ) → Drive
+leaves_at cells device cell = unwrap_or (option_map (λ cs. cell_leaves cs cell) (slice_get cells device)) Nothing
 
 -- what the cell of an entry drives
 abbrev pub entry_drives : List Member → DrivingPin → Drive

@@ -1,6 +1,6 @@
 -- The pins of a board that a cell drives, by their cells, with what was last put to their nets.
 use Rattle.std.specs.Prelude.{ℕ, List}
-use Rattle.boundary.specs.declared.PlainCells.{PlainCells}
+use Rattle.boundary.specs.declared.DrivenCells.{DrivenCells}
 use Rattle.board_chips.specs.declared.driving.Block.{Block}
 use Rattle.board_chips.specs.declared.driving.DrivingPin.{DrivingPin}
 
@@ -9,7 +9,7 @@ pub record DrivingTable : Type 0 where
   pub blocks : List Block
   -- of each block the pins that its 64 cells drive; that of a cell that drives none does not count
   pub pins : List ℕ
-  -- of each block the bits that were last put to its pins
-  pub put : List PlainCells
+  -- of each block what was last put to its pins
+  pub put : List DrivenCells
   -- the pins that stand in no block
   pub rest : List DrivingPin

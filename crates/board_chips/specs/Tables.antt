@@ -3,16 +3,16 @@ use Rattle.std.specs.Prelude.{◌≡◌, ◌<◌, ◌+◌, ◌*◌, ◌%◌, tru
 use Rattle.std.specs.List.{Contains, list_any}
 use Rattle.jt_bits.specs.Packed.{has_bit}
 use Rattle.bsdl_device.specs.declared.Cell.{Cell}
-use Rattle.boundary.specs.declared.PlainCells.{PlainCells}
+use Rattle.boundary.specs.Driven.{Tells}
+use Rattle.boundary.specs.declared.DrivenCells.{DrivenCells}
 use Rattle.pin_nets.specs.Wired.{Net}
 use Rattle.pin_nets.specs.declared.Drive.{Drive}
-use Rattle.pin_nets.specs.declared.Drive.TheVariants.{Strong}
 use Rattle.board_plan.specs.Planned.{all_pins}
 use Rattle.board_model.specs.Cells.{Member}
 use Rattle.board_model.specs.Nets.{pin_drive}
 use Rattle.board_chips.specs.WiringValues.{WiringValue}
-use Rattle.board_chips.specs.Blocks.{AreParts, AreSlots, TellsBlock}
-use Rattle.board_chips.specs.Driving.{driving_from, drives_at, entry_drives}
+use Rattle.board_chips.specs.Blocks.{AreParts, AreSlots, TellsBlock, stands}
+use Rattle.board_chips.specs.Driving.{driving_from, drives_at, entry_drives, leaves_at}
 use Rattle.board_chips.specs.DrivingTable.{DrivingTable}
 use Rattle.board_chips.specs.WiredChips.{WiredChipValue, held_of}
 use Rattle.board_chips.specs.Strings.{puts}
@@ -28,21 +28,23 @@ AreDrivenBelow n driving = (e : DrivingPin) → Contains driving e → e.device 
 
 -- these pins stand in the blocks or beside them
 pub record IsTable (driving : List DrivingPin) (devices : ℕ) (d : DrivingTable) : Type 0 where
-  pub plain : List DrivingPin
-  pub slots : AreSlots plain devices d.blocks d.pins
-  pub parts : AreParts driving plain d.rest
+  pub close : List DrivingPin
+  pub slots : AreSlots close devices d.blocks d.pins
+  pub parts : AreParts driving close d.rest
 
--- the bits that are kept are those that the pins of the blocks drive, by what was last put to their nets
-pub record WerePut (blocks : List Block) (pins : List ℕ) (put : List PlainCells) (drives : List Drive) : Type 0 where
+-- the words that are kept tell what the pins of the blocks drive, by what was last put to their nets, given the cells
+-- of each device
+pub record WerePut (cells : List (List Cell)) (blocks : List Block) (pins : List ℕ) (put : List DrivenCells)
+    (drives : List Drive) : Type 0 where
   pub long : length put ≡ length blocks
-  pub each : (i j : ℕ) (b : Block) (p : PlainCells) → slice_get blocks i ≡ Some b → slice_get put i ≡ Some p → j < 64
-      → has_bit b.slots j ≡ true → has_bit p.mask j ≡ true
-      → slice_get drives (slice_index pins (64 * i + j)) ≡ Some (Strong (has_bit p.bits j))
+  pub each : (i j : ℕ) (b : Block) (p : DrivenCells) → slice_get blocks i ≡ Some b → slice_get put i ≡ Some p → j < 64
+      → has_bit b.slots j ≡ true
+      → Tells p (leaves_at cells b.device (b.first + j)) j (slice_get drives (slice_index pins (64 * i + j)))
 
 -- a table of the pins that a cell drives, given the cells of each device, with what was last put to them
 pub record IsDriving (cells : List (List Cell)) (w : WiringValue) (d : DrivingTable) : Type 0 where
   pub table : IsTable (driving_from cells 0 (all_pins w.nets)) (length cells) d
-  pub put : WerePut d.blocks d.pins d.put w.drives
+  pub put : WerePut cells d.blocks d.pins d.put w.drives
   pub full : length w.drives ≡ length (all_pins w.nets)
 
 -- no string puts a pin that stands in a block
@@ -81,19 +83,19 @@ pub record AreTargeted (ms : List Member) (target : List Drive) (pins : List ℕ
   pub first : b.first % 64 ≡ 0
   pub slots : HasTargets ms target pins at b b.slots
 
--- a pin whose cell drives the bit that was last put drives that
-pub record WasPut (ms : List Member) (target drives : List Drive) (pins : List ℕ) (at : ℕ) (b : Block)
-    (put : PlainCells) : Type 0 where
-  pub each : (j : ℕ) → j < 64 → has_bit b.slots j ≡ true → has_bit put.mask j ≡ true
-      → drives_at ms b.device (b.first + j) ≡ Strong (has_bit put.bits j)
-      → Settled target drives (slice_index pins (at + j))
+-- a pin whose cell drives what was last put, as the words that are kept and those of now tell, drives that
+pub record WasPut (cells : List (List Cell)) (ms : List Member) (target drives : List Drive) (pins : List ℕ) (at : ℕ)
+    (b : Block) (put : DrivenCells) : Type 0 where
+  pub each : (j : ℕ) → j < 64 → has_bit b.slots j ≡ true → (now : DrivenCells)
+      → Tells now (leaves_at cells b.device (b.first + j)) j (Some (drives_at ms b.device (b.first + j)))
+      → stands put now j ≡ true → Settled target drives (slice_index pins (at + j))
 
 -- the pins of these slots drive what they are to drive
 pub record SlotsSettled (target drives : List Drive) (pins : List ℕ) (at slots : ℕ) : Type 0 where
   pub each : (j : ℕ) → j < 64 → has_bit slots j ≡ true → Settled target drives (slice_index pins (at + j))
 
--- block i was refreshed: its pins drive what they are to drive, and the bits that are kept are those of its cells
-pub record IsRefreshed (ms : List Member) (target drives : List Drive) (pins : List ℕ) (put : List PlainCells) (i : ℕ)
-    (b : Block) : Type 0 where
+-- block i was refreshed: its pins drive what they are to drive, and the words that are kept tell that
+pub record IsRefreshed (cells : List (List Cell)) (ms : List Member) (target drives : List Drive) (pins : List ℕ)
+    (put : List DrivenCells) (i : ℕ) (b : Block) : Type 0 where
   pub settled : SlotsSettled target drives pins (64 * i) b.slots
-  pub tells : (p : PlainCells) → slice_get put i ≡ Some p → TellsBlock ms b p
+  pub tells : (p : DrivenCells) → slice_get put i ≡ Some p → TellsBlock cells ms b p

@@ -12,6 +12,7 @@ ghost use Rattle.board_chips.specs.Strings.{puts};
 ghost use Rattle.board_chips.specs.Tables.{AreDrivenBelow, IsApart, IsTable, WerePut};
 ghost use Rattle.board_chips.specs.Wires.{ArePinsBelow};
 ghost use Rattle.board_chips.specs.declared.driving.DrivingPin.{DrivingPin as Entry};
+ghost use Rattle.bsdl_device.specs.declared.Cell.{Cell as TheCell};
 ghost use Rattle.pin_nets.specs.declared.Drive.{Drive};
 
 use crate::block_numbers::BlockNumbers;
@@ -19,7 +20,7 @@ use crate::seat::WiredChip;
 use crate::strings::WiredString;
 use crate::wiring::Wiring;
 use crate::words::{bit, with_bit};
-use boundary::PlainCells;
+use boundary::DrivenCells;
 use bsdl_device::Cell;
 use std::alloc::{AllocError, Global};
 use std::collections::BTreeSet;
@@ -50,9 +51,9 @@ pub struct DrivingPins {
     pub(crate) blocks: Vec<Block>,
     /// Of each block the pins that its 64 cells drive; that of a cell that drives none does not count.
     pub(crate) pins: Vec<usize>,
-    /// Of each block the bits that were last put to its pins.
-    pub(crate) put: Vec<PlainCells>,
-    /// The pins that stand in no block: those whose cells have a control, or are few among their 64.
+    /// Of each block what was last put to its pins.
+    pub(crate) put: Vec<DrivenCells>,
+    /// The pins that stand in no block: those that strings put, and those whose cells are few among their 64.
     pub(crate) rest: Vec<DrivingPin>,
 }
 
@@ -69,7 +70,12 @@ impl Model for DrivingPins {
     } };
 }
 
-const NO_CELLS: PlainCells = PlainCells { mask: 0, bits: 0 };
+const NO_CELLS: DrivenCells = DrivenCells {
+    own: 0,
+    bits: 0,
+    off: 0,
+    mute: 0,
+};
 
 /// So many pins among 64 cells make a block. For fewer it takes longer to look for them than to ask each cell.
 const BLOCK_PINS: usize = 8;
@@ -84,7 +90,8 @@ pub fn driving_pins(
 ) -> Result<DrivingPins, AllocError>
     requires { ArePinsBelow (length seats.now) (all_pins wiring.now.nets) }
     ensures table { IfOk result (λ d. IsTable (driving_of seats.now wiring.now.nets) (length seats.now) d) }
-    ensures put { IfOk result (λ d. (drives : List Drive) → WerePut d.blocks d.pins d.put drives) }
+    ensures put { IfOk result (λ d. (cells : List (List TheCell)) (drives : List Drive)
+        → WerePut cells d.blocks d.pins d.put drives) }
     ensures apart { IfOk result (λ d. IsApart strings.now d) }
 {
     let all = all_driving(alloc, wiring, seats)?;
@@ -92,7 +99,7 @@ pub fn driving_pins(
     let taken = pins_of_strings(alloc, strings)?;
     let mut close = Vec::new(alloc);
     let mut rest = Vec::new(alloc);
-    divide(seats, &counts, &taken, &all, &mut close, &mut rest)?;
+    divide(&counts, &taken, &all, &mut close, &mut rest)?;
     let places = BlockNumbers::zeros(alloc, seats, &close)?;
     let (blocks, pins) = blocks_of(alloc, places, &close)?;
     let put = Vec::from_elem(alloc, NO_CELLS, blocks.len())?;
@@ -137,7 +144,7 @@ fn enter(
     Ok(())
 }
 
-/// Of each 64 cells of a device how many without a control drive a pin.
+/// Of each 64 cells of a device how many drive a pin.
 fn block_counts(
     alloc: Global,
     seats: &[WiredChip],
@@ -145,9 +152,7 @@ fn block_counts(
 ) -> Result<BlockNumbers, AllocError> {
     let mut counts = BlockNumbers::zeros(alloc, seats, all)?;
     for it in all {
-        if !has_control(seats, *it) {
-            counts.put(*it, counts.number(*it).saturating_add(1));
-        }
+        counts.put(*it, counts.number(*it).saturating_add(1));
     }
     Ok(counts)
 }
@@ -167,7 +172,6 @@ fn pins_of_strings(alloc: Global, strings: &[WiredString]) -> Result<BTreeSet<us
 
 /// The pins that stand in blocks, none of them one that a string puts, and those that go one by one.
 fn divide(
-    seats: &[WiredChip],
     counts: &BlockNumbers,
     taken: &BTreeSet<usize>,
     all: &[DrivingPin],
@@ -181,7 +185,7 @@ fn divide(
         → contains_by (nat_cmp e.pin) taken.now ≡ false) }
 {
     for it in all {
-        if goes_alone(seats, counts, taken, *it) {
+        if goes_alone(counts, taken, *it) {
             rest.push(*it)?;
         } else {
             close.push(*it)?;
@@ -190,28 +194,12 @@ fn divide(
     Ok(())
 }
 
-/// Whether a string puts a pin, its cell has a control, or fewer of its 64 drive pins than make a block. All are put to
-/// their nets alike, so no clause says which is which, but that those that strings put are among them.
-fn goes_alone(
-    seats: &[WiredChip],
-    counts: &BlockNumbers,
-    taken: &BTreeSet<usize>,
-    it: DrivingPin,
-) -> bool
+/// Whether a string puts a pin, or fewer of its cell's 64 drive pins than make a block. All are put to their nets alike,
+/// so no clause says which is which, but that those that strings put are among them.
+fn goes_alone(counts: &BlockNumbers, taken: &BTreeSet<usize>, it: DrivingPin) -> bool
     ensures { result ≡ false → contains_by (nat_cmp it.pin) taken.now ≡ false }
 {
-    taken.contains(&it.pin) || counts.number(it) < BLOCK_PINS || has_control(seats, it)
-}
-
-/// Whether what the cell of a pin drives hangs on another.
-fn has_control(seats: &[WiredChip], it: DrivingPin) -> bool {
-    match seats.get(it.device) {
-        Some(seat) => match seat.device().cells().get(it.cell) {
-            Some(cell) => cell.control.is_some(),
-            None => true,
-        },
-        None => true,
-    }
+    taken.contains(&it.pin) || counts.number(it) < BLOCK_PINS
 }
 
 /// The blocks of these pins' cells, and the pins of each block. `places` has for each 64 cells which block is theirs,

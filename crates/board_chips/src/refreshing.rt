@@ -17,14 +17,14 @@ use crate::driving::{Block, DrivingPin, DrivingPins};
 use crate::seat::WiredChip;
 use crate::wiring::Wiring;
 use crate::words::{bit, lowest, without_bit};
-use boundary::{Drive, PlainCells};
+use boundary::{Drive, DrivenCells};
 
 /// What each pin drives is put to its net, given the pins that a cell drives; what was put to the nets before is what
 /// each pin drove while the registers of the devices were others.
 ///
-/// Of cells without a control, where eight or more of 64 drive a pin and the mode drives the pins, only those are put
-/// whose bit is another than was last put. All others are put each time: pins whose cell has a control, few among 64,
-/// and those of a device in HIGHZ.
+/// Where eight or more of 64 cells drive a pin, only those are put of which it is not known that they drive what was
+/// last put: their own bit, what their control leaves while it disables them, or nothing in HIGHZ. Pins of few among 64
+/// are put each time.
 pub fn refresh_driving(wiring: &mut Wiring, seats: &[WiredChip], driving: &mut DrivingPins)
     requires { IsDriving (map cells_of seats.now) wiring.old driving.old }
     ensures nets { wiring.new.nets ≡ wiring.old.nets }
@@ -53,19 +53,19 @@ fn refresh_blocks(
     seats: &[WiredChip],
     blocks: &[Block],
     pins: &[usize],
-    put: &mut [PlainCells],
+    put: &mut [DrivenCells],
 )
     requires full { length wiring.old.drives ≡ length (all_pins wiring.old.nets) }
     requires long { length pins.now ≡ 64 * length blocks.now }
     requires slots { (i : ℕ) (b : TheBlock) → slice_get blocks.now i ≡ Some b
         → AreTargeted (map held_of seats.now) (targets seats.now wiring.old.nets) pins.now (64 * i) b }
-    requires put { WerePut blocks.now pins.now put.old wiring.old.drives }
+    requires put { WerePut (map cells_of seats.now) blocks.now pins.now put.old wiring.old.drives }
     ensures nets { wiring.new.nets ≡ wiring.old.nets }
     ensures settles { Settles (targets seats.now wiring.old.nets) wiring.old.drives wiring.new.drives }
     ensures long { length put.new ≡ length put.old }
     ensures blocks { (i : ℕ) (b : TheBlock) → slice_get blocks.now i ≡ Some b
-        → IsRefreshed (map held_of seats.now) (targets seats.now wiring.old.nets) wiring.new.drives pins.now put.new i
-        b }
+        → IsRefreshed (map cells_of seats.now) (map held_of seats.now) (targets seats.now wiring.old.nets)
+        wiring.new.drives pins.now put.new i b }
 {
     for i in 0..blocks.len() {
         let now = refresh_block(wiring, seats, blocks[i], pins, 64 * i, put[i]);
@@ -73,37 +73,38 @@ fn refresh_blocks(
     }
 }
 
-/// What the cells of a block drive is put to their nets. Answers which of them drive their own bits, and these.
+/// What the cells of a block drive is put to their nets. Answers what they drive, as words tell it.
 fn refresh_block(
     wiring: &mut Wiring,
     seats: &[WiredChip],
     block: Block,
     pins: &[usize],
     at: usize,
-    put: PlainCells,
-) -> PlainCells
+    put: DrivenCells,
+) -> DrivenCells
     requires full { length wiring.old.drives ≡ length (all_pins wiring.old.nets) }
     requires room { at + 64 ≤ length pins.now }
     requires slots { AreTargeted (map held_of seats.now) (targets seats.now wiring.old.nets) pins.now at block }
-    requires put { WasPut (map held_of seats.now) (targets seats.now wiring.old.nets) wiring.old.drives pins.now at
-        block put }
+    requires put { WasPut (map cells_of seats.now) (map held_of seats.now) (targets seats.now wiring.old.nets)
+        wiring.old.drives pins.now at block put }
     ensures nets { wiring.new.nets ≡ wiring.old.nets }
     ensures settles { Settles (targets seats.now wiring.old.nets) wiring.old.drives wiring.new.drives }
     ensures settled { SlotsSettled (targets seats.now wiring.old.nets) wiring.new.drives pins.now at block.slots }
-    ensures tells { TellsBlock (map held_of seats.now) block result }
+    ensures tells { TellsBlock (map cells_of seats.now) (map held_of seats.now) block result }
 {
-    let now = seats[block.device].plain_cells(block.first);
+    let now = seats[block.device].driven_cells(block.first);
     let changed = changed_slots(block.slots, put, now);
     put_slots(wiring, seats, block, now, pins, at, changed);
     now
 }
 
 /// The slots of which it is not known that their cells drive what was put.
-fn changed_slots(slots: u64, put: PlainCells, now: PlainCells) -> u64
+fn changed_slots(slots: u64, put: DrivenCells, now: DrivenCells) -> u64
     ensures { (j : ℕ) → j < 64 → has_bit result j ≡ (has_bit slots j && not (stands put now j)) }
 {
-    let known = slots & put.mask & now.mask;
-    slots & !known | known & (put.bits ^ now.bits)
+    let own = slots & put.own & now.own;
+    let other = slots & (put.off & now.off | put.mute & now.mute);
+    (slots & !own | own & (put.bits ^ now.bits)) & !other
 }
 
 /// What the cells of these slots of a block drive is put to their nets.
@@ -111,7 +112,7 @@ fn put_slots(
     wiring: &mut Wiring,
     seats: &[WiredChip],
     block: Block,
-    now: PlainCells,
+    now: DrivenCells,
     pins: &[usize],
     at: usize,
     slots: u64,
@@ -120,7 +121,7 @@ fn put_slots(
     requires room { at + 64 ≤ length pins.now }
     requires device { block.device < length seats.now }
     requires first { block.first % 64 ≡ 0 }
-    requires now { TellsBlock (map held_of seats.now) block now }
+    requires now { TellsBlock (map cells_of seats.now) (map held_of seats.now) block now }
     requires slots { HasTargets (map held_of seats.now) (targets seats.now wiring.old.nets) pins.now at block slots }
     ensures nets { wiring.new.nets ≡ wiring.old.nets }
     ensures settles { Settles (targets seats.now wiring.old.nets) wiring.old.drives wiring.new.drives }
@@ -135,15 +136,15 @@ fn put_slots(
     }
 }
 
-/// What cell `j` of a block drives: its own bit, or what its device says.
-fn drive_in(seats: &[WiredChip], block: Block, now: PlainCells, j: usize) -> Drive
+/// What cell `j` of a block drives: its own bit, as the words tell, or what its device says.
+fn drive_in(seats: &[WiredChip], block: Block, now: DrivenCells, j: usize) -> Drive
     requires within { j < 64 }
     requires device { block.device < length seats.now }
     requires first { block.first % 64 ≡ 0 }
-    requires now { TellsBlock (map held_of seats.now) block now }
+    requires now { TellsBlock (map cells_of seats.now) (map held_of seats.now) block now }
     ensures { result ≡ drives_at (map held_of seats.now) block.device (block.first + j) }
 {
-    if bit(now.mask, j) {
+    if bit(now.own, j) {
         return Drive::Strong(bit(now.bits, j));
     }
     seats[block.device].driven(block.first + j)

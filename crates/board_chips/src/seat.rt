@@ -28,7 +28,7 @@ use crate::driving::first_driver;
 use crate::sighted::{SightedCell, sighted_cells};
 use crate::wiring::Wiring;
 use board_plan::PlannedDevice;
-use boundary::{Boundary, Drive, PlainCells, drivers};
+use boundary::{Boundary, Drive, DrivenCells, drivers};
 use bsdl_device::Device;
 use jt_bits::Bits;
 use jt_tap::{Column, State, Work};
@@ -239,11 +239,11 @@ impl WiredChip {
         self.chip.boundary().driven(Some(cell), self.chip.mode())
     }
 
-    /// Of the 64 cells from `first` on those that drive their ports with their own bits, and these bits.
-    pub(crate) fn plain_cells(&self, first: usize) -> PlainCells
+    /// What each of the 64 cells from `first` on drives its port with, where it drives one, as far as words tell.
+    pub(crate) fn driven_cells(&self, first: usize) -> DrivenCells
         ensures { TellsOwn (held_of self.now) first result }
     {
-        self.chip.boundary().plain_cells(first, self.chip.mode())
+        self.chip.boundary().driven_cells(first, self.chip.mode())
     }
 
     /// Whether the rising edge that comes captures the boundary register.

@@ -13,10 +13,10 @@ use Rattle.boundary.specs.Cells.{BoundaryValue, cell_drive, drive_of_driver, dri
 use Rattle.boundary.proofs.MaskLaws.{zero_bit}
 use Rattle.boundary.specs.Plain.{drives_plainly, has_no_control, plain_cells}
 
-abbrev is_marked : List Cell → ℕ → Bool
+abbrev pub is_marked : List Cell → ℕ → Bool
 is_marked cells k = unwrap_or (option_map (λ (c : Cell). has_no_control c.control) (slice_get cells k)) false
 
-marked : (cells : List Cell) (plain : List Bool) (k : ℕ) → plain ≡ plain_cells cells → bit_of plain k ≡ is_marked cells k
+pub marked : (cells : List Cell) (plain : List Bool) (k : ℕ) → plain ≡ plain_cells cells → bit_of plain k ≡ is_marked cells k
 marked cells plain k is =
     ap (λ (l : List Bool). bit_of l k) is
     ∙ ap (λ (o : Option Bool). unwrap_or o false) (slice_get-map (λ (c : Cell). has_no_control c.control) cells k)
@@ -28,7 +28,7 @@ own-bit : (bits : List Bool) (k : ℕ) (control : Option Control3) → has_no_co
 own-bit bits k None is = refl
 own-bit bits k (Some t) is = absurd (no is)
 
-strong : (bits : List Bool) (cells : List Cell) (k : ℕ) → is_marked cells k ≡ true → drive_of_driver bits (Some k) cells ≡ Strong (bit_of bits k)
+pub strong : (bits : List Bool) (cells : List Cell) (k : ℕ) → is_marked cells k ≡ true → drive_of_driver bits (Some k) cells ≡ Strong (bit_of bits k)
 strong bits cells k is = by (slice_get cells k) refl
   where
     its : Option Cell → Drive

@@ -3,5 +3,7 @@ pub mod Laws
 pub mod Sight
 pub mod Masks
 pub mod Plain
+pub mod Controls
+pub mod Driven
 pub mod Told
 pub mod Resets

@@ -86,7 +86,7 @@ fn mask_words(cells: &[Cell]) -> MaskWords
 }
 
 /// The word with bit `j`, which is 0 so far, as a cell is marked.
-fn with_mark(word: u64, j: usize, is_marked: bool) -> u64
+pub(crate) fn with_mark(word: u64, j: usize, is_marked: bool) -> u64
     requires { j < 64 }
     ensures here { has_bit word j ≡ false → has_bit result j ≡ is_marked }
     ensures others { (k : ℕ) → k < 64 → k ≢ j → has_bit result k ≡ has_bit word k }

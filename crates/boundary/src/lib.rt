@@ -7,12 +7,16 @@ ghost use Rattle.jt_bits.specs.Words.{bit_of};
 ghost use Rattle.boundary.specs.Cells as cells;
 ghost use Rattle.boundary.specs.Cells.{AreDisabling, AreDrivers, BoundaryValue, DrivenByCell, EntersDisabling};
 ghost use Rattle.boundary.specs.Cells.{EntersDriver, IsWhole};
-ghost use Rattle.boundary.specs.Plain.{drives_plainly};
+ghost use Rattle.boundary.specs.Controls.{AreGroups};
+ghost use Rattle.boundary.specs.Driven.{TellsBy, TellsCells};
+ghost use Rattle.boundary.specs.Plain.{drives_plainly, plain_cells};
 ghost use Rattle.boundary.specs.Sight.{CapturesBySight};
 ghost use Rattle.jt_bits.specs.Packed.{has_bit};
+ghost use Rattle.bsdl_device.specs.declared.Cell.{Cell as TheCell};
 ghost use Rattle.pin_nets.specs.declared.Drive.TheVariants.{Strong};
 
 mod captures;
+mod controls;
 mod resets;
 mod sights;
 
@@ -21,6 +25,7 @@ pub use captures::sighted_port;
 use captures::{Masks, capture_all, held_bits, masks_of, takes_update};
 use chip_instructions::{Mode, SharedDevice};
 use chip_registers::{Register, WordRegister};
+use controls::{Controls, by_groups, controls_of};
 use jt_bits::Bits;
 pub use pin_nets::Drive;
 use resets::reset_all;
@@ -29,8 +34,8 @@ use std::alloc::{AllocError, Global};
 use std::marker::Model;
 
 /// The cells of a device with what each was last told that its port sees, their core's bits, and the two lists of the
-/// register; beside them the disabling values that a reset gives, and which cells capture what, have no control, and
-/// take their disabling values.
+/// register; beside them the disabling values that a reset gives, which cells capture what, have no control, and take
+/// their disabling values, and which are disabled together.
 #[derive(Drop)]
 pub struct Boundary {
     stage: Bits,
@@ -38,6 +43,7 @@ pub struct Boundary {
     seen: Sights,
     core: Bits,
     masks: Masks,
+    controls: Controls,
     disabling: Bits,
     device: SharedDevice,
     extest_update: bool,
@@ -46,6 +52,7 @@ pub struct Boundary {
 impl Model for Boundary {
     ghost use Rattle.std.specs.Prelude.{◌≡◌, length};
     ghost use Rattle.boundary.specs.Cells.{AreDisabling, BoundaryValue};
+    ghost use Rattle.boundary.specs.Controls.{AreGroups};
     ghost use Rattle.boundary.specs.Masks.{AreMasks};
     ghost use Rattle.boundary.specs.Plain.{plain_cells};
     ghost use Rattle.boundary.specs.Resets.{reset_cells};
@@ -70,6 +77,7 @@ impl Model for Boundary {
       masks : AreMasks b.device.cells b.masks.sighted b.masks.inner;
       plain : b.masks.plain ≡ plain_cells b.device.cells;
       reset : b.masks.reset ≡ reset_cells b.device.cells;
+      controls : AreGroups b.device.cells b.controls.groups.items;
     } };
 }
 
@@ -226,9 +234,11 @@ impl Boundary {
         reset_all(&masks.reset, &disabling, &mut update);
         let seen = Sights::none(alloc, device.get().cells())?;
         let stage = Bits::zeros(alloc, core.len())?;
+        let controls = controls_of(alloc, device.get().cells())?;
         Ok(Boundary {
             device,
             masks,
+            controls,
             disabling,
             core: core.try_clone(alloc)?,
             extest_update,
@@ -297,6 +307,54 @@ impl Boundary {
             Mode::Core => plain_from(&self.masks.plain, &self.core, first),
         }
     }
+
+    /// What each of the 64 cells from `first` on, a multiple of 64, drives its port with in a mode, where it drives
+    /// one. Of a cell that no word tells of, nothing is known: that costs time alone, so the clause goes one way.
+    pub fn driven_cells(&self, first: usize, mode: Mode) -> DrivenCells
+        ensures { TellsCells mode self.now first result }
+    {
+        match mode {
+            Mode::HighZ => DrivenCells {
+                own: 0,
+                bits: 0,
+                off: 0,
+                mute: u64::MAX,
+            },
+            Mode::Extest | Mode::Clamp => {
+                driven_from(&self.masks.plain, &self.controls, &self.update, first)
+            }
+            Mode::Core => driven_from(&self.masks.plain, &self.controls, &self.core, first),
+        }
+    }
+}
+
+/// What 64 cells drive under the bits in force, with a mask of those without a control.
+fn driven_from(mask: &Bits, controls: &Controls, bits: &Bits, first: usize) -> DrivenCells
+    ensures { (all : List TheCell) → mask.now ≡ plain_cells all → AreGroups all controls.now.groups.items
+        → TellsBy all bits.now first result }
+{
+    let from = controls.from(first);
+    let words = by_groups(&controls.groups, from, bits, first);
+    DrivenCells {
+        own: mask.word_at(first) | words.on,
+        bits: bits.word_at(first),
+        off: words.off,
+        mute: 0,
+    }
+}
+
+/// What 64 cells drive their ports with, where they drive one. Bit `j` of each word is that of cell `j` of the 64; a
+/// cell that has a bit in none of the three but `bits` may drive anything.
+#[derive(Debug, Clone, Copy, Drop)]
+pub struct DrivenCells {
+    /// Which cells drive their own bits.
+    pub own: u64,
+    /// These bits.
+    pub bits: u64,
+    /// Which cells drive what their control leaves, since it disables them.
+    pub off: u64,
+    /// Which cells drive nothing, since the mode is HIGHZ.
+    pub mute: u64,
 }
 
 /// Of 64 cells, with a mask of those without a control and the bits in force.

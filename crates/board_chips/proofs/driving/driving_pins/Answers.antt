@@ -1,4 +1,4 @@
-use Rattle.std.proofs.Common.{◌∙◌, List, subst, length, refl, rules, arith}
+use Rattle.std.proofs.Common.{◌∙◌, List, subst, length, rules, arith}
 use Rattle.board_chips.specs.Driving.{driving_of}
 use Rattle.board_chips.specs.Blocks.{AreParts}
 use Rattle.board_chips.specs.DrivingTable.{DrivingTable}
@@ -20,8 +20,8 @@ pub returns-clause-put : goal.returns-clause-put
 returns-clause-put c =
     let blocks = c.in_ok-blocks.blocks in
     let put = c.in_ok-put.put in
-    none_put blocks.items c.in_ok-blocks.pins.items put.items c.len.result (record { mask = 0; bits = 0 })
-    (c.in_ok-put.ensures.items_if_clones_equal (λ y h. search rules)) refl
+    none_put blocks.items c.in_ok-blocks.pins.items put.items c.len.result
+    (c.in_ok-put.ensures.items_if_clones_equal (λ y h. search rules))
     (omega (arith, c.in_ok-put.ensures.len, put.ok.0, blocks.ok.0, c.len.ensures))
 
 pub returns-clause-apart : goal.returns-clause-apart

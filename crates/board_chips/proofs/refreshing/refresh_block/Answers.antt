@@ -2,6 +2,7 @@ use Rattle.std.proofs.Common.{◌<◌, length, map, refl, arith}
 use Rattle.std.proofs.lemmas.List.{length-map}
 use Rattle.std.proofs.lemmas.Option.{slice_get_read}
 use Rattle.board_chips.specs.Blocks.{TellsBlock}
+use Rattle.board_chips.specs.Driving.{cells_of}
 use Rattle.board_chips.specs.WiredChips.{held_of}
 use Rattle.board_chips.specs.Tables.{targets}
 use Rattle.board_chips.proofs.BlockLaws.{block_tells}
@@ -14,10 +15,10 @@ returns-clause-settled c =
     let block = c.args.block in
     let s = c.index-seats-block.result in
     let inside : block.device < length seats = omega (arith, c.requires.slots.device, length-map seats held_of) in
-    let tells : TellsBlock (map held_of seats) block c.plain_cells-now.result =
-    block_tells seats s block c.plain_cells-now.result (slice_get_read seats (length seats) block.device s refl inside c.index-seats-block.is) c.plain_cells-now.ensures in
-    block_settled (map held_of seats) (targets seats c.args.wiring.now.nets) c.args.wiring.now.drives c.put_slots.new.wiring.drives c.args.pins.now c.args.at block c.args.put
-    c.plain_cells-now.result c.changed_slots-changed.result c.requires.put tells c.put_slots.ensures.settles c.put_slots.ensures.settled c.changed_slots-changed.ensures
+    let tells : TellsBlock (map cells_of seats) (map held_of seats) block c.driven_cells-now.result =
+    block_tells seats s block c.driven_cells-now.result (slice_get_read seats (length seats) block.device s refl inside c.index-seats-block.is) c.driven_cells-now.ensures in
+    block_settled (map cells_of seats) (map held_of seats) (targets seats c.args.wiring.now.nets) c.args.wiring.now.drives c.put_slots.new.wiring.drives c.args.pins.now c.args.at block c.args.put
+    c.driven_cells-now.result c.changed_slots-changed.result c.requires.put tells c.put_slots.ensures.settles c.put_slots.ensures.settled c.changed_slots-changed.ensures
 
 pub returns-clause-tells : goal.returns-clause-tells
 returns-clause-tells c =
@@ -25,4 +26,4 @@ returns-clause-tells c =
     let block = c.args.block in
     let s = c.index-seats-block.result in
     let inside : block.device < length seats = omega (arith, c.requires.slots.device, length-map seats held_of) in
-    block_tells seats s block c.plain_cells-now.result (slice_get_read seats (length seats) block.device s refl inside c.index-seats-block.is) c.plain_cells-now.ensures
+    block_tells seats s block c.driven_cells-now.result (slice_get_read seats (length seats) block.device s refl inside c.index-seats-block.is) c.driven_cells-now.ensures

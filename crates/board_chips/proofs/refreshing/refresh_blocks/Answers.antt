@@ -1,8 +1,9 @@
 use Rattle.std.proofs.Common.{◌≡◌, ◌<◌, ◌*◌, List, Some, length, map, get_or, slice_get, sym, subst, ◌∙◌, arith}
 use Rattle.std.proofs.lemmas.List.{length-set}
 use Rattle.std.proofs.lemmas.Option.{slice_get-get_or, slice_get_within}
-use Rattle.boundary.specs.declared.PlainCells.{PlainCells}
+use Rattle.boundary.specs.declared.DrivenCells.{DrivenCells}
 use Rattle.pin_nets.specs.Wired.{Net}
+use Rattle.board_chips.specs.Driving.{cells_of}
 use Rattle.board_chips.specs.WiredChips.{held_of}
 use Rattle.board_chips.specs.Tables.{AreTargeted, Settles, SlotsSettled, WasPut, targets}
 use Rattle.board_chips.specs.declared.driving.Block.{Block}
@@ -13,8 +14,8 @@ use Rattle.board_chips.proofs.refreshing.refresh_blocks.Goals as goal
 abbrev none : Block
 none = record { device = 0; first = 0; slots = 0 }
 
-abbrev nothing : PlainCells
-nothing = record { mask = 0; bits = 0 }
+abbrev nothing : DrivenCells
+nothing = record { own = 0; bits = 0; off = 0; mute = 0 }
 
 pub refresh_block-now-requires-clause-slots : goal.refresh_block-now-requires-clause-slots
 refresh_block-now-requires-clause-slots c =
@@ -36,8 +37,8 @@ refresh_block-now-requires-clause-put c =
     let at : slice_get blocks i ≡ Some b = slice_get-get_or blocks i none c.loop-i-test.true in
     let inside : i < length c.loop-i.put = omega (arith, c.loop-i-test.true, c.loop-i.invariant.long, c.requires.put.long) in
     let kept : slice_get c.args.put.now i ≡ Some p = sym (c.loop-i.invariant.rest i (omega arith)) ∙ slice_get-get_or c.loop-i.put i nothing inside in
-    subst (λ (ns : List Net). WasPut (map held_of seats) (targets seats ns) c.loop-i.wiring.drives c.args.pins.now (64 * i) b p) (sym c.loop-i.invariant.nets)
-    (was_put (map held_of seats) (targets seats nets) c.args.wiring.now.drives c.loop-i.wiring.drives blocks c.args.pins.now c.args.put.now i b p
+    subst (λ (ns : List Net). WasPut (map cells_of seats) (map held_of seats) (targets seats ns) c.loop-i.wiring.drives c.args.pins.now (64 * i) b p) (sym c.loop-i.invariant.nets)
+    (was_put (map cells_of seats) (map held_of seats) (targets seats nets) c.args.wiring.now.drives c.loop-i.wiring.drives blocks c.args.pins.now c.args.put.now i b p
     c.requires.put at kept (c.requires.slots i b at) c.loop-i.invariant.settles)
 
 pub loop-i-preserved : goal.loop-i-preserved
@@ -63,7 +64,7 @@ loop-i-preserved c =
       long = length-set c.loop-i.put i now ∙ so_far.long;
       rest = rest_more c.loop-i.put c.args.put.now i now so_far.rest;
       done =
-          refreshed_more (map held_of seats) target ds es blocks c.args.pins.now c.loop-i.put i b now at inside settles settled
+          refreshed_more (map cells_of seats) (map held_of seats) target ds es blocks c.args.pins.now c.loop-i.put i b now at inside settles settled
           c.refresh_block-now.ensures.tells so_far.done;
     }
 

@@ -1,4 +1,5 @@
 use Rattle.std.proofs.Common.{◌≡◌, ◌<◌, ◌≤◌, ℕ, length, map, slice_get, Some}
+use Rattle.board_chips.specs.Driving.{cells_of}
 use Rattle.board_chips.specs.WiredChips.{held_of}
 use Rattle.board_chips.specs.Tables.{IsRefreshed, Settles, targets}
 use Rattle.board_chips.specs.declared.driving.Block.{Block}
@@ -11,5 +12,5 @@ invariant-loop-i l = record {
   long : length l.put ≡ length l.initial.put;
   rest : (k : ℕ) → l.i ≤ k → slice_get l.put k ≡ slice_get l.initial.put k;
   done : (k : ℕ) (b : Block) → k < l.i → slice_get l.blocks k ≡ Some b
-      → IsRefreshed (map held_of l.seats) (targets l.seats l.initial.wiring.nets) l.wiring.drives l.pins l.put k b;
+      → IsRefreshed (map cells_of l.seats) (map held_of l.seats) (targets l.seats l.initial.wiring.nets) l.wiring.drives l.pins l.put k b;
 }

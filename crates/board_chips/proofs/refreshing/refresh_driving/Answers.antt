@@ -1,7 +1,7 @@
 use Rattle.std.proofs.Common.{◌≡◌, ◌*◌, ℕ, List, Some, length, map, slice_get, sym, ap, subst, ◌∙◌}
 use Rattle.std.proofs.lemmas.List.{with_items_is}
 use Rattle.std.specs.Vec.{with_items}
-use Rattle.boundary.specs.declared.PlainCells.{PlainCells}
+use Rattle.boundary.specs.declared.DrivenCells.{DrivenCells}
 use Rattle.pin_nets.specs.Wired.{Net}
 use Rattle.pin_nets.specs.declared.Drive.{Drive}
 use Rattle.board_plan.specs.Planned.{all_pins}
@@ -49,9 +49,9 @@ returns-clause-driving c =
     let drives = c.refresh_blocks.new.wiring.drives in
     let after = c.refresh_rest.new.wiring.drives in
     let put = c.refresh_blocks.new.put in
-    let blocks-are : (i : ℕ) (b : Block) → slice_get d.blocks.items i ≡ Some b → IsRefreshed (map held_of seats) target drives d.pins.items put i b =
+    let blocks-are : (i : ℕ) (b : Block) → slice_get d.blocks.items i ≡ Some b → IsRefreshed (map cells_of seats) (map held_of seats) target drives d.pins.items put i b =
     λ i b at.
-    subst (λ (l : List ℕ). IsRefreshed (map held_of seats) target drives l put i b) c.deref-2.ensures.value
+    subst (λ (l : List ℕ). IsRefreshed (map cells_of seats) (map held_of seats) target drives l put i b) c.deref-2.ensures.value
     (c.refresh_blocks.ensures.blocks i b (ap (λ (l : List Block). slice_get l i) c.deref.ensures.value ∙ at)) in
     let settles : Settles target drives after =
     subst (λ (ns : List Net). Settles (targets seats ns) drives after) c.refresh_blocks.ensures.nets c.refresh_rest.ensures.settles in
@@ -63,11 +63,11 @@ returns-clause-driving c =
     let is : (with_items d.put put).items ≡ put = with_items_is d.put put (long ∙ sym d.put.ok.0) in
     let nets-are : c.refresh_rest.new.wiring.nets ≡ nets = c.refresh_rest.ensures.nets ∙ c.refresh_blocks.ensures.nets in
     let new : DrivingTable = the_view (record d { put = with_items d.put put }) in
-    let table : IsTable (driving_from cells 0 (all_pins nets)) (length cells) new = record { plain = t.plain; slots = t.slots; parts = t.parts } in
+    let table : IsTable (driving_from cells 0 (all_pins nets)) (length cells) new = record { close = t.close; slots = t.slots; parts = t.parts } in
     record {
       table = subst (λ (ns : List Net). IsTable (driving_from cells 0 (all_pins ns)) (length cells) new) (sym nets-are) table;
       put =
-          subst (λ (l : List PlainCells). WerePut d.blocks.items d.pins.items l after) (sym is)
+          subst (λ (l : List DrivenCells). WerePut cells d.blocks.items d.pins.items l after) (sym is)
           (put_after seats nets (the_view d) t drives after put blocks-are settles rest (long ∙ given.put.long));
       full =
           settles.long ∙ c.refresh_blocks.ensures.settles.long ∙ given.full
@@ -86,9 +86,9 @@ returns-clause-drives c = λ before same was.
     let drives = c.refresh_blocks.new.wiring.drives in
     let after = c.refresh_rest.new.wiring.drives in
     let put = c.refresh_blocks.new.put in
-    let blocks-are : (i : ℕ) (b : Block) → slice_get d.blocks.items i ≡ Some b → IsRefreshed (map held_of seats) target drives d.pins.items put i b =
+    let blocks-are : (i : ℕ) (b : Block) → slice_get d.blocks.items i ≡ Some b → IsRefreshed (map cells_of seats) (map held_of seats) target drives d.pins.items put i b =
     λ i b at.
-    subst (λ (l : List ℕ). IsRefreshed (map held_of seats) target drives l put i b) c.deref-2.ensures.value
+    subst (λ (l : List ℕ). IsRefreshed (map cells_of seats) (map held_of seats) target drives l put i b) c.deref-2.ensures.value
     (c.refresh_blocks.ensures.blocks i b (ap (λ (l : List Block). slice_get l i) c.deref.ensures.value ∙ at)) in
     let settles : Settles target drives after =
     subst (λ (ns : List Net). Settles (targets seats ns) drives after) c.refresh_blocks.ensures.nets c.refresh_rest.ensures.settles in

@@ -3,6 +3,7 @@ use Rattle.std.proofs.lemmas.List.{length-replicate}
 use Rattle.bsdl_device.specs.Device.{Device}
 use Rattle.bsdl_device.specs.declared.Cell.{Cell}
 use Rattle.boundary.specs.Cells.{AreDisabling, reset_from}
+use Rattle.boundary.specs.Controls.{AreGroups}
 use Rattle.boundary.specs.Masks.{AreMasks}
 use Rattle.boundary.specs.Plain.{plain_cells}
 use Rattle.boundary.specs.Resets.{reset_cells}
@@ -25,6 +26,8 @@ invariant_of-result-2 c =
       masks = subst (λ (l : List Cell). AreMasks l c.in_ok-masks.masks.sighted c.in_ok-masks.masks.inner) masked c.in_ok-masks.ensures.masks;
       plain = c.in_ok-masks.ensures.plain ∙ ap plain_cells masked;
       reset = c.in_ok-masks.ensures.reset ∙ ap reset_cells masked;
+      controls = subst (λ (l : List Cell). AreGroups l c.in_ok-controls.controls.groups.items)
+          (c.cells-4.ensures ∙ ap (λ (d : Device). d.cells) (c.get-4.ensures ∙ sym c.device.view_is)) c.in_ok-controls.ensures;
       stage = ap length c.in_ok-stage.ensures ∙ length-replicate c.len-2.result false ∙ c.len-2.ensures ∙ cells;
       update = c.reset_all.ensures.long ∙ ap length c.in_ok-update.ensures ∙ length-replicate c.len.result false ∙ c.len.ensures ∙ cells;
     }

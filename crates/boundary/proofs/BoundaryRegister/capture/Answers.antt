@@ -16,6 +16,7 @@ invariant_of-self c =
       masks = kept.masks;
       plain = kept.plain;
       reset = kept.reset;
+      controls = kept.controls;
     }
 
 pub returns-clause-stage : goal.returns-clause-stage

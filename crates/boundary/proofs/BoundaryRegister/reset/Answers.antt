@@ -15,6 +15,7 @@ invariant_of-self c =
       masks = kept.masks;
       plain = kept.plain;
       reset = kept.reset;
+      controls = kept.controls;
       update = c.reset_all.ensures.long ∙ kept.update;
     }
 
