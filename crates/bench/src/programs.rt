@@ -1,9 +1,9 @@
 //! Texts, and the programs that they are.
+use play_direct::accept;
 use std::alloc::Global;
 use std::io::{self, Read};
 use std::time::Instant;
-use svf_parse::{Statement, parse};
-use svf_settings::resolve;
+use svf_parse::parse;
 
 /// A text has at most 16 MiB.
 const MOST_BYTES: u64 = 16 * 1024 * 1024 + 1;
@@ -38,35 +38,17 @@ pub fn tell_statements(rt: &HostRuntime) -> io::Result<()> {
     }
 }
 
-/// Reads a text from standard input, and tells how many statements and steps it has, and the milliseconds that `parse`
-/// and `resolve` took.
+/// Reads a text from standard input, and tells how many statements and steps it has, and the milliseconds that `accept`
+/// took.
 pub fn tell_program(rt: &HostRuntime) -> io::Result<()> {
     let text = text(rt)?;
     let start = Instant::now(rt)?;
-    match parse(rt.alloc(), &text) {
-        Ok(statements) => {
-            let parsed = milliseconds(rt, &start);
-            tell_resolved(rt, statements, &start, parsed)
-        }
-        Err(fault) => rt.println(fault),
-    }
-}
-
-/// Tells what statements come to, and the milliseconds that they took, and since then.
-fn tell_resolved(
-    rt: &HostRuntime,
-    statements: Vec<Statement, Global>,
-    start: &Instant,
-    parsed: u128,
-) -> io::Result<()> {
-    let found = resolve(rt.alloc(), statements);
-    let resolved = milliseconds(rt, start).saturating_sub(parsed);
+    let found = accept(rt.alloc(), &text);
+    let accepted = milliseconds(rt, &start);
     match found {
         Ok(program) => {
             let (statements, steps) = (program.statements(), program.len());
-            rt.println(format_args!(
-                "{statements} statements {steps} steps parse {parsed} ms resolve {resolved} ms"
-            ))
+            rt.println(format_args!("{statements} statements {steps} steps accept {accepted} ms"))
         }
         Err(fault) => rt.println(fault),
     }

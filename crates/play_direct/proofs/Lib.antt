@@ -4,3 +4,4 @@ pub mod WholePlay
 pub mod NotedPieces
 pub mod Buffers
 pub mod WithinLaws
+pub mod AcceptedTexts

@@ -8,9 +8,9 @@ ghost use Rattle.svf_programs.specs.Steps as steps;
 ghost use Rattle.play_direct.specs.Accepting.{Accepts, Refuses};
 
 use std::alloc::Global;
-use svf_parse::{SvfFault, parse};
+use svf_parse::SvfFault;
 use svf_programs::Program;
-use svf_settings::resolve;
+use svf_settings::resolve_text;
 
 /// The program of a text, or its first refusal: that of its first faulty statement by form (S1 to S6, S13, S15), or
 /// where no statement has one, that of the first statement which lacks something from those before it (S7 to S12, S14,
@@ -27,8 +27,5 @@ pub fn accept(alloc: Global, text: &[u8]) -> Result<Program, SvfFault>
     // It is small: steps, bits of fields and states of paths together are at most four for each byte of the text.
     ensures small { IfOk result (λ p. length p.steps + p.held ≤ 4 * length text.now) }
 {
-    match parse(alloc, text) {
-        Ok(statements) => resolve(alloc, statements),
-        Err(fault) => Err(fault),
-    }
+    resolve_text(alloc, text)
 }

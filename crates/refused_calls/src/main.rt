@@ -13,9 +13,9 @@ use std::process::ExitCode;
 use std::{env, io};
 
 const USAGE: &str =
-    "usage: refused_calls (parse | resolve | read | names | from_text [blocks | strings | circle] | \
-     bare | joined | play | all | check) <text, or refused_calls steady (start | bytes | runs | \
-     play) <text";
+    "usage: refused_calls (parse | resolve | accept | read | names | from_text [blocks | strings | \
+     circle] | bare | joined | play | all | check) <text, or refused_calls steady (start | bytes | \
+     runs | play) <text";
 
 fn main(rt: HostRuntime) -> ExitCode {
     match run(&rt) {
@@ -32,6 +32,7 @@ fn run(rt: &HostRuntime) -> io::Result<()> {
     match call.as_str() {
         "parse" => texts::parse_text(rt, &text),
         "resolve" => texts::resolve_text(rt, &text),
+        "accept" => texts::accept_text(rt, &text),
         "read" => texts::read_text(rt, &text),
         "names" => boards::names_of(rt, &text),
         "from_text" => boards::from_text(rt, how.as_str(), &text),

@@ -3,6 +3,7 @@
 use crate::given::{BEFORE, REFUSED, USUAL};
 use bsdl::{BsdlFault, read};
 use bsdl_device::Device;
+use jt_player::accept;
 use std::io;
 use svf_parse::{Code, Statement, SvfFault, parse};
 use svf_programs::Program;
@@ -46,6 +47,17 @@ pub(crate) fn resolve_text(rt: &HostRuntime, text: &[u8]) -> io::Result<()> {
     }
     rt.println(REFUSED)?;
     tell_program(rt, resolve(rt.alloc(), again))
+}
+
+/// A program's text is accepted, statement by statement.
+pub(crate) fn accept_text(rt: &HostRuntime, text: &[u8]) -> io::Result<()> {
+    let first = accept(rt.alloc(), text);
+    if !wants_memory(&first) {
+        rt.println(USUAL)?;
+        return tell_program(rt, first);
+    }
+    rt.println(REFUSED)?;
+    tell_program(rt, accept(rt.alloc(), text))
 }
 
 fn tell_program(rt: &HostRuntime, found: Result<Program, SvfFault>) -> io::Result<()> {

@@ -1,15 +1,14 @@
 -- The bits that a field writes, and its value.
-use Rattle.std.proofs.Common.{◌≡◌, ℕ, ◌-◌, ◌*◌, ◌≤◌, min, Bool, true, false, not, cond, List, [], ◌∷◌, ◌++◌, length, take, replicate, reverse, Option, Some, None, Ok, Err, refl, sym, ap, ◌∙◌, arith}
+use Rattle.std.proofs.Common.{◌≡◌, ℕ, ◌-◌, ◌*◌, ◌≤◌, min, Bool, true, false, not, cond, List, [], ◌∷◌, ◌++◌, length, take, replicate, reverse, Option, Some, None, Ok, refl, sym, ap, ◌∙◌, arith}
 use Rattle.std.specs.List.{list_all, flat_map, prefix_len, position}
 use Rattle.std.specs.Char.{is_ascii_hexdigit}
 use Rattle.std.proofs.lemmas.Bool.Decides.{nat_tests}
 use Rattle.std.proofs.lemmas.Grind.{flat_map-append}
 use Rattle.std.proofs.lemmas.List.{reverse-append, take_min, append-nil, length-append}
-use Rattle.jt_bits.specs.Hex.{is_white, is_bad, bits_of, binary, has_one_beyond, lowest, value_by, hex_value}
+use Rattle.jt_bits.specs.Hex.{is_white, is_bad, bits_of, binary, has_one_beyond, lowest, value_by}
 use Rattle.jt_bits.specs.Lengths.{resized}
 use Rattle.jt_bits.proofs.LengthLaws.{resized-take}
 use Rattle.svf_words.specs.declared.fault.Code.TheVariants as code
-use Rattle.jt_bits.specs.declared.digits.HexFault.TheVariants.{TooWide}
 use Rattle.svf_parse.specs.Sizes.{ValuesAreWritten}
 use Rattle.svf_parse.specs.Judging.{bits, bits_written, field_fault}
 use Rattle.svf_words.proofs.Digits.{and_true}

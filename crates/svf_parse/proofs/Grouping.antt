@@ -15,14 +15,12 @@ use Rattle.svf_parse.specs.Behind.{with_words, Behind}
 use Rattle.svf_words.specs.declared.fault.Code.{Code}
 use Rattle.svf_words.specs.declared.keywords.Command.{Command}
 use Rattle.svf_words.specs.Keywords.{command_of}
-use Rattle.svf_parse.specs.Forms.{Form, form_of}
 use Rattle.svf_parse.specs.declared.fault.Refusal.{Refusal}
-use Rattle.svf_parse.specs.declared.fault.Refusal.TheVariants as refusal
 use Rattle.svf_parse.specs.declared.fault.Stop.{Stop}
 use Rattle.svf_parse.specs.declared.fault.Stop.TheVariants as stop
 use Rattle.svf_parse.specs.declared.statement.Statement.{Statement}
 use Rattle.svf_parse.specs.View.{said_of, Adds, Stops, IsOpen}
-use Rattle.svf_parse.specs.Judging.{◌>>=◌, Said, form_says}
+use Rattle.svf_parse.specs.Judging.{◌>>=◌, Said}
 use Rattle.svf_parse.specs.Reading.{or_refuse, command_says, statement_says, groups_say, text_says, at_statement, within_limit, lex_code}
 
 abbrev Items : Type 0

@@ -8,6 +8,7 @@ pub mod FieldValues
 pub mod Grouping
 pub mod JudgedLaws
 pub mod LeastLaws
+pub mod NextStatements
 pub mod RefusalLaws
 pub mod ScanLaws
 pub mod SizeLaws

@@ -28,7 +28,7 @@ use Rattle.svf_words.specs.Words.{Word, Groups, last, group, with_word, with_tok
 use Rattle.svf_parse.specs.Fields.{Fields, no_fields, if_none, put}
 use Rattle.svf_words.specs.Keywords.{scan_word}
 use Rattle.svf_parse.specs.Forms.{Form, end_dr_form, end_ir_form, frequency_form, scan_form, run_test_form, states_form, trst_form, port_form}
-use Rattle.svf_parse.specs.Judging.{◌>>=◌, run_test_says_within, Said, end_dr, end_ir, frequency, states, trst, cycles_say, both, form_says, scan_says, scan_with, run_test_says, run_test_with, bits_written, bits, given}
+use Rattle.svf_parse.specs.Judging.{◌>>=◌, run_test_says_within, Said, end_dr, end_ir, frequency, states, trst, cycles_say, both, form_says, scan_says, scan_with, run_test_with, bits_written, bits, given}
 use Rattle.svf_words.specs.Numbers.{period_says, time_says}
 use Rattle.svf_parse.specs.Grammar.{Reads, AreStates, IsField, AreFields, IsForm}
 use Rattle.svf_parse.specs.Spelling.{EachSpells, closed_by, TextSpells}
@@ -282,7 +282,7 @@ each_fits ((w ∷ ws) ∷ gs) (s ∷ ss) h =
     let groups = sum_by-cons (λ ws. total ws) (w ∷ ws) gs in
     omega (arith, one, rest, all, groups)
 
-small_text : (text : List ℕ) (ss : List Said) → TextSpells text ss → sum_by size ss ≤ 4 * length text
+pub small_text : (text : List ℕ) (ss : List Said) → TextSpells text ss → sum_by size ss ≤ 4 * length text
 small_text text ss h =
     let tokens = h.0 in
     let gs = h.1 in

@@ -1,9 +1,8 @@
 -- What is spelled within some limits and lies within others is spelled within those too.
-use Rattle.std.proofs.Common.{◌≡◌, ℕ, ◌≤◌, List, [], ◌∷◌, length, Option, Some, None, Result, Ok, Err, refl, sym, ap, subst, ◌∙◌}
+use Rattle.std.proofs.Common.{◌≡◌, ℕ, ◌≤◌, List, [], ◌∷◌, Option, Some, None, Result, Ok, Err, refl, sym, ap, subst, ◌∙◌}
 use Rattle.std.specs.List.{AllByRecursion}
 use Rattle.jt_limits.specs.declared.Limits.{Limits}
 use Rattle.svf_words.specs.declared.fault.Code.{Code}
-use Rattle.svf_words.specs.declared.fault.Code.TheVariants as code
 use Rattle.svf_words.specs.declared.keywords.Clock.{Clock}
 use Rattle.svf_words.specs.Words.{Word}
 use Rattle.svf_parse.specs.Fields.{Fields}
@@ -12,7 +11,7 @@ use Rattle.svf_parse.specs.Forms.{Form, end_dr_form, end_ir_form, frequency_form
 use Rattle.svf_words.specs.Numbers.{period_says_within, time_says_within, count_says_within, len_says_within, len_value}
 use Rattle.svf_words.proofs.WithinLaws.{periods_limited, times_limited, counts_limited, lengths_limited}
 use Rattle.svf_parse.specs.Judging.{◌>>=◌, Said, end_dr, end_ir, frequency, states, trst, checked, both, given, clock_fault, field_fault, scan_with, run_test_with, scan_says_within, cycles_say_within, run_test_says_within, form_says_within}
-use Rattle.svf_parse.specs.Spelling.{SpellsWithin, EachSpellsWithin, TextSpellsWithin}
+use Rattle.svf_parse.specs.Spelling.{EachSpellsWithin}
 use Rattle.svf_parse.specs.Within.{IsAtMostIfGiven, SaidWithin, SpelledIsWithin, WhatLiesWithinIsSpelled}
 use Rattle.svf_parse.proofs.ScanLaws.{checked_ok}
 

@@ -1,12 +1,11 @@
 -- What a reader of the code answers, beside what the words say.
 use Rattle.std.specs.Prelude.{⊤}
-use Rattle.std.specs.Prelude.{◌≡◌, ◌≢◌, ℕ, List, [], ◌∷◌, ◌++◌, map, Some, None, Result, Ok, Err}
+use Rattle.std.specs.Prelude.{◌≡◌, ◌≢◌, ℕ, List, [], ◌∷◌, ◌++◌, map, Option, Some, None, Result, Ok, Err}
 use Rattle.std.specs.Global.{Vec}
 use Rattle.svf_lex.specs.declared.Lexer.{Lexer}
 use Rattle.svf_lex.specs.Left.{left}
 use Rattle.svf_words.specs.declared.fault.Code.{Code}
 use Rattle.svf_words.specs.declared.fault.Code.TheVariants.{NoMemory}
-use Rattle.svf_words.specs.declared.fault.Code.TheVariants as code
 use Rattle.svf_words.specs.declared.fault.SvfFault.{SvfFault}
 use Rattle.svf_parse.specs.declared.fault.Refusal.{Refusal}
 use Rattle.svf_parse.specs.declared.fault.Refusal.TheVariants as refusal
@@ -19,9 +18,7 @@ use Rattle.svf_parse.specs.declared.text.Front.TheVariants as front
 use Rattle.svf_parse.specs.declared.text.End.{End}
 use Rattle.svf_parse.specs.declared.text.End.TheVariants as end
 use Rattle.svf_words.specs.Words.{Word, Groups, last, group, with_word, groups_of}
-use Rattle.svf_words.specs.Keywords.{command_of}
-use Rattle.svf_parse.specs.Forms.{Form, form_of}
-use Rattle.svf_parse.specs.Reading.{or_refuse, statement_says, at_statement, within_limit, groups_say}
+use Rattle.svf_parse.specs.Reading.{statement_says, at_statement, within_limit, groups_say}
 use Rattle.svf_parse.specs.Judging.{◌>>=◌, Said, end_dr, end_ir, frequency, scan, states, trst}
 use Rattle.svf_parse.specs.Judging as judging
 
@@ -86,3 +83,24 @@ Takes n w groups (Ok after) old new =
     (ws : List Word) × (s : Statement) × (groups ≡ group ws (groups_of (left after))) × (new ≡ old ++ s ∷ [])
     × (at_statement n (within_limit n (statement_says (w ∷ ws))) ≡ Ok (said_of s))
 Takes n w groups (Err e) old new = Stops e (groups_say n (with_word w groups))
+
+-- a text at its first byte, or its refusal as a whole
+abbrev pub Begins : Result Lexer SvfFault → Result (List Said) SvfFault → Type 0
+Begins (Ok l) says = says ≡ groups_say 1 (groups_of (left l))
+Begins (Err f) says = says ≡ Err f
+
+-- groups without the first of them that have no words
+abbrev pub from_words : Groups → Groups
+from_words (last ws fault) = last ws fault
+from_words (group [] groups) = from_words groups
+from_words (group (w ∷ ws) groups) = group (w ∷ ws) groups
+
+-- What became of the statement that stands next in these groups, with number n: it was added to a list, and the lexer
+-- stands behind its `;`; or there is none, and the list is as before; or what they say is refused, unless memory ran
+-- out.
+abbrev pub IsNext : ℕ → Groups → Result (Option Lexer) SvfFault → List Statement → List Statement → Type 0
+IsNext n groups (Ok (Some after)) old new =
+    (w : Word) × (ws : List Word) × (s : Statement) × (from_words groups ≡ group (w ∷ ws) (groups_of (left after)))
+    × (new ≡ old ++ s ∷ []) × (at_statement n (within_limit n (statement_says (w ∷ ws))) ≡ Ok (said_of s))
+IsNext n groups (Ok None) old new = (from_words groups ≡ last [] None) × (new ≡ old)
+IsNext n groups (Err f) old new = f ≢ memory_fault → groups_say n groups ≡ Err f

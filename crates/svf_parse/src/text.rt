@@ -1,6 +1,6 @@
 //! A text's statements, one after another.
 ghost use Rattle.std.specs.Prelude.{◌≡◌, ◌≢◌, ◌+◌, ◌*◌, ◌≤◌, ◌∷◌, length, map, List, Result, Ok, Err, None};
-ghost use Rattle.std.specs.Prelude.{IfOk, IfErr};
+ghost use Rattle.std.specs.Prelude.{IfOk, IfErr, IfSome};
 ghost use Rattle.std.specs.Vec.{vec_len};
 ghost use Rattle.std.specs.List.{sum_by};
 ghost use Rattle.svf_lex.specs.Left.{left};
@@ -13,7 +13,7 @@ ghost use Rattle.svf_parse.specs.Reading as spec;
 ghost use Rattle.svf_parse.specs.Reading.{text_says, groups_say, statement_says, at_statement, within_limit};
 ghost use Rattle.svf_parse.specs.Spelling.{TextSpells, TextRefuses};
 ghost use Rattle.svf_parse.specs.Sizes.{size};
-ghost use Rattle.svf_parse.specs.View.{Adds, Tells, Stops, Fails, Takes, Parses, IsFront, IsEnd, IsOpen};
+ghost use Rattle.svf_parse.specs.View.{Adds, Tells, Stops, Fails, Takes, Parses, IsFront, IsEnd, IsOpen, Begins, IsNext};
 ghost use Rattle.svf_parse.specs.View.{said_of, memory_fault};
 
 use crate::fault::{Refusal, Stop};
@@ -72,19 +72,9 @@ pub fn parse(alloc: Global, text: &[u8]) -> Result<Vec<Statement>, SvfFault>
 fn read(alloc: Global, text: &[u8]) -> Result<Vec<Statement>, SvfFault>
     ensures { Parses result (text_says text.now) }
 {
-    if text.len() > TEXT_LIMIT {
-        return Err(SvfFault {
-            statement: 0,
-            code: Code::TooLarge,
-        });
-    }
-    match statements(alloc, Lexer::new(text)) {
+    match statements(alloc, lexer_of(text)?) {
         Ok(statements) => Ok(statements),
-        Err(Stop::Fault(fault)) => Err(fault),
-        Err(Stop::Memory) => Err(SvfFault {
-            statement: 0,
-            code: Code::NoMemory,
-        }),
+        Err(stop) => Err(told(stop)),
     }
 }
 
@@ -98,7 +88,7 @@ fn statements(alloc: Global, text: Lexer<'_>) -> Result<Vec<Statement>, Stop>
             Front::Over => return Ok(all),
             Front::Broken(fault) => return Err(broken(all.len() + 1, fault)),
             Front::Empty(after) => lexer = after,
-            Front::Word(word, rest) => match add(alloc, word, rest, &mut all) {
+            Front::Word(word, rest) => match add(alloc, all.len() + 1, word, rest, &mut all) {
                 Ok(after) => lexer = after,
                 Err(stop) => return Err(stop),
             },
@@ -106,21 +96,75 @@ fn statements(alloc: Global, text: Lexer<'_>) -> Result<Vec<Statement>, Stop>
     }
 }
 
-/// Adds the statement of this word and those at the lexer. Gives the lexer behind its `;`.
+/// A text at its first byte, or the refusal of one above 16 MiB as a whole (S15, statement 0).
+pub fn lexer_of(text: &[u8]) -> Result<Lexer<'_>, SvfFault>
+    ensures { Begins result (text_says text.now) }
+{
+    if text.len() > TEXT_LIMIT {
+        return Err(SvfFault {
+            statement: 0,
+            code: Code::TooLarge,
+        });
+    }
+    Ok(Lexer::new(text))
+}
+
+/// Adds the next statement of a text, which has this number, to a list, for a caller that does not keep them all. Gives
+/// the lexer behind its `;`, or none at the text's end, where nothing is added. An empty statement says nothing and
+/// does not count.
+///
+/// A refusal is that of the text from there on, as `parse` tells it; nothing is said then of what the list has. Want of
+/// memory is S16 with statement 0.
+pub fn next_statement<'a>(
+    alloc: Global,
+    number: usize,
+    text: Lexer<'a>,
+    all: &mut Vec<Statement>,
+) -> Result<Option<Lexer<'a>>, SvfFault>
+    ensures next { IsNext number (groups_of (left text.entry)) result all.old.items all.new.items }
+    ensures count { IfOk result (λ after. IfSome after (λ _. number ≤ spec.statement_limit)) }
+{
+    let mut lexer = text;
+    loop {
+        match front_of(lexer) {
+            Front::Over => return Ok(None),
+            Front::Broken(fault) => return Err(told(broken(number, fault))),
+            Front::Empty(after) => lexer = after,
+            Front::Word(word, rest) => {
+                return match add(alloc, number, word, rest, all) {
+                    Ok(after) => Ok(Some(after)),
+                    Err(stop) => Err(told(stop)),
+                };
+            }
+        }
+    }
+}
+
+/// Why a text was not read on.
+fn told(stop: Stop) -> SvfFault
+    ensures { (says : Result (List Said) SvfFault) → Stops stop says → result ≢ memory_fault → says ≡ Err result }
+{
+    match stop {
+        Stop::Fault(fault) => fault,
+        Stop::Memory => SvfFault {
+            statement: 0,
+            code: Code::NoMemory,
+        },
+    }
+}
+
+/// Adds the statement of this word and those at the lexer, which has this number. Gives the lexer behind its `;`.
 fn add<'a>(
     alloc: Global,
+    number: usize,
     word: &'a [u8],
     words: Lexer<'a>,
     all: &mut Vec<Statement>,
 ) -> Result<Lexer<'a>, Stop>
-    requires room { vec_len all.old ≤ spec.statement_limit }
-    requires open { IsOpen (groups_of (left words)) }
-    ensures takes { Takes (vec_len all.old + 1) word.now (groups_of (left words.entry)) result
-        all.old.items all.new.items }
-    ensures count { IfOk result
-        (λ _. (vec_len all.new ≡ vec_len all.old + 1) × (vec_len all.new ≤ spec.statement_limit)) }
+    requires { IsOpen (groups_of (left words)) }
+    ensures takes { Takes number word.now (groups_of (left words.entry)) result all.old.items all.new.items }
+    ensures count { IfOk result (λ _. (vec_len all.new ≡ vec_len all.old + 1) × (number ≤ spec.statement_limit)) }
 {
-    let number = all.len() + 1;
     let mut rest = words;
     let said = say_word(alloc, word, &mut rest, all);
     // A fault of the text comes before one of the statement. Words that were read for its form are not cut again.

@@ -4,7 +4,8 @@ use Rattle.svf_parse.specs.Judging.{Said, scan, states}
 use Rattle.svf_parse.specs.Sizes.{bits_in}
 use Rattle.svf_programs.specs.Steps.{Numbered, Program}
 
--- A program, with the number of bits of fields and of states of paths in all its statements, used by a step or not.
+-- A program, with the number of bits of fields and of states of paths in all the statements that it keeps, used by a
+-- step or not.
 pub record Holding : Type 0 where
   pub statements : ℕ
   pub steps : List Numbered

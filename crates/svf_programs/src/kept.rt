@@ -100,7 +100,7 @@ pub fn tdi_at(statements: &[Statement], at: u32) -> Option<&Bits>
 }
 
 /// The TDO that is written there.
-fn tdo_at(statements: &[Statement], at: u32) -> Option<&Bits>
+pub fn tdo_at(statements: &[Statement], at: u32) -> Option<&Bits>
     ensures { option_map {U = List Bool} (λ b. b.now) result
         ≡ spec.field_at spec.tdo_of (map said_of statements.now) at }
 {

@@ -5,6 +5,6 @@ mod kept;
 mod program;
 mod step;
 
-pub use kept::{Kept, KeptPart, KeptStep, len_at, path_at, tdi_at};
+pub use kept::{Kept, KeptPart, KeptStep, len_at, path_at, tdi_at, tdo_at};
 pub use program::{Program, Steps};
 pub use step::{Action, Step};

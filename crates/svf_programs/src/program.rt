@@ -11,10 +11,12 @@ use crate::step::{Action, Step};
 use std::marker::Model;
 use svf_parse::Statement;
 
-/// A program that was accepted: the statements as they are written, and steps that name the fields in them. So it takes
-/// memory in proportion to its text, however long its vectors are.
+/// A program that was accepted: steps, and the statements as they are written in which these name their fields. So it
+/// takes memory in proportion to its text, however long its vectors are.
 #[derive(Debug, Drop)]
 pub struct Program {
+    /// How many statements the text has, kept or not.
+    count: usize,
     statements: Vec<Statement>,
     steps: Vec<KeptStep>,
 }
@@ -31,7 +33,7 @@ impl Model for Program {
     ghost use Rattle.svf_programs.specs.Sound.{IsKept};
 
     ghost view = { λ p. record {
-      statements = length p.statements.items;
+      statements = p.count;
       steps = map (numbered_in (map said_of p.statements.items)) p.steps.items;
       held = sum_by content (map said_of p.statements.items);
     } };
@@ -59,14 +61,32 @@ impl Program {
           held = sum_by content (map said_of statements.items);
         } }
     {
-        Program { statements, steps }
+        Program::of_kept(statements.len(), statements, steps)
+    }
+
+    /// The program of these steps, which are sound (asked) and fewer than 2^32 (asked), of a text with so many
+    /// statements, of which these are kept.
+    pub fn of_kept(count: usize, statements: Vec<Statement>, steps: Vec<KeptStep>) -> Program
+        requires sound { IsSound (map (numbered_in (map said_of statements.items)) steps.items) }
+        requires few { length steps.items ≤ step_limit }
+        ensures { result ≡ record {
+          statements = count;
+          steps = map (numbered_in (map said_of statements.items)) steps.items;
+          held = sum_by content (map said_of statements.items);
+        } }
+    {
+        Program {
+            count,
+            statements,
+            steps,
+        }
     }
 
     /// How many statements the text has.
     pub fn statements(&self) -> usize
         ensures { result ≡ self.now.statements }
     {
-        self.statements.len()
+        self.count
     }
 
     /// How many steps they make.

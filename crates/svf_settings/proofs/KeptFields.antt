@@ -1,6 +1,8 @@
 -- The fields in force at a scan, by the statements in which they are written.
-use Rattle.std.proofs.Common.{◌≡◌, ℕ, Bool, List, Option, Some, None, refl, ap, ◌∙◌, if◌then◌else◌, is_some}
-use Rattle.std.specs.Prelude.{slice_get, option_and_then, option_map, unwrap_or}
+use Rattle.std.proofs.Common.{◌≡◌, ℕ, Bool, List, Option, Some, None, refl, sym, ap, ◌∙◌, ◌==◌, ◌&&◌, true, false, if◌then◌else◌, is_some, arith}
+use Rattle.std.specs.Prelude.{slice_get, option_and_then, option_map, unwrap_or, is_none}
+use Rattle.std.proofs.lemmas.Bool.Decides.{nat_tests}
+use Rattle.svf_settings.specs.Held.{takes_over, is_like}
 use Rattle.svf_words.specs.declared.keywords.Which.{Which}
 use Rattle.svf_parse.specs.Judging.{Said}
 use Rattle.svf_parse.specs.Judging as said
@@ -49,3 +51,35 @@ kept_in_force all which len tdi tdo mask smask index previous a c tb mb at ca cc
     let second : Option (List Bool) → Fields = λ x. record { len = len; tdi = field_or (λ f. f.tdi) len tdi previous; tdo = x; mask = field_at mask_of all c } in
     let third : Option (List Bool) → Fields = λ x. record { len = len; tdi = field_or (λ f. f.tdi) len tdi previous; tdo = tdo; mask = x } in
     ap zeroth (ap len_in at) ∙ ap first tdi_is ∙ ap second (ap (option_and_then tdo_of) at) ∙ ap third mask_is
+
+-- ---- a scan that is the same as the last one of its command
+
+and_true : (b c : Bool) → (b && c) ≡ true → (b ≡ true) × (c ≡ true)
+and_true true c e = (refl, e)
+and_true false c e = absurd (cc)
+
+none_is : (o : Option (List Bool)) → is_none o ≡ true → o ≡ None
+none_is None e = refl
+none_is (Some bits) e = absurd (cc)
+
+same_length : (a b : ℕ) → (a == b) ≡ true → a ≡ b
+same_length a b e = grind (arith, nat_tests)
+
+equal_length : (a b : ℕ) → a ≡ b → (a == b) ≡ true
+equal_length a b e = grind (arith, nat_tests)
+
+kept_whole : (n : ℕ) (f : Fields) → f.len ≡ n → f.tdo ≡ None → f ≡ in_force n None None None (Some f)
+kept_whole n f len none =
+    let long : (f.len == n) ≡ true = equal_length f.len n len in
+    let made : Bool → Fields = λ b. record { len = n; tdi = if b then f.tdi else None; tdo = None; mask = if b then f.mask else None } in
+    ap (λ (m : ℕ). record { len = m; tdi = f.tdi; tdo = f.tdo; mask = f.mask }) len
+    ∙ ap (λ (o : Option (List Bool)). record { len = n; tdi = f.tdi; tdo = o; mask = f.mask }) none ∙ ap made (sym long)
+
+pub same_part : (n : ℕ) (tdi tdo mask : Option (List Bool)) (f : Fields) → takes_over n tdi tdo mask (Some f) ≡ true → f ≡ in_force n tdi tdo mask (Some f)
+same_part n tdi tdo mask f e =
+    let gives = and_true (is_none tdi && is_none tdo && is_none mask) (is_like n (Some f)) e in
+    let first = and_true (is_none tdi && is_none tdo) (is_none mask) gives.0 in
+    let each = and_true (is_none tdi) (is_none tdo) first.0 in
+    let like = and_true (f.len == n) (is_none f.tdo) gives.1 in
+    rw (none_is tdi each.0, none_is tdo each.1, none_is mask first.1)
+    (kept_whole n f (same_length f.len n like.0) (none_is f.tdo like.1))

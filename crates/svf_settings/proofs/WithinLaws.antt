@@ -13,7 +13,7 @@ use Rattle.svf_programs.specs.Steps.{Step, Numbered, Program}
 use Rattle.svf_programs.specs.Sound.{StepWithin, StepsWithin}
 use Rattle.svf_settings.specs.LookBack.{Settings, settings, place, step, in_force, cycle_count}
 use Rattle.svf_settings.specs.Refusals.{misses_tdi, is_unstable, is_broken, is_stopped, uses_absent, is_empty, is_too_slow, is_above, len_of, refusal_within}
-use Rattle.svf_settings.specs.Programs.{StandsIn, ResolvesWithin, steps, step_made}
+use Rattle.svf_settings.specs.Programs.{StandsIn, steps, step_made}
 use Rattle.svf_settings.specs.Laws.{ResolvedIsWithin, WhatLiesWithinResolves}
 use Rattle.svf_settings.proofs.SoundSteps.{length-whole}
 use Rattle.svf_settings.proofs.FirstRefusals.{Within, stands_within, within_stands}

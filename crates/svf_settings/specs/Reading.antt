@@ -1,11 +1,13 @@
 -- A reader of statements, between two of them.
-use Rattle.std.specs.Prelude.{◌≡◌, ◌≢◌, ℕ, List, [], ◌∷◌, map, option_map, reverse, Option, Some, None, Result}
+use Rattle.std.specs.Prelude.{⊤}
+use Rattle.std.specs.Prelude.{◌≡◌, ◌≢◌, ℕ, List, [], ◌∷◌, ◌++◌, map, option_map, reverse, Option, Some, None, Result}
 use Rattle.std.specs.Prelude.{Ok, Err}
 use Rattle.std.specs.Global.{Vec}
 use Rattle.svf_words.specs.declared.fault.Code.{Code}
 use Rattle.svf_words.specs.declared.fault.SvfFault.{SvfFault}
 use Rattle.svf_parse.specs.Judging.{Said}
-use Rattle.svf_parse.specs.View.{memory_fault}
+use Rattle.svf_parse.specs.declared.statement.Statement.{Statement}
+use Rattle.svf_parse.specs.View.{memory_fault, said_of}
 use Rattle.svf_programs.specs.declared.kept.Kept.{Kept}
 use Rattle.svf_programs.specs.declared.kept.KeptStep.{KeptStep}
 use Rattle.svf_settings.specs.declared.reading.Reader.{Reader}
@@ -15,7 +17,7 @@ use Rattle.svf_settings.specs.LookBack.{settings, place, step}
 use Rattle.svf_settings.specs.Refusals.{refusal}
 use Rattle.svf_settings.specs.Programs.{steps, first_refusal}
 use Rattle.svf_programs.specs.Held.{numbered_in, step_in}
-use Rattle.svf_settings.specs.Held.{settings_in}
+use Rattle.svf_settings.specs.Held.{settings_in, if_named, is_named}
 
 -- a reader has the settings and the place behind these statements
 pub record IsBehind (all past : List Said) (r : Reader) : Type 0 where
@@ -47,3 +49,29 @@ Keeps all (Err fault) = fault ≢ memory_fault → first_refusal (reverse all) �
 abbrev pub Answers : Result Holding SvfFault → Result Program SvfFault → Type 0
 Answers (Ok p) says = says ≡ Ok (program_of p)
 Answers (Err fault) says = fault ≢ memory_fault → says ≡ Err fault
+
+-- ---- of statements that are not all kept
+
+-- a reader behind these statements, and their steps
+pub record IsAfter (all past : List Said) (r : Reader) (made : List KeptStep) : Type 0 where
+  pub behind : IsBehind all past r
+  pub fine : first_refusal past ≡ None
+  pub steps_are : map (numbered_in all) made ≡ steps past
+
+-- the same by the statements that are kept, whatever stands behind these
+abbrev pub KeepsAfter : List Statement → List Said → Reader → List KeptStep → Type 0
+KeepsAfter kept past r made = (more : List Said) → IsAfter (map said_of kept ++ more) past r made
+
+-- The last statement behind those that are kept was taken, and is kept if it is named; or it is refused, unless memory
+-- ran out.
+abbrev pub TakesLast : {E : Type 0} → List Statement → Statement → List Said → Reader → List Statement → List KeptStep
+    → Result (Option Code) E → Type 0
+TakesLast front s past r kept made (Ok None) =
+    KeepsAfter kept (said_of s ∷ past) r made × (kept ≡ front ++ if_named (is_named (settings past) (said_of s)) s)
+TakesLast front s past r kept made (Ok (Some code)) = refusal past (said_of s) ≡ Some code
+TakesLast front s past r kept made (Err e) = ⊤
+
+-- a refusal by its form, if groups have one, and else this one
+abbrev pub first_of : Result (List Said) SvfFault → SvfFault → SvfFault
+first_of (Ok ss) fault = fault
+first_of (Err form) fault = form

@@ -7,6 +7,8 @@ mod refusing;
 mod resolving;
 mod running;
 mod stepping;
+mod texts;
 
 pub use resolving::resolve;
 pub use svf_programs::{Action, Program, Step};
+pub use texts::resolve_text;

@@ -5,6 +5,8 @@ ghost use Rattle.std.specs.Prelude.{length, slice_get};
 ghost use Rattle.svf_parse.specs.View.{memory_fault, said_of};
 ghost use Rattle.svf_parse.specs.Judging.{Said};
 ghost use Rattle.svf_programs.specs.Sound.{step_limit};
+ghost use Rattle.svf_settings.specs.Held.{StandsIfNamed};
+ghost use Rattle.svf_settings.specs.LookBack.{settings};
 ghost use Rattle.svf_settings.specs.Reading.{IsBehind, Keeps, Takes, kept_as};
 
 use crate::running::Running;
@@ -23,7 +25,7 @@ pub(crate) struct Reader {
 
 impl Reader {
     /// Before the first statement.
-    fn first() -> Reader
+    pub(crate) fn first() -> Reader
         ensures { (all : List Said) → IsBehind all [] result }
     {
         Reader {
@@ -33,16 +35,18 @@ impl Reader {
     }
 
     /// Takes the next statement, which stands at this place, and goes behind it: its step, if it makes one, or its
-    /// refusal.
-    fn take(
+    /// refusal. It does so by any list by which the reader is behind the same statements, if this one stands there or
+    /// nothing names it.
+    pub(crate) fn take(
         &mut self,
         statements: &[Statement],
         index: u32,
         statement: &Statement,
     ) -> Result<Option<Kept>, Code>
         requires { slice_get (map said_of statements.now) index ≡ Some (said_of statement.now) }
-        ensures { (past : List Said) → IsBehind (map said_of statements.now) past self.old → length past ≡ index
-            → Takes (map said_of statements.now) past (said_of statement.now) self.new result }
+        ensures { (all past : List Said) → IsBehind (map said_of statements.now) past self.old
+            → IsBehind all past self.old → StandsIfNamed all (settings past) index (said_of statement.now)
+            → Takes all past (said_of statement.now) self.new result }
     {
         if let Some(code) = self.running.refusal(self.place, statements, statement) {
             return Err(code);
@@ -91,7 +95,11 @@ fn place_of(index: usize) -> Option<u32>
 }
 
 /// Appends the step of a statement, if it made one.
-fn push_made(steps: &mut Vec<KeptStep>, number: u32, made: Option<Kept>) -> Result<(), AllocError>
+pub(crate) fn push_made(
+    steps: &mut Vec<KeptStep>,
+    number: u32,
+    made: Option<Kept>,
+) -> Result<(), AllocError>
     ensures { IfOk result (λ _. steps.new.items ≡ steps.old.items ++ kept_as number made) }
 {
     match made {
@@ -115,7 +123,7 @@ fn fault_at(index: usize, code: Code) -> SvfFault
 }
 
 /// Want of memory.
-fn memory() -> SvfFault
+pub(crate) fn memory() -> SvfFault
     ensures { result ≡ memory_fault }
 {
     SvfFault {

@@ -4,17 +4,27 @@ use scan_vectors::Vector;
 use std::alloc::{AllocError, Global};
 use std::process::Abort;
 use std::test::Fail;
-use svf_parse::parse;
-use svf_programs::{Action, Step};
-use svf_settings::resolve;
+use svf_parse::{SvfFault, parse};
+use svf_programs::{Action, Program, Step};
+use svf_settings::{resolve, resolve_text};
 
-/// What a text is: how many statements it has, and its steps, or its refusal.
+/// What a text is: how many statements it has, and its steps, or its refusal. It is the same read statement by
+/// statement as by the list of all.
 fn told(alloc: Global, text: &[u8]) -> Result<String, Fail> {
-    let statements = match parse(alloc, text) {
-        Ok(statements) => statements,
-        Err(fault) => return Ok(format!(in alloc; "{fault}")?),
+    let listed = match parse(alloc, text) {
+        Ok(statements) => lines_of(alloc, resolve(alloc, statements))?,
+        Err(fault) => format!(in alloc; "{fault}")?,
     };
-    let program = match resolve(alloc, statements) {
+    let read = lines_of(alloc, resolve_text(alloc, text))?;
+    if read.as_str() != listed.as_str() {
+        return Err(Fail::from("a text is another program read statement by statement"));
+    }
+    Ok(read)
+}
+
+/// How many statements a program has, and its steps, or its refusal.
+fn lines_of(alloc: Global, found: Result<Program, SvfFault>) -> Result<String, Fail> {
+    let program = match found {
         Ok(program) => program,
         Err(fault) => return Ok(format!(in alloc; "{fault}")?),
     };
@@ -284,16 +294,23 @@ fn runs(rt: HostRuntime) -> Result<(), Fail> {
     )
 }
 
-/// How many steps a text has, and how many bits they scan.
+/// How many steps a text has, and how many bits they scan, where these are the same read statement by statement as by
+/// the list of all.
 fn sizes(alloc: Global, text: &[u8]) -> Option<(usize, u64)> {
-    let program = resolve(alloc, parse(alloc, text).ok()?).ok()?;
+    let listed = sizes_of(&resolve(alloc, parse(alloc, text).ok()?).ok()?);
+    let read = sizes_of(&resolve_text(alloc, text).ok()?);
+    if read == listed { Some(read) } else { None }
+}
+
+/// How many steps a program has, and how many bits they scan.
+fn sizes_of(program: &Program) -> (usize, u64) {
     let mut bits: u64 = 0;
     for step in program.steps() {
         if let Action::Scan { vector, .. } = step.what {
             bits = bits.saturating_add(vector.len() as u64);
         }
     }
-    Some((program.len(), bits))
+    (program.len(), bits)
 }
 
 #[test]

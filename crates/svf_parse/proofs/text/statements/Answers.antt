@@ -1,4 +1,4 @@
-use Rattle.std.proofs.Common.{◌+◌, [], vec_len}
+use Rattle.std.proofs.Common.{◌+◌, [], vec_len, arith}
 use Rattle.svf_lex.specs.Left.{left}
 use Rattle.svf_words.specs.Words.{groups_of}
 use Rattle.svf_parse.specs.Reading.{groups_say}
@@ -22,7 +22,7 @@ pub loop-all-preserved : goal.loop-all-preserved
 loop-all-preserved c =
     let takes = c.in-Ok.ensures.takes in
     let count = c.in-Ok.ensures.count in
-    (rw (takes.3, count.0) (told_said c.loop-all.all.items (vec_len c.loop-all.all + 1) (groups_of (left c.loop-all.lexer)) (groups_say 1 (groups_of (left c.args.text))) c.loop-all.invariant.0 c.in-Word.word.now (groups_of (left c.in-Word.rest)) c.in-Word.ensures takes.0 (groups_of (left c.in-Ok.after)) takes.1 takes.2 takes.4), count.1)
+    (rw (takes.3, count.0) (told_said c.loop-all.all.items (vec_len c.loop-all.all + 1) (groups_of (left c.loop-all.lexer)) (groups_say 1 (groups_of (left c.args.text))) c.loop-all.invariant.0 c.in-Word.word.now (groups_of (left c.in-Word.rest)) c.in-Word.ensures takes.0 (groups_of (left c.in-Ok.after)) takes.1 takes.2 (rw c.len-in-Word.ensures at takes.4)), omega (arith, count.0, count.1, c.len-in-Word.ensures))
 
-pub add-requires-clause-open : goal.add-requires-clause-open
-add-requires-clause-open c = open_behind c.loop-all.lexer c.in-Word.rest c.in-Word.word.now c.in-Word.ensures
+pub add-requires : goal.add-requires
+add-requires c = open_behind c.loop-all.lexer c.in-Word.rest c.in-Word.word.now c.in-Word.ensures

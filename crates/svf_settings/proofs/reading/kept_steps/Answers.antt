@@ -14,7 +14,7 @@ loop-index-init c = (
   record {
     behind = c.first-reader.ensures (map said_of c.args.statements.now);
     fine = refl;
-    kept_are = rw c.new-steps.ensures.items refl;
+    steps_are = rw c.new-steps.ensures.items refl;
   },
   omega arith,
 )
@@ -32,7 +32,8 @@ returns-in-Err-clause-keeps c = λ _.
     let at = said_at c.args.statements.now k c.index-statements-index.result c.loop-index-test.true c.index-statements-index.is in
     let l = length_before all k s at in
     let here = (rw c.in-Some.is at c.place_of.ensures.found).0 in
-    let taken = c.take.ensures (before k all) c.loop-index.invariant.0.behind (l ∙ sym here) in
+    let behind = c.loop-index.invariant.0.behind in
+    let taken = c.take.ensures all (before k all) behind behind (λ _. rw here at) in
     refused_at all (before k all) k (k + 1) s c.in-Err.code (before_more all k s at) c.loop-index.invariant.0.fine (rw c.in-Err.is at taken) (ap (λ (m : ℕ). m + 1) (sym l))
     ∙ ap (λ (f : SvfFault). Some f) (sym c.fault_at.ensures)
 
@@ -42,11 +43,11 @@ loop-index-preserved c =
     let k = c.loop-index.index in
     let s = said_of c.index-statements-index.result in
     let at = said_at c.args.statements.now k c.index-statements-index.result c.loop-index-test.true c.index-statements-index.is in
-    let l = length_before all k s at in
     let here = (rw c.in-Some.is at c.place_of.ensures.found).0 in
-    let taken = c.take.ensures (before k all) c.loop-index.invariant.0.behind (l ∙ sym here) in (
+    let behind = c.loop-index.invariant.0.behind in
+    let taken = c.take.ensures all (before k all) behind behind (λ _. rw here at) in (
       rw (c.in-Ok-push_made.ensures, here)
-          (after_more all k s c.take.new.self c.in-Ok.made c.loop-index.steps.items at c.loop-index.invariant.0.fine c.loop-index.invariant.0.kept_are (rw c.in-Ok.is at taken)),
+          (after_more all k s c.loop-index.reader c.take.new.self c.in-Ok.made c.loop-index.steps.items at c.loop-index.invariant.0 (rw c.in-Ok.is at taken)),
       omega (arith, (rw c.in-Some.is at c.place_of.ensures.found).1, here),
     )
 
@@ -54,4 +55,4 @@ pub returns-clause-few : goal.returns-clause-few
 returns-clause-few c =
     let all = map said_of c.args.statements.now in
     let kept = c.loop-index.steps.items in
-    omega (arith, c.loop-index.invariant.1, few_before all c.loop-index.index, ap length c.loop-index.invariant.0.kept_are, length-map kept (numbered_in all))
+    omega (arith, c.loop-index.invariant.1, few_before all c.loop-index.index, ap length c.loop-index.invariant.0.steps_are, length-map kept (numbered_in all))

@@ -1,21 +1,25 @@
-use Rattle.std.proofs.Common.{◌≡◌, ◌∙◌, ap, map, rules, tests}
-use Rattle.std.specs.Prelude.{option_and_then, option_map}
+use Rattle.std.proofs.Common.{◌≡◌, map, not, true, false, Some, sym, ap, ◌∙◌}
 use Rattle.svf_parse.specs.View.{said_of}
+use Rattle.svf_programs.specs.Held.{part_in}
 use Rattle.svf_settings.specs.LookBack as look
-use Rattle.svf_settings.specs.Held.{settings_in}
-use Rattle.svf_programs.specs.Held.{field_at, tdi_of, mask_of}
-use Rattle.svf_programs.specs.declared.kept.KeptPart.{KeptPart}
-use Rattle.svf_settings.proofs.KeptFields.{kept_in_force, tdi_kept, mask_kept}
+use Rattle.svf_settings.specs.Held.{settings_in, takes_over}
+use Rattle.svf_settings.proofs.KeptFields.{same_part}
 use Rattle.svf_settings.proofs.running.Running.in_force.Goals as goal
 
-pub returns : goal.returns
-returns c = λ tdo smask at.
-    let all = map said_of c.args.statements.now in
-    let previous = look.last_of_command c.args.which (settings_in all c.args.self.now) in
-    let tdi_is : c.map.result ≡ option_map (λ (p : KeptPart). p.tdi) c.last_as_long-earlier.result = search (rules, tests) in
-    let mask_is : c.map-2.result ≡ option_map (λ (p : KeptPart). p.mask) c.last_as_long-earlier.result = search (rules, tests) in
-    kept_in_force all c.args.which c.args.len c.args.tdi.now tdo c.args.mask.now smask c.args.index previous
-    c.written_or.result c.written_or-2.result c.map.result c.map-2.result at
-    c.written_or.ensures c.written_or-2.ensures
-    (ap (option_and_then (field_at tdi_of all)) tdi_is ∙ tdi_kept all c.last_as_long-earlier.result ∙ c.last_as_long-earlier.ensures (λ f. f.tdi))
-    (ap (option_and_then (field_at mask_of all)) mask_is ∙ mask_kept all c.last_as_long-earlier.result ∙ c.last_as_long-earlier.ensures (λ f. f.mask))
+pub returns-in-Some : goal.returns-in-Some
+returns-in-Some c = λ all alike smask stands.
+    let a = c.args in
+    let own = map said_of a.statements.now in
+    let last = c.in-Some.ensures.last all in
+    let same : look.last_of_command a.which (settings_in own a.self.now) ≡ Some (part_in all c.in-Some.part) =
+    sym (ap (look.last_of_command a.which) alike) ∙ sym last in
+    let over : takes_over a.len a.tdi.now a.tdo.now a.mask.now (Some (part_in all c.in-Some.part)) ≡ true =
+    ap (takes_over a.len a.tdi.now a.tdo.now a.mask.now) (sym same) ∙ sym c.in-Some.ensures.over in
+    same_part a.len a.tdi.now a.tdo.now a.mask.now (part_in all c.in-Some.part) over ∙ ap (look.in_force a.len a.tdi.now a.tdo.now a.mask.now) last
+
+pub returns-in-None : goal.returns-in-None
+returns-in-None c = λ all alike smask stands.
+    let a = c.args in
+    let over : takes_over a.len a.tdi.now a.tdo.now a.mask.now (look.last_of_command a.which (settings_in all a.self.now)) ≡ false =
+    ap (λ (st : look.Settings). takes_over a.len a.tdi.now a.tdo.now a.mask.now (look.last_of_command a.which st)) alike ∙ sym c.in-None.ensures.over in
+    c.written.ensures all alike a.tdo.now smask (stands (ap not over))

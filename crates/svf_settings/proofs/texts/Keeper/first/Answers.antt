@@ -1,0 +1,5 @@
+use Rattle.std.proofs.Common.{refl}
+use Rattle.svf_settings.proofs.texts.Keeper.first.Goals as goal
+
+pub returns-clause-after : goal.returns-clause-after
+returns-clause-after c = λ more. record { behind = c.first.ensures more; fine = refl; steps_are = rw c.new-2.ensures.items refl }
