@@ -329,12 +329,27 @@ impl WiredChip {
             (told_by (sight wiring.now held place) self.old) (chip_state self.old) }
     {
         if self.captures_boundary() {
-            self.tell(wiring);
+            return self.rise_telling(wiring, tms, tdi);
         }
         self.rise_told(tms, tdi);
     }
 
+    /// A rising edge, before which the cells are told what their ports see. Other edges, which most are, ask for their
+    /// state once, since this stands by itself.
+    fn rise_telling(&mut self, wiring: &Wiring, tms: bool, tdi: bool)
+        requires below { AreBelow (length wiring.now.nets) self.old.nets }
+        ensures kept { IsKept self.old self.new }
+        ensures trst { self.new.chip.trst ≡ self.old.chip.trst }
+        ensures chip { (place : ℕ) (held : List Member) → IsAt wiring.now place held self.old
+            → chip_state self.new ≡ chain.rise self.old.chip.trst tms tdi
+            (told_by (sight wiring.now held place) self.old) (chip_state self.old) }
+    {
+        self.tell(wiring);
+        self.rise_told(tms, tdi);
+    }
+
     /// A rising edge, once the cells were told what their ports see.
+    #[inline(always)]
     fn rise_told(&mut self, tms: bool, tdi: bool)
         ensures kept { IsKept self.old self.new }
         ensures trst { self.new.chip.trst ≡ self.old.chip.trst }

@@ -1,7 +1,9 @@
 //! The board: a chain of devices with its nets, one byte at a time.
 
 ghost use Rattle.std.specs.Prelude.{◌≡◌, ◌<◌, ◌≤◌, ◌⊎◌, ℕ, List, Some, length, option_map, slice_get, IfOk};
-ghost use Rattle.std.specs.Prelude.{MatchResult};
+ghost use Rattle.std.specs.Prelude.{IfSome, MatchResult};
+ghost use Rattle.bitbang_protocol.specs.Protocol.{decode};
+ghost use Rattle.bitbang_protocol.specs.declared.Message.TheVariants.{Write};
 ghost use Rattle.jt_limits.specs.Limits.{limits};
 ghost use Rattle.board_plan.specs.LeftOut as spec;
 ghost use Rattle.board_plan.specs.View.{wiring};
@@ -125,6 +127,21 @@ impl Board {
         ensures reply { result ≡ chain.reply byte self.old }
         ensures board { self.new ≡ chain.after_byte byte self.old }
     {
+        // Most bytes write levels, so these are known before any other message is asked for.
+        match levels_of(byte) {
+            Some(levels) => {
+                self.take_levels(levels);
+                Reply::Nothing
+            }
+            None => self.spelled(byte),
+        }
+    }
+
+    /// Takes one byte by the message that it spells.
+    fn spelled(&mut self, byte: u8) -> Reply
+        ensures reply { result ≡ chain.reply byte self.old }
+        ensures board { self.new ≡ chain.after_byte byte self.old }
+    {
         match bitbang_protocol::decode(byte) {
             None => Reply::Refused(byte),
             Some(message) => {
@@ -151,14 +168,51 @@ impl Board {
         ensures { self.new ≡ chain.after_message message self.old }
     {
         match message {
-            Message::Write { tck, tms, tdi } => {
-                write(&mut self.chain, self.tck, tck, tms, tdi);
-                self.tck = tck;
-            }
+            Message::Write { tck, tms, tdi } => self.take_levels(Levels { tck, tms, tdi }),
             Message::Lines { trst, srst: _ } => self.chain.tell_trst(trst),
             _ => {}
         }
     }
+
+    /// What written levels do to the board.
+    fn take_levels(&mut self, levels: Levels)
+        ensures { self.new ≡ chain.after_message (Write levels.tck levels.tms levels.tdi) self.old }
+    {
+        let Levels { tck, tms, tdi } = levels;
+        write(&mut self.chain, self.tck, tck, tms, tdi);
+        self.tck = tck;
+    }
+}
+
+/// Written levels of the three lines.
+#[derive(Drop, Clone, Copy)]
+struct Levels {
+    tck: bool,
+    tms: bool,
+    tdi: bool,
+}
+
+/// The levels that a byte writes. Answered with none in vain it costs time alone, so the clause goes one way.
+fn levels_of(byte: u8) -> Option<Levels>
+    ensures { IfSome result (λ levels. decode byte ≡ Some (Write levels.tck levels.tms levels.tdi)) }
+{
+    match byte {
+        b'0' => some_levels(false, false, false),
+        b'1' => some_levels(false, false, true),
+        b'2' => some_levels(false, true, false),
+        b'3' => some_levels(false, true, true),
+        b'4' => some_levels(true, false, false),
+        b'5' => some_levels(true, false, true),
+        b'6' => some_levels(true, true, false),
+        b'7' => some_levels(true, true, true),
+        _ => None,
+    }
+}
+
+fn some_levels(tck: bool, tms: bool, tdi: bool) -> Option<Levels>
+    ensures { result ≡ Some (record { tck = tck; tms = tms; tdi = tdi }) }
+{
+    Some(Levels { tck, tms, tdi })
 }
 
 /// Written levels of TCK, TMS and TDI: a change of TCK is an edge.

@@ -113,6 +113,7 @@ impl<B: Register> Chip<B> {
 
     /// A rising edge of TCK: the state's capture or shift, and then the move to the next state. A device that TRST
     /// holds in RESET stays as it is (clause 6).
+    #[inline(always)]
     pub fn rise(&mut self, tms: bool, tdi: bool)
         ensures chip { one_chip B.stage B.update_part self.new
             ≡ rise tms tdi (surroundings_of B.captured B.at_reset self.old) (one_chip B.stage B.update_part self.old) }

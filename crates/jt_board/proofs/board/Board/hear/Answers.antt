@@ -1,5 +1,5 @@
 use Rattle.std.proofs.Common.{false, sym, ap, subst}
-use Rattle.bitbang_protocol.specs.declared.Message.TheVariants.{Lines, Write}
+use Rattle.bitbang_protocol.specs.declared.Message.TheVariants.{Lines}
 use Rattle.board_model.specs.Sound.{IsChain}
 use Rattle.board_model.proofs.SoundEdges.{IsChain-told}
 use Rattle.board_chain.specs.Chains.{ChainValue}
@@ -8,9 +8,4 @@ use Rattle.jt_board.proofs.board.Board.hear.Goals as goal
 
 pub invariant_of-self : goal.invariant_of-self
 invariant_of-self c =
-    subst IsChain (sym (ap (λ (v : ChainValue). v.chips) c.write.ensures))
-    (IsChain-told (Write c.in-Write.tck c.in-Write.tms c.in-Write.tdi) (the_view c.self.inside) c.self.invariant)
-
-pub invariant_of-self-in-Lines : goal.invariant_of-self-in-Lines
-invariant_of-self-in-Lines c =
     subst IsChain (sym (ap (λ (v : ChainValue). v.chips) c.tell_trst.ensures)) (IsChain-told (Lines c.in-Lines.trst false) (the_view c.self.inside) c.self.invariant)
