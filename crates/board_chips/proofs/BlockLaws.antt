@@ -16,7 +16,7 @@ use Rattle.boundary.specs.declared.DrivenCells.{DrivenCells}
 use Rattle.pin_nets.specs.declared.Drive.{Drive}
 use Rattle.pin_nets.specs.declared.Drive.TheVariants.{Nothing, Strong}
 use Rattle.board_chips.specs.Blocks.{TellsBlock, TellsOwn, stands}
-use Rattle.board_chips.specs.Driving.{cell_drives, cells_of, drives_at, leaves_at}
+use Rattle.board_chips.specs.Driving.{cells_of, drives_at, leaves_at}
 use Rattle.board_chips.specs.WiredChips.{WiredChipValue, held_of}
 use Rattle.board_chips.specs.declared.driving.Block.{Block}
 use Rattle.board_chips.proofs.DrivingLaws.{cell_by_seat}

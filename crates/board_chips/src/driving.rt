@@ -194,8 +194,8 @@ fn divide(
     Ok(())
 }
 
-/// Whether a string puts a pin, or fewer of its cell's 64 drive pins than make a block. All are put to their nets alike,
-/// so no clause says which is which, but that those that strings put are among them.
+/// Whether a string puts a pin, or fewer of its cell's 64 drive pins than make a block. All are put to their nets
+/// alike, so no clause says which is which, but that those that strings put are among them.
 fn goes_alone(counts: &BlockNumbers, taken: &BTreeSet<usize>, it: DrivingPin) -> bool
     ensures { result ≡ false → contains_by (nat_cmp it.pin) taken.now ≡ false }
 {

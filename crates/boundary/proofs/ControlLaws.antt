@@ -1,5 +1,5 @@
 -- Cells that are disabled together.
-use Rattle.std.proofs.Common.{◌≡◌, ◌≢◌, ◌<◌, ◌+◌, ℕ, Bool, true, false, ◌&&◌, ◌||◌, not, List, [], ◌∷◌, ◌++◌, length, set, get_or, slice_get, Option, Some, None, option_map, All, refl, sym, ap, subst, ◌∙◌, arith, ⊎_elim}
+use Rattle.std.proofs.Common.{◌≡◌, ◌≢◌, ◌<◌, ◌+◌, ℕ, Bool, true, false, ◌&&◌, ◌||◌, not, List, [], ◌∷◌, ◌++◌, set, slice_get, Some, option_map, refl, sym, ap, subst, ◌∙◌, arith, ⊎_elim}
 use Rattle.std.proofs.lemmas.Bool.{and_parts, cases_eq, or_cases}
 use Rattle.std.proofs.lemmas.List.Elements.{All-get_or, All-push, All-set}
 use Rattle.std.proofs.lemmas.Option.{get_or_from_slice_get, slice_get_within}
@@ -12,13 +12,11 @@ use Rattle.boundary.specs.Controls.{AreGroups, IsAmong, IsControlled, IsGroup, I
 use Rattle.boundary.specs.declared.controls.Controlled.{Controlled}
 use Rattle.boundary.specs.declared.controls.Group.{Group}
 use Rattle.boundary.proofs.MaskLaws.{zero_bit}
-
-no : false ≡ true → ⊥
-no e = cc
+use Rattle.boundary.proofs.PlainLaws.{no}
 
 -- ---- one more cell
 
-abbrev says : List Bool → Control3 → Bool
+abbrev pub says : List Bool → Control3 → Bool
 says bits t = same_bit (bit_of bits t.cell) t.disabling
 
 -- a cell of this control is entered in a group of it

@@ -10,17 +10,15 @@ use Rattle.chip_instructions.specs.declared.Mode.{Mode}
 use Rattle.chip_instructions.specs.declared.Mode.TheVariants.{Extest, Clamp, HighZ, Core}
 use Rattle.pin_nets.specs.declared.Drive.{Drive}
 use Rattle.pin_nets.specs.declared.Drive.TheVariants.{Strong, Nothing}
-use Rattle.boundary.specs.Cells.{BoundaryValue, cell_drive, drive_of_driver, driven_in, left_by, same_bit}
-use Rattle.boundary.specs.Controls.{IsControlled, control_at, disabled_by}
-use Rattle.boundary.specs.Driven.{Tells, TellsBy, TellsCells, cell_leaves, leaves}
+use Rattle.boundary.specs.Cells.{BoundaryValue, cell_drive, drive_of_driver, left_by}
+use Rattle.boundary.specs.Controls.{IsControlled, disabled_by}
+use Rattle.boundary.specs.Driven.{TellsBy, TellsCells, cell_leaves, leaves}
 use Rattle.boundary.specs.Plain.{plain_cells}
 use Rattle.boundary.specs.declared.DrivenCells.{DrivenCells}
 use Rattle.boundary.specs.declared.controls.Controlled.{Controlled}
 use Rattle.boundary.proofs.MaskLaws.{zero_bit}
-use Rattle.boundary.proofs.PlainLaws.{marked, strong}
-
-no : false ≡ true → ⊥
-no e = cc
+use Rattle.boundary.proofs.ControlLaws.{says}
+use Rattle.boundary.proofs.PlainLaws.{marked, no, strong}
 
 -- ---- a cell with a control
 
@@ -30,9 +28,6 @@ its bits k (Some c) = cell_drive bits k c.control
 
 abbrev its-control : Option Cell → Option Control3
 its-control o = option_and_then (λ (c : Cell). c.control) o
-
-abbrev says : List Bool → Control3 → Bool
-says bits t = same_bit (bit_of bits t.cell) t.disabling
 
 by-control : (bits : List Bool) (k : ℕ) (control : Option Control3) (disabled : Bool) → option_map (says bits) control ≡ Some disabled
     → cell_drive bits k control ≡ (if disabled then leaves control else Strong (bit_of bits k))

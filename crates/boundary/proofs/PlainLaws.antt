@@ -21,7 +21,7 @@ marked cells plain k is =
     ap (λ (l : List Bool). bit_of l k) is
     ∙ ap (λ (o : Option Bool). unwrap_or o false) (slice_get-map (λ (c : Cell). has_no_control c.control) cells k)
 
-no : false ≡ true → ⊥
+pub no : false ≡ true → ⊥
 no e = cc
 
 own-bit : (bits : List Bool) (k : ℕ) (control : Option Control3) → has_no_control control ≡ true → cell_drive bits k control ≡ Strong (bit_of bits k)

@@ -31,5 +31,5 @@ pub record TellsBy (cells : List Cell) (bits : List Bool) (first : ℕ) (words :
 
 -- and in a mode
 pub record TellsCells (mode : Mode) (b : BoundaryValue) (first : ℕ) (words : DrivenCells) : Type 0 where
-  pub each : (j : ℕ) → j < 64
-      → Tells words (cell_leaves b.cells (first + j)) j (Some (driven_in mode b.cells b.update b.core (Some (first + j))))
+  pub each : (j : ℕ) → j < 64 → Tells words (cell_leaves b.cells (first + j)) j
+      (Some (driven_in mode b.cells b.update b.core (Some (first + j))))

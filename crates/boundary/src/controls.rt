@@ -1,6 +1,7 @@
 //! Which cells are disabled together, 64 cells at a time: those that name one control cell, with one disabling value.
 
-ghost use Rattle.std.specs.Prelude.{◌≡◌, ◌≢◌, ◌<◌, ◌+◌, ◌&&◌, ◌||◌, not, ℕ, true, List, Some, OnOk, IfOk, IfSome, length};
+ghost use Rattle.std.specs.Prelude.{◌≡◌, ◌≢◌, ◌<◌, ◌+◌, ◌&&◌, ◌||◌, not, ℕ, true, List, Some};
+ghost use Rattle.std.specs.Prelude.{OnOk, IfOk, IfSome, length};
 ghost use Rattle.jt_bits.specs.Packed.{has_bit};
 ghost use Rattle.bsdl_device.specs.declared.Cell.{Cell as TheCell};
 ghost use Rattle.boundary.specs.Cells.{same_bit};

@@ -24,20 +24,8 @@ use bsdl_rules::lengths::lengths_fit;
 use bsdl_rules::limits::is_within_limits;
 use std::alloc::Global;
 
-/// The first refusal of B4 to B9 of a description that is well formed, if there is one. Want of memory is B10; nothing
-/// is said of when it comes.
-pub fn judge(
-    alloc: Global,
-    outline: &Outline<'_>,
-    described: &Description<'_>,
-) -> Result<(), BsdlFault>
-    ensures { Judges result (spec.fault (description outline.now described.now)) }
-{
-    judge_ports(alloc, outline, described)?;
-    Ok(())
-}
-
-/// The same, or else the ports by the keys of their names, which serve the device too.
+/// The first refusal of B4 to B9 of a description that is well formed, if there is one, or else the ports by the keys
+/// of their names, which serve the device too. Want of memory is B10; nothing is said of when it comes.
 pub(crate) fn judge_ports<'o>(
     alloc: Global,
     outline: &Outline<'o>,
