@@ -1,7 +1,8 @@
 //! One device, edge by edge.
 
-ghost use Rattle.std.specs.Prelude.{◌≡◌, ◌<◌, ℕ, Bool, List, None, Some, length, option_map};
+ghost use Rattle.std.specs.Prelude.{◌≡◌, ◌<◌, ℕ, Bool, true, List, None, Some, length, option_map};
 ghost use Rattle.std.specs.Prelude.{slice_get, if◌then◌else◌, IfOk};
+ghost use Rattle.jt_tap.specs.declared.State.TheVariants.{DrShift};
 ghost use Rattle.jt_tap.specs.Controller.{work};
 ghost use Rattle.scan_registers.specs.Chips.{ChipValue, one_chip, surroundings_of, powered, registers, with_registers};
 ghost use Rattle.jt_bits.specs.Shifting.{after_shift};
@@ -9,6 +10,7 @@ ghost use Rattle.scan_registers.specs.Edges.{rise, fall, after_trst};
 ghost use Rattle.scan_registers.specs.Edges.{tdo_after};
 ghost use Rattle.chip_instructions.specs.Fitting.{IsFormed, meaning_by, has_code as is_coded};
 ghost use Rattle.chip_instructions.specs.Instruction.{instruction, meaning};
+ghost use Rattle.chip_instructions.specs.declared.Selected.TheVariants.{Bypass};
 ghost use Rattle.chip_registers.specs.Registers.{after_capture, put, selected_bits, after_update, after_reset};
 
 use crate::{Link, WordLink, same_bits};
@@ -120,6 +122,11 @@ impl<B: Register> Chip<B> {
         ensures boundary { self.new.boundary
             ≡ B.with_parts self.old.boundary (B.stage self.new.boundary) (B.update_part self.new.boundary) }
     {
+        if self.is_bypassed() && !self.trst {
+            self.registers.bypass = tdi;
+            self.state = self.state.step(tms);
+            return;
+        }
         if self.trst && self.device.get().has_trst() {
             return;
         }
@@ -139,12 +146,26 @@ impl<B: Register> Chip<B> {
         ensures boundary { self.new.boundary
             ≡ B.with_parts self.old.boundary (B.stage self.new.boundary) (B.update_part self.new.boundary) }
     {
+        if self.is_bypassed() {
+            self.tdo = Some(self.registers.bypass);
+            return;
+        }
         match self.state.work() {
             Work::Updates(column) => self.update(column),
             Work::Resets => self.reset(),
             _ => {}
         }
         self.tdo = self.first_bit();
+    }
+
+    /// Whether the device shifts through its bypass register: asked for at once, since on most edges of a scan most
+    /// devices of a chain do.
+    #[inline(always)]
+    fn is_bypassed(&self) -> bool
+        ensures state { result ≡ true → self.now.state ≡ DrShift }
+        ensures selected { result ≡ true → (meaning self.now.device self.now.latch).selected ≡ Bypass }
+    {
+        matches!(self.state, State::DrShift) && matches!(self.decoded.selected, Selected::Bypass)
     }
 
     /// TRST is asserted or released. Where it is asserted, a device with a TRST port is reset at once and stands in

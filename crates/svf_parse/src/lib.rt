@@ -2,8 +2,8 @@
 //! and each field as its digits, and what they say.
 //!
 //! [`parse`] reads a whole text: either all its statements in order, or its first refusal. What the statements set for
-//! each other, such as the lengths and masks that a scan takes over, is not looked at here. [`next_statement`] reads one
-//! statement of a text, for a caller that does not keep them all.
+//! each other, such as the lengths and masks that a scan takes over, is not looked at here. [`next_statement`] reads
+//! one statement of a text, for a caller that does not keep them all.
 #![tactic(auto)]
 
 mod fault;

@@ -13,8 +13,8 @@ ghost use Rattle.svf_parse.specs.Reading as spec;
 ghost use Rattle.svf_parse.specs.Reading.{text_says, groups_say, statement_says, at_statement, within_limit};
 ghost use Rattle.svf_parse.specs.Spelling.{TextSpells, TextRefuses};
 ghost use Rattle.svf_parse.specs.Sizes.{size};
-ghost use Rattle.svf_parse.specs.View.{Adds, Tells, Stops, Fails, Takes, Parses, IsFront, IsEnd, IsOpen, Begins, IsNext};
-ghost use Rattle.svf_parse.specs.View.{said_of, memory_fault};
+ghost use Rattle.svf_parse.specs.View.{Adds, Tells, Stops, Fails, Takes, Parses, IsFront, IsEnd, IsOpen, Begins};
+ghost use Rattle.svf_parse.specs.View.{IsNext, said_of, memory_fault};
 
 use crate::fault::{Refusal, Stop};
 use crate::judging::say;

@@ -1,6 +1,6 @@
 -- What the settings that the code keeps stand for: it names the statements in which their fields are written.
-use Rattle.std.specs.Prelude.{◌≡◌, ℕ, ◌==◌, Bool, true, false, not, ◌&&◌, if◌then◌else◌, List, [], ◌∷◌, Option, Some, None}
-use Rattle.std.specs.Prelude.{is_none, slice_get}
+use Rattle.std.specs.Prelude.{◌≡◌, ℕ, ◌==◌, Bool, true, false, not, ◌&&◌, if◌then◌else◌, List, [], ◌∷◌, Option}
+use Rattle.std.specs.Prelude.{Some, None, is_none, slice_get}
 use Rattle.svf_parse.specs.Judging.{Said}
 use Rattle.svf_parse.specs.Judging as said
 use Rattle.svf_parse.specs.declared.statement.Statement.{Statement}
@@ -34,8 +34,8 @@ abbrev pub is_like : ℕ → Option Fields → Bool
 is_like n None = false
 is_like n (Some f) = f.len == n && is_none f.tdo
 
--- A scan that gives no TDI, TDO or MASK is the same as the last one of its command, if that is as long and wants nothing
--- out.
+-- A scan that gives no TDI, TDO or MASK is the same as the last one of its command, if that is as long and wants
+-- nothing out.
 abbrev pub takes_over : ℕ → (tdi tdo mask : Option (List Bool)) → Option Fields → Bool
 takes_over n tdi tdo mask previous = is_none tdi && is_none tdo && is_none mask && is_like n previous
 

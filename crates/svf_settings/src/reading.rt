@@ -51,8 +51,7 @@ impl Reader {
         if let Some(code) = self.running.refusal(self.place, statements, statement) {
             return Err(code);
         }
-        let made = self.running.step(statements, index, statement);
-        self.running.pass(statements, index, statement);
+        let made = self.running.pass(statements, index, statement);
         self.place = place_behind(self.place, statements, made);
         Ok(made)
     }

@@ -19,20 +19,45 @@ use svf_parse::{Statement, TrstWord, Which};
 use svf_programs::{Kept, KeptPart, len_at, path_at, tdo_at};
 use tap_paths::last_of;
 
+/// What a scan gives: the fields that settings and steps keep.
+#[derive(Drop, Clone, Copy)]
+struct Given<'a> {
+    which: Which,
+    len: usize,
+    tdi: &'a Option<Bits>,
+    tdo: &'a Option<Bits>,
+    mask: &'a Option<Bits>,
+}
+
 impl Running {
-    /// The step that a statement makes, which stands at this place of the statements. It is so by any list by which the
-    /// settings mean the same, if the statement stands there or nothing names it.
-    pub(crate) fn step(
-        &self,
+    /// Goes behind a statement, which stands at this place of the statements: the step that it makes. It does so by any
+    /// list by which the settings mean the same, if the statement stands there or nothing names it.
+    pub(crate) fn pass(
+        &mut self,
         statements: &[Statement],
         index: u32,
         statement: &Statement,
     ) -> Option<Kept>
-        ensures { (all : List Said) → IsAlike all (map said_of statements.now) self.now
-            → StandsIfNamed all (settings_in all self.now) index (said_of statement.now)
-            → option_map (step_in all) result ≡ look.step (settings_in all self.now) (said_of statement.now) }
+        ensures step { (all : List Said) → IsAlike all (map said_of statements.now) self.old
+            → StandsIfNamed all (settings_in all self.old) index (said_of statement.now)
+            → option_map (step_in all) result ≡ look.step (settings_in all self.old) (said_of statement.now) }
+        ensures next { (all : List Said) → IsAlike all (map said_of statements.now) self.old
+            → StandsIfNamed all (settings_in all self.old) index (said_of statement.now)
+            → settings_in all self.new ≡ running.next (settings_in all self.old) (said_of statement.now) }
     {
         match statement {
+            Statement::EndDr(state) => {
+                self.dr_end = *state;
+                None
+            }
+            Statement::EndIr(state) => {
+                self.ir_end = *state;
+                None
+            }
+            Statement::Frequency(period) => {
+                self.period = period.unwrap_or(DEFAULT_PERIOD);
+                None
+            }
             Statement::Scan {
                 which,
                 len,
@@ -40,26 +65,41 @@ impl Running {
                 tdo,
                 mask,
                 ..
-            } => self.scan_step(
-                *which,
-                self.in_force(statements, index, *which, *len, tdi, tdo, mask),
-            ),
+            } => {
+                let given = Given {
+                    which: *which,
+                    len: *len,
+                    tdi,
+                    tdo,
+                    mask,
+                };
+                let part = self.in_force(statements, index, given);
+                let made = self.scan_step(*which, part);
+                self.put_scan(*which, part);
+                made
+            }
             Statement::RunTest {
                 run,
                 count,
                 min_ps,
                 end,
                 ..
-            } => Some(Kept::Run {
-                run: self.runs_in(*run),
-                cycles: self.cycles(*count, *min_ps),
-                end: self.ends_in(*run, *end),
-            }),
+            } => {
+                let cycles = self.cycles(*count, *min_ps);
+                let run_end = self.ends_in(*run, *end);
+                self.run_state = self.runs_in(*run);
+                self.run_end = run_end;
+                Some(Kept::Run {
+                    run: self.run_state,
+                    cycles,
+                    end: run_end,
+                })
+            }
             Statement::States(states) => path_step(index, states.as_slice()),
-            Statement::Trst(word) => Some(Kept::Trst(*word)),
-            Statement::EndDr(_) => None,
-            Statement::EndIr(_) => None,
-            Statement::Frequency(_) => None,
+            Statement::Trst(word) => {
+                self.trst = Some(*word);
+                Some(Kept::Trst(*word))
+            }
         }
     }
 
@@ -94,74 +134,53 @@ impl Running {
 
     /// The fields in force at a scan, which stands at this place of the statements: the last part of its command, where
     /// it is the same as that.
-    fn in_force(
-        &self,
-        statements: &[Statement],
-        index: u32,
-        which: Which,
-        len: usize,
-        tdi: &Option<Bits>,
-        tdo: &Option<Bits>,
-        mask: &Option<Bits>,
-    ) -> KeptPart
+    fn in_force(&self, statements: &[Statement], index: u32, given: Given<'_>) -> KeptPart
         ensures { (all : List Said) → IsAlike all (map said_of statements.now) self.now → (smask : Option (List Bool))
-            → StandsIfNamed all (settings_in all self.now) index (says.scan which len tdi.now tdo.now mask.now smask)
-            → part_in all result ≡ look.in_force len tdi.now tdo.now mask.now
-            (look.last_of_command which (settings_in all self.now)) }
+            → let g = given.entry in
+            StandsIfNamed all (settings_in all self.now) index
+            (says.scan g.which g.len g.tdi.now g.tdo.now g.mask.now smask)
+            → part_in all result ≡ look.in_force g.len g.tdi.now g.tdo.now g.mask.now
+            (look.last_of_command g.which (settings_in all self.now)) }
     {
-        match self.taken_over(statements, which, len, tdi, tdo, mask) {
+        match self.taken_over(statements, given) {
             Some(part) => part,
-            None => self.written(statements, index, which, len, tdi, mask),
+            None => self.written(statements, index, given),
         }
     }
 
-    /// The last part of a scan command, if a scan is the same: it gives no TDI, TDO or MASK, and the part is as long and
-    /// wants nothing out.
-    fn taken_over(
-        &self,
-        statements: &[Statement],
-        which: Which,
-        len: usize,
-        tdi: &Option<Bits>,
-        tdo: &Option<Bits>,
-        mask: &Option<Bits>,
-    ) -> Option<KeptPart>
-        ensures over { is_some result
-            ≡ held.takes_over len tdi.now tdo.now mask.now
-            (look.last_of_command which (settings_in (map said_of statements.now) self.now)) }
+    /// The last part of a scan command, if a scan is the same: it gives no TDI, TDO or MASK, and the part is as long
+    /// and wants nothing out.
+    fn taken_over(&self, statements: &[Statement], given: Given<'_>) -> Option<KeptPart>
+        ensures over { let g = given.entry in
+            is_some result
+            ≡ held.takes_over g.len g.tdi.now g.tdo.now g.mask.now
+            (look.last_of_command g.which (settings_in (map said_of statements.now) self.now)) }
         ensures last { (all : List Said) → IfSome result
-            (λ part. Some (part_in all part) ≡ look.last_of_command which (settings_in all self.now)) }
+            (λ part. Some (part_in all part) ≡ look.last_of_command given.entry.which (settings_in all self.now)) }
     {
-        match self.last(which) {
-            Some(part)
-                if tdi.is_none()
-                    && tdo.is_none()
-                    && mask.is_none()
-                    && is_like(statements, part, len) => { Some(part) }
+        if given.tdi.is_some() || given.tdo.is_some() || given.mask.is_some() {
+            return None;
+        }
+        match self.last(given.which) {
+            Some(part) if is_like(statements, part, given.len) => Some(part),
             _ => None,
         }
     }
 
     /// The fields of a scan, which stands at this place of the statements, with those that it takes over.
-    fn written(
-        &self,
-        statements: &[Statement],
-        index: u32,
-        which: Which,
-        len: usize,
-        tdi: &Option<Bits>,
-        mask: &Option<Bits>,
-    ) -> KeptPart
+    fn written(&self, statements: &[Statement], index: u32, given: Given<'_>) -> KeptPart
         ensures { (all : List Said) → IsAlike all (map said_of statements.now) self.now
-            → (tdo smask : Option (List Bool)) → slice_get all index ≡ Some (says.scan which len tdi.now tdo mask.now smask)
+            → (tdo smask : Option (List Bool))
+            → let g = given.entry in
+            slice_get all index ≡ Some (says.scan g.which g.len g.tdi.now tdo g.mask.now smask)
             → part_in all result
-            ≡ look.in_force len tdi.now tdo mask.now (look.last_of_command which (settings_in all self.now)) }
+            ≡ look.in_force g.len g.tdi.now tdo g.mask.now (look.last_of_command g.which (settings_in all self.now)) }
     {
-        let earlier = self.last_as_long(statements, which, len);
+        let earlier = self.last_as_long(statements, given.which, given.len);
         KeptPart {
             at: index,
-            tdi: written_or(index, tdi, earlier.map(|part| part.tdi)),
-            mask: written_or(index, mask, earlier.map(|part| part.mask)),
+            tdi: written_or(index, given.tdi, earlier.map(|part| part.tdi)),
+            mask: written_or(index, given.mask, earlier.map(|part| part.mask)),
         }
     }
 
@@ -178,43 +197,18 @@ impl Running {
                 tdo,
                 mask,
                 ..
-            } => self
-                .taken_over(statements, *which, *len, tdi, tdo, mask)
-                .is_none(),
+            } => {
+                let given = Given {
+                    which: *which,
+                    len: *len,
+                    tdi,
+                    tdo,
+                    mask,
+                };
+                self.taken_over(statements, given).is_none()
+            }
             Statement::States(states) => states.len() > 1,
             _ => false,
-        }
-    }
-
-    /// Goes behind a statement, which stands at this place of the statements. It does so by any list by which the
-    /// settings mean the same, if the statement stands there or nothing names it.
-    pub(crate) fn pass(&mut self, statements: &[Statement], index: u32, statement: &Statement)
-        ensures { (all : List Said) → IsAlike all (map said_of statements.now) self.old
-            → StandsIfNamed all (settings_in all self.old) index (said_of statement.now)
-            → settings_in all self.new ≡ running.next (settings_in all self.old) (said_of statement.now) }
-    {
-        match statement {
-            Statement::EndDr(state) => self.dr_end = *state,
-            Statement::EndIr(state) => self.ir_end = *state,
-            Statement::Frequency(period) => self.period = period.unwrap_or(DEFAULT_PERIOD),
-            Statement::Scan {
-                which,
-                len,
-                tdi,
-                tdo,
-                mask,
-                ..
-            } => {
-                let part = self.in_force(statements, index, *which, *len, tdi, tdo, mask);
-                self.put_scan(*which, part);
-            }
-            Statement::RunTest { run, end, .. } => {
-                let run_end = self.ends_in(*run, *end);
-                self.run_state = self.runs_in(*run);
-                self.run_end = run_end;
-            }
-            Statement::States(_) => {}
-            Statement::Trst(word) => self.trst = Some(*word),
         }
     }
 

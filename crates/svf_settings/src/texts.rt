@@ -27,8 +27,8 @@ use svf_programs::{Kept, KeptStep, Program};
 /// the refusals of a statement the one with the lowest number is told. Want of memory is S16 with statement 0.
 ///
 /// It is what `svf_parse::parse` and `resolve` make of the text one after the other. But the text is read statement by
-/// statement, and of these only the ones that a step may name are kept: scans, unless one is the same as the last of its
-/// command, and paths of several states.
+/// statement, and of these only the ones that a step may name are kept: scans, unless one is the same as the last of
+/// its command, and paths of several states.
 pub fn resolve_text(alloc: Global, text: &[u8]) -> Result<Program, SvfFault>
     // It is the text's program or first refusal, unless memory runs out.
     ensures answers { Answers result (text_resolution text.now) }

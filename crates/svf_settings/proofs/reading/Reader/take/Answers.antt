@@ -16,6 +16,6 @@ returns c = λ all past o b stands.
     let s = said_of c.args.statement.now in
     let alike : IsAlike all own c.args.self.now.running = b.settings ∙ sym o.settings in
     let there : StandsIfNamed all (settings_in all c.args.self.now.running) c.args.index s = subst (λ (st : Settings). StandsIfNamed all st c.args.index s) (sym b.settings) stands in
-    taken all own past s c.args.self.now c.pass.new.self c.step-made.result c.place_behind-self.result o b
-    (sym c.in_default.is ∙ c.refusal.ensures) (c.pass.ensures all alike there) (c.step-made.ensures all alike there)
-    (c.step-made.ensures own refl (λ _. c.requires)) c.place_behind-self.ensures
+    taken all own past s c.args.self.now c.pass-made.new.self c.pass-made.result c.place_behind-self.result o b
+    (sym c.in_default.is ∙ c.refusal.ensures) (c.pass-made.ensures.next all alike there) (c.pass-made.ensures.step all alike there)
+    (c.pass-made.ensures.step own refl (λ _. c.requires)) c.place_behind-self.ensures

@@ -9,10 +9,10 @@ use Rattle.svf_settings.proofs.running.Running.written.Goals as goal
 
 pub returns : goal.returns
 returns c = λ all alike tdo smask at.
-    let previous = look.last_of_command c.args.which (settings_in all c.args.self.now) in
+    let previous = look.last_of_command c.args.given.which (settings_in all c.args.self.now) in
     let tdi_is : c.map.result ≡ option_map (λ (p : KeptPart). p.tdi) c.last_as_long-earlier.result = search (rules, tests) in
     let mask_is : c.map-2.result ≡ option_map (λ (p : KeptPart). p.mask) c.last_as_long-earlier.result = search (rules, tests) in
-    kept_in_force all c.args.which c.args.len c.args.tdi.now tdo c.args.mask.now smask c.args.index previous
+    kept_in_force all c.args.given.which c.args.given.len c.args.given.tdi.now tdo c.args.given.mask.now smask c.args.index previous
     c.written_or.result c.written_or-2.result c.map.result c.map-2.result at
     c.written_or.ensures c.written_or-2.ensures
     (ap (option_and_then (field_at tdi_of all)) tdi_is ∙ tdi_kept all c.last_as_long-earlier.result ∙ c.last_as_long-earlier.ensures all alike (λ f. f.tdi))
