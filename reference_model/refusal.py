@@ -7,7 +7,7 @@ class Refusal(Exception):
     """A refused input.
 
     `str()` is the line that the program prints.  `value` is what the refusal names besides: a place, a name,
-    a key, a pin or a cell's number, which the program does not print.
+    a key, a pin or a cell's number, which the program prints with `--explain` alone.
     """
 
     def __init__(self, line: str, value=None):

@@ -1,9 +1,10 @@
 //! The files of a board's descriptions.
-ghost use Rattle.std.specs.Prelude.{◌≡◌, IfOk, codes, map, string_bytes};
+ghost use Rattle.std.specs.Prelude.{◌≡◌, IfOk, Ok, codes, map, string_bytes};
 ghost use Rattle.toml.specs.Data.{Members};
 ghost use Rattle.toml.specs.View.{items_view, table_view};
 ghost use Rattle.board_tables.specs.Fields.{tables_at, tables_in};
-ghost use Rattle.board_tables.specs.Files.{Reads, file_at};
+ghost use Rattle.board_tables.specs.FileView.{TellsBadToml, TellsNames};
+ghost use Rattle.board_tables.specs.Files.{IsBadToml, Reads, file_at};
 
 use board_tables::{BoardFault, items_at, read_table, text_at};
 use std::alloc::{AllocError, Global};
@@ -12,8 +13,11 @@ use toml::{Table, Value};
 /// The file of each device's description, as a board file names it, in the order of its devices; empty where a device
 /// names none. What is no TOML is C1, want of memory C8.
 pub fn description_names<F>(alloc: Global, toml_text: &[u8]) -> Result<Vec<String>, BoardFault<F>>
-    ensures { (t : Members) → Reads toml_text.now t
-        → IfOk result (λ v. map string_bytes v.items ≡ map file_at (tables_at (codes "device") t)) }
+    // Each device's file, unless memory runs out.
+    ensures told { (t : Members) → Reads toml_text.now t
+        → TellsNames result (Ok (map file_at (tables_at (codes "device") t))) }
+    // What is no TOML is refused as that, unless memory runs out.
+    ensures bad_toml { IsBadToml toml_text.now → TellsBadToml result }
 {
     let table = read_table(alloc, toml_text)?;
     Ok(names_of(alloc, items_at(&table, "device"))?)

@@ -9,11 +9,9 @@ ghost use Rattle.boundary.specs.Cells.{AreDisabling, AreDrivers, BoundaryValue, 
 ghost use Rattle.boundary.specs.Cells.{EntersDriver, IsWhole};
 ghost use Rattle.boundary.specs.Controls.{AreGroups};
 ghost use Rattle.boundary.specs.Driven.{TellsBy, TellsCells};
-ghost use Rattle.boundary.specs.Plain.{drives_plainly, plain_cells};
+ghost use Rattle.boundary.specs.Plain.{plain_cells};
 ghost use Rattle.boundary.specs.Sight.{CapturesBySight};
-ghost use Rattle.jt_bits.specs.Packed.{has_bit};
 ghost use Rattle.bsdl_device.specs.declared.Cell.{Cell as TheCell};
-ghost use Rattle.pin_nets.specs.declared.Drive.TheVariants.{Strong};
 
 mod captures;
 mod controls;
@@ -293,21 +291,6 @@ impl Boundary {
         drive_of_cell(self.device.get().cells(), bits, driver)
     }
 
-    /// Of the 64 cells from `first` on those that have no control, so that where they drive a port it is with their own
-    /// bits, and these bits in a mode.
-    pub fn plain_cells(&self, first: usize, mode: Mode) -> PlainCells
-        ensures mask { (j : ℕ) → j < 64 → has_bit result.mask j ≡ drives_plainly mode self.now.cells (first + j) }
-        ensures bits { (j : ℕ) → j < 64 → has_bit result.mask j ≡ true
-            → cells.driven_in mode self.now.cells self.now.update self.now.core (Some (first + j))
-            ≡ Strong (has_bit result.bits j) }
-    {
-        match mode {
-            Mode::HighZ => PlainCells { mask: 0, bits: 0 },
-            Mode::Extest | Mode::Clamp => plain_from(&self.masks.plain, &self.update, first),
-            Mode::Core => plain_from(&self.masks.plain, &self.core, first),
-        }
-    }
-
     /// What each of the 64 cells from `first` on, a multiple of 64, drives its port with in a mode, where it drives
     /// one. Of a cell that no word tells of, nothing is known: that costs time alone, so the clause goes one way.
     pub fn driven_cells(&self, first: usize, mode: Mode) -> DrivenCells
@@ -355,27 +338,6 @@ pub struct DrivenCells {
     pub off: u64,
     /// Which cells drive nothing, since the mode is HIGHZ.
     pub mute: u64,
-}
-
-/// Of 64 cells, with a mask of those without a control and the bits in force.
-fn plain_from(mask: &Bits, bits: &Bits, first: usize) -> PlainCells
-    ensures mask { (j : ℕ) → j < 64 → has_bit result.mask j ≡ bit_of mask.now (first + j) }
-    ensures bits { (j : ℕ) → j < 64 → has_bit result.bits j ≡ bit_of bits.now (first + j) }
-{
-    PlainCells {
-        mask: mask.word_at(first),
-        bits: bits.word_at(first),
-    }
-}
-
-/// Of 64 cells those that have no control, so that where they drive a port it is with their own bits, and these bits.
-/// Bit `j` of both words is that of cell `j` of the 64.
-#[derive(Debug, Clone, Copy, Drop)]
-pub struct PlainCells {
-    /// Which cells do so: those without a control, in a mode that drives the pins.
-    pub mask: u64,
-    /// The bits that they drive.
-    pub bits: u64,
 }
 
 /// What the driving cell drives under the bits in force.

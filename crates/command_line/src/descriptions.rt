@@ -1,15 +1,10 @@
 //! Descriptions of devices, of which each file is read once.
 
+use crate::nodes::{Node, known, node_of};
 use crate::texts::{InputFault, read_description};
 use std::alloc::{AllocError, Global};
 use std::collections::BTreeMap;
-use std::fs;
-use std::io::ErrorKind;
-use std::os::unix::fs::MetadataExt;
 use std::rt::Files;
-
-/// What a file is, whatever it is called: its device, and its number there.
-type Node = (u64, u64);
 
 /// The texts of descriptions by the names that they were read by. A file that goes by several names, as `k.bsdl` and
 /// `./k.bsdl`, is read once and kept once.
@@ -39,7 +34,7 @@ impl Descriptions {
         alloc: Global,
         name: &str,
     ) -> Result<(), InputFault> {
-        let node = node_of(rt, name)?;
+        let node = file_of(rt, name)?;
         let place = match node.and_then(|node| self.known.get(&node).copied()) {
             Some(place) => place,
             None => self.keep(read_description(rt, alloc, name)?, node)?,
@@ -74,10 +69,9 @@ impl Descriptions {
 }
 
 /// What a name stands for, where that is a file that can be asked for.
-fn node_of<R: Files>(rt: &R, name: &str) -> Result<Option<Node>, InputFault> {
-    match fs::metadata(rt, name) {
-        Ok(found) if found.is_file() => Ok(Some((found.dev(), found.ino()))),
-        Err(fault) if fault.kind() == ErrorKind::OutOfMemory => Err(InputFault::NoMemory),
+fn file_of<R: Files>(rt: &R, name: &str) -> Result<Option<Node>, InputFault> {
+    match known(rt, name)? {
+        Some(known) if known.is_file() => Ok(Some(node_of(&known))),
         _ => Ok(None),
     }
 }

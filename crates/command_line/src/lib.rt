@@ -2,13 +2,18 @@
 #![tactic(auto)]
 
 mod descriptions;
+mod nodes;
+mod outputs;
 mod request;
+mod streams;
 mod texts;
 mod usage;
 mod words;
 
 pub use descriptions::Descriptions;
+pub use outputs::{head_of, is_in_use};
 pub use request::{Request, Server, Serving, Task, parse};
+pub use streams::StandIns;
 pub use texts::{InputFault, read_board_file, read_text};
 pub use usage::usage_is_read;
 pub use words::command_words;

@@ -13,3 +13,4 @@ pub mod InUse
 pub mod ShiftRuns
 pub mod IdlePieces
 pub mod WithinLaws
+pub mod StringLaws

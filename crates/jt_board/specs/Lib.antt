@@ -8,3 +8,4 @@ pub mod Made
 pub mod Resting
 pub mod Shifting
 pub mod Within
+pub mod Strings

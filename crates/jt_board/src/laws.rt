@@ -1,6 +1,7 @@
 //! Laws of the devices of boards, and of boards in use.
 
 ghost use Rattle.jt_board.specs.Laws.{EveryBoardInUseIsSound, EveryDeviceReadIsFormed};
+ghost use Rattle.jt_board.specs.Strings.{EveryBoardInUseHasItsStrings};
 ghost use Rattle.jt_board.specs.Within.{EarlierBoardsAreMade, LargerLimitsMakeTheSame, WhatLiesWithinIsTheSame};
 
 /// Every device that a text says has what a chip asks of it: instructions and a boundary register of one bit at least,
@@ -14,6 +15,13 @@ pub fn every_device_read_is_formed()
 /// the laws of plays ask of it: 1 to 256 devices, of which each register that an instruction can select has a bit.
 pub fn every_board_in_use_is_sound()
     ensures { EveryBoardInUseIsSound }
+{}
+
+/// Of every such board, after any bytes: no net depends on itself by strings of `follow`, whatever the instructions are.
+/// Every string holds under the core bits in force, each port bit seeing its net under these same bits, and under no
+/// others.
+pub fn every_string_of_a_board_in_use_holds()
+    ensures { EveryBoardInUseHasItsStrings }
 {}
 
 /// A board that a board file and its descriptions make within some limits is made the same within larger ones, each

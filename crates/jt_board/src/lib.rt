@@ -21,6 +21,7 @@ pub use circle_laws::{loops_are_circles, no_loop_is_no_circle};
 pub use from_text::{board_table, bsdl_names, table_names};
 pub use laws::{
     boards_stay_within_larger_limits, every_board_in_use_is_sound, every_device_read_is_formed,
+    every_string_of_a_board_in_use_holds,
 };
 pub use pin_nets::Level;
 pub use report::{write_left_out, write_report};

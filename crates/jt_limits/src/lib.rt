@@ -95,9 +95,30 @@ pub fn earlier_limits_are_lower()
     ensures { IsAtMost spec.earlier_limits spec.limits }
 {}
 
-/// The limits that stand, as the definitions have them.
+/// The limits that stand, with the numbers that the definitions state.
 pub fn limits_that_stand() -> Limits
     ensures { result ≡ spec.limits }
 {
     LIMITS
+}
+
+/// Those that stood before, with the numbers that the definitions state.
+pub fn limits_that_stood() -> Limits
+    ensures { result ≡ spec.earlier_limits }
+{
+    EARLIER_LIMITS
+}
+
+/// The largest subscript, with the number that the definitions state.
+pub fn subscripts_that_stand() -> usize
+    ensures { result ≡ spec.subscript_limit }
+{
+    SUBSCRIPT_LIMIT
+}
+
+/// The digits and the exponent that a number of SVF has at most, with the numbers that the definitions state.
+pub fn numbers_that_stand() -> (usize, u32)
+    ensures { result ≡ (spec.digit_limit, spec.exponent_limit) }
+{
+    (DIGITS_LIMIT, EXPONENT_LIMIT)
 }

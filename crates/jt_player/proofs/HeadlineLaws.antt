@@ -9,6 +9,7 @@ use Rattle.play_schedules.specs.Laws.{bytes_of_full_play, full}
 use Rattle.jt_board.proofs.InUse.{every_board}
 use Rattle.play_model.proofs.Described.{means_from_opening}
 use Rattle.play_direct.specs.Accepting.{Accepts}
+use Rattle.play_model.specs.declared.kind.Kind.{Kind}
 use Rattle.play_model.specs.declared.kind.Kind.TheVariants.{Stops, PlaysOn}
 use Rattle.play_model.specs.Endings.{status_of}
 use Rattle.play_model.specs.Play.{Turn, full_play, turns}
@@ -16,17 +17,21 @@ use Rattle.play_model.specs.PlayingOn.{Mismatch, ending_of, turns_for}
 use Rattle.play_model.proofs.Asks.{hear-full, played_of}
 use Rattle.scan_vectors.specs.Vector.{judge}
 use Rattle.scan_vectors.specs.declared.part.Part.{Part}
-use Rattle.play_pipes.proofs.Ends.{means}
+use Rattle.play_pipes.proofs.Ends.{means, means_all}
 use Rattle.play_pipes.proofs.Inside.{inside}
 use Rattle.play_pipes.specs.Inside.{taken_by_board}
+use Rattle.play_pipes.specs.Laws.{joined_after_of}
+use Rattle.jt_board.specs.InUse.{IsInUse}
 use Rattle.jt_player.specs.Headline.{DirectPlayMeansWhatTheTextMeans, EveryScheduleMeansWhatTheTextMeans}
 use Rattle.jt_player.specs.Headline.{DirectPlaysPassOrFail, EndsIn, EveryRunEnds, PassesOrFails, passes, fails, is_refused, wants_memory}
+use Rattle.jt_player.specs.Headline.{DirectPlayOfEitherKind, EveryScheduleOfEitherKind, WhatEventsOfEitherKindLeaveIsInUse}
 use Rattle.jt_player.specs.Headline.{WhatDirectPlaysLeaveIsInUse, WhatEventsLeaveIsInUse, WhatRunsLeaveIsInUse}
 use Rattle.jt_player.specs.Kinds.{ending_in}
 use Rattle.jt_player.specs.Running.{no_memory, played, refused}
 use Rattle.play_direct.specs.ToTheEnd.{all_failures}
+use Rattle.jt_player.proofs.KindLaws.{means as means_of_kind}
 
-legal : (text : List ℕ) (program : Program) → Accepts text program → IsLegalProgram program.steps
+pub legal : (text : List ℕ) (program : Program) → Accepts text program → IsLegalProgram program.steps
 legal text program (statements, spelt, resolved) = (accepted_is_sound statements program resolved).legal
 
 pub joined : EveryScheduleMeansWhatTheTextMeans
@@ -39,20 +44,37 @@ directly text program accepted start met =
     let chain = every_board start met in
     means_from_opening program start chain.sound chain.some (legal text program accepted)
 
+pub joined_of_kind : EveryScheduleOfEitherKind
+joined_of_kind Stops text program accepted start met down_room up_room events ending unlost ended =
+    joined text program accepted start met down_room up_room events ending unlost ended
+joined_of_kind PlaysOn text program accepted start met down_room up_room events ending unlost ended =
+    let chain = every_board start met in
+    means_all program start down_room up_room events ending (legal text program accepted) chain.sound chain.some unlost ended
+
+pub directly_of_kind : DirectPlayOfEitherKind
+directly_of_kind kind text program accepted start met =
+    let chain = every_board start met in means_of_kind kind program start chain.sound chain.some (legal text program accepted)
+
 more_bytes : (before more : List ℕ) (b : BoardState) → after_bytes (before ++ more) b ≡ after_bytes more (after_bytes before b)
 more_bytes [] more b = refl
 more_bytes (byte ∷ before) more b = more_bytes before more (after_byte byte b)
 
+-- a board in use is one after more bytes
+pub in_use_after : (start after : BoardState) → IsInUse start → (took : List ℕ) → after ≡ after_bytes took start → IsInUse after
+in_use_after start after met took is = record {
+  at_first = met.at_first;
+  made = met.made;
+  taken = met.taken ++ took;
+  now = is ∙ ap (after_bytes took) met.now ∙ sym (more_bytes met.taken took met.at_first);
+}
+
+pub in_use_of_kind : WhatEventsOfEitherKindLeaveIsInUse
+in_use_of_kind kind program start met down_room up_room events =
+    in_use_after start (joined_after_of kind program start down_room up_room events).board met
+    (taken_by_board kind program start down_room up_room events) (inside kind program start down_room up_room events).board
+
 pub in_use_again : WhatEventsLeaveIsInUse
-in_use_again program start met down_room up_room events =
-    let took = taken_by_board Stops program start down_room up_room events in
-    record {
-      at_first = met.at_first;
-      made = met.made;
-      taken = met.taken ++ took;
-      now = (inside Stops program start down_room up_room events).board ∙ ap (after_bytes took) met.now
-          ∙ sym (more_bytes met.taken took met.at_first);
-    }
+in_use_again program start met down_room up_room events = in_use_of_kind Stops program start met down_room up_room events
 
 pub directly_in_use : WhatDirectPlaysLeaveIsInUse
 directly_in_use kind program start met =
@@ -60,12 +82,7 @@ directly_in_use kind program start met =
     let messages = (full kind program.steps start).messages in
     let heard : (full kind program.steps start).board ≡ (hear messages start).board =
     sym (ap (λ h. h.board) (hear-full (turns_for kind program.steps) start)) in
-    record {
-      at_first = met.at_first;
-      made = met.made;
-      taken = met.taken ++ took;
-      now = heard ∙ sym (after_all-encoded messages start) ∙ ap (after_bytes took) met.now ∙ sym (more_bytes met.taken took met.at_first);
-    }
+    in_use_after start (full kind program.steps start).board met took (heard ∙ sym (after_all-encoded messages start))
 
 pub runs_in_use : WhatRunsLeaveIsInUse
 runs_in_use kind text bytes start met run (played program accepted means) = directly_in_use kind program start met

@@ -1,3 +1,4 @@
 pub mod RunLaws
 pub mod HeadlineLaws
 pub mod KindLaws
+pub mod ConnectionLaws

@@ -8,15 +8,17 @@ use Rattle.play_model.specs.declared.ending.Ending.{Ending}
 use Rattle.play_model.specs.declared.ending.Ending.TheVariants.{Pass, Fail}
 use Rattle.play_model.specs.declared.kind.Kind.{Kind}
 use Rattle.play_model.specs.DirectPlay.{MeansFromOpening}
-use Rattle.play_model.specs.Events.{Event}
+use Rattle.play_model.specs.declared.kind.Kind.TheVariants.{Stops, PlaysOn}
+use Rattle.play_model.specs.Events.{Event, World}
 use Rattle.play_model.specs.Play.{play}
+use Rattle.play_model.specs.Streams.{StreamState}
 use Rattle.scan_vectors.specs.declared.part.Part.{Part}
 use Rattle.svf_words.specs.declared.fault.SvfFault.{SvfFault}
 use Rattle.play_direct.specs.Accepting.{Accepts, Refuses}
-use Rattle.jt_player.specs.Kinds.{ending_in}
+use Rattle.jt_player.specs.Kinds.{MeansAsPlayed, ending_in}
 use Rattle.jt_player.specs.Running.{IsRunOf, Run}
 use Rattle.play_pipes.specs.Standing.{ended_of}
-use Rattle.play_pipes.specs.Laws.{joined_after}
+use Rattle.play_pipes.specs.Laws.{MeansAll, joined_after, joined_after_of}
 
 -- For every accepted text, every board in use, every room of the two pipes and every order of events: a play that ends
 -- unlost gives exactly the verdict, and leaves exactly the registers and pin levels, of the program's meaning over
@@ -34,12 +36,36 @@ DirectPlayMeansWhatTheTextMeans = (text : List ℕ) (program : Program) → Acce
     → (start : BoardState) → IsInUse start
     → MeansFromOpening program start (play program start).ending (play program start).board
 
+-- What a joined play comes to that ends unlost: of a player that stops the verdict, of one that plays on all failures,
+-- and of both the board, as the program means it over whole registers from the state after the opening.
+abbrev pub MeansOfKind : Kind → Program → (start : BoardState) → Ending → World StreamState → Type 0
+MeansOfKind Stops program start ending world = MeansFromOpening program start ending world.board
+MeansOfKind PlaysOn program start ending world = MeansAll program start ending world
+
+-- The headline of a player of either kind, over every schedule and without pipes.
+abbrev pub EveryScheduleOfEitherKind : Type 0
+EveryScheduleOfEitherKind = (kind : Kind) (text : List ℕ) (program : Program) → Accepts text program
+    → (start : BoardState) → IsInUse start
+    → (down_room up_room : ℕ) (events : List Event) (ending : Ending)
+    → let world = joined_after_of kind program start down_room up_room events in
+    world.lost ≡ false → ended_of world ≡ Some ending → MeansOfKind kind program start ending world
+
+abbrev pub DirectPlayOfEitherKind : Type 0
+DirectPlayOfEitherKind = (kind : Kind) (text : List ℕ) (program : Program) → Accepts text program
+    → (start : BoardState) → IsInUse start → MeansAsPlayed kind program start
+
 -- What a play leaves after whatever events, a loss among them, is a board in use again: so a new play on it means what
 -- its own text means, from its own opening.
 abbrev pub WhatEventsLeaveIsInUse : Type 0
 WhatEventsLeaveIsInUse = (program : Program) (start : BoardState) → IsInUse start
     → (down_room up_room : ℕ) (events : List Event)
     → IsInUse (joined_after program start down_room up_room events).board
+
+-- The same of a player of either kind.
+abbrev pub WhatEventsOfEitherKindLeaveIsInUse : Type 0
+WhatEventsOfEitherKindLeaveIsInUse = (kind : Kind) (program : Program) (start : BoardState) → IsInUse start
+    → (down_room up_room : ℕ) (events : List Event)
+    → IsInUse (joined_after_of kind program start down_room up_room events).board
 
 -- So is what a direct play leaves, of a player that stops at the first failing step or goes to the end; and what a run
 -- leaves, a refused one too.

@@ -4,3 +4,4 @@ pub mod Running
 pub mod Headline
 pub mod Linking
 pub mod Stopping
+pub mod Connected

@@ -2,7 +2,8 @@
 
 ghost use Rattle.jt_player.specs.Headline.{DirectPlayMeansWhatTheTextMeans, EveryScheduleMeansWhatTheTextMeans};
 ghost use Rattle.jt_player.specs.Headline.{WhatDirectPlaysLeaveIsInUse, WhatEventsLeaveIsInUse, WhatRunsLeaveIsInUse};
-ghost use Rattle.jt_player.specs.Headline.{DirectPlaysPassOrFail, EveryRunEnds};
+ghost use Rattle.jt_player.specs.Headline.{DirectPlayOfEitherKind, EveryScheduleOfEitherKind};
+ghost use Rattle.jt_player.specs.Headline.{DirectPlaysPassOrFail, EveryRunEnds, WhatEventsOfEitherKindLeaveIsInUse};
 
 /// For every accepted text, every board that a board file and its descriptions make or that has bare devices, whatever
 /// bytes it took before, every room of two pipes and every order of events: a play that ends unlost gives exactly the
@@ -15,10 +16,22 @@ pub fn every_schedule_means_what_the_text_means()
     ensures directly { DirectPlayMeansWhatTheTextMeans }
 {}
 
-/// Wherever a play over two pipes breaks off, its board is one that the headline speaks of: so a new play on it means
-/// what its own text means.
+/// The same of a player of either kind: one that stops at the first failing step gives the verdict of the meaning, one
+/// that plays on all failures of it.
+pub fn every_schedule_of_either_kind_means_what_the_text_means()
+    ensures joined { EveryScheduleOfEitherKind }
+    ensures directly { DirectPlayOfEitherKind }
+{}
+
+/// Wherever a play over two pipes breaks off, of a player that stops at the first failure, its board is one that the
+/// headline speaks of: so a new play on it means what its own text means.
 pub fn what_events_leave_is_in_use()
     ensures { WhatEventsLeaveIsInUse }
+{}
+
+/// The same of a player of either kind.
+pub fn what_events_of_either_kind_leave_is_in_use()
+    ensures { WhatEventsOfEitherKindLeaveIsInUse }
 {}
 
 /// So is the board of a direct play, of either kind, and that of a run, of a refused text too.

@@ -1,6 +1,7 @@
 //! A player of Serial Vector Format programs, and a simulated board that it is proved to agree with.
 #![tactic(auto)]
 
+mod connected;
 mod headline;
 mod linking;
 mod play;
@@ -10,9 +11,14 @@ mod showing;
 mod stop;
 
 pub use byte_streams::{Both, End, Sink, Source};
+pub use connected::{
+    a_loop_over_linked_ends_means_the_text, an_honest_end_means_the_text,
+    what_a_loop_leaves_is_in_use, what_serving_leaves_is_in_use,
+};
 pub use headline::{
     direct_plays_pass_or_fail, every_run_ends, every_schedule_means_what_the_text_means,
-    what_direct_plays_leave_is_in_use, what_events_leave_is_in_use,
+    every_schedule_of_either_kind_means_what_the_text_means, what_direct_plays_leave_is_in_use,
+    what_events_leave_is_in_use, what_events_of_either_kind_leave_is_in_use,
 };
 pub use jt_board::{
     Board, BoardFault, Broken, BsdlFault, Counted, Level, Reply, Snapshot, board_table, bsdl_names,

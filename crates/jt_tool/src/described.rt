@@ -71,6 +71,14 @@ pub(crate) fn read_wired(
 }
 
 impl Wired {
+    /// The names of the descriptions that it is made of.
+    pub(crate) fn descriptions(&self) -> &[String] {
+        match self {
+            Wired::Bare => &[],
+            Wired::Read(read) => read.names.as_slice(),
+        }
+    }
+
     /// The board, and where `twice` is set the same once more. Where `explain` is set, a description that is refused
     /// comes with its file.
     pub(crate) fn boards(

@@ -11,11 +11,11 @@ use crate::described::{Boards, Unmade, Wired, describe, plan_board, read_wired};
 use crate::explained::{check_text, play_text, tell_unmade};
 use crate::linked::{AcceptedText, loop_over_socket, play_on_server};
 use crate::links::{accept, listen};
-use crate::waves::draw_waves;
+use crate::waves::{draw_waves, may_be_made};
 use board_description::Untold;
 use byte_streams::{Broken, Counted, Plain};
 use clap::error::ErrorKind as WordsFault;
-use command_line::{InputFault, Request, Serving, Task, command_words, parse, read_text};
+use command_line::{InputFault, Request, Serving, StandIns, Task, command_words, parse, read_text};
 use jt_player::{
     Board, Kind, Served, refuse_file, refuse_memory, run_serve, tell_listening, tell_served,
     write_report,
@@ -40,13 +40,21 @@ const BROKEN: u8 = 3;
 const MEMORY: u8 = 4;
 
 fn main(rt: HostRuntime) -> ExitCode {
-    let alloc = rt.alloc();
-    let status = match command_words(&rt, alloc) {
-        Ok(words) => run(&rt, alloc, words.as_slice()),
-        Err(fault) if fault.kind() == ErrorKind::OutOfMemory => tell_line(&rt, "memory", MEMORY),
-        Err(_) => tell_line(&rt, "a word of the command line is not UTF-8", REFUSED),
+    let status = match StandIns::new(&rt) {
+        Ok(_until_the_end) => run_words(&rt),
+        Err(_) => BROKEN, // a stream is closed, and a file could get its descriptor
     };
     ExitCode::from(status)
+}
+
+/// Does what the command line asks for. Answers the exit status.
+fn run_words(rt: &HostRuntime) -> u8 {
+    let alloc = rt.alloc();
+    match command_words(rt, alloc) {
+        Ok(words) => run(rt, alloc, words.as_slice()),
+        Err(fault) if fault.kind() == ErrorKind::OutOfMemory => tell_line(rt, "memory", MEMORY),
+        Err(_) => tell_line(rt, "a word of the command line is not UTF-8", REFUSED),
+    }
 }
 
 /// Does what the words ask for. Answers the exit status.
@@ -192,16 +200,36 @@ fn draw_play(
     wired: &Wired,
     boards: Boards,
 ) -> u8 {
-    let text = match read_text(rt, alloc, request.svf) {
-        Ok(text) => text,
-        Err(fault) => return refuse_input(rt, request.svf.unwrap_or("-"), fault),
-    };
-    match fs::create(rt, waves) {
-        Ok(file) => {
+    match text_and_waves(rt, alloc, request, waves, wired.descriptions()) {
+        Ok((text, file)) => {
             let status = told_on(rt, alloc, &text, request.task, boards);
             draw_behind(rt, alloc, &text, request.task, wired, file, status)
         }
-        Err(fault) => refuse_waves(rt, waves, InputFault::from(fault)),
+        Err(status) => status,
+    }
+}
+
+/// Reads the text of a play, and makes the file of its waves, where nothing is lost by that. Else tells why not, and
+/// answers the exit status: nothing is written then.
+fn text_and_waves(
+    rt: &HostRuntime,
+    alloc: Global,
+    request: &Request<'_>,
+    waves: &str,
+    descriptions: &[String],
+) -> Result<(Vec<u8>, File), u8> {
+    match may_be_made(rt, alloc, waves, request, descriptions) {
+        Ok(true) => {}
+        Ok(false) => return Err(refuse_input(rt, waves, InputFault::Unreadable)),
+        Err(fault) => return Err(refuse_input(rt, waves, fault)),
+    }
+    let text = match read_text(rt, alloc, request.svf) {
+        Ok(text) => text,
+        Err(fault) => return Err(refuse_input(rt, request.svf.unwrap_or("-"), fault)),
+    };
+    match fs::create(rt, waves) {
+        Ok(file) => Ok((text, file)),
+        Err(fault) => Err(refuse_waves(rt, waves, InputFault::from(fault))),
     }
 }
 

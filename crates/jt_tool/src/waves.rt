@@ -1,11 +1,31 @@
 //! The waves of a play, drawn into a file.
 
 use byte_streams::{Counted, Plain};
+use command_line::{InputFault, Request, head_of, is_in_use};
 use jt_player::Kind;
-use play_waves::{Stage, Undrawn, draw_text};
+use play_waves::{Stage, Undrawn, begins_as_waves, draw_text};
 use std::alloc::Global;
 use std::fs::File;
 use std::io::{BufWriter, Write};
+
+/// So many bytes of a file tell whether it holds waves.
+const HEAD: u64 = 256;
+
+/// Whether a file of waves may be made anew: nothing is in it but waves of the program, and the request has no other use
+/// for it.
+pub(crate) fn may_be_made(
+    rt: &HostRuntime,
+    alloc: Global,
+    name: &str,
+    request: &Request<'_>,
+    descriptions: &[String],
+) -> Result<bool, InputFault> {
+    if is_in_use(rt, name, request, descriptions)? {
+        return Ok(false);
+    }
+    let head = head_of(rt, alloc, name, HEAD)?;
+    Ok(head.is_empty() || begins_as_waves(&head))
+}
 
 /// Draws the waves of a text, as a player of this kind plays it, into a file.
 pub(crate) fn draw_waves(

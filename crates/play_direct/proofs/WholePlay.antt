@@ -74,7 +74,7 @@ played_all program b sound some legal after same =
     subst (λ (a : BoardState). MeansAllFromOpening program.steps b (all_failures program b) a) (sym same) (plays_all program.steps b sound some legal)
 
 -- what fails in a play to the end is what fails over whole registers, from the state after the opening on
-meant_all : (program : Program) (b : BoardState) → IsSoundBoard b → HasDevice b → IsLegalProgram program.steps
+pub meant_all : (program : Program) (b : BoardState) → IsSoundBoard b → HasDevice b → IsLegalProgram program.steps
     → (outcome_of_all program.steps (opened_state b)).failures ≡ all_failures program b
 meant_all program b sound some legal =
     let all = plays_all program.steps b sound some legal in

@@ -4,7 +4,7 @@ ghost use Rattle.std.specs.Prelude.{◌≡◌};
 ghost use Rattle.byte_streams.specs.Writes.{WritesAll, flagged};
 ghost use Rattle.scan_vectors.specs.Failures.{found};
 ghost use Rattle.svf_programs.specs.Sizes.{program_of};
-ghost use Rattle.play_model.specs.DirectPlay.{MeansFromOpening, bytes_of_full_play};
+ghost use Rattle.play_model.specs.DirectPlay.{MeansFromOpening, bytes_of_play};
 ghost use Rattle.play_model.specs.Play.{play};
 ghost use Rattle.play_model.specs.declared.kind.Kind.TheVariants.{PlaysOn};
 ghost use Rattle.play_model.specs.PlayingOn.{ending_of};
@@ -36,7 +36,7 @@ pub fn play_program_noted<W: Sink>(
     ensures meaning { MeansFromOpening (program_of program.now) board.old result.0 board.new }
 
     // What was written of it.
-    ensures writes { WritesAll W.contents out.old out.new (bytes_of_full_play (program_of program.now) board.old)
+    ensures writes { WritesAll W.contents out.old out.new (bytes_of_play (program_of program.now) board.old)
         (flagged result.1) }
 {
     let failures = play_steps(program, Kind::Stops, board, out);

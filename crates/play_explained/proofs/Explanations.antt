@@ -19,8 +19,16 @@ use Rattle.std.proofs.lemmas.List.{append-nil}
 use Rattle.jt_player.specs.Showing.{mismatch_line, total_line}
 use Rattle.play_explained.specs.declared.explaining.Explained.{Explained}
 use Rattle.play_explained.specs.Explaining.{explained, explained_of, step_explained}
-use Rattle.play_explained.specs.Laws.{EveryFailureIsExplained, NothingElseIsTold}
-use Rattle.play_explained.specs.Lines.{at_line, failure_lines}
+use Rattle.play_model.specs.DirectPlay.{opened_state}
+use Rattle.play_model.specs.Streams.{most_kept}
+use Rattle.play_direct.proofs.WholePlay.{meant_all}
+use Rattle.jt_board.proofs.InUse.{every_board}
+use Rattle.jt_player.proofs.HeadlineLaws.{legal}
+use Rattle.play_explained.specs.Laws.{EachListedBitHasItsReason, EveryFailureIsExplained, NothingElseIsTold, ReasonsAloneAreAdded}
+use Rattle.play_explained.specs.Lines.{at_line, explained_lines, failure_lines}
+use Rattle.play_explained.specs.Laws.{ending_lines_with}
+use Rattle.play_model.specs.declared.kind.Kind.{Kind}
+use Rattle.jt_player.specs.Showing.{ending_lines}
 
 module _ {A : Type 0} where
   pub take_again : (n : ℕ) (xs ys : List A) → take n (take n xs ++ ys) ≡ take n (xs ++ ys)
@@ -109,3 +117,42 @@ nothing_else text PlaysOn (BadAnswer command byte) found none = refl
 nothing_else text Stops Pass found none = refl
 nothing_else text Stops (Lost command) found none = refl
 nothing_else text Stops (BadAnswer command byte) found none = refl
+
+-- the lines of failing bits with nothing behind them
+bare_lines : (fs : List Mismatch) → flat_map (λ (f : Mismatch). mismatch_line f ++ []) fs ≡ flat_map mismatch_line fs
+bare_lines [] = refl
+bare_lines (f ∷ fs) = λ i. append-nil (mismatch_line f) i ++ bare_lines fs i
+
+pub reasons_added : ReasonsAloneAreAdded
+reasons_added = record {
+  added = λ text why kind ending found. by text why kind ending found;
+  without = λ kind ending found. bare kind ending found;
+}
+  where
+    by : (text : List ℕ) (why : Mismatch → List ℕ) (kind : Kind) (ending : Ending) (found : Found)
+        → explained_lines text why kind ending found
+        ≡ ending_lines_with (λ (f : Mismatch). at_line (statement_position text f.command) ++ why f) kind ending found
+    by text why PlaysOn (Fail command part bit) found = refl
+    by text why Stops (Fail command part bit) found = refl
+    by text why PlaysOn Pass found = refl
+    by text why PlaysOn (Lost command) found = refl
+    by text why PlaysOn (BadAnswer command byte) found = refl
+    by text why Stops Pass found = refl
+    by text why Stops (Lost command) found = refl
+    by text why Stops (BadAnswer command byte) found = refl
+
+    bare : (kind : Kind) (ending : Ending) (found : Found) → ending_lines_with (λ (f : Mismatch). []) kind ending found ≡ ending_lines kind ending found
+    bare PlaysOn (Fail command part bit) found = ap (λ l. l ++ total_line found.total) (bare_lines found.list)
+    bare Stops (Fail command part bit) found = append-nil (mismatch_line (record { command = command; part = part; bit = bit }))
+    bare PlaysOn Pass found = refl
+    bare PlaysOn (Lost command) found = refl
+    bare PlaysOn (BadAnswer command byte) found = refl
+    bare Stops Pass found = refl
+    bare Stops (Lost command) found = refl
+    bare Stops (BadAnswer command byte) found = refl
+
+pub each_listed : EachListedBitHasItsReason
+each_listed kind text program accepted before met =
+    let chain = every_board before met in
+    map_taken (λ (e : Explained). e.failure) (most_kept kind) (explained program.steps (opened_state before))
+    ∙ ap (take (most_kept kind)) (each_is_explained program.steps (opened_state before) ∙ meant_all program before chain.sound chain.some (legal text program accepted))

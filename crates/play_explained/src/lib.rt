@@ -6,7 +6,9 @@
 #![tactic(auto)]
 
 pub use explaining::{Explained, Reasons, explain};
-pub use laws::every_failure_is_explained;
+pub use laws::{
+    each_listed_bit_has_its_reason, every_failure_is_explained, reasons_alone_are_added,
+};
 pub use runs::{run_loop_explained, run_over_explained, run_play_explained};
 pub use telling::{Accepted, Known, write_explained};
 

@@ -6,26 +6,24 @@ ghost use Rattle.play_model.specs.Streams as stream;
 ghost use Rattle.play_model.specs.Streams.{new_stream};
 ghost use Rattle.scan_vectors.specs.Failures.{found};
 ghost use Rattle.play_links.specs.Loops.{LoopsAllOver, LoopsOver};
+ghost use Rattle.play_links.specs.Pieces.{piece_bytes};
 ghost use Rattle.play_links.specs.Turns.{GivesAll, HearsWhole, Loops, ServesTurn, SomeTurn, TakesTurn, fits_stream};
 ghost use Rattle.player.specs.Window.{window};
 
-use crate::serving::{Served, take_bytes};
+use crate::serving::{PIECE, Served, take_bytes};
 use byte_streams::{Counted, End, Sink, Source, put_all};
 use jt_board::Board;
 use play_model::Ending;
 use player::Player;
 use scan_vectors::Failures;
 
-/// The most bytes that go one way in a turn.
-const TURN: usize = 1024;
-
 /// Gives out the first of the bytes that may be sent, so many.
 fn give_out_first(player: &mut Player, n: usize)
-    requires few { n ≤ 1024 }
+    requires few { n ≤ piece_bytes }
     requires wait { n ≤ length (stream.bytes_to_send window player.old) }
     ensures { player.new ≡ record player.old { given = player.old.given + n } }
 {
-    let mut scratch = [0; TURN];
+    let mut scratch = [0; PIECE];
     player.next_bytes(&mut scratch[..n]);
 }
 
@@ -33,7 +31,7 @@ fn give_out_first(player: &mut Player, n: usize)
 /// Answers whether all was written.
 fn give_all<W: Sink>(writer: &mut Counted<W>, player: &mut Player, piece: &[u8]) -> bool
     requires unlost { writer.old.failures ≡ 0 }
-    requires few { length piece.now ≤ 1024 }
+    requires few { length piece.now ≤ piece_bytes }
     requires front { IsPrefix piece.now (stream.bytes_to_send window player.old) }
     ensures { GivesAll W.puts W.contents writer.old writer.new piece.now player.old player.new result }
 {
@@ -124,8 +122,8 @@ fn take_turn<P: Source>(end: &mut Counted<P>, player: &mut Player) -> bool
     requires { end.old.failures ≡ 0 }
     ensures { TakesTurn P.hears P.remaining end.old end.new player.old player.new result }
 {
-    let mut back = [0; TURN];
-    let owed = player.owed().min(TURN);
+    let mut back = [0; PIECE];
+    let owed = player.owed().min(PIECE);
     take_back(end, player, &mut back[..owed])
 }
 
@@ -137,11 +135,11 @@ fn answer_turn<B: End>(
     bytes: &mut [u8],
 ) -> bool
     requires unlost { end.old.failures ≡ 0 }
-    requires few { length bytes.old ≤ 1024 }
+    requires few { length bytes.old ≤ piece_bytes }
     ensures { ServesTurn B.puts B.hears B.contents B.remaining end.old end.new board.old board.new player.now
         (length bytes.old) result }
 {
-    let mut answers = [0; TURN];
+    let mut answers = [0; PIECE];
     serve_turn(end, board, player, bytes, &mut answers)
 }
 
@@ -159,7 +157,7 @@ fn turn<P: End, B: End>(
     ensures { SomeTurn P.puts P.hears B.puts B.hears P.contents P.remaining B.contents B.remaining player_end.old
         player_end.new board_end.old board_end.new board.old board.new player.old player.new result }
 {
-    let mut bytes = [0; TURN];
+    let mut bytes = [0; PIECE];
     let count = player.show_bytes(&mut bytes);
     if !give_all(player_end, player, &bytes[..count]) {
         return false;

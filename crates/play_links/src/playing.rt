@@ -6,28 +6,18 @@ ghost use Rattle.play_model.specs.Streams as stream;
 ghost use Rattle.play_model.specs.Streams.{new_stream};
 ghost use Rattle.play_links.specs.Calls.{Goes, IsCall, IsHeard, IsPut};
 ghost use Rattle.scan_vectors.specs.Failures.{found};
-ghost use Rattle.player.specs.Shown.{IsShown};
 ghost use Rattle.player.specs.Window.{window};
 ghost use Rattle.play_links.specs.Links.{PlaysAllOver, PlaysOver};
 
+use crate::serving::PIECE;
 use byte_streams::{Counted, Sink, Source};
 use play_model::Ending;
-use player::{Player, Shown};
+use player::Player;
 use scan_vectors::Failures;
 
-/// The most bytes that are handed to a writer, or asked of a reader, at once.
-const PIECE: usize = 1024;
-
-/// Hands a writer a piece of what may be sent, as it was shown, and gives out what it took. Answers whether the call
-/// was kept.
-fn put<W: Sink>(
-    writer: &mut Counted<W>,
-    player: &mut Player,
-    shown: Shown,
-    piece: &mut [u8],
-) -> bool
+/// Hands a writer a piece of what may be sent, and gives out what it took. Answers whether the call was kept.
+fn put<W: Sink>(writer: &mut Counted<W>, player: &mut Player, piece: &mut [u8]) -> bool
     requires unlost { writer.old.failures ≡ 0 }
-    requires shown { IsShown player.old shown }
     requires some { 0 < length piece.old }
     requires front { IsPrefix piece.old (stream.bytes_to_send window player.old) }
     ensures { IsPut W.puts W.contents writer.old writer.new piece.old player.old player.new result }
@@ -35,22 +25,9 @@ fn put<W: Sink>(
     match writer.put(piece) {
         Ok(0) | Err(_) => false,
         Ok(n) => {
-            give_out_taken(player, shown, &mut piece[..n]);
+            player.give_out(&mut piece[..n]);
             true
         }
-    }
-}
-
-/// Gives out the bytes that a writer took. Where they are all that were shown, they are not made again.
-fn give_out_taken(player: &mut Player, shown: Shown, taken: &mut [u8])
-    requires shown { IsShown player.old shown }
-    requires wait { length taken.old ≤ length (stream.bytes_to_send window player.old) }
-    ensures { player.new ≡ record player.old { given = player.old.given + length taken.old } }
-{
-    if taken.len() == shown.count() {
-        player.give_shown(shown);
-    } else {
-        player.next_bytes(taken);
     }
 }
 
@@ -84,10 +61,9 @@ fn call<R: Source, W: Sink>(
         player.new result }
 {
     let mut piece = [0; PIECE];
-    let shown = player.show_ahead(&mut piece);
-    let count = shown.count();
+    let count = player.show_ahead(&mut piece);
     if count > 0 {
-        return put(writer, player, shown, &mut piece[..count]);
+        return put(writer, player, &mut piece[..count]);
     }
     let owed = player.owed().min(PIECE);
     hear(reader, player, &mut piece[..owed])

@@ -23,6 +23,6 @@ MeansFromOpening program before ending after =
     let meant = outcome program.steps (opened_state before) in
     IsAtRest (hear opening before).board (opened_state before) × (ending ≡ meant.ending) × IsAtRest after meant.after
 
--- the bytes of the full play of a program on a board
-abbrev pub bytes_of_full_play : Program → BoardState → List ℕ
-bytes_of_full_play program b = map encode (play program b).messages
+-- the bytes of the play of a program on a board, up to the first failing step
+abbrev pub bytes_of_play : Program → BoardState → List ℕ
+bytes_of_play program b = map encode (play program b).messages

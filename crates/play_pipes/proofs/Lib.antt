@@ -3,3 +3,4 @@ pub mod Together
 pub mod RoundsEnd
 pub mod Ends
 pub mod Inside
+pub mod Holding

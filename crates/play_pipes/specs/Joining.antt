@@ -35,8 +35,8 @@ abbrev pub AreAnswers : List ℕ → Type 0
 AreAnswers bytes = bytes ≡ map answer (bits_told bytes)
 
 -- the world after the board took one byte, if it takes one
-abbrev pub serve_one : ℕ → World StreamState → Option (World StreamState)
-serve_one capacity w = one w.down
+abbrev pub one_byte_served : ℕ → World StreamState → Option (World StreamState)
+one_byte_served capacity w = one w.down
   where
     one : List ℕ → Option (World StreamState)
     one [] = None

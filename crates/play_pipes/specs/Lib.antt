@@ -4,3 +4,4 @@ pub mod Together
 pub mod Finishing
 pub mod Laws
 pub mod Inside
+pub mod Holding

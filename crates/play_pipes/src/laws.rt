@@ -1,4 +1,5 @@
 //! Laws of the whole: player and board joined by two bounded pipes.
+ghost use Rattle.play_pipes.specs.Holding.{WhatIsJoinedHoldsWhatIsOwed};
 ghost use Rattle.play_pipes.specs.Inside.{ALossNamesWhatIsInWork, FewEventsMoveSomething, OnlyALoseLoses};
 ghost use Rattle.play_pipes.specs.Inside.{SomethingCanMoveUntilItIsOver, WhatIsJoinedStaysInsideTheFullPlay};
 ghost use Rattle.play_pipes.specs.Laws.{WhatIsFoundFirstIsWhatStops, WhatIsJoinedEndsAsTheFullPlay};
@@ -32,6 +33,13 @@ pub fn what_is_found_first_is_what_stops()
 /// hold exactly what was sent and not yet taken.
 pub fn what_is_joined_stays_inside_the_full_play()
     ensures { WhatIsJoinedStaysInsideTheFullPlay }
+{}
+
+/// The down pipe holds bytes of the protocol and the up pipe answers `0` and `1`; as many answers are owed as are asked
+/// for in the one and stand in the other; and `Q` stands last in the down pipe from when it is given out until the board
+/// takes it.
+pub fn what_is_joined_holds_what_is_owed()
+    ensures { WhatIsJoinedHoldsWhatIsOwed }
 {}
 
 /// While a play has neither ended nor been lost, an event that puts, serves or takes one byte moves it. So `finish`

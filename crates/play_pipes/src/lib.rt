@@ -14,8 +14,9 @@ pub use joined::Joined;
 pub use laws::{
     a_loss_names_what_is_in_work, few_events_move_something, only_a_lose_loses,
     something_can_move_until_it_is_over, what_is_found_first_is_what_stops,
-    what_is_joined_ends_as_the_full_play, what_is_joined_means_the_program,
-    what_is_joined_stays_inside_the_full_play, what_plays_on_means_the_whole_program,
+    what_is_joined_ends_as_the_full_play, what_is_joined_holds_what_is_owed,
+    what_is_joined_means_the_program, what_is_joined_stays_inside_the_full_play,
+    what_plays_on_means_the_whole_program,
 };
 pub use pipes::{Pipes, Unjoined};
 pub use standing::Standing;

@@ -8,7 +8,7 @@ ghost use Rattle.bitbang_protocol.specs.Protocol.{decode};
 ghost use Rattle.scan_vectors.specs.Failures.{found};
 ghost use Rattle.play_model.specs.Events.{empty_pipes, happens, has_room, bytes_moved, moving, put_bytes, run, served};
 ghost use Rattle.play_model.specs.Events.{take_answers};
-ghost use Rattle.play_pipes.specs.Joining.{event_of, serve_one, side};
+ghost use Rattle.play_pipes.specs.Joining.{event_of, one_byte_served, side};
 ghost use Rattle.play_pipes.specs.Standing.{ended_of, is_over};
 ghost use Rattle.play_pipes.specs.Together.{is_quit};
 ghost use Rattle.play_links.specs.Leaving.{left_behind};
@@ -240,9 +240,9 @@ impl Pipes {
 
     /// Lets the board take one byte, unless it is an `R` whose answer has no room. Answers whether it took one.
     fn serve_byte(&mut self) -> bool
-        ensures taken { result ≡ is_some (serve_one self.old.up_room self.old.world) }
+        ensures taken { result ≡ is_some (one_byte_served self.old.up_room self.old.world) }
         ensures world { self.new ≡ record self.old {
-          world = unwrap_or (serve_one self.old.up_room self.old.world) self.old.world;
+          world = unwrap_or (one_byte_served self.old.up_room self.old.world) self.old.world;
         } }
     {
         let Some(byte) = self.down.front() else {

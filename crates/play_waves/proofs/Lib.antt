@@ -19,3 +19,6 @@ pub mod Strokes
 pub mod Times
 pub mod Unmoved
 pub mod Words
+pub mod CodeLaws
+pub mod DrawnLaws
+pub mod FrontLaws

@@ -16,4 +16,11 @@ wave_rows = record {
   opening_is_none = refl;
   short_rest = refl;
   long_rest = refl;
+  short_waits = refl;
+  long_waits = refl;
+  scan_row = refl;
+  stopped = refl;
+  heading_of_two = rw (decimal_digit 2 (omega arith)) refl;
+  net_row = refl;
+  trst_row = refl;
 }

@@ -1,13 +1,16 @@
 pub mod Codes
 pub mod Drawing
+pub mod Fronts
 pub mod Heading
 pub mod Holding
 pub mod Pens
 pub mod Periods
 pub mod Quiet
 pub mod Rows
+pub mod Samples
 pub mod Settled
 pub mod Shifted
 pub mod Texts
 pub mod Values
 pub mod Waves
+pub mod Laws

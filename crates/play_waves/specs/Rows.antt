@@ -1,13 +1,18 @@
--- Worked rows of waves of one bare device: each text was computed by a program of its own.
-use Rattle.std.specs.Prelude.{◌≡◌, true, false, List, [], ◌∷◌, ◌++◌, Some, None, codes, replicate, flat_map}
+-- Worked rows of waves, of one bare device and of a board of two: each text was computed by a program of its own.
+use Rattle.std.specs.Prelude.{◌≡◌, true, false, ℕ, List, [], ◌∷◌, ◌++◌, Some, None, codes, drop, flat_map, replicate}
+use Rattle.std.specs.Prelude.{take}
 use Rattle.bitbang_protocol.specs.declared.Message.{Message}
 use Rattle.bitbang_protocol.specs.declared.Message.TheVariants.{Write}
 use Rattle.board_model.specs.Bare.{bare_board}
+use Rattle.board_model.specs.Chain.{BoardState}
+use Rattle.play_model.specs.Play.{turns}
+use Rattle.svf_programs.specs.Steps.{Numbered}
 use Rattle.play_waves.specs.Codes.{code}
-use Rattle.play_waves.specs.Drawing.{after_drawing, draw}
+use Rattle.play_waves.specs.Drawing.{after_drawing, draw, stamp}
 use Rattle.play_waves.specs.Heading.{heading}
 use Rattle.play_waves.specs.Pens.{Pen, begun}
-use Rattle.play_waves.specs.Waves.{begins}
+use Rattle.play_waves.specs.Samples.{asserting, delayed, driving, pair, selecting, waiting}
+use Rattle.play_waves.specs.Waves.{begins, wave}
 
 abbrev pub fresh : Pen
 fresh = begun (bare_board 1)
@@ -17,6 +22,34 @@ cycle = Write false false false ∷ Write true false false ∷ []
 
 abbrev pub resets : List Message
 resets = Write false true false ∷ Write true true false ∷ []
+
+-- the messages of the first so many turns, of which the opening is one
+abbrev pub messages_of : (count : ℕ) → List Numbered → List Message
+messages_of count steps = flat_map (λ t. t.messages) (take count (turns steps))
+
+-- The wave behind so many turns, which took no time. From there on TCK low lasts 1 ps and TCK high none.
+abbrev pub wave_behind : (count : ℕ) → List Numbered → BoardState → List ℕ
+wave_behind count steps b =
+    wave (λ command. 1) None (drop count (turns steps)) (after_drawing 0 (messages_of count steps) (begun b))
+
+-- What is written at a time: the lines of what changed.
+pub record Written : Type 0 where
+  pub time : ℕ
+  pub lines : List ℕ
+
+abbrev pub at : ℕ → List ℕ → Written
+at time lines = record { time = time; lines = lines }
+
+abbrev pub written : Written → List ℕ
+written w = stamp w.time ++ w.lines
+
+abbrev pub all_written : List Written → List ℕ
+all_written [] = []
+all_written (w ∷ ws) = written w ++ all_written ws
+
+-- a turn: its number, and its messages one after another
+abbrev pub turn : Written → List Written → List ℕ
+turn number messages = written number ++ all_written messages
 
 pub record WaveRows : Type 0 where
   pub first_code : code 0 ≡ codes "!"
@@ -42,3 +75,53 @@ pub record WaveRows : Type 0 where
   -- one more: TCK is unknown from its high half on
   pub long_rest : (after_drawing 2 (flat_map (λ ms. ms) (replicate 5 resets ++ replicate 66 cycle)) fresh).marks
       ≡ record { tck = None; tms = Some false; tdi = Some false; time = 142; rested = 129 }
+  -- the TCK low that ends each statement counts too
+  pub short_waits : (after_drawing 2 (messages_of 43 (replicate 42 waiting)) fresh).marks
+      ≡ record { tck = Some false; tms = Some false; tdi = Some false; time = 141; rested = 128 }
+  pub long_waits : (after_drawing 2 (messages_of 44 (replicate 43 waiting)) fresh).marks
+      ≡ record { tck = None; tms = Some false; tdi = Some false; time = 144; rested = 129 }
+  -- BYPASS gives the 1 out one cycle late, while TDO is driven
+  pub scan_row : wave_behind 1 (delayed ∷ []) (bare_board 1)
+      ≡ turn (at 0 (codes "b1 &\n"))
+          (at 0 [] ∷ at 1 (codes "1!\nb1100 '\nsIDLE (\n") ∷ at 1 (codes "0!\n1\"\n")
+          ∷ at 2 (codes "1!\nb0111 '\nsDRSELECT (\n") ∷ at 2 (codes "0!\n0\"\n")
+          ∷ at 3 (codes "1!\nb0110 '\nsDRCAPTURE (\n") ∷ at 3 (codes "0!\n")
+          ∷ at 4 (codes "1!\nb0010 '\nsDRSHIFT (\n") ∷ at 4 (codes "0!\n1#\n0$\n") ∷ at 5 (codes "1!\n")
+          ∷ at 5 (codes "0!\n1\"\n0#\n1$\n") ∷ at 6 (codes "1!\nb0001 '\nsDREXIT1 (\n")
+          ∷ at 6 (codes "0!\nz$\n") ∷ at 7 (codes "1!\nb0101 '\nsDRUPDATE (\n") ∷ at 7 (codes "0!\n0\"\n")
+          ∷ at 8 (codes "1!\nb1100 '\nsIDLE (\n") ∷ at 8 (codes "0!\n") ∷ [])
+      ++ (stamp 9 ++ [])
+  -- what stands behind the statement that fails is not drawn
+  pub stopped : wave (λ command. 1) (Some 1) (drop 1 (turns (delayed ∷ driving ∷ asserting ∷ [])))
+      (after_drawing 0 (messages_of 1 []) fresh)
+      ≡ wave_behind 1 (delayed ∷ []) (bare_board 1)
+  pub heading_of_two : heading (begun pair)
+      ≡ codes "$timescale 1 ps $end\n$scope module board $end\n$scope module tap $end\n$var wire 1 ! TCK $end\n"
+      ++ (codes "$var wire 1 \" TMS $end\n$var wire 1 # TDI $end\n$var wire 1 $ TDO $end\n"
+      ++ (codes "$var wire 1 % TRST $end\n$var integer 32 & statement $end\n$upscope $end\n$scope module U1 $end\n"
+      ++ (codes "$var reg 4 ' state $end\n$var string 1 ( word $end\n$var reg 2 ) instruction $end\n$upscope $end\n"
+      ++ (codes "$scope module U2 $end\n$var reg 4 * state $end\n$var string 1 + word $end\n"
+      ++ (codes "$var reg 2 , instruction $end\n$upscope $end\n$var wire 1 - N $end\n$upscope $end\n"
+      ++ (codes "$enddefinitions $end\n#0\n$dumpvars\n0!\nx\"\nx#\nz$\n1%\nb0 &\n"
+      ++ codes "b1111 '\nsRESET (\nb11 )\nb1111 *\nsRESET +\nb11 ,\nz-\n$end\n"))))))
+  -- Q drives a 1 from the falling edge in DRUPDATE on
+  pub net_row : wave_behind 2 (selecting ∷ driving ∷ []) pair
+      ≡ turn (at 0 (codes "b10 &\n"))
+          (at 0 (codes "1\"\n") ∷ at 1 (codes "1!\nb0111 '\nsDRSELECT (\nb0111 *\nsDRSELECT +\n")
+          ∷ at 1 (codes "0!\n0\"\n") ∷ at 2 (codes "1!\nb0110 '\nsDRCAPTURE (\nb0110 *\nsDRCAPTURE +\n")
+          ∷ at 2 (codes "0!\n") ∷ at 3 (codes "1!\nb0010 '\nsDRSHIFT (\nb0010 *\nsDRSHIFT +\n")
+          ∷ at 3 (codes "0!\n1#\n0$\n") ∷ at 4 (codes "1!\n") ∷ at 4 (codes "0!\n") ∷ at 5 (codes "1!\n")
+          ∷ at 5 (codes "0!\n1\"\n0#\n") ∷ at 6 (codes "1!\nb0001 '\nsDREXIT1 (\nb0001 *\nsDREXIT1 +\n")
+          ∷ at 6 (codes "0!\nz$\n") ∷ at 7 (codes "1!\nb0101 '\nsDRUPDATE (\nb0101 *\nsDRUPDATE +\n")
+          ∷ at 7 (codes "0!\n0\"\n1-\n") ∷ at 8 (codes "1!\nb1100 '\nsIDLE (\nb1100 *\nsIDLE +\n")
+          ∷ at 8 (codes "0!\n") ∷ [])
+      ++ (stamp 9 ++ [])
+  -- TRST resets U1 at once, and Q drives nothing more; five cycles bring U2 after it
+  pub trst_row : wave_behind 3 (selecting ∷ driving ∷ asserting ∷ []) pair
+      ≡ turn (at 0 (codes "b11 &\n"))
+          (at 0 (codes "0%\nb1111 '\nsRESET (\nb11 )\nz-\n") ∷ at 1 (codes "1\"\n")
+          ∷ at 2 (codes "1!\nb0111 *\nsDRSELECT +\n") ∷ at 2 (codes "0!\n")
+          ∷ at 3 (codes "1!\nb0100 *\nsIRSELECT +\n") ∷ at 3 (codes "0!\n")
+          ∷ at 4 (codes "1!\nb1111 *\nsRESET +\n") ∷ at 4 (codes "0!\n") ∷ at 5 (codes "1!\n")
+          ∷ at 5 (codes "0!\n") ∷ at 6 (codes "1!\n") ∷ at 6 (codes "0!\n0\"\n") ∷ [])
+      ++ (stamp 7 ++ [])

@@ -1,6 +1,28 @@
-//! Worked waves.
+//! What holds of every wave, and worked waves.
 
+ghost use Rattle.play_waves.specs.Laws.{CodesDiffer, CodesSuffice, EachStepTakesItsCycles, TdoDrawnIsTheAnswer};
+ghost use Rattle.play_waves.specs.Laws.{TimeGoesOn, WhatIsDrawnIsTheBoard};
 ghost use Rattle.play_waves.specs.Rows.{WaveRows};
+
+/// Behind any messages what is drawn is the board that took them; and TDO as it is drawn then is the byte with which the
+/// board answers `R`, but where it is undriven.
+pub fn what_is_drawn_is_played()
+    ensures board { WhatIsDrawnIsTheBoard }
+    ensures tdo { TdoDrawnIsTheAnswer }
+{}
+
+/// No two variables of a wave have one code (IEEE Std 1364-2001, clause 18), and there are enough for the largest board.
+pub fn codes_differ()
+    ensures differ { CodesDiffer }
+    ensures suffice { CodesSuffice }
+{}
+
+/// Messages last one after another, up to the last time that is told; a step lasts a period for each of its cycles, and
+/// for each message of TRST, and half a period of the low level that closes its cycles.
+pub fn each_step_takes_its_cycles()
+    ensures messages { TimeGoesOn }
+    ensures steps { EachStepTakesItsCycles }
+{}
 
 /// What is drawn of these messages, computed from the definitions.
 pub fn waves_compute()

@@ -9,6 +9,7 @@ mod binary;
 mod changes;
 mod codes;
 mod drawing;
+mod fronts;
 mod heading;
 mod holding;
 mod laws;
@@ -22,7 +23,8 @@ mod steps;
 mod texts;
 mod waves;
 
-pub use laws::waves_compute;
+pub use fronts::begins_as_waves;
+pub use laws::{codes_differ, each_step_takes_its_cycles, waves_compute, what_is_drawn_is_played};
 pub use stage::Stage;
 pub use texts::{Undrawn, draw_text, status_behind};
 pub use waves::write_waves;

@@ -27,7 +27,7 @@ use Rattle.player.specs.declared.progress.Phase.{Phase}
 use Rattle.player.specs.declared.progress.Phase.TheVariants.{Opening, Within, Over}
 use Rattle.player.specs.declared.progress.Progress.{Progress}
 use Rattle.play_schedules.specs.InWork.{answers_in}
-use Rattle.player.specs.Kept.{IsKeptOf, Keeping, keeping}
+use Rattle.player.specs.Findings.{IsKeptOf, Keeping, keeping}
 use Rattle.player.specs.Progress.{InPhase, InStep, IsOver, IsProgressOf, over, standing_at, state_of, vector_bits}
 use Rattle.player.specs.PlaceInPlay.{PlaceInPlay, differing_bit, finding_of}
 use Rattle.player.proofs.Ahead.{ahead, owes}

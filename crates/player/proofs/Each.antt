@@ -4,7 +4,7 @@ use Rattle.play_model.specs.Playing.{up_to_bad}
 use Rattle.play_model.specs.Streams as stream
 use Rattle.play_model.specs.Streams.{StreamState, answers_taken, hear, hear_bytes}
 use Rattle.player.specs.Each.{hear_each}
-use Rattle.player.specs.Kept.{IsKeptOf, Keeping, keeping}
+use Rattle.player.specs.Findings.{IsKeptOf, Keeping, keeping}
 use Rattle.player.proofs.AnswersTaken.{takes-none}
 use Rattle.player.proofs.Keeping.{owes-same, takes-same}
 

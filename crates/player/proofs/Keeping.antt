@@ -12,7 +12,7 @@ use Rattle.play_model.specs.Streams as stream
 use Rattle.play_model.specs.Streams.{StreamState, command_at, command_at_work, may_send, turns_of, new_stream, answers_taken, bytes_to_send}
 use Rattle.player.specs.declared.progress.Phase.TheVariants.{Opening}
 use Rattle.player.specs.declared.progress.Progress.{Progress}
-use Rattle.player.specs.Kept.{IsKeptOf, Keeping, keeping}
+use Rattle.player.specs.Findings.{IsKeptOf, Keeping, keeping}
 use Rattle.player.specs.PlaceInPlay.{finding_of}
 use Rattle.player.specs.Progress.{IsProgressOf, is_out, state_of}
 use Rattle.player.proofs.AnswersTaken.{owed-so}

@@ -6,7 +6,7 @@ use Rattle.play_model.specs.declared.kind.Kind.TheVariants.{Stops, PlaysOn}
 use Rattle.play_model.specs.PlayingOn.{Mismatch}
 use Rattle.play_model.specs.Streams.{Found, count_kept, most_kept, stops_for, with_more}
 use Rattle.scan_vectors.specs.Failures.{with_found}
-use Rattle.player.specs.Kept.{IsCounted}
+use Rattle.player.specs.Findings.{IsCounted}
 
 take-most : {A : Type 0} (n : ℕ) (l : List A) → length l ≤ n → take n (l ++ []) ≡ l
 take-most zero [] le = refl

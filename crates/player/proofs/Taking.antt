@@ -12,7 +12,7 @@ use Rattle.play_model.specs.Streams as stream
 use Rattle.play_model.specs.Streams.{StreamState, answers_taken, hear, hear_bytes, stops_for, with_more}
 use Rattle.player.specs.declared.progress.Progress.{Progress}
 use Rattle.player.specs.Each.{hear_each}
-use Rattle.player.specs.Kept.{IsKeptOf, Keeping, keeping}
+use Rattle.player.specs.Findings.{IsKeptOf, Keeping, keeping}
 use Rattle.player.specs.PlaceInPlay.{differing_bit}
 use Rattle.player.specs.Progress.{IsProgressOf, standing_at, state_of, vector_bits}
 use Rattle.player.specs.Taking.{TakesFirst, behind_answers}

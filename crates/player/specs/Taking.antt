@@ -3,7 +3,7 @@ use Rattle.std.specs.Prelude.{◌≡◌, ◌≤◌, ◌+◌, ◌-◌, ◌++◌, 
 use Rattle.svf_programs.specs.Steps.{Program}
 use Rattle.play_model.specs.Streams.{answers_taken, hear_bytes}
 use Rattle.player.specs.Each.{hear_each}
-use Rattle.player.specs.Kept.{IsKeptOf, Keeping, keeping}
+use Rattle.player.specs.Findings.{IsKeptOf, Keeping, keeping}
 use Rattle.player.specs.Progress.{IsProgressOf, state_of}
 use Rattle.player.specs.declared.progress.Progress.{Progress}
 use Rattle.player.specs.Window.{window}

@@ -87,7 +87,14 @@ fn is_held(bytes: &StepBytes<'_>, owed: usize) -> bool
     ensures free { result ≡ false → owed ≡ window → (b : ℕ) (rest : List ℕ) → left bytes.now ≡ b ∷ rest
         → (b == ask_byte) ≡ false }
 {
-    owed == WINDOW && asks_next(bytes)
+    is_full(owed) && asks_next(bytes)
+}
+
+/// Whether as many answers are owed as may be.
+pub(crate) fn is_full(owed: usize) -> bool
+    ensures { result ≡ (owed == window) }
+{
+    owed == WINDOW
 }
 
 /// Whether the next byte asks for TDO.

@@ -14,14 +14,14 @@ ghost use Rattle.play_model.specs.PlayingOn as playing_on;
 ghost use Rattle.play_model.specs.Streams.{hear_bytes, answers_taken, stops_for, with_more};
 ghost use Rattle.play_model.specs.Streams as stream;
 ghost use Rattle.player.specs.Each.{hear_each};
-ghost use Rattle.player.specs.Kept.{IsKeptOf, keeping};
+ghost use Rattle.player.specs.Findings.{IsKeptOf, keeping};
 ghost use Rattle.player.specs.Progress.{IsProgressOf, state_of, vector_bits};
 ghost use Rattle.player.specs.PlaceInPlay.{differing_bit};
 ghost use Rattle.player.specs.Taking as taking;
 ghost use Rattle.player.specs.Taking.{TakesFirst};
 ghost use Rattle.player.specs.Window.{window};
 
-use crate::kept::Kept;
+use crate::findings::Findings;
 use crate::progress::Progress;
 use crate::word_ahead::WordAhead;
 use bitbang::read_answer;
@@ -33,7 +33,7 @@ use svf_programs::{Action, Program, Step};
 pub(crate) fn hear(
     program: &Program,
     p: Progress,
-    kept: &mut Kept,
+    kept: &mut Findings,
     bytes: &[u8],
 ) -> (Progress, usize)
     requires stands { IsProgressOf program.now.steps p }
@@ -93,7 +93,7 @@ fn hear_some(
     vector: &Vector<'_>,
     ahead: &mut WordAhead,
     p: Progress,
-    kept: &mut Kept,
+    kept: &mut Findings,
     bytes: &[u8],
 ) -> (Progress, usize)
     requires ahead { IsAhead (bits vector.now) ahead.old }
@@ -115,8 +115,8 @@ fn hear_some(
     (hear_one(program, step, vector, p, kept, bytes[0]), 1)
 }
 
-/// Takes answers as long as each is as the next wanted bit is to be, as words tell. A player that stops takes none
-/// so.
+/// Takes answers as long as each is as the next wanted bit is to be, as words tell. A player that stops, since a bit
+/// differed, takes none so.
 ///
 /// Of these nothing but their number changes, so where the player stands is made once, behind them.
 fn hear_expected(
@@ -125,7 +125,7 @@ fn hear_expected(
     vector: &Vector<'_>,
     ahead: &mut WordAhead,
     p: Progress,
-    kept: &Kept,
+    kept: &Findings,
     bytes: &[u8],
 ) -> (Progress, usize)
     requires ahead { IsAhead (bits vector.now) ahead.old }
@@ -190,7 +190,7 @@ fn hear_one(
     step: &Step<'_>,
     vector: &Vector<'_>,
     p: Progress,
-    kept: &mut Kept,
+    kept: &mut Findings,
     byte: u8,
 ) -> Progress
     requires stands { IsProgressOf program.now.steps p }
@@ -226,7 +226,7 @@ fn after_judging(
     command: usize,
     vector: &Vector<'_>,
     p: Progress,
-    kept: &mut Kept,
+    kept: &mut Findings,
     bit: bool,
 ) -> Progress
     requires room { kept.old.found.total + 1 < 2 ^ 64 }
@@ -253,7 +253,7 @@ fn after_next(
     command: usize,
     vector: &Vector<'_>,
     p: Progress,
-    kept: &mut Kept,
+    kept: &mut Findings,
     bit: bool,
 ) -> Progress
     requires goes_on { stops_for kept.old.kind kept.old.found.list ≡ false }

@@ -1,9 +1,9 @@
 //! The player of a program: it gives out the bytes of the play and takes the answers, and keeps none of them.
 #![tactic(auto)]
 
+mod findings;
 mod giving;
 mod hearing;
-mod kept;
 mod pieces;
 mod player;
 mod progress;
@@ -13,4 +13,3 @@ mod word_ahead;
 
 pub use player::Player;
 pub use scan_vectors::{Failures, Mismatch};
-pub use shown::Shown;

@@ -6,7 +6,7 @@ ghost use Rattle.player.specs.Progress.{Gives, HasWorkLeft, IsProgressOf, state_
 ghost use Rattle.player.specs.Window.{window};
 ghost use Rattle.play_model.specs.Streams.{bytes_to_send};
 
-use crate::giving::{WINDOW, give};
+use crate::giving::{give, is_full};
 use crate::progress::{OPENING, Phase, Progress, turn_at_work};
 use bitbang::{Spot, StepBytes};
 use svf_programs::Program;
@@ -112,7 +112,7 @@ fn begun_piece(
     }
     let (byte, next) = spot.begun_byte()?;
     let asks = byte == b'R';
-    if asks && p.owed == WINDOW {
+    if asks && is_full(p.owed) {
         return None;
     }
     buffer[0] = byte;

@@ -1,17 +1,16 @@
 //! The player of a program.
 
-ghost use Rattle.std.specs.Prelude.{◌≡◌, ◌+◌, ◌-◌, ◌^◌, ◌↔◌, ◌++◌, IsTrue, IsOk, IfOk, length, min, take, drop};
+ghost use Rattle.std.specs.Prelude.{◌≡◌, ◌+◌, ◌-◌, ◌^◌, ◌↔◌, ◌++◌, ◌≤◌, IsTrue, IsOk, IfOk, length, min, take, drop};
 ghost use Rattle.svf_programs.specs.Sizes.{program_of};
 ghost use Rattle.scan_vectors.specs.Failures.{found};
 ghost use Rattle.play_model.specs.declared.kind.Kind.TheVariants.{Stops, PlaysOn};
 ghost use Rattle.play_model.specs.Streams as stream;
 ghost use Rattle.play_model.specs.Streams.{new_stream, hear_bytes, answers_taken, bytes_to_send};
 ghost use Rattle.player.specs.Each.{hear_each};
-ghost use Rattle.player.specs.Shown.{IsShown};
 ghost use Rattle.player.specs.Window.{window};
 
+use crate::findings::Findings;
 use crate::hearing::hear;
-use crate::kept::Kept;
 use crate::pieces::fill;
 use crate::progress::{Phase, Progress};
 use crate::shown::Shown;
@@ -33,7 +32,9 @@ use svf_programs::Program;
 pub struct Player {
     program: Program,
     progress: Progress,
-    kept: Kept,
+    kept: Findings,
+    /// What was shown ahead of where it stands.
+    shown: Option<Shown>,
 }
 
 impl Model for Player {
@@ -41,14 +42,19 @@ impl Model for Player {
 
     ghost Value = { StreamState };
 
+    ghost use Rattle.std.specs.Prelude.{IfSome};
     ghost use Rattle.svf_programs.specs.Sizes.{program_of};
-    ghost use Rattle.player.specs.Kept.{IsKeptOf, keeping};
+    ghost use Rattle.player.specs.Findings.{IsKeptOf, keeping};
     ghost use Rattle.player.specs.Progress.{IsProgressOf, state_of};
+    ghost use Rattle.player.specs.Shown.{IsShown};
 
     ghost view = { λ p. keeping p.kept (state_of (program_of p.program) p.progress) };
 
-    ghost invariant = { λ p. IsProgressOf p.program.steps p.progress
-        × IsKeptOf (state_of (program_of p.program) p.progress) p.kept };
+    ghost invariant = { λ p. record {
+      stands : IsProgressOf p.program.steps p.progress;
+      keeps : IsKeptOf (state_of (program_of p.program) p.progress) p.kept;
+      shown : IfSome p.shown (IsShown (keeping p.kept (state_of (program_of p.program) p.progress)));
+    } };
 }
 
 impl Player {
@@ -77,7 +83,8 @@ impl Player {
         Player {
             program,
             progress: Progress::opening(),
-            kept: Kept::new(kind),
+            kept: Findings::new(kind),
+            shown: None,
         }
     }
 
@@ -100,6 +107,7 @@ impl Player {
         }
         let (progress, count) = fill(&self.program, self.progress, buffer);
         self.progress = progress;
+        self.shown = None;
         count
     }
 
@@ -116,27 +124,35 @@ impl Player {
         0
     }
 
-    /// Fills the buffer as `show_bytes` does. Answers how many bytes they are, and where the player stands once they
-    /// are given out: a link whose writer took them all hands that to `give_shown`, and they are not made twice.
-    pub fn show_ahead(&self, buffer: &mut [u8]) -> Shown
-        ensures count { result.count ≡ min (length buffer.old) (length (bytes_to_send window self.now)) }
-        ensures bytes { buffer.new
-            ≡ take result.count (bytes_to_send window self.now) ++ drop result.count buffer.old }
-        ensures shown { IsShown self.now result }
+    /// Fills the buffer as `show_bytes` does, and keeps where the player stands once these bytes are given out: where a
+    /// writer takes them all, `give_out` does not make them once more.
+    pub fn show_ahead(&mut self, buffer: &mut [u8]) -> usize
+        ensures count { result ≡ min (length buffer.old) (length (bytes_to_send window self.old)) }
+        ensures bytes { buffer.new ≡ take result (bytes_to_send window self.old) ++ drop result buffer.old }
+        ensures player { self.new ≡ self.old }
     {
         if self.progress.bad.is_none() {
             let (progress, count) = fill(&self.program, self.progress, buffer);
-            return Shown::new(count, progress);
+            self.shown = Some(Shown { count, progress });
+            return count;
         }
-        Shown::new(0, self.progress)
+        0
     }
 
-    /// Gives out the bytes that were shown, all of them.
-    pub fn give_shown(&mut self, shown: Shown)
-        requires { IsShown self.old shown }
-        ensures { self.new ≡ record self.old { given = self.old.given + shown.count } }
+    /// Gives out the next bytes that may be sent, as many as a writer has taken (asked: no more than may be sent).
+    /// Where they are not all that was shown ahead, they are written into `taken` once more.
+    pub fn give_out(&mut self, taken: &mut [u8])
+        requires { length taken.old ≤ length (bytes_to_send window self.old) }
+        ensures { self.new ≡ record self.old { given = self.old.given + length taken.old } }
     {
-        self.progress = shown.progress();
+        if let Some(shown) = self.shown {
+            if shown.count == taken.len() {
+                self.progress = shown.progress;
+                self.shown = None;
+                return;
+            }
+        }
+        self.next_bytes(taken);
     }
 
     /// How many answers are owed: those to the `R`s that were given out, without the answers taken; none once the play
@@ -159,6 +175,7 @@ impl Player {
     {
         let (progress, count) = hear(&self.program, self.progress, &mut self.kept, bytes);
         self.progress = progress;
+        self.shown = None;
         count
     }
 
@@ -169,6 +186,7 @@ impl Player {
     {
         let (progress, _) = hear(&self.program, self.progress, &mut self.kept, bytes);
         self.progress = progress;
+        self.shown = None;
     }
 
     /// How the play ended: set once `Q` was given out, or after a bad answer.

@@ -4,18 +4,18 @@ ghost use Rattle.std.specs.Prelude.{◌≡◌, ◌-◌, ◌^◌, min};
 ghost use Rattle.svf_programs.specs.Sizes.{program_of};
 ghost use Rattle.play_model.specs.PlayingOn.{ending_of};
 ghost use Rattle.play_model.specs.Streams as stream;
-ghost use Rattle.player.specs.Kept.{IsKeptOf, keeping};
+ghost use Rattle.player.specs.Findings.{IsKeptOf, keeping};
 ghost use Rattle.player.specs.Progress.{IsProgressOf, is_out, state_of};
 ghost use Rattle.player.specs.Window.{window};
 
-use crate::kept::Kept;
+use crate::findings::Findings;
 use crate::progress::{Phase, Progress, turn_at_work};
 use play_model::Ending;
 use scan_vectors::Mismatch;
 use svf_programs::Program;
 
 /// How the play ended, if it did.
-pub(crate) fn ended(program: &Program, p: Progress, kept: &Kept) -> Option<Ending>
+pub(crate) fn ended(program: &Program, p: Progress, kept: &Findings) -> Option<Ending>
     requires stands { IsProgressOf program.now.steps p }
     requires keeps { IsKeptOf (state_of (program_of program.now) p) kept.now }
     ensures { result ≡ stream.ending_of_stream window (keeping kept.now (state_of (program_of program.now) p)) }
@@ -43,7 +43,7 @@ fn quit_is_out(p: Progress) -> bool
 }
 
 /// The verdict of a play of which `Q` is out.
-fn verdict(kept: &Kept) -> Ending
+fn verdict(kept: &Findings) -> Ending
     ensures { result ≡ ending_of kept.now.found.list }
 {
     match kept.first() {

@@ -135,9 +135,8 @@ fn show_and_take(player: &mut Player, board: &mut Board) -> u64 {
     let mut buffer = [0; PIECE];
     let mut given: u64 = 0;
     for _ in 0..ROUNDS {
-        let shown = player.show_ahead(&mut buffer);
-        let count = shown.count();
-        player.give_shown(shown);
+        let count = player.show_ahead(&mut buffer);
+        player.give_out(&mut buffer[..count]);
         given = given.wrapping_add(count as u64);
         take(board, &buffer[..count], Some(&mut *player));
     }

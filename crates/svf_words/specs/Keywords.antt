@@ -15,7 +15,6 @@ use Rattle.svf_words.specs.declared.keywords.FieldName.{FieldName}
 use Rattle.svf_words.specs.declared.keywords.FieldName.TheVariants as field
 use Rattle.svf_words.specs.declared.keywords.Clock.{Clock}
 use Rattle.svf_words.specs.declared.keywords.Clock.TheVariants as clock
-use Rattle.svf_words.specs.declared.keywords.TheConstants.{COMMANDS, FIELDS, CLOCKS, TRST_WORDS}
 use Rattle.svf_words.specs.Words.{Word, reads}
 
 abbrev pub scan_word : Which → List ℕ
@@ -53,18 +52,34 @@ trst_word trst.Off = codes "OFF"
 trst_word trst.Z = codes "Z"
 trst_word trst.Absent = codes "ABSENT"
 
+-- All keywords of each kind. A word reads one of them at most, so their order says nothing.
+abbrev pub commands : List Command
+commands =
+    command.Scan scan.Sdr ∷ command.Scan scan.Sir ∷ command.RunTest ∷ command.State ∷ command.EndDr ∷ command.EndIr
+    ∷ command.Frequency ∷ command.Scan scan.Hdr ∷ command.Scan scan.Hir ∷ command.Scan scan.Tdr ∷ command.Scan scan.Tir
+    ∷ command.Trst ∷ command.Pio ∷ command.PioMap ∷ []
+
+abbrev pub fields : List FieldName
+fields = field.Tdi ∷ field.Tdo ∷ field.Mask ∷ field.Smask ∷ []
+
+abbrev pub clocks : List Clock
+clocks = clock.Tck ∷ clock.Sck ∷ []
+
+abbrev pub trst_words : List TrstWord
+trst_words = trst.On ∷ trst.Off ∷ trst.Z ∷ trst.Absent ∷ []
+
 -- what a word reads, if it does
 unfoldable pub command_of : Word → Option Command
-command_of w = find (λ c. reads w (command_word c)) COMMANDS
+command_of w = find (λ c. reads w (command_word c)) commands
 
 unfoldable pub field_of : Word → Option FieldName
-field_of w = find (λ f. reads w (field_word f)) FIELDS
+field_of w = find (λ f. reads w (field_word f)) fields
 
 unfoldable pub clock_of : Word → Option Clock
-clock_of w = find (λ c. reads w (clock_word c)) CLOCKS
+clock_of w = find (λ c. reads w (clock_word c)) clocks
 
 unfoldable pub trst_of : Word → Option TrstWord
-trst_of w = find (λ t. reads w (trst_word t)) TRST_WORDS
+trst_of w = find (λ t. reads w (trst_word t)) trst_words
 
 abbrev pub all_states : List State
 all_states =

@@ -8,7 +8,8 @@ use Rattle.pin_nets.specs.declared.Level.TheVariants.{Zero, One}
 use Rattle.pin_nets.specs.declared.Follow.{Follow}
 use Rattle.board_model.specs.Cells.{Member, powered}
 use Rattle.board_model.specs.Nets.{in_force, net_of, rounds}
-use Rattle.board_model.specs.Following.{HasNoLoop, IsOnCircle, Placed, after_strings}
+use Rattle.std.specs.List.{AllByRecursion}
+use Rattle.board_model.specs.Following.{AreFit, EveryStringHolds, HasNoCircle, HasNoLoop, IsOnCircle, Placed, after_strings}
 use Rattle.board_model.specs.Whole.{AtRest}
 use Rattle.board_model.specs.Resting.{power_up, board_at_rest}
 use Rattle.svf_programs.specs.Steps.{Numbered}
@@ -68,6 +69,11 @@ pub record FollowingRows : Type 0 where
       ≡ bits 3 3 ∷ bits 3 2 ∷ []
   -- no string of this board is on a circle
   pub no_loop : HasNoLoop two_following.nets two_following.members
+  -- so none depends on itself, its strings fit, and each of them holds under the bits in force
+  pub fit : AllByRecursion (λ m. AreFit m) two_following.members
+  pub no_circle : HasNoCircle two_following.nets two_following.members
+  pub each_holds : EveryStringHolds two_following.nets two_following.members
+      (in_force two_following.nets two_following.members)
   pub itself : IsOnCircle joined_to_itself (following_device false ∷ []) (net_of joined_to_itself 0 4)
       (net_of joined_to_itself 0 5)
   pub each_other : IsOnCircle crossed (following_device false ∷ following_device false ∷ []) (net_of crossed 0 4)

@@ -3,7 +3,7 @@ use Rattle.scan_vectors.specs.Held.{bits}
 use Rattle.svf_programs.specs.Seen.{numbered}
 use Rattle.svf_programs.specs.Sizes.{program_of}
 use Rattle.play_model.specs.Streams.{hear_bytes}
-use Rattle.player.specs.Kept.{keeping}
+use Rattle.player.specs.Findings.{keeping}
 use Rattle.player.specs.Progress.{state_of}
 use Rattle.player.specs.Taking.{TakesFirst}
 use Rattle.player.proofs.AnswersTaken.{asks-nothing, bad-owes, is-none, owed-so, takes-nothing}

@@ -7,7 +7,7 @@ use Rattle.player.specs.Progress.{rest_of}
 use Rattle.player.proofs.OneByte.{asked-is, asked_by, gives-byte}
 use Rattle.player.proofs.PlayerPlaces.{in-step}
 use Rattle.player.proofs.pieces.begun_piece.Goals as goal
-use Rattle.player.proofs.pieces.begun_piece.Goals.{else-asks-via-then-asks+else-p-eq-WINDOW, else-asks-via-else-asks}
+use Rattle.player.proofs.pieces.begun_piece.Goals.{else-asks-via-then-asks+else-is_full, else-asks-via-else-asks}
 
 pub returns-clause-gives : goal.returns-clause-gives
 returns-clause-gives c =
@@ -22,7 +22,7 @@ returns-clause-gives c =
     let there : rest_of p.place (drop p.at program.steps) next ≡ behind next cs = ap (λ (l : List Numbered). rest_of p.place l next) i.is in
     let asked : c.from.result ≡ asked_by byte = c.from.ensures ∙ asked-is byte in
     let allowed : p.owed + c.from.result ≤ 256 = elim c.else-asks.branch [
-      | else-asks-via-then-asks+else-p-eq-WINDOW w ↦ grind (arith, w.if-p-eq-WINDOW.false, w.if-asks.true, asked, i.allowed)
+      | else-asks-via-then-asks+else-is_full w ↦ grind (arith, sym w.is_full.ensures ∙ w.if-is_full.false, w.if-asks.true, asked, i.allowed)
       | else-asks-via-else-asks w ↦ grind (arith, w.if-asks.false, asked, i.allowed)
     ] in
     gives-byte program p spot next c.requires.is c.requires.stands c.requires.good c.args.buffer.now byte (p.owed + c.from.result)

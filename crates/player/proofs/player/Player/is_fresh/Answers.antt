@@ -9,7 +9,7 @@ pub returns-in-Opening-eq0 : goal.returns-in-Opening-eq0
 returns-in-Opening-eq0 c =
     let i = c.self.inside in
     let none : c.in-Opening-eq0.field-0 ≡ 0 = omega (arith, c.in-Opening-eq0.field-0-test) in (
-      λ _. sym c.self.view_is ∙ fresh-is (program_of i.program) i.progress c.self.invariant.0 i.kept c.self.invariant.1
+      λ _. sym c.self.view_is ∙ fresh-is (program_of i.program) i.progress c.self.invariant.stands i.kept c.self.invariant.keeps
           (c.in-Opening-eq0.is ∙ ap Opening none)
           ∙ ap (λ (s : StreamState). new_stream s.kind s.program) c.self.view_is,
       λ _. refl,
