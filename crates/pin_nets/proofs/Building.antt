@@ -15,7 +15,7 @@ use Rattle.pin_nets.specs.declared.Drive.{Drive}
 use Rattle.pin_nets.specs.declared.Drive.TheVariants.{Nothing}
 use Rattle.pin_nets.specs.declared.build.NetSpec.{NetSpec}
 use Rattle.pin_nets.specs.Building.{HasPinsBelow, net_value}
-use Rattle.pin_nets.specs.Levels.{NetValue, counts_of, drive_at, four, is_strong, is_weak, level, level_by, level_of, net_counts, one, pull_drive, reads}
+use Rattle.pin_nets.specs.Levels.{NetValue, counted, counts_of, drive_at, four, is_strong, is_weak, level_by, level_of, net_counts, one, pull_drive, reads}
 use Rattle.pin_nets.specs.Places.{has_pin, times, alone, lone_nets, IsOnce, HasNetOfEach, EntersPins, AddsLoneNets, AreShort, AllNone, Placed}
 use Rattle.pin_nets.proofs.Counting.{nobody, count-cons, on_none, some_of, past_end, eq_true, eq_false}
 
@@ -316,11 +316,11 @@ pub idle_nets : (n : ℕ) (nets : List NetValue) → map (λ x. four (counts_of 
 idle_nets n [] = refl
 idle_nets n (x ∷ nets) = ap (λ (c : Counts). four c ∷ map (λ y. four (counts_of (pull_drive y.pull ∷ []))) nets) (idle_net n x) ∙ ap (λ (r : List (List ℕ)). four (net_counts (replicate n Nothing) x) ∷ r) (idle_nets n nets)
 
-pub idle_seen : (n : ℕ) (nets : List NetValue) → map (λ x. reads (level_of (pull_drive x.pull ∷ []))) nets ≡ map (λ x. reads (level (replicate n Nothing) x)) nets
+pub idle_seen : (n : ℕ) (nets : List NetValue) → map (λ x. reads (level_of (pull_drive x.pull ∷ []))) nets ≡ map (λ x. reads (counted (replicate n Nothing) x)) nets
 idle_seen n [] = refl
 idle_seen n (x ∷ nets) =
     ap (λ (c : Counts). reads (level_by c) ∷ map (λ y. reads (level_of (pull_drive y.pull ∷ []))) nets) (idle_net n x)
-    ∙ ap (λ (r : List Bool). reads (level (replicate n Nothing) x) ∷ r) (idle_seen n nets)
+    ∙ ap (λ (r : List Bool). reads (counted (replicate n Nothing) x) ∷ r) (idle_seen n nets)
 
 pub all_none : (n : ℕ) (net_of : List (Option ℕ)) → net_of ≡ replicate n None → AllNone net_of
 all_none n net_of are = record {

@@ -1,13 +1,14 @@
 -- The numbers of drivers of each net, when one pin drives otherwise.
 use Rattle.std.proofs.Common.{◌≡◌, ◌≢◌, ℕ, ◌+◌, ◌*◌, ◌<◌, ◌≤◌, ◌^◌, ⊎_elim, Bool, true, false, not, ◌==◌, ◌||◌, nat_lt, if◌then◌else◌, List, [], ◌∷◌, length, get_or, set, map, Option, Some, None, unwrap_or, slice_get, refl, sym, ap, subst, ◌∙◌, arith}
-use Rattle.std.specs.Prelude.{count_by, cond, position}
-use Rattle.std.specs.List.{list_any, position_or_len}
+use Rattle.std.specs.Prelude.{count_by, cond, option_map, position}
+use Rattle.std.specs.List.{list_all, list_any, position_or_len}
 use Rattle.std.proofs.lemmas.Bool.{cases_eq, cases_lt}
 use Rattle.std.proofs.lemmas.Bool.Decides.{nat_tests}
 use Rattle.std.proofs.lemmas.List.{get_or-set_same, get_or-set_other, get_or-map, length-map, length-set}
+use Rattle.std.proofs.lemmas.List.Elements.{All-get_or}
 use Rattle.std.proofs.lemmas.List.FromFn.{fill_by_all}
 use Rattle.std.proofs.lemmas.List.Quantifiers.{position-Some}
-use Rattle.std.proofs.lemmas.List.Sums.{sum_by-cons, count_by-le-length, prefix_len_passes}
+use Rattle.std.proofs.lemmas.List.Sums.{AllPass-from_list_all, sum_by-cons, count_by-le-length, prefix_len_passes}
 use Rattle.std.proofs.lemmas.Option.{unwrap_or-slice_get, slice_get-get_or}
 use Rattle.pin_nets.specs.declared.Counts.{Counts}
 use Rattle.pin_nets.specs.declared.Drive.{Drive}
@@ -15,8 +16,10 @@ use Rattle.pin_nets.specs.declared.Drive.TheVariants.{Nothing}
 use Rattle.pin_nets.specs.declared.Level.{Level}
 use Rattle.pin_nets.specs.declared.Level.TheVariants.{Float}
 use Rattle.pin_nets.specs.declared.Pull.TheVariants.{Free}
-use Rattle.pin_nets.specs.Levels.{NetValue, four, net_counts, level, level_by, reads, Has, IsFew, Replaces, one, is_strong, is_weak, pull_drive, drive_at}
+use Rattle.pin_nets.specs.declared.Rule.TheVariants.{Counted}
+use Rattle.pin_nets.specs.Levels.{NetValue, four, net_counts, counted as counted_level, level, level_by, reads, Has, IsFew, Replaces, one, is_counted, is_strong, is_weak, pull_drive, drive_at, shown}
 use Rattle.pin_nets.specs.Rows.{IsRow, numbers}
+use Rattle.pin_nets.proofs.Leading.{counted_level as counted_level_is}
 use Rattle.pin_nets.specs.Places.{has_pin, times, IsOnce, Placed, AreShort}
 
 -- ---- one pin of a list of pins
@@ -102,6 +105,22 @@ four_same a b e =
     let w : a.weak_ones ≡ b.weak_ones = cc in
     λ i. record { strong_zeros = z i; strong_ones = o i; weak_zeros = v i; weak_ones = w i }
 
+-- a net that a pin is not on shows what it showed
+drives_off : (ds : List Drive) (p : ℕ) (d : Drive) (pins : List ℕ) → p < length ds → occ p pins ≡ 0 → map (drive_at (set ds p d)) pins ≡ map (drive_at ds) pins
+drives_off ds p d [] h none = refl
+drives_off ds p d (q ∷ pins) h none =
+    let many = count-cons (λ (k : ℕ). k == p) q pins in
+    ⊎_elim
+    (λ (same : q ≡ p). absurd (omega (arith, none, many, ap (λ (b : Bool). one b + occ p pins) (eq_true q p same))))
+    (λ apart.
+    let kept : drive_at (set ds p d) q ≡ drive_at ds q = driven (set ds p d) q ∙ get_or-set_other ds p q d Nothing apart ∙ sym (driven ds q) in
+    let later = drives_off ds p d pins h (omega (arith, none, many)) in
+    ap (λ (x : Drive). x ∷ map (drive_at (set ds p d)) pins) kept ∙ ap (λ (xs : List Drive). drive_at ds q ∷ xs) later)
+    (cases_eq q p)
+
+pub level_off : (ds : List Drive) (p : ℕ) (d : Drive) (x : NetValue) → p < length ds → times p x ≡ 0 → level (set ds p d) x ≡ level ds x
+level_off ds p d x h none = ap (λ (xs : List Drive). shown x.rule (pull_drive x.pull) xs) (drives_off ds p d x.pins h none)
+
 -- the pin's old drive is counted
 pub has_old : (ds : List Drive) (p : ℕ) (x : NetValue) → p < length ds → times p x ≡ 1 → Has (drive_at ds p) (net_counts ds x)
 has_old ds p x h once =
@@ -118,7 +137,7 @@ few ds x h =
 -- ---- the nets
 
 abbrev pub nobody : NetValue
-nobody = record { pull = Free; pins = [] }
+nobody = record { pull = Free; rule = Counted; pins = [] }
 
 pub past_end : (m len : ℕ) → (if nat_lt m len then Some m else None) ≡ None → len ≤ m
 past_end m len none = ⊎_elim
@@ -192,16 +211,16 @@ kept_off ds p d nets h none =
     (λ n k. ap four (sym (off_net ds p d (get_or nets n nobody) h (on_none p nets none n k))))
 
 abbrev pub seen : List Drive → List NetValue → List Bool
-seen ds nets = map (λ x. reads (level ds x)) nets
+seen ds nets = map (λ x. reads (counted_level ds x)) nets
 
 pub seen_off : (ds : List Drive) (p : ℕ) (d : Drive) (nets : List NetValue) → p < length ds → position (has_pin p) nets ≡ None → seen ds nets ≡ seen (set ds p d) nets
 seen_off ds p d nets h none =
-    same_map (λ x. reads (level ds x)) (λ x. reads (level (set ds p d) x)) false nets
+    same_map (λ x. reads (counted_level ds x)) (λ x. reads (counted_level (set ds p d) x)) false nets
     (λ n k. ap (λ (c : Counts). reads (level_by c)) (sym (off_net ds p d (get_or nets n nobody) h (on_none p nets none n k))))
 
 pub levels_off : (ds : List Drive) (p : ℕ) (d : Drive) (nets : List NetValue) → p < length ds → position (has_pin p) nets ≡ None → map (level ds) nets ≡ map (level (set ds p d)) nets
 levels_off ds p d nets h none =
-    same_map (level ds) (level (set ds p d)) Float nets (λ n k. ap level_by (sym (off_net ds p d (get_or nets n nobody) h (on_none p nets none n k))))
+    same_map (level ds) (level (set ds p d)) Float nets (λ n k. sym (level_off ds p d (get_or nets n nobody) h (on_none p nets none n k)))
 
 module _ (ds : List Drive) (p : ℕ) (d : Drive) (nets : List NetValue) (m : ℕ) (h : p < length ds) (on : OnNet p nets m) where
   abbrev net : NetValue
@@ -231,26 +250,26 @@ module _ (ds : List Drive) (p : ℕ) (d : Drive) (nets : List NetValue) (m : ℕ
 
   pub seen_on : (after : Counts) → Replaces (net_counts ds net) after (drive_at ds p) d → set (seen ds nets) m (reads (level_by after)) ≡ seen new nets
   seen_on after is =
-      let sees : ℕ → Bool = λ n. reads (level new (get_or nets n nobody)) in
+      let sees : ℕ → Bool = λ n. reads (counted_level new (get_or nets n nobody)) in
       let old = seen ds nets in
-      let long : length old ≡ length nets = length-map nets (λ x. reads (level ds x)) in
+      let long : length old ≡ length nets = length-map nets (λ x. reads (counted_level ds x)) in
       fill_by_all sees (set old m (reads (level_by after))) (length nets) false (length-set old m (reads (level_by after)) ∙ long)
       (λ n k. ⊎_elim
       (λ (e : n ≡ m).
       ap (λ (j : ℕ). get_or (set old m (reads (level_by after))) j false) e ∙ get_or-set_same old m (reads (level_by after)) false (omega (arith, long, on.inside))
       ∙ ap (λ (c : Counts). reads (level_by c)) (counted after is) ∙ ap sees (sym e))
       (λ apart.
-      get_or-set_other old m n (reads (level_by after)) false apart ∙ get_or-map (λ x. reads (level ds x)) nets n nobody false k
+      get_or-set_other old m n (reads (level_by after)) false apart ∙ get_or-map (λ x. reads (counted_level ds x)) nets n nobody false k
       ∙ ap (λ (c : Counts). reads (level_by c)) (sym (off_net ds p d (get_or nets n nobody) h (on.others n apart k))))
       (cases_eq n m))
-      ∙ sym (fill_by_all sees (seen new nets) (length nets) false (length-map nets (λ x. reads (level new x))) (λ n k. get_or-map (λ x. reads (level new x)) nets n nobody false k))
+      ∙ sym (fill_by_all sees (seen new nets) (length nets) false (length-map nets (λ x. reads (counted_level new x))) (λ n k. get_or-map (λ x. reads (counted_level new x)) nets n nobody false k))
 
   pub levels_same : level ds net ≡ level new net → map (level ds) nets ≡ map (level new) nets
   levels_same e =
       same_map (level ds) (level new) Float nets
       (λ n k. ⊎_elim
       (λ (at : n ≡ m). ap (λ (j : ℕ). level ds (get_or nets j nobody)) at ∙ e ∙ ap (λ (j : ℕ). level new (get_or nets j nobody)) (sym at))
-      (λ apart. ap level_by (sym (off_net ds p d (get_or nets n nobody) h (on.others n apart k))))
+      (λ apart. sym (level_off ds p d (get_or nets n nobody) h (on.others n apart k)))
       (cases_eq n m))
 
   pub level_same : map (level ds) nets ≡ map (level new) nets → level ds net ≡ level new net
@@ -270,6 +289,21 @@ pub before_is : (ds : List Drive) (nets : List NetValue) (counts : List (List �
 before_is ds nets counts m r before are h is named =
     four_same before (net_counts ds (get_or nets m nobody))
     (named ∙ is ∙ ap (λ (cs : List (List ℕ)). get_or cs m r) are ∙ get_or-map (λ x. four (net_counts ds x)) nets m nobody r h)
+
+pub shown_at : (ds : List Drive) (nets : List NetValue) (m : ℕ) (r : Level) → m < length nets → option_map (level ds) (slice_get nets m) ≡ Some r → r ≡ level ds (get_or nets m nobody)
+shown_at ds nets m r h is = same (sym is ∙ ap (option_map (level ds)) (there nets m h))
+  where
+    same : {x y : Level} → Some x ≡ Some y → x ≡ y
+    same e = cc
+
+pub seen_at : (ds : List Drive) (nets : List NetValue) (sights : List Bool) (m : ℕ) (r : Bool) → list_all (λ x. is_counted x.rule) nets ≡ true → sights ≡ seen ds nets → m < length nets
+    → r ≡ get_or sights m r → option_map (λ x. reads (level ds x)) (slice_get nets m) ≡ Some r
+seen_at ds nets sights m r all are h is =
+    let x = get_or nets m nobody in
+    let counts : is_counted x.rule ≡ true = All-get_or (λ y. is_counted y.rule ≡ true) nets m nobody h (AllPass-from_list_all (λ y. is_counted y.rule) nets all) in
+    ap (option_map (λ y. reads (level ds y))) (there nets m h)
+    ∙ ap (λ (l : Level). Some (reads l)) (sym (counted_level_is ds x counts))
+    ∙ ap Some (sym (is ∙ ap (λ (bs : List Bool). get_or bs m r) are ∙ get_or-map (λ y. reads (counted_level ds y)) nets m nobody r h))
 
 -- ---- the numbers of a net where they stand
 

@@ -6,7 +6,7 @@ use Rattle.pin_nets.specs.Levels.{NetValue, NetsValue}
 use Rattle.pin_nets.specs.Places.{lone_nets}
 
 abbrev pub net_value : NetSpec → NetValue
-net_value s = record { pull = s.pull; pins = s.pins.items }
+net_value s = record { pull = s.pull; rule = s.rule; pins = s.pins.items }
 
 -- each pin is one of so many
 pub record HasPinsBelow (pins : ℕ) (nets : List NetValue) : Type 0 where

@@ -1,11 +1,14 @@
 -- Nets: a level by counting the drivers. This simulation's own model of the board's wiring.
-use Rattle.std.specs.Prelude.{◌≡◌, ◌≤◌, ◌^◌, Bool, true, false, ℕ, zero, suc, ◌+◌, List, [], ◌∷◌, map, slice_get}
-use Rattle.std.specs.Prelude.{unwrap_or, count_by, if◌then◌else◌}
+use Rattle.std.specs.Prelude.{◌≡◌, ◌≤◌, ◌^◌, Bool, true, false, not, ◌&&◌, ℕ, zero, suc, ◌+◌, ◌==◌, List, [], ◌∷◌}
+use Rattle.std.specs.Prelude.{map, take, slice_get, unwrap_or, count_by, if◌then◌else◌}
+use Rattle.std.specs.List.{list_any}
 use Rattle.pin_nets.specs.declared.Drive.{Drive}
 use Rattle.pin_nets.specs.declared.Drive.TheVariants.{Strong, Weak, Nothing}
 use Rattle.pin_nets.specs.declared.Counts.{Counts}
 use Rattle.pin_nets.specs.declared.Pull.{Pull}
 use Rattle.pin_nets.specs.declared.Pull.TheVariants.{Up, Down, Free}
+use Rattle.pin_nets.specs.declared.Rule.{Rule}
+use Rattle.pin_nets.specs.declared.Rule.TheVariants.{Counted, Tied, WiredOr, Led}
 use Rattle.pin_nets.specs.declared.Level.{Level}
 use Rattle.pin_nets.specs.declared.Level.TheVariants.{Zero, One, Contend, Float}
 
@@ -43,6 +46,29 @@ level_by c = of_counts c.strong_zeros c.strong_ones (of_counts c.weak_zeros c.we
 abbrev pub level_of : List Drive → Level
 level_of ds = level_by (counts_of ds)
 
+-- a net of this rule shows what its drivers say
+abbrev pub is_counted : Rule → Bool
+is_counted Counted = true
+is_counted (Tied b) = false
+is_counted WiredOr = false
+is_counted (Led pins) = false
+
+-- strong drivers of both levels are there
+abbrev pub is_opposed : Counts → Bool
+is_opposed c = not (c.strong_zeros == 0) && not (c.strong_ones == 0)
+
+-- what drivers that lead say: 1 where one drives it strongly and none 0, else 0
+abbrev pub led_by : List Drive → Level
+led_by ds = if list_any (is_strong true) ds && not (list_any (is_strong false) ds) then One else Zero
+
+-- What a net shows by its rule, its pull and what its pins drive, in their order: what its drivers say by counting; the
+-- bit that it is tied to; or, where strong drivers are opposed, 1, or what the first pins say, so many.
+abbrev pub shown : Rule → (pull : Drive) → (pins : List Drive) → Level
+shown Counted pull ds = level_of (pull ∷ ds)
+shown (Tied b) pull ds = if b then One else Zero
+shown WiredOr pull ds = if is_opposed (counts_of (pull ∷ ds)) then One else level_of (pull ∷ ds)
+shown (Led pins) pull ds = if is_opposed (counts_of (pull ∷ ds)) then led_by (take pins ds) else level_of (pull ∷ ds)
+
 -- Contend reads 0, Float reads 1
 abbrev pub reads : Level → Bool
 reads Zero = false
@@ -58,6 +84,7 @@ pull_drive Free = Nothing
 
 pub record NetValue : Type 0 where
   pub pull : Pull
+  pub rule : Rule
   pub pins : List ℕ
 
 pub record NetsValue : Type 0 where
@@ -71,8 +98,12 @@ drive_at drives pin = unwrap_or (slice_get drives pin) Nothing
 abbrev pub net_counts : List Drive → NetValue → Counts
 net_counts drives n = counts_of (pull_drive n.pull ∷ map (drive_at drives) n.pins)
 
+-- what its drivers say by counting, whatever its rule
+abbrev pub counted : List Drive → NetValue → Level
+counted drives n = level_by (net_counts drives n)
+
 abbrev pub level : List Drive → NetValue → Level
-level drives n = level_of (pull_drive n.pull ∷ map (drive_at drives) n.pins)
+level drives n = shown n.rule (pull_drive n.pull) (map (drive_at drives) n.pins)
 
 abbrev pub all_levels : NetsValue → List Level
 all_levels v = map (level v.drives) v.nets

@@ -3,6 +3,7 @@ use Rattle.std.specs.Prelude.{◌≡◌, ◌≢◌, ◌<◌, ◌≤◌, ◌^◌,
 use Rattle.std.specs.Prelude.{slice_get, slice_index_or, Option, Some, None, is_none, position, count_by, if◌then◌else◌}
 use Rattle.std.specs.List.{list_any, range_with_len}
 use Rattle.pin_nets.specs.declared.Pull.TheVariants.{Free}
+use Rattle.pin_nets.specs.declared.Rule.TheVariants.{Counted}
 use Rattle.pin_nets.specs.Levels.{NetValue}
 
 abbrev pub has_pin : ℕ → NetValue → Bool
@@ -28,7 +29,7 @@ pub record AreShort (nets : List NetValue) : Type 0 where
 
 -- a pin that is a net by itself
 abbrev pub alone : ℕ → NetValue
-alone p = record { pull = Free; pins = p ∷ [] }
+alone p = record { pull = Free; rule = Counted; pins = p ∷ [] }
 
 -- the nets of the first n pins that are on none of these, by rising number
 abbrev pub lone_nets : List NetValue → ℕ → List NetValue

@@ -3,11 +3,13 @@ use Rattle.std.specs.Prelude.{Bool, ◌&&◌, ℕ, ◌==◌, List}
 use Rattle.std.specs.List.{list_any}
 use Rattle.pin_nets.specs.declared.Pin.{Pin}
 use Rattle.pin_nets.specs.declared.Pull.{Pull}
+use Rattle.pin_nets.specs.declared.Rule.{Rule}
 
--- its name, its pull, and its pins
+-- its name, its pull, its rule, and its pins
 pub record Net : Type 0 where
   pub name : List ℕ
   pub pull : Pull
+  pub rule : Rule
   pub pins : List Pin
 
 -- whether one of these pins is this port bit of the device at a place

@@ -1,20 +1,22 @@
 //! The nets of a board at power-up.
 
 ghost use Rattle.std.specs.Prelude.{◌≡◌, ◌<◌, ◌++◌, ℕ, [], ◌∷◌, None, length, map, slice_index, IfOk, OnOk};
+ghost use Rattle.std.specs.List.{list_all};
 ghost use Rattle.pin_nets.specs.Levels as levels;
 ghost use Rattle.pin_nets.specs.Levels.{four, counts_of, level_of, pull_drive};
 ghost use Rattle.pin_nets.specs.Places.{AddsLoneNets, AllNone, AreShort, EntersPins, HasNetOfEach, IsOnce, alone};
 ghost use Rattle.pin_nets.specs.Building.{HasPinsBelow, built, net_value};
 
 use crate::nets::{Net, Nets};
-use crate::{Drive, Pull, level_of, pull_counts, reads, row_of_counts};
+use crate::{Drive, Pull, Rule, level_of, pull_counts, reads, row_of_counts};
 use std::alloc::{AllocError, Global};
 
-/// A net as a board has it: its pins by number, and its pull.
+/// A net as a board has it: its pins by number, its pull, and its rule.
 #[derive(Debug, Drop)]
 pub struct NetSpec {
     pub pins: Vec<usize>,
     pub pull: Pull,
+    pub rule: Rule,
 }
 
 impl Nets {
@@ -32,12 +34,14 @@ impl Nets {
         let counts = start_counts(alloc, &all)?;
         let seen = start_seen(alloc, &all)?;
         let drives = Vec::from_elem(alloc, Drive::Nothing, pins)?;
+        let all_counted = are_counted(&all);
         Ok(Nets {
             drives,
             net_of,
             nets: all,
             counts,
             seen,
+            all_counted,
         })
     }
 }
@@ -60,6 +64,7 @@ fn named_nets(
         join(net_of, nets.len(), &spec.pins);
         nets.push(Net {
             pull: spec.pull,
+            rule: spec.rule,
             pins: spec.pins.to_vec(alloc)?,
         })?;
     }
@@ -104,9 +109,17 @@ fn add_alone(alloc: Global, nets: &mut Vec<Net>, pin: usize) -> Result<(), Alloc
     pins.push(pin)?;
     nets.push(Net {
         pull: Pull::Free,
+        rule: Rule::Counted,
         pins,
     })?;
     Ok(())
+}
+
+/// Whether every net shows what its drivers say.
+fn are_counted(nets: &[Net]) -> bool
+    ensures { result ≡ list_all (λ net. levels.is_counted net.rule) nets.now }
+{
+    nets.iter().all(|net| matches!(net.rule, Rule::Counted))
 }
 
 /// The numbers of drivers while no pin drives.

@@ -3,8 +3,7 @@
 
 ghost use Rattle.std.specs.Prelude.{◌≡◌, ◌≢◌, ◌↔◌, IsTrue, [], ◌∷◌};
 ghost use Rattle.pin_nets.specs.Levels as levels;
-ghost use Rattle.pin_nets.specs.Levels.{Has, IsFew, Replaces, four};
-ghost use Rattle.pin_nets.specs.declared.Drive.TheVariants.{Nothing};
+ghost use Rattle.pin_nets.specs.Levels.{four};
 
 pub use build::NetSpec;
 pub use nets::Nets;
@@ -12,6 +11,7 @@ pub use nets::Nets;
 mod build;
 mod nets;
 mod rows;
+mod ruled;
 
 /// What a pin drives.
 #[derive(Debug, Clone, Copy, PartialEq, Eq)]
@@ -80,6 +80,20 @@ pub enum Pull {
     Free,
 }
 
+/// What a net shows beside what its drivers say: a net of a board file is counted, one with a fault may have another rule.
+#[derive(Debug, Clone, Copy, PartialEq, Eq)]
+pub enum Rule {
+    /// What its drivers say, by counting them.
+    Counted,
+    /// This bit, whatever drives it.
+    Tied(bool),
+    /// Where strong drivers are opposed, 1.
+    WiredOr,
+    /// Where strong drivers are opposed, what the strong ones among its first pins say, so many; 0 where these are
+    /// opposed too, or there are none.
+    Led(usize),
+}
+
 fn pull_counts(pull: Pull) -> Counts
     ensures { result ≡ levels.counts_of (levels.pull_drive pull ∷ []) }
 {
@@ -94,47 +108,6 @@ fn pull_counts(pull: Pull) -> Counts
         },
         Pull::Free => NO_DRIVER,
     }
-}
-
-/// The numbers where a driver of the second kind takes the place of one of the first.
-fn with_replaced(counts: Counts, old: Drive, new: Drive) -> Counts
-    requires there { Has old counts }
-    requires few { IsFew counts }
-    ensures { Replaces counts result old new }
-{
-    with(without(counts, old), new)
-}
-
-/// The numbers with one driver less.
-fn without(counts: Counts, drive: Drive) -> Counts
-    requires { Has drive counts }
-    ensures { Replaces counts result drive Nothing }
-{
-    let mut fewer = counts;
-    match drive {
-        Drive::Strong(false) => fewer.strong_zeros -= 1,
-        Drive::Strong(true) => fewer.strong_ones -= 1,
-        Drive::Weak(false) => fewer.weak_zeros -= 1,
-        Drive::Weak(true) => fewer.weak_ones -= 1,
-        Drive::Nothing => {}
-    }
-    fewer
-}
-
-/// The numbers with one driver more.
-fn with(counts: Counts, drive: Drive) -> Counts
-    requires { IsFew counts }
-    ensures { Replaces counts result Nothing drive }
-{
-    let mut more = counts;
-    match drive {
-        Drive::Strong(false) => more.strong_zeros += 1,
-        Drive::Strong(true) => more.strong_ones += 1,
-        Drive::Weak(false) => more.weak_zeros += 1,
-        Drive::Weak(true) => more.weak_ones += 1,
-        Drive::Nothing => {}
-    }
-    more
 }
 
 /// Four numbers by their names.

@@ -5,16 +5,15 @@ ghost use Rattle.pin_nets.specs.Levels as levels;
 ghost use Rattle.pin_nets.specs.Levels.{four, net_counts};
 
 use crate::rows::exchange;
-use crate::{
-    Counts, Drive, Level, Pull, counts_of_row, differ, level_of, reads, row_of_counts,
-    with_replaced,
-};
+use crate::ruled::level_by_rule;
+use crate::{Drive, Level, Pull, Rule, counts_of_row, differ, reads};
 use std::marker::Model;
 
-/// A net: its pull, and its pins.
+/// A net: its pull, its rule, and its pins.
 #[derive(Drop)]
 pub(crate) struct Net {
     pub(crate) pull: Pull,
+    pub(crate) rule: Rule,
     pub(crate) pins: Vec<usize>,
 }
 
@@ -23,13 +22,13 @@ impl Model for Net {
 
     ghost Value = { NetValue };
 
-    ghost view = { λ n. record { pull = n.pull; pins = n.pins.items } };
+    ghost view = { λ n. record { pull = n.pull; rule = n.rule; pins = n.pins.items } };
 }
 
 /// What each pin drives, and the nets. Contracts see it as the two lists.
 ///
-/// The numbers of drivers of each net stand ready, and what its ports see: a pin's new drive changes those of its net
-/// alone.
+/// The numbers of drivers of each net stand ready, and what its ports see by them: a pin's new drive changes those of
+/// its net alone. A net with another rule than to be counted is asked when it is looked at.
 #[derive(Drop)]
 pub struct Nets {
     pub(crate) drives: Vec<Drive>,
@@ -37,11 +36,14 @@ pub struct Nets {
     pub(crate) nets: Vec<Net>,
     pub(crate) counts: Vec<[usize; 4]>,
     pub(crate) seen: Vec<bool>,
+    /// Every net shows what its drivers say.
+    pub(crate) all_counted: bool,
 }
 
 impl Model for Nets {
     ghost use Rattle.std.specs.Prelude.{◌≡◌, length, map};
-    ghost use Rattle.pin_nets.specs.Levels.{NetsValue, four, level, net_counts, reads};
+    ghost use Rattle.std.specs.List.{list_all};
+    ghost use Rattle.pin_nets.specs.Levels.{NetsValue, counted, four, is_counted, net_counts, reads};
     ghost use Rattle.pin_nets.specs.Places.{Placed, AreShort};
 
     ghost Value = { NetsValue };
@@ -53,7 +55,8 @@ impl Model for Nets {
       placed : Placed n.net_of.items n.nets.items;
       short : AreShort n.nets.items;
       counts : n.counts.items ≡ map (λ x. four (net_counts n.drives.items x)) n.nets.items;
-      seen : n.seen.items ≡ map (λ x. reads (level n.drives.items x)) n.nets.items;
+      seen : n.seen.items ≡ map (λ x. reads (counted n.drives.items x)) n.nets.items;
+      rules : n.all_counted ≡ list_all (λ x. is_counted x.rule) n.nets.items;
     } };
 }
 
@@ -64,16 +67,15 @@ impl Nets {
         ensures drives { self.new ≡ record self.old { drives = slice_set self.old.drives pin drive } }
         ensures changed { IsTrue result ↔ (levels.all_levels self.old ≢ levels.all_levels self.new) }
     {
-        let old = self.drives[pin];
-        self.drives[pin] = drive;
         match self.net_of[pin] {
-            None => false,
+            None => {
+                self.place(pin, drive);
+                false
+            }
             Some(net) => {
-                let before = counts_of_row(&self.counts[net]);
-                let after = with_replaced(before, old, drive);
-                self.counts[net] = row_of_counts(after);
-                self.seen[net] = reads(level_of(after));
-                differ(level_of(before), level_of(after))
+                let before = self.level(net);
+                self.place(pin, drive);
+                differ(before, self.level(net))
             }
         }
     }
@@ -103,7 +105,11 @@ impl Nets {
         requires { net < length self.now.nets }
         ensures { option_map (levels.level self.now.drives) (slice_get self.now.nets net) ≡ Some result }
     {
-        level_of(counts_of_row(&self.counts[net]))
+        level_by_rule(
+            &self.nets[net],
+            counts_of_row(&self.counts[net]),
+            &self.drives,
+        )
     }
 
     /// What the ports on a net see: Contend reads 0, Float reads 1.
@@ -112,7 +118,10 @@ impl Nets {
         ensures { option_map (λ x. levels.reads (levels.level self.now.drives x)) (slice_get self.now.nets net)
             ≡ Some result }
     {
-        self.seen[net]
+        if self.all_counted {
+            return self.seen[net];
+        }
+        reads(self.level(net))
     }
 
     /// How many drivers a net has, its pull among them: to 0 and to 1, and weak ones to 0 and to 1.

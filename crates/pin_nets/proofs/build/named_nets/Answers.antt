@@ -23,7 +23,7 @@ loop-spec-preserved c =
     let h : k < length whole = omega (arith, c.loop-spec-test.true, length-map specs net_value) in
     let at : get_or whole k nobody ≡ x = named_at specs k spec c.loop-spec-test.true c.spec-item.is in
     let pins : c.in_ok-to_vec.field-0.items ≡ spec.pins.items = c.in_ok-to_vec.ensures.items_if_clones_equal (λ a b e. e) ∙ c.deref-in-loop-spec.ensures.value in
-    let pushed : c.push.new.self.items ≡ nets ++ x ∷ [] = c.in_ok-push.ensures.items ∙ ap (λ (ps : List ℕ). nets ++ record { pull = spec.pull; pins = ps } ∷ []) pins in
+    let pushed : c.push.new.self.items ≡ nets ++ x ∷ [] = c.in_ok-push.ensures.items ∙ ap (λ (ps : List ℕ). nets ++ record { pull = spec.pull; rule = spec.rule; pins = ps } ∷ []) pins in
     let marked : HasNetOfEach c.join.new.net_of (nets ++ x ∷ []) =
     marked_named whole nets k x c.loop-spec.net_of c.join.new.net_of c.len.result c.deref.result.now c.loop-spec.invariant.nets h at c.requires.once c.loop-spec.invariant.marked c.join.ensures
     (omega (arith, c.len.ensures, c.loop-spec.nets.ok.0)) c.deref.ensures.value in

@@ -1,6 +1,6 @@
 use Rattle.std.proofs.Common.{◌≡◌, ◌<◌, ℕ, Bool, List, length, get_or, set, sym, ap, ◌∙◌, arith}
 use Rattle.std.proofs.lemmas.List.{length-map, length-set}
-use Rattle.pin_nets.specs.Levels.{NetsValue, net_counts, drive_at, level, reads}
+use Rattle.pin_nets.specs.Levels.{NetsValue, net_counts, drive_at, counted, reads}
 use Rattle.pin_nets.specs.Rows.{numbers}
 use Rattle.pin_nets.proofs.Counting.{OnNet, nobody, on_some, pin_at, old_is, row_is, named_is, is_row, has_before, few_before, moved_as, kept, kept_off, kept_on, seen, seen_off, seen_on}
 use Rattle.pin_nets.proofs.nets.Nets.place.Goals as goal
@@ -50,7 +50,7 @@ index_mut-requires-in-Some-2 c =
     let in_ : pin < length ds = omega (arith, c.requires, ap (λ (v : NetsValue). length v.drives) c.self.view_is) in
     let at = pin_at c.self.inside.net_of.items nets pin c.index.result.now _ c.self.invariant.placed (omega (arith, in_, c.self.invariant.long)) c.index.ensures c.in-Some.is in
     let on : OnNet pin nets c.in-Some.net = on_some pin nets c.in-Some.net c.self.invariant.placed.once at in
-    omega (arith, on.inside, ap length c.self.invariant.seen, length-map nets (λ y. reads (level ds y)), c.self.inside.seen.ok.0)
+    omega (arith, on.inside, ap length c.self.invariant.seen, length-map nets (λ y. reads (counted ds y)), c.self.inside.seen.ok.0)
 
 pub invariant_of-self-in_default : goal.invariant_of-self-in_default
 invariant_of-self-in_default c =
@@ -65,6 +65,7 @@ invariant_of-self-in_default c =
       short = c.self.invariant.short;
       counts = c.self.invariant.counts ∙ kept_off ds pin c.args.drive nets in_ at;
       seen = c.self.invariant.seen ∙ seen_off ds pin c.args.drive nets in_ at;
+      rules = c.self.invariant.rules;
     }
 
 pub invariant_of-self : goal.invariant_of-self
@@ -92,4 +93,5 @@ invariant_of-self c =
           ap (λ (bs : List Bool). set bs c.in-Some.net c.exchange.result) c.self.invariant.seen
           ∙ ap (set (seen ds nets) c.in-Some.net) c.exchange.ensures.seen
           ∙ seen_on ds pin c.args.drive nets c.in-Some.net in_ on (numbers new) move;
+      rules = c.self.invariant.rules;
     }
