@@ -27,10 +27,15 @@ class Part(NamedTuple):
 
 
 class Net(NamedTuple):
-    """A named net; a pin is (place of the part, (port, subscript or None))."""
+    """A named net; a pin is (place of the part, (port, subscript or None)).
+
+    `rule` says what it shows: ("counted",) what its drivers say; ("tied", bit) that bit; of strong drivers that disagree
+    ("wired-or",) 1, and ("led", n) what those of its first n pins say, 0 where these disagree or there are none.
+    """
     name: str
     pins: list[tuple]
     pull: str
+    rule: tuple = ("counted",)
 
 
 class Board(NamedTuple):
@@ -186,18 +191,39 @@ def level(drives: list[tuple]) -> str:
     return "Float"
 
 
+PULL_DRIVES = {"up": [("weak", 1)], "down": [("weak", 0)], "none": []}
+
+
+def net_level(net: Net, placed: list[tuple]) -> str:
+    """The level of a net, by its rule; a driver is (place of its pin among the net's, drive)."""
+    drives = [drive for _, drive in placed]
+    strong = {bit for strength, bit in drives if strength == "strong"}
+    if net.rule[0] == "tied":
+        return "One" if net.rule[1] else "Zero"
+    if net.rule[0] != "counted" and len(strong) == 2:
+        leading = {drive[1] for place, drive in placed if drive[0] == "strong" and place < net.rule[-1]} \
+            if net.rule[0] == "led" else {1}
+        return "One" if leading == {1} else "Zero"
+    return level(drives + PULL_DRIVES[net.pull])
+
+
 class Levels:
     """The levels of the nets at one moment, the cores having these bits; a pull is one weak driver."""
 
     def __init__(self, nets: list[Net], chips: list[Chip], cores: list[list[int]]):
         self.cores = cores
         self.drives = [chip.drives(core) for chip, core in zip(chips, cores)]
-        self.named, self.of_pin = [], {}
+        self.named, self.strong, self.of_pin = [], [], {}
         for net in nets:
-            drives = [self.drives[part][port] for part, port in net.pins if port in self.drives[part]]
-            drives += {"up": [("weak", 1)], "down": [("weak", 0)], "none": []}[net.pull]
-            self.named.append(level(drives))
+            placed = [(place, self.drives[part][port]) for place, (part, port) in enumerate(net.pins)
+                      if port in self.drives[part]]
+            self.strong.append({drive[1] for _, drive in placed if drive[0] == "strong"})
+            self.named.append(net_level(net, placed))
             self.of_pin.update(dict.fromkeys(net.pins, self.named[-1]))
+
+    def contending(self) -> list[int]:
+        """The places of the named nets of which strong drivers disagree."""
+        return [place for place, bits in enumerate(self.strong) if len(bits) == 2]
 
     def seen(self, part: int, port: tuple) -> int:
         """What a port sees: 0 for Zero and Contend.  A port on no net is a net of its own."""

@@ -8,7 +8,7 @@ use Rattle.pin_nets.specs.declared.Drive.{Drive}
 use Rattle.pin_nets.specs.declared.Drive.TheVariants.{Nothing}
 use Rattle.pin_nets.specs.declared.Level.{Level}
 use Rattle.pin_nets.specs.declared.Pin.{Pin}
-use Rattle.pin_nets.specs.Levels.{drive_at, level, level_of, pull_drive, reads}
+use Rattle.pin_nets.specs.Levels.{drive_at, level, pull_drive, reads, shown as shown_by}
 use Rattle.pin_nets.specs.Wired.{Net}
 use Rattle.board_plan.specs.Planned.{all_pins}
 use Rattle.board_plan.specs.PinNumbers.{with_pin_numbers}
@@ -33,7 +33,7 @@ ranged drives k (x ∷ xs) rest e =
     λ i. (unwrap_or-slice_get drives k Nothing ∙ here) i ∷ ranged drives (k + 1) xs rest on i
 
 abbrev shown : (f : Pin → Drive) → Net → Level
-shown f n = level_of (pull_drive n.pull ∷ map f n.pins)
+shown f n = shown_by n.rule (pull_drive n.pull) (map f n.pins)
 
 numbered-level : (f : Pin → Drive) (drives : List Drive) (k : ℕ) (ns : List Net) (net : ℕ) → drop k drives ≡ map f (all_pins ns)
     → option_map (level drives) (slice_get (with_pin_numbers k ns) net) ≡ option_map (shown f) (slice_get ns net)
@@ -43,7 +43,7 @@ numbered-level f drives k (n ∷ ns) zero e =
     let pins : map (drive_at drives) (range_with_len k (length n.pins)) ≡ map f n.pins =
     sym (ap (λ (m : ℕ). map (drive_at drives) (range_with_len k m)) long)
     ∙ ranged drives k (map f n.pins) (map f (all_pins ns)) (e ∙ map-append f n.pins (all_pins ns)) in
-    ap (λ (ds : List Drive). Some (level_of (pull_drive n.pull ∷ ds))) pins
+    ap (λ (ds : List Drive). Some (shown_by n.rule (pull_drive n.pull) ds)) pins
 numbered-level f drives k (n ∷ ns) (suc net) e = numbered-level f drives (k + length n.pins) ns net (past (map f n.pins) (map f (all_pins ns)) k (length-map n.pins f) (e ∙ map-append f n.pins (all_pins ns)))
   where
     past : (xs rest : List Drive) (k : ℕ) {m : ℕ} → length xs ≡ m → drop k drives ≡ xs ++ rest → drop (k + m) drives ≡ rest
@@ -96,7 +96,7 @@ seen_put drives ns net b h is =
 
 pub seen_driven : (f : Pin → Drive) (drives : List Drive) (ns : List Net) (net : ℕ) (b : Bool) → net < length ns → drives ≡ map f (all_pins ns)
     → option_map (λ n. reads (level drives n)) (slice_get (all_nets ns) net) ≡ Some b
-    → option_map (λ n. reads (level_of (pull_drive n.pull ∷ map f n.pins))) (slice_get ns net) ≡ Some b
+    → option_map (λ n. reads (shown_by n.rule (pull_drive n.pull) (map f n.pins))) (slice_get ns net) ≡ Some b
 seen_driven f drives ns net b h e is =
     let r = read-at (option_map (level drives) (slice_get (all_nets ns) net)) b (read-of (level drives) (slice_get (all_nets ns) net) ∙ is) in
     sym (read-of (shown f) (slice_get ns net)) ∙ ap (option_map reads) (net_level f drives ns net r.l h e r.there) ∙ r.is

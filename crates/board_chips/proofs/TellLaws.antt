@@ -7,7 +7,7 @@ use Rattle.pin_nets.specs.declared.Drive.{Drive}
 use Rattle.pin_nets.specs.declared.Drive.TheVariants.{Nothing}
 use Rattle.pin_nets.specs.declared.Level.{Level}
 use Rattle.pin_nets.specs.declared.Pin.{Pin}
-use Rattle.pin_nets.specs.Levels.{level_of, pull_drive, reads}
+use Rattle.pin_nets.specs.Levels.{level_of, pull_drive, reads, shown as shown_by}
 use Rattle.pin_nets.specs.Wired.{Net, joins}
 use Rattle.boundary.specs.Masks.{SeesSighted, is_sighted}
 use Rattle.board_model.specs.Cells.{Member, drive}
@@ -53,7 +53,7 @@ module _ (place port : ℕ) where
 -- ---- what one port sees
 
 abbrev shown : (Pin → Drive) → Net → Level
-shown f n = level_of (pull_drive n.pull ∷ map f n.pins)
+shown f n = shown_by n.rule (pull_drive n.pull) (map f n.pins)
 
 pub seen_on_net : (w : WiringValue) (place port net : ℕ) (ms : List Member) (b : Bool)
     → option_map (λ n. reads (shown (pin_drive ms) n)) (slice_get w.nets net) ≡ Some b → first_net place port 0 w.nets ≡ Some net → b ≡ sees_under w.nets ms place port

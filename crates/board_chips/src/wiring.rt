@@ -76,7 +76,7 @@ impl Wiring {
         ensures put { option_map (levels.level self.now.drives) (slice_get (with_pin_numbers 0 self.now.nets) net)
             ≡ Some result }
         ensures driven { (f : ThePin → TheDrive) → self.now.drives ≡ map f (all_pins self.now.nets)
-            → option_map (λ n. levels.level_of (levels.pull_drive n.pull ∷ map f n.pins)) (slice_get self.now.nets net)
+            → option_map (λ n. levels.shown n.rule (levels.pull_drive n.pull) (map f n.pins)) (slice_get self.now.nets net)
             ≡ Some result }
     {
         self.levels.level(net)
@@ -88,7 +88,7 @@ impl Wiring {
         ensures put { option_map (λ n. levels.reads (levels.level self.now.drives n))
             (slice_get (with_pin_numbers 0 self.now.nets) net) ≡ Some result }
         ensures driven { (f : ThePin → TheDrive) → self.now.drives ≡ map f (all_pins self.now.nets)
-            → option_map (λ n. levels.reads (levels.level_of (levels.pull_drive n.pull ∷ map f n.pins)))
+            → option_map (λ n. levels.reads (levels.shown n.rule (levels.pull_drive n.pull) (map f n.pins)))
             (slice_get self.now.nets net) ≡ Some result }
     {
         self.levels.seen(net)

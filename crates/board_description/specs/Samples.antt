@@ -9,6 +9,7 @@ use Rattle.bsdl_device.specs.declared.Disabled.TheVariants.{Z}
 use Rattle.bsdl_device.specs.declared.Place.TheVariants.{AtUser}
 use Rattle.pin_nets.specs.Wired.{Net}
 use Rattle.pin_nets.specs.declared.Pull.TheVariants.{Free}
+use Rattle.pin_nets.specs.declared.Rule.TheVariants.{Counted}
 use Rattle.board_plan.specs.Planned.{Member, Wiring}
 
 -- the n lowest binary digits
@@ -52,6 +53,7 @@ abbrev pub between : Net
 between = record {
   name = codes "N";
   pull = Free;
+  rule = Counted;
   pins = record { device = 0; port = 0 } ∷ record { device = 1; port = 1 } ∷ [];
 }
 

@@ -14,7 +14,7 @@ use Rattle.boundary.specs.Cells.{driver_from, is_port, same_bit, left_by, cell_d
 use Rattle.pin_nets.specs.declared.Drive.{Drive}
 use Rattle.pin_nets.specs.declared.Drive.TheVariants.{Strong, Nothing}
 use Rattle.pin_nets.specs.declared.Pin.{Pin}
-use Rattle.pin_nets.specs.Levels.{level_of, pull_drive, reads}
+use Rattle.pin_nets.specs.Levels.{pull_drive, reads, shown}
 use Rattle.pin_nets.specs.Wired.{Net, has_port_bit, joins}
 use Rattle.chip_instructions.specs.Instruction.{meaning}
 use Rattle.pin_nets.specs.declared.Follow.{Follow}
@@ -197,7 +197,7 @@ pub level-same : (ms x y : List Member) (net : Net) → AreOf ms x → AreOf ms 
     → (j : ℕ) → takes_from pin.port j 0 m.device.cells ≡ true → bit_of (core_at x pin.device) j ≡ bit_of (core_at y pin.device) j)
     → level_under x net ≡ level_under y net
 level-same ms x y net ax ay same =
-    ap (λ ds. level_of (pull_drive net.pull ∷ ds))
+    ap (λ ds. shown net.rule (pull_drive net.pull) ds)
     (pins-same (pin_drive x) (pin_drive y) net.pins (λ pin among. place-same ms x y pin.device pin.port ax ay (same pin among)))
 
 -- 5. Where every step back along a string lowers a number, so many rounds give a net of that number the same level,

@@ -1,6 +1,6 @@
 -- What changes no pin's drive leaves levels and core bits in force as they are.
 use Rattle.std.proofs.Common.{◌≡◌, ◌+◌, Bool, ℕ, zero, suc, List, [], ◌∷◌, length, refl, sym, ap, ap₂, ◌∙◌, subst}
-use Rattle.pin_nets.specs.Levels.{level_of, pull_drive, reads}
+use Rattle.pin_nets.specs.Levels.{pull_drive, reads, shown}
 use Rattle.pin_nets.specs.Wired.{Net}
 use Rattle.board_model.specs.Cells.{Member, drive}
 use Rattle.board_model.specs.Nets.{core_at, in_force, level_under, net_of, pin_drive, rounds, sees_under, strings, with_followed, with_followed_all}
@@ -19,7 +19,7 @@ place-alike (a ∷ x) (b ∷ y) (suc i) p alike = place-alike x y i p alike.1
 
 level-alike : (x y : List Member) (net : Net) → AllDriveAlike x y → level_under x net ≡ level_under y net
 level-alike x y net alike =
-    ap (λ ds. level_of (pull_drive net.pull ∷ ds))
+    ap (λ ds. shown net.rule (pull_drive net.pull) ds)
     (pins-same (pin_drive x) (pin_drive y) net.pins (λ pin among. place-alike x y pin.device pin.port alike))
 
 followed-alike : (sight other : ℕ → ℕ → Bool) (k : ℕ) (ms ns : List Member) → ((i p : ℕ) → sight i p ≡ other i p) → AllDriveAlike ms ns

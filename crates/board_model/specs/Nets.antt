@@ -1,4 +1,4 @@
--- What a port bit sees of its net: the net's level, by counting its drivers. This simulation's own model of the wiring.
+-- What a port bit sees of its net: the net's level, by its drivers. This simulation's own model of the wiring.
 use Rattle.std.specs.Prelude.{Bool, not, ℕ, zero, suc, ◌+◌, ◌==◌, List, [], ◌∷◌, map, length, slice_get, find}
 use Rattle.std.specs.Prelude.{option_map, unwrap_or, if◌then◌else◌}
 use Rattle.pin_nets.specs.declared.Drive.{Drive}
@@ -6,7 +6,8 @@ use Rattle.pin_nets.specs.declared.Drive.TheVariants.{Nothing}
 use Rattle.pin_nets.specs.declared.Level.{Level}
 use Rattle.pin_nets.specs.declared.Pin.{Pin}
 use Rattle.pin_nets.specs.declared.Pull.TheVariants.{Free}
-use Rattle.pin_nets.specs.Levels.{level_of, pull_drive, reads}
+use Rattle.pin_nets.specs.declared.Rule.TheVariants.{Counted}
+use Rattle.pin_nets.specs.Levels.{pull_drive, reads, shown}
 use Rattle.pin_nets.specs.Wired.{Net, joins}
 use Rattle.pin_nets.specs.declared.Follow.{Follow}
 use Rattle.board_model.specs.Cells.{Member, Told, drive}
@@ -14,13 +15,14 @@ use Rattle.board_model.specs.Cells.{Member, Told, drive}
 abbrev pub pin_drive : List Member → Pin → Drive
 pin_drive ms pin = unwrap_or (option_map (λ m. drive m pin.port) (slice_get ms pin.device)) Nothing
 
--- the level of a net where the devices' cores are these, its pull among its drivers
+-- the level of a net where the devices' cores are these, by its rule, its pull among its drivers
 abbrev pub level_under : List Member → Net → Level
-level_under ms net = level_of (pull_drive net.pull ∷ map (pin_drive ms) net.pins)
+level_under ms net = shown net.rule (pull_drive net.pull) (map (pin_drive ms) net.pins)
 
 -- a port bit that is a net by itself
 abbrev pub lone_net : ℕ → ℕ → Net
-lone_net device port = record { name = []; pull = Free; pins = record { device = device; port = port } ∷ [] }
+lone_net device port =
+    record { name = []; pull = Free; rule = Counted; pins = record { device = device; port = port } ∷ [] }
 
 -- the net of a port bit
 abbrev pub net_of : List Net → ℕ → ℕ → Net

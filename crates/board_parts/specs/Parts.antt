@@ -3,6 +3,7 @@ use Rattle.std.specs.Prelude.{List, [], ℕ, length, codes, Option, option_map, 
 use Rattle.toml.specs.Data.{Members}
 use Rattle.bsdl_device.specs.Device.{Device}
 use Rattle.pin_nets.specs.Wired.{Net}
+use Rattle.pin_nets.specs.declared.Rule.TheVariants.{Counted}
 use Rattle.board_tables.specs.declared.keys.Known.{Known}
 use Rattle.board_tables.specs.Fields.{text_at, texts_at, name_at}
 use Rattle.board_parts.specs.LibraryView.{stands_at}
@@ -37,4 +38,9 @@ abbrev pub member_in : List (List ℕ) → List (Option Device) → Members → 
 member_in names ds t = option_map (member_of t) (stands_at names ds t)
 
 abbrev pub net_of : List (List ℕ) → List Device → Members → Net
-net_of names ds t = record { name = name_at t; pull = pull_of (text_at (codes "pull") t); pins = pins_at names ds t }
+net_of names ds t = record {
+  name = name_at t;
+  pull = pull_of (text_at (codes "pull") t);
+  rule = Counted;
+  pins = pins_at names ds t;
+}

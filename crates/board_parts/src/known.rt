@@ -12,6 +12,7 @@ use crate::found::{Unfound, find_pins};
 use board_plan::{PlannedNet, pull_of};
 use board_tables::{Places, items_at, name_at, text_at};
 use chip_instructions::SharedDevice;
+use pin_nets::Rule;
 use std::alloc::Global;
 use toml::{Table, Value};
 
@@ -52,6 +53,7 @@ fn plan_known_net<'t>(
     Ok(PlannedNet {
         name: String::from_str(alloc, name_at(table))?,
         pull: pull_of(text_at(table, "pull")),
+        rule: Rule::Counted,
         pins,
     })
 }

@@ -27,10 +27,10 @@ range_more a (suc n) =
     ap (range_with_len a) next ∙ ap (λ (l : List ℕ). a ∷ l) (range_more (a + 1) n) ∙ ap (λ (k : ℕ). a ∷ range_with_len (a + 1) n ++ k ∷ []) same
 
 pub numbered_more : (k : ℕ) (ns : List Net) (n : Net) (at : ℕ) → at ≡ k + length (all_pins ns)
-    → with_pin_numbers k (ns ++ n ∷ []) ≡ with_pin_numbers k ns ++ record { pull = n.pull; pins = range_with_len at (length n.pins) } ∷ []
-numbered_more k [] n at e = let same : k ≡ at = omega (arith, e) in ap (λ (j : ℕ). record { pull = n.pull; pins = range_with_len j (length n.pins) } ∷ []) same
+    → with_pin_numbers k (ns ++ n ∷ []) ≡ with_pin_numbers k ns ++ record { pull = n.pull; rule = n.rule; pins = range_with_len at (length n.pins) } ∷ []
+numbered_more k [] n at e = let same : k ≡ at = omega (arith, e) in ap (λ (j : ℕ). record { pull = n.pull; rule = n.rule; pins = range_with_len j (length n.pins) } ∷ []) same
 numbered_more k (x ∷ ns) n at e =
-    ap (λ (r : List NetValue). record { pull = x.pull; pins = range_with_len k (length x.pins) } ∷ r)
+    ap (λ (r : List NetValue). record { pull = x.pull; rule = x.rule; pins = range_with_len k (length x.pins) } ∷ r)
     (numbered_more (k + length x.pins) ns n at (omega (arith, e, length-append x.pins (all_pins ns))))
 
 pub pins_more : (ns : List Net) (n : Net) → all_pins (ns ++ n ∷ []) ≡ all_pins ns ++ n.pins
@@ -145,7 +145,7 @@ number_more old more i pins pins' numbers numbers' len d h nums are is number pi
 
 pub number_net : (old : List Pin) (all : List PlannedNet) (i : ℕ) (x : PlannedNet) (pins pins' : List Pin) (specs specs' : List NetSpec) (s : NetSpec) (numbers : List ℕ) (own : List Pin)
     → i < length all → x ≡ get_or all i x → map net_value specs ≡ with_pin_numbers (length old) (map planned_net (take i all)) → pins ≡ old ++ all_pins (map planned_net (take i all))
-    → own ≡ x.pins.items → numbers ≡ range_with_len (length pins) (length own) → pins' ≡ pins ++ own → net_value s ≡ record { pull = x.pull; pins = numbers } → specs' ≡ specs ++ s ∷ []
+    → own ≡ x.pins.items → numbers ≡ range_with_len (length pins) (length own) → pins' ≡ pins ++ own → net_value s ≡ record { pull = x.pull; rule = x.rule; pins = numbers } → specs' ≡ specs ++ s ∷ []
     → record { nets : map net_value specs' ≡ with_pin_numbers (length old) (map planned_net (take (i + 1) all)); pins : pins' ≡ old ++ all_pins (map planned_net (take (i + 1) all)) }
 number_net old all i x pins pins' specs specs' s numbers own h is nums are its range more value pushed =
     let before = map planned_net (take i all) in
@@ -157,7 +157,7 @@ number_net old all i x pins pins' specs specs' s numbers own h is nums are its r
       nets =
           ap (map net_value) pushed ∙ map-append net_value specs (s ∷ [])
           ∙ ap (λ (l : List NetValue). l ++ net_value s ∷ []) nums
-          ∙ ap (λ (v : NetValue). with_pin_numbers (length old) before ++ v ∷ []) (value ∙ ap (λ (l : List ℕ). record { pull = x.pull; pins = l }) pins-are)
+          ∙ ap (λ (v : NetValue). with_pin_numbers (length old) before ++ v ∷ []) (value ∙ ap (λ (l : List ℕ). record { pull = x.pull; rule = x.rule; pins = l }) pins-are)
           ∙ sym (numbered_more (length old) before (planned_net x) (length pins) at)
           ∙ sym (ap (with_pin_numbers (length old)) grown);
       pins =

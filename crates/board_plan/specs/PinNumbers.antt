@@ -7,5 +7,5 @@ use Rattle.pin_nets.specs.Wired.{Net}
 -- the nets by the numbers of their pins, from number k on
 abbrev pub with_pin_numbers : ℕ → List Net → List NetValue
 with_pin_numbers k [] = []
-with_pin_numbers k (n ∷ ns) = record { pull = n.pull; pins = range_with_len k (length n.pins) }
+with_pin_numbers k (n ∷ ns) = record { pull = n.pull; rule = n.rule; pins = range_with_len k (length n.pins) }
     ∷ with_pin_numbers (k + length n.pins) ns

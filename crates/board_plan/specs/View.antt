@@ -16,7 +16,7 @@ member m = record {
 }
 
 abbrev pub net : PlannedNet → Net
-net n = record { name = string_bytes n.name; pull = n.pull; pins = n.pins.items }
+net n = record { name = string_bytes n.name; pull = n.pull; rule = n.rule; pins = n.pins.items }
 
 -- the board that is planned
 abbrev pub wiring : Plan → Wiring

@@ -26,6 +26,7 @@ pub fn number_nets(
         specs.push(NetSpec {
             pins: numbers,
             pull: net.pull,
+            rule: net.rule,
         })?;
     }
     Ok((specs, pins))

@@ -8,6 +8,7 @@ use Rattle.board_plan.specs.LeftOut.{is_left_out}
 use Rattle.board_report.specs.LeftOut.{left_out_line, name_lines}
 use Rattle.pin_nets.specs.declared.Level.{Level}
 use Rattle.pin_nets.specs.declared.Pull.TheVariants.{Free}
+use Rattle.pin_nets.specs.declared.Rule.TheVariants.{Counted}
 use Rattle.pin_nets.specs.Wired.{Net}
 use Rattle.board_model.specs.Cells.{Member}
 use Rattle.board_model.specs.Nets.{level}
@@ -34,7 +35,7 @@ digits-split bits n =
     ∙ map-append digit (reverse (drop n bits)) (reverse (take n bits))
 
 pub nowhere : Net
-nowhere = record { name = []; pull = Free; pins = [] }
+nowhere = record { name = []; pull = Free; rule = Counted; pins = [] }
 
 -- the line of a net, by its name and its level
 pub net_said : (ms : List Member) (nets : List Net) (k : ℕ) (name : List ℕ) (l : Level) → option_map (λ n. n.name) (slice_get nets k) ≡ Some name

@@ -1,7 +1,7 @@
 //! Three pins on one net, put one after another.
 ghost use Rattle.std.specs.Prelude.{◌≡◌, ◌<◌, length, IfOk};
 
-use pin_nets::{Drive, Level, NetSpec, Nets, Pull};
+use pin_nets::{Drive, Level, NetSpec, Nets, Pull, Rule};
 use std::alloc::{AllocError, Global};
 use std::process::Abort;
 use std::test::Fail;
@@ -14,7 +14,7 @@ fn one_net(alloc: Global, pull: Pull) -> Result<Nets, AllocError>
     pins.push(0)?;
     pins.push(1)?;
     pins.push(2)?;
-    Nets::build(alloc, 4, &[NetSpec { pins, pull }])
+    Nets::build(alloc, 4, &[NetSpec { pins, pull, rule: Rule::Counted }])
 }
 
 /// Puts a drive, and asserts the level that net 0 has then, and whether it changed.

@@ -8,6 +8,7 @@ use Rattle.bsdl_device.specs.declared.Function.TheVariants.{Control, Output3}
 use Rattle.bsdl_device.specs.declared.PortMode.TheVariants.{Out}
 use Rattle.pin_nets.specs.Wired.{Net}
 use Rattle.pin_nets.specs.declared.Pull.TheVariants.{Free}
+use Rattle.pin_nets.specs.declared.Rule.TheVariants.{Counted}
 use Rattle.board_model.specs.Bare.{bare, bare_member}
 use Rattle.board_model.specs.Cells.{powered}
 use Rattle.board_model.specs.Chain.{BoardState}
@@ -34,7 +35,7 @@ driver = record bare {
 
 -- Q alone
 abbrev pub driven : Net
-driven = record { name = codes "N"; pull = Free; pins = record { device = 0; port = 4 } ∷ [] }
+driven = record { name = codes "N"; pull = Free; rule = Counted; pins = record { device = 0; port = 4 } ∷ [] }
 
 -- The driver nearest TDO, its core at 0, and a bare device behind it; net N has Q.
 abbrev pub pair : BoardState

@@ -3,6 +3,7 @@ use Rattle.std.specs.Prelude.{◌≡◌, Bool, true, false, ℕ, List, [], ◌�
 use Rattle.pin_nets.specs.Wired.{Net}
 use Rattle.pin_nets.specs.declared.Pull.{Pull}
 use Rattle.pin_nets.specs.declared.Pull.TheVariants.{Down, Free}
+use Rattle.pin_nets.specs.declared.Rule.TheVariants.{Counted}
 use Rattle.pin_nets.specs.declared.Pin.{Pin}
 use Rattle.pin_nets.specs.declared.Level.TheVariants.{Zero, One}
 use Rattle.pin_nets.specs.declared.Follow.{Follow}
@@ -26,7 +27,7 @@ abbrev pub following_device : (inverted : Bool) → Member
 following_device inverted = powered (codes "U") sample_device (bits 3 2) (q_follows_d inverted ∷ []) false
 
 abbrev pub named_net : List ℕ → Pull → List Pin → Net
-named_net name pull pins = record { name = name; pull = pull; pins = pins }
+named_net name pull pins = record { name = name; pull = pull; rule = Counted; pins = pins }
 
 -- M pulled down at the first device's D, N from its Q to the second's D, V at the second's Q
 abbrev pub two_following : AtRest

@@ -15,6 +15,7 @@ use Rattle.board_model.specs.Cells.{Member, powered}
 use Rattle.pin_nets.specs.Wired.{Net}
 use Rattle.pin_nets.specs.declared.Pin.{Pin}
 use Rattle.pin_nets.specs.declared.Pull.{Pull}
+use Rattle.pin_nets.specs.declared.Rule.TheVariants.{Counted}
 use Rattle.board_model.specs.Whole.{AtRest}
 use Rattle.board_model.specs.Resting.{power_up}
 use Rattle.scan_vectors.specs.Vector.{PartBits, join}
@@ -99,7 +100,7 @@ abbrev pub pin_d : ℕ → Pin
 pin_d i = record { device = i; port = 5 }
 
 abbrev pub net : Pull → List Pin → List Net
-net pull pins = record { name = codes "N"; pull = pull; pins = pins } ∷ []
+net pull pins = record { name = codes "N"; pull = pull; rule = Counted; pins = pins } ∷ []
 
 abbrev pub nothing : PartBits
 nothing = record { tdi = []; want = []; care = [] }
