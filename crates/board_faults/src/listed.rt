@@ -1,0 +1,112 @@
+//! The faults of a board's nets, one after another.
+
+ghost use Rattle.std.specs.Prelude.{◌≡◌, ◌<◌, length, map, slice_get, Some, option_map};
+ghost use Rattle.board_plan.specs.View.{net as planned_net};
+ghost use Rattle.board_faults.specs.Faults.{behind_opens, behind_pull, bridges, faults_of};
+
+use crate::kinds::Fault;
+use board_plan::PlannedNet;
+use pin_nets::Pull;
+
+/// The faults of a board's nets that are left, net after net: each of its pins' joints open, its pull, stuck at 0 and at
+/// 1, and its bridges with later nets. It takes no memory.
+#[derive(Drop)]
+pub struct Faults<'a> {
+    nets: &'a [PlannedNet],
+    net: usize,
+    at: usize,
+}
+
+impl<'a> Faults<'a> {
+    ghost use Rattle.std.specs.Prelude.{◌≡◌, map};
+    ghost use Rattle.board_plan.specs.View.{net as planned_net};
+    ghost use Rattle.board_faults.specs.Faults.{faults};
+    ghost use Rattle.board_faults.specs.Listing.{left_of};
+
+    /// All faults of these nets.
+    pub fn of(nets: &'a [PlannedNet]) -> Faults<'a>
+        ensures { left_of result ≡ faults (map planned_net nets.now) }
+    {
+        Faults {
+            nets,
+            net: 0,
+            at: 0,
+        }
+    }
+}
+
+impl<'a> Iterator for Faults<'a> {
+    type Item = Fault;
+
+    ghost use Rattle.std.specs.Iterator.{YieldsFirst, item_count};
+    ghost use Rattle.board_faults.specs.Listing.{left_of};
+
+    ghost next_gives = { YieldsFirst left_of };
+
+    ghost remaining = { item_count left_of };
+
+    fn next(&mut self) -> Option<Fault> {
+        while self.net < self.nets.len() {
+            let fault = fault_of(self.nets.len(), self.net, &self.nets[self.net], self.at);
+            if fault.is_some() {
+                self.at += 1;
+                return fault;
+            }
+            self.net += 1;
+            self.at = 0;
+        }
+        None
+    }
+}
+
+/// The fault of a net, among so many, with this place among its own, if there is one.
+fn fault_of(count: usize, net: usize, its: &PlannedNet, at: usize) -> Option<Fault>
+    requires { net < count }
+    ensures { result ≡ slice_get (faults_of count net (planned_net its.now)) at }
+{
+    let pins = its.pins.len();
+    if at < pins {
+        Some(Fault::Open { net, pin: at })
+    } else {
+        behind_opens(count, net, its.pull, at - pins)
+    }
+}
+
+/// The fault with this place among those of a net that are behind its opens.
+fn behind_opens(count: usize, net: usize, pull: Pull, at: usize) -> Option<Fault>
+    requires { net < count }
+    ensures { result ≡ slice_get (behind_opens count net pull) at }
+{
+    match (pull, at) {
+        (Pull::Free, _) => behind_pull(count, net, at),
+        (_, 0) => Some(Fault::Pull { net }),
+        _ => behind_pull(count, net, at - 1),
+    }
+}
+
+/// The fault with this place among those of a net that are behind that of its pull.
+fn behind_pull(count: usize, net: usize, at: usize) -> Option<Fault>
+    requires { net < count }
+    ensures { result ≡ slice_get (behind_pull count net) at }
+{
+    match at {
+        0 => Some(Fault::Stuck { net, bit: false }),
+        1 => Some(Fault::Stuck { net, bit: true }),
+        _ => bridge_at(count, net, at - 2),
+    }
+}
+
+/// The bridge with this place among those of a net.
+fn bridge_at(count: usize, net: usize, at: usize) -> Option<Fault>
+    requires { net < count }
+    ensures { result ≡ slice_get (bridges count net) at }
+{
+    if at < count - net - 1 {
+        Some(Fault::Short {
+            first: net,
+            second: net + 1 + at,
+        })
+    } else {
+        None
+    }
+}
