@@ -1,9 +1,10 @@
 //! A planned chain, powered up.
 
 ghost use Rattle.std.specs.Prelude.{◌≡◌, false, map, IfOk};
+ghost use Rattle.board_loops.specs.Depending.{IsOrdered};
 ghost use Rattle.board_model.specs.Following.{AreHeld, IsOrderOf};
-ghost use Rattle.board_model.specs.Planned.{powered_up};
-ghost use Rattle.board_plan.specs.View.{member as planned_member, net as planned_net, wiring};
+ghost use Rattle.board_model.specs.Planned.{members_of};
+ghost use Rattle.board_plan.specs.View.{wiring};
 ghost use Rattle.board_chips.specs.Driving.{cells_of};
 ghost use Rattle.board_chips.specs.WiredChips.{AllTold, chip_state, held_of, member_of};
 ghost use Rattle.board_chips.specs.Strings.{AreStrung, placed_of};
@@ -15,42 +16,35 @@ use crate::chain::Chain;
 use board_chips::{
     WiredChip, WiredString, Wiring, all_seats, driving_pins, refresh, settle, wired_strings,
 };
-use board_loops::{Settling, settle_strings};
-use board_plan::{Plan, PlannedDevice, PlannedNet};
+use board_plan::Plan;
 use std::alloc::{AllocError, Global};
 
 impl Chain {
     /// A planned chain as it powers up: TRST released, each device in RESET with its reset instruction, all else 0 but
     /// the `controlr` cells. Refuses for want of memory alone.
-    pub fn new(alloc: Global, plan: Plan) -> Result<Chain, AllocError>
-        requires { IsReady (wiring plan) }
-        ensures { IfOk result (λ c. c ≡ chain_of (wiring plan)) }
+    pub fn new(alloc: Global, plan: &Plan) -> Result<Chain, AllocError>
+        requires ready { IsReady (wiring plan.now) }
+        requires ordered { IsOrdered plan.now }
+        ensures { IfOk result (λ c. c ≡ chain_of (wiring plan.now)) }
     {
-        let Plan { devices, nets } = plan;
-        let strings = strings_in_order(alloc, &devices, &nets)?;
-        let seats = all_seats(alloc, &devices, &nets)?;
-        let mut wiring = Wiring::new(alloc, nets)?;
+        let strings = strings_in_order(alloc, plan)?;
+        let seats = all_seats(alloc, &plan.devices, &plan.nets)?;
+        let mut wiring = Wiring::new(alloc, &plan.nets)?;
         refresh(&mut wiring, &seats);
         first_settled(alloc, seats, wiring, strings)
     }
 }
 
-/// The strings of a plan, each behind those that its source's net depends on.
-fn strings_in_order(
-    alloc: Global,
-    devices: &[PlannedDevice],
-    nets: &[PlannedNet],
-) -> Result<Vec<WiredString>, AllocError>
-    requires { IsReady (record { members = map planned_member devices.now; nets = map planned_net nets.now }) }
-    ensures strung { IfOk result (λ v. AreStrung (map planned_net nets.now)
-        (map (λ m. m.device.cells) (map planned_member devices.now)) v.items) }
-    ensures order { IfOk result (λ v. IsOrderOf (map planned_net nets.now)
-        (map powered_up (map planned_member devices.now)) (map placed_of v.items)) }
+/// The strings of a plan in its order of work, each behind those that its source's net depends on.
+fn strings_in_order(alloc: Global, plan: &Plan) -> Result<Vec<WiredString>, AllocError>
+    requires ready { IsReady (wiring plan.now) }
+    requires ordered { IsOrdered plan.now }
+    ensures strung { IfOk result (λ v. AreStrung (wiring plan.now).nets
+        (map (λ m. m.device.cells) (wiring plan.now).members) v.items) }
+    ensures order { IfOk result (λ v. IsOrderOf (wiring plan.now).nets (members_of (wiring plan.now))
+        (map placed_of v.items)) }
 {
-    match settle_strings(alloc, nets, devices)? {
-        Settling::Order(order) => wired_strings(alloc, devices, nets, &order),
-        Settling::Loop(_) => unreachable!(),
-    }
+    wired_strings(alloc, &plan.devices, &plan.nets, &plan.order)
 }
 
 /// Devices that have put to their nets what they drive: the strings are put behind that.

@@ -11,7 +11,7 @@ ghost use Rattle.board_plan.specs.Planned.{all_pins};
 ghost use Rattle.board_plan.specs.View.{net as planned_net};
 ghost use Rattle.board_chips.specs.WiringValues.{WiringValue};
 
-use board_plan::{PlannedNet, number_nets};
+use board_plan::{PlannedNet, copy_nets, number_nets};
 use pin_nets::{Drive, Level, Nets, Pin};
 use std::alloc::{AllocError, Global};
 use std::marker::Model;
@@ -44,14 +44,15 @@ impl Model for Wiring {
 
 impl Wiring {
     /// These nets, to whose pins nothing was put yet; refused where memory runs out.
-    pub fn new(alloc: Global, nets: Vec<PlannedNet>) -> Result<Wiring, AllocError>
+    pub fn new(alloc: Global, nets: &[PlannedNet]) -> Result<Wiring, AllocError>
         ensures { IfOk result (λ w. w ≡ record {
-          nets = map planned_net nets.items;
-          drives = replicate (length (all_pins (map planned_net nets.items))) driving.Nothing;
+          nets = map planned_net nets.now;
+          drives = replicate (length (all_pins (map planned_net nets.now))) driving.Nothing;
         }) }
     {
-        let (specs, pins) = number_nets(alloc, &nets)?;
+        let (specs, pins) = number_nets(alloc, nets)?;
         let levels = Nets::build(alloc, pins.len(), &specs)?;
+        let nets = copy_nets(alloc, nets)?;
         Ok(Wiring { nets, pins, levels })
     }
 

@@ -18,8 +18,6 @@ use Rattle.std.specs.Global.{Vec}
 use denote.Ref.{Bor}
 use Rattle.std.specs.Prelude.{IsErr, IsErrAnd, string_bytes}
 use Rattle.std.specs.Prelude.{min}
-use Rattle.std.specs.Prelude.{String}
-use Rattle.std.specs.Global.{Global}
 use Rattle.std.proofs.lemmas.Bool.{cases_lt}
 use Rattle.std.proofs.lemmas.List.{get_or-map}
 use Rattle.std.specs.Io.KnownBytes.{Appends}
@@ -42,7 +40,7 @@ use Rattle.bsdl_device.specs.declared.Cell.{Cell}
 use Rattle.pin_nets.specs.Wired.{Net}
 use Rattle.board_plan.specs.Planned.{Member}
 use Rattle.byte_streams.proofs.Pieces.{flat_map-more}
-use Rattle.board_description.specs.Described.{cell_line, cell_lines, pin_of, pin_words, device_lines, device_part, digit, digits_from, hex_from, pattern_digit, pattern_from, total}
+use Rattle.board_description.specs.Described.{cell_line, cell_lines, pin_of, pin_words, device_lines, device_part, digit, digits_from, hex_from, pattern_digit, pattern_from, shown_file, total}
 
 -- a list of texts with one of them replaced
 pub map_set : {X Y : Type 0} (f : X → Y) (xs : List X) (k : ℕ) (x : X) → map f (slice_set xs k x) ≡ slice_set (map f xs) k (f x)
@@ -156,19 +154,18 @@ devices_end nets files ms i h = ⊎_elim
     (cases_lt i (length files))
 
 -- the lines of the device at a place, and those of the devices behind it
-pub device_next : (nets : List Net) (files : List (String Global)) (devices : List PlannedDevice) (i : ℕ) (file : String Global) (device : PlannedDevice)
-    → i < length files → i < length devices → file ≡ get_or files i file → device ≡ get_or devices i device
-    → device_lines nets i (drop i (map string_bytes files)) (drop i (map planned_member devices))
-    ≡ device_part nets i (string_bytes file) (string_bytes device.name) device.device
-    ++ device_lines nets (i + 1) (drop (i + 1) (map string_bytes files)) (drop (i + 1) (map planned_member devices))
-device_next nets files devices i file device h k file-is device-is =
-    let names = map string_bytes files in
+pub device_next : (nets : List Net) (devices : List PlannedDevice) (i : ℕ) (device : PlannedDevice) → i < length devices → device ≡ get_or devices i device
+    → device_lines nets i (drop i (map shown_file devices)) (drop i (map planned_member devices))
+    ≡ device_part nets i (shown_file device) (string_bytes device.name) device.device
+    ++ device_lines nets (i + 1) (drop (i + 1) (map shown_file devices)) (drop (i + 1) (map planned_member devices))
+device_next nets devices i device k device-is =
+    let names = map shown_file devices in
     let ms = map planned_member devices in
     let rest = device_lines nets (i + 1) (drop (i + 1) names) (drop (i + 1) ms) in
     let m = get_or ms i (planned_member device) in
-    devices_next nets names ms i (string_bytes file) (planned_member device) (omega (arith, h, length-map files string_bytes)) (omega (arith, k, length-map devices planned_member))
-    ∙ ap (λ (f : List ℕ). device_part nets i f m.name m.device ++ rest) (get_or-map string_bytes files i file (string_bytes file) h ∙ ap string_bytes (sym file-is))
-    ∙ ap (λ (x : Member). device_part nets i (string_bytes file) x.name x.device ++ rest) (get_or-map planned_member devices i device (planned_member device) k ∙ ap planned_member (sym device-is))
+    devices_next nets names ms i (shown_file device) (planned_member device) (omega (arith, k, length-map devices shown_file)) (omega (arith, k, length-map devices planned_member))
+    ∙ ap (λ (f : List ℕ). device_part nets i f m.name m.device ++ rest) (get_or-map shown_file devices i device (shown_file device) k ∙ ap shown_file (sym device-is))
+    ∙ ap (λ (x : Member). device_part nets i (shown_file device) x.name x.device ++ rest) (get_or-map planned_member devices i device (planned_member device) k ∙ ap planned_member (sym device-is))
 
 -- ---- pieces behind one another
 

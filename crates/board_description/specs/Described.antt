@@ -19,6 +19,8 @@ use Rattle.pin_nets.specs.Wired.{Net}
 use Rattle.board_plan.specs.CellNets.{first_net}
 use Rattle.board_plan.specs.LeftOut.{is_left_out}
 use Rattle.board_plan.specs.Planned.{Member, Wiring}
+use Rattle.board_plan.specs.View.{file as planned_file}
+use Rattle.board_plan.specs.declared.plan.PlannedDevice.{PlannedDevice}
 use Rattle.board_description.specs.Names.{shown}
 use Rattle.board_description.specs.Words.{texts, function_word, net_name, port_of, port_words, user_words}
 
@@ -161,6 +163,10 @@ abbrev pub device_part : List Net → (device : ℕ) → (file name : List ℕ) 
 device_part nets device file name d =
     device_line file name d
     ++ (flat_map (instruction_lines name d) d.opcodes ++ cell_lines nets device name d 0 d.cells)
+
+-- the file of a device's description, `-` where it is in none
+abbrev pub shown_file : PlannedDevice → List ℕ
+shown_file m = unwrap_or (planned_file m) (codes "-")
 
 -- the devices from a place on, with the files of their descriptions
 abbrev pub device_lines : List Net → (device : ℕ) → (files : List (List ℕ)) → List Member → List ℕ

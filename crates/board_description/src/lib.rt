@@ -5,7 +5,6 @@
 ghost use Rattle.board_description.specs.Rows.{DescribedRows};
 
 mod cells;
-mod files;
 mod instructions;
 mod nets;
 mod registers;
@@ -13,7 +12,6 @@ mod text;
 mod whole;
 mod words;
 
-pub use files::description_names;
 pub use whole::{Untold, write_description};
 pub use words::function_word;
 

@@ -47,22 +47,22 @@ impl From<Broken> for Untold {
     }
 }
 
-/// Writes what a test engineer needs to know of a board whose devices are described in the files of these names: of
-/// each device, from the one nearest TDO on, a line of its own, one for each opcode of an instruction and one for each
-/// cell; then one for each net with a name, and one for the chain.
+/// Writes what a test engineer needs to know of a board: of each device, from the one nearest TDO on, a line of its own,
+/// one for each opcode of an instruction and one for each cell; then one for each net with a name, and one for the
+/// chain. A device whose description is in no file has `-` for its file.
 ///
 /// The lines of a device are made before they are written, so memory is in proportion to the longest of them.
 pub fn write_description<W: Sink>(
     alloc: Global,
-    files: &[String],
     plan: &Plan,
     out: &mut Counted<W>,
 ) -> Result<(), Untold>
     requires { out.old.failures ≡ 0 }
-    ensures { Told W.contents out.old out.new (described (map string_bytes files.now) (wiring plan.now)) result }
+    ensures { Told W.contents out.old out.new
+        (described (map spec.shown_file plan.now.devices.items) (wiring plan.now)) result }
 {
     let tables = all_port_nets(alloc, &plan.nets, &plan.devices)?;
-    write_devices(alloc, files, &plan.devices, &plan.nets, &tables, out)?;
+    write_devices(alloc, &plan.devices, &plan.nets, &tables, out)?;
     let mut text = Vec::new(alloc);
     put_wiring(&mut text, plan)?;
     put_all(out, &text)?;
@@ -72,7 +72,6 @@ pub fn write_description<W: Sink>(
 /// Writes the lines of the devices, given of each port bit of each the first net that it is on.
 fn write_devices<W: Sink>(
     alloc: Global,
-    files: &[String],
     devices: &[PlannedDevice],
     nets: &[PlannedNet],
     tables: &[Vec<Option<usize>>],
@@ -81,15 +80,13 @@ fn write_devices<W: Sink>(
     requires whole { out.old.failures ≡ 0 }
     requires tables { HaveNets 0 (map planned_member devices.now) (map planned_net nets.now) (lists_of tables.now) }
     ensures { Told W.contents out.old out.new
-        (device_lines (map planned_net nets.now) 0 (map string_bytes files.now) (map planned_member devices.now))
+        (device_lines (map planned_net nets.now) 0 (map spec.shown_file devices.now) (map planned_member devices.now))
         result }
 {
-    let count = files.len().min(devices.len());
+    let count = devices.len();
     let mut place = 0;
     while place < count {
-        let file = &files[place];
-        let table = &tables[place];
-        let text = device_text(alloc, file.as_str(), &devices[place], nets, table)?;
+        let text = device_text(alloc, &devices[place], nets, &tables[place])?;
         put_all(out, &text)?;
         place += 1;
     }
@@ -99,23 +96,33 @@ fn write_devices<W: Sink>(
 /// The lines of a device, given of each of its port bits the first net that it is on.
 fn device_text(
     alloc: Global,
-    file: &str,
     planned: &PlannedDevice,
     nets: &[PlannedNet],
     table: &[Option<usize>],
 ) -> Result<Vec<u8>, AllocError>
     requires long { length table.now ≡ length planned.now.device.ports }
     ensures { (place : ℕ) → HasNets place (map planned_net nets.now) table.now
-        → IfOk result (λ v. v.items ≡ spec.device_part (map planned_net nets.now) place file.now
+        → IfOk result (λ v. v.items ≡ spec.device_part (map planned_net nets.now) place (spec.shown_file planned.now)
         (string_bytes planned.now.name) planned.now.device) }
 {
     let mut text = Vec::new(alloc);
+    let file = shown_file(planned);
     let name = planned.name.as_str();
     let device = planned.device.get();
     put_device(alloc, &mut text, file, name, device)?;
     put_instructions(alloc, &mut text, name, device)?;
     put_cells(&mut text, nets, table, name, device)?;
     Ok(text)
+}
+
+/// The file of a device's description, `-` where it is in none.
+fn shown_file(planned: &PlannedDevice) -> &str
+    ensures { result.now ≡ spec.shown_file planned.now }
+{
+    match &planned.file {
+        Some(file) => file.as_str(),
+        None => "-",
+    }
 }
 
 /// Puts the line of a device itself behind a text.

@@ -88,7 +88,7 @@ module _ (says : List ℕ → Option Device) (files : List File) (names : List (
       ap (option_and_then (λ d. d)) (mapped (described says files) names (position (bytes_eq name) names)
       ∙ ap (option_map (described says files)) (sym (found_at (bytes_eq name) names) ∙ find_itself name names h))
 
-  stands : (t : Members) → Has names (file_at t) → stands_at names (map (described says files) names) t ≡ device_at says files t
+  pub stands : (t : Members) → Has names (file_at t) → stands_at names (map (described says files) names) t ≡ device_at says files t
   stands t h = stands_by (text_at (codes "bsdl") t) h
 
   pub same_known : (ts : List Members) → Named names ts → map (known_in names (map (described says files) names)) ts ≡ map (known_at says files) ts

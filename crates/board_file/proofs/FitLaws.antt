@@ -22,7 +22,7 @@ use Rattle.board_tables.specs.Files.{file_at, file_names}
 use Rattle.board_parts.specs.Pins.{pin_bit, bit_at, pin_at, same_pin, twice, pins_at, twice_in_nets, unknown_in_nets}
 use Rattle.board_parts.proofs.PinLaws.{bit_inside}
 use Rattle.board_file.specs.Wiring.{Fault, PinTwice, TooLarge, UnknownPin, file_fault, known_at, member_at, wiring_of, large, fault_of, makes, targets_in, targets_of}
-use Rattle.board_parts.specs.Parts.{known_of, member_of, net_of, strings_at}
+use Rattle.board_parts.specs.Parts.{file_in, known_of, member_of, net_of, strings_at}
 use Rattle.board_parts.specs.Strings.{HasStrings, strings_of}
 use Rattle.board_parts.proofs.StringLaws.{strings_fit, strings_long}
 use Rattle.board_loops.specs.Depending.{dependencies, dependencies_from, dependency}
@@ -31,10 +31,10 @@ use Rattle.board_plan.specs.Planned.{Member, Wiring}
 use Rattle.board_tables.specs.declared.fault.BoardFault.{BoardFault}
 use Rattle.board_plan.specs.declared.plan.Plan.{Plan}
 use Rattle.board_file.specs.View.{TellsWiring}
-use Rattle.board_plan.specs.View.{wiring}
+use Rattle.board_plan.specs.View.{files as files_in, wiring}
 use Rattle.board_file.specs.Fits.{AreApart, AreSaid, FitsTogether, IsSaid, NoStringsWithoutFollow}
 use Rattle.board_plan.specs.Planned.{HasCore, IsPinOf, all_pins}
-use Rattle.board_file.proofs.DescribedLaws.{Has, Named, named_from}
+use Rattle.board_file.proofs.DescribedLaws.{Has, Named, named_from, stands}
 
 pub neither : {A : Type 0} (a b : Option A) → option_or a b ≡ None → (a ≡ None) × (b ≡ None)
 neither None b h = (refl, h)
@@ -396,6 +396,32 @@ module _ (says : List ℕ → Option Device) (files : List File) (t : Members) w
 pub told_fits : {F : Type 0} (refuses : List ℕ → F → Type 0) (says : List ℕ → Option Device) (files : List File) (t : Members) (r : Result Plan (BoardFault F)) → TellsWiring refuses r (makes says files t) → IfOk r (λ p. FitsTogether (wiring p))
 told_fits refuses says files t (Ok p) h = board_fits says files t (wiring p) h
 told_fits refuses says files t (Err f) h = tt
+
+-- ---- each device has its file
+
+module _ (says : List ℕ → Option Device) (files : List File) (names : List (List ℕ)) where
+  whole-files : (ts : List Members) → Named names ts → AllByRecursion (IsWhole says files) ts
+      → filter_map (file_in names (map (described says files) names)) ts ≡ map (λ (t : Members). Some (file_at t)) ts
+  whole-files [] named all = refl
+  whole-files (t ∷ ts) named all =
+      let here = stands says files names t named.0 ∙ (whole_device says files t all.0).1 in
+      rw (here, whole-files ts named.1 all.1) refl
+
+pub told_files : {F : Type 0} (refuses : List ℕ → F → Type 0) (says : List ℕ → Option Device) (files : List File) (t : Members) (names : List (List ℕ)) (ds : List (Option Device))
+    → names ≡ file_names t → ds ≡ map (described says files) names → (r : Result Plan (BoardFault F)) → TellsWiring refuses r (makes says files t)
+    → IfOk r (λ p. files_in p ≡ filter_map (file_in names ds) (tables_at (codes "device") t)) → IfOk r (λ p. files_in p ≡ map (λ (d : Members). Some (file_at d)) (tables_at (codes "device") t))
+told_files refuses says files t names ds names_is ds_is (Err f) told has = tt
+told_files refuses says files t names ds names_is ds_is (Ok p) told has = by (fault_of says files t) refl told
+  where
+    devices : List Members
+    devices = tables_at (codes "device") t
+
+    named : Named names devices
+    named = subst (λ ns. Named ns devices) (sym names_is) (named_from [] devices)
+
+    by : (o : Option Fault) → fault_of says files t ≡ o → answer o (wiring_of says files t) ≡ Ok (wiring p) → files_in p ≡ map (λ (d : Members). Some (file_at d)) devices
+    by None e is = has ∙ ap (λ all. filter_map (file_in names all) devices) ds_is ∙ whole-files says files names devices named (whole says files t e)
+    by (Some f) e is = absurd (refusal f (wiring p) is)
 
 -- ---- each device is one that a text says
 

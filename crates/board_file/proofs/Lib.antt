@@ -5,3 +5,4 @@ pub mod FitLaws
 pub mod TwiceLaws
 pub mod LoopLaws
 pub mod WithinLaws
+pub mod RefusedLaws

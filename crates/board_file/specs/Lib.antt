@@ -1,5 +1,6 @@
 pub mod Wiring
 pub mod View
+pub mod Refusals
 pub mod Fits
 pub mod Ports
 pub mod Within

@@ -1,22 +1,24 @@
 //! A board by its file and its descriptions.
-ghost use Rattle.std.specs.Prelude.{◌≡◌, ◌<◌, codes, length, map, IfOk};
+ghost use Rattle.std.specs.Prelude.{◌≡◌, ◌<◌, ℕ, codes, filter_map, is_none, length, map, position, IfOk, Some};
 ghost use Rattle.toml.specs.Data.{Members};
 ghost use Rattle.toml.specs.View.{table_view, items_view};
 ghost use Rattle.board_tables.specs.Fields.{name_at, tables_at, tables_in};
 ghost use Rattle.board_tables.specs.Faults.{unfit};
 ghost use Rattle.board_tables.specs.WordView.{texts_of};
-ghost use Rattle.board_tables.specs.Files.{Reads, IsBadToml};
+ghost use Rattle.board_tables.specs.Files.{Reads, IsBadToml, file_at};
 ghost use Rattle.board_loops.specs.Loops.{HasNoLoop};
-ghost use Rattle.board_loops.specs.Depending.{dependencies};
+ghost use Rattle.board_loops.specs.Depending.{IsOrdered, dependencies};
+ghost use Rattle.board_file.specs.Refusals.{RefusesAt};
 ghost use Rattle.board_file.specs.Wiring.{makes, targets_in};
 ghost use Rattle.board_file.specs.View.{IsLoopOf, IsMiswired, IsUnknownFile, JudgesKeys, PlansBoard, TellsBoard};
 ghost use Rattle.board_file.specs.View.{TellsWiring};
 ghost use Rattle.board_tables.specs.FileView.{TellsBadToml};
 ghost use Rattle.board_parts.specs.LibraryView.{files_of};
-ghost use Rattle.board_parts.specs.Parts.{known_in};
-ghost use Rattle.board_plan.specs.View.{wiring};
+ghost use Rattle.board_parts.specs.Parts.{file_in, known_in};
+ghost use Rattle.board_plan.specs.View.{files as files_in, wiring};
 ghost use Rattle.board_file.specs.Fits.{AreSaid, FitsTogether};
 
+use crate::refused::{Refused, unplaced};
 use crate::targets::target_at;
 use crate::wiring::{Miswired, plan_fitting};
 use board_loops::{Settling, settle_strings};
@@ -49,13 +51,18 @@ pub fn plan_of_text<'f, R: Describe>(
     ensures said { IfOk result (λ p. AreSaid R.says (wiring p)) }
     // No string is on a loop.
     ensures loops { IfOk result (λ p. HasNoLoop (dependencies (wiring p))) }
+    // The strings stand in an order of work.
+    ensures ordered { IfOk result (λ p. IsOrdered p) }
+    // Each device has its file, as the board file names it.
+    ensures files { (t : Members) → Reads toml_text.now t
+        → IfOk result (λ p. files_in p ≡ map (λ d. Some (file_at d)) (tables_at (codes "device") t)) }
 {
     let table = read_table(alloc, toml_text)?;
-    plan_of_table(alloc, reader, &table, files)
+    plan_of_read(alloc, reader, &table, files)
 }
 
 /// The same, given the board file's table.
-pub fn plan_of_table<'f, R: Describe>(
+fn plan_of_read<'f, R: Describe>(
     alloc: Global,
     reader: &R,
     table: &Table,
@@ -66,10 +73,39 @@ pub fn plan_of_table<'f, R: Describe>(
     ensures fits { IfOk result (λ p. FitsTogether (wiring p)) }
     ensures said { IfOk result (λ p. AreSaid R.says (wiring p)) }
     ensures loops { IfOk result (λ p. HasNoLoop (dependencies (wiring p))) }
+    ensures ordered { IfOk result (λ p. IsOrdered p) }
+    ensures files { IfOk result
+        (λ p. files_in p ≡ map (λ d. Some (file_at d)) (tables_at (codes "device") (table_view table.now))) }
 {
-    let plan = plan_wired(alloc, reader, files, table)?;
+    match plan_of_table(alloc, reader, table, files) {
+        Ok(plan) => Ok(plan),
+        Err(fault) => Err(unplaced(fault).0),
+    }
+}
+
+/// The same as `plan_of_text`, given the board file's table; where a description is refused, its place is told: that of
+/// the first name, among those that the board file asks for, whose file is refused.
+pub fn plan_of_table<'f, R: Describe>(
+    alloc: Global,
+    reader: &R,
+    table: &Table,
+    files: &[(&'f str, &'f [u8])],
+) -> Result<Plan, BoardFault<Refused<R::Fault>>>
+    ensures told { TellsBoard (RefusesAt R.says R.refuses (files_of files.now) (table_view table.now)) result
+        (makes R.says (files_of files.now) (table_view table.now)) (targets_in (table_view table.now)) }
+    ensures fits { IfOk result (λ p. FitsTogether (wiring p)) }
+    ensures said { IfOk result (λ p. AreSaid R.says (wiring p)) }
+    ensures loops { IfOk result (λ p. HasNoLoop (dependencies (wiring p))) }
+    ensures ordered { IfOk result (λ p. IsOrdered p) }
+    ensures files { IfOk result
+        (λ p. files_in p ≡ map (λ d. Some (file_at d)) (tables_at (codes "device") (table_view table.now))) }
+{
+    let mut plan = plan_wired(alloc, reader, files, table)?;
     match settle_strings(alloc, &plan.nets, &plan.devices)? {
-        Settling::Order(_) => Ok(plan),
+        Settling::Order(order) => {
+            plan.order = order;
+            Ok(plan)
+        }
         Settling::Loop(place) => Err(core_loop(alloc, table, place)),
     }
 }
@@ -85,16 +121,19 @@ fn core_loop<F>(alloc: Global, table: &Table, place: usize) -> BoardFault<F>
     }
 }
 
-/// The board as it is wired, whatever depends on what.
+/// The board as it is wired, whatever depends on what: its strings are in no order yet.
 fn plan_wired<'f, R: Describe>(
     alloc: Global,
     reader: &R,
     files: &[(&'f str, &'f [u8])],
     table: &Table,
-) -> Result<Plan, BoardFault<R::Fault>>
-    ensures told { TellsWiring R.refuses result (makes R.says (files_of files.now) (table_view table.now)) }
+) -> Result<Plan, BoardFault<Refused<R::Fault>>>
+    ensures told { TellsWiring (RefusesAt R.says R.refuses (files_of files.now) (table_view table.now)) result
+        (makes R.says (files_of files.now) (table_view table.now)) }
     ensures fits { IfOk result (λ p. FitsTogether (wiring p)) }
     ensures said { IfOk result (λ p. AreSaid R.says (wiring p)) }
+    ensures files { IfOk result
+        (λ p. files_in p ≡ map (λ d. Some (file_at d)) (tables_at (codes "device") (table_view table.now))) }
 {
     let names = distinct_files(alloc, items_at(table, "device"))?;
     let Library {
@@ -107,9 +146,20 @@ fn plan_wired<'f, R: Describe>(
         return Err(unknown_file(alloc, name));
     }
     if let Some(fault) = refused {
-        return Err(BoardFault::Bsdl(fault));
+        let place = undescribed_place(&devices);
+        return Err(BoardFault::Bsdl(Refused { place, fault }));
     }
     plan_described(alloc, table, &names, &devices)
+}
+
+/// The place of the first file that gave no device.
+fn undescribed_place(described: &[Option<SharedDevice>]) -> usize
+    ensures { (place : ℕ) → position is_none described.now ≡ Some place → result ≡ place }
+{
+    described
+        .iter()
+        .position(|device| device.is_none())
+        .unwrap_or(0)
 }
 
 /// Judges the keys of the whole file, given all names of files and what is described in each.
@@ -141,15 +191,18 @@ fn unknown_file<F>(alloc: Global, name: &str) -> BoardFault<F>
 }
 
 /// The board, where the keys are good and each description is there, given all names of files and what is described in
-/// each.
+/// each. Its strings are in no order yet.
 fn plan_described<F>(
     alloc: Global,
     table: &Table,
     names: &Places<&str>,
     described: &[Option<SharedDevice>],
 ) -> Result<Plan, BoardFault<F>>
-    ensures { PlansBoard result (texts_of names.now) described.now (tables_at (codes "device") (table_view table.now))
-        (tables_at (codes "net") (table_view table.now)) }
+    ensures board { PlansBoard result (texts_of names.now) described.now
+        (tables_at (codes "device") (table_view table.now)) (tables_at (codes "net") (table_view table.now)) }
+    ensures files { IfOk result (λ p. files_in p
+        ≡ filter_map (file_in (texts_of names.now) described.now)
+        (tables_at (codes "device") (table_view table.now))) }
 {
     let entries = items_at(table, "device");
     let nets = items_at(table, "net");
@@ -162,6 +215,7 @@ fn plan_described<F>(
     Ok(Plan {
         devices: plan_devices(alloc, names, described, entries)?,
         nets,
+        order: Vec::new(alloc),
     })
 }
 

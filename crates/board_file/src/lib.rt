@@ -3,6 +3,7 @@
 
 mod board;
 mod laws;
+mod refused;
 mod targets;
 mod wiring;
 
@@ -11,3 +12,4 @@ pub use board_parts::{Describe, Unread};
 pub use board_tables::{BoardFault, bsdl_names, names_of_table, read_table};
 pub use laws::{boards_are_limited, no_strings_without_follow};
 pub use pin_nets::Pin;
+pub use refused::{Refused, unplaced};

@@ -4,12 +4,13 @@ use Rattle.std.specs.Prelude.{◌≡◌, ℕ, zero, suc, ◌+◌, List, [], ◌�
 use Rattle.std.specs.Prelude.{Option, None, option_and_then, unwrap_or}
 use Rattle.std.specs.List.{AllByRecursion}
 use Rattle.bsdl_device.specs.declared.Cell.{Cell}
-use Rattle.board_loops.specs.Loops.{HasNoLoop}
+use Rattle.board_loops.specs.Loops.{HasNoLoop, IsInOrder}
 use Rattle.board_loops.specs.declared.net_loops.Dependency.{Dependency}
 use Rattle.board_plan.specs.CellNets.{first_net}
 use Rattle.board_plan.specs.Planned.{Member, Wiring}
-use Rattle.board_plan.specs.View.{member as planned_member, net as planned_net}
+use Rattle.board_plan.specs.View.{member as planned_member, net as planned_net, wiring}
 use Rattle.pin_nets.specs.declared.Follow.{Follow}
+use Rattle.board_plan.specs.declared.plan.Plan.{Plan}
 use Rattle.board_plan.specs.declared.plan.PlannedDevice.{PlannedDevice}
 use Rattle.board_plan.specs.declared.plan.PlannedNet.{PlannedNet}
 
@@ -48,6 +49,10 @@ dependencies w = dependencies_from w 0 w.members
 -- the board that nets and devices are
 abbrev pub wired : List PlannedNet → List PlannedDevice → Wiring
 wired nets devices = record { members = map planned_member devices; nets = map planned_net nets }
+
+-- a plan keeps an order of work of its strings
+abbrev pub IsOrdered : Plan → Type 0
+IsOrdered p = IsInOrder (dependencies (wiring p)) p.order.items
 
 -- ---- by a table of the nets of a device's port bits, and the number of the first of these for where it is on none
 

@@ -1,6 +1,6 @@
 -- What the files that are handed in describe. A description stands in a file; `says` is the device that a text
 -- describes, None where the text is refused.
-use Rattle.std.specs.Prelude.{ℕ, List, [], ◌∷◌, filter_map, codes, bytes_eq, is_none}
+use Rattle.std.specs.Prelude.{ℕ, List, [], ◌∷◌, filter_map, codes, bytes_eq, is_none, is_some, position}
 use Rattle.std.specs.Option.{option_or}
 use Rattle.std.specs.Prelude.{option_map, option_and_then, Option, Some, None}
 use Rattle.std.specs.Prelude.{if◌then◌else◌}
@@ -44,3 +44,7 @@ abbrev pub refused_in : (List ℕ → Option Device) → List File → List (Lis
 refused_in says files [] = None
 refused_in says files (name ∷ names) =
     option_or (option_and_then (refused says) (text_of files name)) (refused_in says files names)
+
+-- its place among the names
+abbrev pub refused_place : (List ℕ → Option Device) → List File → List (List ℕ) → Option ℕ
+refused_place says files names = position (λ name. is_some (option_and_then (refused says) (text_of files name))) names

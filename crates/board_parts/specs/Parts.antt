@@ -1,10 +1,11 @@
 -- What the tables of a board file say of its devices and nets.
-use Rattle.std.specs.Prelude.{List, [], ℕ, length, codes, Option, option_map, unwrap_or, is_some}
+use Rattle.std.specs.Prelude.{List, [], ℕ, length, codes, Option, Some, option_map, unwrap_or, is_some}
 use Rattle.toml.specs.Data.{Members}
 use Rattle.bsdl_device.specs.Device.{Device}
 use Rattle.pin_nets.specs.Wired.{Net}
 use Rattle.board_tables.specs.declared.keys.Known.{Known}
 use Rattle.board_tables.specs.Fields.{text_at, texts_at, name_at}
+use Rattle.board_tables.specs.Files.{file_at}
 use Rattle.board_parts.specs.LibraryView.{stands_at}
 use Rattle.board_parts.specs.Pins.{pins_at}
 use Rattle.pin_nets.specs.declared.Follow.{Follow}
@@ -35,6 +36,10 @@ known_in names ds t = option_map (known_of t) (stands_at names ds t)
 
 abbrev pub member_in : List (List ℕ) → List (Option Device) → Members → Option Member
 member_in names ds t = option_map (member_of t) (stands_at names ds t)
+
+-- the file of its description, where that is there
+abbrev pub file_in : List (List ℕ) → List (Option Device) → Members → Option (Option (List ℕ))
+file_in names ds t = option_map (λ (d : Device). Some (file_at t)) (stands_at names ds t)
 
 abbrev pub net_of : List (List ℕ) → List Device → Members → Net
 net_of names ds t = record { name = name_at t; pull = pull_of (text_at (codes "pull") t); pins = pins_at names ds t }

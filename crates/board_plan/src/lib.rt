@@ -12,5 +12,5 @@ mod words;
 pub use all_cells::{all_cell_nets, all_port_nets, enter_pin, no_nets};
 pub use instructions::{is_left_out, left_out, left_out_means_bypass};
 pub use numbers::number_nets;
-pub use plan::{Plan, PlannedDevice, PlannedNet};
+pub use plan::{Plan, PlannedDevice, PlannedNet, copy_nets};
 pub use words::{core_bits, is_update, pull_of};

@@ -1,13 +1,18 @@
 //! A board as it is wired, before power-up.
+ghost use Rattle.std.specs.Prelude.{◌≡◌, map, IfOk};
+ghost use Rattle.board_plan.specs.View.{net as planned_net};
+
 use chip_instructions::SharedDevice;
 use jt_bits::Bits;
 use pin_nets::{Follow, Pin, Pull};
+use std::alloc::{AllocError, Global};
 
-/// A device: its name, its description, its core's constant bits (one a cell, cell 0 first), the strings that its core
-/// follows, and whether EXTEST captures the update stage.
+/// A device: its name, the file of its description (a bare device has none), its description, its core's constant bits
+/// (one a cell, cell 0 first), the strings that its core follows, and whether EXTEST captures the update stage.
 #[derive(Drop)]
 pub struct PlannedDevice {
     pub name: String,
+    pub file: Option<String>,
     pub device: SharedDevice,
     pub core: Bits,
     pub follows: Vec<Follow>,
@@ -22,9 +27,32 @@ pub struct PlannedNet {
     pub pins: Vec<Pin>,
 }
 
-/// The devices, the first nearest the board's TDO, and the nets.
+/// The value of a board: the devices, the first nearest the board's TDO, the nets, and an order of work of the strings,
+/// each by its place among all, by devices and then strings. Boards are powered up from it, which lends what they copy.
 #[derive(Drop)]
 pub struct Plan {
     pub devices: Vec<PlannedDevice>,
     pub nets: Vec<PlannedNet>,
+    pub order: Vec<usize>,
+}
+
+/// The same nets once more. Refused where memory runs out.
+pub fn copy_nets(alloc: Global, nets: &[PlannedNet]) -> Result<Vec<PlannedNet>, AllocError>
+    ensures { IfOk result (λ v. map planned_net v.items ≡ map planned_net nets.now) }
+{
+    let mut copies = Vec::with_capacity(alloc, nets.len())?;
+    for net in nets {
+        copies.push(copy_net(alloc, net)?)?;
+    }
+    Ok(copies)
+}
+
+fn copy_net(alloc: Global, net: &PlannedNet) -> Result<PlannedNet, AllocError>
+    ensures { IfOk result (λ n. planned_net n ≡ planned_net net.now) }
+{
+    Ok(PlannedNet {
+        name: String::from_str(alloc, &net.name)?,
+        pull: net.pull,
+        pins: net.pins.to_vec(alloc)?,
+    })
 }

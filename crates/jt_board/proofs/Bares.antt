@@ -2,6 +2,7 @@
 use Rattle.std.proofs.Common.{◌≡◌, ◌<◌, ◌≤◌, ℕ, zero, suc, List, [], ◌∷◌, length, map, refl, sym, ap, subst, ◌∙◌, arith}
 use Rattle.std.specs.List.{AllByRecursion}
 use Rattle.std.proofs.lemmas.List.{length-map}
+use Rattle.std.proofs.lemmas.List.Sorted.{IsPermutation-refl}
 use Rattle.std.proofs.lemmas.Option.{none-some}
 use Rattle.jt_limits.specs.Limits.{limits}
 use Rattle.jt_tap.specs.declared.State.TheVariants.{Reset}
@@ -17,10 +18,15 @@ use Rattle.board_model.specs.Sound.{AllSound, IsChain}
 use Rattle.board_model.proofs.Powered.{powered_sound}
 use Rattle.board_parts.specs.Strings.{HasStrings}
 use Rattle.board_loops.proofs.DependingLaws.{no_loop}
+use Rattle.board_loops.specs.Depending.{dependencies, dependencies_from}
+use Rattle.board_loops.specs.Loops.{IsInOrder}
+use Rattle.board_loops.specs.declared.net_loops.Dependency.{Dependency}
+use Rattle.board_plan.specs.View.{wiring}
+use Rattle.board_plan.specs.declared.plan.Plan.{Plan}
 use Rattle.board_model.specs.Following.{FollowsNoOtherControl}
 use Rattle.board_model.specs.Planned.{powered_up}
 use Rattle.board_chain.specs.Ready.{IsReady}
-use Rattle.jt_board.specs.Made.{IsSoundWiring, board_of}
+use Rattle.jt_board.specs.Made.{IsReadyPlan, IsSoundWiring, board_of}
 use Rattle.jt_board.specs.Bares.{bare_at, bare_planned, bare_wiring}
 
 -- ---- sound devices
@@ -101,6 +107,25 @@ bare_sound n some most = record {
 powered-bares : (k n : ℕ) → map powered_up (bare_planned k n) ≡ bare_from k n
 powered-bares k zero = refl
 powered-bares k (suc n) = ap (λ (r : List Member). powered_up (bare_at k) ∷ r) (powered-bares (suc k) n)
+
+no-dependencies : (w : planned.Wiring) (place k n : ℕ) → dependencies_from w place (bare_planned k n) ≡ []
+no-dependencies w place k zero = refl
+no-dependencies w place k (suc n) = no-dependencies w (suc place) (suc k) n
+
+none-in-order : IsInOrder [] []
+none-in-order = record { each_once = IsPermutation-refl []; before = λ i j one other at there same. absurd (none-some one at) }
+
+-- the plan of bare devices, whose order has nothing
+pub bare_plan_ready : (n : ℕ) → 0 < n → n ≤ limits.devices → (p : Plan) → wiring p ≡ bare_wiring n → p.order.items ≡ [] → IsReadyPlan p
+bare_plan_ready n some most p is none = record {
+  ready = subst IsReady (sym is) (bare_ready n);
+  sound = subst IsSoundWiring (sym is) (bare_sound n some most);
+  nets = subst (λ (w : planned.Wiring). length w.nets ≤ limits.nets) (sym is) (omega arith);
+  ordered =
+      subst (λ (o : List ℕ). IsInOrder (dependencies (wiring p)) o) (sym none)
+      (subst (λ (w : planned.Wiring). IsInOrder (dependencies w) []) (sym is)
+      (subst (λ (ds : List Dependency). IsInOrder ds []) (sym (no-dependencies (bare_wiring n) 0 1 n)) none-in-order));
+}
 
 pub bare_is : (n : ℕ) → board_of (bare_wiring n) ≡ bare_board n
 bare_is n = ap (λ (ms : List Member). board_at_rest (power_up [] ms)) (powered-bares 1 n)

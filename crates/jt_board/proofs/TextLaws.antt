@@ -1,5 +1,5 @@
 -- Boards that a board file and the descriptions it names make.
-use Rattle.std.proofs.Common.{◌≡◌, ◌≢◌, ◌<◌, ◌+◌, ℕ, zero, suc, Bool, true, false, ◌&&◌, ◌||◌, cond, List, [], ◌∷◌, ◌++◌, length, map, get_or, slice_get, Option, Some, None, Result, Ok, Err, refl, sym, ap, ap₂, subst, ◌∙◌, arith, ◌⊎◌, inl, inr, ⊎_elim}
+use Rattle.std.proofs.Common.{◌≡◌, ◌≢◌, ◌<◌, ◌+◌, ℕ, zero, suc, Bool, true, false, ◌&&◌, ◌||◌, cond, List, [], ◌∷◌, ◌++◌, length, map, get_or, slice_get, Option, Some, None, Result, Ok, Err, IfOk, refl, sym, ap, ap₂, subst, ◌∙◌, arith, ◌⊎◌, inl, inr, ⊎_elim}
 use Rattle.std.specs.List.{AllByRecursion, AllPairs, list_any}
 use Rattle.std.proofs.lemmas.Bool.{and_parts, eq-eqb, eqb-true, false≢true}
 use Rattle.std.proofs.lemmas.Option.{none-some, same_Some}
@@ -18,7 +18,7 @@ use Rattle.pin_nets.specs.declared.Follow.{Follow}
 use Rattle.pin_nets.specs.declared.Pin.{Pin}
 use Rattle.board_parts.specs.Pins.{same_pin}
 use Rattle.board_parts.specs.Strings.{HasStrings, IsStringOf}
-use Rattle.board_loops.specs.Depending.{dependencies}
+use Rattle.board_loops.specs.Depending.{IsOrdered, dependencies}
 use Rattle.board_model.specs.Cells.{Member}
 use Rattle.board_model.specs.Following.{FollowsNoOtherControl, IsAmong, is_control}
 use Rattle.board_model.specs.Planned.{powered_up}
@@ -41,7 +41,7 @@ use Rattle.board_plan.specs.declared.plan.Plan.{Plan}
 use Rattle.board_model.specs.Chain.{BoardState}
 use Rattle.board_chain.specs.Ready.{IsReady}
 use Rattle.jt_board.specs.FromText.{TellsMade, IsWhyRefused, said_device}
-use Rattle.jt_board.specs.Made.{IsSoundWiring, board_of}
+use Rattle.jt_board.specs.Made.{IsReadyPlan, IsSoundWiring, board_of}
 
 -- ---- what is said
 
@@ -185,6 +185,19 @@ ready_wiring w fits said loops = record {
   controls = controls w.members fits.strings (all-said HasFitCells (λ d is. every_fit is.0 d (says is.0 d is.1)) w.members said);
   no_loop = loops;
 }
+
+pub ready_plan : (p : Plan) → FitsTogether (wiring p) → AreSaid said_device (wiring p) → HasNoLoop (dependencies (wiring p)) → IsOrdered p → IsReadyPlan p
+ready_plan p fits said loops ordered = record {
+  ready = ready_wiring (wiring p) fits said loops;
+  sound = sound_wiring (wiring p) fits said;
+  nets = fits.nets;
+  ordered = ordered;
+}
+
+pub ready_made : {E : Type 0} (r : Result Plan E) → IfOk r (λ p. FitsTogether (wiring p)) → IfOk r (λ p. AreSaid said_device (wiring p)) → IfOk r (λ p. HasNoLoop (dependencies (wiring p)))
+    → IfOk r (λ p. IsOrdered p) → IfOk r (λ p. IsReadyPlan p)
+ready_made (Ok p) fits said loops ordered = ready_plan p fits said loops ordered
+ready_made (Err e) fits said loops ordered = tt
 
 -- ---- what is told
 

@@ -3,11 +3,15 @@ use Rattle.std.specs.Prelude.{◌<◌, ◌≤◌, Bool, length}
 use Rattle.std.specs.List.{AllByRecursion}
 use Rattle.jt_limits.specs.Limits.{limits}
 use Rattle.bsdl_device.specs.Sound.{IsSoundDevice}
+use Rattle.board_loops.specs.Depending.{IsOrdered}
+use Rattle.board_plan.specs.declared.plan.Plan.{Plan}
 use Rattle.board_plan.specs.Planned as planned
+use Rattle.board_plan.specs.View.{wiring}
 use Rattle.board_model.specs.Chain.{BoardState}
 use Rattle.board_model.specs.Resting.{power_up, board_at_rest}
 use Rattle.board_model.specs.Planned.{members_of}
 use Rattle.board_chain.specs.Chains.{ChainValue}
+use Rattle.board_chain.specs.Ready.{IsReady}
 
 -- a board of this chain, at this level of TCK
 abbrev pub board_at : Bool → ChainValue → BoardState
@@ -22,3 +26,11 @@ pub record IsSoundWiring (w : planned.Wiring) : Type 0 where
   pub some : 0 < length w.members
   pub most : length w.members ≤ limits.devices
   pub sound : AllByRecursion (λ (m : planned.Member). IsSoundDevice m.device) w.members
+
+-- What a board is powered up from: its chain is ready, its devices are sound, its nets are no more than the limit, and
+-- the order that it keeps is one of work.
+pub record IsReadyPlan (p : Plan) : Type 0 where
+  pub ready : IsReady (wiring p)
+  pub sound : IsSoundWiring (wiring p)
+  pub nets : length (wiring p).nets ≤ limits.nets
+  pub ordered : IsOrdered p

@@ -1,10 +1,11 @@
 //! The bare device, and the plan of a board of bare devices.
 
-ghost use Rattle.std.specs.Prelude.{◌≡◌, [], ◌∷◌, ◌≤◌, true, false, Some, map, string_bytes, IfOk};
+ghost use Rattle.std.specs.Prelude.{◌≡◌, [], ◌∷◌, ◌<◌, ◌≤◌, true, false, Some, map, string_bytes, IfOk};
 ghost use Rattle.jt_limits.specs.Limits.{limits};
 ghost use Rattle.board_plan.specs.View.{member, wiring};
 ghost use Rattle.board_model.specs.Bare.{bare};
 ghost use Rattle.jt_board.specs.Bares.{bare_at, bare_planned, bare_wiring, two_bits};
+ghost use Rattle.jt_board.specs.Made.{IsReadyPlan};
 
 use board_plan::{Plan, PlannedDevice};
 use bsdl_device::{Cell, Device, Function, Names, Opcode, Parts, Pattern, Port, PortMode, Ports};
@@ -12,16 +13,20 @@ use chip_instructions::SharedDevice;
 use jt_bits::Bits;
 use std::alloc::{AllocError, Global};
 
-/// So many bare devices, named U1, U2 and so on, whose cores are 0. Refuses for want of memory alone.
+/// The plan of so many bare devices, 1 to 256, named U1, U2 and so on, whose cores are 0. Refuses for want of memory
+/// alone.
 pub fn bare_plan(alloc: Global, n: usize) -> Result<Plan, AllocError>
-    requires { n ≤ limits.devices }
-    ensures { IfOk result (λ p. wiring p ≡ bare_wiring n) }
+    requires some { 0 < n }
+    requires most { n ≤ limits.devices }
+    ensures wired { IfOk result (λ p. wiring p ≡ bare_wiring n) }
+    ensures ready { IfOk result (λ p. IsReadyPlan p) }
 {
     let device = SharedDevice::new(alloc, bare_device(alloc)?)?;
     let devices = bare_devices(alloc, &device, n)?;
     Ok(Plan {
         devices,
         nets: Vec::new(alloc),
+        order: Vec::new(alloc),
     })
 }
 
@@ -53,6 +58,7 @@ fn planned_device(
 {
     Ok(PlannedDevice {
         name: format!(in alloc; "U{number}")?,
+        file: None,
         device: device.share()?,
         core: Bits::zeros(alloc, 1)?,
         follows: Vec::new(alloc),

@@ -11,8 +11,7 @@ ghost use Rattle.board_tables.specs.declared.fault.BoardFault.TheVariants as fau
 ghost use Rattle.board_model.specs.Bare.{bare_board};
 ghost use Rattle.board_model.specs.Chain as chain;
 ghost use Rattle.board_model.specs.Sound.{IsSoundBoard};
-ghost use Rattle.board_chain.specs.Ready.{IsReady};
-ghost use Rattle.jt_board.specs.Made.{IsSoundWiring, board_at, board_of};
+ghost use Rattle.jt_board.specs.Made.{IsReadyPlan, board_at, board_of};
 
 mod at_rest;
 mod idle;
@@ -72,11 +71,13 @@ impl Board {
         Ok(bare_devices(alloc, n)?)
     }
 
-    /// A planned board as it powers up.
-    pub(crate) fn powered_up(alloc: Global, plan: Plan) -> Result<Board, AllocError>
-        requires ready { IsReady (wiring plan) }
-        requires sound { IsSoundWiring (wiring plan) }
-        ensures { IfOk result (λ b. b ≡ board_of (wiring plan)) }
+    /// The board of a plan as it powers up; as many as are wanted are powered up from one plan. Refuses for want of
+    /// memory alone.
+    ///
+    /// Asks that the plan is ready, as those are that `plan_of_table` and `bare_plan` make.
+    pub fn powered_up(alloc: Global, plan: &Plan) -> Result<Board, AllocError>
+        requires { IsReadyPlan plan.now }
+        ensures { IfOk result (λ b. b ≡ board_of (wiring plan.now)) }
     {
         Ok(Board {
             tck: false,
@@ -235,5 +236,6 @@ fn bare_devices(alloc: Global, n: usize) -> Result<Board, AllocError>
     requires most { n ≤ limits.devices }
     ensures { IfOk result (λ b. b ≡ bare_board n) }
 {
-    Board::powered_up(alloc, bare_plan(alloc, n)?)
+    let plan = bare_plan(alloc, n)?;
+    Board::powered_up(alloc, &plan)
 }

@@ -1,19 +1,29 @@
 //! Boards by their board file and the descriptions that it names.
 
+ghost use Rattle.std.specs.Prelude.{◌≡◌, codes, map, IfOk, Some};
 ghost use Rattle.toml.specs.Data.{Members};
 ghost use Rattle.toml.specs.View.{table_view};
-ghost use Rattle.board_tables.specs.Files.{IsBadToml, Reads, names_of};
+ghost use Rattle.board_tables.specs.Fields.{tables_at};
+ghost use Rattle.board_tables.specs.Files.{IsBadToml, Reads, file_at, names_of};
 ghost use Rattle.board_tables.specs.FileView.{ReadsToml, TellsBadToml, TellsNames};
 ghost use Rattle.board_parts.specs.LibraryView.{files_of};
+ghost use Rattle.board_file.specs.Refusals.{RefusesAt};
+ghost use Rattle.board_file.specs.View.{TellsBoard};
 ghost use Rattle.board_file.specs.Wiring.{makes, targets_in};
-ghost use Rattle.jt_board.specs.FromText.{TellsMade, said_device};
+ghost use Rattle.board_plan.specs.View.{files as files_in};
+ghost use Rattle.jt_board.specs.FromText.{IsWhyRefused, TellsMade, said_device};
+ghost use Rattle.jt_board.specs.Made.{IsReadyPlan};
 
 use crate::board::{Board, BoardFault};
-use board_file::{Describe, Unread, names_of_table, plan_of_table, read_table};
+use board_file::{Describe, Refused, Unread, names_of_table, plan_of_text, read_table};
+use board_plan::Plan;
 use bsdl::{BsdlFault, read};
 use bsdl_device::Device;
 use std::alloc::Global;
 use toml::Table;
+
+/// Why no plan was made of a board file's table: C2 to C9, and for C4 which description is refused.
+pub type PlanFault = board_file::BoardFault<Refused<BsdlFault>>;
 
 /// The reader of descriptions in BSDL.
 struct Bsdl;
@@ -62,6 +72,26 @@ pub fn table_names(alloc: Global, table: &Table) -> Result<Vec<String>, BoardFau
     names_of_table(alloc, table)
 }
 
+/// The plan of the board that a board file's table and the descriptions in these files make, as `Board::from_text` has
+/// it, or the first refusal. A description that is refused comes with the place of its name among those that
+/// `table_names` gives: the first whose file is refused.
+pub fn plan_of_table<'f>(
+    alloc: Global,
+    table: &Table,
+    files: &[(&'f str, &'f [u8])],
+) -> Result<Plan, PlanFault>
+    // The plan that the table and the files make, or why they make none, unless memory runs out.
+    ensures told { TellsBoard (RefusesAt said_device IsWhyRefused (files_of files.now) (table_view table.now)) result
+        (makes said_device (files_of files.now) (table_view table.now)) (targets_in (table_view table.now)) }
+    // Boards may be powered up from it.
+    ensures ready { IfOk result (λ p. IsReadyPlan p) }
+    // Each device has its file, as the table names it.
+    ensures files { IfOk result
+        (λ p. files_in p ≡ map (λ d. Some (file_at d)) (tables_at (codes "device") (table_view table.now))) }
+{
+    board_file::plan_of_table(alloc, &Bsdl, table, files)
+}
+
 impl Board {
     /// The board that a board file and the descriptions in these files make, as it powers up, each file given by its
     /// name and its text; or the first refusal. Of two files of one name the first counts; files that no device names
@@ -77,21 +107,7 @@ impl Board {
         // What is no TOML is refused as that, unless memory runs out.
         ensures bad_toml { IsBadToml toml_text.now → TellsBadToml result }
     {
-        let table = board_table(alloc, toml_text)?;
-        Board::from_table(alloc, &table, files)
-    }
-
-    /// The same, given the board file's table: a program that has asked for the names of its descriptions need not read
-    /// the file again.
-    pub fn from_table<'f>(
-        alloc: Global,
-        table: &Table,
-        files: &[(&'f str, &'f [u8])],
-    ) -> Result<Board, BoardFault>
-        ensures { TellsMade result (makes said_device (files_of files.now) (table_view table.now))
-            (targets_in (table_view table.now)) }
-    {
-        let plan = plan_of_table(alloc, &Bsdl, table, files)?;
-        Ok(Board::powered_up(alloc, plan)?)
+        let plan = plan_of_text(alloc, &Bsdl, toml_text, files)?;
+        Ok(Board::powered_up(alloc, &plan)?)
     }
 }

@@ -138,7 +138,7 @@ fn tell_file<E: Sink>(file: &RefusedFile, err: &mut Counted<E>) -> Result<(), Br
     requires { err.old.failures ≡ 0 }
 {
     match &file.fault {
-        BoardFault::Bsdl(fault) => refused_description(&file.name, &file.text, fault, err),
+        BoardFault::Bsdl(fault) => refused_description(file.name(), file.text(), fault, err),
         _ => Ok(()),
     }
 }

@@ -7,7 +7,7 @@ mod linked;
 mod links;
 mod waves;
 
-use crate::described::{Boards, Unmade, Wired, describe, plan_board, read_wired};
+use crate::described::{Boards, Planned, Unmade, plan_board};
 use crate::explained::{check_text, play_text, tell_unmade};
 use crate::linked::{AcceptedText, loop_over_socket, play_on_server};
 use crate::links::{accept, listen};
@@ -97,39 +97,35 @@ fn run_request(rt: &HostRuntime, alloc: Global, request: &Request<'_>) -> u8 {
             Err(status) => status,
         };
     }
-    if let (Task::Describe, Some(board)) = (request.task, request.board) {
-        return describe_board(rt, alloc, board);
-    }
-    match read_wired(rt, alloc, request.board) {
-        Ok(wired) => run_wired(rt, alloc, request, wired),
+    match plan_board(rt, alloc, request.board) {
+        Ok(planned) => run_planned(rt, alloc, request, planned),
         Err(fault) => refuse_board(rt, &fault, explain),
     }
 }
 
-/// Makes the board, and does with it what is asked for. What it was made of is kept only where waves are drawn on the
-/// same board.
-fn run_wired(rt: &HostRuntime, alloc: Global, request: &Request<'_>, wired: Wired) -> u8 {
+/// Describes the board of a plan, or powers it up and does with it what is asked for. The plan is kept only where waves
+/// are drawn on the same board.
+fn run_planned(rt: &HostRuntime, alloc: Global, request: &Request<'_>, planned: Planned) -> u8 {
     let explain = explains(request.task);
-    let boards = match wired.boards(alloc, explain, explain && plays(request.task)) {
+    if matches!(request.task, Task::Describe) {
+        return describe_board(rt, alloc, &planned);
+    }
+    let boards = match planned.boards(alloc, explain && plays(request.task)) {
         Ok(boards) => boards,
-        Err(fault) => return refuse_board(rt, &fault, explain),
+        Err(fault) => return refuse_board(rt, &Unmade::from(fault), explain),
     };
     match waves_of(request.task) {
-        Some(waves) => draw_play(rt, alloc, request, waves, &wired, boards),
+        Some(waves) => draw_play(rt, alloc, request, waves, &planned, boards),
         None => {
-            drop(wired);
+            drop(planned);
             run_boards(rt, alloc, request, boards)
         }
     }
 }
 
-/// Describes the board of a board file. Answers the exit status.
-fn describe_board(rt: &HostRuntime, alloc: Global, name: &str) -> u8 {
-    let board = match plan_board(rt, alloc, name) {
-        Ok(board) => board,
-        Err(fault) => return refuse_board(rt, &fault, false),
-    };
-    match describe(alloc, &board, &mut Counted::new(Plain(io::writer(rt)))) {
+/// Describes the board of a plan. Answers the exit status.
+fn describe_board(rt: &HostRuntime, alloc: Global, planned: &Planned) -> u8 {
+    match planned.describe(alloc, &mut Counted::new(Plain(io::writer(rt)))) {
         Ok(()) => DONE,
         Err(Untold::Broken) => BROKEN,
         Err(Untold::NoMemory) => tell_line(rt, "memory", MEMORY),
@@ -197,13 +193,13 @@ fn draw_play(
     alloc: Global,
     request: &Request<'_>,
     waves: &str,
-    wired: &Wired,
+    planned: &Planned,
     boards: Boards,
 ) -> u8 {
-    match text_and_waves(rt, alloc, request, waves, wired.descriptions()) {
+    match text_and_waves(rt, alloc, request, waves, planned.descriptions()) {
         Ok((text, file)) => {
             let status = told_on(rt, alloc, &text, request.task, boards);
-            draw_behind(rt, alloc, &text, request.task, wired, file, status)
+            draw_behind(rt, alloc, &text, request.task, planned, file, status)
         }
         Err(status) => status,
     }
@@ -267,7 +263,7 @@ fn draw_behind(
     alloc: Global,
     text: &[u8],
     task: Task<'_>,
-    wired: &Wired,
+    planned: &Planned,
     file: File,
     status: u8,
 ) -> u8 {
@@ -275,9 +271,9 @@ fn draw_behind(
         return status;
     }
     let all = matches!(task, Task::Play { all: true, .. });
-    let drawn = match wired.stage(alloc) {
+    let drawn = match planned.stage(alloc) {
         Ok(stage) => draw_waves(alloc, kind_of(all), text, stage, file),
-        Err(_) => Err(Undrawn::NoMemory), // the same board was made for the play
+        Err(_) => Err(Undrawn::NoMemory),
     };
     let status = status_behind(status, drawn);
     if matches!(drawn, Err(Undrawn::NoMemory)) {

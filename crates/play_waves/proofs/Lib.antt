@@ -14,7 +14,6 @@ pub mod Runs
 pub mod Settled
 pub mod Shifted
 pub mod Sides
-pub mod Stages
 pub mod Strokes
 pub mod Times
 pub mod Unmoved

@@ -1,7 +1,7 @@
-use Rattle.std.proofs.Common.{◌≡◌, ◌≤◌, ◌++◌, ◌-◌, ℕ, List, map, drop, string_bytes}
+use Rattle.std.proofs.Common.{◌≡◌, ◌≤◌, ◌++◌, ◌-◌, ℕ, List, map, drop}
 use Rattle.std.specs.Io.KnownBytes.{Appends}
 use Rattle.board_plan.specs.View.{member as planned_member, net as planned_net}
-use Rattle.board_description.specs.Described.{device_lines}
+use Rattle.board_description.specs.Described.{device_lines, shown_file}
 use Rattle.board_description.proofs.whole.write_devices.Given as goal
 
 -- what was written, with the lines of the devices to come, is all
@@ -11,8 +11,8 @@ invariant-loop-place g l = record {
   within : l.place ≤ l.count;
   sent : List ℕ;
   appends : Appends (g.W.Write.contents l.initial.out.inner) (g.W.Write.contents l.out.inner) sent;
-  all : sent ++ device_lines (map planned_net l.nets) l.place (drop l.place (map string_bytes l.files)) (drop l.place (map planned_member l.devices))
-      ≡ device_lines (map planned_net l.nets) 0 (map string_bytes l.files) (map planned_member l.devices);
+  all : sent ++ device_lines (map planned_net l.nets) l.place (drop l.place (map shown_file l.devices)) (drop l.place (map planned_member l.devices))
+      ≡ device_lines (map planned_net l.nets) 0 (map shown_file l.devices) (map planned_member l.devices);
 }
 
 abbrev pub decreases-loop-place : goal.decreases-loop-place

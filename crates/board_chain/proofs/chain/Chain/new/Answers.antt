@@ -19,93 +19,80 @@ use Rattle.board_chips.specs.Strings.{AreStrung, placed_of}
 use Rattle.board_chips.specs.WiringValues.{WiringValue}
 use Rattle.board_chips.specs.Wires.{IsWired}
 use Rattle.board_chips.proofs.BuildLaws.{seats_told, start_seated, start_wired}
-use Rattle.board_chain.specs.Ready.{IsReady}
 use Rattle.board_chain.proofs.PowerLaws.{seats_have, seats_hold, seats_mean, seats_stand}
 use Rattle.board_chain.proofs.chain.Chain.new.Goals as goal
 
-pub strings_in_order-requires : goal.strings_in_order-requires
-strings_in_order-requires c =
-    let w = wiring c.args.plan in
-    subst (λ (l : List PlannedNet). IsReady (record { members = map planned_member c.deref.result.now; nets = map planned_net l })) (sym c.deref-2.ensures.value)
-    (subst (λ (l : List PlannedDevice). IsReady (record { members = map planned_member l; nets = w.nets })) (sym c.deref.ensures.value) c.requires)
-
 pub all_seats-requires : goal.all_seats-requires
 all_seats-requires c =
-    let w = wiring c.args.plan in
-    subst (λ (l : List PlannedNet). HasReadyChips (record { members = map planned_member c.deref-3.result.now; nets = map planned_net l })) (sym c.deref-4.ensures.value)
-    (subst (λ (l : List PlannedDevice). HasReadyChips (record { members = map planned_member l; nets = w.nets })) (sym c.deref-3.ensures.value) c.requires.seats)
+    let w = wiring c.args.plan.now in
+    subst (λ (l : List PlannedNet). HasReadyChips (record { members = map planned_member c.deref.result.now; nets = map planned_net l })) (sym c.deref-2.ensures.value)
+    (subst (λ (l : List PlannedDevice). HasReadyChips (record { members = map planned_member l; nets = w.nets })) (sym c.deref.ensures.value) c.requires.ready.seats)
 
 pub refresh-requires : goal.refresh-requires
 refresh-requires c =
-    let w = wiring c.args.plan in
+    let w = wiring c.args.plan.now in
     let seats-are : c.in_ok-seats.seats.items ≡ seats_of w.nets 0 w.members =
-    c.in_ok-seats.ensures ∙ ap (λ (l : List PlannedNet). seats_of (map planned_net l) 0 (map planned_member c.deref-3.result.now)) c.deref-4.ensures.value
-    ∙ ap (λ (l : List PlannedDevice). seats_of w.nets 0 (map planned_member l)) c.deref-3.ensures.value in
-    start_seated w.nets w.members c.deref-5.result.now c.in_ok-wiring.wiring c.requires.seats.pins (c.deref-5.ensures.value ∙ seats-are) (ap (λ (v : WiringValue). v.nets) c.in_ok-wiring.ensures)
+    c.in_ok-seats.ensures ∙ ap (λ (l : List PlannedNet). seats_of (map planned_net l) 0 (map planned_member c.deref.result.now)) c.deref-2.ensures.value
+    ∙ ap (λ (l : List PlannedDevice). seats_of w.nets 0 (map planned_member l)) c.deref.ensures.value in
+    start_seated w.nets w.members c.deref-4.result.now c.in_ok-wiring.wiring c.requires.ready.seats.pins (c.deref-4.ensures.value ∙ seats-are) (ap (λ (v : WiringValue). v.nets) c.in_ok-wiring.ensures ∙ ap (map planned_net) c.deref-3.ensures.value)
 
 pub first_settled-requires-clause-told : goal.first_settled-requires-clause-told
 first_settled-requires-clause-told c =
-    let w = wiring c.args.plan in
+    let w = wiring c.args.plan.now in
     let seats-are : c.in_ok-seats.seats.items ≡ seats_of w.nets 0 w.members =
-    c.in_ok-seats.ensures ∙ ap (λ (l : List PlannedNet). seats_of (map planned_net l) 0 (map planned_member c.deref-3.result.now)) c.deref-4.ensures.value
-    ∙ ap (λ (l : List PlannedDevice). seats_of w.nets 0 (map planned_member l)) c.deref-3.ensures.value in
+    c.in_ok-seats.ensures ∙ ap (λ (l : List PlannedNet). seats_of (map planned_net l) 0 (map planned_member c.deref.result.now)) c.deref-2.ensures.value
+    ∙ ap (λ (l : List PlannedDevice). seats_of w.nets 0 (map planned_member l)) c.deref.ensures.value in
     subst (AllTold false) (sym seats-are) (seats_told w.nets 0 w.members)
 
 pub first_settled-requires-clause-wired : goal.first_settled-requires-clause-wired
 first_settled-requires-clause-wired c =
-    let w = wiring c.args.plan in
+    let w = wiring c.args.plan.now in
     let seats-are : c.in_ok-seats.seats.items ≡ seats_of w.nets 0 w.members =
-    c.in_ok-seats.ensures ∙ ap (λ (l : List PlannedNet). seats_of (map planned_net l) 0 (map planned_member c.deref-3.result.now)) c.deref-4.ensures.value
-    ∙ ap (λ (l : List PlannedDevice). seats_of w.nets 0 (map planned_member l)) c.deref-3.ensures.value in
+    c.in_ok-seats.ensures ∙ ap (λ (l : List PlannedNet). seats_of (map planned_net l) 0 (map planned_member c.deref.result.now)) c.deref-2.ensures.value
+    ∙ ap (λ (l : List PlannedDevice). seats_of w.nets 0 (map planned_member l)) c.deref.ensures.value in
     subst (λ (l : List WiredChipValue). IsWired l c.refresh.new.wiring) (sym seats-are)
-    (start_wired w.nets w.members c.in_ok-wiring.wiring c.refresh.new.wiring c.requires.seats.pins (ap (λ (v : WiringValue). v.nets) c.in_ok-wiring.ensures)
-    (c.refresh.ensures ∙ ap (λ (l : List WiredChipValue). record c.in_ok-wiring.wiring { drives = map (pin_drive (map held_of l)) (all_pins c.in_ok-wiring.wiring.nets) }) (c.deref-5.ensures.value ∙ seats-are)))
+    (start_wired w.nets w.members c.in_ok-wiring.wiring c.refresh.new.wiring c.requires.ready.seats.pins (ap (λ (v : WiringValue). v.nets) c.in_ok-wiring.ensures ∙ ap (map planned_net) c.deref-3.ensures.value)
+    (c.refresh.ensures ∙ ap (λ (l : List WiredChipValue). record c.in_ok-wiring.wiring { drives = map (pin_drive (map held_of l)) (all_pins c.in_ok-wiring.wiring.nets) }) (c.deref-4.ensures.value ∙ seats-are)))
 
 pub first_settled-requires-clause-held : goal.first_settled-requires-clause-held
 first_settled-requires-clause-held c =
-    let w = wiring c.args.plan in
+    let w = wiring c.args.plan.now in
     let seats-are : c.in_ok-seats.seats.items ≡ seats_of w.nets 0 w.members =
-    c.in_ok-seats.ensures ∙ ap (λ (l : List PlannedNet). seats_of (map planned_net l) 0 (map planned_member c.deref-3.result.now)) c.deref-4.ensures.value
-    ∙ ap (λ (l : List PlannedDevice). seats_of w.nets 0 (map planned_member l)) c.deref-3.ensures.value in
+    c.in_ok-seats.ensures ∙ ap (λ (l : List PlannedNet). seats_of (map planned_net l) 0 (map planned_member c.deref.result.now)) c.deref-2.ensures.value
+    ∙ ap (λ (l : List PlannedDevice). seats_of w.nets 0 (map planned_member l)) c.deref.ensures.value in
     subst (λ (l : List WiredChipValue). AreHeld (map member_of l) (map held_of l)) (sym seats-are) (seats_hold w.nets 0 w.members)
 
 pub first_settled-requires-clause-strung : goal.first_settled-requires-clause-strung
 first_settled-requires-clause-strung c =
-    let w = wiring c.args.plan in
+    let w = wiring c.args.plan.now in
     let strings = c.in_ok-strings.strings.items in
     let seats-are : c.in_ok-seats.seats.items ≡ seats_of w.nets 0 w.members =
-    c.in_ok-seats.ensures ∙ ap (λ (l : List PlannedNet). seats_of (map planned_net l) 0 (map planned_member c.deref-3.result.now)) c.deref-4.ensures.value
-    ∙ ap (λ (l : List PlannedDevice). seats_of w.nets 0 (map planned_member l)) c.deref-3.ensures.value in
-    let nets-are : c.refresh.new.wiring.nets ≡ w.nets = ap (λ (v : WiringValue). v.nets) c.refresh.ensures ∙ ap (λ (v : WiringValue). v.nets) c.in_ok-wiring.ensures in
-    let cells-are : map (λ (m : planned.Member). m.device.cells) (map planned_member c.deref.result.now) ≡ map cells_of c.in_ok-seats.seats.items =
-    ap (λ (l : List PlannedDevice). map (λ (m : planned.Member). m.device.cells) (map planned_member l)) c.deref.ensures.value
-    ∙ sym (ap (map cells_of) seats-are ∙ seats_have w.nets 0 w.members) in
-    let planned-are : map planned_net c.deref-2.result.now ≡ c.refresh.new.wiring.nets = ap (map planned_net) c.deref-2.ensures.value ∙ sym nets-are in
-    subst (λ (ns : List Net). AreStrung ns (map cells_of c.in_ok-seats.seats.items) strings) planned-are
-    (subst (λ (cs : List (List Cell)). AreStrung (map planned_net c.deref-2.result.now) cs strings) cells-are c.in_ok-strings.ensures.strung)
+    c.in_ok-seats.ensures ∙ ap (λ (l : List PlannedNet). seats_of (map planned_net l) 0 (map planned_member c.deref.result.now)) c.deref-2.ensures.value
+    ∙ ap (λ (l : List PlannedDevice). seats_of w.nets 0 (map planned_member l)) c.deref.ensures.value in
+    let nets-are : c.refresh.new.wiring.nets ≡ w.nets = ap (λ (v : WiringValue). v.nets) c.refresh.ensures ∙ ap (λ (v : WiringValue). v.nets) c.in_ok-wiring.ensures ∙ ap (map planned_net) c.deref-3.ensures.value in
+    let cells-are : map (λ (m : planned.Member). m.device.cells) w.members ≡ map cells_of c.in_ok-seats.seats.items = sym (ap (map cells_of) seats-are ∙ seats_have w.nets 0 w.members) in
+    subst (λ (ns : List Net). AreStrung ns (map cells_of c.in_ok-seats.seats.items) strings) (sym nets-are)
+    (subst (λ (cs : List (List Cell)). AreStrung w.nets cs strings) cells-are c.in_ok-strings.ensures.strung)
 
 pub first_settled-requires-clause-order : goal.first_settled-requires-clause-order
 first_settled-requires-clause-order c =
-    let w = wiring c.args.plan in
+    let w = wiring c.args.plan.now in
     let placed = map placed_of c.in_ok-strings.strings.items in
     let seats-are : c.in_ok-seats.seats.items ≡ seats_of w.nets 0 w.members =
-    c.in_ok-seats.ensures ∙ ap (λ (l : List PlannedNet). seats_of (map planned_net l) 0 (map planned_member c.deref-3.result.now)) c.deref-4.ensures.value
-    ∙ ap (λ (l : List PlannedDevice). seats_of w.nets 0 (map planned_member l)) c.deref-3.ensures.value in
-    let nets-are : c.refresh.new.wiring.nets ≡ w.nets = ap (λ (v : WiringValue). v.nets) c.refresh.ensures ∙ ap (λ (v : WiringValue). v.nets) c.in_ok-wiring.ensures in
-    let members-are : map powered_up (map planned_member c.deref.result.now) ≡ map member_of c.in_ok-seats.seats.items =
-    ap (λ (l : List PlannedDevice). map powered_up (map planned_member l)) c.deref.ensures.value
-    ∙ sym (ap (map member_of) seats-are ∙ seats_mean w.nets 0 w.members) in
-    let planned-are : map planned_net c.deref-2.result.now ≡ c.refresh.new.wiring.nets = ap (map planned_net) c.deref-2.ensures.value ∙ sym nets-are in
-    subst (λ (ns : List Net). IsOrderOf ns (map member_of c.in_ok-seats.seats.items) placed) planned-are
-    (subst (λ (ms : List Member). IsOrderOf (map planned_net c.deref-2.result.now) ms placed) members-are c.in_ok-strings.ensures.order)
+    c.in_ok-seats.ensures ∙ ap (λ (l : List PlannedNet). seats_of (map planned_net l) 0 (map planned_member c.deref.result.now)) c.deref-2.ensures.value
+    ∙ ap (λ (l : List PlannedDevice). seats_of w.nets 0 (map planned_member l)) c.deref.ensures.value in
+    let nets-are : c.refresh.new.wiring.nets ≡ w.nets = ap (λ (v : WiringValue). v.nets) c.refresh.ensures ∙ ap (λ (v : WiringValue). v.nets) c.in_ok-wiring.ensures ∙ ap (map planned_net) c.deref-3.ensures.value in
+    let members-are : map powered_up w.members ≡ map member_of c.in_ok-seats.seats.items = sym (ap (map member_of) seats-are ∙ seats_mean w.nets 0 w.members) in
+    subst (λ (ns : List Net). IsOrderOf ns (map member_of c.in_ok-seats.seats.items) placed) (sym nets-are)
+    (subst (λ (ms : List Member). IsOrderOf w.nets ms placed) members-are c.in_ok-strings.ensures.order)
 
 pub returns : goal.returns
 returns c =
-    let w = wiring c.args.plan in
+    let w = wiring c.args.plan.now in
     let seats-are : c.in_ok-seats.seats.items ≡ seats_of w.nets 0 w.members =
-    c.in_ok-seats.ensures ∙ ap (λ (l : List PlannedNet). seats_of (map planned_net l) 0 (map planned_member c.deref-3.result.now)) c.deref-4.ensures.value
-    ∙ ap (λ (l : List PlannedDevice). seats_of w.nets 0 (map planned_member l)) c.deref-3.ensures.value in
-    let nets-are = ap (λ (v : WiringValue). v.nets) c.refresh.ensures ∙ ap (λ (v : WiringValue). v.nets) c.in_ok-wiring.ensures in
+    c.in_ok-seats.ensures ∙ ap (λ (l : List PlannedNet). seats_of (map planned_net l) 0 (map planned_member c.deref.result.now)) c.deref-2.ensures.value
+    ∙ ap (λ (l : List PlannedDevice). seats_of w.nets 0 (map planned_member l)) c.deref.ensures.value in
+    let nets-are = ap (λ (v : WiringValue). v.nets) c.refresh.ensures ∙ ap (λ (v : WiringValue). v.nets) c.in_ok-wiring.ensures ∙ ap (map planned_net) c.deref-3.ensures.value in
     IfOk-weaker c.first_settled.result _ _
     (λ v is. is
     ∙ ap (λ (ns : List Net). record { trst = false; nets = ns; chips = map chip_state c.in_ok-seats.seats.items }) nets-are

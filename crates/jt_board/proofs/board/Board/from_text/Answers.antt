@@ -1,5 +1,7 @@
-use Rattle.toml.specs.View.{table_view}
+use Rattle.jt_board.proofs.TextLaws.{ready_plan}
 use Rattle.jt_board.proofs.board.Board.from_text.Goals as goal
 
-pub returns-clause-bad_toml : goal.returns-clause-bad_toml
-returns-clause-bad_toml c = λ bad. absurd (bad (table_view c.in_ok-table.table) c.in_ok-table.ensures)
+pub powered_up-requires : goal.powered_up-requires
+powered_up-requires c =
+    let made = c.in_ok-plan.ensures in
+    ready_plan c.in_ok-plan.plan made.fits made.said made.loops made.ordered
