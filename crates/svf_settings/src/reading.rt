@@ -101,11 +101,7 @@ impl Makings {
 }
 
 /// Appends a change to this period behind the statement of a number, if that is another than before.
-fn push_period(
-    changes: &mut Vec<PeriodChange>,
-    number: u32,
-    period: u64,
-) -> Result<(), AllocError>
+fn push_period(changes: &mut Vec<PeriodChange>, number: u32, period: u64) -> Result<(), AllocError>
     ensures { IfOk result (λ _. changes.new.items ≡ changes.old.items
         ++ periods.change_made number (periods.last_period default_period changes.old.items) period) }
 {
@@ -129,9 +125,9 @@ fn last_period(changes: &[PeriodChange]) -> u64
 /// What is made of statements, or their first refusal.
 pub(crate) fn read_all(alloc: Global, statements: &[Statement]) -> Result<Makings, SvfFault>
     ensures keeps { Keeps (map said_of statements.now) result }
-    ensures few { IfOk result (λ all. length all.steps.items ≤ step_limit) }
+    ensures few { IfOk result (λ makings. length makings.steps.items ≤ step_limit) }
 {
-    let mut all = Makings::new(alloc);
+    let mut makings = Makings::new(alloc);
     let mut reader = Reader::first();
     for (index, statement) in statements.iter().enumerate() {
         let Some(place) = place_of(index) else {
@@ -141,13 +137,13 @@ pub(crate) fn read_all(alloc: Global, statements: &[Statement]) -> Result<Making
             Err(code) => {
                 return Err(fault_at(index, code));
             }
-            Ok(made) => match all.push(place + 1, reader.running.period, made) {
+            Ok(made) => match makings.push(place + 1, reader.running.period, made) {
                 Err(_) => return Err(memory()),
                 Ok(()) => {}
             },
         }
     }
-    Ok(all)
+    Ok(makings)
 }
 
 /// The place of a statement, as a step names it: there is room for 2^32 - 1 statements.
