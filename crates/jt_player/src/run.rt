@@ -7,7 +7,7 @@ ghost use Rattle.play_schedules.specs.Laws.{full};
 ghost use Rattle.play_model.specs.declared.kind.Kind.TheVariants.{Stops, PlaysOn};
 ghost use Rattle.scan_vectors.specs.Failures.{found};
 ghost use Rattle.svf_programs.specs.Sizes.{program_of};
-ghost use Rattle.jt_player.specs.Kinds.{ending_in, found_in};
+ghost use Rattle.jt_player.specs.Kinds.{MeansAsPlayed, ending_in, found_in};
 ghost use Rattle.jt_player.specs.Running.{Happens, IsCheckOf, IsRunOf, Run, Tells, note, played_run};
 ghost use Rattle.jt_player.specs.Showing.{accepted_line, refusal_line};
 
@@ -80,12 +80,7 @@ fn run_kind<W: Sink, E: Sink>(
         × Happens W.contents E.contents run board.old board.new out.old out.new err.old err.new result }
 {
     match accept(alloc, svf) {
-        Ok(program) => {
-            // For the proof alone: what the types keep of a program's steps and of a board's devices.
-            let _ = program.len();
-            let _ = board.devices();
-            play_and_tell(kind, &program, board, bytes, out)
-        }
+        Ok(program) => run_program(kind, &program, board, bytes, out),
         Err(fault) => refuse_text(fault, err),
     }
 }
@@ -109,13 +104,15 @@ pub fn run_check<W: Sink, E: Sink>(
         × Happens W.contents E.contents run board.now board.now out.old out.new err.old err.new result }
 {
     match accept(alloc, svf) {
-        Ok(program) => tell_accepted(&program, board, out),
+        Ok(program) => check_program(&program, board, out),
         Err(fault) => refuse_text(fault, err),
     }
 }
 
-/// Writes that a text is accepted, and which instructions of the board stand for BYPASS. Answers the exit status.
-fn tell_accepted<W: Sink>(
+/// Tells of an accepted program as `run_check` tells of its text, and plays nothing. Answers the exit status, 0.
+///
+/// `Broken` comes exactly where the writer's first failure came in this call.
+pub fn check_program<W: Sink>(
     program: &Program,
     board: &Board,
     out: &mut Counted<W>,
@@ -140,6 +137,35 @@ fn write_check<W: Sink>(
 {
     write_accepted(program, out)?;
     write_left_out(board, out)
+}
+
+/// Plays an accepted program, which is lent, on a board by a player of this kind, and tells of it as `run_play` and
+/// `run_play_all` do. Answers the exit status: 0 pass, 1 fail.
+///
+/// `Broken` comes exactly where the writer's first failure came in this call. Then it was told a front part of what it
+/// was owed, and the board is as it was or as the whole play leaves it.
+pub fn run_program<W: Sink>(
+    kind: Kind,
+    program: &Program,
+    board: &mut Board,
+    bytes: bool,
+    out: &mut Counted<W>,
+) -> Result<u8, Broken>
+    requires { out.old.failures ≡ 0 }
+    // What it means over whole registers.
+    ensures means { MeansAsPlayed kind (program_of program.now) board.old }
+    // What is told, the exit status, and the board that is left.
+    ensures writes { WritesAll W.contents out.old out.new
+        (played_run kind bytes (program_of program.now) board.old).out result }
+    ensures status { IfOk result (λ status. status
+        ≡ (played_run kind bytes (program_of program.now) board.old).status) }
+    ensures left { OnOk result (board.new ≡ (full kind program.now.steps board.old).board) }
+    ensures board { (board.new ≡ board.old) ⊎ (board.new ≡ (full kind program.now.steps board.old).board) }
+{
+    // For the proof alone: what the types keep of a program's steps and of a board's devices.
+    let _ = program.len();
+    let _ = board.devices();
+    play_and_tell(kind, program, board, bytes, out)
 }
 
 /// Plays and writes the bytes, how it ended and the report. Answers the exit status of the ending.

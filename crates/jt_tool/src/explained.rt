@@ -2,10 +2,10 @@
 ghost use Rattle.std.specs.Prelude.{◌≡◌};
 
 use crate::described::{RefusedFile, Unmade};
-use byte_streams::{Broken, Counted, Sink};
+use byte_streams::{Broken, Counted, Plain, Sink};
 use jt_player::{
-    Board, BoardFault, Kind, SvfFault, accept, refuse_board, refuse_file, refuse_text, run_check,
-    run_play, run_play_all,
+    Board, BoardFault, Kind, Program, SvfFault, accept, refuse_board, refuse_file, refuse_text,
+    run_program,
 };
 use play_explained::run_play_explained;
 use refusal_places::{refused_board, refused_description, refused_text};
@@ -13,84 +13,47 @@ use std::alloc::Global;
 
 /// The exit status of a text that is refused.
 const REFUSED: u8 = 2;
+/// Something that was written was lost.
+const BROKEN: u8 = 3;
 
-/// Checks a text, and where it is asked for tells of a refusal where it lies. Answers the exit status.
-pub(crate) fn check_text<W: Sink, E: Sink>(
+/// The program of a text. Else tells why it is refused, and where it is asked for where that lies, and answers the exit
+/// status.
+pub(crate) fn accept_text(
+    rt: &HostRuntime,
     alloc: Global,
     text: &[u8],
-    board: &Board,
     explain: bool,
-    out: &mut Counted<W>,
-    err: &mut Counted<E>,
-) -> Result<u8, Broken>
-    requires out { out.old.failures ≡ 0 }
-    requires err { err.old.failures ≡ 0 }
-{
-    let status = run_check(alloc, text, board, out, err)?;
-    if explain && status == REFUSED {
-        tell_refused(alloc, text, err)?;
+) -> Result<Program, u8> {
+    match accept(alloc, text) {
+        Ok(program) => Ok(program),
+        Err(fault) => {
+            let mut err = Counted::new(Plain(rt.stderr()));
+            Err(refuse_program(text, fault, explain, &mut err).unwrap_or(BROKEN))
+        }
     }
-    Ok(status)
 }
 
-/// Plays a text on a board; where the same board comes once more, it is told of each bit that fails why, as it is found
-/// there, and of a refusal where it lies. Answers the exit status.
-pub(crate) fn play_text<W: Sink, E: Sink>(
-    alloc: Global,
+/// Plays an accepted program of a text on a board; where the same board comes once more, it is told of each bit that
+/// fails why, as it is found there. Answers the exit status.
+pub(crate) fn play_accepted<W: Sink>(
     kind: Kind,
+    program: &Program,
     text: &[u8],
     bytes: bool,
     board: &mut Board,
     other: Option<Board>,
     out: &mut Counted<W>,
-    err: &mut Counted<E>,
 ) -> Result<u8, Broken>
-    requires out { out.old.failures ≡ 0 }
-    requires err { err.old.failures ≡ 0 }
+    requires { out.old.failures ≡ 0 }
 {
-    match (kind, other) {
-        (kind, Some(mut other)) => {
-            play_explained(alloc, kind, text, bytes, board, &mut other, out, err)
-        }
-        (Kind::Stops, None) => run_play(alloc, text, board, bytes, out, err),
-        (Kind::PlaysOn, None) => run_play_all(alloc, text, board, bytes, out, err),
+    match other {
+        Some(mut other) => run_play_explained(kind, program, text, bytes, board, &mut other, out),
+        None => run_program(kind, program, board, bytes, out),
     }
-}
-
-/// Plays a text on a board, and tells of each bit that fails why, and of a refusal where it lies. Answers the exit
-/// status.
-fn play_explained<W: Sink, E: Sink>(
-    alloc: Global,
-    kind: Kind,
-    text: &[u8],
-    bytes: bool,
-    board: &mut Board,
-    other: &mut Board,
-    out: &mut Counted<W>,
-    err: &mut Counted<E>,
-) -> Result<u8, Broken>
-    requires out { out.old.failures ≡ 0 }
-    requires err { err.old.failures ≡ 0 }
-{
-    let status = run_play_explained(alloc, kind, text, bytes, board, other, out, err)?;
-    if status == REFUSED {
-        tell_refused(alloc, text, err)?;
-    }
-    Ok(status)
-}
-
-/// Tells where the refusal of a text lies.
-fn tell_refused<E: Sink>(alloc: Global, text: &[u8], err: &mut Counted<E>) -> Result<(), Broken> {
-    if err.failures() == 0 {
-        if let Err(fault) = accept(alloc, text) {
-            refused_text(text, fault, err)?;
-        }
-    }
-    Ok(())
 }
 
 /// Tells why a text is refused, and where it is asked for where that lies. Answers the exit status.
-pub(crate) fn refuse_program<E: Sink>(
+fn refuse_program<E: Sink>(
     text: &[u8],
     fault: SvfFault,
     explain: bool,

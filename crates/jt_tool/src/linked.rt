@@ -1,14 +1,12 @@
 //! Plays over connections: on a server, and of the program with itself.
 ghost use Rattle.std.specs.Prelude.{◌≡◌};
 
-use crate::explained::refuse_program;
+use crate::explained::accept_text;
 use crate::links::{Link, connect, pair};
 use byte_streams::{Broken, Counted, End, Plain, Sink};
 use command_line::Server;
-use jt_player::{
-    Board, Ending, Kind, Program, SvfFault, accept, run_loop, run_over, tell_unplayed, tell_verdict,
-};
-use play_explained::{Accepted, run_loop_explained, run_over_explained};
+use jt_player::{Board, Ending, Kind, Program, run_loop, run_over, tell_unplayed, tell_verdict};
+use play_explained::{run_loop_explained, run_over_explained};
 use std::alloc::Global;
 use std::io;
 
@@ -17,12 +15,12 @@ const BROKEN: u8 = 3;
 /// How a play ends whose server was not reached.
 const UNREACHED: Ending = Ending::Lost { command: 0 };
 
-/// A text that was accepted: its program, which is played, and where the play is explained the program once more.
+/// A text that was accepted, its program, and whether the play is explained.
 #[derive(Drop)]
 pub(crate) struct AcceptedText {
     text: Vec<u8>,
     program: Program,
-    again: Option<Program>,
+    explain: bool,
 }
 
 impl AcceptedText {
@@ -33,33 +31,13 @@ impl AcceptedText {
         text: Vec<u8>,
         explain: bool,
     ) -> Result<AcceptedText, u8> {
-        match accept_twice(alloc, &text, explain) {
-            Ok((program, again)) => Ok(AcceptedText {
-                text,
-                program,
-                again,
-            }),
-            Err(fault) => {
-                let mut err = Counted::new(Plain(rt.stderr()));
-                Err(refuse_program(&text, fault, explain, &mut err).unwrap_or(BROKEN))
-            }
-        }
+        let program = accept_text(rt, alloc, &text, explain)?;
+        Ok(AcceptedText {
+            text,
+            program,
+            explain,
+        })
     }
-}
-
-/// The program of a text, and where it is asked for the same once more.
-fn accept_twice(
-    alloc: Global,
-    text: &[u8],
-    twice: bool,
-) -> Result<(Program, Option<Program>), SvfFault> {
-    let program = accept(alloc, text)?;
-    let again = if twice {
-        Some(accept(alloc, text)?)
-    } else {
-        None
-    };
-    Ok((program, again))
 }
 
 /// Plays a text on a server. One that cannot be reached loses the play before its first command. Answers the exit
@@ -92,27 +70,14 @@ fn play_over_link<O: Sink>(
     let AcceptedText {
         text,
         program,
-        again,
+        explain,
     } = accepted;
     let mut reader = Counted::new(link.reader);
     let mut writer = Counted::new(link.writer);
-    match again {
-        Some(again) => {
-            let accepted = Accepted {
-                text: &text,
-                program: &again,
-            };
-            run_over_explained(
-                alloc,
-                kind,
-                program,
-                &mut reader,
-                &mut writer,
-                accepted,
-                out,
-            )
-        }
-        None => run_over(alloc, kind, program, &mut reader, &mut writer, out),
+    if explain {
+        run_over_explained(alloc, kind, program, &mut reader, &mut writer, &text, out)
+    } else {
+        run_over(alloc, kind, program, &mut reader, &mut writer, out)
     }
 }
 
@@ -162,21 +127,11 @@ fn loop_over_ends<P: End, B: End, O: Sink>(
     requires board_end { board_end.old.failures ≡ 0 }
     requires out { out.old.failures ≡ 0 }
 {
-    let AcceptedText {
-        text,
-        program,
-        again,
-    } = accepted;
-    match (again, other) {
-        (Some(again), Some(mut other)) => {
-            let accepted = Accepted {
-                text: &text,
-                program: &again,
-            };
-            run_loop_explained(
-                alloc, kind, program, player_end, board_end, board, accepted, &mut other, out,
-            )
-        }
-        (_again, _other) => run_loop(alloc, kind, program, player_end, board_end, board, out),
+    let AcceptedText { text, program, .. } = accepted;
+    match other {
+        Some(mut other) => run_loop_explained(
+            alloc, kind, program, player_end, board_end, board, &text, &mut other, out,
+        ),
+        None => run_loop(alloc, kind, program, player_end, board_end, board, out),
     }
 }

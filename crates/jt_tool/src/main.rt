@@ -8,7 +8,7 @@ mod links;
 mod waves;
 
 use crate::described::{Boards, Planned, Unmade, plan_board};
-use crate::explained::{check_text, play_text, tell_unmade};
+use crate::explained::{accept_text, play_accepted, tell_unmade};
 use crate::linked::{AcceptedText, loop_over_socket, play_on_server};
 use crate::links::{accept, listen};
 use crate::waves::{draw_waves, may_be_made};
@@ -17,8 +17,8 @@ use byte_streams::{Broken, Counted, Plain};
 use clap::error::ErrorKind as WordsFault;
 use command_line::{InputFault, Request, Serving, StandIns, Task, command_words, parse, read_text};
 use jt_player::{
-    Board, Kind, Served, refuse_file, refuse_memory, run_serve, tell_listening, tell_served,
-    write_report,
+    Board, Kind, Program, Served, check_program, refuse_file, refuse_memory, run_serve,
+    tell_listening, tell_served, write_report,
 };
 use play_waves::{Undrawn, status_behind};
 use std::alloc::Global;
@@ -197,9 +197,25 @@ fn draw_play(
     boards: Boards,
 ) -> u8 {
     match text_and_waves(rt, alloc, request, waves, planned.descriptions()) {
-        Ok((text, file)) => {
-            let status = told_on(rt, alloc, &text, request.task, boards);
-            draw_behind(rt, alloc, &text, request.task, planned, file, status)
+        Ok((text, file)) => draw_text(rt, alloc, &text, request.task, planned, boards, file),
+        Err(status) => status,
+    }
+}
+
+/// Accepts a text, plays its program on a board, and draws its waves into a file.
+fn draw_text(
+    rt: &HostRuntime,
+    alloc: Global,
+    text: &[u8],
+    task: Task<'_>,
+    planned: &Planned,
+    boards: Boards,
+    file: File,
+) -> u8 {
+    match accept_text(rt, alloc, text, explains(task)) {
+        Ok(program) => {
+            let status = told_on(rt, &program, text, task, boards);
+            draw_behind(rt, alloc, &program, task, planned, file, status)
         }
         Err(status) => status,
     }
@@ -229,13 +245,13 @@ fn text_and_waves(
     }
 }
 
-/// Plays a text on a board. Answers the exit status.
-fn told_on(rt: &HostRuntime, alloc: Global, text: &[u8], task: Task<'_>, boards: Boards) -> u8 {
+/// Plays an accepted program of a text on a board. Answers the exit status.
+fn told_on(rt: &HostRuntime, program: &Program, text: &[u8], task: Task<'_>, boards: Boards) -> u8 {
     let Boards { mut board, other } = boards;
-    told(rt, alloc, text, task, &mut board, other)
+    told_of(rt, program, text, task, &mut board, other)
 }
 
-/// Plays a text on a board, or checks it. Answers the exit status.
+/// Accepts a text, and plays it on a board, or checks it. Answers the exit status.
 fn told(
     rt: &HostRuntime,
     alloc: Global,
@@ -244,14 +260,28 @@ fn told(
     board: &mut Board,
     other: Option<Board>,
 ) -> u8 {
+    match accept_text(rt, alloc, text, explains(task)) {
+        Ok(program) => told_of(rt, &program, text, task, board, other),
+        Err(status) => status,
+    }
+}
+
+/// Plays an accepted program of a text on a board, or tells that it is accepted. Answers the exit status.
+fn told_of(
+    rt: &HostRuntime,
+    program: &Program,
+    text: &[u8],
+    task: Task<'_>,
+    board: &mut Board,
+    other: Option<Board>,
+) -> u8 {
     let mut out = Counted::new(Plain(io::writer(rt)));
-    let mut err = Counted::new(Plain(rt.stderr()));
     let status = match task {
         Task::Play { bytes, all, .. } => {
             let kind = kind_of(all);
-            play_text(alloc, kind, text, bytes, board, other, &mut out, &mut err)
+            play_accepted(kind, program, text, bytes, board, other, &mut out)
         }
-        task => check_text(alloc, text, board, explains(task), &mut out, &mut err),
+        _ => check_program(program, board, &mut out),
     };
     status.unwrap_or(BROKEN)
 }
@@ -261,7 +291,7 @@ fn told(
 fn draw_behind(
     rt: &HostRuntime,
     alloc: Global,
-    text: &[u8],
+    program: &Program,
     task: Task<'_>,
     planned: &Planned,
     file: File,
@@ -272,7 +302,7 @@ fn draw_behind(
     }
     let all = matches!(task, Task::Play { all: true, .. });
     let drawn = match planned.stage(alloc) {
-        Ok(stage) => draw_waves(alloc, kind_of(all), text, stage, file),
+        Ok(stage) => draw_waves(alloc, kind_of(all), program, stage, file),
         Err(_) => Err(Undrawn::NoMemory),
     };
     let status = status_behind(status, drawn);

@@ -2,8 +2,8 @@
 
 use byte_streams::{Counted, Plain};
 use command_line::{InputFault, Request, head_of, is_in_use};
-use jt_player::Kind;
-use play_waves::{Stage, Undrawn, begins_as_waves, draw_text};
+use jt_player::{Kind, Program};
+use play_waves::{Stage, Undrawn, begins_as_waves, write_waves};
 use std::alloc::Global;
 use std::fs::File;
 use std::io::{BufWriter, Write};
@@ -27,11 +27,11 @@ pub(crate) fn may_be_made(
     Ok(head.is_empty() || begins_as_waves(&head))
 }
 
-/// Draws the waves of a text, as a player of this kind plays it, into a file.
+/// Draws the waves of an accepted program, as a player of this kind plays it, into a file.
 pub(crate) fn draw_waves(
     alloc: Global,
     kind: Kind,
-    text: &[u8],
+    program: &Program,
     stage: Stage,
     file: File,
 ) -> Result<(), Undrawn> {
@@ -39,9 +39,10 @@ pub(crate) fn draw_waves(
         return Err(Undrawn::NoMemory);
     };
     let mut out = Counted::new(Plain(&mut writer));
-    draw_text(alloc, kind, text, stage, &mut out)?;
-    match writer.flush() {
-        Ok(()) => Ok(()),
-        Err(_) => Err(Undrawn::Broken),
+    let written = write_waves(program, kind, stage, &mut out).is_ok();
+    if written && writer.flush().is_ok() {
+        Ok(())
+    } else {
+        Err(Undrawn::Broken)
     }
 }

@@ -9,11 +9,12 @@ use Rattle.svf_parse.proofs.TextLaws.{text_found, text_again}
 use Rattle.svf_parse.proofs.RefusalLaws.{no_long, text_refused, text_refused_again}
 use Rattle.svf_programs.specs.Sizes.{Holding, program_of}
 use Rattle.svf_programs.specs.Steps.{Program}
+use Rattle.svf_settings.specs.Periods as periods
 use Rattle.svf_settings.specs.Programs.{resolution, text_resolution}
 use Rattle.svf_settings.specs.Reading.{Answers}
 use Rattle.svf_settings.proofs.FirstRefusals.{refuses_is_function, resolves_is_function}
 use Rattle.svf_settings.proofs.KeptTexts.{then_resolved}
-use Rattle.play_direct.specs.Accepting.{Accepts, Refuses}
+use Rattle.play_direct.specs.Accepting.{Accepts, KeepsPeriodsOf, Refuses}
 
 abbrev then_is : Result (List Said) SvfFault → Result Program SvfFault
 then_is says = says >>= resolution
@@ -44,3 +45,8 @@ accepts_first text r f e why =
     subst (λ (s : Result Program SvfFault). Answers r s)
     (⊎_elim (λ form. ap then_is (text_refused_again text f form))
     (λ (ss, spells, is). resolved_as text ss (Err f) (text_again text ss spells) ((refuses_is_function ss f).0 is)) why) e
+
+pub accepts_periods : (text : List ℕ) (r : Result Holding SvfFault) → IfOk r (λ p. periods.KeepsPeriodsOf (text_says text) p.periods)
+    → IfOk r (λ p. KeepsPeriodsOf text p.periods)
+accepts_periods text (Ok p) keeps = λ ss spells. keeps ss (text_again text ss spells)
+accepts_periods text (Err f) keeps = tt

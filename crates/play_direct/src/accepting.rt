@@ -5,7 +5,7 @@ ghost use Rattle.svf_parse.specs.View.{memory_fault};
 ghost use Rattle.svf_settings.specs.Reading.{Answers};
 ghost use Rattle.svf_programs.specs.Sizes.{program_of};
 ghost use Rattle.svf_programs.specs.Steps as steps;
-ghost use Rattle.play_direct.specs.Accepting.{Accepts, Refuses};
+ghost use Rattle.play_direct.specs.Accepting.{Accepts, KeepsPeriodsOf, Refuses};
 
 use std::alloc::Global;
 use svf_parse::SvfFault;
@@ -26,6 +26,8 @@ pub fn accept(alloc: Global, text: &[u8]) -> Result<Program, SvfFault>
     ensures first { (fault : SvfFault) → Refuses text.now fault → Answers result (Err fault) }
     // It is small: steps, bits of fields and states of paths together are at most four for each byte of the text.
     ensures small { IfOk result (λ p. length p.steps + p.held ≤ 4 * length text.now) }
+    // It keeps each change of the period of TCK, and so tells the period at each statement.
+    ensures periods { IfOk result (λ p. KeepsPeriodsOf text.now p.periods) }
 {
     resolve_text(alloc, text)
 }

@@ -1,16 +1,14 @@
 -- Runs that say why bits fail. The reasons are found on another board, on which the program is played once more.
 use Rattle.std.specs.Prelude.{ℕ, Bool, List, ◌++◌}
 use Rattle.scan_vectors.specs.declared.failures.Mismatch.{Mismatch}
-use Rattle.svf_words.specs.declared.fault.SvfFault.{SvfFault}
 use Rattle.svf_programs.specs.Steps.{Program}
 use Rattle.board_model.specs.Chain.{BoardState}
 use Rattle.board_report.specs.Report.{report}
 use Rattle.play_schedules.specs.Laws.{full}
 use Rattle.play_model.specs.DirectPlay.{opened_state}
 use Rattle.play_model.specs.declared.kind.Kind.{Kind}
-use Rattle.play_direct.specs.Accepting.{Accepts, Refuses}
-use Rattle.jt_player.specs.Kinds.{MeansAsPlayed, ending_in, found_in}
-use Rattle.jt_player.specs.Running.{Run, memory_run, note, played_run, refused_run}
+use Rattle.jt_player.specs.Kinds.{ending_in, found_in}
+use Rattle.jt_player.specs.Running.{Run, note, played_run}
 use Rattle.play_explained.specs.Explaining.{explained_on}
 use Rattle.play_explained.specs.Lines.{explained_lines, lines_on_board}
 
@@ -28,12 +26,3 @@ explained_run kind bytes text program before other =
     record (played_run kind bytes program before) {
       out = note kind bytes program before ++ told ++ report (full kind program.steps before).board;
     }
-
--- The explained runs of a text on a board: its program, played as it means over whole registers; its refusal; or want
--- of memory.
-pub data IsExplainedRunOf (kind : Kind) (text : List ℕ) (bytes : Bool) (before other : BoardState) : Run → Type 0 where
-  explained_so : (program : Program) → Accepts text program → MeansAsPlayed kind program before
-      → IsExplainedRunOf kind text bytes before other (explained_run kind bytes text program before other)
-  refused_so : (fault : SvfFault) → Refuses text fault
-      → IsExplainedRunOf kind text bytes before other (refused_run fault before)
-  no_memory_so : IsExplainedRunOf kind text bytes before other (memory_run before)

@@ -10,7 +10,7 @@ pub use laws::{
     each_listed_bit_has_its_reason, every_failure_is_explained, reasons_alone_are_added,
 };
 pub use runs::{run_loop_explained, run_over_explained, run_play_explained};
-pub use telling::{Accepted, Known, write_explained};
+pub use telling::{Known, write_explained};
 
 mod explaining;
 mod laws;

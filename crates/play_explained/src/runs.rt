@@ -10,52 +10,53 @@ ghost use Rattle.play_model.specs.Endings.{status_of};
 ghost use Rattle.play_model.specs.declared.ending.Ending as end;
 ghost use Rattle.scan_vectors.specs.Failures.{Found, found};
 ghost use Rattle.svf_programs.specs.Sizes.{program_of};
-ghost use Rattle.jt_player.specs.Running.{Happens, Run, Tells};
+ghost use Rattle.jt_player.specs.Kinds.{MeansAsPlayed};
+ghost use Rattle.jt_player.specs.Running.{Tells};
 ghost use Rattle.play_explained.specs.Lines.{explained_lines, lines_in_program};
-ghost use Rattle.play_explained.specs.Runs.{IsExplainedRunOf, explained_run, why_on};
+ghost use Rattle.play_explained.specs.Runs.{explained_run, why_on};
 
 use crate::explaining::explain;
-use crate::telling::{Accepted, Known, write_explained};
+use crate::telling::{Known, write_explained};
 use byte_streams::{Broken, Counted, End, Sink, Source};
 use jt_board::{Board, write_report};
-use jt_player::{fresh_player, play_and_note, refuse_text};
-use play_direct::accept;
-use play_links::{loop_over_all, play_over_all};
+use jt_player::{fresh_player, play_and_note};
+use play_links::{loop_over_lent, play_over_lent};
 use play_model::{Ending, Kind};
+use player::Player;
 use scan_vectors::Failures;
 use std::alloc::Global;
 use svf_programs::Program;
 
-/// Plays a text on a board by a player of this kind and tells of it as `jt_player::run_play` and `run_play_all` do, and
-/// behind the line of each failing bit why it failed, as it is found on the other board. Answers the exit status: 0
-/// pass, 1 fail, 2 a refused text, 4 want of memory.
+/// Plays an accepted program of a text, which is lent, on a board by a player of this kind and tells of it as
+/// `jt_player::run_program` does, and behind the line of each failing bit where its statement starts and why it failed,
+/// as it is found on the other board. Answers the exit status: 0 pass, 1 fail.
 ///
-/// `Broken` comes exactly where the first failure of one of the two writers came in this call. Then each was told a
-/// front part of what it was owed, and the board is as it was or as the whole play leaves it.
-pub fn run_play_explained<W: Sink, E: Sink>(
-    alloc: Global,
+/// `Broken` comes exactly where the writer's first failure came in this call. Then it was told a front part of what it
+/// was owed, and the board is as it was or as the whole play leaves it.
+pub fn run_play_explained<W: Sink>(
     kind: Kind,
-    svf: &[u8],
+    program: &Program,
+    text: &[u8],
     bytes: bool,
     board: &mut Board,
     other: &mut Board,
     out: &mut Counted<W>,
-    err: &mut Counted<E>,
 ) -> Result<u8, Broken>
-    requires out_whole { out.old.failures ≡ 0 }
-    requires err_whole { err.old.failures ≡ 0 }
-    ensures { (run : Run) × IsExplainedRunOf kind svf.now bytes board.old other.old run
-        × Happens W.contents E.contents run board.old board.new out.old out.new err.old err.new result }
+    requires { out.old.failures ≡ 0 }
+    // What it means over whole registers.
+    ensures means { MeansAsPlayed kind (program_of program.now) board.old }
+    // What is told, the exit status, and the board that is left.
+    ensures writes { WritesAll W.contents out.old out.new
+        (explained_run kind bytes text.now (program_of program.now) board.old other.old).out result }
+    ensures status { IfOk result (λ status. status
+        ≡ (explained_run kind bytes text.now (program_of program.now) board.old other.old).status) }
+    ensures left { OnOk result (board.new ≡ (full kind program.now.steps board.old).board) }
+    ensures board { (board.new ≡ board.old) ⊎ (board.new ≡ (full kind program.now.steps board.old).board) }
 {
-    match accept(alloc, svf) {
-        Ok(program) => {
-            // For the proof alone: what the types keep of a program's steps and of a board's devices.
-            let _ = program.len();
-            let _ = board.devices();
-            play_and_explain(kind, &program, svf, bytes, board, other, out)
-        }
-        Err(fault) => refuse_text(fault, err),
-    }
+    // For the proof alone: what the types keep of a program's steps and of a board's devices.
+    let _ = program.len();
+    let _ = board.devices();
+    play_and_explain(kind, program, text, bytes, board, other, out)
 }
 
 /// Plays and writes the bytes where they are asked for, how it ended with the reasons, and the report. Answers the exit
@@ -105,8 +106,9 @@ fn write_on_board<W: Sink>(
     write_explained(kind, ending, failures, text, known, out)
 }
 
-/// Plays a program on a board over the two ends of one connection and tells of it as `jt_player::run_loop` does, and
-/// behind the line of each failing bit why it failed: what was accepted is played once more on the other board.
+/// Plays an accepted program of a text on a board over the two ends of one connection and tells of it as
+/// `jt_player::run_loop` does, and behind the line of each failing bit where its statement starts and why it failed: it
+/// is played once more on the other board.
 /// Answers the exit status: 0 pass, 1 fail, 3 a lost connection or a byte that is no answer.
 ///
 /// `Broken` comes exactly where the first failure of `out` came in this call.
@@ -117,7 +119,7 @@ pub fn run_loop_explained<P: End, B: End, O: Sink>(
     player_end: &mut Counted<P>,
     board_end: &mut Counted<B>,
     board: &mut Board,
-    accepted: Accepted<'_>,
+    text: &[u8],
     other: &mut Board,
     out: &mut Counted<O>,
 ) -> Result<u8, Broken>
@@ -127,64 +129,70 @@ pub fn run_loop_explained<P: End, B: End, O: Sink>(
     ensures { (ending : end.Ending) × (all : Found)
         × LoopsAllOver P.puts P.hears B.puts B.hears P.contents P.remaining B.contents B.remaining player_end.old
         player_end.new board_end.old board_end.new kind (program_of program) board.old board.new ending all
-        × Tells O.contents out.old out.new (explained_lines accepted.entry.text.now
-        (why_on kind (program_of accepted.entry.program.now) other.old) kind ending all ++ report board.new)
-        (status_of ending) result }
+        × Tells O.contents out.old out.new (explained_lines text.now (why_on kind (program_of program) other.old) kind
+        ending all ++ report board.new) (status_of ending) result }
 {
-    let player = fresh_player(alloc, kind, program);
-    let (ending, failures) = loop_over_all(player_end, board_end, player, board);
-    tell_on_board(kind, ending, &failures, accepted, other, board, out)
+    let mut player = fresh_player(alloc, kind, program);
+    let ending = loop_over_lent(player_end, board_end, &mut player, board);
+    tell_on_board(kind, ending, &player, text, other, board, out)
 }
 
-/// Writes how a play of this kind ended, with the reasons as they are found on the other board, and the report of a
-/// board. Answers the exit status of the ending.
+/// Writes how the play of a player of this kind ended, with the reasons as they are found on the other board, and the
+/// report of a board. Answers the exit status of the ending.
 fn tell_on_board<O: Sink>(
     kind: Kind,
     ending: Ending,
-    failures: &Failures,
-    accepted: Accepted<'_>,
+    player: &Player,
+    text: &[u8],
     other: &mut Board,
     board: &Board,
     out: &mut Counted<O>,
 ) -> Result<u8, Broken>
     requires { out.old.failures ≡ 0 }
-    ensures { Tells O.contents out.old out.new (explained_lines accepted.entry.text.now
-        (why_on kind (program_of accepted.entry.program.now) other.old) kind ending (found failures.now)
-        ++ report board.now) (status_of ending) result }
+    ensures { Tells O.contents out.old out.new (explained_lines text.now (why_on kind player.now.program other.old)
+        kind ending player.now.found ++ report board.now) (status_of ending) result }
 {
-    write_with_report(kind, ending, failures, accepted, other, board, out)?;
+    write_with_report(kind, ending, player, text, other, board, out)?;
     Ok(ending.status())
 }
 
-/// Writes how a play of this kind ended, with the reasons as they are found on the other board, and the report of a
-/// board.
+/// Writes how the play of a player of this kind ended, with the reasons as they are found on the other board, and the
+/// report of a board.
 fn write_with_report<O: Sink>(
     kind: Kind,
     ending: Ending,
-    failures: &Failures,
-    accepted: Accepted<'_>,
+    player: &Player,
+    text: &[u8],
     other: &mut Board,
     board: &Board,
     out: &mut Counted<O>,
 ) -> Result<(), Broken>
     requires { out.old.failures ≡ 0 }
-    ensures { WritesAll O.contents out.old out.new (explained_lines accepted.entry.text.now
-        (why_on kind (program_of accepted.entry.program.now) other.old) kind ending (found failures.now)
-        ++ report board.now) result }
+    ensures { WritesAll O.contents out.old out.new (explained_lines text.now (why_on kind player.now.program other.old)
+        kind ending player.now.found ++ report board.now) result }
 {
-    write_on_board(
-        kind,
-        ending,
-        failures,
-        accepted.program,
-        accepted.text,
-        other,
-        out,
-    )?;
+    write_played(kind, ending, player, text, other, out)?;
     write_report(board, out)
 }
 
-/// Plays a program over a reader and a writer and tells of it as `jt_player::run_over` does, and behind the line of
+/// Writes how the play of a player of this kind ended, with the reasons as they are found on this board.
+fn write_played<O: Sink>(
+    kind: Kind,
+    ending: Ending,
+    player: &Player,
+    text: &[u8],
+    board: &mut Board,
+    out: &mut Counted<O>,
+) -> Result<(), Broken>
+    requires { out.old.failures ≡ 0 }
+    ensures { WritesAll O.contents out.old out.new (explained_lines text.now (why_on kind player.now.program board.old)
+        kind ending player.now.found) result }
+{
+    let failures = player.failures();
+    write_on_board(kind, ending, failures, player.program(), text, board, out)
+}
+
+/// Plays an accepted program of a text over a reader and a writer and tells of it as `jt_player::run_over` does, and behind the line of
 /// each failing bit where its statement starts and what is wanted of it: of the board nothing is known. Answers the
 /// exit status: 0 pass, 1 fail, 3 a lost connection or a byte that is no answer.
 ///
@@ -195,7 +203,7 @@ pub fn run_over_explained<R: Source, W: Sink, O: Sink>(
     program: Program,
     reader: &mut Counted<R>,
     writer: &mut Counted<W>,
-    accepted: Accepted<'_>,
+    text: &[u8],
     out: &mut Counted<O>,
 ) -> Result<u8, Broken>
     requires reader { reader.old.failures ≡ 0 }
@@ -204,28 +212,43 @@ pub fn run_over_explained<R: Source, W: Sink, O: Sink>(
     ensures { (ending : end.Ending) × (all : Found)
         × PlaysAllOver W.puts R.hears W.contents R.remaining writer.old writer.new reader.old reader.new kind
         (program_of program) ending all
-        × Tells O.contents out.old out.new (explained_lines accepted.entry.text.now
-        (lines_in_program accepted.entry.program.now.steps) kind ending all) (status_of ending) result }
+        × Tells O.contents out.old out.new (explained_lines text.now (lines_in_program program.steps) kind ending all)
+        (status_of ending) result }
 {
-    let (ending, failures) = play_over_all(reader, writer, fresh_player(alloc, kind, program));
-    tell_in_program(kind, ending, &failures, accepted, out)
+    let mut player = fresh_player(alloc, kind, program);
+    let ending = play_over_lent(reader, writer, &mut player);
+    tell_in_program(kind, ending, &player, text, out)
 }
 
-/// Writes how a play of this kind ended, with what is wanted of the bits that failed. Answers the exit status of the
-/// ending.
+/// Writes how the play of a player of this kind ended, with what is wanted of the bits that failed. Answers the exit
+/// status of the ending.
 fn tell_in_program<O: Sink>(
     kind: Kind,
     ending: Ending,
-    failures: &Failures,
-    accepted: Accepted<'_>,
+    player: &Player,
+    text: &[u8],
     out: &mut Counted<O>,
 ) -> Result<u8, Broken>
     requires { out.old.failures ≡ 0 }
-    ensures { Tells O.contents out.old out.new (explained_lines accepted.entry.text.now
-        (lines_in_program accepted.entry.program.now.steps) kind ending (found failures.now)) (status_of ending)
-        result }
+    ensures { Tells O.contents out.old out.new (explained_lines text.now (lines_in_program player.now.program.steps)
+        kind ending player.now.found) (status_of ending) result }
 {
-    let known = Known::InProgram(accepted.program);
-    write_explained(kind, ending, failures, accepted.text, known, out)?;
+    write_in_program(kind, ending, player, text, out)?;
     Ok(ending.status())
+}
+
+/// Writes how the play of a player of this kind ended, with what is wanted of the bits that failed.
+fn write_in_program<O: Sink>(
+    kind: Kind,
+    ending: Ending,
+    player: &Player,
+    text: &[u8],
+    out: &mut Counted<O>,
+) -> Result<(), Broken>
+    requires { out.old.failures ≡ 0 }
+    ensures { WritesAll O.contents out.old out.new (explained_lines text.now
+        (lines_in_program player.now.program.steps) kind ending player.now.found) result }
+{
+    let known = Known::InProgram(player.program());
+    write_explained(kind, ending, player.failures(), text, known, out)
 }

@@ -22,15 +22,6 @@ use refusal_places::{Position, statement_at, statement_position};
 use scan_vectors::{Failures, Mismatch};
 use svf_programs::Program;
 
-/// A text, and the program that it was accepted as.
-#[derive(Clone, Copy)]
-pub struct Accepted<'a> {
-    /// The text.
-    pub text: &'a [u8],
-    /// The program.
-    pub program: &'a Program,
-}
-
 /// What is known of failing bits beside their places.
 #[derive(Clone, Copy)]
 pub enum Known<'a> {

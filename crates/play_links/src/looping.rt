@@ -233,12 +233,32 @@ pub fn loop_over_all<P: End, B: End>(
         (found result.1) }
 {
     let mut player = player;
-    if !go_on(player_end, board_end, &mut player, board) {
+    let ending = loop_over_lent(player_end, board_end, &mut player, board);
+    (ending, player.into_failures())
+}
+
+/// Plays as [`loop_over_all`] does, by a player that is lent: it keeps its program, and the wanted bits that did not
+/// come out.
+pub fn loop_over_lent<P: End, B: End>(
+    player_end: &mut Counted<P>,
+    board_end: &mut Counted<B>,
+    player: &mut Player,
+    board: &mut Board,
+) -> Ending
+    requires player_end { player_end.old.failures ≡ 0 }
+    requires board_end { board_end.old.failures ≡ 0 }
+    requires fresh { player.old ≡ new_stream player.old.kind player.old.program }
+    ensures played { LoopsAllOver P.puts P.hears B.puts B.hears P.contents P.remaining B.contents B.remaining
+        player_end.old player_end.new board_end.old board_end.new player.old.kind player.old.program board.old
+        board.new result player.new.found }
+    ensures program { player.new.program ≡ player.old.program }
+{
+    if !go_on(player_end, board_end, player, board) {
         let command = player.working();
-        return (Ending::Lost { command }, player.into_failures());
+        return Ending::Lost { command };
     }
     match player.ended() {
-        Some(ending) => (ending, player.into_failures()),
+        Some(ending) => ending,
         None => unreachable!(),
     }
 }

@@ -125,12 +125,30 @@ pub fn play_over_all<R: Source, W: Sink>(
         player.kind player.program result.0 (found result.1) }
 {
     let mut player = player;
-    if !go_on(reader, writer, &mut player) {
+    let ending = play_over_lent(reader, writer, &mut player);
+    (ending, player.into_failures())
+}
+
+/// Plays as [`play_over_all`] does, by a player that is lent: it keeps its program, and the wanted bits that did not
+/// come out.
+pub fn play_over_lent<R: Source, W: Sink>(
+    reader: &mut Counted<R>,
+    writer: &mut Counted<W>,
+    player: &mut Player,
+) -> Ending
+    requires reader { reader.old.failures ≡ 0 }
+    requires writer { writer.old.failures ≡ 0 }
+    requires fresh { player.old ≡ new_stream player.old.kind player.old.program }
+    ensures played { PlaysAllOver W.puts R.hears W.contents R.remaining writer.old writer.new reader.old reader.new
+        player.old.kind player.old.program result player.new.found }
+    ensures program { player.new.program ≡ player.old.program }
+{
+    if !go_on(reader, writer, player) {
         let command = player.working();
-        return (Ending::Lost { command }, player.into_failures());
+        return Ending::Lost { command };
     }
     match player.ended() {
-        Some(ending) => (ending, player.into_failures()),
+        Some(ending) => ending,
         None => unreachable!(),
     }
 }

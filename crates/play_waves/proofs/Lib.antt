@@ -7,7 +7,6 @@ pub mod Lines
 pub mod Messages
 pub mod Nets
 pub mod Numbers
-pub mod Passed
 pub mod Played
 pub mod RowsCompute
 pub mod Runs

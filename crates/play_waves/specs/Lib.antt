@@ -4,7 +4,6 @@ pub mod Fronts
 pub mod Heading
 pub mod Holding
 pub mod Pens
-pub mod Periods
 pub mod Quiet
 pub mod Rows
 pub mod Samples

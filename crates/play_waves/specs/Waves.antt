@@ -1,7 +1,6 @@
 -- The wave file of a play.
 use Rattle.std.specs.Prelude.{ℕ, ◌==◌, Bool, true, nat_le, List, [], ◌∷◌, ◌++◌, Option, Some, None}
 use Rattle.std.specs.Prelude.{if◌then◌else◌}
-use Rattle.svf_parse.specs.Judging.{Said}
 use Rattle.svf_programs.specs.Steps.{Program}
 use Rattle.bitbang_protocol.specs.declared.Message.{Message}
 use Rattle.board_model.specs.Chain.{BoardState}
@@ -16,7 +15,6 @@ use Rattle.play_waves.specs.Codes.{binary}
 use Rattle.play_waves.specs.Drawing.{after_drawing, draw, stamp}
 use Rattle.play_waves.specs.Heading.{heading}
 use Rattle.play_waves.specs.Pens.{Pen, begun}
-use Rattle.play_waves.specs.Periods.{period_at}
 use Rattle.play_waves.specs.Values.{bits_line, byte_line, statement_variable}
 
 -- TCK, where it was drawn as unknown
@@ -66,7 +64,7 @@ abbrev pub stopped_in : Kind → Program → BoardState → Option ℕ
 stopped_in Stops program b = failed_in (play program b).ending
 stopped_in PlaysOn program b = None
 
--- the file of a program's play, made of these statements, on a board
-abbrev pub wave_file : List Said → Kind → Program → BoardState → List ℕ
-wave_file said kind program b =
-    heading (begun b) ++ wave (period_at said) (stopped_in kind program b) (turns program.steps) (begun b)
+-- the file of a program's play on a board, where this is the period in force at the statement of each number
+abbrev pub wave_file : (period_of : ℕ → ℕ) → Kind → Program → BoardState → List ℕ
+wave_file period_of kind program b =
+    heading (begun b) ++ wave period_of (stopped_in kind program b) (turns program.steps) (begun b)

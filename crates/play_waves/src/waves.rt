@@ -1,24 +1,24 @@
 //! The wave file of a play.
 
-ghost use Rattle.std.specs.Prelude.{◌≡◌, true, OnOk, map};
+ghost use Rattle.std.specs.Prelude.{◌≡◌, ℕ, true, List, OnOk};
 ghost use Rattle.byte_streams.specs.Writes.{WritesAll};
 ghost use Rattle.jt_tap.specs.declared.State.TheVariants.{Reset};
 ghost use Rattle.jt_tap.specs.Controller.{is_stable};
-ghost use Rattle.svf_parse.specs.View.{said_of};
 ghost use Rattle.svf_programs.specs.Legal.{IsFormed};
+ghost use Rattle.svf_programs.specs.Periods.{period_in};
 ghost use Rattle.svf_programs.specs.Seen as seen;
 ghost use Rattle.svf_programs.specs.Sizes.{program_of};
 ghost use Rattle.svf_programs.specs.Sound.{IsWithin};
 ghost use Rattle.bitbang.specs.StepMessages.{step_messages};
 ghost use Rattle.play_model.specs.Play.{step_turns, turns};
+ghost use Rattle.play_direct.specs.Accepting.{Accepts, KeepsPeriodsOf};
 ghost use Rattle.play_waves.specs.Drawing.{after_drawing};
 ghost use Rattle.play_waves.specs.Heading.{heading};
 ghost use Rattle.play_waves.specs.Pens.{begun};
-ghost use Rattle.play_waves.specs.Periods.{period_at};
+ghost use Rattle.play_waves.specs.Texts.{Draws};
 ghost use Rattle.play_waves.specs.Waves as spec;
 
 use crate::drawing::Drawing;
-use crate::periods::{none_passed, passed_to};
 use crate::stage::Stage;
 use crate::steps::{draw_opening, draw_step};
 use byte_streams::{Broken, Counted, Sink};
@@ -26,16 +26,32 @@ use jt_board::Board;
 use jt_tap::State;
 use play_direct::play_program;
 use play_model::{Ending, Kind};
-use svf_parse::Statement;
 use svf_programs::{Program, Step};
 use tck_cycles::place_after;
 
-/// Writes the wave file of a program, made of these statements: as a player of this kind plays it on the board of a
+/// Writes the wave file of an accepted program, which is lent, as a player of this kind plays it on the board of a
 /// stage. It takes no memory.
 ///
 /// `Broken` comes exactly where the writer's first failure came in this call.
 pub fn write_waves<W: Sink>(
-    statements: &[Statement],
+    program: &Program,
+    kind: Kind,
+    stage: Stage,
+    out: &mut Counted<W>,
+) -> Result<(), Broken>
+    requires { out.old.failures ≡ 0 }
+    // What is drawn of a program.
+    ensures program { WritesAll W.contents out.old out.new
+        (spec.wave_file (period_in program.now.periods) kind (program_of program.now) stage) result }
+    // Where it is the program of a text that was accepted, with the periods of that, these are the waves of the text.
+    ensures text { (text : List ℕ) → Accepts text (program_of program.now) → KeepsPeriodsOf text program.now.periods
+        → Draws W.contents text kind stage out.old out.new result }
+{
+    write_file(program, kind, stage, out)
+}
+
+/// Writes the wave file of a program.
+fn write_file<W: Sink>(
     program: &Program,
     kind: Kind,
     stage: Stage,
@@ -43,12 +59,12 @@ pub fn write_waves<W: Sink>(
 ) -> Result<(), Broken>
     requires { out.old.failures ≡ 0 }
     ensures { WritesAll W.contents out.old out.new
-        (spec.wave_file (map said_of statements.now) kind (program_of program.now) stage) result }
+        (spec.wave_file (period_in program.now.periods) kind (program_of program.now) stage) result }
 {
     let (mut judge, mut drawing) = stage.opened();
     let failed = stopped_in(kind, program, &mut judge);
     drawing.head(out)?;
-    draw_program(statements, program, failed, &mut drawing, out)
+    draw_program(program, failed, &mut drawing, out)
 }
 
 /// The statement in which a play stops, if it does.
@@ -73,42 +89,48 @@ fn failed_in(ending: Ending) -> Option<usize>
 
 /// Draws a program, up to and with the statement that fails.
 fn draw_program<W: Sink>(
-    statements: &[Statement],
     program: &Program,
     failed: Option<usize>,
     drawing: &mut Drawing,
     out: &mut Counted<W>,
 ) -> Result<(), Broken>
     requires { out.old.failures ≡ 0 }
-    ensures { WritesAll W.contents out.old out.new (spec.wave (period_at (map said_of statements.now)) failed
+    ensures { WritesAll W.contents out.old out.new (spec.wave (period_in program.now.periods) failed
         (turns program.now.steps) drawing.old) result }
 {
-    draw_opening(drawing, none_passed().period, out)?;
-    draw_steps(statements, program, failed, drawing, out)
+    draw_opening(drawing, opening_period(program), out)?;
+    draw_steps(program, failed, drawing, out)
+}
+
+/// The period of TCK in the opening of a program.
+fn opening_period(program: &Program) -> u64
+    ensures { result ≡ period_in program.now.periods 0 }
+{
+    let mut periods = program.periods();
+    periods.at(0)
 }
 
 /// Draws the steps of a program, up to and with that of the statement that fails.
 fn draw_steps<W: Sink>(
-    statements: &[Statement],
     program: &Program,
     failed: Option<usize>,
     drawing: &mut Drawing,
     out: &mut Counted<W>,
 ) -> Result<(), Broken>
     requires { out.old.failures ≡ 0 }
-    ensures { WritesAll W.contents out.old out.new (spec.wave (period_at (map said_of statements.now)) failed
+    ensures { WritesAll W.contents out.old out.new (spec.wave (period_in program.now.periods) failed
         (step_turns Reset program.now.steps) drawing.old) result }
 {
     // For the proof alone: what is kept of a program's steps.
     let _ = program.len();
     let mut place = State::Reset;
-    let mut passed = none_passed();
+    let mut periods = program.periods();
     for step in program.steps() {
         if !is_played(failed, step.number) {
             return drawing.close(out);
         }
-        passed = passed_to(statements, passed, step.number);
-        draw_turn(drawing, place, &step, passed.period, out)?;
+        let period = periods.at(step.number);
+        draw_turn(drawing, place, &step, period, out)?;
         place = place_after(place, &step);
     }
     drawing.close(out)

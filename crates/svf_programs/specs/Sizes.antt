@@ -3,13 +3,15 @@ use Rattle.std.specs.Prelude.{ℕ, ◌+◌, List, length}
 use Rattle.svf_parse.specs.Judging.{Said, scan, states}
 use Rattle.svf_parse.specs.Sizes.{bits_in}
 use Rattle.svf_programs.specs.Steps.{Numbered, Program}
+use Rattle.svf_programs.specs.declared.periods.PeriodChange.{PeriodChange}
 
 -- A program, with the number of bits of fields and of states of paths in all the statements that it keeps, used by a
--- step or not.
+-- step or not, and its changes of period.
 pub record Holding : Type 0 where
   pub statements : ℕ
   pub steps : List Numbered
   pub held : ℕ
+  pub periods : List PeriodChange
 
 abbrev pub program_of : Holding → Program
 program_of p = record { statements = p.statements; steps = p.steps }

@@ -2,9 +2,11 @@
 #![tactic(auto)]
 
 mod kept;
+mod periods;
 mod program;
 mod step;
 
 pub use kept::{Kept, KeptPart, KeptStep, len_at, path_at, tdi_at, tdo_at};
+pub use periods::{DEFAULT_PERIOD, PeriodChange, Periods};
 pub use program::{Program, Steps};
 pub use step::{Action, Step};

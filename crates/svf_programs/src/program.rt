@@ -7,18 +7,21 @@ ghost use Rattle.svf_programs.specs.Seen as seen;
 ghost use Rattle.svf_programs.specs.Sound.{IsWithin};
 
 use crate::kept::{Kept, KeptStep, part_or_none, path_at};
+use crate::periods::{PeriodChange, Periods};
 use crate::step::{Action, Step};
 use std::marker::Model;
 use svf_parse::Statement;
 
 /// A program that was accepted: steps, and the statements as they are written in which these name their fields. So it
-/// takes memory in proportion to its text, however long its vectors are.
+/// takes memory in proportion to its text, however long its vectors are. It keeps the period of TCK too, by its
+/// changes.
 #[derive(Debug, Drop)]
 pub struct Program {
     /// How many statements the text has, kept or not.
     count: usize,
     statements: Vec<Statement>,
     steps: Vec<KeptStep>,
+    periods: Vec<PeriodChange>,
 }
 
 impl Model for Program {
@@ -36,6 +39,7 @@ impl Model for Program {
       statements = p.count;
       steps = map (numbered_in (map said_of p.statements.items)) p.steps.items;
       held = sum_by content (map said_of p.statements.items);
+      periods = p.periods.items;
     } };
 
     ghost invariant = { λ p. IsKept (map (numbered_in (map said_of p.statements.items)) p.steps.items) };
@@ -51,34 +55,47 @@ impl Program {
     ghost use Rattle.svf_programs.specs.Sizes.{content};
     ghost use Rattle.svf_programs.specs.Left.{left};
 
-    /// The program of these statements and steps, which are sound (asked) and fewer than 2^32 (asked).
-    pub fn of(statements: Vec<Statement>, steps: Vec<KeptStep>) -> Program
+    /// The program of these statements and steps, which are sound (asked) and fewer than 2^32 (asked), with these
+    /// changes of period.
+    pub fn of(
+        statements: Vec<Statement>,
+        steps: Vec<KeptStep>,
+        periods: Vec<PeriodChange>,
+    ) -> Program
         requires sound { IsSound (map (numbered_in (map said_of statements.items)) steps.items) }
         requires few { length steps.items ≤ step_limit }
         ensures { result ≡ record {
           statements = length statements.items;
           steps = map (numbered_in (map said_of statements.items)) steps.items;
           held = sum_by content (map said_of statements.items);
+          periods = periods.items;
         } }
     {
-        Program::of_kept(statements.len(), statements, steps)
+        Program::of_kept(statements.len(), statements, steps, periods)
     }
 
     /// The program of these steps, which are sound (asked) and fewer than 2^32 (asked), of a text with so many
-    /// statements, of which these are kept.
-    pub fn of_kept(count: usize, statements: Vec<Statement>, steps: Vec<KeptStep>) -> Program
+    /// statements, of which these are kept, and with these changes of period.
+    pub fn of_kept(
+        count: usize,
+        statements: Vec<Statement>,
+        steps: Vec<KeptStep>,
+        periods: Vec<PeriodChange>,
+    ) -> Program
         requires sound { IsSound (map (numbered_in (map said_of statements.items)) steps.items) }
         requires few { length steps.items ≤ step_limit }
         ensures { result ≡ record {
           statements = count;
           steps = map (numbered_in (map said_of statements.items)) steps.items;
           held = sum_by content (map said_of statements.items);
+          periods = periods.items;
         } }
     {
         Program {
             count,
             statements,
             steps,
+            periods,
         }
     }
 
@@ -104,6 +121,13 @@ impl Program {
         ensures { slice_get self.now.steps at ≡ Some (numbered result) }
     {
         read(self.statements.as_slice(), &self.steps[at])
+    }
+
+    /// The period of TCK at its statements.
+    pub fn periods(&self) -> Periods<'_>
+        ensures { result ≡ self.now.periods }
+    {
+        Periods::of(self.periods.as_slice())
     }
 
     /// The steps in order.

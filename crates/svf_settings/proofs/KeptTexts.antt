@@ -25,12 +25,15 @@ use Rattle.svf_programs.specs.Steps.{Numbered, Program}
 use Rattle.svf_settings.specs.declared.reading.Reader.{Reader}
 use Rattle.svf_settings.specs.Held.{StandsIfNamed, if_named, is_named}
 use Rattle.svf_settings.specs.LookBack.{settings}
+use Rattle.svf_settings.specs.Periods.{KeepsPeriodsOf, changes, with_change}
+use Rattle.svf_programs.specs.declared.periods.PeriodChange.{PeriodChange}
 use Rattle.svf_settings.specs.Programs.{first_refusal, program, resolution, steps, said_resolution, text_resolution, unless}
 use Rattle.svf_settings.specs.Reading.{Answers, IsAfter, IsBehind, IsTaken, KeepsAfter, first_of, kept_as}
 use Rattle.svf_settings.specs.Refusals.{refusal}
 use Rattle.svf_settings.proofs.FirstRefusals.{resolves_is_function, stays}
 use Rattle.svf_settings.proofs.KeptPrograms.{few_steps, sizes}
 use Rattle.svf_settings.proofs.OneStatementMore.{after_taken}
+use Rattle.svf_settings.proofs.PeriodChanges.{keeps_periods}
 use Rattle.svf_settings.proofs.SoundSteps.{sound_steps}
 
 -- ---- the last statement
@@ -51,9 +54,9 @@ pub front_taken : (front : List Statement) (s : Statement) → take (length fron
 front_taken [] s = refl
 front_taken (x ∷ front) s = ap (λ (xs : List Statement). x ∷ xs) (front_taken front s)
 
-pub own_behind : (all front : List Statement) (s : Statement) (past : List Said) (r : Reader) (made : List KeptStep) → KeepsAfter front past r made
+pub own_behind : (all front : List Statement) (s : Statement) (past : List Said) (r : Reader) (made : List KeptStep) (periods : List PeriodChange) → KeepsAfter front past r made periods
     → all ≡ front ++ s ∷ [] → IsBehind (map said_of all) past r
-own_behind all front s past r made keeps split =
+own_behind all front s past r made periods keeps split =
     subst (λ (xs : List Said). IsBehind xs past r) (sym (ap (map said_of) split ∙ map-append said_of front (s ∷ []))) (keeps (said_of s ∷ [])).behind
 
 pub own_stands : (all front : List Statement) (s : Statement) → all ≡ front ++ s ∷ [] → slice_get (map said_of all) (length front) ≡ Some (said_of s)
@@ -61,41 +64,45 @@ own_stands all front s split =
     ap (λ (xs : List Statement). slice_get (map said_of xs) (length front)) split
     ∙ ap (λ (xs : List Said). slice_get xs (length front)) (map-append said_of front (s ∷ [])) ∙ stands_behind front (said_of s) []
 
-module _ (front : List Statement) (s : Statement) (past : List Said) (r after : Reader) (made : List KeptStep) (step : Option Kept) (n : ℕ)
-    (keeps : KeepsAfter front past r made) (number : n ≡ length past + 1)
+module _ (front : List Statement) (s : Statement) (past : List Said) (r after : Reader) (made : List KeptStep) (periods : List PeriodChange) (step : Option Kept) (n : ℕ)
+    (keeps : KeepsAfter front past r made periods) (number : n ≡ length past + 1)
     (takes : (all : List Said) → IsBehind all past r → StandsIfNamed all (settings past) (length front) (said_of s) → IsTaken all past (said_of s) after step) where
-  more_by : (all : List Said) → IsAfter all past r made → StandsIfNamed all (settings past) (length front) (said_of s)
-      → IsAfter all (said_of s ∷ past) after (made ++ kept_as n step)
-  more_by all a stands = after_taken all past (said_of s) r after step made n a number (takes all a.behind stands)
+  abbrev next : List PeriodChange
+  next = with_change step n after.running.period periods
+
+  more_by : (all : List Said) → IsAfter all past r made periods → StandsIfNamed all (settings past) (length front) (said_of s)
+      → IsAfter all (said_of s ∷ past) after (made ++ kept_as n step) next
+  more_by all a stands = after_taken all past (said_of s) r after step made periods n a number (takes all a.behind stands)
 
   keeps_if : (named : Bool) → is_named (settings past) (said_of s) ≡ named
-      → KeepsAfter (front ++ (if named then s ∷ [] else [])) (said_of s ∷ past) after (made ++ kept_as n step)
+      → KeepsAfter (front ++ (if named then s ∷ [] else [])) (said_of s ∷ past) after (made ++ kept_as n step) next
   keeps_if true e = λ more.
-      subst (λ (all : List Said). IsAfter all (said_of s ∷ past) after (made ++ kept_as n step)) (sym (said_behind front s more))
+      subst (λ (all : List Said). IsAfter all (said_of s ∷ past) after (made ++ kept_as n step) next) (sym (said_behind front s more))
       (more_by (map said_of front ++ said_of s ∷ more) (keeps (said_of s ∷ more)) (λ _. stands_behind front (said_of s) more))
   keeps_if false e = λ more.
-      subst (λ (kept : List Statement). IsAfter (map said_of kept ++ more) (said_of s ∷ past) after (made ++ kept_as n step)) (sym (append-nil front))
+      subst (λ (kept : List Statement). IsAfter (map said_of kept ++ more) (said_of s ∷ past) after (made ++ kept_as n step) next) (sym (append-nil front))
       (more_by (map said_of front ++ more) (keeps more) (λ named. absurd (let no : true ≡ false = sym named ∙ e in cc)))
 
   pub keeps_more : KeepsAfter (front ++ if_named (is_named (settings past) (said_of s)) s) (said_of s ∷ past) after (made ++ kept_as n step)
+      (with_change step n after.running.period periods)
   keeps_more = keeps_if (is_named (settings past) (said_of s)) refl
 
 -- ---- the loop
 
 -- the statements before these groups of a text are read, and these are kept of them
-pub record IsReading (whole groups : Groups) (kept : List Statement) (r : Reader) (made : List KeptStep) (count : ℕ) : Type 0 where
+pub record IsReading (whole groups : Groups) (kept : List Statement) (r : Reader) (made : List KeptStep) (periods : List PeriodChange) (count : ℕ) : Type 0 where
   pub past : List Said
   pub told : in_front (reverse past) (groups_say (count + 1) groups) ≡ groups_say 1 whole
-  pub after : KeepsAfter kept past r made
+  pub after : KeepsAfter kept past r made periods
   pub counted : length past ≡ count
   pub few : count ≤ 200000
   pub fewer : length kept ≤ count
   pub held : sum_by content (map said_of kept) ≤ sum_by content (reverse past)
 
-pub begins_reading : (whole : Groups) (kept : List Statement) (r : Reader) (made : List KeptStep) → kept ≡ [] → KeepsAfter [] [] r made
-    → IsReading whole whole kept r made 0
-begins_reading whole kept r made none keeps =
-    subst (λ (xs : List Statement). IsReading whole whole xs r made 0) (sym none) (record {
+pub begins_reading : (whole : Groups) (kept : List Statement) (r : Reader) (made : List KeptStep) (periods : List PeriodChange) → kept ≡ []
+    → KeepsAfter [] [] r made periods → IsReading whole whole kept r made periods 0
+begins_reading whole kept r made periods none keeps =
+    subst (λ (xs : List Statement). IsReading whole whole xs r made periods 0) (sym none) (record {
       past = [];
       told = in_front-nil (groups_say 1 whole);
       after = keeps;
@@ -144,7 +151,8 @@ refused_before past (Ok ss) total fault told e =
     ∙ ap (λ (o : Option SvfFault). unless o (program (reverse past ++ ss)))
     (ap first_refusal (reverse-append (reverse past) ss ∙ ap (λ (p : List Said). reverse ss ++ p) (reverse-reverse past)) ∙ stays (reverse ss) past fault e)
 
-module _ (whole groups : Groups) (front : List Statement) (r : Reader) (made : List KeptStep) (count : ℕ) (reads : IsReading whole groups front r made count) where
+module _ (whole groups : Groups) (front : List Statement) (r : Reader) (made : List KeptStep) (periods : List PeriodChange) (count : ℕ)
+    (reads : IsReading whole groups front r made periods count) where
   module _ (w : Word) (ws : List Word) (behind : Groups) (s : Statement) (is : from_words groups ≡ group (w ∷ ws) behind)
       (says : at_statement (count + 1) (within_limit (count + 1) (statement_says (w ∷ ws))) ≡ Ok (said_of s)) where
     told_behind : in_front (reverse (said_of s ∷ reads.past)) (groups_say (count + 1 + 1) behind) ≡ groups_say 1 whole
@@ -152,10 +160,10 @@ module _ (whole groups : Groups) (front : List Statement) (r : Reader) (made : L
         ap (λ (xs : List Said). in_front xs (groups_say (count + 1 + 1) behind)) (reversed (said_of s) reads.past)
         ∙ next_said groups w ws behind is (reverse reads.past) (count + 1) (said_of s) (groups_say 1 whole) reads.told says
 
-    pub reads_more : (named : Bool) (after : Reader) (steps_made : List KeptStep) → count + 1 ≤ 200000
-        → KeepsAfter (front ++ if_named named s) (said_of s ∷ reads.past) after steps_made
-        → IsReading whole behind (front ++ if_named named s) after steps_made (count + 1)
-    reads_more named after steps_made few keeps = record {
+    pub reads_more : (named : Bool) (after : Reader) (steps_made : List KeptStep) (periods_made : List PeriodChange) → count + 1 ≤ 200000
+        → KeepsAfter (front ++ if_named named s) (said_of s ∷ reads.past) after steps_made periods_made
+        → IsReading whole behind (front ++ if_named named s) after steps_made periods_made (count + 1)
+    reads_more named after steps_made periods_made few keeps = record {
       past = said_of s ∷ reads.past;
       told = told_behind;
       after = keeps;
@@ -197,6 +205,11 @@ module _ (whole groups : Groups) (front : List Statement) (r : Reader) (made : L
   held_read is all says =
       let same : reverse reads.past ≡ all = ok_is (reverse reads.past) all (sym (whole_read is) ∙ says) in
       subst (λ (xs : List Said). sum_by content (map said_of front) ≤ sum_by content xs) same reads.held
+
+  pub periods_read : from_words groups ≡ last [] None → KeepsPeriodsOf (groups_say 1 whole) periods
+  periods_read is = λ all says.
+      let same : reverse reads.past ≡ all = ok_is (reverse reads.past) all (sym (whole_read is) ∙ says) in
+      keeps_periods all periods ((reads.after []).periods_are ∙ ap changes (sym (reverse-reverse reads.past) ∙ ap (λ (xs : List Said). reverse xs) same))
 
 -- ---- a refusal, and what stands behind it
 

@@ -1,4 +1,5 @@
 pub mod LookBack
+pub mod Periods
 pub mod Refusals
 pub mod Programs
 pub mod Running

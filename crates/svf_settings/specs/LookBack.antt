@@ -16,6 +16,7 @@ use Rattle.svf_parse.specs.Judging as said
 use Rattle.scan_vectors.specs.Vector.{VectorBit}
 use Rattle.scan_vectors.specs.Fields.{Fields, no_fields, vector_of}
 use Rattle.svf_programs.specs.Steps.{Step, Scan, Go, Path, Run, Trst, place_after}
+pub use Rattle.svf_programs.specs.Periods.{default_period}
 
 -- ---- where scans and runs end
 
@@ -52,10 +53,6 @@ run_end (said.run_test run count min max end ∷ before) = ends_in run end (run_
 run_end (_ ∷ before) = run_end before
 
 -- ---- time
-
--- the period of TCK in picoseconds where no frequency is given: that of 1 MHz
-abbrev pub default_period : ℕ
-default_period = 1000000
 
 -- the period of TCK in picoseconds
 abbrev pub period : List Said → ℕ

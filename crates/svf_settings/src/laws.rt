@@ -1,6 +1,7 @@
 //! What holds of every list of statements.
 ghost use Rattle.svf_settings.specs.Refusals.{LeastIsTold, AcceptedHasNone};
 ghost use Rattle.svf_settings.specs.Running.{RunningIsLookingBack};
+ghost use Rattle.svf_settings.specs.Periods.{ChangesAreFew, ChangesTellThePeriod};
 ghost use Rattle.svf_settings.specs.Laws.{AcceptedIsSound, CyclesAreLeast, RefusesIsFunction, ResolvesIsFunction};
 ghost use Rattle.svf_settings.specs.Laws.{ResolvedIsWithin, WhatLiesWithinResolves};
 
@@ -14,6 +15,13 @@ pub fn the_lowest_refusal_is_told()
 /// The settings that are kept from statement to statement are those that one finds by looking back.
 pub fn running_is_looking_back()
     ensures { RunningIsLookingBack }
+{}
+
+/// The changes of period that are kept tell the period at each statement, as one finds it by looking back, and are no
+/// more than the statements.
+pub fn changes_tell_the_period()
+    ensures period { ChangesTellThePeriod }
+    ensures few { ChangesAreFew }
 {}
 
 /// The cycles of a run are the least number that suits its count and its least time, of numbers of any size.

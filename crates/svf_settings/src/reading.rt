@@ -7,6 +7,8 @@ ghost use Rattle.svf_parse.specs.Judging.{Said};
 ghost use Rattle.svf_programs.specs.Sound.{step_limit};
 ghost use Rattle.svf_settings.specs.Held.{StandsIfNamed};
 ghost use Rattle.svf_settings.specs.LookBack.{settings};
+ghost use Rattle.svf_settings.specs.Periods as periods;
+ghost use Rattle.svf_programs.specs.Periods.{default_period};
 ghost use Rattle.svf_settings.specs.Reading.{IsBehind, Keeps, Takes, kept_as};
 
 use crate::running::Running;
@@ -14,7 +16,7 @@ use crate::stepping::place_behind;
 use jt_tap::State;
 use std::alloc::{AllocError, Global};
 use svf_parse::{Code, Statement, SvfFault};
-use svf_programs::{Kept, KeptStep};
+use svf_programs::{DEFAULT_PERIOD, Kept, KeptStep, PeriodChange};
 
 /// The settings behind some statements, and where the program rests there.
 #[derive(Drop, Clone, Copy)]
@@ -57,12 +59,75 @@ impl Reader {
     }
 }
 
-/// The steps of statements, or their first refusal.
-pub(crate) fn kept_steps(alloc: Global, statements: &[Statement]) -> Result<Vec<KeptStep>, SvfFault>
-    ensures keeps { Keeps (map said_of statements.now) result }
-    ensures few { IfOk result (λ steps. length steps.items ≤ step_limit) }
+/// What is made of statements: their steps, and their changes of period.
+#[derive(Drop)]
+pub(crate) struct Makings {
+    pub(crate) steps: Vec<KeptStep>,
+    pub(crate) periods: Vec<PeriodChange>,
+}
+
+impl Makings {
+    /// Nothing yet.
+    pub(crate) fn new(alloc: Global) -> Makings
+        ensures steps { result.steps.items ≡ [] }
+        ensures periods { result.periods.items ≡ [] }
+    {
+        Makings {
+            steps: Vec::new(alloc),
+            periods: Vec::new(alloc),
+        }
+    }
+
+    /// Appends what the statement of this number made, a step or nothing, and the period behind it, where that is
+    /// another than before: a step leaves it.
+    pub(crate) fn push(
+        &mut self,
+        number: u32,
+        period: u64,
+        made: Option<Kept>,
+    ) -> Result<(), AllocError>
+        ensures steps { IfOk result (λ _. self.new.steps.items ≡ self.old.steps.items ++ kept_as number made) }
+        ensures periods { IfOk result
+            (λ _. self.new.periods.items ≡ periods.with_change made number period self.old.periods.items) }
+    {
+        match made {
+            None => push_period(&mut self.periods, number, period),
+            Some(what) => {
+                self.steps.push(KeptStep { number, what })?;
+                Ok(())
+            }
+        }
+    }
+}
+
+/// Appends a change to this period behind the statement of a number, if that is another than before.
+fn push_period(changes: &mut Vec<PeriodChange>, number: u32, period: u64) -> Result<(), AllocError>
+    ensures { IfOk result (λ _. changes.new.items ≡ changes.old.items
+        ++ periods.change_made number (periods.last_period default_period changes.old.items) period) }
 {
-    let mut steps = Vec::new(alloc);
+    if last_period(changes.as_slice()) != period {
+        changes.push(PeriodChange { number, period })?;
+    }
+    Ok(())
+}
+
+/// The period behind these changes.
+#[tactic(auto, using(crate::proofs::PeriodChanges::ends_last))]
+fn last_period(changes: &[PeriodChange]) -> u64
+    ensures { result ≡ periods.last_period default_period changes.now }
+{
+    match changes.last() {
+        Some(change) => change.period,
+        None => DEFAULT_PERIOD,
+    }
+}
+
+/// What is made of statements, or their first refusal.
+pub(crate) fn read_all(alloc: Global, statements: &[Statement]) -> Result<Makings, SvfFault>
+    ensures keeps { Keeps (map said_of statements.now) result }
+    ensures few { IfOk result (λ makings. length makings.steps.items ≤ step_limit) }
+{
+    let mut makings = Makings::new(alloc);
     let mut reader = Reader::first();
     for (index, statement) in statements.iter().enumerate() {
         let Some(place) = place_of(index) else {
@@ -72,13 +137,13 @@ pub(crate) fn kept_steps(alloc: Global, statements: &[Statement]) -> Result<Vec<
             Err(code) => {
                 return Err(fault_at(index, code));
             }
-            Ok(made) => match push_made(&mut steps, place + 1, made) {
+            Ok(made) => match makings.push(place + 1, reader.running.period, made) {
                 Err(_) => return Err(memory()),
                 Ok(()) => {}
             },
         }
     }
-    Ok(steps)
+    Ok(makings)
 }
 
 /// The place of a statement, as a step names it: there is room for 2^32 - 1 statements.
@@ -90,23 +155,6 @@ fn place_of(index: usize) -> Option<u32>
         Some(index as u32)
     } else {
         None
-    }
-}
-
-/// Appends the step of a statement, if it made one.
-pub(crate) fn push_made(
-    steps: &mut Vec<KeptStep>,
-    number: u32,
-    made: Option<Kept>,
-) -> Result<(), AllocError>
-    ensures { IfOk result (λ _. steps.new.items ≡ steps.old.items ++ kept_as number made) }
-{
-    match made {
-        None => Ok(()),
-        Some(what) => {
-            steps.push(KeptStep { number, what })?;
-            Ok(())
-        }
     }
 }
 

@@ -7,10 +7,11 @@ ghost use Rattle.svf_programs.specs.Sizes.{content, program_of};
 ghost use Rattle.svf_parse.specs.View.{memory_fault, said_of};
 ghost use Rattle.svf_programs.specs.Steps as steps;
 ghost use Rattle.svf_programs.specs.Sound.{IsSound};
+ghost use Rattle.svf_settings.specs.Periods.{KeepsPeriods};
 ghost use Rattle.svf_settings.specs.Programs.{Refuses, Resolves, resolution};
 ghost use Rattle.svf_settings.specs.Reading.{Answers};
 
-use crate::reading::kept_steps;
+use crate::reading::{Makings, read_all};
 use std::alloc::Global;
 use svf_parse::{Statement, SvfFault};
 use svf_programs::Program;
@@ -34,6 +35,8 @@ pub fn resolve(alloc: Global, statements: Vec<Statement>) -> Result<Program, Svf
     // It is small: steps, bits of fields and states of paths together are no more than the size of the statements,
     // whatever lengths they name.
     ensures small { IfOk result (λ p. length p.steps + p.held ≤ sum_by size (map said_of statements.items)) }
+    // It keeps each change of the period of TCK, and so tells the period at each statement.
+    ensures periods { IfOk result (λ p. KeepsPeriods (map said_of statements.items) p.periods) }
 {
     read(alloc, statements)
 }
@@ -41,7 +44,8 @@ pub fn resolve(alloc: Global, statements: Vec<Statement>) -> Result<Program, Svf
 fn read(alloc: Global, statements: Vec<Statement>) -> Result<Program, SvfFault>
     ensures answers { Answers result (resolution (map said_of statements.items)) }
     ensures held { IfOk result (λ p. p.held ≡ sum_by content (map said_of statements.items)) }
+    ensures periods { IfOk result (λ p. KeepsPeriods (map said_of statements.items) p.periods) }
 {
-    let steps = kept_steps(alloc, statements.as_slice())?;
-    Ok(Program::of(statements, steps))
+    let Makings { steps, periods } = read_all(alloc, statements.as_slice())?;
+    Ok(Program::of(statements, steps, periods))
 }

@@ -12,11 +12,11 @@ ghost use Rattle.svf_programs.specs.Held.{part_in, step_in};
 ghost use Rattle.svf_settings.specs.Held.{IsAlike, StandsIfNamed, settings_in};
 ghost use Rattle.svf_settings.specs.Held as held;
 
-use crate::running::{DEFAULT_PERIOD, Running};
+use crate::running::Running;
 use jt_bits::Bits;
 use jt_tap::{Column, State};
 use svf_parse::{Statement, TrstWord, Which};
-use svf_programs::{Kept, KeptPart, len_at, path_at, tdo_at};
+use svf_programs::{DEFAULT_PERIOD, Kept, KeptPart, len_at, path_at, tdo_at};
 use tap_paths::last_of;
 
 /// What a scan gives: the fields that settings and steps keep.

@@ -6,21 +6,22 @@ ghost use Rattle.svf_lex.specs.Left.{left};
 ghost use Rattle.svf_words.specs.Words.{groups_of};
 ghost use Rattle.svf_parse.specs.declared.statement.Statement as declared_statement;
 ghost use Rattle.svf_parse.specs.Judging.{Said};
-ghost use Rattle.svf_parse.specs.Reading.{groups_say};
+ghost use Rattle.svf_parse.specs.Reading.{groups_say, text_says};
 ghost use Rattle.svf_parse.specs.View.{memory_fault, said_of};
 ghost use Rattle.svf_programs.specs.Sizes.{content};
 ghost use Rattle.svf_programs.specs.Sound.{step_limit};
 ghost use Rattle.svf_settings.specs.Held as held;
 ghost use Rattle.svf_settings.specs.Held.{StandsIfNamed};
 ghost use Rattle.svf_settings.specs.LookBack.{settings};
+ghost use Rattle.svf_settings.specs.Periods.{KeepsPeriodsOf};
 ghost use Rattle.svf_settings.specs.Programs.{said_resolution, text_resolution};
 ghost use Rattle.svf_settings.specs.Reading.{Answers, IsBehind, KeepsAfter, Takes, TakesLast, first_of};
 
-use crate::reading::{Reader, memory, push_made};
+use crate::reading::{Makings, Reader, memory};
 use std::alloc::{AllocError, Global};
 use svf_lex::Lexer;
 use svf_parse::{Code, Statement, SvfFault, lexer_of, next_statement};
-use svf_programs::{Kept, KeptStep, Program};
+use svf_programs::{Kept, Program};
 
 /// The program of a text, or its first refusal: that of its first faulty statement by form (S1 to S6, S13, S15), or
 /// where no statement has one, that of the first which lacks something from those before it (S7 to S12, S14, S15). Of
@@ -34,6 +35,8 @@ pub fn resolve_text(alloc: Global, text: &[u8]) -> Result<Program, SvfFault>
     ensures answers { Answers result (text_resolution text.now) }
     // It is small: steps, bits of fields and states of paths together are at most four for each byte of the text.
     ensures small { IfOk result (λ p. length p.steps + p.held ≤ 4 * length text.now) }
+    // It keeps each change of the period of TCK, and so tells the period at each statement.
+    ensures periods { IfOk result (λ p. KeepsPeriodsOf (text_says text.now) p.periods) }
 {
     read_text(alloc, lexer_of(text)?)
 }
@@ -42,13 +45,15 @@ fn read_text(alloc: Global, text: Lexer<'_>) -> Result<Program, SvfFault>
     ensures answers { Answers result (said_resolution (groups_say 1 (groups_of (left text.entry)))) }
     ensures held { IfOk result (λ p. (all : List Said)
         → groups_say 1 (groups_of (left text.entry)) ≡ Ok all → p.held ≤ sum_by content all) }
+    ensures periods { IfOk result (λ p. KeepsPeriodsOf (groups_say 1 (groups_of (left text.entry))) p.periods) }
 {
     let mut keeper = Keeper::first(alloc);
     let mut count = 0;
     let mut lexer = text;
     loop {
         let Some(after) = next_statement(alloc, count + 1, lexer, &mut keeper.statements)? else {
-            return Ok(Program::of_kept(count, keeper.statements, keeper.steps));
+            let Makings { steps, periods } = keeper.made;
+            return Ok(Program::of_kept(count, keeper.statements, steps, periods));
         };
         lexer = after;
         count += 1;
@@ -94,24 +99,24 @@ fn first_fault(
 }
 
 /// What is kept of the statements so far: the settings behind them, the statements that a step or these may name, and
-/// their steps.
+/// what they made.
 #[derive(Drop)]
 struct Keeper {
     reader: Reader,
     statements: Vec<Statement>,
-    steps: Vec<KeptStep>,
+    made: Makings,
 }
 
 impl Keeper {
     /// Before the first statement.
     fn first(alloc: Global) -> Keeper
-        ensures after { KeepsAfter [] [] result.reader result.steps.items }
+        ensures after { KeepsAfter [] [] result.reader result.made.steps.items result.made.periods.items }
         ensures none { result.statements.items ≡ [] }
     {
         Keeper {
             reader: Reader::first(),
             statements: Vec::new(alloc),
-            steps: Vec::new(alloc),
+            made: Makings::new(alloc),
         }
     }
 
@@ -121,15 +126,16 @@ impl Keeper {
         requires few { length self.old.statements.items ≤ step_limit }
         ensures { (front : List declared_statement.Statement) (s : declared_statement.Statement) (past : List Said)
             → self.old.statements.items ≡ front ++ s ∷ [] → number ≡ length past + 1
-            → KeepsAfter front past self.old.reader self.old.steps.items
-            → TakesLast front s past self.new.reader self.new.statements.items self.new.steps.items result }
+            → KeepsAfter front past self.old.reader self.old.made.steps.items self.old.made.periods.items
+            → TakesLast front s past self.new.reader self.new.statements.items self.new.made.steps.items
+            self.new.made.periods.items result }
     {
         let named = is_last_named(&self.reader, self.statements.as_slice());
         let made = match take_last(&mut self.reader, self.statements.as_slice()) {
             Ok(made) => made,
             Err(code) => return Ok(Some(code)),
         };
-        push_made(&mut self.steps, number, made)?;
+        self.made.push(number, self.reader.running.period, made)?;
         keep_last_if(&mut self.statements, named);
         Ok(None)
     }

@@ -17,6 +17,8 @@ mod digits;
 #[cfg(test)]
 mod paths;
 #[cfg(test)]
+mod periods;
+#[cfg(test)]
 mod statements;
 #[cfg(test)]
 mod steps;

@@ -11,9 +11,9 @@ returns-in-Ok g c =
     let run = accepted_run program before in (
       run,
       accepted program c.in-Ok.ensures.found,
-      happens-out g.W.Write.contents g.E.Write.contents run before before c.args.out.now c.tell_accepted.new.out c.args.err.now
-          c.tell_accepted.result refl c.requires.err_whole c.tell_accepted.ensures.writes c.tell_accepted.ensures.is_status
-          (on_ok c.tell_accepted.result (before ≡ before) refl) (inl refl),
+      happens-out g.W.Write.contents g.E.Write.contents run before before c.args.out.now c.check_program.new.out c.args.err.now
+          c.check_program.result refl c.requires.err_whole c.check_program.ensures.writes c.check_program.ensures.is_status
+          (on_ok c.check_program.result (before ≡ before) refl) (inl refl),
     )
 
 pub returns-in-Err : goal.returns-in-Err

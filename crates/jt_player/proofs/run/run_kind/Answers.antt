@@ -1,7 +1,5 @@
-use Rattle.std.proofs.Common.{◌<◌, ℕ, refl, subst}
+use Rattle.std.proofs.Common.{refl}
 use Rattle.svf_programs.specs.Sizes.{program_of}
-use Rattle.jt_player.specs.Kinds.{MeansAsPlayed}
-use Rattle.jt_player.proofs.KindLaws.{means}
 use Rattle.jt_player.specs.Running.{IsRunOf, no_memory, played, played_run, refused}
 use Rattle.jt_player.proofs.RunLaws.{happens-out, refused-or-memory}
 use Rattle.jt_player.proofs.run.run_kind.Goals as goal
@@ -10,15 +8,12 @@ pub returns-in-Ok : goal.returns-in-Ok
 returns-in-Ok g c =
     let before = c.args.board.now in
     let program = program_of c.in-Ok.program in
-    let run = played_run c.args.kind c.args.bytes program before in
-    let meant : MeansAsPlayed c.args.kind program before =
-    means c.args.kind program before c.devices.ensures.sound (subst (λ (n : ℕ). 0 < n) c.devices.ensures.count c.devices.ensures.some)
-    c.len.ensures.sound.legal in (
+    let run = played_run c.args.kind c.args.bytes program before in (
       run,
-      played program c.in-Ok.ensures.found meant,
-      happens-out g.W.Write.contents g.E.Write.contents run before c.play_and_tell.new.board c.args.out.now c.play_and_tell.new.out c.args.err.now
-          c.play_and_tell.result refl c.requires.err_whole c.play_and_tell.ensures.writes c.play_and_tell.ensures.status c.play_and_tell.ensures.left
-          c.play_and_tell.ensures.board,
+      played program c.in-Ok.ensures.found c.run_program.ensures.means,
+      happens-out g.W.Write.contents g.E.Write.contents run before c.run_program.new.board c.args.out.now c.run_program.new.out c.args.err.now
+          c.run_program.result refl c.requires.err_whole c.run_program.ensures.writes c.run_program.ensures.status c.run_program.ensures.left
+          c.run_program.ensures.board,
     )
 
 pub returns-in-Err : goal.returns-in-Err

@@ -3,9 +3,9 @@ use Rattle.byte_streams.proofs.Fronts.{WritesAll-stopped, WritesAll-then}
 use Rattle.board_report.specs.Report.{report}
 use Rattle.play_explained.proofs.runs.write_with_report.Goals as goal
 
-pub returns-in_err-write_on_board : goal.returns-in_err-write_on_board
-returns-in_err-write_on_board g c =
-    WritesAll-stopped (report c.args.board.now) c.in_err-write_on_board.ensures refl c.from_residual.ensures.0
+pub returns-in_err-write_played : goal.returns-in_err-write_played
+returns-in_err-write_played g c =
+    WritesAll-stopped (report c.args.board.now) c.in_err-write_played.ensures refl c.from_residual.ensures.0
 
 pub returns : goal.returns
-returns g c = WritesAll-then c.in_ok-write_on_board.ensures refl c.write_report.ensures
+returns g c = WritesAll-then c.in_ok-write_played.ensures refl c.write_report.ensures

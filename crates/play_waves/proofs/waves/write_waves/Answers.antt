@@ -1,27 +1,10 @@
-use Rattle.std.proofs.Common.{◌≡◌, ◌++◌, ℕ, List, map, refl, ap, ◌∙◌}
-use Rattle.byte_streams.proofs.Fronts.{WritesAll-is, WritesAll-stopped, WritesAll-then}
-use Rattle.svf_parse.specs.View.{said_of}
+use Rattle.svf_programs.specs.Periods.{period_in}
 use Rattle.svf_programs.specs.Sizes.{program_of}
-use Rattle.play_model.specs.Play.{turns}
-use Rattle.play_waves.specs.Heading.{heading}
-use Rattle.play_waves.specs.Pens.{Pen, begun}
-use Rattle.play_waves.specs.Periods.{period_at}
-use Rattle.play_waves.specs.Waves.{stopped_in, wave}
+use Rattle.play_waves.specs.Waves.{wave_file}
+use Rattle.play_waves.proofs.Drawn.{are_waves}
 use Rattle.play_waves.proofs.waves.write_waves.Goals as goal
 
-pub returns-in_err-head : goal.returns-in_err-head
-returns-in_err-head g c =
-    let program = program_of c.args.program.now in
-    let rest : List ℕ = wave (period_at (map said_of c.args.statements.now)) (stopped_in c.args.kind program c.args.stage) (turns program.steps) (begun c.args.stage) in
-    WritesAll-is (ap (λ (p : Pen). heading p ++ rest) c.opened-judge.ensures.drawing)
-    (WritesAll-stopped rest c.in_err-head.ensures refl c.from_residual.ensures.0)
-
-pub returns : goal.returns
-returns g c =
-    let program = program_of c.args.program.now in
-    let stopped : c.stopped_in-failed.result ≡ stopped_in c.args.kind program c.args.stage =
-    c.stopped_in-failed.ensures ∙ ap (stopped_in c.args.kind program) c.opened-judge.ensures.judge in
-    WritesAll-is
-    (λ i. heading (c.opened-judge.ensures.drawing i)
-    ++ wave (period_at (map said_of c.args.statements.now)) (stopped i) (turns program.steps) (c.opened-judge.ensures.drawing i))
-    (WritesAll-then c.in_ok-head.ensures refl c.draw_program.ensures)
+pub returns-clause-text : goal.returns-clause-text
+returns-clause-text g c = λ text accepts keeps.
+    let p = c.args.program.now in
+    (wave_file (period_in p.periods) c.args.kind (program_of p) c.args.stage, are_waves text c.args.kind c.args.stage p accepts keeps, c.write_file.ensures)

@@ -7,14 +7,15 @@ use Rattle.svf_programs.specs.Held.{numbered_in}
 use Rattle.svf_settings.proofs.KeptPrograms.{few_before}
 use Rattle.svf_settings.proofs.OneStatementMore.{after_more, before_more, length_before, said_at}
 use Rattle.svf_settings.proofs.FirstRefusals.{before, refused_at}
-use Rattle.svf_settings.proofs.reading.kept_steps.Goals as goal
+use Rattle.svf_settings.proofs.reading.read_all.Goals as goal
 
 pub loop-index-init : goal.loop-index-init
 loop-index-init c = (
   record {
     behind = c.first-reader.ensures (map said_of c.args.statements.now);
     fine = refl;
-    steps_are = rw c.new-steps.ensures.items refl;
+    steps_are = rw c.new-makings.ensures.steps refl;
+    periods_are = c.new-makings.ensures.periods;
   },
   omega arith,
 )
@@ -46,13 +47,13 @@ loop-index-preserved c =
     let here = (rw c.in-Some.is at c.place_of.ensures.found).0 in
     let behind = c.loop-index.invariant.0.behind in
     let taken = c.take.ensures all (before k all) behind behind (λ _. rw here at) in (
-      rw (c.in-Ok-push_made.ensures, here)
-          (after_more all k s c.loop-index.reader c.take.new.self c.in-Ok.made c.loop-index.steps.items at c.loop-index.invariant.0 (rw c.in-Ok.is at taken)),
+      rw (c.in-Ok-push.ensures.steps, c.in-Ok-push.ensures.periods, here)
+          (after_more all k s c.loop-index.reader c.take.new.self c.in-Ok.made c.loop-index.makings.steps.items c.loop-index.makings.periods.items at c.loop-index.invariant.0 (rw c.in-Ok.is at taken)),
       omega (arith, (rw c.in-Some.is at c.place_of.ensures.found).1, here),
     )
 
 pub returns-clause-few : goal.returns-clause-few
 returns-clause-few c =
     let all = map said_of c.args.statements.now in
-    let kept = c.loop-index.steps.items in
+    let kept = c.loop-index.makings.steps.items in
     omega (arith, c.loop-index.invariant.1, few_before all c.loop-index.index, ap length c.loop-index.invariant.0.steps_are, length-map kept (numbered_in all))
