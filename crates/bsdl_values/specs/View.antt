@@ -54,21 +54,27 @@ text_value Codes start text = codes_value (unwrap_or (quoted_value (rows pattern
 text_value PrivateNames start text = names_value (unwrap_or (quoted_value (rows private_name) text) [])
 text_value Accesses start text = accesses_value start (unwrap_or (quoted_value (rows access_row) text) [])
 
+abbrev pub quoted : declared_quoted.Quoted → Value
+quoted q = text_value q.language q.start q.text.items
+
+-- the first quote of a text that says nothing
+abbrev pub quoted_unsaid : declared_quoted.Quoted → Option ℕ
+quoted_unsaid q = if says q.language q.text.items then None else Some q.start
+
 abbrev pub written : declared_written.Written → Value
 written (as_written.Port name) = port (upper name.text.now)
 written as_written.Absent = absent
 written (as_written.Count n) = count (number_value n)
-written (as_written.Text q) = text_value q.language q.start q.text.items
+written (as_written.Text q) = quoted q
 
--- the first quote of a text that says nothing
 abbrev pub unsaid : declared_written.Written → Option ℕ
-unsaid (as_written.Text q) = if says q.language q.text.items then None else Some q.start
+unsaid (as_written.Text q) = quoted_unsaid q
 unsaid _ = None
 
 -- what a text says was found, or that it says nothing
 abbrev pub TextSays : Option declared_value.Value → declared_quoted.Quoted → Type 0
 TextSays None q = says q.language q.text.items ≡ false
-TextSays (Some v) q = (says q.language q.text.items ≡ true) × (text_value q.language q.start q.text.items ≡ value v)
+TextSays (Some v) q = (says q.language q.text.items ≡ true) × (quoted q ≡ value v)
 
 -- the same of what is written
 abbrev pub Says : Result declared_value.Value ℕ → declared_written.Written → Type 0

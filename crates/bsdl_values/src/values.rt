@@ -245,7 +245,6 @@ fn count<'a>(lexer: Lexer<'a>) -> Result<(Written<'a>, Lexer<'a>), Stop>
     Ok((Written::Count(found), rest))
 }
 
-/// A joined text as it is written, and the lexer behind it.
 fn text<'a>(
     alloc: Global,
     language: Language,
@@ -254,12 +253,26 @@ fn text<'a>(
     ensures writes { view.Writes view.unsaid view.written result (spec.text_in language (left lexer.entry)) }
     ensures shorter { IfOk result (λ p. length (left p.1) < length (left lexer.entry)) }
 {
+    let (found, rest) = read_quoted(alloc, language, lexer)?;
+    Ok((Written::Text(found), rest))
+}
+
+/// A joined text as it is written, and the lexer behind it.
+fn read_quoted<'a>(
+    alloc: Global,
+    language: Language,
+    lexer: Lexer<'a>,
+) -> Result<(Quoted, Lexer<'a>), Stop>
+    ensures writes { view.Writes view.quoted_unsaid view.quoted result (spec.text_in language (left lexer.entry)) }
+    ensures start { IfOk result (λ p. p.0.start ≡ spec.first_start (left lexer.entry)) }
+    ensures shorter { IfOk result (λ p. length (left p.1) < length (left lexer.entry)) }
+{
     let start = place_of(lexer);
     let (text, rest) = joined_text(alloc, lexer)?;
-    let quoted = Quoted {
+    let found = Quoted {
         language,
         start,
         text,
     };
-    Ok((Written::Text(quoted), rest))
+    Ok((found, rest))
 }
