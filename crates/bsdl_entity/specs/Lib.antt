@@ -2,3 +2,4 @@ pub mod Attributes
 pub mod Entity
 pub mod GivenView
 pub mod OutlineView
+pub mod Stopping

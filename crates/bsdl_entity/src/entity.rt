@@ -1,16 +1,18 @@
 //! A whole description.
 ghost use Rattle.std.specs.Prelude.{◌≡◌, ◌≤◌, length, map, IfOk, true};
 ghost use Rattle.bsdl_text.specs.Left.{left};
-ghost use Rattle.bsdl_text.specs.View.{Gives, Passes, StopsAtMisfit};
+ghost use Rattle.bsdl_text.specs.View.{Passes, StopsAtMisfit};
+ghost use Rattle.bsdl_values.specs.View.{Writes};
 ghost use Rattle.bsdl_entity.specs.Entity as spec;
 ghost use Rattle.bsdl_text.specs.Reading.{fits};
-ghost use Rattle.bsdl_entity.specs.GivenView.{given};
+ghost use Rattle.bsdl_entity.specs.GivenView.{first_unsaid, given};
 ghost use Rattle.bsdl_entity.specs.OutlineView.{outline};
 ghost use Rattle.bsdl_ports.specs.Scalars.{is_scalar};
 ghost use Rattle.bsdl_ports.specs.View.{ports};
 
 use crate::items::{Given, behind_word, items};
 use crate::keywords::{END, ENTITY, IS};
+use crate::stops::behind_given;
 use bsdl_ports::ports::{Group, read_ports};
 use bsdl_text::reading::{Stop, keyword, mark, word};
 use bsdl_text::{Kind, Lexer};
@@ -24,18 +26,23 @@ pub struct Outline<'a> {
     pub given: Vec<Given<'a>>,
 }
 
-/// The ports and attributes of a whole description, and the lexer at the text's end (Annex B.8.1).
+/// The ports and attributes of a whole description, its texts within quotes as they are written, and the lexer at the
+/// text's end (Annex B.8.1). A text within quotes that says nothing is refused too, at its first quote: here where
+/// other tokens do not fit behind it, else once its value is asked for (`bsdl_values::values::said`).
 ///
 /// Refuses at the first token that does not fit, `None` where the text ends too early; at the first quote of a text
-/// within quotes that says nothing; at the second number of a range that runs the wrong way; or for want of memory.
+/// within quotes that says nothing and stands before; at the second number of a range that runs the wrong way; or for
+/// want of memory.
 pub fn read_entity<'a>(alloc: Global, lexer: Lexer<'a>) -> Result<(Outline<'a>, Lexer<'a>), Stop>
-    ensures gives { Gives outline result (spec.file (left lexer.entry)) }
+    ensures writes { Writes (λ o. first_unsaid o.given.items) outline result (spec.file (left lexer.entry)) }
 {
     let rest = heading(lexer)?;
     let (groups, rest) = read_ports(alloc, rest)?;
     let (given, rest) = attributes(alloc, &groups, rest)?;
-    let rest = ending(rest)?;
-    Ok((Outline { groups, given }, rest))
+    match ending(rest) {
+        Ok(rest) => Ok((Outline { groups, given }, rest)),
+        Err(stop) => Err(behind_given(alloc, &given, stop)),
+    }
 }
 
 /// `entity name is [generic]`, and the lexer behind it.
@@ -105,7 +112,7 @@ fn attributes<'a>(
     groups: &[Group<'a>],
     lexer: Lexer<'a>,
 ) -> Result<(Vec<Given<'a>>, Lexer<'a>), Stop>
-    ensures gives { Gives (λ v. map given v.items) result
+    ensures writes { Writes (λ v. first_unsaid v.items) (λ v. map given v.items) result
         (spec.items (is_scalar (ports groups.now)) (length (left lexer.entry)) (left lexer.entry)) }
 {
     items(alloc, groups, lexer)

@@ -6,13 +6,14 @@ ghost use Rattle.bsdl_text.specs.View.{Gives};
 ghost use Rattle.bsdl_text.specs.WordView.{word_lexeme};
 ghost use Rattle.bsdl_entity.specs.Attributes.{attribute_of};
 ghost use Rattle.bsdl_text.specs.Words.{upper};
-ghost use Rattle.bsdl_values.specs.View.{value as value_view};
+ghost use Rattle.bsdl_values.specs.View.{Writes, unsaid, written};
 ghost use Rattle.bsdl_entity.specs.Entity as spec;
 ghost use Rattle.bsdl_entity.specs.GivenView as given_view;
 ghost use Rattle.bsdl_ports.specs.Scalars.{is_scalar};
 ghost use Rattle.bsdl_ports.specs.View.{ports};
 
 use crate::keywords::{ATTRIBUTE, ATTRIBUTES, IS, OF};
+use crate::stops::{behind_given, behind_value};
 use bsdl_ports::asking::Scalars;
 use bsdl_ports::ports::Group;
 use bsdl_text::Lexer;
@@ -20,15 +21,15 @@ use bsdl_text::names::Word;
 use bsdl_text::reading::{Stop, keyword, mark, same_name, stands_for, word};
 use bsdl_values::Attribute;
 use bsdl_values::passing::past_semi;
-use bsdl_values::values::{Value, value_of};
+use bsdl_values::values::{Written, read_value};
 use std::alloc::Global;
 
-/// An attribute, and what it says.
+/// An attribute, and what it is given as.
 #[derive(Debug, Drop)]
 pub struct Given<'a> {
     pub name: Word<'a>,
     pub attribute: Attribute,
-    pub value: Value<'a>,
+    pub value: Written<'a>,
 }
 
 /// Whether an attribute is of a port of the TAP.
@@ -93,15 +94,17 @@ fn attribute_form<'a>(
     attribute: Attribute,
     lexer: Lexer<'a>,
 ) -> Result<(Option<Given<'a>>, Lexer<'a>), Stop>
-    ensures gives { Gives (option_map given_view.given) result
+    ensures writes { Writes given_view.unsaid (option_map given_view.given) result
         (spec.attribute_form (is_scalar (ports scalars.now.groups.now)) (word_lexeme name.entry) attribute
         (left lexer.entry)) }
     ensures shorter { IfOk result (λ p. length (left p.1) < length (left lexer.entry)) }
 {
     let (owner, rest) = owner_clause(alloc, scalars, attribute, lexer)?;
     let (value, rest) = value_behind(alloc, attribute, owner, rest)?;
-    let rest = mark(rest, b';')?;
-    Ok((said(name, attribute, value), rest))
+    match mark(rest, b';') {
+        Ok(rest) => Ok((said(name, attribute, value), rest)),
+        Err(stop) => Err(behind_value(alloc, &value, stop)),
+    }
 }
 
 /// `is` and a value.
@@ -110,23 +113,24 @@ fn value_behind<'a>(
     attribute: Attribute,
     owner: Word<'a>,
     lexer: Lexer<'a>,
-) -> Result<(Value<'a>, Lexer<'a>), Stop>
-    ensures gives { Gives value_view result (spec.value_behind attribute (upper owner.entry.text.now)
+) -> Result<(Written<'a>, Lexer<'a>), Stop>
+    ensures writes { Writes unsaid written result (spec.value_behind attribute (upper owner.entry.text.now)
         (left lexer.entry)) }
     ensures shorter { IfOk result (λ p. length (left p.1) < length (left lexer.entry)) }
 {
     let (_is, rest) = keyword(lexer, &IS)?;
-    value_of(alloc, attribute, owner, rest)
+    read_value(alloc, attribute, owner, rest)
 }
 
 /// An attribute that says something.
-fn said<'a>(name: Word<'a>, attribute: Attribute, value: Value<'a>) -> Option<Given<'a>>
-    ensures { option_map given_view.given result ≡ spec.with_value
+fn said<'a>(name: Word<'a>, attribute: Attribute, value: Written<'a>) -> Option<Given<'a>>
+    ensures given { option_map given_view.given result ≡ spec.with_value
         (given_view.given (record { name = name.entry; attribute = attribute; value = value.entry }))
-        (value_view value.entry) }
+        (written value.entry) }
+    ensures unsaid { given_view.unsaid result ≡ unsaid value.entry }
 {
     match value {
-        Value::Absent => None,
+        Written::Absent => None,
         value => Some(Given {
             name,
             attribute,
@@ -142,7 +146,7 @@ fn attribute<'a>(
     name: Word<'a>,
     lexer: Lexer<'a>,
 ) -> Result<(Option<Given<'a>>, Lexer<'a>), Stop>
-    ensures gives { Gives (option_map given_view.given) result
+    ensures writes { Writes given_view.unsaid (option_map given_view.given) result
         (spec.attribute (is_scalar (ports scalars.old.groups.now)) (word_lexeme name.entry)
         (attribute_of name.entry.text.now) (left lexer.entry)) }
     ensures shorter { IfOk result (λ p. length (left p.1) < length (left lexer.entry)) }
@@ -175,7 +179,7 @@ fn attribute_item<'a>(
     scalars: &mut Scalars<'_, '_>,
     lexer: Lexer<'a>,
 ) -> Result<(Option<Given<'a>>, Lexer<'a>), Stop>
-    ensures gives { Gives (option_map given_view.given) result
+    ensures writes { Writes given_view.unsaid (option_map given_view.given) result
         (spec.attribute_item (is_scalar (ports scalars.old.groups.now)) (left lexer.entry)) }
     ensures shorter { IfOk result (λ p. length (left p.1) < length (left lexer.entry)) }
     ensures groups { scalars.new.groups.now ≡ scalars.old.groups.now }
@@ -191,7 +195,7 @@ fn item<'a>(
     scalars: &mut Scalars<'_, '_>,
     lexer: Lexer<'a>,
 ) -> Result<(Option<Given<'a>>, Lexer<'a>), Stop>
-    ensures gives { Gives (option_map given_view.given) result
+    ensures writes { Writes given_view.unsaid (option_map given_view.given) result
         (spec.item (is_scalar (ports scalars.old.groups.now)) (left lexer.entry)) }
     ensures shorter { IfOk result (λ p. length (left p.1) < length (left lexer.entry)) }
     ensures groups { scalars.new.groups.now ≡ scalars.old.groups.now }
@@ -236,7 +240,7 @@ pub(crate) fn items<'a>(
     groups: &[Group<'a>],
     lexer: Lexer<'a>,
 ) -> Result<(Vec<Given<'a>>, Lexer<'a>), Stop>
-    ensures gives { Gives (λ v. map given_view.given v.items) result
+    ensures writes { Writes (λ v. given_view.first_unsaid v.items) (λ v. map given_view.given v.items) result
         (spec.items (is_scalar (ports groups.now)) (length (left lexer.entry)) (left lexer.entry)) }
     ensures no_longer { IfOk result (λ p. length (left p.1) ≤ length (left lexer.entry)) }
 {
@@ -247,7 +251,10 @@ pub(crate) fn items<'a>(
         if behind_word(rest, b"END").is_some() {
             return Ok((all, rest));
         }
-        let (found, more) = item(alloc, &mut scalars, rest)?;
+        let (found, more) = match item(alloc, &mut scalars, rest) {
+            Ok(read) => read,
+            Err(stop) => return Err(behind_given(alloc, &all, stop)),
+        };
         rest = more;
         if let Some(given) = found {
             match all.push(given) {

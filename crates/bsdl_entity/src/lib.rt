@@ -5,6 +5,7 @@
 pub mod entity;
 pub mod items;
 mod keywords;
+mod stops;
 
 pub use bsdl_ports::ports;
 pub use bsdl_values::{Attribute, values};

@@ -2,7 +2,7 @@
 ghost use Rattle.std.specs.Prelude.{◌≡◌, ◌<◌, length, map, option_map, IfOk};
 ghost use Rattle.bsdl_text.specs.Left.{left};
 ghost use Rattle.bsdl_text.specs.Reading.{quoted_value};
-ghost use Rattle.bsdl_text.specs.View.{Gives, StopsAtMisfit};
+ghost use Rattle.bsdl_text.specs.View.{StopsAtMisfit};
 ghost use Rattle.bsdl_text.specs.Words.{upper};
 ghost use Rattle.bsdl_values.specs.InstructionValues as rows;
 ghost use Rattle.bsdl_values.specs.Values as spec;
@@ -48,9 +48,9 @@ pub struct Quoted {
     pub text: Vec<u8>,
 }
 
-/// What an attribute says. A text is kept as it is written.
+/// What an attribute is given as: a text as it is written, which may say nothing.
 #[derive(Debug, Drop)]
-pub enum Value<'a> {
+pub enum Written<'a> {
     /// The port of the TAP that it names.
     Port(Word<'a>),
     /// `false`, as if the attribute were not given.
@@ -59,6 +59,29 @@ pub enum Value<'a> {
     Count(Digits<'a>),
     /// What stands within quotes.
     Text(Quoted),
+}
+
+/// What an attribute says.
+#[derive(Debug, Drop)]
+pub enum Value<'a> {
+    /// The port of the TAP that it names.
+    Port(Word<'a>),
+    /// `false`, as if the attribute were not given.
+    Absent,
+    /// A number, as in INSTRUCTION_LENGTH: how many bits or cells.
+    Count(Digits<'a>),
+    /// The opcodes of instructions, and where their text begins.
+    Opcodes(usize, Vec<OpcodeRow<'a>>),
+    /// What the instruction register captures.
+    Capture(WrittenPattern),
+    /// The rows of the boundary register.
+    Cells(Vec<CellRow<'a>>),
+    /// Identification codes, or user codes.
+    Codes(Patterns),
+    /// The names of the private instructions.
+    PrivateNames(Vec<PrivateName<'a>>),
+    /// The registers that instructions select, and where their text begins.
+    Accesses(usize, Vec<AccessRow<'a>>),
 }
 
 /// What a text within quotes says as rows: `None` where it says nothing. Refuses for want of memory alone.
@@ -114,57 +137,69 @@ fn place_of(lexer: Lexer<'_>) -> usize
     }
 }
 
-/// Whether a text within quotes says something.
-fn says(alloc: Global, language: Language, text: &[u8]) -> Result<bool, AllocError>
-    ensures { IfOk result (λ b. b ≡ view.says language text.now) }
+/// What a text within quotes says: `None` where it says nothing. Refuses for want of memory alone.
+fn text_said(alloc: Global, quoted: &Quoted) -> Result<Option<Value<'_>>, AllocError>
+    ensures { IfOk result (λ found. view.TextSays found quoted.now) }
 {
-    match language {
-        Language::Opcodes => Ok(rows_of::<OpcodeRow>(alloc, text)?.is_some()),
-        Language::Capture => Ok(entry_of::<WrittenPattern>(alloc, text)?.is_some()),
-        Language::Cells => Ok(rows_of::<CellRow>(alloc, text)?.is_some()),
-        Language::Codes => Ok(entry_of::<Patterns>(alloc, text)?.is_some()),
-        Language::PrivateNames => Ok(rows_of::<PrivateName>(alloc, text)?.is_some()),
-        Language::Accesses => Ok(rows_of::<AccessRow>(alloc, text)?.is_some()),
+    let text = quoted.text.as_slice();
+    match quoted.language {
+        Language::Opcodes => match rows_of(alloc, text)? {
+            Some(rows) => Ok(Some(Value::Opcodes(quoted.start, rows))),
+            None => Ok(None),
+        },
+        Language::Capture => match entry_of(alloc, text)? {
+            Some(pattern) => Ok(Some(Value::Capture(pattern))),
+            None => Ok(None),
+        },
+        Language::Cells => match rows_of(alloc, text)? {
+            Some(rows) => Ok(Some(Value::Cells(rows))),
+            None => Ok(None),
+        },
+        Language::Codes => match entry_of(alloc, text)? {
+            Some(patterns) => Ok(Some(Value::Codes(patterns))),
+            None => Ok(None),
+        },
+        Language::PrivateNames => match rows_of(alloc, text)? {
+            Some(names) => Ok(Some(Value::PrivateNames(names))),
+            None => Ok(None),
+        },
+        Language::Accesses => match rows_of(alloc, text)? {
+            Some(rows) => Ok(Some(Value::Accesses(quoted.start, rows))),
+            None => Ok(None),
+        },
     }
 }
 
-/// A joined text that says something, and the lexer behind it.
-fn read_quoted<'a>(
+/// What a written value says, or the first quote of a text that says nothing. Refuses for want of memory alone.
+pub fn said<'o, 't: 'o>(
     alloc: Global,
-    language: Language,
-    lexer: Lexer<'a>,
-) -> Result<(Quoted, Lexer<'a>), Stop>
-    ensures gives { Gives view.quoted result (spec.text_in language (left lexer.entry)) }
-    ensures start { IfOk result (λ p. p.0.start ≡ spec.first_start (left lexer.entry)) }
-    ensures shorter { IfOk result (λ p. length (left p.1) < length (left lexer.entry)) }
+    written: &'o Written<'t>,
+) -> Result<Result<Value<'o>, usize>, AllocError>
+    ensures { IfOk result (λ found. view.Says found written.now) }
 {
-    let start = place_of(lexer);
-    let (text, rest) = joined_text(alloc, lexer)?;
-    match says(alloc, language, &text) {
-        Ok(true) => {
-            let found = Quoted {
-                language,
-                start,
-                text,
-            };
-            Ok((found, rest))
-        }
-        Ok(false) => Err(Stop::Misfit(Some(start))),
-        Err(_) => Err(Stop::Memory),
+    match written {
+        Written::Port(name) => Ok(Ok(Value::Port(*name))),
+        Written::Absent => Ok(Ok(Value::Absent)),
+        Written::Count(count) => Ok(Ok(Value::Count(*count))),
+        Written::Text(quoted) => match text_said(alloc, quoted)? {
+            Some(value) => Ok(Ok(value)),
+            None => Ok(Err(quoted.start)),
+        },
     }
 }
 
-/// What an attribute of this port, or of another thing of this name, says, and the lexer behind it (Annex B.8.9 to
-/// B.8.14).
+/// What an attribute of this port, or of another thing of this name, is given as, and the lexer behind it (Annex B.8.9
+/// to B.8.14). What texts say is not judged here ([`said`] does it).
 ///
-/// Refuses at the first token that does not fit, at the first quote of a text that says nothing, or for want of memory.
-pub fn value_of<'a>(
+/// Refuses at the first token that does not fit, or for want of memory.
+pub fn read_value<'a>(
     alloc: Global,
     attribute: Attribute,
     owner: Word<'a>,
     lexer: Lexer<'a>,
-) -> Result<(Value<'a>, Lexer<'a>), Stop>
-    ensures gives { Gives view.value result (spec.value_of attribute (upper owner.entry.text.now) (left lexer.entry)) }
+) -> Result<(Written<'a>, Lexer<'a>), Stop>
+    ensures writes { view.Writes view.unsaid view.written result
+        (spec.value_of attribute (upper owner.entry.text.now) (left lexer.entry)) }
     ensures shorter { IfOk result (λ p. length (left p.1) < length (left lexer.entry)) }
 {
     match attribute {
@@ -174,7 +209,7 @@ pub fn value_of<'a>(
         | Attribute::TapScanReset => truth(owner, lexer),
         Attribute::TapScanClock => {
             let rest = brackets(lexer)?;
-            Ok((Value::Port(owner), rest))
+            Ok((Written::Port(owner), rest))
         }
         Attribute::InstructionLength | Attribute::BoundaryLength => count(lexer),
         Attribute::InstructionOpcode => text(alloc, Language::Opcodes, lexer),
@@ -188,35 +223,56 @@ pub fn value_of<'a>(
     }
 }
 
-fn truth<'a>(owner: Word<'a>, lexer: Lexer<'a>) -> Result<(Value<'a>, Lexer<'a>), Stop>
-    ensures gives { Gives view.value result (spec.truth (upper owner.entry.text.now) (left lexer.entry)) }
+fn truth<'a>(owner: Word<'a>, lexer: Lexer<'a>) -> Result<(Written<'a>, Lexer<'a>), Stop>
+    ensures writes { view.Writes view.unsaid view.written result
+        (spec.truth (upper owner.entry.text.now) (left lexer.entry)) }
     ensures shorter { IfOk result (λ p. length (left p.1) < length (left lexer.entry)) }
     ensures misfit { StopsAtMisfit result }
 {
     let (is_true, rest) = keyword(lexer, &TRUTHS)?;
     if is_true {
-        return Ok((Value::Port(owner), rest));
+        return Ok((Written::Port(owner), rest));
     }
-    Ok((Value::Absent, rest))
+    Ok((Written::Absent, rest))
 }
 
-fn count<'a>(lexer: Lexer<'a>) -> Result<(Value<'a>, Lexer<'a>), Stop>
-    ensures gives { Gives view.value result (spec.length_value (left lexer.entry)) }
+fn count<'a>(lexer: Lexer<'a>) -> Result<(Written<'a>, Lexer<'a>), Stop>
+    ensures writes { view.Writes view.unsaid view.written result (spec.length_value (left lexer.entry)) }
     ensures shorter { IfOk result (λ p. length (left p.1) < length (left lexer.entry)) }
     ensures misfit { StopsAtMisfit result }
 {
     let (found, rest) = number(lexer)?;
-    Ok((Value::Count(found), rest))
+    Ok((Written::Count(found), rest))
 }
 
 fn text<'a>(
     alloc: Global,
     language: Language,
     lexer: Lexer<'a>,
-) -> Result<(Value<'a>, Lexer<'a>), Stop>
-    ensures gives { Gives view.value result (spec.text_in language (left lexer.entry)) }
+) -> Result<(Written<'a>, Lexer<'a>), Stop>
+    ensures writes { view.Writes view.unsaid view.written result (spec.text_in language (left lexer.entry)) }
     ensures shorter { IfOk result (λ p. length (left p.1) < length (left lexer.entry)) }
 {
     let (found, rest) = read_quoted(alloc, language, lexer)?;
-    Ok((Value::Text(found), rest))
+    Ok((Written::Text(found), rest))
+}
+
+/// A joined text as it is written, and the lexer behind it.
+fn read_quoted<'a>(
+    alloc: Global,
+    language: Language,
+    lexer: Lexer<'a>,
+) -> Result<(Quoted, Lexer<'a>), Stop>
+    ensures writes { view.Writes view.quoted_unsaid view.quoted result (spec.text_in language (left lexer.entry)) }
+    ensures start { IfOk result (λ p. p.0.start ≡ spec.first_start (left lexer.entry)) }
+    ensures shorter { IfOk result (λ p. length (left p.1) < length (left lexer.entry)) }
+{
+    let start = place_of(lexer);
+    let (text, rest) = joined_text(alloc, lexer)?;
+    let found = Quoted {
+        language,
+        start,
+        text,
+    };
+    Ok((found, rest))
 }
