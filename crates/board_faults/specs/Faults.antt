@@ -2,7 +2,6 @@
 use Rattle.std.specs.Prelude.{◌≡◌, ◌<◌, ◌+◌, ◌-◌, Bool, true, false, ℕ, suc, List, [], ◌∷◌, ◌++◌, map, length}
 use Rattle.std.specs.Prelude.{take, drop, set, slice_get, slice_index_or, Some}
 use Rattle.std.specs.List.{range_with_len, remove}
-use Rattle.pin_nets.specs.declared.Pin.{Pin}
 use Rattle.pin_nets.specs.declared.Pull.{Pull}
 use Rattle.pin_nets.specs.declared.Pull.TheVariants.{Up, Down, Free}
 use Rattle.pin_nets.specs.declared.Rule.TheVariants.{Counted, Tied, WiredOr, Led}

@@ -4,9 +4,11 @@
 #![tactic(auto)]
 
 mod kinds;
+mod laws;
 mod listed;
 mod nets;
 
 pub use kinds::{Fault, Way, Winner};
+pub use laws::faults_compute;
 pub use listed::Faults;
 pub use nets::nets_with;

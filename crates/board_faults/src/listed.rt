@@ -1,6 +1,6 @@
 //! The faults of a board's nets, one after another.
 
-ghost use Rattle.std.specs.Prelude.{◌≡◌, ◌<◌, length, map, slice_get, Some, option_map};
+ghost use Rattle.std.specs.Prelude.{◌≡◌, ◌<◌, ◌+◌, length, slice_get, IfSome};
 ghost use Rattle.board_plan.specs.View.{net as planned_net};
 ghost use Rattle.board_faults.specs.Faults.{behind_opens, behind_pull, bridges, faults_of};
 
@@ -47,10 +47,10 @@ impl<'a> Iterator for Faults<'a> {
 
     fn next(&mut self) -> Option<Fault> {
         while self.net < self.nets.len() {
-            let fault = fault_of(self.nets.len(), self.net, &self.nets[self.net], self.at);
-            if fault.is_some() {
+            let its = &self.nets[self.net];
+            if let Some(fault) = fault_of(self.nets.len(), self.net, its, self.at) {
                 self.at += 1;
-                return fault;
+                return Some(fault);
             }
             self.net += 1;
             self.at = 0;
@@ -62,7 +62,8 @@ impl<'a> Iterator for Faults<'a> {
 /// The fault of a net, among so many, with this place among its own, if there is one.
 fn fault_of(count: usize, net: usize, its: &PlannedNet, at: usize) -> Option<Fault>
     requires { net < count }
-    ensures { result ≡ slice_get (faults_of count net (planned_net its.now)) at }
+    ensures value { result ≡ slice_get (faults_of count net (planned_net its.now)) at }
+    ensures few { IfSome result (λ _. at < length its.now.pins.items + (count + 2)) }
 {
     let pins = its.pins.len();
     if at < pins {
@@ -75,7 +76,8 @@ fn fault_of(count: usize, net: usize, its: &PlannedNet, at: usize) -> Option<Fau
 /// The fault with this place among those of a net that are behind its opens.
 fn behind_opens(count: usize, net: usize, pull: Pull, at: usize) -> Option<Fault>
     requires { net < count }
-    ensures { result ≡ slice_get (behind_opens count net pull) at }
+    ensures value { result ≡ slice_get (behind_opens count net pull) at }
+    ensures few { IfSome result (λ _. at < count + 2) }
 {
     match (pull, at) {
         (Pull::Free, _) => behind_pull(count, net, at),
@@ -87,7 +89,8 @@ fn behind_opens(count: usize, net: usize, pull: Pull, at: usize) -> Option<Fault
 /// The fault with this place among those of a net that are behind that of its pull.
 fn behind_pull(count: usize, net: usize, at: usize) -> Option<Fault>
     requires { net < count }
-    ensures { result ≡ slice_get (behind_pull count net) at }
+    ensures value { result ≡ slice_get (behind_pull count net) at }
+    ensures few { IfSome result (λ _. at < count + 1) }
 {
     match at {
         0 => Some(Fault::Stuck { net, bit: false }),
@@ -99,7 +102,8 @@ fn behind_pull(count: usize, net: usize, at: usize) -> Option<Fault>
 /// The bridge with this place among those of a net.
 fn bridge_at(count: usize, net: usize, at: usize) -> Option<Fault>
     requires { net < count }
-    ensures { result ≡ slice_get (bridges count net) at }
+    ensures value { result ≡ slice_get (bridges count net) at }
+    ensures few { IfSome result (λ _. at + 1 < count) }
 {
     if at < count - net - 1 {
         Some(Fault::Short {

@@ -1,6 +1,5 @@
-use Rattle.std.proofs.Common.{◌≡◌, ◌<◌, ◌++◌, [], ◌∷◌, ℕ, List, length, map, get_or, set, sym, ap, ◌∙◌, arith}
+use Rattle.std.proofs.Common.{map, set, sym, ap, ◌∙◌}
 use Rattle.std.proofs.lemmas.List.{map-set}
-use Rattle.pin_nets.specs.Wired.{Net}
 use Rattle.board_plan.specs.View.{net as planned_net}
 use Rattle.board_faults.specs.Faults as spec
 use Rattle.board_faults.proofs.Places.{at_map}
