@@ -12,6 +12,7 @@ use Rattle.bsdl_device.specs.Device.{Name, Pattern}
 use Rattle.bsdl_values.specs.InstructionValues.{OpcodeRow, AccessRow}
 use Rattle.bsdl_opcodes.specs.Own.{is_own, own_accesses}
 use Rattle.bsdl_values.specs.CellRows.{CellRow}
+use Rattle.bsdl_values.specs.Values.{Value}
 use Rattle.bsdl_ports.specs.Ports.{Port}
 use Rattle.bsdl_entity.specs.Entity.{File, Given}
 use Rattle.bsdl_description.specs.FirstValues.{value_given, as_port, as_count, as_pattern, as_codes, as_names}
@@ -64,10 +65,10 @@ abbrev pub and_reset : Name → Option Name → List Name
 and_reset tck None = tck ∷ []
 and_reset tck (Some trst) = tck ∷ trst ∷ []
 
--- the TAP's ports, TRST last if there is one, or the first needed attribute that is missing
-abbrev pub taps_given : List Given → Result (List Name) Refusal
-taps_given gs =
-    let v = λ (a : Attribute). as_port (value_given a gs) in
+-- the TAP's ports, TRST last if there is one, or the first needed attribute that is missing, of attributes that say this
+abbrev pub taps_by : (Attribute → Option Value) → Result (List Name) Refusal
+taps_by says =
+    let v = λ (a : Attribute). as_port (says a) in
     need TapScanIn (v TapScanIn) >>? λ tdi.
     need TapScanOut (v TapScanOut) >>? λ tdo.
     need TapScanMode (v TapScanMode) >>? λ tms.
@@ -75,14 +76,13 @@ taps_given gs =
     Ok (tdi ∷ tdo ∷ tms ∷ and_reset tck (v TapScanReset))
 
 -- the description with this TAP and these lengths, or the first needed attribute with a text that is missing
-abbrev pub texts_described : File → List Name → Bool → ℕ → ℕ → Result Description Refusal
-texts_described f taps has_trst instruction_length boundary_length =
-    let v = λ (a : Attribute). value_given a f.given in
-    let accesses = as_accesses (v RegisterAccess) in
-    let private = as_names (v InstructionPrivate) in
-    need InstructionOpcode (as_opcodes (v InstructionOpcode)) >>? λ opcodes.
-    need InstructionCapture (as_pattern (v InstructionCapture)) >>? λ capture.
-    need BoundaryRegister (as_cells (v BoundaryRegister)) >>? λ cells.
+abbrev pub texts_by : (Attribute → Option Value) → File → List Name → Bool → ℕ → ℕ → Result Description Refusal
+texts_by says f taps has_trst instruction_length boundary_length =
+    let accesses = as_accesses (says RegisterAccess) in
+    let private = as_names (says InstructionPrivate) in
+    need InstructionOpcode (as_opcodes (says InstructionOpcode)) >>? λ opcodes.
+    need InstructionCapture (as_pattern (says InstructionCapture)) >>? λ capture.
+    need BoundaryRegister (as_cells (says BoundaryRegister)) >>? λ cells.
     Ok (record {
       ports = f.ports;
       given = f.given;
@@ -94,18 +94,25 @@ texts_described f taps has_trst instruction_length boundary_length =
       opcodes = opcodes.1;
       capture = capture;
       cells = cells;
-      idcodes = as_codes (v IdcodeRegister);
-      usercodes = as_codes (v UsercodeRegister);
+      idcodes = as_codes (says IdcodeRegister);
+      usercodes = as_codes (says UsercodeRegister);
       private_names = private;
       access_start = accesses.0;
       accesses = own_accesses (is_own opcodes.1 private) accesses.1;
     })
 
 -- the whole description, or the first needed attribute that is missing
+abbrev pub described_by : (Attribute → Option Value) → File → Result Description Refusal
+described_by says f =
+    taps_by says >>? λ taps.
+    need InstructionLength (as_count (says InstructionLength)) >>? λ len.
+    need BoundaryLength (as_count (says BoundaryLength)) >>? λ cells_len.
+    texts_by says f taps (is_some (as_port (says TapScanReset))) len cells_len
+
+-- ---- by first givings
+
+abbrev pub taps_given : List Given → Result (List Name) Refusal
+taps_given gs = taps_by (λ a. value_given a gs)
+
 abbrev pub described : File → Result Description Refusal
-described f =
-    let v = λ (a : Attribute). value_given a f.given in
-    taps_given f.given >>? λ taps.
-    need InstructionLength (as_count (v InstructionLength)) >>? λ len.
-    need BoundaryLength (as_count (v BoundaryLength)) >>? λ cells_len.
-    texts_described f taps (is_some (as_port (v TapScanReset))) len cells_len
+described f = described_by (λ a. value_given a f.given) f

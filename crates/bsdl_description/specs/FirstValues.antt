@@ -1,5 +1,5 @@
 -- What an attribute's first giving says (IEEE Std 1149.1-2001, Annex B.8.9 to B.8.14).
-use Rattle.std.specs.Prelude.{ℕ, Bool, true, false, if◌then◌else◌, List, [], ◌∷◌, Option, Some, None}
+use Rattle.std.specs.Prelude.{ℕ, ◌==◌, Bool, if◌then◌else◌, List, [], ◌∷◌, Option, Some, None}
 use Rattle.bsdl_values.specs.declared.Attribute.{Attribute}
 use Rattle.bsdl_values.specs.declared.Attribute.TheVariants.{TapScanIn, TapScanOut, TapScanMode, TapScanClock}
 use Rattle.bsdl_values.specs.declared.Attribute.TheVariants.{TapScanReset, InstructionLength, BoundaryLength}
@@ -13,22 +13,24 @@ use Rattle.bsdl_values.specs.Values.{Value, port, count, pattern_value, codes_va
 use Rattle.bsdl_values.specs.Values.{opcodes_value, accesses_value, cells_value}
 use Rattle.bsdl_entity.specs.Entity.{Given}
 
+abbrev pub number_of : Attribute → ℕ
+number_of TapScanIn = 0
+number_of TapScanOut = 1
+number_of TapScanMode = 2
+number_of TapScanClock = 3
+number_of TapScanReset = 4
+number_of InstructionLength = 5
+number_of BoundaryLength = 6
+number_of InstructionOpcode = 7
+number_of InstructionCapture = 8
+number_of BoundaryRegister = 9
+number_of IdcodeRegister = 10
+number_of UsercodeRegister = 11
+number_of InstructionPrivate = 12
+number_of RegisterAccess = 13
+
 abbrev pub is_attribute : Attribute → Attribute → Bool
-is_attribute TapScanIn TapScanIn = true
-is_attribute TapScanOut TapScanOut = true
-is_attribute TapScanMode TapScanMode = true
-is_attribute TapScanClock TapScanClock = true
-is_attribute TapScanReset TapScanReset = true
-is_attribute InstructionLength InstructionLength = true
-is_attribute BoundaryLength BoundaryLength = true
-is_attribute InstructionOpcode InstructionOpcode = true
-is_attribute InstructionCapture InstructionCapture = true
-is_attribute BoundaryRegister BoundaryRegister = true
-is_attribute IdcodeRegister IdcodeRegister = true
-is_attribute UsercodeRegister UsercodeRegister = true
-is_attribute InstructionPrivate InstructionPrivate = true
-is_attribute RegisterAccess RegisterAccess = true
-is_attribute _ _ = false
+is_attribute a b = number_of a == number_of b
 
 -- the value of the first giving of an attribute
 abbrev pub value_given : Attribute → List Given → Option Value

@@ -1,3 +1,4 @@
 pub mod FirstValues
+pub mod FirstView
 pub mod Describing
 pub mod View

@@ -1,5 +1,6 @@
 -- What a description of the code stands for.
-use Rattle.std.specs.Prelude.{◌≡◌, List, ◌∷◌, map, option_map, is_some, Result, Ok, Err}
+use Rattle.std.specs.Prelude.{◌≡◌, ℕ, List, ◌∷◌, map, Option, Some, None, option_map, is_some, Result}
+use Rattle.std.specs.Prelude.{Ok, Err}
 use Rattle.bsdl_text.specs.NumberView.{value}
 use Rattle.bsdl_text.specs.Words.{upper}
 use Rattle.bsdl_values.specs.InstructionView as rows_view
@@ -7,11 +8,15 @@ use Rattle.bsdl_values.specs.CellView.{cell_row}
 use Rattle.bsdl_device.specs.Device.{Name}
 use Rattle.bsdl_values.specs.declared.Attribute.{Attribute}
 use Rattle.bsdl_entity.specs.declared.entity.Outline.{Outline}
-use Rattle.bsdl_entity.specs.GivenView.{given}
+use Rattle.bsdl_entity.specs.Entity.{File}
+use Rattle.bsdl_entity.specs.GivenView.{first_unsaid, given}
+use Rattle.bsdl_entity.specs.OutlineView.{outline}
 use Rattle.bsdl_ports.specs.View.{ports}
 use Rattle.bsdl_description.specs.declared.description.Taps.{Taps}
 use Rattle.bsdl_description.specs.declared.description.Description as declared_description
-use Rattle.bsdl_description.specs.Describing.{Refusal, missing, Description, and_reset}
+use Rattle.bsdl_description.specs.declared.description.Unfit.{Unfit}
+use Rattle.bsdl_description.specs.declared.description.Unfit.TheVariants.{Unsaid, Missing}
+use Rattle.bsdl_description.specs.Describing.{Refusal, bad_form, missing, Description, and_reset}
 
 abbrev pub taps : Taps → List Name
 taps t = upper t.input.text.now ∷ upper t.output.text.now ∷ upper t.mode.text.now ∷ and_reset (upper t.clock.text.now)
@@ -41,8 +46,19 @@ abbrev pub AreTaps : Result Taps Attribute → Result (List Name) Refusal → Ty
 AreTaps (Ok t) says = says ≡ Ok (taps t)
 AreTaps (Err a) says = says ≡ Err (missing a)
 
+abbrev pub spelt_by : Option ℕ → File → Result File Refusal
+spelt_by None f = Ok f
+spelt_by (Some place) f = Err (bad_form place)
+
+-- the entity that an outline spells, or its first text that says nothing
+abbrev pub spelt : Outline → Result File Refusal
+spelt o = spelt_by (first_unsaid o.given.items) (outline o)
+
+abbrev pub refusal : Unfit → Refusal
+refusal (Unsaid place) = bad_form place
+refusal (Missing a) = missing a
+
 -- what was found of an entity is what is described of it
-abbrev pub Describes : Outline → Result declared_description.Description Attribute → Result Description Refusal
-    → Type 0
+abbrev pub Describes : Outline → Result declared_description.Description Unfit → Result Description Refusal → Type 0
 Describes o (Ok d) says = says ≡ Ok (description o d)
-Describes o (Err a) says = says ≡ Err (missing a)
+Describes o (Err unfit) says = says ≡ Err (refusal unfit)
