@@ -17,10 +17,10 @@ use Rattle.board_file.specs.Wiring.{Fault}
 use Rattle.board_file.specs.declared.refused.Refused.{Refused}
 
 module _ (says : List ℕ → Option Device) (files : List File) where
-  is-refused : List ℕ → Bool
+  abbrev is-refused : List ℕ → Bool
   is-refused name = is_some (option_and_then (refused says) (text_of files name))
 
-  before : List (List ℕ) → ℕ
+  abbrev before : List (List ℕ) → ℕ
   before names = prefix_len (λ name. not (is-refused name)) names
 
   -- where no file is missing, those that gave no device are refused

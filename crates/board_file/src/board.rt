@@ -1,5 +1,5 @@
 //! A board by its file and its descriptions.
-ghost use Rattle.std.specs.Prelude.{◌≡◌, ◌<◌, ℕ, codes, filter_map, is_none, length, map, position, IfOk, Some};
+ghost use Rattle.std.specs.Prelude.{◌≡◌, ◌<◌, codes, filter_map, is_none, length, map, position, IfOk, Some};
 ghost use Rattle.toml.specs.Data.{Members};
 ghost use Rattle.toml.specs.View.{table_view, items_view};
 ghost use Rattle.board_tables.specs.Fields.{name_at, tables_at, tables_in};
@@ -146,20 +146,17 @@ fn plan_wired<'f, R: Describe>(
         return Err(unknown_file(alloc, name));
     }
     if let Some(fault) = refused {
-        let place = undescribed_place(&devices);
+        let place = undescribed_place(&devices).unwrap_or(0);
         return Err(BoardFault::Bsdl(Refused { place, fault }));
     }
     plan_described(alloc, table, &names, &devices)
 }
 
 /// The place of the first file that gave no device.
-fn undescribed_place(described: &[Option<SharedDevice>]) -> usize
-    ensures { (place : ℕ) → position is_none described.now ≡ Some place → result ≡ place }
+fn undescribed_place(described: &[Option<SharedDevice>]) -> Option<usize>
+    ensures { result ≡ position is_none described.now }
 {
-    described
-        .iter()
-        .position(|device| device.is_none())
-        .unwrap_or(0)
+    described.iter().position(|device| device.is_none())
 }
 
 /// Judges the keys of the whole file, given all names of files and what is described in each.

@@ -148,7 +148,7 @@ impl Planned {
     }
 
     /// The board as it powers up, and where `twice` is set the same once more.
-    pub(crate) fn boards(&self, alloc: Global, twice: bool) -> Result<Boards, AllocError> {
+    pub(crate) fn boards(&self, alloc: Global, twice: bool) -> Result<Boards, Unmade> {
         let board = Board::powered_up(alloc, &self.plan)?;
         let other = self.other(alloc, twice)?;
         Ok(Boards { board, other })

@@ -112,7 +112,7 @@ fn run_planned(rt: &HostRuntime, alloc: Global, request: &Request<'_>, planned: 
     }
     let boards = match planned.boards(alloc, explain && plays(request.task)) {
         Ok(boards) => boards,
-        Err(fault) => return refuse_board(rt, &Unmade::from(fault), explain),
+        Err(fault) => return refuse_board(rt, &fault, explain),
     };
     match waves_of(request.task) {
         Some(waves) => draw_play(rt, alloc, request, waves, &planned, boards),

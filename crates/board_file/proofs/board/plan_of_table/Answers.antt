@@ -28,7 +28,7 @@ pub returns-in-Order-clause-told : goal.returns-in-Order-clause-told
 returns-in-Order-clause-told g c = (
   c.in_ok-plan.ensures.told,
   subst (λ ds. HasNoLoop (dependencies (record { members = map member ds; nets = map net c.in_ok-plan.plan.nets.items }))) c.deref-2.ensures.value
-      (subst (λ ns. HasNoLoop (dependencies (record { members = map member c.deref-2.result.now; nets = map net ns }))) c.deref.ensures.value (rw c.in-Order.is at c.in_ok-settle_strings.ensures).0),
+      (subst (λ ns. HasNoLoop (dependencies (record { members = map member c.deref-2.result.now; nets = map net ns }))) c.deref.ensures.value (rw c.in-Order.is at c.in_ok-order.ensures).0),
 )
 
 pub core_loop-requires : goal.core_loop-requires
@@ -38,7 +38,7 @@ core_loop-requires g c =
     let place = c.in-Loop.place in
     let first : IsFirstOnLoop (dependencies w) place =
     subst (λ ds. IsFirstOnLoop (dependencies (record { members = map member ds; nets = map net c.in_ok-plan.plan.nets.items })) place) c.deref-2.ensures.value
-    (subst (λ ns. IsFirstOnLoop (dependencies (record { members = map member c.deref-2.result.now; nets = map net ns })) place) c.deref.ensures.value (rw c.in-Loop.is at c.in_ok-settle_strings.ensures)) in
+    (subst (λ ns. IsFirstOnLoop (dependencies (record { members = map member c.deref-2.result.now; nets = map net ns })) place) c.deref.ensures.value (rw c.in-Loop.is at c.in_ok-order.ensures)) in
     let long = board_targets g.R.Describe.says (files_of c.args.files.now) t w c.in_ok-plan.ensures.told in
     omega (arith, long, slice_get_within (dependencies w) place first.on_loop.string first.on_loop.stands)
 
@@ -49,13 +49,13 @@ returns-in-Loop-clause-told g c =
     let place = c.in-Loop.place in
     let first : IsFirstOnLoop (dependencies w) place =
     subst (λ ds. IsFirstOnLoop (dependencies (record { members = map member ds; nets = map net c.in_ok-plan.plan.nets.items })) place) c.deref-2.ensures.value
-    (subst (λ ns. IsFirstOnLoop (dependencies (record { members = map member c.deref-2.result.now; nets = map net ns })) place) c.deref.ensures.value (rw c.in-Loop.is at c.in_ok-settle_strings.ensures)) in
+    (subst (λ ns. IsFirstOnLoop (dependencies (record { members = map member c.deref-2.result.now; nets = map net ns })) place) c.deref.ensures.value (rw c.in-Loop.is at c.in_ok-order.ensures)) in
     loop_told (RefusesAt g.R.Describe.says g.R.Describe.refuses (files_of c.args.files.now) t) (makes g.R.Describe.says (files_of c.args.files.now) t) (targets_in t) c.core_loop.result w place c.in_ok-plan.ensures.told first c.core_loop.ensures
 
-pub returns-in_err-settle_strings-clause-told : goal.returns-in_err-settle_strings-clause-told
-returns-in_err-settle_strings-clause-told g c =
+pub returns-in_err-order-clause-told : goal.returns-in_err-order-clause-told
+returns-in_err-order-clause-told g c =
     let t = table_view c.args.table.now in
-    let stop = err_from_is_err_and c.from_residual-in_err-settle_strings.result c.from_residual-in_err-settle_strings.ensures.1 in
+    let stop = err_from_is_err_and c.from_residual-in_err-order.result c.from_residual-in_err-order.ensures.1 in
     rw (stop.1, stop.2) (no_memory_told (RefusesAt g.R.Describe.says g.R.Describe.refuses (files_of c.args.files.now) t) (makes g.R.Describe.says (files_of c.args.files.now) t) (targets_in t))
 
 pub returns-in-Order-clause-loops : goal.returns-in-Order-clause-loops
@@ -65,4 +65,4 @@ pub returns-in-Order-clause-ordered : goal.returns-in-Order-clause-ordered
 returns-in-Order-clause-ordered g c =
     let order = c.in-Order.order.items in
     subst (λ ds. IsInOrder (dependencies (record { members = map member ds; nets = map net c.in_ok-plan.plan.nets.items })) order) c.deref-2.ensures.value
-    (subst (λ ns. IsInOrder (dependencies (record { members = map member c.deref-2.result.now; nets = map net ns })) order) c.deref.ensures.value (rw c.in-Order.is at c.in_ok-settle_strings.ensures).1)
+    (subst (λ ns. IsInOrder (dependencies (record { members = map member c.deref-2.result.now; nets = map net ns })) order) c.deref.ensures.value (rw c.in-Order.is at c.in_ok-order.ensures).1)
