@@ -15,7 +15,6 @@ use Rattle.bsdl_entity.specs.Entity.{File}
 use Rattle.bsdl_description.specs.Describing.{Description, Refusal, described, ◌>>?◌}
 use Rattle.bsdl_rules.specs.Fits.{cells_end, has_no_port, is_driven_below, is_fit, names_tap, port_bit, port_fits, row_fits, rows_numbered}
 use Rattle.bsdl_rules.specs.Limits.{cells_within, instructions_within, ports_within, users_within}
-use Rattle.bsdl_ports.specs.PortBits as declared
 use Rattle.bsdl_lookup.specs.PortNumbers as port_numbers
 use Rattle.bsdl_build.specs.Boundary.{cell}
 use Rattle.bsdl_build.specs.Built.{device}

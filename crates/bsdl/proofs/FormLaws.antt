@@ -7,8 +7,10 @@ use Rattle.bsdl_text.specs.Reading.{Read, fits, misfit}
 use Rattle.bsdl_text.specs.View.{Stops}
 use Rattle.bsdl_text.specs.declared.reading.Stop.{Stop}
 use Rattle.bsdl_text.specs.declared.reading.Stop.TheVariants as stop
+use Rattle.bsdl_values.specs.View.{judged}
 use Rattle.bsdl_entity.specs.Entity.{File, file}
 use Rattle.bsdl_description.specs.Describing.{bad_token, too_large}
+use Rattle.bsdl_description.specs.View.{spelt_by}
 use Rattle.bsdl.specs.Form.{text_limit, at_misfit, tokens_form, text_form}
 
 pub form_of_large : (text : List ℕ) → text_limit < length text → text_form text ≡ Err too_large
@@ -24,13 +26,19 @@ form_of_tokens : (text : List ℕ) (ts : List Lexeme) → length text ≤ text_l
 form_of_tokens text ts within good same =
     small text within ∙ ap (λ (o : Option ℕ). tokens_form (length text) o (tokens (cuts_of false text))) good ∙ ap (tokens_form (length text) None) (sym same)
 
-pub form_that_fits : (text : List ℕ) (ts : List Lexeme) (f : File) (rest : List Lexeme) → length text ≤ text_limit → bad_place (cuts_of false text) ≡ None → ts ≡ tokens (cuts_of false text) → file ts ≡ fits f rest
+form_that_fits : (text : List ℕ) (ts : List Lexeme) (f : File) (rest : List Lexeme) → length text ≤ text_limit → bad_place (cuts_of false text) ≡ None → ts ≡ tokens (cuts_of false text) → file ts ≡ fits f rest
     → text_form text ≡ Ok f
 form_that_fits text ts f rest within good same read = form_of_tokens text ts within good same ∙ rw read refl
 
 pub form_that_does_not_fit : (text : List ℕ) (ts : List Lexeme) (at : Option ℕ) → length text ≤ text_limit → bad_place (cuts_of false text) ≡ None → ts ≡ tokens (cuts_of false text) → file ts ≡ misfit at
     → text_form text ≡ Err (at_misfit (length text) at)
 form_that_does_not_fit text ts at within good same read = form_of_tokens text ts within good same ∙ rw read refl
+
+-- tokens whose texts are judged then
+pub form_that_is_judged : (text : List ℕ) (ts : List Lexeme) (unsaid : Option ℕ) (f : File) (rest : List Lexeme) → length text ≤ text_limit → bad_place (cuts_of false text) ≡ None → ts ≡ tokens (cuts_of false text)
+    → file ts ≡ judged unsaid (fits f rest) → text_form text ≡ spelt_by unsaid f
+form_that_is_judged text ts None f rest within good same read = form_that_fits text ts f rest within good same read
+form_that_is_judged text ts (Some place) f rest within good same read = form_that_does_not_fit text ts (Some place) within good same read
 
 -- where a reader stopped
 pub stopped : {Y : Type 0} (s : Stop) (r : Read Y) (o at : Option ℕ) → s ≡ stop.Misfit o → o ≡ at → Stops s r → r ≡ misfit at

@@ -1,11 +1,16 @@
 -- A refusal of one step is the first of all.
-use Rattle.std.proofs.Common.{◌≡◌, ap, ◌∙◌}
+use Rattle.std.proofs.Common.{◌≡◌, refl, ap, ◌∙◌}
 use Rattle.std.specs.Prelude.{⊤, Option, Some, None, MatchOption, Result, Ok, Err}
 use Rattle.bsdl_device.specs.Device.{Device}
 use Rattle.bsdl_description.specs.Describing.{Refusal, Description, ◌>>?◌}
 use Rattle.bsdl.specs.Judging.{fault, device_or_refusal}
 use Rattle.bsdl.specs.View.{Tells, refusal}
 use Rattle.bsdl.specs.declared.fault.BsdlFault.{BsdlFault}
+
+-- steps one after the other
+pub in_steps : {A B C : Type 0} (x : Result A Refusal) (f : A → Result B Refusal) (g : B → Result C Refusal) → ((x >>? f) >>? g) ≡ (x >>? λ a. f a >>? g)
+in_steps (Ok a) f g = refl
+in_steps (Err r) f g = refl
 
 -- the first step refuses
 pub refused_first : {A B : Type 0} (o : Option Refusal) (x : Result A Refusal) (f : A → Result B Refusal) → MatchOption o ⊤ (λ r. x ≡ Err r) → MatchOption o ⊤ (λ r. (x >>? f) ≡ Err r)

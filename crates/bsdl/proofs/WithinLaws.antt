@@ -1,5 +1,5 @@
 -- What a text says within some limits, and lies within others, it says within those too.
-use Rattle.std.proofs.Common.{◌≡◌, ℕ, ◌≤◌, Bool, true, false, cond, ◌&&◌, nat_lt, List, [], ◌∷◌, length, Result, Ok, Err, refl, sym, ap, subst, ◌∙◌, arith}
+use Rattle.std.proofs.Common.{◌≡◌, ℕ, ◌≤◌, Bool, true, false, cond, ◌&&◌, nat_lt, List, [], ◌∷◌, length, Result, Ok, Err, refl, sym, ap, ◌∙◌, arith}
 use Rattle.std.specs.Option.{option_or}
 use Rattle.std.specs.Prelude.{Option, Some, None, nat_le, option_map}
 use Rattle.std.specs.List.{list_all, sum_by}
@@ -20,7 +20,7 @@ use Rattle.bsdl_opcodes.specs.Users.{users_of}
 use Rattle.bsdl_rules.specs.Twice.{given_again}
 use Rattle.bsdl.specs.Form.{tokens_form, text_form_within}
 use Rattle.bsdl.specs.Judging.{twice_in, unless, fault_within, device_or_refusal, file_says_within, text_says_within}
-use Rattle.bsdl.specs.Within.{DescribedWithin, SaidIsWithin, WhatLiesWithinIsSaid, LargerLimitsSayMore}
+use Rattle.bsdl.specs.Within.{SaidIsWithin, WhatLiesWithinIsSaid, LargerLimitsSayMore}
 use Rattle.bsdl.proofs.OnceLaws.{both}
 
 then_ok : {A B : Type 0} (r : Result A Refusal) (f : A → Result B Refusal) (y : B) → (r >>? f) ≡ Ok y → (x : A) × (r ≡ Ok x) × (f x ≡ Ok y)

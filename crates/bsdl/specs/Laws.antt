@@ -6,7 +6,6 @@ use Rattle.bsdl_device.specs.Device.{Device, Name}
 use Rattle.bsdl_device.specs.Ports as found
 use Rattle.bsdl_device.specs.Sound.{IsSoundDevice}
 use Rattle.bsdl_ports.specs.Ports.{Port}
-use Rattle.bsdl_ports.specs.PortBits as declared
 use Rattle.bsdl_lookup.specs.PortNumbers as port_numbers
 use Rattle.bsdl_description.specs.Describing.{Description}
 use Rattle.bsdl_build.specs.Boundary.{port_bits}

@@ -6,11 +6,10 @@ use Rattle.bsdl.specs.declared.fault.BsdlFault.TheVariants.{BadToken, BadForm, M
 use Rattle.bsdl.specs.declared.fault.BsdlFault.TheVariants.{BadId, BadCell, TooLarge, NoMemory}
 use Rattle.bsdl_entity.specs.declared.entity.Outline.{Outline}
 use Rattle.bsdl_entity.specs.Entity.{File}
-use Rattle.bsdl_entity.specs.OutlineView.{outline}
 use Rattle.bsdl_description.specs.declared.description.Description as declared_description
 use Rattle.bsdl_description.specs.Describing.{Refusal, bad_token, bad_form, missing, twice, bad_length, bad_capture}
 use Rattle.bsdl_description.specs.Describing.{bad_id, bad_cell, too_large, Description}
-use Rattle.bsdl_description.specs.View.{description}
+use Rattle.bsdl_description.specs.View.{description, spelt}
 
 -- want of memory is no refusal of the text
 abbrev pub refusal : BsdlFault → Option Refusal
@@ -30,7 +29,7 @@ abbrev pub Refuses : {A : Type 0} → BsdlFault → Result A Refusal → Type 0
 Refuses fault says = MatchOption (refusal fault) ⊤ (λ r. says ≡ Err r)
 
 abbrev pub TellsForm : Result Outline BsdlFault → Result File Refusal → Type 0
-TellsForm (Ok o) says = says ≡ Ok (outline o)
+TellsForm (Ok o) says = says ≡ spelt o
 TellsForm (Err fault) says = Refuses fault says
 
 abbrev pub TellsDescription : Outline → Result declared_description.Description BsdlFault → Result Description Refusal

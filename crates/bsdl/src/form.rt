@@ -1,11 +1,11 @@
-//! The entity that a text spells, and what it describes.
+//! The entity that a text spells, its texts within quotes as they are written, and what it describes.
 ghost use Rattle.bsdl.specs.Form.{text_form};
 ghost use Rattle.bsdl.specs.View.{TellsDescription, TellsForm};
-ghost use Rattle.bsdl_description.specs.Describing.{described};
-ghost use Rattle.bsdl_entity.specs.OutlineView.{outline};
+ghost use Rattle.bsdl_description.specs.Describing.{described, ◌>>?◌};
+ghost use Rattle.bsdl_description.specs.View.{spelt};
 
 use crate::fault::BsdlFault;
-use bsdl_description::description::{Description, describe};
+use bsdl_description::description::{Description, Unfit, describe};
 use bsdl_entity::entity::{Outline, read_entity};
 use bsdl_text::reading::Stop;
 use bsdl_text::{Lexer, bad_byte};
@@ -15,8 +15,9 @@ use std::alloc::Global;
 /// A text has at most so many bytes: 4 MiB.
 const TEXT_LIMIT: usize = LIMITS.description_bytes;
 
-/// The entity that a text spells, or its first refusal of B1, B2 and B9 (a text above 4 MiB, whatever it holds). Want
-/// of memory is B10; nothing is said of when it comes.
+/// The entity that a text spells, or its first refusal of B1, B2 and B9 (a text above 4 MiB, whatever it holds). A text
+/// within quotes is judged where it is described, unless other tokens do not fit behind it. Want of memory is B10;
+/// nothing is said of when it comes.
 pub(crate) fn outline_of(alloc: Global, text: &[u8]) -> Result<Outline<'_>, BsdlFault>
     ensures { TellsForm result (text_form text.now) }
 {
@@ -34,15 +35,17 @@ pub(crate) fn outline_of(alloc: Global, text: &[u8]) -> Result<Outline<'_>, Bsdl
     }
 }
 
-/// What an entity describes, or B3 with the first needed attribute that is missing. Want of memory is B10.
+/// What an entity describes; or B2 at its first text within quotes that says nothing, and else B3 with the first needed
+/// attribute that is missing. Want of memory is B10.
 pub(crate) fn description_of<'o, 't: 'o>(
     alloc: Global,
     entity: &'o Outline<'t>,
 ) -> Result<Description<'o>, BsdlFault>
-    ensures { TellsDescription entity.now result (described (outline entity.now)) }
+    ensures { TellsDescription entity.now result (spelt entity.now >>? described) }
 {
     match describe(alloc, entity)? {
         Ok(found) => Ok(found),
-        Err(attribute) => Err(BsdlFault::Missing(attribute)),
+        Err(Unfit::Unsaid(place)) => Err(BsdlFault::BadForm(place)),
+        Err(Unfit::Missing(attribute)) => Err(BsdlFault::Missing(attribute)),
     }
 }

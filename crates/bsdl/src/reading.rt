@@ -1,8 +1,8 @@
 //! Reading a description: the device that it says, or its first refusal.
 ghost use Rattle.bsdl.specs.Judging.{device_or_refusal, fault, file_says, text_says};
 ghost use Rattle.bsdl.specs.View.{Tells};
-ghost use Rattle.bsdl_description.specs.View.{description};
-ghost use Rattle.bsdl_entity.specs.OutlineView.{outline};
+ghost use Rattle.bsdl_description.specs.Describing.{◌>>?◌};
+ghost use Rattle.bsdl_description.specs.View.{description, spelt};
 
 use crate::fault::BsdlFault;
 use crate::form::{description_of, outline_of};
@@ -21,9 +21,9 @@ pub fn read(alloc: Global, text: &[u8]) -> Result<Device, BsdlFault>
     read_entity(alloc, &found)
 }
 
-/// The device that an entity says.
+/// The device that an entity says, once its texts within quotes are judged.
 fn read_entity(alloc: Global, entity: &Outline<'_>) -> Result<Device, BsdlFault>
-    ensures { Tells result (file_says (outline entity.now)) }
+    ensures { Tells result (spelt entity.now >>? file_says) }
 {
     let found = description_of(alloc, entity)?;
     read_description(alloc, entity, &found)

@@ -65,7 +65,7 @@ abbrev pub and_reset : Name → Option Name → List Name
 and_reset tck None = tck ∷ []
 and_reset tck (Some trst) = tck ∷ trst ∷ []
 
--- the TAP's ports, TRST last if there is one, or the first needed attribute that is missing, of attributes that say this
+-- the TAP's ports by what attributes say, TRST last if there is one, or the first needed attribute that is missing
 abbrev pub taps_by : (Attribute → Option Value) → Result (List Name) Refusal
 taps_by says =
     let v = λ (a : Attribute). as_port (says a) in

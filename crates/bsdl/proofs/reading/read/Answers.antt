@@ -1,13 +1,16 @@
+use Rattle.std.proofs.Common.{subst, sym}
+use Rattle.std.specs.Prelude.{Result}
 use Rattle.std.proofs.lemmas.Result.{err_from_is_err_and}
-use Rattle.bsdl_entity.specs.OutlineView.{outline}
+use Rattle.bsdl_description.specs.Describing.{Refusal, ◌>>?◌}
+use Rattle.bsdl_entity.specs.Entity.{File}
 use Rattle.bsdl.specs.Form.{text_form}
 use Rattle.bsdl.specs.Judging.{file_says}
-use Rattle.bsdl.specs.View.{refusal}
-use Rattle.bsdl.proofs.ReadLaws.{refused_first, told_then}
+use Rattle.bsdl.specs.View.{Tells, refusal}
+use Rattle.bsdl.proofs.ReadLaws.{refused_first}
 use Rattle.bsdl.proofs.reading.read.Goals as goal
 
 pub returns : goal.returns
-returns c = told_then c.read_entity.result (text_form c.args.text.now) (outline c.in_ok-found.found) file_says c.in_ok-found.ensures c.read_entity.ensures
+returns c = subst (λ (x : Result File Refusal). Tells c.read_entity.result (x >>? file_says)) (sym c.in_ok-found.ensures) c.read_entity.ensures
 
 pub returns-in_err-found : goal.returns-in_err-found
 returns-in_err-found c =
