@@ -188,8 +188,15 @@ fn write_played<O: Sink>(
     ensures { WritesAll O.contents out.old out.new (explained_lines text.now (why_on kind player.now.program board.old)
         kind ending player.now.found) result }
 {
-    let failures = player.failures();
-    write_on_board(kind, ending, failures, player.program(), text, board, out)
+    write_on_board(
+        kind,
+        ending,
+        player.failures(),
+        player.program(),
+        text,
+        board,
+        out,
+    )
 }
 
 /// Plays an accepted program of a text over a reader and a writer and tells of it as `jt_player::run_over` does, and behind the line of
