@@ -17,7 +17,7 @@ device_text-requires g c =
     let devices = c.args.devices.now in
     let tables = c.args.tables.now in
     let i = c.loop-place.place in
-    let inside : i < length devices = omega (arith, c.loop-place-test.true, c.len-count.ensures) in
+    let inside : i < length devices = omega (arith, c.loop-place-test.true) in
     let there : i < length tables = omega (arith, inside, as_many devices nets tables c.requires.tables) in
     record {
       long = ap length (c.deref.ensures.value ∙ ap (λ (t : Vec (Option ℕ)). t.items) c.index-tables-place.is)
@@ -32,7 +32,7 @@ returns-in_err-put_all g c =
     let tables = c.args.tables.now in
     let i = c.loop-place.place in
     let device = c.index-devices-place.result in
-    let inside : i < length devices = omega (arith, c.loop-place-test.true, c.len-count.ensures) in
+    let inside : i < length devices = omega (arith, c.loop-place-test.true) in
     let there : i < length tables = omega (arith, inside, as_many devices nets tables c.requires.tables) in
     let has : HasNets i nets c.deref.result.now =
     subst (HasNets i nets) (sym (c.deref.ensures.value ∙ ap (λ (t : Vec (Option ℕ)). t.items) c.index-tables-place.is))
@@ -55,7 +55,7 @@ loop-place-preserved g c =
     let tables = c.args.tables.now in
     let i = c.loop-place.place in
     let device = c.index-devices-place.result in
-    let inside : i < length devices = omega (arith, c.loop-place-test.true, c.len-count.ensures) in
+    let inside : i < length devices = omega (arith, c.loop-place-test.true) in
     let there : i < length tables = omega (arith, inside, as_many devices nets tables c.requires.tables) in
     let has : HasNets i nets c.deref.result.now =
     subst (HasNets i nets) (sym (c.deref.ensures.value ∙ ap (λ (t : Vec (Option ℕ)). t.items) c.index-tables-place.is))
@@ -85,7 +85,7 @@ returns g c =
     let sent = c.loop-place.invariant.sent in
     let end : device_lines nets i (drop i names) (drop i ms) ≡ [] =
     devices_end nets names ms i
-    (omega (arith, c.loop-place-test.false, c.len-count.ensures, length-map c.args.devices.now shown_file, length-map c.args.devices.now planned_member)) in
+    (omega (arith, c.loop-place-test.false, length-map c.args.devices.now shown_file, length-map c.args.devices.now planned_member)) in
     let whole : sent ≡ device_lines nets 0 names ms =
     sym (append-nil sent) ∙ sym (ap (λ (l : List ℕ). sent ++ l) end) ∙ c.loop-place.invariant.all in (
       c.loop-place.invariant.none_lost,
