@@ -199,9 +199,9 @@ fn write_played<O: Sink>(
     )
 }
 
-/// Plays an accepted program of a text over a reader and a writer and tells of it as `jt_player::run_over` does, and behind the line of
-/// each failing bit where its statement starts and what is wanted of it: of the board nothing is known. Answers the
-/// exit status: 0 pass, 1 fail, 3 a lost connection or a byte that is no answer.
+/// Plays an accepted program of a text over a reader and a writer and tells of it as `jt_player::run_over` does, and
+/// behind the line of each failing bit where its statement starts and what is wanted of it: of the board nothing is
+/// known. Answers the exit status: 0 pass, 1 fail, 3 a lost connection or a byte that is no answer.
 ///
 /// `Broken` comes exactly where the first failure of `out` came in this call.
 pub fn run_over_explained<R: Source, W: Sink, O: Sink>(
