@@ -14,7 +14,15 @@ fn one_net(alloc: Global, pull: Pull) -> Result<Nets, AllocError>
     pins.push(0)?;
     pins.push(1)?;
     pins.push(2)?;
-    Nets::build(alloc, 4, &[NetSpec { pins, pull, rule: Rule::Counted }])
+    Nets::build(
+        alloc,
+        4,
+        &[NetSpec {
+            pins,
+            pull,
+            rule: Rule::Counted,
+        }],
+    )
 }
 
 /// Puts a drive, and asserts the level that net 0 has then, and whether it changed.
