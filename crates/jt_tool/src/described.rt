@@ -135,9 +135,10 @@ fn names_of(read: ReadBoard) -> Vec<String> {
 
 /// Why a board is refused; where a description is, with what was read.
 fn refused(fault: PlanFault, read: ReadBoard) -> Unmade {
-    match unplaced(fault) {
-        (fault, Some(place)) => Unmade::RefusedFile(RefusedFile { fault, place, read }),
-        (fault, None) => Unmade::Refused(fault),
+    let (fault, place) = unplaced(fault);
+    match place {
+        Some(place) => Unmade::RefusedFile(RefusedFile { fault, place, read }),
+        None => Unmade::Refused(fault),
     }
 }
 
