@@ -3,7 +3,7 @@ use Rattle.std.proofs.Common.{◌≡◌, ℕ, Bool, true, false, List, length, O
 use Rattle.std.specs.List.{position_or_len}
 use Rattle.std.proofs.lemmas.List.Sums.{position_or_len_is}
 use Rattle.memchr.specs.Find.{IsFirstByte, is_byte2}
-use Rattle.svf_lex.specs.Bytes.{is_line_end}
+use Rattle.token_runs.specs.Bytes.{is_line_end}
 
 not_true : (b : Bool) → (b ≡ true → ⊥) → b ≡ false
 not_true true fails = absurd (fails refl)

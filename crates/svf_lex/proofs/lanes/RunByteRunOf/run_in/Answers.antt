@@ -2,15 +2,15 @@ use Rattle.std.proofs.Common.{ℕ, leb, cond, bit_and, bit_or, refl, ◌∙◌, 
 use Rattle.std.proofs.lemmas.Simd.{zip2_of_maps, splat_is_map, zip2_splat, length-chunk, chunk-fits}
 use lib.Lanes.{chunk}
 use Rattle.svf_lex.specs.Bytes.{is_run}
-use Rattle.svf_lex.proofs.RunsAtOnce.{run_by_mask}
-use Rattle.svf_lex.proofs.lanes.run_in.Goals as goal
+use Rattle.token_runs.proofs.RunsAtOnce.{front_by_mask}
+use Rattle.svf_lex.proofs.lanes.RunByteRunOf.run_in.Goals as goal
 
 pub returns : goal.returns
 returns c =
     let v = chunk c.args.at 16 c.args.text.now in
     let long = length-chunk c.args.at 16 c.args.text.now c.requires in
     c.first_set.ensures
-    ∙ run_by_mask is_run _ v _
+    ∙ front_by_mask is_run _ v _
     (zip2_of_maps bit_and _ _ v
     (zip2_of_maps bit_and _ _ v
     (zip2_of_maps (λ a b. cond (leb a b) 255 0) _ _ v (splat_is_map v 16 26 long) (zip2_of_maps _ _ _ v (zip2_splat {Y = ℕ} _ v 16 32 long) (splat_is_map v 16 97 long)))

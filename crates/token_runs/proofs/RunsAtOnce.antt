@@ -1,4 +1,4 @@
--- A word is passed sixteen bytes at a time.
+-- A run is passed sixteen bytes at a time.
 use Rattle.std.proofs.Common.{◌≡◌, ℕ, ◌+◌, ◌<◌, ◌≤◌, ◌%◌, ◌^◌, eqb, Bool, true, not, List, [], ◌∷◌, length, take, drop, map, cond, refl, ap, ap₂, ◌∙◌, sym, arith, Fits, w8}
 use Rattle.std.specs.List.{prefix_len}
 use Rattle.std.proofs.lemmas.Bool.{agree_below, agree_below_at, cond-true, cond-false, eq-eqb, ne_eqb}
@@ -14,10 +14,10 @@ prefix_len_same p q [] same = refl
 prefix_len_same p q (x ∷ xs) same = ap₂ (λ (b : Bool) (n : ℕ). cond b (1 + n) 0) same.0 (prefix_len_same p q xs same.1)
 
 -- the lowest lane that stops is the first byte that fails the test
-pub word_by_mask : (q : ℕ → Bool) (f : ℕ → ℕ) (v z : List ℕ) → z ≡ map f v → length v ≡ 16 → Each1 (Fits w8) v
+pub front_by_mask : (q : ℕ → Bool) (f : ℕ → ℕ) (v z : List ℕ) → z ≡ map f v → length v ≡ 16 → Each1 (Fits w8) v
     → agree_below (λ x. not (top 7 (f x))) q 256 ≡ true
     → cond (eqb (mask_l (map (top 7) z) % 2 ^ 64) 0) 16 (count_trailing_zeros 64 (mask_l (map (top 7) z) % 2 ^ 64)) ≡ prefix_len q v
-word_by_mask q f v z lanes long fits all =
+front_by_mask q f v z lanes long fits all =
     let stops : ℕ → Bool = λ x. top 7 (f x) in
     let mask : mask_l (map (top 7) z) % 2 ^ 64 ≡ mask_l (map stops v) =
     ap (λ (l : List ℕ). mask_l (map (top 7) l) % 2 ^ 64) lanes ∙ ap (λ (l : List Bool). mask_l l % 2 ^ 64) (map-map (top 7) f v)
@@ -34,7 +34,7 @@ module _ (p : ℕ → Bool) (n : ℕ) (xs : List ℕ) (within : n ≤ length xs)
   long : length (take n xs) ≡ n
   long = length-take-le n xs within
 
-  -- a word that ends in the first bytes
+  -- a run that ends in the first bytes
   pub ends_here : prefix_len p (take n xs) < n → prefix_len p xs ≡ prefix_len p (take n xs)
   ends_here short = cut_in_two ∙ cond-false _ _ _ (ne_eqb (prefix_len p (take n xs)) (length (take n xs)) (λ e. absurd (omega (arith, e, long, short))))
 
