@@ -166,6 +166,15 @@ impl Chain {
         self.wiring.level(net)
     }
 
+    /// Whether strong drivers of 0 and of 1 are on a net.
+    pub fn is_opposed(&self, net: usize) -> bool
+        requires { net < length self.now.nets }
+        ensures { option_map (nets.is_opposed self.now.nets (meant.members self.now.chips)) (slice_get self.now.nets net)
+            ≡ Some result }
+    {
+        self.wiring.is_opposed(net)
+    }
+
     /// The TDO of the first device, which reads 1 while it is not driven.
     pub fn tdo(&self) -> bool
         ensures { result ≡ meant.tdi_before true self.now.chips }
