@@ -1,2 +1,2 @@
 pub mod DigitLaws
-pub mod NameLaws
+pub mod TextLaws

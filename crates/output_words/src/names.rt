@@ -16,11 +16,11 @@ const DELETE: u8 = 127;
 /// Writes a name, its control bytes and backslashes as `\x` and two digits.
 ///
 /// `Broken` comes exactly where the writer's first failure came in this call.
-pub fn write_shown<W: Sink>(name: &[u8], out: &mut Counted<W>) -> Result<(), Broken>
+pub fn write_shown<W: Sink>(name: &str, out: &mut Counted<W>) -> Result<(), Broken>
     requires { out.old.failures ≡ 0 }
     ensures { WritesAll W.contents out.old out.new (shown name.now) result }
 {
-    for byte in name {
+    for byte in name.as_bytes() {
         write_byte(*byte, out)?;
     }
     Ok(())
@@ -39,11 +39,11 @@ fn write_byte<W: Sink>(byte: u8, out: &mut Counted<W>) -> Result<(), Broken>
 }
 
 /// Puts a name behind a text, its control bytes and backslashes as `\x` and two digits. Refuses for want of memory alone.
-#[tactic(auto, using(crate::proofs::NameLaws::flat_map_more))]
-pub fn put_shown(text: &mut Vec<u8>, name: &[u8]) -> Result<(), AllocError>
+#[tactic(auto, using(crate::proofs::TextLaws::flat_map_more))]
+pub fn put_shown(text: &mut Vec<u8>, name: &str) -> Result<(), AllocError>
     ensures { OnOk result (text.new.items ≡ text.old.items ++ shown name.now) }
 {
-    for byte in name {
+    for byte in name.as_bytes() {
         put_byte(text, *byte)?;
     }
     Ok(())
