@@ -10,7 +10,8 @@ use Rattle.bsdl_text.specs.declared.tokens.Kind.TheVariants as kind
 use Rattle.bsdl_text.specs.declared.tokens.scan.Front.{Front}
 use Rattle.bsdl_text.specs.declared.tokens.scan.Front.TheVariants.{Gap, Token, Bad}
 use Rattle.bsdl_text.specs.Alone.{stands_alone}
-use Rattle.bsdl_text.specs.Bytes.{is_white, is_line_end, is_within, begins_word, is_word, begins_number, is_number, begins_comment, begins_string, is_mark}
+use Rattle.token_runs.specs.Bytes.{is_white, is_line_end}
+use Rattle.bsdl_text.specs.Bytes.{is_within, begins_word, is_word, begins_number, is_number, begins_comment, begins_string, is_mark}
 use Rattle.bsdl_text.specs.Cutting.{Cut, cut, front, with_front, tokens}
 use Rattle.bsdl_text.specs.Scanning.{gap}
 use Rattle.bsdl_text.proofs.AsciiLaws.{choice}

@@ -10,7 +10,6 @@ pub mod PlainFronts
 pub mod PlainLanes
 pub mod PlainRuns
 pub mod Steps
-pub mod WordsAtOnce
 pub mod NumberLaws
 pub mod SpellingLaws
 pub mod JoinedLaws

@@ -6,7 +6,8 @@ use Rattle.std.proofs.lemmas.Bool.Decides.{nat_tests}
 use Rattle.bsdl_text.specs.declared.tokens.Kind.{Kind}
 use Rattle.bsdl_text.specs.declared.tokens.Kind.TheVariants as kind
 use Rattle.bsdl_text.specs.declared.tokens.scan.Front.TheVariants.{Gap, Token, Bad}
-use Rattle.bsdl_text.specs.Bytes.{is_white, is_line_end, begins_word, is_word, begins_number, is_number, is_mark, begins_comment, begins_string, is_within}
+use Rattle.token_runs.specs.Bytes.{is_white, is_line_end}
+use Rattle.bsdl_text.specs.Bytes.{begins_word, is_word, begins_number, is_number, is_mark, begins_comment, begins_string, is_within}
 use Rattle.bsdl_text.specs.Cutting.{piece, cut, front, string_front}
 use Rattle.bsdl_text.specs.Gaps.{Part, white, comment, token, bytes_of, Ends, AllPass, EndsLine, IsInLine, IsPart, BeginsNothing, unclosed, other, tokens_at}
 use Rattle.bsdl_text.proofs.Steps.{cut-cons}

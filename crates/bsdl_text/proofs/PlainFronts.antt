@@ -8,7 +8,8 @@ use Rattle.std.specs.Option.{option_eq, IfSome, MatchOption}
 use Rattle.bsdl_text.specs.declared.tokens.Kind.TheVariants as kind
 use Rattle.bsdl_text.specs.declared.tokens.scan.Front.{Front}
 use Rattle.bsdl_text.specs.declared.tokens.scan.Front.TheVariants.{Gap, Token}
-use Rattle.bsdl_text.specs.Bytes.{is_white, begins_word, is_word, begins_number, is_number, is_mark, begins_comment, begins_string}
+use Rattle.token_runs.specs.Bytes.{is_white}
+use Rattle.bsdl_text.specs.Bytes.{begins_word, is_word, begins_number, is_number, is_mark, begins_comment, begins_string}
 use Rattle.bsdl_text.specs.Cutting.{Cut, cut, front, behind, with_front, bad_place}
 use Rattle.bsdl_text.specs.Plain.{HasNoBad, is_plain, is_plain_behind, plain_len}
 use Rattle.bsdl_text.proofs.Steps.{cut-nil}

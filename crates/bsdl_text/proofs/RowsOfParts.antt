@@ -4,7 +4,8 @@ use Rattle.std.proofs.lemmas.List.{take-append-drop, length-append, append_assoc
 use Rattle.std.specs.List.{prefix_len, flat_map, AllByRecursion}
 use Rattle.std.proofs.lemmas.Bool.Decides.{nat_tests}
 use Rattle.bsdl_text.specs.declared.tokens.Kind.TheVariants as kind
-use Rattle.bsdl_text.specs.Bytes.{is_white, is_line_end, begins_word, is_word, begins_number, is_number, is_mark, begins_comment, begins_string, is_within}
+use Rattle.token_runs.specs.Bytes.{is_white, is_line_end}
+use Rattle.bsdl_text.specs.Bytes.{begins_word, is_word, begins_number, is_number, is_mark, begins_comment, begins_string, is_within}
 use Rattle.bsdl_text.specs.Cutting.{Cut, piece, cut}
 use Rattle.bsdl_text.specs.Gaps.{Part, white, comment, token, bytes_of, Ends, AllPass, EndsLine, IsInLine, IsPart, Divides, tokens_at, BeginsNothing, unclosed, other}
 use Rattle.bsdl_text.proofs.Parts.{part_cut}

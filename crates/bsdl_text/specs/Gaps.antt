@@ -4,7 +4,8 @@ use Rattle.std.specs.Prelude.{◌≡◌, ℕ, ◌+◌, Bool, true, false, ⊤, L
 use Rattle.std.specs.List.{flat_map, AllByRecursion}
 use Rattle.bsdl_text.specs.declared.tokens.Kind.{Kind}
 use Rattle.bsdl_text.specs.declared.tokens.Kind.TheVariants as kind
-use Rattle.bsdl_text.specs.Bytes.{is_white, is_line_end, begins_word, is_word, begins_number, is_number, is_mark}
+use Rattle.token_runs.specs.Bytes.{is_white, is_line_end}
+use Rattle.bsdl_text.specs.Bytes.{begins_word, is_word, begins_number, is_number, is_mark}
 use Rattle.bsdl_text.specs.Bytes.{begins_comment, begins_string, is_within}
 use Rattle.bsdl_text.specs.Cutting.{Lexeme}
 

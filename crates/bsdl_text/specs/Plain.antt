@@ -1,7 +1,8 @@
 -- Bytes of a text of which it is plain, without a cut, that they belong to tokens and gaps.
 use Rattle.std.specs.Prelude.{◌≡◌, ℕ, ◌+◌, Bool, not, ◌&&◌, ◌||◌, ◌==◌, if◌then◌else◌, List, [], ◌∷◌, drop}
 use Rattle.std.specs.Char.{is_ascii_alphanumeric}
-use Rattle.bsdl_text.specs.Bytes.{is_white, is_word, is_mark}
+use Rattle.token_runs.specs.Bytes.{is_white}
+use Rattle.bsdl_text.specs.Bytes.{is_word, is_mark}
 use Rattle.bsdl_text.specs.Cutting.{cut, bad_place}
 
 -- each of these stands in a token or a gap wherever it stands, but that `-` may begin a comment outside quotes

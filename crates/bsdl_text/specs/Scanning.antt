@@ -3,7 +3,8 @@ use Rattle.std.specs.Prelude.{◌≡◌, ◌<◌, ◌+◌, ℕ, Bool, if◌then�
 use Rattle.std.specs.Prelude.{Option, Some, None, Result, Ok, Err}
 use Rattle.std.specs.List.{position_or_len}
 use Rattle.bsdl_text.specs.declared.tokens.Token.{Token}
-use Rattle.bsdl_text.specs.Bytes.{is_white, is_line_end, begins_comment}
+use Rattle.token_runs.specs.Bytes.{is_white, is_line_end}
+use Rattle.bsdl_text.specs.Bytes.{begins_comment}
 use Rattle.bsdl_text.specs.Left.{lexeme, end_of}
 use Rattle.bsdl_text.specs.Cutting.{Cut, piece, bad, cut}
 

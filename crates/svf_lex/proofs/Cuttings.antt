@@ -4,7 +4,8 @@ use Rattle.std.proofs.lemmas.List.{append-nil}
 use Rattle.std.specs.List.{flat_map}
 use Rattle.std.proofs.lemmas.Bool.Decides.{nat_tests}
 use Rattle.svf_lex.specs.declared.scan.Front.TheVariants.{Bad}
-use Rattle.svf_lex.specs.Bytes.{is_white, is_run, is_mark, begins_comment}
+use Rattle.token_runs.specs.Bytes.{is_white}
+use Rattle.svf_lex.specs.Bytes.{is_run, is_mark, begins_comment}
 use Rattle.svf_lex.specs.Cutting.{Lexeme, Cut, piece, bad, cuts_of, front}
 use Rattle.svf_lex.specs.Gaps.{bytes_of, Divides, tokens_at, TokensOf, BadAfter, BeginsNothing}
 use Rattle.svf_lex.specs.Laws.{TokensAreCut, BadByteIsCut, EachIsCut, TokensAreOne, BadByteIsOne, NeverBoth}

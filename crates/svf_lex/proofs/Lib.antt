@@ -1,9 +1,7 @@
 pub mod Cuttings
 pub mod RowsOfParts
 pub mod Endings
-pub mod Lines
 pub mod Order
 pub mod Parts
 pub mod Rows
 pub mod Steps
-pub mod RunsAtOnce

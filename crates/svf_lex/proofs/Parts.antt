@@ -7,7 +7,8 @@ use Rattle.std.proofs.lemmas.Bool.Decides.{nat_tests}
 use Rattle.svf_lex.specs.declared.Kind.{Kind}
 use Rattle.svf_lex.specs.declared.Kind.TheVariants as kind
 use Rattle.svf_lex.specs.declared.scan.Front.TheVariants.{Gap, Token}
-use Rattle.svf_lex.specs.Bytes.{is_white, is_line_end, is_run, begins_comment}
+use Rattle.token_runs.specs.Bytes.{is_white, is_line_end}
+use Rattle.svf_lex.specs.Bytes.{is_run, begins_comment}
 use Rattle.svf_lex.specs.Cutting.{piece, cut, front}
 use Rattle.svf_lex.specs.Gaps.{Part, white, comment, token, bytes_of, EndsLine, EndsRun, IsInLine, IsRunByte, IsComment, IsPart, tokens_at}
 use Rattle.svf_lex.proofs.Steps.{cut-cons}

@@ -5,7 +5,8 @@ use Rattle.std.specs.List.{flat_map, AllByRecursion}
 use Rattle.svf_lex.specs.declared.Kind.TheVariants as kind
 use Rattle.svf_lex.specs.declared.scan.Front.{Front}
 use Rattle.svf_lex.specs.declared.scan.Front.TheVariants.{Gap, Token, Bad}
-use Rattle.svf_lex.specs.Bytes.{is_white, is_run, begins_comment}
+use Rattle.token_runs.specs.Bytes.{is_white}
+use Rattle.svf_lex.specs.Bytes.{is_run, begins_comment}
 use Rattle.svf_lex.specs.Cutting.{front}
 use Rattle.svf_lex.specs.Gaps.{Part, white, comment, token, bytes_of, EndsLine, EndsRun, IsInLine, IsRunByte, IsComment, IsPart, Divides}
 use Rattle.svf_lex.specs.Laws.{PartsAreOne, PartsJoin, RunsStandApart}

@@ -4,7 +4,8 @@ use Rattle.std.proofs.lemmas.List.{take-append-drop, length-append}
 use Rattle.std.specs.List.{prefix_len, flat_map, AllByRecursion}
 use Rattle.std.proofs.lemmas.Bool.Decides.{nat_tests}
 use Rattle.svf_lex.specs.declared.Kind.TheVariants as kind
-use Rattle.svf_lex.specs.Bytes.{is_white, is_line_end, is_run, is_mark, begins_comment}
+use Rattle.token_runs.specs.Bytes.{is_white, is_line_end}
+use Rattle.svf_lex.specs.Bytes.{is_run, is_mark, begins_comment}
 use Rattle.svf_lex.specs.Cutting.{Cut, piece, cut}
 use Rattle.svf_lex.specs.Gaps.{Part, white, comment, token, bytes_of, EndsLine, EndsRun, IsInLine, IsComment, IsPart, Divides, tokens_at, BeginsNothing}
 use Rattle.svf_lex.proofs.Parts.{Ends, part_cut}

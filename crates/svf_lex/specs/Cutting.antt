@@ -8,7 +8,8 @@ use Rattle.svf_lex.specs.declared.scan.Front.{Front}
 use Rattle.svf_lex.specs.declared.scan.Front.TheVariants.{Gap, Token, Bad}
 use Rattle.svf_lex.specs.declared.LexFault.{LexFault}
 use Rattle.svf_lex.specs.declared.LexFault.TheVariants as fault
-use Rattle.svf_lex.specs.Bytes.{is_white, is_line_end, is_run, begins_comment}
+use Rattle.token_runs.specs.Bytes.{is_white, is_line_end}
+use Rattle.svf_lex.specs.Bytes.{is_run, begins_comment}
 
 -- a token: its kind, its bytes, and where they start in the text
 pub record Lexeme : Type 0 where

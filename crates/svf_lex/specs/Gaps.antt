@@ -4,7 +4,8 @@ use Rattle.std.specs.Prelude.{◌≡◌, ℕ, ◌+◌, ◌<◌, ◌⊎◌, true,
 use Rattle.std.specs.List.{flat_map, AllByRecursion}
 use Rattle.svf_lex.specs.declared.Kind.{Kind}
 use Rattle.svf_lex.specs.declared.Kind.TheVariants as kind
-use Rattle.svf_lex.specs.Bytes.{is_white, is_line_end, is_run, is_mark, begins_comment}
+use Rattle.token_runs.specs.Bytes.{is_white, is_line_end}
+use Rattle.svf_lex.specs.Bytes.{is_run, is_mark, begins_comment}
 use Rattle.svf_lex.specs.Cutting.{Lexeme}
 
 pub data Part : Type 0 where

@@ -1,13 +1,13 @@
 //! What stands at a place of a text.
 ghost use Rattle.std.specs.Prelude.{◌≡◌, ◌≤◌, length, drop, IfSome, IfOk};
-ghost use Rattle.std.specs.List.{prefix_len, position_or_len};
+ghost use Rattle.std.specs.List.{prefix_len};
 ghost use Rattle.svf_lex.specs.Bytes as bytes;
 ghost use Rattle.svf_lex.specs.Cutting.{cut, front, behind};
 ghost use Rattle.svf_lex.specs.Scanning.{cuts_from, end_of, place_of};
 
-use crate::lanes::{LANES, run_in};
+use crate::lanes::RunByte;
 use crate::{Kind, Token};
-use memchr::memchr2;
+use token_runs::{RunOf, line_len, run_by_bytes, run_len};
 
 /// So many bytes of a run are looked up one by one.
 const SHORT: usize = 8;
@@ -60,83 +60,22 @@ fn front_of(first: u8, rest: &[u8]) -> Front
         b'(' => Front::Token(Kind::Open, 0),
         b')' => Front::Token(Kind::Close, 0),
         b';' => Front::Token(Kind::Semi, 0),
-        _ if is_run_byte(first) => Front::Token(Kind::Run, run_len(rest)),
+        _ if RunByte::has(first) => Front::Token(Kind::Run, rest_len(rest)),
         _ => Front::Bad,
     }
 }
 
-/// How many bytes stand before the next line feed or carriage return, or before the end.
-fn line_len(text: &[u8]) -> usize
-    ensures value { result ≡ position_or_len bytes.is_line_end text.now }
-    ensures within { result ≤ length text.now }
-{
-    memchr2(b'\n', b'\r', text).unwrap_or(text.len())
-}
-
 /// How many bytes of a run stand at the front. Most runs are short: their first bytes are looked up one by one, which
 /// is soonest done. Long ones are passed sixteen bytes at once.
-fn run_len(text: &[u8]) -> usize
+fn rest_len(text: &[u8]) -> usize
     ensures value { result ≡ prefix_len bytes.is_run text.now }
     ensures within { result ≤ length text.now }
 {
     let (front, rest) = text.split_at(text.len().min(SHORT));
-    let len = end_len(front);
+    let len = run_by_bytes::<RunByte>(front);
     if len < SHORT {
         len
     } else {
-        len + long_len(rest)
+        len + run_len::<RunByte>(rest)
     }
-}
-
-/// The same, sixteen bytes at once, and the last of the text one by one.
-fn long_len(text: &[u8]) -> usize
-    ensures value { result ≡ prefix_len bytes.is_run text.now }
-    ensures within { result ≤ length text.now }
-{
-    let mut at = 0;
-    while text.len() - at >= LANES {
-        let run = run_in(text, at);
-        if run < LANES {
-            return at + run;
-        }
-        at += LANES;
-    }
-    at + end_len(&text[at..])
-}
-
-/// The same, byte by byte.
-fn end_len(text: &[u8]) -> usize
-    ensures value { result ≡ prefix_len bytes.is_run text.now }
-    ensures within { result ≤ length text.now }
-{
-    text.iter().take_while(|byte| is_run_byte(**byte)).count()
-}
-
-/// Which bytes belong to a run. Tests by branches are predicted wrongly at each other byte of random digits.
-const IS_RUN: [bool; 256] = [
-    false, false, false, false, false, false, false, false, false, false, false, false, false,
-    false, false, false, false, false, false, false, false, false, false, false, false, false,
-    false, false, false, false, false, false, false, false, false, false, false, false, false,
-    false, false, false, false, true, false, true, true, false, true, true, true, true, true, true,
-    true, true, true, true, false, false, false, false, false, false, false, true, true, true,
-    true, true, true, true, true, true, true, true, true, true, true, true, true, true, true, true,
-    true, true, true, true, true, true, true, false, false, false, false, true, false, true, true,
-    true, true, true, true, true, true, true, true, true, true, true, true, true, true, true, true,
-    true, true, true, true, true, true, true, true, false, false, false, false, false, false,
-    false, false, false, false, false, false, false, false, false, false, false, false, false,
-    false, false, false, false, false, false, false, false, false, false, false, false, false,
-    false, false, false, false, false, false, false, false, false, false, false, false, false,
-    false, false, false, false, false, false, false, false, false, false, false, false, false,
-    false, false, false, false, false, false, false, false, false, false, false, false, false,
-    false, false, false, false, false, false, false, false, false, false, false, false, false,
-    false, false, false, false, false, false, false, false, false, false, false, false, false,
-    false, false, false, false, false, false, false, false, false, false, false, false, false,
-    false, false, false, false, false, false, false, false, false, false, false, false, false,
-    false, false, false, false, false, false, false, false, false, false,
-];
-
-fn is_run_byte(byte: u8) -> bool
-    ensures { result ≡ bytes.is_run byte }
-{
-    IS_RUN[usize::from(byte)]
 }

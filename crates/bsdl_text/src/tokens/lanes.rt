@@ -1,17 +1,11 @@
 //! Sixteen bytes of a text at once.
-ghost use Rattle.std.specs.Prelude.{◌≡◌, ◌==◌, ◌+◌, ◌-◌, ◌≤◌, length, take, drop, slice_index, if◌then◌else◌};
-ghost use Rattle.std.specs.Int.{trailing_zeros, w64};
-ghost use Rattle.std.specs.List.{prefix_len};
+ghost use Rattle.std.specs.Prelude.{◌≡◌, ◌+◌, ◌-◌, ◌≤◌, length, take, drop, slice_index};
 ghost use Rattle.bsdl_text.specs.Bytes as bytes;
 ghost use Rattle.bsdl_text.specs.Plain.{plain_len};
 
+use crate::tokens::scan::is_word;
 use std::simd::prelude::*;
-
-/// So many bytes are looked at at once.
-pub(crate) const LANES: usize = 16;
-
-/// How many letters there are in one case.
-const LETTERS: u8 = 26;
+use token_runs::{LANES, LETTERS, RunOf, first_set};
 
 /// How many digits there are.
 const DIGITS: u8 = 10;
@@ -22,19 +16,26 @@ const FROM_AND_TO_GREATER: u8 = 25;
 /// How many bytes of white space there are from the tab to the carriage return.
 const FROM_TAB_TO_RETURN: u8 = 5;
 
-/// How many of the sixteen bytes from a place on can stand in a word, before the first that cannot.
-#[inline(always)]
-pub(crate) fn word_in(text: &[u8], at: usize) -> usize
-    requires { at + LANES ≤ length text.now }
-    ensures { result ≡ prefix_len bytes.is_word (take LANES (drop at text.now)) }
-{
-    let v = u8x16::from_slice(&text[at..]);
-    let from_a = (v | u8x16::splat(0x20)) - u8x16::splat(b'a');
-    let from_zero = v - u8x16::splat(b'0');
-    let stops = from_a.simd_ge(u8x16::splat(LETTERS))
-        & from_zero.simd_ge(u8x16::splat(DIGITS))
-        & v.simd_ne(u8x16::splat(b'_'));
-    first_set(stops.to_bitmask())
+/// The bytes that a word goes on with: letters, digits and `_`.
+pub(crate) struct WordByte;
+
+impl RunOf for WordByte {
+    ghost belongs = { bytes.is_word };
+
+    fn has(byte: u8) -> bool {
+        is_word(byte)
+    }
+
+    #[inline(always)]
+    fn run_in(text: &[u8], at: usize) -> usize {
+        let v = u8x16::from_slice(&text[at..]);
+        let from_a = (v | u8x16::splat(0x20)) - u8x16::splat(b'a');
+        let from_zero = v - u8x16::splat(b'0');
+        let stops = from_a.simd_ge(u8x16::splat(LETTERS))
+            & from_zero.simd_ge(u8x16::splat(DIGITS))
+            & v.simd_ne(u8x16::splat(b'_'));
+        first_set(stops.to_bitmask())
+    }
 }
 
 /// How many of the sixteen bytes from a place on are plain, each behind the byte before it.
@@ -65,16 +66,4 @@ pub(crate) fn plain_in(text: &[u8], at: usize, ending: u8) -> usize
     let is_alone = v.simd_eq(u8x16::splat(b'_')) & is_no_word;
     let stops = v.simd_eq(u8x16::splat(ending)) | is_neither | is_alone;
     first_set(stops.to_bitmask())
-}
-
-/// The place of the lowest bit that is set, or so many lanes as there are.
-#[inline(always)]
-fn first_set(mask: u64) -> usize
-    ensures { result ≡ (if mask == 0 then LANES else trailing_zeros w64 mask) }
-{
-    if mask == 0 {
-        LANES
-    } else {
-        mask.trailing_zeros() as usize
-    }
 }

@@ -4,8 +4,9 @@ ghost use Rattle.bsdl_text.specs.Bytes.{is_word};
 ghost use Rattle.bsdl_text.specs.Plain as plain;
 ghost use Rattle.bsdl_text.specs.Plain.{HasNoBad};
 
-use crate::tokens::lanes::{LANES, plain_in, word_in};
+use crate::tokens::lanes::{WordByte, plain_in};
 use crate::tokens::scan::is_word;
+use token_runs::{LANES, RunOf};
 
 /// How many bytes at the front of a text are known to belong to tokens and gaps. Behind them a token, a gap or a bad
 /// byte stands, or the text ends.
@@ -33,7 +34,7 @@ fn plain_len(text: &[u8], ending: u8) -> usize
     let mut at = 1;
     while text.len() - at >= LANES {
         // Names are long: of sixteen bytes of one word the last fifteen are plain.
-        if word_in(text, at - 1) == LANES {
+        if WordByte::run_in(text, at - 1) == LANES {
             at += LANES - 1;
             continue;
         }

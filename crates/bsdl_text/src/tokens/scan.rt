@@ -1,16 +1,17 @@
 //! What stands at a place of a text.
 ghost use Rattle.std.specs.Prelude.{◌≡◌, ◌≤◌, ◌<◌, ◌==◌, ◌||◌, length, drop, is_some, IfSome, IfOk, None, false};
-ghost use Rattle.std.specs.List.{prefix_len, position_or_len};
+ghost use Rattle.std.specs.List.{prefix_len};
 ghost use Rattle.bsdl_text.specs.Bytes as bytes;
 ghost use Rattle.bsdl_text.specs.Cutting.{cut, front, behind, cuts_of, bad_place, tokens};
 ghost use Rattle.bsdl_text.specs.Scanning.{cuts_from, gap, NoGap};
 ghost use Rattle.bsdl_text.specs.Alone.{stands_alone};
 ghost use Rattle.bsdl_text.specs.Left.{end_of};
 
-use crate::tokens::lanes::{LANES, word_in};
+use crate::tokens::lanes::WordByte;
 use crate::tokens::plain::clear_len;
 use crate::tokens::{Kind, Token};
-use memchr::{memchr2, memchr3};
+use memchr::memchr3;
+use token_runs::{line_len, run_len};
 
 /// What the first byte of a text begins, and how many bytes that has behind it. Gaps are passed before it is asked, so
 /// that only what is said of whole texts names them.
@@ -145,7 +146,7 @@ fn front_of(quoted: bool, first: u8, rest: &[u8]) -> Front
 {
     match first {
         b'"' if !quoted => string_front(rest),
-        b'A'..=b'Z' | b'a'..=b'z' => Front::Token(Kind::Word, word_len(rest)),
+        b'A'..=b'Z' | b'a'..=b'z' => Front::Token(Kind::Word, run_len::<WordByte>(rest)),
         b'0'..=b'9' => Front::Token(Kind::Number, number_len(rest)),
         b'&'..=b'/' | b':'..=b'>' | b'[' | b']' | b'|' => Front::Token(Kind::Mark, 0),
         _ => Front::Bad,
@@ -171,39 +172,6 @@ fn within_len(text: &[u8]) -> usize
     ensures within { result ≤ length text.now }
 {
     memchr3(b'"', b'\n', b'\r', text).unwrap_or(text.len())
-}
-
-/// How many bytes stand before the next line feed or carriage return, or before the end.
-fn line_len(text: &[u8]) -> usize
-    ensures value { result ≡ position_or_len bytes.is_line_end text.now }
-    ensures within { result ≤ length text.now }
-{
-    memchr2(b'\n', b'\r', text).unwrap_or(text.len())
-}
-
-/// How many bytes of a word stand at the front. Names are long, so they are passed sixteen bytes at once, and the last
-/// of the text one by one.
-fn word_len(text: &[u8]) -> usize
-    ensures value { result ≡ prefix_len bytes.is_word text.now }
-    ensures within { result ≤ length text.now }
-{
-    let mut at = 0;
-    while text.len() - at >= LANES {
-        let word = word_in(text, at);
-        if word < LANES {
-            return at + word;
-        }
-        at += LANES;
-    }
-    at + word_end_len(&text[at..])
-}
-
-/// The same, byte by byte.
-fn word_end_len(text: &[u8]) -> usize
-    ensures value { result ≡ prefix_len bytes.is_word text.now }
-    ensures within { result ≤ length text.now }
-{
-    text.iter().take_while(|byte| is_word(**byte)).count()
 }
 
 /// How many bytes of a number stand at the front.

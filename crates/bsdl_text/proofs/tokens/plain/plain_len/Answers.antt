@@ -4,13 +4,13 @@ use Rattle.bsdl_text.specs.Plain.{plain_len}
 use Rattle.bsdl_text.proofs.PlainRuns.{ends_at, passes_on, passes_word, plain_le}
 use Rattle.bsdl_text.proofs.tokens.plain.plain_len.Goals as goal
 
-pub loop-at-preserved-then-word_in-eq-LANES : goal.loop-at-preserved-then-word_in-eq-LANES
-loop-at-preserved-then-word_in-eq-LANES c =
+pub loop-at-preserved-then-run_in-eq-LANES : goal.loop-at-preserved-then-run_in-eq-LANES
+loop-at-preserved-then-run_in-eq-LANES c =
     let i = c.loop-at.invariant in
     record {
       behind = omega arith;
       within = omega (arith, c.loop-at-test.true, i.within);
-      passed = passes_word c.args.ending c.loop-at.at c.args.text.now i.passed 14 c.requires i.behind (omega (arith, c.loop-at-test.true, i.within)) (sym c.word_in.ensures ∙ c.if-word_in-eq-LANES.true);
+      passed = passes_word c.args.ending c.loop-at.at c.args.text.now i.passed 14 c.requires i.behind (omega (arith, c.loop-at-test.true, i.within)) (sym c.run_in.ensures ∙ c.if-run_in-eq-LANES.true);
     }
 
 pub loop-at-preserved : goal.loop-at-preserved

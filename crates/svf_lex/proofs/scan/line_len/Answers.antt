@@ -1,6 +1,0 @@
-use Rattle.std.proofs.Common.{◌∙◌}
-use Rattle.svf_lex.proofs.Lines.{line_len_is}
-use Rattle.svf_lex.proofs.scan.line_len.Goals as goal
-
-pub returns-clause-value : goal.returns-clause-value
-returns-clause-value c = c.unwrap_or.ensures ∙ line_len_is c.args.text.now c.memchr2.result c.memchr2.ensures
