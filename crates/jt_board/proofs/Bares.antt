@@ -90,7 +90,7 @@ no_strings k (suc n) = (refl, no_strings (suc k) n)
 
 pub bare_ready : (n : ℕ) → IsReady (bare_wiring n)
 bare_ready n = record {
-  seats = record { cores = cores 1 n; pins = tt; formed = formed 1 n };
+  chips = record { cores = cores 1 n; pins = tt; formed = formed 1 n };
   apart = λ i j d below inside. absurd (omega (arith, inside));
   strings = strings 1 n;
   controls = controls 1 n;
@@ -118,13 +118,15 @@ none-in-order = record { each_once = IsPermutation-refl []; before = λ i j one 
 -- the plan of bare devices, whose order has nothing
 pub bare_plan_ready : (n : ℕ) → 0 < n → n ≤ limits.devices → (p : Plan) → wiring p ≡ bare_wiring n → p.order.items ≡ [] → IsReadyPlan p
 bare_plan_ready n some most p is none = record {
-  ready = subst IsReady (sym is) (bare_ready n);
-  sound = subst IsSoundWiring (sym is) (bare_sound n some most);
+  powers_up = record {
+    ready = subst IsReady (sym is) (bare_ready n);
+    sound = subst IsSoundWiring (sym is) (bare_sound n some most);
+    ordered =
+        subst (λ (o : List ℕ). IsInOrder (dependencies (wiring p)) o) (sym none)
+        (subst (λ (w : planned.Wiring). IsInOrder (dependencies w) []) (sym is)
+        (subst (λ (ds : List Dependency). IsInOrder ds []) (sym (no-dependencies (bare_wiring n) 0 1 n)) none-in-order));
+  };
   nets = subst (λ (w : planned.Wiring). length w.nets ≤ limits.nets) (sym is) (omega arith);
-  ordered =
-      subst (λ (o : List ℕ). IsInOrder (dependencies (wiring p)) o) (sym none)
-      (subst (λ (w : planned.Wiring). IsInOrder (dependencies w) []) (sym is)
-      (subst (λ (ds : List Dependency). IsInOrder ds []) (sym (no-dependencies (bare_wiring n) 0 1 n)) none-in-order));
 }
 
 pub bare_is : (n : ℕ) → board_of (bare_wiring n) ≡ bare_board n

@@ -175,7 +175,7 @@ pairs before (p ∷ ps) apart (suc i) (suc j) d below inside same = pairs (befor
 
 pub ready_wiring : (w : planned.Wiring) → FitsTogether w → AreSaid said_device w → HasNoLoop (dependencies w) → IsReady w
 ready_wiring w fits said loops = record {
-  seats = record {
+  chips = record {
     cores = fits.cores;
     pins = fits.pins;
     formed = all-said IsFormed (λ d is. every_formed is.0 d (says is.0 d is.1)) w.members said;
@@ -188,10 +188,12 @@ ready_wiring w fits said loops = record {
 
 pub ready_plan : (p : Plan) → FitsTogether (wiring p) → AreSaid said_device (wiring p) → HasNoLoop (dependencies (wiring p)) → IsOrdered p → IsReadyPlan p
 ready_plan p fits said loops ordered = record {
-  ready = ready_wiring (wiring p) fits said loops;
-  sound = sound_wiring (wiring p) fits said;
+  powers_up = record {
+    ready = ready_wiring (wiring p) fits said loops;
+    sound = sound_wiring (wiring p) fits said;
+    ordered = ordered;
+  };
   nets = fits.nets;
-  ordered = ordered;
 }
 
 pub ready_made : {E : Type 0} (r : Result Plan E) → IfOk r (λ p. FitsTogether (wiring p)) → IfOk r (λ p. AreSaid said_device (wiring p)) → IfOk r (λ p. HasNoLoop (dependencies (wiring p)))

@@ -27,10 +27,14 @@ pub record IsSoundWiring (w : planned.Wiring) : Type 0 where
   pub most : length w.members ≤ limits.devices
   pub sound : AllByRecursion (λ (m : planned.Member). IsSoundDevice m.device) w.members
 
--- What a board is powered up from: its chain is ready, its devices are sound, its nets are no more than the limit, and
--- the order that it keeps is one of work.
-pub record IsReadyPlan (p : Plan) : Type 0 where
+-- What a board is powered up from: its chain is ready, its devices are sound, and the order that it keeps is one of
+-- work. How many nets it has does not matter.
+pub record PowersUp (p : Plan) : Type 0 where
   pub ready : IsReady (wiring p)
   pub sound : IsSoundWiring (wiring p)
-  pub nets : length (wiring p).nets ≤ limits.nets
   pub ordered : IsOrdered p
+
+-- What the plan of a board file is: it powers up, and its nets are no more than the limit.
+pub record IsReadyPlan (p : Plan) : Type 0 where
+  pub powers_up : PowersUp p
+  pub nets : length (wiring p).nets ≤ limits.nets

@@ -11,7 +11,7 @@ ghost use Rattle.board_tables.specs.declared.fault.BoardFault.TheVariants as fau
 ghost use Rattle.board_model.specs.Bare.{bare_board};
 ghost use Rattle.board_model.specs.Chain as chain;
 ghost use Rattle.board_model.specs.Sound.{IsSoundBoard};
-ghost use Rattle.jt_board.specs.Made.{IsReadyPlan, board_at, board_of};
+ghost use Rattle.jt_board.specs.Made.{PowersUp, board_at, board_of};
 
 mod at_rest;
 mod idle;
@@ -76,7 +76,7 @@ impl Board {
     ///
     /// Asks that the plan is ready, as those are that `plan_of_table` and `bare_plan` make.
     pub fn powered_up(alloc: Global, plan: &Plan) -> Result<Board, AllocError>
-        requires { IsReadyPlan plan.now }
+        requires { PowersUp plan.now }
         ensures { IfOk result (λ b. b ≡ board_of (wiring plan.now)) }
     {
         Ok(Board {
@@ -102,7 +102,7 @@ impl Board {
         ensures { option_map (λ c. slice_get (spec.left_out c.member.device) k) (slice_get self.now.chips i)
             ≡ Some (option_map {U = List ℕ} (λ s. s.now) result) }
     {
-        board_plan::left_out(self.chain.seat(i).device(), k)
+        board_plan::left_out(self.chain.chip(i).device(), k)
     }
 
     /// What every part of the board shows now.

@@ -5,9 +5,9 @@ use Rattle.std.proofs.Common.{◌≡◌, inl, inr, ℕ, List, [], ◌∷◌, ◌
 use Rattle.svf_settings.proofs.FirstRefusals.{accepted_is_sound}
 use Rattle.board_model.specs.Chain.{BoardState, after_byte, after_bytes, hear}
 use Rattle.board_model.proofs.BytesAndMessages.{after_all-encoded}
-use Rattle.play_schedules.specs.Laws.{bytes_of_full_play, full}
+use Rattle.play_model.specs.ScheduleLaws.{bytes_of_full_play, full}
 use Rattle.jt_board.proofs.InUse.{every_board}
-use Rattle.play_model.proofs.Described.{means_from_opening}
+use Rattle.play_model.proofs.DescribedPlays.{means_from_opening}
 use Rattle.play_direct.specs.Accepting.{Accepts}
 use Rattle.play_model.specs.declared.kind.Kind.{Kind}
 use Rattle.play_model.specs.declared.kind.Kind.TheVariants.{Stops, PlaysOn}

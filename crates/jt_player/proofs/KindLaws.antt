@@ -3,9 +3,9 @@ use Rattle.std.proofs.Common.{◌≡◌, List, [], ◌∷◌, length, min, refl,
 use Rattle.board_model.specs.Chain.{BoardState}
 use Rattle.board_model.specs.Sound.{HasDevice, IsSoundBoard}
 use Rattle.svf_programs.specs.Legal.{IsLegalProgram}
-use Rattle.play_model.proofs.Described.{means_from_opening}
-use Rattle.play_schedules.proofs.AllFailures.{first_of_all_played}
-use Rattle.play_schedules.proofs.AllMeaning.{plays_all}
+use Rattle.play_model.proofs.DescribedPlays.{means_from_opening}
+use Rattle.play_model.proofs.AllFailures.{first_of_all_played}
+use Rattle.play_model.proofs.AllMeaning.{plays_all}
 use Rattle.play_model.specs.Play.{play}
 use Rattle.play_model.specs.declared.kind.Kind.{Kind}
 use Rattle.play_model.specs.declared.kind.Kind.TheVariants.{Stops, PlaysOn}

@@ -9,7 +9,7 @@ use Rattle.play_model.specs.Play.{turns}
 use Rattle.play_model.specs.Playing.{PlayerState}
 use Rattle.play_model.specs.PlayingOn.{failures}
 use Rattle.play_model.specs.Streams.{Found}
-use Rattle.play_schedules.specs.Histories.{bits_told}
+use Rattle.play_model.specs.Histories.{bits_told}
 use Rattle.play_links.specs.Honest.{AreLinked, HasFoundAll, IsHonest}
 use Rattle.play_links.specs.Links.{EndsSo, found_by, sent_by}
 use Rattle.svf_programs.specs.Steps.{Program}

@@ -1,8 +1,8 @@
 -- A play of either kind, each byte taken at once: how it ends, what it finds, and what it means.
 use Rattle.std.specs.Prelude.{[], ◌∷◌}
 use Rattle.board_model.specs.Chain.{BoardState}
-use Rattle.play_schedules.specs.AllFailures.{MeansAllFromOpening}
-use Rattle.play_schedules.specs.Laws.{full}
+use Rattle.play_model.specs.AllFailures.{MeansAllFromOpening}
+use Rattle.play_model.specs.ScheduleLaws.{full}
 use Rattle.play_model.specs.declared.ending.Ending.{Ending}
 use Rattle.play_model.specs.declared.ending.Ending.TheVariants.{Fail}
 use Rattle.play_model.specs.DirectPlay.{MeansFromOpening}

@@ -10,7 +10,7 @@ use Rattle.svf_programs.specs.Steps.{Program}
 use Rattle.board_model.specs.Chain.{BoardState}
 use Rattle.board_report.specs.LeftOut.{left_out_lines}
 use Rattle.board_report.specs.Report.{report}
-use Rattle.play_schedules.specs.Laws.{bytes_of_full_play, full}
+use Rattle.play_model.specs.ScheduleLaws.{bytes_of_full_play, full}
 use Rattle.play_model.specs.Endings.{status_of}
 use Rattle.play_model.specs.declared.kind.Kind.{Kind}
 use Rattle.play_direct.specs.Accepting.{Accepts, Refuses}

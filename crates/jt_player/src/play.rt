@@ -2,7 +2,7 @@
 
 ghost use Rattle.std.specs.Prelude.{◌≡◌};
 ghost use Rattle.byte_streams.specs.Writes.{WritesAll, flagged};
-ghost use Rattle.play_schedules.specs.Laws.{bytes_of_full_play, full};
+ghost use Rattle.play_model.specs.ScheduleLaws.{bytes_of_full_play, full};
 ghost use Rattle.play_model.specs.Streams.{new_stream};
 ghost use Rattle.scan_vectors.specs.Failures.{found};
 ghost use Rattle.svf_programs.specs.Sizes.{program_of};

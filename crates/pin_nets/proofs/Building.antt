@@ -15,7 +15,13 @@ use Rattle.pin_nets.specs.declared.Drive.{Drive}
 use Rattle.pin_nets.specs.declared.Drive.TheVariants.{Nothing}
 use Rattle.pin_nets.specs.declared.build.NetSpec.{NetSpec}
 use Rattle.pin_nets.specs.Building.{HasPinsBelow, net_value}
-use Rattle.pin_nets.specs.Levels.{NetValue, counted, counts_of, drive_at, four, is_strong, is_weak, level_by, level_of, net_counts, one, pull_drive, reads}
+use Rattle.pin_nets.specs.declared.Level.{Level}
+use Rattle.pin_nets.specs.declared.Level.TheVariants.{One}
+use Rattle.pin_nets.specs.declared.Pull.{Pull}
+use Rattle.pin_nets.specs.declared.Pull.TheVariants.{Up, Down, Free}
+use Rattle.pin_nets.specs.declared.Rule.{Rule}
+use Rattle.pin_nets.specs.declared.Rule.TheVariants.{Counted, Tied, WiredOr, Led}
+use Rattle.pin_nets.specs.Levels.{NetValue, counts_of, drive_at, four, is_opposed, is_strong, is_weak, led_by, level, level_by, net_counts, one, pull_drive, reads, shown}
 use Rattle.pin_nets.specs.Places.{has_pin, times, alone, lone_nets, IsOnce, HasNetOfEach, EntersPins, AddsLoneNets, AreShort, AllNone, Placed}
 use Rattle.pin_nets.proofs.Counting.{nobody, count-cons, on_none, some_of, past_end, eq_true, eq_false}
 
@@ -316,11 +322,24 @@ pub idle_nets : (n : ℕ) (nets : List NetValue) → map (λ x. four (counts_of 
 idle_nets n [] = refl
 idle_nets n (x ∷ nets) = ap (λ (c : Counts). four c ∷ map (λ y. four (counts_of (pull_drive y.pull ∷ []))) nets) (idle_net n x) ∙ ap (λ (r : List (List ℕ)). four (net_counts (replicate n Nothing) x) ∷ r) (idle_nets n nets)
 
-pub idle_seen : (n : ℕ) (nets : List NetValue) → map (λ x. reads (level_of (pull_drive x.pull ∷ []))) nets ≡ map (λ x. reads (counted (replicate n Nothing) x)) nets
+-- no two strong drivers are there where no pin drives
+idle_shown : (n : ℕ) (x : NetValue) → shown x.rule (pull_drive x.pull) [] ≡ level (replicate n Nothing) x
+idle_shown n x = by_rule (map (drive_at (replicate n Nothing)) x.pins) x.rule x.pull (idle_net n x)
+  where
+    by_rule : (those : List Drive) (r : Rule) (p : Pull) → counts_of (pull_drive p ∷ []) ≡ counts_of (pull_drive p ∷ those)
+        → shown r (pull_drive p) [] ≡ shown r (pull_drive p) those
+    by_rule those Counted p e = ap level_by e
+    by_rule those (Tied b) p e = refl
+    by_rule those WiredOr p e = ap (λ (c : Counts). if is_opposed c then One else level_by c) e
+    by_rule those (Led k) Up e = ap (λ (c : Counts). if is_opposed c then led_by (take k those) else level_by c) e
+    by_rule those (Led k) Down e = ap (λ (c : Counts). if is_opposed c then led_by (take k those) else level_by c) e
+    by_rule those (Led k) Free e = ap (λ (c : Counts). if is_opposed c then led_by (take k those) else level_by c) e
+
+pub idle_seen : (n : ℕ) (nets : List NetValue) → map (λ x. reads (shown x.rule (pull_drive x.pull) [])) nets ≡ map (λ x. reads (level (replicate n Nothing) x)) nets
 idle_seen n [] = refl
 idle_seen n (x ∷ nets) =
-    ap (λ (c : Counts). reads (level_by c) ∷ map (λ y. reads (level_of (pull_drive y.pull ∷ []))) nets) (idle_net n x)
-    ∙ ap (λ (r : List Bool). reads (counted (replicate n Nothing) x) ∷ r) (idle_seen n nets)
+    ap (λ (l : Level). reads l ∷ map (λ y. reads (shown y.rule (pull_drive y.pull) [])) nets) (idle_shown n x)
+    ∙ ap (λ (r : List Bool). reads (level (replicate n Nothing) x) ∷ r) (idle_seen n nets)
 
 pub all_none : (n : ℕ) (net_of : List (Option ℕ)) → net_of ≡ replicate n None → AllNone net_of
 all_none n net_of are = record {

@@ -17,7 +17,7 @@ use Rattle.pin_nets.specs.declared.Level.{Level}
 use Rattle.pin_nets.specs.declared.Level.TheVariants.{Float}
 use Rattle.pin_nets.specs.declared.Pull.TheVariants.{Free}
 use Rattle.pin_nets.specs.declared.Rule.TheVariants.{Counted}
-use Rattle.pin_nets.specs.Levels.{NetValue, four, net_counts, counted as counted_level, level, level_by, reads, Has, IsFew, Replaces, one, is_counted, is_strong, is_weak, pull_drive, drive_at, shown}
+use Rattle.pin_nets.specs.Levels.{NetValue, four, net_counts, counted as counted_level, level, reads, Has, IsFew, Replaces, one, is_counted, is_strong, is_weak, pull_drive, drive_at, shown}
 use Rattle.pin_nets.specs.Rows.{IsRow, numbers}
 use Rattle.pin_nets.proofs.Leading.{counted_level as counted_level_is}
 use Rattle.pin_nets.specs.Places.{has_pin, times, IsOnce, Placed, AreShort}
@@ -210,13 +210,21 @@ kept_off ds p d nets h none =
     same_map (λ x. four (net_counts ds x)) (λ x. four (net_counts (set ds p d) x)) [] nets
     (λ n k. ap four (sym (off_net ds p d (get_or nets n nobody) h (on_none p nets none n k))))
 
+-- what ports see of each net
 abbrev pub seen : List Drive → List NetValue → List Bool
-seen ds nets = map (λ x. reads (counted_level ds x)) nets
+seen ds nets = map (λ x. reads (level ds x)) nets
 
 pub seen_off : (ds : List Drive) (p : ℕ) (d : Drive) (nets : List NetValue) → p < length ds → position (has_pin p) nets ≡ None → seen ds nets ≡ seen (set ds p d) nets
 seen_off ds p d nets h none =
-    same_map (λ x. reads (counted_level ds x)) (λ x. reads (counted_level (set ds p d) x)) false nets
-    (λ n k. ap (λ (c : Counts). reads (level_by c)) (sym (off_net ds p d (get_or nets n nobody) h (on_none p nets none n k))))
+    same_map (λ x. reads (level ds x)) (λ x. reads (level (set ds p d) x)) false nets
+    (λ n k. ap reads (sym (level_off ds p d (get_or nets n nobody) h (on_none p nets none n k))))
+
+-- a net among some that are all counted
+pub counted_there : (ds : List Drive) (nets : List NetValue) (m : ℕ) → list_all (λ x. is_counted x.rule) nets ≡ true → m < length nets
+    → counted_level ds (get_or nets m nobody) ≡ level ds (get_or nets m nobody)
+counted_there ds nets m all h =
+    counted_level_is ds (get_or nets m nobody)
+    (All-get_or (λ y. is_counted y.rule ≡ true) nets m nobody h (AllPass-from_list_all (λ y. is_counted y.rule) nets all))
 
 pub levels_off : (ds : List Drive) (p : ℕ) (d : Drive) (nets : List NetValue) → p < length ds → position (has_pin p) nets ≡ None → map (level ds) nets ≡ map (level (set ds p d)) nets
 levels_off ds p d nets h none =
@@ -248,21 +256,20 @@ module _ (ds : List Drive) (p : ℕ) (d : Drive) (nets : List NetValue) (m : ℕ
       (cases_eq n m))
       ∙ sym (fill_by_all f (kept new nets) (length nets) [] (length-map nets (λ x. four (net_counts new x))) (λ n k. get_or-map (λ x. four (net_counts new x)) nets n nobody [] k))
 
-  pub seen_on : (after : Counts) → Replaces (net_counts ds net) after (drive_at ds p) d → set (seen ds nets) m (reads (level_by after)) ≡ seen new nets
-  seen_on after is =
-      let sees : ℕ → Bool = λ n. reads (counted_level new (get_or nets n nobody)) in
+  pub seen_on : (r : Bool) → r ≡ reads (level new net) → set (seen ds nets) m r ≡ seen new nets
+  seen_on r is =
+      let sees : ℕ → Bool = λ n. reads (level new (get_or nets n nobody)) in
       let old = seen ds nets in
-      let long : length old ≡ length nets = length-map nets (λ x. reads (counted_level ds x)) in
-      fill_by_all sees (set old m (reads (level_by after))) (length nets) false (length-set old m (reads (level_by after)) ∙ long)
+      let long : length old ≡ length nets = length-map nets (λ x. reads (level ds x)) in
+      fill_by_all sees (set old m r) (length nets) false (length-set old m r ∙ long)
       (λ n k. ⊎_elim
       (λ (e : n ≡ m).
-      ap (λ (j : ℕ). get_or (set old m (reads (level_by after))) j false) e ∙ get_or-set_same old m (reads (level_by after)) false (omega (arith, long, on.inside))
-      ∙ ap (λ (c : Counts). reads (level_by c)) (counted after is) ∙ ap sees (sym e))
+      ap (λ (j : ℕ). get_or (set old m r) j false) e ∙ get_or-set_same old m r false (omega (arith, long, on.inside)) ∙ is ∙ ap sees (sym e))
       (λ apart.
-      get_or-set_other old m n (reads (level_by after)) false apart ∙ get_or-map (λ x. reads (counted_level ds x)) nets n nobody false k
-      ∙ ap (λ (c : Counts). reads (level_by c)) (sym (off_net ds p d (get_or nets n nobody) h (on.others n apart k))))
+      get_or-set_other old m n r false apart ∙ get_or-map (λ x. reads (level ds x)) nets n nobody false k
+      ∙ ap reads (sym (level_off ds p d (get_or nets n nobody) h (on.others n apart k))))
       (cases_eq n m))
-      ∙ sym (fill_by_all sees (seen new nets) (length nets) false (length-map nets (λ x. reads (counted_level new x))) (λ n k. get_or-map (λ x. reads (counted_level new x)) nets n nobody false k))
+      ∙ sym (fill_by_all sees (seen new nets) (length nets) false (length-map nets (λ x. reads (level new x))) (λ n k. get_or-map (λ x. reads (level new x)) nets n nobody false k))
 
   pub levels_same : level ds net ≡ level new net → map (level ds) nets ≡ map (level new) nets
   levels_same e =
@@ -296,14 +303,11 @@ shown_at ds nets m r h is = same (sym is ∙ ap (option_map (level ds)) (there n
     same : {x y : Level} → Some x ≡ Some y → x ≡ y
     same e = cc
 
-pub seen_at : (ds : List Drive) (nets : List NetValue) (sights : List Bool) (m : ℕ) (r : Bool) → list_all (λ x. is_counted x.rule) nets ≡ true → sights ≡ seen ds nets → m < length nets
+pub seen_at : (ds : List Drive) (nets : List NetValue) (sights : List Bool) (m : ℕ) (r : Bool) → sights ≡ seen ds nets → m < length nets
     → r ≡ get_or sights m r → option_map (λ x. reads (level ds x)) (slice_get nets m) ≡ Some r
-seen_at ds nets sights m r all are h is =
-    let x = get_or nets m nobody in
-    let counts : is_counted x.rule ≡ true = All-get_or (λ y. is_counted y.rule ≡ true) nets m nobody h (AllPass-from_list_all (λ y. is_counted y.rule) nets all) in
+seen_at ds nets sights m r are h is =
     ap (option_map (λ y. reads (level ds y))) (there nets m h)
-    ∙ ap (λ (l : Level). Some (reads l)) (sym (counted_level_is ds x counts))
-    ∙ ap Some (sym (is ∙ ap (λ (bs : List Bool). get_or bs m r) are ∙ get_or-map (λ y. reads (counted_level ds y)) nets m nobody r h))
+    ∙ ap Some (sym (is ∙ ap (λ (bs : List Bool). get_or bs m r) are ∙ get_or-map (λ y. reads (level ds y)) nets m nobody r h))
 
 -- ---- the numbers of a net where they stand
 

@@ -3,12 +3,12 @@
 ghost use Rattle.std.specs.Prelude.{◌≡◌, ◌<◌, ◌++◌, ℕ, [], ◌∷◌, None, length, map, slice_index, IfOk, OnOk};
 ghost use Rattle.std.specs.List.{list_all};
 ghost use Rattle.pin_nets.specs.Levels as levels;
-ghost use Rattle.pin_nets.specs.Levels.{four, counts_of, level_of, pull_drive};
+ghost use Rattle.pin_nets.specs.Levels.{four, counts_of, pull_drive, shown};
 ghost use Rattle.pin_nets.specs.Places.{AddsLoneNets, AllNone, AreShort, EntersPins, HasNetOfEach, IsOnce, alone};
 ghost use Rattle.pin_nets.specs.Building.{HasPinsBelow, built, net_value};
 
 use crate::nets::{Net, Nets};
-use crate::{Drive, Pull, Rule, level_of, pull_counts, reads, row_of_counts};
+use crate::{Drive, Level, Pull, Rule, level_of, pull_counts, reads, row_of_counts};
 use std::alloc::{AllocError, Global};
 
 /// A net as a board has it: its pins by number, its pull, and its rule.
@@ -135,11 +135,22 @@ fn start_counts(alloc: Global, nets: &[Net]) -> Result<Vec<[usize; 4]>, AllocErr
 
 /// What the ports of each net see while no pin drives.
 fn start_seen(alloc: Global, nets: &[Net]) -> Result<Vec<bool>, AllocError>
-    ensures { IfOk result (λ v. v.items ≡ map (λ x. levels.reads (level_of (pull_drive x.pull ∷ []))) nets.now) }
+    ensures { IfOk result (λ v. v.items ≡ map (λ x. levels.reads (shown x.rule (pull_drive x.pull) [])) nets.now) }
 {
     let mut seen = Vec::with_capacity(alloc, nets.len())?;
     for net in nets {
-        seen.push(reads(level_of(pull_counts(net.pull))))?;
+        seen.push(reads(idle_level(net)))?;
     }
     Ok(seen)
+}
+
+/// What a net shows while no pin drives: the bit that it is tied to, else what its pull says.
+fn idle_level(net: &Net) -> Level
+    ensures { result ≡ shown net.now.rule (pull_drive net.now.pull) [] }
+{
+    match net.rule {
+        Rule::Tied(true) => Level::One,
+        Rule::Tied(false) => Level::Zero,
+        Rule::Counted | Rule::WiredOr | Rule::Led(_) => level_of(pull_counts(net.pull)),
+    }
 }

@@ -5,8 +5,8 @@ ghost use Rattle.pin_nets.specs.Levels as levels;
 ghost use Rattle.pin_nets.specs.Levels.{four, net_counts};
 
 use crate::rows::exchange;
-use crate::ruled::level_by_rule;
-use crate::{Drive, Level, Pull, Rule, counts_of_row, differ, reads};
+use crate::ruled::{is_opposed, level_by_rule, sees};
+use crate::{Drive, Level, Pull, Rule, counts_of_row, differ};
 use std::marker::Model;
 
 /// A net: its pull, its rule, and its pins.
@@ -27,8 +27,8 @@ impl Model for Net {
 
 /// What each pin drives, and the nets. Contracts see it as the two lists.
 ///
-/// The numbers of drivers of each net stand ready, and what its ports see by them: a pin's new drive changes those of
-/// its net alone. A net with another rule than to be counted is asked when it is looked at.
+/// The numbers of drivers of each net stand ready, and what its ports see: a pin's new drive changes those of its net
+/// alone.
 #[derive(Drop)]
 pub struct Nets {
     pub(crate) drives: Vec<Drive>,
@@ -43,7 +43,7 @@ pub struct Nets {
 impl Model for Nets {
     ghost use Rattle.std.specs.Prelude.{◌≡◌, length, map};
     ghost use Rattle.std.specs.List.{list_all};
-    ghost use Rattle.pin_nets.specs.Levels.{NetsValue, counted, four, is_counted, net_counts, reads};
+    ghost use Rattle.pin_nets.specs.Levels.{NetsValue, four, is_counted, level, net_counts, reads};
     ghost use Rattle.pin_nets.specs.Places.{Placed, AreShort};
 
     ghost Value = { NetsValue };
@@ -55,7 +55,7 @@ impl Model for Nets {
       placed : Placed n.net_of.items n.nets.items;
       short : AreShort n.nets.items;
       counts : n.counts.items ≡ map (λ x. four (net_counts n.drives.items x)) n.nets.items;
-      seen : n.seen.items ≡ map (λ x. reads (counted n.drives.items x)) n.nets.items;
+      seen : n.seen.items ≡ map (λ x. reads (level n.drives.items x)) n.nets.items;
       rules : n.all_counted ≡ list_all (λ x. is_counted x.rule) n.nets.items;
     } };
 }
@@ -88,7 +88,12 @@ impl Nets {
         let old = self.drives[pin];
         self.drives[pin] = drive;
         if let Some(net) = self.net_of[pin] {
-            self.seen[net] = exchange(&mut self.counts[net], old, drive);
+            let counted = exchange(&mut self.counts[net], old, drive);
+            self.seen[net] = if self.all_counted {
+                counted
+            } else {
+                sees(&self.nets[net], &self.counts[net], &self.drives)
+            };
         }
     }
 
@@ -118,10 +123,16 @@ impl Nets {
         ensures { option_map (λ x. levels.reads (levels.level self.now.drives x)) (slice_get self.now.nets net)
             ≡ Some result }
     {
-        if self.all_counted {
-            return self.seen[net];
-        }
-        reads(self.level(net))
+        self.seen[net]
+    }
+
+    /// Whether strong drivers of 0 and of 1 are on a net, whatever its rule makes of them.
+    pub fn is_opposed(&self, net: usize) -> bool
+        requires { net < length self.now.nets }
+        ensures { option_map (λ x. levels.is_opposed (net_counts self.now.drives x)) (slice_get self.now.nets net)
+            ≡ Some result }
+    {
+        is_opposed(counts_of_row(&self.counts[net]))
     }
 
     /// How many drivers a net has, its pull among them: to 0 and to 1, and weak ones to 0 and to 1.

@@ -3,11 +3,19 @@
 ghost use Rattle.std.specs.Prelude.{◌≡◌, ◌&&◌, not, map, take, if◌then◌else◌};
 ghost use Rattle.std.specs.List.{list_any};
 ghost use Rattle.pin_nets.specs.Levels as levels;
-ghost use Rattle.pin_nets.specs.Levels.{drive_at, net_counts};
+ghost use Rattle.pin_nets.specs.Levels.{drive_at, four, net_counts};
 ghost use Rattle.pin_nets.specs.declared.Level.TheVariants as the;
 
 use crate::nets::Net;
-use crate::{Counts, Drive, Level, Rule, level_of};
+use crate::{Counts, Drive, Level, Rule, counts_of_row, level_of, reads};
+
+/// What ports see of a net that has these numbers of drivers (asked).
+pub(crate) fn sees(net: &Net, counts: &[usize; 4], drives: &[Drive]) -> bool
+    requires { counts.now ≡ four (net_counts drives.now net.now) }
+    ensures { result ≡ levels.reads (levels.level drives.now net.now) }
+{
+    reads(level_by_rule(net, counts_of_row(counts), drives))
+}
 
 /// What a net shows that has these numbers of drivers (asked).
 pub(crate) fn level_by_rule(net: &Net, counts: Counts, drives: &[Drive]) -> Level
@@ -36,7 +44,7 @@ pub(crate) fn level_by_rule(net: &Net, counts: Counts, drives: &[Drive]) -> Leve
 }
 
 /// Whether strong drivers of both levels are there.
-fn is_opposed(counts: Counts) -> bool
+pub(crate) fn is_opposed(counts: Counts) -> bool
     ensures { result ≡ levels.is_opposed counts }
 {
     counts.strong_zeros != 0 && counts.strong_ones != 0

@@ -17,8 +17,8 @@ use Rattle.play_model.specs.declared.ending.Ending.{Ending}
 use Rattle.play_model.specs.declared.ending.Ending.TheVariants.{Fail, Pass}
 use Rattle.play_model.specs.Play.{Played, Turn, full_play, step_turns, wants_of}
 use Rattle.play_model.specs.PlayingOn.{unjudged}
-use Rattle.play_schedules.specs.Laws.{full}
-use Rattle.play_schedules.proofs.AllFailures.{never}
+use Rattle.play_model.specs.ScheduleLaws.{full}
+use Rattle.play_model.proofs.AllFailures.{never}
 use Rattle.play_model.proofs.Asks.{played_of}
 
 map-append : (xs ys : List Message) → map encode (xs ++ ys) ≡ map encode xs ++ map encode ys

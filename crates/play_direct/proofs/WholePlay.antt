@@ -27,16 +27,16 @@ use Rattle.play_model.specs.Meaning.{after_step, failure}
 use Rattle.play_model.specs.Play.{Played, full_play, play, wants_of}
 use Rattle.play_model.specs.PlayingOn.{ending_of, outcome_of_all, step_failures}
 use Rattle.play_model.specs.Streams.{found_of, stops_for}
-use Rattle.play_model.proofs.Described as Described
+use Rattle.play_model.proofs.DescribedPlays as Described
 use Rattle.play_model.proofs.Direct.{IsPlayed, judged-of}
 use Rattle.play_model.proofs.Legality.{legal-from}
 use Rattle.play_model.proofs.AfterOpening.{opened-is-reset}
 use Rattle.play_model.proofs.Programs.{opened-count, program_means}
 use Rattle.play_model.proofs.StepLaws.{IsDone, step-done}
-use Rattle.play_schedules.specs.AllFailures.{MeansAllFromOpening}
-use Rattle.play_schedules.specs.Laws.{full}
-use Rattle.play_schedules.proofs.AllFailures.{first_of_all_played}
-use Rattle.play_schedules.proofs.AllMeaning.{plays_all}
+use Rattle.play_model.specs.AllFailures.{MeansAllFromOpening}
+use Rattle.play_model.specs.ScheduleLaws.{full}
+use Rattle.play_model.proofs.AllFailures.{first_of_all_played}
+use Rattle.play_model.proofs.AllMeaning.{plays_all}
 use Rattle.play_direct.specs.ToTheEnd.{all_failures}
 use Rattle.play_direct.proofs.Failing.{ending-kept, failed, kept-all, loud, stopped}
 use Rattle.play_direct.proofs.Turns.{GoesOn, fails, heard-of, opening_bytes, opens, over, passes, turns_from}

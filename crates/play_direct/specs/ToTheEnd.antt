@@ -6,7 +6,7 @@ use Rattle.svf_programs.specs.Steps.{Program}
 use Rattle.play_model.specs.declared.kind.Kind.TheVariants.{PlaysOn}
 use Rattle.play_model.specs.Play.{turns}
 use Rattle.play_model.specs.PlayingOn.{failures}
-use Rattle.play_schedules.specs.Laws.{full}
+use Rattle.play_model.specs.ScheduleLaws.{full}
 
 -- Every wanted bit of a program that does not come out in it, by command and then by place in the whole vector.
 abbrev pub all_failures : Program → BoardState → List Mismatch

@@ -9,8 +9,8 @@ ghost use Rattle.play_model.specs.Play.{play};
 ghost use Rattle.play_model.specs.declared.kind.Kind.TheVariants.{PlaysOn};
 ghost use Rattle.play_model.specs.PlayingOn.{ending_of};
 ghost use Rattle.play_model.specs.Streams.{found_of};
-ghost use Rattle.play_schedules.specs.AllFailures.{MeansAllFromOpening};
-ghost use Rattle.play_schedules.specs.Laws as laws;
+ghost use Rattle.play_model.specs.AllFailures.{MeansAllFromOpening};
+ghost use Rattle.play_model.specs.ScheduleLaws as laws;
 ghost use Rattle.play_direct.specs.ToTheEnd.{all_failures};
 
 use crate::steps::{ending, play_steps};

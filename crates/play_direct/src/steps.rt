@@ -9,7 +9,7 @@ ghost use Rattle.play_model.specs.Play.{play};
 ghost use Rattle.play_model.specs.declared.kind.Kind.TheVariants.{PlaysOn};
 ghost use Rattle.play_model.specs.PlayingOn.{ending_of};
 ghost use Rattle.play_model.specs.Streams.{found_of, stops_for};
-ghost use Rattle.play_schedules.specs.Laws.{bytes_of_full_play, full};
+ghost use Rattle.play_model.specs.ScheduleLaws.{bytes_of_full_play, full};
 ghost use Rattle.play_direct.specs.ToTheEnd.{all_failures};
 
 use crate::beside::Beside;

@@ -4,7 +4,7 @@ use Rattle.scan_vectors.specs.declared.failures.Mismatch.{Mismatch}
 use Rattle.svf_programs.specs.Steps.{Program}
 use Rattle.board_model.specs.Chain.{BoardState}
 use Rattle.board_report.specs.Report.{report}
-use Rattle.play_schedules.specs.Laws.{full}
+use Rattle.play_model.specs.ScheduleLaws.{full}
 use Rattle.play_model.specs.DirectPlay.{opened_state}
 use Rattle.play_model.specs.declared.kind.Kind.{Kind}
 use Rattle.jt_player.specs.Kinds.{ending_in, found_in}

@@ -3,7 +3,7 @@
 ghost use Rattle.std.specs.Prelude.{◌≡◌, ◌⊎◌, ◌++◌, IfOk, OnOk};
 ghost use Rattle.byte_streams.specs.Writes.{WritesAll};
 ghost use Rattle.board_report.specs.Report.{report};
-ghost use Rattle.play_schedules.specs.Laws.{full};
+ghost use Rattle.play_model.specs.ScheduleLaws.{full};
 ghost use Rattle.play_links.specs.Links.{PlaysAllOver};
 ghost use Rattle.play_links.specs.Loops.{LoopsAllOver};
 ghost use Rattle.play_model.specs.Endings.{status_of};

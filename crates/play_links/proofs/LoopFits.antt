@@ -10,19 +10,19 @@ use Rattle.bitbang_protocol.specs.Protocol.{encode}
 use Rattle.board_model.specs.Chain.{BoardState, after_message, hear}
 use Rattle.byte_streams.specs.Counts.{CountedView}
 use Rattle.svf_programs.specs.Steps.{Program}
-use Rattle.play_schedules.specs.Fronts.{IsPrefix}
-use Rattle.play_schedules.proofs.BothPlayers.{no-quit-for}
-use Rattle.play_schedules.proofs.Fronts.{front-take}
-use Rattle.play_schedules.proofs.Quits.{has_quit, quit-append, quit-last}
+use Rattle.play_model.specs.Fronts.{IsPrefix}
+use Rattle.play_model.proofs.BothPlayers.{no-quit-for}
+use Rattle.play_model.proofs.Fronts.{front-take}
+use Rattle.play_model.proofs.Quits.{has_quit, quit-append, quit-last}
 use Rattle.play_model.specs.declared.ending.Ending.{Ending}
 use Rattle.play_model.specs.Play.{sent}
 use Rattle.play_model.specs.Playing.{PlayerState, has_bad_answer, new_player}
 use Rattle.play_model.specs.declared.kind.Kind.{Kind}
 use Rattle.play_model.specs.PlayingOn.{turns_for}
 use Rattle.play_model.proofs.Asks.{asks, hear-asks}
-use Rattle.play_schedules.specs.Histories as history
-use Rattle.play_schedules.specs.Histories.{bits_told}
-use Rattle.play_schedules.proofs.Agree.{ask-count, counts, quit-byte}
+use Rattle.play_model.specs.Histories as history
+use Rattle.play_model.specs.Histories.{bits_told}
+use Rattle.play_model.proofs.Agree.{ask-count, counts, quit-byte}
 use Rattle.play_links.specs.declared.serving.Served.{Served}
 use Rattle.play_links.specs.declared.serving.Served.TheVariants as stopping
 use Rattle.play_links.specs.Honest.{AreLinked, CountsWhereLinked}
@@ -31,7 +31,7 @@ use Rattle.play_links.specs.Loops.{Counts, HearsAll, LoopRuns, LoopsOver, Loss, 
 use Rattle.play_links.specs.Loops.{a_turn, answer_lost, arrival_lost, no_turn, quit_turn, return_lost, send_lost, unfit}
 use Rattle.play_links.specs.Serves.{ServedBytes, serve_bytes}
 use Rattle.play_links.proofs.Histories.{Stands, heard-stands, put-stands, stands-new}
-use Rattle.play_schedules.proofs.HonestWindow.{take-encoded}
+use Rattle.play_model.proofs.HonestWindow.{take-encoded}
 use Rattle.play_links.proofs.HonestLink.{encoded-one, ends_whole, length-answers, linked_honest, same-length, serve-encoded}
 use Rattle.play_links.proofs.LoopHonest.{all-read, all-taken, one-turn}
 use Rattle.play_links.proofs.LoopSo.{fits-none}

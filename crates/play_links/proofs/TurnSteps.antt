@@ -6,7 +6,7 @@ use Rattle.player.proofs.BufferFills.{waiting-more}
 use Rattle.play_links.proofs.Waiting.{hears-all, take-all}
 use borrow.Rule.Slice.PartMut.{put_mid}
 use Rattle.byte_streams.specs.Counts.{CountedView, ended_after, is_end, is_lost, lost_after}
-use Rattle.play_schedules.specs.Fronts.{IsPrefix}
+use Rattle.play_model.specs.Fronts.{IsPrefix}
 use Rattle.play_model.specs.Streams as stream
 use Rattle.play_model.specs.Streams.{StreamState, hear_bytes}
 use Rattle.play_links.specs.Loops.{HearsAll, IsLost, PutsCount, hears_end, all_in, all_out, in_lost, out_lost, some_in, some_out}

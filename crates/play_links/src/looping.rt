@@ -1,7 +1,7 @@
 //! Both ends of a connection, in turn and in one thread.
 
 ghost use Rattle.std.specs.Prelude.{◌≡◌, ◌<◌, ◌≤◌, ◌+◌, length, not, None};
-ghost use Rattle.play_schedules.specs.Fronts.{IsPrefix};
+ghost use Rattle.play_model.specs.Fronts.{IsPrefix};
 ghost use Rattle.play_model.specs.Streams as stream;
 ghost use Rattle.play_model.specs.Streams.{new_stream};
 ghost use Rattle.scan_vectors.specs.Failures.{found};

@@ -1,7 +1,7 @@
 //! The player's end of a connection.
 
 ghost use Rattle.std.specs.Prelude.{◌≡◌, ◌<◌, ◌≤◌, ◌+◌, [], None, length, not};
-ghost use Rattle.play_schedules.specs.Fronts.{IsPrefix};
+ghost use Rattle.play_model.specs.Fronts.{IsPrefix};
 ghost use Rattle.play_model.specs.Streams as stream;
 ghost use Rattle.play_model.specs.Streams.{new_stream};
 ghost use Rattle.play_links.specs.Calls.{Goes, IsCall, IsHeard, IsPut};

@@ -10,3 +10,13 @@ pub mod LegalSamples
 pub mod Events
 pub mod PlayingOn
 pub mod Streams
+pub mod Fronts
+pub mod Fair
+pub mod Sides
+pub mod InWork
+pub mod ScheduleLaws
+pub mod AllFailures
+pub mod ScheduleSamples
+pub mod Histories
+pub mod StreamLaws
+pub mod StreamSamples

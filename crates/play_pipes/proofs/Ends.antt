@@ -19,21 +19,21 @@ use Rattle.play_model.specs.PlayingOn.{Mismatch, ending_of, failures, turns_for,
 use Rattle.play_model.specs.Streams as stream
 use Rattle.play_model.specs.Streams.{Found, StreamState, found_of, most_kept, new_stream}
 use Rattle.play_model.proofs.Asks.{hear-asks, hear-full, sent-full, turns-ask, played_of}
-use Rattle.play_model.proofs.Described.{means_from_opening}
-use Rattle.play_schedules.specs.AllFailures.{MeansAllFromOpening}
-use Rattle.play_schedules.specs.Laws.{bytes_of_full_play, full}
-use Rattle.play_schedules.proofs.AllFailures.{first_of_all_played, never}
-use Rattle.play_schedules.proofs.AllMeaning.{plays_all}
-use Rattle.play_schedules.proofs.BothPlayers.{ask-for, no-quit-for}
-use Rattle.play_schedules.proofs.HonestLinks.{ending-full, none-bad-any, told-bits}
-use Rattle.play_schedules.proofs.Quits.{full-quits, has_quit, turns-no-quit}
-use Rattle.play_schedules.proofs.Runs.{run-append}
-use Rattle.play_schedules.proofs.SafetyLaws.{every_schedule_inside, whole_at_end}
-use Rattle.play_schedules.specs.Histories as history
-use Rattle.play_schedules.specs.Histories.{WasAsked, bits_told}
-use Rattle.play_schedules.specs.StreamLaws.{history_of, stream_of}
-use Rattle.play_schedules.proofs.Agree.{agree, ask-count, counts, quit-byte}
-use Rattle.play_schedules.proofs.SameByCount.{ends-good}
+use Rattle.play_model.proofs.DescribedPlays.{means_from_opening}
+use Rattle.play_model.specs.AllFailures.{MeansAllFromOpening}
+use Rattle.play_model.specs.ScheduleLaws.{bytes_of_full_play, full}
+use Rattle.play_model.proofs.AllFailures.{first_of_all_played, never}
+use Rattle.play_model.proofs.AllMeaning.{plays_all}
+use Rattle.play_model.proofs.BothPlayers.{ask-for, no-quit-for}
+use Rattle.play_model.proofs.HonestLinks.{ending-full, none-bad-any, told-bits}
+use Rattle.play_model.proofs.Quits.{full-quits, has_quit, turns-no-quit}
+use Rattle.play_model.proofs.Runs.{run-append}
+use Rattle.play_model.proofs.SafetyLaws.{every_schedule_inside, whole_at_end}
+use Rattle.play_model.specs.Histories as history
+use Rattle.play_model.specs.Histories.{WasAsked, bits_told}
+use Rattle.play_model.specs.StreamLaws.{history_of, stream_of}
+use Rattle.play_model.proofs.Agree.{agree, ask-count, counts, quit-byte}
+use Rattle.play_model.proofs.SameByCount.{ends-good}
 use Rattle.play_pipes.specs.Finishing.{IsReached, afresh}
 use Rattle.play_pipes.specs.Standing.{ended_of, is_over}
 use Rattle.play_pipes.specs.Joining.{JoinedState, side}

@@ -18,19 +18,19 @@ use Rattle.play_model.specs.PlayingOn.{turns_for}
 use Rattle.play_model.specs.Streams as stream
 use Rattle.play_model.specs.Streams.{StreamState}
 use Rattle.play_model.proofs.Asks.{asks, hear-asks}
-use Rattle.play_schedules.specs.Fronts.{IsPrefix}
-use Rattle.play_schedules.specs.Histories as history
-use Rattle.play_schedules.specs.Histories.{bits_told}
-use Rattle.play_schedules.specs.Laws.{full}
-use Rattle.play_schedules.specs.StreamLaws.{history_of}
-use Rattle.play_schedules.proofs.Agree.{agree, ask-count, counts, quit-byte}
-use Rattle.play_schedules.proofs.BothPlayers.{no-quit-for}
-use Rattle.play_schedules.proofs.Fronts.{front-left, front-trans}
-use Rattle.play_schedules.proofs.HonestLinks.{none-bad-any, told-bits}
-use Rattle.play_schedules.proofs.InsideFullPlay.{sends-front}
-use Rattle.play_schedules.proofs.Quits.{asks-append, full-last, has_quit, or-right, quit-append}
-use Rattle.play_schedules.proofs.SafetyLaws.{In, is-play, reached}
-use Rattle.play_schedules.proofs.ScheduleSteps.{asked}
+use Rattle.play_model.specs.Fronts.{IsPrefix}
+use Rattle.play_model.specs.Histories as history
+use Rattle.play_model.specs.Histories.{bits_told}
+use Rattle.play_model.specs.ScheduleLaws.{full}
+use Rattle.play_model.specs.StreamLaws.{history_of}
+use Rattle.play_model.proofs.Agree.{agree, ask-count, counts, quit-byte}
+use Rattle.play_model.proofs.BothPlayers.{no-quit-for}
+use Rattle.play_model.proofs.Fronts.{front-left, front-trans}
+use Rattle.play_model.proofs.HonestLinks.{none-bad-any, told-bits}
+use Rattle.play_model.proofs.InsideFullPlay.{sends-front}
+use Rattle.play_model.proofs.Quits.{asks-append, full-last, has_quit, or-right, quit-append}
+use Rattle.play_model.proofs.SafetyLaws.{In, is-play, reached}
+use Rattle.play_model.proofs.ScheduleSteps.{asked}
 use Rattle.play_pipes.specs.Holding.{HoldsWhatIsOwed, WhatIsJoinedHoldsWhatIsOwed}
 use Rattle.play_pipes.specs.Laws.{joined_after_of}
 use Rattle.play_pipes.proofs.RoundsEnd.{carries, link, world_of}

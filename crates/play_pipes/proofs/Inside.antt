@@ -12,18 +12,18 @@ use Rattle.play_model.specs.declared.kind.Kind.{Kind}
 use Rattle.play_model.specs.PlayingOn.{turns_for}
 use Rattle.play_model.specs.Streams as stream
 use Rattle.play_model.specs.Streams.{StreamState, new_stream}
-use Rattle.play_schedules.specs.Fronts.{IsPrefix}
-use Rattle.play_schedules.specs.InWork.{IsInWork, turns_made}
-use Rattle.play_schedules.specs.Laws.{IsOpen, bytes_of_full_play, full}
-use Rattle.play_schedules.specs.Sides.{answers_to_bytes}
-use Rattle.play_schedules.proofs.Ends.{moving_bounded, something_can_move}
-use Rattle.play_schedules.proofs.HonestLinks.{none-bad-any, told-bits}
-use Rattle.play_schedules.proofs.Losses.{a_loss_names, lost_by_a_lose}
-use Rattle.play_schedules.proofs.Runs.{run-append}
-use Rattle.play_schedules.proofs.SafetyLaws.{every_schedule_inside}
-use Rattle.play_schedules.specs.StreamLaws.{history_of}
-use Rattle.play_schedules.proofs.Agree.{agree}
-use Rattle.play_schedules.proofs.ScheduleSteps.{asked}
+use Rattle.play_model.specs.Fronts.{IsPrefix}
+use Rattle.play_model.specs.InWork.{IsInWork, turns_made}
+use Rattle.play_model.specs.ScheduleLaws.{IsOpen, bytes_of_full_play, full}
+use Rattle.play_model.specs.Sides.{answers_to_bytes}
+use Rattle.play_model.proofs.Ends.{moving_bounded, something_can_move}
+use Rattle.play_model.proofs.HonestLinks.{none-bad-any, told-bits}
+use Rattle.play_model.proofs.Losses.{a_loss_names, lost_by_a_lose}
+use Rattle.play_model.proofs.Runs.{run-append}
+use Rattle.play_model.proofs.SafetyLaws.{every_schedule_inside}
+use Rattle.play_model.specs.StreamLaws.{history_of}
+use Rattle.play_model.proofs.Agree.{agree}
+use Rattle.play_model.proofs.ScheduleSteps.{asked}
 use Rattle.play_pipes.specs.Inside.{ALossNamesWhatIsInWork, FewEventsMoveSomething, OnlyALoseLoses, SomethingCanMoveUntilItIsOver, WhatIsJoinedStaysInsideTheFullPlay}
 use Rattle.play_pipes.specs.Joining.{side}
 use Rattle.play_pipes.specs.Standing.{is_over}

@@ -8,23 +8,23 @@ use Rattle.play_model.specs.Events.{Event, Put, Serve, Take, Known, World, by_an
 use Rattle.play_model.specs.Play.{Turn, Played, full_play, player, sent}
 use Rattle.play_model.specs.Streams.{StreamState, new_stream}
 use Rattle.bitbang_protocol.specs.Protocol.{answer}
-use Rattle.play_schedules.specs.StreamLaws.{good, history_of, stream_of, with_player}
-use Rattle.play_schedules.proofs.ScheduleSteps.{carry_over}
-use Rattle.play_schedules.specs.Laws.{Connection}
+use Rattle.play_model.specs.StreamLaws.{good, history_of, stream_of, with_player}
+use Rattle.play_model.proofs.ScheduleSteps.{carry_over}
+use Rattle.play_model.specs.ScheduleLaws.{Connection}
 use Rattle.svf_programs.specs.Steps.{Program}
 use Rattle.play_model.proofs.Asks.{AllAsk, hear-asks, played_of}
 use Rattle.std.specs.List.{list_any}
-use Rattle.play_schedules.specs.Fair.{HasNoLose, IsFair, loses}
-use Rattle.play_schedules.specs.InWork.{answers_in, bytes_in}
-use Rattle.play_schedules.specs.Laws.{full}
+use Rattle.play_model.specs.Fair.{HasNoLose, IsFair, loses}
+use Rattle.play_model.specs.InWork.{answers_in, bytes_in}
+use Rattle.play_model.specs.ScheduleLaws.{full}
 use Rattle.play_model.specs.declared.kind.Kind.{Kind}
 use Rattle.play_model.specs.PlayingOn.{turns_for}
-use Rattle.play_schedules.proofs.BothPlayers.{ask-for}
-use Rattle.play_schedules.proofs.MovingEvents.{total}
-use Rattle.play_schedules.proofs.Progress.{fair-moves, moving-total, total-bound}
-use Rattle.play_schedules.proofs.Quits.{sent-eager}
-use Rattle.play_schedules.proofs.Runs.{run-append}
-use Rattle.play_schedules.proofs.SafetyLaws.{is-play, reached}
+use Rattle.play_model.proofs.BothPlayers.{ask-for}
+use Rattle.play_model.proofs.MovingEvents.{total}
+use Rattle.play_model.proofs.Progress.{fair-moves, moving-total, total-bound}
+use Rattle.play_model.proofs.Quits.{sent-eager}
+use Rattle.play_model.proofs.Runs.{run-append}
+use Rattle.play_model.proofs.SafetyLaws.{is-play, reached}
 use Rattle.play_pipes.specs.Finishing.{IsReached, afresh}
 use Rattle.play_pipes.specs.Standing.{is_over}
 use Rattle.play_pipes.specs.Joining.{JoinedState, side}

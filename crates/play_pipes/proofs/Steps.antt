@@ -6,7 +6,7 @@ use Rattle.bitbang_protocol.specs.declared.Message.TheVariants.{Write, Ask, Quit
 use Rattle.bitbang_protocol.specs.Protocol.{answer, decode}
 use Rattle.play_model.specs.Events.{World, has_room, hear_bits, put_bytes, take_answers, after_byte_taken}
 use Rattle.play_model.specs.Streams.{StreamState, answers_taken, hear_bytes}
-use Rattle.play_schedules.specs.Histories.{bits_told}
+use Rattle.play_model.specs.Histories.{bits_told}
 use Rattle.player.specs.Each.{hear_each}
 use Rattle.player.proofs.BufferFills.{waiting-more}
 use Rattle.play_pipes.specs.Joining.{AreAnswers, side}

@@ -11,7 +11,7 @@ use Rattle.board_model.specs.declared.Reply.{Reply}
 use Rattle.board_model.specs.declared.Reply.TheVariants as said
 use Rattle.play_model.specs.Events.{World, has_room, served, after_byte_taken}
 use Rattle.play_model.specs.Streams.{StreamState}
-use Rattle.play_schedules.specs.Histories.{bits_told}
+use Rattle.play_model.specs.Histories.{bits_told}
 use Rattle.play_links.specs.Leaving.{left_after, left_behind}
 use Rattle.play_links.specs.Serves.{ServedBytes, serve_bytes, serve_one}
 use Rattle.circular_buffer.specs.Buffer.{Buffer, buffer, keep_last}

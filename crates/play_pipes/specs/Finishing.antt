@@ -3,7 +3,7 @@ use Rattle.std.specs.Prelude.{◌≡◌, true, ◌<◌, List}
 use Rattle.board_model.specs.Chain.{BoardState}
 use Rattle.play_model.specs.Events.{Event, empty_pipes, run}
 use Rattle.play_model.specs.Streams.{StreamState, new_stream}
-use Rattle.play_schedules.specs.Fair.{HasNoLose}
+use Rattle.play_model.specs.Fair.{HasNoLose}
 use Rattle.play_pipes.specs.Joining.{JoinedState, side}
 use Rattle.play_pipes.specs.Standing.{is_over}
 

@@ -10,10 +10,10 @@ use Rattle.play_model.specs.Events.{Event, Put, Serve, Take, Lose, World, bytes_
 use Rattle.play_model.specs.declared.kind.Kind.{Kind}
 use Rattle.play_model.specs.PlayingOn.{turns_for}
 use Rattle.play_model.specs.Streams.{StreamState, new_stream}
-use Rattle.play_schedules.specs.Fronts.{IsPrefix}
-use Rattle.play_schedules.specs.InWork.{IsInWork, turns_made}
-use Rattle.play_schedules.specs.Laws.{bytes_of_full_play, full}
-use Rattle.play_schedules.specs.Sides.{answers_to_bytes}
+use Rattle.play_model.specs.Fronts.{IsPrefix}
+use Rattle.play_model.specs.InWork.{IsInWork, turns_made}
+use Rattle.play_model.specs.ScheduleLaws.{bytes_of_full_play, full}
+use Rattle.play_model.specs.Sides.{answers_to_bytes}
 use Rattle.play_pipes.specs.Standing.{ended_of, is_over}
 use Rattle.play_pipes.specs.Joining.{side}
 use Rattle.play_pipes.specs.Laws.{joined_after_of}

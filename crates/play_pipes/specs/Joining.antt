@@ -10,7 +10,7 @@ use Rattle.play_model.specs.Events.{Event, Put, Serve, Take, Lose, Side, World, 
 use Rattle.play_model.specs.Events.{after_byte_taken as taken_byte}
 use Rattle.play_model.specs.Streams as stream
 use Rattle.play_model.specs.Streams.{StreamState}
-use Rattle.play_schedules.specs.Histories.{bits_told}
+use Rattle.play_model.specs.Histories.{bits_told}
 use Rattle.player.specs.Window.{window}
 
 -- The player, as events see it, with up to 256 answers owed.

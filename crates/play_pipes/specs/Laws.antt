@@ -12,8 +12,8 @@ use Rattle.play_model.specs.declared.kind.Kind.{Kind}
 use Rattle.play_model.specs.declared.kind.Kind.TheVariants.{Stops, PlaysOn}
 use Rattle.play_model.specs.PlayingOn.{Mismatch, ending_of, failures}
 use Rattle.play_model.specs.Streams.{StreamState, found_of, new_stream}
-use Rattle.play_schedules.specs.AllFailures.{MeansAllFromOpening}
-use Rattle.play_schedules.specs.Laws.{full}
+use Rattle.play_model.specs.AllFailures.{MeansAllFromOpening}
+use Rattle.play_model.specs.ScheduleLaws.{full}
 use Rattle.play_pipes.specs.Standing.{ended_of}
 use Rattle.play_pipes.specs.Joining.{JoinedState, side}
 

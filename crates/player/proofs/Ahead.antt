@@ -13,10 +13,10 @@ use Rattle.play_model.specs.Play.{Turn, turns, up_to_asks}
 use Rattle.play_model.specs.Streams as stream
 use Rattle.play_model.specs.Streams.{may_send, some_differ}
 use Rattle.play_model.proofs.Asks.{AllAsk, asks, turns-ask}
-use Rattle.play_schedules.proofs.Quits.{NoneQuit, asks-append, has_quit, quit-append, turns-no-quit}
-use Rattle.play_schedules.proofs.Agree.{ask-count, counts, quit-byte}
+use Rattle.play_model.proofs.Quits.{NoneQuit, asks-append, has_quit, quit-append, turns-no-quit}
+use Rattle.play_model.proofs.Agree.{ask-count, counts, quit-byte}
 use Rattle.player.specs.PlaceInPlay.{PlaceInPlay, finding_of, messages_in, state_at}
-use Rattle.play_schedules.specs.InWork.{answers_in}
+use Rattle.play_model.specs.InWork.{answers_in}
 
 -- whether it stops
 abbrev pub stops_at : PlaceInPlay → Bool

@@ -22,11 +22,11 @@ use Rattle.play_model.specs.PlayingOn.{Mismatch}
 use Rattle.play_model.specs.Streams as stream
 use Rattle.play_model.specs.Streams.{Found, StreamState, Wanted, all_wanted, count_kept, hear, answers_taken, mismatch_of, some_differ, stops_for, unanswered, with_more}
 use Rattle.play_model.proofs.Asks.{asks, asks-step}
-use Rattle.play_schedules.proofs.Quits.{asks-append}
+use Rattle.play_model.proofs.Quits.{asks-append}
 use Rattle.player.specs.declared.progress.Phase.{Phase}
 use Rattle.player.specs.declared.progress.Phase.TheVariants.{Opening, Within, Over}
 use Rattle.player.specs.declared.progress.Progress.{Progress}
-use Rattle.play_schedules.specs.InWork.{answers_in}
+use Rattle.play_model.specs.InWork.{answers_in}
 use Rattle.player.specs.Findings.{IsKeptOf, Keeping, keeping}
 use Rattle.player.specs.Progress.{InPhase, InStep, IsOver, IsProgressOf, over, standing_at, state_of, vector_bits}
 use Rattle.player.specs.PlaceInPlay.{PlaceInPlay, differing_bit, finding_of}

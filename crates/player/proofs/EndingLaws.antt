@@ -11,7 +11,7 @@ use Rattle.play_model.specs.declared.ending.Ending.TheVariants.{BadAnswer}
 use Rattle.play_model.specs.Play.{Turn, step_turns, turns, wants_of}
 use Rattle.play_model.specs.PlayingOn.{ending_of}
 use Rattle.play_model.specs.Streams as stream
-use Rattle.play_schedules.proofs.Quits.{has_quit, quit-append, turns-no-quit}
+use Rattle.play_model.proofs.Quits.{has_quit, quit-append, turns-no-quit}
 use Rattle.player.specs.declared.progress.Phase.{Phase}
 use Rattle.player.specs.declared.progress.Phase.TheVariants.{Opening, Within, Over}
 use Rattle.player.specs.declared.progress.Progress.{Progress}

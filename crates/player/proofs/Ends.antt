@@ -14,10 +14,10 @@ use Rattle.play_model.specs.declared.kind.Kind.TheVariants.{Stops}
 use Rattle.play_model.specs.PlayingOn.{Mismatch, ending_of}
 use Rattle.play_model.specs.Streams as stream
 use Rattle.play_model.specs.Streams.{Wanted, unanswered, command_at, hear, mismatch_of, with_more, all_wanted, command_at_work}
-use Rattle.play_schedules.proofs.Quits.{has_quit}
+use Rattle.play_model.proofs.Quits.{has_quit}
 use Rattle.std.specs.Option.{option_to_list}
 use Rattle.player.specs.PlaceInPlay.{PlaceInPlay, differing_bit, finding_of, messages_in, state_at}
-use Rattle.play_schedules.specs.InWork.{answers_in}
+use Rattle.play_model.specs.InWork.{answers_in}
 use Rattle.player.proofs.Ahead.{ahead, is-out, sends-last, stops_at}
 
 -- a wanted bit of a turn

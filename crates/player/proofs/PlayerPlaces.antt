@@ -11,7 +11,7 @@ use Rattle.svf_programs.specs.Steps.{Numbered, Program, place_after}
 use Rattle.play_model.specs.Play.{Turn, step_turns, turns, wants_of}
 use Rattle.play_model.specs.Streams.{some_differ}
 use Rattle.play_model.proofs.Asks.{asks}
-use Rattle.play_schedules.proofs.Agree as agree
+use Rattle.play_model.proofs.Agree as agree
 use Rattle.player.specs.declared.progress.Phase.{Phase}
 use Rattle.player.specs.declared.progress.Phase.TheVariants.{Opening, Within, Over}
 use Rattle.player.specs.declared.progress.Progress.{Progress}

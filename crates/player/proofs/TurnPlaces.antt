@@ -12,9 +12,9 @@ use Rattle.play_model.specs.Play.{Turn, turns, up_to_asks}
 use Rattle.play_model.specs.Streams as stream
 use Rattle.play_model.specs.Streams.{may_send}
 use Rattle.play_model.proofs.Asks.{AllAsk, asks, turns-ask}
-use Rattle.play_schedules.proofs.Quits.{NoneQuit, has_quit, turns-no-quit}
+use Rattle.play_model.proofs.Quits.{NoneQuit, has_quit, turns-no-quit}
 use Rattle.player.specs.PlaceInPlay.{PlaceInPlay, messages_in, state_at, up_to_reads}
-use Rattle.play_schedules.specs.InWork.{answers_in}
+use Rattle.play_model.specs.InWork.{answers_in}
 use Rattle.player.proofs.Ahead.{ahead, owes, sends-last, sends-short, sends-whole, stops_at, waits}
 use Rattle.player.proofs.Window.{asks-split, in-bytes, up-to-all, up-to-front, up-to-past}
 

@@ -10,7 +10,7 @@ use Rattle.play_model.specs.Play.{Turn, turns}
 use Rattle.play_model.specs.declared.kind.Kind.TheVariants.{Stops}
 use Rattle.play_model.specs.PlayingOn.{Mismatch}
 use Rattle.play_model.specs.Streams.{Found, StreamState}
-use Rattle.play_schedules.specs.InWork.{answers_in}
+use Rattle.play_model.specs.InWork.{answers_in}
 
 -- how many turns are over, how many messages of the present one are out and how many of its answers are there,
 -- whether it stops behind it, and the byte that was no answer, if one came

@@ -15,7 +15,7 @@ use Rattle.svf_programs.specs.Steps.{Numbered}
 use Rattle.play_model.specs.Play.{turns, full_play, player, ending_for}
 use Rattle.play_model.specs.Events.{World, Known, Put, Serve, Take, Lose, by_answers, before_events, run, moving}
 use Rattle.play_model.specs.Events.{ending_of_world}
-use Rattle.play_schedules.specs.Fair.{one_each}
+use Rattle.play_model.specs.Fair.{one_each}
 use Rattle.worked_examples.specs.PlaySamples.{bits, sample_device, with_trst, plain, with_core, tdo, sir}
 use Rattle.worked_examples.specs.Agree.{meant, flat_board}
 

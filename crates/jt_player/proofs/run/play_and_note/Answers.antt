@@ -4,7 +4,7 @@ use Rattle.std.specs.Prelude.{codes, is_ok, is_err}
 use Rattle.byte_streams.specs.Writes.{flagged}
 use Rattle.byte_streams.proofs.Fronts.{WritesAll-is, WritesAll-then, WritesAll-stopped, WritesAll-done}
 use Rattle.svf_programs.specs.Sizes.{program_of}
-use Rattle.play_schedules.specs.Laws.{bytes_of_full_play}
+use Rattle.play_model.specs.ScheduleLaws.{bytes_of_full_play}
 use Rattle.jt_player.specs.Running.{note}
 use Rattle.jt_player.proofs.RunLaws.{WritesAll-like, not-ok}
 use Rattle.jt_player.proofs.run.play_and_note.Goals as goal

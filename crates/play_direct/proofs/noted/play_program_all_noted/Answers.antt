@@ -3,7 +3,7 @@ use Rattle.std.specs.Prelude.{◌==◌}
 use Rattle.svf_programs.specs.Sizes.{program_of}
 use Rattle.play_model.specs.PlayingOn.{ending_of}
 use Rattle.play_model.specs.declared.kind.Kind.TheVariants.{PlaysOn}
-use Rattle.play_schedules.specs.Laws.{bytes_of_full_play}
+use Rattle.play_model.specs.ScheduleLaws.{bytes_of_full_play}
 use Rattle.play_direct.specs.ToTheEnd.{all_failures}
 use Rattle.play_direct.proofs.Failing.{ending-kept}
 use Rattle.play_direct.proofs.NotedPieces.{noted-writes}

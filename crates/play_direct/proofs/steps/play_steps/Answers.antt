@@ -17,7 +17,7 @@ use Rattle.play_model.specs.DirectPlay.{opened_state}
 use Rattle.play_model.specs.Meaning.{after_step}
 use Rattle.play_model.specs.Play.{Played, full_play}
 use Rattle.play_model.specs.PlayingOn.{outcome_of_all, step_failures}
-use Rattle.play_schedules.specs.Laws.{full}
+use Rattle.play_model.specs.ScheduleLaws.{full}
 use Rattle.play_direct.proofs.Failing.{few-in-step, goes_on_stops, passed, quiet, still, stopped}
 use Rattle.play_direct.proofs.Turns.{GoesOn, bytes-of, none-left, opening_bytes, turns_from}
 use Rattle.play_direct.proofs.WholePlay.{CanPlay, can_open, can_play_on, goes_from_opening, goes_past, kept_all, kept_first, listed_few, noted_more, opened, stops_here}

@@ -9,7 +9,7 @@ use Rattle.play_model.specs.declared.kind.Kind.TheVariants.{Stops}
 use Rattle.play_model.specs.DirectPlay.{opened_state}
 use Rattle.play_model.specs.Play.{full_play}
 use Rattle.play_model.specs.PlayingOn.{outcome_of_all}
-use Rattle.play_schedules.specs.Laws.{full}
+use Rattle.play_model.specs.ScheduleLaws.{full}
 use Rattle.play_direct.proofs.Turns.{GoesOn, turns_from}
 use Rattle.play_direct.proofs.WholePlay.{CanPlay}
 use Rattle.play_direct.proofs.steps.play_steps.Given as goal

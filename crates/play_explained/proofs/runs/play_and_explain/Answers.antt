@@ -1,7 +1,7 @@
 use Rattle.std.proofs.Common.{refl, ap}
 use Rattle.byte_streams.proofs.Fronts.{WritesAll-is, WritesAll-then, WritesAll-stopped}
 use Rattle.board_report.specs.Report.{report}
-use Rattle.play_schedules.specs.Laws.{full}
+use Rattle.play_model.specs.ScheduleLaws.{full}
 use Rattle.svf_programs.specs.Sizes.{program_of}
 use Rattle.jt_player.proofs.RunLaws.{WritesAll-like, not-ok}
 use Rattle.play_explained.specs.Lines.{explained_lines}

@@ -1,4 +1,4 @@
-use Rattle.play_model.proofs.Described.{described}
+use Rattle.play_model.proofs.DescribedPlays.{described}
 use Rattle.play_model.proofs.legal.every_described_board_plays_legal_programs.Goals as goal
 
 pub returns : goal.returns

@@ -1,6 +1,6 @@
 use Rattle.std.proofs.Common.{◌≡◌, ◌-◌, List}
 use Rattle.play_model.specs.Events.{Event, run}
-use Rattle.play_schedules.specs.Fair.{HasNoLose}
+use Rattle.play_model.specs.Fair.{HasNoLose}
 use Rattle.play_pipes.specs.Joining.{side}
 use Rattle.play_pipes.proofs.RoundsEnd.{most, sum_of}
 use Rattle.play_pipes.proofs.finishing.go_on.Given as goal

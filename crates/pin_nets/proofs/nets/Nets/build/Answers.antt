@@ -4,7 +4,7 @@ use Rattle.std.specs.Vec.{with_items}
 use Rattle.std.proofs.lemmas.List.{with_items_is, length-replicate}
 use Rattle.pin_nets.specs.declared.Drive.{Drive}
 use Rattle.pin_nets.specs.declared.Drive.TheVariants.{Nothing}
-use Rattle.pin_nets.specs.Levels.{NetValue, four, counts_of, counted, is_counted, level_of, net_counts, pull_drive, reads}
+use Rattle.pin_nets.specs.Levels.{NetValue, four, counts_of, is_counted, level, net_counts, pull_drive, reads, shown}
 use Rattle.pin_nets.specs.Places.{Placed}
 use Rattle.pin_nets.proofs.Building.{placed, idle_nets, idle_seen}
 use Rattle.pin_nets.proofs.nets.Nets.build.Goals as goal
@@ -30,7 +30,7 @@ invariant_of-result c =
           c.in_ok-counts.ensures ∙ ap (map start) c.deref.ensures.value ∙ idle_nets c.args.pins c.add_lone.new.nets.items
           ∙ ap (λ (ds : List Drive). map (λ x. four (net_counts ds x)) c.add_lone.new.nets.items) (sym drives);
       seen =
-          c.in_ok-seen.ensures ∙ ap (map (λ x. reads (level_of (pull_drive x.pull ∷ [])))) c.deref-2.ensures.value ∙ idle_seen c.args.pins c.add_lone.new.nets.items
-          ∙ ap (λ (ds : List Drive). map (λ x. reads (counted ds x)) c.add_lone.new.nets.items) (sym drives);
+          c.in_ok-seen.ensures ∙ ap (map (λ x. reads (shown x.rule (pull_drive x.pull) []))) c.deref-2.ensures.value ∙ idle_seen c.args.pins c.add_lone.new.nets.items
+          ∙ ap (λ (ds : List Drive). map (λ x. reads (level ds x)) c.add_lone.new.nets.items) (sym drives);
       rules = c.are_counted-all_counted.ensures ∙ ap (list_all (λ (x : NetValue). is_counted x.rule)) c.deref-3.ensures.value;
     }

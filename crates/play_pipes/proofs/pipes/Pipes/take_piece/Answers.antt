@@ -3,7 +3,7 @@ use Rattle.circular_buffer.specs.Buffer.{Buffer, buffer}
 use Rattle.play_model.specs.Events.{World, take_answers}
 use Rattle.play_model.specs.Streams.{StreamState}
 use Rattle.player.specs.Each.{hear_each}
-use Rattle.play_schedules.specs.Histories.{bits_told}
+use Rattle.play_model.specs.Histories.{bits_told}
 use Rattle.play_pipes.specs.Joining.{AreAnswers, JoinedState, side, world_between}
 use Rattle.play_pipes.proofs.Steps.{answers-left, take-front, take-piece}
 use Rattle.play_pipes.proofs.Together.{kept}

@@ -1,0 +1,2 @@
+pub mod DigitLaws
+pub mod TextLaws

@@ -1,0 +1,14 @@
+-- Words worked out.
+use Rattle.std.specs.Prelude.{◌≡◌, true, false, [], ◌∷◌, codes}
+use Rattle.output_words.specs.Digits.{digits}
+use Rattle.output_words.specs.Lines.{position_line, total_line}
+use Rattle.output_words.specs.Names.{shown}
+
+pub record WordRows : Type 0 where
+  pub line_feed_in_a_name : shown (codes "a\nb") ≡ codes "a\\x0ab"
+  pub backslash_in_a_name : shown (codes "a\\x0ab") ≡ codes "a\\x5cx0ab"
+  pub delete_in_a_name : shown (127 ∷ []) ≡ codes "\\x7f"
+  pub other_bytes_stay : shown (195 ∷ 164 ∷ 32 ∷ []) ≡ 195 ∷ 164 ∷ 32 ∷ []
+  pub highest_bit_first : digits (false ∷ true ∷ true ∷ []) ≡ codes "110"
+  pub position : position_line (record { line = 3; column = 1 }) ≡ codes "at line 3 column 1\n"
+  pub total : total_line 3 ≡ codes "failures 3\n"

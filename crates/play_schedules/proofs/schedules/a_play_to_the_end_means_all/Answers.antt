@@ -1,5 +1,0 @@
-use Rattle.play_schedules.proofs.AllMeaning.{plays_all}
-use Rattle.play_schedules.proofs.schedules.a_play_to_the_end_means_all.Goals as goal
-
-pub returns : goal.returns
-returns c = plays_all

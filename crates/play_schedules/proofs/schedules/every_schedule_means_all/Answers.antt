@@ -1,5 +1,0 @@
-use Rattle.play_schedules.proofs.AllMeaning.{every_schedule_all}
-use Rattle.play_schedules.proofs.schedules.every_schedule_means_all.Goals as goal
-
-pub returns : goal.returns
-returns c = every_schedule_all

@@ -1,5 +1,0 @@
-use Rattle.play_schedules.proofs.SafetyLaws.{every_schedule_inside}
-use Rattle.play_schedules.proofs.schedules.every_schedule_stays_inside_the_full_play.Goals as goal
-
-pub returns : goal.returns
-returns c = every_schedule_inside

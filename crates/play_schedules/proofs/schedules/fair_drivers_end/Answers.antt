@@ -1,5 +1,0 @@
-use Rattle.play_schedules.proofs.Ends.{fair_drivers_end}
-use Rattle.play_schedules.proofs.schedules.fair_drivers_end.Goals as goal
-
-pub returns : goal.returns
-returns c = fair_drivers_end

@@ -1,5 +1,0 @@
-use Rattle.play_schedules.proofs.HonestLinks.{honest_answers}
-use Rattle.play_schedules.proofs.schedules.honest_answers_are_the_full_plays.Goals as goal
-
-pub returns : goal.returns
-returns c = honest_answers

@@ -1,5 +1,0 @@
-use Rattle.play_schedules.proofs.Losses.{lost_by_a_lose}
-use Rattle.play_schedules.proofs.schedules.lost_only_by_a_lose.Goals as goal
-
-pub returns : goal.returns
-returns c = lost_by_a_lose

@@ -1,5 +1,0 @@
-use Rattle.play_schedules.proofs.SafetyLaws.{no_other_verdict}
-use Rattle.play_schedules.proofs.schedules.no_other_verdict_is_given.Goals as goal
-
-pub returns : goal.returns
-returns c = no_other_verdict

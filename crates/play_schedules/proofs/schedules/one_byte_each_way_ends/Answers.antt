@@ -1,5 +1,0 @@
-use Rattle.play_schedules.proofs.Ends.{one_each_ends}
-use Rattle.play_schedules.proofs.schedules.one_byte_each_way_ends.Goals as goal
-
-pub returns : goal.returns
-returns c = one_each_ends

@@ -1,5 +1,0 @@
-use Rattle.play_schedules.proofs.AllFailures.{first_of_all_played}
-use Rattle.play_schedules.proofs.schedules.the_first_of_all_played_is_the_first.Goals as goal
-
-pub returns : goal.returns
-returns c = first_of_all_played

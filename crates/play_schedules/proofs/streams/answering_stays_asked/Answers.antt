@@ -1,5 +1,0 @@
-use Rattle.play_schedules.proofs.Agree.{stays_asked as law}
-use Rattle.play_schedules.proofs.streams.answering_stays_asked.Goals as goal
-
-pub returns : goal.returns
-returns c = law

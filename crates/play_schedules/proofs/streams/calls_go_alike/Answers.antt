@@ -1,5 +1,0 @@
-use Rattle.play_schedules.proofs.ScheduleSteps.{calls_alike}
-use Rattle.play_schedules.proofs.streams.calls_go_alike.Goals as goal
-
-pub returns : goal.returns
-returns c = calls_alike

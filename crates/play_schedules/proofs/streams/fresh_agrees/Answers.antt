@@ -1,5 +1,0 @@
-use Rattle.play_schedules.proofs.Hearing.{fresh_agrees as law}
-use Rattle.play_schedules.proofs.streams.fresh_agrees.Goals as goal
-
-pub returns : goal.returns
-returns c = law

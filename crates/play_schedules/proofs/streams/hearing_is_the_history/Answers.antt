@@ -1,5 +1,0 @@
-use Rattle.play_schedules.proofs.Hearing.{hearing as law}
-use Rattle.play_schedules.proofs.streams.hearing_is_the_history.Goals as goal
-
-pub returns : goal.returns
-returns c = law

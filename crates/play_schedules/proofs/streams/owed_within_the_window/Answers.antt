@@ -1,5 +1,0 @@
-use Rattle.play_schedules.proofs.Window.{within}
-use Rattle.play_schedules.proofs.streams.owed_within_the_window.Goals as goal
-
-pub returns : goal.returns
-returns c = within
