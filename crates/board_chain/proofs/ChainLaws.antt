@@ -28,11 +28,11 @@ use Rattle.board_chain.proofs.SweepLaws.{each_long}
 
 -- ---- TDO
 
-pub tdo_there : (tdi : Bool) (seats : List WiredChipValue) (i : ℕ) (s : WiredChipValue) → slice_get seats i ≡ Some s
-    → tdi_before tdi (drop i (map chip_state seats)) ≡ unwrap_or s.chip.tdo true
+pub tdo_there : (tdi : Bool) (chips : List WiredChipValue) (i : ℕ) (s : WiredChipValue) → slice_get chips i ≡ Some s
+    → tdi_before tdi (drop i (map chip_state chips)) ≡ unwrap_or s.chip.tdo true
 tdo_there tdi [] i s at = absurd (none-some s at)
-tdo_there tdi (x ∷ seats) zero s at = ap (λ (y : WiredChipValue). unwrap_or y.chip.tdo true) (same_Some _ _ at)
-tdo_there tdi (x ∷ seats) (suc i) s at = tdo_there tdi seats i s at
+tdo_there tdi (x ∷ chips) zero s at = ap (λ (y : WiredChipValue). unwrap_or y.chip.tdo true) (same_Some _ _ at)
+tdo_there tdi (x ∷ chips) (suc i) s at = tdo_there tdi chips i s at
 
 -- ---- nets of cells
 
@@ -48,12 +48,12 @@ cells-below nets place [] k net e = absurd (none-some (Some net) e)
 cells-below nets place (c ∷ cs) zero net e = cell-below nets place c net (same_Some _ _ e)
 cells-below nets place (c ∷ cs) (suc k) net e = cells-below nets place cs k net e
 
-pub net_below : (nets : List Net) (place : ℕ) (seats : List WiredChipValue) (i : ℕ) (s : WiredChipValue) → AreWired nets place seats → slice_get seats i ≡ Some s → AreBelow (length nets) s.nets
+pub net_below : (nets : List Net) (place : ℕ) (chips : List WiredChipValue) (i : ℕ) (s : WiredChipValue) → AreWired nets place chips → slice_get chips i ≡ Some s → AreBelow (length nets) s.nets
 net_below nets place [] i s wired at = absurd (none-some s at)
-net_below nets place (x ∷ seats) zero s wired at = λ k net e.
+net_below nets place (x ∷ chips) zero s wired at = λ k net e.
     let same : x ≡ s = same_Some _ _ at in
     cells-below nets place x.chip.device.cells k net (sym (ap (λ (l : List (Option ℕ)). slice_get l k) wired.0) ∙ ap (λ (y : WiredChipValue). slice_get y.nets k) same ∙ e)
-net_below nets place (x ∷ seats) (suc i) s wired at = net_below nets (suc place) seats i s wired.1 at
+net_below nets place (x ∷ chips) (suc i) s wired at = net_below nets (suc place) chips i s wired.1 at
 
 -- ---- what stays wired
 
@@ -126,16 +126,16 @@ module _ (R : ℕ → WiredChipValue → WiredChipValue → Type 0) where
   all_chips f image place (s ∷ old) [] each = absurd each
   all_chips f image place (s ∷ old) (t ∷ new) each = λ i. image place s t each.0 i ∷ all_chips f image (suc place) old new each.1 i
 
-pub seats_members : (seats : List WiredChipValue) → members (map chip_state seats) ≡ map member_of seats
-seats_members [] = refl
-seats_members (s ∷ seats) = ap (λ (ms : List Member). member_of s ∷ ms) (seats_members seats)
+pub chips_members : (chips : List WiredChipValue) → members (map chip_state chips) ≡ map member_of chips
+chips_members [] = refl
+chips_members (s ∷ chips) = ap (λ (ms : List Member). member_of s ∷ ms) (chips_members chips)
 
 -- ---- core bits
 
 -- the core bits in force, by the chips
-pub chips_in_force : (nets : List Net) (seats : List WiredChipValue) → in_force nets (map member_of seats) ≡ map held_of seats
-    → in_force nets (members (map chip_state seats)) ≡ map held_of seats
-chips_in_force nets seats force = ap (in_force nets) (seats_members seats) ∙ force
+pub chips_in_force : (nets : List Net) (chips : List WiredChipValue) → in_force nets (map member_of chips) ≡ map held_of chips
+    → in_force nets (members (map chip_state chips)) ≡ map held_of chips
+chips_in_force nets chips force = ap (in_force nets) (chips_members chips) ∙ force
 
 abbrev told_of : (ℕ → Bool) → Option Member → Told
 told_of sees held = record { sight = sees; core = unwrap_or (option_map (λ (m : Member). m.core) held) [] }
@@ -227,12 +227,12 @@ same-cells R kept place (s ∷ old) (t ∷ new) each =
     ∙ ap (λ (l : List (List Cell)). cells_of t ∷ l) (same-cells R kept (suc place) old new each.1)
 
 -- the table of a chain that powers up
-pub start_driving : (seats items : List WiredChipValue) (w v : WiringValue) (f : Pin → Drive) (d : DrivingTable) → seats ≡ items → v ≡ record w { drives = map f (all_pins w.nets) }
-    → IsTable (driving_of seats v.nets) (length seats) d → ((cells : List (List Cell)) (drives : List Drive) → WerePut cells d.blocks d.pins d.put drives) → IsDriving (map cells_of items) v d
-start_driving seats items w v f d is put table none =
+pub start_driving : (chips items : List WiredChipValue) (w v : WiringValue) (f : Pin → Drive) (d : DrivingTable) → chips ≡ items → v ≡ record w { drives = map f (all_pins w.nets) }
+    → IsTable (driving_of chips v.nets) (length chips) d → ((cells : List (List Cell)) (drives : List Drive) → WerePut cells d.blocks d.pins d.put drives) → IsDriving (map cells_of items) v d
+start_driving chips items w v f d is put table none =
     subst (λ (l : List WiredChipValue). IsDriving (map cells_of l) v d) is (record {
-      table = subst (λ (n : ℕ). IsTable (driving_of seats v.nets) n d) (sym (length-map seats cells_of)) table;
-      put = none (map cells_of seats) v.drives;
+      table = subst (λ (n : ℕ). IsTable (driving_of chips v.nets) n d) (sym (length-map chips cells_of)) table;
+      put = none (map cells_of chips) v.drives;
       full =
           ap (λ (x : WiringValue). length x.drives) put ∙ length-map (all_pins w.nets) f
           ∙ sym (ap (λ (x : WiringValue). length (all_pins x.nets)) put);

@@ -355,7 +355,7 @@ module _ (w : planned.Wiring) (ready : IsReady w) where
   all-by P (x ∷ l) each = (each 0 x refl, all-by P l (λ i y at. each (suc i) y at))
 
   pub ready_for_strings : IsReadyForStrings w
-  ready_for_strings = record { pins = ready.seats.pins; apart = ready.apart; strings = all-by HasStringsToWire w.members to-wire }
+  ready_for_strings = record { pins = ready.chips.pins; apart = ready.apart; strings = all-by HasStringsToWire w.members to-wire }
 
   -- a string of the board
   its-board : (k : ℕ) (s : Placed) → slice_get (strings_of w.members) k ≡ Some s → IsOfBoard (members_of w) s
@@ -364,7 +364,7 @@ module _ (w : planned.Wiring) (ready : IsReady w) where
       let here : its.i ≡ s.device = omega (arith, its.device) in
       let stands : slice_get w.members s.device ≡ Some its.m = sym (ap (slice_get w.members) here) ∙ its.stands in
       let among = among_from its.m.follows its.number s.string its.among in
-      let core : length its.m.core ≡ length its.m.device.cells = all_at HasCore w.members s.device its.m ready.seats.cores stands in
+      let core : length its.m.core ≡ length its.m.device.cells = all_at HasCore w.members s.device its.m ready.chips.cores stands in
       record {
         member = powered_up its.m;
         stands = powered-at w s.device its.m stands;

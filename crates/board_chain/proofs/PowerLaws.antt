@@ -15,7 +15,7 @@ use Rattle.board_model.specs.Nets.{in_force, pin_drive}
 use Rattle.board_model.specs.Planned.{powered_up}
 use Rattle.board_model.specs.Resting.{chip_at_rest}
 use Rattle.board_model.proofs.InOrder.{strings_in_order}
-use Rattle.board_chips.specs.Building.{seats_of}
+use Rattle.board_chips.specs.Building.{wired_chips_of}
 use Rattle.board_chips.specs.Driving.{cells_of, driving_from, driving_of}
 use Rattle.board_chips.specs.DrivingTable.{DrivingTable}
 use Rattle.board_chips.specs.WiredChips.{WiredChipValue, chip_state, held_of, member_of}
@@ -26,22 +26,22 @@ use Rattle.board_chips.specs.declared.strings.WiredString.{WiredString}
 use Rattle.board_chips.proofs.StringLaws.{by_less}
 use Rattle.board_chain.specs.Settled.{IsSettled}
 
-pub seats_stand : (nets : List Net) (k : ℕ) (ms : List planned.Member) → map chip_state (seats_of nets k ms) ≡ map (chip_at_rest Reset) (map powered_up ms)
-seats_stand nets k [] = refl
-seats_stand nets k (m ∷ ms) = ap (λ (r : List ChipState). chip_at_rest Reset (powered_up m) ∷ r) (seats_stand nets (suc k) ms)
+pub chips_stand : (nets : List Net) (k : ℕ) (ms : List planned.Member) → map chip_state (wired_chips_of nets k ms) ≡ map (chip_at_rest Reset) (map powered_up ms)
+chips_stand nets k [] = refl
+chips_stand nets k (m ∷ ms) = ap (λ (r : List ChipState). chip_at_rest Reset (powered_up m) ∷ r) (chips_stand nets (suc k) ms)
 
-pub seats_mean : (nets : List Net) (k : ℕ) (ms : List planned.Member) → map member_of (seats_of nets k ms) ≡ map powered_up ms
-seats_mean nets k [] = refl
-seats_mean nets k (m ∷ ms) = ap (λ (r : List Member). powered_up m ∷ r) (seats_mean nets (suc k) ms)
+pub chips_mean : (nets : List Net) (k : ℕ) (ms : List planned.Member) → map member_of (wired_chips_of nets k ms) ≡ map powered_up ms
+chips_mean nets k [] = refl
+chips_mean nets k (m ∷ ms) = ap (λ (r : List Member). powered_up m ∷ r) (chips_mean nets (suc k) ms)
 
-pub seats_have : (nets : List Net) (k : ℕ) (ms : List planned.Member) → map cells_of (seats_of nets k ms) ≡ map (λ (m : planned.Member). m.device.cells) ms
-seats_have nets k [] = refl
-seats_have nets k (m ∷ ms) = ap (λ (r : List (List Cell)). m.device.cells ∷ r) (seats_have nets (suc k) ms)
+pub chips_have : (nets : List Net) (k : ℕ) (ms : List planned.Member) → map cells_of (wired_chips_of nets k ms) ≡ map (λ (m : planned.Member). m.device.cells) ms
+chips_have nets k [] = refl
+chips_have nets k (m ∷ ms) = ap (λ (r : List (List Cell)). m.device.cells ∷ r) (chips_have nets (suc k) ms)
 
 -- at first each core bit is its constant
-pub seats_hold : (nets : List Net) (k : ℕ) (ms : List planned.Member) → AreHeld (map member_of (seats_of nets k ms)) (map held_of (seats_of nets k ms))
-seats_hold nets k [] = tt
-seats_hold nets k (m ∷ ms) = (record { same = refl; long = refl; constant = λ bit none. refl }, seats_hold nets (suc k) ms)
+pub chips_hold : (nets : List Net) (k : ℕ) (ms : List planned.Member) → AreHeld (map member_of (wired_chips_of nets k ms)) (map held_of (wired_chips_of nets k ms))
+chips_hold nets k [] = tt
+chips_hold nets k (m ∷ ms) = (record { same = refl; long = refl; constant = λ bit none. refl }, chips_hold nets (suc k) ms)
 
 -- ---- what was put, and the strings behind it
 

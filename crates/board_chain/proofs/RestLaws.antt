@@ -30,7 +30,7 @@ use Rattle.board_chips.specs.WiredChips.{AllTold, IsKept, WiredChipValue, chip_s
 use Rattle.board_chain.specs.Sweeping.{EachFrom, Still}
 use Rattle.board_chips.specs.WiringValues.{WiringValue}
 use Rattle.board_chips.specs.Wires.{AreWired, IsWired}
-use Rattle.board_chain.proofs.ChainLaws.{all_chips, all_told, chips_in_force, drives_with, each_still, seats_members, told_here}
+use Rattle.board_chain.proofs.ChainLaws.{all_chips, all_told, chips_in_force, drives_with, each_still, chips_members, told_here}
 use Rattle.board_chips.proofs.EdgeLaws.{rise_drives, put-latch, put-update}
 use Rattle.board_chain.proofs.SweepLaws.{each_long}
 
@@ -148,7 +148,7 @@ module _ (w : WiringValue) (column : Column) (all : List WiredChipValue) (wired 
       chips-from 0 all new (all-placed new each)
       ∙ sym (ap (λ (held : List Member). as_members (capture_all column (told_under w.nets held) 0 (map member_of all))
       (map chip_state all)) (chips_in_force w.nets all force))
-      ∙ sym (ap (λ (ms : List Member). as_members (capture_all column about 0 ms) (map chip_state all)) (seats_members all))
+      ∙ sym (ap (λ (ms : List Member). as_members (capture_all column about 0 ms) (map chip_state all)) (chips_members all))
 
   pub captured_still : (new : List WiredChipValue) → EachFrom (CapturesAt w column) 0 all new → EachFrom Still 0 all new
   captured_still new each =
@@ -240,19 +240,19 @@ module _ (column : Column) where
       let one = put-of column (take (length (register column s)) bits) s t cut.0 in
       λ i. one.chip i ∷ cut-chips (drop (length (register column s)) bits) old new cut.1 i
 
-  pub same_joined : (seats : List WiredChipValue)
-      → rows.joined_registers (map (λ (s : WiredChipValue). selected_bits_of column (member_of s)) seats)
-      ≡ joined_bits column (members (map chip_state seats))
+  pub same_joined : (chips : List WiredChipValue)
+      → rows.joined_registers (map (λ (s : WiredChipValue). selected_bits_of column (member_of s)) chips)
+      ≡ joined_bits column (members (map chip_state chips))
   same_joined [] = refl
-  same_joined (s ∷ seats) = ap (λ (r : List Bool). register column s ++ r) (same_joined seats)
+  same_joined (s ∷ chips) = ap (λ (r : List Bool). register column s ++ r) (same_joined chips)
 
   -- what comes out
-  pub same_out : (v : List VectorBit) (seats : List WiredChipValue)
-      → rows.out v (map (λ (s : WiredChipValue). selected_bits_of column (member_of s)) seats)
-      ≡ out_of_members column (tdis v) (members (map chip_state seats))
-  same_out v seats =
-      ap (λ (l : List Bool). take (length v) (l ++ tdis v)) (same_joined seats)
-      ∙ ap (λ (n : ℕ). take n (joined_bits column (members (map chip_state seats)) ++ tdis v))
+  pub same_out : (v : List VectorBit) (chips : List WiredChipValue)
+      → rows.out v (map (λ (s : WiredChipValue). selected_bits_of column (member_of s)) chips)
+      ≡ out_of_members column (tdis v) (members (map chip_state chips))
+  same_out v chips =
+      ap (λ (l : List Bool). take (length v) (l ++ tdis v)) (same_joined chips)
+      ∙ ap (λ (n : ℕ). take n (joined_bits column (members (map chip_state chips)) ++ tdis v))
       (sym (length-map v (λ (b : VectorBit). b.tdi)))
 
   -- what stays in, by the length of what is shifted in
@@ -270,7 +270,7 @@ module _ (column : Column) where
       ∙ sym (ap
       (λ (ms : List Member). as_members
       (cut_back column (drop (length (tdis v)) (joined_bits column (members (map chip_state old)) ++ tdis v)) ms)
-      (map chip_state old)) (seats_members old))
+      (map chip_state old)) (chips_members old))
 
   -- the same of bits that are handed over in a word
   pub word_chips : (word n : ℕ) (old new : List WiredChipValue)
@@ -283,14 +283,14 @@ module _ (column : Column) where
       ∙ ap (λ (k : ℕ). as_members (cut_back column (drop k (joined_bits column (members (map chip_state old)) ++ ts)) (map member_of old))
       (map chip_state old)) (sym (length-word word n))
       ∙ sym (ap (λ (ms : List Member). as_members (cut_back column (drop (length ts) (joined_bits column (members (map chip_state old)) ++ ts)) ms)
-      (map chip_state old)) (seats_members old))
+      (map chip_state old)) (chips_members old))
 
-  pub word_comes_out : (word n : ℕ) (seats : List WiredChipValue)
-      → take n (rows.joined_registers (map (λ (s : WiredChipValue). selected_bits_of column (member_of s)) seats) ++ word_bits word n)
-      ≡ out_of_members column (word_bits word n) (members (map chip_state seats))
-  word_comes_out word n seats =
-      ap (λ (l : List Bool). take n (l ++ word_bits word n)) (same_joined seats)
-      ∙ ap (λ (k : ℕ). take k (joined_bits column (members (map chip_state seats)) ++ word_bits word n)) (sym (length-word word n))
+  pub word_comes_out : (word n : ℕ) (chips : List WiredChipValue)
+      → take n (rows.joined_registers (map (λ (s : WiredChipValue). selected_bits_of column (member_of s)) chips) ++ word_bits word n)
+      ≡ out_of_members column (word_bits word n) (members (map chip_state chips))
+  word_comes_out word n chips =
+      ap (λ (l : List Bool). take n (l ++ word_bits word n)) (same_joined chips)
+      ∙ ap (λ (k : ℕ). take k (joined_bits column (members (map chip_state chips)) ++ word_bits word n)) (sym (length-word word n))
 
   pub shifted_still : (bits : List Bool) (old new : List WiredChipValue) → Cut bits old new → EachFrom Still 0 old new
   shifted_still bits old new cut =

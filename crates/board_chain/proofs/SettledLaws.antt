@@ -86,8 +86,8 @@ cores-kept place (s ∷ old) [] each i = absurd each
 cores-kept place (s ∷ old) (t ∷ new) each zero = sym each.0.core
 cores-kept place (s ∷ old) (t ∷ new) each (suc i) = cores-kept (suc place) old new each.1 i
 
-are-held : (nets : List Net) (seats : List WiredChipValue) → in_force nets (map member_of seats) ≡ map held_of seats → AreHeld (map member_of seats) (map held_of seats)
-are-held nets seats force = subst (AreHeld (map member_of seats)) force (held_in_force nets (map member_of seats))
+are-held : (nets : List Net) (chips : List WiredChipValue) → in_force nets (map member_of chips) ≡ map held_of chips → AreHeld (map member_of chips) (map held_of chips)
+are-held nets chips force = subst (AreHeld (map member_of chips)) force (held_in_force nets (map member_of chips))
 
 pub kept_cells_of : (old new : List WiredChipValue) → EachFrom Keeps 0 old new → map cells_of old ≡ map cells_of new
 kept_cells_of old new each = same-cells Keeps (λ i s t k. k) 0 old new each

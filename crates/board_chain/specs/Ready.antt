@@ -13,7 +13,7 @@ use Rattle.board_chips.specs.Building.{IsReady as HasReadyChips}
 
 pub record IsReady (w : planned.Wiring) : Type 0 where
   -- the cores are whole, the pins are port bits, the descriptions are formed
-  pub seats : HasReadyChips w
+  pub chips : HasReadyChips w
   -- no pin stands twice
   pub apart : AllPairs (λ (p q : Pin). p ≢ q) (all_pins w.nets)
   -- the strings fit their devices, none is for the control of another cell, and none is on a loop

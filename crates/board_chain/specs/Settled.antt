@@ -14,22 +14,22 @@ use Rattle.board_chips.specs.declared.strings.WiredString.{WiredString}
 
 -- What was put to the nets last is what each pin drives by the core bits that the boundaries hold, and these are those
 -- in force: the strings are an order of work.
-pub record IsSettled (seats : List WiredChipValue) (w : WiringValue) (d : DrivingTable) (strings : List WiredString) : Type 0
+pub record IsSettled (chips : List WiredChipValue) (w : WiringValue) (d : DrivingTable) (strings : List WiredString) : Type 0
   where
-    pub wired : IsWired seats w
-    pub driving : IsDriving (map cells_of seats) w d
+    pub wired : IsWired chips w
+    pub driving : IsDriving (map cells_of chips) w d
     pub apart : IsApart strings d
-    pub strung : AreStrung w.nets (map cells_of seats) strings
-    pub order : IsOrderOf w.nets (map member_of seats) (map placed_of strings)
-    pub in_force : in_force w.nets (map member_of seats) ≡ map held_of seats
+    pub strung : AreStrung w.nets (map cells_of chips) strings
+    pub order : IsOrderOf w.nets (map member_of chips) (map placed_of strings)
+    pub in_force : in_force w.nets (map member_of chips) ≡ map held_of chips
 
 -- the registers of a device may be others
 abbrev pub Keeps : ℕ → WiredChipValue → WiredChipValue → Type 0
 Keeps place s t = IsKept s t
 
 -- the same, while the registers of the devices were others
-pub record WasSettled (seats : List WiredChipValue) (w : WiringValue) (d : DrivingTable) (strings : List WiredString)
+pub record WasSettled (chips : List WiredChipValue) (w : WiringValue) (d : DrivingTable) (strings : List WiredString)
     : Type 0 where
   pub before : List WiredChipValue
   pub settled : IsSettled before w d strings
-  pub kept : EachFrom Keeps 0 before seats
+  pub kept : EachFrom Keeps 0 before chips

@@ -14,7 +14,7 @@ ghost use Rattle.board_chain.specs.Ready.{IsReady};
 
 use crate::chain::Chain;
 use board_chips::{
-    WiredChip, WiredString, Wiring, all_seats, driving_pins, refresh, settle, wired_strings,
+    WiredChip, WiredString, Wiring, all_chips, driving_pins, refresh, settle, wired_strings,
 };
 use board_plan::Plan;
 use std::alloc::{AllocError, Global};
@@ -28,10 +28,10 @@ impl Chain {
         ensures { IfOk result (λ c. c ≡ chain_of (wiring plan.now)) }
     {
         let strings = strings_in_order(alloc, plan)?;
-        let seats = all_seats(alloc, &plan.devices, &plan.nets)?;
+        let chips = all_chips(alloc, &plan.devices, &plan.nets)?;
         let mut wiring = Wiring::new(alloc, &plan.nets)?;
-        refresh(&mut wiring, &seats);
-        first_settled(alloc, seats, wiring, strings)
+        refresh(&mut wiring, &chips);
+        first_settled(alloc, chips, wiring, strings)
     }
 }
 
@@ -50,24 +50,24 @@ fn strings_in_order(alloc: Global, plan: &Plan) -> Result<Vec<WiredString>, Allo
 /// Devices that have put to their nets what they drive: the strings are put behind that.
 fn first_settled(
     alloc: Global,
-    seats: Vec<WiredChip>,
+    chips: Vec<WiredChip>,
     wiring: Wiring,
     strings: Vec<WiredString>,
 ) -> Result<Chain, AllocError>
-    requires told { AllTold false seats.items }
-    requires wired { IsWired seats.items wiring }
-    requires held { AreHeld (map member_of seats.items) (map held_of seats.items) }
-    requires strung { AreStrung wiring.nets (map cells_of seats.items) strings.items }
-    requires order { IsOrderOf wiring.nets (map member_of seats.items) (map placed_of strings.items) }
+    requires told { AllTold false chips.items }
+    requires wired { IsWired chips.items wiring }
+    requires held { AreHeld (map member_of chips.items) (map held_of chips.items) }
+    requires strung { AreStrung wiring.nets (map cells_of chips.items) strings.items }
+    requires order { IsOrderOf wiring.nets (map member_of chips.items) (map placed_of strings.items) }
     ensures { IfOk result (λ c. c ≡ record {
       trst = false;
       nets = wiring.nets;
-      chips = map chip_state seats.items;
+      chips = map chip_state chips.items;
     }) }
 {
-    let mut seats = seats;
+    let mut chips = chips;
     let mut wiring = wiring;
-    let driving = driving_pins(alloc, &wiring, &seats, &strings)?;
-    settle(&mut seats, &mut wiring, &strings);
-    Ok(Chain::of(seats, wiring, driving, strings))
+    let driving = driving_pins(alloc, &wiring, &chips, &strings)?;
+    settle(&mut chips, &mut wiring, &strings);
+    Ok(Chain::of(chips, wiring, driving, strings))
 }

@@ -24,7 +24,7 @@ use std::marker::Model;
 #[derive(Drop)]
 pub struct Chain {
     trst: bool,
-    seats: Vec<WiredChip>,
+    chips: Vec<WiredChip>,
     wiring: Wiring,
     /// The pins that a cell drives, with what was last put to their nets.
     driving: DrivingPins,
@@ -40,29 +40,29 @@ impl Model for Chain {
 
     ghost Value = { ChainValue };
 
-    ghost view = { λ c. record { trst = c.trst; nets = c.wiring.nets; chips = map chip_state c.seats.items } };
+    ghost view = { λ c. record { trst = c.trst; nets = c.wiring.nets; chips = map chip_state c.chips.items } };
 
     ghost invariant = { λ c. record {
-      told : AllTold c.trst c.seats.items;
-      settled : IsSettled c.seats.items c.wiring c.driving c.strings.items;
+      told : AllTold c.trst c.chips.items;
+      settled : IsSettled c.chips.items c.wiring c.driving c.strings.items;
     } };
 }
 
 impl Chain {
     /// Devices with TRST released, the nets between them, and strings.
     pub(crate) fn of(
-        seats: Vec<WiredChip>,
+        chips: Vec<WiredChip>,
         wiring: Wiring,
         driving: DrivingPins,
         strings: Vec<WiredString>,
     ) -> Chain
-        requires told { AllTold false seats.items }
-        requires settled { IsSettled seats.items wiring driving strings.items }
-        ensures { result ≡ record { trst = false; nets = wiring.nets; chips = map chip_state seats.items } }
+        requires told { AllTold false chips.items }
+        requires settled { IsSettled chips.items wiring driving strings.items }
+        ensures { result ≡ record { trst = false; nets = wiring.nets; chips = map chip_state chips.items } }
     {
         Chain {
             trst: false,
-            seats,
+            chips,
             wiring,
             driving,
             strings,
@@ -78,7 +78,7 @@ impl Chain {
               self.old.chips;
         } }
     {
-        rise_all(&mut self.seats, &self.wiring, tms, tdi);
+        rise_all(&mut self.chips, &self.wiring, tms, tdi);
     }
 
     /// A falling edge of all devices at once.
@@ -86,7 +86,7 @@ impl Chain {
         ensures { self.new ≡ record self.old { chips = map meant.fall self.old.chips } }
     {
         fall_settled(
-            &mut self.seats,
+            &mut self.chips,
             &mut self.wiring,
             &mut self.driving,
             &self.strings,
@@ -101,7 +101,7 @@ impl Chain {
         } }
     {
         tell_trst_settled(
-            &mut self.seats,
+            &mut self.chips,
             &mut self.wiring,
             &mut self.driving,
             &self.strings,
@@ -121,15 +121,15 @@ impl Chain {
     pub fn devices(&self) -> usize
         ensures { result ≡ length self.now.chips }
     {
-        self.seats.len()
+        self.chips.len()
     }
 
     /// Device `i`, counted from the one nearest TDO.
-    pub fn seat(&self, i: usize) -> &WiredChip
+    pub fn chip(&self, i: usize) -> &WiredChip
         requires { i < length self.now.chips }
         ensures { slice_get self.now.chips i ≡ Some (chip_state result.now) }
     {
-        &self.seats[i]
+        &self.chips[i]
     }
 
     /// The net that the port of a cell of device `i` is on; `None` where the cell has no port, or that is on no net
@@ -139,7 +139,7 @@ impl Chain {
         ensures { option_map (λ c. option_and_then (cell_net self.now.nets i) (slice_get c.member.device.cells cell))
             (slice_get self.now.chips i) ≡ Some result }
     {
-        cell_net_of(&self.seats, &self.wiring, i, cell)
+        cell_net_of(&self.chips, &self.wiring, i, cell)
     }
 
     /// How many nets have a name.
@@ -166,97 +166,106 @@ impl Chain {
         self.wiring.level(net)
     }
 
+    /// Whether strong drivers of 0 and of 1 are on a net.
+    pub fn is_opposed(&self, net: usize) -> bool
+        requires { net < length self.now.nets }
+        ensures { option_map (nets.is_opposed self.now.nets (meant.members self.now.chips)) (slice_get self.now.nets net)
+            ≡ Some result }
+    {
+        self.wiring.is_opposed(net)
+    }
+
     /// The TDO of the first device, which reads 1 while it is not driven.
     pub fn tdo(&self) -> bool
         ensures { result ≡ meant.tdi_before true self.now.chips }
     {
-        tdi_of(&self.seats, 0, true)
+        tdi_of(&self.chips, 0, true)
     }
 }
 
 /// The net that the port of a cell of a device is on.
-fn cell_net_of(seats: &[WiredChip], wiring: &Wiring, i: usize, cell: usize) -> Option<usize>
-    requires wired { IsWired seats.now wiring.now }
-    requires device { i < length seats.now }
+fn cell_net_of(chips: &[WiredChip], wiring: &Wiring, i: usize, cell: usize) -> Option<usize>
+    requires wired { IsWired chips.now wiring.now }
+    requires device { i < length chips.now }
     ensures { option_map (λ s. option_and_then (cell_net wiring.now.nets i) (slice_get s.chip.device.cells cell))
-        (slice_get seats.now i) ≡ Some result }
+        (slice_get chips.now i) ≡ Some result }
 {
     let _ = wiring;
-    seats[i].cell_net(cell)
+    chips[i].cell_net(cell)
 }
 
 /// The TDI of what stands before device `i`: its TDO, which reads 1 while it is not driven, or the given level where
 /// there is no such device.
-fn tdi_of(seats: &[WiredChip], i: usize, tdi: bool) -> bool
-    ensures { result ≡ meant.tdi_before tdi (drop i (map chip_state seats.now)) }
+fn tdi_of(chips: &[WiredChip], i: usize, tdi: bool) -> bool
+    ensures { result ≡ meant.tdi_before tdi (drop i (map chip_state chips.now)) }
 {
-    match seats.get(i) {
-        Some(seat) => seat.tdo().unwrap_or(true),
+    match chips.get(i) {
+        Some(chip) => chip.tdo().unwrap_or(true),
         None => tdi,
     }
 }
 
 /// A rising edge of all devices. TDO changes on falling edges alone, so each device sees the TDO of before.
-fn rise_all(seats: &mut [WiredChip], wiring: &Wiring, tms: bool, tdi: bool)
-    requires { IsWired seats.old wiring.now }
-    ensures { EachFrom (Rises wiring.now tms tdi seats.old) 0 seats.old seats.new }
+fn rise_all(chips: &mut [WiredChip], wiring: &Wiring, tms: bool, tdi: bool)
+    requires { IsWired chips.old wiring.now }
+    ensures { EachFrom (Rises wiring.now tms tdi chips.old) 0 chips.old chips.new }
 {
-    for i in 0..seats.len() {
-        let before = tdi_of(seats, i + 1, tdi);
-        seats[i].rise(wiring, tms, before);
+    for i in 0..chips.len() {
+        let before = tdi_of(chips, i + 1, tdi);
+        chips[i].rise(wiring, tms, before);
     }
 }
 
 /// A falling edge of all devices; where it may have changed what they drive, that and the strings are put anew.
 fn fall_settled(
-    seats: &mut [WiredChip],
+    chips: &mut [WiredChip],
     wiring: &mut Wiring,
     driving: &mut DrivingPins,
     strings: &[WiredString],
 )
-    requires { IsSettled seats.old wiring.old driving.old strings.now }
-    ensures settled { IsSettled seats.new wiring.new driving.new strings.now }
-    ensures long { length seats.new ≡ length seats.old }
-    ensures chips { map chip_state seats.new ≡ map meant.fall (map chip_state seats.old) }
-    ensures told { (trst : Bool) → AllTold trst seats.old → AllTold trst seats.new }
+    requires { IsSettled chips.old wiring.old driving.old strings.now }
+    ensures settled { IsSettled chips.new wiring.new driving.new strings.now }
+    ensures long { length chips.new ≡ length chips.old }
+    ensures chips { map chip_state chips.new ≡ map meant.fall (map chip_state chips.old) }
+    ensures told { (trst : Bool) → AllTold trst chips.old → AllTold trst chips.new }
     ensures nets { wiring.new.nets ≡ wiring.old.nets }
 {
-    let anew = fall_all(seats);
+    let anew = fall_all(chips);
     if anew {
-        put_anew(seats, wiring, driving, strings);
+        put_anew(chips, wiring, driving, strings);
     }
 }
 
 /// TRST is asserted to all devices, and what they drive from then on and the strings are put anew; or it is released.
 fn tell_trst_settled(
-    seats: &mut [WiredChip],
+    chips: &mut [WiredChip],
     wiring: &mut Wiring,
     driving: &mut DrivingPins,
     strings: &[WiredString],
     trst: bool,
 )
-    requires { IsSettled seats.old wiring.old driving.old strings.now }
-    ensures settled { IsSettled seats.new wiring.new driving.new strings.now }
-    ensures long { length seats.new ≡ length seats.old }
-    ensures chips { map chip_state seats.new
-        ≡ (if trst then map meant.assert_trst (map chip_state seats.old) else map chip_state seats.old) }
-    ensures told { AllTold trst seats.new }
+    requires { IsSettled chips.old wiring.old driving.old strings.now }
+    ensures settled { IsSettled chips.new wiring.new driving.new strings.now }
+    ensures long { length chips.new ≡ length chips.old }
+    ensures chips { map chip_state chips.new
+        ≡ (if trst then map meant.assert_trst (map chip_state chips.old) else map chip_state chips.old) }
+    ensures told { AllTold trst chips.new }
     ensures nets { wiring.new.nets ≡ wiring.old.nets }
 {
-    tell_trst_all(seats, trst);
+    tell_trst_all(chips, trst);
     if trst {
-        put_anew(seats, wiring, driving, strings);
+        put_anew(chips, wiring, driving, strings);
     }
 }
 
 /// A falling edge of all devices. Answers whether what a pin drives may have changed.
-fn fall_all(seats: &mut [WiredChip]) -> bool
-    ensures devices { EachFrom Falls 0 seats.old seats.new }
-    ensures still { result ≡ false → EachFrom Still 0 seats.old seats.new }
+fn fall_all(chips: &mut [WiredChip]) -> bool
+    ensures devices { EachFrom Falls 0 chips.old chips.new }
+    ensures still { result ≡ false → EachFrom Still 0 chips.old chips.new }
 {
     let mut anew = false;
-    for seat in seats.iter_mut() {
-        if seat.fall_anew() {
+    for chip in chips.iter_mut() {
+        if chip.fall_anew() {
             anew = true;
         }
     }
@@ -264,10 +273,10 @@ fn fall_all(seats: &mut [WiredChip]) -> bool
 }
 
 /// TRST is asserted to all devices, or released.
-fn tell_trst_all(seats: &mut [WiredChip], trst: bool)
-    ensures { EachFrom (TakesTrst trst) 0 seats.old seats.new }
+fn tell_trst_all(chips: &mut [WiredChip], trst: bool)
+    ensures { EachFrom (TakesTrst trst) 0 chips.old chips.new }
 {
-    for seat in seats.iter_mut() {
-        seat.tell_trst(trst);
+    for chip in chips.iter_mut() {
+        chip.tell_trst(trst);
     }
 }

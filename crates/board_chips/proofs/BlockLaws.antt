@@ -19,26 +19,26 @@ use Rattle.board_chips.specs.Blocks.{TellsBlock, TellsOwn, stands}
 use Rattle.board_chips.specs.Driving.{cells_of, drives_at, leaves_at}
 use Rattle.board_chips.specs.WiredChips.{WiredChipValue, held_of}
 use Rattle.board_chips.specs.declared.driving.Block.{Block}
-use Rattle.board_chips.proofs.DrivingLaws.{cell_by_seat}
+use Rattle.board_chips.proofs.DrivingLaws.{cell_by_chip}
 
 pub no : false ≡ true → ⊥
 no e = cc
 
-leaves_by_seat : (seats : List WiredChipValue) (device cell : ℕ) (s : WiredChipValue) → slice_get seats device ≡ Some s
-    → cell_leaves (cells_of s) cell ≡ leaves_at (map cells_of seats) device cell
-leaves_by_seat seats device cell s at =
-    let there : slice_get (map cells_of seats) device ≡ Some (cells_of s) = slice_get-map cells_of seats device ∙ ap (option_map cells_of) at in
+leaves_by_chip : (chips : List WiredChipValue) (device cell : ℕ) (s : WiredChipValue) → slice_get chips device ≡ Some s
+    → cell_leaves (cells_of s) cell ≡ leaves_at (map cells_of chips) device cell
+leaves_by_chip chips device cell s at =
+    let there : slice_get (map cells_of chips) device ≡ Some (cells_of s) = slice_get-map cells_of chips device ∙ ap (option_map cells_of) at in
     sym (ap (λ (o : Option (List Cell)). unwrap_or (option_map (λ (cs : List Cell). cell_leaves cs cell) o) Nothing) there)
 
 -- what a device says of 64 of its cells
-pub block_tells : (seats : List WiredChipValue) (s : WiredChipValue) (b : Block) (now : DrivenCells) → slice_get seats b.device ≡ Some s → TellsOwn (held_of s) b.first now
-    → TellsBlock (map cells_of seats) (map held_of seats) b now
-block_tells seats s b now at tells = record {
+pub block_tells : (chips : List WiredChipValue) (s : WiredChipValue) (b : Block) (now : DrivenCells) → slice_get chips b.device ≡ Some s → TellsOwn (held_of s) b.first now
+    → TellsBlock (map cells_of chips) (map held_of chips) b now
+block_tells chips s b now at tells = record {
   each = λ j h.
-      subst (λ (left : Drive). Tells now left j (Some (drives_at (map held_of seats) b.device (b.first + j))))
-      (leaves_by_seat seats b.device (b.first + j) s at)
+      subst (λ (left : Drive). Tells now left j (Some (drives_at (map held_of chips) b.device (b.first + j))))
+      (leaves_by_chip chips b.device (b.first + j) s at)
       (subst (λ (d : Drive). Tells now (cell_leaves (cells_of s) (b.first + j)) j (Some d))
-      (cell_by_seat seats b.device (b.first + j) s _ at refl) (tells.each j h));
+      (cell_by_chip chips b.device (b.first + j) s _ at refl) (tells.each j h));
 }
 
 -- ---- which of them drive what they drove

@@ -26,47 +26,47 @@ use Rattle.board_plan.specs.declared.plan.PlannedDevice.{PlannedDevice}
 use Rattle.board_plan.proofs.CellLaws.{ports_fit}
 use Rattle.board_plan.proofs.TableLaws.{length-all_cell_nets, planned_at, vector_at}
 use Rattle.board_model.specs.Nets.{pin_drive}
-use Rattle.board_chips.specs.Building.{seat_of, seats_of}
+use Rattle.board_chips.specs.Building.{wired_chip_of, wired_chips_of}
 use Rattle.board_chips.specs.WiredChips.{AllTold, WiredChipValue, held_of}
 use Rattle.board_chips.specs.WiringValues.{WiringValue}
 use Rattle.board_chips.specs.Wires.{ArePinsBelow, AreWired, IsWired}
 
 -- ---- pins are port bits
 
-pub seated : (members : List planned.Member) (pins : List Pin) → AllByRecursion (IsPinOf members) pins → ArePinsBelow (length members) pins
-seated members [] all = tt
-seated members (q ∷ pins) all = let its = all.0 in (slice_get_within members q.device its.0 its.1, seated members pins all.1)
+pub pins_within : (members : List planned.Member) (pins : List Pin) → AllByRecursion (IsPinOf members) pins → ArePinsBelow (length members) pins
+pins_within members [] all = tt
+pins_within members (q ∷ pins) all = let its = all.0 in (slice_get_within members q.device its.0 its.1, pins_within members pins all.1)
 
 pub all_fit : (members : List planned.Member) (nets : List Net) → AllByRecursion (IsPinOf members) (all_pins nets) → AllPortsFit members nets
 all_fit members nets pins = record { each = λ place m at. ports_fit place members m nets at pins }
 
--- ---- seats
+-- ---- chips
 
-pub length-seats : (nets : List Net) (k : ℕ) (ms : List planned.Member) → length (seats_of nets k ms) ≡ length ms
-length-seats nets k [] = refl
-length-seats nets k (m ∷ ms) = let rest = length-seats nets (suc k) ms in omega (arith, rest)
+pub length-chips : (nets : List Net) (k : ℕ) (ms : List planned.Member) → length (wired_chips_of nets k ms) ≡ length ms
+length-chips nets k [] = refl
+length-chips nets k (m ∷ ms) = let rest = length-chips nets (suc k) ms in omega (arith, rest)
 
-pub seat_more : (nets : List Net) (k i : ℕ) (ms : List planned.Member) (m : planned.Member) → slice_get ms i ≡ Some m
-    → take (i + 1) (seats_of nets k ms) ≡ take i (seats_of nets k ms) ++ seat_of (map (cell_net nets (k + i)) m.device.cells) m ∷ []
-seat_more nets k i [] m at = absurd (none-some m at)
-seat_more nets k zero (x ∷ ms) m at =
+pub chip_more : (nets : List Net) (k i : ℕ) (ms : List planned.Member) (m : planned.Member) → slice_get ms i ≡ Some m
+    → take (i + 1) (wired_chips_of nets k ms) ≡ take i (wired_chips_of nets k ms) ++ wired_chip_of (map (cell_net nets (k + i)) m.device.cells) m ∷ []
+chip_more nets k i [] m at = absurd (none-some m at)
+chip_more nets k zero (x ∷ ms) m at =
     let same : k ≡ k + 0 = omega arith in
-    λ i. seat_of (map (cell_net nets (same i)) (same_Some _ _ at i).device.cells) (same_Some _ _ at i) ∷ []
-seat_more nets k (suc i) (x ∷ ms) m at =
+    λ i. wired_chip_of (map (cell_net nets (same i)) (same_Some _ _ at i).device.cells) (same_Some _ _ at i) ∷ []
+chip_more nets k (suc i) (x ∷ ms) m at =
     let next : suc i + 1 ≡ suc (i + 1) = omega arith in
     let same : suc k + i ≡ k + suc i = omega arith in
-    let first = seat_of (map (cell_net nets k) x.device.cells) x in
-    ap (λ (j : ℕ). take j (seats_of nets k (x ∷ ms))) next
-    ∙ ap (λ (r : List WiredChipValue). first ∷ r) (seat_more nets (suc k) i ms m at)
-    ∙ ap (λ (j : ℕ). first ∷ take i (seats_of nets (suc k) ms) ++ seat_of (map (cell_net nets j) m.device.cells) m ∷ []) same
+    let first = wired_chip_of (map (cell_net nets k) x.device.cells) x in
+    ap (λ (j : ℕ). take j (wired_chips_of nets k (x ∷ ms))) next
+    ∙ ap (λ (r : List WiredChipValue). first ∷ r) (chip_more nets (suc k) i ms m at)
+    ∙ ap (λ (j : ℕ). first ∷ take i (wired_chips_of nets (suc k) ms) ++ wired_chip_of (map (cell_net nets j) m.device.cells) m ∷ []) same
 
-pub seats_wired : (nets : List Net) (k : ℕ) (ms : List planned.Member) → AreWired nets k (seats_of nets k ms)
-seats_wired nets k [] = tt
-seats_wired nets k (m ∷ ms) = (refl, seats_wired nets (suc k) ms)
+pub chips_wired : (nets : List Net) (k : ℕ) (ms : List planned.Member) → AreWired nets k (wired_chips_of nets k ms)
+chips_wired nets k [] = tt
+chips_wired nets k (m ∷ ms) = (refl, chips_wired nets (suc k) ms)
 
-pub seats_told : (nets : List Net) (k : ℕ) (ms : List planned.Member) → AllTold false (seats_of nets k ms)
-seats_told nets k [] = tt
-seats_told nets k (m ∷ ms) = (refl, seats_told nets (suc k) ms)
+pub chips_told : (nets : List Net) (k : ℕ) (ms : List planned.Member) → AllTold false (wired_chips_of nets k ms)
+chips_told nets k [] = tt
+chips_told nets k (m ∷ ms) = (refl, chips_told nets (suc k) ms)
 
 pub all_at : {A : Type 0} (P : A → Type 0) (l : List A) (i : ℕ) (x : A) → AllByRecursion P l → slice_get l i ≡ Some x → P x
 all_at P [] i x all at = absurd (none-some x at)
@@ -75,19 +75,19 @@ all_at P (y ∷ l) (suc i) x all at = all_at P l i x all.1 at
 
 -- ---- lists that grow
 
-pub seats_end : (nets : List Net) (ms : List planned.Member) (seats : List WiredChipValue) (i : ℕ) → seats ≡ take i (seats_of nets 0 ms) → length ms ≤ i → seats ≡ seats_of nets 0 ms
-seats_end nets ms seats i e h = e ∙ take_all i (seats_of nets 0 ms) (omega (arith, h, length-seats nets 0 ms))
+pub chips_end : (nets : List Net) (ms : List planned.Member) (chips : List WiredChipValue) (i : ℕ) → chips ≡ take i (wired_chips_of nets 0 ms) → length ms ≤ i → chips ≡ wired_chips_of nets 0 ms
+chips_end nets ms chips i e h = e ∙ take_all i (wired_chips_of nets 0 ms) (omega (arith, h, length-chips nets 0 ms))
 
-pub seat_push : (nets : List Net) (ms : List planned.Member) (i : ℕ) (m : planned.Member) (seats new : List WiredChipValue) (s : WiredChipValue) (cells : List (Option ℕ)) (d : Device)
-    → slice_get ms i ≡ Some m → seats ≡ take i (seats_of nets 0 ms) → d ≡ m.device → cells ≡ map (cell_net nets i) d.cells → s ≡ seat_of cells m → new ≡ seats ++ s ∷ []
-    → new ≡ take (i + 1) (seats_of nets 0 ms)
-seat_push nets ms i m seats new s cells d at are described wired is e =
+pub chip_push : (nets : List Net) (ms : List planned.Member) (i : ℕ) (m : planned.Member) (chips new : List WiredChipValue) (s : WiredChipValue) (cells : List (Option ℕ)) (d : Device)
+    → slice_get ms i ≡ Some m → chips ≡ take i (wired_chips_of nets 0 ms) → d ≡ m.device → cells ≡ map (cell_net nets i) d.cells → s ≡ wired_chip_of cells m → new ≡ chips ++ s ∷ []
+    → new ≡ take (i + 1) (wired_chips_of nets 0 ms)
+chip_push nets ms i m chips new s cells d at are described wired is e =
     let place : i ≡ 0 + i = omega arith in
     let cells-are : cells ≡ map (cell_net nets (0 + i)) m.device.cells =
     wired ∙ ap (λ (x : Device). map (cell_net nets i) x.cells) described ∙ ap (λ (k : ℕ). map (cell_net nets k) m.device.cells) place in
     e ∙ ap (λ (l : List WiredChipValue). l ++ s ∷ []) are
-    ∙ ap (λ (x : WiredChipValue). take i (seats_of nets 0 ms) ++ x ∷ []) (is ∙ ap (λ (cs : List (Option ℕ)). seat_of cs m) cells-are)
-    ∙ sym (seat_more nets 0 i ms m at)
+    ∙ ap (λ (x : WiredChipValue). take i (wired_chips_of nets 0 ms) ++ x ∷ []) (is ∙ ap (λ (cs : List (Option ℕ)). wired_chip_of cs m) cells-are)
+    ∙ sym (chip_more nets 0 i ms m at)
 
 -- ---- each device with its cells
 
@@ -150,16 +150,16 @@ turns_end s z it t u nets devices all same first rest second are xs so_far r is 
 
 -- ---- the start
 
-pub start_seated : (nets : List Net) (ms : List planned.Member) (seats : List WiredChipValue) (w : WiringValue) → AllByRecursion (IsPinOf ms) (all_pins nets)
-    → seats ≡ seats_of nets 0 ms → w.nets ≡ nets → ArePinsBelow (length seats) (all_pins w.nets)
-start_seated nets ms seats w all are same =
-    subst (λ (l : List Net). ArePinsBelow (length seats) (all_pins l)) (sym same)
-    (subst (λ (n : ℕ). ArePinsBelow n (all_pins nets)) (sym (ap length are ∙ length-seats nets 0 ms)) (seated ms (all_pins nets) all))
+pub start_within : (nets : List Net) (ms : List planned.Member) (chips : List WiredChipValue) (w : WiringValue) → AllByRecursion (IsPinOf ms) (all_pins nets)
+    → chips ≡ wired_chips_of nets 0 ms → w.nets ≡ nets → ArePinsBelow (length chips) (all_pins w.nets)
+start_within nets ms chips w all are same =
+    subst (λ (l : List Net). ArePinsBelow (length chips) (all_pins l)) (sym same)
+    (subst (λ (n : ℕ). ArePinsBelow n (all_pins nets)) (sym (ap length are ∙ length-chips nets 0 ms)) (pins_within ms (all_pins nets) all))
 
 pub start_wired : (nets : List Net) (ms : List planned.Member) (w v : WiringValue) → AllByRecursion (IsPinOf ms) (all_pins nets) → w.nets ≡ nets
-    → v ≡ record w { drives = map (pin_drive (map held_of (seats_of nets 0 ms))) (all_pins w.nets) } → IsWired (seats_of nets 0 ms) v
-start_wired nets ms w v all same is = subst (λ (x : WiringValue). IsWired (seats_of nets 0 ms) x) (sym is) (record {
+    → v ≡ record w { drives = map (pin_drive (map held_of (wired_chips_of nets 0 ms))) (all_pins w.nets) } → IsWired (wired_chips_of nets 0 ms) v
+start_wired nets ms w v all same is = subst (λ (x : WiringValue). IsWired (wired_chips_of nets 0 ms) x) (sym is) (record {
   drives = refl;
-  cells = subst (λ (l : List Net). AreWired l 0 (seats_of nets 0 ms)) (sym same) (seats_wired nets 0 ms);
-  pins = start_seated nets ms (seats_of nets 0 ms) w all refl same;
+  cells = subst (λ (l : List Net). AreWired l 0 (wired_chips_of nets 0 ms)) (sym same) (chips_wired nets 0 ms);
+  pins = start_within nets ms (wired_chips_of nets 0 ms) w all refl same;
 })

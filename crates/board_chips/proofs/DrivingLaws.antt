@@ -67,9 +67,9 @@ driven ms p k c some = by (slice_get ms p.device) refl
         ∙ by-cell m p.port (Some c) its
         ∙ sym (ap (λ (x : Option Member). unwrap_or (option_map (λ (y : Member). drive y p.port) x) Nothing) at)
 
-pub seats_cells : (seats : List WiredChipValue) → map member-cells (map held_of seats) ≡ map cells_of seats
-seats_cells [] = refl
-seats_cells (s ∷ seats) = ap (λ (l : List (List Cell)). cells_of s ∷ l) (seats_cells seats)
+pub chips_cells : (chips : List WiredChipValue) → map member-cells (map held_of chips) ≡ map cells_of chips
+chips_cells [] = refl
+chips_cells (s ∷ chips) = ap (λ (l : List (List Cell)). cells_of s ∷ l) (chips_cells chips)
 
 -- ---- an entry is that of a pin and a device
 
@@ -152,10 +152,10 @@ pin_cases cells k (q ∷ pins) (suc i) p at = ⊎_elim inl (λ h. inr (by h (dri
     }
 
 -- what the code takes from a device is what its cell drives
-pub cell_by_seat : (seats : List WiredChipValue) (device cell : ℕ) (s : WiredChipValue) (d : Drive) → slice_get seats device ≡ Some s → d ≡ cell_drives (held_of s) cell
-    → d ≡ drives_at (map held_of seats) device cell
-cell_by_seat seats device cell s d at is =
-    let there : slice_get (map held_of seats) device ≡ Some (held_of s) = slice_get-map held_of seats device ∙ ap (option_map held_of) at in
+pub cell_by_chip : (chips : List WiredChipValue) (device cell : ℕ) (s : WiredChipValue) (d : Drive) → slice_get chips device ≡ Some s → d ≡ cell_drives (held_of s) cell
+    → d ≡ drives_at (map held_of chips) device cell
+cell_by_chip chips device cell s d at is =
+    let there : slice_get (map held_of chips) device ≡ Some (held_of s) = slice_get-map held_of chips device ∙ ap (option_map held_of) at in
     is ∙ sym (ap (λ (o : Option Member). unwrap_or (option_map (λ (m : Member). cell_drives m cell) o) Nothing) there)
 
 -- ---- the table is made pin after pin
@@ -184,7 +184,7 @@ one_more_pin cells pins k p driver items new all at is pushed kept =
     ∙ ap (λ (l : List DrivingPin). items ++ l) (put-before k p.device driver rest ∙ sym front)
     ∙ kept
 
-pub driver_by_seat : (seats : List WiredChipValue) (p : Pin) (s : WiredChipValue) (driver : Option ℕ) → slice_get seats p.device ≡ Some s
-    → driver ≡ driver_from p.port 0 s.chip.device.cells → driver ≡ driver_of (map cells_of seats) p
-driver_by_seat seats p s driver at is =
-    is ∙ sym (ap (option_and_then (driver_from p.port 0)) (slice_get-map cells_of seats p.device ∙ ap (option_map cells_of) at))
+pub driver_by_chip : (chips : List WiredChipValue) (p : Pin) (s : WiredChipValue) (driver : Option ℕ) → slice_get chips p.device ≡ Some s
+    → driver ≡ driver_from p.port 0 s.chip.device.cells → driver ≡ driver_of (map cells_of chips) p
+driver_by_chip chips p s driver at is =
+    is ∙ sym (ap (option_and_then (driver_from p.port 0)) (slice_get-map cells_of chips p.device ∙ ap (option_map cells_of) at))

@@ -8,7 +8,8 @@ use Rattle.pin_nets.specs.declared.Drive.{Drive}
 use Rattle.pin_nets.specs.declared.Drive.TheVariants.{Nothing}
 use Rattle.pin_nets.specs.declared.Level.{Level}
 use Rattle.pin_nets.specs.declared.Pin.{Pin}
-use Rattle.pin_nets.specs.Levels.{drive_at, level, pull_drive, reads, shown as shown_by}
+use Rattle.pin_nets.specs.declared.Rule.{Rule}
+use Rattle.pin_nets.specs.Levels.{drive_at, is_opposed, level, net_counts, opposed_by, pull_drive, reads, shown as shown_by}
 use Rattle.pin_nets.specs.Wired.{Net}
 use Rattle.board_plan.specs.Planned.{all_pins}
 use Rattle.board_plan.specs.PinNumbers.{with_pin_numbers}
@@ -35,16 +36,18 @@ ranged drives k (x ∷ xs) rest e =
 abbrev shown : (f : Pin → Drive) → Net → Level
 shown f n = shown_by n.rule (pull_drive n.pull) (map f n.pins)
 
-numbered-level : (f : Pin → Drive) (drives : List Drive) (k : ℕ) (ns : List Net) (net : ℕ) → drop k drives ≡ map f (all_pins ns)
-    → option_map (level drives) (slice_get (with_pin_numbers k ns) net) ≡ option_map (shown f) (slice_get ns net)
-numbered-level f drives k [] net e = refl
-numbered-level f drives k (n ∷ ns) zero e =
+-- what is made of a net's rule, its pull and what its pins drive, of numbered nets
+numbered-made : {X : Type 0} (g : Rule → Drive → List Drive → X) (f : Pin → Drive) (drives : List Drive) (k : ℕ) (ns : List Net) (net : ℕ) → drop k drives ≡ map f (all_pins ns)
+    → option_map (λ x. g x.rule (pull_drive x.pull) (map (drive_at drives) x.pins)) (slice_get (with_pin_numbers k ns) net)
+    ≡ option_map (λ n. g n.rule (pull_drive n.pull) (map f n.pins)) (slice_get ns net)
+numbered-made g f drives k [] net e = refl
+numbered-made g f drives k (n ∷ ns) zero e =
     let long : length (map f n.pins) ≡ length n.pins = length-map n.pins f in
     let pins : map (drive_at drives) (range_with_len k (length n.pins)) ≡ map f n.pins =
     sym (ap (λ (m : ℕ). map (drive_at drives) (range_with_len k m)) long)
     ∙ ranged drives k (map f n.pins) (map f (all_pins ns)) (e ∙ map-append f n.pins (all_pins ns)) in
-    ap (λ (ds : List Drive). Some (shown_by n.rule (pull_drive n.pull) ds)) pins
-numbered-level f drives k (n ∷ ns) (suc net) e = numbered-level f drives (k + length n.pins) ns net (past (map f n.pins) (map f (all_pins ns)) k (length-map n.pins f) (e ∙ map-append f n.pins (all_pins ns)))
+    ap (λ (ds : List Drive). Some (g n.rule (pull_drive n.pull) ds)) pins
+numbered-made g f drives k (n ∷ ns) (suc net) e = numbered-made g f drives (k + length n.pins) ns net (past (map f n.pins) (map f (all_pins ns)) k (length-map n.pins f) (e ∙ map-append f n.pins (all_pins ns)))
   where
     past : (xs rest : List Drive) (k : ℕ) {m : ℕ} → length xs ≡ m → drop k drives ≡ xs ++ rest → drop (k + m) drives ≡ rest
     past [] rest k is e = let same : k + 0 ≡ k = omega arith in ap (λ (j : ℕ). drop (k + j) drives) (sym is) ∙ ap (λ (j : ℕ). drop j drives) same ∙ e
@@ -71,7 +74,7 @@ net_put drives ns net l h is =
 
 pub net_level : (f : Pin → Drive) (drives : List Drive) (ns : List Net) (net : ℕ) (l : Level) → net < length ns → drives ≡ map f (all_pins ns)
     → option_map (level drives) (slice_get (all_nets ns) net) ≡ Some l → option_map (shown f) (slice_get ns net) ≡ Some l
-net_level f drives ns net l h e is = sym (numbered-level f drives 0 ns net e) ∙ net_put drives ns net l h is
+net_level f drives ns net l h e is = sym (numbered-made shown_by f drives 0 ns net e) ∙ net_put drives ns net l h is
 
 -- what is seen of a level
 read-of : {A : Type 0} (g : A → Level) (o : Option A) → option_map reads (option_map g o) ≡ option_map (λ x. reads (g x)) o
@@ -100,6 +103,14 @@ pub seen_driven : (f : Pin → Drive) (drives : List Drive) (ns : List Net) (net
 seen_driven f drives ns net b h e is =
     let r = read-at (option_map (level drives) (slice_get (all_nets ns) net)) b (read-of (level drives) (slice_get (all_nets ns) net) ∙ is) in
     sym (read-of (shown f) (slice_get ns net)) ∙ ap (option_map reads) (net_level f drives ns net r.l h e r.there) ∙ r.is
+
+pub opposed_driven : (f : Pin → Drive) (drives : List Drive) (ns : List Net) (net : ℕ) (b : Bool) → net < length ns → drives ≡ map f (all_pins ns)
+    → option_map (λ n. is_opposed (net_counts drives n)) (slice_get (all_nets ns) net) ≡ Some b
+    → option_map (λ n. opposed_by (pull_drive n.pull) (map f n.pins)) (slice_get ns net) ≡ Some b
+opposed_driven f drives ns net b h e is =
+    let below : net < length (with_pin_numbers 0 ns) = omega (arith, length-numbered 0 ns, h) in
+    sym (numbered-made (λ rule pull ds. opposed_by pull ds) f drives 0 ns net e)
+    ∙ sym (ap (option_map (λ n. is_opposed (net_counts drives n))) (left-part (with_pin_numbers 0 ns) _ net below)) ∙ is
 
 -- what is there, put there again, changes nothing
 pub set-same : {A : Type 0} (xs : List A) (i : ℕ) (x : A) → slice_get xs i ≡ Some x → slice_set xs i x ≡ xs

@@ -30,13 +30,13 @@ put_more f pins old ds i d x long e at is =
     one (p ∷ pins) (o ∷ old) zero long at = ap (λ (q : Pin). f q ∷ old) (sym (one_pin p x at))
     one (p ∷ pins) (o ∷ old) (suc i) long at = ap (λ (r : List Drive). f p ∷ r) (one pins old i (omega (arith, long)) at)
 
--- what a pin drives, by its seat
-pub pin_by_seat : (seats : List WiredChipValue) (pin : Pin) (s : WiredChipValue) (d : Drive) → slice_get seats pin.device ≡ Some s → d ≡ drive (held_of s) pin.port → d ≡ pin_drive (map held_of seats) pin
-pin_by_seat seats pin s d at is =
-    let there : slice_get (map held_of seats) pin.device ≡ Some (held_of s) = slice_get-map held_of seats pin.device ∙ ap (option_map held_of) at in
+-- what a pin drives, by its chip
+pub pin_by_chip : (chips : List WiredChipValue) (pin : Pin) (s : WiredChipValue) (d : Drive) → slice_get chips pin.device ≡ Some s → d ≡ drive (held_of s) pin.port → d ≡ pin_drive (map held_of chips) pin
+pin_by_chip chips pin s d at is =
+    let there : slice_get (map held_of chips) pin.device ≡ Some (held_of s) = slice_get-map held_of chips pin.device ∙ ap (option_map held_of) at in
     is ∙ sym (ap (λ (o : Option Member). unwrap_or (option_map (λ (m : Member). drive m pin.port) o) Nothing) there)
 
-pub seat_of : (n : ℕ) (pins : List Pin) (i : ℕ) (x : Pin) → ArePinsBelow n pins → slice_get pins i ≡ Some x → x.device < n
-seat_of n [] i x all at = absurd (no_pin i x at)
-seat_of n (p ∷ pins) zero x all at = subst (λ (q : Pin). q.device < n) (one_pin p x at) all.0
-seat_of n (p ∷ pins) (suc i) x all at = seat_of n pins i x all.1 at
+pub device_below : (n : ℕ) (pins : List Pin) (i : ℕ) (x : Pin) → ArePinsBelow n pins → slice_get pins i ≡ Some x → x.device < n
+device_below n [] i x all at = absurd (no_pin i x at)
+device_below n (p ∷ pins) zero x all at = subst (λ (q : Pin). q.device < n) (one_pin p x at) all.0
+device_below n (p ∷ pins) (suc i) x all at = device_below n pins i x all.1 at

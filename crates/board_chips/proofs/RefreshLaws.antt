@@ -26,7 +26,7 @@ use Rattle.board_chips.specs.DrivingTable.{DrivingTable}
 use Rattle.board_chips.specs.declared.strings.WiredString.{WiredString}
 use Rattle.boundary.proofs.MaskLaws.{zero_bit}
 use Rattle.board_chips.proofs.BlockLaws.{no, stood}
-use Rattle.board_chips.proofs.DrivingLaws.{entry_of_pin, seats_cells}
+use Rattle.board_chips.proofs.DrivingLaws.{entry_of_pin, chips_cells}
 use Rattle.board_chips.proofs.ListLaws.{set_here, set_there}
 use Rattle.board_chips.proofs.SettleLaws.{all_settled, put_settled, settles_put}
 
@@ -110,29 +110,29 @@ rest_more put first i now same k h = let apart : k ≢ i = λ e. absurd (omega (
 
 -- ---- the whole table
 
-module _ (seats : List WiredChipValue) (nets : List Net) where
+module _ (chips : List WiredChipValue) (nets : List Net) where
   abbrev its-cells : List (List Cell)
-  its-cells = map cells_of seats
+  its-cells = map cells_of chips
 
   abbrev pub entries : List DrivingPin
   entries = driving_from its-cells 0 (all_pins nets)
 
   abbrev its-members : List Member
-  its-members = map held_of seats
+  its-members = map held_of chips
 
-  pub targeted : (e : DrivingPin) → Contains entries e → IsTargeted its-members (targets seats nets) e
+  pub targeted : (e : DrivingPin) → Contains entries e → IsTargeted its-members (targets chips nets) e
   targeted e has =
       let there = slice_get-get_or entries has.0 e has.1 ∙ ap Some has.2 in
-      let r = entry_of_pin its-cells its-members (seats_cells seats) 0 (all_pins nets) has.0 e there in
+      let r = entry_of_pin its-cells its-members (chips_cells chips) 0 (all_pins nets) has.0 e there in
       let pin : e.pin ≡ r.i = omega (arith, r.pin) in
-      record { device = r.device; pin = ap (slice_get (targets seats nets)) pin ∙ r.drives }
+      record { device = r.device; pin = ap (slice_get (targets chips nets)) pin ∙ r.drives }
 
   pub table_targeted : (d : DrivingTable) → IsTable entries (length its-cells) d → (i : ℕ) (b : Block) → slice_get d.blocks i ≡ Some b
-      → AreTargeted its-members (targets seats nets) d.pins (64 * i) b
+      → AreTargeted its-members (targets chips nets) d.pins (64 * i) b
   table_targeted d t i b at =
       let block = t.slots.within i b at in
       record {
-        device = omega (arith, block.device, length-map seats cells_of, length-map seats held_of);
+        device = omega (arith, block.device, length-map chips cells_of, length-map chips held_of);
         first = block.first;
         slots = record {
           each = λ j h marked. (targeted (slot_of d.pins i b j) (t.parts.first (slot_of d.pins i b j) (t.slots.each i j b at h marked))).pin;
@@ -140,21 +140,21 @@ module _ (seats : List WiredChipValue) (nets : List Net) where
       }
 
   pub rest_targeted : (d : DrivingTable) → IsTable entries (length its-cells) d → (k : ℕ) (e : DrivingPin) → slice_get d.rest k ≡ Some e
-      → IsTargeted its-members (targets seats nets) e
+      → IsTargeted its-members (targets chips nets) e
   rest_targeted d t k e at =
       targeted e (t.parts.second e (k, slice_get_within d.rest k e at, get_or_from_slice_get d.rest k e e at))
 
   module _ (d : DrivingTable) (t : IsTable entries (length its-cells) d) (drives after : List Drive) (put : List DrivenCells)
-      (blocks : (i : ℕ) (b : Block) → slice_get d.blocks i ≡ Some b → IsRefreshed its-cells its-members (targets seats nets) drives d.pins put i b)
-      (settles : Settles (targets seats nets) drives after)
-      (rest : (k : ℕ) (e : DrivingPin) → slice_get d.rest k ≡ Some e → Settled (targets seats nets) after e.pin) where
-    slot-settled : (e : DrivingPin) → IsSlot d.blocks d.pins e → Settled (targets seats nets) after e.pin
+      (blocks : (i : ℕ) (b : Block) → slice_get d.blocks i ≡ Some b → IsRefreshed its-cells its-members (targets chips nets) drives d.pins put i b)
+      (settles : Settles (targets chips nets) drives after)
+      (rest : (k : ℕ) (e : DrivingPin) → slice_get d.rest k ≡ Some e → Settled (targets chips nets) after e.pin) where
+    slot-settled : (e : DrivingPin) → IsSlot d.blocks d.pins e → Settled (targets chips nets) after e.pin
     slot-settled e s =
         let pin : slice_index d.pins (64 * s.i + s.j) ≡ e.pin = ap (λ (x : DrivingPin). x.pin) s.is in
-        subst (Settled (targets seats nets) after) pin
+        subst (Settled (targets chips nets) after) pin
         (settles.each (slice_index d.pins (64 * s.i + s.j)) ((blocks s.i s.b s.at).settled.each s.j s.within s.marked))
 
-    pub entries_settled : (j : ℕ) (e : DrivingPin) → slice_get entries j ≡ Some e → Settled (targets seats nets) after e.pin
+    pub entries_settled : (j : ℕ) (e : DrivingPin) → slice_get entries j ≡ Some e → Settled (targets chips nets) after e.pin
     entries_settled j e at = ⊎_elim
         (λ (close : Contains t.close e). slot-settled e (t.slots.all e close))
         (λ (other : Contains d.rest e). rest other.0 e (slice_get-get_or d.rest other.0 e other.1 ∙ ap Some other.2))
@@ -170,28 +170,28 @@ module _ (seats : List WiredChipValue) (nets : List Net) where
           subst (Tells p (leaves_at its-cells b.device (b.first + j)) j) (sym is) ((r.tells p kept).each j h);
     }
 
-    pub all_after : (before : List WiredChipValue) → map cells_of before ≡ its-cells → Settles (targets seats nets) (map (pin_drive (map held_of before)) (all_pins nets)) after
-        → after ≡ targets seats nets
+    pub all_after : (before : List WiredChipValue) → map cells_of before ≡ its-cells → Settles (targets chips nets) (map (pin_drive (map held_of before)) (all_pins nets)) after
+        → after ≡ targets chips nets
     all_after before same whole =
-        all_settled its-cells its-members (map held_of before) (seats_cells seats) (seats_cells before ∙ same) (all_pins nets) after whole entries_settled
+        all_settled its-cells its-members (map held_of before) (chips_cells chips) (chips_cells before ∙ same) (all_pins nets) after whole entries_settled
 
 -- ---- the table as it is made
 
-pub all_seated : (seats : List WiredChipValue) (nets : List Net) → AreDrivenBelow (length seats) (entries seats nets)
-all_seated seats nets = λ e has. omega (arith, (targeted seats nets e has).device, length-map seats held_of)
+pub all_within : (chips : List WiredChipValue) (nets : List Net) → AreDrivenBelow (length chips) (entries chips nets)
+all_within chips nets = λ e has. omega (arith, (targeted chips nets e has).device, length-map chips held_of)
 
 -- the pins of a division that go into blocks stand there
 pub slots_made : (driving close given : List DrivingPin) (n : ℕ) (d : DrivingTable) → AreParts driving close d.rest
     → given ≡ close → ((m : ℕ) → AreDrivenBelow m given → AreSlots given m d.blocks d.pins) → AreDrivenBelow n driving
     → AreSlots close n d.blocks d.pins
-slots_made driving close given n d parts is slots seated =
-    let below : AreDrivenBelow n given = λ e has. seated e (parts.first e (subst (λ (l : List DrivingPin). Contains l e) is has)) in
+slots_made driving close given n d parts is slots within =
+    let below : AreDrivenBelow n given = λ e has. within e (parts.first e (subst (λ (l : List DrivingPin). Contains l e) is has)) in
     subst (λ (l : List DrivingPin). AreSlots l n d.blocks d.pins) is (slots n below)
 
 pub table_made : (driving close given : List DrivingPin) (n : ℕ) (d : DrivingTable) → AreParts driving close d.rest
     → given ≡ close → ((m : ℕ) → AreDrivenBelow m given → AreSlots given m d.blocks d.pins) → AreDrivenBelow n driving → IsTable driving n d
-table_made driving close given n d parts is slots seated =
-    record { close = close; slots = slots_made driving close given n d parts is slots seated; parts = parts }
+table_made driving close given n d parts is slots within =
+    record { close = close; slots = slots_made driving close given n d parts is slots within; parts = parts }
 
 -- no pin of a block is one that a string puts
 pub slots_apart : (strings : List WiredString) (taken : BTreeSet ℕ) (close : List DrivingPin) (n : ℕ) (d : DrivingTable) → AreSlots close n d.blocks d.pins

@@ -39,12 +39,12 @@ put_settled target ds es k d is aims long =
     ∙ set_here ds k d (omega (arith, slice_get_within target k d aims, long)) ∙ sym aims
 
 -- a pin that is to drive something is one of the nets'
-pub target_within : (seats : List WiredChipValue) (nets : List Net) (k : ℕ) (d : Drive) → slice_get (targets seats nets) k ≡ Some d → k < length (all_pins nets)
-target_within seats nets k d aims =
-    omega (arith, slice_get_within (targets seats nets) k d aims, length-map (all_pins nets) (pin_drive (map held_of seats)))
+pub target_within : (chips : List WiredChipValue) (nets : List Net) (k : ℕ) (d : Drive) → slice_get (targets chips nets) k ≡ Some d → k < length (all_pins nets)
+target_within chips nets k d aims =
+    omega (arith, slice_get_within (targets chips nets) k d aims, length-map (all_pins nets) (pin_drive (map held_of chips)))
 
-pub targets_long : (seats : List WiredChipValue) (nets : List Net) → length (targets seats nets) ≡ length (all_pins nets)
-targets_long seats nets = length-map (all_pins nets) (pin_drive (map held_of seats))
+pub targets_long : (chips : List WiredChipValue) (nets : List Net) → length (targets chips nets) ≡ length (all_pins nets)
+targets_long chips nets = length-map (all_pins nets) (pin_drive (map held_of chips))
 
 -- ---- all of them
 

@@ -47,38 +47,38 @@ drive_kept m cell p b free =
     (λ j takes. bit-kept m.core cell j b (λ e. free (subst (λ (i : ℕ). takes_from p i 0 m.device.cells ≡ true) e takes)))
 
 -- the devices as held, one of them with another core bit
-pub core_put : (seats : List WiredChipValue) (d cell : ℕ) (b : Bool) (s : WiredChipValue) → slice_get seats d ≡ Some s
-    → map held_of (set seats d (with_core s cell b)) ≡ with_core_bit d cell b (map held_of seats)
+pub core_put : (chips : List WiredChipValue) (d cell : ℕ) (b : Bool) (s : WiredChipValue) → slice_get chips d ≡ Some s
+    → map held_of (set chips d (with_core s cell b)) ≡ with_core_bit d cell b (map held_of chips)
 core_put [] d cell b s here = absurd (none-some s here)
-core_put (t ∷ seats) zero cell b s here = ap (λ (o : WiredChipValue). held_of (with_core o cell b) ∷ map held_of seats) (sym (same_Some _ _ here))
-core_put (t ∷ seats) (suc d) cell b s here = ap (λ (ms : List Member). held_of t ∷ ms) (core_put seats d cell b s here)
+core_put (t ∷ chips) zero cell b s here = ap (λ (o : WiredChipValue). held_of (with_core o cell b) ∷ map held_of chips) (sym (same_Some _ _ here))
+core_put (t ∷ chips) (suc d) cell b s here = ap (λ (ms : List Member). held_of t ∷ ms) (core_put chips d cell b s here)
 
 -- nothing else changes
-pub less_put : (seats : List WiredChipValue) (d cell : ℕ) (b : Bool) (s : WiredChipValue) → slice_get seats d ≡ Some s
-    → map less_core (set seats d (with_core s cell b)) ≡ map less_core seats
+pub less_put : (chips : List WiredChipValue) (d cell : ℕ) (b : Bool) (s : WiredChipValue) → slice_get chips d ≡ Some s
+    → map less_core (set chips d (with_core s cell b)) ≡ map less_core chips
 less_put [] d cell b s here = absurd (none-some s here)
-less_put (t ∷ seats) zero cell b s here = ap (λ (o : WiredChipValue). less_core o ∷ map less_core seats) (sym (same_Some _ _ here))
-less_put (t ∷ seats) (suc d) cell b s here = ap (λ (r : List WiredChipValue). less_core t ∷ r) (less_put seats d cell b s here)
+less_put (t ∷ chips) zero cell b s here = ap (λ (o : WiredChipValue). less_core o ∷ map less_core chips) (sym (same_Some _ _ here))
+less_put (t ∷ chips) (suc d) cell b s here = ap (λ (r : List WiredChipValue). less_core t ∷ r) (less_put chips d cell b s here)
 
-pub wired_put : (nets : List Net) (place : ℕ) (seats : List WiredChipValue) (d cell : ℕ) (b : Bool) (s : WiredChipValue) → slice_get seats d ≡ Some s
-    → AreWired nets place seats → AreWired nets place (set seats d (with_core s cell b))
+pub wired_put : (nets : List Net) (place : ℕ) (chips : List WiredChipValue) (d cell : ℕ) (b : Bool) (s : WiredChipValue) → slice_get chips d ≡ Some s
+    → AreWired nets place chips → AreWired nets place (set chips d (with_core s cell b))
 wired_put nets place [] d cell b s here wired = absurd (none-some s here)
-wired_put nets place (t ∷ seats) zero cell b s here wired =
+wired_put nets place (t ∷ chips) zero cell b s here wired =
     (subst (λ (o : WiredChipValue). o.nets ≡ map (cell_net nets place) o.chip.device.cells) (same_Some _ _ here) wired.0, wired.1)
-wired_put nets place (t ∷ seats) (suc d) cell b s here wired = (wired.0, wired_put nets (suc place) seats d cell b s here wired.1)
+wired_put nets place (t ∷ chips) (suc d) cell b s here wired = (wired.0, wired_put nets (suc place) chips d cell b s here wired.1)
 
 -- which device stands elsewhere, and which here
-elsewhere : (seats : List WiredChipValue) (d i : ℕ) (x : WiredChipValue) → (i ≡ d → ⊥) → slice_get (set seats d x) i ≡ slice_get seats i
+elsewhere : (chips : List WiredChipValue) (d i : ℕ) (x : WiredChipValue) → (i ≡ d → ⊥) → slice_get (set chips d x) i ≡ slice_get chips i
 elsewhere [] d i x apart = refl
-elsewhere (t ∷ seats) zero zero x apart = absurd (apart refl)
-elsewhere (t ∷ seats) zero (suc i) x apart = refl
-elsewhere (t ∷ seats) (suc d) zero x apart = refl
-elsewhere (t ∷ seats) (suc d) (suc i) x apart = elsewhere seats d i x (λ e. apart (ap suc e))
+elsewhere (t ∷ chips) zero zero x apart = absurd (apart refl)
+elsewhere (t ∷ chips) zero (suc i) x apart = refl
+elsewhere (t ∷ chips) (suc d) zero x apart = refl
+elsewhere (t ∷ chips) (suc d) (suc i) x apart = elsewhere chips d i x (λ e. apart (ap suc e))
 
-here_put : (seats : List WiredChipValue) (d : ℕ) (s x : WiredChipValue) → slice_get seats d ≡ Some s → slice_get (set seats d x) d ≡ Some x
+here_put : (chips : List WiredChipValue) (d : ℕ) (s x : WiredChipValue) → slice_get chips d ≡ Some s → slice_get (set chips d x) d ≡ Some x
 here_put [] d s x here = absurd (none-some s here)
-here_put (t ∷ seats) zero s x here = refl
-here_put (t ∷ seats) (suc d) s x here = here_put seats d s x here
+here_put (t ∷ chips) zero s x here = refl
+here_put (t ∷ chips) (suc d) s x here = here_put chips d s x here
 
 slice_none : {A : Type 0} (l : List A) (k : ℕ) → slice_get l k ≡ None → length l ≤ k
 slice_none [] k e = omega arith
@@ -112,8 +112,8 @@ module _ (old : List WiredChipValue) (w : WiringValue) (s : WiredString) (t : Wi
   driven_by o port = unwrap_or (option_map (λ (m : Member). drive m port) (option_map held_of o)) Nothing
 
   -- what a pin drives is what its device does
-  at-device : (seats : List WiredChipValue) (p : Pin) → pin_drive (map held_of seats) p ≡ driven_by (slice_get seats p.device) p.port
-  at-device seats p = ap (λ (o : Option Member). unwrap_or (option_map (λ (m : Member). drive m p.port) o) Nothing) (slice_get-map held_of seats p.device)
+  at-device : (chips : List WiredChipValue) (p : Pin) → pin_drive (map held_of chips) p ≡ driven_by (slice_get chips p.device) p.port
+  at-device chips p = ap (λ (o : Option Member). unwrap_or (option_map (λ (m : Member). drive m p.port) o) Nothing) (slice_get-map held_of chips p.device)
 
   pub pin_kept : (k : ℕ) (p : Pin) → slice_get (all_pins w.nets) k ≡ Some p → (s.pin ≡ Some k → ⊥)
       → pin_drive (map held_of new) p ≡ pin_drive (map held_of old) p
@@ -176,16 +176,16 @@ first_below place port n m (x ∷ xs) e = by (first_below place port (suc n) m x
     by next true is = let here : n ≡ m = same_Some _ _ (rw is at e) in omega (arith, here)
     by next false is = let later = next (rw is at e) in omega (arith, later)
 
-pub wired_at : (nets : List Net) (place i : ℕ) (seats : List WiredChipValue) (t : WiredChipValue) → AreWired nets place seats → slice_get seats i ≡ Some t
+pub wired_at : (nets : List Net) (place i : ℕ) (chips : List WiredChipValue) (t : WiredChipValue) → AreWired nets place chips → slice_get chips i ≡ Some t
     → t.nets ≡ map (cell_net nets (place + i)) t.chip.device.cells
 wired_at nets place i [] t wired at = absurd (none-some t at)
-wired_at nets place zero (x ∷ seats) t wired at =
+wired_at nets place zero (x ∷ chips) t wired at =
     let same : place ≡ place + 0 = omega arith in
     subst (λ (o : WiredChipValue). o.nets ≡ map (cell_net nets (place + 0)) o.chip.device.cells) (same_Some _ _ at)
     (wired.0 ∙ ap (λ (k : ℕ). map (cell_net nets k) x.chip.device.cells) same)
-wired_at nets place (suc i) (x ∷ seats) t wired at =
+wired_at nets place (suc i) (x ∷ chips) t wired at =
     let next : suc place + i ≡ place + suc i = omega arith in
-    wired_at nets (suc place) i seats t wired.1 at ∙ ap (λ (k : ℕ). map (cell_net nets k) t.chip.device.cells) next
+    wired_at nets (suc place) i chips t wired.1 at ∙ ap (λ (k : ℕ). map (cell_net nets k) t.chip.device.cells) next
 
 module _ (old : List WiredChipValue) (w : WiringValue) (s : WiredString) (t : WiredChipValue) (wired : IsWired old w) (here : slice_get old s.device ≡ Some t) where
   -- its device stands at its place
@@ -219,22 +219,22 @@ pub put_one_string : (old new : List WiredChipValue) (w v : WiringValue) (s : Wi
     → bit ≡ (if s.inverted then not seen else seen) → new ≡ set old s.device (with_core t s.cell bit) → (s.pin ≡ None → v ≡ w)
     → ((k : ℕ) (p : Pin) → s.pin ≡ Some k → slice_get (all_pins w.nets) k ≡ Some p → v ≡ record w { drives = set w.drives k (pin_drive (map held_of new) p) })
     → IsPutOne old new w v s
-put_one_string old new w v s t seen bit wired strung here sees is seats none some = by s.pin refl
+put_one_string old new w v s t seen bit wired strung here sees is chips none some = by s.pin refl
   where
     now : List WiredChipValue
     now = set old s.device (with_core t s.cell bit)
 
     some-now : (k : ℕ) (p : Pin) → s.pin ≡ Some k → slice_get (all_pins w.nets) k ≡ Some p → v ≡ record w { drives = set w.drives k (pin_drive (map held_of now) p) }
-    some-now k p put at = some k p put at ∙ ap (λ (l : List WiredChipValue). record w { drives = set w.drives k (pin_drive (map held_of l) p) }) seats
+    some-now k p put at = some k p put at ∙ ap (λ (l : List WiredChipValue). record w { drives = set w.drives k (pin_drive (map held_of l) p) }) chips
 
     its-wired : IsWired new v
-    its-wired = subst (λ (l : List WiredChipValue). IsWired l v) (sym seats) (one_wired old w s t bit wired strung here v none some-now)
+    its-wired = subst (λ (l : List WiredChipValue). IsWired l v) (sym chips) (one_wired old w s t bit wired strung here v none some-now)
 
     its-held : map held_of new ≡ after_string w.nets (placed_of s) (map held_of old)
-    its-held = ap (map held_of) seats ∙ one_held old w s t wired here seen bit sees is
+    its-held = ap (map held_of) chips ∙ one_held old w s t wired here seen bit sees is
 
     its-less : map less_core new ≡ map less_core old
-    its-less = ap (map less_core) seats ∙ less_put old s.device s.cell bit t here
+    its-less = ap (map less_core) chips ∙ less_put old s.device s.cell bit t here
 
     at-pin : (k : ℕ) → s.pin ≡ Some k → (o : Option Pin) → slice_get (all_pins w.nets) k ≡ o → IsPutOne old new w v s
     at-pin k put None at = absurd (omega (arith, strung.inside k put, slice_none (all_pins w.nets) k at))

@@ -11,8 +11,8 @@ use Rattle.board_plan.specs.Planned as planned
 use Rattle.board_chips.specs.WiredChips.{WiredChipValue}
 
 -- a planned device as it powers up, its cells on these nets
-abbrev pub seat_of : List (Option ℕ) → planned.Member → WiredChipValue
-seat_of nets m = record {
+abbrev pub wired_chip_of : List (Option ℕ) → planned.Member → WiredChipValue
+wired_chip_of nets m = record {
   name = m.name;
   chip = powered m.device (cells.powered m.device.cells m.core m.extest_update);
   constants = m.core;
@@ -21,9 +21,9 @@ seat_of nets m = record {
 }
 
 -- the devices from this place on
-abbrev pub seats_of : List Net → ℕ → List planned.Member → List WiredChipValue
-seats_of nets place [] = []
-seats_of nets place (m ∷ ms) = seat_of (map (cell_net nets place) m.device.cells) m ∷ seats_of nets (suc place) ms
+abbrev pub wired_chips_of : List Net → ℕ → List planned.Member → List WiredChipValue
+wired_chips_of nets place [] = []
+wired_chips_of nets place (m ∷ ms) = wired_chip_of (map (cell_net nets place) m.device.cells) m ∷ wired_chips_of nets (suc place) ms
 
 -- what a chain is made of: the cores are whole, the pins are port bits, the descriptions are formed
 pub record IsReady (w : planned.Wiring) : Type 0 where

@@ -49,4 +49,4 @@ driving_from cells k [] = []
 driving_from cells k (p ∷ pins) = with_driving k p.device (driver_of cells p) (driving_from cells (suc k) pins)
 
 abbrev pub driving_of : List WiredChipValue → List Net → List DrivingPin
-driving_of seats nets = driving_from (map cells_of seats) 0 (all_pins nets)
+driving_of chips nets = driving_from (map cells_of chips) 0 (all_pins nets)

@@ -56,7 +56,7 @@ pub record IsApart (strings : List WiredString) (d : DrivingTable) : Type 0 wher
 
 -- what the pins are to drive
 abbrev pub targets : List WiredChipValue → List Net → List Drive
-targets seats nets = map (pin_drive (map held_of seats)) (all_pins nets)
+targets chips nets = map (pin_drive (map held_of chips)) (all_pins nets)
 
 -- a pin drives what it is to drive
 abbrev pub Settled : (target drives : List Drive) → ℕ → Type 0

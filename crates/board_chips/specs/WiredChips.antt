@@ -72,7 +72,7 @@ pub record IsKept (old new : WiredChipValue) : Type 0 where
 
 -- every chip was told this level of TRST last
 abbrev pub AllTold : Bool → List WiredChipValue → Type 0
-AllTold trst seats = AllByRecursion (λ s. s.chip.trst ≡ trst) seats
+AllTold trst chips = AllByRecursion (λ s. s.chip.trst ≡ trst) chips
 
 -- whether the rising edge that comes captures the boundary register
 abbrev pub captures_boundary : Work → Selected → Bool

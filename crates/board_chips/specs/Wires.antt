@@ -21,7 +21,7 @@ AreWired nets place (s ∷ ss) = (s.nets ≡ map (cell_net nets place) s.chip.de
 
 -- The one invariant of a board between two edges: what was put to the nets last is what each pin drives, by the core
 -- bits that the boundaries hold.
-pub record IsWired (seats : List WiredChipValue) (w : WiringValue) : Type 0 where
-  pub drives : w.drives ≡ map (pin_drive (map held_of seats)) (all_pins w.nets)
-  pub cells : AreWired w.nets 0 seats
-  pub pins : ArePinsBelow (length seats) (all_pins w.nets)
+pub record IsWired (chips : List WiredChipValue) (w : WiringValue) : Type 0 where
+  pub drives : w.drives ≡ map (pin_drive (map held_of chips)) (all_pins w.nets)
+  pub cells : AreWired w.nets 0 chips
+  pub pins : ArePinsBelow (length chips) (all_pins w.nets)

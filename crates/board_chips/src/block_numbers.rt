@@ -1,7 +1,7 @@
 //! A number for each 64 cells of each device of a chain.
 
+use crate::chip::WiredChip;
 use crate::driving::DrivingPin;
-use crate::seat::WiredChip;
 use std::alloc::{AllocError, Global};
 
 /// A number for each 64 cells of each device. They tell how pins are best put together, on which nothing else hangs: no
@@ -18,15 +18,15 @@ impl BlockNumbers {
     /// want of memory alone.
     pub(crate) fn zeros(
         alloc: Global,
-        seats: &[WiredChip],
+        chips: &[WiredChip],
         pins: &[DrivingPin],
     ) -> Result<BlockNumbers, AllocError> {
         let mut starts = Vec::new(alloc);
         let mut end: usize = 0;
-        let numbered = if pins.is_empty() { &seats[..0] } else { seats };
-        for seat in numbered {
+        let numbered = if pins.is_empty() { &chips[..0] } else { chips };
+        for chip in numbered {
             starts.push(end)?;
-            end = end.saturating_add(seat.device().cells().len() / 64 + 1);
+            end = end.saturating_add(chip.device().cells().len() / 64 + 1);
         }
         Ok(BlockNumbers {
             starts,

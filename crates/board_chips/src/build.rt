@@ -2,25 +2,25 @@
 
 ghost use Rattle.std.specs.Prelude.{◌≡◌, map, IfOk};
 ghost use Rattle.board_plan.specs.View.{member as planned_member, net as planned_net};
-ghost use Rattle.board_chips.specs.Building.{IsReady, seats_of};
+ghost use Rattle.board_chips.specs.Building.{IsReady, wired_chips_of};
 
-use crate::seat::WiredChip;
+use crate::chip::WiredChip;
 use board_plan::{PlannedDevice, PlannedNet, all_cell_nets};
 use std::alloc::{AllocError, Global};
 
 /// The devices of a plan as they power up, each with the nets of its cells; refused where memory runs out.
-pub fn all_seats(
+pub fn all_chips(
     alloc: Global,
     devices: &[PlannedDevice],
     nets: &[PlannedNet],
 ) -> Result<Vec<WiredChip>, AllocError>
     requires { IsReady (record { members = map planned_member devices.now; nets = map planned_net nets.now }) }
-    ensures { IfOk result (λ v. v.items ≡ seats_of (map planned_net nets.now) 0 (map planned_member devices.now)) }
+    ensures { IfOk result (λ v. v.items ≡ wired_chips_of (map planned_net nets.now) 0 (map planned_member devices.now)) }
 {
     let all_cells = all_cell_nets(alloc, nets, devices)?;
-    let mut seats = Vec::with_capacity(alloc, devices.len())?;
+    let mut chips = Vec::with_capacity(alloc, devices.len())?;
     for (device, cells) in devices.iter().zip(all_cells) {
-        seats.push(WiredChip::new(alloc, device, cells)?)?;
+        chips.push(WiredChip::new(alloc, device, cells)?)?;
     }
-    Ok(seats)
+    Ok(chips)
 }

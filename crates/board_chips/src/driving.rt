@@ -16,7 +16,7 @@ ghost use Rattle.bsdl_device.specs.declared.Cell.{Cell as TheCell};
 ghost use Rattle.pin_nets.specs.declared.Drive.{Drive};
 
 use crate::block_numbers::BlockNumbers;
-use crate::seat::WiredChip;
+use crate::chip::WiredChip;
 use crate::strings::WiredString;
 use crate::wiring::Wiring;
 use crate::words::{bit, with_bit};
@@ -85,22 +85,22 @@ const BLOCK_PINS: usize = 8;
 pub fn driving_pins(
     alloc: Global,
     wiring: &Wiring,
-    seats: &[WiredChip],
+    chips: &[WiredChip],
     strings: &[WiredString],
 ) -> Result<DrivingPins, AllocError>
-    requires { ArePinsBelow (length seats.now) (all_pins wiring.now.nets) }
-    ensures table { IfOk result (λ d. IsTable (driving_of seats.now wiring.now.nets) (length seats.now) d) }
+    requires { ArePinsBelow (length chips.now) (all_pins wiring.now.nets) }
+    ensures table { IfOk result (λ d. IsTable (driving_of chips.now wiring.now.nets) (length chips.now) d) }
     ensures put { IfOk result (λ d. (cells : List (List TheCell)) (drives : List Drive)
         → WerePut cells d.blocks d.pins d.put drives) }
     ensures apart { IfOk result (λ d. IsApart strings.now d) }
 {
-    let all = all_driving(alloc, wiring, seats)?;
-    let counts = block_counts(alloc, seats, &all)?;
+    let all = all_driving(alloc, wiring, chips)?;
+    let counts = block_counts(alloc, chips, &all)?;
     let taken = pins_of_strings(alloc, strings)?;
     let mut close = Vec::new(alloc);
     let mut rest = Vec::new(alloc);
     divide(&counts, &taken, &all, &mut close, &mut rest)?;
-    let places = BlockNumbers::zeros(alloc, seats, &close)?;
+    let places = BlockNumbers::zeros(alloc, chips, &close)?;
     let (blocks, pins) = blocks_of(alloc, places, &close)?;
     let put = Vec::from_elem(alloc, NO_CELLS, blocks.len())?;
     Ok(DrivingPins {
@@ -115,15 +115,15 @@ pub fn driving_pins(
 fn all_driving(
     alloc: Global,
     wiring: &Wiring,
-    seats: &[WiredChip],
+    chips: &[WiredChip],
 ) -> Result<Vec<DrivingPin>, AllocError>
-    requires { ArePinsBelow (length seats.now) (all_pins wiring.now.nets) }
-    ensures { IfOk result (λ v. v.items ≡ driving_of seats.now wiring.now.nets) }
+    requires { ArePinsBelow (length chips.now) (all_pins wiring.now.nets) }
+    ensures { IfOk result (λ v. v.items ≡ driving_of chips.now wiring.now.nets) }
 {
     let mut driving = Vec::new(alloc);
     for k in 0..wiring.pin_count() {
         let pin = wiring.pin(k);
-        let driver = seats[pin.device].driver(pin.port);
+        let driver = chips[pin.device].driver(pin.port);
         enter(&mut driving, k, pin.device, driver)?;
     }
     Ok(driving)
@@ -147,10 +147,10 @@ fn enter(
 /// Of each 64 cells of a device how many drive a pin.
 fn block_counts(
     alloc: Global,
-    seats: &[WiredChip],
+    chips: &[WiredChip],
     all: &[DrivingPin],
 ) -> Result<BlockNumbers, AllocError> {
-    let mut counts = BlockNumbers::zeros(alloc, seats, all)?;
+    let mut counts = BlockNumbers::zeros(alloc, chips, all)?;
     for it in all {
         counts.put(*it, counts.number(*it).saturating_add(1));
     }

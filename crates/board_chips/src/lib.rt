@@ -5,21 +5,21 @@
 
 mod block_numbers;
 mod build;
+mod chip;
 mod driving;
 mod planning;
 mod refreshing;
-mod seat;
 mod sighted;
 mod strings;
 mod wires;
 mod wiring;
 mod words;
 
-pub use build::all_seats;
+pub use build::all_chips;
+pub use chip::WiredChip;
 pub use driving::{DrivingPins, driving_pins};
 pub use planning::wired_strings;
 pub use refreshing::refresh_driving;
-pub use seat::WiredChip;
 pub use strings::{WiredString, settle};
 pub use wires::refresh;
 pub use wiring::Wiring;

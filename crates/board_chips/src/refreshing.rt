@@ -13,8 +13,8 @@ ghost use Rattle.board_chips.specs.Tables.{Settled, Settles, IsTargeted, WasPut,
 ghost use Rattle.board_chips.specs.declared.driving.Block.{Block as TheBlock};
 ghost use Rattle.board_chips.specs.declared.driving.DrivingPin.{DrivingPin as Entry};
 
+use crate::chip::WiredChip;
 use crate::driving::{Block, DrivingPin, DrivingPins};
-use crate::seat::WiredChip;
 use crate::wiring::Wiring;
 use crate::words::{bit, lowest, without_bit};
 use boundary::{Drive, DrivenCells};
@@ -25,32 +25,32 @@ use boundary::{Drive, DrivenCells};
 /// Where eight or more of 64 cells drive a pin, only those are put of which it is not known that they drive what was
 /// last put: their own bit, what their control leaves while it disables them, or nothing in HIGHZ. Pins of few among 64
 /// are put each time.
-pub fn refresh_driving(wiring: &mut Wiring, seats: &[WiredChip], driving: &mut DrivingPins)
-    requires { IsDriving (map cells_of seats.now) wiring.old driving.old }
+pub fn refresh_driving(wiring: &mut Wiring, chips: &[WiredChip], driving: &mut DrivingPins)
+    requires { IsDriving (map cells_of chips.now) wiring.old driving.old }
     ensures nets { wiring.new.nets ≡ wiring.old.nets }
-    ensures driving { IsDriving (map cells_of seats.now) wiring.new driving.new }
+    ensures driving { IsDriving (map cells_of chips.now) wiring.new driving.new }
     ensures table { driving.new ≡ record driving.old { put = driving.new.put } }
-    ensures drives { (before : List WiredChipValue) → map cells_of before ≡ map cells_of seats.now
+    ensures drives { (before : List WiredChipValue) → map cells_of before ≡ map cells_of chips.now
         → wiring.old.drives ≡ map (pin_drive (map held_of before)) (all_pins wiring.old.nets)
         → wiring.new ≡ record wiring.old {
-          drives = map (pin_drive (map held_of seats.now))
+          drives = map (pin_drive (map held_of chips.now))
               (all_pins wiring.old.nets);
         } }
 {
     refresh_blocks(
         wiring,
-        seats,
+        chips,
         &driving.blocks,
         &driving.pins,
         &mut driving.put,
     );
-    refresh_rest(wiring, seats, &driving.rest);
+    refresh_rest(wiring, chips, &driving.rest);
 }
 
 /// What the cells of all blocks drive is put to their nets.
 fn refresh_blocks(
     wiring: &mut Wiring,
-    seats: &[WiredChip],
+    chips: &[WiredChip],
     blocks: &[Block],
     pins: &[usize],
     put: &mut [DrivenCells],
@@ -58,17 +58,17 @@ fn refresh_blocks(
     requires full { length wiring.old.drives ≡ length (all_pins wiring.old.nets) }
     requires long { length pins.now ≡ 64 * length blocks.now }
     requires slots { (i : ℕ) (b : TheBlock) → slice_get blocks.now i ≡ Some b
-        → AreTargeted (map held_of seats.now) (targets seats.now wiring.old.nets) pins.now (64 * i) b }
-    requires put { WerePut (map cells_of seats.now) blocks.now pins.now put.old wiring.old.drives }
+        → AreTargeted (map held_of chips.now) (targets chips.now wiring.old.nets) pins.now (64 * i) b }
+    requires put { WerePut (map cells_of chips.now) blocks.now pins.now put.old wiring.old.drives }
     ensures nets { wiring.new.nets ≡ wiring.old.nets }
-    ensures settles { Settles (targets seats.now wiring.old.nets) wiring.old.drives wiring.new.drives }
+    ensures settles { Settles (targets chips.now wiring.old.nets) wiring.old.drives wiring.new.drives }
     ensures long { length put.new ≡ length put.old }
     ensures blocks { (i : ℕ) (b : TheBlock) → slice_get blocks.now i ≡ Some b
-        → IsRefreshed (map cells_of seats.now) (map held_of seats.now) (targets seats.now wiring.old.nets)
+        → IsRefreshed (map cells_of chips.now) (map held_of chips.now) (targets chips.now wiring.old.nets)
         wiring.new.drives pins.now put.new i b }
 {
     for i in 0..blocks.len() {
-        let now = refresh_block(wiring, seats, blocks[i], pins, 64 * i, put[i]);
+        let now = refresh_block(wiring, chips, blocks[i], pins, 64 * i, put[i]);
         put[i] = now;
     }
 }
@@ -76,7 +76,7 @@ fn refresh_blocks(
 /// What the cells of a block drive is put to their nets. Answers what they drive, as words tell it.
 fn refresh_block(
     wiring: &mut Wiring,
-    seats: &[WiredChip],
+    chips: &[WiredChip],
     block: Block,
     pins: &[usize],
     at: usize,
@@ -84,17 +84,17 @@ fn refresh_block(
 ) -> DrivenCells
     requires full { length wiring.old.drives ≡ length (all_pins wiring.old.nets) }
     requires room { at + 64 ≤ length pins.now }
-    requires slots { AreTargeted (map held_of seats.now) (targets seats.now wiring.old.nets) pins.now at block }
-    requires put { WasPut (map cells_of seats.now) (map held_of seats.now) (targets seats.now wiring.old.nets)
+    requires slots { AreTargeted (map held_of chips.now) (targets chips.now wiring.old.nets) pins.now at block }
+    requires put { WasPut (map cells_of chips.now) (map held_of chips.now) (targets chips.now wiring.old.nets)
         wiring.old.drives pins.now at block put }
     ensures nets { wiring.new.nets ≡ wiring.old.nets }
-    ensures settles { Settles (targets seats.now wiring.old.nets) wiring.old.drives wiring.new.drives }
-    ensures settled { SlotsSettled (targets seats.now wiring.old.nets) wiring.new.drives pins.now at block.slots }
-    ensures tells { TellsBlock (map cells_of seats.now) (map held_of seats.now) block result }
+    ensures settles { Settles (targets chips.now wiring.old.nets) wiring.old.drives wiring.new.drives }
+    ensures settled { SlotsSettled (targets chips.now wiring.old.nets) wiring.new.drives pins.now at block.slots }
+    ensures tells { TellsBlock (map cells_of chips.now) (map held_of chips.now) block result }
 {
-    let now = seats[block.device].driven_cells(block.first);
+    let now = chips[block.device].driven_cells(block.first);
     let changed = changed_slots(block.slots, put, now);
-    put_slots(wiring, seats, block, now, pins, at, changed);
+    put_slots(wiring, chips, block, now, pins, at, changed);
     now
 }
 
@@ -110,7 +110,7 @@ fn changed_slots(slots: u64, put: DrivenCells, now: DrivenCells) -> u64
 /// What the cells of these slots of a block drive is put to their nets.
 fn put_slots(
     wiring: &mut Wiring,
-    seats: &[WiredChip],
+    chips: &[WiredChip],
     block: Block,
     now: DrivenCells,
     pins: &[usize],
@@ -119,59 +119,59 @@ fn put_slots(
 )
     requires full { length wiring.old.drives ≡ length (all_pins wiring.old.nets) }
     requires room { at + 64 ≤ length pins.now }
-    requires device { block.device < length seats.now }
+    requires device { block.device < length chips.now }
     requires first { block.first % 64 ≡ 0 }
-    requires now { TellsBlock (map cells_of seats.now) (map held_of seats.now) block now }
-    requires slots { HasTargets (map held_of seats.now) (targets seats.now wiring.old.nets) pins.now at block slots }
+    requires now { TellsBlock (map cells_of chips.now) (map held_of chips.now) block now }
+    requires slots { HasTargets (map held_of chips.now) (targets chips.now wiring.old.nets) pins.now at block slots }
     ensures nets { wiring.new.nets ≡ wiring.old.nets }
-    ensures settles { Settles (targets seats.now wiring.old.nets) wiring.old.drives wiring.new.drives }
-    ensures settled { SlotsSettled (targets seats.now wiring.old.nets) wiring.new.drives pins.now at slots }
+    ensures settles { Settles (targets chips.now wiring.old.nets) wiring.old.drives wiring.new.drives }
+    ensures settled { SlotsSettled (targets chips.now wiring.old.nets) wiring.new.drives pins.now at slots }
 {
     let mut left = slots;
     while left != 0 {
         let j = lowest(left);
-        let drive = drive_in(seats, block, now, j);
+        let drive = drive_in(chips, block, now, j);
         wiring.place(pins[at + j], drive);
         left = without_bit(left, j);
     }
 }
 
 /// What cell `j` of a block drives: its own bit, as the words tell, or what its device says.
-fn drive_in(seats: &[WiredChip], block: Block, now: DrivenCells, j: usize) -> Drive
+fn drive_in(chips: &[WiredChip], block: Block, now: DrivenCells, j: usize) -> Drive
     requires within { j < 64 }
-    requires device { block.device < length seats.now }
+    requires device { block.device < length chips.now }
     requires first { block.first % 64 ≡ 0 }
-    requires now { TellsBlock (map cells_of seats.now) (map held_of seats.now) block now }
-    ensures { result ≡ drives_at (map held_of seats.now) block.device (block.first + j) }
+    requires now { TellsBlock (map cells_of chips.now) (map held_of chips.now) block now }
+    ensures { result ≡ drives_at (map held_of chips.now) block.device (block.first + j) }
 {
     if bit(now.own, j) {
         return Drive::Strong(bit(now.bits, j));
     }
-    seats[block.device].driven(block.first + j)
+    chips[block.device].driven(block.first + j)
 }
 
 /// What the cells of pins that stand in no block drive is put to their nets.
-fn refresh_rest(wiring: &mut Wiring, seats: &[WiredChip], rest: &[DrivingPin])
+fn refresh_rest(wiring: &mut Wiring, chips: &[WiredChip], rest: &[DrivingPin])
     requires full { length wiring.old.drives ≡ length (all_pins wiring.old.nets) }
     requires rest { (k : ℕ) (e : Entry) → slice_get rest.now k ≡ Some e
-        → IsTargeted (map held_of seats.now) (targets seats.now wiring.old.nets) e }
+        → IsTargeted (map held_of chips.now) (targets chips.now wiring.old.nets) e }
     ensures nets { wiring.new.nets ≡ wiring.old.nets }
-    ensures settles { Settles (targets seats.now wiring.old.nets) wiring.old.drives wiring.new.drives }
+    ensures settles { Settles (targets chips.now wiring.old.nets) wiring.old.drives wiring.new.drives }
     ensures settled { (k : ℕ) (e : Entry) → slice_get rest.now k ≡ Some e
-        → Settled (targets seats.now wiring.old.nets) wiring.new.drives e.pin }
+        → Settled (targets chips.now wiring.old.nets) wiring.new.drives e.pin }
 {
     for it in rest {
-        put_one(wiring, seats, *it);
+        put_one(wiring, chips, *it);
     }
 }
 
 /// What the cell of a pin drives is put to its net.
-fn put_one(wiring: &mut Wiring, seats: &[WiredChip], it: DrivingPin)
-    requires device { it.device < length seats.now }
+fn put_one(wiring: &mut Wiring, chips: &[WiredChip], it: DrivingPin)
+    requires device { it.device < length chips.now }
     requires pin { it.pin < length (all_pins wiring.old.nets) }
     ensures { wiring.new ≡ record wiring.old {
-      drives = slice_set wiring.old.drives it.pin (entry_drives (map held_of seats.now) it);
+      drives = slice_set wiring.old.drives it.pin (entry_drives (map held_of chips.now) it);
     } }
 {
-    wiring.place(it.pin, seats[it.device].driven(it.cell));
+    wiring.place(it.pin, chips[it.device].driven(it.cell));
 }

@@ -11,7 +11,7 @@ ghost use Rattle.board_chips.specs.WiredChips.{held_of};
 ghost use Rattle.board_chips.specs.Strings.{AreStrung, IsStrung, less_core, placed_of, puts};
 ghost use Rattle.board_chips.specs.Wires.{ArePinsBelow, IsWired};
 
-use crate::seat::WiredChip;
+use crate::chip::WiredChip;
 use crate::wiring::Wiring;
 
 /// A core bit of a device that is what a port bit of the same device sees, or its opposite.
@@ -33,51 +33,51 @@ pub struct WiredString {
 
 /// Puts strings one after another: each core bit takes what its source sees then, and the pin that takes it is put to
 /// its net. Takes no memory.
-pub fn settle(seats: &mut [WiredChip], wiring: &mut Wiring, strings: &[WiredString])
-    requires wired { IsWired seats.old wiring.old }
-    requires strings { AreStrung wiring.old.nets (map cells_of seats.old) strings.now }
+pub fn settle(chips: &mut [WiredChip], wiring: &mut Wiring, strings: &[WiredString])
+    requires wired { IsWired chips.old wiring.old }
+    requires strings { AreStrung wiring.old.nets (map cells_of chips.old) strings.now }
     ensures nets { wiring.new.nets ≡ wiring.old.nets }
-    ensures wired { IsWired seats.new wiring.new }
-    ensures held { map held_of seats.new
-        ≡ after_strings wiring.old.nets (map placed_of strings.now) (map held_of seats.old) }
-    ensures same { map less_core seats.new ≡ map less_core seats.old }
+    ensures wired { IsWired chips.new wiring.new }
+    ensures held { map held_of chips.new
+        ≡ after_strings wiring.old.nets (map placed_of strings.now) (map held_of chips.old) }
+    ensures same { map less_core chips.new ≡ map less_core chips.old }
     ensures others { (k : ℕ) → list_any (puts k) strings.now ≡ false
         → slice_get wiring.new.drives k ≡ slice_get wiring.old.drives k }
 {
     for string in strings {
-        settle_one(seats, wiring, *string);
+        settle_one(chips, wiring, *string);
     }
 }
 
 /// Puts one string.
-fn settle_one(seats: &mut [WiredChip], wiring: &mut Wiring, string: WiredString)
-    requires wired { IsWired seats.old wiring.old }
-    requires string { IsStrung wiring.old.nets (map cells_of seats.old) string }
+fn settle_one(chips: &mut [WiredChip], wiring: &mut Wiring, string: WiredString)
+    requires wired { IsWired chips.old wiring.old }
+    requires string { IsStrung wiring.old.nets (map cells_of chips.old) string }
     ensures nets { wiring.new.nets ≡ wiring.old.nets }
-    ensures wired { IsWired seats.new wiring.new }
-    ensures held { map held_of seats.new ≡ after_string wiring.old.nets (placed_of string) (map held_of seats.old) }
-    ensures same { map less_core seats.new ≡ map less_core seats.old }
+    ensures wired { IsWired chips.new wiring.new }
+    ensures held { map held_of chips.new ≡ after_string wiring.old.nets (placed_of string) (map held_of chips.old) }
+    ensures same { map less_core chips.new ≡ map less_core chips.old }
     ensures others { (k : ℕ) → puts k string ≡ false
         → slice_get wiring.new.drives k ≡ slice_get wiring.old.drives k }
 {
-    let seen = seats[string.device].sight(string.net, string.source, wiring);
+    let seen = chips[string.device].sight(string.net, string.source, wiring);
     let bit = if string.inverted { !seen } else { seen };
-    seats[string.device].set_core(string.cell, bit);
-    put_pin(seats, wiring, string.pin);
+    chips[string.device].set_core(string.cell, bit);
+    put_pin(chips, wiring, string.pin);
 }
 
 /// What a pin drives is put to its net, if there is one.
-fn put_pin(seats: &[WiredChip], wiring: &mut Wiring, pin: Option<usize>)
+fn put_pin(chips: &[WiredChip], wiring: &mut Wiring, pin: Option<usize>)
     requires inside { (k : ℕ) → pin ≡ Some k → k < length (all_pins wiring.old.nets) }
-    requires seated { ArePinsBelow (length seats.now) (all_pins wiring.old.nets) }
+    requires within { ArePinsBelow (length chips.now) (all_pins wiring.old.nets) }
     ensures none { pin ≡ None → wiring.new ≡ wiring.old }
     ensures some { (k : ℕ) (p : ThePin) → pin ≡ Some k → slice_get (all_pins wiring.old.nets) k ≡ Some p
         → wiring.new ≡ record wiring.old {
-          drives = slice_set wiring.old.drives k (pin_drive (map held_of seats.now) p);
+          drives = slice_set wiring.old.drives k (pin_drive (map held_of chips.now) p);
         } }
 {
     if let Some(pin) = pin {
         let at = wiring.pin(pin);
-        wiring.place(pin, seats[at.device].drive(at.port));
+        wiring.place(pin, chips[at.device].drive(at.port));
     }
 }

@@ -95,6 +95,16 @@ impl Wiring {
         self.levels.seen(net)
     }
 
+    /// Whether strong drivers of 0 and of 1 are on a net, by what was last put to its pins.
+    pub fn is_opposed(&self, net: usize) -> bool
+        requires { net < length self.now.nets }
+        ensures { (f : ThePin → TheDrive) → self.now.drives ≡ map f (all_pins self.now.nets)
+            → option_map (λ n. levels.opposed_by (levels.pull_drive n.pull) (map f n.pins)) (slice_get self.now.nets net)
+            ≡ Some result }
+    {
+        self.levels.is_opposed(net)
+    }
+
     /// How many pins the nets have.
     pub fn pin_count(&self) -> usize
         ensures count { result ≡ length (all_pins self.now.nets) }

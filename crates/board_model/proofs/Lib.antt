@@ -5,6 +5,7 @@ pub mod FiveOnes
 pub mod BoardLaws
 pub mod BytesAndMessages
 pub mod Shift
+pub mod ShiftCycles
 pub mod Sound
 pub mod SoundEdges
 pub mod Powered

@@ -7,7 +7,7 @@ use Rattle.pin_nets.specs.declared.Level.{Level}
 use Rattle.pin_nets.specs.declared.Pin.{Pin}
 use Rattle.pin_nets.specs.declared.Pull.TheVariants.{Free}
 use Rattle.pin_nets.specs.declared.Rule.TheVariants.{Counted}
-use Rattle.pin_nets.specs.Levels.{pull_drive, reads, shown}
+use Rattle.pin_nets.specs.Levels.{opposed_by, pull_drive, reads, shown}
 use Rattle.pin_nets.specs.Wired.{Net, joins}
 use Rattle.pin_nets.specs.declared.Follow.{Follow}
 use Rattle.board_model.specs.Cells.{Member, Told, drive}
@@ -18,6 +18,10 @@ pin_drive ms pin = unwrap_or (option_map (λ m. drive m pin.port) (slice_get ms 
 -- the level of a net where the devices' cores are these, by its rule, its pull among its drivers
 abbrev pub level_under : List Member → Net → Level
 level_under ms net = shown net.rule (pull_drive net.pull) (map (pin_drive ms) net.pins)
+
+-- strong drivers of both levels are on a net where the devices' cores are these
+abbrev pub is_opposed_under : List Member → Net → Bool
+is_opposed_under ms net = opposed_by (pull_drive net.pull) (map (pin_drive ms) net.pins)
 
 -- a port bit that is a net by itself
 abbrev pub lone_net : ℕ → ℕ → Net
@@ -78,6 +82,10 @@ in_force nets ms = rounds (strings ms) nets ms ms
 -- the level of a net of the board
 abbrev pub level : List Net → List Member → Net → Level
 level nets ms net = level_under (in_force nets ms) net
+
+-- strong drivers of both levels are on a net of the board
+abbrev pub is_opposed : List Net → List Member → Net → Bool
+is_opposed nets ms net = is_opposed_under (in_force nets ms) net
 
 -- what a port bit of a device sees, from the registers of all
 abbrev pub sees : List Net → List Member → ℕ → ℕ → Bool

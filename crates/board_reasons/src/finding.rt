@@ -24,7 +24,7 @@ pub fn origin_of(chain: &Chain, column: Column, k: usize) -> Origin
 {
     let mut rest = k;
     for device in 0..chain.devices() {
-        let len = chain.seat(device).register_len(column);
+        let len = chain.chip(device).register_len(column);
         if rest < len {
             return Origin::Register { device, bit: rest };
         }
@@ -62,21 +62,21 @@ fn held_in(chain: &Chain, column: Column, device: usize, bit: usize) -> Holder
     ensures { option_map (spec.held_in chain.now.nets (members chain.now.chips) column device bit)
         (slice_get (members chain.now.chips) device) ≡ Some result }
 {
-    let seat = chain.seat(device);
+    let chip = chain.chip(device);
     match column {
         Column::Ir => Holder::Instruction { device, bit },
-        Column::Dr => in_register(chain, seat, device, bit),
+        Column::Dr => in_register(chain, chip, device, bit),
     }
 }
 
 /// What holds a bit of the data register that the instruction of this device selects.
-fn in_register(chain: &Chain, seat: &WiredChip, device: usize, bit: usize) -> Holder
+fn in_register(chain: &Chain, chip: &WiredChip, device: usize, bit: usize) -> Holder
     requires inside { device < length chain.now.chips }
-    requires seat { slice_get chain.now.chips device ≡ Some (chip_state seat.now) }
+    requires chip { slice_get chain.now.chips device ≡ Some (chip_state chip.now) }
     ensures { option_map (spec.held_in chain.now.nets (members chain.now.chips) Dr device bit)
         (slice_get (members chain.now.chips) device) ≡ Some result }
 {
-    match seat.selected() {
+    match chip.selected() {
         Selected::Bypass => Holder::Bypass(device),
         Selected::Identification => Holder::Identification { device, bit },
         Selected::Boundary => {

@@ -89,25 +89,25 @@ fn write_of_device<W: Sink>(
         (spec.of_device chain.now.nets (members chain.now.chips) holder device) result }
 {
     if device < chain.devices() {
-        write_of_seat(chain, chain.seat(device), holder, out)
+        write_of_chip(chain, chain.chip(device), holder, out)
     } else {
         put_all(out, b"")
     }
 }
 
 /// Writes the line of a bit that this device held.
-fn write_of_seat<W: Sink>(
+fn write_of_chip<W: Sink>(
     chain: &Chain,
-    seat: &WiredChip,
+    chip: &WiredChip,
     holder: Holder,
     out: &mut Counted<W>,
 ) -> Result<(), Broken>
     requires { out.old.failures ≡ 0 }
-    ensures { WritesAll W.contents out.old out.new (spec.of_member chain.now.nets holder (member_of seat.now))
+    ensures { WritesAll W.contents out.old out.new (spec.of_member chain.now.nets holder (member_of chip.now))
         result }
 {
-    put_pieces(out, &[b"from ", seat.name().as_bytes(), b" "])?;
-    write_holder(chain, seat.device(), holder, out)?;
+    put_pieces(out, &[b"from ", chip.name().as_bytes(), b" "])?;
+    write_holder(chain, chip.device(), holder, out)?;
     put_all(out, b"\n")
 }
 

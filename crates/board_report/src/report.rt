@@ -24,34 +24,34 @@ pub fn write_all_left_out<W: Sink>(chain: &Chain, out: &mut Counted<W>) -> Resul
     ensures { WritesAll W.contents out.old out.new (flat_map device_lines chain.now.chips) result }
 {
     for i in 0..chain.devices() {
-        write_instructions(chain.seat(i), out)?;
+        write_instructions(chain.chip(i), out)?;
     }
     Ok(())
 }
 
 /// Writes the lines of a device.
-fn write_instructions<W: Sink>(seat: &WiredChip, out: &mut Counted<W>) -> Result<(), Broken>
+fn write_instructions<W: Sink>(chip: &WiredChip, out: &mut Counted<W>) -> Result<(), Broken>
     requires { out.old.failures ≡ 0 }
-    ensures { WritesAll W.contents out.old out.new (device_lines (chip_state seat.now)) result }
+    ensures { WritesAll W.contents out.old out.new (device_lines (chip_state chip.now)) result }
 {
-    let opcodes = seat.device().opcodes();
+    let opcodes = chip.device().opcodes();
     for opcode in opcodes {
-        write_if_left_out(seat, opcode.name(), out)?;
+        write_if_left_out(chip, opcode.name(), out)?;
     }
     Ok(())
 }
 
 /// Writes the line of an instruction, if it stands for BYPASS.
 fn write_if_left_out<W: Sink>(
-    seat: &WiredChip,
+    chip: &WiredChip,
     name: &str,
     out: &mut Counted<W>,
 ) -> Result<(), Broken>
     requires { out.old.failures ≡ 0 }
-    ensures { WritesAll W.contents out.old out.new (name_lines seat.now.name seat.now.chip.device name.now) result }
+    ensures { WritesAll W.contents out.old out.new (name_lines chip.now.name chip.now.chip.device name.now) result }
 {
-    if is_left_out(seat.device(), name) {
-        return write_instruction_line(seat.name(), name, out);
+    if is_left_out(chip.device(), name) {
+        return write_instruction_line(chip.name(), name, out);
     }
     Ok(())
 }
@@ -79,7 +79,7 @@ pub fn write_devices<W: Sink>(chain: &Chain, out: &mut Counted<W>) -> Result<(),
     ensures { WritesAll W.contents out.old out.new (flat_map device_line chain.now.chips) result }
 {
     for i in 0..chain.devices() {
-        write_device(chain.seat(i), out)?;
+        write_device(chain.chip(i), out)?;
     }
     Ok(())
 }
@@ -109,31 +109,31 @@ fn write_level<W: Sink>(name: &str, level: Level, out: &mut Counted<W>) -> Resul
 
 /// Writes the line of one device.
 #[tactic(auto, using(byte_streams::proofs::Fronts::fronts))]
-fn write_device<W: Sink>(seat: &WiredChip, out: &mut Counted<W>) -> Result<(), Broken>
+fn write_device<W: Sink>(chip: &WiredChip, out: &mut Counted<W>) -> Result<(), Broken>
     requires { out.old.failures ≡ 0 }
-    ensures { WritesAll W.contents out.old out.new (device_line (chip_state seat.now)) result }
+    ensures { WritesAll W.contents out.old out.new (device_line (chip_state chip.now)) result }
 {
-    write_field(seat.name().as_bytes(), b" ", out)?;
-    write_field(seat.state().word().as_bytes(), b" ", out)?;
-    write_instruction(seat, out)
+    write_field(chip.name().as_bytes(), b" ", out)?;
+    write_field(chip.state().word().as_bytes(), b" ", out)?;
+    write_instruction(chip, out)
 }
 
 /// Writes a device's instruction, its bits and its name, and ends the line.
 #[tactic(auto, using(byte_streams::proofs::Fronts::fronts))]
-fn write_instruction<W: Sink>(seat: &WiredChip, out: &mut Counted<W>) -> Result<(), Broken>
+fn write_instruction<W: Sink>(chip: &WiredChip, out: &mut Counted<W>) -> Result<(), Broken>
     requires { out.old.failures ≡ 0 }
-    ensures { WritesAll W.contents out.old out.new (instruction_part (chip_state seat.now)) result }
+    ensures { WritesAll W.contents out.old out.new (instruction_part (chip_state chip.now)) result }
 {
-    write_bits(seat.latch(), out)?;
+    write_bits(chip.latch(), out)?;
     put_all(out, b" ")?;
-    write_field(name_or_dash(seat), b"\n", out)
+    write_field(name_or_dash(chip), b"\n", out)
 }
 
 /// The name of a device's instruction, `-` where it has none.
-fn name_or_dash(seat: &WiredChip) -> &[u8]
-    ensures { result.now ≡ spec.name_or_dash (instruction seat.now.chip.device seat.now.chip.latch) }
+fn name_or_dash(chip: &WiredChip) -> &[u8]
+    ensures { result.now ≡ spec.name_or_dash (instruction chip.now.chip.device chip.now.chip.latch) }
 {
-    match seat.instruction() {
+    match chip.instruction() {
         Some(name) => name.as_bytes(),
         None => b"-",
     }

@@ -75,7 +75,7 @@ impl<'a> Snapshot<'a> {
         requires { i < length self.now.chips }
         ensures { option_map (λ c. c.member.name) (slice_get self.now.chips i) ≡ Some result.now }
     {
-        self.chain.seat(i).name()
+        self.chain.chip(i).name()
     }
 
     /// The state of its controller.
@@ -83,7 +83,7 @@ impl<'a> Snapshot<'a> {
         requires { i < length self.now.chips }
         ensures { option_map (λ c. c.state) (slice_get self.now.chips i) ≡ Some result }
     {
-        self.chain.seat(i).state()
+        self.chain.chip(i).state()
     }
 
     /// Its present instruction: what the instruction stage held at the last update, or the instruction of a reset. Bit
@@ -92,7 +92,7 @@ impl<'a> Snapshot<'a> {
         requires { i < length self.now.chips }
         ensures { option_map (λ c. c.member.registers.latch) (slice_get self.now.chips i) ≡ Some result.now }
     {
-        self.chain.seat(i).latch()
+        self.chain.chip(i).latch()
     }
 
     /// Its instruction stage, the shift register in the IR column, bit 0 nearest TDO.
@@ -100,7 +100,7 @@ impl<'a> Snapshot<'a> {
         requires { i < length self.now.chips }
         ensures { option_map (λ c. c.member.registers.stage) (slice_get self.now.chips i) ≡ Some result.now }
     {
-        self.chain.seat(i).stage()
+        self.chain.chip(i).stage()
     }
 
     /// The shift stage of its boundary register, bit 0 that of cell 0, nearest TDO.
@@ -108,7 +108,7 @@ impl<'a> Snapshot<'a> {
         requires { i < length self.now.chips }
         ensures { option_map (λ c. c.member.registers.boundary) (slice_get self.now.chips i) ≡ Some result.now }
     {
-        self.chain.seat(i).boundary()
+        self.chain.chip(i).boundary()
     }
 
     /// The update stage of its boundary register, bit 0 that of cell 0, nearest TDO.
@@ -116,7 +116,7 @@ impl<'a> Snapshot<'a> {
         requires { i < length self.now.chips }
         ensures { option_map (λ c. c.member.registers.update) (slice_get self.now.chips i) ≡ Some result.now }
     {
-        self.chain.seat(i).boundary_update()
+        self.chain.chip(i).boundary_update()
     }
 
     /// The one bit of its bypass register.
@@ -124,7 +124,7 @@ impl<'a> Snapshot<'a> {
         requires { i < length self.now.chips }
         ensures { option_map (λ c. c.member.registers.bypass) (slice_get self.now.chips i) ≡ Some (result ∷ []) }
     {
-        self.chain.seat(i).bypass()
+        self.chain.chip(i).bypass()
     }
 
     /// The name of the instruction in its latch; `None` where the description has no name for it.
@@ -133,7 +133,7 @@ impl<'a> Snapshot<'a> {
         ensures { option_map (λ c. instruction c.member.device c.member.registers.latch) (slice_get self.now.chips i)
             ≡ Some (option_map {U = List ℕ} (λ s. s.now) result) }
     {
-        self.chain.seat(i).instruction()
+        self.chain.chip(i).instruction()
     }
 
     /// Its identification register, bit 0 nearest TDO; `None` where its description has no code.
@@ -142,7 +142,7 @@ impl<'a> Snapshot<'a> {
         ensures { option_map (λ c. id_of c.member) (slice_get self.now.chips i)
             ≡ Some (option_map {U = List Bool} (λ b. b.now) result) }
     {
-        self.chain.seat(i).id()
+        self.chain.chip(i).id()
     }
 
     /// The stage and the latch of its user register `k`, bit 0 nearest TDO, counted in the order in which its
@@ -152,7 +152,7 @@ impl<'a> Snapshot<'a> {
         ensures { option_map (λ c. user_of c.member k) (slice_get self.now.chips i)
             ≡ Some (option_map {U = List Bool × List Bool} (λ p. (p.0.now, p.1.now)) result) }
     {
-        self.chain.seat(i).user(k)
+        self.chain.chip(i).user(k)
     }
 
     /// How many nets have a name.

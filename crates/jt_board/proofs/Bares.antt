@@ -90,7 +90,7 @@ no_strings k (suc n) = (refl, no_strings (suc k) n)
 
 pub bare_ready : (n : ℕ) → IsReady (bare_wiring n)
 bare_ready n = record {
-  seats = record { cores = cores 1 n; pins = tt; formed = formed 1 n };
+  chips = record { cores = cores 1 n; pins = tt; formed = formed 1 n };
   apart = λ i j d below inside. absurd (omega (arith, inside));
   strings = strings 1 n;
   controls = controls 1 n;

@@ -15,9 +15,10 @@ use Rattle.board_model.specs.Chain.{BoardState, ChipState, members}
 use Rattle.board_model.specs.Nets.{told}
 use Rattle.board_model.specs.Resting.{IsAtRest, chip_at_rest}
 use Rattle.board_model.specs.Sound.{AllSound, IsChain, IsSound}
-use Rattle.board_model.specs.Whole.{AtRest, arrive, capture, capture_all, selected_bits_of, cut_back, joined_bits, reset_all}
+use Rattle.board_model.specs.Whole.{AtRest, arrive, capture, capture_all, joined_bits, reset_all}
 use Rattle.board_model.specs.Whole.{reset_member, settle, settled_member, shift, trst_asserted, trst_member, update}
 use Rattle.board_model.specs.Whole.{update_member}
+use Rattle.board_model.proofs.ShiftCycles.{count-cut_back}
 use Rattle.board_model.proofs.Sound.{Sound-capture_all, Sound-cut_back, Sound-reset, Sound-update, sound-other}
 use Rattle.board_model.proofs.Sound.{sound-updated}
 use Rattle.board_chain.specs.AtRest.{as_members, chain_as, shifted_through}
@@ -74,10 +75,6 @@ count-captured : (column : Column) (about : ℕ → Told) (k : ℕ) (ms : List M
 count-captured column about k [] = refl
 count-captured column about k (m ∷ ms) = ap (λ (n : ℕ). suc n) (count-captured column about (suc k) ms)
 
-count-cut : (column : Column) (bits : List Bool) (ms : List Member) → length (cut_back column bits ms) ≡ length ms
-count-cut column bits [] = refl
-count-cut column bits (m ∷ ms) = ap (λ (n : ℕ). suc n) (count-cut column (drop (length (selected_bits_of column m)) bits) ms)
-
 pub chain-captured : (column : Column) (nets : List Net) (cs : List ChipState) → IsChain cs
     → IsChain (as_members (capture_all column (told nets (members cs)) 0 (members cs)) cs)
 chain-captured column nets cs is =
@@ -107,7 +104,7 @@ chain-shifted column t cs is =
       length-append
           (joined_bits column (members cs)) t,
     ) in
-    chain-as (shifted_through column t (members cs)) cs (count-cut column left (members cs))
+    chain-as (shifted_through column t (members cs)) cs (count-cut_back column left (members cs))
     (Sound-cut_back column left (members cs) is.sound long) is
 
 -- ---- each action on a board at rest
@@ -178,7 +175,7 @@ pub rests_shifted : (column : Column) (t : List Bool) (tck : Bool) (c : ChainVal
     → IsAtRest (board_at tck (chain_as (shifted_through column t (members c.chips)) c)) (shift column t m)
 rests_shifted column t tck c m is =
     rests_as (λ nets ms. shifted_through column t ms)
-    (λ nets ms. count-cut column (drop (length t) (joined_bits column ms ++ t)) ms) tck c m is
+    (λ nets ms. count-cut_back column (drop (length t) (joined_bits column ms ++ t)) ms) tck c m is
 
 -- the members of a board at rest
 pub rests_members : (b : BoardState) (m : AtRest) → IsAtRest b m → members b.chips ≡ m.members

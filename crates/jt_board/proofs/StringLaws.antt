@@ -166,7 +166,7 @@ made w ready =
     let free : HasNoCircle w.nets (members_of w) =
     no_loop w.nets (members_of w) (are_found w.nets ready.apart) ready.controls (no_loop_over_nets w ready.no_loop) in
     has-strings (board_of w) (subst (HasNoCircle w.nets) (sym (stand-so (members_of w))) free)
-    (subst (AllByRecursion (λ (m : Member). AreFit m)) (sym (stand-so (members_of w))) (fit-members w.members ready.seats.cores ready.strings))
+    (subst (AllByRecursion (λ (m : Member). AreFit m)) (sym (stand-so (members_of w))) (fit-members w.members ready.chips.cores ready.strings))
 
 at-first : (b : BoardState) → IsMade b → HasItsStrings b
 at-first _ (described board_file table files w reads makes free) =

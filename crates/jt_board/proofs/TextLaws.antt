@@ -175,7 +175,7 @@ pairs before (p ∷ ps) apart (suc i) (suc j) d below inside same = pairs (befor
 
 pub ready_wiring : (w : planned.Wiring) → FitsTogether w → AreSaid said_device w → HasNoLoop (dependencies w) → IsReady w
 ready_wiring w fits said loops = record {
-  seats = record {
+  chips = record {
     cores = fits.cores;
     pins = fits.pins;
     formed = all-said IsFormed (λ d is. every_formed is.0 d (says is.0 d is.1)) w.members said;

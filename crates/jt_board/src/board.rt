@@ -102,7 +102,7 @@ impl Board {
         ensures { option_map (λ c. slice_get (spec.left_out c.member.device) k) (slice_get self.now.chips i)
             ≡ Some (option_map {U = List ℕ} (λ s. s.now) result) }
     {
-        board_plan::left_out(self.chain.seat(i).device(), k)
+        board_plan::left_out(self.chain.chip(i).device(), k)
     }
 
     /// What every part of the board shows now.

@@ -57,6 +57,10 @@ is_counted (Led pins) = false
 abbrev pub is_opposed : Counts → Bool
 is_opposed c = not (c.strong_zeros == 0) && not (c.strong_ones == 0)
 
+-- strong drivers of both levels are among a pull and what pins drive
+abbrev pub opposed_by : (pull : Drive) → (pins : List Drive) → Bool
+opposed_by pull ds = is_opposed (counts_of (pull ∷ ds))
+
 -- what drivers that lead say: 1 where one drives it strongly and none 0, else 0
 abbrev pub led_by : List Drive → Level
 led_by ds = if list_any (is_strong true) ds && not (list_any (is_strong false) ds) then One else Zero

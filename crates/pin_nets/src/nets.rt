@@ -5,7 +5,7 @@ ghost use Rattle.pin_nets.specs.Levels as levels;
 ghost use Rattle.pin_nets.specs.Levels.{four, net_counts};
 
 use crate::rows::exchange;
-use crate::ruled::{level_by_rule, sees};
+use crate::ruled::{is_opposed, level_by_rule, sees};
 use crate::{Drive, Level, Pull, Rule, counts_of_row, differ};
 use std::marker::Model;
 
@@ -124,6 +124,15 @@ impl Nets {
             ≡ Some result }
     {
         self.seen[net]
+    }
+
+    /// Whether strong drivers of 0 and of 1 are on a net, whatever its rule makes of them.
+    pub fn is_opposed(&self, net: usize) -> bool
+        requires { net < length self.now.nets }
+        ensures { option_map (λ x. levels.is_opposed (net_counts self.now.drives x)) (slice_get self.now.nets net)
+            ≡ Some result }
+    {
+        is_opposed(counts_of_row(&self.counts[net]))
     }
 
     /// How many drivers a net has, its pull among them: to 0 and to 1, and weak ones to 0 and to 1.

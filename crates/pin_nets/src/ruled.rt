@@ -44,7 +44,7 @@ pub(crate) fn level_by_rule(net: &Net, counts: Counts, drives: &[Drive]) -> Leve
 }
 
 /// Whether strong drivers of both levels are there.
-fn is_opposed(counts: Counts) -> bool
+pub(crate) fn is_opposed(counts: Counts) -> bool
     ensures { result ≡ levels.is_opposed counts }
 {
     counts.strong_zeros != 0 && counts.strong_ones != 0

@@ -20,6 +20,7 @@ use Rattle.board_model.specs.Resting.{IsRest}
 use Rattle.board_model.proofs.OneCycle.{Free}
 use Rattle.board_model.proofs.Walks.{at_rest}
 use Rattle.board_model.specs.Sound.{AllSound}
+use Rattle.board_model.proofs.ShiftCycles.{count-cut_back}
 use Rattle.board_model.proofs.Sound.{Sound-capture_all, Sound-cut_back, Sound-update, Sound-reset}
 use Rattle.play_model.proofs.PathsAndRuns.{StaysReset, reset-all-twice}
 
@@ -44,10 +45,6 @@ count-capture_all column about k (m ∷ ms) = ap (λ n. suc n) (count-capture_al
 free-cut_back : (trst : Bool) (column : Column) (bits : List Bool) (ms : List Member) → Free trst ms → Free trst (cut_back column bits ms)
 free-cut_back trst column bits [] free = tt
 free-cut_back trst column bits (m ∷ ms) free = (free.0, free-cut_back trst column (drop (length (selected_bits_of column m)) bits) ms free.1)
-
-count-cut_back : (column : Column) (bits : List Bool) (ms : List Member) → length (cut_back column bits ms) ≡ length ms
-count-cut_back column bits [] = refl
-count-cut_back column bits (m ∷ ms) = ap (λ n. suc n) (count-cut_back column (drop (length (selected_bits_of column m)) bits) ms)
 
 free-update : (trst : Bool) (column : Column) (ms : List Member) → Free trst ms → Free trst (map (update_member column) ms)
 free-update trst column [] free = tt

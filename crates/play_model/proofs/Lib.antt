@@ -27,6 +27,7 @@ pub mod Losses
 pub mod HonestLinks
 pub mod DescribedSchedules
 pub mod AllFailures
+pub mod FailedPlays
 pub mod ScheduleSamples
 pub mod AllMeaning
 pub mod Hearing

@@ -21,7 +21,7 @@ use Rattle.bitbang.specs.StepMessages.{step_messages}
 use Rattle.tap_paths.specs.Paths.{last_of}
 use Rattle.board_model.specs.Resting.{board_at_rest}
 use Rattle.board_model.proofs.OneCycle.{low, Free, cycled, ran, heard_of, hear-tail}
-use Rattle.play_model.proofs.Vectors.{cycled-shift}
+use Rattle.board_model.proofs.ShiftCycles.{cycled-shift}
 use Rattle.board_model.proofs.Resets.{reset-twice}
 use Rattle.board_model.specs.Sound.{AllSound}
 use Rattle.board_model.proofs.Sound.{Sound-Full, Sound-capture_all, Sound-cut_back, Sound-update, Sound-reset}

@@ -14,7 +14,7 @@ pub use ending::Ending;
 pub use kind::Kind;
 pub use laws::{
     steps_ask_for_their_bits, the_empty_program_rests_every_board, the_full_play_is_both_ends,
-    the_player_grows_by_answers,
+    the_player_grows_by_answers, what_follows_a_failure_is_not_played,
 };
 pub use legal::{
     each_legal_step_plays_as_it_means, every_described_board_plays_legal_programs,

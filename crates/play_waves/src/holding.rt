@@ -35,7 +35,7 @@ fn all_stay(trst: bool, tms: bool, chain: &Chain) -> bool
     ensures { result ≡ list_all (spec.stays trst tms) chain.now.chips }
 {
     for i in 0..chain.devices() {
-        if !stays(trst, tms, chain.seat(i)) {
+        if !stays(trst, tms, chain.chip(i)) {
             return false;
         }
     }
@@ -43,16 +43,16 @@ fn all_stay(trst: bool, tms: bool, chain: &Chain) -> bool
 }
 
 /// Whether a controller stays in a stable state on a rising edge with this TMS, or is held there.
-fn stays(trst: bool, tms: bool, seat: &WiredChip) -> bool
-    ensures { result ≡ spec.stays trst tms (chip_state seat.now) }
+fn stays(trst: bool, tms: bool, chip: &WiredChip) -> bool
+    ensures { result ≡ spec.stays trst tms (chip_state chip.now) }
 {
-    let state = seat.state();
-    state.is_stable() && (is_held(trst, seat) || is_same_state(state.step(tms), state))
+    let state = chip.state();
+    state.is_stable() && (is_held(trst, chip) || is_same_state(state.step(tms), state))
 }
 
 /// Whether TRST holds a controller in RESET.
-fn is_held(trst: bool, seat: &WiredChip) -> bool
-    ensures { result ≡ model.is_held trst (chip_state seat.now).member }
+fn is_held(trst: bool, chip: &WiredChip) -> bool
+    ensures { result ≡ model.is_held trst (chip_state chip.now).member }
 {
-    trst && seat.device().has_trst()
+    trst && chip.device().has_trst()
 }

@@ -90,7 +90,7 @@ fn rests(chain: &Chain) -> bool
     ensures { result ≡ is_resting chain.now.chips }
 {
     for i in 0..chain.devices() {
-        if !chain.seat(i).state().is_stable() {
+        if !chain.chip(i).state().is_stable() {
             return false;
         }
     }

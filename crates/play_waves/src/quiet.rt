@@ -26,7 +26,7 @@ fn all_keep_drives(chain: &Chain) -> bool
     ensures { result ≡ list_all (λ c. spec.keeps_drives (work c.state)) chain.now.chips }
 {
     for i in 0..chain.devices() {
-        if !keeps_drives(chain.seat(i).state().work()) {
+        if !keeps_drives(chain.chip(i).state().work()) {
             return false;
         }
     }

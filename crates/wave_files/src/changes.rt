@@ -88,7 +88,7 @@ fn write_device_changes<W: Sink>(
 {
     for i in 0..behind.devices() {
         let number = FIRST_OF_DEVICES + VARIABLES_OF_DEVICE * i;
-        write_device_change(number, behind.seat(i), ahead.seat(i), quiet, out)?;
+        write_device_change(number, behind.chip(i), ahead.chip(i), quiet, out)?;
     }
     Ok(())
 }

@@ -73,7 +73,7 @@ fn write_device_variables<W: Sink>(chain: &Chain, out: &mut Counted<W>) -> Resul
 {
     for i in 0..chain.devices() {
         let number = FIRST_OF_DEVICES + VARIABLES_OF_DEVICE * i;
-        write_device_scope(number, chain.seat(i), out)?;
+        write_device_scope(number, chain.chip(i), out)?;
     }
     Ok(())
 }
@@ -81,15 +81,15 @@ fn write_device_variables<W: Sink>(chain: &Chain, out: &mut Counted<W>) -> Resul
 /// Writes the variables of a device.
 fn write_device_scope<W: Sink>(
     number: usize,
-    seat: &WiredChip,
+    chip: &WiredChip,
     out: &mut Counted<W>,
 ) -> Result<(), Broken>
     requires none_lost { out.old.failures ≡ 0 }
     requires few { number ≤ 1000000 }
-    ensures { WritesAll W.contents out.old out.new (device_variables number (chip_state seat.now)) result }
+    ensures { WritesAll W.contents out.old out.new (device_variables number (chip_state chip.now)) result }
 {
-    let bits = seat.latch().len();
-    write_scope(seat.name(), out)?;
+    let bits = chip.latch().len();
+    write_scope(chip.name(), out)?;
     write_variable(b"reg 4", number, b"state", out)?;
     write_variable(b"string 1", number + 1, b"word", out)?;
     write_instruction_variable(number + 2, bits, out)?;
@@ -213,7 +213,7 @@ fn write_devices<W: Sink>(chain: &Chain, out: &mut Counted<W>) -> Result<(), Bro
 {
     for i in 0..chain.devices() {
         let number = FIRST_OF_DEVICES + VARIABLES_OF_DEVICE * i;
-        write_device(number, chain.seat(i), out)?;
+        write_device(number, chain.chip(i), out)?;
     }
     Ok(())
 }
@@ -221,15 +221,15 @@ fn write_devices<W: Sink>(chain: &Chain, out: &mut Counted<W>) -> Result<(), Bro
 /// Writes what a device shows.
 fn write_device<W: Sink>(
     number: usize,
-    seat: &WiredChip,
+    chip: &WiredChip,
     out: &mut Counted<W>,
 ) -> Result<(), Broken>
     requires none_lost { out.old.failures ≡ 0 }
     requires few { number ≤ 1000000 }
-    ensures { WritesAll W.contents out.old out.new (device_lines number (chip_state seat.now)) result }
+    ensures { WritesAll W.contents out.old out.new (device_lines number (chip_state chip.now)) result }
 {
-    write_state(number, seat.state(), out)?;
-    write_instruction(number, seat.latch(), out)
+    write_state(number, chip.state(), out)?;
+    write_instruction(number, chip.latch(), out)
 }
 
 /// Writes what the nets show.

@@ -66,7 +66,7 @@ fn tdo_of(chain: &Chain) -> Option<bool>
     if chain.devices() == 0 {
         return None;
     }
-    chain.seat(0).tdo()
+    chain.chip(0).tdo()
 }
 
 /// What is written for TRST.

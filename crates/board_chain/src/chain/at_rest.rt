@@ -31,7 +31,7 @@ impl Chain {
             ≡ chain_as (whole.capture_all column (told self.old.nets (members self.old.chips)) 0
             (members self.old.chips)) self.old }
     {
-        capture_all(&mut self.seats, &self.wiring, column);
+        capture_all(&mut self.chips, &self.wiring, column);
     }
 
     /// Notes every bit of a vector whose wanted value differs from what comes out of the column's registers, joined
@@ -41,7 +41,7 @@ impl Chain {
         ensures { found failures.new ≡ with_found (differing command (bits vector.now)
             (whole.out_of_members column (tdis (bits vector.now)) (members self.now.chips))) (found failures.old) }
     {
-        note_chain(&self.seats, column, vector, command, failures);
+        note_chain(&self.chips, column, vector, command, failures);
     }
 
     /// A whole vector is shifted through the column's registers, joined from TDO to TDI.
@@ -49,7 +49,7 @@ impl Chain {
         ensures { self.new
             ≡ chain_as (shifted_through column (tdis (bits vector.now)) (members self.old.chips)) self.old }
     {
-        shift_chain(&mut self.seats, column, vector);
+        shift_chain(&mut self.chips, column, vector);
     }
 
     /// The column's register of every device updates.
@@ -57,7 +57,7 @@ impl Chain {
         ensures { self.new ≡ chain_as (map (whole.update_member column) (members self.old.chips)) self.old }
     {
         update_settled(
-            &mut self.seats,
+            &mut self.chips,
             &mut self.wiring,
             &mut self.driving,
             &self.strings,
@@ -70,7 +70,7 @@ impl Chain {
         ensures { self.new ≡ chain_as (map whole.reset_member (members self.old.chips)) self.old }
     {
         reset_settled(
-            &mut self.seats,
+            &mut self.chips,
             &mut self.wiring,
             &mut self.driving,
             &self.strings,
@@ -81,7 +81,7 @@ impl Chain {
     pub fn stand(&mut self, state: State)
         ensures { self.new ≡ record self.old { chips = map (chip_at_rest state) (members self.old.chips) } }
     {
-        stand_all(&mut self.seats, state);
+        stand_all(&mut self.chips, state);
     }
 
     /// TRST is asserted to a chain that rests in a state: a device without the port settles, and every device is reset
@@ -94,7 +94,7 @@ impl Chain {
         } }
     {
         assert_trst_settled(
-            &mut self.seats,
+            &mut self.chips,
             &mut self.wiring,
             &mut self.driving,
             &self.strings,
@@ -105,95 +105,95 @@ impl Chain {
 }
 
 /// A capture of all devices. It changes nothing that is driven, so each sees the levels of before.
-fn capture_all(seats: &mut [WiredChip], wiring: &Wiring, column: Column)
-    requires { IsWired seats.old wiring.now }
-    ensures { EachFrom (CapturesAt wiring.now column) 0 seats.old seats.new }
+fn capture_all(chips: &mut [WiredChip], wiring: &Wiring, column: Column)
+    requires { IsWired chips.old wiring.now }
+    ensures { EachFrom (CapturesAt wiring.now column) 0 chips.old chips.new }
 {
-    for seat in seats.iter_mut() {
-        seat.capture(wiring, column);
+    for chip in chips.iter_mut() {
+        chip.capture(wiring, column);
     }
 }
 
 /// An update of all devices; where it may have changed what they drive, that and the strings are put anew.
 fn update_settled(
-    seats: &mut [WiredChip],
+    chips: &mut [WiredChip],
     wiring: &mut Wiring,
     driving: &mut DrivingPins,
     strings: &[WiredString],
     column: Column,
 )
-    requires { IsSettled seats.old wiring.old driving.old strings.now }
-    ensures settled { IsSettled seats.new wiring.new driving.new strings.now }
-    ensures long { length seats.new ≡ length seats.old }
-    ensures chips { map chip_state seats.new
-        ≡ as_members (map (whole.update_member column) (members (map chip_state seats.old)))
-        (map chip_state seats.old) }
-    ensures told { (trst : Bool) → AllTold trst seats.old → AllTold trst seats.new }
+    requires { IsSettled chips.old wiring.old driving.old strings.now }
+    ensures settled { IsSettled chips.new wiring.new driving.new strings.now }
+    ensures long { length chips.new ≡ length chips.old }
+    ensures chips { map chip_state chips.new
+        ≡ as_members (map (whole.update_member column) (members (map chip_state chips.old)))
+        (map chip_state chips.old) }
+    ensures told { (trst : Bool) → AllTold trst chips.old → AllTold trst chips.new }
     ensures nets { wiring.new.nets ≡ wiring.old.nets }
 {
-    let anew = update_all(seats, column);
+    let anew = update_all(chips, column);
     if anew {
-        put_anew(seats, wiring, driving, strings);
+        put_anew(chips, wiring, driving, strings);
     }
 }
 
 /// A reset of all devices, and what they drive from then on and the strings are put anew.
 fn reset_settled(
-    seats: &mut [WiredChip],
+    chips: &mut [WiredChip],
     wiring: &mut Wiring,
     driving: &mut DrivingPins,
     strings: &[WiredString],
 )
-    requires { IsSettled seats.old wiring.old driving.old strings.now }
-    ensures settled { IsSettled seats.new wiring.new driving.new strings.now }
-    ensures long { length seats.new ≡ length seats.old }
-    ensures chips { map chip_state seats.new
-        ≡ as_members (map whole.reset_member (members (map chip_state seats.old))) (map chip_state seats.old) }
-    ensures told { (trst : Bool) → AllTold trst seats.old → AllTold trst seats.new }
+    requires { IsSettled chips.old wiring.old driving.old strings.now }
+    ensures settled { IsSettled chips.new wiring.new driving.new strings.now }
+    ensures long { length chips.new ≡ length chips.old }
+    ensures chips { map chip_state chips.new
+        ≡ as_members (map whole.reset_member (members (map chip_state chips.old))) (map chip_state chips.old) }
+    ensures told { (trst : Bool) → AllTold trst chips.old → AllTold trst chips.new }
     ensures nets { wiring.new.nets ≡ wiring.old.nets }
 {
-    reset_all(seats);
-    put_anew(seats, wiring, driving, strings);
+    reset_all(chips);
+    put_anew(chips, wiring, driving, strings);
 }
 
 /// TRST is asserted to all devices at rest in a state, and what they drive from then on and the strings are put anew.
 fn assert_trst_settled(
-    seats: &mut [WiredChip],
+    chips: &mut [WiredChip],
     wiring: &mut Wiring,
     driving: &mut DrivingPins,
     strings: &[WiredString],
     rests: State,
 )
-    requires { IsSettled seats.old wiring.old driving.old strings.now }
-    ensures settled { IsSettled seats.new wiring.new driving.new strings.now }
-    ensures long { length seats.new ≡ length seats.old }
-    ensures chips { map chip_state seats.new
+    requires { IsSettled chips.old wiring.old driving.old strings.now }
+    ensures settled { IsSettled chips.new wiring.new driving.new strings.now }
+    ensures long { length chips.new ≡ length chips.old }
+    ensures chips { map chip_state chips.new
         ≡ map (chip_at_rest Reset)
-        (map (whole.trst_member (whole.settled_member rests)) (members (map chip_state seats.old))) }
-    ensures told { AllTold true seats.new }
+        (map (whole.trst_member (whole.settled_member rests)) (members (map chip_state chips.old))) }
+    ensures told { AllTold true chips.new }
     ensures nets { wiring.new.nets ≡ wiring.old.nets }
 {
-    assert_trst_all(seats, rests);
-    put_anew(seats, wiring, driving, strings);
+    assert_trst_all(chips, rests);
+    put_anew(chips, wiring, driving, strings);
 }
 
 /// TRST is asserted to all devices at rest in a state.
-fn assert_trst_all(seats: &mut [WiredChip], rests: State)
-    ensures { EachFrom (AssertsTrst rests) 0 seats.old seats.new }
+fn assert_trst_all(chips: &mut [WiredChip], rests: State)
+    ensures { EachFrom (AssertsTrst rests) 0 chips.old chips.new }
 {
-    for seat in seats.iter_mut() {
-        seat.assert_trst(rests);
+    for chip in chips.iter_mut() {
+        chip.assert_trst(rests);
     }
 }
 
 /// An update of all devices. Answers whether what a pin drives may have changed.
-fn update_all(seats: &mut [WiredChip], column: Column) -> bool
-    ensures devices { EachFrom (Changes (whole.update_member column)) 0 seats.old seats.new }
-    ensures still { result ≡ false → EachFrom Still 0 seats.old seats.new }
+fn update_all(chips: &mut [WiredChip], column: Column) -> bool
+    ensures devices { EachFrom (Changes (whole.update_member column)) 0 chips.old chips.new }
+    ensures still { result ≡ false → EachFrom Still 0 chips.old chips.new }
 {
     let mut anew = false;
-    for seat in seats.iter_mut() {
-        if seat.update_anew(column) {
+    for chip in chips.iter_mut() {
+        if chip.update_anew(column) {
             anew = true;
         }
     }
@@ -201,19 +201,19 @@ fn update_all(seats: &mut [WiredChip], column: Column) -> bool
 }
 
 /// A reset of all devices.
-fn reset_all(seats: &mut [WiredChip])
-    ensures { EachFrom (Changes whole.reset_member) 0 seats.old seats.new }
+fn reset_all(chips: &mut [WiredChip])
+    ensures { EachFrom (Changes whole.reset_member) 0 chips.old chips.new }
 {
-    for seat in seats.iter_mut() {
-        seat.reset();
+    for chip in chips.iter_mut() {
+        chip.reset();
     }
 }
 
 /// Every controller stands in this state.
-fn stand_all(seats: &mut [WiredChip], state: State)
-    ensures { EachFrom (Stands state) 0 seats.old seats.new }
+fn stand_all(chips: &mut [WiredChip], state: State)
+    ensures { EachFrom (Stands state) 0 chips.old chips.new }
 {
-    for seat in seats.iter_mut() {
-        seat.stand(state);
+    for chip in chips.iter_mut() {
+        chip.stand(state);
     }
 }

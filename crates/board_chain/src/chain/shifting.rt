@@ -23,7 +23,7 @@ impl Chain {
         ensures { result ≡ all_shift column self.now.chips }
     {
         for i in 0..self.devices() {
-            if !device_shifts(self.seat(i), column) {
+            if !device_shifts(self.chip(i), column) {
                 return false;
             }
         }
@@ -36,7 +36,7 @@ impl Chain {
         ensures { (n : ℕ) → n ≤ 64
             → word_bits result n ≡ out_of_members column (word_bits bits n) (members self.now.chips) }
     {
-        word_out(&self.seats, column, bits)
+        word_out(&self.chips, column, bits)
     }
 
     /// The lowest `n` bits of a word are shifted through the column's registers, joined from TDO to TDI, its lowest
@@ -46,19 +46,19 @@ impl Chain {
         ensures { self.new
             ≡ chain_as (shifted_through column (word_bits bits n) (members self.old.chips)) self.old }
     {
-        shift_word(&mut self.seats, column, bits, n);
+        shift_word(&mut self.chips, column, bits, n);
     }
 }
 
 /// Whether a device stands in the column's Shift state, its TDO the first bit of the column's register.
-fn device_shifts(seat: &WiredChip, column: Column) -> bool
-    ensures { result ≡ shifting.shifts column (chip_state seat.now) }
+fn device_shifts(chip: &WiredChip, column: Column) -> bool
+    ensures { result ≡ shifting.shifts column (chip_state chip.now) }
 {
-    if !is_shift_of(column, seat.state()) {
+    if !is_shift_of(column, chip.state()) {
         return false;
     }
-    match seat.tdo() {
-        Some(tdo) => tdo == (seat.register_word(column, 0) & 1 == 1),
+    match chip.tdo() {
+        Some(tdo) => tdo == (chip.register_word(column, 0) & 1 == 1),
         None => false,
     }
 }

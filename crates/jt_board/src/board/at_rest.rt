@@ -20,7 +20,7 @@ impl Board {
         requires { IsResting self.now }
         ensures { (m : AtRest) → IsAtRest self.now m → result ≡ m.place }
     {
-        self.chain.seat(0).state()
+        self.chain.chip(0).state()
     }
 
     /// Of a board at rest (asked) in a pause the update that is pending is made.

@@ -41,8 +41,8 @@ impl Board {
             return false;
         }
         for i in 0..self.chain.devices() {
-            let seat = self.chain.seat(i);
-            if !rests(seat.state(), seat.tdo()) {
+            let chip = self.chain.chip(i);
+            if !rests(chip.state(), chip.tdo()) {
                 return false;
             }
         }

@@ -48,7 +48,7 @@ impl Board {
         ensures shifts { all_shift result self.now.chips ≡ true }
         ensures column { result ≡ shift_column self.now }
     {
-        match self.chain.seat(0).state() {
+        match self.chain.chip(0).state() {
             State::IrShift => Column::Ir,
             _ => Column::Dr,
         }

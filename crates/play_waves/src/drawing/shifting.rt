@@ -128,7 +128,7 @@ fn all_at(state: State, chain: &Chain) -> bool
     ensures { result ≡ spec.all_at state chain.now.chips }
 {
     for i in 0..chain.devices() {
-        if !is_same_state(chain.seat(i).state(), state) {
+        if !is_same_state(chain.chip(i).state(), state) {
             return false;
         }
     }

@@ -14,19 +14,19 @@ use Rattle.board_chain.proofs.build.first_settled.Goals as goal
 
 pub of-requires-clause-told : goal.of-requires-clause-told
 of-requires-clause-told c =
-    let items = c.args.seats.items in
-    let new = c.settle.new.seats in
+    let items = c.args.chips.items in
+    let new = c.settle.new.chips in
     let less = subst (λ (l : List WiredChipValue). map less_core new ≡ map less_core l) c.deref_mut.ensures.value c.settle.ensures.same in
-    let is = with_items_is c.args.seats new (same_long new items less ∙ sym c.args.seats.ok.0) in
+    let is = with_items_is c.args.chips new (same_long new items less ∙ sym c.args.chips.ok.0) in
     subst (AllTold false) (sym is) (same_told false new items less c.requires.told)
 
 pub of-requires-clause-settled : goal.of-requires-clause-settled
 of-requires-clause-settled c =
-    let items = c.args.seats.items in
+    let items = c.args.chips.items in
     let strings = c.args.strings.items in
     let w = c.args.wiring in
     let d = c.in_ok-driving.driving in
-    let new = c.settle.new.seats in
+    let new = c.settle.new.chips in
     let less = subst (λ (l : List WiredChipValue). map less_core new ≡ map less_core l) c.deref_mut.ensures.value c.settle.ensures.same in
     let held : map held_of new ≡ after_strings w.nets (map placed_of strings) (map held_of items) =
     c.settle.ensures.held
@@ -34,7 +34,7 @@ of-requires-clause-settled c =
     ∙ ap (λ (l : List WiredChipValue). after_strings w.nets (map placed_of strings) (map held_of l)) c.deref_mut.ensures.value in
     let table = subst (λ (l : List WiredChipValue). IsTable (driving_of l w.nets) (length l) d) c.deref.ensures.value c.in_ok-driving.ensures.table in
     let apart = subst (λ (l : List WiredString). IsApart l d) c.deref-2.ensures.value c.in_ok-driving.ensures.apart in
-    let is = with_items_is c.args.seats new (same_long new items less ∙ sym c.args.seats.ok.0) in
+    let is = with_items_is c.args.chips new (same_long new items less ∙ sym c.args.chips.ok.0) in
     subst (λ (l : List WiredChipValue). IsSettled l c.settle.new.wiring d strings) (sym is)
     (first_settled items new w c.settle.new.wiring d strings c.requires.wired c.requires.held c.requires.strung c.requires.order table c.in_ok-driving.ensures.put apart
     c.settle.ensures.nets c.settle.ensures.wired held less)
@@ -49,9 +49,9 @@ settle-requires-clause-strings c =
 
 pub returns : goal.returns
 returns c =
-    let items = c.args.seats.items in
-    let new = c.settle.new.seats in
+    let items = c.args.chips.items in
+    let new = c.settle.new.chips in
     let less = subst (λ (l : List WiredChipValue). map less_core new ≡ map less_core l) c.deref_mut.ensures.value c.settle.ensures.same in
-    let is = with_items_is c.args.seats new (same_long new items less ∙ sym c.args.seats.ok.0) in
+    let is = with_items_is c.args.chips new (same_long new items less ∙ sym c.args.chips.ok.0) in
     let chips = ap (map chip_state) is ∙ same_chips new items less in
     c.of.ensures ∙ (λ i. record { trst = false; nets = c.settle.ensures.nets i; chips = chips i })

@@ -8,11 +8,11 @@ use Rattle.board_chain.proofs.chain.cell_net_of.Goals as goal
 
 pub returns : goal.returns
 returns c =
-    let seats = c.args.seats.now in
+    let chips = c.args.chips.now in
     let nets = c.args.wiring.now.nets in
-    let s = get_or seats c.args.i c.index-seats-i.result in
-    let here : slice_get seats c.args.i ≡ Some s = slice_get-get_or seats c.args.i c.index-seats-i.result c.requires.device in
+    let s = get_or chips c.args.i c.index-chips-i.result in
+    let here : slice_get chips c.args.i ≡ Some s = slice_get-get_or chips c.args.i c.index-chips-i.result c.requires.device in
     ap (option_map (λ (t : WiredChipValue). option_and_then (cell_net nets c.args.i) (slice_get t.chip.device.cells c.args.cell))) here
     ∙ ap (λ (o : Option ℕ). Some o)
-    (sym (wired_cell nets seats c.args.i c.args.cell s c.requires.wired.cells here)
-    ∙ ap (λ (t : WiredChipValue). option_and_then (λ net. net) (slice_get t.nets c.args.cell)) (sym c.index-seats-i.is) ∙ sym c.cell_net.ensures)
+    (sym (wired_cell nets chips c.args.i c.args.cell s c.requires.wired.cells here)
+    ∙ ap (λ (t : WiredChipValue). option_and_then (λ net. net) (slice_get t.nets c.args.cell)) (sym c.index-chips-i.is) ∙ sym c.cell_net.ensures)

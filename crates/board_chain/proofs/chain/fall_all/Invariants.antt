@@ -3,8 +3,8 @@ use Rattle.board_chain.specs.Sweeping.{Falls, Still}
 use Rattle.board_chain.proofs.SweepLaws.{Swept}
 use Rattle.board_chain.proofs.chain.fall_all.Given as goal
 
-abbrev pub invariant-loop-seat : goal.invariant-loop-seat
-invariant-loop-seat l = record {
-  devices : Swept Falls l.seat-index l.initial.seats l.seats;
-  still : l.anew ≡ false → Swept Still l.seat-index l.initial.seats l.seats;
+abbrev pub invariant-loop-chip : goal.invariant-loop-chip
+invariant-loop-chip l = record {
+  devices : Swept Falls l.chip-index l.initial.chips l.chips;
+  still : l.anew ≡ false → Swept Still l.chip-index l.initial.chips l.chips;
 }

@@ -8,38 +8,38 @@ use Rattle.board_chain.proofs.chain.fall_settled.Goals as goal
 
 pub put_anew-requires : goal.put_anew-requires
 put_anew-requires c = record {
-  before = c.args.seats.now;
+  before = c.args.chips.now;
   settled = c.requires;
-  kept = keeps Falls (λ i s t r. r.kept) 0 c.args.seats.now c.fall_all-anew.new.seats c.fall_all-anew.ensures.devices;
+  kept = keeps Falls (λ i s t r. r.kept) 0 c.args.chips.now c.fall_all-anew.new.chips c.fall_all-anew.ensures.devices;
 }
 
 pub returns-then-anew-clause-long : goal.returns-then-anew-clause-long
 returns-then-anew-clause-long c =
-    same_long c.put_anew.new.seats c.fall_all-anew.new.seats c.put_anew.ensures.same
-    ∙ each_long Falls 0 c.args.seats.now c.fall_all-anew.new.seats c.fall_all-anew.ensures.devices
+    same_long c.put_anew.new.chips c.fall_all-anew.new.chips c.put_anew.ensures.same
+    ∙ each_long Falls 0 c.args.chips.now c.fall_all-anew.new.chips c.fall_all-anew.ensures.devices
 
 pub returns-then-anew-clause-chips : goal.returns-then-anew-clause-chips
 returns-then-anew-clause-chips c =
-    same_chips c.put_anew.new.seats c.fall_all-anew.new.seats c.put_anew.ensures.same
-    ∙ all_chips Falls meant.fall (λ i s t r. r.chip) 0 c.args.seats.now c.fall_all-anew.new.seats c.fall_all-anew.ensures.devices
+    same_chips c.put_anew.new.chips c.fall_all-anew.new.chips c.put_anew.ensures.same
+    ∙ all_chips Falls meant.fall (λ i s t r. r.chip) 0 c.args.chips.now c.fall_all-anew.new.chips c.fall_all-anew.ensures.devices
 
 pub returns-then-anew-clause-told : goal.returns-then-anew-clause-told
 returns-then-anew-clause-told c = λ trst told.
-    same_told trst c.put_anew.new.seats c.fall_all-anew.new.seats c.put_anew.ensures.same
-    (all_told Falls (λ i s t r. r.trst) trst 0 c.args.seats.now c.fall_all-anew.new.seats c.fall_all-anew.ensures.devices told)
+    same_told trst c.put_anew.new.chips c.fall_all-anew.new.chips c.put_anew.ensures.same
+    (all_told Falls (λ i s t r. r.trst) trst 0 c.args.chips.now c.fall_all-anew.new.chips c.fall_all-anew.ensures.devices told)
 
 pub returns-else-anew-clause-settled : goal.returns-else-anew-clause-settled
 returns-else-anew-clause-settled c =
-    quiet_settled c.args.seats.now c.fall_all-anew.new.seats c.args.wiring.now c.args.driving.now c.args.strings.now c.requires
-    (keeps Falls (λ i s t r. r.kept) 0 c.args.seats.now c.fall_all-anew.new.seats c.fall_all-anew.ensures.devices)
+    quiet_settled c.args.chips.now c.fall_all-anew.new.chips c.args.wiring.now c.args.driving.now c.args.strings.now c.requires
+    (keeps Falls (λ i s t r. r.kept) 0 c.args.chips.now c.fall_all-anew.new.chips c.fall_all-anew.ensures.devices)
     (c.fall_all-anew.ensures.still c.if-anew.false)
 
 pub returns-else-anew-clause-long : goal.returns-else-anew-clause-long
-returns-else-anew-clause-long c = each_long Falls 0 c.args.seats.now c.fall_all-anew.new.seats c.fall_all-anew.ensures.devices
+returns-else-anew-clause-long c = each_long Falls 0 c.args.chips.now c.fall_all-anew.new.chips c.fall_all-anew.ensures.devices
 
 pub returns-else-anew-clause-chips : goal.returns-else-anew-clause-chips
-returns-else-anew-clause-chips c = all_chips Falls meant.fall (λ i s t r. r.chip) 0 c.args.seats.now c.fall_all-anew.new.seats c.fall_all-anew.ensures.devices
+returns-else-anew-clause-chips c = all_chips Falls meant.fall (λ i s t r. r.chip) 0 c.args.chips.now c.fall_all-anew.new.chips c.fall_all-anew.ensures.devices
 
 pub returns-else-anew-clause-told : goal.returns-else-anew-clause-told
 returns-else-anew-clause-told c = λ trst told.
-    all_told Falls (λ i s t r. r.trst) trst 0 c.args.seats.now c.fall_all-anew.new.seats c.fall_all-anew.ensures.devices told
+    all_told Falls (λ i s t r. r.trst) trst 0 c.args.chips.now c.fall_all-anew.new.chips c.fall_all-anew.ensures.devices told

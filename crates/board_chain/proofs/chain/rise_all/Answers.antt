@@ -10,18 +10,18 @@ use Rattle.board_chain.proofs.chain.rise_all.Goals as goal
 
 pub rise-requires : goal.rise-requires
 rise-requires c =
-    let now = c.loop-i.seats in
-    let s = get_or now c.loop-i.i c.index-seats-i.result in
-    let here : slice_get now c.loop-i.i ≡ Some s = slice_get-get_or now c.loop-i.i c.index-seats-i.result (omega (arith, c.loop-i-test.true, c.loop-i.invariant.long)) in
-    record { below = net_below c.args.wiring.now.nets 0 c.args.seats.now c.loop-i.i s c.requires.cells (sym (c.loop-i.invariant.rest c.loop-i.i (omega arith)) ∙ here) }
+    let now = c.loop-i.chips in
+    let s = get_or now c.loop-i.i c.index-chips-i.result in
+    let here : slice_get now c.loop-i.i ≡ Some s = slice_get-get_or now c.loop-i.i c.index-chips-i.result (omega (arith, c.loop-i-test.true, c.loop-i.invariant.long)) in
+    record { below = net_below c.args.wiring.now.nets 0 c.args.chips.now c.loop-i.i s c.requires.cells (sym (c.loop-i.invariant.rest c.loop-i.i (omega arith)) ∙ here) }
 
 pub loop-i-preserved : goal.loop-i-preserved
 loop-i-preserved c =
-    let old = c.args.seats.now in
-    let now = c.loop-i.seats in
+    let old = c.args.chips.now in
+    let now = c.loop-i.chips in
     let at = c.loop-i.i in
-    let s = get_or now at c.index-seats-i.result in
-    let here : slice_get now at ≡ Some s = slice_get-get_or now at c.index-seats-i.result (omega (arith, c.loop-i-test.true, c.loop-i.invariant.long)) in
+    let s = get_or now at c.index-chips-i.result in
+    let here : slice_get now at ≡ Some s = slice_get-get_or now at c.index-chips-i.result (omega (arith, c.loop-i-test.true, c.loop-i.invariant.long)) in
     let behind : drop (at + 1) (map chip_state now) ≡ drop (at + 1) (map chip_state old) =
     map_drop chip_state (at + 1) now ∙ ap (map chip_state) (drop_alike (at + 1) old now c.loop-i.invariant.long (λ j h. c.loop-i.invariant.rest j (omega (arith, h))))
     ∙ sym (map_drop chip_state (at + 1) old) in
@@ -35,4 +35,4 @@ loop-i-preserved c =
     })
 
 pub returns : goal.returns
-returns c = swept_all (Rises c.args.wiring.now c.args.tms c.args.tdi c.args.seats.now) c.loop-i.i c.args.seats.now c.loop-i.seats c.loop-i.invariant (omega (arith, c.loop-i-test.false, c.loop-i.invariant.long))
+returns c = swept_all (Rises c.args.wiring.now c.args.tms c.args.tdi c.args.chips.now) c.loop-i.i c.args.chips.now c.loop-i.chips c.loop-i.invariant (omega (arith, c.loop-i-test.false, c.loop-i.invariant.long))

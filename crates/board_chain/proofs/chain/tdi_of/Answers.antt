@@ -6,7 +6,7 @@ use Rattle.board_chain.proofs.chain.tdi_of.Goals as goal
 
 pub returns-in-Some : goal.returns-in-Some
 returns-in-Some c =
-    let seats = c.args.seats.now in
+    let chips = c.args.chips.now in
     c.unwrap_or.ensures ∙ ap (λ o. unwrap_or o true) c.tdo.ensures
-    ∙ sym (tdo_there c.args.tdi seats c.args.i c.in-Some.seat.now
-    (slice_get_read seats (length seats) c.args.i c.in-Some.seat.now refl (ltb-true c.args.i (length seats) (sym c.in-Some.ensures.lookup.0)) c.in-Some.ensures.lookup.1))
+    ∙ sym (tdo_there c.args.tdi chips c.args.i c.in-Some.chip.now
+    (slice_get_read chips (length chips) c.args.i c.in-Some.chip.now refl (ltb-true c.args.i (length chips) (sym c.in-Some.ensures.lookup.0)) c.in-Some.ensures.lookup.1))

@@ -16,13 +16,13 @@ loop-it-preserved c =
     let more : take (i + 1) driving ≡ take i driving ++ x ∷ [] = take_more driving i none c.loop-it-test.true in
     record {
       long = c.in_ok-place.ensures.long;
-      slots = λ n seated.
+      slots = λ n within.
           subst (λ (es : List DrivingPin). AreSlots es n c.enter_slot.new.blocks.items c.enter_slot.new.pins.items) (sym more)
-          (c.in_ok-place.ensures.slots n (take i driving) (seated x (Contains-get_or driving i none c.loop-it-test.true)) (c.loop-it.invariant.slots n seated));
+          (c.in_ok-place.ensures.slots n (take i driving) (within x (Contains-get_or driving i none c.loop-it-test.true)) (c.loop-it.invariant.slots n within));
     }
 
 pub returns : goal.returns
-returns c = λ n seated.
+returns c = λ n within.
     let driving = c.args.driving.now in
     subst (λ (es : List DrivingPin). AreSlots es n c.loop-it.blocks.items c.loop-it.pins.items) (take_all c.loop-it.it-index driving c.loop-it-test.false)
-    (c.loop-it.invariant.slots n seated)
+    (c.loop-it.invariant.slots n within)

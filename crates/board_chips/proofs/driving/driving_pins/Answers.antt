@@ -3,18 +3,18 @@ use Rattle.board_chips.specs.Driving.{driving_of}
 use Rattle.board_chips.specs.Blocks.{AreParts}
 use Rattle.board_chips.specs.DrivingTable.{DrivingTable}
 use Rattle.board_chips.specs.declared.driving.DrivingPin.{DrivingPin}
-use Rattle.board_chips.proofs.RefreshLaws.{all_seated, none_put, slots_apart, slots_made, table_made}
+use Rattle.board_chips.proofs.RefreshLaws.{all_within, none_put, slots_apart, slots_made, table_made}
 use Rattle.board_chips.proofs.driving.driving_pins.Goals as goal
 
 pub returns-clause-table : goal.returns-clause-table
 returns-clause-table c =
-    let seats = c.args.seats.now in
+    let chips = c.args.chips.now in
     let nets = c.args.wiring.now.nets in
-    let driving = driving_of seats nets in
+    let driving = driving_of chips nets in
     let parts : AreParts driving c.divide.new.close.items c.divide.new.rest.items =
     subst (λ (l : List DrivingPin). AreParts l c.divide.new.close.items c.divide.new.rest.items) (c.deref-2.ensures.value ∙ c.in_ok-all.ensures) c.in_ok-divide.ensures.parts in
-    table_made driving c.divide.new.close.items c.deref-4.result.now (length seats) _ parts
-    c.deref-4.ensures.value c.in_ok-blocks.ensures (all_seated seats nets)
+    table_made driving c.divide.new.close.items c.deref-4.result.now (length chips) _ parts
+    c.deref-4.ensures.value c.in_ok-blocks.ensures (all_within chips nets)
 
 pub returns-clause-put : goal.returns-clause-put
 returns-clause-put c =
@@ -26,9 +26,9 @@ returns-clause-put c =
 
 pub returns-clause-apart : goal.returns-clause-apart
 returns-clause-apart c =
-    let seats = c.args.seats.now in
+    let chips = c.args.chips.now in
     let nets = c.args.wiring.now.nets in
-    let driving = driving_of seats nets in
+    let driving = driving_of chips nets in
     let close = c.divide.new.close.items in
     let parts : AreParts driving close c.divide.new.rest.items =
     subst (λ (l : List DrivingPin). AreParts l close c.divide.new.rest.items) (c.deref-2.ensures.value ∙ c.in_ok-all.ensures) c.in_ok-divide.ensures.parts in
@@ -38,5 +38,5 @@ returns-clause-apart c =
       put = c.in_ok-put.put.items;
       rest = c.divide.new.rest.items;
     } in
-    let slots = slots_made driving close c.deref-4.result.now (length seats) d parts c.deref-4.ensures.value c.in_ok-blocks.ensures (all_seated seats nets) in
-    slots_apart c.args.strings.now c.in_ok-taken.taken close (length seats) d slots c.in_ok-taken.ensures c.in_ok-divide.ensures.apart
+    let slots = slots_made driving close c.deref-4.result.now (length chips) d parts c.deref-4.ensures.value c.in_ok-blocks.ensures (all_within chips nets) in
+    slots_apart c.args.strings.now c.in_ok-taken.taken close (length chips) d slots c.in_ok-taken.ensures c.in_ok-divide.ensures.apart

@@ -9,9 +9,9 @@ use Rattle.board_chips.proofs.refreshing.put_slots.Goals as goal
 
 pub loop-left-preserved : goal.loop-left-preserved
 loop-left-preserved c =
-    let seats = c.args.seats.now in
+    let chips = c.args.chips.now in
     let nets = c.args.wiring.now.nets in
-    let target = targets seats nets in
+    let target = targets chips nets in
     let pins = c.args.pins.now in
     let at = c.args.at in
     let left = c.loop-left.left in
@@ -25,7 +25,7 @@ loop-left-preserved c =
     let marked = c.lowest-j.ensures.marked in
     let so_far = c.loop-left.invariant in
     let aims : slice_get target k ≡ Some d = c.requires.slots.each j within (so_far.part j within marked) ∙ ap Some (sym c.drive_in-drive.ensures) in
-    let long : length ds ≡ length target = so_far.settles.long ∙ c.requires.full ∙ sym (targets_long seats nets) in
+    let long : length ds ≡ length target = so_far.settles.long ∙ c.requires.full ∙ sym (targets_long chips nets) in
     let put : es ≡ set ds k d = ap (λ (v : WiringValue). v.drives) c.place.ensures in
     record {
       nets = ap (λ (v : WiringValue). v.nets) c.place.ensures ∙ so_far.nets;

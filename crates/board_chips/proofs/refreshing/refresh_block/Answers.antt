@@ -11,19 +11,19 @@ use Rattle.board_chips.proofs.refreshing.refresh_block.Goals as goal
 
 pub returns-clause-settled : goal.returns-clause-settled
 returns-clause-settled c =
-    let seats = c.args.seats.now in
+    let chips = c.args.chips.now in
     let block = c.args.block in
-    let s = c.index-seats-block.result in
-    let inside : block.device < length seats = omega (arith, c.requires.slots.device, length-map seats held_of) in
-    let tells : TellsBlock (map cells_of seats) (map held_of seats) block c.driven_cells-now.result =
-    block_tells seats s block c.driven_cells-now.result (slice_get_read seats (length seats) block.device s refl inside c.index-seats-block.is) c.driven_cells-now.ensures in
-    block_settled (map cells_of seats) (map held_of seats) (targets seats c.args.wiring.now.nets) c.args.wiring.now.drives c.put_slots.new.wiring.drives c.args.pins.now c.args.at block c.args.put
+    let s = c.index-chips-block.result in
+    let inside : block.device < length chips = omega (arith, c.requires.slots.device, length-map chips held_of) in
+    let tells : TellsBlock (map cells_of chips) (map held_of chips) block c.driven_cells-now.result =
+    block_tells chips s block c.driven_cells-now.result (slice_get_read chips (length chips) block.device s refl inside c.index-chips-block.is) c.driven_cells-now.ensures in
+    block_settled (map cells_of chips) (map held_of chips) (targets chips c.args.wiring.now.nets) c.args.wiring.now.drives c.put_slots.new.wiring.drives c.args.pins.now c.args.at block c.args.put
     c.driven_cells-now.result c.changed_slots-changed.result c.requires.put tells c.put_slots.ensures.settles c.put_slots.ensures.settled c.changed_slots-changed.ensures
 
 pub returns-clause-tells : goal.returns-clause-tells
 returns-clause-tells c =
-    let seats = c.args.seats.now in
+    let chips = c.args.chips.now in
     let block = c.args.block in
-    let s = c.index-seats-block.result in
-    let inside : block.device < length seats = omega (arith, c.requires.slots.device, length-map seats held_of) in
-    block_tells seats s block c.driven_cells-now.result (slice_get_read seats (length seats) block.device s refl inside c.index-seats-block.is) c.driven_cells-now.ensures
+    let s = c.index-chips-block.result in
+    let inside : block.device < length chips = omega (arith, c.requires.slots.device, length-map chips held_of) in
+    block_tells chips s block c.driven_cells-now.result (slice_get_read chips (length chips) block.device s refl inside c.index-chips-block.is) c.driven_cells-now.ensures

@@ -19,16 +19,16 @@ nothing = record { own = 0; bits = 0; off = 0; mute = 0 }
 
 pub refresh_block-now-requires-clause-slots : goal.refresh_block-now-requires-clause-slots
 refresh_block-now-requires-clause-slots c =
-    let seats = c.args.seats.now in
+    let chips = c.args.chips.now in
     let blocks = c.args.blocks.now in
     let i = c.loop-i.i in
     let b = get_or blocks i none in
-    subst (λ (ns : List Net). AreTargeted (map held_of seats) (targets seats ns) c.args.pins.now (64 * i) b) (sym c.loop-i.invariant.nets)
+    subst (λ (ns : List Net). AreTargeted (map held_of chips) (targets chips ns) c.args.pins.now (64 * i) b) (sym c.loop-i.invariant.nets)
     (c.requires.slots i b (slice_get-get_or blocks i none c.loop-i-test.true))
 
 pub refresh_block-now-requires-clause-put : goal.refresh_block-now-requires-clause-put
 refresh_block-now-requires-clause-put c =
-    let seats = c.args.seats.now in
+    let chips = c.args.chips.now in
     let nets = c.args.wiring.now.nets in
     let blocks = c.args.blocks.now in
     let i = c.loop-i.i in
@@ -37,15 +37,15 @@ refresh_block-now-requires-clause-put c =
     let at : slice_get blocks i ≡ Some b = slice_get-get_or blocks i none c.loop-i-test.true in
     let inside : i < length c.loop-i.put = omega (arith, c.loop-i-test.true, c.loop-i.invariant.long, c.requires.put.long) in
     let kept : slice_get c.args.put.now i ≡ Some p = sym (c.loop-i.invariant.rest i (omega arith)) ∙ slice_get-get_or c.loop-i.put i nothing inside in
-    subst (λ (ns : List Net). WasPut (map cells_of seats) (map held_of seats) (targets seats ns) c.loop-i.wiring.drives c.args.pins.now (64 * i) b p) (sym c.loop-i.invariant.nets)
-    (was_put (map cells_of seats) (map held_of seats) (targets seats nets) c.args.wiring.now.drives c.loop-i.wiring.drives blocks c.args.pins.now c.args.put.now i b p
+    subst (λ (ns : List Net). WasPut (map cells_of chips) (map held_of chips) (targets chips ns) c.loop-i.wiring.drives c.args.pins.now (64 * i) b p) (sym c.loop-i.invariant.nets)
+    (was_put (map cells_of chips) (map held_of chips) (targets chips nets) c.args.wiring.now.drives c.loop-i.wiring.drives blocks c.args.pins.now c.args.put.now i b p
     c.requires.put at kept (c.requires.slots i b at) c.loop-i.invariant.settles)
 
 pub loop-i-preserved : goal.loop-i-preserved
 loop-i-preserved c =
-    let seats = c.args.seats.now in
+    let chips = c.args.chips.now in
     let nets = c.args.wiring.now.nets in
-    let target = targets seats nets in
+    let target = targets chips nets in
     let blocks = c.args.blocks.now in
     let i = c.loop-i.i in
     let b = get_or blocks i none in
@@ -55,16 +55,16 @@ loop-i-preserved c =
     let now = c.refresh_block-now.result in
     let at : slice_get blocks i ≡ Some b = slice_get-get_or blocks i none c.loop-i-test.true in
     let inside : i < length c.loop-i.put = omega (arith, c.loop-i-test.true, so_far.long, c.requires.put.long) in
-    let settles : Settles target ds es = subst (λ (ns : List Net). Settles (targets seats ns) ds es) so_far.nets c.refresh_block-now.ensures.settles in
+    let settles : Settles target ds es = subst (λ (ns : List Net). Settles (targets chips ns) ds es) so_far.nets c.refresh_block-now.ensures.settles in
     let settled : SlotsSettled target es c.args.pins.now (64 * i) b.slots =
-    subst (λ (ns : List Net). SlotsSettled (targets seats ns) es c.args.pins.now (64 * i) b.slots) so_far.nets c.refresh_block-now.ensures.settled in
+    subst (λ (ns : List Net). SlotsSettled (targets chips ns) es c.args.pins.now (64 * i) b.slots) so_far.nets c.refresh_block-now.ensures.settled in
     record {
       nets = c.refresh_block-now.ensures.nets ∙ so_far.nets;
       settles = settles_both target c.args.wiring.now.drives ds es so_far.settles settles;
       long = length-set c.loop-i.put i now ∙ so_far.long;
       rest = rest_more c.loop-i.put c.args.put.now i now so_far.rest;
       done =
-          refreshed_more (map cells_of seats) (map held_of seats) target ds es blocks c.args.pins.now c.loop-i.put i b now at inside settles settled
+          refreshed_more (map cells_of chips) (map held_of chips) target ds es blocks c.args.pins.now c.loop-i.put i b now at inside settles settled
           c.refresh_block-now.ensures.tells so_far.done;
     }
 

@@ -18,21 +18,21 @@ none = record { device = 0; cell = 0; pin = 0 }
 
 pub put_one-requires-clause-device : goal.put_one-requires-clause-device
 put_one-requires-clause-device c =
-    let seats = c.args.seats.now in
+    let chips = c.args.chips.now in
     let rest = c.args.rest.now in
     let i = c.loop-it.it-index in
     let r = c.requires.rest i (get_or rest i none) (slice_get-get_or rest i none c.loop-it-test.true) in
-    omega (arith, r.device, length-map seats held_of)
+    omega (arith, r.device, length-map chips held_of)
 
 pub put_one-requires-clause-pin : goal.put_one-requires-clause-pin
 put_one-requires-clause-pin c =
-    let seats = c.args.seats.now in
+    let chips = c.args.chips.now in
     let nets = c.args.wiring.now.nets in
     let rest = c.args.rest.now in
     let i = c.loop-it.it-index in
     let e = get_or rest i none in
     let r = c.requires.rest i e (slice_get-get_or rest i none c.loop-it-test.true) in
-    subst (λ (ns : List Net). e.pin < length (all_pins ns)) (sym c.loop-it.invariant.nets) (target_within seats nets e.pin (entry_drives (map held_of seats) e) r.pin)
+    subst (λ (ns : List Net). e.pin < length (all_pins ns)) (sym c.loop-it.invariant.nets) (target_within chips nets e.pin (entry_drives (map held_of chips) e) r.pin)
 
 done_more : (target ds es : List Drive) (rest : List DrivingPin) (i : ℕ) (e : DrivingPin) → slice_get rest i ≡ Some e → Settles target ds es → Settled target es e.pin
     → ((k : ℕ) (x : DrivingPin) → k < i → slice_get rest k ≡ Some x → Settled target ds x.pin)
@@ -46,19 +46,19 @@ done_more target ds es rest i e at settles own done k x below there = ⊎_elim
 
 pub loop-it-preserved : goal.loop-it-preserved
 loop-it-preserved c =
-    let seats = c.args.seats.now in
+    let chips = c.args.chips.now in
     let nets = c.args.wiring.now.nets in
-    let target = targets seats nets in
+    let target = targets chips nets in
     let rest = c.args.rest.now in
     let i = c.loop-it.it-index in
     let e = get_or rest i none in
     let at : slice_get rest i ≡ Some e = slice_get-get_or rest i none c.loop-it-test.true in
     let r = c.requires.rest i e at in
-    let d = entry_drives (map held_of seats) e in
+    let d = entry_drives (map held_of chips) e in
     let ds = c.loop-it.wiring.drives in
     let es = c.put_one.new.wiring.drives in
     let so_far = c.loop-it.invariant in
-    let long : length ds ≡ length target = so_far.settles.long ∙ c.requires.full ∙ sym (targets_long seats nets) in
+    let long : length ds ≡ length target = so_far.settles.long ∙ c.requires.full ∙ sym (targets_long chips nets) in
     let put : es ≡ set ds e.pin d = ap (λ (v : WiringValue). v.drives) c.put_one.ensures in
     let settles : Settles target ds es = settles_put target ds es e.pin d put r.pin in
     record {

@@ -19,9 +19,9 @@ settle_one-requires-clause-string c =
     let strings = c.args.strings.now in
     let x = get_or strings c.loop-string.string-index none in
     let has : Contains strings x = Contains-get_or strings c.loop-string.string-index none c.loop-string-test.true in
-    subst (λ (ns : List Net). IsStrung ns (map cells_of c.loop-string.seats) x) (sym c.loop-string.invariant.nets)
+    subst (λ (ns : List Net). IsStrung ns (map cells_of c.loop-string.chips) x) (sym c.loop-string.invariant.nets)
     (subst (λ (cs : List (List Cell)). IsStrung c.args.wiring.now.nets cs x)
-    (sym (by_less cells_of (λ s. refl) c.loop-string.seats c.args.seats.now c.loop-string.invariant.same)) (c.requires.strings x has))
+    (sym (by_less cells_of (λ s. refl) c.loop-string.chips c.args.chips.now c.loop-string.invariant.same)) (c.requires.strings x has))
 
 pub loop-string-preserved : goal.loop-string-preserved
 loop-string-preserved c =
@@ -32,9 +32,9 @@ loop-string-preserved c =
     record {
       nets = one.nets ∙ so_far.nets;
       wired = one.wired;
-      held = settled_more c.args.wiring.now.nets strings i none (map held_of c.args.seats.now) (map held_of c.loop-string.seats)
-          (map held_of c.settle_one.new.seats) c.loop-string-test.true so_far.held
-          (one.held ∙ ap (λ (ns : List Net). after_string ns (placed_of (get_or strings i none)) (map held_of c.loop-string.seats)) so_far.nets);
+      held = settled_more c.args.wiring.now.nets strings i none (map held_of c.args.chips.now) (map held_of c.loop-string.chips)
+          (map held_of c.settle_one.new.chips) c.loop-string-test.true so_far.held
+          (one.held ∙ ap (λ (ns : List Net). after_string ns (placed_of (get_or strings i none)) (map held_of c.loop-string.chips)) so_far.nets);
       same = one.same ∙ so_far.same;
       others = λ k quiet.
           let both = none_more strings i k none c.loop-string-test.true quiet in

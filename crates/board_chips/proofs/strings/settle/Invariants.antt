@@ -9,10 +9,10 @@ use Rattle.board_chips.proofs.strings.settle.Given as goal
 abbrev pub invariant-loop-string : goal.invariant-loop-string
 invariant-loop-string l = record {
   nets : l.wiring.nets ≡ l.initial.wiring.nets;
-  wired : IsWired l.seats l.wiring;
-  held : map held_of l.seats
-      ≡ after_strings l.initial.wiring.nets (map placed_of (take l.string-index l.strings)) (map held_of l.initial.seats);
-  same : map less_core l.seats ≡ map less_core l.initial.seats;
+  wired : IsWired l.chips l.wiring;
+  held : map held_of l.chips
+      ≡ after_strings l.initial.wiring.nets (map placed_of (take l.string-index l.strings)) (map held_of l.initial.chips);
+  same : map less_core l.chips ≡ map less_core l.initial.chips;
   others : (k : ℕ) → list_any (puts k) (take l.string-index l.strings) ≡ false
       → slice_get l.wiring.drives k ≡ slice_get l.initial.wiring.drives k;
 }

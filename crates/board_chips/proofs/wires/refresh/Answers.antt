@@ -5,22 +5,22 @@ use Rattle.board_plan.specs.Planned.{all_pins}
 use Rattle.board_model.specs.Nets.{pin_drive}
 use Rattle.board_chips.specs.WiringValues.{WiringValue}
 use Rattle.board_chips.specs.WiredChips.{held_of}
-use Rattle.board_chips.proofs.PutLaws.{pin_by_seat, put_more, seat_of}
+use Rattle.board_chips.proofs.PutLaws.{pin_by_chip, put_more, device_below}
 use Rattle.board_chips.proofs.wires.refresh.Goals as goal
 
 pub loop-k-preserved : goal.loop-k-preserved
 loop-k-preserved c =
-    let f = pin_drive (map held_of c.args.seats.now) in
+    let f = pin_drive (map held_of c.args.chips.now) in
     let pins = all_pins c.args.wiring.now.nets in
     let pin = c.pin-pin.result in
     let here : slice_get pins c.loop-k.k ≡ Some pin = ap (λ (ns : List Net). slice_get (all_pins ns) c.loop-k.k) (sym c.loop-k.invariant.nets) ∙ c.pin-pin.ensures in
-    let seated : pin.device < length c.args.seats.now = seat_of (length c.args.seats.now) pins c.loop-k.k pin c.requires here in
-    let there : slice_get c.args.seats.now pin.device ≡ Some c.index-seats-pin.result =
-    slice_get_read c.args.seats.now (length c.args.seats.now) pin.device c.index-seats-pin.result refl seated c.index-seats-pin.is in
+    let within : pin.device < length c.args.chips.now = device_below (length c.args.chips.now) pins c.loop-k.k pin c.requires here in
+    let there : slice_get c.args.chips.now pin.device ≡ Some c.index-chips-pin.result =
+    slice_get_read c.args.chips.now (length c.args.chips.now) pin.device c.index-chips-pin.result refl within c.index-chips-pin.is in
     record {
       nets = ap (λ (v : WiringValue). v.nets) c.put.ensures ∙ c.loop-k.invariant.nets;
       drives =
           ap (λ (v : WiringValue). v.drives) c.put.ensures
           ∙ put_more f pins c.args.wiring.now.drives c.loop-k.wiring.drives c.loop-k.k c.drive.result pin (sym c.pin_count-k-end.ensures.drives ∙ c.pin_count-k-end.ensures.count) c.loop-k.invariant.drives here
-          (pin_by_seat c.args.seats.now pin c.index-seats-pin.result c.drive.result there c.drive.ensures);
+          (pin_by_chip c.args.chips.now pin c.index-chips-pin.result c.drive.result there c.drive.ensures);
     }

@@ -7,5 +7,5 @@ use Rattle.board_chips.proofs.wires.refresh.Given as goal
 abbrev pub invariant-loop-k : goal.invariant-loop-k
 invariant-loop-k l = record {
   nets : l.wiring.nets ≡ l.initial.wiring.nets;
-  drives : l.wiring.drives ≡ map (pin_drive (map held_of l.seats)) (take l.k (all_pins l.initial.wiring.nets)) ++ drop l.k l.initial.wiring.drives;
+  drives : l.wiring.drives ≡ map (pin_drive (map held_of l.chips)) (take l.k (all_pins l.initial.wiring.nets)) ++ drop l.k l.initial.wiring.drives;
 }

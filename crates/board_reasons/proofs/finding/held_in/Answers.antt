@@ -15,5 +15,5 @@ returns-in-Ir c =
     let device = c.args.device in
     let bit = c.args.bit in
     ap (λ (column : Column). option_map (held_in chain.nets ms column device bit) (slice_get ms device)) c.in-Ir.is
-    ∙ held_alike chain.nets chain.chips device bit (chip_state c.seat-seat.result.now) (held_in chain.nets ms Ir device bit) (Instruction device bit)
-    c.seat-seat.ensures refl
+    ∙ held_alike chain.nets chain.chips device bit (chip_state c.chip-chip.result.now) (held_in chain.nets ms Ir device bit) (Instruction device bit)
+    c.chip-chip.ensures refl

@@ -17,8 +17,8 @@ returns-in-Bypass c =
     let device = c.args.device in
     let bit = c.args.bit in
     let ms = members chain.chips in
-    held_alike chain.nets chain.chips device bit (chip_state c.args.seat.now) (held_in chain.nets ms Dr device bit) (Bypass device) c.requires.seat
-    (ap (in_register chain.nets ms device bit c.args.seat.now.chip.device) (sym c.selected.ensures ∙ c.in-Bypass.is))
+    held_alike chain.nets chain.chips device bit (chip_state c.args.chip.now) (held_in chain.nets ms Dr device bit) (Bypass device) c.requires.chip
+    (ap (in_register chain.nets ms device bit c.args.chip.now.chip.device) (sym c.selected.ensures ∙ c.in-Bypass.is))
 
 pub returns-in-Identification : goal.returns-in-Identification
 returns-in-Identification c =
@@ -26,8 +26,8 @@ returns-in-Identification c =
     let device = c.args.device in
     let bit = c.args.bit in
     let ms = members chain.chips in
-    held_alike chain.nets chain.chips device bit (chip_state c.args.seat.now) (held_in chain.nets ms Dr device bit) (Identification device bit) c.requires.seat
-    (ap (in_register chain.nets ms device bit c.args.seat.now.chip.device) (sym c.selected.ensures ∙ c.in-Identification.is))
+    held_alike chain.nets chain.chips device bit (chip_state c.args.chip.now) (held_in chain.nets ms Dr device bit) (Identification device bit) c.requires.chip
+    (ap (in_register chain.nets ms device bit c.args.chip.now.chip.device) (sym c.selected.ensures ∙ c.in-Identification.is))
 
 pub returns-in-User : goal.returns-in-User
 returns-in-User c =
@@ -35,8 +35,8 @@ returns-in-User c =
     let device = c.args.device in
     let bit = c.args.bit in
     let ms = members chain.chips in
-    held_alike chain.nets chain.chips device bit (chip_state c.args.seat.now) (held_in chain.nets ms Dr device bit) (User device c.in-User.register bit) c.requires.seat
-    (ap (in_register chain.nets ms device bit c.args.seat.now.chip.device) (sym c.selected.ensures ∙ c.in-User.is))
+    held_alike chain.nets chain.chips device bit (chip_state c.args.chip.now) (held_in chain.nets ms Dr device bit) (User device c.in-User.register bit) c.requires.chip
+    (ap (in_register chain.nets ms device bit c.args.chip.now.chip.device) (sym c.selected.ensures ∙ c.in-User.is))
 
 pub returns-in-Boundary : goal.returns-in-Boundary
 returns-in-Boundary c =
@@ -44,10 +44,10 @@ returns-in-Boundary c =
     let device = c.args.device in
     let bit = c.args.bit in
     let ms = members chain.chips in
-    let d = c.args.seat.now.chip.device in
+    let d = c.args.chip.now.chip.device in
     let net : option_and_then (cell_net chain.nets device) (slice_get d.cells bit) ≡ c.cell_net.result =
-    same_Some _ _ (sym (ap (option_map (λ (s : ChipState). option_and_then (cell_net chain.nets device) (slice_get s.member.device.cells bit))) c.requires.seat) ∙ c.cell_net.ensures) in
+    same_Some _ _ (sym (ap (option_map (λ (s : ChipState). option_and_then (cell_net chain.nets device) (slice_get s.member.device.cells bit))) c.requires.chip) ∙ c.cell_net.ensures) in
     let level : cell_level chain.nets ms device bit d ≡ c.net_level-net.result =
     ap (option_and_then (net_level chain.nets ms)) net ∙ sym c.net_level-net.ensures in
-    held_alike chain.nets chain.chips device bit (chip_state c.args.seat.now) (held_in chain.nets ms Dr device bit) (Cell device bit c.net_level-net.result) c.requires.seat
+    held_alike chain.nets chain.chips device bit (chip_state c.args.chip.now) (held_in chain.nets ms Dr device bit) (Cell device bit c.net_level-net.result) c.requires.chip
     (ap (in_register chain.nets ms device bit d) (sym c.selected.ensures ∙ c.in-Boundary.is) ∙ ap (λ (n : Option NetLevel). Cell device bit n) level)

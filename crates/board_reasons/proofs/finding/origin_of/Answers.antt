@@ -10,17 +10,17 @@ pub returns-then-rest-len-clause-value : goal.returns-then-rest-len-clause-value
 returns-then-rest-len-clause-value c =
     let chips = c.args.chain.now.chips in
     let i = c.loop-device.device in
-    let here = member_there chips i (chip_state c.seat.result.now) c.seat.ensures in
-    sym (found_here c.args.column (members chips) i c.loop-device.rest (member_of c.seat.result.now) here (omega (arith, c.if-rest-len.true, c.register_len-len.ensures)))
+    let here = member_there chips i (chip_state c.chip.result.now) c.chip.ensures in
+    sym (found_here c.args.column (members chips) i c.loop-device.rest (member_of c.chip.result.now) here (omega (arith, c.if-rest-len.true, c.register_len-len.ensures)))
     ∙ c.loop-device.invariant
 
 pub loop-device-preserved : goal.loop-device-preserved
 loop-device-preserved c =
     let chips = c.args.chain.now.chips in
     let i = c.loop-device.device in
-    let here = member_there chips i (chip_state c.seat.result.now) c.seat.ensures in
+    let here = member_there chips i (chip_state c.chip.result.now) c.chip.ensures in
     ap (λ (n : ℕ). origin_from c.args.column (i + 1) (drop (i + 1) (members chips)) (c.loop-device.rest - n)) c.register_len-len.ensures
-    ∙ sym (further_on c.args.column (members chips) i c.loop-device.rest (member_of c.seat.result.now) here (omega (arith, c.if-rest-len.false, c.register_len-len.ensures)))
+    ∙ sym (further_on c.args.column (members chips) i c.loop-device.rest (member_of c.chip.result.now) here (omega (arith, c.if-rest-len.false, c.register_len-len.ensures)))
     ∙ c.loop-device.invariant
 
 pub returns-clause-value : goal.returns-clause-value

@@ -11,15 +11,15 @@ use Rattle.board_chips.specs.WiredChips.{chip_state}
 use Rattle.board_report.specs.Report.{device_line}
 use Rattle.board_report.proofs.report.write_devices.Goals as goal
 
-pub seat-requires : goal.seat-requires
-seat-requires g c = omega (arith, c.loop-i-test.true, c.devices-i-end.ensures)
+pub chip-requires : goal.chip-requires
+chip-requires g c = omega (arith, c.loop-i-test.true, c.devices-i-end.ensures)
 
 pub loop-i-preserved : goal.loop-i-preserved
 loop-i-preserved g c =
     let chips = c.args.chain.now.chips in
     let i = c.loop-i.i in
-    let chip = chip_state c.seat.result.now in
-    let here : chip ≡ get_or chips i chip = sym (get_or_from_slice_get chips i chip chip c.seat.ensures) in
+    let chip = chip_state c.chip.result.now in
+    let here : chip ≡ get_or chips i chip = sym (get_or_from_slice_get chips i chip chip c.chip.ensures) in
     record {
       none_lost = c.in_ok-write_device.ensures.ok.0 refl;
       sent = subst (λ (l : List ℕ). Appends (g.W.Write.contents c.args.out.now.inner) (g.W.Write.contents c.write_device.new.out.inner) l)
@@ -31,8 +31,8 @@ pub returns-in_err-write_device : goal.returns-in_err-write_device
 returns-in_err-write_device g c =
     let chips = c.args.chain.now.chips in
     let i = c.loop-i.i in
-    let chip = chip_state c.seat.result.now in
-    let here : chip ≡ get_or chips i chip = sym (get_or_from_slice_get chips i chip chip c.seat.ensures) in
+    let chip = chip_state c.chip.result.now in
+    let here : chip ≡ get_or chips i chip = sym (get_or_from_slice_get chips i chip chip c.chip.ensures) in
     let more = ap (λ (x : ChipState). flat_map device_line (take i chips) ++ device_line x) here
     ∙ flat_map-more device_line chips i chip (omega (arith, c.loop-i-test.true, c.devices-i-end.ensures)) in
     WritesAll-lost (flat_map device_line chips) (flat_map device_line (take i chips)) (flat_map device_line (drop (i + 1) chips))

@@ -9,15 +9,15 @@ use Rattle.board_report.proofs.report.write_if_left_out.Goals as goal
 pub returns-then-is_left_out : goal.returns-then-is_left_out
 returns-then-is_left_out g c =
     let name = c.args.name.now in
-    let line = left_out_line c.args.seat.now.name name in
-    let left : is_left_out c.args.seat.now.chip.device name ≡ true =
+    let line = left_out_line c.args.chip.now.name name in
+    let left : is_left_out c.args.chip.now.chip.device name ≡ true =
     ap (λ (d : Device). is_left_out d name) (sym c.device.ensures) ∙ sym c.is_left_out.ensures ∙ c.if-is_left_out.true in
     WritesAll-is (ap (λ (d : List ℕ). left_out_line d name) c.name.ensures ∙ sym (ap (λ (b : Bool). if b then line else []) left)) c.write_instruction_line.ensures
 
 pub returns : goal.returns
 returns g c =
     let name = c.args.name.now in
-    let line = left_out_line c.args.seat.now.name name in
-    let kept : is_left_out c.args.seat.now.chip.device name ≡ false =
+    let line = left_out_line c.args.chip.now.name name in
+    let kept : is_left_out c.args.chip.now.chip.device name ≡ false =
     ap (λ (d : Device). is_left_out d name) (sym c.device.ensures) ∙ sym c.is_left_out.ensures ∙ c.if-is_left_out.false in
     WritesAll-is (sym (ap (λ (b : Bool). if b then line else []) kept)) (WritesAll-done tt c.requires (Appends-nil _))

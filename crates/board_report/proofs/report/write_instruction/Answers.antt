@@ -9,13 +9,13 @@ use Rattle.board_report.proofs.report.write_instruction.Goals as goal
 pub returns-in_err-write_bits : goal.returns-in_err-write_bits
 returns-in_err-write_bits g c =
     let so = c.from_residual.ensures.0 in
-    let name = name_or_dash (instruction c.args.seat.now.chip.device c.args.seat.now.chip.latch) in
+    let name = name_or_dash (instruction c.args.chip.now.chip.device c.args.chip.now.chip.latch) in
     WritesAll-is (grind (arith, common_steps)) (WritesAll-stopped (codes " " ++ (name ++ codes "\n")) c.in_err-write_bits.ensures refl so)
 
 pub returns-in_err-put_all : goal.returns-in_err-put_all
 returns-in_err-put_all g c =
     let so = c.from_residual-in_err-put_all.ensures.0 in
-    let name = name_or_dash (instruction c.args.seat.now.chip.device c.args.seat.now.chip.latch) in
+    let name = name_or_dash (instruction c.args.chip.now.chip.device c.args.chip.now.chip.latch) in
     WritesAll-is (grind (arith, common_steps))
     (WritesAll-then c.in_ok-write_bits.ensures refl (WritesAll-stopped (name ++ codes "\n") c.in_err-put_all.ensures.writes refl so))
 

@@ -15,8 +15,8 @@ pub loop-opcode-preserved : goal.loop-opcode-preserved
 loop-opcode-preserved g c =
     let rows = c.opcodes-opcodes.result.now in
     let i = c.loop-opcode.opcode-index in
-    let name = c.args.seat.now.name in
-    let device = c.args.seat.now.chip.device in
+    let name = c.args.chip.now.name in
+    let device = c.args.chip.now.chip.device in
     let lines = row_lines name device in
     record {
       none_lost = c.in_ok-write_if_left_out.ensures.ok.0 refl;
@@ -30,8 +30,8 @@ pub returns-in_err-write_if_left_out : goal.returns-in_err-write_if_left_out
 returns-in_err-write_if_left_out g c =
     let rows = c.opcodes-opcodes.result.now in
     let i = c.loop-opcode.opcode-index in
-    let name = c.args.seat.now.name in
-    let device = c.args.seat.now.chip.device in
+    let name = c.args.chip.now.name in
+    let device = c.args.chip.now.chip.device in
     let lines = row_lines name device in
     let more = ap (λ (n : List ℕ). flat_map lines (take i rows) ++ name_lines name device n) (c.name.ensures ∙ ap (λ (o : Opcode). o.name) c.opcode-item.is)
     ∙ flat_map-more lines rows i c.opcode-item.result (omega (arith, c.loop-opcode-test.true)) in
@@ -45,8 +45,8 @@ returns-in_err-write_if_left_out g c =
 pub returns : goal.returns
 returns g c =
     let rows = c.opcodes-opcodes.result.now in
-    let name = c.args.seat.now.name in
-    let device = c.args.seat.now.chip.device in
+    let name = c.args.chip.now.name in
+    let device = c.args.chip.now.chip.device in
     let whole = lines_by_rows name device rows
     ∙ ap (λ (rs : List Opcode). flat_map (left_out_line name) (filter (is_left_out device) (map (λ (o : Opcode). o.name) rs))) (c.opcodes-opcodes.ensures ∙ ap (λ (d : Device). d.opcodes) c.device.ensures) in
     WritesAll-is whole

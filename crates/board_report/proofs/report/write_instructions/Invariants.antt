@@ -7,5 +7,5 @@ use Rattle.board_report.proofs.report.write_instructions.Given as goal
 abbrev pub invariant-loop-opcode : goal.invariant-loop-opcode
 invariant-loop-opcode g l = record {
   none_lost : l.out.failures ≡ 0;
-  sent : Appends (g.W.Write.contents l.initial.out.inner) (g.W.Write.contents l.out.inner) (flat_map (row_lines l.seat.name l.seat.chip.device) (take l.opcode-index l.opcodes));
+  sent : Appends (g.W.Write.contents l.initial.out.inner) (g.W.Write.contents l.out.inner) (flat_map (row_lines l.chip.name l.chip.chip.device) (take l.opcode-index l.opcodes));
 }

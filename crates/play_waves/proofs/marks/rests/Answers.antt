@@ -9,18 +9,18 @@ pub returns-then-not-is_stable : goal.returns-then-not-is_stable
 returns-then-not-is_stable c =
     let chips = c.args.chain.now.chips in
     let i = c.loop-i.i in
-    let stirs : is_stable c.seat.result.now.chip.state ≡ false =
+    let stirs : is_stable c.chip.result.now.chip.state ≡ false =
     ap is_stable (sym c.state.ensures) ∙ sym c.is_stable.ensures ∙ c.if-not-is_stable.true in
     sym (c.loop-i.invariant
-    ∙ next (λ (x : ChipState). is_stable x.state) chips i _ c.seat.ensures
+    ∙ next (λ (x : ChipState). is_stable x.state) chips i _ c.chip.ensures
     ∙ ap (λ (b : Bool). b && is_resting (drop (i + 1) chips)) stirs)
 
 pub loop-i-preserved : goal.loop-i-preserved
 loop-i-preserved c =
     let chips = c.args.chain.now.chips in
     let i = c.loop-i.i in
-    let rests : is_stable c.seat.result.now.chip.state ≡ true =
+    let rests : is_stable c.chip.result.now.chip.state ≡ true =
     ap is_stable (sym c.state.ensures) ∙ sym c.is_stable.ensures ∙ c.if-not-is_stable.false in
     c.loop-i.invariant
-    ∙ next (λ (x : ChipState). is_stable x.state) chips i _ c.seat.ensures
+    ∙ next (λ (x : ChipState). is_stable x.state) chips i _ c.chip.ensures
     ∙ ap (λ (b : Bool). b && is_resting (drop (i + 1) chips)) rests

@@ -7,8 +7,8 @@ use Rattle.wave_files.proofs.changes.write_device_changes.Goals as goal
 
 pub write_device_change-requires-clause-quiet : goal.write_device_change-requires-clause-quiet
 write_device_change-requires-clause-quiet g c = λ quiet.
-    keeps_at c.args.behind.now.chips c.args.ahead.now.chips c.loop-i.i (chip_state c.seat.result.now) (chip_state c.seat-in-loop-i.result.now)
-    c.seat.ensures c.seat-in-loop-i.ensures (c.requires.quiet quiet)
+    keeps_at c.args.behind.now.chips c.args.ahead.now.chips c.loop-i.i (chip_state c.chip.result.now) (chip_state c.chip-in-loop-i.result.now)
+    c.chip.ensures c.chip-in-loop-i.ensures (c.requires.quiet quiet)
 
 pub loop-i-preserved : goal.loop-i-preserved
 loop-i-preserved g c =
@@ -17,8 +17,8 @@ loop-i-preserved g c =
     let i = c.loop-i.i in
     record {
       none_lost = c.in_ok-write_device_change.ensures.ok.0 refl;
-      sent = written device_change 3 6 (zip cs ds) i (6 + 3 * i) (chip_state c.seat.result.now, chip_state c.seat-in-loop-i.result.now)
-          (both_there cs ds i _ _ c.seat.ensures c.seat-in-loop-i.ensures) (sym (by_three 6 i)) _ _ _
+      sent = written device_change 3 6 (zip cs ds) i (6 + 3 * i) (chip_state c.chip.result.now, chip_state c.chip-in-loop-i.result.now)
+          (both_there cs ds i _ _ c.chip.ensures c.chip-in-loop-i.ensures) (sym (by_three 6 i)) _ _ _
           c.loop-i.invariant.sent c.in_ok-write_device_change.ensures.whole;
     }
 
@@ -27,8 +27,8 @@ returns-in_err-write_device_change g c =
     let cs = c.args.behind.now.chips in
     let ds = c.args.ahead.now.chips in
     let i = c.loop-i.i in
-    lost device_change 3 6 (zip cs ds) i (6 + 3 * i) (chip_state c.seat.result.now, chip_state c.seat-in-loop-i.result.now)
-    (both_there cs ds i _ _ c.seat.ensures c.seat-in-loop-i.ensures) (sym (by_three 6 i))
+    lost device_change 3 6 (zip cs ds) i (6 + 3 * i) (chip_state c.chip.result.now, chip_state c.chip-in-loop-i.result.now)
+    (both_there cs ds i _ _ c.chip.ensures c.chip-in-loop-i.ensures) (sym (by_three 6 i))
     c.loop-i.invariant.sent c.in_err-write_device_change.ensures refl c.from_residual.ensures.0
 
 pub returns : goal.returns

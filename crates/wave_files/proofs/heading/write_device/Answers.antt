@@ -5,7 +5,7 @@ use Rattle.wave_files.proofs.heading.write_device.Goals as goal
 
 pub returns-in_err-write_state : goal.returns-in_err-write_state
 returns-in_err-write_state g c =
-    let rest = instruction_line c.args.number c.args.seat.now.chip.latch in
+    let rest = instruction_line c.args.number c.args.chip.now.chip.latch in
     WritesAll-is (λ i. state_lines c.args.number (c.state.ensures i) ++ rest)
     (WritesAll-stopped rest c.in_err-write_state.ensures refl c.from_residual.ensures.0)
 

@@ -9,14 +9,14 @@ loop-i-preserved g c =
     let i = c.loop-i.i in
     record {
       none_lost = c.in_ok-write_device.ensures.ok.0 refl;
-      sent = written device_lines 3 6 c.args.chain.now.chips i (6 + 3 * i) (chip_state c.seat.result.now)
-          c.seat.ensures (sym (by_three 6 i)) _ _ _ c.loop-i.invariant.sent c.in_ok-write_device.ensures.whole;
+      sent = written device_lines 3 6 c.args.chain.now.chips i (6 + 3 * i) (chip_state c.chip.result.now)
+          c.chip.ensures (sym (by_three 6 i)) _ _ _ c.loop-i.invariant.sent c.in_ok-write_device.ensures.whole;
     }
 
 pub returns-in_err-write_device : goal.returns-in_err-write_device
 returns-in_err-write_device g c =
     let i = c.loop-i.i in
-    lost device_lines 3 6 c.args.chain.now.chips i (6 + 3 * i) (chip_state c.seat.result.now) c.seat.ensures (sym (by_three 6 i))
+    lost device_lines 3 6 c.args.chain.now.chips i (6 + 3 * i) (chip_state c.chip.result.now) c.chip.ensures (sym (by_three 6 i))
     c.loop-i.invariant.sent c.in_err-write_device.ensures refl c.from_residual.ensures.0
 
 pub returns : goal.returns

@@ -17,4 +17,4 @@ pub returns-then-devices-eq0 : goal.returns-then-devices-eq0
 returns-then-devices-eq0 c = none_first c.args.chain.now.chips (sym c.devices.ensures ∙ c.if-devices-eq0.true)
 
 pub returns : goal.returns
-returns c = c.tdo.ensures ∙ first_is c.args.chain.now.chips (chip_state c.seat.result.now) c.seat.ensures
+returns c = c.tdo.ensures ∙ first_is c.args.chain.now.chips (chip_state c.chip.result.now) c.chip.ensures

@@ -17,11 +17,11 @@ invariant_of-self c =
     let s = c.self.inside in
     let after = c.assert_trst_settled.new in
     let old-is = c.deref_mut.ensures.value in
-    let is = with_items_is s.seats after.seats (c.assert_trst_settled.ensures.long ∙ ap (λ (l : List WiredChipValue). length l) old-is ∙ sym s.seats.ok.0) in
+    let is = with_items_is s.chips after.chips (c.assert_trst_settled.ensures.long ∙ ap (λ (l : List WiredChipValue). length l) old-is ∙ sym s.chips.ok.0) in
     record {
       told = subst (AllTold true) (sym is) c.assert_trst_settled.ensures.told;
       settled = subst (λ (l : List WiredChipValue). IsSettled l after.wiring after.driving s.strings.items) (sym is)
-          (subst (λ (ss : List WiredString). IsSettled after.seats after.wiring after.driving ss) c.deref.ensures.value c.assert_trst_settled.ensures.settled);
+          (subst (λ (ss : List WiredString). IsSettled after.chips after.wiring after.driving ss) c.deref.ensures.value c.assert_trst_settled.ensures.settled);
     }
 
 pub returns : goal.returns
@@ -29,9 +29,9 @@ returns c =
     let s = c.self.inside in
     let after = c.assert_trst_settled.new in
     let old-is = c.deref_mut.ensures.value in
-    let is = with_items_is s.seats after.seats (c.assert_trst_settled.ensures.long ∙ ap (λ (l : List WiredChipValue). length l) old-is ∙ sym s.seats.ok.0) in
+    let is = with_items_is s.chips after.chips (c.assert_trst_settled.ensures.long ∙ ap (λ (l : List WiredChipValue). length l) old-is ∙ sym s.chips.ok.0) in
     let chips-are = ap (map chip_state) is ∙ c.assert_trst_settled.ensures.chips
     ∙ ap (λ (l : List WiredChipValue). map (chip_at_rest Reset) (map (trst_member (settled_member c.args.rests)) (members (map chip_state l)))) old-is in
-    let now = the_view (record s { trst = true; seats = with_items s.seats after.seats; wiring = after.wiring; driving = after.driving }) in
+    let now = the_view (record s { trst = true; chips = with_items s.chips after.chips; wiring = after.wiring; driving = after.driving }) in
     subst (λ (v : ChainValue). now ≡ record v { trst = true; chips = map (chip_at_rest Reset) (map (trst_member (settled_member c.args.rests)) (members v.chips)) }) c.self.view_is
     (λ i. record { trst = true; nets = c.assert_trst_settled.ensures.nets i; chips = chips-are i })

@@ -19,34 +19,34 @@ use Rattle.board_chain.proofs.chain.Chain.capture.Goals as goal
 pub invariant_of-self : goal.invariant_of-self
 invariant_of-self c =
     let s = c.self.inside in
-    let new = c.capture_all.new.seats in
-    let each : EachFrom (CapturesAt s.wiring c.args.column) 0 s.seats.items new =
+    let new = c.capture_all.new.chips in
+    let each : EachFrom (CapturesAt s.wiring c.args.column) 0 s.chips.items new =
     subst (λ (l : List WiredChipValue). EachFrom
     (CapturesAt s.wiring c.args.column) 0 l new) c.deref_mut.ensures.value c.capture_all.ensures in
-    let is = with_items_is s.seats new
-    (each_long (CapturesAt s.wiring c.args.column) 0 s.seats.items new each ∙ sym s.seats.ok.0) in
+    let is = with_items_is s.chips new
+    (each_long (CapturesAt s.wiring c.args.column) 0 s.chips.items new each ∙ sym s.chips.ok.0) in
     record {
       told = subst (AllTold s.trst) (sym is)
           (all_told (CapturesAt s.wiring c.args.column)
-          (λ i s t r. r.trst) s.trst 0 s.seats.items new each c.self.invariant.told);
+          (λ i s t r. r.trst) s.trst 0 s.chips.items new each c.self.invariant.told);
       settled = subst (λ (l : List WiredChipValue). IsSettled l s.wiring s.driving s.strings.items) (sym is)
-          (quiet_settled s.seats.items new s.wiring s.driving s.strings.items c.self.invariant.settled
-          (keeps (CapturesAt s.wiring c.args.column) (λ i s t r. r.kept) 0 s.seats.items new each)
-          (captured_still s.wiring c.args.column s.seats.items c.self.invariant.settled.wired new each));
+          (quiet_settled s.chips.items new s.wiring s.driving s.strings.items c.self.invariant.settled
+          (keeps (CapturesAt s.wiring c.args.column) (λ i s t r. r.kept) 0 s.chips.items new each)
+          (captured_still s.wiring c.args.column s.chips.items c.self.invariant.settled.wired new each));
     }
 
 pub returns : goal.returns
 returns c =
     let s = c.self.inside in
-    let new = c.capture_all.new.seats in
-    let each : EachFrom (CapturesAt s.wiring c.args.column) 0 s.seats.items new =
+    let new = c.capture_all.new.chips in
+    let each : EachFrom (CapturesAt s.wiring c.args.column) 0 s.chips.items new =
     subst (λ (l : List WiredChipValue). EachFrom
     (CapturesAt s.wiring c.args.column) 0 l new) c.deref_mut.ensures.value c.capture_all.ensures in
-    let is = with_items_is s.seats new
-    (each_long (CapturesAt s.wiring c.args.column) 0 s.seats.items new each ∙ sym s.seats.ok.0) in
+    let is = with_items_is s.chips new
+    (each_long (CapturesAt s.wiring c.args.column) 0 s.chips.items new each ∙ sym s.chips.ok.0) in
     let chips-are = ap (map chip_state) is
-    ∙ captured_chips s.wiring c.args.column s.seats.items c.self.invariant.settled.wired new each c.self.invariant.settled.in_force in
-    let now = the_view (record s { seats = with_items s.seats new }) in
+    ∙ captured_chips s.wiring c.args.column s.chips.items c.self.invariant.settled.wired new each c.self.invariant.settled.in_force in
+    let now = the_view (record s { chips = with_items s.chips new }) in
     subst (λ (v : ChainValue). now
     ≡ chain_as (capture_all c.args.column (nets.told v.nets (members v.chips)) 0 (members v.chips)) v) c.self.view_is
     (λ i. record { trst = s.trst; nets = s.wiring.nets; chips = chips-are i })

@@ -12,5 +12,5 @@ pub returns : goal.returns
 returns c =
     let s = c.self.inside in
     subst (λ (v : ChainValue). option_map (nets.level v.nets (members v.chips)) (slice_get v.nets c.args.net) ≡ Some c.level.result) c.self.view_is
-    (ap (λ (held : List Member). option_map (nets.level_under held) (slice_get s.wiring.nets c.args.net)) (chips_in_force s.wiring.nets s.seats.items c.self.invariant.settled.in_force)
-    ∙ c.level.ensures.driven (pin_drive (map held_of s.seats.items)) c.self.invariant.settled.wired.drives)
+    (ap (λ (held : List Member). option_map (nets.level_under held) (slice_get s.wiring.nets c.args.net)) (chips_in_force s.wiring.nets s.chips.items c.self.invariant.settled.in_force)
+    ∙ c.level.ensures.driven (pin_drive (map held_of s.chips.items)) c.self.invariant.settled.wired.drives)

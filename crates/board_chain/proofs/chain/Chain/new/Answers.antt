@@ -12,89 +12,89 @@ use Rattle.board_model.specs.Chain.{ChipState}
 use Rattle.board_model.specs.Following.{AreHeld, IsOrderOf}
 use Rattle.board_model.specs.Nets.{pin_drive}
 use Rattle.board_model.specs.Planned.{powered_up}
-use Rattle.board_chips.specs.Building.{seats_of, IsReady as HasReadyChips}
+use Rattle.board_chips.specs.Building.{wired_chips_of, IsReady as HasReadyChips}
 use Rattle.board_chips.specs.Driving.{cells_of}
 use Rattle.board_chips.specs.WiredChips.{AllTold, WiredChipValue, chip_state, held_of, member_of}
 use Rattle.board_chips.specs.Strings.{AreStrung, placed_of}
 use Rattle.board_chips.specs.WiringValues.{WiringValue}
 use Rattle.board_chips.specs.Wires.{IsWired}
-use Rattle.board_chips.proofs.BuildLaws.{seats_told, start_seated, start_wired}
-use Rattle.board_chain.proofs.PowerLaws.{seats_have, seats_hold, seats_mean, seats_stand}
+use Rattle.board_chips.proofs.BuildLaws.{chips_told, start_within, start_wired}
+use Rattle.board_chain.proofs.PowerLaws.{chips_have, chips_hold, chips_mean, chips_stand}
 use Rattle.board_chain.proofs.chain.Chain.new.Goals as goal
 
-pub all_seats-requires : goal.all_seats-requires
-all_seats-requires c =
+pub all_chips-requires : goal.all_chips-requires
+all_chips-requires c =
     let w = wiring c.args.plan.now in
     subst (λ (l : List PlannedNet). HasReadyChips (record { members = map planned_member c.deref.result.now; nets = map planned_net l })) (sym c.deref-2.ensures.value)
-    (subst (λ (l : List PlannedDevice). HasReadyChips (record { members = map planned_member l; nets = w.nets })) (sym c.deref.ensures.value) c.requires.ready.seats)
+    (subst (λ (l : List PlannedDevice). HasReadyChips (record { members = map planned_member l; nets = w.nets })) (sym c.deref.ensures.value) c.requires.ready.chips)
 
 pub refresh-requires : goal.refresh-requires
 refresh-requires c =
     let w = wiring c.args.plan.now in
-    let seats-are : c.in_ok-seats.seats.items ≡ seats_of w.nets 0 w.members =
-    c.in_ok-seats.ensures ∙ ap (λ (l : List PlannedNet). seats_of (map planned_net l) 0 (map planned_member c.deref.result.now)) c.deref-2.ensures.value
-    ∙ ap (λ (l : List PlannedDevice). seats_of w.nets 0 (map planned_member l)) c.deref.ensures.value in
-    start_seated w.nets w.members c.deref-4.result.now c.in_ok-wiring.wiring c.requires.ready.seats.pins (c.deref-4.ensures.value ∙ seats-are) (ap (λ (v : WiringValue). v.nets) c.in_ok-wiring.ensures ∙ ap (map planned_net) c.deref-3.ensures.value)
+    let chips-are : c.in_ok-chips.chips.items ≡ wired_chips_of w.nets 0 w.members =
+    c.in_ok-chips.ensures ∙ ap (λ (l : List PlannedNet). wired_chips_of (map planned_net l) 0 (map planned_member c.deref.result.now)) c.deref-2.ensures.value
+    ∙ ap (λ (l : List PlannedDevice). wired_chips_of w.nets 0 (map planned_member l)) c.deref.ensures.value in
+    start_within w.nets w.members c.deref-4.result.now c.in_ok-wiring.wiring c.requires.ready.chips.pins (c.deref-4.ensures.value ∙ chips-are) (ap (λ (v : WiringValue). v.nets) c.in_ok-wiring.ensures ∙ ap (map planned_net) c.deref-3.ensures.value)
 
 pub first_settled-requires-clause-told : goal.first_settled-requires-clause-told
 first_settled-requires-clause-told c =
     let w = wiring c.args.plan.now in
-    let seats-are : c.in_ok-seats.seats.items ≡ seats_of w.nets 0 w.members =
-    c.in_ok-seats.ensures ∙ ap (λ (l : List PlannedNet). seats_of (map planned_net l) 0 (map planned_member c.deref.result.now)) c.deref-2.ensures.value
-    ∙ ap (λ (l : List PlannedDevice). seats_of w.nets 0 (map planned_member l)) c.deref.ensures.value in
-    subst (AllTold false) (sym seats-are) (seats_told w.nets 0 w.members)
+    let chips-are : c.in_ok-chips.chips.items ≡ wired_chips_of w.nets 0 w.members =
+    c.in_ok-chips.ensures ∙ ap (λ (l : List PlannedNet). wired_chips_of (map planned_net l) 0 (map planned_member c.deref.result.now)) c.deref-2.ensures.value
+    ∙ ap (λ (l : List PlannedDevice). wired_chips_of w.nets 0 (map planned_member l)) c.deref.ensures.value in
+    subst (AllTold false) (sym chips-are) (chips_told w.nets 0 w.members)
 
 pub first_settled-requires-clause-wired : goal.first_settled-requires-clause-wired
 first_settled-requires-clause-wired c =
     let w = wiring c.args.plan.now in
-    let seats-are : c.in_ok-seats.seats.items ≡ seats_of w.nets 0 w.members =
-    c.in_ok-seats.ensures ∙ ap (λ (l : List PlannedNet). seats_of (map planned_net l) 0 (map planned_member c.deref.result.now)) c.deref-2.ensures.value
-    ∙ ap (λ (l : List PlannedDevice). seats_of w.nets 0 (map planned_member l)) c.deref.ensures.value in
-    subst (λ (l : List WiredChipValue). IsWired l c.refresh.new.wiring) (sym seats-are)
-    (start_wired w.nets w.members c.in_ok-wiring.wiring c.refresh.new.wiring c.requires.ready.seats.pins (ap (λ (v : WiringValue). v.nets) c.in_ok-wiring.ensures ∙ ap (map planned_net) c.deref-3.ensures.value)
-    (c.refresh.ensures ∙ ap (λ (l : List WiredChipValue). record c.in_ok-wiring.wiring { drives = map (pin_drive (map held_of l)) (all_pins c.in_ok-wiring.wiring.nets) }) (c.deref-4.ensures.value ∙ seats-are)))
+    let chips-are : c.in_ok-chips.chips.items ≡ wired_chips_of w.nets 0 w.members =
+    c.in_ok-chips.ensures ∙ ap (λ (l : List PlannedNet). wired_chips_of (map planned_net l) 0 (map planned_member c.deref.result.now)) c.deref-2.ensures.value
+    ∙ ap (λ (l : List PlannedDevice). wired_chips_of w.nets 0 (map planned_member l)) c.deref.ensures.value in
+    subst (λ (l : List WiredChipValue). IsWired l c.refresh.new.wiring) (sym chips-are)
+    (start_wired w.nets w.members c.in_ok-wiring.wiring c.refresh.new.wiring c.requires.ready.chips.pins (ap (λ (v : WiringValue). v.nets) c.in_ok-wiring.ensures ∙ ap (map planned_net) c.deref-3.ensures.value)
+    (c.refresh.ensures ∙ ap (λ (l : List WiredChipValue). record c.in_ok-wiring.wiring { drives = map (pin_drive (map held_of l)) (all_pins c.in_ok-wiring.wiring.nets) }) (c.deref-4.ensures.value ∙ chips-are)))
 
 pub first_settled-requires-clause-held : goal.first_settled-requires-clause-held
 first_settled-requires-clause-held c =
     let w = wiring c.args.plan.now in
-    let seats-are : c.in_ok-seats.seats.items ≡ seats_of w.nets 0 w.members =
-    c.in_ok-seats.ensures ∙ ap (λ (l : List PlannedNet). seats_of (map planned_net l) 0 (map planned_member c.deref.result.now)) c.deref-2.ensures.value
-    ∙ ap (λ (l : List PlannedDevice). seats_of w.nets 0 (map planned_member l)) c.deref.ensures.value in
-    subst (λ (l : List WiredChipValue). AreHeld (map member_of l) (map held_of l)) (sym seats-are) (seats_hold w.nets 0 w.members)
+    let chips-are : c.in_ok-chips.chips.items ≡ wired_chips_of w.nets 0 w.members =
+    c.in_ok-chips.ensures ∙ ap (λ (l : List PlannedNet). wired_chips_of (map planned_net l) 0 (map planned_member c.deref.result.now)) c.deref-2.ensures.value
+    ∙ ap (λ (l : List PlannedDevice). wired_chips_of w.nets 0 (map planned_member l)) c.deref.ensures.value in
+    subst (λ (l : List WiredChipValue). AreHeld (map member_of l) (map held_of l)) (sym chips-are) (chips_hold w.nets 0 w.members)
 
 pub first_settled-requires-clause-strung : goal.first_settled-requires-clause-strung
 first_settled-requires-clause-strung c =
     let w = wiring c.args.plan.now in
     let strings = c.in_ok-strings.strings.items in
-    let seats-are : c.in_ok-seats.seats.items ≡ seats_of w.nets 0 w.members =
-    c.in_ok-seats.ensures ∙ ap (λ (l : List PlannedNet). seats_of (map planned_net l) 0 (map planned_member c.deref.result.now)) c.deref-2.ensures.value
-    ∙ ap (λ (l : List PlannedDevice). seats_of w.nets 0 (map planned_member l)) c.deref.ensures.value in
+    let chips-are : c.in_ok-chips.chips.items ≡ wired_chips_of w.nets 0 w.members =
+    c.in_ok-chips.ensures ∙ ap (λ (l : List PlannedNet). wired_chips_of (map planned_net l) 0 (map planned_member c.deref.result.now)) c.deref-2.ensures.value
+    ∙ ap (λ (l : List PlannedDevice). wired_chips_of w.nets 0 (map planned_member l)) c.deref.ensures.value in
     let nets-are : c.refresh.new.wiring.nets ≡ w.nets = ap (λ (v : WiringValue). v.nets) c.refresh.ensures ∙ ap (λ (v : WiringValue). v.nets) c.in_ok-wiring.ensures ∙ ap (map planned_net) c.deref-3.ensures.value in
-    let cells-are : map (λ (m : planned.Member). m.device.cells) w.members ≡ map cells_of c.in_ok-seats.seats.items = sym (ap (map cells_of) seats-are ∙ seats_have w.nets 0 w.members) in
-    subst (λ (ns : List Net). AreStrung ns (map cells_of c.in_ok-seats.seats.items) strings) (sym nets-are)
+    let cells-are : map (λ (m : planned.Member). m.device.cells) w.members ≡ map cells_of c.in_ok-chips.chips.items = sym (ap (map cells_of) chips-are ∙ chips_have w.nets 0 w.members) in
+    subst (λ (ns : List Net). AreStrung ns (map cells_of c.in_ok-chips.chips.items) strings) (sym nets-are)
     (subst (λ (cs : List (List Cell)). AreStrung w.nets cs strings) cells-are c.in_ok-strings.ensures.strung)
 
 pub first_settled-requires-clause-order : goal.first_settled-requires-clause-order
 first_settled-requires-clause-order c =
     let w = wiring c.args.plan.now in
     let placed = map placed_of c.in_ok-strings.strings.items in
-    let seats-are : c.in_ok-seats.seats.items ≡ seats_of w.nets 0 w.members =
-    c.in_ok-seats.ensures ∙ ap (λ (l : List PlannedNet). seats_of (map planned_net l) 0 (map planned_member c.deref.result.now)) c.deref-2.ensures.value
-    ∙ ap (λ (l : List PlannedDevice). seats_of w.nets 0 (map planned_member l)) c.deref.ensures.value in
+    let chips-are : c.in_ok-chips.chips.items ≡ wired_chips_of w.nets 0 w.members =
+    c.in_ok-chips.ensures ∙ ap (λ (l : List PlannedNet). wired_chips_of (map planned_net l) 0 (map planned_member c.deref.result.now)) c.deref-2.ensures.value
+    ∙ ap (λ (l : List PlannedDevice). wired_chips_of w.nets 0 (map planned_member l)) c.deref.ensures.value in
     let nets-are : c.refresh.new.wiring.nets ≡ w.nets = ap (λ (v : WiringValue). v.nets) c.refresh.ensures ∙ ap (λ (v : WiringValue). v.nets) c.in_ok-wiring.ensures ∙ ap (map planned_net) c.deref-3.ensures.value in
-    let members-are : map powered_up w.members ≡ map member_of c.in_ok-seats.seats.items = sym (ap (map member_of) seats-are ∙ seats_mean w.nets 0 w.members) in
-    subst (λ (ns : List Net). IsOrderOf ns (map member_of c.in_ok-seats.seats.items) placed) (sym nets-are)
+    let members-are : map powered_up w.members ≡ map member_of c.in_ok-chips.chips.items = sym (ap (map member_of) chips-are ∙ chips_mean w.nets 0 w.members) in
+    subst (λ (ns : List Net). IsOrderOf ns (map member_of c.in_ok-chips.chips.items) placed) (sym nets-are)
     (subst (λ (ms : List Member). IsOrderOf w.nets ms placed) members-are c.in_ok-strings.ensures.order)
 
 pub returns : goal.returns
 returns c =
     let w = wiring c.args.plan.now in
-    let seats-are : c.in_ok-seats.seats.items ≡ seats_of w.nets 0 w.members =
-    c.in_ok-seats.ensures ∙ ap (λ (l : List PlannedNet). seats_of (map planned_net l) 0 (map planned_member c.deref.result.now)) c.deref-2.ensures.value
-    ∙ ap (λ (l : List PlannedDevice). seats_of w.nets 0 (map planned_member l)) c.deref.ensures.value in
+    let chips-are : c.in_ok-chips.chips.items ≡ wired_chips_of w.nets 0 w.members =
+    c.in_ok-chips.ensures ∙ ap (λ (l : List PlannedNet). wired_chips_of (map planned_net l) 0 (map planned_member c.deref.result.now)) c.deref-2.ensures.value
+    ∙ ap (λ (l : List PlannedDevice). wired_chips_of w.nets 0 (map planned_member l)) c.deref.ensures.value in
     let nets-are = ap (λ (v : WiringValue). v.nets) c.refresh.ensures ∙ ap (λ (v : WiringValue). v.nets) c.in_ok-wiring.ensures ∙ ap (map planned_net) c.deref-3.ensures.value in
     IfOk-weaker c.first_settled.result _ _
     (λ v is. is
-    ∙ ap (λ (ns : List Net). record { trst = false; nets = ns; chips = map chip_state c.in_ok-seats.seats.items }) nets-are
-    ∙ ap (λ (cs : List ChipState). record { trst = false; nets = w.nets; chips = cs }) (ap (map chip_state) seats-are ∙ seats_stand w.nets 0 w.members))
+    ∙ ap (λ (ns : List Net). record { trst = false; nets = ns; chips = map chip_state c.in_ok-chips.chips.items }) nets-are
+    ∙ ap (λ (cs : List ChipState). record { trst = false; nets = w.nets; chips = cs }) (ap (map chip_state) chips-are ∙ chips_stand w.nets 0 w.members))
     c.first_settled.ensures

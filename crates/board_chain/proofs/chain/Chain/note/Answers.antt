@@ -20,4 +20,4 @@ returns c =
     (c.note_chain.ensures
     ∙ ap (λ (l : List WiredChipValue). with_found (differing command v
     (rows.out v (map (λ (s : WiredChipValue). selected_bits_of column (member_of s)) l))) old) c.deref.ensures.value
-    ∙ ap (λ (o : List Bool). with_found (differing command v o) old) (same_out column v c.self.inside.seats.items))
+    ∙ ap (λ (o : List Bool). with_found (differing command v o) old) (same_out column v c.self.inside.chips.items))

@@ -16,28 +16,28 @@ use Rattle.board_chain.proofs.chain.Chain.rise.Goals as goal
 pub invariant_of-self : goal.invariant_of-self
 invariant_of-self c =
     let s = c.self.inside in
-    let new = c.rise_all.new.seats in
-    let R = Rises s.wiring c.args.tms c.args.tdi s.seats.items in
-    let each : EachFrom R 0 s.seats.items new =
+    let new = c.rise_all.new.chips in
+    let R = Rises s.wiring c.args.tms c.args.tdi s.chips.items in
+    let each : EachFrom R 0 s.chips.items new =
     subst (λ (l : List WiredChipValue). EachFrom (Rises s.wiring c.args.tms c.args.tdi l) 0 l new) c.deref_mut.ensures.value c.rise_all.ensures in
-    let is = with_items_is s.seats new (each_long R 0 s.seats.items new each ∙ sym s.seats.ok.0) in
+    let is = with_items_is s.chips new (each_long R 0 s.chips.items new each ∙ sym s.chips.ok.0) in
     record {
-      told = subst (AllTold s.trst) (sym is) (rises_told s.wiring c.args.tms c.args.tdi s.seats.items c.self.invariant.settled.wired s.trst new each c.self.invariant.told);
+      told = subst (AllTold s.trst) (sym is) (rises_told s.wiring c.args.tms c.args.tdi s.chips.items c.self.invariant.settled.wired s.trst new each c.self.invariant.told);
       settled = subst (λ (l : List WiredChipValue). IsSettled l s.wiring s.driving s.strings.items) (sym is)
-          (quiet_settled s.seats.items new s.wiring s.driving s.strings.items c.self.invariant.settled
-          (keeps R (λ i s t r. r.kept) 0 s.seats.items new each)
-          (rises_still s.wiring c.args.tms c.args.tdi s.seats.items c.self.invariant.settled.wired new each));
+          (quiet_settled s.chips.items new s.wiring s.driving s.strings.items c.self.invariant.settled
+          (keeps R (λ i s t r. r.kept) 0 s.chips.items new each)
+          (rises_still s.wiring c.args.tms c.args.tdi s.chips.items c.self.invariant.settled.wired new each));
     }
 
 pub returns : goal.returns
 returns c =
     let s = c.self.inside in
-    let new = c.rise_all.new.seats in
-    let R = Rises s.wiring c.args.tms c.args.tdi s.seats.items in
-    let each : EachFrom R 0 s.seats.items new =
+    let new = c.rise_all.new.chips in
+    let R = Rises s.wiring c.args.tms c.args.tdi s.chips.items in
+    let each : EachFrom R 0 s.chips.items new =
     subst (λ (l : List WiredChipValue). EachFrom (Rises s.wiring c.args.tms c.args.tdi l) 0 l new) c.deref_mut.ensures.value c.rise_all.ensures in
-    let is = with_items_is s.seats new (each_long R 0 s.seats.items new each ∙ sym s.seats.ok.0) in
-    let chips-are = ap (map chip_state) is ∙ rises_chips s.wiring c.args.tms c.args.tdi s.seats.items c.self.invariant.settled.wired s.trst new each c.self.invariant.told c.self.invariant.settled.in_force in
-    let now = the_view (record s { seats = with_items s.seats new }) in
+    let is = with_items_is s.chips new (each_long R 0 s.chips.items new each ∙ sym s.chips.ok.0) in
+    let chips-are = ap (map chip_state) is ∙ rises_chips s.wiring c.args.tms c.args.tdi s.chips.items c.self.invariant.settled.wired s.trst new each c.self.invariant.told c.self.invariant.settled.in_force in
+    let now = the_view (record s { chips = with_items s.chips new }) in
     subst (λ (v : ChainValue). now ≡ record v { chips = rise_all v.trst c.args.tms c.args.tdi (nets.told v.nets (members v.chips)) 0 v.chips }) c.self.view_is
     (ap (λ (cs : List ChipState). record (the_view s) { chips = cs }) chips-are)

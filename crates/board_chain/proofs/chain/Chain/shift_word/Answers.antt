@@ -21,17 +21,17 @@ invariant_of-self c =
     let new = c.shift_word.new.chain in
     let stays : List WiredChipValue → List Bool =
     λ l. drop c.args.n (joined_registers (map (λ (x : WiredChipValue). selected_bits_of column (member_of x)) l) ++ word_bits c.args.bits c.args.n) in
-    let cut : Cut column (stays s.seats.items) s.seats.items new =
+    let cut : Cut column (stays s.chips.items) s.chips.items new =
     subst (λ (l : List WiredChipValue). Cut column (stays l) l new) c.deref_mut.ensures.value c.shift_word.ensures in
-    let is = with_items_is s.seats new
-    (shifted_long column (stays s.seats.items) s.seats.items new cut ∙ sym s.seats.ok.0) in
+    let is = with_items_is s.chips new
+    (shifted_long column (stays s.chips.items) s.chips.items new cut ∙ sym s.chips.ok.0) in
     record {
       told = subst (AllTold s.trst) (sym is)
-          (shifted_told column s.trst (stays s.seats.items) s.seats.items new cut c.self.invariant.told);
+          (shifted_told column s.trst (stays s.chips.items) s.chips.items new cut c.self.invariant.told);
       settled = subst (λ (l : List WiredChipValue). IsSettled l s.wiring s.driving s.strings.items) (sym is)
-          (quiet_settled s.seats.items new s.wiring s.driving s.strings.items c.self.invariant.settled
-          (keeps (PutSome column) (λ i s t r. r.is.kept) 0 s.seats.items new (cut_each column 0 (stays s.seats.items) s.seats.items new cut))
-          (shifted_still column (stays s.seats.items) s.seats.items new cut));
+          (quiet_settled s.chips.items new s.wiring s.driving s.strings.items c.self.invariant.settled
+          (keeps (PutSome column) (λ i s t r. r.is.kept) 0 s.chips.items new (cut_each column 0 (stays s.chips.items) s.chips.items new cut))
+          (shifted_still column (stays s.chips.items) s.chips.items new cut));
     }
 
 pub returns : goal.returns
@@ -41,11 +41,11 @@ returns c =
     let new = c.shift_word.new.chain in
     let stays : List WiredChipValue → List Bool =
     λ l. drop c.args.n (joined_registers (map (λ (x : WiredChipValue). selected_bits_of column (member_of x)) l) ++ word_bits c.args.bits c.args.n) in
-    let cut : Cut column (stays s.seats.items) s.seats.items new =
+    let cut : Cut column (stays s.chips.items) s.chips.items new =
     subst (λ (l : List WiredChipValue). Cut column (stays l) l new) c.deref_mut.ensures.value c.shift_word.ensures in
-    let is = with_items_is s.seats new
-    (shifted_long column (stays s.seats.items) s.seats.items new cut ∙ sym s.seats.ok.0) in
-    let chips-are = ap (map chip_state) is ∙ word_chips column c.args.bits c.args.n s.seats.items new cut in
-    let now = the_view (record s { seats = with_items s.seats new }) in
+    let is = with_items_is s.chips new
+    (shifted_long column (stays s.chips.items) s.chips.items new cut ∙ sym s.chips.ok.0) in
+    let chips-are = ap (map chip_state) is ∙ word_chips column c.args.bits c.args.n s.chips.items new cut in
+    let now = the_view (record s { chips = with_items s.chips new }) in
     subst (λ (x : ChainValue). now ≡ chain_as (shifted_through column (word_bits c.args.bits c.args.n) (members x.chips)) x) c.self.view_is
     (λ i. record { trst = s.trst; nets = s.wiring.nets; chips = chips-are i })

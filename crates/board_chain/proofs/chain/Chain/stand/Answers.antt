@@ -18,32 +18,32 @@ use Rattle.board_chain.proofs.chain.Chain.stand.Goals as goal
 pub invariant_of-self : goal.invariant_of-self
 invariant_of-self c =
     let s = c.self.inside in
-    let new = c.stand_all.new.seats in
-    let each : EachFrom (Stands c.args.state) 0 s.seats.items new =
+    let new = c.stand_all.new.chips in
+    let each : EachFrom (Stands c.args.state) 0 s.chips.items new =
     subst (λ (l : List WiredChipValue). EachFrom
     (Stands c.args.state) 0 l new) c.deref_mut.ensures.value c.stand_all.ensures in
-    let is = with_items_is s.seats new
-    (each_long (Stands c.args.state) 0 s.seats.items new each ∙ sym s.seats.ok.0) in
+    let is = with_items_is s.chips new
+    (each_long (Stands c.args.state) 0 s.chips.items new each ∙ sym s.chips.ok.0) in
     record {
       told = subst (AllTold s.trst) (sym is)
-          (all_told (Stands c.args.state) (λ i s t r. r.trst) s.trst 0 s.seats.items new each c.self.invariant.told);
+          (all_told (Stands c.args.state) (λ i s t r. r.trst) s.trst 0 s.chips.items new each c.self.invariant.told);
       settled = subst (λ (l : List WiredChipValue). IsSettled l s.wiring s.driving s.strings.items) (sym is)
-          (quiet_settled s.seats.items new s.wiring s.driving s.strings.items c.self.invariant.settled
-          (keeps (Stands c.args.state) (λ i s t r. r.kept) 0 s.seats.items new each)
-          (each_still (Stands c.args.state) (λ i s t r core p. ap (drives_with core p) r.chip) 0 s.seats.items new each));
+          (quiet_settled s.chips.items new s.wiring s.driving s.strings.items c.self.invariant.settled
+          (keeps (Stands c.args.state) (λ i s t r. r.kept) 0 s.chips.items new each)
+          (each_still (Stands c.args.state) (λ i s t r core p. ap (drives_with core p) r.chip) 0 s.chips.items new each));
     }
 
 pub returns : goal.returns
 returns c =
     let s = c.self.inside in
-    let new = c.stand_all.new.seats in
-    let each : EachFrom (Stands c.args.state) 0 s.seats.items new =
+    let new = c.stand_all.new.chips in
+    let each : EachFrom (Stands c.args.state) 0 s.chips.items new =
     subst (λ (l : List WiredChipValue). EachFrom
     (Stands c.args.state) 0 l new) c.deref_mut.ensures.value c.stand_all.ensures in
-    let is = with_items_is s.seats new
-    (each_long (Stands c.args.state) 0 s.seats.items new each ∙ sym s.seats.ok.0) in
-    let chips-are = ap (map chip_state) is ∙ stood_chips c.args.state s.seats.items new each in
-    let now = the_view (record s { seats = with_items s.seats new }) in
+    let is = with_items_is s.chips new
+    (each_long (Stands c.args.state) 0 s.chips.items new each ∙ sym s.chips.ok.0) in
+    let chips-are = ap (map chip_state) is ∙ stood_chips c.args.state s.chips.items new each in
+    let now = the_view (record s { chips = with_items s.chips new }) in
     subst (λ (v : ChainValue). now
     ≡ record v { chips = map (chip_at_rest c.args.state) (members v.chips) }) c.self.view_is
     (λ i. record { trst = s.trst; nets = s.wiring.nets; chips = chips-are i })

@@ -14,11 +14,11 @@ invariant_of-self c =
     let s = c.self.inside in
     let after = c.tell_trst_settled.new in
     let old-is = c.deref_mut.ensures.value in
-    let is = with_items_is s.seats after.seats (c.tell_trst_settled.ensures.long ∙ ap (λ (l : List WiredChipValue). length l) old-is ∙ sym s.seats.ok.0) in
+    let is = with_items_is s.chips after.chips (c.tell_trst_settled.ensures.long ∙ ap (λ (l : List WiredChipValue). length l) old-is ∙ sym s.chips.ok.0) in
     record {
       told = subst (AllTold c.args.trst) (sym is) c.tell_trst_settled.ensures.told;
       settled = subst (λ (l : List WiredChipValue). IsSettled l after.wiring after.driving s.strings.items) (sym is)
-          (subst (λ (ss : List WiredString). IsSettled after.seats after.wiring after.driving ss) c.deref.ensures.value c.tell_trst_settled.ensures.settled);
+          (subst (λ (ss : List WiredString). IsSettled after.chips after.wiring after.driving ss) c.deref.ensures.value c.tell_trst_settled.ensures.settled);
     }
 
 pub returns : goal.returns
@@ -26,9 +26,9 @@ returns c =
     let s = c.self.inside in
     let after = c.tell_trst_settled.new in
     let old-is = c.deref_mut.ensures.value in
-    let is = with_items_is s.seats after.seats (c.tell_trst_settled.ensures.long ∙ ap (λ (l : List WiredChipValue). length l) old-is ∙ sym s.seats.ok.0) in
+    let is = with_items_is s.chips after.chips (c.tell_trst_settled.ensures.long ∙ ap (λ (l : List WiredChipValue). length l) old-is ∙ sym s.chips.ok.0) in
     let chips-are = ap (map chip_state) is ∙ c.tell_trst_settled.ensures.chips
     ∙ ap (λ (l : List WiredChipValue). if c.args.trst then map meant.assert_trst (map chip_state l) else map chip_state l) old-is in
-    let now = the_view (record s { trst = c.args.trst; seats = with_items s.seats after.seats; wiring = after.wiring; driving = after.driving }) in
+    let now = the_view (record s { trst = c.args.trst; chips = with_items s.chips after.chips; wiring = after.wiring; driving = after.driving }) in
     subst (λ (v : ChainValue). now ≡ record v { trst = c.args.trst; chips = if c.args.trst then map meant.assert_trst v.chips else v.chips }) c.self.view_is
     (λ i. record { trst = c.args.trst; nets = c.tell_trst_settled.ensures.nets i; chips = chips-are i })

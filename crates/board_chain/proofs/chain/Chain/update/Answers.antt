@@ -16,11 +16,11 @@ invariant_of-self c =
     let s = c.self.inside in
     let after = c.update_settled.new in
     let old-is = c.deref_mut.ensures.value in
-    let is = with_items_is s.seats after.seats (c.update_settled.ensures.long ∙ ap (λ (l : List WiredChipValue). length l) old-is ∙ sym s.seats.ok.0) in
+    let is = with_items_is s.chips after.chips (c.update_settled.ensures.long ∙ ap (λ (l : List WiredChipValue). length l) old-is ∙ sym s.chips.ok.0) in
     record {
       told = subst (AllTold s.trst) (sym is) (c.update_settled.ensures.told s.trst (subst (AllTold s.trst) (sym old-is) c.self.invariant.told));
       settled = subst (λ (l : List WiredChipValue). IsSettled l after.wiring after.driving s.strings.items) (sym is)
-          (subst (λ (ss : List WiredString). IsSettled after.seats after.wiring after.driving ss) c.deref.ensures.value c.update_settled.ensures.settled);
+          (subst (λ (ss : List WiredString). IsSettled after.chips after.wiring after.driving ss) c.deref.ensures.value c.update_settled.ensures.settled);
     }
 
 pub returns : goal.returns
@@ -28,9 +28,9 @@ returns c =
     let s = c.self.inside in
     let after = c.update_settled.new in
     let old-is = c.deref_mut.ensures.value in
-    let is = with_items_is s.seats after.seats (c.update_settled.ensures.long ∙ ap (λ (l : List WiredChipValue). length l) old-is ∙ sym s.seats.ok.0) in
+    let is = with_items_is s.chips after.chips (c.update_settled.ensures.long ∙ ap (λ (l : List WiredChipValue). length l) old-is ∙ sym s.chips.ok.0) in
     let chips-are = ap (map chip_state) is ∙ c.update_settled.ensures.chips
     ∙ ap (λ (l : List WiredChipValue). as_members (map (update_member c.args.column) (members (map chip_state l))) (map chip_state l)) old-is in
-    let now = the_view (record s { seats = with_items s.seats after.seats; wiring = after.wiring; driving = after.driving }) in
+    let now = the_view (record s { chips = with_items s.chips after.chips; wiring = after.wiring; driving = after.driving }) in
     subst (λ (v : ChainValue). now ≡ chain_as (map (update_member c.args.column) (members v.chips)) v) c.self.view_is
     (λ i. record { trst = s.trst; nets = c.update_settled.ensures.nets i; chips = chips-are i })

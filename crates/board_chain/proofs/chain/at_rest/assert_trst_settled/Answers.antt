@@ -8,22 +8,22 @@ use Rattle.board_chain.proofs.chain.at_rest.assert_trst_settled.Goals as goal
 
 pub put_anew-requires : goal.put_anew-requires
 put_anew-requires c = record {
-  before = c.args.seats.now;
+  before = c.args.chips.now;
   settled = c.requires;
-  kept = keeps (AssertsTrst c.args.rests) (λ i s t r. r.kept) 0 c.args.seats.now c.assert_trst_all.new.seats c.assert_trst_all.ensures;
+  kept = keeps (AssertsTrst c.args.rests) (λ i s t r. r.kept) 0 c.args.chips.now c.assert_trst_all.new.chips c.assert_trst_all.ensures;
 }
 
 pub returns-clause-long : goal.returns-clause-long
 returns-clause-long c =
-    same_long c.put_anew.new.seats c.assert_trst_all.new.seats c.put_anew.ensures.same
-    ∙ each_long (AssertsTrst c.args.rests) 0 c.args.seats.now c.assert_trst_all.new.seats c.assert_trst_all.ensures
+    same_long c.put_anew.new.chips c.assert_trst_all.new.chips c.put_anew.ensures.same
+    ∙ each_long (AssertsTrst c.args.rests) 0 c.args.chips.now c.assert_trst_all.new.chips c.assert_trst_all.ensures
 
 pub returns-clause-chips : goal.returns-clause-chips
 returns-clause-chips c =
-    same_chips c.put_anew.new.seats c.assert_trst_all.new.seats c.put_anew.ensures.same
-    ∙ asserted_chips c.args.rests c.args.seats.now c.assert_trst_all.new.seats c.assert_trst_all.ensures
+    same_chips c.put_anew.new.chips c.assert_trst_all.new.chips c.put_anew.ensures.same
+    ∙ asserted_chips c.args.rests c.args.chips.now c.assert_trst_all.new.chips c.assert_trst_all.ensures
 
 pub returns-clause-told : goal.returns-clause-told
 returns-clause-told c =
-    same_told true c.put_anew.new.seats c.assert_trst_all.new.seats c.put_anew.ensures.same
-    (asserted_told c.args.rests 0 c.args.seats.now c.assert_trst_all.new.seats c.assert_trst_all.ensures)
+    same_told true c.put_anew.new.chips c.assert_trst_all.new.chips c.put_anew.ensures.same
+    (asserted_told c.args.rests 0 c.args.chips.now c.assert_trst_all.new.chips c.assert_trst_all.ensures)

@@ -3,5 +3,5 @@ use Rattle.board_chain.specs.AtRest.{Changes}
 use Rattle.board_chain.proofs.SweepLaws.{Swept}
 use Rattle.board_chain.proofs.chain.at_rest.reset_all.Given as goal
 
-abbrev pub invariant-loop-seat : goal.invariant-loop-seat
-invariant-loop-seat l = Swept (Changes reset_member) l.seat-index l.initial.seats l.seats
+abbrev pub invariant-loop-chip : goal.invariant-loop-chip
+invariant-loop-chip l = Swept (Changes reset_member) l.chip-index l.initial.chips l.chips

@@ -9,22 +9,22 @@ use Rattle.board_chain.proofs.chain.at_rest.reset_settled.Goals as goal
 
 pub put_anew-requires : goal.put_anew-requires
 put_anew-requires c = record {
-  before = c.args.seats.now;
+  before = c.args.chips.now;
   settled = c.requires;
-  kept = keeps (Changes reset_member) (λ i s t r. r.kept) 0 c.args.seats.now c.reset_all.new.seats c.reset_all.ensures;
+  kept = keeps (Changes reset_member) (λ i s t r. r.kept) 0 c.args.chips.now c.reset_all.new.chips c.reset_all.ensures;
 }
 
 pub returns-clause-long : goal.returns-clause-long
 returns-clause-long c =
-    same_long c.put_anew.new.seats c.reset_all.new.seats c.put_anew.ensures.same
-    ∙ each_long (Changes reset_member) 0 c.args.seats.now c.reset_all.new.seats c.reset_all.ensures
+    same_long c.put_anew.new.chips c.reset_all.new.chips c.put_anew.ensures.same
+    ∙ each_long (Changes reset_member) 0 c.args.chips.now c.reset_all.new.chips c.reset_all.ensures
 
 pub returns-clause-chips : goal.returns-clause-chips
 returns-clause-chips c =
-    same_chips c.put_anew.new.seats c.reset_all.new.seats c.put_anew.ensures.same
-    ∙ changed_chips reset_member c.args.seats.now c.reset_all.new.seats c.reset_all.ensures
+    same_chips c.put_anew.new.chips c.reset_all.new.chips c.put_anew.ensures.same
+    ∙ changed_chips reset_member c.args.chips.now c.reset_all.new.chips c.reset_all.ensures
 
 pub returns-clause-told : goal.returns-clause-told
 returns-clause-told c = λ trst told.
-    same_told trst c.put_anew.new.seats c.reset_all.new.seats c.put_anew.ensures.same
-    (all_told (Changes reset_member) (λ i s t r. r.trst) trst 0 c.args.seats.now c.reset_all.new.seats c.reset_all.ensures told)
+    same_told trst c.put_anew.new.chips c.reset_all.new.chips c.put_anew.ensures.same
+    (all_told (Changes reset_member) (λ i s t r. r.trst) trst 0 c.args.chips.now c.reset_all.new.chips c.reset_all.ensures told)

@@ -4,16 +4,16 @@ use Rattle.board_chain.specs.AtRest.{Stands}
 use Rattle.board_chain.proofs.SweepLaws.{swept_all, swept_more}
 use Rattle.board_chain.proofs.chain.at_rest.stand_all.Goals as goal
 
-pub loop-seat-preserved : goal.loop-seat-preserved
-loop-seat-preserved c =
-    let now = c.loop-seat.seats in
-    let at = c.loop-seat.seat-index in
-    swept_more (Stands c.args.state) at c.args.seats.now now
-    (get_or now at c.seat-item.result) c.stand.new.self c.loop-seat.invariant
-    (slice_get-get_or now at c.seat-item.result (omega (arith, c.loop-seat-test.true, c.loop-seat.invariant.long)))
+pub loop-chip-preserved : goal.loop-chip-preserved
+loop-chip-preserved c =
+    let now = c.loop-chip.chips in
+    let at = c.loop-chip.chip-index in
+    swept_more (Stands c.args.state) at c.args.chips.now now
+    (get_or now at c.chip-item.result) c.stand.new.self c.loop-chip.invariant
+    (slice_get-get_or now at c.chip-item.result (omega (arith, c.loop-chip-test.true, c.loop-chip.invariant.long)))
     (record { kept = c.stand.ensures.kept; trst = c.stand.ensures.trst; chip = c.stand.ensures.chip })
 
 pub returns : goal.returns
 returns c =
-    swept_all (Stands c.args.state) c.loop-seat.seat-index c.args.seats.now c.loop-seat.seats c.loop-seat.invariant
-    (omega (arith, c.loop-seat-test.false, c.loop-seat.invariant.long))
+    swept_all (Stands c.args.state) c.loop-chip.chip-index c.args.chips.now c.loop-chip.chips c.loop-chip.invariant
+    (omega (arith, c.loop-chip-test.false, c.loop-chip.invariant.long))

@@ -5,8 +5,8 @@ use Rattle.board_chain.specs.Sweeping.{Still}
 use Rattle.board_chain.proofs.SweepLaws.{Swept}
 use Rattle.board_chain.proofs.chain.at_rest.update_all.Given as goal
 
-abbrev pub invariant-loop-seat : goal.invariant-loop-seat
-invariant-loop-seat l = record {
-  devices : Swept (Changes (update_member l.column)) l.seat-index l.initial.seats l.seats;
-  still : l.anew ≡ false → Swept Still l.seat-index l.initial.seats l.seats;
+abbrev pub invariant-loop-chip : goal.invariant-loop-chip
+invariant-loop-chip l = record {
+  devices : Swept (Changes (update_member l.column)) l.chip-index l.initial.chips l.chips;
+  still : l.anew ≡ false → Swept Still l.chip-index l.initial.chips l.chips;
 }

@@ -12,22 +12,22 @@ use Rattle.board_chain.proofs.chain.settling.put_anew.Goals as goal
 pub refresh_driving-requires : goal.refresh_driving-requires
 refresh_driving-requires c =
     subst (λ (cs : List (List Cell)). IsDriving cs c.args.wiring.now c.args.driving.now)
-    (kept_cells_of c.requires.before c.args.seats.now c.requires.kept) c.requires.settled.driving
+    (kept_cells_of c.requires.before c.args.chips.now c.requires.kept) c.requires.settled.driving
 
 pub settle-requires-clause-wired : goal.settle-requires-clause-wired
 settle-requires-clause-wired c =
-    driven_wired Keeps (λ i s t k. k) c.requires.before c.args.seats.now c.args.wiring.now c.refresh_driving.new.wiring
+    driven_wired Keeps (λ i s t k. k) c.requires.before c.args.chips.now c.args.wiring.now c.refresh_driving.new.wiring
     c.requires.settled.wired c.requires.kept c.refresh_driving.ensures.drives
 
 pub settle-requires-clause-strings : goal.settle-requires-clause-strings
 settle-requires-clause-strings c =
-    subst (λ (ns : List Net). AreStrung ns (map cells_of c.args.seats.now) c.args.strings.now) (sym c.refresh_driving.ensures.nets)
+    subst (λ (ns : List Net). AreStrung ns (map cells_of c.args.chips.now) c.args.strings.now) (sym c.refresh_driving.ensures.nets)
     (subst (λ (cs : List (List Cell)). AreStrung c.args.wiring.now.nets cs c.args.strings.now)
-    (kept_cells_of c.requires.before c.args.seats.now c.requires.kept) c.requires.settled.strung)
+    (kept_cells_of c.requires.before c.args.chips.now c.requires.kept) c.requires.settled.strung)
 
 pub returns-clause-settled : goal.returns-clause-settled
 returns-clause-settled c =
-    anew_settled c.requires.before c.args.seats.now c.settle.new.seats c.args.wiring.now c.refresh_driving.new.wiring c.settle.new.wiring
+    anew_settled c.requires.before c.args.chips.now c.settle.new.chips c.args.wiring.now c.refresh_driving.new.wiring c.settle.new.wiring
     c.args.driving.now c.refresh_driving.new.driving c.args.strings.now c.requires.settled c.requires.kept c.refresh_driving.ensures.nets
     c.refresh_driving.ensures.driving c.refresh_driving.ensures.table c.settle.ensures.nets c.settle.ensures.wired c.settle.ensures.held
     c.settle.ensures.same c.settle.ensures.others

@@ -9,4 +9,4 @@ use Rattle.jt_board.proofs.board.Board.place.Goals as goal
 pub returns : goal.returns
 returns c =
     subst (λ (b : BoardState). (m : AtRest) → IsAtRest b m → c.state.result ≡ m.place) c.self.view_is
-    (λ m is. c.state.ensures ∙ rests_place (the_view c.self.inside) m 0 _ is c.seat.ensures)
+    (λ m is. c.state.ensures ∙ rests_place (the_view c.self.inside) m 0 _ is c.chip.ensures)

@@ -10,18 +10,18 @@ pub returns-then-not-is_same_state : goal.returns-then-not-is_same_state
 returns-then-not-is_same_state c =
     let chips = c.args.chain.now.chips in
     let i = c.loop-i.i in
-    let elsewhere : is_at c.seat.result.now.chip.state c.args.state ≡ false =
+    let elsewhere : is_at c.chip.result.now.chip.state c.args.state ≡ false =
     ap (λ (s : State). is_at s c.args.state) (sym c.state.ensures) ∙ sym c.is_same_state.ensures ∙ c.if-not-is_same_state.true in
     sym (c.loop-i.invariant
-    ∙ next (λ (x : ChipState). is_at x.state c.args.state) chips i _ c.seat.ensures
+    ∙ next (λ (x : ChipState). is_at x.state c.args.state) chips i _ c.chip.ensures
     ∙ ap (λ (b : Bool). b && all_at c.args.state (drop (i + 1) chips)) elsewhere)
 
 pub loop-i-preserved : goal.loop-i-preserved
 loop-i-preserved c =
     let chips = c.args.chain.now.chips in
     let i = c.loop-i.i in
-    let there : is_at c.seat.result.now.chip.state c.args.state ≡ true =
+    let there : is_at c.chip.result.now.chip.state c.args.state ≡ true =
     ap (λ (s : State). is_at s c.args.state) (sym c.state.ensures) ∙ sym c.is_same_state.ensures ∙ c.if-not-is_same_state.false in
     c.loop-i.invariant
-    ∙ next (λ (x : ChipState). is_at x.state c.args.state) chips i _ c.seat.ensures
+    ∙ next (λ (x : ChipState). is_at x.state c.args.state) chips i _ c.chip.ensures
     ∙ ap (λ (b : Bool). b && all_at c.args.state (drop (i + 1) chips)) there

@@ -4,9 +4,9 @@ use Rattle.board_plan.specs.Planned.{HasCore}
 use Rattle.board_plan.specs.Planned as planned
 use Rattle.board_plan.specs.View.{member as planned_member, net as planned_net}
 use Rattle.chip_instructions.specs.Fitting.{IsFormed}
-use Rattle.board_chips.specs.Building.{seats_of}
-use Rattle.board_chips.proofs.BuildLaws.{all_at, all_fit, seat_push, seats_end, turn, turns_end}
-use Rattle.board_chips.proofs.build.all_seats.Goals as goal
+use Rattle.board_chips.specs.Building.{wired_chips_of}
+use Rattle.board_chips.proofs.BuildLaws.{all_at, all_fit, chip_push, chips_end, turn, turns_end}
+use Rattle.board_chips.proofs.build.all_chips.Goals as goal
 
 pub all_cell_nets-requires : goal.all_cell_nets-requires
 all_cell_nets-requires c = all_fit (map planned_member c.args.devices.now) (map planned_net c.args.nets.now) c.requires.pins
@@ -21,9 +21,9 @@ loop-device-preserved c =
     nets c.args.devices.now c.in_ok-all_cells.all_cells
     c.into_iter-device-iterator.ensures.into_iter_gives c.zip-device-items.ensures.first c.iter.ensures.rest (c.zip-device-items.ensures.second.0, c.zip-device-items.ensures.second.1)
     c.in_ok-all_cells.ensures c.loop-device.yielded c.loop-device.yielded_by c.next.result (c.in-Some.device, c.in-Some.cells) c.in-Some.is c.next.ensures.steps in
-    seat_push nets ms i device c.loop-device.seats.items c.push.new.self.items c.in_ok-new.field-0 c.in-Some.cells.items device.device its.at c.loop-device.invariant refl its.wired c.in_ok-new.ensures
+    chip_push nets ms i device c.loop-device.chips.items c.push.new.self.items c.in_ok-new.field-0 c.in-Some.cells.items device.device its.at c.loop-device.invariant refl its.wired c.in_ok-new.ensures
     c.in_ok-push.ensures.items
-    ∙ ap (λ n. take n (seats_of nets 0 ms)) (sym (length_push c.loop-device.yielded (c.in-Some.device, c.in-Some.cells)))
+    ∙ ap (λ n. take n (wired_chips_of nets 0 ms)) (sym (length_push c.loop-device.yielded (c.in-Some.device, c.in-Some.cells)))
 
 pub new-requires : goal.new-requires
 new-requires c =
@@ -44,7 +44,7 @@ pub returns : goal.returns
 returns c =
     let ms = map planned_member c.args.devices.now in
     let nets = map planned_net c.args.nets.now in
-    seats_end nets ms c.loop-device.seats.items (length c.loop-device.yielded) c.loop-device.invariant
+    chips_end nets ms c.loop-device.chips.items (length c.loop-device.yielded) c.loop-device.invariant
     (turns_end c.into_iter-device-iterator.result c.zip-device-items.result c.iter.result c.loop-device.device-iterator c.next.new.self
     nets c.args.devices.now c.in_ok-all_cells.all_cells
     c.into_iter-device-iterator.ensures.into_iter_gives c.zip-device-items.ensures.first c.iter.ensures.rest (c.zip-device-items.ensures.second.0, c.zip-device-items.ensures.second.1)

@@ -2,9 +2,9 @@ use Rattle.std.proofs.Common.{◌≡◌, ℕ, Bool, refl, ap, subst}
 use Rattle.boundary.specs.Cells.{BoundaryValue}
 use Rattle.board_model.specs.Chain as chain
 use Rattle.board_chips.specs.WiredChips.{IsSighted, WiredChipValue, chip_state, told_by}
-use Rattle.board_chips.specs.contracts.seat.WiredChip.{the_view}
+use Rattle.board_chips.specs.contracts.chip.WiredChip.{the_view}
 use Rattle.board_chips.proofs.EdgeLaws.{rises}
-use Rattle.board_chips.proofs.seat.WiredChip.rise_told.Goals as goal
+use Rattle.board_chips.proofs.chip.WiredChip.rise_told.Goals as goal
 
 pub returns-clause-chip : goal.returns-clause-chip
 returns-clause-chip c =

@@ -3,9 +3,9 @@ use Rattle.boundary.specs.Cells.{BoundaryValue}
 use Rattle.board_model.specs.Whole.{capture_member}
 use Rattle.board_chips.specs.AtRest.{IsSightedFor, as_member}
 use Rattle.board_chips.specs.WiredChips.{WiredChipValue, chip_state, member_of, told_by}
-use Rattle.board_chips.specs.contracts.seat.WiredChip.{the_view}
+use Rattle.board_chips.specs.contracts.chip.WiredChip.{the_view}
 use Rattle.board_chips.proofs.EdgeLaws.{captures}
-use Rattle.board_chips.proofs.seat.WiredChip.capture_told.Goals as goal
+use Rattle.board_chips.proofs.chip.WiredChip.capture_told.Goals as goal
 
 pub returns-clause-chip : goal.returns-clause-chip
 returns-clause-chip c =

@@ -4,7 +4,7 @@ use Rattle.board_chips.specs.Sighted.{sighted_of}
 use Rattle.board_chips.specs.Telling.{IsAt, sight}
 use Rattle.board_chips.proofs.SightedLaws.{entry_below, entry_cell, entry_first, told_first, told_last, told_next}
 use Rattle.board_chips.proofs.TellLaws.{told_all}
-use Rattle.board_chips.proofs.seat.WiredChip.tell.Goals as goal
+use Rattle.board_chips.proofs.chip.WiredChip.tell.Goals as goal
 
 pub loop-i-init : goal.loop-i-init
 loop-i-init c =

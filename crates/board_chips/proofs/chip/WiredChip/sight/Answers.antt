@@ -1,6 +1,6 @@
 use Rattle.std.proofs.Common.{sym, ◌∙◌}
 use Rattle.board_chips.proofs.TellLaws.{seen_alone, seen_on_net}
-use Rattle.board_chips.proofs.seat.WiredChip.sight.Goals as goal
+use Rattle.board_chips.proofs.chip.WiredChip.sight.Goals as goal
 
 pub returns-in-Some : goal.returns-in-Some
 returns-in-Some c = λ place ms at net.

@@ -4,7 +4,7 @@ use Rattle.board_chips.specs.WiredChips.{with_seen}
 use Rattle.board_chips.specs.Sighted.{sighted_of}
 use Rattle.board_chips.specs.Telling.{IsAt, sight}
 use Rattle.board_chips.proofs.SightedLaws.{ToldUntil}
-use Rattle.board_chips.proofs.seat.WiredChip.tell.Given as goal
+use Rattle.board_chips.proofs.chip.WiredChip.tell.Given as goal
 
 abbrev pub invariant-loop-i : goal.invariant-loop-i
 invariant-loop-i l = record {

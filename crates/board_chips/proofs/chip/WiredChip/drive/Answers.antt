@@ -2,9 +2,9 @@ use Rattle.std.proofs.Common.{◌≡◌, subst, sym, ap, ◌∙◌}
 use Rattle.boundary.specs.Cells.{driver_from}
 use Rattle.board_model.specs.Cells as meant
 use Rattle.board_chips.specs.WiredChips.{WiredChipValue, held_of}
-use Rattle.board_chips.specs.contracts.seat.WiredChip.{the_view}
+use Rattle.board_chips.specs.contracts.chip.WiredChip.{the_view}
 use Rattle.board_chips.proofs.DriveLaws.{drives_port}
-use Rattle.board_chips.proofs.seat.WiredChip.drive.Goals as goal
+use Rattle.board_chips.proofs.chip.WiredChip.drive.Goals as goal
 
 pub returns : goal.returns
 returns c =

@@ -13,7 +13,7 @@ ghost use Rattle.board_plan.specs.View.{member as planned_member};
 ghost use Rattle.board_model.specs.Cells.{Member};
 ghost use Rattle.board_model.specs.Cells as meant;
 ghost use Rattle.board_model.specs.Chain as chain;
-ghost use Rattle.board_chips.specs.Building.{seat_of};
+ghost use Rattle.board_chips.specs.Building.{wired_chip_of};
 ghost use Rattle.board_chips.specs.WiredChips.{AreBelow, DrivesStill, IsKept, IsSighted, captures_boundary, chip_state};
 ghost use Rattle.board_chips.specs.WiredChips.{falls_driving, held_of, member_of, told_by, with_seen};
 ghost use Rattle.board_chips.specs.Blocks.{TellsOwn};
@@ -89,7 +89,7 @@ impl WiredChip {
         requires formed { IsFormed device.now.device }
         requires core { length device.now.core ≡ length device.now.device.cells }
         requires nets { length nets.items ≡ length device.now.device.cells }
-        ensures { IfOk result (λ s. s ≡ seat_of nets.items (planned_member device.now)) }
+        ensures { IfOk result (λ s. s ≡ wired_chip_of nets.items (planned_member device.now)) }
     {
         let description = device.device.get();
         let name = String::from_str(alloc, &device.name)?;

@@ -2,12 +2,12 @@ use Rattle.std.proofs.Common.{ℕ, List, ◌++◌, refl, ap, ◌∙◌, codes}
 use Rattle.byte_streams.proofs.Fronts.{WritesAll-is, WritesAll-stopped, WritesAll-then}
 use Rattle.bsdl_device.specs.Device.{Device}
 use Rattle.board_reasons.specs.Lines.{holder_words}
-use Rattle.board_reasons.proofs.writing.write_of_seat.Goals as goal
+use Rattle.board_reasons.proofs.writing.write_of_chip.Goals as goal
 
 pub returns-in_err-put_pieces : goal.returns-in_err-put_pieces
 returns-in_err-put_pieces g c =
     let nets = c.args.chain.now.nets in
-    let rest = holder_words nets c.args.seat.now.chip.device c.args.holder ++ codes "\n" in
+    let rest = holder_words nets c.args.chip.now.chip.device c.args.holder ++ codes "\n" in
     WritesAll-is (ap (λ (n : List ℕ). (codes "from " ++ (n ++ codes " ")) ++ rest) (c.as_bytes.ensures.value ∙ c.name.ensures))
     (WritesAll-stopped rest c.in_err-put_pieces.ensures.writes refl c.from_residual.ensures.0)
 
@@ -17,7 +17,7 @@ returns-in_err-write_holder g c =
     let holder = c.args.holder in
     WritesAll-is
     (ap (λ (d : Device). (codes "from " ++ (c.as_bytes.result.now ++ codes " ")) ++ (holder_words nets d holder ++ codes "\n")) c.device.ensures
-    ∙ ap (λ (n : List ℕ). (codes "from " ++ (n ++ codes " ")) ++ (holder_words nets c.args.seat.now.chip.device holder ++ codes "\n")) (c.as_bytes.ensures.value ∙ c.name.ensures))
+    ∙ ap (λ (n : List ℕ). (codes "from " ++ (n ++ codes " ")) ++ (holder_words nets c.args.chip.now.chip.device holder ++ codes "\n")) (c.as_bytes.ensures.value ∙ c.name.ensures))
     (WritesAll-then c.in_ok-put_pieces.ensures.writes refl (WritesAll-stopped (codes "\n") c.in_err-write_holder.ensures refl c.from_residual-in_err-write_holder.ensures.0))
 
 pub returns : goal.returns
@@ -26,5 +26,5 @@ returns g c =
     let holder = c.args.holder in
     WritesAll-is
     (ap (λ (d : Device). (codes "from " ++ (c.as_bytes.result.now ++ codes " ")) ++ (holder_words nets d holder ++ codes "\n")) c.device.ensures
-    ∙ ap (λ (n : List ℕ). (codes "from " ++ (n ++ codes " ")) ++ (holder_words nets c.args.seat.now.chip.device holder ++ codes "\n")) (c.as_bytes.ensures.value ∙ c.name.ensures))
+    ∙ ap (λ (n : List ℕ). (codes "from " ++ (n ++ codes " ")) ++ (holder_words nets c.args.chip.now.chip.device holder ++ codes "\n")) (c.as_bytes.ensures.value ∙ c.name.ensures))
     (WritesAll-then c.in_ok-put_pieces.ensures.writes refl (WritesAll-then c.in_ok-write_holder.ensures refl c.put_all.ensures.writes))
