@@ -1,7 +1,7 @@
 -- What a test engineer needs to know of a board to write vectors for it, one fact a line: its devices from TDO on, of
 -- each the instructions and the cells, then the nets, and how long the joined registers are.
-use Rattle.std.specs.Prelude.{Bool, true, false, ℕ, zero, suc, ◌+◌, List, [], ◌∷◌, ◌++◌, codes, decimal, flat_map}
-use Rattle.std.specs.Prelude.{length, get_or, slice_get, slice_index, Option, Some, None, option_map, unwrap_or}
+use Rattle.std.specs.Prelude.{Bool, ℕ, zero, suc, ◌+◌, List, [], ◌∷◌, ◌++◌, codes, decimal, flat_map}
+use Rattle.std.specs.Prelude.{length, get_or, slice_get, Option, Some, None, option_map, unwrap_or}
 use Rattle.std.specs.Prelude.{if◌then◌else◌}
 use Rattle.bsdl_device.specs.declared.Cell.{Cell}
 use Rattle.bsdl_device.specs.declared.Control3.{Control3}

@@ -1,5 +1,5 @@
 -- A board of two devices, described.
-use Rattle.std.specs.Prelude.{◌≡◌, ℕ, List, [], ◌∷◌, ◌++◌, codes, flat_map}
+use Rattle.std.specs.Prelude.{◌≡◌, ℕ, List, ◌++◌, codes, flat_map}
 use Rattle.board_description.specs.Described.{cell_lines, device_line, instruction_lines, wiring_lines}
 use Rattle.board_description.specs.Samples.{pair, sample}
 

@@ -4,7 +4,7 @@ use Rattle.std.specs.Prelude.{Option, Some, None, option_map, unwrap_or}
 use Rattle.bsdl_device.specs.declared.Function.{Function}
 use Rattle.bsdl_device.specs.declared.Function.TheVariants as function
 use Rattle.bsdl_device.specs.declared.Place.{Place}
-use Rattle.bsdl_device.specs.declared.Place.TheVariants.{AtBypass, AtBoundary, AtDeviceId, AtUser}
+use Rattle.bsdl_device.specs.declared.Place.TheVariants.{AtUser}
 use Rattle.bsdl_device.specs.Device.{Device, PortBit, Access}
 use Rattle.pin_nets.specs.Wired.{Net}
 use Rattle.output_words.specs.Texts.{texts}
