@@ -42,7 +42,7 @@ judged command (v ∷ vs) (b ∷ bits) = one (differs v.wanted b) refl (judged c
         later _ (none q) = none (skipped ∙ q)
         later _ (some f rest q) = some f rest (skipped ∙ q)
 
-abbrev decided : ℕ → Option (Part × ℕ) → Outcome → AtRest → Outcome
+abbrev pub decided : ℕ → Option (Part × ℕ) → Outcome → AtRest → Outcome
 decided number found rest after = elim found [ None ↦ rest | Some f ↦ record { ending = Fail number f.0 f.1; after = after } ]
 
 -- Over whole registers.

@@ -26,31 +26,34 @@ followed place (s ∷ ss) more =
 
 turns-stop : (ts rest : List Turn) (b : BoardState) → (full_play ts b).ending ≢ Pass → full_play (ts ++ rest) b ≡ full_play ts b
 turns-stop [] rest b fails = absurd (fails refl)
-turns-stop (t ∷ ts) rest b fails = one (judge t.wants (hear t.messages b).answers) fails
+turns-stop (t ∷ ts) rest b fails = one (judge t.wants (hear t.messages b).answers) (turns-stop ts rest (hear t.messages b).board) fails
   where
-    one : (found : Option (Part × ℕ)) → (played_of t ts (hear t.messages b) found).ending ≢ Pass
+    one : (found : Option (Part × ℕ))
+        → ((full_play ts (hear t.messages b).board).ending ≢ Pass → full_play (ts ++ rest) (hear t.messages b).board ≡ full_play ts (hear t.messages b).board)
+        → (played_of t ts (hear t.messages b) found).ending ≢ Pass
         → played_of t (ts ++ rest) (hear t.messages b) found ≡ played_of t ts (hear t.messages b) found
-    one None later =
-        let same = turns-stop ts rest (hear t.messages b).board later in
+    one None later fails-later =
+        let same = later fails-later in
         λ i. record {
           messages = t.messages ++ (same i).messages;
           answers = (hear t.messages b).answers ++ (same i).answers;
           ending = (same i).ending;
           board = (same i).board;
         }
-    one (Some f) now = refl
+    one (Some f) later fails-now = refl
 
 steps-stop : (steps more : List Numbered) (m : AtRest) → (outcome steps m).ending ≢ Pass → outcome (steps ++ more) m ≡ outcome steps m
 steps-stop [] more m fails = absurd (fails refl)
-steps-stop (s ∷ ss) more m fails = one (failure s.what m) fails
+steps-stop (s ∷ ss) more m fails = one (failure s.what m) (steps-stop ss more (after_step s.what m)) fails
   where
     next : AtRest
     next = after_step s.what m
 
-    one : (found : Option (Part × ℕ)) → (decided s.number found (outcome ss next) next).ending ≢ Pass
+    one : (found : Option (Part × ℕ)) → ((outcome ss next).ending ≢ Pass → outcome (ss ++ more) next ≡ outcome ss next)
+        → (decided s.number found (outcome ss next) next).ending ≢ Pass
         → decided s.number found (outcome (ss ++ more) next) next ≡ decided s.number found (outcome ss next) next
-    one None later = steps-stop ss more next later
-    one (Some f) now = refl
+    one None later fails-later = later fails-later
+    one (Some f) later fails-now = refl
 
 pub not_played : WhatFollowsAFailureIsNotPlayed
 not_played = record {
