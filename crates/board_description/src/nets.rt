@@ -52,9 +52,10 @@ fn put_pins(text: &mut Vec<u8>, devices: &[PlannedDevice], pins: &[Pin]) -> Resu
     Ok(())
 }
 
-/// Puts a pin behind a text, nothing where it is of no device of the board.
+/// Puts a pin behind a text, a blank before it, nothing where it is of no device of the board. Refuses for want of
+/// memory alone.
 #[tactic(auto, using(crate::proofs::TextLaws::pin_there, crate::proofs::TextLaws::pin_nowhere))]
-fn put_pin(text: &mut Vec<u8>, devices: &[PlannedDevice], pin: Pin) -> Result<(), AllocError>
+pub fn put_pin(text: &mut Vec<u8>, devices: &[PlannedDevice], pin: Pin) -> Result<(), AllocError>
     ensures { OnOk result (text.new.items
         ≡ text.old.items ++ spec.pin_words (map planned_member devices.now) pin) }
 {

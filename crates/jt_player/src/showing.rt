@@ -13,8 +13,8 @@ ghost use Rattle.play_model.specs.Endings.{verdict_line};
 use byte_streams::{Broken, Counted, Sink, put_all, put_pieces};
 use itoa::Buffer;
 use output_words::{hex_byte, write_total};
-use play_model::{Ending, Kind};
-use scan_vectors::{Failures, Mismatch, Part};
+use play_model::{Ending, Kind, part_word};
+use scan_vectors::{Failures, Mismatch};
 use svf_parse::{Code, SvfFault};
 use svf_programs::Program;
 
@@ -140,16 +140,6 @@ pub(crate) fn write_accepted<W: Sink>(program: &Program, out: &mut Counted<W>) -
             b" steps\n",
         ],
     )
-}
-
-fn part_word(part: Part) -> &'static str
-    ensures { result.now ≡ endings.part_word part }
-{
-    match part {
-        Part::Header => "header",
-        Part::Data => "data",
-        Part::Trailer => "trailer",
-    }
 }
 
 fn code_words(code: Code) -> &'static str

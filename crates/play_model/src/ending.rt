@@ -50,3 +50,14 @@ impl Ending {
         }
     }
 }
+
+/// The word of a part of a scan's vector.
+pub fn part_word(part: Part) -> &'static str
+    ensures { result.now ≡ spec.part_word part }
+{
+    match part {
+        Part::Header => "header",
+        Part::Data => "data",
+        Part::Trailer => "trailer",
+    }
+}
