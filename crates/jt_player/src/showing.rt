@@ -7,7 +7,6 @@ ghost use Rattle.jt_player.specs.Showing.{accepted_line, ending_lines, mismatch_
 ghost use Rattle.output_words.specs.Lines.{total_line};
 ghost use Rattle.scan_vectors.specs.Failures.{found};
 ghost use Rattle.svf_programs.specs.Sizes.{program_of};
-ghost use Rattle.play_model.specs.Endings as endings;
 ghost use Rattle.play_model.specs.Endings.{verdict_line};
 
 use byte_streams::{Broken, Counted, Sink, put_all, put_pieces};
