@@ -9,8 +9,4 @@ described_rows = record {
   instructions = rw (decimal_digit 4 (omega arith)) refl;
   cells = rw (decimal_digit 0 (omega arith), decimal_digit 1 (omega arith), decimal_digit 2 (omega arith), decimal_digit 3 (omega arith)) refl;
   wiring = rw (decimal_digit 0 (omega arith), decimal_digit 2 (omega arith), decimal_digit 6 (omega arith), decimal_digit 8 (omega arith)) refl;
-  line_feed_in_a_name = refl;
-  backslash_in_a_name = refl;
-  delete_in_a_name = refl;
-  other_bytes_stay = refl;
 }

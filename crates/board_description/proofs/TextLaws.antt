@@ -12,7 +12,6 @@ use Rattle.bsdl_device.specs.Device.{Access, Device, Name}
 use Rattle.chip_instructions.specs.Instruction.{access_meaning, as_bypass, look_up, Meaning}
 use Rattle.board_description.specs.Words.{first_user, is_user}
 use Rattle.board_description.specs.Kept.{NamesUsers, NoNames, Told, own_names}
-use Rattle.jt_bits.specs.Hex.{hex_digit_of}
 use Rattle.bsdl_device.specs.Device.{Pattern}
 use Rattle.std.specs.Global.{Vec}
 use denote.Ref.{Bor}
@@ -40,7 +39,7 @@ use Rattle.bsdl_device.specs.declared.Cell.{Cell}
 use Rattle.pin_nets.specs.Wired.{Net}
 use Rattle.board_plan.specs.Planned.{Member}
 use Rattle.byte_streams.proofs.Pieces.{flat_map-more}
-use Rattle.board_description.specs.Described.{cell_line, cell_lines, pin_of, pin_words, device_lines, device_part, digit, digits_from, hex_from, pattern_digit, pattern_from, shown_file, total}
+use Rattle.board_description.specs.Described.{cell_line, cell_lines, pin_of, pin_words, device_lines, device_part, pattern_digit, pattern_from, shown_file, total}
 
 -- a list of texts with one of them replaced
 pub map_set : {X Y : Type 0} (f : X → Y) (xs : List X) (k : ℕ) (x : X) → map f (slice_set xs k x) ≡ slice_set (map f xs) k (f x)
@@ -95,19 +94,8 @@ first_before k a more = at (is_user k a)
 
 -- ---- one step of a loop
 
--- the pieces up to a place, and that at the place
-pub flat_map_more : {X : Type 0} (f : X → List ℕ) (xs : List X) (i : ℕ) (x : X) → i < length xs
-    → flat_map f (take (i + 1) xs) ≡ flat_map f (take i xs) ++ f (get_or xs i x)
-flat_map_more f xs i x h = sym (flat_map-more f xs i x h)
-
-pub digits_down : (bits : List Bool) (i : ℕ) → 0 < i → digits_from i bits ≡ digit (get_or bits (i - 1) false) ∷ digits_from (i - 1) bits
-digits_down bits i h = let next : i ≡ suc (i - 1) = omega arith in ap (λ n. digits_from n bits) next
-
 pub pattern_down : (bits : Pattern) (i : ℕ) → 0 < i → pattern_from i bits ≡ pattern_digit (get_or bits (i - 1) None) ∷ pattern_from (i - 1) bits
 pattern_down bits i h = let next : i ≡ suc (i - 1) = omega arith in ap (λ n. pattern_from n bits) next
-
-pub hex_down : (bits : List Bool) (i : ℕ) → 0 < i → hex_from i bits ≡ hex_digit_of bits (i - 1) ∷ hex_from (i - 1) bits
-hex_down bits i h = let next : i ≡ suc (i - 1) = omega arith in ap (λ n. hex_from n bits) next
 
 pub cells_next : (nets : List Net) (place : ℕ) (name : List ℕ) (d : Device) (cells : List Cell) (k : ℕ) (x : Cell) → k < length cells
     → cell_lines nets place name d k (drop k cells) ≡ cell_line nets place name d k (get_or cells k x) ++ cell_lines nets place name d (k + 1) (drop (k + 1) cells)
@@ -168,9 +156,6 @@ device_next nets devices i device k device-is =
     ∙ ap (λ (x : Member). device_part nets i (shown_file device) x.name x.device ++ rest) (get_or-map planned_member devices i device (planned_member device) k ∙ ap planned_member (sym device-is))
 
 -- ---- pieces behind one another
-
-pub grow : (text rest : List ℕ) (now : List ℕ) (x y : ℕ) → now ≡ text ++ x ∷ [] → x ≡ y → now ++ rest ≡ text ++ (y ∷ rest)
-grow text rest now x y e same = ap (λ (l : List ℕ). l ++ rest) e ∙ append_assoc text (x ∷ []) rest ∙ ap (λ z. text ++ z ∷ rest) same
 
 pub behind : (a xs ys b c : List ℕ) → b ≡ a ++ xs → c ≡ b ++ ys → c ≡ a ++ (xs ++ ys)
 behind a xs ys b c one more = more ∙ ap (λ (l : List ℕ). l ++ ys) one ∙ append_assoc a xs ys

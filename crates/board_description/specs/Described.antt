@@ -1,9 +1,8 @@
 -- What a test engineer needs to know of a board to write vectors for it, one fact a line: its devices from TDO on, of
 -- each the instructions and the cells, then the nets, and how long the joined registers are.
-use Rattle.std.specs.Prelude.{Bool, true, false, ℕ, zero, suc, ◌+◌, List, [], ◌∷◌, ◌++◌, codes, decimal, flat_map}
-use Rattle.std.specs.Prelude.{length, get_or, slice_get, slice_index, Option, Some, None, option_map, unwrap_or}
+use Rattle.std.specs.Prelude.{Bool, ℕ, zero, suc, ◌+◌, List, [], ◌∷◌, ◌++◌, codes, decimal, flat_map}
+use Rattle.std.specs.Prelude.{length, get_or, slice_get, Option, Some, None, option_map, unwrap_or}
 use Rattle.std.specs.Prelude.{if◌then◌else◌}
-use Rattle.jt_bits.specs.Hex.{hex_digit_of}
 use Rattle.bsdl_device.specs.declared.Cell.{Cell}
 use Rattle.bsdl_device.specs.declared.Control3.{Control3}
 use Rattle.bsdl_device.specs.declared.Disabled.{Disabled}
@@ -21,28 +20,10 @@ use Rattle.board_plan.specs.LeftOut.{is_left_out}
 use Rattle.board_plan.specs.Planned.{Member, Wiring}
 use Rattle.board_plan.specs.View.{file as planned_file}
 use Rattle.board_plan.specs.declared.plan.PlannedDevice.{PlannedDevice}
-use Rattle.board_description.specs.Names.{shown}
-use Rattle.board_description.specs.Words.{texts, function_word, net_name, port_of, port_words, user_words}
-
--- the digits `1` and `0`
-abbrev pub one_digit : ℕ
-one_digit = 49
-
-abbrev pub zero_digit : ℕ
-zero_digit = 48
-
-abbrev pub digit : Bool → ℕ
-digit true = one_digit
-digit false = zero_digit
-
--- the lowest n bits as digits, the highest of them first
-abbrev pub digits_from : (n : ℕ) → List Bool → List ℕ
-digits_from zero bits = []
-digits_from (suc n) bits = digit (get_or bits n false) ∷ digits_from n bits
-
--- bits as digits, the highest first
-abbrev pub digits : List Bool → List ℕ
-digits bits = digits_from (length bits) bits
+use Rattle.output_words.specs.Digits.{digit, digits, hexadecimal}
+use Rattle.output_words.specs.Names.{shown}
+use Rattle.output_words.specs.Texts.{texts}
+use Rattle.board_description.specs.Words.{function_word, net_name, port_of, port_words, user_words}
 
 abbrev pub pattern_digit : Option Bool → ℕ
 pattern_digit (Some bit) = digit bit
@@ -56,18 +37,13 @@ pattern_from (suc n) pattern = pattern_digit (get_or pattern n None) ∷ pattern
 abbrev pub pattern_digits : Pattern → List ℕ
 pattern_digits pattern = pattern_from (length pattern) pattern
 
--- the lowest n hexadecimal digits of bits, the highest of them first
-abbrev pub hex_from : (n : ℕ) → List Bool → List ℕ
-hex_from zero bits = []
-hex_from (suc n) bits = hex_digit_of bits n ∷ hex_from n bits
-
 -- a code has 32 bits
 abbrev pub code_digits : ℕ
 code_digits = 8
 
 abbrev pub code_words : Option (List Bool) → List ℕ
 code_words None = codes "none"
-code_words (Some code) = codes "0x" ++ hex_from code_digits code
+code_words (Some code) = codes "0x" ++ hexadecimal code_digits code
 
 abbrev pub yes_or_no : Bool → List ℕ
 yes_or_no it_is = if it_is then codes "yes" else codes "no"

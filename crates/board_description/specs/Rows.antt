@@ -1,7 +1,6 @@
 -- A board of two devices, described.
-use Rattle.std.specs.Prelude.{◌≡◌, ℕ, List, [], ◌∷◌, ◌++◌, codes, flat_map}
+use Rattle.std.specs.Prelude.{◌≡◌, ℕ, List, ◌++◌, codes, flat_map}
 use Rattle.board_description.specs.Described.{cell_lines, device_line, instruction_lines, wiring_lines}
-use Rattle.board_description.specs.Names.{shown}
 use Rattle.board_description.specs.Samples.{pair, sample}
 
 abbrev pub first : List ℕ
@@ -19,7 +18,3 @@ pub record DescribedRows : Type 0 where
       ++ codes "U1 cell 2 input port D no net\nU1 cell 3 internal\n"
   pub wiring : wiring_lines pair
       ≡ codes "net N pull none U1.Q(0) U2.D\nchain 2 devices, 6 instruction bits, 8 boundary bits\n"
-  pub line_feed_in_a_name : shown (codes "a\nb") ≡ codes "a\\x0ab"
-  pub backslash_in_a_name : shown (codes "a\\x0ab") ≡ codes "a\\x5cx0ab"
-  pub delete_in_a_name : shown (127 ∷ []) ≡ codes "\\x7f"
-  pub other_bytes_stay : shown (195 ∷ 164 ∷ 32 ∷ []) ≡ 195 ∷ 164 ∷ 32 ∷ []

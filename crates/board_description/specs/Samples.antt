@@ -1,6 +1,6 @@
 -- A device for worked lines, and a board of two of it. A net joins port Q of the one nearest TDO with port D of the
 -- other.
-use Rattle.std.specs.Prelude.{Bool, true, false, ℕ, zero, suc, ◌/◌, ◌%◌, ◌==◌, List, [], ◌∷◌, map, codes, Option}
+use Rattle.std.specs.Prelude.{Bool, false, ℕ, zero, suc, ◌/◌, ◌%◌, ◌==◌, List, [], ◌∷◌, map, codes, Option}
 use Rattle.std.specs.Prelude.{Some, None}
 use Rattle.bsdl_device.specs.Device.{Device, Opcode, PortBit}
 use Rattle.bsdl_device.specs.declared.PortMode.TheVariants.{In}

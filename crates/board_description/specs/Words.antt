@@ -1,16 +1,13 @@
 -- Words of devices and boards, as lines tell them.
-use Rattle.std.specs.Prelude.{ℕ, ◌==◌, Bool, false, List, [], ◌∷◌, ◌++◌, codes, decimal, flat_map, find, slice_get}
+use Rattle.std.specs.Prelude.{ℕ, ◌==◌, Bool, false, List, [], ◌∷◌, ◌++◌, codes, decimal, find, slice_get}
 use Rattle.std.specs.Prelude.{Option, Some, None, option_map, unwrap_or}
 use Rattle.bsdl_device.specs.declared.Function.{Function}
 use Rattle.bsdl_device.specs.declared.Function.TheVariants as function
 use Rattle.bsdl_device.specs.declared.Place.{Place}
-use Rattle.bsdl_device.specs.declared.Place.TheVariants.{AtBypass, AtBoundary, AtDeviceId, AtUser}
+use Rattle.bsdl_device.specs.declared.Place.TheVariants.{AtUser}
 use Rattle.bsdl_device.specs.Device.{Device, PortBit, Access}
 use Rattle.pin_nets.specs.Wired.{Net}
-
--- texts, one after another
-abbrev pub texts : List (List ℕ) → List ℕ
-texts pieces = flat_map (λ p. p) pieces
+use Rattle.output_words.specs.Texts.{texts}
 
 -- the function of a cell, as descriptions name it
 abbrev pub function_word : Function → List ℕ

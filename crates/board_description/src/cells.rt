@@ -7,11 +7,11 @@ ghost use Rattle.board_description.specs.Described as spec;
 ghost use Rattle.board_description.specs.Words as words;
 ghost use Rattle.board_description.specs.Words.{port_words};
 
-use crate::text::{digit_of, put};
 use crate::words::{disabled_word, function_word};
 use board_plan::PlannedNet;
 use bsdl_device::{Cell, Control3, Device, PortBit};
 use itoa::Buffer;
+use output_words::{digit_of, put};
 use std::alloc::AllocError;
 
 /// Puts a line for each cell of a device behind a text, given of each of its port bits the first net that it is on.

@@ -7,16 +7,17 @@ ghost use Rattle.board_description.specs.Described.{instruction_lines, register_
 ghost use Rattle.board_description.specs.Kept.{NamesUsers, own_names};
 
 use crate::registers::{own_places, selected_by, user_names};
-use crate::text::{put, put_pattern};
+use crate::text::put_pattern;
 use board_plan::is_left_out;
 use board_tables::Places;
 use bsdl_device::{Device, Opcode, Pattern};
 use chip_instructions::Selected;
 use itoa::Buffer;
+use output_words::put;
 use std::alloc::{AllocError, Global};
 
 /// Puts a line for each opcode of a device behind a text. Refuses for want of memory alone.
-#[tactic(auto, using(crate::proofs::TextLaws::flat_map_more))]
+#[tactic(auto, using(output_words::proofs::TextLaws::flat_map_more))]
 pub(crate) fn put_instructions(
     alloc: Global,
     text: &mut Vec<u8>,
@@ -35,7 +36,7 @@ pub(crate) fn put_instructions(
 }
 
 /// Puts the lines of an instruction behind a text.
-#[tactic(auto, using(crate::proofs::TextLaws::flat_map_more))]
+#[tactic(auto, using(output_words::proofs::TextLaws::flat_map_more))]
 fn put_instruction(
     text: &mut Vec<u8>,
     name: &str,

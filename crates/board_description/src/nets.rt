@@ -6,16 +6,16 @@ ghost use Rattle.board_description.specs.Described.{boundary_length, instruction
 ghost use Rattle.board_description.specs.Words.{port_of};
 
 use crate::cells::put_port;
-use crate::text::put;
 use crate::words::pull_word;
 use board_plan::{Plan, PlannedDevice, PlannedNet};
 use bsdl_device::Device;
 use itoa::Buffer;
+use output_words::put;
 use pin_nets::Pin;
 use std::alloc::AllocError;
 
 /// Puts the lines of a board's nets and of its chain behind a text.
-#[tactic(auto, using(crate::proofs::TextLaws::flat_map_more))]
+#[tactic(auto, using(output_words::proofs::TextLaws::flat_map_more))]
 pub(crate) fn put_wiring(text: &mut Vec<u8>, plan: &Plan) -> Result<(), AllocError>
     ensures { OnOk result (text.new.items ≡ text.old.items ++ spec.wiring_lines (wiring plan.now)) }
 {
@@ -41,7 +41,7 @@ fn put_net(
 }
 
 /// Puts pins behind a text.
-#[tactic(auto, using(crate::proofs::TextLaws::flat_map_more))]
+#[tactic(auto, using(output_words::proofs::TextLaws::flat_map_more))]
 fn put_pins(text: &mut Vec<u8>, devices: &[PlannedDevice], pins: &[Pin]) -> Result<(), AllocError>
     ensures { OnOk result (text.new.items
         ≡ text.old.items ++ flat_map (spec.pin_words (map planned_member devices.now)) pins.now) }
@@ -52,9 +52,10 @@ fn put_pins(text: &mut Vec<u8>, devices: &[PlannedDevice], pins: &[Pin]) -> Resu
     Ok(())
 }
 
-/// Puts a pin behind a text, nothing where it is of no device of the board.
+/// Puts a pin behind a text, a blank before it, nothing where it is of no device of the board. Refuses for want of
+/// memory alone.
 #[tactic(auto, using(crate::proofs::TextLaws::pin_there, crate::proofs::TextLaws::pin_nowhere))]
-fn put_pin(text: &mut Vec<u8>, devices: &[PlannedDevice], pin: Pin) -> Result<(), AllocError>
+pub fn put_pin(text: &mut Vec<u8>, devices: &[PlannedDevice], pin: Pin) -> Result<(), AllocError>
     ensures { OnOk result (text.new.items
         ≡ text.old.items ++ spec.pin_words (map planned_member devices.now) pin) }
 {

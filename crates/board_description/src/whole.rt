@@ -10,12 +10,13 @@ ghost use Rattle.board_description.specs.Kept.{Told};
 use crate::cells::put_cells;
 use crate::instructions::put_instructions;
 use crate::nets::put_wiring;
-use crate::text::{put, put_bits, put_code, put_shown};
+use crate::text::put_code;
 use board_plan::{Plan, PlannedDevice, PlannedNet, all_port_nets};
 use bsdl_device::Device;
 use byte_streams::{Broken, Counted, Sink, put_all};
 use chip_instructions::{instruction_of, reset_latch};
 use itoa::Buffer;
+use output_words::{put, put_bits, put_shown};
 use std::alloc::{AllocError, Global};
 
 /// Why a board was not described to its end.

@@ -3,11 +3,11 @@ use Rattle.std.specs.Prelude.{ℕ, Bool, List, [], ◌∷◌, ◌++◌, codes, d
 use Rattle.std.specs.Prelude.{unwrap_or, if◌then◌else◌}
 use Rattle.bsdl_device.specs.declared.Cell.{Cell}
 use Rattle.bsdl_device.specs.Device.{Device}
-use Rattle.pin_nets.specs.declared.Level.{Level}
-use Rattle.pin_nets.specs.declared.Level.TheVariants as levels
 use Rattle.pin_nets.specs.Wired.{Net}
 use Rattle.board_model.specs.Cells.{Member}
-use Rattle.board_description.specs.Words.{texts, function_word, net_name, port_of, user_words}
+use Rattle.output_words.specs.Levels.{level_word}
+use Rattle.output_words.specs.Texts.{texts}
+use Rattle.board_description.specs.Words.{function_word, net_name, port_of, user_words}
 use Rattle.board_reasons.specs.declared.origins.NetLevel.{NetLevel}
 use Rattle.board_reasons.specs.declared.origins.Holder.{Holder}
 use Rattle.board_reasons.specs.declared.origins.Holder.TheVariants as held
@@ -15,12 +15,6 @@ use Rattle.board_reasons.specs.declared.origins.Holder.TheVariants as held
 -- what was wanted, and what came
 abbrev pub wanted_line : (wanted : Bool) → List ℕ
 wanted_line wanted = if wanted then codes "wanted 1 got 0\n" else codes "wanted 0 got 1\n"
-
-abbrev pub level_word : Level → List ℕ
-level_word levels.Zero = codes "Zero"
-level_word levels.One = codes "One"
-level_word levels.Contend = codes "Contend"
-level_word levels.Float = codes "Float"
 
 -- a net, and its level
 abbrev pub level_words : List Net → NetLevel → List ℕ

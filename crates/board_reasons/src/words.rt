@@ -1,22 +1,8 @@
-//! The words of levels and user registers.
+//! The words of user registers.
 ghost use Rattle.std.specs.Prelude.{◌≡◌};
 ghost use Rattle.board_description.specs.Words as words;
-ghost use Rattle.board_reasons.specs.Lines as spec;
 
 use bsdl_device::{Access, Device, Place};
-use pin_nets::Level;
-
-/// The word of a level.
-pub(crate) fn level_word(level: Level) -> &'static [u8]
-    ensures { result.now ≡ spec.level_word level }
-{
-    match level {
-        Level::Zero => b"Zero",
-        Level::One => b"One",
-        Level::Contend => b"Contend",
-        Level::Float => b"Float",
-    }
-}
 
 /// The first instruction that selects a user register, nothing where none does.
 pub(crate) fn user_words(device: &Device, register: usize) -> &[u8]

@@ -1,6 +1,6 @@
 //! The lines that say why a bit of a scan failed.
 ghost use Rattle.std.specs.Prelude.{◌≡◌, [], ◌∷◌, codes, decimal, slice_get};
-ghost use Rattle.board_description.specs.Words.{texts};
+ghost use Rattle.output_words.specs.Texts.{texts};
 ghost use Rattle.byte_streams.specs.Writes.{WritesAll};
 ghost use Rattle.board_model.specs.Chain.{members};
 ghost use Rattle.board_chips.specs.WiredChips.{member_of};
@@ -10,12 +10,13 @@ ghost use Rattle.board_reasons.specs.Lines as spec;
 ghost use Rattle.board_reasons.specs.Reasons.{reason_lines};
 
 use crate::origins::{Holder, NetLevel, Reason};
-use crate::words::{level_word, user_words};
+use crate::words::user_words;
 use board_chain::{Chain, WiredChip};
 use board_description::function_word;
 use bsdl_device::{Cell, Device, PortBit};
 use byte_streams::{Broken, Counted, Sink, put_all, put_pieces};
 use itoa::Buffer;
+use output_words::level_word;
 
 /// Writes why a bit of a scan failed: what was wanted, and where the bit that came in its place had stood.
 ///

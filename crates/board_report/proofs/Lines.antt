@@ -1,4 +1,4 @@
--- A report that grows line by line, and bits that are written from the highest down.
+-- A report that grows line by line.
 use Rattle.std.proofs.Common.{◌≡◌, Bool, true, false, ℕ, zero, suc, ◌+◌, List, [], ◌∷◌, ◌++◌, take, drop, map, reverse, sym, ap, ◌∙◌, arith, refl, get_or, option_map, Option, None, Some}
 use Rattle.std.specs.Prelude.{slice_get, flat_map}
 use Rattle.std.proofs.lemmas.Option.{get_or_from_slice_get, none-some, same_Some}
@@ -12,27 +12,7 @@ use Rattle.pin_nets.specs.declared.Rule.TheVariants.{Counted}
 use Rattle.pin_nets.specs.Wired.{Net}
 use Rattle.board_model.specs.Cells.{Member}
 use Rattle.board_model.specs.Nets.{level}
-use Rattle.std.proofs.lemmas.List.{map-append, reverse-append, take-append-drop}
-use Rattle.board_report.specs.Report.{digit, digits, level_line, net_line}
-
-drop-there : (bits : List Bool) (n : ℕ) (b : Bool) → slice_get bits n ≡ Some b → drop n bits ≡ b ∷ drop (suc n) bits
-drop-there [] zero b e = absurd (cc)
-drop-there [] (suc n) b e = absurd (cc)
-drop-there (x ∷ bits) zero b e = let same : x ≡ b = cc in ap (λ v. v ∷ bits) same
-drop-there (x ∷ bits) (suc n) b e = drop-there bits n b e
-
-pub digits-more : (bits : List Bool) (n i : ℕ) (b : Bool) → i ≡ n + 1 → slice_get bits n ≡ Some b → digits (drop i bits) ++ digit b ∷ [] ≡ digits (drop n bits)
-digits-more bits n i b e there =
-    let next : i ≡ suc n = omega arith in
-    ap (λ k. digits (drop k bits) ++ digit b ∷ []) next
-    ∙ sym (ap digits (drop-there bits n b there) ∙ ap (map digit) (reverse-append (b ∷ []) (drop (suc n) bits))
-    ∙ map-append digit (reverse (drop (suc n) bits)) (b ∷ []))
-
--- the digits before a place, and those from there on
-pub digits-split : (bits : List Bool) (n : ℕ) → digits bits ≡ digits (drop n bits) ++ digits (take n bits)
-digits-split bits n =
-    ap digits (sym (take-append-drop n bits)) ∙ ap (map digit) (reverse-append (take n bits) (drop n bits))
-    ∙ map-append digit (reverse (drop n bits)) (reverse (take n bits))
+use Rattle.board_report.specs.Report.{level_line, net_line}
 
 pub nowhere : Net
 nowhere = record { name = []; pull = Free; rule = Counted; pins = [] }

@@ -1,29 +1,15 @@
 -- The report of a board: a line for each device, from the one nearest TDO on, and one for each named net.
-use Rattle.std.specs.Prelude.{Bool, true, false, ℕ, List, ◌++◌, map, reverse, flat_map, codes, Option, Some, None}
+use Rattle.std.specs.Prelude.{List, ℕ, ◌++◌, flat_map, codes, Option, Some, None}
 use Rattle.jt_tap.specs.Words.{word}
 use Rattle.bsdl_device.specs.Device.{Name}
 use Rattle.chip_instructions.specs.Instruction.{instruction}
 use Rattle.board_model.specs.Cells.{Member}
 use Rattle.pin_nets.specs.declared.Level.{Level}
-use Rattle.pin_nets.specs.declared.Level.TheVariants.{Zero, One, Contend, Float}
 use Rattle.pin_nets.specs.Wired.{Net}
+use Rattle.output_words.specs.Digits.{digits}
+use Rattle.output_words.specs.Levels.{level_word}
 use Rattle.board_model.specs.Nets.{level}
 use Rattle.board_model.specs.Chain.{BoardState, ChipState, members}
-
--- the digits `1` and `0`
-abbrev pub one_digit : ℕ
-one_digit = 49
-
-abbrev pub zero_digit : ℕ
-zero_digit = 48
-
-abbrev pub digit : Bool → ℕ
-digit true = one_digit
-digit false = zero_digit
-
--- bits as digits, the highest first
-abbrev pub digits : List Bool → List ℕ
-digits bits = map digit (reverse bits)
 
 abbrev pub name_or_dash : Option Name → List ℕ
 name_or_dash (Some name) = name
@@ -38,12 +24,6 @@ instruction_part c =
 -- a device: its name, the word of its controller's state, and its instruction
 abbrev pub device_line : ChipState → List ℕ
 device_line c = (c.member.name ++ codes " ") ++ (word c.state ++ codes " ") ++ instruction_part c
-
-abbrev pub level_word : Level → List ℕ
-level_word Zero = codes "Zero"
-level_word One = codes "One"
-level_word Contend = codes "Contend"
-level_word Float = codes "Float"
 
 abbrev pub level_line : List ℕ → Level → List ℕ
 level_line name l = (name ++ codes " ") ++ (level_word l ++ codes "\n")

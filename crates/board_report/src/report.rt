@@ -2,10 +2,9 @@
 
 ghost use Rattle.std.specs.Prelude.{◌≡◌, ◌++◌, flat_map};
 ghost use Rattle.byte_streams.specs.Writes.{WritesAll};
-ghost use Rattle.board_report.specs.Report.{device_line, digit, digits, instruction_part, level_line, net_line};
+ghost use Rattle.board_report.specs.Report.{device_line, instruction_part, level_line, net_line};
 ghost use Rattle.board_report.specs.Report as spec;
 ghost use Rattle.board_report.specs.LeftOut.{device_lines, left_out_line, name_lines};
-ghost use Rattle.board_report.specs.Report.{level_word as said_level};
 ghost use Rattle.board_model.specs.Chain.{members};
 ghost use Rattle.board_chips.specs.WiredChips.{chip_state};
 ghost use Rattle.chip_instructions.specs.Instruction.{instruction};
@@ -13,7 +12,7 @@ ghost use Rattle.chip_instructions.specs.Instruction.{instruction};
 use board_chain::{Chain, WiredChip};
 use board_plan::is_left_out;
 use byte_streams::{Broken, Counted, Sink, put_all};
-use jt_bits::Bits;
+use output_words::{level_word, write_bits};
 use pin_nets::Level;
 
 /// Writes a line for each instruction of a chain's devices that has an opcode but no meaning of its own here, and so
@@ -108,18 +107,6 @@ fn write_level<W: Sink>(name: &str, level: Level, out: &mut Counted<W>) -> Resul
     write_field(level_word(level), b"\n", out)
 }
 
-/// The word of a level.
-fn level_word(level: Level) -> &'static [u8]
-    ensures { result.now ≡ said_level level }
-{
-    match level {
-        Level::Zero => b"Zero",
-        Level::One => b"One",
-        Level::Contend => b"Contend",
-        Level::Float => b"Float",
-    }
-}
-
 /// Writes the line of one device.
 #[tactic(auto, using(byte_streams::proofs::Fronts::fronts))]
 fn write_device<W: Sink>(chip: &WiredChip, out: &mut Counted<W>) -> Result<(), Broken>
@@ -160,24 +147,4 @@ fn write_field<W: Sink>(field: &[u8], end: &[u8], out: &mut Counted<W>) -> Resul
 {
     put_all(out, field)?;
     put_all(out, end)
-}
-
-/// Writes bits as digits, the highest first.
-fn write_bits<W: Sink>(bits: &Bits, out: &mut Counted<W>) -> Result<(), Broken>
-    requires { out.old.failures ≡ 0 }
-    ensures { WritesAll W.contents out.old out.new (digits bits.now) result }
-{
-    let mut i = bits.len();
-    while i > 0 {
-        i -= 1;
-        put_all(out, &[digit_of(bits.get(i))])?;
-    }
-    Ok(())
-}
-
-/// The digit of a bit.
-fn digit_of(bit: bool) -> u8
-    ensures { result ≡ digit bit }
-{
-    if bit { b'1' } else { b'0' }
 }

@@ -12,8 +12,8 @@ use Rattle.bsdl_device.specs.Ports as found
 use Rattle.bsdl_text.specs.Words.{upper}
 use Rattle.bsdl_text.proofs.NameLaws.{names_match_in_any_case}
 use Rattle.bsdl_values.specs.CellRows.{PortName}
-use Rattle.bsdl_ports.specs.Ports.{Port, Range}
-use Rattle.bsdl_ports.specs.PortBits as declared
+use Rattle.bsdl_entity.specs.Ports.{Port, Range}
+use Rattle.bsdl_entity.specs.PortBits as declared
 use Rattle.bsdl_lookup.specs.PortNumbers as port_numbers
 use Rattle.bsdl_text.specs.Words.{is_among}
 use Rattle.bsdl_build.specs.Boundary.{port_bits}

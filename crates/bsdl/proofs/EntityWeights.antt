@@ -13,10 +13,10 @@ use Rattle.bsdl_values.specs.declared.Attribute.TheVariants.{TapScanIn, TapScanO
 use Rattle.bsdl_values.specs.declared.values.Language.{Language}
 use Rattle.bsdl_values.specs.declared.values.Language.TheVariants.{Opcodes, Capture, Cells, Codes, PrivateNames, Accesses}
 use Rattle.bsdl_entity.specs.Attributes.{attribute_of}
-use Rattle.bsdl_ports.specs.Keywords.{is_rising, is_vector, mode_of, this_word}
+use Rattle.bsdl_entity.specs.Keywords.{is_rising, is_vector, mode_of, this_word}
 use Rattle.bsdl_values.specs.Keywords.{truth_of}
-use Rattle.bsdl_ports.specs.Scalars.{is_scalar}
-use Rattle.bsdl_ports.specs.Ports.{Port, Range, concat, in_order, kind_of_port, ordered, port_group, ports, range, upto}
+use Rattle.bsdl_entity.specs.Scalars.{is_scalar}
+use Rattle.bsdl_entity.specs.Ports.{Port, Range, concat, in_order, kind_of_port, ordered, port_group, ports, range, upto}
 use Rattle.bsdl_values.specs.Values.{Value, absent, accesses_value, cells_value, codes_value, count, first_start, length_value, names_value, opcodes_value, pattern_value, port, quoted, text_in, truth, value_of}
 use Rattle.bsdl_values.specs.Passing.{brackets, past_closing, past_semi}
 use Rattle.bsdl_entity.specs.Entity.{File, Given, and_given, any_word, attribute, attribute_form, attribute_item, end_of_text, ending, file, generic, heading, is_tap, item, items, nothing, owner, owner_clause, with_value, value_behind}

@@ -12,13 +12,13 @@ use Rattle.bsdl_device.specs.Device.{Device, Name, Pattern, PortBit}
 use Rattle.bsdl_text.specs.Words.{upper}
 use Rattle.bsdl_values.specs.InstructionValues.{OpcodeRow}
 use Rattle.bsdl_text.specs.Words.{is_among}
-use Rattle.bsdl_ports.specs.Ports.{Port, Range}
+use Rattle.bsdl_entity.specs.Ports.{Port, Range}
 use Rattle.bsdl_entity.specs.Entity.{File}
 use Rattle.bsdl_description.specs.Describing.{Description, Refusal, bad_length, described, ◌>>?◌}
 use Rattle.bsdl_rules.specs.Fits.{rows_numbered}
 use Rattle.bsdl_rules.specs.Lengths.{codes_fit, has_bits, has_len, instructions_fit, lengths_fit}
 use Rattle.bsdl_rules.specs.Limits.{cells_within, instructions_within, ports_within, users_within}
-use Rattle.bsdl_ports.specs.PortBits.{highest, width}
+use Rattle.bsdl_entity.specs.PortBits.{highest, width}
 use Rattle.bsdl_opcodes.specs.Users.{users_of}
 use Rattle.bsdl_opcodes.specs.ResetOpcode.{opcode}
 use Rattle.bsdl_rules.specs.Twice.{given_again}

@@ -7,9 +7,9 @@ use Rattle.bsdl_device.specs.declared.PortMode.{PortMode}
 use Rattle.bsdl_text.specs.Cutting.{Lexeme, bad_place, cuts_of, tokens}
 use Rattle.bsdl_text.specs.Marks.{closing, colon, comma, opening, semi}
 use Rattle.bsdl_text.specs.Reading.{Read, fits, misfit, ◌>>=◌, further, joined_by, keyword, mark, number, refused_at, separated, stands, word}
-use Rattle.bsdl_ports.specs.Keywords.{is_rising, is_vector, mode_of, this_word}
-use Rattle.bsdl_ports.specs.Scalars.{is_scalar}
-use Rattle.bsdl_ports.specs.Ports.{Port, Range, concat, kind_of_port, ordered, port_group, ports, range, upto}
+use Rattle.bsdl_entity.specs.Keywords.{is_rising, is_vector, mode_of, this_word}
+use Rattle.bsdl_entity.specs.Scalars.{is_scalar}
+use Rattle.bsdl_entity.specs.Ports.{Port, Range, concat, kind_of_port, ordered, port_group, ports, range, upto}
 use Rattle.bsdl_values.specs.declared.Attribute.{Attribute}
 use Rattle.bsdl_values.specs.declared.Attribute.TheVariants.{InstructionLength, BoundaryLength, InstructionOpcode, InstructionCapture, BoundaryRegister}
 use Rattle.bsdl_entity.specs.Entity.{File, ending, file, heading, items}

@@ -8,7 +8,7 @@ use Rattle.bsdl_device.specs.declared.Place.{Place}
 use Rattle.bsdl_text.specs.Cutting.{Lexeme, bad_place, cuts_of, tokens}
 use Rattle.bsdl_text.specs.Reading.{Read, fits, misfit}
 use Rattle.bsdl_text.specs.Words.{upper}
-use Rattle.bsdl_ports.specs.Ports.{Port, Range}
+use Rattle.bsdl_entity.specs.Ports.{Port, Range}
 use Rattle.bsdl_values.specs.InstructionValues.{AccessRow, Instr, OpcodeRow}
 use Rattle.bsdl_values.specs.declared.Attribute.{Attribute}
 use Rattle.bsdl_values.specs.declared.Attribute.TheVariants.{InstructionLength, BoundaryLength, InstructionOpcode, InstructionCapture, BoundaryRegister, InstructionPrivate, RegisterAccess}

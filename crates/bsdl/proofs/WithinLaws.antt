@@ -9,13 +9,13 @@ use Rattle.jt_limits.specs.Limits.{IsAtMost, subscript_limit}
 use Rattle.bsdl_text.specs.Cutting.{tokens, bad_place, cuts_of}
 use Rattle.bsdl_device.specs.Device.{Device, Name}
 use Rattle.bsdl_entity.specs.Entity.{File}
-use Rattle.bsdl_ports.specs.Ports.{Port}
+use Rattle.bsdl_entity.specs.Ports.{Port}
 use Rattle.bsdl_description.specs.Describing.{Description, Refusal, described, bad_capture, bad_cell, bad_id, bad_length, too_large, ◌>>?◌}
 use Rattle.bsdl_build.specs.Built.{device}
 use Rattle.bsdl_rules.specs.Fits.{unfit_cell}
 use Rattle.bsdl_rules.specs.Lengths.{captures_one, ends_in_one, lengths_fit}
 use Rattle.bsdl_rules.specs.Limits.{instructions_fit, cells_fit, port_bits_fit, users_fit, keeps}
-use Rattle.bsdl_ports.specs.PortBits.{highest, width}
+use Rattle.bsdl_entity.specs.PortBits.{highest, width}
 use Rattle.bsdl_opcodes.specs.Users.{users_of}
 use Rattle.bsdl_rules.specs.Twice.{given_again}
 use Rattle.bsdl.specs.Form.{tokens_form, text_form_within}

@@ -5,7 +5,7 @@ use Rattle.bsdl_text.specs.Words.{upper}
 use Rattle.bsdl_device.specs.Device.{Device, Name}
 use Rattle.bsdl_device.specs.Ports as found
 use Rattle.bsdl_device.specs.Sound.{IsSoundDevice}
-use Rattle.bsdl_ports.specs.Ports.{Port}
+use Rattle.bsdl_entity.specs.Ports.{Port}
 use Rattle.bsdl_lookup.specs.PortNumbers as port_numbers
 use Rattle.bsdl_description.specs.Describing.{Description}
 use Rattle.bsdl_build.specs.Boundary.{port_bits}

@@ -3,8 +3,8 @@ use Rattle.std.proofs.Common.{◌≡◌, ◌≤◌, ℕ, suc, ◌+◌, ◌-◌, 
 use Rattle.std.specs.Prelude.{Option, Some, None, option_map, option_and_then, unwrap_or, slice_get, bytes_eq}
 use Rattle.bsdl_text.specs.Words.{upper}
 use Rattle.bsdl_values.specs.CellRows.{PortName}
-use Rattle.bsdl_ports.specs.Ports.{Port, Range}
-use Rattle.bsdl_ports.specs.PortBits.{bit_at, width}
+use Rattle.bsdl_entity.specs.Ports.{Port, Range}
+use Rattle.bsdl_entity.specs.PortBits.{bit_at, width}
 use Rattle.bsdl_lookup.specs.PortNumbers.{bit_number}
 use Rattle.bsdl_lookup.specs.NamedPorts.{find_port}
 use Rattle.bsdl_build.specs.Bits.{firsts}

@@ -1,7 +1,7 @@
 -- The numbers of port bits.
 use Rattle.std.specs.Prelude.{ℕ, ◌+◌, List, [], ◌∷◌, Option, Some, None, unwrap_or}
-use Rattle.bsdl_ports.specs.Ports.{Port}
-use Rattle.bsdl_ports.specs.PortBits.{width}
+use Rattle.bsdl_entity.specs.Ports.{Port}
+use Rattle.bsdl_entity.specs.PortBits.{width}
 
 -- the number of the first bit of each port, behind m others
 abbrev pub firsts : ℕ → List Port → List ℕ

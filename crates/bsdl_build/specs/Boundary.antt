@@ -9,7 +9,7 @@ use Rattle.bsdl_device.specs.Driving.{drives}
 use Rattle.bsdl_device.specs.Ports.{bits_of}
 use Rattle.bsdl_device.specs.declared.Cell.{Cell}
 use Rattle.bsdl_values.specs.CellRows.{CellRow}
-use Rattle.bsdl_ports.specs.Ports.{Port}
+use Rattle.bsdl_entity.specs.Ports.{Port}
 use Rattle.bsdl_lookup.specs.PortNumbers.{bit_number}
 use Rattle.bsdl_text.specs.Words.{is_among}
 

@@ -2,10 +2,10 @@
 ghost use Rattle.std.specs.Prelude.{◌≡◌, ◌+◌, ◌++◌, ◌∷◌, [], List, Some, option_map, unwrap_or};
 ghost use Rattle.std.specs.Prelude.{slice_get, IfOk, OnOk};
 ghost use Rattle.bsdl_text.specs.NumberView.{value};
-ghost use Rattle.bsdl_ports.specs.Ports as port_list;
-ghost use Rattle.bsdl_ports.specs.View as ports_view;
+ghost use Rattle.bsdl_entity.specs.Ports as port_list;
+ghost use Rattle.bsdl_entity.specs.PortsView as ports_view;
 ghost use Rattle.bsdl_lookup.specs.View.{numbered_port as port_view};
-ghost use Rattle.bsdl_ports.specs.PortBits.{bit_at, width};
+ghost use Rattle.bsdl_entity.specs.PortBits.{bit_at, width};
 ghost use Rattle.bsdl_build.specs.Bits.{firsts};
 
 use crate::ports::size_of;

@@ -6,7 +6,7 @@ ghost use Rattle.std.specs.List.{flat_map, range_with_len};
 ghost use Rattle.std.specs.Ordering.{nat_cmp};
 ghost use Rattle.bsdl_text.specs.NumberView.{value};
 ghost use Rattle.bsdl_values.specs.CellView as cells_view;
-ghost use Rattle.bsdl_ports.specs.Ports as port_list;
+ghost use Rattle.bsdl_entity.specs.Ports as port_list;
 ghost use Rattle.bsdl_device.specs.Driving.{drives as is_driver};
 ghost use Rattle.bsdl_lookup.specs.Keyed.{AreKeyed};
 ghost use Rattle.bsdl_lookup.specs.PortNumbers.{bit_number};

@@ -5,7 +5,7 @@ ghost use Rattle.bsdl_device.specs.View.{pair};
 ghost use Rattle.bsdl_device.specs.Ports.{bits_of};
 ghost use Rattle.bsdl_text.specs.Words.{upper};
 ghost use Rattle.bsdl_text.specs.NumberView.{value};
-ghost use Rattle.bsdl_ports.specs.View as ports_view;
+ghost use Rattle.bsdl_entity.specs.PortsView as ports_view;
 ghost use Rattle.bsdl_text.specs.Words.{is_among};
 ghost use Rattle.bsdl_description.specs.View.{taps as taps_view};
 ghost use Rattle.bsdl_build.specs.Boundary as spec;

@@ -13,7 +13,7 @@ use Rattle.bsdl_values.specs.InstructionValues.{OpcodeRow, AccessRow}
 use Rattle.bsdl_opcodes.specs.Own.{is_own, own_accesses}
 use Rattle.bsdl_values.specs.CellRows.{CellRow}
 use Rattle.bsdl_values.specs.Values.{Value}
-use Rattle.bsdl_ports.specs.Ports.{Port}
+use Rattle.bsdl_entity.specs.Ports.{Port}
 use Rattle.bsdl_entity.specs.Entity.{File, Given}
 use Rattle.bsdl_description.specs.FirstValues.{value_given, as_port, as_count, as_pattern, as_codes, as_names}
 use Rattle.bsdl_description.specs.FirstValues.{as_opcodes}

@@ -11,7 +11,7 @@ use Rattle.bsdl_entity.specs.declared.entity.Outline.{Outline}
 use Rattle.bsdl_entity.specs.Entity.{File}
 use Rattle.bsdl_entity.specs.GivenView.{first_unsaid, given}
 use Rattle.bsdl_entity.specs.OutlineView.{outline}
-use Rattle.bsdl_ports.specs.View.{ports}
+use Rattle.bsdl_entity.specs.PortsView.{ports}
 use Rattle.bsdl_description.specs.declared.description.Taps.{Taps}
 use Rattle.bsdl_description.specs.declared.description.Description as declared_description
 use Rattle.bsdl_description.specs.declared.description.Unfit.{Unfit}

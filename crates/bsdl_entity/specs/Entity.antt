@@ -8,9 +8,9 @@ use Rattle.bsdl_text.specs.Reading.{Read, fits, misfit, ◌>>=◌, refused_at, w
 use Rattle.bsdl_text.specs.Marks.{semi, colon}
 use Rattle.bsdl_device.specs.Device.{Name}
 use Rattle.bsdl_values.specs.InstructionValues.{begins}
-use Rattle.bsdl_ports.specs.Keywords.{this_word}
-use Rattle.bsdl_ports.specs.Scalars.{is_scalar}
-use Rattle.bsdl_ports.specs.Ports.{Port, ports}
+use Rattle.bsdl_entity.specs.Keywords.{this_word}
+use Rattle.bsdl_entity.specs.Scalars.{is_scalar}
+use Rattle.bsdl_entity.specs.Ports.{Port, ports}
 use Rattle.bsdl_values.specs.declared.Attribute.{Attribute}
 use Rattle.bsdl_values.specs.declared.Attribute.TheVariants.{TapScanIn, TapScanOut, TapScanMode, TapScanClock}
 use Rattle.bsdl_values.specs.declared.Attribute.TheVariants.{TapScanReset}

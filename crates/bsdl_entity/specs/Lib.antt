@@ -1,5 +1,10 @@
 pub mod Attributes
 pub mod Entity
 pub mod GivenView
+pub mod Keywords
 pub mod OutlineView
+pub mod PortBits
+pub mod Ports
+pub mod PortsView
+pub mod Scalars
 pub mod Stopping

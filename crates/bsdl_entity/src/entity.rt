@@ -7,13 +7,13 @@ ghost use Rattle.bsdl_entity.specs.Entity as spec;
 ghost use Rattle.bsdl_text.specs.Reading.{fits};
 ghost use Rattle.bsdl_entity.specs.GivenView.{first_unsaid, given};
 ghost use Rattle.bsdl_entity.specs.OutlineView.{outline};
-ghost use Rattle.bsdl_ports.specs.Scalars.{is_scalar};
-ghost use Rattle.bsdl_ports.specs.View.{ports};
+ghost use Rattle.bsdl_entity.specs.Scalars.{is_scalar};
+ghost use Rattle.bsdl_entity.specs.PortsView.{ports};
 
 use crate::items::{Given, behind_word, items};
 use crate::keywords::{END, ENTITY, IS};
+use crate::ports::{Group, read_ports};
 use crate::stops::behind_given;
-use bsdl_ports::ports::{Group, read_ports};
 use bsdl_text::reading::{Stop, keyword, mark, word};
 use bsdl_text::{Kind, Lexer};
 use bsdl_values::passing::brackets;

@@ -9,13 +9,13 @@ ghost use Rattle.bsdl_text.specs.Words.{upper};
 ghost use Rattle.bsdl_values.specs.View.{Writes, unsaid, written};
 ghost use Rattle.bsdl_entity.specs.Entity as spec;
 ghost use Rattle.bsdl_entity.specs.GivenView as given_view;
-ghost use Rattle.bsdl_ports.specs.Scalars.{is_scalar};
-ghost use Rattle.bsdl_ports.specs.View.{ports};
+ghost use Rattle.bsdl_entity.specs.Scalars.{is_scalar};
+ghost use Rattle.bsdl_entity.specs.PortsView.{ports};
 
+use crate::asking::Scalars;
 use crate::keywords::{ATTRIBUTE, ATTRIBUTES, IS, OF};
+use crate::ports::Group;
 use crate::stops::{behind_given, behind_value};
-use bsdl_ports::asking::Scalars;
-use bsdl_ports::ports::Group;
 use bsdl_text::Lexer;
 use bsdl_text::names::Word;
 use bsdl_text::reading::{Stop, keyword, mark, same_name, stands_for, word};

@@ -8,9 +8,9 @@ use Rattle.bsdl_text.specs.Cutting.{Lexeme, tokens}
 use Rattle.bsdl_text.specs.Marks.{semi}
 use Rattle.bsdl_text.specs.Reading.{Read, fits, misfit, ◌>>=◌, word, mark, is_word_kind}
 use Rattle.bsdl_values.specs.InstructionValues.{begins}
-use Rattle.bsdl_ports.specs.Keywords.{this_word}
-use Rattle.bsdl_ports.specs.Ports.{Port, ports}
-use Rattle.bsdl_ports.specs.Scalars.{is_scalar}
+use Rattle.bsdl_entity.specs.Keywords.{this_word}
+use Rattle.bsdl_entity.specs.Ports.{Port, ports}
+use Rattle.bsdl_entity.specs.Scalars.{is_scalar}
 use Rattle.bsdl_values.specs.Passing.{brackets}
 use Rattle.bsdl_entity.specs.Entity.{Given, items, File, generic, any_word, end_of_text, ending, heading, file}
 use Rattle.bsdl_grammar.specs.Lists.{IsMark, IsWord, IsToken, Spells}

@@ -8,7 +8,7 @@ use Rattle.bsdl_text.specs.Words.{upper, same_name}
 use Rattle.bsdl_text.specs.Marks.{semi, colon}
 use Rattle.bsdl_text.specs.Reading.{Read, fits, ◌>>=◌, refused_at, word, mark}
 use Rattle.bsdl_values.specs.InstructionValues.{begins}
-use Rattle.bsdl_ports.specs.Keywords.{this_word}
+use Rattle.bsdl_entity.specs.Keywords.{this_word}
 use Rattle.bsdl_values.specs.declared.Attribute.{Attribute}
 use Rattle.bsdl_values.specs.Passing.{past_semi}
 use Rattle.bsdl_values.specs.Values.{Value, value_of}

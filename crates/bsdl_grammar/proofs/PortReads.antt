@@ -7,8 +7,8 @@ use Rattle.bsdl_text.specs.Cutting.{Lexeme}
 use Rattle.bsdl_text.specs.Marks.{comma, opening, closing, semi, colon}
 use Rattle.bsdl_text.specs.Reading.{Read, fits, ◌>>=◌, word, mark, stands, is_mark_of, keyword, number, whole_number, joined_by, separated}
 use Rattle.bsdl_device.specs.declared.PortMode.{PortMode}
-use Rattle.bsdl_ports.specs.Keywords.{this_word, mode_of, is_vector, is_rising}
-use Rattle.bsdl_ports.specs.Ports.{Range, Port, in_order, ordered, upto, range, kind_of_port, port_group, concat, ports}
+use Rattle.bsdl_entity.specs.Keywords.{this_word, mode_of, is_vector, is_rising}
+use Rattle.bsdl_entity.specs.Ports.{Range, Port, in_order, ordered, upto, range, kind_of_port, port_group, concat, ports}
 use Rattle.bsdl_grammar.specs.Lists.{IsMark, IsWord, StandsFor, IsToken, IsOneWord, IsChain}
 use Rattle.bsdl_grammar.specs.Ports.{first_of, second_of, IsRange, IsKind, IsGroup, IsPorts}
 use Rattle.bsdl_grammar.proofs.Steps.{Found, Finds, Reads, AreTokens, Anything, bound, same_read, joined_split, front_tokens, back_tokens, mark_found, mark_is, is_mark, word_found, word_read, keyword_found, this_found}

@@ -9,7 +9,7 @@ use Rattle.bsdl_device.specs.Device.{Device}
 use Rattle.bsdl_values.specs.InstructionValues.{rows, pattern, opcode_row, private_name, access_row}
 use Rattle.bsdl_values.specs.CellRows.{cell_row}
 use Rattle.bsdl_values.specs.Values.{value_of}
-use Rattle.bsdl_ports.specs.Ports.{ports}
+use Rattle.bsdl_entity.specs.Ports.{ports}
 use Rattle.bsdl_entity.specs.Entity.{File, file}
 use Rattle.bsdl_description.specs.Describing.{Refusal, too_large, ◌>>?◌}
 use Rattle.bsdl.specs.Form.{read_form, tokens_form, text_limit, text_form}

@@ -8,7 +8,7 @@ use Rattle.bsdl_text.specs.declared.tokens.Kind.TheVariants as kind
 use Rattle.bsdl_text.specs.Cutting.{Lexeme}
 use Rattle.bsdl_text.specs.Words.{same_name}
 use Rattle.bsdl_text.specs.Reading.{Read, fits, misfit, ◌>>=◌, one, word, string, mark, is_mark_of, is_word_kind, is_text_kind, meant, keyword}
-use Rattle.bsdl_ports.specs.Keywords.{is_word, this_word}
+use Rattle.bsdl_entity.specs.Keywords.{is_word, this_word}
 use Rattle.bsdl_grammar.specs.Lists.{IsMark, IsWord, Spells, StandsFor, IsToken}
 
 -- ---- what a reader finds, and what it reads

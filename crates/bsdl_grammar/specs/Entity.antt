@@ -4,7 +4,7 @@ use Rattle.std.specs.List.{AllByRecursion}
 use Rattle.bsdl_text.specs.Cutting.{Lexeme}
 use Rattle.bsdl_text.specs.Words.{upper}
 use Rattle.bsdl_text.specs.Marks.{semi, colon}
-use Rattle.bsdl_ports.specs.Scalars.{is_scalar}
+use Rattle.bsdl_entity.specs.Scalars.{is_scalar}
 use Rattle.bsdl_values.specs.declared.Attribute.{Attribute}
 use Rattle.bsdl_values.specs.Values.{Value}
 use Rattle.bsdl_entity.specs.Attributes.{attribute_of}

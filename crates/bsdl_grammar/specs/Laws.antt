@@ -6,7 +6,7 @@ use Rattle.bsdl_text.specs.Reading.{Read, fits, quoted_value}
 use Rattle.bsdl_device.specs.Device.{Name, Device}
 use Rattle.bsdl_values.specs.InstructionValues.{rows, pattern, opcode_row, private_name, access_row}
 use Rattle.bsdl_values.specs.CellRows.{cell_row}
-use Rattle.bsdl_ports.specs.Ports.{ports}
+use Rattle.bsdl_entity.specs.Ports.{ports}
 use Rattle.bsdl_values.specs.declared.Attribute.{Attribute}
 use Rattle.bsdl_values.specs.Values.{value_of}
 use Rattle.bsdl_entity.specs.Entity.{File, file}

@@ -4,8 +4,8 @@ use Rattle.bsdl_text.specs.Cutting.{Lexeme}
 use Rattle.bsdl_text.specs.Marks.{comma, opening, closing, semi, colon}
 use Rattle.bsdl_text.specs.Reading.{whole_number}
 use Rattle.bsdl_device.specs.declared.PortMode.{PortMode}
-use Rattle.bsdl_ports.specs.Keywords.{mode_of, is_vector, is_rising}
-use Rattle.bsdl_ports.specs.Ports.{Range, Port, concat}
+use Rattle.bsdl_entity.specs.Keywords.{mode_of, is_vector, is_rising}
+use Rattle.bsdl_entity.specs.Ports.{Range, Port, concat}
 use Rattle.bsdl_grammar.specs.Lists.{IsMark, Spells, StandsFor, IsOneWord, IsChain, IsList}
 
 -- the first number of a range and the second one: it rises by `to` and falls by `downto`

@@ -11,7 +11,7 @@ use Rattle.std.proofs.lemmas.Slice.Eq.{bytes_eq-Decides}
 use Rattle.jt_limits.specs.Limits.{subscript_limit}
 use Rattle.bsdl_text.proofs.SpellingLaws.{one_spelling}
 use Rattle.bsdl_values.specs.CellRows.{CellRow, PortName}
-use Rattle.bsdl_ports.specs.Ports.{Port}
+use Rattle.bsdl_entity.specs.Ports.{Port}
 use Rattle.bsdl_lookup.specs.declared.port_index.PortIndex.{PortIndex}
 use Rattle.bsdl_lookup.specs.Drivers.{drives_below, is_below, same_bit}
 use Rattle.bsdl_device.specs.Driving.{drives}

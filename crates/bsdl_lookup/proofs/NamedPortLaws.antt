@@ -3,9 +3,9 @@ use Rattle.std.proofs.Common.{◌≡◌, ℕ, suc, ◌+◌, Bool, true, false, L
 use Rattle.std.specs.Option.{option_or}
 use Rattle.std.specs.Prelude.{Option, Some, None, is_some, option_map, bytes_eq}
 use Rattle.bsdl_text.specs.Words.{upper}
-use Rattle.bsdl_ports.specs.declared.ports.Group.{Group}
-use Rattle.bsdl_ports.specs.Ports.{Port, Range}
-use Rattle.bsdl_ports.specs.View as view
+use Rattle.bsdl_entity.specs.declared.ports.Group.{Group}
+use Rattle.bsdl_entity.specs.Ports.{Port, Range}
+use Rattle.bsdl_entity.specs.PortsView as view
 use Rattle.bsdl_lookup.specs.NamedPorts.{at_name, find_port}
 
 pub or_none : {A : Type 0} (o : Option A) → option_or o None ≡ o

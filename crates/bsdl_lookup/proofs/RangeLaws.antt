@@ -1,9 +1,9 @@
 -- The ranges of groups, found by their places.
 use Rattle.std.proofs.Common.{◌≡◌, ℕ, List, Option, Some, None, map, option_map, option_and_then, slice_get, refl, sym, ap, ◌∙◌}
 use Rattle.std.proofs.lemmas.Option.{slice_get-map}
-use Rattle.bsdl_ports.specs.View.{range}
-use Rattle.bsdl_ports.specs.declared.ports.Group.{Group}
-use Rattle.bsdl_ports.specs.declared.ports.Range as declared_range
+use Rattle.bsdl_entity.specs.PortsView.{range}
+use Rattle.bsdl_entity.specs.declared.ports.Group.{Group}
+use Rattle.bsdl_entity.specs.declared.ports.Range as declared_range
 use Rattle.bsdl_lookup.specs.Keyed.{range_at}
 
 flat : {A B : Type 0} (f : A → Option B) (o : Option A) → option_and_then f o ≡ option_and_then (λ x. x) (option_map f o)

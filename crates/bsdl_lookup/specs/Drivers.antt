@@ -5,7 +5,7 @@ use Rattle.std.specs.Ordering.{nat_cmp, ordering_then}
 use Rattle.std.specs.Cmp.Lexicographic.{slice_cmp}
 use Rattle.bsdl_device.specs.Driving.{drives}
 use Rattle.bsdl_values.specs.CellRows.{CellRow}
-use Rattle.bsdl_ports.specs.Ports.{Port}
+use Rattle.bsdl_entity.specs.Ports.{Port}
 use Rattle.bsdl_lookup.specs.declared.drivers.Drivers as declared_drivers
 use Rattle.bsdl_lookup.specs.declared.port_index.PortIndex.{PortIndex}
 use Rattle.bsdl_lookup.specs.NamedPorts.{same_port_index, port_index_of}

@@ -2,9 +2,9 @@
 use Rattle.std.specs.Prelude.{◌≡◌, ℕ, List, Option, option_map, option_and_then, slice_get}
 use Rattle.std.specs.BTreeMap.{get}
 use Rattle.name_keys.specs.Keys.{key_order}
-use Rattle.bsdl_ports.specs.Ports.{Range, Port}
-use Rattle.bsdl_ports.specs.View.{range}
-use Rattle.bsdl_ports.specs.declared.ports.Range as declared_range
+use Rattle.bsdl_entity.specs.Ports.{Range, Port}
+use Rattle.bsdl_entity.specs.PortsView.{range}
+use Rattle.bsdl_entity.specs.declared.ports.Range as declared_range
 use Rattle.bsdl_lookup.specs.declared.keyed_ports.GroupedPort as declared_grouped_port
 use Rattle.bsdl_lookup.specs.declared.keyed_ports.KeyedPorts as declared_keyed_ports
 use Rattle.bsdl_lookup.specs.NamedPorts.{find_port}

@@ -3,8 +3,8 @@ use Rattle.std.specs.Prelude.{ℕ, suc, ◌==◌, Bool, false, ◌&&◌, if◌th
 use Rattle.std.specs.Prelude.{option_map, option_and_then, unwrap_or, bytes_eq}
 use Rattle.bsdl_text.specs.Words.{upper}
 use Rattle.bsdl_values.specs.CellRows.{PortName}
-use Rattle.bsdl_ports.specs.Ports.{Range, Port}
-use Rattle.bsdl_ports.specs.PortBits.{bit_at}
+use Rattle.bsdl_entity.specs.Ports.{Range, Port}
+use Rattle.bsdl_entity.specs.PortBits.{bit_at}
 
 -- the first port of a name, in upper case, behind n others, with its range
 abbrev pub find_port : ℕ → List Port → List ℕ → Option (ℕ × Option Range)

@@ -3,8 +3,8 @@ use Rattle.std.specs.Prelude.{ℕ, ◌+◌, ◌-◌, if◌then◌else◌, List, 
 use Rattle.std.specs.Prelude.{bytes_eq}
 use Rattle.bsdl_text.specs.Words.{upper}
 use Rattle.bsdl_values.specs.CellRows.{PortName}
-use Rattle.bsdl_ports.specs.Ports.{Port}
-use Rattle.bsdl_ports.specs.PortBits.{width, bit_at}
+use Rattle.bsdl_entity.specs.Ports.{Port}
+use Rattle.bsdl_entity.specs.PortBits.{width, bit_at}
 
 -- the number of the port bit of this name, behind n others
 abbrev pub bit_number : ℕ → List Port → PortName → Option ℕ

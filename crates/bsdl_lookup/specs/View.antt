@@ -1,8 +1,8 @@
 -- What the ports and port bits of the code stand for.
 use Rattle.std.specs.Prelude.{ℕ, Option, option_map}
 use Rattle.bsdl_text.specs.NumberView.{value}
-use Rattle.bsdl_ports.specs.Ports.{Range}
-use Rattle.bsdl_ports.specs.View.{range}
+use Rattle.bsdl_entity.specs.Ports.{Range}
+use Rattle.bsdl_entity.specs.PortsView.{range}
 use Rattle.bsdl_lookup.specs.declared.numbered_ports.NumberedPort as declared_numbered_port
 use Rattle.bsdl_lookup.specs.declared.port_index.PortIndex as declared_port_index
 

@@ -4,7 +4,7 @@ ghost use Rattle.std.specs.List.{list_any};
 ghost use Rattle.jt_limits.specs.Limits.{subscript_limit};
 ghost use Rattle.bsdl_values.specs.CellRows as rows;
 ghost use Rattle.bsdl_values.specs.CellView.{cell_row};
-ghost use Rattle.bsdl_ports.specs.Ports as port_list;
+ghost use Rattle.bsdl_entity.specs.Ports as port_list;
 ghost use Rattle.bsdl_lookup.specs.declared.port_index.PortIndex as declared_port_index;
 ghost use Rattle.bsdl_lookup.specs.Drivers.{drives_below, driver_at, is_below, same_bit};
 ghost use Rattle.bsdl_lookup.specs.Keyed.{AreKeyed};

@@ -2,7 +2,7 @@
 ghost use Rattle.std.specs.Prelude.{◌≡◌, Some, option_map};
 ghost use Rattle.bsdl_text.specs.NumberView.{value};
 ghost use Rattle.bsdl_text.specs.Numbers.{significant};
-ghost use Rattle.bsdl_ports.specs.View as ports_view;
+ghost use Rattle.bsdl_entity.specs.PortsView as ports_view;
 ghost use Rattle.bsdl_lookup.specs.NamedPorts as spec;
 ghost use Rattle.bsdl_lookup.specs.View.{numbered_port as port_view, port_index};
 

@@ -5,8 +5,8 @@ use Rattle.std.specs.List.{list_any}
 use Rattle.std.proofs.lemmas.Bool.Decides.{nat_tests}
 use Rattle.bsdl_text.specs.Words.{upper}
 use Rattle.bsdl_values.specs.CellRows.{CellRow, PortName}
-use Rattle.bsdl_ports.specs.Ports.{Port, Range}
-use Rattle.bsdl_ports.specs.PortBits.{bit_at, width}
+use Rattle.bsdl_entity.specs.Ports.{Port, Range}
+use Rattle.bsdl_entity.specs.PortBits.{bit_at, width}
 use Rattle.bsdl_lookup.specs.PortNumbers.{bit_number}
 use Rattle.bsdl_description.specs.Describing.{Description}
 use Rattle.bsdl_text.specs.Words.{is_among}

@@ -9,14 +9,14 @@ use Rattle.std.proofs.lemmas.List.Sums.{sum_by-append, sum_by-cons}
 use Rattle.bsdl_device.specs.declared.PortMode.{PortMode}
 use Rattle.bsdl_text.specs.WordView.{word_lexeme}
 use Rattle.bsdl_text.specs.declared.names.Word.{Word}
-use Rattle.bsdl_ports.specs.declared.ports.Range as declared_range
-use Rattle.bsdl_ports.specs.declared.ports.Group.{Group}
-use Rattle.bsdl_ports.specs.Ports.{Port, Range}
-use Rattle.bsdl_ports.specs.View as view
+use Rattle.bsdl_entity.specs.declared.ports.Range as declared_range
+use Rattle.bsdl_entity.specs.declared.ports.Group.{Group}
+use Rattle.bsdl_entity.specs.Ports.{Port, Range}
+use Rattle.bsdl_entity.specs.PortsView as view
 use Rattle.jt_limits.specs.Limits.{limits, subscript_limit}
-use Rattle.bsdl_ports.specs.PortBits.{highest, width}
+use Rattle.bsdl_entity.specs.PortBits.{highest, width}
 use Rattle.bsdl_rules.specs.Widths.{capped_width}
-use Rattle.bsdl_ports.proofs.PortsNamed.{ports_named}
+use Rattle.bsdl_entity.proofs.PortsNamed.{ports_named}
 
 abbrev pub total : List Port → ℕ
 total ps = sum_by (λ p. capped_width p.range) ps

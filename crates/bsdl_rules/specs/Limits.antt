@@ -3,9 +3,9 @@ use Rattle.std.specs.Prelude.{ℕ, nat_le, Bool, ◌&&◌, List, length}
 use Rattle.std.specs.List.{list_all, sum_by}
 use Rattle.jt_limits.specs.declared.Limits.{Limits}
 use Rattle.jt_limits.specs.Limits.{limits, subscript_limit}
-use Rattle.bsdl_ports.specs.Ports.{Port}
+use Rattle.bsdl_entity.specs.Ports.{Port}
 use Rattle.bsdl_description.specs.Describing.{Description}
-use Rattle.bsdl_ports.specs.PortBits.{highest, width}
+use Rattle.bsdl_entity.specs.PortBits.{highest, width}
 use Rattle.bsdl_opcodes.specs.Users.{users_of}
 
 -- the bits of an instruction, and how many have opcodes

@@ -1,7 +1,7 @@
 -- Widths of ports by indices up to one more than the largest.
 use Rattle.std.specs.Prelude.{ℕ, suc, ◌+◌, ◌-◌, min, Option, Some, None}
 use Rattle.jt_limits.specs.Limits.{subscript_limit}
-use Rattle.bsdl_ports.specs.Ports.{Range}
+use Rattle.bsdl_entity.specs.Ports.{Range}
 
 -- how many bits a port has, where no index is larger
 abbrev pub capped_width : Option Range → ℕ

@@ -1,7 +1,7 @@
 //! The first name that a description gives again.
 ghost use Rattle.std.specs.Prelude.{◌≡◌, ◌++◌, ℕ, Some, None, map, option_map, IfOk, OnOk};
 ghost use Rattle.std.specs.List.{flat_map};
-ghost use Rattle.bsdl_ports.specs.View as ports_view;
+ghost use Rattle.bsdl_entity.specs.PortsView as ports_view;
 ghost use Rattle.bsdl_entity.specs.GivenView.{given as given_view};
 ghost use Rattle.bsdl_values.specs.InstructionView as rows_view;
 ghost use Rattle.bsdl_description.specs.View.{description};

@@ -16,7 +16,8 @@ use Rattle.bsdl_text.specs.Cutting.{Cut, cut, front, with_front, tokens}
 use Rattle.bsdl_text.specs.Scanning.{gap}
 use Rattle.bsdl_text.proofs.AsciiLaws.{choice}
 use Rattle.bsdl_text.proofs.Parts.{mark_front}
-use Rattle.bsdl_text.proofs.Steps.{rest_of, cut_at, at_end}
+use Rattle.bsdl_text.proofs.Steps.{cut_at, at_end}
+use Rattle.token_runs.proofs.CutSteps.{rest_of}
 
 -- a byte that begins a token, whatever stands behind it
 abbrev pub begins_any : ℕ → Bool
@@ -109,7 +110,7 @@ pub token_stands : (q : Bool) (source : List ℕ) (at : ℕ) → at < length sou
     → false ≡ (length (tokens (cut q 0 at (drop at source))) == 0)
 token_stands q source at lt begins none =
     let c = get_or source at 0 in
-    let cs = rest_of q source at in
+    let cs = rest_of source at in
     let f = front q c cs in
     sym (ap (λ (cuts : List Cut). length (tokens cuts) == 0) (cut_at q source at f lt refl)
     ∙ with_token f at c (drop (at + 1) source) _ (begun q c cs begins (ap (gap q c) (take_rest source (at + 1)) ∙ none)))
@@ -134,8 +135,8 @@ module _ (q : Bool) (source : List ℕ) (at byte : ℕ) (lt : at < length source
       → (true ≡ stands_alone byte (tokens (cut q 0 at (drop at source)))) × (tokens (cut q 0 (at + 1) (drop (at + 1) source)) ≡ drop 1 (tokens (cut q 0 at (drop at source))))
   byte_alone same mark none =
       let f : Front = Token kind.Mark 0 in
-      let is : f ≡ front q here (rest_of q source at) =
-      sym (lone_mark q here (rest_of q source at) (ap is_mark same ∙ mark) (ap (gap q here) (take_rest source (at + 1)) ∙ none)) in
+      let is : f ≡ front q here (rest_of source at) =
+      sym (lone_mark q here (rest_of source at) (ap is_mark same ∙ mark) (ap (gap q here) (take_rest source (at + 1)) ∙ none)) in
       let step = cut_at q source at f lt is in
       let equal : nat_eq here byte ≡ true = eq-eqb here byte same in
       let place : at + 1 + 0 ≡ at + 1 = omega arith in (
@@ -146,7 +147,7 @@ module _ (q : Bool) (source : List ℕ) (at byte : ℕ) (lt : at < length source
   -- another byte
   pub other_byte : (here ≡ byte → ⊥) → gap q here (drop (at + 1) source) ≡ None → false ≡ stands_alone byte (tokens (cut q 0 at (drop at source)))
   other_byte differ none =
-      let cs = rest_of q source at in
+      let cs = rest_of source at in
       let no_gap : is_gap (front q here cs) ≡ false = no_gap_front q here cs (ap (gap q here) (take_rest source (at + 1)) ∙ none) in
       sym (ap (λ (cuts : List Cut). stands_alone byte (tokens cuts)) (cut_at q source at (front q here cs) lt refl)
       ∙ with_other (front q here cs) at here byte (drop (at + 1) source) _ no_gap (ne_eqb here byte differ))

@@ -14,7 +14,7 @@ use Rattle.bsdl_text.specs.Ascii.{IsAscii, IsAsciiWord}
 use Rattle.token_runs.specs.Bytes.{is_white, is_line_end}
 use Rattle.bsdl_text.specs.Bytes.{is_within, begins_word, is_word, begins_number, is_number, begins_comment, begins_string, is_mark}
 use Rattle.bsdl_text.specs.Cutting.{front}
-use Rattle.bsdl_text.proofs.Steps.{rest_of, part_of, part-cons}
+use Rattle.token_runs.proofs.CutSteps.{rest_of, part_of, part-cons}
 
 -- a front by what its first byte is
 abbrev pub choice : (w cm str closed beg num mk : Bool) → (a k p r : ℕ) → Front
@@ -65,10 +65,10 @@ small_word c cs n begins len zero = letter_small c begins
 small_word c cs n begins len (suc k) = rw len (behind_small cs k)
 
 -- the bytes of a token, as a slice
-pub ascii_token : (q : Bool) (source : List ℕ) (at : ℕ) (k : Kind) (n : ℕ) → at < length source → Token k n ≡ front q (get_or source at 0) (rest_of q source at)
-    → IsAsciiWord k (part_of q source at n)
+pub ascii_token : (q : Bool) (source : List ℕ) (at : ℕ) (k : Kind) (n : ℕ) → at < length source → Token k n ≡ front q (get_or source at 0) (rest_of source at)
+    → IsAsciiWord k (part_of source at n)
 ascii_token q source at k n lt is word =
     let P : List ℕ → Type 0 = λ bytes. IsAscii bytes in
-    let w = word_front q (get_or source at 0) (rest_of q source at) n (ap (λ (x : Kind). Token x n) (sym word) ∙ is) in
-    subst P (sym (part-cons q source at n lt))
+    let w = word_front q (get_or source at 0) (rest_of source at) n (ap (λ (x : Kind). Token x n) (sym word) ∙ is) in
+    subst P (sym (part-cons source at n lt))
     (small_word (get_or source at 0) (drop (at + 1) source) n w.0 (w.1 ∙ ap (prefix_len is_word) (take_rest source (at + 1))))

@@ -9,6 +9,8 @@ use Rattle.bsdl_text.specs.TokenLaws.{TokensAreCut, BadByteIsCut, EachIsCut, Tok
 use Rattle.bsdl_text.proofs.Steps.{cut-nil, cut-cons}
 use Rattle.bsdl_text.proofs.Parts.{nothing_stands}
 use Rattle.bsdl_text.proofs.RowsOfParts.{divides_cut, Found, found}
+use Rattle.token_runs.proofs.OneCutting.{Cutting}
+use Rattle.token_runs.proofs.OneCutting as one
 
 pub tokens_cut : (quoted : Bool) (text : List ℕ) (ts : List Lexeme) → TokensOf quoted text ts → cuts_of quoted text ≡ map piece ts
 tokens_cut quoted text ts t =
@@ -42,54 +44,25 @@ each_is_cut quoted text = let f = found quoted text in each_by quoted text f f.r
 
 -- ---- a cut has one list of tokens
 
-pub same_tokens : (ts us : List Lexeme) → map piece ts ≡ map piece us → ts ≡ us
-same_tokens [] [] e = refl
-same_tokens [] (u ∷ us) e = cc
-same_tokens (t ∷ ts) [] e = cc
-same_tokens (t ∷ ts) (u ∷ us) e =
-    let tail : map piece ts ≡ map piece us = cc in
-    let more : ts ≡ us = same_tokens ts us tail in
-    let head : t ≡ u = cc in
-    cc
-
-same_bad : (ts us : List Lexeme) (p q : ℕ) → map piece ts ++ bad p ∷ [] ≡ map piece us ++ bad q ∷ [] → (ts ≡ us) × (p ≡ q)
-same_bad [] [] p q e = (refl, cc)
-same_bad [] (u ∷ us) p q e = cc
-same_bad (t ∷ ts) [] p q e = cc
-same_bad (t ∷ ts) (u ∷ us) p q e =
-    let tail : map piece ts ++ bad p ∷ [] ≡ map piece us ++ bad q ∷ [] = cc in
-    let more : (ts ≡ us) × (p ≡ q) = same_bad ts us p q tail in
-    let head : t ≡ u = cc in
-    let both : ts ≡ us = more.0 in
-    (cc, more.1)
-
-never_bad : (ts us : List Lexeme) (q : ℕ) → map piece ts ≡ map piece us ++ bad q ∷ [] → ⊥
-never_bad [] [] q e = cc
-never_bad [] (u ∷ us) q e = cc
-never_bad (t ∷ ts) [] q e = cc
-never_bad (t ∷ ts) (u ∷ us) q e = let tail : map piece ts ≡ map piece us ++ bad q ∷ [] = cc in never_bad ts us q tail
+cutting : (quoted : Bool) (text : List ℕ) → Cutting Lexeme Cut piece bad (cuts_of quoted text) (TokensOf quoted text) (BadAfter quoted text)
+cutting quoted text = record {
+  apart = record { tokens = λ t u e. cc; places = λ p q e. cc; never = λ t p e. cc };
+  tokens_cut = tokens_cut quoted text;
+  bad_cut = bad_cut quoted text;
+  each = each_is_cut quoted text;
+}
 
 pub tokens_are_one : TokensAreOne
-tokens_are_one quoted text ts us t u = same_tokens ts us (sym (tokens_cut quoted text ts t) ∙ tokens_cut quoted text us u)
+tokens_are_one quoted text = one.tokens_are_one (cutting quoted text)
 
 pub bad_byte_is_one : BadByteIsOne
-bad_byte_is_one quoted text ts us p q t u = same_bad ts us p q (sym (bad_cut quoted text ts p t) ∙ bad_cut quoted text us q u)
+bad_byte_is_one quoted text = one.bad_byte_is_one (cutting quoted text)
 
 pub never_both : NeverBoth
-never_both quoted text ts us q t u = never_bad ts us q (sym (tokens_cut quoted text ts t) ∙ bad_cut quoted text us q u)
-
-tokens_by : (quoted : Bool) (text : List ℕ) (ts : List Lexeme) → cuts_of quoted text ≡ map piece ts → ((us : List Lexeme) × TokensOf quoted text us) ⊎ ((us : List Lexeme) × (place : ℕ) × BadAfter quoted text us place) → TokensOf quoted text ts
-tokens_by quoted text ts cuts (inl (us, u)) = subst (TokensOf quoted text) (same_tokens us ts (sym (tokens_cut quoted text us u) ∙ cuts)) u
-tokens_by quoted text ts cuts (inr (us, place, u)) = absurd (never_bad ts us place (sym cuts ∙ bad_cut quoted text us place u))
+never_both quoted text = one.never_both (cutting quoted text)
 
 pub tokens_are_cut : TokensAreCut
-tokens_are_cut quoted text ts = (tokens_cut quoted text ts, λ cuts. tokens_by quoted text ts cuts (each_is_cut quoted text))
-
-bad_by : (quoted : Bool) (text : List ℕ) (ts : List Lexeme) (p : ℕ) → cuts_of quoted text ≡ map piece ts ++ bad p ∷ [] → ((us : List Lexeme) × TokensOf quoted text us) ⊎ ((us : List Lexeme) × (place : ℕ) × BadAfter quoted text us place) → BadAfter quoted text ts p
-bad_by quoted text ts p cuts (inl (us, u)) = absurd (never_bad us ts p (sym (tokens_cut quoted text us u) ∙ cuts))
-bad_by quoted text ts p cuts (inr (us, q, u)) =
-    let same = same_bad us ts q p (sym (bad_cut quoted text us q u) ∙ cuts) in
-    subst (λ (xs : List Lexeme). BadAfter quoted text xs p) same.0 (subst (BadAfter quoted text us) same.1 u)
+tokens_are_cut quoted text ts = (tokens_cut quoted text ts, one.tokens_of (cutting quoted text) ts)
 
 pub bad_byte_is_cut : BadByteIsCut
-bad_byte_is_cut quoted text ts p = (bad_cut quoted text ts p, λ cuts. bad_by quoted text ts p cuts (each_is_cut quoted text))
+bad_byte_is_cut quoted text ts p = (bad_cut quoted text ts p, one.bad_of (cutting quoted text) ts p)

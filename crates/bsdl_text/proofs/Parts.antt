@@ -1,6 +1,6 @@
 -- The cut of a text that is a row of parts.
-use Rattle.std.proofs.Common.{◌≡◌, ℕ, suc, ◌+◌, Bool, true, false, not, nat_eq, cond, List, [], ◌∷◌, ◌++◌, length, drop, get_or, map, refl, sym, ap, ◌∙◌, subst, arith}
-use Rattle.std.proofs.lemmas.List.{drop_at, take_at, append_assoc}
+use Rattle.std.proofs.Common.{◌≡◌, ℕ, ◌+◌, Bool, true, false, nat_eq, cond, List, [], ◌∷◌, ◌++◌, length, get_or, map, refl, sym, ap, ◌∙◌, subst, arith}
+use Rattle.std.proofs.lemmas.List.{append_assoc}
 use Rattle.std.specs.List.{prefix_len, AllByRecursion}
 use Rattle.std.proofs.lemmas.Bool.Decides.{nat_tests}
 use Rattle.bsdl_text.specs.declared.tokens.Kind.{Kind}
@@ -9,25 +9,10 @@ use Rattle.bsdl_text.specs.declared.tokens.scan.Front.TheVariants.{Gap, Token, B
 use Rattle.token_runs.specs.Bytes.{is_white, is_line_end}
 use Rattle.bsdl_text.specs.Bytes.{begins_word, is_word, begins_number, is_number, is_mark, begins_comment, begins_string, is_within}
 use Rattle.bsdl_text.specs.Cutting.{piece, cut, front, string_front}
-use Rattle.bsdl_text.specs.Gaps.{Part, white, comment, token, bytes_of, Ends, AllPass, EndsLine, IsInLine, IsPart, BeginsNothing, unclosed, other, tokens_at}
-use Rattle.bsdl_text.proofs.Steps.{cut-cons}
-
--- all of a front passes, and what follows it does not begin with more that passes
-pub prefix_len-append : (p : ℕ → Bool) (body after : List ℕ) → AllPass p body → Ends p after → prefix_len p (body ++ after) ≡ length body
-prefix_len-append p [] [] all ends = refl
-prefix_len-append p [] (c ∷ after) all ends = rw ends refl
-prefix_len-append p (c ∷ body) after all ends =
-    let here : p c ≡ true = all.0 in
-    let one : 1 + prefix_len p (body ++ after) ≡ suc (prefix_len p (body ++ after)) = omega arith in
-    rw here (one ∙ ap suc (prefix_len-append p body after all.1 ends))
-
-in_line : (bytes : List ℕ) → AllByRecursion IsInLine bytes → AllPass (λ c. not (is_line_end c)) bytes
-in_line [] all = tt
-in_line (c ∷ bytes) all = let here : is_line_end c ≡ false = all.0 in (rw here refl, in_line bytes all.1)
-
-line_ends : (after : List ℕ) → EndsLine after → Ends (λ c. not (is_line_end c)) after
-line_ends [] ends = tt
-line_ends (c ∷ after) ends = let here : is_line_end c ≡ true = ends in rw here refl
+use Rattle.bsdl_text.specs.Gaps.{Part, white, comment, token, bytes_of, IsPart, BeginsNothing, unclosed, other, tokens_at}
+use Rattle.token_runs.specs.Runs.{Ends, AllPass, EndsLine, IsInLine}
+use Rattle.token_runs.proofs.RunFronts.{prefix_len-append, is_in_line, pass_in_line, ends_in_line}
+use Rattle.bsdl_text.proofs.Steps.{gap_cut, token_cut}
 
 -- ---- what begins one kind begins no other
 
@@ -57,7 +42,7 @@ mark_is_plain q c cs h = (grind (arith, nat_tests), no_string q c (grind (arith,
 pub comment_front : (c : ℕ) (body after : List ℕ) → is_white c ≡ false → begins_comment false c (body ++ after) ≡ true → AllByRecursion IsInLine body → EndsLine after
     → front false c (body ++ after) ≡ Gap (length body)
 comment_front c body after no_white begins all ends =
-    rw (no_white, begins) (ap Gap (prefix_len-append (λ d. not (is_line_end d)) body after (in_line body all) (line_ends after ends)))
+    rw (no_white, begins) (ap Gap (prefix_len-append is_in_line body after (pass_in_line body all) (ends_in_line after ends)))
 
 pub word_front : (q : Bool) (c : ℕ) (body after : List ℕ) → begins_word c ≡ true → AllPass is_word body → Ends is_word after → front q c (body ++ after) ≡ Token kind.Word (length body)
 word_front q c body after word all ends =
@@ -115,7 +100,7 @@ open_front body (c ∷ after) all ends =
     ∙ ap (λ (d : ℕ). cond (nat_eq d 34) (Token kind.Text (length body + 1)) Bad) (byte_behind body c after)
     ∙ ap (λ (b : Bool). cond b (Token kind.Text (length body + 1)) Bad) facts.1
 
-quote_is : (q : Bool) (c : ℕ) → begins_string q c ≡ true → (q ≡ false) × (c ≡ 34)
+pub quote_is : (q : Bool) (c : ℕ) → begins_string q c ≡ true → (q ≡ false) × (c ≡ 34)
 quote_is true c h = absurd cc
 quote_is false c h = (refl, grind (arith, nat_tests))
 
@@ -132,20 +117,6 @@ nothing_stands q c rest (other no_white no_text no_word no_number no_mark) =
     rw (no_white, no_gap, no_text, no_word, no_number, no_mark) refl
 
 -- ---- the cut of one part
-
-gap_cut : (q : Bool) (at c : ℕ) (body after : List ℕ) → front q c (body ++ after) ≡ Gap (length body) → cut q 0 at (c ∷ (body ++ after)) ≡ cut q 0 (at + suc (length body)) after
-gap_cut q at c body after stands =
-    let place : at + 1 + length body ≡ at + suc (length body) = omega arith in
-    cut-cons q at c (body ++ after) (Gap (length body)) stands ∙ ap (cut q 0 (at + 1 + length body)) (drop_at body after (length body) refl) ∙ ap (λ (p : ℕ). cut q 0 p after) place
-
-token_cut : (q : Bool) (k : Kind) (at c : ℕ) (body after : List ℕ) → front q c (body ++ after) ≡ Token k (length body)
-    → cut q 0 at (c ∷ (body ++ after)) ≡ piece (record { kind = k; text = c ∷ body; start = at }) ∷ cut q 0 (at + suc (length body)) after
-token_cut q k at c body after stands =
-    let place : at + 1 + length body ≡ at + suc (length body) = omega arith in
-    cut-cons q at c (body ++ after) (Token k (length body)) stands
-    ∙ ap (λ (t : List ℕ). piece (record { kind = k; text = c ∷ t; start = at }) ∷ cut q 0 (at + 1 + length body) (drop (length body) (body ++ after))) (take_at body after (length body) refl)
-    ∙ ap (λ (t : List ℕ). piece (record { kind = k; text = c ∷ body; start = at }) ∷ cut q 0 (at + 1 + length body) t) (drop_at body after (length body) refl)
-    ∙ ap (λ (p : ℕ). piece (record { kind = k; text = c ∷ body; start = at }) ∷ cut q 0 p after) place
 
 -- the cuts of a text that begins with a part
 abbrev pub PartCut : Bool → ℕ → Part → List ℕ → Type 0

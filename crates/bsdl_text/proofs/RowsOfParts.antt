@@ -1,14 +1,16 @@
 -- Each text is a row of parts up to its end or to a byte that begins nothing, and its cut is theirs.
-use Rattle.std.proofs.Common.{◌≡◌, ℕ, zero, suc, ◌+◌, ◌<◌, Bool, true, false, cond, not, nat_eq, List, [], ◌∷◌, ◌++◌, length, take, drop, get_or, map, refl, sym, ap, ◌∙◌, ◌⊎◌, inl, inr, arith}
+use Rattle.std.proofs.Common.{◌≡◌, ℕ, zero, suc, ◌+◌, ◌<◌, Bool, true, false, nat_eq, List, [], ◌∷◌, ◌++◌, length, take, drop, get_or, map, refl, sym, ap, ◌∙◌, ◌⊎◌, inl, inr, arith}
 use Rattle.std.proofs.lemmas.List.{take-append-drop, length-append, append_assoc, drop_more}
-use Rattle.std.specs.List.{prefix_len, flat_map, AllByRecursion}
+use Rattle.std.specs.List.{prefix_len, flat_map}
 use Rattle.std.proofs.lemmas.Bool.Decides.{nat_tests}
 use Rattle.bsdl_text.specs.declared.tokens.Kind.TheVariants as kind
 use Rattle.token_runs.specs.Bytes.{is_white, is_line_end}
 use Rattle.bsdl_text.specs.Bytes.{begins_word, is_word, begins_number, is_number, is_mark, begins_comment, begins_string, is_within}
 use Rattle.bsdl_text.specs.Cutting.{Cut, piece, cut}
-use Rattle.bsdl_text.specs.Gaps.{Part, white, comment, token, bytes_of, Ends, AllPass, EndsLine, IsInLine, IsPart, Divides, tokens_at, BeginsNothing, unclosed, other}
-use Rattle.bsdl_text.proofs.Parts.{part_cut}
+use Rattle.bsdl_text.specs.Gaps.{Part, white, comment, token, bytes_of, IsPart, Divides, tokens_at, BeginsNothing, unclosed, other}
+use Rattle.token_runs.specs.Runs.{Ends, AllPass, EndsLine}
+use Rattle.token_runs.proofs.RunFronts.{prefix_passes, prefix_ends, is_in_line, all_in_line, line_ends}
+use Rattle.bsdl_text.proofs.Parts.{part_cut, quote_is}
 
 tokens_more : (at : ℕ) (p : Part) (parts : List Part) (cuts : List Cut)
     → map piece (tokens_at at (p ∷ [])) ++ (map piece (tokens_at (at + length (bytes_of p)) parts) ++ cuts) ≡ map piece (tokens_at at (p ∷ parts)) ++ cuts
@@ -29,43 +31,6 @@ divides_cut q at (p ∷ parts) text rest (after, is, fits, more) =
 
 -- ---- the parts of any text
 
--- the longest front that passes
-module _ (p : ℕ → Bool) where
-  prefix_cases : (c : ℕ) (cs : List ℕ) (b : Bool) → p c ≡ b → AllPass p (take (prefix_len p cs) cs) → AllPass p (take (cond b (1 + prefix_len p cs) 0) (c ∷ cs))
-  prefix_cases c cs true here more = let one : 1 + prefix_len p cs ≡ suc (prefix_len p cs) = omega arith in rw one (here, more)
-  prefix_cases c cs false here more = tt
-
-  prefix_passes : (cs : List ℕ) → AllPass p (take (prefix_len p cs) cs)
-  prefix_passes [] = tt
-  prefix_passes (c ∷ cs) = prefix_cases c cs (p c) refl (prefix_passes cs)
-
-  ends_cases : (c : ℕ) (cs : List ℕ) (b : Bool) → p c ≡ b → Ends p (drop (prefix_len p cs) cs) → Ends p (drop (cond b (1 + prefix_len p cs) 0) (c ∷ cs))
-  ends_cases c cs true here more = let one : 1 + prefix_len p cs ≡ suc (prefix_len p cs) = omega arith in rw one more
-  ends_cases c cs false here more = here
-
-  prefix_ends : (cs : List ℕ) → Ends p (drop (prefix_len p cs) cs)
-  prefix_ends [] = tt
-  prefix_ends (c ∷ cs) = ends_cases c cs (p c) refl (prefix_ends cs)
-
-not-true : (b : Bool) → not b ≡ true → b ≡ false
-not-true true e = sym e
-not-true false e = refl
-
-not-false : (b : Bool) → not b ≡ false → b ≡ true
-not-false true e = refl
-not-false false e = sym e
-
-abbrev is_in_line : ℕ → Bool
-is_in_line c = not (is_line_end c)
-
-all_in_line : (bytes : List ℕ) → AllPass is_in_line bytes → AllByRecursion IsInLine bytes
-all_in_line [] all = tt
-all_in_line (c ∷ bytes) all = (not-true (is_line_end c) all.0, all_in_line bytes all.1)
-
-line_ends : (after : List ℕ) → Ends is_in_line after → EndsLine after
-line_ends [] ends = tt
-line_ends (c ∷ after) ends = not-false (is_line_end c) ends
-
 -- a string that is not closed ends at its line's end
 open_ends : (c : ℕ) → is_within c ≡ false → nat_eq c 34 ≡ false → is_line_end c ≡ true
 open_ends c h no_quote = grind (arith, nat_tests)
@@ -84,10 +49,6 @@ minus_minus false c d ds begins = (refl, grind (arith, nat_tests), grind (arith,
 no_minus : (q : Bool) (c : ℕ) → begins_comment q c [] ≡ true → ⊥
 no_minus true c begins = cc
 no_minus false c begins = grind (arith, nat_tests)
-
-quote_is : (q : Bool) (c : ℕ) → begins_string q c ≡ true → (q ≡ false) × (c ≡ 34)
-quote_is true c h = absurd cc
-quote_is false c h = (refl, grind (arith, nat_tests))
 
 -- the byte at a place, and the place of a byte that is not 0
 head_at : (n : ℕ) (cs : List ℕ) → get_or (drop n cs) 0 0 ≡ get_or cs n 0

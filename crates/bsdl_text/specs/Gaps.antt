@@ -1,13 +1,14 @@
 -- What the tokens of a text are, said of the whole text: it is a row of parts, each a byte of white space, a comment
 -- or a token, and every byte belongs to one of them. Nothing here reads from left to right.
-use Rattle.std.specs.Prelude.{◌≡◌, ℕ, ◌+◌, Bool, true, false, ⊤, List, [], ◌∷◌, ◌++◌, length, codes}
+use Rattle.std.specs.Prelude.{◌≡◌, ℕ, ◌+◌, Bool, true, false, List, [], ◌∷◌, ◌++◌, length, codes}
 use Rattle.std.specs.List.{flat_map, AllByRecursion}
 use Rattle.bsdl_text.specs.declared.tokens.Kind.{Kind}
 use Rattle.bsdl_text.specs.declared.tokens.Kind.TheVariants as kind
-use Rattle.token_runs.specs.Bytes.{is_white, is_line_end}
+use Rattle.token_runs.specs.Bytes.{is_white}
 use Rattle.bsdl_text.specs.Bytes.{begins_word, is_word, begins_number, is_number, is_mark}
 use Rattle.bsdl_text.specs.Bytes.{begins_comment, begins_string, is_within}
 use Rattle.bsdl_text.specs.Cutting.{Lexeme}
+use Rattle.token_runs.specs.Runs.{Ends, AllPass, EndsLine, IsInLine}
 
 pub data Part : Type 0 where
   white : ℕ → Part
@@ -18,23 +19,6 @@ abbrev pub bytes_of : Part → List ℕ
 bytes_of (white c) = c ∷ []
 bytes_of (comment bytes) = bytes
 bytes_of (token k bytes) = bytes
-
--- these bytes do not go on with one that passes the test: they are none, or begin with one that does not
-abbrev pub Ends : (ℕ → Bool) → List ℕ → Type 0
-Ends test [] = ⊤
-Ends test (c ∷ rest) = test c ≡ false
-
--- each byte passes the test
-abbrev pub AllPass : (ℕ → Bool) → List ℕ → Type 0
-AllPass test bytes = AllByRecursion (λ c. test c ≡ true) bytes
-
--- before these bytes a line ends: they are none, or begin with a line feed or a carriage return
-abbrev pub EndsLine : List ℕ → Type 0
-EndsLine [] = ⊤
-EndsLine (c ∷ rest) = is_line_end c ≡ true
-
-abbrev pub IsInLine : ℕ → Type 0
-IsInLine c = is_line_end c ≡ false
 
 -- A part that stands before this rest of the text. A comment goes on to its line's end; words and numbers go on as far
 -- as their bytes go; a string begins and ends with `"` on one line.

@@ -1,6 +1,10 @@
 -- What is told of a play over a connection, and of a board that was served.
 use Rattle.std.specs.Prelude.{ℕ, List, [], ◌∷◌, codes, decimal}
-use Rattle.play_model.specs.Endings.{hex_byte, texts}
+use Rattle.output_words.specs.declared.status.Status.{Status}
+use Rattle.output_words.specs.declared.status.Status.TheVariants as exits
+use Rattle.output_words.specs.Digits.{hex_byte}
+use Rattle.output_words.specs.Statuses.{number}
+use Rattle.output_words.specs.Texts.{texts}
 use Rattle.play_links.specs.declared.serving.Served.{Served}
 use Rattle.play_links.specs.declared.serving.Served.TheVariants.{Quit, Closed, Refused, Bound, Broken}
 
@@ -13,12 +17,15 @@ served_line Bound = codes "bound\n"
 served_line Broken = codes "broken\n"
 
 -- its exit status: 0 the client ended it, 2 it sent a byte that is refused, 3 it was cut short
+abbrev pub exit_status : Served → Status
+exit_status Quit = exits.Pass
+exit_status Closed = exits.Pass
+exit_status (Refused byte) = exits.Refused
+exit_status Bound = exits.Lost
+exit_status Broken = exits.Lost
+
 abbrev pub served_status : Served → ℕ
-served_status Quit = 0
-served_status Closed = 0
-served_status (Refused byte) = 2
-served_status Bound = 3
-served_status Broken = 3
+served_status served = number (exit_status served)
 
 -- the line of a server that takes connections
 abbrev pub listening_line : (port : ℕ) → List ℕ

@@ -5,6 +5,8 @@ use Rattle.std.specs.Io.KnownBytes.{Appends}
 use Rattle.byte_streams.specs.Counts.{CountedView}
 use Rattle.byte_streams.specs.Writes.{AppendsFront, WritesAll}
 use Rattle.byte_streams.specs.declared.counting.Broken.{Broken}
+use Rattle.output_words.specs.declared.status.Status.TheVariants as exits
+use Rattle.output_words.specs.Statuses.{number}
 use Rattle.svf_words.specs.declared.fault.SvfFault.{SvfFault}
 use Rattle.svf_programs.specs.Steps.{Program}
 use Rattle.board_model.specs.Chain.{BoardState}
@@ -42,11 +44,11 @@ played_run kind bytes program before =
 
 -- the text was refused
 abbrev pub refused_run : SvfFault → BoardState → Run
-refused_run fault before = record { out = []; err = refusal_line fault; status = 2; board = before }
+refused_run fault before = record { out = []; err = refusal_line fault; status = number exits.Refused; board = before }
 
 -- memory ran out
 abbrev pub memory_run : BoardState → Run
-memory_run before = record { out = []; err = codes "memory\n"; status = 4; board = before }
+memory_run before = record { out = []; err = codes "memory\n"; status = number exits.NoMemory; board = before }
 
 -- The runs of a text on a board: its program, played as it means over whole registers; its refusal; or want of memory.
 pub data IsRunOf (kind : Kind) (text : List ℕ) (bytes : Bool) (before : BoardState) : Run → Type 0 where
@@ -59,7 +61,12 @@ pub data IsRunOf (kind : Kind) (text : List ℕ) (bytes : Bool) (before : BoardS
 -- BYPASS.
 abbrev pub accepted_run : Program → BoardState → Run
 accepted_run program before =
-    record { out = accepted_line program ++ left_out_lines before; err = []; status = 0; board = before }
+    record {
+      out = accepted_line program ++ left_out_lines before;
+      err = [];
+      status = number exits.Pass;
+      board = before;
+    }
 
 -- The checks of a text: its program, which is told of and not played; its refusal; or want of memory.
 pub data IsCheckOf (text : List ℕ) (before : BoardState) : Run → Type 0 where

@@ -1,7 +1,12 @@
 -- The lines of endings, of refusals and of an accepted text.
-use Rattle.std.specs.Prelude.{ℕ, ◌==◌, ◌||◌, nat_lt, List, [], ◌∷◌, ◌++◌, codes, decimal, flat_map, length}
-use Rattle.std.specs.Prelude.{if◌then◌else◌}
-use Rattle.play_model.specs.Endings.{hex_byte, texts, verdict_line}
+use Rattle.std.specs.Prelude.{ℕ, List, [], ◌∷◌, ◌++◌, codes, decimal, flat_map, length}
+use Rattle.output_words.specs.declared.status.Status.{Status}
+use Rattle.output_words.specs.declared.status.Status.TheVariants as exits
+use Rattle.output_words.specs.Lines.{total_line}
+use Rattle.output_words.specs.Names.{shown}
+use Rattle.output_words.specs.Statuses.{number}
+use Rattle.output_words.specs.Texts.{texts}
+use Rattle.play_model.specs.Endings.{verdict_line}
 use Rattle.play_model.specs.declared.kind.Kind.{Kind}
 use Rattle.play_model.specs.declared.kind.Kind.TheVariants.{PlaysOn}
 use Rattle.play_model.specs.PlayingOn.{Mismatch}
@@ -20,10 +25,6 @@ use Rattle.bsdl.specs.declared.fault.BsdlFault.TheVariants as bsdl
 -- the line of a wanted bit that did not come out
 abbrev pub mismatch_line : Mismatch → List ℕ
 mismatch_line m = verdict_line (Fail m.command m.part m.bit)
-
--- the line of how many there were
-abbrev pub total_line : ℕ → List ℕ
-total_line total = texts (codes "failures " ∷ decimal total ∷ codes "\n" ∷ [])
 
 -- What is told of a play by how it ended and what it found. One that stops tells its verdict. One that plays on tells
 -- the failures that are listed, one a line, and how many there were; where there is none it passes, and where it was
@@ -91,15 +92,13 @@ board_words (board.CoreLoop text) = codes "board C9 CoreLoop"
 abbrev pub board_refusal_line : BoardFault BsdlFault → List ℕ
 board_refusal_line fault = texts (board_words fault ∷ codes "\n" ∷ [])
 
-abbrev pub board_refusal_status : BoardFault BsdlFault → ℕ
-board_refusal_status board.NoMemory = 4
-board_refusal_status _ = 2
+abbrev pub refusal_status : BoardFault BsdlFault → Status
+refusal_status board.NoMemory = exits.NoMemory
+refusal_status _ = exits.Refused
 
--- A byte of a file's name as it is told: `\x` and two digits for a control byte, which a terminal would take for
--- itself, and for the backslash, so that no two names are told alike.
-abbrev pub name_byte : ℕ → List ℕ
-name_byte b = if nat_lt b 32 || b == 127 || b == 92 then 92 ∷ 120 ∷ hex_byte b else b ∷ []
+abbrev pub board_refusal_status : BoardFault BsdlFault → ℕ
+board_refusal_status fault = number (refusal_status fault)
 
 -- the line of a file that cannot be read
 abbrev pub unreadable_line : List ℕ → List ℕ
-unreadable_line name = texts (codes "file " ∷ flat_map name_byte name ∷ codes "\n" ∷ [])
+unreadable_line name = texts (codes "file " ∷ shown name ∷ codes "\n" ∷ [])

@@ -12,15 +12,17 @@ ghost use Rattle.play_model.specs.Streams.{new_stream};
 ghost use Rattle.svf_programs.specs.Sizes.{program_of};
 ghost use Rattle.play_model.specs.declared.ending.Ending as end;
 ghost use Rattle.play_links.specs.declared.serving.Served as serving;
+ghost use Rattle.jt_player.specs.Linking as spec;
 ghost use Rattle.jt_player.specs.Linking.{listening_line, served_line, served_status};
 ghost use Rattle.jt_player.specs.Running.{Tells};
 ghost use Rattle.jt_player.specs.Showing.{ending_lines};
 ghost use Rattle.scan_vectors.specs.Failures.{Found, found};
 
-use crate::showing::{hex_byte, write_ending, write_verdict};
+use crate::showing::{write_ending, write_verdict};
 use byte_streams::{Broken, Counted, End, Sink, Source, put_all, put_pieces};
 use itoa::Buffer;
 use jt_board::{Board, write_report};
+use output_words::{Status, hex_byte};
 use play_links::{Served, loop_over_all, play_over_all, serve_over};
 use play_model::{Ending, Kind};
 use player::Player;
@@ -210,7 +212,7 @@ pub fn tell_served<O: Sink>(served: Served, out: &mut Counted<O>) -> Result<u8, 
     ensures { Tells O.contents out.old out.new (served_line served) (served_status served) result }
 {
     write_served(served, out)?;
-    Ok(status_of_serving(served))
+    Ok(exit_status(served).number())
 }
 
 /// Writes that a server takes connections, `listening on 127.0.0.1:PORT`.
@@ -246,12 +248,12 @@ fn write_served<O: Sink>(served: Served, out: &mut Counted<O>) -> Result<(), Bro
 }
 
 /// The exit status of how serving ended.
-fn status_of_serving(served: Served) -> u8
-    ensures { result ≡ served_status served }
+fn exit_status(served: Served) -> Status
+    ensures { result ≡ spec.exit_status served }
 {
     match served {
-        Served::Quit | Served::Closed => 0,
-        Served::Refused(_) => 2,
-        Served::Bound | Served::Broken => 3,
+        Served::Quit | Served::Closed => Status::Pass,
+        Served::Refused(_) => Status::Refused,
+        Served::Bound | Served::Broken => Status::Lost,
     }
 }

@@ -1,21 +1,14 @@
 //! What is told of input that no run comes of: a board that is not made, a file that cannot be read, want of memory.
 
-ghost use Rattle.std.specs.Prelude.{◌≡◌, codes, flat_map};
+ghost use Rattle.std.specs.Prelude.{◌≡◌, codes};
 ghost use Rattle.byte_streams.specs.Writes.{WritesAll};
 ghost use Rattle.jt_player.specs.Running.{Tells};
 ghost use Rattle.jt_player.specs.Showing as showing;
-ghost use Rattle.jt_player.specs.Showing.{board_refusal_line, board_refusal_status, name_byte, unreadable_line};
+ghost use Rattle.jt_player.specs.Showing.{board_refusal_line, board_refusal_status, unreadable_line};
 
-use crate::showing::hex_byte;
 use byte_streams::{Broken, Counted, Sink, put_all, put_pieces};
 use jt_board::{BoardFault, BsdlFault};
-
-/// The exit status of input that is refused.
-const REFUSED: u8 = 2;
-/// The exit status where memory ran out.
-const NO_MEMORY: u8 = 4;
-/// The byte DEL of ASCII, a control byte as those below the blank are.
-const DELETE: u8 = 127;
+use output_words::{Status, write_shown};
 
 /// Writes the line of a board that is not made: `board C5 UnknownPin`, the refusal of a description in place of C4
 /// (`bsdl B6 BadCapture`), `memory` in place of C8. Answers the exit status: 2 refused, 4 want of memory.
@@ -27,7 +20,7 @@ pub fn refuse_board<E: Sink>(fault: &BoardFault, err: &mut Counted<E>) -> Result
         result }
 {
     put_pieces(err, &[board_words(fault).as_bytes(), b"\n"])?;
-    Ok(board_status(fault))
+    Ok(refusal_status(fault).number())
 }
 
 /// Writes the line of a file that cannot be read, `file NAME`, where a control byte and a backslash of the name stand
@@ -39,7 +32,7 @@ pub fn refuse_file<E: Sink>(name: &str, err: &mut Counted<E>) -> Result<u8, Brok
     ensures { Tells E.contents err.old err.new (unreadable_line name.now) 2 result }
 {
     write_unreadable(name, err)?;
-    Ok(REFUSED)
+    Ok(Status::Refused.number())
 }
 
 /// Writes the line of a file that cannot be read.
@@ -49,31 +42,8 @@ fn write_unreadable<E: Sink>(name: &str, err: &mut Counted<E>) -> Result<(), Bro
     ensures { WritesAll E.contents err.old err.new (unreadable_line name.now) result }
 {
     put_all(err, b"file ")?;
-    write_name(name, err)?;
+    write_shown(name, err)?;
     put_all(err, b"\n")
-}
-
-/// Writes a file's name as it is told.
-fn write_name<E: Sink>(name: &str, err: &mut Counted<E>) -> Result<(), Broken>
-    requires { err.old.failures ≡ 0 }
-    ensures { WritesAll E.contents err.old err.new (flat_map name_byte name.now) result }
-{
-    for byte in name.as_bytes() {
-        write_name_byte(*byte, err)?;
-    }
-    Ok(())
-}
-
-/// Writes one byte of a file's name as it is told.
-fn write_name_byte<E: Sink>(byte: u8, err: &mut Counted<E>) -> Result<(), Broken>
-    requires { err.old.failures ≡ 0 }
-    ensures { WritesAll E.contents err.old err.new (name_byte byte) result }
-{
-    if byte < b' ' || byte == DELETE || byte == b'\\' {
-        put_pieces(err, &[b"\\x", &hex_byte(byte)])
-    } else {
-        put_all(err, &[byte])
-    }
 }
 
 /// Writes that memory ran out, `memory`. Answers the exit status that says so, 4.
@@ -84,15 +54,15 @@ pub fn refuse_memory<E: Sink>(err: &mut Counted<E>) -> Result<u8, Broken>
     ensures { Tells E.contents err.old err.new (codes "memory\n") 4 result }
 {
     put_all(err, b"memory\n")?;
-    Ok(NO_MEMORY)
+    Ok(Status::NoMemory.number())
 }
 
-fn board_status(fault: &BoardFault) -> u8
-    ensures { result ≡ board_refusal_status fault.now }
+fn refusal_status(fault: &BoardFault) -> Status
+    ensures { result ≡ showing.refusal_status fault.now }
 {
     match fault {
-        BoardFault::NoMemory => NO_MEMORY,
-        _ => REFUSED,
+        BoardFault::NoMemory => Status::NoMemory,
+        _ => Status::Refused,
     }
 }
 

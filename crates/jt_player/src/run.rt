@@ -16,6 +16,7 @@ use crate::refusing::refuse_memory;
 use crate::showing::{write_accepted, write_ending, write_refusal};
 use byte_streams::{Broken, Counted, Sink, put_all};
 use jt_board::{Board, write_left_out, write_report};
+use output_words::Status;
 use play_direct::accept;
 use play_model::{Ending, Kind};
 use scan_vectors::Failures;
@@ -122,7 +123,7 @@ pub fn check_program<W: Sink>(
         result }
 {
     write_check(program, board, out)?;
-    Ok(0)
+    Ok(Status::Pass.number())
 }
 
 /// Writes the line of an accepted text, and one for each instruction of the board that stands for BYPASS.
@@ -233,5 +234,5 @@ pub fn refuse_text<E: Sink>(fault: SvfFault, err: &mut Counted<E>) -> Result<u8,
         return refuse_memory(err);
     }
     write_refusal(fault, err)?;
-    Ok(2)
+    Ok(Status::Refused.number())
 }

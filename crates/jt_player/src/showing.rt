@@ -3,16 +3,17 @@
 ghost use Rattle.std.specs.Prelude.{◌≡◌, ◌++◌, flat_map};
 ghost use Rattle.byte_streams.specs.Writes.{WritesAll};
 ghost use Rattle.jt_player.specs.Showing as showing;
-ghost use Rattle.jt_player.specs.Showing.{accepted_line, ending_lines, mismatch_line, refusal_line, total_line};
+ghost use Rattle.jt_player.specs.Showing.{accepted_line, ending_lines, mismatch_line, refusal_line};
+ghost use Rattle.output_words.specs.Lines.{total_line};
 ghost use Rattle.scan_vectors.specs.Failures.{found};
 ghost use Rattle.svf_programs.specs.Sizes.{program_of};
-ghost use Rattle.play_model.specs.Endings as endings;
 ghost use Rattle.play_model.specs.Endings.{verdict_line};
 
 use byte_streams::{Broken, Counted, Sink, put_all, put_pieces};
 use itoa::Buffer;
-use play_model::{Ending, Kind};
-use scan_vectors::{Failures, Mismatch, Part};
+use output_words::{hex_byte, write_total};
+use play_model::{Ending, Kind, part_word};
+use scan_vectors::{Failures, Mismatch};
 use svf_parse::{Code, SvfFault};
 use svf_programs::Program;
 
@@ -80,15 +81,7 @@ fn write_failures<W: Sink>(failures: &Failures, out: &mut Counted<W>) -> Result<
         (flat_map mismatch_line failures.now.list.items ++ total_line failures.now.total) result }
 {
     write_mismatches(failures.list.as_slice(), out)?;
-    let mut number = Buffer::new();
-    put_pieces(
-        out,
-        &[
-            b"failures ",
-            number.format(failures.total).as_bytes(),
-            b"\n",
-        ],
-    )
+    write_total(failures.total, out)
 }
 
 /// Writes a line for each wanted bit that did not come out.
@@ -146,27 +139,6 @@ pub(crate) fn write_accepted<W: Sink>(program: &Program, out: &mut Counted<W>) -
             b" steps\n",
         ],
     )
-}
-
-/// Two lower-case hexadecimal digits.
-pub(crate) fn hex_byte(byte: u8) -> [u8; 2]
-    ensures { result ≡ endings.hex_byte byte }
-{
-    let digits = b"0123456789abcdef";
-    [
-        digits[usize::from(byte / 16)],
-        digits[usize::from(byte % 16)],
-    ]
-}
-
-fn part_word(part: Part) -> &'static str
-    ensures { result.now ≡ endings.part_word part }
-{
-    match part {
-        Part::Header => "header",
-        Part::Data => "data",
-        Part::Trailer => "trailer",
-    }
 }
 
 fn code_words(code: Code) -> &'static str

@@ -2,19 +2,16 @@
 ghost use Rattle.std.specs.Prelude.{◌≡◌};
 
 use crate::described::{RefusedFile, Unmade};
+use crate::statuses::or_lost;
 use byte_streams::{Broken, Counted, Plain, Sink};
 use jt_player::{
     Board, BoardFault, Kind, Program, SvfFault, accept, refuse_board, refuse_file, refuse_text,
     run_program,
 };
+use output_words::Status;
 use play_explained::run_play_explained;
 use refusal_places::{refused_board, refused_description, refused_text};
 use std::alloc::Global;
-
-/// The exit status of a text that is refused.
-const REFUSED: u8 = 2;
-/// Something that was written was lost.
-const BROKEN: u8 = 3;
 
 /// The program of a text. Else tells why it is refused, and where it is asked for where that lies, and answers the exit
 /// status.
@@ -28,7 +25,7 @@ pub(crate) fn accept_text(
         Ok(program) => Ok(program),
         Err(fault) => {
             let mut err = Counted::new(Plain(rt.stderr()));
-            Err(refuse_program(text, fault, explain, &mut err).unwrap_or(BROKEN))
+            Err(or_lost(refuse_program(text, fault, explain, &mut err)))
         }
     }
 }
@@ -62,7 +59,7 @@ fn refuse_program<E: Sink>(
     requires { err.old.failures ≡ 0 }
 {
     let status = refuse_text(fault, err)?;
-    if explain && status == REFUSED && err.failures() == 0 {
+    if explain && status == Status::Refused.number() && err.failures() == 0 {
         refused_text(text, fault, err)?;
     }
     Ok(status)

@@ -3,6 +3,7 @@ ghost use Rattle.std.specs.Prelude.{◌≡◌};
 
 use crate::explained::accept_text;
 use crate::links::{Link, connect, pair};
+use crate::statuses::or_lost;
 use byte_streams::{Broken, Counted, End, Plain, Sink};
 use command_line::Server;
 use jt_player::{Board, Ending, Kind, Program, run_loop, run_over, tell_unplayed, tell_verdict};
@@ -10,8 +11,6 @@ use play_explained::{run_loop_explained, run_over_explained};
 use std::alloc::Global;
 use std::io;
 
-/// Something that was written was lost.
-const BROKEN: u8 = 3;
 /// How a play ends whose server was not reached.
 const UNREACHED: Ending = Ending::Lost { command: 0 };
 
@@ -54,7 +53,7 @@ pub(crate) fn play_on_server(
         Ok(link) => play_over_link(alloc, kind, accepted, link, &mut out),
         Err(_) => tell_verdict(UNREACHED, &mut out),
     };
-    status.unwrap_or(BROKEN)
+    or_lost(status)
 }
 
 /// Plays a text over a link; where the play is explained, by what the program wants.
@@ -109,7 +108,7 @@ pub(crate) fn loop_over_socket(
         }
         Err(_) => tell_unplayed(UNREACHED, board, &mut out),
     };
-    status.unwrap_or(BROKEN)
+    or_lost(status)
 }
 
 /// Plays a text on a board over the two ends of a connection; where the play is explained, by the same board once more.

@@ -5,12 +5,14 @@ mod described;
 mod explained;
 mod linked;
 mod links;
+mod statuses;
 mod waves;
 
 use crate::described::{Boards, Planned, Unmade, plan_board};
 use crate::explained::{accept_text, play_accepted, tell_unmade};
 use crate::linked::{AcceptedText, loop_over_socket, play_on_server};
 use crate::links::{accept, listen};
+use crate::statuses::{or_lost, tell_line};
 use crate::waves::{draw_waves, may_be_made};
 use board_description::Untold;
 use byte_streams::{Broken, Counted, Plain};
@@ -20,29 +22,19 @@ use jt_player::{
     Board, Kind, Program, Served, check_program, refuse_file, refuse_memory, run_serve,
     tell_listening, tell_served, write_report,
 };
+use output_words::Status;
 use play_waves::{Undrawn, status_behind};
 use std::alloc::Global;
 use std::fs::File;
 use std::io::ErrorKind;
 use std::net::TcpListener;
 use std::process::ExitCode;
-use std::{fmt, fs, io};
-
-/// Help was asked for, and given.
-const DONE: u8 = 0;
-/// A bit of the program failed.
-const FAILED: u8 = 1;
-/// The input or the command line was refused.
-const REFUSED: u8 = 2;
-/// Something that was written was lost.
-const BROKEN: u8 = 3;
-/// Memory ran out.
-const MEMORY: u8 = 4;
+use std::{fs, io};
 
 fn main(rt: HostRuntime) -> ExitCode {
     let status = match StandIns::new(&rt) {
         Ok(_until_the_end) => run_words(&rt),
-        Err(_) => BROKEN, // a stream is closed, and a file could get its descriptor
+        Err(_) => Status::Lost.number(), // a stream is closed, and a file could get its descriptor
     };
     ExitCode::from(status)
 }
@@ -52,8 +44,8 @@ fn run_words(rt: &HostRuntime) -> u8 {
     let alloc = rt.alloc();
     match command_words(rt, alloc) {
         Ok(words) => run(rt, alloc, words.as_slice()),
-        Err(fault) if fault.kind() == ErrorKind::OutOfMemory => tell_line(rt, "memory", MEMORY),
-        Err(_) => tell_line(rt, "a word of the command line is not UTF-8", REFUSED),
+        Err(fault) if fault.kind() == ErrorKind::OutOfMemory => tell_line(rt, "memory", Status::NoMemory),
+        Err(_) => tell_line(rt, "a word of the command line is not UTF-8", Status::Refused),
     }
 }
 
@@ -62,7 +54,7 @@ fn run(rt: &HostRuntime, alloc: Global, args: &[String]) -> u8 {
     let mut words = Vec::new(alloc);
     for arg in args {
         if words.push(arg.as_str()).is_err() {
-            return tell_line(rt, "memory", MEMORY);
+            return tell_line(rt, "memory", Status::NoMemory);
         }
     }
     match parse(alloc, &words) {
@@ -74,17 +66,14 @@ fn run(rt: &HostRuntime, alloc: Global, args: &[String]) -> u8 {
 /// Tells what is wrong with the words, or gives the help that they ask for.
 fn refuse_words<R: Print + Eprint>(rt: &R, fault: &clap::Error) -> u8 {
     if fault.kind() == WordsFault::OutOfMemory {
-        return tell_line(rt, "memory", MEMORY);
+        return tell_line(rt, "memory", Status::NoMemory);
     }
-    let status = if fault.exit_code() == 0 {
-        DONE
-    } else {
-        REFUSED
-    };
     if fault.print(rt).is_err() {
-        BROKEN
+        Status::Lost.number()
+    } else if fault.exit_code() == 0 {
+        Status::Pass.number()
     } else {
-        status
+        Status::Refused.number()
     }
 }
 
@@ -126,9 +115,9 @@ fn run_planned(rt: &HostRuntime, alloc: Global, request: &Request<'_>, planned: 
 /// Describes the board of a plan. Answers the exit status.
 fn describe_board(rt: &HostRuntime, alloc: Global, planned: &Planned) -> u8 {
     match planned.describe(alloc, &mut Counted::new(Plain(io::writer(rt)))) {
-        Ok(()) => DONE,
-        Err(Untold::Broken) => BROKEN,
-        Err(Untold::NoMemory) => tell_line(rt, "memory", MEMORY),
+        Ok(()) => Status::Pass.number(),
+        Err(Untold::Broken) => Status::Lost.number(),
+        Err(Untold::NoMemory) => tell_line(rt, "memory", Status::NoMemory),
     }
 }
 
@@ -163,7 +152,7 @@ fn waves_of<'a>(task: Task<'a>) -> Option<&'a str> {
 fn run_boards(rt: &HostRuntime, alloc: Global, request: &Request<'_>, boards: Boards) -> u8 {
     let Boards { mut board, other } = boards;
     match request.task {
-        Task::Serve(serving) => serve(rt, &mut board, serving).unwrap_or(BROKEN),
+        Task::Serve(serving) => or_lost(serve(rt, &mut board, serving)),
         Task::Loop { all, explain } => match read_program(rt, alloc, request.svf, explain) {
             Ok(accepted) => loop_over_socket(rt, alloc, kind_of(all), accepted, &mut board, other),
             Err(status) => status,
@@ -283,7 +272,7 @@ fn told_of(
         }
         _ => check_program(program, board, &mut out),
     };
-    status.unwrap_or(BROKEN)
+    or_lost(status)
 }
 
 /// Draws the waves of a play that ended with this status, where it was played at all. Answers the status, or that they
@@ -297,7 +286,7 @@ fn draw_behind(
     file: File,
     status: u8,
 ) -> u8 {
-    if status != DONE && status != FAILED {
+    if status != Status::Pass.number() && status != Status::Fail.number() {
         return status;
     }
     let all = matches!(task, Task::Play { all: true, .. });
@@ -305,18 +294,17 @@ fn draw_behind(
         Ok(stage) => draw_waves(alloc, kind_of(all), program, stage, file),
         Err(_) => Err(Undrawn::NoMemory),
     };
-    let status = status_behind(status, drawn);
     if matches!(drawn, Err(Undrawn::NoMemory)) {
-        return tell_line(rt, "memory", status);
+        return tell_line(rt, "memory", Status::NoMemory);
     }
-    status
+    status_behind(status, drawn)
 }
 
 /// Tells that a file of waves cannot be made, or that memory ran out for it. Answers the exit status.
 fn refuse_waves(rt: &HostRuntime, name: &str, fault: InputFault) -> u8 {
     let status = refuse_input(rt, name, fault);
     match fault {
-        InputFault::Unreadable => BROKEN,
+        InputFault::Unreadable => Status::Lost.number(),
         InputFault::NoMemory => status,
     }
 }
@@ -360,7 +348,7 @@ fn serve_clients(
     board: &mut Board,
     serving: Serving,
 ) -> Result<u8, Broken> {
-    let mut worst = DONE;
+    let mut worst = Status::Pass.number();
     for _ in 0..serving.connections {
         let status = serve_client(rt, listener, board, serving)?;
         worst = worst.max(status);
@@ -389,7 +377,7 @@ fn serve_client(
 /// Tells why no board was made, and where it is asked for where that lies. Answers the exit status.
 fn refuse_board(rt: &HostRuntime, fault: &Unmade, explain: bool) -> u8 {
     let mut err = Counted::new(Plain(rt.stderr()));
-    tell_unmade(fault, explain, &mut err).unwrap_or(BROKEN)
+    or_lost(tell_unmade(fault, explain, &mut err))
 }
 
 /// Tells that no text of a program was read. Answers the exit status.
@@ -399,14 +387,5 @@ fn refuse_input(rt: &HostRuntime, name: &str, fault: InputFault) -> u8 {
         InputFault::Unreadable => refuse_file(name, &mut err),
         InputFault::NoMemory => refuse_memory(&mut err),
     };
-    status.unwrap_or(BROKEN)
-}
-
-/// Writes a line to standard error. Answers this status, or that the line was lost.
-fn tell_line<R: Eprint, T: fmt::Display + Drop>(rt: &R, line: T, status: u8) -> u8 {
-    if rt.eprintln(line).is_err() {
-        BROKEN
-    } else {
-        status
-    }
+    or_lost(status)
 }

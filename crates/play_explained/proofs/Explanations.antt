@@ -14,9 +14,10 @@ use Rattle.play_model.specs.declared.ending.Ending.TheVariants.{Pass, Fail, Lost
 use Rattle.play_model.specs.declared.kind.Kind.TheVariants.{PlaysOn, Stops}
 use Rattle.std.specs.Prelude.{flat_map, Option, None}
 use Rattle.refusal_places.specs.Starts.{statement_position}
-use Rattle.refusal_places.specs.declared.text_positions.Position.{Position}
+use Rattle.output_words.specs.declared.lines.Position.{Position}
 use Rattle.std.proofs.lemmas.List.{append-nil}
-use Rattle.jt_player.specs.Showing.{mismatch_line, total_line}
+use Rattle.output_words.specs.Lines.{total_line}
+use Rattle.jt_player.specs.Showing.{mismatch_line}
 use Rattle.play_explained.specs.declared.explaining.Explained.{Explained}
 use Rattle.play_explained.specs.Explaining.{explained, explained_of, step_explained}
 use Rattle.play_model.specs.DirectPlay.{opened_state}

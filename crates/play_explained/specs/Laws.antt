@@ -15,7 +15,8 @@ use Rattle.play_model.specs.declared.kind.Kind.TheVariants.{PlaysOn, Stops}
 use Rattle.play_direct.specs.Accepting.{Accepts}
 use Rattle.refusal_places.specs.Starts.{statement_position}
 use Rattle.jt_player.specs.Kinds.{found_in}
-use Rattle.jt_player.specs.Showing.{ending_lines, mismatch_line, total_line}
+use Rattle.output_words.specs.Lines.{total_line}
+use Rattle.jt_player.specs.Showing.{ending_lines, mismatch_line}
 use Rattle.play_explained.specs.declared.explaining.Explained.{Explained}
 use Rattle.play_explained.specs.Explaining.{explained, explained_on}
 use Rattle.play_explained.specs.Lines.{at_line, explained_lines}

@@ -11,10 +11,10 @@ use Rattle.play_model.specs.declared.ending.Ending.{Ending}
 use Rattle.play_model.specs.declared.ending.Ending.TheVariants.{Fail}
 use Rattle.play_model.specs.declared.kind.Kind.{Kind}
 use Rattle.play_model.specs.declared.kind.Kind.TheVariants.{Stops, PlaysOn}
-use Rattle.jt_player.specs.Showing.{mismatch_line, total_line}
+use Rattle.output_words.specs.Lines.{position_line, total_line}
+use Rattle.jt_player.specs.Showing.{mismatch_line}
 use Rattle.refusal_places.specs.Starts.{statement_position}
-use Rattle.refusal_places.specs.declared.text_positions.Position.{Position}
-use Rattle.refusal_places.specs.Places.{place_line}
+use Rattle.output_words.specs.declared.lines.Position.{Position}
 use Rattle.board_reasons.specs.Lines.{wanted_line}
 use Rattle.board_reasons.specs.Reasons.{is_same_part, reason_lines}
 use Rattle.board_reasons.specs.declared.origins.Reason.{Reason}
@@ -25,7 +25,7 @@ use Rattle.play_explained.specs.Wanted.{wanted_of}
 
 -- where a statement starts, if it has a place
 abbrev pub at_line : Option Position → List ℕ
-at_line position = unwrap_or (option_map place_line position) []
+at_line position = unwrap_or (option_map position_line position) []
 
 abbrev pub is_same : Mismatch → Mismatch → Bool
 is_same f g = f.command == g.command && (is_same_part f.part g.part && f.bit == g.bit)

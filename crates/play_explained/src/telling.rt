@@ -4,7 +4,8 @@ ghost use Rattle.std.specs.Prelude.{◌≡◌, ◌++◌, IfOk, flat_map};
 ghost use Rattle.byte_streams.specs.Writes.{WritesAll};
 ghost use Rattle.scan_vectors.specs.Failures.{found};
 ghost use Rattle.board_model.specs.Chain.{members};
-ghost use Rattle.jt_player.specs.Showing.{mismatch_line, total_line};
+ghost use Rattle.output_words.specs.Lines.{total_line};
+ghost use Rattle.jt_player.specs.Showing.{mismatch_line};
 ghost use Rattle.play_explained.specs.Lines as spec;
 ghost use Rattle.play_explained.specs.Passed.{IsAt};
 ghost use Rattle.play_explained.specs.Lines.{explained_lines, failure_lines, lines_known, lines_of_failure};
@@ -14,11 +15,11 @@ use crate::places::{Passed, none_passed, position_from};
 use crate::wanted::wanted_of;
 use board_chain::Chain;
 use board_reasons::{Reason, is_same_part, write_reason, write_wanted};
-use byte_streams::{Broken, Counted, Sink, put_all, put_pieces};
-use itoa::Buffer;
+use byte_streams::{Broken, Counted, Sink, put_all};
 use jt_player::write_verdict;
+use output_words::{Position, write_position_line, write_total};
 use play_model::{Ending, Kind};
-use refusal_places::{Position, statement_at, statement_position};
+use refusal_places::statement_position;
 use scan_vectors::{Failures, Mismatch};
 use svf_programs::Program;
 
@@ -77,15 +78,6 @@ fn write_failures<W: Sink>(
 {
     write_each(failures.list.as_slice(), text, known, out)?;
     write_total(failures.total, out)
-}
-
-/// Writes how many bits failed.
-fn write_total<W: Sink>(total: u64, out: &mut Counted<W>) -> Result<(), Broken>
-    requires { out.old.failures ≡ 0 }
-    ensures { WritesAll W.contents out.old out.new (total_line total) result }
-{
-    let mut number = Buffer::new();
-    put_pieces(out, &[b"failures ", number.format(total).as_bytes(), b"\n"])
 }
 
 /// Writes the lines of failing bits.
@@ -156,7 +148,7 @@ fn write_place<W: Sink>(position: Option<Position>, out: &mut Counted<W>) -> Res
     ensures { WritesAll W.contents out.old out.new (spec.at_line position) result }
 {
     match position {
-        Some(position) => statement_at(position, out),
+        Some(position) => write_position_line(position, out),
         None => put_all(out, b""),
     }
 }

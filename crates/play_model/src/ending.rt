@@ -1,8 +1,10 @@
 //! How a play ends.
 
 ghost use Rattle.std.specs.Prelude.{◌≡◌};
+ghost use Rattle.play_model.specs.Endings as spec;
 ghost use Rattle.play_model.specs.Endings.{status_of};
 
+use output_words::Status;
 use scan_vectors::Part;
 
 /// How a play ended. A command is the number of its statement in the program's text, counted from 1.
@@ -34,10 +36,28 @@ impl Ending {
     pub fn status(self) -> u8
         ensures { result ≡ status_of self }
     {
+        self.exit_status().number()
+    }
+
+    /// The exit status by its name.
+    fn exit_status(self) -> Status
+        ensures { result ≡ spec.exit_status self }
+    {
         match self {
-            Ending::Pass => 0,
-            Ending::Fail { .. } => 1,
-            Ending::Lost { .. } | Ending::BadAnswer { .. } => 3,
+            Ending::Pass => Status::Pass,
+            Ending::Fail { .. } => Status::Fail,
+            Ending::Lost { .. } | Ending::BadAnswer { .. } => Status::Lost,
         }
+    }
+}
+
+/// The word of a part of a scan's vector.
+pub fn part_word(part: Part) -> &'static str
+    ensures { result.now ≡ spec.part_word part }
+{
+    match part {
+        Part::Header => "header",
+        Part::Data => "data",
+        Part::Trailer => "trailer",
     }
 }

@@ -13,11 +13,11 @@ use Rattle.svf_words.specs.declared.keywords.TrstWord.TheVariants.{On, Off, Z, A
 use Rattle.tck_cycles.specs.Cycles.{cycles}
 use Rattle.board_model.specs.Chain.{ChipState, hear, reply_of}
 use Rattle.board_model.specs.declared.Reply.TheVariants.{Answer}
-use Rattle.board_report.specs.Report.{digit}
+use Rattle.output_words.specs.Digits.{digit}
 use Rattle.play_waves.specs.Drawing.{after_drawing, after_mark, lasts, later, latest, shown}
 use Rattle.play_waves.specs.Laws.{EachStepTakesItsCycles, TdoDrawnIsTheAnswer, TimeGoesOn, WhatIsDrawnIsTheBoard, step_time, time_of}
 use Rattle.play_waves.specs.Pens.{Pen}
-use Rattle.play_waves.specs.Values.{undriven}
+use Rattle.wave_files.specs.Values.{undriven}
 
 -- ---- the board
 

@@ -10,9 +10,9 @@ use Rattle.play_model.specs.declared.kind.Kind.{Kind}
 use Rattle.play_model.specs.Play.{turns}
 use Rattle.play_waves.specs.Drawing.{shown}
 use Rattle.play_waves.specs.Fronts.{EachBeginsSo, front}
-use Rattle.play_waves.specs.Heading.{device_variables, first_values, net_variable}
+use Rattle.wave_files.specs.Heading.{device_variables, first_values, net_variable}
 use Rattle.play_waves.specs.Pens.{begun}
-use Rattle.play_waves.specs.Values.{by_numbers, first_of_devices, first_of_nets, variables_of_device}
+use Rattle.wave_files.specs.Values.{by_numbers, first_of_devices, first_of_nets, variables_of_device}
 use Rattle.play_waves.specs.Waves.{stopped_in, wave, wave_file}
 
 -- the variables behind the front

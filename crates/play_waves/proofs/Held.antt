@@ -16,7 +16,8 @@ use Rattle.board_model.specs.Cells.{Member, Told}
 use Rattle.board_model.specs.Nets.{told}
 use Rattle.board_model.specs.Chain.{ChipState, fall, is_held, members, rise, rise_all, tdi_before}
 use Rattle.board_model.proofs.Resets.{reset-twice}
-use Rattle.play_waves.specs.Drawing.{after_drawing, after_mark, between, draw, drawn_rests, is_drawn_so, is_resting, lasting, later, latest, mark, shown, stamped_changes, taken}
+use Rattle.play_waves.specs.Drawing.{after_drawing, after_mark, between, draw, drawn_rests, is_drawn_so, is_resting, lasting, later, latest, mark, shown, taken}
+use Rattle.wave_files.specs.Changes.{stamped_changes}
 use Rattle.play_waves.specs.Holding.{is_held_by, stays}
 use Rattle.play_waves.specs.Pens.{Pen}
 use Rattle.play_waves.proofs.Cycles.{cycle-drawn, cycle-pen, cycles_of, pen-both, both}

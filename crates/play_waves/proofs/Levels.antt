@@ -19,9 +19,10 @@ use Rattle.board_model.specs.Chain.{BoardState, ChipState, after_levels, after_m
 use Rattle.board_model.specs.Following.{AllDriveAlike, DrivesAlike}
 use Rattle.board_model.specs.Nets.{level, told}
 use Rattle.board_model.proofs.Staying.{bits_stay}
-use Rattle.play_waves.specs.Drawing.{net_change}
-use Rattle.play_waves.specs.Quiet.{IsQuiet, KeepsInstructions, keeps_drives, keeps_levels}
-use Rattle.play_waves.specs.Values.{by_numbers, byte_change, first_of_nets, latch, level_byte}
+use Rattle.wave_files.specs.Changes.{net_change}
+use Rattle.play_waves.specs.Quiet.{keeps_drives, keeps_levels}
+use Rattle.wave_files.specs.Changes.{IsQuiet, KeepsInstructions}
+use Rattle.wave_files.specs.Values.{by_numbers, byte_change, first_of_nets, latch, level_byte}
 
 -- ---- one device
 

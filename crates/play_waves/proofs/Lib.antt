@@ -1,12 +1,8 @@
 pub mod Cycles
 pub mod Drawn
 pub mod Held
-pub mod Instructions
 pub mod Levels
-pub mod Lines
 pub mod Messages
-pub mod Nets
-pub mod Numbers
 pub mod Played
 pub mod RowsCompute
 pub mod Runs
@@ -14,9 +10,7 @@ pub mod Settled
 pub mod Shifted
 pub mod Sides
 pub mod Strokes
-pub mod Times
 pub mod Unmoved
 pub mod Words
-pub mod CodeLaws
 pub mod DrawnLaws
 pub mod FrontLaws

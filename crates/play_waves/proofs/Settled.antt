@@ -10,12 +10,13 @@ use Rattle.bitbang_protocol.specs.declared.Message.TheVariants.{Write}
 use Rattle.bitbang_protocol.specs.Protocol.{cycle_messages}
 use Rattle.board_model.specs.Chain.{ChipState, fall, members}
 use Rattle.board_model.specs.Nets.{told}
-use Rattle.board_report.specs.Report.{digit}
-use Rattle.play_waves.specs.Drawing.{after_drawing, after_mark, between, draw, drawn_rests, is_drawn_so, is_resting, lasting, later, mark, shown, stamp, stamped_changes, taken, tck_drawn}
+use Rattle.output_words.specs.Digits.{digit}
+use Rattle.play_waves.specs.Drawing.{after_drawing, after_mark, between, draw, drawn_rests, is_drawn_so, is_resting, lasting, later, mark, shown, taken, tck_drawn}
+use Rattle.wave_files.specs.Changes.{stamp, stamped_changes}
 use Rattle.play_waves.specs.Holding.{stays}
 use Rattle.play_waves.specs.Pens.{Pen}
 use Rattle.play_waves.specs.Settled.{IsSettled, tick, ticked_high, ticked_low, ticks}
-use Rattle.play_waves.specs.Values.{byte_change, first_tdo, trst_byte, undriven, unknown, wire}
+use Rattle.wave_files.specs.Values.{byte_change, first_tdo, trst_byte, undriven, unknown, wire}
 use Rattle.play_waves.proofs.Cycles.{cycle-drawn, cycle-pen}
 use Rattle.play_waves.proofs.Held.{and_both, and_made, drawn-same, fallen_all, pen, rest_there, risen_all, stay_fallen}
 use Rattle.play_waves.proofs.Levels.{unchanged}

@@ -28,15 +28,16 @@ use Rattle.board_model.proofs.Shift.{shift_state}
 use Rattle.board_model.proofs.Sound.{chosen-bit}
 use Rattle.board_model.proofs.SoundEdges.{count-told, sound-told}
 use Rattle.board_chain.specs.Shifting.{all_shift, is_shift_of, shows}
-use Rattle.board_report.specs.Report.{digit}
+use Rattle.output_words.specs.Digits.{digit}
 use Rattle.jt_board.specs.Shifting.{shift_cycles, shifts}
 use Rattle.jt_board.proofs.ShiftRuns.{shift_of}
 use Rattle.play_waves.specs.declared.marks.Marks.{Marks}
-use Rattle.play_waves.specs.Drawing.{after_drawing, after_mark, draw, drawn_rests, is_drawn_so, is_resting, lasting, later, line_changes, mark, shown, stamp, taken, tck_drawn}
+use Rattle.play_waves.specs.Drawing.{after_drawing, after_mark, draw, drawn_rests, is_drawn_so, is_resting, lasting, later, mark, shown, taken, tck_drawn}
+use Rattle.wave_files.specs.Changes.{line_changes, stamp}
 use Rattle.play_waves.specs.Pens.{Pen}
 use Rattle.play_waves.specs.Quiet.{keeps_drives}
 use Rattle.play_waves.specs.Shifted.{IsShifting, StandsInShift, all_at, edges, edges_text, high_text, low_text, low_time, next_time, tdo_bit}
-use Rattle.play_waves.specs.Values.{byte_change, byte_line, first_tdo, undriven, wire}
+use Rattle.wave_files.specs.Values.{byte_change, byte_line, first_tdo, undriven, wire}
 use Rattle.play_waves.proofs.Held.{and_both, and_made, later-later}
 use Rattle.play_waves.proofs.Levels.{unchanged}
 use Rattle.play_waves.proofs.Messages.{heard_nets}

@@ -2,7 +2,7 @@
 use Rattle.std.proofs.Common.{◌≡◌, ◌+◌, ◌≤◌, ℕ, zero, suc, Bool, true, ◌&&◌, List, [], ◌∷◌, drop, length, Some, refl, ap, ◌∙◌, arith}
 use Rattle.std.specs.Prelude.{slice_get}
 use Rattle.std.specs.List.{list_all}
-use Rattle.play_waves.proofs.Numbers.{same_some}
+use Rattle.wave_files.proofs.Numbers.{same_some}
 
 module _ {X : Type 0} (test : X → Bool) where
   at : (xs : List X) (i : ℕ) (x : X) → slice_get xs i ≡ Some x → list_all test (drop i xs) ≡ (test x && list_all test (drop (suc i) xs))

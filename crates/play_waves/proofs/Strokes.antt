@@ -8,7 +8,8 @@ use Rattle.bitbang_protocol.specs.Protocol.{encode}
 use Rattle.board_model.specs.Chain.{BoardState, ChipState, after_byte, after_message}
 use Rattle.board_model.proofs.SoundEdges.{count-told}
 use Rattle.play_waves.specs.declared.marks.Marks.{Marks}
-use Rattle.play_waves.specs.Drawing.{after_mark, between, is_drawn, lasting, lasts, later, mark, marks_behind, shown, stamped_changes, taken}
+use Rattle.play_waves.specs.Drawing.{after_mark, between, is_drawn, lasting, lasts, later, mark, marks_behind, shown, taken}
+use Rattle.wave_files.specs.Changes.{stamped_changes}
 use Rattle.play_waves.specs.Pens.{Pen, begun}
 use Rattle.play_waves.proofs.Messages.{by_byte, same_nets}
 

@@ -8,11 +8,13 @@ use Rattle.jt_tap.specs.Controller.{is_at}
 use Rattle.pin_nets.specs.Wired.{Net}
 use Rattle.bitbang_protocol.specs.declared.Message.{Message}
 use Rattle.board_model.specs.Chain.{ChipState}
-use Rattle.play_waves.specs.Drawing.{between, board_changes, is_drawn, line_changes, mark, shown, stamp, stamped_changes, taken}
+use Rattle.play_waves.specs.Drawing.{between, is_drawn, mark, shown, taken}
+use Rattle.wave_files.specs.Changes.{board_changes, line_changes, stamp, stamped_changes}
 use Rattle.play_waves.specs.Pens.{Pen}
-use Rattle.play_waves.specs.Quiet.{TellsNoNet, KeepsInstructions, keeps_levels}
-use Rattle.play_waves.specs.Values.{by_numbers, device_change, first_of_devices, latch, state_change, variables_of_device}
-use Rattle.play_waves.proofs.Instructions.{no_change}
+use Rattle.play_waves.specs.Quiet.{keeps_levels}
+use Rattle.wave_files.specs.Changes.{TellsNoNet, KeepsInstructions}
+use Rattle.wave_files.specs.Values.{by_numbers, device_change, first_of_devices, latch, state_change, variables_of_device}
+use Rattle.wave_files.proofs.Instructions.{no_change}
 use Rattle.play_waves.proofs.Levels.{is_quiet, none_changed}
 
 -- ---- devices

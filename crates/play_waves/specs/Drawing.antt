@@ -4,48 +4,19 @@ use Rattle.std.specs.Prelude.{ℕ, suc, ◌+◌, ◌-◌, ◌/◌, Bool, true, f
 use Rattle.std.specs.Prelude.{◌++◌, codes, decimal, replicate, zip, Option, Some, None, is_none, if◌then◌else◌}
 use Rattle.std.specs.List.{list_all}
 use Rattle.jt_tap.specs.Controller.{is_stable}
-use Rattle.pin_nets.specs.Wired.{Net}
 use Rattle.bitbang_protocol.specs.declared.Message.{Message}
 use Rattle.bitbang_protocol.specs.declared.Message.TheVariants.{Write, Lines}
 use Rattle.bitbang_protocol.specs.declared.Cycle.{Cycle}
-use Rattle.board_model.specs.Chain.{ChipState, after_message, members}
-use Rattle.board_model.specs.Nets.{level}
+use Rattle.board_model.specs.Chain.{ChipState, after_message}
+use Rattle.wave_files.specs.declared.shown.Shown.{Shown}
+use Rattle.wave_files.specs.Changes.{stamped_changes}
+use Rattle.wave_files.specs.Values.{shown_of}
 use Rattle.play_waves.specs.declared.marks.Marks.{Marks}
-use Rattle.play_waves.specs.declared.shown.Shown.{Shown}
 use Rattle.play_waves.specs.Pens.{Pen}
-use Rattle.play_waves.specs.Values.{by_numbers, byte_change, device_change, first_of_devices, first_of_nets, first_tdo}
-use Rattle.play_waves.specs.Values.{level_byte, trst_byte, undriven, unknown, variables_of_device, wire}
-
--- ---- what changed from one pen to the next
 
 -- what the lines of the TAP show
 abbrev pub shown : Pen → Shown
-shown p = record {
-  tck = wire unknown p.marks.tck;
-  tms = wire unknown p.marks.tms;
-  tdi = wire unknown p.marks.tdi;
-  tdo = wire undriven (first_tdo p.board.chips);
-  trst = trst_byte p.board.trst;
-}
-
-abbrev pub further_lines : (before after : Shown) → List ℕ
-further_lines a b =
-    byte_change 1 a.tms b.tms
-    ++ (byte_change 2 a.tdi b.tdi ++ (byte_change 3 a.tdo b.tdo ++ byte_change 4 a.trst b.trst))
-
-abbrev pub line_changes : (before after : Shown) → List ℕ
-line_changes a b = byte_change 0 a.tck b.tck ++ further_lines a b
-
--- a net, by the devices before and after
-abbrev pub net_change : List Net → (before after : List ChipState) → ℕ → Net → List ℕ
-net_change nets before after n net =
-    byte_change n (level_byte (level nets (members before) net)) (level_byte (level nets (members after) net))
-
--- the devices and the nets
-abbrev pub board_changes : List Net → (before after : List ChipState) → List ℕ
-board_changes nets before after =
-    by_numbers device_change variables_of_device first_of_devices (zip before after)
-    ++ by_numbers (net_change nets before after) 1 (first_of_nets before) nets
+shown p = shown_of p.marks.tck p.marks.tms p.marks.tdi p.board.trst p.board.chips
 
 -- ---- time
 
@@ -116,15 +87,6 @@ abbrev pub taken : Message → Pen → Pen
 taken m p =
     let b = after_message m p.board in
     record { marks = marks_behind m p.marks b.tck b.chips; board = b }
-
--- `#1500000`
-abbrev pub stamp : (time : ℕ) → List ℕ
-stamp time = codes "#" ++ (decimal time ++ codes "\n")
-
--- the time, and each value that changed
-abbrev pub stamped_changes : (time : ℕ) → (before after : Shown) → List Net → (devices next : List ChipState) → List ℕ
-stamped_changes time before after nets devices next =
-    stamp time ++ (line_changes before after ++ board_changes nets devices next)
 
 -- Within a stretch nothing is written.
 abbrev pub between : Pen → Pen → List ℕ

@@ -1,6 +1,5 @@
 -- What holds of every wave.
 use Rattle.std.specs.Prelude.{◌≡◌, ◌⊎◌, true, ℕ, zero, suc, ◌+◌, ◌-◌, ◌*◌, ◌/◌, ◌<◌, ◌≤◌, List, [], ◌∷◌, length}
-use Rattle.jt_limits.specs.Limits.{limits}
 use Rattle.jt_tap.specs.declared.State.{State}
 use Rattle.bitbang_protocol.specs.declared.Message.{Message}
 use Rattle.bitbang_protocol.specs.declared.Message.TheVariants.{Ask}
@@ -9,11 +8,10 @@ use Rattle.svf_programs.specs.Steps.{Step}
 use Rattle.tck_cycles.specs.Cycles.{cycles}
 use Rattle.board_model.specs.Chain.{hear, reply_of}
 use Rattle.board_model.specs.declared.Reply.TheVariants.{Answer}
-use Rattle.board_report.specs.Report.{digit}
-use Rattle.play_waves.specs.Codes.{base, code}
+use Rattle.output_words.specs.Digits.{digit}
+use Rattle.wave_files.specs.Values.{undriven}
 use Rattle.play_waves.specs.Drawing.{after_drawing, lasts, later, latest, shown}
 use Rattle.play_waves.specs.Pens.{Pen}
-use Rattle.play_waves.specs.Values.{first_of_devices, undriven, variables_of_device}
 
 -- ---- what is drawn is what is played
 
@@ -27,20 +25,6 @@ abbrev pub TdoDrawnIsTheAnswer : Type 0
 TdoDrawnIsTheAnswer = (p : Pen)
     → (reply_of Ask p.board ≡ Answer (shown p).tdo)
     ⊎ (((shown p).tdo ≡ undriven) × (reply_of Ask p.board ≡ Answer (digit true)))
-
--- ---- codes
-
--- A code has at most three digits, so there are so many.
-abbrev pub codes_there_are : ℕ
-codes_there_are = base * base * base
-
--- No two variables have one code ..
-abbrev pub CodesDiffer : Type 0
-CodesDiffer = (m n : ℕ) → m < codes_there_are → n < codes_there_are → code m ≡ code n → m ≡ n
-
--- .. and there is one for each variable of the largest board.
-abbrev pub CodesSuffice : Type 0
-CodesSuffice = first_of_devices + variables_of_device * limits.devices + limits.nets ≤ codes_there_are
 
 -- ---- time
 

@@ -1,7 +1,5 @@
-pub mod Codes
 pub mod Drawing
 pub mod Fronts
-pub mod Heading
 pub mod Holding
 pub mod Pens
 pub mod Quiet
@@ -10,6 +8,5 @@ pub mod Samples
 pub mod Settled
 pub mod Shifted
 pub mod Texts
-pub mod Values
 pub mod Waves
 pub mod Laws

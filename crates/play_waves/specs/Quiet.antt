@@ -1,17 +1,14 @@
 -- Messages that leave what every pin drives, and every instruction: a level of a net and an instruction change only
 -- where a device updates or resets on a falling edge, and where the line TRST is told (IEEE Std 1149.1-2001, clauses
 -- 6.1, 7, 8).
-use Rattle.std.specs.Prelude.{◌≡◌, Bool, true, false, List, [], map}
+use Rattle.std.specs.Prelude.{Bool, true, false, List}
 use Rattle.std.specs.List.{list_all}
 use Rattle.jt_tap.specs.declared.Work.{Work}
 use Rattle.jt_tap.specs.declared.Work.TheVariants.{Resets, Updates}
 use Rattle.jt_tap.specs.Controller.{work}
 use Rattle.bitbang_protocol.specs.declared.Message.{Message}
 use Rattle.bitbang_protocol.specs.declared.Message.TheVariants.{Write}
-use Rattle.pin_nets.specs.Wired.{Net}
 use Rattle.board_model.specs.Chain.{ChipState}
-use Rattle.play_waves.specs.Drawing.{net_change}
-use Rattle.play_waves.specs.Values.{by_numbers, first_of_nets, latch}
 
 -- what a falling edge does in a state of this work
 abbrev pub keeps_drives : Work → Bool
@@ -23,15 +20,3 @@ abbrev pub keeps_levels : Message → List ChipState → Bool
 keeps_levels (Write true tms tdi) cs = true
 keeps_levels (Write false tms tdi) cs = list_all (λ c. keeps_drives (work c.state)) cs
 keeps_levels _ cs = false
-
--- nothing is told of any net
-abbrev pub TellsNoNet : List Net → (before after : List ChipState) → Type 0
-TellsNoNet nets before after = by_numbers (net_change nets before after) 1 (first_of_nets before) nets ≡ []
-
--- every device keeps its instruction
-abbrev pub KeepsInstructions : (before after : List ChipState) → Type 0
-KeepsInstructions before after = map latch before ≡ map latch after
-
-pub record IsQuiet (nets : List Net) (before after : List ChipState) : Type 0 where
-  pub no_net : TellsNoNet nets before after
-  pub no_instruction : KeepsInstructions before after

@@ -7,9 +7,10 @@ use Rattle.board_model.specs.Bare.{bare_board}
 use Rattle.board_model.specs.Chain.{BoardState}
 use Rattle.play_model.specs.Play.{turns}
 use Rattle.svf_programs.specs.Steps.{Numbered}
-use Rattle.play_waves.specs.Codes.{code}
-use Rattle.play_waves.specs.Drawing.{after_drawing, draw, stamp}
-use Rattle.play_waves.specs.Heading.{heading}
+use Rattle.wave_files.specs.Codes.{code}
+use Rattle.play_waves.specs.Drawing.{after_drawing, draw}
+use Rattle.wave_files.specs.Changes.{stamp}
+use Rattle.play_waves.specs.Waves.{heading}
 use Rattle.play_waves.specs.Pens.{Pen, begun}
 use Rattle.play_waves.specs.Samples.{asserting, delayed, driving, pair, selecting, waiting}
 use Rattle.play_waves.specs.Waves.{begins, wave}

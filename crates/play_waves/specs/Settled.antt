@@ -5,10 +5,11 @@ use Rattle.std.specs.List.{list_all}
 use Rattle.bitbang_protocol.specs.declared.Cycle.{Cycle}
 use Rattle.board_model.specs.Chain.{fall}
 use Rattle.play_waves.specs.declared.marks.Marks.{Marks}
-use Rattle.play_waves.specs.Drawing.{drawn_rests, later, stamp, tck_drawn}
+use Rattle.play_waves.specs.Drawing.{drawn_rests, later, tck_drawn}
+use Rattle.wave_files.specs.Changes.{stamp}
 use Rattle.play_waves.specs.Holding.{stays}
 use Rattle.play_waves.specs.Pens.{Pen}
-use Rattle.play_waves.specs.Values.{byte_change, unknown, wire}
+use Rattle.wave_files.specs.Values.{byte_change, unknown, wire}
 
 -- Such a cycle was drawn last: no edge of the next one moves a controller, and a falling one does nothing any more.
 pub record IsSettled (c : Cycle) (p : Pen) : Type 0 where

@@ -10,11 +10,12 @@ use Rattle.bitbang_protocol.specs.declared.Message.{Message}
 use Rattle.bitbang_protocol.specs.declared.Message.TheVariants.{Write}
 use Rattle.board_model.specs.Chain.{BoardState, ChipState}
 use Rattle.board_model.specs.Sound.{IsSoundBoard}
-use Rattle.board_report.specs.Report.{digit}
+use Rattle.output_words.specs.Digits.{digit}
 use Rattle.jt_board.specs.Shifting.{shifts}
-use Rattle.play_waves.specs.Drawing.{later, stamp}
+use Rattle.play_waves.specs.Drawing.{later}
+use Rattle.wave_files.specs.Changes.{stamp}
 use Rattle.play_waves.specs.Pens.{Pen}
-use Rattle.play_waves.specs.Values.{byte_change, byte_line}
+use Rattle.wave_files.specs.Values.{byte_change, byte_line}
 
 -- every controller stands in this state
 abbrev pub all_at : State → List ChipState → Bool

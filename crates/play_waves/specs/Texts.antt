@@ -2,6 +2,8 @@
 use Rattle.std.specs.Prelude.{◌≡◌, ℕ, List, Option, Result, Ok, Err}
 use Rattle.byte_streams.specs.Counts.{CountedView}
 use Rattle.byte_streams.specs.Writes.{WritesAll}
+use Rattle.output_words.specs.declared.status.Status.TheVariants as exits
+use Rattle.output_words.specs.Statuses.{number}
 use Rattle.svf_parse.specs.Judging.{Said}
 use Rattle.svf_parse.specs.Spelling.{TextSpells}
 use Rattle.svf_settings.specs.Periods.{period_at}
@@ -25,15 +27,8 @@ abbrev pub Draws : {W A E : Type 0} → (W → Option (List ℕ)) → List ℕ �
 Draws contents text kind b before after result =
     (file : List ℕ) × IsWavesOf text kind b file × WritesAll contents before after file result
 
--- the exit statuses of a lost write and of want of memory
-abbrev pub broken_status : ℕ
-broken_status = 3
-
-abbrev pub memory_status : ℕ
-memory_status = 4
-
 -- The exit status of a play that ended with this one, and whose waves were then drawn so.
 abbrev pub status_behind : {A : Type 0} → ℕ → Result A Undrawn → ℕ
 status_behind status (Ok x) = status
-status_behind status (Err undrawn.Broken) = broken_status
-status_behind status (Err undrawn.NoMemory) = memory_status
+status_behind status (Err undrawn.Broken) = number exits.Lost
+status_behind status (Err undrawn.NoMemory) = number exits.NoMemory

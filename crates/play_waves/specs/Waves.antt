@@ -9,13 +9,14 @@ use Rattle.play_model.specs.declared.ending.Ending.TheVariants.{Fail}
 use Rattle.play_model.specs.declared.kind.Kind.{Kind}
 use Rattle.play_model.specs.declared.kind.Kind.TheVariants.{Stops, PlaysOn}
 use Rattle.play_model.specs.Play.{Turn, play, turns}
-use Rattle.board_report.specs.Report.{digit}
+use Rattle.output_words.specs.Digits.{digit}
+use Rattle.wave_files.specs.Changes.{stamp}
+use Rattle.wave_files.specs.Codes.{binary}
+use Rattle.wave_files.specs.Heading.{heading_of}
+use Rattle.wave_files.specs.Values.{bits_line, byte_line, statement_variable}
 use Rattle.play_waves.specs.declared.marks.Marks.{Marks}
-use Rattle.play_waves.specs.Codes.{binary}
-use Rattle.play_waves.specs.Drawing.{after_drawing, draw, stamp}
-use Rattle.play_waves.specs.Heading.{heading}
+use Rattle.play_waves.specs.Drawing.{after_drawing, draw, shown}
 use Rattle.play_waves.specs.Pens.{Pen, begun}
-use Rattle.play_waves.specs.Values.{bits_line, byte_line, statement_variable}
 
 -- TCK, where it was drawn as unknown
 abbrev pub last_tck : (drawn : Option Bool) → Bool → List ℕ
@@ -63,6 +64,10 @@ failed_in _ = None
 abbrev pub stopped_in : Kind → Program → BoardState → Option ℕ
 stopped_in Stops program b = failed_in (play program b).ending
 stopped_in PlaysOn program b = None
+
+-- what stands before the first message
+abbrev pub heading : Pen → List ℕ
+heading p = heading_of (shown p) p.board.chips p.board.nets
 
 -- the file of a program's play on a board, where this is the period in force at the statement of each number
 abbrev pub wave_file : (period_of : ℕ → ℕ) → Kind → Program → BoardState → List ℕ

@@ -4,31 +4,27 @@ ghost use Rattle.std.specs.Prelude.{◌≡◌, ◌≤◌, ◌*◌, ◌&&◌, tru
 ghost use Rattle.byte_streams.specs.Writes.{WritesAll};
 ghost use Rattle.jt_limits.specs.Limits.{limits};
 ghost use Rattle.play_waves.specs.Drawing as spec;
-ghost use Rattle.play_waves.specs.Drawing.{after_mark, board_changes, lasting, mark, stamped_changes};
-ghost use Rattle.play_waves.specs.Heading.{heading};
+ghost use Rattle.play_waves.specs.Drawing.{after_mark, lasting, mark};
 ghost use Rattle.play_waves.specs.Holding as held;
 ghost use Rattle.play_waves.specs.Pens.{Pen, begun};
-ghost use Rattle.play_waves.specs.Quiet.{IsQuiet};
+ghost use Rattle.wave_files.specs.Changes.{IsQuiet};
 ghost use Rattle.play_waves.specs.Waves as waves;
+ghost use Rattle.play_waves.specs.Waves.{heading};
 
 mod resting;
 mod shifting;
 
-use crate::changes::{
-    STATEMENT_VARIABLE, write_device_changes, write_further_lines, write_net_changes,
-};
-use crate::codes::{digit_of, write_byte, write_number};
-use crate::heading::write_heading;
 use crate::holding::is_held_by;
-use crate::marks::{Marks, duration, marks_after, time_after};
+use crate::marks::{Marks, duration, marks_after, shown_on, time_after};
 use crate::quiet::keeps_levels;
-use crate::shown::{Shown, shown_on};
-use crate::stamps::{write_stamp, write_time};
 use bitbang_protocol::{Cycle, Message, encode};
-use board_chain::Chain;
 use byte_streams::{Broken, Counted, Sink, put_all};
 use jt_board::Board;
+use output_words::digit_of;
 use std::marker::Model;
+use wave_files::{
+    STATEMENT_VARIABLE, write_byte, write_changes, write_heading, write_number, write_stamp,
+};
 
 /// Two boards that take the same messages: what differs between them while one of them has taken a message more is what
 /// that message changed. So a wave takes no memory. Contracts see it as what was drawn last, and the board.
@@ -214,51 +210,4 @@ fn is_still(was: Option<bool>, is: Option<bool>) -> bool
     ensures { result ≡ (is_none was && is_none is) }
 {
     was.is_none() && is.is_none()
-}
-
-/// Writes the time, and what changed.
-fn write_changes<W: Sink>(
-    time: u64,
-    before: Shown,
-    after: Shown,
-    behind: &Chain,
-    ahead: &Chain,
-    quiet: bool,
-    out: &mut Counted<W>,
-) -> Result<(), Broken>
-    requires none_lost { out.old.failures ≡ 0 }
-    requires few { length behind.now.chips ≤ limits.devices }
-    requires few_nets { length behind.now.nets ≤ limits.nets }
-    requires alike { length ahead.now.chips ≡ length behind.now.chips }
-    requires alike_nets { ahead.now.nets ≡ behind.now.nets }
-    requires quiet { quiet ≡ true → IsQuiet behind.now.nets behind.now.chips ahead.now.chips }
-    ensures { WritesAll W.contents out.old out.new
-        (stamped_changes time before after behind.now.nets behind.now.chips ahead.now.chips) result }
-{
-    write_time(time, before.tck, after.tck, out)?;
-    write_further_lines(before, after, out)?;
-    write_board_changes(behind, ahead, quiet, out)
-}
-
-/// Writes what changed of the devices, and of the nets, none of which is looked at where it is known that none changed.
-fn write_board_changes<W: Sink>(
-    behind: &Chain,
-    ahead: &Chain,
-    quiet: bool,
-    out: &mut Counted<W>,
-) -> Result<(), Broken>
-    requires none_lost { out.old.failures ≡ 0 }
-    requires few { length behind.now.chips ≤ limits.devices }
-    requires few_nets { length behind.now.nets ≤ limits.nets }
-    requires alike { length ahead.now.chips ≡ length behind.now.chips }
-    requires alike_nets { ahead.now.nets ≡ behind.now.nets }
-    requires quiet { quiet ≡ true → IsQuiet behind.now.nets behind.now.chips ahead.now.chips }
-    ensures { WritesAll W.contents out.old out.new
-        (board_changes behind.now.nets behind.now.chips ahead.now.chips) result }
-{
-    write_device_changes(behind, ahead, quiet, out)?;
-    if quiet {
-        return put_all(out, b"");
-    }
-    write_net_changes(behind, ahead, out)
 }

@@ -2,7 +2,6 @@
 
 ghost use Rattle.std.specs.Prelude.{◌≡◌, ◌&&◌};
 ghost use Rattle.std.specs.List.{list_all};
-ghost use Rattle.jt_tap.specs.Controller.{is_at};
 ghost use Rattle.board_model.specs.Chain as model;
 ghost use Rattle.board_chips.specs.WiredChips.{chip_state};
 ghost use Rattle.play_waves.specs.Holding as spec;
@@ -11,7 +10,7 @@ use crate::marks::{DRAWN_RESTS, Marks, draws_so};
 use bitbang_protocol::Cycle;
 use board_chain::{Chain, WiredChip};
 use jt_board::Board;
-use jt_tap::State;
+use wave_files::is_same_state;
 
 /// Whether a cycle comes again, in a stretch, to devices that stay.
 pub(crate) fn is_held_by(cycle: Cycle, marks: Marks, board: &Board) -> bool
@@ -56,11 +55,4 @@ fn is_held(trst: bool, chip: &WiredChip) -> bool
     ensures { result ≡ model.is_held trst (chip_state chip.now).member }
 {
     trst && chip.device().has_trst()
-}
-
-/// Whether two states are one.
-pub(crate) fn is_same_state(one: State, other: State) -> bool
-    ensures { result ≡ is_at one other }
-{
-    one == other
 }

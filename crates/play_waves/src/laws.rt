@@ -1,6 +1,6 @@
 //! What holds of every wave, and worked waves.
 
-ghost use Rattle.play_waves.specs.Laws.{CodesDiffer, CodesSuffice, EachStepTakesItsCycles, TdoDrawnIsTheAnswer};
+ghost use Rattle.play_waves.specs.Laws.{EachStepTakesItsCycles, TdoDrawnIsTheAnswer};
 ghost use Rattle.play_waves.specs.Laws.{TimeGoesOn, WhatIsDrawnIsTheBoard};
 ghost use Rattle.play_waves.specs.Rows.{WaveRows};
 
@@ -9,12 +9,6 @@ ghost use Rattle.play_waves.specs.Rows.{WaveRows};
 pub fn what_is_drawn_is_played()
     ensures board { WhatIsDrawnIsTheBoard }
     ensures tdo { TdoDrawnIsTheAnswer }
-{}
-
-/// No two variables of a wave have one code (IEEE Std 1364-2001, clause 18), and there are enough for the largest board.
-pub fn codes_differ()
-    ensures differ { CodesDiffer }
-    ensures suffice { CodesSuffice }
 {}
 
 /// Messages last one after another, up to the last time that is told; a step lasts a period for each of its cycles, and

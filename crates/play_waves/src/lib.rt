@@ -5,25 +5,20 @@
 //! without them.
 #![tactic(auto)]
 
-mod binary;
-mod changes;
-mod codes;
 mod drawing;
 mod fronts;
-mod heading;
 mod holding;
 mod laws;
 mod marks;
 mod quiet;
-mod shown;
 mod stage;
-mod stamps;
 mod steps;
 mod undrawn;
 mod waves;
 
 pub use fronts::begins_as_waves;
-pub use laws::{codes_differ, each_step_takes_its_cycles, waves_compute, what_is_drawn_is_played};
+pub use laws::{each_step_takes_its_cycles, waves_compute, what_is_drawn_is_played};
 pub use stage::Stage;
 pub use undrawn::{Undrawn, status_behind};
+pub use wave_files::codes_differ;
 pub use waves::write_waves;

@@ -7,6 +7,8 @@ ghost use Rattle.play_waves.specs.Drawing.{tck_drawn};
 
 use bitbang_protocol::Message;
 use board_chain::Chain;
+use jt_board::Board;
+use wave_files::Shown;
 
 /// So many messages of a rest are drawn.
 pub(crate) const DRAWN_RESTS: u64 = 128;
@@ -22,6 +24,13 @@ pub(crate) struct Marks {
     pub(crate) tdi: Option<bool>,
     pub(crate) time: u64,
     pub(crate) rested: u64,
+}
+
+/// What is written for the lines, as they are drawn, of a board.
+pub(crate) fn shown_on(marks: Marks, board: &Board) -> Shown
+    ensures { result ≡ spec.shown (record { marks = marks; board = board.now }) }
+{
+    Shown::of(marks.tck, marks.tms, marks.tdi, board.chain())
 }
 
 /// The lines as they are drawn behind a message that left TCK and the devices so.

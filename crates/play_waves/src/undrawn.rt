@@ -3,10 +3,7 @@
 ghost use Rattle.std.specs.Prelude.{◌≡◌};
 ghost use Rattle.play_waves.specs.Texts as spec;
 
-/// The exit status of output that was lost.
-const BROKEN: u8 = 3;
-/// The exit status of want of memory.
-const MEMORY: u8 = 4;
+use output_words::Status;
 
 /// Why the waves of a program were not drawn, or not all of them.
 #[derive(Debug, Clone, Copy, PartialEq, Eq)]
@@ -24,7 +21,7 @@ pub fn status_behind(status: u8, drawn: Result<(), Undrawn>) -> u8
 {
     match drawn {
         Ok(()) => status,
-        Err(Undrawn::Broken) => BROKEN,
-        Err(Undrawn::NoMemory) => MEMORY,
+        Err(Undrawn::Broken) => Status::Lost.number(),
+        Err(Undrawn::NoMemory) => Status::NoMemory.number(),
     }
 }

@@ -13,7 +13,7 @@ ghost use Rattle.bitbang.specs.StepMessages.{step_messages};
 ghost use Rattle.play_model.specs.Play.{step_turns, turns};
 ghost use Rattle.play_direct.specs.Accepting.{Accepts, KeepsPeriodsOf};
 ghost use Rattle.play_waves.specs.Drawing.{after_drawing};
-ghost use Rattle.play_waves.specs.Heading.{heading};
+ghost use Rattle.play_waves.specs.Waves.{heading};
 ghost use Rattle.play_waves.specs.Pens.{begun};
 ghost use Rattle.play_waves.specs.Texts.{Draws};
 ghost use Rattle.play_waves.specs.Waves as spec;

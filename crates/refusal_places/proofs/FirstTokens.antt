@@ -9,7 +9,7 @@ use Rattle.svf_lex.specs.declared.LexFault.{LexFault}
 use Rattle.svf_lex.specs.Cutting.{Lexeme, items_of}
 use Rattle.svf_lex.specs.Lexed.{IsNoSemi}
 use Rattle.svf_lex.specs.Laws.{LexerGives}
-use Rattle.refusal_places.specs.declared.text_positions.Position.{Position}
+use Rattle.output_words.specs.declared.lines.Position.{Position}
 use Rattle.refusal_places.specs.Laws.{tokens_of, Group, tokens_in, IsGroup, has_words, is_statement, BeginsStatement, PositionOfFirstToken}
 use Rattle.refusal_places.specs.Positions.{position_at}
 use Rattle.refusal_places.specs.Starts.{starts, with_start, is_open_behind, statement_position}

@@ -1,6 +1,6 @@
 -- A position is no further than the bytes before it.
 use Rattle.std.proofs.Common.{ℕ, zero, suc, Bool, true, false, ◌+◌, ◌≤◌, List, arith}
-use Rattle.refusal_places.specs.declared.text_positions.Position.{Position}
+use Rattle.output_words.specs.declared.lines.Position.{Position}
 use Rattle.refusal_places.specs.Positions.{position_at, position_behind, ends_line}
 
 line_behind : (ends : Bool) (p : Position) → (position_behind ends p).line ≤ p.line + 1

@@ -7,7 +7,7 @@ use Rattle.svf_lex.specs.declared.Kind.TheVariants as kind
 use Rattle.svf_lex.specs.declared.LexFault.{LexFault}
 use Rattle.svf_lex.specs.Cutting.{Lexeme}
 use Rattle.svf_lex.specs.Lexed.{Lexes, IsNoSemi}
-use Rattle.refusal_places.specs.declared.text_positions.Position.{Position}
+use Rattle.output_words.specs.declared.lines.Position.{Position}
 use Rattle.refusal_places.specs.Positions.{position_at}
 use Rattle.refusal_places.specs.Starts.{statement_position}
 

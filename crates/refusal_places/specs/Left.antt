@@ -1,7 +1,7 @@
 -- What is left to be given of the positions of statements.
 use Rattle.std.specs.Prelude.{List, map}
 use Rattle.svf_lex.specs.Left.{left}
-use Rattle.refusal_places.specs.declared.text_positions.Position.{Position}
+use Rattle.output_words.specs.declared.lines.Position.{Position}
 use Rattle.refusal_places.specs.declared.text_positions.statements.StatementPositions.{StatementPositions}
 use Rattle.refusal_places.specs.Positions.{position_at}
 use Rattle.refusal_places.specs.Starts.{starts}

@@ -10,18 +10,12 @@ use Rattle.bsdl.specs.declared.fault.BsdlFault.{BsdlFault}
 use Rattle.bsdl.specs.declared.fault.BsdlFault.TheVariants as bsdl
 use Rattle.board_tables.specs.declared.fault.BoardFault.{BoardFault}
 use Rattle.board_tables.specs.declared.fault.BoardFault.TheVariants as board
-use Rattle.board_description.specs.Names.{shown}
-use Rattle.board_description.specs.Words.{texts}
-use Rattle.refusal_places.specs.declared.text_positions.Position.{Position}
+use Rattle.output_words.specs.declared.lines.Position.{Position}
+use Rattle.output_words.specs.Lines.{position_line, position_words}
+use Rattle.output_words.specs.Names.{shown}
+use Rattle.output_words.specs.Texts.{texts}
 use Rattle.refusal_places.specs.Positions.{position_of}
 use Rattle.refusal_places.specs.Starts.{statement_position}
-
-abbrev pub place_words : Position → List ℕ
-place_words p = texts (codes "at line " ∷ decimal p.line ∷ codes " column " ∷ decimal p.column ∷ [])
-
-abbrev pub place_line : Position → List ℕ
-place_line p = texts
-    (codes "at line " ∷ decimal p.line ∷ codes " column " ∷ decimal p.column ∷ codes "\n" ∷ [])
 
 -- where a refusal of SVF text lies: at its byte, else where its statement starts, if it has one
 abbrev pub svf_position : List ℕ → SvfFault → Option Position
@@ -34,7 +28,7 @@ svf_position text f = by f.code
 
 -- the line of that, none where a text is too long or memory ran out
 abbrev pub svf_line : List ℕ → SvfFault → List ℕ
-svf_line text f = unwrap_or (option_map place_line (svf_position text f)) []
+svf_line text f = unwrap_or (option_map position_line (svf_position text f)) []
 
 -- an attribute as descriptions name it
 abbrev pub attribute_word : Attribute → List ℕ
@@ -58,8 +52,8 @@ name_words name = codes "name " ++ name
 
 -- what a refusal of a description says beside its number: a place of the text, a name, or a cell
 abbrev pub bsdl_words : List ℕ → BsdlFault → List ℕ
-bsdl_words text (bsdl.BadToken place) = codes " " ++ place_words (position_of text place)
-bsdl_words text (bsdl.BadForm place) = codes " " ++ place_words (position_of text place)
+bsdl_words text (bsdl.BadToken place) = codes " " ++ position_words (position_of text place)
+bsdl_words text (bsdl.BadForm place) = codes " " ++ position_words (position_of text place)
 bsdl_words text (bsdl.Missing a) = codes " " ++ name_words (attribute_word a)
 bsdl_words text (bsdl.Twice name) = codes " " ++ name_words (shown (string_bytes name))
 bsdl_words text (bsdl.BadCell number) = codes " " ++ name_words (decimal number)

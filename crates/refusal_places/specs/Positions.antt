@@ -1,7 +1,7 @@
 -- Where a byte stands in a text, by lines and columns counted from 1.
 use Rattle.std.specs.Prelude.{ℕ, Bool, zero, suc, ◌+◌, ◌==◌, ◌&&◌, ◌||◌, not, nat_le, List, length, get_or}
 use Rattle.std.specs.Prelude.{if◌then◌else◌}
-use Rattle.refusal_places.specs.declared.text_positions.Position.{Position}
+use Rattle.output_words.specs.declared.lines.Position.{Position}
 
 abbrev pub line_feed : ℕ
 line_feed = 10

@@ -6,7 +6,7 @@ use Rattle.svf_words.specs.declared.fault.SvfFault.{SvfFault}
 use Rattle.bsdl_values.specs.declared.Attribute.TheVariants as attribute
 use Rattle.bsdl.specs.declared.fault.BsdlFault.TheVariants as bsdl
 use Rattle.board_tables.specs.declared.fault.BoardFault.TheVariants as board
-use Rattle.refusal_places.specs.declared.text_positions.Position.{Position}
+use Rattle.output_words.specs.declared.lines.Position.{Position}
 use Rattle.refusal_places.specs.Places.{svf_position, svf_line, bsdl_line, board_line}
 
 abbrev pub at : (line column : ℕ) → Position

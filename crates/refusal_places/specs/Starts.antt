@@ -5,7 +5,7 @@ use Rattle.svf_lex.specs.declared.Kind.{Kind}
 use Rattle.svf_lex.specs.declared.Kind.TheVariants as kind
 use Rattle.svf_lex.specs.declared.LexFault.{LexFault}
 use Rattle.svf_lex.specs.Cutting.{Lexeme, items_of}
-use Rattle.refusal_places.specs.declared.text_positions.Position.{Position}
+use Rattle.output_words.specs.declared.lines.Position.{Position}
 use Rattle.refusal_places.specs.Positions.{position_at}
 
 -- whether a statement is open behind a token of this kind: behind any but a `;`

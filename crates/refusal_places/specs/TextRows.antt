@@ -1,6 +1,6 @@
 -- Texts with where their statements start, and where bytes of them stand.
 use Rattle.std.specs.Prelude.{◌≡◌, ℕ, List, [], ◌∷◌, ◌++◌, codes, Option, Some, None}
-use Rattle.refusal_places.specs.declared.text_positions.Position.{Position}
+use Rattle.output_words.specs.declared.lines.Position.{Position}
 use Rattle.refusal_places.specs.Positions.{line_feed, carriage_return, position_of}
 use Rattle.refusal_places.specs.Starts.{statement_position}
 

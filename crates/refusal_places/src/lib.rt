@@ -6,11 +6,11 @@
 
 ghost use Rattle.refusal_places.specs.Rows.{PlaceRows};
 
-pub use lines::{refused_board, refused_description, refused_text, statement_at};
-pub use text_positions::{Position, StatementPositions, position_of, statement_position};
+pub use lines::{refused_board, refused_description, refused_text};
+pub use output_words::Position;
+pub use text_positions::{StatementPositions, position_of, statement_position};
 
 mod lines;
-mod names;
 pub mod text_positions;
 
 /// Refusals with their second lines.

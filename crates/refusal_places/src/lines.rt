@@ -1,15 +1,16 @@
 //! The second line of a refusal.
 ghost use Rattle.std.specs.Prelude.{◌≡◌, ◌++◌, codes};
 ghost use Rattle.byte_streams.specs.Writes.{WritesAll};
-ghost use Rattle.board_description.specs.Names.{shown};
+ghost use Rattle.output_words.specs.Lines.{position_words};
+ghost use Rattle.output_words.specs.Names.{shown};
 ghost use Rattle.refusal_places.specs.Places as places;
 
-use crate::names::write_shown;
-use crate::text_positions::{Position, position_of, statement_position};
+use crate::text_positions::{position_of, statement_position};
 use board_tables::BoardFault;
 use bsdl::{Attribute, BsdlFault};
 use byte_streams::{Broken, Counted, Sink, put_all, put_pieces};
 use itoa::Buffer;
+use output_words::{Position, write_position, write_position_line, write_shown};
 use svf_words::{Code, SvfFault};
 
 /// Writes where a refusal of SVF text lies, `at line 3 column 1`: a byte that begins nothing and a statement that is
@@ -26,30 +27,9 @@ pub fn refused_text<E: Sink>(
     ensures { WritesAll E.contents err.old err.new (places.svf_line text.now fault) result }
 {
     match svf_position(text, fault) {
-        Some(position) => statement_at(position, err),
+        Some(position) => write_position_line(position, err),
         None => put_all(err, b""),
     }
-}
-
-/// Writes a position, `at line 3 column 1`.
-///
-/// `Broken` comes exactly where the writer's first failure came in this call.
-pub fn statement_at<E: Sink>(position: Position, err: &mut Counted<E>) -> Result<(), Broken>
-    requires { err.old.failures ≡ 0 }
-    ensures { WritesAll E.contents err.old err.new (places.place_line position) result }
-{
-    let mut line = Buffer::new();
-    let mut column = Buffer::new();
-    put_pieces(
-        err,
-        &[
-            b"at line ",
-            line.format(position.line).as_bytes(),
-            b" column ",
-            column.format(position.column).as_bytes(),
-            b"\n",
-        ],
-    )
 }
 
 /// Where a refusal of SVF text lies.
@@ -76,7 +56,7 @@ pub fn refused_description<E: Sink>(
     ensures { WritesAll E.contents err.old err.new (places.bsdl_line file.now text.now fault.now) result }
 {
     put_all(err, b"in ")?;
-    write_text(file, err)?;
+    write_shown(file, err)?;
     write_bsdl_words(text, fault, err)?;
     put_all(err, b"\n")
 }
@@ -91,8 +71,8 @@ fn write_bsdl_words<E: Sink>(
     ensures { WritesAll E.contents err.old err.new (places.bsdl_words text.now fault.now) result }
 {
     match fault {
-        BsdlFault::BadToken(place) => write_spaced_place(position_of(text, *place), err),
-        BsdlFault::BadForm(place) => write_spaced_place(position_of(text, *place), err),
+        BsdlFault::BadToken(place) => write_spaced_position(position_of(text, *place), err),
+        BsdlFault::BadForm(place) => write_spaced_position(position_of(text, *place), err),
         BsdlFault::Missing(attribute) => {
             put_pieces(err, &[b" name ", attribute_word(*attribute).as_bytes()])
         }
@@ -106,21 +86,12 @@ fn write_bsdl_words<E: Sink>(
 }
 
 /// Writes the words of a position, behind a blank.
-fn write_spaced_place<E: Sink>(position: Position, err: &mut Counted<E>) -> Result<(), Broken>
+fn write_spaced_position<E: Sink>(position: Position, err: &mut Counted<E>) -> Result<(), Broken>
     requires { err.old.failures ≡ 0 }
-    ensures { WritesAll E.contents err.old err.new (codes " " ++ places.place_words position) result }
+    ensures { WritesAll E.contents err.old err.new (codes " " ++ position_words position) result }
 {
-    let mut line = Buffer::new();
-    let mut column = Buffer::new();
-    put_pieces(
-        err,
-        &[
-            b" at line ",
-            line.format(position.line).as_bytes(),
-            b" column ",
-            column.format(position.column).as_bytes(),
-        ],
-    )
+    put_all(err, b" ")?;
+    write_position(position, err)
 }
 
 /// Writes the words of a name, behind a blank.
@@ -130,15 +101,7 @@ fn write_spaced_name<E: Sink>(name: &str, err: &mut Counted<E>) -> Result<(), Br
         (codes " " ++ places.name_words (shown name.now)) result }
 {
     put_all(err, b" name ")?;
-    write_text(name, err)
-}
-
-/// Writes a text as names are told.
-fn write_text<E: Sink>(name: &str, err: &mut Counted<E>) -> Result<(), Broken>
-    requires { err.old.failures ≡ 0 }
-    ensures { WritesAll E.contents err.old err.new (shown name.now) result }
-{
-    write_shown(name.as_bytes(), err)
+    write_shown(name, err)
 }
 
 /// Writes the name that a refused board file speaks of, `name U3.Q(1)`: a key, a file, a pin or the target of a string.
@@ -168,7 +131,7 @@ fn write_name<E: Sink>(name: &str, err: &mut Counted<E>) -> Result<(), Broken>
     ensures { WritesAll E.contents err.old err.new (places.name_line name.now) result }
 {
     put_all(err, b"name ")?;
-    write_text(name, err)?;
+    write_shown(name, err)?;
     put_all(err, b"\n")
 }
 

@@ -8,17 +8,10 @@ ghost use Rattle.refusal_places.specs.Positions.{position_at};
 
 pub use statements::{StatementPositions, statement_position};
 
+use output_words::Position;
+
 pub mod laws;
 mod statements;
-
-/// Where a byte stands in a text.
-#[derive(Debug, Clone, Copy, PartialEq, Eq)]
-pub struct Position {
-    /// The line, counted from 1.
-    pub line: usize,
-    /// The place in the line, counted in bytes from 1.
-    pub column: usize,
-}
 
 /// The line and column of the byte at an offset of a text, or of the text's end where the offset lies beyond it. Takes
 /// no memory.

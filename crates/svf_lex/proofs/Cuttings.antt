@@ -11,6 +11,8 @@ use Rattle.svf_lex.specs.Gaps.{bytes_of, Divides, tokens_at, TokensOf, BadAfter,
 use Rattle.svf_lex.specs.Laws.{TokensAreCut, BadByteIsCut, EachIsCut, TokensAreOne, BadByteIsOne, NeverBoth}
 use Rattle.svf_lex.proofs.Steps.{cut-nil, cut-cons}
 use Rattle.svf_lex.proofs.RowsOfParts.{divides_cut, Found, found}
+use Rattle.token_runs.proofs.OneCutting.{Cutting}
+use Rattle.token_runs.proofs.OneCutting as one
 
 pub tokens_cut : (text : List ℕ) (ts : List Lexeme) → TokensOf text ts → cuts_of text ≡ map piece ts
 tokens_cut text ts t =
@@ -55,54 +57,25 @@ each_is_cut text = let f = found text in each_by text f f.rest refl f.ends
 
 -- ---- a cut has one list of tokens
 
-pub same_tokens : (ts us : List Lexeme) → map piece ts ≡ map piece us → ts ≡ us
-same_tokens [] [] e = refl
-same_tokens [] (u ∷ us) e = cc
-same_tokens (t ∷ ts) [] e = cc
-same_tokens (t ∷ ts) (u ∷ us) e =
-    let tail : map piece ts ≡ map piece us = cc in
-    let more : ts ≡ us = same_tokens ts us tail in
-    let head : t ≡ u = cc in
-    cc
-
-same_bad : (ts us : List Lexeme) (p q : ℕ) → map piece ts ++ bad p ∷ [] ≡ map piece us ++ bad q ∷ [] → (ts ≡ us) × (p ≡ q)
-same_bad [] [] p q e = (refl, cc)
-same_bad [] (u ∷ us) p q e = cc
-same_bad (t ∷ ts) [] p q e = cc
-same_bad (t ∷ ts) (u ∷ us) p q e =
-    let tail : map piece ts ++ bad p ∷ [] ≡ map piece us ++ bad q ∷ [] = cc in
-    let more : (ts ≡ us) × (p ≡ q) = same_bad ts us p q tail in
-    let head : t ≡ u = cc in
-    let both : ts ≡ us = more.0 in
-    (cc, more.1)
-
-never_bad : (ts us : List Lexeme) (q : ℕ) → map piece ts ≡ map piece us ++ bad q ∷ [] → ⊥
-never_bad [] [] q e = cc
-never_bad [] (u ∷ us) q e = cc
-never_bad (t ∷ ts) [] q e = cc
-never_bad (t ∷ ts) (u ∷ us) q e = let tail : map piece ts ≡ map piece us ++ bad q ∷ [] = cc in never_bad ts us q tail
+cutting : (text : List ℕ) → Cutting Lexeme Cut piece bad (cuts_of text) (TokensOf text) (BadAfter text)
+cutting text = record {
+  apart = record { tokens = λ t u e. cc; places = λ p q e. cc; never = λ t p e. cc };
+  tokens_cut = tokens_cut text;
+  bad_cut = bad_cut text;
+  each = each_is_cut text;
+}
 
 pub tokens_are_one : TokensAreOne
-tokens_are_one text ts us t u = same_tokens ts us (sym (tokens_cut text ts t) ∙ tokens_cut text us u)
+tokens_are_one text = one.tokens_are_one (cutting text)
 
 pub bad_byte_is_one : BadByteIsOne
-bad_byte_is_one text ts us p q t u = same_bad ts us p q (sym (bad_cut text ts p t) ∙ bad_cut text us q u)
+bad_byte_is_one text = one.bad_byte_is_one (cutting text)
 
 pub never_both : NeverBoth
-never_both text ts us q t u = never_bad ts us q (sym (tokens_cut text ts t) ∙ bad_cut text us q u)
-
-tokens_by : (text : List ℕ) (ts : List Lexeme) → cuts_of text ≡ map piece ts → ((us : List Lexeme) × TokensOf text us) ⊎ ((us : List Lexeme) × (place : ℕ) × BadAfter text us place) → TokensOf text ts
-tokens_by text ts cuts (inl (us, u)) = subst (TokensOf text) (same_tokens us ts (sym (tokens_cut text us u) ∙ cuts)) u
-tokens_by text ts cuts (inr (us, place, u)) = absurd (never_bad ts us place (sym cuts ∙ bad_cut text us place u))
+never_both text = one.never_both (cutting text)
 
 pub tokens_are_cut : TokensAreCut
-tokens_are_cut text ts = (tokens_cut text ts, λ cuts. tokens_by text ts cuts (each_is_cut text))
-
-bad_by : (text : List ℕ) (ts : List Lexeme) (p : ℕ) → cuts_of text ≡ map piece ts ++ bad p ∷ [] → ((us : List Lexeme) × TokensOf text us) ⊎ ((us : List Lexeme) × (place : ℕ) × BadAfter text us place) → BadAfter text ts p
-bad_by text ts p cuts (inl (us, u)) = absurd (never_bad us ts p (sym (tokens_cut text us u) ∙ cuts))
-bad_by text ts p cuts (inr (us, q, u)) =
-    let same = same_bad us ts q p (sym (bad_cut text us q u) ∙ cuts) in
-    subst (λ (xs : List Lexeme). BadAfter text xs p) same.0 (subst (BadAfter text us) same.1 u)
+tokens_are_cut text ts = (tokens_cut text ts, one.tokens_of (cutting text) ts)
 
 pub bad_byte_is_cut : BadByteIsCut
-bad_byte_is_cut text ts p = (bad_cut text ts p, λ cuts. bad_by text ts p cuts (each_is_cut text))
+bad_byte_is_cut text ts p = (bad_cut text ts p, one.bad_of (cutting text) ts p)

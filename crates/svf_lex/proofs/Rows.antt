@@ -8,7 +8,8 @@ use Rattle.svf_lex.specs.declared.scan.Front.TheVariants.{Gap, Token, Bad}
 use Rattle.token_runs.specs.Bytes.{is_white}
 use Rattle.svf_lex.specs.Bytes.{is_run, begins_comment}
 use Rattle.svf_lex.specs.Cutting.{front}
-use Rattle.svf_lex.specs.Gaps.{Part, white, comment, token, bytes_of, EndsLine, EndsRun, IsInLine, IsRunByte, IsComment, IsPart, Divides}
+use Rattle.svf_lex.specs.Gaps.{Part, white, comment, token, bytes_of, IsComment, IsPart, Divides}
+use Rattle.token_runs.specs.Runs.{Ends, AllPass, EndsLine, IsInLine}
 use Rattle.svf_lex.specs.Laws.{PartsAreOne, PartsJoin, RunsStandApart}
 use Rattle.svf_lex.proofs.Parts.{comment_front, run_front, part_holds}
 
@@ -39,7 +40,7 @@ comment_either : (bytes after : List ℕ) → IsComment bytes → EndsLine after
 comment_either bytes after (body, inl is, all) ends = subst (λ (b : List ℕ). IsFirst (comment b) after) (sym is) (comment_first 33 body after refl refl all ends)
 comment_either bytes after (body, inr is, all) ends = subst (λ (b : List ℕ). IsFirst (comment b) after) (sym is) (comment_first 47 (47 ∷ body) after refl refl (refl, all) ends)
 
-run_first : (c : ℕ) (body after : List ℕ) → is_run c ≡ true → AllByRecursion IsRunByte body → EndsRun after → IsFirst (token kind.Run (c ∷ body)) after
+run_first : (c : ℕ) (body after : List ℕ) → is_run c ≡ true → AllPass is_run body → Ends is_run after → IsFirst (token kind.Run (c ∷ body)) after
 run_first c body after run all ends =
     ap (λ (f : Front). part_by f (is_white c) c (body ++ after)) (run_front c body after run all ends)
     ∙ ap (λ (t : List ℕ). token kind.Run (c ∷ t)) (take_at body after (length body) refl)
@@ -78,11 +79,11 @@ joined (p ∷ parts) text rest (after, is, fits, more) =
 pub parts_join : PartsJoin
 parts_join text parts is = sym (append-nil (flat_map bytes_of parts)) ∙ joined parts text [] is
 
-no_run_behind : (second here more : List ℕ) → here ≡ second ++ more → 0 < length second → AllByRecursion IsRunByte second → EndsRun here → ⊥
+no_run_behind : (second here more : List ℕ) → here ≡ second ++ more → 0 < length second → AllPass is_run second → Ends is_run here → ⊥
 no_run_behind [] here more is holds all ends = omega arith
 no_run_behind (c ∷ second) here more is holds all ends =
     let run : is_run c ≡ true = all.0 in
-    let none : is_run c ≡ false = subst EndsRun is ends in
+    let none : is_run c ≡ false = subst (Ends is_run) is ends in
     cc
 
 pub runs_stand_apart : RunsStandApart

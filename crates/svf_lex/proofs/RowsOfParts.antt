@@ -1,14 +1,15 @@
 -- Each text is a row of parts up to its end or to a byte that begins nothing, and its cut is theirs.
-use Rattle.std.proofs.Common.{◌≡◌, ℕ, zero, suc, ◌+◌, Bool, true, false, cond, not, nat_eq, List, [], ◌∷◌, ◌++◌, length, take, drop, get_or, map, refl, sym, ap, ◌∙◌, ◌⊎◌, inl, inr, arith}
+use Rattle.std.proofs.Common.{◌≡◌, ℕ, zero, suc, ◌+◌, Bool, true, false, nat_eq, List, [], ◌∷◌, ◌++◌, length, take, drop, get_or, map, refl, sym, ap, ◌∙◌, ◌⊎◌, inl, inr, arith}
 use Rattle.std.proofs.lemmas.List.{take-append-drop, length-append}
-use Rattle.std.specs.List.{prefix_len, flat_map, AllByRecursion}
+use Rattle.std.specs.List.{prefix_len, flat_map}
 use Rattle.std.proofs.lemmas.Bool.Decides.{nat_tests}
 use Rattle.svf_lex.specs.declared.Kind.TheVariants as kind
-use Rattle.token_runs.specs.Bytes.{is_white, is_line_end}
+use Rattle.token_runs.specs.Bytes.{is_white}
 use Rattle.svf_lex.specs.Bytes.{is_run, is_mark, begins_comment}
 use Rattle.svf_lex.specs.Cutting.{Cut, piece, cut}
-use Rattle.svf_lex.specs.Gaps.{Part, white, comment, token, bytes_of, EndsLine, EndsRun, IsInLine, IsComment, IsPart, Divides, tokens_at, BeginsNothing}
-use Rattle.svf_lex.proofs.Parts.{Ends, part_cut}
+use Rattle.svf_lex.specs.Gaps.{Part, white, comment, token, bytes_of, IsComment, IsPart, Divides, tokens_at, BeginsNothing}
+use Rattle.token_runs.proofs.RunFronts.{prefix_passes, prefix_ends, is_in_line, all_in_line, line_ends}
+use Rattle.svf_lex.proofs.Parts.{part_cut}
 
 tokens_more : (at : ℕ) (p : Part) (parts : List Part) (cuts : List Cut)
     → map piece (tokens_at at (p ∷ [])) ++ (map piece (tokens_at (at + length (bytes_of p)) parts) ++ cuts) ≡ map piece (tokens_at at (p ∷ parts)) ++ cuts
@@ -38,47 +39,6 @@ pub record Found (text : List ℕ) : Type 0 where
 
 before : (p : Part) (text after : List ℕ) → text ≡ bytes_of p ++ after → IsPart p after → Found after → Found text
 before p text after is fits f = record { parts = p ∷ f.parts; rest = f.rest; divides = (after, is, fits, f.divides); ends = f.ends }
-
--- the longest front that passes
-module _ (p : ℕ → Bool) where
-  prefix_cases : (c : ℕ) (cs : List ℕ) (b : Bool) → p c ≡ b → AllByRecursion (λ c. p c ≡ true) (take (prefix_len p cs) cs) → AllByRecursion (λ c. p c ≡ true) (take (cond b (1 + prefix_len p cs) 0) (c ∷ cs))
-  prefix_cases c cs true here more = let one : 1 + prefix_len p cs ≡ suc (prefix_len p cs) = omega arith in rw one (here, more)
-  prefix_cases c cs false here more = tt
-
-  prefix_passes : (cs : List ℕ) → AllByRecursion (λ c. p c ≡ true) (take (prefix_len p cs) cs)
-  prefix_passes [] = tt
-  prefix_passes (c ∷ cs) = prefix_cases c cs (p c) refl (prefix_passes cs)
-
-  ends_cases : (c : ℕ) (cs : List ℕ) (b : Bool) → p c ≡ b → Ends p (drop (prefix_len p cs) cs) → Ends p (drop (cond b (1 + prefix_len p cs) 0) (c ∷ cs))
-  ends_cases c cs true here more = let one : 1 + prefix_len p cs ≡ suc (prefix_len p cs) = omega arith in rw one more
-  ends_cases c cs false here more = here
-
-  prefix_ends : (cs : List ℕ) → Ends p (drop (prefix_len p cs) cs)
-  prefix_ends [] = tt
-  prefix_ends (c ∷ cs) = ends_cases c cs (p c) refl (prefix_ends cs)
-
-not-true : (b : Bool) → not b ≡ true → b ≡ false
-not-true true e = sym e
-not-true false e = refl
-
-not-false : (b : Bool) → not b ≡ false → b ≡ true
-not-false true e = refl
-not-false false e = sym e
-
-abbrev is_in_line : ℕ → Bool
-is_in_line c = not (is_line_end c)
-
-all_in_line : (bytes : List ℕ) → AllByRecursion (λ c. is_in_line c ≡ true) bytes → AllByRecursion IsInLine bytes
-all_in_line [] all = tt
-all_in_line (c ∷ bytes) all = (not-true (is_line_end c) all.0, all_in_line bytes all.1)
-
-line_ends : (after : List ℕ) → Ends is_in_line after → EndsLine after
-line_ends [] ends = tt
-line_ends (c ∷ after) ends = not-false (is_line_end c) ends
-
-run_ends : (after : List ℕ) → Ends is_run after → EndsRun after
-run_ends [] ends = tt
-run_ends (c ∷ after) ends = ends
 
 equal_from_test : (c d : ℕ) → nat_eq c d ≡ true → c ≡ d
 equal_from_test c d e = grind (arith, nat_tests)
@@ -111,7 +71,7 @@ module _ (c : ℕ) (cs : List ℕ) (later : (n : ℕ) → Found (drop n cs)) whe
   found_run run =
       let n = prefix_len is_run cs in
       before (token kind.Run (c ∷ take n cs)) (c ∷ cs) (drop n cs) (whole n)
-      (omega arith, (run, prefix_passes is_run cs), run_ends (drop n cs) (prefix_ends is_run cs)) (later n)
+      (omega arith, (run, prefix_passes is_run cs), prefix_ends is_run cs) (later n)
 
   found_mark : is_white c ≡ false → begins_comment c cs ≡ false → is_run c ≡ false → (a b d : Bool) → nat_eq c 40 ≡ a → nat_eq c 41 ≡ b → nat_eq c 59 ≡ d → Found (c ∷ cs)
   found_mark no_white no_comment no_run true b d open_is close_is semi_is =

@@ -1,72 +1,42 @@
 -- One step of cutting a text.
-use Rattle.std.proofs.Common.{◌≡◌, ℕ, zero, suc, ◌+◌, ◌-◌, ◌<◌, ◌≤◌, List, [], ◌∷◌, length, take, drop, get_or, refl, sym, ap, ◌∙◌, subst, arith}
-use Rattle.std.proofs.lemmas.List.{drop-drop, drop_all, drop_more, take_rest, length-take-le}
+use Rattle.std.proofs.Common.{◌≡◌, ℕ, suc, ◌+◌, ◌<◌, ◌≤◌, List, [], ◌∷◌, ◌++◌, length, drop, get_or, refl}
 use Rattle.svf_lex.specs.declared.Kind.{Kind}
 use Rattle.svf_lex.specs.declared.scan.Front.{Front}
 use Rattle.svf_lex.specs.declared.scan.Front.TheVariants.{Gap, Token, Bad}
 use Rattle.svf_lex.specs.Cutting.{Cut, piece, bad, cut, front, behind, with_front}
+use Rattle.token_runs.proofs.CutSteps.{CutsBy, rest_of, part_of}
+use Rattle.token_runs.proofs.CutSteps as steps
+
+cuts : CutsBy Front Cut front behind with_front cut
+unfolding cut
+cuts = record { ends = λ skip at. refl; skips = λ k at c cs. refl; begins = λ at c cs. refl }
+
+abbrev made : Kind → ℕ → List ℕ → Cut
+made k at text = piece (record { kind = k; text = text; start = at })
 
 pub cut-nil : (skip at : ℕ) → cut skip at [] ≡ []
-unfolding cut
-cut-nil skip at = refl
+cut-nil skip at = cuts.ends skip at
 
--- the bytes that belong to what was cut before
-pub cut_skips : (skip at : ℕ) (text : List ℕ) → cut skip at text ≡ cut 0 (at + skip) (drop skip text)
-unfolding cut
-cut_skips zero at text = let place : at ≡ at + 0 = omega arith in ap (λ (p : ℕ). cut 0 p text) place
-cut_skips (suc k) at [] = refl
-cut_skips (suc k) at (c ∷ cs) =
-    let place : at + 1 + k ≡ at + suc k = omega arith in cut_skips k (at + 1) cs ∙ ap (λ (p : ℕ). cut 0 p (drop k cs)) place
-
--- the cuts of c and cs from place `at` on, where f stands at the front
-abbrev pub cuts_behind : Front → ℕ → ℕ → List ℕ → List Cut
-cuts_behind f at c cs = with_front f at c cs (cut 0 (at + 1 + behind f) (drop (behind f) cs))
-
-pub cut-cons : (at c : ℕ) (cs : List ℕ) (f : Front) → front c cs ≡ f → cut 0 at (c ∷ cs) ≡ cuts_behind f at c cs
-unfolding cut
-cut-cons at c cs f is =
-    ap (with_front (front c cs) at c cs) (cut_skips (behind (front c cs)) (at + 1) cs) ∙ ap (λ (g : Front). cuts_behind g at c cs) is
-
--- what stands behind a place of a source, as a slice
-abbrev pub rest_of : List ℕ → ℕ → List ℕ
-rest_of source at = take (length source - (at + 1)) (drop (at + 1) source)
-
--- the same at a place of a source
-cut_at : (source : List ℕ) (at : ℕ) (f : Front) → at < length source → f ≡ front (get_or source at 0) (rest_of source at)
-    → cut 0 at (drop at source) ≡ with_front f at (get_or source at 0) (drop (at + 1) source) (cut 0 (at + 1 + behind f) (drop (at + 1 + behind f) source))
-cut_at source at f lt is =
-    let c = get_or source at 0 in
-    let cs = drop (at + 1) source in
-    ap (cut 0 at) (drop_more source at 0 lt) ∙ cut-cons at c cs f (ap (front c) (sym (take_rest source (at + 1))) ∙ sym is)
-    ∙ ap (λ (t : List ℕ). with_front f at c cs (cut 0 (at + 1 + behind f) t)) (drop-drop (behind f) (at + 1) source)
+pub cut-cons : (at c : ℕ) (cs : List ℕ) (f : Front) → front c cs ≡ f → cut 0 at (c ∷ cs) ≡ with_front f at c cs (cut 0 (at + 1 + behind f) (drop (behind f) cs))
+cut-cons at c cs f is = steps.cut-cons cuts at c cs f is
 
 pub at_end : (source : List ℕ) (at : ℕ) → length source ≤ at → cut 0 at (drop at source) ≡ []
-at_end source at past = ap (cut 0 at) (drop_all at source past) ∙ cut-nil 0 at
+at_end source at past = steps.at_end cuts source at past
 
 pub at_gap : (source : List ℕ) (at n : ℕ) → at < length source → Gap n ≡ front (get_or source at 0) (rest_of source at)
     → cut 0 at (drop at source) ≡ cut 0 (at + (1 + n)) (drop (at + (1 + n)) source)
-at_gap source at n lt is =
-    let place : at + 1 + n ≡ at + (1 + n) = omega arith in
-    cut_at source at (Gap n) lt is ∙ ap (λ (p : ℕ). cut 0 p (drop p source)) place
+at_gap source at n lt is = steps.at_gap cuts (Gap n) (λ at c cs more. refl) source at lt is
 
 pub at_bad : (source : List ℕ) (at : ℕ) → at < length source → Bad ≡ front (get_or source at 0) (rest_of source at) → cut 0 at (drop at source) ≡ bad at ∷ []
-at_bad source at lt is = cut_at source at Bad lt is
-
--- the bytes of a token, as a slice
-abbrev pub part_of : List ℕ → ℕ → ℕ → List ℕ
-part_of source at n = take (at + 1 + n - at) (drop at source)
-
-part-cons : (source : List ℕ) (at n : ℕ) → at < length source → part_of source at n ≡ get_or source at 0 ∷ take n (drop (at + 1) source)
-part-cons source at n lt =
-    let size : at + 1 + n - at ≡ suc n = omega arith in
-    rw size (ap (take (suc n)) (drop_more source at 0 lt))
+at_bad source at lt is = steps.cut_at cuts source at Bad lt is
 
 pub at_token : (source : List ℕ) (at : ℕ) (k : Kind) (n : ℕ) → at < length source → n ≤ length (rest_of source at) → Token k n ≡ front (get_or source at 0) (rest_of source at)
-    → cut 0 at (drop at source)
-    ≡ piece (record { kind = k; text = part_of source at n; start = at }) ∷ cut 0 (at + length (part_of source at n)) (drop (at + length (part_of source at n)) source)
-at_token source at k n lt fits is =
-    let fit : n ≤ length (drop (at + 1) source) = subst (λ (t : List ℕ). n ≤ length t) (take_rest source (at + 1)) fits in
-    let size : at + 1 + n ≡ at + length (part_of source at n) = omega (arith, ap length (part-cons source at n lt), length-take-le n (drop (at + 1) source) fit) in
-    cut_at source at (Token k n) lt is
-    ∙ ap (λ (t : List ℕ). piece (record { kind = k; text = t; start = at }) ∷ cut 0 (at + 1 + n) (drop (at + 1 + n) source)) (sym (part-cons source at n lt))
-    ∙ ap (λ (p : ℕ). piece (record { kind = k; text = part_of source at n; start = at }) ∷ cut 0 p (drop p source)) size
+    → cut 0 at (drop at source) ≡ made k at (part_of source at n) ∷ cut 0 (at + length (part_of source at n)) (drop (at + length (part_of source at n)) source)
+at_token source at k n lt fits is = steps.at_token cuts (Token k n) (made k) (λ at c cs more. refl) source at lt fits is
+
+pub gap_cut : (at c : ℕ) (body after : List ℕ) → front c (body ++ after) ≡ Gap (length body) → cut 0 at (c ∷ (body ++ after)) ≡ cut 0 (at + suc (length body)) after
+gap_cut at c body after stands = steps.gap_cut cuts (Gap (length body)) (λ at c cs more. refl) at c body after refl stands
+
+pub token_cut : (k : Kind) (at c : ℕ) (body after : List ℕ) → front c (body ++ after) ≡ Token k (length body)
+    → cut 0 at (c ∷ (body ++ after)) ≡ made k at (c ∷ body) ∷ cut 0 (at + suc (length body)) after
+token_cut k at c body after stands = steps.token_cut cuts (Token k (length body)) (made k) (λ at c cs more. refl) at c body after refl stands

@@ -1,12 +1,13 @@
 -- What the tokens of a text are, said of the whole text: it is a row of parts, each a byte of white space, a comment or
 -- a token, and every byte belongs to one of them. Nothing here reads from left to right.
-use Rattle.std.specs.Prelude.{◌≡◌, ℕ, ◌+◌, ◌<◌, ◌⊎◌, true, false, ⊤, List, [], ◌∷◌, ◌++◌, length, codes}
+use Rattle.std.specs.Prelude.{◌≡◌, ℕ, ◌+◌, ◌<◌, ◌⊎◌, true, false, List, [], ◌∷◌, ◌++◌, length, codes}
 use Rattle.std.specs.List.{flat_map, AllByRecursion}
 use Rattle.svf_lex.specs.declared.Kind.{Kind}
 use Rattle.svf_lex.specs.declared.Kind.TheVariants as kind
-use Rattle.token_runs.specs.Bytes.{is_white, is_line_end}
+use Rattle.token_runs.specs.Bytes.{is_white}
 use Rattle.svf_lex.specs.Bytes.{is_run, is_mark, begins_comment}
 use Rattle.svf_lex.specs.Cutting.{Lexeme}
+use Rattle.token_runs.specs.Runs.{Ends, AllPass, EndsLine, IsInLine}
 
 pub data Part : Type 0 where
   white : ℕ → Part
@@ -18,22 +19,6 @@ bytes_of (white c) = c ∷ []
 bytes_of (comment bytes) = bytes
 bytes_of (token k bytes) = bytes
 
--- before these bytes a line ends: they are none, or begin with a line feed or a carriage return
-abbrev pub EndsLine : List ℕ → Type 0
-EndsLine [] = ⊤
-EndsLine (c ∷ rest) = is_line_end c ≡ true
-
--- before these bytes a run ends: they are none, or begin with a byte of no run
-abbrev pub EndsRun : List ℕ → Type 0
-EndsRun [] = ⊤
-EndsRun (c ∷ rest) = is_run c ≡ false
-
-abbrev pub IsInLine : ℕ → Type 0
-IsInLine c = is_line_end c ≡ false
-
-abbrev pub IsRunByte : ℕ → Type 0
-IsRunByte c = is_run c ≡ true
-
 -- `!` or `//`, and then bytes of one line
 abbrev pub IsComment : List ℕ → Type 0
 IsComment bytes = (body : List ℕ) × ((bytes ≡ codes "!" ++ body) ⊎ (bytes ≡ codes "//" ++ body))
@@ -44,7 +29,7 @@ IsComment bytes = (body : List ℕ) × ((bytes ≡ codes "!" ++ body) ⊎ (bytes
 abbrev pub IsPart : Part → List ℕ → Type 0
 IsPart (white c) rest = is_white c ≡ true
 IsPart (comment bytes) rest = IsComment bytes × EndsLine rest
-IsPart (token kind.Run bytes) rest = (0 < length bytes) × AllByRecursion IsRunByte bytes × EndsRun rest
+IsPart (token kind.Run bytes) rest = (0 < length bytes) × AllPass is_run bytes × Ends is_run rest
 IsPart (token kind.Open bytes) rest = bytes ≡ codes "("
 IsPart (token kind.Close bytes) rest = bytes ≡ codes ")"
 IsPart (token kind.Semi bytes) rest = bytes ≡ codes ";"

@@ -1,4 +1,4 @@
-//! Sixteen bytes of a text at once.
+//! The bytes of runs of SVF text, one by one and sixteen at once.
 ghost use Rattle.svf_lex.specs.Bytes as bytes;
 
 use std::simd::prelude::*;

@@ -5,6 +5,7 @@ pub mod laws;
 mod reading;
 mod refusing;
 mod resolving;
+mod run_test;
 mod running;
 mod stepping;
 mod texts;

@@ -1,8 +1,7 @@
 //! Why a statement is refused at the settings there.
 
 ghost use Rattle.std.specs.Prelude.{◌≡◌, ◌+◌, ◌*◌, ◌==◌, ◌&&◌, Bool, List, Option, Some, None, map, nat_lt};
-ghost use Rattle.std.specs.Prelude.{option_map, if◌then◌else◌, unwrap_or};
-ghost use Rattle.std.specs.Int.{div_ceil};
+ghost use Rattle.std.specs.Prelude.{option_map, if◌then◌else◌};
 ghost use Rattle.std.specs.List.{list_all};
 ghost use Rattle.svf_parse.specs.View.{said_of};
 ghost use Rattle.svf_parse.specs.Judging.{Said};
@@ -176,28 +175,6 @@ impl Running {
         }
     }
 
-    /// The state in which a RUNTEST runs.
-    pub(crate) fn runs_in(&self, run: Option<State>) -> State
-        ensures { result ≡ look.runs_in run self.now.run_state }
-    {
-        run.unwrap_or(self.run_state)
-    }
-
-    /// The state in which it ends.
-    pub(crate) fn ends_in(&self, run: Option<State>, end: Option<State>) -> State
-        ensures { result ≡ look.ends_in run end self.now.run_end }
-    {
-        end.unwrap_or(run.unwrap_or(self.run_end))
-    }
-
-    /// Its cycles.
-    pub(crate) fn cycles(&self, count: Option<u32>, min_ps: Option<u64>) -> u64
-        ensures { result ≡ look.cycle_count self.now.period count min_ps }
-    {
-        let least = rounded_up(min_ps.unwrap_or(0), self.period);
-        u64::from(count.unwrap_or(0)).max(least)
-    }
-
     fn path_refusal(&self, place: State, path: &[State]) -> Option<Code>
         ensures { (all : List Said) → result ≡ spec.refusal_at (settings_in all self.now) place (says.states path.now) }
     {
@@ -245,17 +222,6 @@ fn len_of(statements: &[Statement], part: Option<KeptPart>) -> usize
     match part {
         Some(part) => len_at(statements, part.at),
         None => 0,
-    }
-}
-
-/// A time in periods, rounded up. A period of 0 stands in no text.
-fn rounded_up(time: u64, period: u64) -> u64
-    ensures { result ≡ div_ceil time period }
-{
-    if period == 0 {
-        time.min(1)
-    } else {
-        time.div_ceil(period)
     }
 }
 

@@ -13,9 +13,8 @@ ghost use Rattle.play_waves.specs.Settled.{IsSettled};
 use super::{Drawing, is_still};
 use crate::holding::is_left;
 use crate::marks::{Marks, one_more, tck_of, time_after};
-use crate::shown::{UNKNOWN, wire};
-use crate::stamps::write_time;
 use byte_streams::{Broken, Counted, Sink, put_all};
+use wave_files::{UNKNOWN, wire, write_time};
 
 impl Drawing {
     /// Whether TCK is high and a rising edge with this TMS leaves every controller where it is.

@@ -5,20 +5,20 @@ ghost use Rattle.std.specs.Prelude.{◌≡◌, ◌<◌, ◌≤◌, ◌++◌, ◌
 ghost use Rattle.byte_streams.specs.Writes.{WritesAll};
 ghost use Rattle.jt_bits.specs.Packed.{has_bit};
 ghost use Rattle.jt_tap.specs.declared.State.TheVariants.{DrShift, IrShift};
-ghost use Rattle.board_report.specs.Report.{digit};
-ghost use Rattle.play_waves.specs.Drawing.{after_drawing, draw, stamp};
+ghost use Rattle.output_words.specs.Digits.{digit};
+ghost use Rattle.wave_files.specs.Changes.{stamp};
+ghost use Rattle.wave_files.specs.Values.{byte_change, byte_line};
+ghost use Rattle.play_waves.specs.Drawing.{after_drawing, draw};
 ghost use Rattle.play_waves.specs.Shifted as spec;
 ghost use Rattle.play_waves.specs.Shifted.{IsShifting, StandsInShift, edges, edges_text, tdo_bit};
-ghost use Rattle.play_waves.specs.Values.{byte_change, byte_line};
 
 use super::Drawing;
-use crate::holding::is_same_state;
 use crate::marks::{Marks, time_after};
-use crate::stamps::write_tck;
 use board_chain::Chain;
 use byte_streams::{Broken, Counted, Sink, put_all};
 use jt_board::Board;
 use jt_tap::State;
+use wave_files::{is_same_state, write_tck};
 
 /// As many cycles are drawn at once as a word has bits.
 const MOST_AT_ONCE: u64 = 64;

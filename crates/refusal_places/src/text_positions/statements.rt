@@ -6,7 +6,8 @@ ghost use Rattle.refusal_places.specs.Starts as spec;
 ghost use Rattle.refusal_places.specs.Rising.{Rises, Rises-prop};
 ghost use Rattle.refusal_places.specs.Starts.{starts};
 
-use crate::text_positions::{Position, advance};
+use crate::text_positions::advance;
+use output_words::Position;
 use svf_lex::{Kind, Lexer};
 
 /// Where the statements of SVF text start, one after another: each is the place of its first token. An empty statement

@@ -1,7 +1,8 @@
 use Rattle.std.proofs.Common.{◌≡◌, ◌++◌, ℕ, Bool, List, codes, ap, ◌∙◌}
 use Rattle.std.specs.Fmt.{decimal}
-use Rattle.board_description.specs.Described.{code_words, digits, reset_words, yes_or_no}
-use Rattle.board_description.specs.Names.{shown}
+use Rattle.board_description.specs.Described.{code_words, reset_words, yes_or_no}
+use Rattle.output_words.specs.Digits.{digits}
+use Rattle.output_words.specs.Names.{shown}
 use Rattle.board_description.proofs.TextLaws.{OnOk-behind, OnOk-is}
 use Rattle.board_description.proofs.whole.put_device.Goals as goal
 

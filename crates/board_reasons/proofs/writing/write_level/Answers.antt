@@ -1,7 +1,8 @@
 use Rattle.std.proofs.Common.{ℕ, List, [], ◌∷◌, ◌++◌, refl, ap, ◌∙◌, codes}
 use Rattle.byte_streams.proofs.Fronts.{WritesAll-is, WritesAll-stopped, WritesAll-then}
-use Rattle.board_description.specs.Words.{net_name, texts}
-use Rattle.board_reasons.specs.Lines.{level_word}
+use Rattle.output_words.specs.Texts.{texts}
+use Rattle.board_description.specs.Words.{net_name}
+use Rattle.output_words.specs.Levels.{level_word}
 use Rattle.board_reasons.proofs.writing.write_level.Goals as goal
 
 pub returns-in_err-write_net_name : goal.returns-in_err-write_net_name

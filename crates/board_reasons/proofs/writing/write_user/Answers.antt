@@ -1,6 +1,7 @@
 use Rattle.std.proofs.Common.{◌≡◌, ℕ, List, [], ◌∷◌, codes, decimal, ap, ◌∙◌}
 use Rattle.byte_streams.proofs.Fronts.{WritesAll-is}
-use Rattle.board_description.specs.Words.{texts, user_words}
+use Rattle.output_words.specs.Texts.{texts}
+use Rattle.board_description.specs.Words.{user_words}
 use Rattle.board_reasons.proofs.writing.write_user.Goals as goal
 
 pub returns : goal.returns

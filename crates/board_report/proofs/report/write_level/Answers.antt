@@ -2,7 +2,7 @@ use Rattle.std.proofs.Common.{refl, arith, ◌++◌}
 use Rattle.std.proofs.lemmas.Grind.{common_steps}
 use Rattle.std.specs.Prelude.{codes}
 use Rattle.byte_streams.proofs.Fronts.{WritesAll-is, WritesAll-then, WritesAll-stopped}
-use Rattle.board_report.specs.Report.{level_word}
+use Rattle.output_words.specs.Levels.{level_word}
 use Rattle.board_report.proofs.report.write_level.Goals as goal
 
 pub returns-in_err-write_field : goal.returns-in_err-write_field

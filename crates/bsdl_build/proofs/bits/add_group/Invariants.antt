@@ -1,7 +1,7 @@
 use Rattle.std.proofs.Common.{◌≡◌, ◌++◌, List, drop}
-use Rattle.bsdl_ports.specs.Ports.{Port}
-use Rattle.bsdl_ports.specs.View.{group}
-use Rattle.bsdl_ports.proofs.PortsNamed.{ports_named}
+use Rattle.bsdl_entity.specs.Ports.{Port}
+use Rattle.bsdl_entity.specs.PortsView.{group}
+use Rattle.bsdl_entity.proofs.PortsNamed.{ports_named}
 use Rattle.bsdl_build.specs.Bits.{firsts}
 use Rattle.bsdl_build.proofs.bits.add_group.Given as goal
 

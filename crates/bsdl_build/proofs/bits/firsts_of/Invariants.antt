@@ -1,5 +1,5 @@
 use Rattle.std.proofs.Common.{◌≡◌, ◌++◌, drop}
-use Rattle.bsdl_ports.specs.View.{ports}
+use Rattle.bsdl_entity.specs.PortsView.{ports}
 use Rattle.bsdl_build.specs.Bits.{firsts}
 use Rattle.bsdl_build.proofs.bits.firsts_of.Given as goal
 

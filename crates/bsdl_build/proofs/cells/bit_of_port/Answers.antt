@@ -2,8 +2,8 @@ use Rattle.std.proofs.Common.{◌≡◌, ◌+◌, ℕ, List, ap, sym, ◌∙◌}
 use Rattle.std.specs.Prelude.{Option, None, option_map, option_and_then, unwrap_or, slice_get}
 use Rattle.std.proofs.lemmas.Result.{IfOk-weaker}
 use Rattle.bsdl_values.specs.CellView.{port_name}
-use Rattle.bsdl_ports.specs.PortBits.{bit_at}
-use Rattle.bsdl_ports.specs.Ports.{Range}
+use Rattle.bsdl_entity.specs.PortBits.{bit_at}
+use Rattle.bsdl_entity.specs.Ports.{Range}
 use Rattle.bsdl_lookup.specs.View.{numbered_port}
 use Rattle.bsdl_build.specs.Bits.{firsts}
 use Rattle.bsdl_build.proofs.NumberLaws.{bit_by}

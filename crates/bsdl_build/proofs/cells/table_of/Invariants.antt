@@ -3,7 +3,7 @@ use Rattle.std.specs.Prelude.{filter}
 use Rattle.std.specs.BTreeMap.{get}
 use Rattle.std.specs.Ordering.{nat_cmp}
 use Rattle.bsdl_values.specs.CellView.{cell_row}
-use Rattle.bsdl_ports.specs.Ports.{Port}
+use Rattle.bsdl_entity.specs.Ports.{Port}
 use Rattle.bsdl_lookup.specs.Keyed.{AreKeyed}
 use Rattle.bsdl_build.specs.Bits.{firsts, last_of}
 use Rattle.bsdl_build.specs.Boundary.{cell}

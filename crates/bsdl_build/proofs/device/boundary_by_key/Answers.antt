@@ -4,7 +4,7 @@ use Rattle.std.proofs.lemmas.Result.{IfOk-weaker}
 use Rattle.bsdl_text.specs.NumberView.{value}
 use Rattle.bsdl_values.specs.declared.cells.CellRow as declared_row
 use Rattle.bsdl_values.specs.CellView.{cell_row}
-use Rattle.bsdl_ports.specs.View as ports_view
+use Rattle.bsdl_entity.specs.PortsView as ports_view
 use Rattle.bsdl_entity.specs.declared.entity.Outline.{Outline}
 use Rattle.bsdl_description.specs.declared.description.Description as declared_description
 use Rattle.bsdl_description.specs.View.{description}

@@ -1,6 +1,6 @@
 use Rattle.std.proofs.Common.{◌≡◌, ◌++◌, drop}
 use Rattle.std.specs.List.{flat_map}
-use Rattle.bsdl_ports.specs.View as view
+use Rattle.bsdl_entity.specs.PortsView as view
 use Rattle.bsdl_description.specs.View.{taps}
 use Rattle.bsdl_build.specs.Boundary.{port_bits}
 use Rattle.bsdl_build.proofs.ports.ports_of.Given as goal

@@ -1,8 +1,8 @@
 use Rattle.std.proofs.Common.{◌≡◌, ◌++◌, drop}
 use Rattle.std.specs.List.{flat_map}
-use Rattle.bsdl_ports.specs.View.{group}
+use Rattle.bsdl_entity.specs.PortsView.{group}
 use Rattle.bsdl_description.specs.View.{taps}
-use Rattle.bsdl_ports.proofs.PortsNamed.{ports_named}
+use Rattle.bsdl_entity.proofs.PortsNamed.{ports_named}
 use Rattle.bsdl_build.specs.Boundary.{port_bits}
 use Rattle.bsdl_build.proofs.ports.with_group.Given as goal
 

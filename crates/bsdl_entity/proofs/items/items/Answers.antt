@@ -9,9 +9,9 @@ use Rattle.bsdl_values.specs.InstructionValues.{begins}
 use Rattle.bsdl_values.specs.View.{judged, unsaid as value_unsaid}
 use Rattle.bsdl_entity.specs.Entity.{item, items}
 use Rattle.bsdl_entity.specs.GivenView.{first_unsaid, given, unsaid}
-use Rattle.bsdl_ports.specs.View.{ports}
-use Rattle.bsdl_ports.specs.declared.ports.Group.{Group}
-use Rattle.bsdl_ports.specs.Scalars.{is_scalar}
+use Rattle.bsdl_entity.specs.PortsView.{ports}
+use Rattle.bsdl_entity.specs.declared.ports.Group.{Group}
+use Rattle.bsdl_entity.specs.Scalars.{is_scalar}
 use Rattle.bsdl_entity.proofs.ItemLaws.{all_items, no_item, one_item}
 use Rattle.bsdl_entity.proofs.StopLaws.{one_unsaid, unsaid_more}
 use Rattle.bsdl_entity.proofs.items.items.Goals as goal

@@ -4,8 +4,8 @@ use Rattle.bsdl_text.proofs.ListLaws.{prepend}
 use Rattle.bsdl_entity.specs.Entity.{items}
 use Rattle.bsdl_entity.specs.GivenView.{first_unsaid, given}
 use Rattle.bsdl_values.specs.View.{judged}
-use Rattle.bsdl_ports.specs.View.{ports}
-use Rattle.bsdl_ports.specs.Scalars.{is_scalar}
+use Rattle.bsdl_entity.specs.PortsView.{ports}
+use Rattle.bsdl_entity.specs.Scalars.{is_scalar}
 use Rattle.bsdl_entity.proofs.items.items.Given as goal
 
 -- what was said so far, and what is said behind it, are the whole

@@ -2,7 +2,7 @@ use Rattle.std.proofs.Common.{suc, ◌≡◌, ◌≤◌, ℕ, List, map, take}
 use Rattle.std.specs.List.{list_any}
 use Rattle.jt_limits.specs.Limits.{subscript_limit}
 use Rattle.bsdl_values.specs.CellView.{cell_row}
-use Rattle.bsdl_ports.specs.Ports.{Port}
+use Rattle.bsdl_entity.specs.Ports.{Port}
 use Rattle.bsdl_lookup.specs.declared.port_index.PortIndex.{PortIndex}
 use Rattle.bsdl_lookup.specs.Drivers.{driver_at, drives_below, is_below}
 use Rattle.bsdl_lookup.specs.Keyed.{AreKeyed}

@@ -1,7 +1,7 @@
 use Rattle.std.proofs.Common.{◌≡◌, ◌+◌, ℕ, List, drop}
 use Rattle.std.specs.Option.{option_or}
-use Rattle.bsdl_ports.specs.View.{group}
-use Rattle.bsdl_ports.proofs.PortsNamed.{ports_named}
+use Rattle.bsdl_entity.specs.PortsView.{group}
+use Rattle.bsdl_entity.proofs.PortsNamed.{ports_named}
 use Rattle.bsdl_lookup.specs.NamedPorts.{find_port}
 use Rattle.bsdl_lookup.specs.Keyed.{port_keyed}
 use Rattle.bsdl_lookup.proofs.keyed_ports.add_group.Given as goal

@@ -2,8 +2,8 @@ use Rattle.std.proofs.Common.{◌+◌, ◌∷◌, drop, length, map, option_map,
 use Rattle.std.specs.Option.{option_or}
 use Rattle.std.proofs.lemmas.List.{at_drop_more}
 use Rattle.std.proofs.lemmas.Option.{slice_get_read}
-use Rattle.bsdl_ports.specs.View as view
-use Rattle.bsdl_ports.specs.declared.ports.Group.{Group}
+use Rattle.bsdl_entity.specs.PortsView as view
+use Rattle.bsdl_entity.specs.declared.ports.Group.{Group}
 use Rattle.bsdl_lookup.specs.NamedPorts.{find_port}
 use Rattle.bsdl_lookup.specs.Keyed.{port_keyed}
 use Rattle.bsdl_lookup.proofs.NamedPortLaws.{group_kept}

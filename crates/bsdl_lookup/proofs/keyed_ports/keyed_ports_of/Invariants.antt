@@ -1,6 +1,6 @@
 use Rattle.std.proofs.Common.{◌≡◌, ℕ, List, drop, map, option_map}
 use Rattle.std.specs.Option.{option_or}
-use Rattle.bsdl_ports.specs.View.{ports, range}
+use Rattle.bsdl_entity.specs.PortsView.{ports, range}
 use Rattle.bsdl_lookup.specs.NamedPorts.{find_port}
 use Rattle.bsdl_lookup.specs.Keyed.{port_keyed}
 use Rattle.bsdl_lookup.proofs.keyed_ports.keyed_ports_of.Given as goal

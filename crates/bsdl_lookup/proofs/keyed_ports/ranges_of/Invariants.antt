@@ -1,5 +1,5 @@
 use Rattle.std.proofs.Common.{◌≡◌, ◌++◌, drop, map, option_map}
-use Rattle.bsdl_ports.specs.View.{range}
+use Rattle.bsdl_entity.specs.PortsView.{range}
 use Rattle.bsdl_lookup.proofs.keyed_ports.ranges_of.Given as goal
 
 -- the ranges so far, with those to come, are all

@@ -1,7 +1,7 @@
 use Rattle.std.proofs.Common.{◌≡◌, ◌++◌, map, take}
 use Rattle.std.specs.Prelude.{None, option_map}
-use Rattle.bsdl_ports.specs.Ports.{Port}
-use Rattle.bsdl_ports.specs.View.{range}
+use Rattle.bsdl_entity.specs.Ports.{Port}
+use Rattle.bsdl_entity.specs.PortsView.{range}
 use Rattle.bsdl_text.specs.WordView.{word_lexeme}
 use Rattle.bsdl_rules.specs.Twice.{outside}
 use Rattle.bsdl_rules.specs.NamingView.{named}

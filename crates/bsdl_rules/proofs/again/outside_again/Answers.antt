@@ -1,6 +1,6 @@
 use Rattle.std.proofs.Common.{◌≡◌, ap, sym, ◌∙◌, map}
 use Rattle.std.specs.Prelude.{option_map}
-use Rattle.bsdl_ports.specs.View as ports_view
+use Rattle.bsdl_entity.specs.PortsView as ports_view
 use Rattle.bsdl_entity.specs.GivenView as given_view
 use Rattle.bsdl_rules.specs.Namings.{earliest, repeated}
 use Rattle.bsdl_rules.specs.Twice.{outside}

@@ -1,6 +1,6 @@
 use Rattle.std.proofs.Common.{◌≡◌, ◌++◌, map, drop}
 use Rattle.std.specs.Prelude.{None}
-use Rattle.bsdl_ports.specs.View.{ports}
+use Rattle.bsdl_entity.specs.PortsView.{ports}
 use Rattle.bsdl_rules.specs.Twice.{outside}
 use Rattle.bsdl_rules.specs.NamingView.{named}
 use Rattle.bsdl_rules.proofs.again.port_names.Given as goal

@@ -1,7 +1,7 @@
 use Rattle.std.proofs.Common.{suc, ◌+◌, min, sym, ◌∙◌, arith}
 use Rattle.std.proofs.lemmas.List.{at_drop_all}
 use Rattle.jt_limits.specs.Limits.{limits}
-use Rattle.bsdl_ports.specs.View.{ports}
+use Rattle.bsdl_entity.specs.PortsView.{ports}
 use Rattle.bsdl_rules.proofs.WidthLaws.{group_counted, is_counted, total}
 use Rattle.bsdl_rules.proofs.limits.bit_count.Goals as goal
 

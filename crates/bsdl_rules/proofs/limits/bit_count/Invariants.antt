@@ -1,7 +1,7 @@
 use Rattle.std.proofs.Common.{suc, ◌≡◌, ◌≤◌, ◌+◌, min, drop}
 use Rattle.std.specs.List.{sum_by}
 use Rattle.jt_limits.specs.Limits.{limits}
-use Rattle.bsdl_ports.specs.View.{ports}
+use Rattle.bsdl_entity.specs.PortsView.{ports}
 use Rattle.bsdl_rules.specs.Widths.{capped_width}
 use Rattle.bsdl_rules.proofs.limits.bit_count.Given as goal
 

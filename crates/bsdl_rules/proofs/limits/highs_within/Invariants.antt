@@ -1,9 +1,9 @@
 use Rattle.std.proofs.Common.{◌≡◌, drop}
 use Rattle.std.specs.Prelude.{nat_le}
 use Rattle.std.specs.List.{list_all}
-use Rattle.bsdl_ports.specs.View.{ports}
+use Rattle.bsdl_entity.specs.PortsView.{ports}
 use Rattle.jt_limits.specs.Limits.{subscript_limit}
-use Rattle.bsdl_ports.specs.PortBits.{highest}
+use Rattle.bsdl_entity.specs.PortBits.{highest}
 use Rattle.bsdl_rules.proofs.limits.highs_within.Given as goal
 
 abbrev pub invariant-loop-group : goal.invariant-loop-group

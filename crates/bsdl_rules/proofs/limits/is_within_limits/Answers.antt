@@ -4,7 +4,7 @@ use Rattle.std.specs.List.{list_all}
 use Rattle.std.proofs.lemmas.List.{length-map}
 use Rattle.jt_limits.specs.Limits.{limits}
 use Rattle.bsdl_text.specs.NumberView.{value}
-use Rattle.bsdl_ports.specs.View as ports_view
+use Rattle.bsdl_entity.specs.PortsView as ports_view
 use Rattle.bsdl_description.specs.View.{description}
 use Rattle.bsdl_rules.specs.Limits.{ports_fit, ports_within}
 use Rattle.bsdl_rules.proofs.LimitLaws.{first_fails, rest_is, users_by}

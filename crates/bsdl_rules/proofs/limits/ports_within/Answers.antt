@@ -1,5 +1,5 @@
 use Rattle.std.proofs.Common.{◌∙◌}
-use Rattle.bsdl_ports.specs.View.{ports}
+use Rattle.bsdl_entity.specs.PortsView.{ports}
 use Rattle.bsdl_rules.proofs.WidthLaws.{ports_by}
 use Rattle.bsdl_rules.proofs.limits.ports_within.Goals as goal
 

@@ -1,5 +1,5 @@
 use Rattle.std.proofs.Common.{◌≡◌, ◌*◌, ℕ, length, sym, ap, ◌∙◌}
-use Rattle.bsdl_ports.specs.View.{group}
+use Rattle.bsdl_entity.specs.PortsView.{group}
 use Rattle.bsdl_rules.proofs.WidthLaws.{counted, named_total, total}
 use Rattle.bsdl_rules.proofs.limits.with_group.Goals as goal
 

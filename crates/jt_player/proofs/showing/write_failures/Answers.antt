@@ -1,7 +1,7 @@
-use Rattle.std.proofs.Common.{refl, ap, flat_map, ◌++◌, arith}
-use Rattle.std.proofs.lemmas.Grind.{common_steps}
+use Rattle.std.proofs.Common.{refl, ap, flat_map, ◌++◌}
 use Rattle.byte_streams.proofs.Fronts.{WritesAll-is, WritesAll-stopped, WritesAll-then}
-use Rattle.jt_player.specs.Showing.{mismatch_line, total_line}
+use Rattle.output_words.specs.Lines.{total_line}
+use Rattle.jt_player.specs.Showing.{mismatch_line}
 use Rattle.jt_player.proofs.showing.write_failures.Goals as goal
 
 pub returns-in_err-write_mismatches : goal.returns-in_err-write_mismatches
@@ -14,4 +14,4 @@ pub returns : goal.returns
 returns g c =
     let total = total_line c.args.failures.now.total in
     WritesAll-is (ap (λ ms. flat_map mismatch_line ms ++ total) c.as_slice.ensures.value)
-    (WritesAll-then c.in_ok-write_mismatches.ensures refl (WritesAll-is (grind (arith, common_steps)) c.put_pieces.ensures.writes))
+    (WritesAll-then c.in_ok-write_mismatches.ensures refl c.write_total.ensures)

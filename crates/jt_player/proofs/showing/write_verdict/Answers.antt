@@ -4,7 +4,8 @@ use Rattle.std.proofs.lemmas.Grind.{common_steps}
 use Rattle.byte_streams.specs.Writes.{WritesAll}
 use Rattle.byte_streams.proofs.Fronts.{WritesAll-is}
 use Rattle.play_model.specs.declared.ending.Ending.{Ending}
-use Rattle.play_model.specs.Endings.{texts, verdict_line}
+use Rattle.output_words.specs.Texts.{texts}
+use Rattle.play_model.specs.Endings.{verdict_line}
 use Rattle.jt_player.proofs.showing.write_verdict.Goals as goal
 
 pub returns-in-Fail : goal.returns-in-Fail

@@ -1,7 +1,7 @@
 use Rattle.std.proofs.Common.{refl, ap, flat_map, ◌++◌, List}
 use Rattle.byte_streams.proofs.Fronts.{WritesAll-is, WritesAll-stopped, WritesAll-then}
 use Rattle.scan_vectors.specs.declared.failures.Mismatch.{Mismatch}
-use Rattle.jt_player.specs.Showing.{total_line}
+use Rattle.output_words.specs.Lines.{total_line}
 use Rattle.play_explained.specs.Lines.{failure_lines, lines_known}
 use Rattle.play_explained.proofs.telling.write_failures.Goals as goal
 

@@ -2,7 +2,7 @@ use Rattle.std.proofs.Common.{refl, ap}
 use Rattle.std.specs.Prelude.{Option}
 use Rattle.byte_streams.proofs.Fronts.{WritesAll-is}
 use Rattle.jt_player.proofs.RunLaws.{WritesAll-like, not-ok}
-use Rattle.refusal_places.specs.declared.text_positions.Position.{Position}
+use Rattle.output_words.specs.declared.lines.Position.{Position}
 use Rattle.play_explained.specs.Lines.{lines_known, lines_of_failure}
 use Rattle.play_explained.proofs.telling.write_next.Goals as goal
 

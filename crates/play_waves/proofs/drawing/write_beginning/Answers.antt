@@ -2,9 +2,9 @@ use Rattle.std.proofs.Common.{Bool, [], ◌++◌, refl, sym, ap}
 use Rattle.std.specs.Prelude.{if◌then◌else◌}
 use Rattle.std.proofs.lemmas.Bool.{eq-eqb, ne_eqb}
 use Rattle.byte_streams.proofs.Fronts.{WritesAll-is, WritesAll-stopped, WritesAll-then}
-use Rattle.play_waves.specs.Codes.{binary}
-use Rattle.play_waves.specs.Drawing.{stamp}
-use Rattle.play_waves.specs.Values.{bits_line, statement_variable}
+use Rattle.wave_files.specs.Codes.{binary}
+use Rattle.wave_files.specs.Changes.{stamp}
+use Rattle.wave_files.specs.Values.{bits_line, statement_variable}
 use Rattle.play_waves.proofs.drawing.write_beginning.Goals as goal
 
 pub returns-then-command-eq0 : goal.returns-then-command-eq0

@@ -2,8 +2,8 @@ use Rattle.std.proofs.Common.{length, sym, ap, subst, ◌∙◌, List, arith}
 use Rattle.pin_nets.specs.Wired.{Net}
 use Rattle.board_model.specs.Chain.{ChipState}
 use Rattle.byte_streams.proofs.Fronts.{WritesAll-is}
-use Rattle.play_waves.specs.Drawing.{stamped_changes}
-use Rattle.play_waves.specs.Quiet.{IsQuiet}
+use Rattle.wave_files.specs.Changes.{stamped_changes}
+use Rattle.wave_files.specs.Changes.{IsQuiet}
 use Rattle.play_waves.proofs.Strokes.{pen, silent, told}
 use Rattle.play_waves.proofs.drawing.write_between.Goals as goal
 

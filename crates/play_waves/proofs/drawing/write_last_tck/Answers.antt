@@ -1,6 +1,6 @@
 use Rattle.std.proofs.Common.{Bool, Option, sym, ap, ◌∙◌}
 use Rattle.byte_streams.proofs.Fronts.{WritesAll-is}
-use Rattle.play_waves.specs.Values.{byte_line}
+use Rattle.wave_files.specs.Values.{byte_line}
 use Rattle.play_waves.specs.Waves.{last_tck}
 use Rattle.play_waves.proofs.drawing.write_last_tck.Goals as goal
 

@@ -5,7 +5,8 @@ use Rattle.bsdl_text.specs.declared.tokens.scan.Front.TheVariants.{Bad}
 use Rattle.bsdl_text.specs.Cutting.{front}
 use Rattle.bsdl_text.proofs.AloneLaws.{bad_front}
 use Rattle.bsdl_text.proofs.AsciiLaws.{ascii_token}
-use Rattle.bsdl_text.proofs.Steps.{at_end, at_token, at_bad, rest_of}
+use Rattle.bsdl_text.proofs.Steps.{at_end, at_token, at_bad}
+use Rattle.token_runs.proofs.CutSteps.{rest_of}
 use Rattle.bsdl_text.proofs.tokens.scan.first_token.Goals as goal
 
 pub returns-then-at-source-clause-cuts : goal.returns-then-at-source-clause-cuts
@@ -28,8 +29,8 @@ returns-in_default c =
     let source = c.args.source.now in
     let at = c.gaps_end-at.result in
     let lt : at < length source = omega (arith, c.gaps_end-at.ensures.within) in
-    let is : Bad ≡ front q (get_or source at 0) (rest_of q source at) =
-    bad_front q (get_or source at 0) (rest_of q source at) (ap (gap q (get_or source at 0)) (take_rest source _) ∙ c.gaps_end-at.ensures.ends lt)
+    let is : Bad ≡ front q (get_or source at 0) (rest_of source at) =
+    bad_front q (get_or source at 0) (rest_of source at) (ap (gap q (get_or source at 0)) (take_rest source _) ∙ c.gaps_end-at.ensures.ends lt)
     (λ k n token. c.in_default.not-Token k n (c.front_of.ensures.value ∙ token)) in
     record { cuts = c.gaps_end-at.ensures.cuts ∙ at_bad q source at lt is; within = tt; on = tt }
 

@@ -3,7 +3,8 @@ use Rattle.board_model.specs.Chain.{BoardState, after_message}
 use Rattle.board_model.proofs.SoundEdges.{count-told}
 use Rattle.byte_streams.proofs.Fronts.{WritesAll-is}
 use Rattle.play_waves.specs.Drawing.{later, taken}
-use Rattle.play_waves.specs.Quiet.{IsQuiet, keeps_levels}
+use Rattle.play_waves.specs.Quiet.{keeps_levels}
+use Rattle.wave_files.specs.Changes.{IsQuiet}
 use Rattle.play_waves.proofs.Levels.{is_quiet}
 use Rattle.play_waves.proofs.Messages.{same_nets}
 use Rattle.play_waves.proofs.Strokes.{heard, is_after, is_mark, is_taken, pen, still_alike}

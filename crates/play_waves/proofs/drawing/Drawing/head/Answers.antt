@@ -2,7 +2,8 @@ use Rattle.std.proofs.Common.{length, ap, ◌∙◌, List, arith}
 use Rattle.pin_nets.specs.Wired.{Net}
 use Rattle.board_model.specs.Chain.{ChipState}
 use Rattle.byte_streams.proofs.Fronts.{WritesAll-is}
-use Rattle.play_waves.specs.Heading.{heading, heading_of}
+use Rattle.wave_files.specs.Heading.{heading_of}
+use Rattle.play_waves.specs.Waves.{heading}
 use Rattle.play_waves.proofs.drawing.Drawing.head.Goals as goal
 
 pub write_heading-requires-clause-few : goal.write_heading-requires-clause-few

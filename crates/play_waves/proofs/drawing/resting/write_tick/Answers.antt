@@ -1,8 +1,8 @@
 use Rattle.std.proofs.Common.{◌++◌, Bool, [], sym, ap, ◌∙◌}
 use Rattle.std.specs.Prelude.{if◌then◌else◌}
 use Rattle.byte_streams.proofs.Fronts.{WritesAll-is}
-use Rattle.play_waves.specs.Drawing.{stamp}
-use Rattle.play_waves.specs.Values.{byte_change, unknown, wire}
+use Rattle.wave_files.specs.Changes.{stamp}
+use Rattle.wave_files.specs.Values.{byte_change, unknown, wire}
 use Rattle.play_waves.proofs.drawing.resting.write_tick.Goals as goal
 
 pub returns-then-is_still : goal.returns-then-is_still

@@ -4,10 +4,11 @@ use Rattle.std.specs.Io.KnownBytes.{Appends}
 use Rattle.std.proofs.KnownBytes.{Appends-nil, Appends-trans}
 use Rattle.byte_streams.proofs.Fronts.{WritesAll-done, WritesAll-is, WritesAll-lost}
 use Rattle.jt_bits.specs.Packed.{has_bit}
-use Rattle.board_report.specs.Report.{digit}
-use Rattle.play_waves.specs.Drawing.{later, stamp}
+use Rattle.output_words.specs.Digits.{digit}
+use Rattle.play_waves.specs.Drawing.{later}
+use Rattle.wave_files.specs.Changes.{stamp}
 use Rattle.play_waves.specs.Shifted.{edges_text, high_text, low_text, low_time, next_time, tdo_bit}
-use Rattle.play_waves.specs.Values.{byte_change, byte_line}
+use Rattle.wave_files.specs.Values.{byte_change, byte_line}
 use Rattle.play_waves.proofs.Shifted.{none_left, one_left}
 use Rattle.play_waves.proofs.drawing.shifting.write_edges.Goals as goal
 

@@ -1,9 +1,9 @@
 use Rattle.std.proofs.Common.{◌≡◌, ◌++◌, false, List, ℕ, refl, ap, append_assoc}
 use Rattle.byte_streams.proofs.Fronts.{WritesAll-is, WritesAll-stopped, WritesAll-then}
-use Rattle.board_report.specs.Report.{digit}
-use Rattle.play_waves.specs.Drawing.{stamp}
+use Rattle.output_words.specs.Digits.{digit}
+use Rattle.wave_files.specs.Changes.{stamp}
 use Rattle.play_waves.specs.Shifted.{high_text}
-use Rattle.play_waves.specs.Values.{byte_line}
+use Rattle.wave_files.specs.Values.{byte_line}
 use Rattle.play_waves.proofs.drawing.shifting.write_two_edges.Goals as goal
 
 -- the time and TCK stand together

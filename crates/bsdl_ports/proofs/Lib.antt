@@ -1,4 +1,0 @@
-pub mod ChainLaws
-pub mod AskingLaws
-pub mod ScalarLaws
-pub mod PortsNamed

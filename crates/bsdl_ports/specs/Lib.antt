@@ -1,5 +1,0 @@
-pub mod Keywords
-pub mod Ports
-pub mod View
-pub mod Scalars
-pub mod PortBits

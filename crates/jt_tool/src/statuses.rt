@@ -1,0 +1,19 @@
+//! The exit statuses of what was told.
+
+use byte_streams::Broken;
+use output_words::Status;
+use std::fmt;
+
+/// The exit status that an answer says, or that what was told was lost.
+pub(crate) fn or_lost(told: Result<u8, Broken>) -> u8 {
+    told.unwrap_or(Status::Lost.number())
+}
+
+/// Writes a line to standard error. Answers this exit status, or that the line was lost.
+pub(crate) fn tell_line<R: Eprint, T: fmt::Display + Drop>(rt: &R, line: T, status: Status) -> u8 {
+    if rt.eprintln(line).is_err() {
+        Status::Lost.number()
+    } else {
+        status.number()
+    }
+}

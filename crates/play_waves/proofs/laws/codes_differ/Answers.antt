@@ -1,8 +1,0 @@
-use Rattle.play_waves.proofs.CodeLaws.{codes_differ, codes_suffice}
-use Rattle.play_waves.proofs.laws.codes_differ.Goals as goal
-
-pub returns-clause-differ : goal.returns-clause-differ
-returns-clause-differ c = codes_differ
-
-pub returns-clause-suffice : goal.returns-clause-suffice
-returns-clause-suffice c = codes_suffice

@@ -1,0 +1,6 @@
+pub mod CodeLaws
+pub mod Instructions
+pub mod Lines
+pub mod Nets
+pub mod Numbers
+pub mod Times

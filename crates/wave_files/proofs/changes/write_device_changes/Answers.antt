@@ -1,0 +1,40 @@
+use Rattle.std.proofs.Common.{◌+◌, ◌*◌, refl, sym, arith, zip}
+use Rattle.board_chips.specs.WiredChips.{chip_state}
+use Rattle.wave_files.specs.Values.{device_change}
+use Rattle.wave_files.proofs.Instructions.{keeps_at}
+use Rattle.wave_files.proofs.Numbers.{both_long, both_there, by_three, done, lost, written}
+use Rattle.wave_files.proofs.changes.write_device_changes.Goals as goal
+
+pub write_device_change-requires-clause-quiet : goal.write_device_change-requires-clause-quiet
+write_device_change-requires-clause-quiet g c = λ quiet.
+    keeps_at c.args.behind.now.chips c.args.ahead.now.chips c.loop-i.i (chip_state c.chip.result.now) (chip_state c.chip-in-loop-i.result.now)
+    c.chip.ensures c.chip-in-loop-i.ensures (c.requires.quiet quiet)
+
+pub loop-i-preserved : goal.loop-i-preserved
+loop-i-preserved g c =
+    let cs = c.args.behind.now.chips in
+    let ds = c.args.ahead.now.chips in
+    let i = c.loop-i.i in
+    record {
+      none_lost = c.in_ok-write_device_change.ensures.ok.0 refl;
+      sent = written device_change 3 6 (zip cs ds) i (6 + 3 * i) (chip_state c.chip.result.now, chip_state c.chip-in-loop-i.result.now)
+          (both_there cs ds i _ _ c.chip.ensures c.chip-in-loop-i.ensures) (sym (by_three 6 i)) _ _ _
+          c.loop-i.invariant.sent c.in_ok-write_device_change.ensures.whole;
+    }
+
+pub returns-in_err-write_device_change : goal.returns-in_err-write_device_change
+returns-in_err-write_device_change g c =
+    let cs = c.args.behind.now.chips in
+    let ds = c.args.ahead.now.chips in
+    let i = c.loop-i.i in
+    lost device_change 3 6 (zip cs ds) i (6 + 3 * i) (chip_state c.chip.result.now, chip_state c.chip-in-loop-i.result.now)
+    (both_there cs ds i _ _ c.chip.ensures c.chip-in-loop-i.ensures) (sym (by_three 6 i))
+    c.loop-i.invariant.sent c.in_err-write_device_change.ensures refl c.from_residual.ensures.0
+
+pub returns : goal.returns
+returns g c =
+    let cs = c.args.behind.now.chips in
+    let ds = c.args.ahead.now.chips in
+    done device_change 3 tt 6 (zip cs ds) c.loop-i.i
+    (omega (arith, both_long cs ds c.requires.alike, c.loop-i-test.false, c.devices-i-end.ensures))
+    c.loop-i.invariant.none_lost c.loop-i.invariant.sent

@@ -1,0 +1,5 @@
+pub mod Changes
+pub mod Codes
+pub mod Heading
+pub mod Laws
+pub mod Values
