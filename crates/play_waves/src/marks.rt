@@ -30,7 +30,13 @@ pub(crate) struct Marks {
 pub(crate) fn shown_on(marks: Marks, board: &Board) -> Shown
     ensures { result ≡ spec.shown (record { marks = marks; board = board.now }) }
 {
-    Shown::of(marks.tck, marks.tms, marks.tdi, board.chain())
+    Shown::of(
+        marks.tck,
+        marks.tms,
+        marks.tdi,
+        board.snapshot().trst(),
+        board.chain(),
+    )
 }
 
 /// The lines as they are drawn behind a message that left TCK and the devices so.

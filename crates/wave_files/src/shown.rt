@@ -2,7 +2,7 @@
 
 ghost use Rattle.std.specs.Prelude.{◌≡◌};
 ghost use Rattle.wave_files.specs.Values as spec;
-ghost use Rattle.wave_files.specs.Values.{first_tdo, trst_byte, undriven};
+ghost use Rattle.wave_files.specs.Values.{first_tdo, undriven};
 
 use board_chain::Chain;
 use output_words::digit_of;
@@ -28,16 +28,23 @@ pub struct Shown {
 }
 
 impl Shown {
-    /// What is written for the lines of a chain at these levels of those that are written, none where one is unknown.
-    pub fn of(tck: Option<bool>, tms: Option<bool>, tdi: Option<bool>, chain: &Chain) -> Shown
-        ensures { result ≡ spec.shown_of tck tms tdi chain.now.trst chain.now.chips }
+    /// What is written for the lines of a chain at these levels of those that are written, none where one is unknown,
+    /// and with TRST asserted or not.
+    pub fn of(
+        tck: Option<bool>,
+        tms: Option<bool>,
+        tdi: Option<bool>,
+        trst: bool,
+        chain: &Chain,
+    ) -> Shown
+        ensures { result ≡ spec.shown_of tck tms tdi trst chain.now.chips }
     {
         Shown {
             tck: wire(UNKNOWN, tck),
             tms: wire(UNKNOWN, tms),
             tdi: wire(UNKNOWN, tdi),
             tdo: tdo_byte(chain),
-            trst: trst_of(chain),
+            trst: trst_byte(trst),
         }
     }
 }
@@ -69,9 +76,9 @@ fn tdo_of(chain: &Chain) -> Option<bool>
     chain.chip(0).tdo()
 }
 
-/// What is written for TRST.
-fn trst_of(chain: &Chain) -> u8
-    ensures { result ≡ trst_byte chain.now.trst }
+/// What is written for TRST, which is low while it is asserted.
+fn trst_byte(asserted: bool) -> u8
+    ensures { result ≡ spec.trst_byte asserted }
 {
-    digit_of(!chain.trst())
+    digit_of(!asserted)
 }
