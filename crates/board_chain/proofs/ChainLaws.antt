@@ -1,6 +1,5 @@
 -- What the edges of all devices do to the chain and to what its pins drive.
 use Rattle.std.proofs.Common.{◌≡◌, ◌<◌, ℕ, zero, suc, ◌+◌, Bool, true, false, List, [], ◌∷◌, length, map, drop, slice_get, Option, Some, None, option_map, unwrap_or, refl, sym, ap, subst, ◌∙◌, if◌then◌else◌, arith}
-use Rattle.std.proofs.lemmas.List.{length-map}
 use Rattle.std.proofs.lemmas.Option.{none-some, same_Some, slice_get-map}
 use Rattle.bsdl_device.specs.Device.{Device}
 use Rattle.bsdl_device.specs.declared.Cell.{Cell}
@@ -15,9 +14,7 @@ use Rattle.board_model.specs.Chain.{ChipState, members, rise_all, tdi_before}
 use Rattle.board_model.specs.Nets as meant
 use Rattle.board_model.specs.Nets.{in_force, pin_drive, sees_under, told_under}
 use Rattle.board_plan.specs.CellNets.{cell_net}
-use Rattle.board_chips.specs.Driving.{cells_of, driving_of}
-use Rattle.board_chips.specs.Tables.{IsDriving, IsTable, WerePut}
-use Rattle.board_chips.specs.DrivingTable.{DrivingTable}
+use Rattle.board_chips.specs.Driving.{cells_of}
 use Rattle.board_chips.specs.WiredChips.{AllTold, AreBelow, DrivesStill, IsKept, WiredChipValue, chip_state, held_of, member_of, told_by}
 use Rattle.board_chain.specs.Sweeping.{EachFrom, Rises, Still, TakesTrst}
 use Rattle.board_chips.specs.WiringValues.{WiringValue}
@@ -204,9 +201,6 @@ module _ (w : WiringValue) (tms tdi : Bool) (all : List WiredChipValue) (wired :
       ∙ rise_drives s.chip.trst tms (tdi_before tdi (drop (i + 1) (map chip_state all))) (told_under w.nets before i) (chip_state s) core p)
       0 all new (all-placed new each)
 
-  pub rises_told : (trst : Bool) (new : List WiredChipValue) → EachFrom (Rises w tms tdi all) 0 all new → AllTold trst all → AllTold trst new
-  rises_told trst new each told = all_told (Rises w tms tdi all) (λ i s t r. r.trst) trst 0 all new each told
-
   pub rises_chips : (trst : Bool) (new : List WiredChipValue) → EachFrom (Rises w tms tdi all) 0 all new → AllTold trst all
       → in_force w.nets (map member_of all) ≡ map held_of all
       → map chip_state new ≡ rise_all trst tms tdi (meant.told w.nets (members (map chip_state all))) 0 (map chip_state all)
@@ -225,18 +219,6 @@ same-cells R kept place (s ∷ old) [] each = absurd each
 same-cells R kept place (s ∷ old) (t ∷ new) each =
     ap (λ (d : Device). d.cells ∷ map cells_of old) (sym (kept place s t each.0).device)
     ∙ ap (λ (l : List (List Cell)). cells_of t ∷ l) (same-cells R kept (suc place) old new each.1)
-
--- the table of a chain that powers up
-pub start_driving : (chips items : List WiredChipValue) (w v : WiringValue) (f : Pin → Drive) (d : DrivingTable) → chips ≡ items → v ≡ record w { drives = map f (all_pins w.nets) }
-    → IsTable (driving_of chips v.nets) (length chips) d → ((cells : List (List Cell)) (drives : List Drive) → WerePut cells d.blocks d.pins d.put drives) → IsDriving (map cells_of items) v d
-start_driving chips items w v f d is put table none =
-    subst (λ (l : List WiredChipValue). IsDriving (map cells_of l) v d) is (record {
-      table = subst (λ (n : ℕ). IsTable (driving_of chips v.nets) n d) (sym (length-map chips cells_of)) table;
-      put = none (map cells_of chips) v.drives;
-      full =
-          ap (λ (x : WiringValue). length x.drives) put ∙ length-map (all_pins w.nets) f
-          ∙ sym (ap (λ (x : WiringValue). length (all_pins x.nets)) put);
-    })
 
 -- the wires once all is put anew
 pub anew_wired : (R : ℕ → WiredChipValue → WiredChipValue → Type 0) → ((i : ℕ) (s t : WiredChipValue) → R i s t → IsKept s t) → (old new : List WiredChipValue) (w v : WiringValue)

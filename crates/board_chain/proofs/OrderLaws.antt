@@ -12,7 +12,7 @@ use Rattle.board_loops.specs.Loops.{IsInOrder as IsWorkOrder, HasNoLoop as HasNo
 use Rattle.board_loops.specs.Loops as numbers
 use Rattle.board_loops.specs.declared.net_loops.Dependency.{Dependency}
 use Rattle.board_loops.proofs.OnceLaws.{each_once}
-use Rattle.board_plan.specs.Planned.{HasCore, all_pins}
+use Rattle.board_plan.specs.Planned.{HasCore}
 use Rattle.board_plan.specs.Planned as planned
 use Rattle.board_parts.specs.Strings.{HasStrings, HaveOneEach, IsStringOf, has_cell}
 use Rattle.board_loops.specs.Depending.{dependencies, dependencies_from, dependency, net_number, port_of}

@@ -32,7 +32,6 @@ use Rattle.board_chips.specs.WiringValues.{WiringValue}
 use Rattle.board_chips.specs.Wires.{AreWired, IsWired}
 use Rattle.board_chain.proofs.ChainLaws.{all_chips, all_told, chips_in_force, drives_with, each_still, chips_members, told_here}
 use Rattle.board_chips.proofs.EdgeLaws.{rise_drives, put-latch, put-update}
-use Rattle.board_chain.proofs.SweepLaws.{each_long}
 
 -- ---- each device changed by itself
 
@@ -302,6 +301,3 @@ module _ (column : Column) where
       → AllTold trst new
   shifted_told trst bits old new cut told =
       all_told (PutSome column) (λ i s t r. r.is.trst) trst 0 old new (cut_each 0 bits old new cut) told
-
-  pub shifted_long : (bits : List Bool) (old new : List WiredChipValue) → Cut bits old new → length new ≡ length old
-  shifted_long bits old new cut = each_long (PutSome column) 0 old new (cut_each 0 bits old new cut)

@@ -10,6 +10,7 @@ use Rattle.pin_nets.specs.Wired.{Net}
 use Rattle.board_plan.specs.Planned.{all_pins}
 use Rattle.board_chips.specs.WiringValues.{WiringValue}
 use Rattle.board_model.specs.Cells.{Member}
+use Rattle.board_model.specs.Chain.{ChipState}
 use Rattle.board_model.specs.Following.{AllDriveAlike, AreHeld, InOtherRegisters, IsAmong, IsHeld, IsOrderOf, Placed, after_strings}
 use Rattle.board_model.specs.Nets.{core_at, in_force, pin_drive}
 use Rattle.board_model.proofs.Held.{held_in_force, held_stay}
@@ -24,7 +25,8 @@ use Rattle.board_chips.specs.Tables.{IsApart, IsDriving, IsTable}
 use Rattle.board_chips.specs.Wires.{IsWired}
 use Rattle.board_chips.specs.declared.strings.WiredString.{WiredString}
 use Rattle.board_chips.proofs.StringLaws.{by_less}
-use Rattle.board_chain.specs.Settled.{IsSettled, Keeps}
+use Rattle.board_chain.specs.Chains.{ChainValue}
+use Rattle.board_chain.specs.Settled.{Becomes, IsSettled, Keeps, SettledValue}
 use Rattle.board_chain.specs.Sweeping.{EachFrom, Still}
 use Rattle.board_chain.proofs.ChainLaws.{same-cells, still_wired}
 
@@ -169,3 +171,19 @@ same_told trst new mid less = told-as trst new mid (by_less (λ (s : WiredChipVa
 
 pub same_long : (new mid : List WiredChipValue) → map less_core new ≡ map less_core mid → length new ≡ length mid
 same_long new mid less = sym (length-map new less_core) ∙ ap (λ (l : List WiredChipValue). length l) less ∙ length-map mid less_core
+
+-- ---- what contracts see
+
+pub seen_as : (f : SettledValue → List ChipState → List ChipState) {trst : Bool → Bool} {a b new : SettledValue} → a ≡ b → Becomes trst (f a) a new → Becomes trst (f b) b new
+seen_as f {trst} {a} {b} {new} same is = subst (λ (v : SettledValue). Becomes trst (f v) v new) same is
+
+-- the same in a chain where this level of TRST was told last
+abbrev pub in_chain : Bool → SettledValue → ChainValue
+in_chain level s = record { trst = level; nets = s.nets; chips = map chip_state s.chips }
+
+pub chain_becomes : (trst : Bool → Bool) (f : ChainValue → List ChipState → List ChipState) (level : Bool) (old new : SettledValue) (v : ChainValue)
+    → in_chain level old ≡ v → Becomes trst (f (in_chain level old)) old new
+    → in_chain (trst level) new ≡ record v { trst = trst v.trst; chips = f v v.chips }
+chain_becomes trst f level old new v same is =
+    subst (λ (x : ChainValue). in_chain (trst level) new ≡ record x { trst = trst x.trst; chips = f x x.chips }) same
+    (λ i. record { trst = trst level; nets = is.nets i; chips = is.chips i })

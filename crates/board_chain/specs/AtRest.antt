@@ -4,7 +4,7 @@ use Rattle.jt_tap.specs.declared.Column.{Column}
 use Rattle.jt_tap.specs.declared.State.{State}
 use Rattle.jt_tap.specs.declared.State.TheVariants.{Reset}
 use Rattle.board_model.specs.Cells.{Member}
-use Rattle.board_model.specs.Chain.{ChipState}
+use Rattle.board_model.specs.Chain.{ChipState, members}
 use Rattle.board_model.specs.Resting.{chip_at_rest}
 use Rattle.board_model.specs.Whole.{capture_member, cut_back, joined_bits, settled_member, trst_member}
 use Rattle.board_chips.specs.AtRest.{as_member}
@@ -17,6 +17,10 @@ use Rattle.board_chain.specs.Chains.{ChainValue}
 abbrev pub as_members : List Member → List ChipState → List ChipState
 as_members (m ∷ ms) (c ∷ cs) = as_member m c ∷ as_members ms cs
 as_members _ _ = []
+
+-- the devices in registers that f makes of theirs
+abbrev pub in_registers : (List Member → List Member) → List ChipState → List ChipState
+in_registers f chips = as_members (f (members chips)) chips
 
 -- the same chain in these registers
 abbrev pub chain_as : List Member → ChainValue → ChainValue

@@ -3,6 +3,7 @@
 
 mod build;
 mod chain;
+mod settled;
 
 pub use board_chips::WiredChip;
 pub use chain::Chain;

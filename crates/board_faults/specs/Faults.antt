@@ -1,7 +1,7 @@
 -- Single faults of the nets of a board, the ways in which each may show, and the nets with one.
 use Rattle.std.specs.Prelude.{◌≡◌, ◌<◌, ◌+◌, ◌-◌, Bool, true, false, ℕ, suc, List, [], ◌∷◌, ◌++◌, map, length}
 use Rattle.std.specs.Prelude.{take, drop, set, slice_get, slice_index_or, Some}
-use Rattle.std.specs.List.{range_with_len, remove}
+use Rattle.std.specs.List.{AllByRecursion, range_with_len, remove}
 use Rattle.pin_nets.specs.declared.Pull.{Pull}
 use Rattle.pin_nets.specs.declared.Pull.TheVariants.{Up, Down, Free}
 use Rattle.pin_nets.specs.declared.Rule.TheVariants.{Counted, Tied, WiredOr, Led}
@@ -122,3 +122,7 @@ IsWayOf nets (way.Open net pin bit) = (n : Net) × (slice_get nets net ≡ Some 
 IsWayOf nets (way.Pull net) = net < length nets
 IsWayOf nets (way.Stuck net bit) = net < length nets
 IsWayOf nets (way.Short first second winner) = (first < second) × (second < length nets)
+
+-- each of its ways is one of a fault that the nets have
+abbrev pub IsFaultOf : List Net → Fault → Type 0
+IsFaultOf nets fault = AllByRecursion (IsWayOf nets) (ways fault)

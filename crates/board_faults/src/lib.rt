@@ -1,14 +1,19 @@
 //! Single faults of the nets of a board: an open joint, a pull that is missing or the wrong one, a net that is stuck, a
 //! bridge of two nets. Each may show in several ways, since nobody knows what a pin that floats reads, or which driver
-//! wins on a bridge; each way is a board with other nets.
+//! wins on a bridge; each way is a board with other nets. Some can show to no program: by what pins can drive, and which
+//! of them are read.
 #![tactic(auto)]
 
 mod kinds;
 mod laws;
 mod listed;
 mod nets;
+mod sight;
+mod together;
 
 pub use kinds::{Fault, Way, Winner};
-pub use laws::faults_compute;
+pub use laws::{faults_compute, invisible_faults_are_not_captured};
 pub use listed::Faults;
 pub use nets::nets_with;
+pub use sight::{PortSight, is_invisible, sights_of};
+pub use together::Driven;

@@ -117,11 +117,7 @@ fn open_pin(
 fn turn_pull(net: &mut PlannedNet)
     ensures { planned_net net.new ≡ spec.turned_net (planned_net net.old) }
 {
-    net.pull = match net.pull {
-        Pull::Up => Pull::Down,
-        Pull::Down => Pull::Up,
-        Pull::Free => Pull::Free,
-    };
+    net.pull = turned(net.pull);
 }
 
 /// A net shows a bit, whatever drives it.
@@ -165,15 +161,26 @@ fn both(alloc: Global, some: &[Pin], others: &[Pin]) -> Result<Vec<Pin>, AllocEr
     Ok(pins)
 }
 
+/// The pull that points the other way.
+pub(crate) fn turned(pull: Pull) -> Pull
+    ensures { result ≡ spec.turned pull }
+{
+    match pull {
+        Pull::Up => Pull::Down,
+        Pull::Down => Pull::Up,
+        Pull::Free => Pull::Free,
+    }
+}
+
 /// The pull towards a bit.
-fn pull_to(bit: bool) -> Pull
+pub(crate) fn pull_to(bit: bool) -> Pull
     ensures { result ≡ spec.pull_to bit }
 {
     if bit { Pull::Up } else { Pull::Down }
 }
 
 /// The pull of what is left of a net: its own, or towards the bit to which it floats.
-fn rest_pull(bit: bool, pull: Pull) -> Pull
+pub(crate) fn rest_pull(bit: bool, pull: Pull) -> Pull
     ensures { result ≡ spec.rest_pull bit pull }
 {
     match pull {
@@ -183,7 +190,7 @@ fn rest_pull(bit: bool, pull: Pull) -> Pull
 }
 
 /// The pull of two nets that are bridged: of two that are opposed ports read 0.
-fn joined(one: Pull, other: Pull) -> Pull
+pub(crate) fn joined(one: Pull, other: Pull) -> Pull
     ensures { result ≡ spec.joined one other }
 {
     match (one, other) {

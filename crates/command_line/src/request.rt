@@ -57,11 +57,6 @@ pub enum Task<'a> {
     },
     /// The board is described.
     Describe,
-    /// It is told which faults of the board's nets the text would miss; where `listed` is set, of every way of each what
-    /// is made of it.
-    Cover {
-        listed: bool,
-    },
 }
 
 /// How a board is served.
@@ -107,8 +102,7 @@ pub struct Request<'a> {
 /// - `loop [FILE] [--board BOARD] [--all] [--explain]`,
 /// - `serve --board BOARD --port PORT [--at-most BYTES] [--connections COUNT] [--timeout SECONDS]`,
 /// - `connect [FILE] --port PORT [--host HOST] [--timeout SECONDS] [--all] [--explain]`,
-/// - `describe --board BOARD`,
-/// - `cover [FILE] --board BOARD [--list]`.
+/// - `describe --board BOARD`.
 ///
 /// Refused are words that none of these takes, and a number that is not in its range; a call for help comes as such an
 /// error too.
@@ -164,9 +158,6 @@ fn task_of<'a>(name: &str, found: &ArgMatches<'a>) -> Task<'a>
             explain: is_given(found, "explain"),
         },
         "describe" => Task::Describe,
-        "cover" => Task::Cover {
-            listed: is_given(found, "list"),
-        },
         _ => Task::Play {
             bytes: is_given(found, "bytes"),
             all: is_given(found, "all"),
@@ -259,7 +250,6 @@ fn command<'a>(alloc: Global) -> Result<Command<'a>, AllocError>
     let serve = serve_command(alloc)?;
     let connect = connect_command(alloc)?;
     let describe = describe_command(alloc)?;
-    let cover = cover_command(alloc)?;
     Command::new(alloc, "jt_tool")
         .about("Plays Serial Vector Format programs on a simulated boundary-scan board")
         .subcommand(play)?
@@ -267,8 +257,7 @@ fn command<'a>(alloc: Global) -> Result<Command<'a>, AllocError>
         .subcommand(round)?
         .subcommand(serve)?
         .subcommand(connect)?
-        .subcommand(describe)?
-        .subcommand(cover)
+        .subcommand(describe)
 }
 
 fn play_command<'a>(alloc: Global) -> Result<Command<'a>, AllocError>
@@ -350,19 +339,6 @@ fn describe_command<'a>(alloc: Global) -> Result<Command<'a>, AllocError>
         .arg(served_board_arg(alloc))
 }
 
-fn cover_command<'a>(alloc: Global) -> Result<Command<'a>, AllocError>
-    ensures shape { IfOk result (λ c. shape_of c ≡ spec.cover) }
-    ensures local { IfOk result (λ c. (out-Command c).has_globals ≡ false) }
-{
-    Command::new(alloc, "cover")
-        .about(
-            "Tells which faults of a board a program would miss: open joints, pulls, stuck nets, bridges",
-        )
-        .arg(svf_arg(alloc))?
-        .arg(served_board_arg(alloc))?
-        .arg(list_arg(alloc))
-}
-
 fn bytes_arg<'a>(alloc: Global) -> Arg<'a>
     ensures rule { rule_of result ≡ spec.bytes }
     ensures local { result.global ≡ false }
@@ -411,16 +387,6 @@ fn vcd_arg<'a>(alloc: Global) -> Arg<'a>
         .long("vcd")
         .action(ArgAction::Set)
         .help("The file that the waves of the play are drawn into")
-}
-
-fn list_arg<'a>(alloc: Global) -> Arg<'a>
-    ensures rule { rule_of result ≡ spec.list }
-    ensures local { result.global ≡ false }
-{
-    Arg::new(alloc, "list")
-        .long("list")
-        .action(ArgAction::SetTrue)
-        .help("Tells every way of every fault, and by which bit it is caught")
 }
 
 fn board_arg<'a>(alloc: Global) -> Arg<'a>

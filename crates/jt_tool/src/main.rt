@@ -12,7 +12,7 @@ use crate::described::{Boards, Planned, Unmade, plan_board};
 use crate::explained::{accept_text, play_accepted, tell_unmade};
 use crate::linked::{AcceptedText, loop_over_socket, play_on_server};
 use crate::links::{accept, listen};
-use crate::statuses::{or_lost, tell_line};
+use crate::statuses::{or_lost, tell_line, tell_memory};
 use crate::waves::{draw_waves, may_be_made};
 use board_description::Untold;
 use byte_streams::{Broken, Counted, Plain};
@@ -31,6 +31,9 @@ use std::net::TcpListener;
 use std::process::ExitCode;
 use std::{fs, io};
 
+/// What is told of words that are no text.
+const NOT_UTF8: &str = "a word of the command line is not UTF-8";
+
 fn main(rt: HostRuntime) -> ExitCode {
     let status = match StandIns::new(&rt) {
         Ok(_until_the_end) => run_words(&rt),
@@ -44,8 +47,8 @@ fn run_words(rt: &HostRuntime) -> u8 {
     let alloc = rt.alloc();
     match command_words(rt, alloc) {
         Ok(words) => run(rt, alloc, words.as_slice()),
-        Err(fault) if fault.kind() == ErrorKind::OutOfMemory => tell_line(rt, "memory", Status::NoMemory),
-        Err(_) => tell_line(rt, "a word of the command line is not UTF-8", Status::Refused),
+        Err(fault) if fault.kind() == ErrorKind::OutOfMemory => tell_memory(rt),
+        Err(_) => tell_line(rt, NOT_UTF8, Status::Refused),
     }
 }
 
@@ -54,7 +57,7 @@ fn run(rt: &HostRuntime, alloc: Global, args: &[String]) -> u8 {
     let mut words = Vec::new(alloc);
     for arg in args {
         if words.push(arg.as_str()).is_err() {
-            return tell_line(rt, "memory", Status::NoMemory);
+            return tell_memory(rt);
         }
     }
     match parse(alloc, &words) {
@@ -66,7 +69,7 @@ fn run(rt: &HostRuntime, alloc: Global, args: &[String]) -> u8 {
 /// Tells what is wrong with the words, or gives the help that they ask for.
 fn refuse_words<R: Print + Eprint>(rt: &R, fault: &clap::Error) -> u8 {
     if fault.kind() == WordsFault::OutOfMemory {
-        return tell_line(rt, "memory", Status::NoMemory);
+        return tell_memory(rt);
     }
     if fault.print(rt).is_err() {
         Status::Lost.number()
@@ -117,7 +120,7 @@ fn describe_board(rt: &HostRuntime, alloc: Global, planned: &Planned) -> u8 {
     match planned.describe(alloc, &mut Counted::new(Plain(io::writer(rt)))) {
         Ok(()) => Status::Pass.number(),
         Err(Untold::Broken) => Status::Lost.number(),
-        Err(Untold::NoMemory) => tell_line(rt, "memory", Status::NoMemory),
+        Err(Untold::NoMemory) => tell_memory(rt),
     }
 }
 
@@ -295,7 +298,7 @@ fn draw_behind(
         Err(_) => Err(Undrawn::NoMemory),
     };
     if matches!(drawn, Err(Undrawn::NoMemory)) {
-        return tell_line(rt, "memory", Status::NoMemory);
+        return tell_memory(rt);
     }
     status_behind(status, drawn)
 }

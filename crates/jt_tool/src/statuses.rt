@@ -17,3 +17,8 @@ pub(crate) fn tell_line<R: Eprint, T: fmt::Display + Drop>(rt: &R, line: T, stat
         status.number()
     }
 }
+
+/// Writes that memory ran out. Answers the exit status.
+pub(crate) fn tell_memory<R: Eprint>(rt: &R) -> u8 {
+    tell_line(rt, "memory", Status::NoMemory)
+}

@@ -1,6 +1,6 @@
 //! Names as they are told.
 
-ghost use Rattle.std.specs.Prelude.{◌≡◌, ◌++◌, OnOk, codes, flat_map};
+ghost use Rattle.std.specs.Prelude.{◌≡◌, ◌++◌, OnOk};
 ghost use Rattle.byte_streams.specs.Writes.{WritesAll};
 ghost use Rattle.output_words.specs.Names as spec;
 ghost use Rattle.output_words.specs.Names.{shown, shown_byte};

@@ -1,7 +1,7 @@
 -- The wave of messages: what the lines of the TAP, the devices and the named nets show, message by message, as a value
 -- change dump (IEEE Std 1364-2001, clause 18). Time goes by the period of TCK in force, half of it a level.
 use Rattle.std.specs.Prelude.{ℕ, suc, ◌+◌, ◌-◌, ◌/◌, Bool, true, false, ◌&&◌, not, nat_le, min, List, [], ◌∷◌}
-use Rattle.std.specs.Prelude.{◌++◌, codes, decimal, replicate, zip, Option, Some, None, is_none, if◌then◌else◌}
+use Rattle.std.specs.Prelude.{◌++◌, replicate, Option, Some, None, is_none, if◌then◌else◌}
 use Rattle.std.specs.List.{list_all}
 use Rattle.jt_tap.specs.Controller.{is_stable}
 use Rattle.bitbang_protocol.specs.declared.Message.{Message}

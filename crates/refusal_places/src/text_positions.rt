@@ -6,9 +6,8 @@ ghost use Rattle.std.specs.Prelude.{◌≡◌, ◌≤◌, ◌<◌, length};
 ghost use Rattle.refusal_places.specs.Positions as positions;
 ghost use Rattle.refusal_places.specs.Positions.{position_at};
 
-pub use statements::{StatementPositions, statement_position};
-
 use output_words::Position;
+pub use statements::{StatementPositions, statement_position};
 
 pub mod laws;
 mod statements;

@@ -65,11 +65,7 @@ fn write_end<W: Sink>(number: usize, out: &mut Counted<W>) -> Result<(), Broken>
 /// Writes the line of a level.
 ///
 /// `Broken` comes exactly where the writer's first failure came in this call.
-pub fn write_byte<W: Sink>(
-    number: usize,
-    value: u8,
-    out: &mut Counted<W>,
-) -> Result<(), Broken>
+pub fn write_byte<W: Sink>(number: usize, value: u8, out: &mut Counted<W>) -> Result<(), Broken>
     requires { out.old.failures ≡ 0 }
     ensures { WritesAll W.contents out.old out.new (byte_line number value) result }
 {

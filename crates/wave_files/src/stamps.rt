@@ -27,12 +27,7 @@ pub fn write_stamp<W: Sink>(time: u64, out: &mut Counted<W>) -> Result<(), Broke
 /// Writes a time, and below it TCK where it changed.
 ///
 /// `Broken` comes exactly where the writer's first failure came in this call.
-pub fn write_time<W: Sink>(
-    time: u64,
-    was: u8,
-    is: u8,
-    out: &mut Counted<W>,
-) -> Result<(), Broken>
+pub fn write_time<W: Sink>(time: u64, was: u8, is: u8, out: &mut Counted<W>) -> Result<(), Broken>
     requires { out.old.failures ≡ 0 }
     ensures { WritesAll W.contents out.old out.new (stamp time ++ byte_change 0 was is) result }
 {

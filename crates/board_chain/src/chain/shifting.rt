@@ -12,7 +12,7 @@ ghost use Rattle.board_scan.specs.Words.{word_bits};
 
 use super::Chain;
 use board_chips::WiredChip;
-use board_scan::{shift_word, word_out};
+use board_scan::word_out;
 use jt_tap::{Column, State};
 use scan_registers::Link;
 
@@ -36,7 +36,7 @@ impl Chain {
         ensures { (n : ℕ) → n ≤ 64
             → word_bits result n ≡ out_of_members column (word_bits bits n) (members self.now.chips) }
     {
-        word_out(&self.chips, column, bits)
+        word_out(self.settled.chips(), column, bits)
     }
 
     /// The lowest `n` bits of a word are shifted through the column's registers, joined from TDO to TDI, its lowest
@@ -46,7 +46,7 @@ impl Chain {
         ensures { self.new
             ≡ chain_as (shifted_through column (word_bits bits n) (members self.old.chips)) self.old }
     {
-        shift_word(&mut self.chips, column, bits, n);
+        self.settled.shift_word(column, bits, n);
     }
 }
 

@@ -1,7 +1,7 @@
 use Rattle.std.proofs.Common.{◌≡◌, ap, ◌∙◌, codes}
 use Rattle.clap.specs.Simple.{app_of_fields}
 use Rattle.clap.specs.Words.{app_of, new_app, with_subcommand}
-use Rattle.command_line.specs.Asking.{check, connect, cover, describe, loop, play, serve}
+use Rattle.command_line.specs.Asking.{check, connect, describe, loop, play, serve}
 use Rattle.command_line.proofs.CommandLaws.{with_command, with_last_command}
 use Rattle.command_line.proofs.request.command.Goals as goal
 
@@ -14,5 +14,4 @@ returns c =
     let sub2 = with_command c.in_ok-subcommand-2.field-0 c.in_ok-round.round c.in_ok-subcommand-3.field-0 (with_subcommand (with_subcommand (none) play) check) loop c.in_ok-subcommand-3.ensures c.in_ok-round.ensures.local c.in_ok-round.ensures.shape sub1 in
     let sub3 = with_command c.in_ok-subcommand-3.field-0 c.in_ok-serve.serve c.in_ok-subcommand-4.field-0 (with_subcommand (with_subcommand (with_subcommand (none) play) check) loop) serve c.in_ok-subcommand-4.ensures c.in_ok-serve.ensures.local c.in_ok-serve.ensures.shape sub2 in
     let sub4 = with_command c.in_ok-subcommand-4.field-0 c.in_ok-connect.connect c.in_ok-subcommand-5.field-0 (with_subcommand (with_subcommand (with_subcommand (with_subcommand (none) play) check) loop) serve) connect c.in_ok-subcommand-5.ensures c.in_ok-connect.ensures.local c.in_ok-connect.ensures.shape sub3 in
-    let sub5 = with_command c.in_ok-subcommand-5.field-0 c.in_ok-describe.describe c.in_ok-subcommand-6.field-0 (with_subcommand (with_subcommand (with_subcommand (with_subcommand (with_subcommand (none) play) check) loop) serve) connect) describe c.in_ok-subcommand-6.ensures c.in_ok-describe.ensures.local c.in_ok-describe.ensures.shape sub4 in
-    with_last_command c.in_ok-subcommand-6.field-0 c.in_ok-cover.cover (with_subcommand (with_subcommand (with_subcommand (with_subcommand (with_subcommand (with_subcommand (none) play) check) loop) serve) connect) describe) cover c.subcommand-7.result c.subcommand-7.ensures c.in_ok-cover.ensures.local c.in_ok-cover.ensures.shape sub5
+    with_last_command c.in_ok-subcommand-5.field-0 c.in_ok-describe.describe (with_subcommand (with_subcommand (with_subcommand (with_subcommand (with_subcommand (none) play) check) loop) serve) connect) describe c.subcommand-6.result c.subcommand-6.ensures c.in_ok-describe.ensures.local c.in_ok-describe.ensures.shape sub4

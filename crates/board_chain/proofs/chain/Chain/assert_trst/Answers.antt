@@ -1,37 +1,13 @@
-use Rattle.std.proofs.Common.{◌≡◌, ◌∙◌, List, length, map, sym, ap, subst, true}
-use Rattle.std.proofs.lemmas.List.{with_items_is}
-use Rattle.std.specs.Vec.{with_items}
+use Rattle.std.proofs.Common.{true, map}
 use Rattle.jt_tap.specs.declared.State.TheVariants.{Reset}
 use Rattle.board_model.specs.Chain.{members}
 use Rattle.board_model.specs.Resting.{chip_at_rest}
 use Rattle.board_model.specs.Whole.{settled_member, trst_member}
-use Rattle.board_chain.specs.Chains.{ChainValue}
-use Rattle.board_chain.specs.Settled.{IsSettled}
-use Rattle.board_chips.specs.WiredChips.{AllTold, WiredChipValue, chip_state}
-use Rattle.board_chips.specs.declared.strings.WiredString.{WiredString}
-use Rattle.board_chain.specs.contracts.chain.Chain.{the_view}
+use Rattle.board_chain.proofs.SettledLaws.{chain_becomes}
 use Rattle.board_chain.proofs.chain.Chain.assert_trst.Goals as goal
 
 pub invariant_of-self : goal.invariant_of-self
-invariant_of-self c =
-    let s = c.self.inside in
-    let after = c.assert_trst_settled.new in
-    let old-is = c.deref_mut.ensures.value in
-    let is = with_items_is s.chips after.chips (c.assert_trst_settled.ensures.long ∙ ap (λ (l : List WiredChipValue). length l) old-is ∙ sym s.chips.ok.0) in
-    record {
-      told = subst (AllTold true) (sym is) c.assert_trst_settled.ensures.told;
-      settled = subst (λ (l : List WiredChipValue). IsSettled l after.wiring after.driving s.strings.items) (sym is)
-          (subst (λ (ss : List WiredString). IsSettled after.chips after.wiring after.driving ss) c.deref.ensures.value c.assert_trst_settled.ensures.settled);
-    }
+invariant_of-self c = c.assert_trst.ensures.told c.self.inside.trst c.self.invariant
 
 pub returns : goal.returns
-returns c =
-    let s = c.self.inside in
-    let after = c.assert_trst_settled.new in
-    let old-is = c.deref_mut.ensures.value in
-    let is = with_items_is s.chips after.chips (c.assert_trst_settled.ensures.long ∙ ap (λ (l : List WiredChipValue). length l) old-is ∙ sym s.chips.ok.0) in
-    let chips-are = ap (map chip_state) is ∙ c.assert_trst_settled.ensures.chips
-    ∙ ap (λ (l : List WiredChipValue). map (chip_at_rest Reset) (map (trst_member (settled_member c.args.rests)) (members (map chip_state l)))) old-is in
-    let now = the_view (record s { trst = true; chips = with_items s.chips after.chips; wiring = after.wiring; driving = after.driving }) in
-    subst (λ (v : ChainValue). now ≡ record v { trst = true; chips = map (chip_at_rest Reset) (map (trst_member (settled_member c.args.rests)) (members v.chips)) }) c.self.view_is
-    (λ i. record { trst = true; nets = c.assert_trst_settled.ensures.nets i; chips = chips-are i })
+returns c = chain_becomes (λ level. true) (λ v chips. map (chip_at_rest Reset) (map (trst_member (settled_member c.args.rests)) (members chips))) c.self.inside.trst c.self.inside.settled c.assert_trst.new.self _ c.self.view_is c.assert_trst.ensures

@@ -1,5 +1,4 @@
 use Rattle.std.proofs.Common.{◌≡◌, ◌∙◌, false, List, map, sym, ap, subst}
-use Rattle.std.proofs.lemmas.Result.{IfOk-weaker}
 use Rattle.bsdl_device.specs.declared.Cell.{Cell}
 use Rattle.pin_nets.specs.Wired.{Net}
 use Rattle.board_plan.specs.Planned.{all_pins}
@@ -36,16 +35,8 @@ refresh-requires c =
     ∙ ap (λ (l : List PlannedDevice). wired_chips_of w.nets 0 (map planned_member l)) c.deref.ensures.value in
     start_within w.nets w.members c.deref-4.result.now c.in_ok-wiring.wiring c.requires.ready.chips.pins (c.deref-4.ensures.value ∙ chips-are) (ap (λ (v : WiringValue). v.nets) c.in_ok-wiring.ensures ∙ ap (map planned_net) c.deref-3.ensures.value)
 
-pub first_settled-requires-clause-told : goal.first_settled-requires-clause-told
-first_settled-requires-clause-told c =
-    let w = wiring c.args.plan.now in
-    let chips-are : c.in_ok-chips.chips.items ≡ wired_chips_of w.nets 0 w.members =
-    c.in_ok-chips.ensures ∙ ap (λ (l : List PlannedNet). wired_chips_of (map planned_net l) 0 (map planned_member c.deref.result.now)) c.deref-2.ensures.value
-    ∙ ap (λ (l : List PlannedDevice). wired_chips_of w.nets 0 (map planned_member l)) c.deref.ensures.value in
-    subst (AllTold false) (sym chips-are) (chips_told w.nets 0 w.members)
-
-pub first_settled-requires-clause-wired : goal.first_settled-requires-clause-wired
-first_settled-requires-clause-wired c =
+pub first-requires-clause-wired : goal.first-requires-clause-wired
+first-requires-clause-wired c =
     let w = wiring c.args.plan.now in
     let chips-are : c.in_ok-chips.chips.items ≡ wired_chips_of w.nets 0 w.members =
     c.in_ok-chips.ensures ∙ ap (λ (l : List PlannedNet). wired_chips_of (map planned_net l) 0 (map planned_member c.deref.result.now)) c.deref-2.ensures.value
@@ -54,16 +45,16 @@ first_settled-requires-clause-wired c =
     (start_wired w.nets w.members c.in_ok-wiring.wiring c.refresh.new.wiring c.requires.ready.chips.pins (ap (λ (v : WiringValue). v.nets) c.in_ok-wiring.ensures ∙ ap (map planned_net) c.deref-3.ensures.value)
     (c.refresh.ensures ∙ ap (λ (l : List WiredChipValue). record c.in_ok-wiring.wiring { drives = map (pin_drive (map held_of l)) (all_pins c.in_ok-wiring.wiring.nets) }) (c.deref-4.ensures.value ∙ chips-are)))
 
-pub first_settled-requires-clause-held : goal.first_settled-requires-clause-held
-first_settled-requires-clause-held c =
+pub first-requires-clause-held : goal.first-requires-clause-held
+first-requires-clause-held c =
     let w = wiring c.args.plan.now in
     let chips-are : c.in_ok-chips.chips.items ≡ wired_chips_of w.nets 0 w.members =
     c.in_ok-chips.ensures ∙ ap (λ (l : List PlannedNet). wired_chips_of (map planned_net l) 0 (map planned_member c.deref.result.now)) c.deref-2.ensures.value
     ∙ ap (λ (l : List PlannedDevice). wired_chips_of w.nets 0 (map planned_member l)) c.deref.ensures.value in
     subst (λ (l : List WiredChipValue). AreHeld (map member_of l) (map held_of l)) (sym chips-are) (chips_hold w.nets 0 w.members)
 
-pub first_settled-requires-clause-strung : goal.first_settled-requires-clause-strung
-first_settled-requires-clause-strung c =
+pub first-requires-clause-strung : goal.first-requires-clause-strung
+first-requires-clause-strung c =
     let w = wiring c.args.plan.now in
     let strings = c.in_ok-strings.strings.items in
     let chips-are : c.in_ok-chips.chips.items ≡ wired_chips_of w.nets 0 w.members =
@@ -74,8 +65,8 @@ first_settled-requires-clause-strung c =
     subst (λ (ns : List Net). AreStrung ns (map cells_of c.in_ok-chips.chips.items) strings) (sym nets-are)
     (subst (λ (cs : List (List Cell)). AreStrung w.nets cs strings) cells-are c.in_ok-strings.ensures.strung)
 
-pub first_settled-requires-clause-order : goal.first_settled-requires-clause-order
-first_settled-requires-clause-order c =
+pub first-requires-clause-order : goal.first-requires-clause-order
+first-requires-clause-order c =
     let w = wiring c.args.plan.now in
     let placed = map placed_of c.in_ok-strings.strings.items in
     let chips-are : c.in_ok-chips.chips.items ≡ wired_chips_of w.nets 0 w.members =
@@ -86,6 +77,14 @@ first_settled-requires-clause-order c =
     subst (λ (ns : List Net). IsOrderOf ns (map member_of c.in_ok-chips.chips.items) placed) (sym nets-are)
     (subst (λ (ms : List Member). IsOrderOf w.nets ms placed) members-are c.in_ok-strings.ensures.order)
 
+pub of-requires : goal.of-requires
+of-requires c =
+    let w = wiring c.args.plan.now in
+    let chips-are : c.in_ok-chips.chips.items ≡ wired_chips_of w.nets 0 w.members =
+    c.in_ok-chips.ensures ∙ ap (λ (l : List PlannedNet). wired_chips_of (map planned_net l) 0 (map planned_member c.deref.result.now)) c.deref-2.ensures.value
+    ∙ ap (λ (l : List PlannedDevice). wired_chips_of w.nets 0 (map planned_member l)) c.deref.ensures.value in
+    c.in_ok-settled.ensures.told false (subst (AllTold false) (sym chips-are) (chips_told w.nets 0 w.members))
+
 pub returns : goal.returns
 returns c =
     let w = wiring c.args.plan.now in
@@ -93,8 +92,8 @@ returns c =
     c.in_ok-chips.ensures ∙ ap (λ (l : List PlannedNet). wired_chips_of (map planned_net l) 0 (map planned_member c.deref.result.now)) c.deref-2.ensures.value
     ∙ ap (λ (l : List PlannedDevice). wired_chips_of w.nets 0 (map planned_member l)) c.deref.ensures.value in
     let nets-are = ap (λ (v : WiringValue). v.nets) c.refresh.ensures ∙ ap (λ (v : WiringValue). v.nets) c.in_ok-wiring.ensures ∙ ap (map planned_net) c.deref-3.ensures.value in
-    IfOk-weaker c.first_settled.result _ _
-    (λ v is. is
+    let is = c.in_ok-settled.ensures in
+    c.of.ensures
+    ∙ (λ i. record { trst = false; nets = is.nets i; chips = is.chips i })
     ∙ ap (λ (ns : List Net). record { trst = false; nets = ns; chips = map chip_state c.in_ok-chips.chips.items }) nets-are
-    ∙ ap (λ (cs : List ChipState). record { trst = false; nets = w.nets; chips = cs }) (ap (map chip_state) chips-are ∙ chips_stand w.nets 0 w.members))
-    c.first_settled.ensures
+    ∙ ap (λ (cs : List ChipState). record { trst = false; nets = w.nets; chips = cs }) (ap (map chip_state) chips-are ∙ chips_stand w.nets 0 w.members)

@@ -19,5 +19,5 @@ returns c =
     subst (λ (x : ChainValue). found c.note_chain.new.failures ≡ with_found (differing command v (out_of_members column (tdis v) (members x.chips))) old) c.self.view_is
     (c.note_chain.ensures
     ∙ ap (λ (l : List WiredChipValue). with_found (differing command v
-    (rows.out v (map (λ (s : WiredChipValue). selected_bits_of column (member_of s)) l))) old) c.deref.ensures.value
-    ∙ ap (λ (o : List Bool). with_found (differing command v o) old) (same_out column v c.self.inside.chips.items))
+    (rows.out v (map (λ (s : WiredChipValue). selected_bits_of column (member_of s)) l))) old) c.chips.ensures
+    ∙ ap (λ (o : List Bool). with_found (differing command v o) old) (same_out column v c.self.inside.settled.chips))

@@ -1,34 +1,10 @@
-use Rattle.std.proofs.Common.{◌≡◌, ◌∙◌, List, length, map, sym, ap, subst, if◌then◌else◌}
-use Rattle.std.proofs.lemmas.List.{with_items_is}
-use Rattle.std.specs.Vec.{with_items}
-use Rattle.board_model.specs.Chain as meant
-use Rattle.board_chain.specs.Chains.{ChainValue}
-use Rattle.board_chain.specs.Settled.{IsSettled}
-use Rattle.board_chips.specs.WiredChips.{AllTold, WiredChipValue, chip_state}
-use Rattle.board_chips.specs.declared.strings.WiredString.{WiredString}
-use Rattle.board_chain.specs.contracts.chain.Chain.{the_view}
+use Rattle.std.proofs.Common.{map, if◌then◌else◌}
+use Rattle.board_model.specs.Chain.{assert_trst}
+use Rattle.board_chain.proofs.SettledLaws.{chain_becomes}
 use Rattle.board_chain.proofs.chain.Chain.tell_trst.Goals as goal
 
 pub invariant_of-self : goal.invariant_of-self
-invariant_of-self c =
-    let s = c.self.inside in
-    let after = c.tell_trst_settled.new in
-    let old-is = c.deref_mut.ensures.value in
-    let is = with_items_is s.chips after.chips (c.tell_trst_settled.ensures.long ∙ ap (λ (l : List WiredChipValue). length l) old-is ∙ sym s.chips.ok.0) in
-    record {
-      told = subst (AllTold c.args.trst) (sym is) c.tell_trst_settled.ensures.told;
-      settled = subst (λ (l : List WiredChipValue). IsSettled l after.wiring after.driving s.strings.items) (sym is)
-          (subst (λ (ss : List WiredString). IsSettled after.chips after.wiring after.driving ss) c.deref.ensures.value c.tell_trst_settled.ensures.settled);
-    }
+invariant_of-self c = c.tell_trst.ensures.told c.self.inside.trst c.self.invariant
 
 pub returns : goal.returns
-returns c =
-    let s = c.self.inside in
-    let after = c.tell_trst_settled.new in
-    let old-is = c.deref_mut.ensures.value in
-    let is = with_items_is s.chips after.chips (c.tell_trst_settled.ensures.long ∙ ap (λ (l : List WiredChipValue). length l) old-is ∙ sym s.chips.ok.0) in
-    let chips-are = ap (map chip_state) is ∙ c.tell_trst_settled.ensures.chips
-    ∙ ap (λ (l : List WiredChipValue). if c.args.trst then map meant.assert_trst (map chip_state l) else map chip_state l) old-is in
-    let now = the_view (record s { trst = c.args.trst; chips = with_items s.chips after.chips; wiring = after.wiring; driving = after.driving }) in
-    subst (λ (v : ChainValue). now ≡ record v { trst = c.args.trst; chips = if c.args.trst then map meant.assert_trst v.chips else v.chips }) c.self.view_is
-    (λ i. record { trst = c.args.trst; nets = c.tell_trst_settled.ensures.nets i; chips = chips-are i })
+returns c = chain_becomes (λ level. c.args.trst) (λ v chips. if c.args.trst then map assert_trst chips else chips) c.self.inside.trst c.self.inside.settled c.tell_trst.new.self _ c.self.view_is c.tell_trst.ensures

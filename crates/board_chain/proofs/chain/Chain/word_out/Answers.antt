@@ -13,5 +13,5 @@ returns c =
     let column = c.args.column in
     subst (λ (x : ChainValue). (n : ℕ) → n ≤ 64 → word_bits c.word_out.result n ≡ out_of_members column (word_bits c.args.bits n) (members x.chips)) c.self.view_is
     (λ n few. c.word_out.ensures n few
-    ∙ ap (λ (l : List WiredChipValue). take n (joined_registers (map (λ (s : WiredChipValue). selected_bits_of column (member_of s)) l) ++ word_bits c.args.bits n)) c.deref.ensures.value
-    ∙ word_comes_out column c.args.bits n c.self.inside.chips.items)
+    ∙ ap (λ (l : List WiredChipValue). take n (joined_registers (map (λ (s : WiredChipValue). selected_bits_of column (member_of s)) l) ++ word_bits c.args.bits n)) c.chips.ensures
+    ∙ word_comes_out column c.args.bits n c.self.inside.settled.chips)

@@ -1,4 +1,4 @@
-use Rattle.std.proofs.Common.{◌≡◌, ◌∙◌, false, List, length, map, sym, ap, subst}
+use Rattle.std.proofs.Common.{◌≡◌, ◌∙◌, List, length, map, sym, ap, subst}
 use Rattle.std.proofs.lemmas.List.{with_items_is}
 use Rattle.board_model.specs.Following.{after_strings}
 use Rattle.board_chips.specs.Driving.{cells_of, driving_of}
@@ -10,18 +10,10 @@ use Rattle.board_chips.specs.declared.strings.WiredString.{WiredString}
 use Rattle.board_chain.specs.Settled.{IsSettled}
 use Rattle.board_chain.proofs.PowerLaws.{first_settled}
 use Rattle.board_chain.proofs.SettledLaws.{same_chips, same_long, same_told}
-use Rattle.board_chain.proofs.build.first_settled.Goals as goal
+use Rattle.board_chain.proofs.settled.Settled.first.Goals as goal
 
-pub of-requires-clause-told : goal.of-requires-clause-told
-of-requires-clause-told c =
-    let items = c.args.chips.items in
-    let new = c.settle.new.chips in
-    let less = subst (λ (l : List WiredChipValue). map less_core new ≡ map less_core l) c.deref_mut.ensures.value c.settle.ensures.same in
-    let is = with_items_is c.args.chips new (same_long new items less ∙ sym c.args.chips.ok.0) in
-    subst (AllTold false) (sym is) (same_told false new items less c.requires.told)
-
-pub of-requires-clause-settled : goal.of-requires-clause-settled
-of-requires-clause-settled c =
+pub invariant_of-result : goal.invariant_of-result
+invariant_of-result c =
     let items = c.args.chips.items in
     let strings = c.args.strings.items in
     let w = c.args.wiring in
@@ -53,5 +45,8 @@ returns c =
     let new = c.settle.new.chips in
     let less = subst (λ (l : List WiredChipValue). map less_core new ≡ map less_core l) c.deref_mut.ensures.value c.settle.ensures.same in
     let is = with_items_is c.args.chips new (same_long new items less ∙ sym c.args.chips.ok.0) in
-    let chips = ap (map chip_state) is ∙ same_chips new items less in
-    c.of.ensures ∙ (λ i. record { trst = false; nets = c.settle.ensures.nets i; chips = chips i })
+    record {
+      chips = ap (map chip_state) is ∙ same_chips new items less;
+      told = λ level told. subst (AllTold level) (sym is) (same_told level new items less told);
+      nets = c.settle.ensures.nets;
+    }

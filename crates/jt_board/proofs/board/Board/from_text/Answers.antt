@@ -8,7 +8,7 @@ use Rattle.jt_board.proofs.board.Board.from_text.Goals as goal
 pub powered_up-requires : goal.powered_up-requires
 powered_up-requires c =
     let made = c.in_ok-plan.ensures in
-    ready_plan c.in_ok-plan.plan made.fits made.said made.loops made.ordered
+    (ready_plan c.in_ok-plan.plan made.fits made.said made.loops made.ordered).powers_up
 
 pub returns-in_err-powered_up-clause-told : goal.returns-in_err-powered_up-clause-told
 returns-in_err-powered_up-clause-told c = λ t reads.

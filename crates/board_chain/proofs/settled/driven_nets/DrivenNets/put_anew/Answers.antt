@@ -4,7 +4,8 @@ use Rattle.pin_nets.specs.Wired.{Net}
 use Rattle.board_chips.specs.Driving.{cells_of}
 use Rattle.board_chips.specs.Strings.{AreStrung}
 use Rattle.board_chips.specs.Tables.{IsDriving}
-use Rattle.board_chain.specs.Settled.{Keeps}
+use Rattle.board_chips.specs.declared.strings.WiredString.{WiredString}
+use Rattle.board_chain.specs.Settled.{IsSettled, Keeps}
 use Rattle.board_chain.proofs.ChainLaws.{driven_wired}
 use Rattle.board_chain.proofs.SettledLaws.{anew_settled, kept_cells_of}
 use Rattle.board_chain.proofs.settled.driven_nets.DrivenNets.put_anew.Goals as goal
@@ -21,13 +22,18 @@ settle-requires-clause-wired c =
 
 pub settle-requires-clause-strings : goal.settle-requires-clause-strings
 settle-requires-clause-strings c =
-    subst (λ (ns : List Net). AreStrung ns (map cells_of c.args.chips.now) c.args.self.now.strings.items) (sym c.refresh_driving.ensures.nets)
-    (subst (λ (cs : List (List Cell)). AreStrung c.args.self.now.wiring.nets cs c.args.self.now.strings.items)
-    (kept_cells_of c.requires.before c.args.chips.now c.requires.kept) c.requires.settled.strung)
+    let strings = c.args.self.now.strings.items in
+    subst (λ (ss : List WiredString). AreStrung c.refresh_driving.new.wiring.nets (map cells_of c.args.chips.now) ss) (sym c.deref.ensures.value)
+    (subst (λ (ns : List Net). AreStrung ns (map cells_of c.args.chips.now) strings) (sym c.refresh_driving.ensures.nets)
+    (subst (λ (cs : List (List Cell)). AreStrung c.args.self.now.wiring.nets cs strings)
+    (kept_cells_of c.requires.before c.args.chips.now c.requires.kept) c.requires.settled.strung))
 
 pub returns-clause-settled : goal.returns-clause-settled
 returns-clause-settled c =
-    anew_settled c.requires.before c.args.chips.now c.settle.new.chips c.args.self.now.wiring c.refresh_driving.new.wiring c.settle.new.wiring
-    c.args.self.now.driving c.refresh_driving.new.driving c.args.self.now.strings.items c.requires.settled c.requires.kept c.refresh_driving.ensures.nets
+    subst (λ (ss : List WiredString). IsSettled c.settle.new.chips c.settle.new.wiring c.refresh_driving.new.driving ss) c.deref.ensures.value
+    (anew_settled c.requires.before c.args.chips.now c.settle.new.chips c.args.self.now.wiring c.refresh_driving.new.wiring c.settle.new.wiring
+    c.args.self.now.driving c.refresh_driving.new.driving c.deref.result.now
+    (subst (λ (ss : List WiredString). IsSettled c.requires.before c.args.self.now.wiring c.args.self.now.driving ss) (sym c.deref.ensures.value) c.requires.settled)
+    c.requires.kept c.refresh_driving.ensures.nets
     c.refresh_driving.ensures.driving c.refresh_driving.ensures.table c.settle.ensures.nets c.settle.ensures.wired c.settle.ensures.held
-    c.settle.ensures.same c.settle.ensures.others
+    c.settle.ensures.same c.settle.ensures.others)

@@ -1,0 +1,397 @@
+//! Which ways of faults can show at all: by what pins can drive, whatever a program does, and which of them are read.
+
+ghost use Rattle.std.specs.Prelude.{◌≡◌, ◌<◌, ◌↔◌, ◌&&◌, ◌∷◌, [], drop, map, length, take, IfOk, IsTrue, List, Some};
+ghost use Rattle.std.specs.List.{list_any, remove};
+ghost use Rattle.boundary.specs.Masks as masks;
+ghost use Rattle.board_plan.specs.Planned as planned;
+ghost use Rattle.board_plan.specs.View.{member as planned_member, net as planned_net};
+ghost use Rattle.board_faults.specs.Faults.{IsWayOf};
+ghost use Rattle.board_faults.specs.Sight.{IsInvisible, MayHaveFaults, drives_by, drives_of};
+ghost use Rattle.board_faults.specs.Sights.{AreRead, Marks, all_sights, any_read_in, makes_in, pair_differs, shows_in, sight_in};
+ghost use Rattle.board_faults.specs.Sights.{sights_of};
+ghost use Rattle.board_faults.specs.Together as spec;
+ghost use Rattle.board_faults.specs.Together.{all_driven, at_driven, open_differs, pull_differs, short_differs};
+ghost use Rattle.board_faults.specs.Together.{some_pair, some_single, stuck_differs, table};
+
+use crate::kinds::{Way, Winner};
+use crate::nets::{joined, pull_to, rest_pull, turned};
+use crate::together::{ALL, Driven, NO_PINS, NOTHING, Table, pulled, with_pin};
+use board_plan::{PlannedDevice, PlannedNet};
+use boundary::{drivers, sighted_port};
+use bsdl_device::{Cell, Disabled};
+use pin_nets::{Follow, Pin, Pull};
+use std::alloc::{AllocError, Global};
+
+/// What a port bit can drive, each by itself, and whether it is read: by a cell, or as the source of a string.
+#[derive(Drop, Clone, Copy)]
+pub struct PortSight {
+    pub can: Driven,
+    pub read: bool,
+}
+
+/// Of each port bit of each device what it can drive, and whether it is read. Refused where memory runs out.
+pub fn sights_of(
+    alloc: Global,
+    devices: &[PlannedDevice],
+) -> Result<Vec<Vec<PortSight>>, AllocError>
+    ensures { IfOk result (λ v. map (λ t. t.items) v.items ≡ all_sights (map planned_member devices.now)) }
+{
+    let mut all = Vec::with_capacity(alloc, devices.len())?;
+    for device in devices {
+        all.push(port_sights(alloc, device)?)?;
+    }
+    Ok(all)
+}
+
+/// Of each port bit of a device what it can drive, and whether it is read.
+fn port_sights(alloc: Global, device: &PlannedDevice) -> Result<Vec<PortSight>, AllocError>
+    ensures { IfOk result (λ v. v.items ≡ sights_of (planned_member device.now)) }
+{
+    let its = device.device.get();
+    let count = its.port_count();
+    let drivers = drivers(alloc, its.cells(), count)?;
+    let read = reads_of(alloc, device)?;
+    let mut sights = Vec::with_capacity(alloc, count)?;
+    for port in 0..count {
+        sights.push(PortSight {
+            can: can_drive(its.cells(), drivers[port]),
+            read: read[port],
+        })?;
+    }
+    Ok(sights)
+}
+
+/// Of each port bit of a device whether it is read.
+fn reads_of(alloc: Global, device: &PlannedDevice) -> Result<Vec<bool>, AllocError>
+    ensures { IfOk result (λ v. AreRead (planned_member device.now) v.items) }
+{
+    let its = device.device.get();
+    let mut read = Vec::from_elem(alloc, false, its.port_count())?;
+    mark_cells(&mut read, its.cells());
+    mark_sources(&mut read, &device.follows);
+    Ok(read)
+}
+
+/// Marks the port bits that cells see.
+fn mark_cells(read: &mut [bool], cells: &[Cell])
+    ensures { Marks read.old read.new (map (λ c. masks.sighted_port c.port c.function) cells.now) }
+{
+    for cell in cells {
+        mark(read, sighted_port(cell.port, cell.function));
+    }
+}
+
+/// Marks the port bits that are sources of strings.
+fn mark_sources(read: &mut [bool], follows: &[Follow])
+    ensures { Marks read.old read.new (map (λ f. Some f.source) follows.now) }
+{
+    for follow in follows {
+        mark(read, Some(follow.source));
+    }
+}
+
+/// Marks a port bit, if there is one and it is there.
+fn mark(read: &mut [bool], port: Option<usize>)
+    ensures { Marks read.old read.new (port ∷ []) }
+{
+    if let Some(port) = port {
+        if port < read.len() {
+            read[port] = true;
+        }
+    }
+}
+
+/// What a pin can drive, each by itself, whose driving cell is this one.
+fn can_drive(cells: &[Cell], driver: Option<usize>) -> Driven
+    ensures { result ≡ spec.driven (drives_by cells.now driver) }
+{
+    match driver {
+        Some(k) if k < cells.len() => cell_drives(k, cells[k]),
+        _ => NOTHING,
+    }
+}
+
+/// What the k-th cell of a device can drive, each by itself.
+fn cell_drives(k: usize, cell: Cell) -> Driven
+    ensures { result ≡ spec.driven (drives_of k cell.control) }
+{
+    match cell.control {
+        None => Driven {
+            zero: true,
+            one: true,
+            weak: false,
+        },
+        Some(control) => {
+            let alone = control.cell == k;
+            Driven {
+                zero: !alone || control.disabling,
+                one: !alone || !control.disabling,
+                weak: matches!(control.leaves, Disabled::Weak0 | Disabled::Pull0),
+            }
+        }
+    }
+}
+
+/// Whether no program could catch a way of a fault of these nets (asked), given of each port bit what it can drive, and
+/// whether it is read. Refused where memory runs out.
+pub fn is_invisible(
+    alloc: Global,
+    sights: &[Vec<PortSight>],
+    nets: &[PlannedNet],
+    way: Way,
+) -> Result<bool, AllocError>
+    requires way { IsWayOf (map planned_net nets.now) way }
+    ensures { (ms : List planned.Member) → MayHaveFaults (record { members = ms; nets = map planned_net nets.now })
+        → map (λ t. t.items) sights.now ≡ all_sights ms
+        → IfOk result (λ r. IsTrue r ↔ IsInvisible (record { members = ms; nets = map planned_net nets.now }) way) }
+{
+    Ok(!shows(alloc, sights, nets, way)?)
+}
+
+/// Whether some of what the pins of a way's nets can make is seen otherwise with it.
+fn shows(
+    alloc: Global,
+    sights: &[Vec<PortSight>],
+    nets: &[PlannedNet],
+    way: Way,
+) -> Result<bool, AllocError>
+    requires way { IsWayOf (map planned_net nets.now) way }
+    ensures { IfOk result (λ r. r ≡ shows_in (map (λ t. t.items) sights.now) (map planned_net nets.now) way) }
+{
+    match way {
+        Way::Pull { net } => Ok(pull_shows(sights, &nets[net])),
+        Way::Stuck { net, bit } => Ok(stuck_shows(sights, &nets[net], bit)),
+        Way::Open { net, pin, bit } => open_shows(alloc, sights, &nets[net], pin, bit),
+        Way::Short {
+            first,
+            second,
+            winner,
+        } => Ok(short_shows(sights, &nets[first], &nets[second], winner)),
+    }
+}
+
+fn pull_shows(sights: &[Vec<PortSight>], net: &PlannedNet) -> bool
+    ensures { result ≡ some_single (makes_in (map (λ t. t.items) sights.now) net.now.pins.items)
+        (pull_differs net.now.pull (any_read_in (map (λ t. t.items) sights.now) net.now.pins.items)) }
+{
+    some_pulled(
+        table_of(sights, &net.pins),
+        net.pull,
+        is_any_read(sights, &net.pins),
+    )
+}
+
+fn stuck_shows(sights: &[Vec<PortSight>], net: &PlannedNet, bit: bool) -> bool
+    ensures { result ≡ some_single (makes_in (map (λ t. t.items) sights.now) net.now.pins.items)
+        (stuck_differs net.now.pull bit (any_read_in (map (λ t. t.items) sights.now) net.now.pins.items)) }
+{
+    some_stuck(
+        table_of(sights, &net.pins),
+        net.pull,
+        bit,
+        is_any_read(sights, &net.pins),
+    )
+}
+
+fn open_shows(
+    alloc: Global,
+    sights: &[Vec<PortSight>],
+    net: &PlannedNet,
+    pin: usize,
+    bit: bool,
+) -> Result<bool, AllocError>
+    requires { pin < length net.now.pins.items }
+    ensures { IfOk result (λ r. r ≡ some_pair
+        (makes_in (map (λ t. t.items) sights.now) (take 1 (drop pin net.now.pins.items)))
+        (makes_in (map (λ t. t.items) sights.now) (remove net.now.pins.items pin))
+        (open_differs net.now.pull bit
+        (any_read_in (map (λ t. t.items) sights.now) (take 1 (drop pin net.now.pins.items)))
+        (any_read_in (map (λ t. t.items) sights.now) (remove net.now.pins.items pin)))) }
+{
+    let mut rest = net.pins.to_vec(alloc)?;
+    let mut alone = Vec::with_capacity(alloc, 1)?;
+    alone.push(rest.remove(pin))?;
+    let pair = Pair::Open {
+        pull: net.pull,
+        bit,
+        pin: is_any_read(sights, &alone),
+        rest: is_any_read(sights, &rest),
+    };
+    Ok(some_pair(table_of(sights, &alone), table_of(sights, &rest), pair))
+}
+
+fn short_shows(
+    sights: &[Vec<PortSight>],
+    one: &PlannedNet,
+    other: &PlannedNet,
+    winner: Winner,
+) -> bool
+    ensures { result ≡ some_pair (makes_in (map (λ t. t.items) sights.now) one.now.pins.items)
+        (makes_in (map (λ t. t.items) sights.now) other.now.pins.items)
+        (short_differs winner one.now.pull other.now.pull
+        (any_read_in (map (λ t. t.items) sights.now) one.now.pins.items)
+        (any_read_in (map (λ t. t.items) sights.now) other.now.pins.items)) }
+{
+    let pair = Pair::Short {
+        winner,
+        one: one.pull,
+        other: other.pull,
+        first: is_any_read(sights, &one.pins),
+        second: is_any_read(sights, &other.pins),
+    };
+    some_pair(
+        table_of(sights, &one.pins),
+        table_of(sights, &other.pins),
+        pair,
+    )
+}
+
+// ---- groups of pins
+
+/// What a pin can drive, and whether it is read.
+fn sight_of(sights: &[Vec<PortSight>], pin: Pin) -> PortSight
+    ensures { result ≡ sight_in (map (λ t. t.items) sights.now) pin }
+{
+    if pin.device < sights.len() {
+        let ports = &sights[pin.device];
+        if pin.port < ports.len() {
+            return ports[pin.port];
+        }
+    }
+    PortSight {
+        can: NOTHING,
+        read: false,
+    }
+}
+
+/// What pins can make together, by a table of the eight.
+fn table_of(sights: &[Vec<PortSight>], pins: &[Pin]) -> Table
+    ensures { result ≡ table (makes_in (map (λ t. t.items) sights.now) pins.now) }
+{
+    let mut table = NO_PINS;
+    let mut k = pins.len();
+    while k > 0 {
+        k -= 1;
+        table = with_pin(sight_of(sights, pins[k]).can, table);
+    }
+    table
+}
+
+/// Whether one of these pins is read.
+fn is_any_read(sights: &[Vec<PortSight>], pins: &[Pin]) -> bool
+    ensures { result ≡ any_read_in (map (λ t. t.items) sights.now) pins.now }
+{
+    pins.iter().any(|pin| sight_of(sights, *pin).read)
+}
+
+// ---- what is seen otherwise
+
+/// What is seen otherwise where two groups of pins make something.
+#[derive(Drop, Clone, Copy)]
+pub(crate) enum Pair {
+    Open {
+        pull: Pull,
+        bit: bool,
+        pin: bool,
+        rest: bool,
+    },
+    Short {
+        winner: Winner,
+        one: Pull,
+        other: Pull,
+        first: bool,
+        second: bool,
+    },
+}
+
+/// Whether some of what pins can make is seen otherwise with the other pull.
+fn some_pulled(table: Table, pull: Pull, read: bool) -> bool
+    ensures { result ≡ some_single (at_driven table) (pull_differs pull read) }
+{
+    ALL.iter()
+        .any(|f| table.can(*f) && pull_differs(pull, read, *f))
+}
+
+/// Whether some of what pins can make is seen otherwise where the net is stuck.
+fn some_stuck(table: Table, pull: Pull, bit: bool, read: bool) -> bool
+    ensures { result ≡ some_single (at_driven table) (stuck_differs pull bit read) }
+{
+    ALL.iter()
+        .any(|f| table.can(*f) && stuck_differs(pull, bit, read, *f))
+}
+
+/// Whether some of what two groups can make is seen otherwise.
+fn some_pair(one: Table, other: Table, pair: Pair) -> bool
+    ensures { result ≡ spec.some_pair (at_driven one) (at_driven other) (pair_differs pair) }
+{
+    ALL.iter()
+        .any(|f| one.can(*f) && some_second(other, pair, *f))
+}
+
+fn some_second(other: Table, pair: Pair, f: Driven) -> bool
+    ensures { result ≡ list_any (λ g. at_driven other g && pair_differs pair f g) all_driven }
+{
+    ALL.iter()
+        .any(|g| other.can(*g) && pair_differs(pair, f, *g))
+}
+
+fn pair_differs(pair: Pair, f: Driven, g: Driven) -> bool
+    ensures { result ≡ pair_differs pair f g }
+{
+    match pair {
+        Pair::Open {
+            pull,
+            bit,
+            pin,
+            rest,
+        } => open_differs(pull, bit, pin, rest, f, g),
+        Pair::Short {
+            winner,
+            one,
+            other,
+            first,
+            second,
+        } => {
+            let after = bridge_sees(winner, joined(one, other), f, g);
+            (first && pulled(one).together(f).sees() != after)
+                || (second && pulled(other).together(g).sees() != after)
+        }
+    }
+}
+
+fn pull_differs(pull: Pull, read: bool, f: Driven) -> bool
+    ensures { result ≡ spec.pull_differs pull read f }
+{
+    read && pulled(pull).together(f).sees() != pulled(turned(pull)).together(f).sees()
+}
+
+fn stuck_differs(pull: Pull, bit: bool, read: bool, f: Driven) -> bool
+    ensures { result ≡ spec.stuck_differs pull bit read f }
+{
+    read && pulled(pull).together(f).sees() != bit
+}
+
+fn open_differs(pull: Pull, bit: bool, pin: bool, rest: bool, f: Driven, g: Driven) -> bool
+    ensures { result ≡ spec.open_differs pull bit pin rest f g }
+{
+    let before = pulled(pull).together(f.together(g)).sees();
+    (pin && before != pulled(pull_to(bit)).together(f).sees())
+        || (rest && before != pulled(rest_pull(bit, pull)).together(g).sees())
+}
+
+/// What a bridge with this pull shows.
+fn bridge_sees(winner: Winner, pull: Pull, f: Driven, g: Driven) -> bool
+    ensures { result ≡ spec.bridge_sees winner pull f g }
+{
+    let all = pulled(pull).together(f.together(g));
+    if all.zero && all.one {
+        match winner {
+            Winner::Zeros => false,
+            Winner::Ones => true,
+            Winner::First => f.one && !f.zero,
+            Winner::Second => g.one && !g.zero,
+        }
+    } else {
+        all.sees()
+    }
+}
