@@ -16,7 +16,7 @@ use Rattle.board_faults.specs.declared.kinds.Way.TheVariants as way
 use Rattle.board_faults.specs.declared.kinds.Winner.{Winner}
 use Rattle.board_faults.specs.declared.kinds.Winner.TheVariants.{Zeros, Ones, First, Second}
 use Rattle.board_faults.specs.Faults.{IsWayOf, bridged, nowhere, pin_alone, rest_of, tied, turned_net, with_way}
-use Rattle.board_faults.proofs.Choosing.{Once, is_pin, not-pin, pin-is, same-pin}
+use Rattle.board_faults.proofs.Choosing.{Once, once, is_pin, not-pin, pin-is, same-pin}
 use Rattle.board_faults.proofs.Wires.{among_at}
 
 -- ---- how often a pin stands among some
@@ -148,3 +148,23 @@ faulty_found nets its_way its is =
     are_found (with_way its_way nets)
     (once-pairs (all_pins (with_way its_way nets))
     (times-once (all_pins (with_way its_way nets)) (λ q. subst (λ (n : ℕ). n ≤ 1) (sym (same_times nets its_way its q)) (once-times (all_pins nets) is q))))
+
+-- ---- a pin that is counted stands among them
+
+times-among : (q : Pin) (ps : List Pin) → 0 < times q ps → IsAmong q ps
+times-among q [] some = let none : times q [] ≡ 0 = refl in absurd (omega (arith, some, none))
+times-among q (p ∷ ps) some = by (is_pin p q) refl (λ h. times-among q ps h)
+  where
+    by : (b : Bool) → is_pin p q ≡ b → (0 < times q ps → IsAmong q ps) → IsAmong q (p ∷ ps)
+    by true e later = inl (pin-is p q e)
+    by false e later = let here : one (is_pin p q) ≡ 0 = ap one e in inr (later (omega (arith, here, some, times-cons q p ps)))
+
+pub faulty_pins : (nets : List Net) (its_way : Way) → IsWayOf nets its_way → (q : Pin) → IsAmong q (all_pins (with_way its_way nets)) → IsAmong q (all_pins nets)
+faulty_pins nets its_way its q among =
+    times-among q (all_pins nets) (subst (λ (n : ℕ). 0 < n) (same_times nets its_way its q) (among-times q (all_pins (with_way its_way nets)) among))
+
+pub faulty_apart : (nets : List Net) (its_way : Way) → IsWayOf nets its_way → AllPairs (λ (p q : Pin). p ≢ q) (all_pins nets)
+    → AllPairs (λ (p q : Pin). p ≢ q) (all_pins (with_way its_way nets))
+faulty_apart nets its_way its apart =
+    once-pairs (all_pins (with_way its_way nets))
+    (times-once (all_pins (with_way its_way nets)) (λ q. subst (λ (n : ℕ). n ≤ 1) (sym (same_times nets its_way its q)) (once-times (all_pins nets) (once (all_pins nets) apart) q)))

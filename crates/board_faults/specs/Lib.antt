@@ -1,6 +1,9 @@
 pub mod Alike
 pub mod Faults
+pub mod Faulty
+pub mod Judging
 pub mod Listing
+pub mod Missed
 pub mod Rows
 pub mod Sight
 pub mod Sights

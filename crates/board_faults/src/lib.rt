@@ -4,6 +4,8 @@
 //! of them are read.
 #![tactic(auto)]
 
+mod faulty;
+mod judging;
 mod kinds;
 mod laws;
 mod listed;
@@ -11,8 +13,11 @@ mod nets;
 mod sight;
 mod together;
 
+pub use judging::{Judged, Verdict, judge_faults};
 pub use kinds::{Fault, Way, Winner};
-pub use laws::{faults_compute, invisible_faults_are_not_captured};
+pub use laws::{
+    every_program_misses_what_is_invisible, faults_compute, invisible_faults_are_not_captured,
+};
 pub use listed::Faults;
 pub use nets::nets_with;
 pub use sight::{PortSight, is_invisible, sights_of};

@@ -1,0 +1,17 @@
+use Rattle.std.proofs.Common.{◌≡◌, ◌++◌, List, map}
+use Rattle.svf_programs.specs.Sizes.{program_of}
+use Rattle.board_plan.specs.View.{member as planned_member, net as planned_net, wiring}
+use Rattle.board_faults.specs.declared.kinds.Fault.{Fault}
+use Rattle.board_faults.specs.Faults.{faults}
+use Rattle.board_faults.specs.Judging.{JudgesAll}
+use Rattle.board_faults.specs.Listing.{left_of}
+use Rattle.board_faults.proofs.judging.judge_faults.Given as goal
+
+-- the faults so far are judged, on the same devices
+abbrev pub invariant-loop-fault : goal.invariant-loop-fault
+invariant-loop-fault l = record {
+  done : List Fault;
+  left : faults (map planned_net l.plan.nets.items) ≡ done ++ left_of l.fault-iterator;
+  same : map planned_member l.bench.devices.items ≡ map planned_member l.plan.devices.items;
+  judged : JudgesAll (program_of l.program) (wiring l.plan) done l.all.items;
+}

@@ -1,0 +1,118 @@
+//! What a program makes of the faults of a board.
+
+ghost use Rattle.std.specs.Prelude.{◌≡◌, map, option_map, IfOk, OnOk};
+ghost use Rattle.svf_programs.specs.Sizes.{program_of};
+ghost use Rattle.board_loops.specs.Depending.{wired};
+ghost use Rattle.board_plan.specs.View.{member as planned_member, net as planned_net, wiring};
+ghost use Rattle.board_faults.specs.Faulty.{CanBeJudged, SameDevices};
+ghost use Rattle.board_faults.specs.Faults.{IsFaultOf, IsWayOf};
+ghost use Rattle.board_faults.specs.Sights.{all_sights};
+ghost use Rattle.board_faults.specs.Judging.{JudgesBoard, JudgesFault, JudgesWayWith};
+
+use crate::faulty::{copy_devices, wire_way};
+use crate::kinds::{Fault, Way};
+use crate::listed::Faults;
+use crate::sight::{PortSight, is_invisible, sights_of};
+use board_plan::{Plan, PlannedNet};
+use jt_board::Board;
+use play_direct::play_program;
+use play_model::Ending;
+use std::alloc::{AllocError, Global};
+use svf_programs::Program;
+
+/// What is told of a way in which a fault may show.
+#[derive(Drop, Clone, Copy)]
+pub enum Verdict {
+    /// It shows to no program.
+    Invisible,
+    /// How the program's play on the board with it ends.
+    Played(Ending),
+}
+
+/// A fault, and what is told of each of its ways, in their order; nothing where the board with it has no meaning, since
+/// a net depends on itself by strings.
+#[derive(Drop)]
+pub struct Judged {
+    pub fault: Fault,
+    pub verdicts: Option<Vec<Verdict>>,
+}
+
+/// What a program makes of every fault of a planned board's nets, in the order of `Faults`: each way of each is played
+/// from power-up on a board of its own, but for those that no program could catch. Refused where memory runs out.
+///
+/// Asks that the plan powers up, and that every net shows what its drivers say, as of a board file it does.
+pub fn judge_faults(
+    alloc: Global,
+    plan: &Plan,
+    program: &Program,
+) -> Result<Vec<Judged>, AllocError>
+    requires { CanBeJudged (wiring plan.now) }
+    ensures { IfOk result (λ v. JudgesBoard (program_of program.now) (wiring plan.now) v.items) }
+{
+    let mut bench = Plan {
+        devices: copy_devices(alloc, &plan.devices)?,
+        nets: Vec::new(alloc),
+        order: Vec::new(alloc),
+    };
+    let sights = sights_of(alloc, &plan.devices)?;
+    let mut all = Vec::new(alloc);
+    for fault in Faults::of(&plan.nets) {
+        let verdicts = judge_fault(alloc, &mut bench, &plan.nets, &sights, program, fault)?;
+        all.push(Judged { fault, verdicts })?;
+    }
+    Ok(all)
+}
+
+/// What a program makes of a fault of these nets (asked), by boards of the devices of a bench.
+fn judge_fault(
+    alloc: Global,
+    bench: &mut Plan,
+    nets: &[PlannedNet],
+    sights: &[Vec<PortSight>],
+    program: &Program,
+    fault: Fault,
+) -> Result<Option<Vec<Verdict>>, AllocError>
+    requires may { CanBeJudged (wired nets.now bench.old.devices.items) }
+    requires sights { map (λ t. t.items) sights.now ≡ all_sights (map planned_member bench.old.devices.items) }
+    requires fault { IsFaultOf (map planned_net nets.now) fault }
+    ensures same { OnOk result (SameDevices bench.old bench.new) }
+    ensures judged { IfOk result (λ o. JudgesFault (program_of program.now) (wired nets.now bench.old.devices.items) fault
+        (option_map (λ vs. vs.items) o)) }
+{
+    let mut verdicts = Vec::with_capacity(alloc, 4)?;
+    let mut k = 0;
+    while let Some(way) = fault.way(k) {
+        match judge_way(alloc, bench, nets, sights, program, way)? {
+            None => return Ok(None),
+            Some(verdict) => verdicts.push(verdict)?,
+        }
+        k += 1;
+    }
+    Ok(Some(verdicts))
+}
+
+/// What a program makes of a way of a fault of these nets (asked), by a board of the devices of a bench; nothing where
+/// the board with it has no meaning.
+fn judge_way(
+    alloc: Global,
+    bench: &mut Plan,
+    nets: &[PlannedNet],
+    sights: &[Vec<PortSight>],
+    program: &Program,
+    way: Way,
+) -> Result<Option<Verdict>, AllocError>
+    requires may { CanBeJudged (wired nets.now bench.old.devices.items) }
+    requires sights { map (λ t. t.items) sights.now ≡ all_sights (map planned_member bench.old.devices.items) }
+    requires way { IsWayOf (map planned_net nets.now) way }
+    ensures same { OnOk result (SameDevices bench.old bench.new) }
+    ensures judged { IfOk result (JudgesWayWith (program_of program.now) (wired nets.now bench.old.devices.items) way) }
+{
+    if !wire_way(alloc, bench, nets, way)? {
+        return Ok(None);
+    }
+    if is_invisible(alloc, sights, nets, way)? {
+        return Ok(Some(Verdict::Invisible));
+    }
+    let mut board = Board::powered_up(alloc, bench)?;
+    Ok(Some(Verdict::Played(play_program(program, &mut board))))
+}
