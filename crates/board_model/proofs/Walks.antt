@@ -15,7 +15,7 @@ use Rattle.pin_nets.specs.Wired.{Net}
 use Rattle.board_model.specs.Nets.{told}
 use Rattle.board_model.specs.Chain.{hear}
 use Rattle.board_model.specs.Whole.{AtRest, arrive, capture_all, settle, update_member, reset_member}
-use Rattle.tap_paths.specs.Paths.{go, last_of}
+use Rattle.jt_tap.specs.Paths.{go, last_of}
 use Rattle.bitbang_protocol.specs.Cycles.{entering, closed_messages}
 use Rattle.board_model.specs.Resting.{board_at_rest, chip_at_rest}
 use Rattle.board_model.proofs.OneCycle.{low, lowered, Free, given, risen_one, risen_all, fallen_one, cycled, Ran, ran, heard_of, hear-tail}

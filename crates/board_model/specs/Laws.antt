@@ -12,7 +12,7 @@ use Rattle.bsdl_device.specs.Device.{Device, Name}
 use Rattle.board_model.specs.Sound.{IsSound, IsSoundBoard}
 use Rattle.bsdl_device.specs.Sound.{IsSoundDevice}
 use Rattle.board_model.specs.Whole.{AtRest, arrive, after_opening, reset_member, settle}
-use Rattle.tap_paths.specs.Paths.{go}
+use Rattle.jt_tap.specs.Paths.{go}
 use Rattle.bitbang_protocol.specs.Cycles.{closed_messages, opening, five_resets, entering}
 use Rattle.board_model.specs.Resting.{board_at_rest}
 

@@ -1,2 +1,4 @@
 pub mod Arrows
 pub mod WordLaws
+pub mod Legal
+pub mod StatedPaths

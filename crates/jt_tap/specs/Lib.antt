@@ -1,2 +1,4 @@
 pub mod Controller
 pub mod Words
+pub mod Paths
+pub mod Stated

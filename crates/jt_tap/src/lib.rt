@@ -1,4 +1,5 @@
-//! The TAP controller of IEEE Std 1149.1-2001: its sixteen states and the one table by which they follow each other.
+//! The TAP controller of IEEE Std 1149.1-2001: its sixteen states and the one table by which they follow each other; and the
+//! paths through it, those that the Serial Vector Format takes by default and those that a text writes.
 #![tactic(auto)]
 
 ghost use Rattle.std.specs.Prelude.{◌≡◌, find, IfSome};
@@ -6,6 +7,10 @@ ghost use Rattle.jt_tap.specs.Controller.{Arrow, ArrowsAreTheFunction, EnteredBy
 ghost use Rattle.jt_tap.specs.Controller.{is_stable, work};
 ghost use Rattle.jt_tap.specs.Words as spec;
 ghost use Rattle.jt_tap.specs.Words.{IsWordOf, reads, word};
+
+mod paths;
+
+pub use paths::{check, default_paths_lead, from_exit1, go, last_of, tms_of, to_shift};
 
 /// A column of the state diagram: the states that work on data registers, or those that work on the instruction
 /// register (IEEE Std 1149.1-2001, 6.1).

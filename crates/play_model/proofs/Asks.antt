@@ -14,7 +14,7 @@ use Rattle.scan_vectors.specs.Vector.{VectorBit, judge}
 use Rattle.svf_programs.specs.Steps.{Step, Scan, Go, Path, Run, Trst, Numbered, place_after}
 use Rattle.svf_words.specs.declared.keywords.TrstWord.TheVariants.{On, Off, Z, Absent}
 use Rattle.play_model.specs.declared.ending.Ending.TheVariants.{Fail}
-use Rattle.tap_paths.specs.Paths.{go, to_shift, from_exit1}
+use Rattle.jt_tap.specs.Paths.{go, to_shift, from_exit1}
 use Rattle.bitbang_protocol.specs.declared.Cycle.{Cycle}
 use Rattle.bitbang_protocol.specs.Cycles.{entering, closed_messages}
 use Rattle.tck_cycles.specs.Cycles.{scan_cycles, go_unless_there, cycles}

@@ -15,7 +15,7 @@ use Rattle.board_model.specs.Nets.{told}
 use Rattle.board_model.specs.Chain.{is_held}
 use Rattle.board_model.specs.Whole.{AtRest, selected_bits_of, joined_bits, cut_back, capture_all, update_member, reset_member, capture, shift, update, settle, arrive, pass, along}
 use Rattle.play_model.specs.Meaning.{scan_end, move_to, move_unless_there}
-use Rattle.tap_paths.specs.Paths.{last_of}
+use Rattle.jt_tap.specs.Paths.{last_of}
 use Rattle.board_model.specs.Resting.{IsRest}
 use Rattle.board_model.proofs.OneCycle.{Free}
 use Rattle.board_model.proofs.Walks.{at_rest}

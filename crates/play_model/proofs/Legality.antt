@@ -15,7 +15,7 @@ use Rattle.board_model.specs.Whole.{AtRest, arrive, along, capture, pass, settle
 use Rattle.svf_programs.specs.Steps.{Step, Scan, Go, Path, Run, Trst, place_after, Numbered, line_after}
 use Rattle.svf_words.specs.declared.keywords.TrstWord.TheVariants.{On, Off, Z, Absent}
 use Rattle.play_model.specs.Meaning.{after_step, move_to, move_unless_there, scan_end}
-use Rattle.tap_paths.specs.Paths.{last_of}
+use Rattle.jt_tap.specs.Paths.{last_of}
 use Rattle.svf_programs.specs.Legal.{IsFormed, AllLegalFrom}
 use Rattle.board_model.proofs.Walks.{at_rest}
 use Rattle.play_model.specs.Legal.{AllLegal}

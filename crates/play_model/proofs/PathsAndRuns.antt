@@ -18,7 +18,7 @@ use Rattle.play_model.specs.Meaning.{after_step, move_unless_there}
 use Rattle.bitbang_protocol.specs.Cycles.{entering, closed_messages}
 use Rattle.tck_cycles.specs.Cycles.{cycles, go_unless_there}
 use Rattle.bitbang.specs.StepMessages.{step_messages}
-use Rattle.tap_paths.specs.Paths.{last_of}
+use Rattle.jt_tap.specs.Paths.{last_of}
 use Rattle.board_model.specs.Resting.{board_at_rest}
 use Rattle.board_model.proofs.OneCycle.{low, Free, cycled, ran, heard_of, hear-tail}
 use Rattle.board_model.proofs.ShiftCycles.{cycled-shift}

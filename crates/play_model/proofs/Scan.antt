@@ -12,7 +12,7 @@ use Rattle.board_model.specs.Whole.{AtRest, joined_bits, cut_back, capture, sett
 use Rattle.scan_vectors.specs.Vector.{VectorBit, tdis}
 use Rattle.svf_programs.specs.Steps.{Scan}
 use Rattle.play_model.specs.Meaning.{after_step, scan_end}
-use Rattle.tap_paths.specs.Paths.{to_shift, from_exit1, last_of}
+use Rattle.jt_tap.specs.Paths.{to_shift, from_exit1, last_of}
 use Rattle.bitbang_protocol.specs.declared.Cycle.{Cycle}
 use Rattle.bitbang_protocol.specs.Cycles.{entering, closed_messages}
 use Rattle.bitbang.specs.StepMessages.{step_messages}

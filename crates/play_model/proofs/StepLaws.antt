@@ -18,8 +18,8 @@ use Rattle.svf_words.specs.declared.keywords.TrstWord.TheVariants.{On, Off, Z, A
 use Rattle.play_model.specs.Meaning.{after_step, move_unless_there}
 use Rattle.bitbang_protocol.specs.Cycles.{entering, closed_messages}
 use Rattle.bitbang.specs.StepMessages.{step_messages}
-use Rattle.tap_paths.specs.Paths.{last_of}
-use Rattle.tap_paths.specs.Stated.{IsWalk}
+use Rattle.jt_tap.specs.Paths.{last_of}
+use Rattle.jt_tap.specs.Stated.{IsWalk}
 use Rattle.board_model.specs.Resting.{board_at_rest, IsRest}
 use Rattle.svf_programs.specs.Legal.{IsPath, IsFormed, is_reset, leaves_reset}
 use Rattle.play_model.specs.Legal.{IsLegal}

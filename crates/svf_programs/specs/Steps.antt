@@ -5,7 +5,7 @@ use Rattle.jt_tap.specs.declared.State.{State}
 use Rattle.jt_tap.specs.declared.State.TheVariants.{Reset}
 use Rattle.svf_words.specs.declared.keywords.TrstWord.{TrstWord}
 use Rattle.svf_words.specs.declared.keywords.TrstWord.TheVariants as word
-pub use Rattle.tap_paths.specs.Paths.{last_of}
+pub use Rattle.jt_tap.specs.Paths.{last_of}
 use Rattle.scan_vectors.specs.Vector.{VectorBit}
 
 pub data Step : Type 0 where

@@ -5,8 +5,8 @@ use Rattle.jt_limits.specs.declared.Limits.{Limits}
 use Rattle.jt_limits.specs.Limits.{limits}
 use Rattle.jt_tap.specs.Controller.{is_stable}
 use Rattle.jt_tap.specs.declared.State.{State}
-use Rattle.tap_paths.specs.Paths.{last_of}
-use Rattle.tap_paths.specs.Stated.{first_gap}
+use Rattle.jt_tap.specs.Paths.{last_of}
+use Rattle.jt_tap.specs.Stated.{first_gap}
 use Rattle.svf_words.specs.declared.fault.Code.{Code}
 use Rattle.svf_words.specs.declared.fault.Code.TheVariants as code
 use Rattle.svf_words.specs.declared.keywords.TrstWord.{TrstWord}

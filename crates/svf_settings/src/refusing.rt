@@ -16,10 +16,9 @@ ghost use Rattle.svf_settings.specs.Held.{settings_in};
 use crate::running::Running;
 use jt_bits::Bits;
 use jt_limits::LIMITS;
-use jt_tap::State;
+use jt_tap::{State, last_of};
 use svf_parse::{Code, Statement, TrstWord, Which};
 use svf_programs::{KeptPart, len_at, tdi_at};
-use tap_paths::last_of;
 
 /// A whole vector has at most so many bits.
 const VECTOR_LIMIT: usize = LIMITS.vector_bits;
@@ -180,7 +179,7 @@ impl Running {
     {
         if !last_of(place, path).is_stable() {
             Some(Code::BadState)
-        } else if path.len() > 1 && tap_paths::check(place, path).is_err() {
+        } else if path.len() > 1 && jt_tap::check(place, path).is_err() {
             Some(Code::BadPath)
         } else if self.is_held() && !are_reset(path) {
             Some(Code::TrstHeld)

@@ -14,10 +14,9 @@ ghost use Rattle.svf_settings.specs.Held as held;
 
 use crate::running::Running;
 use jt_bits::Bits;
-use jt_tap::{Column, State};
+use jt_tap::{Column, State, last_of};
 use svf_parse::{Statement, TrstWord, Which};
 use svf_programs::{DEFAULT_PERIOD, Kept, KeptPart, len_at, path_at, tdo_at};
-use tap_paths::last_of;
 
 /// What a scan gives: the fields that settings and steps keep.
 #[derive(Drop, Clone, Copy)]

@@ -1,6 +1,5 @@
 //! The longest default path, and the one that stays.
-use jt_tap::State;
-use tap_paths::go;
+use jt_tap::{State, go};
 
 #[test]
 fn the_longest_path(rt: HostRuntime) {

@@ -19,7 +19,7 @@ use Rattle.jt_tap.specs.declared.Column.TheVariants.{Dr, Ir}
 use Rattle.jt_tap.specs.declared.State.{State}
 use Rattle.jt_tap.specs.declared.State.TheVariants.{Reset, Idle, DrSelect, DrCapture, DrShift, DrExit1, DrPause, DrExit2, DrUpdate, IrSelect, IrCapture, IrShift, IrExit1, IrPause, IrExit2, IrUpdate}
 use Rattle.jt_tap.specs.Controller.{is_at, pause}
-use Rattle.tap_paths.specs.Paths.{towards_idle, from_idle, shift_from_idle, update_state, to_shift, from_exit1}
+use Rattle.jt_tap.specs.Paths.{towards_idle, from_idle, shift_from_idle, update_state, to_shift, from_exit1}
 
 -- ---- a scan
 

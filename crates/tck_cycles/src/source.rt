@@ -61,12 +61,12 @@ impl<'a> Source<'a> {
                 vector,
                 end,
             } => Source::made(
-                tap_paths::to_shift(place, column),
+                jt_tap::to_shift(place, column),
                 Middle::Vector(vector),
-                tap_paths::from_exit1(column, end),
+                jt_tap::from_exit1(column, end),
             ),
             Action::Go(state) => Source::made(
-                tap_paths::go(place, state),
+                jt_tap::go(place, state),
                 Middle::Path(&[]),
                 ArrayVec::new(),
             ),
@@ -266,7 +266,7 @@ fn go_unless_there(from: State, to: State) -> ArrayVec<State, 8>
     if from == to {
         ArrayVec::new()
     } else {
-        tap_paths::go(from, to)
+        jt_tap::go(from, to)
     }
 }
 

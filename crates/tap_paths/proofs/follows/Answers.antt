@@ -1,6 +1,0 @@
-use Rattle.std.proofs.Common.{◌∙◌}
-use Rattle.tap_paths.proofs.StatedPaths.{tms_follows}
-use Rattle.tap_paths.proofs.follows.Goals as goal
-
-pub returns : goal.returns
-returns c = c.is_some.ensures ∙ tms_follows c.args.before c.args.state c.tms_of.result c.tms_of.ensures.found c.tms_of.ensures.only
