@@ -17,6 +17,8 @@ use Rattle.board_tables.specs.PinTexts.{PinText, pin_of}
 use Rattle.board_tables.specs.FollowTexts.{target_text}
 use Rattle.board_tables.proofs.KeyLaws.{fitting, head_in}
 use Rattle.pin_nets.specs.declared.Pin.{Pin}
+use Rattle.pin_nets.specs.declared.Rule.TheVariants.{Counted}
+use Rattle.pin_nets.specs.Wired.{Net}
 use Rattle.board_parts.specs.Files.{File, text_of, described, device_at, devices_of, missing_in, refused, refused_in}
 use Rattle.board_tables.specs.Files.{file_at, file_names}
 use Rattle.board_parts.specs.Pins.{pin_bit, bit_at, pin_at, same_pin, twice, pins_at, twice_in_nets, unknown_in_nets}
@@ -354,6 +356,10 @@ module _ (says : List ℕ → Option Device) (files : List File) (t : Members) w
       let (gone, bad) = neither _ _ file in
       all_whole says files (file_names t) (unmapped _ _ gone) (unmapped _ _ bad) devices (named_from [] devices) (all_fit (known_at says files) [] devices entries)
 
+  nets_counted : (names : List (List ℕ)) (ds : List Device) (nets : List Members) → AllByRecursion (λ (n : Net). n.rule ≡ Counted) (map (net_of names ds) nets)
+  nets_counted names ds [] = tt
+  nets_counted names ds (n ∷ ns) = (refl, nets_counted names ds ns)
+
   fits : fault_of says files t ≡ None → FitsTogether (wiring_of says files t)
   fits h =
       let devices = tables_at (codes "device") t in
@@ -375,6 +381,7 @@ module _ (says : List ℕ → Option Device) (files : List File) (t : Members) w
         strings = members_strings says files devices (whole h);
         pins = each (IsBitOf found) _ pin_of_member (all_pins (map (net_of names found) nets)) (nets_on names found nets);
         apart = nets_apart names found [] nets (unmapped (λ x. PinTwice x) _ again);
+        counted = nets_counted names found nets;
       }
 
   pub board_fits : (w : Wiring) → makes says files t ≡ Ok w → FitsTogether w

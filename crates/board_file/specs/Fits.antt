@@ -8,6 +8,8 @@ use Rattle.bsdl_device.specs.Device.{Device}
 use Rattle.board_tables.specs.Fields.{tables_at}
 use Rattle.board_parts.specs.Files.{File}
 use Rattle.pin_nets.specs.declared.Pin.{Pin}
+use Rattle.pin_nets.specs.declared.Rule.TheVariants.{Counted}
+use Rattle.pin_nets.specs.Wired.{Net}
 use Rattle.board_parts.specs.Pins.{same_pin}
 use Rattle.board_plan.specs.Planned.{HasCore, IsPinOf, Member, Wiring, all_pins}
 use Rattle.board_parts.specs.Strings.{HasStrings}
@@ -19,7 +21,7 @@ AreApart before [] = ⊤
 AreApart before (p ∷ ps) = (list_any (same_pin p) before ≡ false) × AreApart (before ++ p ∷ []) ps
 
 -- a device or more with whole cores and strings that fit them, no more devices and nets than the limits say, each pin a
--- port bit of a device, and none twice
+-- port bit of a device, and none twice; what a net shows is counted
 pub record FitsTogether (w : Wiring) : Type 0 where
   pub some : 0 < length w.members
   pub most : length w.members ≤ limits.devices
@@ -28,6 +30,7 @@ pub record FitsTogether (w : Wiring) : Type 0 where
   pub strings : AllByRecursion HasStrings w.members
   pub pins : AllByRecursion (IsPinOf w.members) (all_pins w.nets)
   pub apart : AreApart [] (all_pins w.nets)
+  pub counted : AllByRecursion (λ (n : Net). n.rule ≡ Counted) w.nets
 
 -- a text says that this is its device
 abbrev pub IsSaid : (List ℕ → Option Device) → Device → Type 0

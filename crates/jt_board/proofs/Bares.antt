@@ -8,6 +8,8 @@ use Rattle.jt_limits.specs.Limits.{limits}
 use Rattle.jt_tap.specs.declared.State.TheVariants.{Reset}
 use Rattle.bsdl_device.specs.Sound.{IsSoundDevice}
 use Rattle.chip_instructions.specs.Fitting.{IsFormed}
+use Rattle.pin_nets.specs.declared.Rule.TheVariants.{Counted}
+use Rattle.pin_nets.specs.Wired.{Net}
 use Rattle.board_plan.specs.Planned.{HasCore}
 use Rattle.board_plan.specs.Planned as planned
 use Rattle.board_model.specs.Bare.{bare, bare_board, bare_from}
@@ -127,6 +129,7 @@ bare_plan_ready n some most p is none = record {
         (subst (λ (ds : List Dependency). IsInOrder ds []) (sym (no-dependencies (bare_wiring n) 0 1 n)) none-in-order));
   };
   nets = subst (λ (w : planned.Wiring). length w.nets ≤ limits.nets) (sym is) (omega arith);
+  counted = subst (λ (w : planned.Wiring). AllByRecursion (λ (n : Net). n.rule ≡ Counted) w.nets) (sym is) tt;
 }
 
 pub bare_is : (n : ℕ) → board_of (bare_wiring n) ≡ bare_board n

@@ -194,6 +194,7 @@ ready_plan p fits said loops ordered = record {
     ordered = ordered;
   };
   nets = fits.nets;
+  counted = fits.counted;
 }
 
 pub ready_made : {E : Type 0} (r : Result Plan E) → IfOk r (λ p. FitsTogether (wiring p)) → IfOk r (λ p. AreSaid said_device (wiring p)) → IfOk r (λ p. HasNoLoop (dependencies (wiring p)))

@@ -4,6 +4,8 @@ use Rattle.std.specs.List.{AllByRecursion}
 use Rattle.jt_limits.specs.Limits.{limits}
 use Rattle.bsdl_device.specs.Sound.{IsSoundDevice}
 use Rattle.board_loops.specs.Depending.{IsOrdered}
+use Rattle.pin_nets.specs.declared.Rule.TheVariants.{Counted}
+use Rattle.pin_nets.specs.Wired.{Net}
 use Rattle.board_plan.specs.declared.plan.Plan.{Plan}
 use Rattle.board_plan.specs.Planned as planned
 use Rattle.board_plan.specs.View.{wiring}
@@ -34,7 +36,9 @@ pub record PowersUp (p : Plan) : Type 0 where
   pub sound : IsSoundWiring (wiring p)
   pub ordered : IsOrdered p
 
--- What the plan of a board file is: it powers up, and its nets are no more than the limit.
+-- What the plan of a board file is: it powers up, its nets are no more than the limit, and each shows what its drivers
+-- say by their count.
 pub record IsReadyPlan (p : Plan) : Type 0 where
   pub powers_up : PowersUp p
   pub nets : length (wiring p).nets ≤ limits.nets
+  pub counted : AllByRecursion (λ (n : Net). n.rule ≡ Counted) (wiring p).nets
