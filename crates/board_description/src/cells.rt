@@ -117,7 +117,7 @@ fn put_net(text: &mut Vec<u8>, nets: &[PlannedNet], net: Option<usize>) -> Resul
 }
 
 /// The name of a net, nothing where there is none of this number.
-fn net_name(nets: &[PlannedNet], net: usize) -> &str
+pub fn net_name(nets: &[PlannedNet], net: usize) -> &str
     ensures { result.now ≡ words.net_name (map planned_net nets.now) net }
 {
     match nets.get(net) {

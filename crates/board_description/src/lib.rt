@@ -12,6 +12,7 @@ mod text;
 mod whole;
 mod words;
 
+pub use cells::net_name;
 pub use nets::put_pin;
 pub use whole::{Untold, write_description};
 pub use words::function_word;

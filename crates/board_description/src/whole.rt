@@ -19,7 +19,7 @@ use itoa::Buffer;
 use output_words::{put, put_bits, put_shown};
 use std::alloc::{AllocError, Global};
 
-/// Why a board was not described to its end.
+/// Why what is to be told of a board was not told to its end.
 #[derive(Debug, Clone, Copy, PartialEq, Eq)]
 pub enum Untold {
     /// A write was lost.

@@ -16,13 +16,14 @@ use Rattle.board_model.specs.Following.{IsAmong}
 use Rattle.board_chain.specs.Ready.{IsReady}
 use Rattle.jt_board.specs.Made.{IsSoundWiring, PowersUp}
 use Rattle.board_faults.specs.declared.judging.Judged.{Judged}
+use Rattle.board_faults.specs.declared.judging.JudgedWay.{JudgedWay}
 use Rattle.board_faults.specs.declared.judging.Verdict.{Verdict}
 use Rattle.board_faults.specs.declared.kinds.Fault.{Fault}
 use Rattle.board_faults.specs.declared.kinds.Fault.TheVariants as fault
 use Rattle.board_faults.specs.declared.kinds.Way.{Way}
 use Rattle.board_faults.specs.Faults.{IsFaultOf, IsWayOf, behind_opens, behind_pull, bridges, faults, faults_from, faults_of, pull_faults, with_way}
 use Rattle.board_faults.specs.Faulty.{CanBeJudged}
-use Rattle.board_faults.specs.Judging.{HasMeaning, Judges, JudgesAll, JudgesEach, JudgesFault, verdicts_of, wiring_with}
+use Rattle.board_faults.specs.Judging.{HasMeaning, Judges, JudgesAll, JudgesEach, JudgesFault, ways_of, wiring_with}
 use Rattle.board_faults.specs.Sight.{MayHaveFaults}
 use Rattle.board_faults.proofs.Apart.{faulty_apart, faulty_pins}
 
@@ -69,15 +70,15 @@ among_slice [] k x e = absurd (cc)
 among_slice (y ∷ ys) zero x e = inl (sym (same_Some x y e))
 among_slice (y ∷ ys) (suc k) x e = inr (among_slice ys k x e)
 
-pub judges_more : (program : Program) (w : Wiring) (ways : List Way) (vs : List Verdict) (its_way : Way) (v : Verdict) → JudgesEach program w ways vs
-    → HasMeaning w its_way → Judges program w its_way v → JudgesEach program w (ways ++ its_way ∷ []) (vs ++ v ∷ [])
-judges_more program w [] [] its_way v all meaning is = (meaning, is, tt)
+pub judges_more : (program : Program) (w : Wiring) (ways : List Way) (vs : List JudgedWay) (its_way : Way) (v : Verdict) → JudgesEach program w ways vs
+    → HasMeaning w its_way → Judges program w its_way v → JudgesEach program w (ways ++ its_way ∷ []) (vs ++ record { way = its_way; verdict = v } ∷ [])
+judges_more program w [] [] its_way v all meaning is = (refl, meaning, is, tt)
 judges_more program w [] (x ∷ vs) its_way v all meaning is = absurd all
 judges_more program w (y ∷ ways) [] its_way v all meaning is = absurd all
-judges_more program w (y ∷ ways) (x ∷ vs) its_way v all meaning is = (all.0, all.1, judges_more program w ways vs its_way v all.2 meaning is)
+judges_more program w (y ∷ ways) (x ∷ vs) its_way v all meaning is = (all.0, all.1, all.2, judges_more program w ways vs its_way v all.3 meaning is)
 
 pub faults_more : (program : Program) (w : Wiring) (fs : List Fault) (js : List Judged) (f : Fault) (j : Judged) → JudgesAll program w fs js
-    → j.fault ≡ f → JudgesFault program w f (verdicts_of j) → JudgesAll program w (fs ++ f ∷ []) (js ++ j ∷ [])
+    → j.fault ≡ f → JudgesFault program w f (ways_of j) → JudgesAll program w (fs ++ f ∷ []) (js ++ j ∷ [])
 faults_more program w [] [] f j all same is = (same, is, tt)
 faults_more program w [] (x ∷ js) f j all same is = absurd all
 faults_more program w (y ∷ fs) [] f j all same is = absurd all

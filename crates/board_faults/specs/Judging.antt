@@ -10,6 +10,7 @@ use Rattle.jt_board.specs.Made.{board_of}
 use Rattle.play_model.specs.declared.ending.Ending.{Ending}
 use Rattle.play_model.specs.Play.{play}
 use Rattle.board_faults.specs.declared.judging.Judged.{Judged}
+use Rattle.board_faults.specs.declared.judging.JudgedWay.{JudgedWay}
 use Rattle.board_faults.specs.declared.judging.Verdict.{Verdict}
 use Rattle.board_faults.specs.declared.judging.Verdict.TheVariants.{Invisible, Played}
 use Rattle.board_faults.specs.declared.kinds.Fault.{Fault}
@@ -35,15 +36,15 @@ Judges program w way Invisible = IsInvisible w way
 Judges program w way (Played ending) = (IsInvisible w way → ⊥) × (ending ≡ ending_with program w way)
 
 -- of ways that all have a meaning, one after another
-abbrev pub JudgesEach : Program → Wiring → List Way → List Verdict → Type 0
+abbrev pub JudgesEach : Program → Wiring → List Way → List JudgedWay → Type 0
 JudgesEach program w [] [] = ⊤
-JudgesEach program w (way ∷ ways) (v ∷ vs) =
-    HasMeaning w way × Judges program w way v × JudgesEach program w ways vs
+JudgesEach program w (way ∷ ways) (j ∷ js) =
+    (j.way ≡ way) × HasMeaning w way × Judges program w way j.verdict × JudgesEach program w ways js
 JudgesEach program w _ _ = ⊥
 
 -- Of a fault: what is told of its ways, in their order; nothing where the board has no meaning in one of them.
-abbrev pub JudgesFault : Program → Wiring → Fault → Option (List Verdict) → Type 0
-JudgesFault program w fault (Some vs) = JudgesEach program w (ways fault) vs
+abbrev pub JudgesFault : Program → Wiring → Fault → Option (List JudgedWay) → Type 0
+JudgesFault program w fault (Some js) = JudgesEach program w (ways fault) js
 JudgesFault program w fault None = (way : Way) × IsAmong way (ways fault) × (HasMeaning w way → ⊥)
 
 -- the same, as it is answered
@@ -51,14 +52,14 @@ abbrev pub JudgesWayWith : Program → Wiring → Way → Option Verdict → Typ
 JudgesWayWith program w way (Some v) = HasMeaning w way × Judges program w way v
 JudgesWayWith program w way None = HasMeaning w way → ⊥
 
-abbrev pub verdicts_of : Judged → Option (List Verdict)
-verdicts_of j = option_map (λ vs. vs.items) j.verdicts
+abbrev pub ways_of : Judged → Option (List JudgedWay)
+ways_of j = option_map (λ ws. ws.items) j.ways
 
 -- of faults, one after another
 abbrev pub JudgesAll : Program → Wiring → List Fault → List Judged → Type 0
 JudgesAll program w [] [] = ⊤
 JudgesAll program w (fault ∷ faults) (j ∷ js) =
-    (j.fault ≡ fault) × JudgesFault program w fault (verdicts_of j) × JudgesAll program w faults js
+    (j.fault ≡ fault) × JudgesFault program w fault (ways_of j) × JudgesAll program w faults js
 JudgesAll program w _ _ = ⊥
 
 -- of all faults of a board

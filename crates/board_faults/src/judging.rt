@@ -29,12 +29,19 @@ pub enum Verdict {
     Played(Ending),
 }
 
-/// A fault, and what is told of each of its ways, in their order; nothing where the board with it has no meaning, since
+/// A way of a fault, and what is told of it.
+#[derive(Drop, Clone, Copy)]
+pub struct JudgedWay {
+    pub way: Way,
+    pub verdict: Verdict,
+}
+
+/// A fault, and its ways with what is told of each, in their order; nothing where the board with it has no meaning, since
 /// a net depends on itself by strings.
 #[derive(Drop)]
 pub struct Judged {
     pub fault: Fault,
-    pub verdicts: Option<Vec<Verdict>>,
+    pub ways: Option<Vec<JudgedWay>>,
 }
 
 /// What a program makes of every fault of a planned board's nets, in the order of `Faults`: each way of each is played
@@ -57,8 +64,8 @@ pub fn judge_faults(
     let sights = sights_of(alloc, &plan.devices)?;
     let mut all = Vec::new(alloc);
     for fault in Faults::of(&plan.nets) {
-        let verdicts = judge_fault(alloc, &mut bench, &plan.nets, &sights, program, fault)?;
-        all.push(Judged { fault, verdicts })?;
+        let ways = judge_fault(alloc, &mut bench, &plan.nets, &sights, program, fault)?;
+        all.push(Judged { fault, ways })?;
     }
     Ok(all)
 }
@@ -71,24 +78,24 @@ fn judge_fault(
     sights: &[Vec<PortSight>],
     program: &Program,
     fault: Fault,
-) -> Result<Option<Vec<Verdict>>, AllocError>
+) -> Result<Option<Vec<JudgedWay>>, AllocError>
     requires may { CanBeJudged (wired nets.now bench.old.devices.items) }
     requires sights { map (λ t. t.items) sights.now ≡ all_sights (map planned_member bench.old.devices.items) }
     requires fault { IsFaultOf (map planned_net nets.now) fault }
     ensures same { OnOk result (SameDevices bench.old bench.new) }
     ensures judged { IfOk result (λ o. JudgesFault (program_of program.now) (wired nets.now bench.old.devices.items) fault
-        (option_map (λ vs. vs.items) o)) }
+        (option_map (λ js. js.items) o)) }
 {
-    let mut verdicts = Vec::with_capacity(alloc, 4)?;
+    let mut ways = Vec::with_capacity(alloc, 4)?;
     let mut k = 0;
     while let Some(way) = fault.way(k) {
         match judge_way(alloc, bench, nets, sights, program, way)? {
             None => return Ok(None),
-            Some(verdict) => verdicts.push(verdict)?,
+            Some(verdict) => ways.push(JudgedWay { way, verdict })?,
         }
         k += 1;
     }
-    Ok(Some(verdicts))
+    Ok(Some(ways))
 }
 
 /// What a program makes of a way of a fault of these nets (asked), by a board of the devices of a bench; nothing where

@@ -13,7 +13,7 @@ mod nets;
 mod sight;
 mod together;
 
-pub use judging::{Judged, Verdict, judge_faults};
+pub use judging::{Judged, JudgedWay, Verdict, judge_faults};
 pub use kinds::{Fault, Way, Winner};
 pub use laws::{
     every_program_misses_what_is_invisible, faults_compute, invisible_faults_are_not_captured,

@@ -62,7 +62,7 @@ connection_counts = vp.Unsigned 1 1000000
 abbrev pub waits : ValueParser
 waits = vp.Unsigned 1 86400
 
--- `--board BOARD`, which must be named where a board is served or described
+-- `--board BOARD`, which must be named where a board is served or described, or its faults are judged
 abbrev pub served_board : Rule
 served_board = record board { required = true }
 
@@ -117,11 +117,19 @@ connect = record (new_shape (codes "connect")) { rules = svf ∷ port ∷ host �
 abbrev pub describe : Shape
 describe = record (new_shape (codes "describe")) { rules = served_board ∷ [] }
 
+-- `[--list]`
+abbrev pub list : Rule
+list = record (new_rule (codes "list")) { long = Some (codes "list"); action = Some SetTrue }
+
+-- `cover [FILE] --board BOARD [--list]`
+abbrev pub cover : Shape
+cover = record (new_shape (codes "cover")) { rules = svf ∷ served_board ∷ list ∷ [] }
+
 -- the program's command line
 abbrev pub jt_tool : App
 jt_tool =
-    with_subcommand (with_subcommand (with_subcommand (with_subcommand (with_subcommand
-    (with_subcommand (new_app (codes "jt_tool")) play) check) loop) serve) connect) describe
+    with_subcommand (with_subcommand (with_subcommand (with_subcommand (with_subcommand (with_subcommand
+    (with_subcommand (new_app (codes "jt_tool")) play) check) loop) serve) connect) describe) cover
 
 -- a server that is played on
 pub record Host : Type 0 where
@@ -130,7 +138,8 @@ pub record Host : Type 0 where
   pub timeout : Option ℕ
 
 -- what is done with a text or a board: whether the bytes are told, whether all failures are, and whether it is told why
--- a bit fails and where a refusal lies; and the file of the waves of a play, where it is named
+-- a bit fails and where a refusal lies; the file of the waves of a play, where it is named; and whether every way of
+-- every fault is listed
 pub data Action : Type 0 where
   plays : (bytes all explain : Bool) → (vcd : Option Text) → Action
   checks : (explain : Bool) → Action
@@ -138,6 +147,7 @@ pub data Action : Type 0 where
   serves : Serving → Action
   connects : Host → (all explain : Bool) → Action
   describes : Action
+  covers : (listed : Bool) → Action
 
 -- what is asked for: the file of the program and the board file, where they are named, and what is done
 pub record Asked : Type 0 where
@@ -195,6 +205,7 @@ task_of name rows =
     else if bytes_eq name (codes "connect")
     then connects (server_of rows) (is_given (codes "all") rows) (is_given (codes "explain") rows)
     else if bytes_eq name (codes "describe") then describes
+    else if bytes_eq name (codes "cover") then covers (is_given (codes "list") rows)
     else plays (is_given (codes "bytes") rows) (is_given (codes "all") rows) (is_given (codes "explain") rows)
     (first_of (codes "vcd") rows)
 

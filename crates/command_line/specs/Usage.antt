@@ -2,7 +2,7 @@
 use Rattle.std.specs.Prelude.{◌≡◌, true, false, List, [], ◌∷◌, Option, Some, None, codes}
 use Rattle.clap.specs.Words.{Kinds, Text, fault_of}
 use Rattle.clap.specs.declared.error.kind.ErrorKind.TheVariants as kind
-use Rattle.command_line.specs.Asking.{Action, Asked, asked, checks, connects, describes, jt_tool, loops, plays, serves}
+use Rattle.command_line.specs.Asking.{Action, Asked, asked, checks, connects, covers, describes, jt_tool, loops, plays, serves}
 
 -- the command line is taken, and asks for this
 abbrev pub Asks : List Text → Asked → Type 0
@@ -84,6 +84,11 @@ pub record UsageRows : Type 0 where
   pub describe_without_board : IsRefused (codes "describe" ∷ []) (kind.MissingRequiredArgument ∷ [])
   pub describe_plays_nothing : IsRefused (codes "describe" ∷ file ∷ codes "--board=b.toml" ∷ [])
       (kind.UnknownArgument ∷ [])
+  pub cover : Asks (codes "cover" ∷ file ∷ codes "--board" ∷ board ∷ []) (request (Some file) (Some board) (covers false))
+  pub cover_list : Asks (codes "cover" ∷ codes "--list" ∷ codes "--board=b.toml" ∷ [])
+      (request None (Some board) (covers true))
+  pub cover_without_board : IsRefused (codes "cover" ∷ file ∷ []) (kind.MissingRequiredArgument ∷ [])
+  pub play_lists_nothing : IsRefused (codes "play" ∷ codes "--list" ∷ []) (kind.UnknownArgument ∷ [])
   pub serve_without_board : IsRefused (codes "serve" ∷ codes "--port=5555" ∷ []) (kind.MissingRequiredArgument ∷ [])
   pub connect_without_port : IsRefused (codes "connect" ∷ file ∷ []) (kind.MissingRequiredArgument ∷ [])
   pub no_port : IsRefused (codes "connect" ∷ codes "--port=0" ∷ []) (kind.ValueValidation ∷ [])

@@ -5,7 +5,7 @@ use Rattle.command_line.specs.Asking.{Action, Asked, Host}
 use Rattle.command_line.specs.declared.request.Request.{Request}
 use Rattle.command_line.specs.declared.request.Server.{Server}
 use Rattle.command_line.specs.declared.request.Task.{Task}
-use Rattle.command_line.specs.declared.request.Task.TheVariants.{Play, Check, Loop, Serve, Connect, Describe}
+use Rattle.command_line.specs.declared.request.Task.TheVariants.{Play, Check, Loop, Serve, Connect, Describe, Cover}
 
 abbrev pub server_view : Server → Host
 server_view s = record { host = s.host.now; port = s.port; timeout = s.timeout }
@@ -17,6 +17,7 @@ action_of (Loop all explain) = asking.loops all explain
 action_of (Serve how) = asking.serves how
 action_of (Connect server all explain) = asking.connects (server_view server) all explain
 action_of Describe = asking.describes
+action_of (Cover listed) = asking.covers listed
 
 abbrev pub asked_of : Request → Asked
 asked_of r = record {

@@ -57,6 +57,10 @@ pub enum Task<'a> {
     },
     /// The board is described.
     Describe,
+    /// It is told which faults of the board the text would miss; where `listed` is set, every way of every fault.
+    Cover {
+        listed: bool,
+    },
 }
 
 /// How a board is served.
@@ -102,7 +106,8 @@ pub struct Request<'a> {
 /// - `loop [FILE] [--board BOARD] [--all] [--explain]`,
 /// - `serve --board BOARD --port PORT [--at-most BYTES] [--connections COUNT] [--timeout SECONDS]`,
 /// - `connect [FILE] --port PORT [--host HOST] [--timeout SECONDS] [--all] [--explain]`,
-/// - `describe --board BOARD`.
+/// - `describe --board BOARD`,
+/// - `cover [FILE] --board BOARD [--list]`.
 ///
 /// Refused are words that none of these takes, and a number that is not in its range; a call for help comes as such an
 /// error too.
@@ -158,6 +163,9 @@ fn task_of<'a>(name: &str, found: &ArgMatches<'a>) -> Task<'a>
             explain: is_given(found, "explain"),
         },
         "describe" => Task::Describe,
+        "cover" => Task::Cover {
+            listed: is_given(found, "list"),
+        },
         _ => Task::Play {
             bytes: is_given(found, "bytes"),
             all: is_given(found, "all"),
@@ -244,20 +252,15 @@ fn is_given(found: &ArgMatches<'_>, flag: &str) -> bool
 fn command<'a>(alloc: Global) -> Result<Command<'a>, AllocError>
     ensures { IfOk result (λ c. app_of c ≡ spec.jt_tool) }
 {
-    let play = play_command(alloc)?;
-    let check = check_command(alloc)?;
-    let round = loop_command(alloc)?;
-    let serve = serve_command(alloc)?;
-    let connect = connect_command(alloc)?;
-    let describe = describe_command(alloc)?;
     Command::new(alloc, "jt_tool")
         .about("Plays Serial Vector Format programs on a simulated boundary-scan board")
-        .subcommand(play)?
-        .subcommand(check)?
-        .subcommand(round)?
-        .subcommand(serve)?
-        .subcommand(connect)?
-        .subcommand(describe)
+        .subcommand(play_command(alloc)?)?
+        .subcommand(check_command(alloc)?)?
+        .subcommand(loop_command(alloc)?)?
+        .subcommand(serve_command(alloc)?)?
+        .subcommand(connect_command(alloc)?)?
+        .subcommand(describe_command(alloc)?)?
+        .subcommand(cover_command(alloc)?)
 }
 
 fn play_command<'a>(alloc: Global) -> Result<Command<'a>, AllocError>
@@ -337,6 +340,27 @@ fn describe_command<'a>(alloc: Global) -> Result<Command<'a>, AllocError>
     Command::new(alloc, "describe")
         .about("Prints a board's devices, instructions, cells and nets, one fact a line")
         .arg(served_board_arg(alloc))
+}
+
+fn cover_command<'a>(alloc: Global) -> Result<Command<'a>, AllocError>
+    ensures shape { IfOk result (λ c. shape_of c ≡ spec.cover) }
+    ensures local { IfOk result (λ c. (out-Command c).has_globals ≡ false) }
+{
+    Command::new(alloc, "cover")
+        .about("Tells which single faults of a board's nets a program would miss")
+        .arg(svf_arg(alloc))?
+        .arg(served_board_arg(alloc))?
+        .arg(list_arg(alloc))
+}
+
+fn list_arg<'a>(alloc: Global) -> Arg<'a>
+    ensures rule { rule_of result ≡ spec.list }
+    ensures local { result.global ≡ false }
+{
+    Arg::new(alloc, "list")
+        .long("list")
+        .action(ArgAction::SetTrue)
+        .help("Tells every way of every fault, and by which bit it is caught first")
 }
 
 fn bytes_arg<'a>(alloc: Global) -> Arg<'a>

@@ -39,7 +39,7 @@ pub use play_links::{
     linked_ends_are_honest, loop_over, loop_over_all, loop_over_lent, play_over, play_over_all,
     play_over_lent, serve_over,
 };
-pub use play_model::{Ending, Kind};
+pub use play_model::{Ending, Kind, write_verdict};
 pub use play_pipes::{Event, Joined, Standing, Unjoined};
 pub use player::Player;
 pub use refusing::{refuse_board, refuse_file, refuse_memory};
@@ -47,7 +47,6 @@ pub use run::{
     check_program, play_and_note, refuse_text, run_check, run_play, run_play_all, run_program,
 };
 pub use scan_vectors::{Failures, Mismatch, Part};
-pub use showing::write_verdict;
 pub use stop::Stop;
 pub use svf_parse::{Code, SvfFault};
 pub use svf_programs::{Action, Program, Step};

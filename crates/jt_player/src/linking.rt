@@ -18,13 +18,13 @@ ghost use Rattle.jt_player.specs.Running.{Tells};
 ghost use Rattle.jt_player.specs.Showing.{ending_lines};
 ghost use Rattle.scan_vectors.specs.Failures.{Found, found};
 
-use crate::showing::{write_ending, write_verdict};
+use crate::showing::write_ending;
 use byte_streams::{Broken, Counted, End, Sink, Source, put_all, put_pieces};
 use itoa::Buffer;
 use jt_board::{Board, write_report};
 use output_words::{Status, hex_byte};
 use play_links::{Served, loop_over_all, play_over_all, serve_over};
-use play_model::{Ending, Kind};
+use play_model::{Ending, Kind, write_verdict};
 use player::Player;
 use scan_vectors::Failures;
 use std::alloc::Global;

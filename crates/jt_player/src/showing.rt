@@ -7,55 +7,14 @@ ghost use Rattle.jt_player.specs.Showing.{accepted_line, ending_lines, mismatch_
 ghost use Rattle.output_words.specs.Lines.{total_line};
 ghost use Rattle.scan_vectors.specs.Failures.{found};
 ghost use Rattle.svf_programs.specs.Sizes.{program_of};
-ghost use Rattle.play_model.specs.Endings.{verdict_line};
 
-use byte_streams::{Broken, Counted, Sink, put_all, put_pieces};
+use byte_streams::{Broken, Counted, Sink, put_pieces};
 use itoa::Buffer;
-use output_words::{hex_byte, write_total};
-use play_model::{Ending, Kind, part_word};
+use output_words::write_total;
+use play_model::{Ending, Kind, write_verdict};
 use scan_vectors::{Failures, Mismatch};
 use svf_parse::{Code, SvfFault};
 use svf_programs::Program;
-
-/// Writes the line of a verdict.
-///
-/// `Broken` comes exactly where the writer's first failure came in this call.
-pub fn write_verdict<W: Sink>(ending: Ending, out: &mut Counted<W>) -> Result<(), Broken>
-    requires { out.old.failures ≡ 0 }
-    ensures { WritesAll W.contents out.old out.new (verdict_line ending) result }
-{
-    let mut number = Buffer::new();
-    let mut place = Buffer::new();
-    match ending {
-        Ending::Pass => put_all(out, b"pass\n"),
-        Ending::Fail { command, part, bit } => put_pieces(
-            out,
-            &[
-                b"fail command ",
-                number.format(command).as_bytes(),
-                b" ",
-                part_word(part).as_bytes(),
-                b" bit ",
-                place.format(bit).as_bytes(),
-                b"\n",
-            ],
-        ),
-        Ending::Lost { command } => put_pieces(
-            out,
-            &[b"lost command ", number.format(command).as_bytes(), b"\n"],
-        ),
-        Ending::BadAnswer { command, byte } => put_pieces(
-            out,
-            &[
-                b"bad answer ",
-                &hex_byte(byte),
-                b" command ",
-                number.format(command).as_bytes(),
-                b"\n",
-            ],
-        ),
-    }
-}
 
 /// Writes how a play of this kind ended: the line of its verdict, or all failures that are listed and how many there
 /// were.

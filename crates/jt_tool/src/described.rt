@@ -7,7 +7,8 @@ use board_plan::Plan;
 use byte_streams::{Counted, Sink};
 use command_line::{Descriptions, InputFault, read_board_file};
 use jt_board::{PlanFault, bare_plan, plan_of_table, unplaced};
-use jt_player::{Board, BoardFault, board_table, table_names};
+use jt_player::{Board, BoardFault, Program, board_table, table_names};
+use play_coverage::write_cover;
 use play_waves::Stage;
 use std::alloc::{AllocError, Global};
 use std::marker::Model;
@@ -177,6 +178,20 @@ impl Planned {
         requires { out.old.failures ≡ 0 }
     {
         write_description(alloc, &self.plan, out)
+    }
+
+    /// Writes which faults of the board a program would miss, or every way of each where these are to be listed. Answers
+    /// the exit status.
+    pub(crate) fn cover<W: Sink>(
+        &self,
+        alloc: Global,
+        program: &Program,
+        listed: bool,
+        out: &mut Counted<W>,
+    ) -> Result<u8, Untold>
+        requires { out.old.failures ≡ 0 }
+    {
+        write_cover(alloc, &self.plan, program, listed, out)
     }
 }
 

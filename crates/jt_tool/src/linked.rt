@@ -18,7 +18,7 @@ const UNREACHED: Ending = Ending::Lost { command: 0 };
 #[derive(Drop)]
 pub(crate) struct AcceptedText {
     text: Vec<u8>,
-    program: Program,
+    pub(crate) program: Program,
     explain: bool,
 }
 

@@ -95,12 +95,14 @@ fn run_request(rt: &HostRuntime, alloc: Global, request: &Request<'_>) -> u8 {
     }
 }
 
-/// Describes the board of a plan, or powers it up and does with it what is asked for. The plan is kept only where waves
-/// are drawn on the same board.
+/// Describes the board of a plan, tells which of its faults a text would miss, or powers it up and does with it what is
+/// asked for. The plan is kept only where waves are drawn on the same board.
 fn run_planned(rt: &HostRuntime, alloc: Global, request: &Request<'_>, planned: Planned) -> u8 {
     let explain = explains(request.task);
-    if matches!(request.task, Task::Describe) {
-        return describe_board(rt, alloc, &planned);
+    match request.task {
+        Task::Describe => return describe_board(rt, alloc, &planned),
+        Task::Cover { listed } => return cover_board(rt, alloc, request.svf, &planned, listed),
+        _ => {}
     }
     let boards = match planned.boards(alloc, explain && plays(request.task)) {
         Ok(boards) => boards,
@@ -119,8 +121,44 @@ fn run_planned(rt: &HostRuntime, alloc: Global, request: &Request<'_>, planned: 
 fn describe_board(rt: &HostRuntime, alloc: Global, planned: &Planned) -> u8 {
     match planned.describe(alloc, &mut Counted::new(Plain(io::writer(rt)))) {
         Ok(()) => Status::Pass.number(),
-        Err(Untold::Broken) => Status::Lost.number(),
-        Err(Untold::NoMemory) => tell_memory(rt),
+        Err(fault) => refuse_untold(rt, fault),
+    }
+}
+
+/// Tells which faults of the board of a plan a text would miss. Answers the exit status.
+fn cover_board(
+    rt: &HostRuntime,
+    alloc: Global,
+    name: Option<&str>,
+    planned: &Planned,
+    listed: bool,
+) -> u8 {
+    match read_program(rt, alloc, name, false) {
+        Ok(accepted) => cover_program(rt, alloc, planned, &accepted.program, listed),
+        Err(status) => status,
+    }
+}
+
+/// Tells which faults of the board of a plan an accepted program would miss. Answers the exit status.
+fn cover_program(
+    rt: &HostRuntime,
+    alloc: Global,
+    planned: &Planned,
+    program: &Program,
+    listed: bool,
+) -> u8 {
+    let mut out = Counted::new(Plain(io::writer(rt)));
+    match planned.cover(alloc, program, listed, &mut out) {
+        Ok(status) => status,
+        Err(fault) => refuse_untold(rt, fault),
+    }
+}
+
+/// What is to be told of a board was lost, or memory ran out for it. Answers the exit status.
+fn refuse_untold(rt: &HostRuntime, fault: Untold) -> u8 {
+    match fault {
+        Untold::Broken => Status::Lost.number(),
+        Untold::NoMemory => tell_memory(rt),
     }
 }
 
@@ -131,7 +169,7 @@ fn explains(task: Task<'_>) -> bool {
         | Task::Check { explain }
         | Task::Loop { explain, .. }
         | Task::Connect { explain, .. } => explain,
-        Task::Serve(_) | Task::Describe => false,
+        Task::Serve(_) | Task::Describe | Task::Cover { .. } => false,
     }
 }
 
@@ -139,7 +177,11 @@ fn explains(task: Task<'_>) -> bool {
 fn plays(task: Task<'_>) -> bool {
     match task {
         Task::Play { .. } | Task::Loop { .. } => true,
-        Task::Check { .. } | Task::Connect { .. } | Task::Serve(_) | Task::Describe => false,
+        Task::Check { .. }
+        | Task::Connect { .. }
+        | Task::Serve(_)
+        | Task::Describe
+        | Task::Cover { .. } => false,
     }
 }
 

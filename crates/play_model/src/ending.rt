@@ -1,10 +1,13 @@
 //! How a play ends.
 
 ghost use Rattle.std.specs.Prelude.{◌≡◌};
+ghost use Rattle.byte_streams.specs.Writes.{WritesAll};
 ghost use Rattle.play_model.specs.Endings as spec;
-ghost use Rattle.play_model.specs.Endings.{status_of};
+ghost use Rattle.play_model.specs.Endings.{status_of, verdict_line};
 
-use output_words::Status;
+use byte_streams::{Broken, Counted, Sink, put_all, put_pieces};
+use itoa::Buffer;
+use output_words::{Status, hex_byte};
 use scan_vectors::Part;
 
 /// How a play ended. A command is the number of its statement in the program's text, counted from 1.
@@ -59,5 +62,45 @@ pub fn part_word(part: Part) -> &'static str
         Part::Header => "header",
         Part::Data => "data",
         Part::Trailer => "trailer",
+    }
+}
+
+/// Writes the line of a verdict.
+///
+/// `Broken` comes exactly where the writer's first failure came in this call.
+pub fn write_verdict<W: Sink>(ending: Ending, out: &mut Counted<W>) -> Result<(), Broken>
+    requires { out.old.failures ≡ 0 }
+    ensures { WritesAll W.contents out.old out.new (verdict_line ending) result }
+{
+    let mut number = Buffer::new();
+    let mut place = Buffer::new();
+    match ending {
+        Ending::Pass => put_all(out, b"pass\n"),
+        Ending::Fail { command, part, bit } => put_pieces(
+            out,
+            &[
+                b"fail command ",
+                number.format(command).as_bytes(),
+                b" ",
+                part_word(part).as_bytes(),
+                b" bit ",
+                place.format(bit).as_bytes(),
+                b"\n",
+            ],
+        ),
+        Ending::Lost { command } => put_pieces(
+            out,
+            &[b"lost command ", number.format(command).as_bytes(), b"\n"],
+        ),
+        Ending::BadAnswer { command, byte } => put_pieces(
+            out,
+            &[
+                b"bad answer ",
+                &hex_byte(byte),
+                b" command ",
+                number.format(command).as_bytes(),
+                b"\n",
+            ],
+        ),
     }
 }

@@ -10,7 +10,7 @@ mod legal;
 mod schedules;
 mod streams;
 
-pub use ending::{Ending, part_word};
+pub use ending::{Ending, part_word, write_verdict};
 pub use kind::Kind;
 pub use laws::{
     steps_ask_for_their_bits, the_empty_program_rests_every_board, the_full_play_is_both_ends,

@@ -5,7 +5,7 @@ use Rattle.svf_programs.specs.Sizes.{program_of}
 use Rattle.board_loops.specs.Depending.{wired}
 use Rattle.board_plan.specs.Planned.{Wiring}
 use Rattle.board_plan.specs.View.{net as planned_net}
-use Rattle.board_faults.specs.declared.judging.Verdict.{Verdict}
+use Rattle.board_faults.specs.declared.judging.JudgedWay.{JudgedWay}
 use Rattle.board_faults.specs.declared.kinds.Way.{Way}
 use Rattle.board_faults.specs.Faults.{ways}
 use Rattle.board_faults.specs.Judging.{JudgesEach, JudgesWayWith}
@@ -42,7 +42,7 @@ loop-way-preserved c =
       within = omega (arith, below);
       same = c.in_ok-judge_way.ensures.same ∙ c.loop-way.invariant.same;
       judged =
-          subst (λ (vs : List Verdict). JudgesEach program w (take (k + 1) all) vs) (sym c.in_ok-push-in-Some-2.ensures.items)
-          (subst (λ (ws : List Way). JudgesEach program w ws (c.loop-way.verdicts.items ++ c.in-Some-2.verdict ∷ [])) (sym more)
-          (judges_more program w (take k all) c.loop-way.verdicts.items way c.in-Some-2.verdict c.loop-way.invariant.judged judged.0 judged.1));
+          subst (λ (js : List JudgedWay). JudgesEach program w (take (k + 1) all) js) (sym c.in_ok-push-in-Some-2.ensures.items)
+          (subst (λ (ws : List Way). JudgesEach program w ws (c.loop-way.ways.items ++ record { way = way; verdict = c.in-Some-2.verdict } ∷ [])) (sym more)
+          (judges_more program w (take k all) c.loop-way.ways.items way c.in-Some-2.verdict c.loop-way.invariant.judged judged.0 judged.1));
     }

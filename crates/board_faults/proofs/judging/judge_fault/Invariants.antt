@@ -11,7 +11,7 @@ abbrev pub invariant-loop-way : goal.invariant-loop-way
 invariant-loop-way l = record {
   within : l.k ≤ length (ways l.fault);
   same : SameDevices l.fn.bench l.bench;
-  judged : JudgesEach (program_of l.program) (wired l.nets l.fn.bench.devices.items) (take l.k (ways l.fault)) l.verdicts.items;
+  judged : JudgesEach (program_of l.program) (wired l.nets l.fn.bench.devices.items) (take l.k (ways l.fault)) l.ways.items;
 }
 
 abbrev pub decreases-loop-way : goal.decreases-loop-way

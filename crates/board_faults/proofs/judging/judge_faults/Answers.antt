@@ -29,12 +29,12 @@ loop-fault-preserved c =
     let rest = left_of c.next.new.self in
     let same : wired c.deref-in-loop-fault.result.now c.loop-fault.bench.devices.items ≡ w =
     λ j. record { members = i.same j; nets = map planned_net (c.deref-in-loop-fault.ensures.value j) } in
-    let judged = subst (λ (v : Wiring). JudgesFault program v f (option_map (λ vs. vs.items) c.in_ok-verdicts.verdicts)) same c.in_ok-verdicts.ensures.judged in
+    let judged = subst (λ (v : Wiring). JudgesFault program v f (option_map (λ js. js.items) c.in_ok-ways.ways)) same c.in_ok-ways.ensures.judged in
     record {
       done = i.done ++ f ∷ [];
       left = i.left ∙ ap (λ (l : List Fault). i.done ++ l) c.in-Some.ensures.steps ∙ sym (append_assoc i.done (f ∷ []) rest);
-      same = c.in_ok-verdicts.ensures.same ∙ i.same;
+      same = c.in_ok-ways.ensures.same ∙ i.same;
       judged =
           subst (λ (js : List Judged). JudgesAll program w (i.done ++ f ∷ []) js) (sym c.in_ok-push.ensures.items)
-          (faults_more program w i.done c.loop-fault.all.items f (record { fault = f; verdicts = c.in_ok-verdicts.verdicts }) i.judged refl judged);
+          (faults_more program w i.done c.loop-fault.all.items f (record { fault = f; ways = c.in_ok-ways.ways }) i.judged refl judged);
     }

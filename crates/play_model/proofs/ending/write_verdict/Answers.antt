@@ -6,7 +6,7 @@ use Rattle.byte_streams.proofs.Fronts.{WritesAll-is}
 use Rattle.play_model.specs.declared.ending.Ending.{Ending}
 use Rattle.output_words.specs.Texts.{texts}
 use Rattle.play_model.specs.Endings.{verdict_line}
-use Rattle.jt_player.proofs.showing.write_verdict.Goals as goal
+use Rattle.play_model.proofs.ending.write_verdict.Goals as goal
 
 pub returns-in-Fail : goal.returns-in-Fail
 returns-in-Fail g c =

@@ -1,0 +1,4 @@
+pub mod Contending
+pub mod Covering
+pub mod Lines
+pub mod Rows

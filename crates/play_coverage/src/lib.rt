@@ -1,0 +1,21 @@
+//! What a program would miss on a board: of each fault of its nets whether the program catches it, line by line, and on
+//! which nets drivers disagree while it plays.
+#![tactic(auto)]
+
+ghost use Rattle.play_coverage.specs.Rows.{CoverRows};
+
+mod contending;
+mod covering;
+mod outcomes;
+mod totals;
+mod ways;
+mod words;
+
+pub use contending::{Contention, contentions};
+pub use covering::write_cover;
+pub use outcomes::{FaultKind, Outcome};
+
+/// The lines of some faults, worked out.
+pub fn covers_compute()
+    ensures { CoverRows }
+{}
