@@ -228,7 +228,7 @@ def way_lines(judged: Judged) -> list[str]:
         if found is None:
             lines.append(f"invisible {name}")
         elif found:
-            lines.append(f"caught {name} {found[0].removeprefix('fail ')}")
+            lines.append(f"caught {name} {found[0][len('fail '):]}")
         else:
             lines.append(f"missed {name}")
     return lines
