@@ -330,9 +330,9 @@ class WholeBoard:
 
     def capture(self, column: str) -> None:
         """Every selected register captures, all from the levels and core bits before."""
-        levels = self.levels()
+        levels = self.levels() if column == "DR" else None
         for part, chip in enumerate(self.chips):
-            chip.capture(column, levels.sight(part))
+            chip.capture(column, levels and levels.sight(part))
 
     def shift(self, column: str, bits: list[int]) -> list[int]:
         """Of the joined registers with the bits behind them, as many as there are bits go out."""

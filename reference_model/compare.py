@@ -15,13 +15,15 @@ import subprocess
 import sys
 import tempfile
 
+import coverage
 import program
-from inputs import KINDS, WAVE_KINDS, Case, case_of
+from inputs import COVER_KINDS, KINDS, WAVE_KINDS, Case, case_of
 from refusal import Refusal
 from waves import waves
 
 CASES = 450
 WAVE_CASES = 40
+COVER_CASES = 200
 LONGEST_PLAY = 60_000  # bits and cycles; a longer program is checked and not played
 LONGEST_WAVE = 2_000  # and its waves are not compared
 TIMEOUT = 60
@@ -29,7 +31,8 @@ BOARD_FILE = "board.toml"
 WAVE_FILE = "waves.vcd"
 WORDS = {"check": ["check"], "play": ["play", "--bytes"], "play to the end": ["play", "--bytes", "--all"],
          "describe": ["describe"], "waves": ["play", "--vcd", WAVE_FILE],
-         "waves to the end": ["play", "--all", f"--vcd={WAVE_FILE}"]}
+         "waves to the end": ["play", "--all", f"--vcd={WAVE_FILE}"],
+         "cover": ["cover"], "cover, listed": ["cover", "--list"]}
 
 
 def toml(value) -> str:
@@ -87,6 +90,15 @@ def expected_waves(case: Case) -> dict[str, program.Answer]:
             for command, end in ends.items()}
 
 
+def expected_covers(case: Case) -> dict[str, program.Answer]:
+    """By command, what should be told of the faults of the board that the program would miss."""
+    commands = ("cover", "cover, listed")
+    try:
+        return dict(zip(commands, coverage.cover(*program.read(*case))))
+    except Refusal as refusal:
+        return dict.fromkeys(commands, program.refused(refusal))
+
+
 def obtained(path: str, command: str, case: Case, folder: str) -> program.Answer:
     """What the program prints, its files being in the folder, or the waves that it draws."""
     words = [path, *WORDS[command]] + ([] if case.tree is None else ["--board", BOARD_FILE])
@@ -138,7 +150,7 @@ def compare(path: str, kind: str, numbers: range, expect) -> int:
             print(f"{kind} {number} {command} differs")
             for what, value in (("input", input_files(case)), ("program", got), ("expected", wanted)):
                 print(f"  {what}: {shortened(value, 400)}")
-    what = f"{kind}: {len(numbers)} cases" if expect is expected else f"waves of {kind}: {answered} plays"
+    what = f"waves of {kind}: {answered} plays" if expect is expected_waves else f"{kind}: {len(numbers)} cases"
     print(f"{what}, {differing} differ", flush=True)
     return differing
 
@@ -176,7 +188,7 @@ def show(path: str, kind: str, number: int, expect) -> None:
 def main() -> int:
     parser = argparse.ArgumentParser(description=__doc__.splitlines()[0])
     parser.add_argument("program")
-    parser.add_argument("kinds", nargs="*", metavar="KIND", help=", ".join({**KINDS, **WAVE_KINDS}))
+    parser.add_argument("kinds", nargs="*", metavar="KIND", help=", ".join({**KINDS, **COVER_KINDS, **WAVE_KINDS}))
     parser.add_argument("--cases", type=int, metavar="N")
     parser.add_argument("--from", type=int, default=0, metavar="N", dest="start")
     parser.add_argument("--waves", action="store_true", help="compare the waves of short plays")
@@ -186,12 +198,22 @@ def main() -> int:
     path = os.path.abspath(words.program)
     if words.describe:
         return int(compare_boards(path, words.describe) > 0)
-    expect, kinds, usual = (expected_waves, WAVE_KINDS, WAVE_CASES) if words.waves else (expected, KINDS, CASES)
     if words.show:
-        show(path, words.show[0], int(words.show[1]), expect)
+        show(path, words.show[0], int(words.show[1]), way_of(words.show[0], words.waves)[0])
         return 0
-    numbers = range(words.start, words.start + (usual if words.cases is None else words.cases))
-    return int(sum(compare(path, kind, numbers, expect) for kind in words.kinds or kinds) > 0)
+    differing = 0
+    for kind in words.kinds or (WAVE_KINDS if words.waves else {**KINDS, **COVER_KINDS}):
+        expect, usual = way_of(kind, words.waves)
+        numbers = range(words.start, words.start + (usual if words.cases is None else words.cases))
+        differing += compare(path, kind, numbers, expect)
+    return int(differing > 0)
+
+
+def way_of(kind: str, as_waves: bool) -> tuple:
+    """How a kind is compared: what says the expected answers, and the usual number of cases."""
+    if as_waves:
+        return expected_waves, WAVE_CASES
+    return (expected_covers, COVER_CASES) if kind in COVER_KINDS else (expected, CASES)
 
 
 if __name__ == "__main__":

@@ -3,9 +3,9 @@
     coverage.py BOARD SVF [--list]              what the program would miss; of every way of every fault
     coverage.py BOARD SVF --like OTHER_BOARD    which faults of BOARD give the bits that fail on OTHER_BOARD
 
-`jt_tool` has no command for it yet.  A board with a fault is a board with other nets, so each way of each fault is
-played by whole registers.  A way can show where some drives that its pins' cells can give are read otherwise with it
-by a pin that someone reads.
+The first of these is what `jt_tool cover` prints.  A board with a fault is a board with other nets, so each way of each
+fault is played by whole registers.  A way can show where some drives that its pins' cells can give are read otherwise
+with it by a pin that someone reads.
 """
 
 from __future__ import annotations
@@ -170,13 +170,15 @@ def level_among(nets: list[Net], pin: tuple, groups: list, chosen: list) -> int:
 
 # What a program catches
 
-def plays(board: Board, program: Program, nets: list[Net]) -> list[str]:
-    """The bits that fail on the board with these nets, from power-up."""
+def plays(board: Board, program: Program, nets: list[Net], to_the_end: bool = True) -> list[str]:
+    """The bits that fail on the board with these nets, from power-up; or those of the first scan that has any."""
     whole, found = WholeBoard(board._replace(nets=nets)), []
     for step in program.steps:
         out = whole.command(step)
         if isinstance(step, ScanStep):
             found += failing(step, zip(step.vector, out))
+            if found and not to_the_end:
+                break
     return found
 
 
@@ -191,22 +193,25 @@ def contentions(board: Board, program: Program) -> list[str]:
 
 
 class Judged(NamedTuple):
-    """Of each way `invisible`, or the bits that fail on the board with it."""
+    """Of each way the bits that fail on the board with it, up to the first scan that has any, or None where it cannot show.
+
+    There is None in place of them all where the fault is a bridge that cannot be judged.
+    """
     fault: Fault
-    found: list
+    found: list | None
 
 
 def judge(board: Board, program: Program) -> list[Judged]:
-    judged = []
-    for fault in faults(board):
-        if is_loop(board, fault):
-            judged.append(Judged(fault, None))
-            continue
-        judged.append(Judged(fault, [plays(board, program, way.nets) if can_show(board, fault, way) else None
-                                     for way in fault.ways]))
-        for way, found in zip(fault.ways, judged[-1].found):
-            assert found is not None or not plays(board, program, way.nets), "an invisible way is caught"
-    return judged
+    return [Judged(fault, None if is_loop(board, fault) else [judge_way(board, program, fault, way) for way in fault.ways])
+            for fault in faults(board)]
+
+
+def judge_way(board: Board, program: Program, fault: Fault, way: Way) -> list[str] | None:
+    found = plays(board, program, way.nets, to_the_end=False)
+    if can_show(board, fault, way):
+        return found
+    assert not found, "an invisible way is caught"
+    return None
 
 
 def verdict_of(judged: Judged) -> str:
@@ -223,7 +228,7 @@ def way_lines(judged: Judged) -> list[str]:
         if found is None:
             lines.append(f"invisible {name}")
         elif found:
-            lines.append(f"caught {name} {found[0].removeprefix('fail ')}")
+            lines.append(f"caught {name} {found[0][len('fail '):]}")
         else:
             lines.append(f"missed {name}")
     return lines
@@ -235,12 +240,17 @@ def missed_line(judged: Judged) -> str:
     return " ".join([f"missed {judged.fault.name}"] + (missed if len(missed) < len(showing) else []))
 
 
-def cover(board: Board, program: Program, listed: bool = False) -> Answer:
+def cover(board: Board, program: Program) -> tuple[Answer, Answer]:
+    """What is told of a program's faults, and what is told with every way of every fault listed."""
     failures = plays(board, program, board.nets)
     if failures:
-        return Answer("".join(line + "\n" for line in verdict(failures, False)), "", 1)
-    contends = contentions(board, program)
-    judged = judge(board, program)
+        failed = Answer("".join(line + "\n" for line in verdict(failures, False)), "", 1)
+        return failed, failed
+    contends, judged = contentions(board, program), judge(board, program)
+    return told(contends, judged, False), told(contends, judged, True)
+
+
+def told(contends: list[str], judged: list[Judged], listed: bool) -> Answer:
     verdicts = [(its.fault.kind, verdict_of(its)) for its in judged if its.found is not None]
     loops = [its for its in judged if its.found is None]
     missed = [missed_line(its) for its in judged if its.found is not None and verdict_of(its) == "missed"]
@@ -299,7 +309,7 @@ def main() -> int:
         other = read_files(words.like)
         answer = diagnose(board, program, verdict(plays(other, program, other.nets), True), True)
     else:
-        answer = cover(board, program, words.list)
+        answer = cover(board, program)[words.list]
     print(answer.out, end="")
     return answer.status
 

@@ -771,6 +771,84 @@ def follows(rng, number: int) -> Case:
     return played_on(rng, tree, its_files, rng.choice((2, 3, 5)))
 
 
+# Faults of nets
+
+class Small(Description):
+    """A made description of few pins, each of which a cell may drive, see, or both."""
+
+    mode = Followed.mode
+
+    def make_ports(self) -> None:
+        self.ports, self.free = {name: "bit" for name in (*TAPS.values(), "TRST")}, []
+        for number in range(self.rng.choice((2, 2, 3))):
+            size = self.rng.choice((1, 1, 2))
+            self.ports[f"P{number}"] = "bit" if size == 1 else "bit_vector(0 to 1)"
+            self.free += [(f"P{number}", subscript) for subscript in ([None] if size == 1 else range(size))]
+
+    def make_instructions(self) -> None:
+        Banks.make_instructions(self)
+        if self.rng.random() < 0.1:
+            Description.make_instructions(self)
+
+    def make_cells(self) -> None:
+        rng = self.rng
+        rows = [(None, rng.choice(("control", "controlr"))), *some(rng, (0.1, [(None, "internal")]))]
+        for port in self.free:
+            drives = (port, rng.choice(("output2", "output2", "output3", "output3", "bidir", "bidir")))
+            sees = (port, rng.choice(("input", "input", "clock", "observe_only")))
+            rows += rng.choice(([drives], [drives], [sees], [sees], [drives, sees], [drives, sees], []))
+        rng.shuffle(rows)
+        control = next(cell for cell, (_, function) in enumerate(rows) if function.startswith("control"))
+        self.length, self.cells = len(rows), []
+        for cell, (port, function) in enumerate(rows):
+            enable = {"output2": rng.choice((None, None, cell)), "output3": control, "bidir": control}.get(function)
+            result = rng.choice(("Z", *bsdl.RESULTS))
+            self.cells.append([cell, port, function, [] if enable is None else [enable, rng.choice("01"), result]])
+
+
+LOOKS = ("IDLE DRSELECT DRCAPTURE DREXIT1 DRUPDATE IDLE", "IDLE DRSELECT DRCAPTURE DRSHIFT DREXIT1 DRUPDATE IDLE",
+         "DRPAUSE", "DRPAUSE DREXIT2 DRUPDATE IDLE")
+"""Ways through the controller that capture, and pass on some of what was captured or all of it."""
+
+
+def tested(rng, board) -> list[list[str]]:
+    """A test of the nets of a board, with other statements in between; seldom it wants what does not come."""
+    writer = Writer(rng, board, rng.choice((0,) * 15 + (0.01,)))
+    for _ in range(rng.choice((1, 1, 2))):
+        for tokens in some(rng, (0.4, [["STATE", "RESET"]]), (0.2, [["ENDDR", rng.choice(("DRPAUSE", "IDLE"))]])):
+            writer.add(tokens, 1)
+        writer.scan("IR", rng.choice((("SAMPLE", "PRELOAD"), ())))
+        writer.scan("DR")
+        writer.scan("IR", rng.choice((("EXTEST",), ("EXTEST",), ("EXTEST", "HIGHZ"), ("EXTEST", "CLAMP", "SAMPLE"))))
+        for _ in range(rng.choice((2, 4, 7))):
+            look = ["STATE", *rng.choice(LOOKS).split()]
+            for tokens in some(rng, (0.06, [["TRST", "ON"], ["TRST", "OFF"]]), (0.15, [look])):
+                writer.add(tokens, 1)
+            if rng.random() < 0.05:
+                writer.go_on()
+            writer.scan("DR")
+    return writer.statements
+
+
+def covers(rng, number: int) -> Case:
+    """Small boards, and tests of their nets; a few texts and boards are refused."""
+    texts = [Small(rng).text() for _ in range(rng.choice((1, 2, 2, 3)))]
+    tree, its_files = chained(rng, texts, 0.97)
+    devices = {name: bsdl.read(text) for name, text in its_files.items()}
+    if rng.random() < 0.3:
+        for table in tree["device"]:
+            table["follow"] = strings(rng, devices[table["bsdl"]], 0.9)
+        open_circles(rng, tree, its_files, 1)
+    if rng.random() < 0.03:
+        spoil_table(rng, tree, rng.choice(tree["device"] + tree["net"]))
+    try:
+        board = read_board(tree, its_files)
+    except Refusal:
+        return Case(b"", tree, its_files)
+    text = spell(rng, tested(rng, board), 0.97)
+    return Case(damaged_bytes(rng, text, ODD_BYTES) if rng.random() < 0.03 else text, tree, its_files)
+
+
 # Waves
 
 FREQUENCIES = ("1E6", "3E6", "7E5", "1.5E7", "3E11", "1E12", "1E-3", "2E-6")
@@ -865,5 +943,8 @@ KINDS = {kind.__name__: kind for kind in (
 WAVE_KINDS = {kind.__name__: kind for kind in (rests, programs, boards, banks, follows)}
 
 
+COVER_KINDS = {covers.__name__: covers}
+
+
 def case_of(kind: str, number: int) -> Case:
-    return {**KINDS, **WAVE_KINDS}[kind](random.Random(f"{kind} {number}"), number)
+    return {**KINDS, **WAVE_KINDS, **COVER_KINDS}[kind](random.Random(f"{kind} {number}"), number)
