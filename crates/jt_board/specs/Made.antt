@@ -1,5 +1,5 @@
 -- Boards as they are made.
-use Rattle.std.specs.Prelude.{◌<◌, ◌≤◌, Bool, length}
+use Rattle.std.specs.Prelude.{◌≡◌, ◌<◌, ◌≤◌, Bool, length}
 use Rattle.std.specs.List.{AllByRecursion}
 use Rattle.jt_limits.specs.Limits.{limits}
 use Rattle.bsdl_device.specs.Sound.{IsSoundDevice}
