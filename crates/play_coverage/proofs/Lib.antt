@@ -1,3 +1,4 @@
 pub mod Marks
 pub mod Missing
 pub mod NetsKept
+pub mod Telling

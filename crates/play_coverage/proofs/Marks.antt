@@ -1,6 +1,7 @@
 -- Marks of nets, one after another.
-use Rattle.std.proofs.Common.{◌≡◌, ◌<◌, ◌+◌, ℕ, suc, Bool, true, false, not, ◌&&◌, ◌||◌, List, [], ◌∷◌, ◌++◌, length, map, take, drop, get_or, set, append_assoc, refl, sym, ap, ap₂, ◌∙◌, arith}
-use Rattle.std.specs.Prelude.{if◌then◌else◌}
+use Rattle.std.proofs.Common.{◌≡◌, ◌<◌, ◌+◌, ℕ, zero, suc, Bool, true, false, not, ◌&&◌, ◌||◌, List, [], ◌∷◌, ◌++◌, length, map, take, drop, get_or, set, append_assoc, refl, sym, ap, ap₂, ◌∙◌, arith}
+use Rattle.std.specs.Prelude.{if◌then◌else◌, option_map, slice_get, Some}
+use Rattle.std.proofs.lemmas.Option.{same_Some}
 use Rattle.std.proofs.Math.Seq.{drop-cons}
 use Rattle.std.proofs.lemmas.List.{drop-set-lt, take_more, take_more_set, map-append}
 use Rattle.play_coverage.specs.declared.contending.Contention.{Contention}
@@ -23,7 +24,7 @@ both false false h = h
 
 one : (n m : Bool) → (n && not m) ≡ false → (m || n) ≡ m
 one true true h = refl
-one true false h = sym h
+one true false h = h
 one false true h = refl
 one false false h = refl
 
@@ -68,3 +69,14 @@ module _ (marks now : List Bool) (k : ℕ) (inside : k < length marks) (there : 
       ap (λ (n : ℕ). found ++ map (contention command) (newly n (drop n marks) (drop n now))) (sym next)
       ∙ ap (λ (b : Bool). found ++ map (contention command) ((if b then k ∷ [] else []) ++ newly (suc k) (drop (suc k) marks) (drop (suc k) now))) (sym h)
       ∙ ap (λ (l : List ℕ). found ++ map (contention command) l) (sym (next_newly marks now k inside there))
+
+-- a net's mark among those of all nets
+pub at_net : {X : Type 0} (f : X → Bool) (xs : List X) (k : ℕ) (b : Bool) → k < length xs → option_map f (slice_get xs k) ≡ Some b → get_or (map f xs) k false ≡ b
+at_net f [] k b inside is = absurd (omega (arith, inside))
+at_net f (x ∷ xs) zero b inside is = same_Some (f x) b is
+at_net f (x ∷ xs) (suc k) b inside is = at_net f xs k b (omega (arith, inside)) is
+
+pub either_long : (before now : List Bool) → length (either before now) ≡ length before
+either_long [] now = refl
+either_long (b ∷ before) [] = refl
+either_long (b ∷ before) (n ∷ now) = ap suc (either_long before now)

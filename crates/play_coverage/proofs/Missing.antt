@@ -1,8 +1,9 @@
 -- The first faults that are missed, one after another.
-use Rattle.std.proofs.Common.{◌≡◌, ◌<◌, ◌≤◌, ◌+◌, ℕ, Bool, true, false, List, [], ◌∷◌, ◌++◌, length, take, get_or, refl, sym, ap, subst, ◌∙◌, arith, length-take}
-use Rattle.std.specs.Prelude.{cond, min}
+use Rattle.std.proofs.Common.{◌≡◌, ◌<◌, ◌≤◌, ◌+◌, ℕ, Bool, true, false, List, [], ◌∷◌, ◌++◌, length, take, get_or, refl, sym, ap, subst, ◌∙◌, arith, length-take, append_assoc}
+use Rattle.std.specs.Prelude.{cond, flat_map, min}
 use Rattle.std.specs.List.{filter}
 use Rattle.std.proofs.lemmas.List.{append-nil, length-append, take_all, take-append-le}
+use Rattle.std.proofs.lemmas.Grind.{flat_map-append}
 use Rattle.std.proofs.lemmas.List.Elements.{filter_more}
 
 module _ {X : Type 0} (most : ℕ) (ys : List X) where
@@ -38,3 +39,11 @@ module _ {X : Type 0} (p : X → Bool) (most : ℕ) (xs : List X) (i : ℕ) (d :
 
   pub not_one : p (get_or xs i d) ≡ false → first (i + 1) ≡ first i
   not_one is = more false is ∙ ap (take most) (append-nil (filter p (take i xs)))
+
+-- one more is told behind others
+pub told_more : {X : Type 0} (f : X → List ℕ) (xs : List X) (y : X) (old text now : List ℕ) → text ≡ old ++ flat_map f xs → now ≡ text ++ f y
+    → now ≡ old ++ flat_map f (xs ++ y ∷ [])
+told_more f xs y old text now told one =
+    one ∙ ap (λ (t : List ℕ). t ++ f y) told ∙ append_assoc old (flat_map f xs) (f y)
+    ∙ ap (λ (l : List ℕ). old ++ (flat_map f xs ++ l)) (sym (append-nil (f y)))
+    ∙ ap (λ (l : List ℕ). old ++ l) (sym (flat_map-append f xs (y ∷ [])))

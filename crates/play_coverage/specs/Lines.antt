@@ -172,9 +172,6 @@ count_line js k =
     texts (kind_word k ∷ codes " caught " ∷ decimal (count k outcome.Caught js) ∷ codes " missed "
     ∷ decimal (count k outcome.Missed js) ∷ codes " invisible " ∷ decimal (count k outcome.Invisible js) ∷ codes "\n" ∷ [])
 
-abbrev pub kinds : List FaultKind
-kinds = kind.Opens ∷ kind.Pulls ∷ kind.Stuck ∷ kind.Shorts ∷ []
-
 abbrev pub is_loop : Judged → Bool
 is_loop j = is_none (ways_of j)
 
@@ -183,7 +180,9 @@ abbrev pub loops_line : ℕ → List ℕ
 loops_line n = if n == 0 then [] else texts (codes "loops " ∷ decimal n ∷ codes "\n" ∷ [])
 
 abbrev pub totals : List Judged → List ℕ
-totals js = flat_map (count_line js) kinds ++ loops_line (count_by is_loop js)
+totals js =
+    count_line js kind.Opens ++ (count_line js kind.Pulls ++ (count_line js kind.Stuck ++ (count_line js kind.Shorts
+    ++ loops_line (count_by is_loop js))))
 
 -- ---- the whole
 

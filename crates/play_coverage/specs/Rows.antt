@@ -22,7 +22,7 @@ abbrev pub judged : Way → Verdict → JudgedWay
 judged its_way verdict = record { way = its_way; verdict = verdict }
 
 abbrev pub failing : Verdict
-failing = Played (Fail 8 Data 15)
+failing = Played (Fail 8 Data 5)
 
 -- a bridge whose first way shows to no program, and whose others are missed, caught and missed
 abbrev pub bridge : List JudgedWay
@@ -35,7 +35,7 @@ quiet = judged (way.Short 0 1 Zeros) Invisible ∷ judged (way.Short 0 1 Ones) (
 
 pub record CoverRows : Type 0 where
   pub caught : way_line board (fault.Short 0 1) (judged (way.Short 0 1 First) failing)
-      ≡ codes "caught short N M first-leads command 8 data bit 15\n"
+      ≡ codes "caught short N M first-leads command 8 data bit 5\n"
   pub missed : way_line board (fault.Stuck 1 true) (judged (way.Stuck 1 true) (Played Pass)) ≡ codes "missed stuck M at 1\n"
   pub invisible : way_line board (fault.Pull 0) (judged (way.Pull 0) Invisible) ≡ codes "invisible pull N\n"
   pub some_ways : missed_ways bridge ≡ codes " wired-or second-leads"
@@ -44,8 +44,8 @@ pub record CoverRows : Type 0 where
   -- each way that shows is missed, so none is named
   pub all_ways : missed_ways quiet ≡ []
   pub nothing_shows : comes_to outcome.Invisible (judged (way.Pull 0) Invisible ∷ []) ≡ true
-  pub contends : contention_words nets (record { command = 24; net = 1 }) ≡ codes "contends command 24 net M\n"
-  pub loops : loops_line 12 ≡ codes "loops 12\n"
+  pub contends : contention_words nets (record { command = 4; net = 1 }) ≡ codes "contends command 4 net M\n"
+  pub loops : loops_line 2 ≡ codes "loops 2\n"
   pub no_loops : loops_line 0 ≡ []
   -- of three nets the first was marked before, and the first two are now
   pub newly_marked : newly 0 (true ∷ false ∷ false ∷ []) (true ∷ true ∷ false ∷ []) ≡ 1 ∷ []

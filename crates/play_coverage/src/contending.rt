@@ -1,6 +1,6 @@
 //! Nets whose strong drivers disagree while a program plays.
 
-ghost use Rattle.std.specs.Prelude.{◌≡◌, ◌++◌, length, map, IfOk, OnOk};
+ghost use Rattle.std.specs.Prelude.{◌≡◌, ◌<◌, ◌++◌, ◌&&◌, not, false, get_or, length, map, IfOk, OnOk};
 ghost use Rattle.svf_programs.specs.Seen as seen;
 ghost use Rattle.svf_programs.specs.Sizes.{program_of};
 ghost use Rattle.svf_programs.specs.Sound.{IsWithin};
@@ -9,9 +9,10 @@ ghost use Rattle.board_model.specs.Nets.{is_opposed};
 ghost use Rattle.board_model.specs.Resting.{IsAtRest};
 ghost use Rattle.board_model.specs.Whole.{AtRest};
 ghost use Rattle.jt_board.specs.Resting.{IsResting};
+ghost use Rattle.play_model.specs.DirectPlay.{opened_state};
 ghost use Rattle.play_model.specs.Meaning as meaning;
 ghost use Rattle.play_coverage.specs.Contending as spec;
-ghost use Rattle.play_coverage.specs.Contending.{contention, either, newly};
+ghost use Rattle.play_coverage.specs.Contending.{contending, contention, either, newly};
 
 use board_chain::Chain;
 use jt_board::Board;
@@ -38,17 +39,33 @@ pub fn contentions(
 ) -> Result<Vec<Contention>, AllocError>
     ensures { IfOk result (λ v. v.items ≡ spec.contentions (program_of program.now) board.old) }
 {
+    let mut found = Vec::new(alloc);
+    let mut marks = Vec::from_elem(alloc, false, board.chain().nets())?;
+    note_all(program, board, &mut marks, &mut found)?;
+    Ok(found)
+}
+
+/// Plays a program on a board to its end, given a mark for each net, and puts the nets that are not marked and whose strong
+/// drivers disagree after a statement behind the ones found.
+fn note_all(
+    program: &Program,
+    board: &mut Board,
+    marks: &mut [bool],
+    found: &mut Vec<Contention>,
+) -> Result<(), AllocError>
+    requires { length marks.old ≡ length board.old.nets }
+    ensures { OnOk result (found.new.items
+        ≡ found.old.items ++ contending (program_of program.now).steps (opened_state board.old) marks.old) }
+{
     // For the proof alone: what the types keep of a program's steps and of a board's devices.
     let _ = program.len();
     let _ = board.devices();
-    let mut found = Vec::new(alloc);
     play_opening(board);
-    let mut marks = vec![in alloc; false; board.chain().nets()]?;
     for step in program.steps() {
         play(&step, board);
-        note_opposed(board.chain(), step.number, &mut marks, &mut found)?;
+        note_opposed(board.chain(), step.number, marks, found)?;
     }
-    Ok(found)
+    Ok(())
 }
 
 /// Plays a step on a board at rest (asked).
@@ -77,11 +94,29 @@ fn note_opposed(
 {
     let mut net = 0;
     while net < marks.len() {
-        if chain.is_opposed(net) && !marks[net] {
+        let fresh = is_fresh(chain, marks, net);
+        if fresh {
             marks[net] = true;
             found.push(Contention { command, net })?;
         }
         net += 1;
     }
     Ok(())
+}
+
+/// Whether strong drivers disagree on a net that is not marked.
+fn is_fresh(chain: &Chain, marks: &[bool], net: usize) -> bool
+    requires marks { net < length marks.now }
+    requires nets { net < length chain.now.nets }
+    ensures { result ≡ (get_or (map (is_opposed chain.now.nets (members chain.now.chips)) chain.now.nets) net false
+        && not (get_or marks.now net false)) }
+{
+    is_new(chain.is_opposed(net), marks[net])
+}
+
+/// Whether drivers disagree on a net, and that is not noted.
+fn is_new(opposed: bool, marked: bool) -> bool
+    ensures { result ≡ (opposed && not marked) }
+{
+    opposed && !marked
 }

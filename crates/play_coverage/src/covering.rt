@@ -1,13 +1,14 @@
 //! What a program would miss on a board, as it is printed.
 
-ghost use Rattle.std.specs.Prelude.{◌≡◌, ◌++◌, OnOk, IfOk, flat_map, map};
+ghost use Rattle.std.specs.Prelude.{◌≡◌, ◌++◌, OnOk, IfOk, flat_map};
 ghost use Rattle.svf_programs.specs.Sizes.{program_of};
-ghost use Rattle.board_plan.specs.View.{net as planned_net, wiring};
+ghost use Rattle.board_plan.specs.View.{wiring};
 ghost use Rattle.jt_board.specs.Made.{IsReadyPlan, PowersUp, board_of};
 ghost use Rattle.output_words.specs.Statuses.{number};
+ghost use Rattle.play_model.specs.Play.{play};
 ghost use Rattle.play_coverage.specs.Contending as spec;
 ghost use Rattle.play_coverage.specs.Covering.{Covers, IsCover, Tells};
-ghost use Rattle.play_coverage.specs.Lines.{contention_line, contention_words, cover_lines, cover_status, told_lines};
+ghost use Rattle.play_coverage.specs.Lines.{contention_line, cover_lines, cover_status, told_lines};
 
 use crate::contending::{Contention, contentions};
 use crate::outcomes::any_missed;
@@ -15,7 +16,7 @@ use crate::totals::put_totals;
 use crate::ways::{put_faults, put_missed};
 use board_description::{Untold, net_name};
 use board_faults::{Judged, judge_faults};
-use board_plan::{Plan, PlannedNet};
+use board_plan::Plan;
 use byte_streams::{Counted, Sink, put_all};
 use itoa::Buffer;
 use jt_board::Board;
@@ -45,14 +46,22 @@ pub fn write_cover<W: Sink>(
     requires whole { out.old.failures ≡ 0 }
     ensures { Tells W.contents out.old out.new (IsCover (program_of program.now) (wiring plan.now) listed) result }
 {
-    let mut board = Board::powered_up(alloc, plan)?;
-    match play_program(program, &mut board) {
+    match ending_on(alloc, plan, program)? {
         Ending::Pass => write_faults(alloc, plan, program, listed, out),
         ending => {
             write_verdict(ending, out)?;
             Ok(ending.status())
         }
     }
+}
+
+/// How a program's play on the board of a plan ends, from power-up.
+fn ending_on(alloc: Global, plan: &Plan, program: &Program) -> Result<Ending, AllocError>
+    requires { PowersUp plan.now }
+    ensures { IfOk result (λ e. e ≡ (play (program_of program.now) (board_of (wiring plan.now))).ending) }
+{
+    let mut board = Board::powered_up(alloc, plan)?;
+    Ok(play_program(program, &mut board))
 }
 
 /// What is printed of a program that passes on the board itself, and the exit status.
@@ -138,18 +147,14 @@ fn put_contentions(
         (text.new.items ≡ text.old.items ++ flat_map (contention_line (wiring plan.now)) contending.now) }
 {
     for contention in contending {
-        put_contention(text, &plan.nets, *contention)?;
+        put_contention(text, plan, *contention)?;
     }
     Ok(())
 }
 
-fn put_contention(
-    text: &mut Vec<u8>,
-    nets: &[PlannedNet],
-    contention: Contention,
-) -> Result<(), AllocError>
+fn put_contention(text: &mut Vec<u8>, plan: &Plan, contention: Contention) -> Result<(), AllocError>
     ensures { OnOk result
-        (text.new.items ≡ text.old.items ++ contention_words (map planned_net nets.now) contention) }
+        (text.new.items ≡ text.old.items ++ contention_line (wiring plan.now) contention) }
 {
     let mut command = Buffer::new();
     put(
@@ -158,7 +163,7 @@ fn put_contention(
             b"contends command ",
             command.format(contention.command).as_bytes(),
             b" net ",
-            net_name(nets, contention.net).as_bytes(),
+            net_name(&plan.nets, contention.net).as_bytes(),
             b"\n",
         ],
     )

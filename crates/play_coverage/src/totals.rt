@@ -1,7 +1,7 @@
 //! How many faults of each kind are caught, missed and invisible.
 
-ghost use Rattle.std.specs.Prelude.{◌≡◌, ◌++◌, OnOk, flat_map};
-ghost use Rattle.play_coverage.specs.Lines.{count_line, kinds, loops_line, totals};
+ghost use Rattle.std.specs.Prelude.{◌≡◌, ◌++◌, OnOk};
+ghost use Rattle.play_coverage.specs.Lines.{count_line, loops_line, totals};
 
 use crate::outcomes::{FaultKind, Outcome, count, loops};
 use crate::words::kind_word;
@@ -10,31 +10,16 @@ use itoa::Buffer;
 use output_words::put;
 use std::alloc::AllocError;
 
-/// The kinds of faults, in the order in which they are counted.
-const KINDS: &[FaultKind] = &[
-    FaultKind::Opens,
-    FaultKind::Pulls,
-    FaultKind::Stuck,
-    FaultKind::Shorts,
-];
-
 /// Puts a line for each kind of faults behind a text, and one for those that are not judged where there are any. Refuses
 /// for want of memory alone.
 pub(crate) fn put_totals(text: &mut Vec<u8>, judged: &[Judged]) -> Result<(), AllocError>
     ensures { OnOk result (text.new.items ≡ text.old.items ++ totals judged.now) }
 {
-    put_counts(text, judged, KINDS)?;
+    put_count(text, judged, FaultKind::Opens)?;
+    put_count(text, judged, FaultKind::Pulls)?;
+    put_count(text, judged, FaultKind::Stuck)?;
+    put_count(text, judged, FaultKind::Shorts)?;
     put_loops(text, loops(judged))
-}
-
-#[tactic(auto, using(output_words::proofs::TextLaws::flat_map_more))]
-fn put_counts(text: &mut Vec<u8>, judged: &[Judged], kinds: &[FaultKind]) -> Result<(), AllocError>
-    ensures { OnOk result (text.new.items ≡ text.old.items ++ flat_map (count_line judged.now) kinds.now) }
-{
-    for kind in kinds {
-        put_count(text, judged, *kind)?;
-    }
-    Ok(())
 }
 
 /// Puts the line of a kind of faults behind a text.
