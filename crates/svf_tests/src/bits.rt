@@ -46,13 +46,11 @@ impl Both {
         assert!(rt; at <= self.bits.len() && count <= self.bits.len() - at);
         assert!(rt; from_at <= from.bits.len() && count <= from.bits.len() - from_at);
         self.bits.copy_bits(at, &from.bits, from_at, count);
-        for (bit, copied) in self
-            .list
-            .iter_mut()
-            .skip(at)
-            .zip(from.list.iter().skip(from_at).take(count))
-        {
-            *bit = *copied;
+        for i in 0..count {
+            let copied = from.list.get(from_at.wrapping_add(i)).copied();
+            if let Some(bit) = self.list.get_mut(at.wrapping_add(i)) {
+                *bit = copied.unwrap_or(!*bit);
+            }
         }
     }
 

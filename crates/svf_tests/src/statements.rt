@@ -302,35 +302,45 @@ fn trst(alloc: Global, text: &[u8]) -> Option<TrstWord> {
     }
 }
 
+/// An ENDDR or ENDIR, its column, and its state.
+const ENDS: &[(&[u8], Column, State)] = &[
+    (b"ENDDR DRPAUSE;", Column::Dr, State::DrPause),
+    (b"EndIr IDLE;", Column::Ir, State::Idle),
+];
+
+/// A TRST, and its word.
+const WORDS: &[(&[u8], TrstWord)] = &[
+    (b"TRST ON;", TrstWord::On),
+    (b"TRST off;", TrstWord::Off),
+    (b"trst Z;", TrstWord::Z),
+    (b"TRST ABSENT;", TrstWord::Absent),
+];
+
 #[test]
 fn end_states_and_trst(rt: HostRuntime) {
-    let ends: [(&[u8], _); 2] = [
-        (b"ENDDR DRPAUSE;", (Column::Dr, State::DrPause)),
-        (b"EndIr IDLE;", (Column::Ir, State::Idle)),
-    ];
-    for (text, wanted) in ends {
-        assert_eq!(rt; end_state(rt.alloc(), text), Some(wanted));
+    for (text, column, state) in ENDS {
+        assert_eq!(rt; end_state(rt.alloc(), text), Some((*column, *state)));
     }
-    let words: [(&[u8], _); 4] = [
-        (b"TRST ON;", TrstWord::On),
-        (b"TRST off;", TrstWord::Off),
-        (b"trst Z;", TrstWord::Z),
-        (b"TRST ABSENT;", TrstWord::Absent),
-    ];
-    for (text, wanted) in words {
-        assert_eq!(rt; trst(rt.alloc(), text), Some(wanted));
+    for (text, wanted) in WORDS {
+        assert_eq!(rt; trst(rt.alloc(), text), Some(*wanted));
     }
 }
 
+/// The path of a STATE.
+fn path(alloc: Global, text: &[u8]) -> Option<Vec<State>> {
+    match one(alloc, text)? {
+        Statement::States(states) => Some(states),
+        _ => None,
+    }
+}
+
+/// The states of the path that is asserted.
+const PATH: &[State] = &[State::DrSelect, State::IrSelect, State::Reset];
+
 #[test]
 fn states(rt: HostRuntime) -> Result<(), Fail> {
-    let Some(Statement::States(states)) = one(rt.alloc(), b"STATE drselect IRSELECT Reset;") else {
-        return Err(Fail::from("no states"));
-    };
-    assert_eq!(rt;
-        states.as_slice(),
-        [State::DrSelect, State::IrSelect, State::Reset].as_slice()
-    );
+    let states = path(rt.alloc(), b"STATE drselect IRSELECT Reset;").ok_or("no states")?;
+    assert_eq!(rt; states.as_slice(), PATH);
     Ok(())
 }
 

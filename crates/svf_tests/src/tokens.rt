@@ -16,11 +16,11 @@ fn assert_lexes(rt: &impl Abort, text: &[u8], tokens: &[(&[u8], usize)], fault: 
             _ => assert!(rt; false, "no token at {start}"),
         }
     }
-    for wanted in [fault, None, None] {
+    for wanted in &[fault, None, None][..] {
         match lexer.next() {
             Some(Ok(token)) => assert!(rt; false, "a token more at {}", token.start),
-            Some(Err(found)) => assert_eq!(rt; Some(found), wanted),
-            None => assert_eq!(rt; None, wanted),
+            Some(Err(found)) => assert_eq!(rt; Some(found), *wanted),
+            None => assert_eq!(rt; None, *wanted),
         }
     }
 }
@@ -34,94 +34,79 @@ fn kind_of(bytes: &[u8]) -> Kind {
     }
 }
 
-#[test]
-fn a_scan_statement(rt: HostRuntime) {
-    let text = b"SDR 16 TDI(0a-F.\n.+_1)SMASK ( );";
-    let tokens = [
-        (b"SDR".as_slice(), 0),
-        (b"16".as_slice(), 4),
-        (b"TDI".as_slice(), 7),
-        (b"(".as_slice(), 10),
-        (b"0a-F.".as_slice(), 11),
-        (b".+_1".as_slice(), 17),
-        (b")".as_slice(), 21),
-        (b"SMASK".as_slice(), 22),
-        (b"(".as_slice(), 28),
-        (b")".as_slice(), 30),
-        (b";".as_slice(), 31),
-    ];
-    assert_lexes(&rt, text, &tokens, None);
-}
-
-#[test]
-fn statements_that_do_not_end(rt: HostRuntime) {
-    let open = [
-        (b"SDR".as_slice(), 0),
-        (b"4".as_slice(), 4),
-        (b"TDI".as_slice(), 6),
-        (b"(".as_slice(), 10),
-        (b"F".as_slice(), 11),
-    ];
-    assert_lexes(&rt, b"SDR 4 TDI (F", &open, Some(LexFault::Unclosed(0)));
-    let behind = [
-        (b"SDR".as_slice(), 0),
-        (b"4".as_slice(), 4),
-        (b"TDI".as_slice(), 6),
-        (b"(".as_slice(), 10),
-        (b"F".as_slice(), 11),
-        (b")".as_slice(), 12),
-        (b";".as_slice(), 13),
-        (b"STATE".as_slice(), 16),
-    ];
-    assert_lexes(
-        &rt,
+/// Texts, their tokens by text and start, and the fault that each ends in.
+const LEXED: &[(&[u8], &[(&[u8], usize)], Option<LexFault>)] = &[
+    (
+        b"SDR 16 TDI(0a-F.\n.+_1)SMASK ( );",
+        &[
+            (b"SDR", 0),
+            (b"16", 4),
+            (b"TDI", 7),
+            (b"(", 10),
+            (b"0a-F.", 11),
+            (b".+_1", 17),
+            (b")", 21),
+            (b"SMASK", 22),
+            (b"(", 28),
+            (b")", 30),
+            (b";", 31),
+        ],
+        None,
+    ),
+    // statements that do not end
+    (
+        b"SDR 4 TDI (F",
+        &[(b"SDR", 0), (b"4", 4), (b"TDI", 6), (b"(", 10), (b"F", 11)],
+        Some(LexFault::Unclosed(0)),
+    ),
+    (
         b"SDR 4 TDI (F);  STATE",
-        &behind,
+        &[
+            (b"SDR", 0),
+            (b"4", 4),
+            (b"TDI", 6),
+            (b"(", 10),
+            (b"F", 11),
+            (b")", 12),
+            (b";", 13),
+            (b"STATE", 16),
+        ],
         Some(LexFault::Unclosed(16)),
-    );
-    let longer = [
-        (b";".as_slice(), 0),
-        (b"A".as_slice(), 1),
-        (b"B".as_slice(), 3),
-    ];
-    assert_lexes(&rt, b";A B ! ;\n", &longer, Some(LexFault::Unclosed(1)));
-}
+    ),
+    (
+        b";A B ! ;\n",
+        &[(b";", 0), (b"A", 1), (b"B", 3)],
+        Some(LexFault::Unclosed(1)),
+    ),
+    // bytes outside the alphabet
+    (
+        b"SDR 4 # ;",
+        &[(b"SDR", 0), (b"4", 4)],
+        Some(LexFault::BadByte(6)),
+    ),
+    (b"A/ /B;", &[(b"A", 0)], Some(LexFault::BadByte(1))),
+    (b"A /", &[(b"A", 0)], Some(LexFault::BadByte(2))),
+    (b"A\0;", &[(b"A", 0)], Some(LexFault::BadByte(1))),
+    // comments
+    (b"", &[], None),
+    (b"!", &[], None),
+    (b"//", &[], None),
+    (b"! ! // ; ( # \xff\0", &[], None),
+    (b"//a!b\r!c//d\n\t\x0b\x0c\r\n// e", &[], None),
+    (b"!;\r//;\r!;", &[], None),
+    (
+        b"!a\rA//!\r\nB!\n\r\nC;!",
+        &[(b"A", 3), (b"B", 9), (b"C", 14), (b";", 15)],
+        None,
+    ),
+    (b"A//;!\nB;", &[(b"A", 0), (b"B", 6), (b";", 7)], None),
+];
 
 #[test]
-fn bytes_outside_the_alphabet(rt: HostRuntime) {
-    let before = [(b"SDR".as_slice(), 0), (b"4".as_slice(), 4)];
-    assert_lexes(&rt, b"SDR 4 # ;", &before, Some(LexFault::BadByte(6)));
-    let one = [(b"A".as_slice(), 0)];
-    assert_lexes(&rt, b"A/ /B;", &one, Some(LexFault::BadByte(1)));
-    assert_lexes(&rt, b"A /", &one, Some(LexFault::BadByte(2)));
-    assert_lexes(&rt, b"A\0;", &one, Some(LexFault::BadByte(1)));
-}
-
-#[test]
-fn comments(rt: HostRuntime) {
-    for text in [
-        b"".as_slice(),
-        b"!".as_slice(),
-        b"//".as_slice(),
-        b"! ! // ; ( # \xff\0".as_slice(),
-        b"//a!b\r!c//d\n\t\x0b\x0c\r\n// e".as_slice(),
-        b"!;\r//;\r!;".as_slice(),
-    ] {
-        assert_lexes(&rt, text, &[], None);
+fn texts(rt: HostRuntime) {
+    for (text, tokens, fault) in LEXED {
+        assert_lexes(&rt, text, tokens, *fault);
     }
-    let ends = [
-        (b"A".as_slice(), 3),
-        (b"B".as_slice(), 9),
-        (b"C".as_slice(), 14),
-        (b";".as_slice(), 15),
-    ];
-    assert_lexes(&rt, b"!a\rA//!\r\nB!\n\r\nC;!", &ends, None);
-    let tight = [
-        (b"A".as_slice(), 0),
-        (b"B".as_slice(), 6),
-        (b";".as_slice(), 7),
-    ];
-    assert_lexes(&rt, b"A//;!\nB;", &tight, None);
 }
 
 #[test]
