@@ -7,4 +7,6 @@ pub mod Missed
 pub mod Rows
 pub mod Sight
 pub mod Sights
+pub mod Staying
+pub mod StayingRows
 pub mod Together
