@@ -4,6 +4,7 @@ pub mod Faulty
 pub mod Judging
 pub mod Listing
 pub mod Missed
+pub mod OnePlay
 pub mod Rows
 pub mod Sight
 pub mod Sights
