@@ -1,5 +1,5 @@
 -- What is invisible is missed by every program.
-use Rattle.std.proofs.Common.{◌≡◌, ℕ, suc, Bool, true, false, List, [], ◌∷◌, map, length, drop, Option, Some, None, if◌then◌else◌, refl, sym, ap, subst, ◌∙◌}
+use Rattle.std.proofs.Common.{◌≡◌, ℕ, suc, Bool, true, false, List, [], ◌∷◌, map, length, drop, if◌then◌else◌, refl, sym, ap, subst, ◌∙◌}
 use Rattle.jt_tap.specs.declared.Column.{Column}
 use Rattle.jt_tap.specs.declared.Column.TheVariants.{Dr, Ir}
 use Rattle.jt_tap.specs.declared.State.{State}
@@ -7,36 +7,25 @@ use Rattle.jt_tap.specs.declared.State.TheVariants as state
 use Rattle.jt_tap.specs.declared.Work.{Work}
 use Rattle.jt_tap.specs.declared.Work.TheVariants.{Resets, Captures, Shifts, Updates, Waits}
 use Rattle.jt_tap.specs.Controller.{is_at, pause, work}
-use Rattle.bitbang_protocol.specs.Cycles.{opening}
 use Rattle.svf_words.specs.declared.keywords.TrstWord.TheVariants.{On, Off, Z, Absent}
-use Rattle.scan_vectors.specs.declared.part.Part.{Part}
 use Rattle.scan_vectors.specs.Vector.{judge, tdis}
-use Rattle.svf_programs.specs.Legal.{IsLegalProgram}
-use Rattle.svf_programs.specs.Steps.{Numbered, Program, Step, Scan, Go, Path, Run, Trst}
+use Rattle.svf_programs.specs.Steps.{Numbered, Step, Scan, Go, Path, Run, Trst}
 use Rattle.pin_nets.specs.Wired.{Net}
 use Rattle.board_plan.specs.Planned as planned
 use Rattle.board_plan.specs.Planned.{Wiring}
 use Rattle.board_model.specs.Cells.{Member}
-use Rattle.board_model.specs.Chain.{hear, members}
 use Rattle.board_model.specs.Planned.{members_of, powered_up}
-use Rattle.board_model.specs.Resting.{board_at_rest, chip_at_rest, power_up}
 use Rattle.board_model.specs.Whole.{AtRest, along, arrive, capture, capture_all, cut_back, out, pass, reset_all, reset_member, selected_bits_of, settle, settled_member, shift, trst_member, update, update_member}
-use Rattle.board_model.proofs.BoardLaws.{opening_settles}
-use Rattle.play_model.proofs.DescribedPlays.{means_from_opening}
-use Rattle.jt_board.specs.Made.{IsSoundWiring, board_of}
-use Rattle.jt_board.proofs.Bares.{sound_chain}
-use Rattle.play_model.specs.declared.ending.Ending.{Ending}
-use Rattle.play_model.specs.declared.ending.Ending.TheVariants.{Fail}
+use Rattle.jt_board.specs.Made.{board_of}
 use Rattle.play_model.specs.DirectPlay.{opened_state}
-use Rattle.play_model.specs.Meaning.{Outcome, after_step, failure, move_to, move_unless_there, outcome, scan_end}
-use Rattle.play_model.specs.Play.{play}
+use Rattle.play_model.specs.Meaning.{after_step, failure, move_to, move_unless_there, outcome, scan_end}
 use Rattle.board_faults.specs.Alike.{AreOf}
 use Rattle.board_faults.specs.declared.kinds.Way.{Way}
 use Rattle.board_faults.specs.Faults.{with_way}
-use Rattle.board_faults.specs.Judging.{wiring_with}
 use Rattle.board_faults.specs.Missed.{EveryProgramMissesWhatIsInvisible}
 use Rattle.board_faults.specs.Sight.{IsInvisible}
 use Rattle.board_faults.proofs.Alike.{not_captured}
+use Rattle.board_faults.proofs.OnePlay.{means, means_with, opened-members, pick, picked}
 
 -- ---- the devices stay those of the plan
 
@@ -247,22 +236,6 @@ module _ (w : Wiring) (its_way : Way) (unseen : IsInvisible w its_way) where
   failure-same (Run run n end) m is = refl
   failure-same (Trst word) m is = refl
 
-  -- how a program ends whose first step fails so, and whose others end so
-  abbrev pick : ℕ → Option (Part × ℕ) → Ending → Ending
-  pick n None ending = ending
-  pick n (Some f) ending = Fail n f.0 f.1
-
-  picked : (s : Numbered) (ss : List Numbered) (m : AtRest) → (outcome (s ∷ ss) m).ending ≡ pick s.number (failure s.what m) (outcome ss (after_step s.what m)).ending
-  picked s ss m = by (failure s.what m)
-    where
-      by : (o : Option (Part × ℕ))
-          → (elim o as (λ _. Outcome) [
-            | None ↦ outcome ss (after_step s.what m)
-            | Some f ↦ record { ending = Fail s.number f.0 f.1; after = after_step s.what m }
-          ]).ending ≡ pick s.number o (outcome ss (after_step s.what m)).ending
-      by None = refl
-      by (Some f) = refl
-
   outcome-same : (steps : List Numbered) (m : AtRest) → Stays m → (outcome steps (with-fault m)).ending ≡ (outcome steps m).ending
   outcome-same [] m is = refl
   outcome-same (s ∷ ss) m is =
@@ -278,36 +251,14 @@ powered-of : (ps : List planned.Member) → AreOf ps (map powered_up ps)
 powered-of [] = tt
 powered-of (p ∷ ps) = (refl, refl, powered-of ps)
 
-members-at-rest : (s : State) (ms : List Member) → members (map (chip_at_rest s) ms) ≡ ms
-members-at-rest s [] = refl
-members-at-rest s (m ∷ ms) = ap (λ (ns : List Member). m ∷ ns) (members-at-rest s ms)
-
--- the devices behind the opening, whatever the nets are
-opened-members : (nets : List Net) (ms : List Member) → members (hear opening (board_at_rest (power_up nets ms))).board.chips ≡ map reset_member ms
-opened-members nets ms =
-    ap (λ h. members h.board.chips) (opening_settles (power_up nets ms) refl) ∙ members-at-rest state.Reset (map reset_member ms)
-
 opened-stays : (w : Wiring) (its_way : Way) (unseen : IsInvisible w its_way) → Stays w its_way unseen (opened_state (board_of w))
 opened-stays w its_way unseen = record {
   nets = refl;
   of = subst (AreOf w.members) (sym (opened-members w.nets (members_of w))) (kept-map reset_member (λ x. (refl, refl)) w.members (members_of w) (powered-of w.members));
 }
 
-opened-same : (w : Wiring) (its_way : Way)
-    → opened_state (board_of (wiring_with its_way w)) ≡ record (opened_state (board_of w)) { nets = with_way its_way w.nets }
-opened-same w its_way =
-    ap (λ (ms : List Member). record { place = state.Reset; trst = false; nets = with_way its_way w.nets; members = ms })
-    (opened-members (with_way its_way w.nets) (members_of w) ∙ sym (opened-members w.nets (members_of w)))
-
-means : (program : Program) → IsLegalProgram program.steps → (w : Wiring) → IsSoundWiring w
-    → (play program (board_of w)).ending ≡ (outcome program.steps (opened_state (board_of w))).ending
-means program legal w sound =
-    let chain = sound_chain w sound in
-    (means_from_opening program (board_of w) chain.sound chain.some legal).1
-
 pub every_program_misses : EveryProgramMissesWhatIsInvisible
 every_program_misses program legal w sound its_way unseen =
-    means program legal (wiring_with its_way w) (record { some = sound.some; most = sound.most; sound = sound.sound })
-    ∙ ap (λ (m : AtRest). (outcome program.steps m).ending) (opened-same w its_way)
+    means_with program legal w sound its_way
     ∙ outcome-same w its_way unseen program.steps (opened_state (board_of w)) (opened-stays w its_way unseen)
     ∙ sym (means program legal w sound)

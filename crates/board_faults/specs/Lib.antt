@@ -4,7 +4,10 @@ pub mod Faulty
 pub mod Judging
 pub mod Listing
 pub mod Missed
+pub mod OnePlay
 pub mod Rows
 pub mod Sight
 pub mod Sights
+pub mod Staying
+pub mod StayingRows
 pub mod Together

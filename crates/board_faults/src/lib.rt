@@ -17,6 +17,8 @@ pub use judging::{Judged, JudgedWay, Verdict, judge_faults};
 pub use kinds::{Fault, Way, Winner};
 pub use laws::{
     every_program_misses_what_is_invisible, faults_compute, invisible_faults_are_not_captured,
+    one_play_serves_all_faults, one_run_serves_other_nets, registers_differ_by_what_stays,
+    what_stays_computes, whole_scans_leave_nothing,
 };
 pub use listed::Faults;
 pub use nets::nets_with;
