@@ -36,8 +36,8 @@ pub struct JudgedWay {
     pub verdict: Verdict,
 }
 
-/// A fault, and its ways with what is told of each, in their order; nothing where the board with it has no meaning, since
-/// a net depends on itself by strings.
+/// A fault, and its ways with what is told of each, in their order; nothing where the board with it has no meaning,
+/// since a net depends on itself by strings.
 #[derive(Drop)]
 pub struct Judged {
     pub fault: Fault,

@@ -2,7 +2,8 @@
 use Rattle.std.specs.Prelude.{◌≡◌, true, false, List, [], ◌∷◌, Option, Some, None, codes}
 use Rattle.clap.specs.Words.{Kinds, Text, fault_of}
 use Rattle.clap.specs.declared.error.kind.ErrorKind.TheVariants as kind
-use Rattle.command_line.specs.Asking.{Action, Asked, asked, checks, connects, covers, describes, jt_tool, loops, plays, serves}
+use Rattle.command_line.specs.Asking.{Action, Asked, asked, checks, connects, covers, describes, jt_tool, loops}
+use Rattle.command_line.specs.Asking.{plays, serves}
 
 -- the command line is taken, and asks for this
 abbrev pub Asks : List Text → Asked → Type 0
@@ -84,7 +85,8 @@ pub record UsageRows : Type 0 where
   pub describe_without_board : IsRefused (codes "describe" ∷ []) (kind.MissingRequiredArgument ∷ [])
   pub describe_plays_nothing : IsRefused (codes "describe" ∷ file ∷ codes "--board=b.toml" ∷ [])
       (kind.UnknownArgument ∷ [])
-  pub cover : Asks (codes "cover" ∷ file ∷ codes "--board" ∷ board ∷ []) (request (Some file) (Some board) (covers false))
+  pub cover : Asks (codes "cover" ∷ file ∷ codes "--board" ∷ board ∷ [])
+      (request (Some file) (Some board) (covers false))
   pub cover_list : Asks (codes "cover" ∷ codes "--list" ∷ codes "--board=b.toml" ∷ [])
       (request None (Some board) (covers true))
   pub cover_without_board : IsRefused (codes "cover" ∷ file ∷ []) (kind.MissingRequiredArgument ∷ [])

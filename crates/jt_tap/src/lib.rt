@@ -1,5 +1,5 @@
-//! The TAP controller of IEEE Std 1149.1-2001: its sixteen states and the one table by which they follow each other; and the
-//! paths through it, those that the Serial Vector Format takes by default and those that a text writes.
+//! The TAP controller of IEEE Std 1149.1-2001: its sixteen states and the one table by which they follow each other;
+//! and the paths through it, those that the Serial Vector Format takes by default and those that a text writes.
 #![tactic(auto)]
 
 ghost use Rattle.std.specs.Prelude.{◌≡◌, find, IfSome};

@@ -180,8 +180,8 @@ impl Planned {
         write_description(alloc, &self.plan, out)
     }
 
-    /// Writes which faults of the board a program would miss, or every way of each where these are to be listed. Answers
-    /// the exit status.
+    /// Writes which faults of the board a program would miss, or every way of each where these are to be listed.
+    /// Answers the exit status.
     pub(crate) fn cover<W: Sink>(
         &self,
         alloc: Global,

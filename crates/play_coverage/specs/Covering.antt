@@ -41,8 +41,8 @@ CoversFrom program w listed (BadAnswer command byte) out status = Fails (BadAnsw
 abbrev pub IsCover : Program → Wiring → (listed : Bool) → (out : List ℕ) → (status : ℕ) → Type 0
 IsCover program w listed out status = CoversFrom program w listed (play program (board_of w)).ending out status
 
--- All of what is printed so was written, and this is the status; or memory ran out, and nothing was; or the writer's first
--- loss came, and a front part of it was.
+-- All of what is printed so was written, and this is the status; or memory ran out, and nothing was; or the writer's
+-- first loss came, and a front part of it was.
 abbrev pub Tells : {W : Type 0} → (W → Option (List ℕ)) → CountedView W → CountedView W
     → ((out : List ℕ) (status : ℕ) → Type 0) → Result ℕ Untold → Type 0
 Tells contents old new Prints (Ok status) =

@@ -1,7 +1,7 @@
 -- What a program makes of the faults of a board, as lines tell it.
-use Rattle.std.specs.Prelude.{Bool, true, false, not, ◌||◌, ◌&&◌, ◌==◌, ℕ, List, [], ◌∷◌, ◌++◌, codes, decimal, flat_map}
-use Rattle.std.specs.Prelude.{slice_get, take, Option, Some, None, is_none, option_and_then, option_map, unwrap_or}
-use Rattle.std.specs.Prelude.{if◌then◌else◌}
+use Rattle.std.specs.Prelude.{Bool, true, false, not, ◌||◌, ◌&&◌, ◌==◌, ℕ, List, [], ◌∷◌, ◌++◌, codes, decimal}
+use Rattle.std.specs.Prelude.{flat_map, slice_get, take, Option, Some, None, is_none, option_and_then, option_map}
+use Rattle.std.specs.Prelude.{unwrap_or, if◌then◌else◌}
 use Rattle.std.specs.List.{count_by, filter, list_all, list_any}
 use Rattle.pin_nets.specs.declared.Pin.{Pin}
 use Rattle.pin_nets.specs.Wired.{Net}
@@ -102,8 +102,8 @@ any_shows js = list_any (λ (j : JudgedWay). shows j.verdict) js
 abbrev pub any_passed : List JudgedWay → Bool
 any_passed js = list_any (λ (j : JudgedWay). is_passed j.verdict) js
 
--- What a fault comes to: it is caught where each of its ways that shows is, missed where one of them is not, and invisible
--- where none shows.
+-- What a fault comes to: it is caught where each of its ways that shows is, missed where one of them is not, and
+-- invisible where none shows.
 abbrev pub comes_to : Outcome → List JudgedWay → Bool
 comes_to outcome.Caught js = any_shows js && not (any_passed js)
 comes_to outcome.Missed js = any_passed js
@@ -170,7 +170,8 @@ count k o js = count_by (is_counted k o) js
 abbrev pub count_line : List Judged → FaultKind → List ℕ
 count_line js k =
     texts (kind_word k ∷ codes " caught " ∷ decimal (count k outcome.Caught js) ∷ codes " missed "
-    ∷ decimal (count k outcome.Missed js) ∷ codes " invisible " ∷ decimal (count k outcome.Invisible js) ∷ codes "\n" ∷ [])
+    ∷ decimal (count k outcome.Missed js) ∷ codes " invisible " ∷ decimal (count k outcome.Invisible js)
+    ∷ codes "\n" ∷ [])
 
 abbrev pub is_loop : Judged → Bool
 is_loop j = is_none (ways_of j)

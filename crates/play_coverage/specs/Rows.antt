@@ -36,7 +36,8 @@ quiet = judged (way.Short 0 1 Zeros) Invisible ∷ judged (way.Short 0 1 Ones) (
 pub record CoverRows : Type 0 where
   pub caught : way_line board (fault.Short 0 1) (judged (way.Short 0 1 First) failing)
       ≡ codes "caught short N M first-leads command 8 data bit 5\n"
-  pub missed : way_line board (fault.Stuck 1 true) (judged (way.Stuck 1 true) (Played Pass)) ≡ codes "missed stuck M at 1\n"
+  pub missed : way_line board (fault.Stuck 1 true) (judged (way.Stuck 1 true) (Played Pass))
+      ≡ codes "missed stuck M at 1\n"
   pub invisible : way_line board (fault.Pull 0) (judged (way.Pull 0) Invisible) ≡ codes "invisible pull N\n"
   pub some_ways : missed_ways bridge ≡ codes " wired-or second-leads"
   pub one_way_missed : comes_to outcome.Missed bridge ≡ true

@@ -30,8 +30,8 @@ pub struct Contention {
     pub net: usize,
 }
 
-/// Plays an accepted program on a board to its end, whatever fails. Answers each net whose strong drivers disagree after a
-/// statement, once, by statement and then by net. Refused where memory runs out.
+/// Plays an accepted program on a board to its end, whatever fails. Answers each net whose strong drivers disagree
+/// after a statement, once, by statement and then by net. Refused where memory runs out.
 pub fn contentions(
     alloc: Global,
     program: &Program,
@@ -45,8 +45,8 @@ pub fn contentions(
     Ok(found)
 }
 
-/// Plays a program on a board to its end, given a mark for each net, and puts the nets that are not marked and whose strong
-/// drivers disagree after a statement behind the ones found.
+/// Plays a program on a board to its end, given a mark for each net, and puts the nets that are not marked and whose
+/// strong drivers disagree after a statement behind the ones found.
 fn note_all(
     program: &Program,
     board: &mut Board,

@@ -28,10 +28,10 @@ use svf_programs::Program;
 
 /// Writes which faults of a planned board's nets an accepted program would miss, and answers the exit status.
 ///
-/// A line comes first for each net whose strong drivers disagree after a statement. A line for each fault that is missed
-/// follows, the first 256; or where they are to be listed, one for each way of every fault. Then come how many faults of
-/// each kind are caught, missed and invisible, and how many are not judged. The status is 0 where nothing is missed and
-/// nothing contends, else 1. Of a program that fails on the board itself the verdict alone is written.
+/// A line comes first for each net whose strong drivers disagree after a statement. A line for each fault that is
+/// missed follows, the first 256; or where they are to be listed, one for each way of every fault. Then come how many
+/// faults of each kind are caught, missed and invisible, and how many are not judged. The status is 0 where nothing is
+/// missed and nothing contends, else 1. Of a program that fails on the board itself the verdict alone is written.
 ///
 /// Everything is made before the first byte is written, so nothing is where memory runs out. It asks that the plan is
 /// ready, as those are that board files make. It takes a play of the program for each way of each fault.

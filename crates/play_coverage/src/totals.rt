@@ -10,8 +10,8 @@ use itoa::Buffer;
 use output_words::put;
 use std::alloc::AllocError;
 
-/// Puts a line for each kind of faults behind a text, and one for those that are not judged where there are any. Refuses
-/// for want of memory alone.
+/// Puts a line for each kind of faults behind a text, and one for those that are not judged where there are any.
+/// Refuses for want of memory alone.
 pub(crate) fn put_totals(text: &mut Vec<u8>, judged: &[Judged]) -> Result<(), AllocError>
     ensures { OnOk result (text.new.items ≡ text.old.items ++ totals judged.now) }
 {

@@ -3,7 +3,8 @@
 ghost use Rattle.std.specs.Prelude.{◌≡◌, ◌++◌, OnOk, flat_map};
 ghost use Rattle.board_plan.specs.View.{wiring};
 ghost use Rattle.play_coverage.specs.Lines as spec;
-ghost use Rattle.play_coverage.specs.Lines.{fault_lines, missed_line, missed_lines, missed_ways, missed_words, way_line};
+ghost use Rattle.play_coverage.specs.Lines.{fault_lines, missed_line, missed_lines, missed_ways, missed_words};
+ghost use Rattle.play_coverage.specs.Lines.{way_line};
 
 use crate::outcomes::{Outcome, all_missed, has_come, is_passed};
 use crate::words::{put_failing, put_fault, put_way, verdict_word};
