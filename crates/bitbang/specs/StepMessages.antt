@@ -5,8 +5,8 @@ use Rattle.bitbang_protocol.specs.declared.Message.{Message}
 use Rattle.bitbang_protocol.specs.declared.Message.TheVariants.{Lines}
 use Rattle.bitbang_protocol.specs.Protocol.{encode}
 use Rattle.bitbang_protocol.specs.Cycles.{closed_messages}
-use Rattle.svf_words.specs.declared.keywords.TrstWord.TheVariants as word
-use Rattle.svf_programs.specs.Steps.{Step, Trst}
+use Rattle.tck_cycles.specs.TrstWord.TheVariants as word
+use Rattle.tck_cycles.specs.Steps.{Step, Trst}
 use Rattle.tck_cycles.specs.Cycles.{cycles}
 
 -- What TRST ON, OFF and Z send before any cycle.

@@ -5,15 +5,13 @@ ghost use Rattle.tck_cycles.specs.Sources.{left as cycles_left};
 ghost use Rattle.bitbang_protocol.specs.Protocol.{encode};
 ghost use Rattle.bitbang_protocol.specs.declared.Message.TheVariants.{Write};
 ghost use Rattle.bitbang.specs.StepMessages.{line_message};
-ghost use Rattle.svf_programs.specs.Seen as seen;
+ghost use Rattle.tck_cycles.specs.Seen as seen;
 
 use crate::begun::Begun;
 use crate::putting::{put_cycles, put_shifts};
 use bitbang_protocol::Message;
 use jt_tap::State;
-use svf_parse::TrstWord;
-use svf_programs::{Action, Step};
-use tck_cycles::Source;
+use tck_cycles::{Action, Source, Step, TrstWord};
 
 /// A place in the bytes of a step, which may lie within a cycle. It borrows nothing.
 #[derive(Debug, Clone, Copy, PartialEq, Eq)]
@@ -65,9 +63,9 @@ impl<'a> StepBytes<'a> {
     ghost use Rattle.std.specs.Prelude.{◌≡◌, ◌≤◌, ◌-◌, ◌^◌, ◌++◌, true, false, drop, length, min, slice_get, take};
     ghost use Rattle.std.specs.Prelude.{None};
     ghost use Rattle.jt_tap.specs.Controller.{is_stable};
-    ghost use Rattle.svf_programs.specs.Legal.{IsFormed};
-    ghost use Rattle.svf_programs.specs.Sound.{IsWithin};
-    ghost use Rattle.svf_programs.specs.Seen as seen;
+    ghost use Rattle.tck_cycles.specs.Legal.{IsFormed};
+    ghost use Rattle.tck_cycles.specs.Sound.{IsWithin};
+    ghost use Rattle.tck_cycles.specs.Seen as seen;
     ghost use Rattle.tck_cycles.specs.Cycles.{cycles};
     ghost use Rattle.bitbang.specs.StepMessages.{step_bytes};
     ghost use Rattle.bitbang.specs.Left.{Fills, behind, left, rest, whole};

@@ -14,7 +14,7 @@ use Rattle.board_loops.specs.declared.net_loops.Dependency.{Dependency}
 use Rattle.board_loops.proofs.OnceLaws.{each_once}
 use Rattle.board_plan.specs.Planned.{HasCore}
 use Rattle.board_plan.specs.Planned as planned
-use Rattle.board_parts.specs.Strings.{HasStrings, HaveOneEach, IsStringOf, has_cell}
+use Rattle.board_loops.specs.Strings.{HasStrings, HaveOneEach, IsStringOf, has_cell}
 use Rattle.board_loops.specs.Depending.{dependencies, dependencies_from, dependency, net_number, port_of}
 use Rattle.board_model.specs.Cells.{Member}
 use Rattle.board_model.specs.Following.{AreAll, AreFound, FollowsNoOtherControl, HasNoLoop, InSteps, IsAmong, IsFreeOf, IsInOrder, IsOfBoard, IsOrderOf, Placed, StringBetween, takes_from}

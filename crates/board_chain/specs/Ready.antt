@@ -5,7 +5,7 @@ use Rattle.board_loops.specs.Loops.{HasNoLoop}
 use Rattle.pin_nets.specs.declared.Pin.{Pin}
 use Rattle.board_plan.specs.Planned.{all_pins}
 use Rattle.board_plan.specs.Planned as planned
-use Rattle.board_parts.specs.Strings.{HasStrings}
+use Rattle.board_loops.specs.Strings.{HasStrings}
 use Rattle.board_loops.specs.Depending.{dependencies}
 use Rattle.board_model.specs.Following.{FollowsNoOtherControl}
 use Rattle.board_model.specs.Planned.{members_of}

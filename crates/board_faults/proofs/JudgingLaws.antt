@@ -14,7 +14,7 @@ use Rattle.board_loops.specs.Depending.{dependencies}
 use Rattle.board_loops.specs.Loops.{IsInOrder}
 use Rattle.board_model.specs.Following.{IsAmong}
 use Rattle.board_chain.specs.Ready.{IsReady}
-use Rattle.jt_board.specs.Made.{IsSoundWiring, PowersUp}
+use Rattle.play_direct.specs.Made.{IsSoundWiring, PowersUp}
 use Rattle.board_faults.specs.declared.judging.Judged.{Judged}
 use Rattle.board_faults.specs.declared.judging.JudgedWay.{JudgedWay}
 use Rattle.board_faults.specs.declared.judging.Verdict.{Verdict}

@@ -16,7 +16,7 @@ use Rattle.board_plan.specs.Planned.{Wiring}
 use Rattle.board_model.specs.Cells.{Member}
 use Rattle.board_model.specs.Planned.{members_of, powered_up}
 use Rattle.board_model.specs.Whole.{AtRest, along, arrive, capture, capture_all, cut_back, out, pass, reset_all, reset_member, selected_bits_of, settle, settled_member, shift, trst_member, update, update_member}
-use Rattle.jt_board.specs.Made.{board_of}
+use Rattle.play_direct.specs.Made.{board_of}
 use Rattle.play_model.specs.DirectPlay.{opened_state}
 use Rattle.play_model.specs.Meaning.{after_step, failure, move_to, move_unless_there, outcome, scan_end}
 use Rattle.board_faults.specs.Alike.{AreOf}

@@ -15,8 +15,8 @@ use Rattle.board_model.specs.Resting.{board_at_rest, chip_at_rest, power_up}
 use Rattle.board_model.specs.Whole.{AtRest, reset_member}
 use Rattle.board_model.proofs.BoardLaws.{opening_settles}
 use Rattle.play_model.proofs.DescribedPlays.{means_from_opening}
-use Rattle.jt_board.specs.Made.{IsSoundWiring, board_of}
-use Rattle.jt_board.proofs.Bares.{sound_chain}
+use Rattle.play_direct.specs.Made.{IsSoundWiring, board_of}
+use Rattle.play_direct.proofs.Bares.{sound_chain}
 use Rattle.play_model.specs.declared.ending.Ending.{Ending}
 use Rattle.play_model.specs.declared.ending.Ending.TheVariants.{Fail}
 use Rattle.play_model.specs.DirectPlay.{opened_state}

@@ -7,7 +7,7 @@ use Rattle.board_plan.specs.declared.plan.Plan.{Plan}
 use Rattle.board_plan.specs.Planned.{Wiring}
 use Rattle.board_plan.specs.View.{member as planned_member, wiring}
 use Rattle.board_chain.specs.Ready.{IsReady}
-use Rattle.jt_board.specs.Made.{IsSoundWiring, PowersUp}
+use Rattle.play_direct.specs.Made.{IsSoundWiring, PowersUp}
 use Rattle.board_faults.specs.declared.kinds.Way.{Way}
 use Rattle.board_faults.specs.Judging.{HasMeaning, wiring_with}
 

@@ -6,7 +6,7 @@ use Rattle.board_loops.specs.Depending.{dependencies}
 use Rattle.board_loops.specs.Loops.{HasNoLoop}
 use Rattle.board_plan.specs.Planned.{Wiring}
 use Rattle.board_model.specs.Following.{IsAmong}
-use Rattle.jt_board.specs.Made.{board_of}
+use Rattle.play_direct.specs.Made.{board_of}
 use Rattle.play_model.specs.declared.ending.Ending.{Ending}
 use Rattle.play_model.specs.Play.{play}
 use Rattle.board_faults.specs.declared.judging.Judged.{Judged}

@@ -1,3 +1,5 @@
+pub use Rattle.play_direct.specs.Made
+pub use Rattle.play_direct.specs.Resting
 pub mod Alike
 pub mod Faults
 pub mod Faulty

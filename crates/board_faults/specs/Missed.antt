@@ -3,7 +3,7 @@ use Rattle.std.specs.Prelude.{◌≡◌}
 use Rattle.svf_programs.specs.Legal.{IsLegalProgram}
 use Rattle.svf_programs.specs.Steps.{Program}
 use Rattle.board_plan.specs.Planned.{Wiring}
-use Rattle.jt_board.specs.Made.{IsSoundWiring, board_of}
+use Rattle.play_direct.specs.Made.{IsSoundWiring, board_of}
 use Rattle.play_model.specs.Play.{play}
 use Rattle.board_faults.specs.declared.kinds.Way.{Way}
 use Rattle.board_faults.specs.Judging.{ending_with}

@@ -6,7 +6,7 @@ use Rattle.svf_programs.specs.Steps.{Numbered, Program}
 use Rattle.pin_nets.specs.Wired.{Net}
 use Rattle.board_plan.specs.Planned.{Wiring}
 use Rattle.board_model.specs.Whole.{AtRest}
-use Rattle.jt_board.specs.Made.{IsSoundWiring, board_of}
+use Rattle.play_direct.specs.Made.{IsSoundWiring, board_of}
 use Rattle.play_model.specs.declared.ending.Ending.{Ending}
 use Rattle.play_model.specs.declared.ending.Ending.TheVariants.{Pass, Fail}
 use Rattle.play_model.specs.DirectPlay.{opened_state}

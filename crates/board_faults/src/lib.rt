@@ -13,6 +13,7 @@ mod nets;
 mod sight;
 mod together;
 
+pub use board_chain::Chain;
 pub use judging::{Judged, JudgedWay, Verdict, judge_faults};
 pub use kinds::{Fault, Way, Winner};
 pub use laws::{
@@ -22,5 +23,6 @@ pub use laws::{
 };
 pub use listed::Faults;
 pub use nets::nets_with;
+pub use play_direct::{Board, play_opening, play_program, play_step};
 pub use sight::{PortSight, is_invisible, sights_of};
 pub use together::Driven;

@@ -6,7 +6,7 @@ use Rattle.std.proofs.lemmas.List.{append-nil, map_more}
 use Rattle.std.proofs.lemmas.Option.{none-some, same_Some}
 use Rattle.bsdl_device.specs.Driving.{drives}
 use Rattle.bsdl_device.specs.declared.Cell.{Cell}
-use Rattle.boundary.specs.Cells.{driver_from, is_port}
+use Rattle.board_parts.specs.Cells.{driver_from, is_port}
 use Rattle.board_loops.specs.Loops.{IsOnLoop}
 use Rattle.board_loops.specs.declared.net_loops.Dependency.{Dependency}
 use Rattle.board_plan.specs.AllCellNets.{HaveNets, table_at}

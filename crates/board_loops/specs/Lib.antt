@@ -1,3 +1,4 @@
+pub use Rattle.board_parts.specs.Strings
 pub mod Loops
 pub mod Marks
 pub mod Numbers

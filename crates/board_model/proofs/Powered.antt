@@ -8,8 +8,8 @@ use Rattle.bsdl_device.specs.Device.{Name, Access, Device}
 use Rattle.bsdl_device.specs.declared.Place.{Place}
 use Rattle.bsdl_device.specs.declared.Place.TheVariants.{AtBypass, AtBoundary, AtDeviceId, AtUser}
 use Rattle.chip_instructions.specs.Instruction.{Meaning, as_bypass, reads_code, standard, access_meaning, look_up, meaning_of, instruction}
-use Rattle.chip_registers.specs.Registers.{Registers, user_stage, user_latch}
-use Rattle.chip_registers.specs.declared.users.UserRegister.{UserRegister}
+use Rattle.boundary.specs.Registers.{Registers, user_stage, user_latch}
+use Rattle.boundary.specs.UserRegister.{UserRegister}
 use Rattle.board_model.specs.Cells.{powered}
 use Rattle.board_model.specs.Chain.{members}
 use Rattle.board_model.specs.Resting.{chip_at_rest}

@@ -11,7 +11,7 @@ use Rattle.bsdl_device.specs.Device.{Device}
 use Rattle.bsdl_device.specs.declared.Cell.{Cell}
 use Rattle.bsdl_device.specs.declared.Function.{Function}
 use Rattle.bsdl_device.specs.declared.Function.TheVariants.{ControlR, Input}
-use Rattle.chip_registers.specs.Registers.{Registers, Surroundings}
+use Rattle.boundary.specs.Registers.{Registers, Surroundings}
 use Rattle.scan_registers.specs.Edges.{after_rise}
 use Rattle.board_model.specs.Cells.{Member, surroundings, Told}
 use Rattle.boundary.specs.Cells.{reset_cell, reset_from}

@@ -7,7 +7,7 @@ use Rattle.jt_tap.specs.declared.Column.{Column}
 use Rattle.jt_tap.specs.declared.Column.TheVariants.{Dr, Ir}
 use Rattle.jt_tap.specs.declared.State.{State}
 use Rattle.jt_tap.specs.declared.State.TheVariants.{DrShift, IrShift}
-use Rattle.chip_registers.specs.Registers.{put}
+use Rattle.boundary.specs.Registers.{put}
 use Rattle.jt_bits.specs.Shifting.{after_shift}
 use Rattle.board_model.specs.Cells.{Member, Told}
 use Rattle.board_model.specs.Whole.{selected_bits_of, joined_bits, cut_back}

@@ -7,8 +7,8 @@ use Rattle.bsdl_device.specs.Device.{Device}
 use Rattle.chip_instructions.specs.declared.Selected.{Selected}
 use Rattle.chip_instructions.specs.declared.Selected.TheVariants.{Bypass, Identification, Boundary, User}
 use Rattle.chip_instructions.specs.Instruction.{meaning}
-use Rattle.chip_registers.specs.Registers.{Registers, selected_bits, put, stage_of, with_stage, user_stage, with_user_stage}
-use Rattle.chip_registers.specs.declared.users.UserRegister.{UserRegister}
+use Rattle.boundary.specs.Registers.{Registers, selected_bits, put, stage_of, with_stage, user_stage, with_user_stage}
+use Rattle.boundary.specs.UserRegister.{UserRegister}
 use Rattle.pin_nets.specs.Wired.{Net}
 use Rattle.board_model.specs.Cells.{Member}
 use Rattle.board_model.specs.Nets.{told}

@@ -8,8 +8,8 @@ use Rattle.bsdl_device.specs.declared.Cell.{Cell}
 use Rattle.chip_instructions.specs.declared.Selected.{Selected}
 use Rattle.chip_instructions.specs.declared.Selected.TheVariants.{Bypass, Identification, Boundary, User}
 use Rattle.chip_instructions.specs.Instruction.{meaning}
-use Rattle.chip_registers.specs.Registers.{Registers, selected_bits, put, after_capture, after_update, stage_of, with_stage, user_stage, user_latch, with_user_stage, user_updated, capture_of, update_selected}
-use Rattle.chip_registers.specs.declared.users.UserRegister.{UserRegister}
+use Rattle.boundary.specs.Registers.{Registers, selected_bits, put, after_capture, after_update, stage_of, with_stage, user_stage, user_latch, with_user_stage, user_updated, capture_of, update_selected}
+use Rattle.boundary.specs.UserRegister.{UserRegister}
 use Rattle.board_model.specs.Cells.{Member, surroundings, Told}
 use Rattle.boundary.specs.Sight.{capture_by_sight}
 use Rattle.boundary.specs.Cells.{takes_update}

@@ -8,7 +8,7 @@ use Rattle.jt_tap.specs.Controller.{work}
 use Rattle.bitbang_protocol.specs.declared.Message.{Message}
 use Rattle.bitbang_protocol.specs.declared.Message.TheVariants.{Write, Lines}
 use Rattle.bitbang_protocol.specs.Protocol.{decode}
-use Rattle.chip_registers.specs.Registers.{selected_bits}
+use Rattle.boundary.specs.Registers.{selected_bits}
 use Rattle.jt_bits.specs.Shifting.{after_shift}
 use Rattle.scan_registers.specs.Edges.{after_rise, after_fall}
 use Rattle.board_model.specs.Cells.{Member, surroundings, Told, untold}

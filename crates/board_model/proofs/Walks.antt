@@ -10,7 +10,7 @@ use Rattle.jt_tap.specs.Controller.{next, work, entered_by, is_stable}
 use Rattle.scan_registers.specs.Edges.{after_rise, after_fall, tdo_after}
 use Rattle.board_model.specs.Cells.{Member, surroundings, Told, untold}
 use Rattle.bsdl_device.specs.Device.{Device}
-use Rattle.chip_registers.specs.Registers.{Registers}
+use Rattle.boundary.specs.Registers.{Registers}
 use Rattle.pin_nets.specs.Wired.{Net}
 use Rattle.board_model.specs.Nets.{told}
 use Rattle.board_model.specs.Chain.{hear}

@@ -3,7 +3,7 @@
 use Rattle.std.specs.Prelude.{Bool, true, false, ◌||◌, ℕ, List, [], map, length, replicate, is_some, if◌then◌else◌}
 use Rattle.bsdl_device.specs.Device.{Name, Device}
 use Rattle.chip_instructions.specs.Instruction.{meaning, reset_latch}
-use Rattle.chip_registers.specs.Registers.{Registers, Surroundings}
+use Rattle.boundary.specs.Registers.{Registers, Surroundings}
 use Rattle.pin_nets.specs.declared.Drive.{Drive}
 use Rattle.pin_nets.specs.declared.Follow.{Follow}
 use Rattle.boundary.specs.Cells.{drive_in, reset_from, takes_update}

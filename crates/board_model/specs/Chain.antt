@@ -5,7 +5,7 @@ use Rattle.std.specs.Prelude.{if◌then◌else◌}
 use Rattle.jt_tap.specs.declared.State.{State}
 use Rattle.jt_tap.specs.declared.State.TheVariants.{Reset}
 use Rattle.jt_tap.specs.Controller.{next, work}
-use Rattle.chip_registers.specs.Registers.{after_reset}
+use Rattle.boundary.specs.Registers.{after_reset}
 use Rattle.scan_registers.specs.Edges.{after_rise, after_fall, tdo_after}
 use Rattle.board_model.specs.Cells.{Member, Told, surroundings, untold}
 use Rattle.pin_nets.specs.Wired.{Net}

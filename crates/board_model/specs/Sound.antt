@@ -9,7 +9,7 @@ use Rattle.bsdl_device.specs.Sound.{IsSoundDevice}
 use Rattle.chip_instructions.specs.declared.Selected.{Selected}
 use Rattle.chip_instructions.specs.declared.Selected.TheVariants.{Bypass, Identification, Boundary, User}
 use Rattle.chip_instructions.specs.Instruction.{meaning}
-use Rattle.chip_registers.specs.Registers.{Registers, user_stage, user_latch}
+use Rattle.boundary.specs.Registers.{Registers, user_stage, user_latch}
 use Rattle.board_model.specs.Cells.{Member, powered}
 use Rattle.board_model.specs.Chain.{BoardState, ChipState, members}
 

@@ -9,7 +9,7 @@ use Rattle.jt_tap.specs.declared.State.TheVariants.{Reset, DrPause, IrPause}
 use Rattle.jt_tap.specs.declared.Work.{Work}
 use Rattle.jt_tap.specs.declared.Work.TheVariants.{Resets, Captures, Shifts, Updates, Waits}
 use Rattle.jt_tap.specs.Controller.{is_at, pause, work}
-use Rattle.chip_registers.specs.Registers.{selected_bits, put, after_capture, after_update, after_reset}
+use Rattle.boundary.specs.Registers.{selected_bits, put, after_capture, after_update, after_reset}
 use Rattle.board_model.specs.Cells.{Member, Told, surroundings, untold}
 use Rattle.pin_nets.specs.Wired.{Net}
 use Rattle.board_model.specs.Nets.{told}

@@ -7,8 +7,8 @@ ghost use Rattle.board_parts.specs.LibraryView.{stands_at};
 ghost use Rattle.board_parts.specs.Parts as spec;
 
 use crate::strings::DrivenDevice;
+use board_plan::SharedDevice;
 use board_tables::{Known, Places, items_at, text_at};
-use chip_instructions::SharedDevice;
 use std::alloc::{AllocError, Global};
 use toml::{Table, Value};
 

@@ -7,8 +7,8 @@ ghost use Rattle.board_parts.specs.Pins as spec;
 ghost use Rattle.board_parts.specs.PinView.{Knows};
 
 use crate::pins::find_pin;
+use board_plan::SharedDevice;
 use board_tables::Places;
-use chip_instructions::SharedDevice;
 use pin_nets::Pin;
 use std::alloc::{AllocError, AllocFailed, Global};
 use toml::Value;

@@ -9,9 +9,8 @@ ghost use Rattle.board_parts.specs.Parts as spec;
 ghost use Rattle.board_plan.specs.View as planned;
 
 use crate::found::{Unfound, find_pins};
-use board_plan::{PlannedNet, pull_of};
+use board_plan::{PlannedNet, SharedDevice, pull_of};
 use board_tables::{Places, items_at, name_at, text_at};
-use chip_instructions::SharedDevice;
 use pin_nets::Rule;
 use std::alloc::Global;
 use toml::{Table, Value};

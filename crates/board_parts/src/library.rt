@@ -11,9 +11,9 @@ ghost use Rattle.board_parts.specs.LibraryView.{AreKnown, Describes, IsRead, IsR
 ghost use Rattle.board_parts.specs.LibraryView.{missing_with, refused_with, files_of, known_at, known_reading};
 ghost use Rattle.board_parts.specs.LibraryView.{stands_at};
 
+use board_plan::SharedDevice;
 use board_tables::{Places, text_at};
 use bsdl_device::Device;
-use chip_instructions::SharedDevice;
 use std::alloc::{AllocError, Global};
 use std::collections::BTreeMap;
 use toml::{Table, Value};

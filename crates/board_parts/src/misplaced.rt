@@ -7,8 +7,8 @@ ghost use Rattle.board_tables.specs.WordView.{texts_of};
 ghost use Rattle.board_parts.specs.Pins as spec;
 
 use crate::pins::find_pin;
+use board_plan::SharedDevice;
 use board_tables::{Places, items_at};
-use chip_instructions::SharedDevice;
 use pin_nets::Pin;
 use std::alloc::{AllocError, Global};
 use toml::Value;

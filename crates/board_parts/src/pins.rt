@@ -4,9 +4,9 @@ ghost use Rattle.board_tables.specs.PinTexts as texts;
 ghost use Rattle.board_tables.specs.WordView.{texts_of};
 ghost use Rattle.board_parts.specs.Pins as spec;
 
+use board_plan::SharedDevice;
 use board_tables::{PinText, Places, pin_of};
 use bsdl_device::Device;
-use chip_instructions::SharedDevice;
 use pin_nets::Pin;
 use std::alloc::{AllocError, Global};
 

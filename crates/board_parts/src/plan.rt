@@ -11,9 +11,8 @@ ghost use Rattle.board_plan.specs.View as planned;
 
 use crate::library::described_at;
 use crate::strings::find_strings;
-use board_plan::{PlannedDevice, core_bits, is_update};
+use board_plan::{PlannedDevice, SharedDevice, core_bits, is_update};
 use board_tables::{Places, items_at, name_at, text_at};
-use chip_instructions::SharedDevice;
 use pin_nets::Follow;
 use std::alloc::{AllocError, Global};
 use toml::{Table, Value};

@@ -8,10 +8,10 @@ ghost use Rattle.board_tables.specs.WordView.{HasDigits, port as port_value};
 ghost use Rattle.board_parts.specs.Strings as spec;
 
 use crate::pins::port_bit;
+use board_plan::SharedDevice;
 use board_tables::{Places, PortText, follow_of};
 use boundary::drivers;
 use bsdl_device::{Device, PortMode};
-use chip_instructions::SharedDevice;
 use pin_nets::Follow;
 use std::alloc::{AllocError, Global};
 use std::marker::Model;

@@ -6,7 +6,7 @@ use Rattle.std.proofs.Math.Seq.{drop-cons}
 use Rattle.std.proofs.lemmas.Bool.{cases_eq, cases_lt}
 use Rattle.std.proofs.lemmas.List.{get_or_past, map-append, take_more}
 use Rattle.std.proofs.lemmas.Option.{same_Some}
-use Rattle.bsdl_device.specs.declared.Cell.{Cell}
+use Rattle.chip_instructions.specs.Cell.{Cell}
 use Rattle.pin_nets.specs.declared.Pin.{Pin}
 use Rattle.pin_nets.specs.Wired.{Net, has_port_bit}
 use Rattle.pin_nets.proofs.Counting.{eq_false}

@@ -3,7 +3,7 @@ use Rattle.std.proofs.Common.{◌≡◌, ◌++◌, Bool, true, false, map, refl,
 use Rattle.std.specs.Prelude.{Some, bytes_eq, codes}
 use Rattle.std.specs.List.{list_any}
 use Rattle.std.proofs.lemmas.Slice.Eq.{bytes_eq-Decides}
-use Rattle.bsdl_device.specs.Device.{Device, Name}
+use Rattle.chip_instructions.specs.Device.{Device, Name}
 use Rattle.chip_instructions.specs.Instruction.{access_meaning, as_bypass, look_up, meaning_of, standard}
 use Rattle.board_plan.specs.LeftOut.{LeftOutMeansBypass}
 

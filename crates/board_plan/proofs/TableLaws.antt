@@ -5,7 +5,7 @@ use Rattle.std.proofs.lemmas.Bool.{cases_eq, cases_lt}
 use Rattle.std.proofs.lemmas.List.{get_or-set_same, get_or-set_other, get_or-replicate, get_or_past, get_or-map, length-map, length-replicate, length-set, map-append, map-set, map_more, set-get_or, set_past}
 use Rattle.std.proofs.lemmas.List.Folds.{list_any_more}
 use Rattle.std.proofs.lemmas.Option.{get_or_from_slice_get, none-some, same_Some, slice_get-map, slice_get_cases, slice_get_read, slice_get_within}
-use Rattle.bsdl_device.specs.declared.Cell.{Cell}
+use Rattle.chip_instructions.specs.Cell.{Cell}
 use Rattle.pin_nets.specs.declared.Pin.{Pin}
 use Rattle.pin_nets.specs.Wired.{Net, has_port_bit}
 use Rattle.pin_nets.proofs.Counting.{eq_false, eq_true}

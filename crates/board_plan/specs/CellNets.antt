@@ -1,7 +1,7 @@
 -- The nets that a device's cells are on: of each cell the first net that joins its port.
 use Rattle.std.specs.Prelude.{◌≡◌, ◌<◌, ◌≤◌, ℕ, suc, List, [], ◌∷◌, length, slice_index_or, option_and_then, Option}
 use Rattle.std.specs.Prelude.{Some, None, if◌then◌else◌}
-use Rattle.bsdl_device.specs.declared.Cell.{Cell}
+use Rattle.chip_instructions.specs.Cell.{Cell}
 use Rattle.pin_nets.specs.declared.Pin.{Pin}
 use Rattle.pin_nets.specs.Wired.{Net, has_port_bit, joins}
 

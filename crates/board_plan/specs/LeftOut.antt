@@ -1,7 +1,7 @@
 -- The instructions of a device that have an opcode but no meaning of their own here: each stands for BYPASS.
 use Rattle.std.specs.Prelude.{◌≡◌, Bool, true, ◌||◌, List, map, filter, Some, codes, bytes_eq}
 use Rattle.std.specs.List.{list_any}
-use Rattle.bsdl_device.specs.Device.{Name, Opcode, Device}
+use Rattle.chip_instructions.specs.Device.{Name, Opcode, Device}
 use Rattle.chip_instructions.specs.Instruction.{as_bypass, meaning_of}
 
 -- the standard's INTEST and RUNBIST, and the private ones

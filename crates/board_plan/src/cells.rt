@@ -2,7 +2,7 @@
 ghost use Rattle.std.specs.Prelude.{◌≡◌, map, IfOk};
 ghost use Rattle.board_plan.specs.CellNets.{net_by};
 
-use bsdl_device::Cell;
+use chip_instructions::Cell;
 use std::alloc::{AllocError, Global};
 
 /// The nets of cells, by a table of the nets of port bits.

@@ -2,7 +2,7 @@
 ghost use Rattle.std.specs.Prelude.{◌≡◌, option_map, slice_get};
 ghost use Rattle.board_plan.specs.LeftOut as spec;
 
-use bsdl_device::Device;
+use chip_instructions::Device;
 
 /// The name of the k-th instruction, counted from 0, that has an opcode and no meaning of its own here, so that it
 /// stands for BYPASS: the standard's INTEST and RUNBIST, and the private ones, in the order of the opcode rows.

@@ -10,6 +10,7 @@ mod plan;
 mod words;
 
 pub use all_cells::{all_cell_nets, all_port_nets, enter_pin, no_nets};
+pub use chip_instructions::SharedDevice;
 pub use instructions::{is_left_out, left_out, left_out_means_bypass};
 pub use numbers::number_nets;
 pub use plan::{Plan, PlannedDevice, PlannedNet, copy_nets};

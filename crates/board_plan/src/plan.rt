@@ -2,8 +2,7 @@
 ghost use Rattle.std.specs.Prelude.{◌≡◌, map, IfOk};
 ghost use Rattle.board_plan.specs.View.{net as planned_net};
 
-use chip_instructions::SharedDevice;
-use jt_bits::Bits;
+use chip_instructions::{Bits, SharedDevice};
 use pin_nets::{Follow, Pin, Pull, Rule};
 use std::alloc::{AllocError, Global};
 

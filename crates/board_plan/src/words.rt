@@ -2,7 +2,7 @@
 ghost use Rattle.std.specs.Prelude.{◌≡◌, ◌==◌, map, reverse, option_map, IfOk};
 ghost use Rattle.board_plan.specs.Words as spec;
 
-use jt_bits::Bits;
+use chip_instructions::Bits;
 use pin_nets::Pull;
 use std::alloc::{AllocError, Global};
 

@@ -8,6 +8,7 @@ mod vectors;
 mod words;
 mod writing;
 
+pub use board_chain::Chain;
 pub use finding::{holder_of, origin_of, reason_of};
 pub use origins::{Holder, NetLevel, Origin, Reason};
 pub use vectors::{is_same_part, place_in, wanted_at};

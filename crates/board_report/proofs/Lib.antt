@@ -1,1 +1,2 @@
+pub use Rattle.board_chain.proofs.NetLaws
 pub mod Lines

@@ -10,8 +10,8 @@ use Rattle.pin_nets.specs.declared.Level.{Level}
 use Rattle.pin_nets.specs.declared.Pull.TheVariants.{Free}
 use Rattle.pin_nets.specs.declared.Rule.TheVariants.{Counted}
 use Rattle.pin_nets.specs.Wired.{Net}
-use Rattle.board_model.specs.Cells.{Member}
-use Rattle.board_model.specs.Nets.{level}
+use Rattle.board_chain.specs.Cells.{Member}
+use Rattle.board_chain.specs.Nets.{level}
 use Rattle.board_report.specs.Report.{level_line, net_line}
 
 pub nowhere : Net

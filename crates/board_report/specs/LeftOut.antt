@@ -2,7 +2,7 @@
 use Rattle.std.specs.Prelude.{ℕ, List, [], ◌++◌, flat_map, codes, if◌then◌else◌}
 use Rattle.bsdl_device.specs.Device.{Device, Name}
 use Rattle.board_plan.specs.LeftOut.{is_left_out, left_out}
-use Rattle.board_model.specs.Chain.{BoardState, ChipState}
+use Rattle.board_chain.specs.Chain.{BoardState, ChipState}
 
 abbrev pub left_out_line : List ℕ → List ℕ → List ℕ
 left_out_line device instruction = (device ++ codes " treats ") ++ (instruction ++ codes " as BYPASS\n")

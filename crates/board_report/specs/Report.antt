@@ -3,13 +3,13 @@ use Rattle.std.specs.Prelude.{List, ℕ, ◌++◌, flat_map, codes, Option, Some
 use Rattle.jt_tap.specs.Words.{word}
 use Rattle.bsdl_device.specs.Device.{Name}
 use Rattle.chip_instructions.specs.Instruction.{instruction}
-use Rattle.board_model.specs.Cells.{Member}
+use Rattle.board_chain.specs.Cells.{Member}
 use Rattle.pin_nets.specs.declared.Level.{Level}
 use Rattle.pin_nets.specs.Wired.{Net}
 use Rattle.output_words.specs.Digits.{digits}
 use Rattle.output_words.specs.Levels.{level_word}
-use Rattle.board_model.specs.Nets.{level}
-use Rattle.board_model.specs.Chain.{BoardState, ChipState, members}
+use Rattle.board_chain.specs.Nets.{level}
+use Rattle.board_chain.specs.Chain.{BoardState, ChipState, members}
 
 abbrev pub name_or_dash : Option Name → List ℕ
 name_or_dash (Some name) = name

@@ -3,8 +3,8 @@ use Rattle.std.specs.Prelude.{Bool, ℕ, List, Option, Some, None, option_map, s
 use Rattle.chip_instructions.specs.Fitting.{has_code}
 use Rattle.pin_nets.specs.declared.Level.{Level}
 use Rattle.pin_nets.specs.Wired.{Net}
-use Rattle.board_model.specs.Cells.{Member}
-use Rattle.board_model.specs.Nets.{level}
+use Rattle.board_chain.specs.Cells.{Member}
+use Rattle.board_chain.specs.Nets.{level}
 
 -- its identification register, where its description has a code
 abbrev pub id_of : Member → Option (List Bool)

@@ -4,5 +4,6 @@
 mod report;
 mod snapshot;
 
+pub use board_chain::Chain;
 pub use report::{write_all_left_out, write_devices, write_nets};
 pub use snapshot::Snapshot;

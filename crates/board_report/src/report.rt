@@ -5,8 +5,8 @@ ghost use Rattle.byte_streams.specs.Writes.{WritesAll};
 ghost use Rattle.board_report.specs.Report.{device_line, instruction_part, level_line, net_line};
 ghost use Rattle.board_report.specs.Report as spec;
 ghost use Rattle.board_report.specs.LeftOut.{device_lines, left_out_line, name_lines};
-ghost use Rattle.board_model.specs.Chain.{members};
-ghost use Rattle.board_chips.specs.WiredChips.{chip_state};
+ghost use Rattle.board_chain.specs.Chain.{members};
+ghost use Rattle.board_chain.specs.WiredChips.{chip_state};
 ghost use Rattle.chip_instructions.specs.Instruction.{instruction};
 
 use board_chain::{Chain, WiredChip};

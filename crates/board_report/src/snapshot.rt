@@ -3,8 +3,8 @@
 ghost use Rattle.std.specs.Prelude.{◌≡◌, ◌<◌, ◌≤◌, [], ◌∷◌, ℕ, Bool, List, Some, length, option_map, slice_get};
 ghost use Rattle.jt_limits.specs.Limits.{limits};
 ghost use Rattle.chip_instructions.specs.Instruction.{instruction};
-ghost use Rattle.board_model.specs.Chain.{members};
-ghost use Rattle.board_model.specs.Sound.{IsChain};
+ghost use Rattle.board_chain.specs.Chain.{members};
+ghost use Rattle.board_chain.specs.Sound.{IsChain};
 ghost use Rattle.board_report.specs.Shown.{id_of, shown_net, user_of};
 
 use board_chain::Chain;
@@ -22,11 +22,11 @@ pub struct Snapshot<'a> {
 }
 
 impl<'a> Model for Snapshot<'a> {
-    ghost use Rattle.board_model.specs.Chain.{BoardState};
+    ghost use Rattle.board_chain.specs.Chain.{BoardState};
 
     ghost Value = { BoardState };
 
-    ghost use Rattle.board_model.specs.Sound.{IsChain};
+    ghost use Rattle.board_chain.specs.Sound.{IsChain};
 
     ghost view = { λ s. record {
       tck = s.tck;

@@ -6,8 +6,8 @@ use Rattle.jt_bits.specs.Packed.{has_bit}
 use Rattle.jt_bits.specs.Words.{bit_of}
 use Rattle.bsdl_device.specs.declared.Cell.{Cell}
 use Rattle.bsdl_device.specs.declared.Control3.{Control3}
-use Rattle.chip_instructions.specs.declared.Mode.{Mode}
-use Rattle.chip_instructions.specs.declared.Mode.TheVariants.{Extest, Clamp, HighZ, Core}
+use Rattle.chip_registers.specs.Mode.{Mode}
+use Rattle.chip_registers.specs.Mode.TheVariants.{Extest, Clamp, HighZ, Core}
 use Rattle.pin_nets.specs.declared.Drive.{Drive}
 use Rattle.pin_nets.specs.declared.Drive.TheVariants.{Strong, Nothing}
 use Rattle.boundary.specs.Cells.{BoundaryValue, cell_drive, drive_of_driver, left_by}

@@ -1,7 +1,7 @@
 -- A port bit's drive is that of its driving cell.
 use Rattle.std.proofs.Common.{◌≡◌, ℕ, suc, ◌+◌, Bool, true, false, List, [], ◌∷◌, slice_get, Option, Some, None, refl, ap, ◌∙◌, arith, ◌&&◌}
 use Rattle.bsdl_device.specs.declared.Cell.{Cell}
-use Rattle.chip_instructions.specs.declared.Mode.TheVariants.{Extest, Clamp, HighZ, Core}
+use Rattle.chip_registers.specs.Mode.TheVariants.{Extest, Clamp, HighZ, Core}
 use Rattle.pin_nets.specs.declared.Drive.{Drive}
 use Rattle.pin_nets.specs.declared.Drive.TheVariants.{Nothing}
 use Rattle.bsdl_device.specs.Driving.{drives}

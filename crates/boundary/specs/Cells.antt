@@ -11,8 +11,8 @@ use Rattle.bsdl_device.specs.declared.Disabled.TheVariants.{Z, Keeper, Weak0, We
 use Rattle.bsdl_device.specs.declared.Function.{Function}
 use Rattle.bsdl_device.specs.declared.Function.TheVariants.{Input, Clock, ObserveOnly, Bidir}
 use Rattle.bsdl_device.specs.declared.Function.TheVariants.{ControlR, Internal}
-use Rattle.chip_instructions.specs.declared.Mode.{Mode}
-use Rattle.chip_instructions.specs.declared.Mode.TheVariants.{Extest, Clamp, HighZ}
+use Rattle.chip_registers.specs.Mode.{Mode}
+use Rattle.chip_registers.specs.Mode.TheVariants.{Extest, Clamp, HighZ}
 use Rattle.chip_registers.specs.Registers.{zeros}
 use Rattle.pin_nets.specs.declared.Drive.{Drive}
 use Rattle.pin_nets.specs.declared.Drive.TheVariants.{Strong, Weak, Nothing}

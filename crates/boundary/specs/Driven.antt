@@ -3,7 +3,7 @@ use Rattle.std.specs.Prelude.{◌≡◌, ◌<◌, ◌+◌, Bool, true, ℕ, List
 use Rattle.jt_bits.specs.Packed.{has_bit}
 use Rattle.bsdl_device.specs.declared.Cell.{Cell}
 use Rattle.bsdl_device.specs.declared.Control3.{Control3}
-use Rattle.chip_instructions.specs.declared.Mode.{Mode}
+use Rattle.chip_registers.specs.Mode.{Mode}
 use Rattle.pin_nets.specs.declared.Drive.{Drive}
 use Rattle.pin_nets.specs.declared.Drive.TheVariants.{Strong, Nothing}
 use Rattle.boundary.specs.Cells.{BoundaryValue, drive_of_driver, driven_in, left_by}

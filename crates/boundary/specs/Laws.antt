@@ -6,7 +6,7 @@ use Rattle.std.proofs.Math.Nat.{suc_inj, suc-ne-zero}
 use Rattle.bsdl_device.specs.declared.Cell.{Cell}
 use Rattle.bsdl_device.specs.declared.Function.{Function}
 use Rattle.bsdl_device.specs.declared.Function.TheVariants as kind
-use Rattle.chip_instructions.specs.declared.Mode.{Mode}
+use Rattle.chip_registers.specs.Mode.{Mode}
 use Rattle.boundary.specs.Cells.{BoundaryValue, capture_from, cell_captures, takes_update}
 
 -- what one cell sees, no other captures

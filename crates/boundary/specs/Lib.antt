@@ -1,3 +1,5 @@
+pub use Rattle.chip_registers.specs.Registers
+pub use Rattle.chip_registers.specs.declared.users.UserRegister
 pub mod Cells
 pub mod Laws
 pub mod Sight

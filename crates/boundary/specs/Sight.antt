@@ -3,7 +3,7 @@ use Rattle.std.specs.Prelude.{⊤}
 use Rattle.std.specs.Prelude.{◌≡◌, Bool, ℕ, suc, false, List, [], ◌∷◌, length, Option, Some, None}
 use Rattle.jt_bits.specs.Words.{bit_of}
 use Rattle.bsdl_device.specs.declared.Cell.{Cell}
-use Rattle.chip_instructions.specs.declared.Mode.{Mode}
+use Rattle.chip_registers.specs.Mode.{Mode}
 use Rattle.boundary.specs.Cells.{BoundaryValue, captured_bits, cell_captures, takes_update}
 
 -- what the port of a cell sees; a cell without one sees nothing

@@ -11,7 +11,7 @@ ghost use Rattle.boundary.specs.Resets.{reset_cells};
 use crate::resets::is_reset;
 use crate::sights::Sights;
 use bsdl_device::{Cell, Control3, Function};
-use chip_instructions::Mode;
+use chip_registers::Mode;
 use jt_bits::Bits;
 use std::alloc::{AllocError, Global};
 

@@ -1,3 +1,5 @@
+pub use Rattle.bsdl_description.specs.Describing
+pub use Rattle.bsdl_lookup.specs.Controls
 pub mod Exact
 pub mod FitCells
 pub mod Form

@@ -8,7 +8,7 @@ use Rattle.bsdl_values.specs.declared.Attribute.TheVariants.{TapScanReset, Instr
 use Rattle.bsdl_values.specs.declared.Attribute.TheVariants.{InstructionOpcode, InstructionCapture, BoundaryRegister}
 use Rattle.bsdl_values.specs.declared.Attribute.TheVariants.{IdcodeRegister, UsercodeRegister, InstructionPrivate}
 use Rattle.bsdl_values.specs.declared.Attribute.TheVariants.{RegisterAccess}
-use Rattle.bsdl_device.specs.Device.{Name, Pattern}
+use Rattle.bsdl_values.specs.Device.{Name, Pattern}
 use Rattle.bsdl_values.specs.InstructionValues.{OpcodeRow, AccessRow}
 use Rattle.bsdl_opcodes.specs.Own.{is_own, own_accesses}
 use Rattle.bsdl_values.specs.CellRows.{CellRow}

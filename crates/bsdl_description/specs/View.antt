@@ -5,7 +5,7 @@ use Rattle.bsdl_text.specs.NumberView.{value}
 use Rattle.bsdl_text.specs.Words.{upper}
 use Rattle.bsdl_values.specs.InstructionView as rows_view
 use Rattle.bsdl_values.specs.CellView.{cell_row}
-use Rattle.bsdl_device.specs.Device.{Name}
+use Rattle.bsdl_values.specs.Device.{Name}
 use Rattle.bsdl_values.specs.declared.Attribute.{Attribute}
 use Rattle.bsdl_entity.specs.declared.entity.Outline.{Outline}
 use Rattle.bsdl_entity.specs.Entity.{File}

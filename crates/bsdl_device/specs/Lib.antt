@@ -1,3 +1,5 @@
+pub use Rattle.jt_bits.specs.Order
+pub use Rattle.jt_bits.specs.OrderLaws
 pub mod Device
 pub mod Driving
 pub mod Found

@@ -4,6 +4,8 @@
 ghost use Rattle.std.specs.Prelude.{◌≡◌};
 ghost use Rattle.bsdl_device.specs.Driving as spec;
 
+pub use jt_bits::Bits;
+pub use name_keys::NameKey;
 pub use names::Names;
 pub use port_bits::{Indices, Port, PortBit, Ports};
 pub use rows::{Access, Opcode, Pattern};

@@ -1,3 +1,4 @@
+pub use Rattle.bsdl_device.specs.Device
 pub mod CellKeywords
 pub mod CellRows
 pub mod CellView

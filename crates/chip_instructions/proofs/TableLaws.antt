@@ -9,8 +9,8 @@ use Rattle.std.proofs.lemmas.List.Folds.{find_at, find-append, position_or_len_p
 use Rattle.std.proofs.lemmas.List.Sums.{prefix_len-le-length}
 use Rattle.std.proofs.lemmas.List.{drop_all, length-append}
 use Rattle.std.proofs.lemmas.Option.{slice_get_past}
-use Rattle.jt_bits.specs.Order.{bits_order}
-use Rattle.jt_bits.specs.OrderLaws.{order_same, order_itself}
+use Rattle.bsdl_device.specs.Order.{bits_order}
+use Rattle.bsdl_device.specs.OrderLaws.{order_same, order_itself}
 use Rattle.bsdl_device.specs.Device.{Device, Opcode, Pattern}
 use Rattle.bsdl_device.specs.Opcodes.{matches, names_it, x_as_0}
 use Rattle.chip_instructions.specs.Instruction.{meaning, meaning_of}

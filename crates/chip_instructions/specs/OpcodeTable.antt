@@ -2,7 +2,7 @@
 use Rattle.std.specs.Prelude.{◌≡◌, ℕ, ◌≤◌, min, Bool, List, [], ◌∷◌, length, Option, Some, None, option_map}
 use Rattle.std.specs.BTreeMap.{get}
 use Rattle.std.specs.List.{find, position}
-use Rattle.jt_bits.specs.Order.{bits_order}
+use Rattle.bsdl_device.specs.Order.{bits_order}
 use Rattle.bsdl_device.specs.Device.{Opcode}
 use Rattle.bsdl_device.specs.Opcodes.{matches, names_it}
 use Rattle.chip_instructions.specs.declared.opcode_table.OpcodeTable.{OpcodeTable}

@@ -10,8 +10,7 @@ ghost use Rattle.std.specs.List.{find};
 ghost use Rattle.chip_instructions.specs.declared.decoding.Fixed.TheVariants.{Free};
 
 use crate::{Mode, Selected};
-use bsdl_device::{Device, Opcode, Pattern, Place};
-use jt_bits::Bits;
+use bsdl_device::{Bits, Device, Opcode, Pattern, Place};
 
 /// The list that the capture of the identification register, or of a register of the device's own, is fixed to, as a
 /// place of the description.

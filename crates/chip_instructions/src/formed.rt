@@ -5,8 +5,7 @@ ghost use Rattle.chip_instructions.specs.Fitting.{AccessFits, AllFit, HaveLength
 ghost use Rattle.chip_instructions.specs.Instruction.{reset_latch};
 
 use crate::start::idcode_opcode;
-use bsdl_device::{Access, Device, Place};
-use jt_bits::Bits;
+use bsdl_device::{Access, Bits, Device, Place};
 
 /// The length of an identification code (IEEE Std 1149.1-2001, clause 12).
 const CODE: usize = 32;

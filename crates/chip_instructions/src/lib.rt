@@ -8,6 +8,7 @@ mod opcode_table;
 mod shared;
 mod start;
 
+pub use bsdl_device::{Bits, Cell, Device};
 pub use decoding::{Decoded, Fixed, decode, fixed_bits, instruction_of};
 pub use formed::is_formed;
 pub use shared::SharedDevice;

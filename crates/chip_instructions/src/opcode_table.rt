@@ -6,14 +6,13 @@ ghost use Rattle.std.specs.List.{list_any, position};
 ghost use Rattle.std.specs.BTreeMap.{get};
 ghost use Rattle.std.specs.Option.{option_or};
 ghost use Rattle.std.specs.Ordering.{is_eq};
-ghost use Rattle.jt_bits.specs.Order.{bits_order};
+ghost use Rattle.bsdl_device.specs.Order.{bits_order};
 ghost use Rattle.bsdl_device.specs.Opcodes.{matches, names_it};
 ghost use Rattle.chip_instructions.specs.OpcodeTable.{IsRising, IsTable, row_in};
 
 use crate::decoding::is_opcode;
 use crate::start::x_as_0;
-use bsdl_device::{Opcode, Pattern};
-use jt_bits::Bits;
+use bsdl_device::{Bits, Opcode, Pattern};
 use std::alloc::{AllocError, Global};
 use std::collections::BTreeMap;
 

@@ -6,8 +6,7 @@ ghost use Rattle.bsdl_device.specs.Device.{Pattern as ThePattern};
 ghost use Rattle.chip_instructions.specs.Fitting.{has_code as is_coded};
 ghost use Rattle.chip_instructions.specs.Instruction as named;
 
-use bsdl_device::{Device, Opcode, Pattern};
-use jt_bits::Bits;
+use bsdl_device::{Bits, Device, Opcode, Pattern};
 use std::alloc::{AllocError, Global};
 
 /// Whether the device has an identification register (clause 12): it has an identification code or a user code.

@@ -1,3 +1,4 @@
+pub use Rattle.chip_instructions.specs.declared.Mode
 pub mod Registers
 pub mod Plain
 pub mod Users

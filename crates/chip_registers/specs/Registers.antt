@@ -3,7 +3,7 @@
 use Rattle.std.specs.Prelude.{Bool, false, ℕ, zero, suc, List, [], ◌∷◌, replicate, Option, unwrap_or}
 use Rattle.jt_tap.specs.declared.Column.{Column}
 use Rattle.jt_tap.specs.declared.Column.TheVariants.{Dr, Ir}
-use Rattle.bsdl_device.specs.Device.{Device}
+use Rattle.chip_instructions.specs.Device.{Device}
 use Rattle.chip_instructions.specs.declared.Mode.{Mode}
 use Rattle.chip_instructions.specs.declared.Selected.{Selected}
 use Rattle.chip_instructions.specs.declared.Selected.TheVariants.{Bypass, Identification, Boundary, User}

@@ -7,6 +7,7 @@ mod plain;
 mod register;
 mod users;
 
+pub use chip_instructions::{Mode, SharedDevice};
 pub use data::DataRegisters;
 pub use plain::Plain;
 pub use register::{Register, WordRegister};

@@ -2,7 +2,7 @@
 use Rattle.std.proofs.Common.{◌≡◌, ◌<◌, ℕ, zero, suc, length, slice_get, Some, refl, ap, sym, subst, ◌∙◌, inl, inr, arith}
 use Rattle.std.specs.List.{AllByRecursion}
 use Rattle.std.proofs.lemmas.Option.{same_Some, slice_get_cases, slice_get_within}
-use Rattle.boundary.specs.Cells.{driver_from}
+use Rattle.board_parts.specs.Cells.{driver_from}
 use Rattle.pin_nets.specs.Wired.{Net}
 use Rattle.board_loops.specs.Loops as numbers
 use Rattle.board_loops.specs.declared.net_loops.Dependency.{Dependency}

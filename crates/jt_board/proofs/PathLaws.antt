@@ -1,7 +1,7 @@
 -- Paths over nets are paths over their numbers.
 use Rattle.std.proofs.Common.{◌≡◌, ℕ, zero, suc, ◌+◌, slice_get, Some, ap, sym, subst, ◌∙◌, arith}
 use Rattle.pin_nets.specs.Wired.{Net}
-use Rattle.boundary.specs.Cells.{driver_from}
+use Rattle.board_parts.specs.Cells.{driver_from}
 use Rattle.board_loops.specs.Loops as numbers
 use Rattle.board_plan.specs.Planned.{Wiring}
 use Rattle.board_loops.specs.Depending.{dependencies, net_number}

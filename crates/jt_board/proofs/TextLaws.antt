@@ -9,8 +9,8 @@ use Rattle.bsdl_device.specs.declared.Cell.{Cell}
 use Rattle.bsdl_device.specs.declared.Control3.{Control3}
 use Rattle.bsdl_device.specs.declared.Function.{Function}
 use Rattle.bsdl_device.specs.declared.Function.TheVariants.{Input, Clock, ObserveOnly, Bidir, Output2, Output3, Control, ControlR, Internal}
-use Rattle.boundary.specs.Cells.{driver_from, is_port}
-use Rattle.bsdl_lookup.specs.Controls.{is_control as is_control_cell}
+use Rattle.board_parts.specs.Cells.{driver_from, is_port}
+use Rattle.bsdl.specs.Controls.{is_control as is_control_cell}
 use Rattle.bsdl.specs.FitCells.{ControlFits, HasFitCells, IsControlCell}
 use Rattle.bsdl.proofs.FitLaws.{every_device as every_fit}
 use Rattle.board_loops.specs.Loops.{HasNoLoop}
@@ -24,7 +24,7 @@ use Rattle.board_model.specs.Following.{FollowsNoOtherControl, IsAmong, is_contr
 use Rattle.board_model.specs.Planned.{powered_up}
 use Rattle.bsdl_device.specs.Sound.{IsSoundDevice}
 use Rattle.chip_instructions.specs.Fitting.{IsFormed}
-use Rattle.bsdl_description.specs.Describing.{Refusal}
+use Rattle.bsdl.specs.Describing.{Refusal}
 use Rattle.bsdl.specs.Judging.{text_says}
 use Rattle.bsdl.specs.declared.fault.BsdlFault.{BsdlFault}
 use Rattle.bsdl.proofs.SoundLaws.{every_device}
@@ -39,7 +39,7 @@ use Rattle.board_tables.specs.declared.fault.BoardFault.{BoardFault}
 use Rattle.board_tables.specs.declared.fault.BoardFault.TheVariants.{NoMemory}
 use Rattle.board_plan.specs.declared.plan.Plan.{Plan}
 use Rattle.board_model.specs.Chain.{BoardState}
-use Rattle.board_chain.specs.Ready.{IsReady}
+use Rattle.board_report.specs.Ready.{IsReady}
 use Rattle.jt_board.specs.FromText.{TellsMade, IsWhyRefused, said_device}
 use Rattle.jt_board.specs.Made.{IsReadyPlan, IsSoundWiring, board_of}
 

@@ -5,7 +5,7 @@ use Rattle.jt_limits.specs.declared.Limits.{Limits}
 use Rattle.jt_limits.specs.Limits.{IsAtMost, earlier_limits, limits}
 use Rattle.toml.specs.Data.{Members}
 use Rattle.bsdl_device.specs.Device.{Device}
-use Rattle.bsdl_description.specs.Describing.{Refusal}
+use Rattle.bsdl.specs.Describing.{Refusal}
 use Rattle.bsdl.specs.Judging.{text_says_within}
 use Rattle.bsdl.proofs.WithinLaws as bsdl
 use Rattle.board_tables.specs.Files.{file_names}

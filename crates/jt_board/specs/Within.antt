@@ -6,7 +6,7 @@ use Rattle.std.specs.List.{AllByRecursion}
 use Rattle.jt_limits.specs.declared.Limits.{Limits}
 use Rattle.jt_limits.specs.Limits.{IsAtMost, earlier_limits}
 use Rattle.toml.specs.Data.{Members}
-use Rattle.bsdl_description.specs.Describing.{Description}
+use Rattle.bsdl.specs.Describing.{Description}
 use Rattle.bsdl.specs.Within.{DescribedWithin, describes_within}
 use Rattle.board_tables.specs.Files.{file_names}
 use Rattle.board_parts.specs.Files.{File, text_of}

@@ -19,10 +19,9 @@ mod shifting;
 
 use crate::bare::bare_plan;
 use bitbang_protocol::Message;
-use board_chain::Chain;
 use board_model::Reply;
 use board_plan::Plan;
-use board_report::Snapshot;
+use board_report::{Chain, Snapshot};
 use bsdl::BsdlFault;
 use jt_limits::LIMITS;
 use std::alloc::{AllocError, Global};

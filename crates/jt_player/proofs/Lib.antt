@@ -1,3 +1,4 @@
+pub use Rattle.play_direct.proofs.WholePlay
 pub mod RunLaws
 pub mod HeadlineLaws
 pub mod KindLaws

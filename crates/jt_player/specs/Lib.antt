@@ -1,3 +1,6 @@
+pub use Rattle.play_direct.specs.Accepting
+pub use Rattle.play_links.specs.Links
+pub use Rattle.play_links.specs.Loops
 pub mod Showing
 pub mod Kinds
 pub mod Running

@@ -1,7 +1,7 @@
 //! Runs over a connection: what is told of a play, and of a board that was served.
 
 ghost use Rattle.std.specs.Prelude.{◌≡◌, ◌++◌};
-ghost use Rattle.board_report.specs.Report.{report};
+ghost use Rattle.jt_board.specs.Report.{report};
 ghost use Rattle.byte_streams.specs.Writes.{WritesAll};
 ghost use Rattle.play_links.specs.Links.{PlaysAllOver};
 ghost use Rattle.play_links.specs.Loops.{LoopsAllOver};
@@ -23,9 +23,8 @@ use byte_streams::{Broken, Counted, End, Sink, Source, put_all, put_pieces};
 use itoa::Buffer;
 use jt_board::{Board, write_report};
 use output_words::{Status, hex_byte};
-use play_links::{Served, loop_over_all, play_over_all, serve_over};
+use play_links::{Player, Served, loop_over_all, play_over_all, serve_over};
 use play_model::{Ending, Kind, write_verdict};
-use player::Player;
 use scan_vectors::Failures;
 use std::alloc::Global;
 use svf_programs::Program;

@@ -11,8 +11,8 @@ ghost use Rattle.jt_player.specs.Kinds.{MeansAsPlayed, ending_in, found_of_endin
 use byte_streams::{Counted, Sink};
 use jt_board::Board;
 use play_direct::{play_program, play_program_all, play_program_all_noted, play_program_noted};
+use play_links::Player;
 use play_model::{Ending, Kind};
-use player::Player;
 use scan_vectors::{Failures, Mismatch};
 use svf_programs::Program;
 

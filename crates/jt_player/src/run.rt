@@ -2,7 +2,7 @@
 
 ghost use Rattle.std.specs.Prelude.{◌≡◌, ◌≢◌, ◌⊎◌, ◌++◌, IfOk, OnOk, codes};
 ghost use Rattle.byte_streams.specs.Writes.{WritesAll};
-ghost use Rattle.board_report.specs.LeftOut.{left_out_lines};
+ghost use Rattle.jt_board.specs.LeftOut.{left_out_lines};
 ghost use Rattle.play_model.specs.ScheduleLaws.{full};
 ghost use Rattle.play_model.specs.declared.kind.Kind.TheVariants.{Stops, PlaysOn};
 ghost use Rattle.scan_vectors.specs.Failures.{found};

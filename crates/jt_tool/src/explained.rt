@@ -4,11 +4,11 @@ ghost use Rattle.std.specs.Prelude.{◌≡◌};
 use crate::described::{RefusedFile, Unmade};
 use crate::statuses::or_lost;
 use byte_streams::{Broken, Counted, Plain, Sink};
-use jt_player::{
+use output_words::Status;
+use play_explained::plain::{
     Board, BoardFault, Kind, Program, SvfFault, accept, refuse_board, refuse_file, refuse_text,
     run_program,
 };
-use output_words::Status;
 use play_explained::run_play_explained;
 use refusal_places::{refused_board, refused_description, refused_text};
 use std::alloc::Global;

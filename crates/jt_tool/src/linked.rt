@@ -6,7 +6,9 @@ use crate::links::{Link, connect, pair};
 use crate::statuses::or_lost;
 use byte_streams::{Broken, Counted, End, Plain, Sink};
 use command_line::Server;
-use jt_player::{Board, Ending, Kind, Program, run_loop, run_over, tell_unplayed, tell_verdict};
+use play_explained::plain::{
+    Board, Ending, Kind, Program, run_loop, run_over, tell_unplayed, tell_verdict,
+};
 use play_explained::{run_loop_explained, run_over_explained};
 use std::alloc::Global;
 use std::io;

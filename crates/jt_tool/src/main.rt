@@ -18,11 +18,11 @@ use board_description::Untold;
 use byte_streams::{Broken, Counted, Plain};
 use clap::error::ErrorKind as WordsFault;
 use command_line::{InputFault, Request, Serving, StandIns, Task, command_words, parse, read_text};
-use jt_player::{
+use output_words::Status;
+use play_explained::plain::{
     Board, Kind, Program, Served, check_program, refuse_file, refuse_memory, run_serve,
     tell_listening, tell_served, write_report,
 };
-use output_words::Status;
 use play_waves::{Undrawn, status_behind};
 use std::alloc::Global;
 use std::fs::File;

@@ -2,7 +2,7 @@
 
 use byte_streams::{Counted, Plain};
 use command_line::{InputFault, Request, head_of, is_in_use};
-use jt_player::{Kind, Program};
+use play_explained::plain::{Kind, Program};
 use play_waves::{Stage, Undrawn, begins_as_waves, write_waves};
 use std::alloc::Global;
 use std::fs::File;

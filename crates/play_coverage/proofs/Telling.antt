@@ -7,7 +7,7 @@ use Rattle.svf_programs.specs.Steps.{Program}
 use Rattle.board_plan.specs.Planned.{Wiring}
 use Rattle.board_description.specs.declared.whole.Untold.{Untold}
 use Rattle.board_description.specs.declared.whole.Untold.TheVariants.{Broken, NoMemory}
-use Rattle.jt_board.specs.Made.{board_of}
+use Rattle.board_faults.specs.Made.{board_of}
 use Rattle.play_model.specs.declared.ending.Ending.{Ending}
 use Rattle.play_model.specs.declared.ending.Ending.TheVariants.{Pass, Fail, Lost, BadAnswer}
 use Rattle.play_model.specs.Endings.{status_of, verdict_line}

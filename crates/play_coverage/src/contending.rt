@@ -8,15 +8,13 @@ ghost use Rattle.board_model.specs.Chain.{members};
 ghost use Rattle.board_model.specs.Nets.{is_opposed};
 ghost use Rattle.board_model.specs.Resting.{IsAtRest};
 ghost use Rattle.board_model.specs.Whole.{AtRest};
-ghost use Rattle.jt_board.specs.Resting.{IsResting};
+ghost use Rattle.board_faults.specs.Resting.{IsResting};
 ghost use Rattle.play_model.specs.DirectPlay.{opened_state};
 ghost use Rattle.play_model.specs.Meaning as meaning;
 ghost use Rattle.play_coverage.specs.Contending as spec;
 ghost use Rattle.play_coverage.specs.Contending.{contending, contention, either, newly};
 
-use board_chain::Chain;
-use jt_board::Board;
-use play_direct::{play_opening, play_step};
+use board_faults::{Board, Chain, play_opening, play_step};
 use scan_vectors::Failures;
 use std::alloc::{AllocError, Global};
 use svf_programs::{Program, Step};

@@ -1,3 +1,4 @@
+pub use Rattle.jt_board.proofs.Bares
 pub mod Turns
 pub mod Failing
 pub mod WholePlay

@@ -11,6 +11,7 @@ mod stepping;
 mod steps;
 
 pub use accepting::accept;
+pub use jt_board::Board;
 pub use laws::texts_stay_accepted_within_larger_limits;
 pub use noted::{play_program_all_noted, play_program_noted};
 pub use playing::{play_program, play_program_all};

@@ -22,7 +22,7 @@ use Rattle.play_explained.specs.declared.explaining.Explained.{Explained}
 use Rattle.play_explained.specs.Explaining.{explained, explained_of, step_explained}
 use Rattle.play_model.specs.DirectPlay.{opened_state}
 use Rattle.play_model.specs.Streams.{most_kept}
-use Rattle.play_direct.proofs.WholePlay.{meant_all}
+use Rattle.jt_player.proofs.WholePlay.{meant_all}
 use Rattle.jt_board.proofs.InUse.{every_board}
 use Rattle.jt_player.proofs.HeadlineLaws.{legal}
 use Rattle.play_explained.specs.Laws.{EachListedBitHasItsReason, EveryFailureIsExplained, NothingElseIsTold, ReasonsAloneAreAdded}

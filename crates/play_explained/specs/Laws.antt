@@ -12,7 +12,7 @@ use Rattle.play_model.specs.declared.ending.Ending.{Ending}
 use Rattle.play_model.specs.declared.ending.Ending.TheVariants.{Fail}
 use Rattle.play_model.specs.declared.kind.Kind.{Kind}
 use Rattle.play_model.specs.declared.kind.Kind.TheVariants.{PlaysOn, Stops}
-use Rattle.play_direct.specs.Accepting.{Accepts}
+use Rattle.jt_player.specs.Accepting.{Accepts}
 use Rattle.refusal_places.specs.Starts.{statement_position}
 use Rattle.jt_player.specs.Kinds.{found_in}
 use Rattle.output_words.specs.Lines.{total_line}

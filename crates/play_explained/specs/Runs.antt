@@ -3,7 +3,7 @@ use Rattle.std.specs.Prelude.{ℕ, Bool, List, ◌++◌}
 use Rattle.scan_vectors.specs.declared.failures.Mismatch.{Mismatch}
 use Rattle.svf_programs.specs.Steps.{Program}
 use Rattle.board_model.specs.Chain.{BoardState}
-use Rattle.board_report.specs.Report.{report}
+use Rattle.jt_board.specs.Report.{report}
 use Rattle.play_model.specs.ScheduleLaws.{full}
 use Rattle.play_model.specs.DirectPlay.{opened_state}
 use Rattle.play_model.specs.declared.kind.Kind.{Kind}

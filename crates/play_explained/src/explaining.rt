@@ -18,11 +18,10 @@ ghost use Rattle.play_explained.specs.Explaining.{explained_of, explained_on, sc
 ghost use Rattle.play_explained.specs.Kept.{plates};
 
 use arrayvec::ArrayVec;
-use board_chain::Chain;
-use board_reasons::{Holder, Reason, reason_of};
+use board_reasons::{Chain, Holder, Reason, reason_of};
 use jt_board::Board;
+use jt_player::{end_scan, play_opening, play_step};
 use jt_tap::{Column, State};
-use play_direct::{end_scan, play_opening, play_step};
 use play_model::Kind;
 use scan_vectors::{Failures, Mismatch, Vector};
 use svf_programs::{Action, Program, Step};

@@ -5,7 +5,9 @@
 //! as without them.
 #![tactic(auto)]
 
+// The player whose plays are explained, with all that it gives.
 pub use explaining::{Explained, Reasons, explain};
+pub use jt_player as plain;
 pub use laws::{
     each_listed_bit_has_its_reason, every_failure_is_explained, reasons_alone_are_added,
 };

@@ -2,10 +2,10 @@
 
 ghost use Rattle.std.specs.Prelude.{◌≡◌, ◌⊎◌, ◌++◌, IfOk, OnOk};
 ghost use Rattle.byte_streams.specs.Writes.{WritesAll};
-ghost use Rattle.board_report.specs.Report.{report};
+ghost use Rattle.jt_board.specs.Report.{report};
 ghost use Rattle.play_model.specs.ScheduleLaws.{full};
-ghost use Rattle.play_links.specs.Links.{PlaysAllOver};
-ghost use Rattle.play_links.specs.Loops.{LoopsAllOver};
+ghost use Rattle.jt_player.specs.Links.{PlaysAllOver};
+ghost use Rattle.jt_player.specs.Loops.{LoopsAllOver};
 ghost use Rattle.play_model.specs.Endings.{status_of};
 ghost use Rattle.play_model.specs.declared.ending.Ending as end;
 ghost use Rattle.scan_vectors.specs.Failures.{Found, found};
@@ -19,8 +19,7 @@ use crate::explaining::explain;
 use crate::telling::{Known, write_explained};
 use byte_streams::{Broken, Counted, End, Sink, Source};
 use jt_board::{Board, write_report};
-use jt_player::{fresh_player, play_and_note};
-use play_links::{loop_over_lent, play_over_lent};
+use jt_player::{fresh_player, loop_over_lent, play_and_note, play_over_lent};
 use play_model::{Ending, Kind};
 use player::Player;
 use scan_vectors::Failures;

@@ -13,8 +13,7 @@ ghost use Rattle.play_explained.specs.Lines.{explained_lines, failure_lines, lin
 use crate::explaining::Explained;
 use crate::places::{Passed, none_passed, position_from};
 use crate::wanted::wanted_of;
-use board_chain::Chain;
-use board_reasons::{Reason, is_same_part, write_reason, write_wanted};
+use board_reasons::{Chain, Reason, is_same_part, write_reason, write_wanted};
 use byte_streams::{Broken, Counted, Sink, put_all};
 use jt_player::write_verdict;
 use output_words::{Position, write_position_line, write_total};

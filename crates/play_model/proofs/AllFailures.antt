@@ -3,7 +3,7 @@ use Rattle.std.proofs.Common.{◌≡◌, Bool, true, false, ℕ, ◌≤◌, List
 use Rattle.std.proofs.Math.Seq.{drop-append_seam}
 use Rattle.std.specs.Prelude.{if◌then◌else◌}
 use Rattle.board_model.specs.Chain.{BoardState, hear}
-use Rattle.svf_programs.specs.Steps.{Step, Scan, Go, Path, Run, Trst}
+use Rattle.bitbang.specs.Steps.{Step, Scan, Go, Path, Run, Trst}
 use Rattle.play_model.specs.Meaning.{after_step, Outcome, outcome}
 use Rattle.scan_vectors.specs.Vector.{VectorBit, differs, judge, tdis}
 use Rattle.board_model.specs.Whole.{AtRest, capture, out, settle}

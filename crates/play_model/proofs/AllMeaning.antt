@@ -6,7 +6,7 @@ use Rattle.jt_tap.specs.declared.State.TheVariants.{Reset}
 use Rattle.board_model.specs.Chain.{BoardState, hear}
 use Rattle.board_model.specs.Resting.{board_at_rest}
 use Rattle.bitbang_protocol.specs.Cycles.{opening}
-use Rattle.svf_programs.specs.Steps.{place_after, Step, Scan, Go, Path, Run, Trst, Numbered}
+use Rattle.bitbang.specs.Steps.{place_after, Step, Scan, Go, Path, Run, Trst, Numbered}
 use Rattle.bitbang.specs.StepMessages.{step_messages}
 use Rattle.play_model.specs.Meaning.{after_step}
 use Rattle.scan_vectors.specs.Vector.{VectorBit, differs, tdis}

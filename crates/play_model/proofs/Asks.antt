@@ -11,13 +11,13 @@ use Rattle.bitbang_protocol.specs.declared.Message.TheVariants.{Write, Ask, Quit
 use Rattle.board_model.specs.Chain.{BoardState, Heard, hear, after_message}
 use Rattle.scan_vectors.specs.declared.part.Part.{Part}
 use Rattle.scan_vectors.specs.Vector.{VectorBit, judge}
-use Rattle.svf_programs.specs.Steps.{Step, Scan, Go, Path, Run, Trst, Numbered, place_after}
+use Rattle.bitbang.specs.Steps.{Step, Scan, Go, Path, Run, Trst, Numbered, place_after}
 use Rattle.svf_words.specs.declared.keywords.TrstWord.TheVariants.{On, Off, Z, Absent}
 use Rattle.play_model.specs.declared.ending.Ending.TheVariants.{Fail}
 use Rattle.jt_tap.specs.Paths.{go, to_shift, from_exit1}
 use Rattle.bitbang_protocol.specs.declared.Cycle.{Cycle}
 use Rattle.bitbang_protocol.specs.Cycles.{entering, closed_messages}
-use Rattle.tck_cycles.specs.Cycles.{scan_cycles, go_unless_there, cycles}
+use Rattle.bitbang.specs.Cycles.{scan_cycles, go_unless_there, cycles}
 use Rattle.bitbang.specs.StepMessages.{line_message, step_messages}
 use Rattle.bitbang_protocol.specs.Protocol.{cycle_messages}
 use Rattle.play_model.specs.Play.{Turn, Played, wants_of, step_turns, turns, up_to_asks, sent, full_play}

@@ -2,7 +2,7 @@
 use Rattle.std.proofs.Common.{◌≡◌, suc, List, [], ◌∷◌, length, map, refl, ap, ◌∙◌}
 use Rattle.scan_vectors.specs.Vector.{VectorBit}
 use Rattle.play_model.specs.Play.{Turn, turns}
-use Rattle.svf_programs.specs.Steps.{Numbered}
+use Rattle.bitbang.specs.Steps.{Numbered}
 use Rattle.play_model.proofs.Asks.{AllAsk, turns-ask}
 use Rattle.play_model.specs.declared.kind.Kind.{Kind}
 use Rattle.play_model.specs.declared.kind.Kind.TheVariants.{Stops, PlaysOn}

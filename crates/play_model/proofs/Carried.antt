@@ -10,7 +10,7 @@ use Rattle.board_model.specs.Chain.{BoardState}
 use Rattle.play_model.specs.Events.{Event, Put, Serve, Take, Lose, Known, Side, World, by_answers, before_events as fresh_world, happens, has_room, hear_bits, put_bytes, run, served, take_answers, after_byte_taken}
 use Rattle.play_model.specs.Play.{player, sent}
 use Rattle.play_model.specs.Playing.{PlayerState, up_to_bad}
-use Rattle.svf_programs.specs.Steps.{Numbered, Program}
+use Rattle.bitbang.specs.Steps.{Numbered, Program}
 use Rattle.play_model.proofs.Asks.{asks, hear-asks}
 use Rattle.play_model.specs.Fronts.{IsPrefix}
 use Rattle.play_model.specs.ScheduleLaws.{Connection, full}

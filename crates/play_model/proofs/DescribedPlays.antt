@@ -13,8 +13,8 @@ use Rattle.play_model.specs.declared.ending.Ending.{Ending}
 use Rattle.play_model.specs.DirectPlay.{MeansFromOpening, opened_state}
 use Rattle.play_model.specs.Meaning.{outcome}
 use Rattle.play_model.specs.Play.{play}
-use Rattle.svf_programs.specs.Legal.{IsLegalProgram}
-use Rattle.svf_programs.specs.Steps.{Numbered, Program}
+use Rattle.bitbang.specs.Legal.{IsLegalProgram}
+use Rattle.bitbang.specs.Steps.{Numbered, Program}
 use Rattle.bitbang_protocol.specs.Cycles.{opening}
 use Rattle.board_model.proofs.SoundEdges.{count-bytes, sound-bytes}
 use Rattle.play_model.proofs.Legality.{legal-from}

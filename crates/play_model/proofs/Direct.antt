@@ -9,7 +9,7 @@ use Rattle.board_model.specs.Chain.{BoardState, Heard, hear, after_message}
 use Rattle.board_model.specs.Whole.{AtRest, capture, out, settle}
 use Rattle.scan_vectors.specs.declared.part.Part.{Part}
 use Rattle.scan_vectors.specs.Vector.{VectorBit, judge, differs, tdis}
-use Rattle.svf_programs.specs.Steps.{Step, Scan, Go, Path, Run, Trst, Numbered, place_after}
+use Rattle.bitbang.specs.Steps.{Step, Scan, Go, Path, Run, Trst, Numbered, place_after}
 use Rattle.play_model.specs.Meaning.{after_step, failure, outcome, Outcome}
 use Rattle.play_model.specs.declared.ending.Ending.TheVariants.{Fail}
 use Rattle.bitbang.specs.StepMessages.{step_messages}

@@ -5,7 +5,7 @@ use Rattle.std.specs.List.{AllByRecursion}
 use Rattle.board_model.specs.Chain.{BoardState}
 use Rattle.play_model.specs.Events.{Event, Put, Serve, Take, World, Known, ending_of_world, before_events}
 use Rattle.play_model.specs.Play.{sent}
-use Rattle.svf_programs.specs.Steps.{Numbered}
+use Rattle.bitbang.specs.Steps.{Numbered}
 use Rattle.play_model.proofs.Asks.{asks}
 use Rattle.play_model.specs.Fair.{IsFair, in_a_row, one_each}
 use Rattle.play_model.specs.ScheduleLaws.{Connection, IsOpen, goes_on, side, after_events, full, moves_in, bound, IsWhole, SomethingCanMove, MovingEventsAreBounded, FairDriversEnd, OneByteEachWayEnds, SeveralCallsAreOne}

@@ -5,7 +5,7 @@ use Rattle.jt_tap.specs.declared.State.TheVariants.{Reset}
 use Rattle.scan_vectors.specs.declared.part.Part.{Part}
 use Rattle.scan_vectors.specs.Vector.{judge}
 use Rattle.bitbang_protocol.specs.Cycles.{opening}
-use Rattle.svf_programs.specs.Steps.{Numbered, place_after}
+use Rattle.bitbang.specs.Steps.{Numbered, place_after}
 use Rattle.bitbang.specs.StepMessages.{step_messages}
 use Rattle.board_model.specs.Chain.{BoardState, hear}
 use Rattle.board_model.specs.Whole.{AtRest}

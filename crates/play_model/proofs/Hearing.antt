@@ -4,7 +4,7 @@ use Rattle.std.proofs.lemmas.List.{map-append, length-map}
 use Rattle.std.specs.Prelude.{◌==◌, is_some, if◌then◌else◌}
 use Rattle.scan_vectors.specs.Vector.{VectorBit, differs}
 use Rattle.play_model.specs.Play.{Turn, is_bad, turns}
-use Rattle.svf_programs.specs.Steps.{Program}
+use Rattle.bitbang.specs.Steps.{Program}
 use Rattle.play_model.specs.declared.kind.Kind.{Kind}
 use Rattle.play_model.specs.declared.kind.Kind.TheVariants.{Stops, PlaysOn}
 use Rattle.play_model.specs.PlayingOn.{Mismatch, differing, failures}

@@ -3,9 +3,9 @@ use Rattle.std.proofs.Common.{◌≡◌, ◌≢◌, true, false, refl, arith}
 use Rattle.jt_tap.specs.declared.State.{State}
 use Rattle.jt_tap.specs.declared.State.TheVariants.{Reset}
 use Rattle.board_model.specs.Bare.{bare}
-use Rattle.svf_programs.specs.Steps.{Step, Trst}
+use Rattle.bitbang.specs.Steps.{Step, Trst}
 use Rattle.svf_words.specs.declared.keywords.TrstWord.TheVariants.{Absent}
-use Rattle.svf_programs.specs.Legal.{IsFormed, leaves_reset, IsLegalAt}
+use Rattle.bitbang.specs.Legal.{IsFormed, leaves_reset, IsLegalAt}
 use Rattle.bsdl_device.specs.Sound.{IsSoundDevice}
 use Rattle.play_model.specs.LegalSamples.{PremisesAreNeeded, PremisesCanBeMet, rich}
 

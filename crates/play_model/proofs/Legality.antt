@@ -12,11 +12,11 @@ use Rattle.board_model.specs.Cells.{Member}
 use Rattle.pin_nets.specs.Wired.{Net}
 use Rattle.scan_vectors.specs.Vector.{tdis}
 use Rattle.board_model.specs.Whole.{AtRest, arrive, along, capture, pass, settle, shift, update}
-use Rattle.svf_programs.specs.Steps.{Step, Scan, Go, Path, Run, Trst, place_after, Numbered, line_after}
+use Rattle.bitbang.specs.Steps.{Step, Scan, Go, Path, Run, Trst, place_after, Numbered, line_after}
 use Rattle.svf_words.specs.declared.keywords.TrstWord.TheVariants.{On, Off, Z, Absent}
 use Rattle.play_model.specs.Meaning.{after_step, move_to, move_unless_there, scan_end}
 use Rattle.jt_tap.specs.Paths.{last_of}
-use Rattle.svf_programs.specs.Legal.{IsFormed, AllLegalFrom}
+use Rattle.bitbang.specs.Legal.{IsFormed, AllLegalFrom}
 use Rattle.board_model.proofs.Walks.{at_rest}
 use Rattle.play_model.specs.Legal.{AllLegal}
 use Rattle.play_model.specs.LegalPlays.{LegalityIsOfTheProgram}

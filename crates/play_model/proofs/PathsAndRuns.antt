@@ -13,10 +13,10 @@ use Rattle.pin_nets.specs.Wired.{Net}
 use Rattle.board_model.specs.Nets.{told}
 use Rattle.board_model.specs.Chain.{hear}
 use Rattle.board_model.specs.Whole.{joined_bits, cut_back, capture_all, reset_member, pass, along}
-use Rattle.svf_programs.specs.Steps.{Path, Run}
+use Rattle.bitbang.specs.Steps.{Path, Run}
 use Rattle.play_model.specs.Meaning.{after_step, move_unless_there}
 use Rattle.bitbang_protocol.specs.Cycles.{entering, closed_messages}
-use Rattle.tck_cycles.specs.Cycles.{cycles, go_unless_there}
+use Rattle.bitbang.specs.Cycles.{cycles, go_unless_there}
 use Rattle.bitbang.specs.StepMessages.{step_messages}
 use Rattle.jt_tap.specs.Paths.{last_of}
 use Rattle.board_model.specs.Resting.{board_at_rest}

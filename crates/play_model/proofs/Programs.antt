@@ -14,7 +14,7 @@ use Rattle.board_model.specs.Sound.{AllSound, HasDevice, IsSoundBoard}
 use Rattle.board_model.proofs.Sound.{Sound-reset}
 use Rattle.board_model.proofs.BytesAndMessages.{after_all-encoded}
 use Rattle.play_model.proofs.PathsAndRuns.{reset-all-twice}
-use Rattle.svf_programs.specs.Steps.{Numbered}
+use Rattle.bitbang.specs.Steps.{Numbered}
 use Rattle.play_model.specs.Play.{full_play, player, turns}
 use Rattle.play_model.proofs.Direct.{AllPlayed, program-law}
 use Rattle.play_model.proofs.PlayLaws.{full_play_is_both_ends}

@@ -12,10 +12,10 @@ use Rattle.bitbang_protocol.specs.Protocol.{cycle_messages}
 use Rattle.board_model.specs.Chain.{BoardState, hear}
 use Rattle.scan_vectors.specs.declared.part.Part.{Part}
 use Rattle.scan_vectors.specs.Vector.{judge}
-use Rattle.svf_programs.specs.Steps.{Step, Scan, Go, Path, Run, Trst, place_after, Numbered}
+use Rattle.bitbang.specs.Steps.{Step, Scan, Go, Path, Run, Trst, place_after, Numbered}
 use Rattle.svf_words.specs.declared.keywords.TrstWord.TheVariants.{On, Off, Z, Absent}
 use Rattle.bitbang_protocol.specs.Cycles.{closed_messages}
-use Rattle.tck_cycles.specs.Cycles.{cycles}
+use Rattle.bitbang.specs.Cycles.{cycles}
 use Rattle.bitbang.specs.StepMessages.{line_message, step_messages}
 use Rattle.play_model.specs.Play.{Turn, full_play, sent, step_turns, turns, up_to_asks}
 use Rattle.play_model.proofs.Asks.{AllAsk, asks, hear-asks, played_of}

@@ -11,7 +11,7 @@ use Rattle.play_model.specs.declared.ending.Ending.{Ending}
 use Rattle.play_model.specs.declared.ending.Ending.TheVariants.{Lost}
 use Rattle.play_model.specs.Events.{Event, World, Known, ending_of_world, before_events}
 use Rattle.play_model.specs.Play.{Turn, in_work, sent, verdict}
-use Rattle.svf_programs.specs.Steps.{Numbered}
+use Rattle.bitbang.specs.Steps.{Numbered}
 use Rattle.play_model.proofs.Asks.{hear-full, sent-full}
 use Rattle.play_model.proofs.GrowthByPrefix.{sent-grows}
 use Rattle.play_model.proofs.DescribedPlays.{means_from_opening}

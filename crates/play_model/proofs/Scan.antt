@@ -10,13 +10,13 @@ use Rattle.pin_nets.specs.Wired.{Net}
 use Rattle.board_model.specs.Chain.{hear}
 use Rattle.board_model.specs.Whole.{AtRest, joined_bits, cut_back, capture, settle, out, shift}
 use Rattle.scan_vectors.specs.Vector.{VectorBit, tdis}
-use Rattle.svf_programs.specs.Steps.{Scan}
+use Rattle.bitbang.specs.Steps.{Scan}
 use Rattle.play_model.specs.Meaning.{after_step, scan_end}
 use Rattle.jt_tap.specs.Paths.{to_shift, from_exit1, last_of}
 use Rattle.bitbang_protocol.specs.declared.Cycle.{Cycle}
 use Rattle.bitbang_protocol.specs.Cycles.{entering, closed_messages}
 use Rattle.bitbang.specs.StepMessages.{step_messages}
-use Rattle.tck_cycles.specs.Cycles.{scan_cycles}
+use Rattle.bitbang.specs.Cycles.{scan_cycles}
 use Rattle.board_model.specs.Resting.{board_at_rest}
 use Rattle.board_model.proofs.OneCycle.{low, Free, Ran, ran, heard_of, tail, hear-tail, asked, cycled}
 use Rattle.board_model.proofs.Shift.{shift_state, Full}

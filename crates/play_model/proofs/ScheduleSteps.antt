@@ -6,7 +6,7 @@ use Rattle.play_model.specs.Events.{Event, World, before_events as fresh_world, 
 use Rattle.play_model.specs.Play.{player}
 use Rattle.play_model.specs.Playing as playing
 use Rattle.play_model.specs.Playing.{PlayerState}
-use Rattle.svf_programs.specs.Steps.{Program}
+use Rattle.bitbang.specs.Steps.{Program}
 use Rattle.play_model.specs.declared.kind.Kind.{Kind}
 use Rattle.play_model.specs.PlayingOn.{turns_for}
 use Rattle.play_model.specs.Histories as history

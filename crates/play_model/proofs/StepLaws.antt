@@ -13,7 +13,7 @@ use Rattle.pin_nets.specs.Wired.{Net}
 use Rattle.scan_vectors.specs.Vector.{VectorBit, tdis, judge}
 use Rattle.board_model.specs.Chain.{hear, is_held}
 use Rattle.board_model.specs.Whole.{AtRest, reset_member, out, capture, settle, along, trst_member, settled_member}
-use Rattle.svf_programs.specs.Steps.{Step, Scan, Go, Path, Run, Trst, place_after}
+use Rattle.bitbang.specs.Steps.{Step, Scan, Go, Path, Run, Trst, place_after}
 use Rattle.svf_words.specs.declared.keywords.TrstWord.TheVariants.{On, Off, Z, Absent}
 use Rattle.play_model.specs.Meaning.{after_step, move_unless_there}
 use Rattle.bitbang_protocol.specs.Cycles.{entering, closed_messages}
@@ -21,7 +21,7 @@ use Rattle.bitbang.specs.StepMessages.{step_messages}
 use Rattle.jt_tap.specs.Paths.{last_of}
 use Rattle.jt_tap.specs.Stated.{IsWalk}
 use Rattle.board_model.specs.Resting.{board_at_rest, IsRest}
-use Rattle.svf_programs.specs.Legal.{IsPath, IsFormed, is_reset, leaves_reset}
+use Rattle.bitbang.specs.Legal.{IsPath, IsFormed, is_reset, leaves_reset}
 use Rattle.play_model.specs.Legal.{IsLegal}
 use Rattle.board_model.proofs.OneCycle.{Free}
 use Rattle.board_model.proofs.Walks.{at_rest, go-law}

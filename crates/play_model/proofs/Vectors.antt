@@ -7,7 +7,7 @@ use Rattle.board_model.specs.Cells.{Member}
 use Rattle.pin_nets.specs.Wired.{Net}
 use Rattle.board_model.specs.Whole.{joined_bits, cut_back}
 use Rattle.scan_vectors.specs.Vector.{VectorBit, tdis}
-use Rattle.tck_cycles.specs.Cycles.{scan_cycles}
+use Rattle.bitbang.specs.Cycles.{scan_cycles}
 use Rattle.board_model.proofs.OneCycle.{given, cycled, ran, Ran, asked}
 use Rattle.board_model.proofs.Shift.{shift_state, Full}
 use Rattle.board_model.proofs.ShiftCycles.{Full-cut_back, begins, cut_back-cut_back, cycled-shift, joined-cut_back, length-moved_line, moved_line, stays}

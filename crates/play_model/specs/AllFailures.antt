@@ -6,11 +6,11 @@ use Rattle.board_model.specs.Resting.{IsAtRest}
 use Rattle.bitbang_protocol.specs.Cycles.{opening}
 use Rattle.board_model.specs.Whole.{AtRest}
 use Rattle.play_model.specs.Play.{full_play, turns}
-use Rattle.svf_programs.specs.Steps.{Numbered}
+use Rattle.bitbang.specs.Steps.{Numbered}
 use Rattle.play_model.specs.Meaning.{outcome}
 use Rattle.play_model.specs.Events.{Event}
 use Rattle.board_model.specs.Sound.{HasDevice, IsSoundBoard}
-use Rattle.svf_programs.specs.Legal.{IsLegalProgram}
+use Rattle.bitbang.specs.Legal.{IsLegalProgram}
 use Rattle.play_model.specs.ScheduleLaws.{Connection, after_events}
 use Rattle.play_model.specs.declared.kind.Kind.TheVariants.{Stops, PlaysOn}
 use Rattle.play_model.specs.PlayingOn.{Mismatch, ending_of, failures, outcome_of_all, turns_for}

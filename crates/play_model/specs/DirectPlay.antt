@@ -7,7 +7,7 @@ use Rattle.board_model.specs.Whole.{AtRest}
 use Rattle.bitbang_protocol.specs.Cycles.{opening}
 use Rattle.board_model.specs.Resting.{IsAtRest}
 use Rattle.play_model.specs.declared.ending.Ending.{Ending}
-use Rattle.svf_programs.specs.Steps.{Program}
+use Rattle.bitbang.specs.Steps.{Program}
 use Rattle.play_model.specs.Meaning.{outcome}
 use Rattle.play_model.specs.Play.{play}
 

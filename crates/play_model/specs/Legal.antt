@@ -3,10 +3,10 @@ use Rattle.std.specs.Prelude.{⊤}
 use Rattle.std.specs.Prelude.{◌≡◌, ◌≢◌, true, false, List, [], ◌∷◌}
 use Rattle.jt_tap.specs.declared.State.TheVariants.{Reset}
 use Rattle.board_model.specs.Whole.{AtRest}
-use Rattle.svf_programs.specs.Steps.{Step, Trst, Numbered}
+use Rattle.bitbang.specs.Steps.{Step, Trst, Numbered}
 use Rattle.svf_words.specs.declared.keywords.TrstWord.TheVariants.{Absent}
 use Rattle.play_model.specs.Meaning.{after_step}
-use Rattle.svf_programs.specs.Legal.{IsFormed, leaves_reset}
+use Rattle.bitbang.specs.Legal.{IsFormed, leaves_reset}
 
 -- Legal at M: formed, and while TRST is asserted no step from RESET leaves it, and none is TRST ABSENT.
 pub record IsLegal (step : Step) (m : AtRest) : Type 0 where

@@ -12,13 +12,13 @@ use Rattle.play_model.specs.Legal.{IsLegal, AllLegal}
 use Rattle.board_model.specs.Sound.{HasDevice, IsPoweredUp, IsSoundBoard, AllSound}
 use Rattle.bitbang_protocol.specs.Cycles.{opening}
 use Rattle.bitbang.specs.StepMessages.{step_messages}
-use Rattle.svf_programs.specs.Steps.{Step, Numbered, Program}
+use Rattle.bitbang.specs.Steps.{Step, Numbered, Program}
 use Rattle.play_model.specs.Meaning.{after_step, failure, outcome}
 use Rattle.scan_vectors.specs.Vector.{judge}
 use Rattle.board_model.specs.Whole.{AtRest}
 use Rattle.play_model.specs.DirectPlay.{MeansFromOpening, opened_state}
 use Rattle.play_model.specs.Play.{full_play, play, player, turns, wants_of}
-use Rattle.svf_programs.specs.Legal.{AllLegalFrom, IsLegalProgram}
+use Rattle.bitbang.specs.Legal.{AllLegalFrom, IsLegalProgram}
 
 -- What a step's bytes do from rest: the board at rest that whole registers give, the same first bit that differs, at
 -- rest again and sound again.

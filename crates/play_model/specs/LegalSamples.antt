@@ -11,7 +11,7 @@ use Rattle.board_model.specs.Chain.{BoardState}
 use Rattle.bsdl_device.specs.declared.Place.TheVariants.{AtUser}
 use Rattle.bsdl_device.specs.Device.{Device}
 use Rattle.board_model.specs.Resting.{power_up, board_at_rest}
-use Rattle.svf_programs.specs.Steps.{Step, Scan, Go, Path, Run, Trst, Numbered}
+use Rattle.bitbang.specs.Steps.{Step, Scan, Go, Path, Run, Trst, Numbered}
 use Rattle.svf_words.specs.declared.keywords.TrstWord.TheVariants.{On, Off, Z, Absent}
 use Rattle.scan_vectors.specs.Vector.{VectorBit}
 use Rattle.board_model.specs.Whole.{AtRest, after_opening}
@@ -19,7 +19,7 @@ use Rattle.scan_vectors.specs.declared.part.Part.TheVariants.{Data}
 use Rattle.play_model.specs.declared.ending.Ending.TheVariants.{Fail, Pass}
 use Rattle.play_model.specs.Play.{full_play, turns}
 use Rattle.play_model.specs.Meaning.{outcome}
-use Rattle.svf_programs.specs.Legal.{IsLegalProgram}
+use Rattle.bitbang.specs.Legal.{IsLegalProgram}
 use Rattle.board_model.specs.Sound.{IsPoweredUp}
 
 -- the bare device with a TRST port, a code and a user register of three bits

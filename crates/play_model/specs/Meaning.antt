@@ -7,7 +7,7 @@ use Rattle.jt_tap.specs.Controller.{pause, is_at}
 use Rattle.svf_words.specs.declared.keywords.TrstWord.TheVariants.{On, Absent}
 use Rattle.scan_vectors.specs.declared.part.Part.{Part}
 use Rattle.scan_vectors.specs.Vector.{tdis, judge}
-use Rattle.svf_programs.specs.Steps.{Step, Scan, Go, Path, Run, Trst, Numbered}
+use Rattle.bitbang.specs.Steps.{Step, Scan, Go, Path, Run, Trst, Numbered}
 use Rattle.board_model.specs.Whole.{AtRest, capture, out, shift, update, settle, arrive, along, trst_asserted}
 use Rattle.play_model.specs.declared.ending.Ending.{Ending}
 use Rattle.play_model.specs.declared.ending.Ending.TheVariants.{Pass, Fail}

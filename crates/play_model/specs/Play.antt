@@ -8,7 +8,7 @@ use Rattle.bitbang_protocol.specs.declared.Message.TheVariants.{Ask, Quit}
 use Rattle.bitbang_protocol.specs.Protocol.{encode, one_byte, read_answer}
 use Rattle.board_model.specs.Chain.{BoardState, hear}
 use Rattle.scan_vectors.specs.Vector.{VectorBit, judge, wanted_bits}
-use Rattle.svf_programs.specs.Steps.{Step, Scan, Numbered, Program, place_after}
+use Rattle.bitbang.specs.Steps.{Step, Scan, Numbered, Program, place_after}
 use Rattle.play_model.specs.declared.ending.Ending.{Ending}
 use Rattle.play_model.specs.declared.ending.Ending.TheVariants.{Pass, Fail, BadAnswer}
 use Rattle.bitbang.specs.StepMessages.{step_messages}

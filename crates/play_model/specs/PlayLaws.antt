@@ -2,7 +2,7 @@
 use Rattle.std.specs.Prelude.{◌≡◌, ◌≢◌, Bool, ℕ, List, [], ◌++◌, length}
 use Rattle.jt_tap.specs.declared.State.{State}
 use Rattle.board_model.specs.Chain.{BoardState, hear}
-use Rattle.svf_programs.specs.Steps.{Step, Numbered}
+use Rattle.bitbang.specs.Steps.{Step, Numbered}
 use Rattle.bitbang.specs.StepMessages.{step_messages}
 use Rattle.board_model.specs.Laws.{IsReset}
 use Rattle.board_model.specs.Resting.{IsAtRest}

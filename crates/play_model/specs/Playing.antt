@@ -1,7 +1,7 @@
 -- What is known of a player: its program, how many bytes it gave out, and every answer that it took.
 use Rattle.std.specs.Prelude.{Bool, ℕ, List, [], ◌∷◌, if◌then◌else◌}
 use Rattle.std.specs.List.{list_any}
-use Rattle.svf_programs.specs.Steps.{Program}
+use Rattle.bitbang.specs.Steps.{Program}
 use Rattle.play_model.specs.Play.{is_bad}
 
 -- the program, how many bytes were given out, and the answer bytes that were taken

@@ -1,6 +1,6 @@
 -- A player that plays its program to the end, whatever fails, and the list of all that failed.
 use Rattle.std.specs.Prelude.{Bool, ℕ, List, [], ◌∷◌, ◌++◌, map, length, drop, None}
-use Rattle.svf_programs.specs.Steps.{Step, Scan, Numbered}
+use Rattle.bitbang.specs.Steps.{Step, Scan, Numbered}
 use Rattle.play_model.specs.Meaning.{after_step}
 use Rattle.scan_vectors.specs.Vector.{VectorBit, tdis}
 use Rattle.board_model.specs.Whole.{AtRest, capture, out, settle}

@@ -15,10 +15,10 @@ use Rattle.play_model.specs.Events.{Event, Put, Serve, Take, Lose, World, Known,
 use Rattle.play_model.specs.Events.{before_events, bytes_moved}
 use Rattle.play_model.specs.Events.{moving, run, taken_over}
 use Rattle.play_model.specs.Play.{Played, full_play, player}
-use Rattle.svf_programs.specs.Steps.{Numbered, Program}
+use Rattle.bitbang.specs.Steps.{Numbered, Program}
 use Rattle.play_model.specs.LegalPlays.{powered_up_after}
 use Rattle.board_model.specs.Sound.{HasDevice, IsPoweredUp, IsSoundBoard}
-use Rattle.svf_programs.specs.Legal.{IsLegalProgram}
+use Rattle.bitbang.specs.Legal.{IsLegalProgram}
 use Rattle.play_model.specs.Fair.{IsFair, in_a_row, one_each}
 use Rattle.play_model.specs.Fronts.{IsPrefix}
 use Rattle.play_model.specs.InWork.{IsInWork, turns_made}

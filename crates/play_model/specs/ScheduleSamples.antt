@@ -5,7 +5,7 @@ use Rattle.scan_vectors.specs.declared.part.Part.TheVariants.{Data}
 use Rattle.play_model.specs.declared.ending.Ending.TheVariants.{Fail}
 use Rattle.play_model.specs.Events.{Put, Serve, Take, World, Known, ending_of_world}
 use Rattle.play_model.specs.Play.{turns}
-use Rattle.svf_programs.specs.Steps.{Numbered}
+use Rattle.bitbang.specs.Steps.{Numbered}
 use Rattle.play_model.specs.LegalSamples.{board_without_nets, lone_scan, mixed}
 use Rattle.play_model.specs.Fair.{one_each}
 use Rattle.play_model.specs.ScheduleLaws.{Connection, after_events, bound, full, moves_in}

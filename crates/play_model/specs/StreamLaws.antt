@@ -7,7 +7,7 @@ use Rattle.play_model.specs.Events.{Event, Known, World, by_answers, empty_pipes
 use Rattle.play_model.specs.Play.{is_bad, player, turns}
 use Rattle.play_model.specs.Playing as playing
 use Rattle.play_model.specs.Playing.{PlayerState, has_bad_answer}
-use Rattle.svf_programs.specs.Steps.{Program}
+use Rattle.bitbang.specs.Steps.{Program}
 use Rattle.play_model.specs.declared.kind.Kind.{Kind}
 use Rattle.play_model.specs.declared.kind.Kind.TheVariants.{Stops}
 use Rattle.play_model.specs.PlayingOn.{failures, turns_for}

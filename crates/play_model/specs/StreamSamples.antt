@@ -3,7 +3,7 @@ use Rattle.std.specs.Prelude.{◌≡◌, true, ℕ, [], ◌∷◌, length, Some}
 use Rattle.scan_vectors.specs.declared.part.Part.TheVariants.{Data}
 use Rattle.play_model.specs.declared.ending.Ending.TheVariants.{BadAnswer, Fail}
 use Rattle.play_model.specs.Events.{World, empty_pipes, run}
-use Rattle.svf_programs.specs.Steps.{Program}
+use Rattle.bitbang.specs.Steps.{Program}
 use Rattle.play_model.specs.Fair.{one_each}
 use Rattle.play_model.specs.declared.kind.Kind.{Kind}
 use Rattle.play_model.specs.declared.kind.Kind.TheVariants.{Stops, PlaysOn}

@@ -12,7 +12,7 @@ use Rattle.play_model.specs.declared.ending.Ending.TheVariants.{BadAnswer}
 use Rattle.play_model.specs.Events.{Side}
 use Rattle.play_model.specs.Play.{Turn, is_bad, turns, up_to_asks}
 use Rattle.play_model.specs.Playing.{up_to_bad}
-use Rattle.svf_programs.specs.Steps.{Program}
+use Rattle.bitbang.specs.Steps.{Program}
 use Rattle.play_model.specs.declared.kind.Kind.{Kind}
 use Rattle.play_model.specs.declared.kind.Kind.TheVariants.{Stops, PlaysOn}
 use Rattle.play_model.specs.PlayingOn.{Mismatch, ending_of}

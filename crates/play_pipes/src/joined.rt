@@ -13,7 +13,7 @@ use crate::event::Event;
 use crate::finishing;
 use crate::pipes::{Pipes, Unjoined};
 use crate::standing::Standing;
-use jt_board::Board;
+use play_links::Board;
 use play_model::Ending;
 use player::{Failures, Player};
 use std::alloc::Global;

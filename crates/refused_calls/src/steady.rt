@@ -4,8 +4,7 @@ use crate::boards::following;
 use crate::given::BEFORE;
 use crate::playing::player_and_board;
 use byte_streams::{Counted, Plain};
-use jt_player::{Board, Event, Joined, Player, Reply, play_board, serve_over};
-use play_links::take_bytes;
+use jt_player::{Board, Event, Joined, Player, Reply, play_board, serve_over, take_bytes};
 use std::alloc::Global;
 use std::io;
 

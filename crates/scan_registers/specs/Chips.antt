@@ -3,7 +3,7 @@ use Rattle.std.specs.Prelude.{◌≡◌, Bool, false, List, [], ◌∷◌, lengt
 use Rattle.jt_tap.specs.declared.Column.{Column}
 use Rattle.jt_tap.specs.declared.State.{State}
 use Rattle.jt_tap.specs.declared.State.TheVariants.{Reset}
-use Rattle.bsdl_device.specs.Device.{Device}
+use Rattle.chip_instructions.specs.Device.{Device}
 use Rattle.chip_instructions.specs.declared.Mode.{Mode}
 use Rattle.chip_registers.specs.declared.users.UserRegister.{UserRegister}
 use Rattle.chip_registers.specs.Data.{Lengths}

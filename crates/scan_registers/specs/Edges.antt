@@ -7,7 +7,7 @@ use Rattle.jt_tap.specs.Controller.{next, work}
 use Rattle.jt_tap.specs.declared.Work.{Work}
 use Rattle.jt_tap.specs.declared.Work.TheVariants.{Resets, Captures, Shifts, Updates}
 use Rattle.jt_bits.specs.Shifting.{after_shift}
-use Rattle.bsdl_device.specs.Device.{Device}
+use Rattle.chip_instructions.specs.Device.{Device}
 use Rattle.chip_registers.specs.Registers.{Registers, Surroundings, selected_bits, put, after_capture, after_update}
 use Rattle.chip_registers.specs.Registers.{after_reset}
 

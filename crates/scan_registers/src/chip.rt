@@ -14,10 +14,9 @@ ghost use Rattle.chip_instructions.specs.declared.Selected.TheVariants.{Bypass};
 ghost use Rattle.chip_registers.specs.Registers.{after_capture, put, selected_bits, after_update, after_reset};
 
 use crate::{Link, WordLink, same_bits};
-use bsdl_device::Device;
 use chip_instructions::{
-    Decoded, Mode, Selected, SharedDevice, code_length, fixed_bits, has_code, instruction_of,
-    reset_latch,
+    Decoded, Device, Mode, Selected, SharedDevice, code_length, fixed_bits, has_code,
+    instruction_of, reset_latch,
 };
 use chip_registers::{DataRegisters, Register, WordRegister};
 use jt_bits::Bits;

@@ -1,3 +1,4 @@
+pub use Rattle.svf_words.specs.declared.keywords.TrstWord
 pub mod Ahead
 pub mod Behind
 pub mod Fields

@@ -5,7 +5,7 @@ use Rattle.std.specs.List.{list_all}
 use Rattle.jt_tap.specs.Controller.{is_at, is_stable}
 use Rattle.jt_tap.specs.declared.State.{State}
 use Rattle.jt_tap.specs.declared.State.TheVariants.{Reset}
-use Rattle.svf_words.specs.declared.keywords.TrstWord.TheVariants as word
+use Rattle.svf_parse.specs.TrstWord.TheVariants as word
 use Rattle.jt_tap.specs.Paths.{last_of}
 use Rattle.jt_tap.specs.Stated.{IsWalk}
 use Rattle.svf_programs.specs.Steps.{Step, Scan, Go, Path, Run, Trst, Numbered, place_after, line_after}

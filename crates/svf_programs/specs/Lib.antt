@@ -1,3 +1,4 @@
+pub use Rattle.svf_parse.specs.TrstWord
 pub mod Steps
 pub mod Legal
 pub mod Sound

@@ -3,8 +3,8 @@ use Rattle.std.specs.Prelude.{Bool, true, false, ℕ, List}
 use Rattle.jt_tap.specs.declared.Column.{Column}
 use Rattle.jt_tap.specs.declared.State.{State}
 use Rattle.jt_tap.specs.declared.State.TheVariants.{Reset}
-use Rattle.svf_words.specs.declared.keywords.TrstWord.{TrstWord}
-use Rattle.svf_words.specs.declared.keywords.TrstWord.TheVariants as word
+use Rattle.svf_parse.specs.TrstWord.{TrstWord}
+use Rattle.svf_parse.specs.TrstWord.TheVariants as word
 pub use Rattle.jt_tap.specs.Paths.{last_of}
 use Rattle.scan_vectors.specs.Vector.{VectorBit}
 

@@ -10,3 +10,4 @@ pub use kept::{Kept, KeptPart, KeptStep, len_at, path_at, tdi_at, tdo_at};
 pub use periods::{DEFAULT_PERIOD, PeriodChange, Periods};
 pub use program::{Program, Steps};
 pub use step::{Action, Step};
+pub use svf_parse::TrstWord;

@@ -3,7 +3,7 @@ use Rattle.std.specs.Prelude.{true, false, List, [], ◌∷◌, ◌++◌, map, r
 use Rattle.jt_tap.specs.declared.State.{State}
 use Rattle.jt_tap.specs.Controller.{is_at}
 use Rattle.jt_tap.specs.Paths.{go, to_shift, from_exit1}
-use Rattle.svf_words.specs.declared.keywords.TrstWord.TheVariants as word
+use Rattle.svf_programs.specs.TrstWord.TheVariants as word
 use Rattle.scan_vectors.specs.Vector.{VectorBit}
 use Rattle.svf_programs.specs.Steps.{Step, Scan, Go, Path, Run, Trst}
 use Rattle.bitbang_protocol.specs.declared.Cycle.{Cycle}

@@ -14,3 +14,4 @@ pub use bitbang_protocol::Cycle;
 pub use place::place_after;
 pub use shifts::Shifts;
 pub use source::{Source, Spot};
+pub use svf_programs::{Action, Step, TrstWord};

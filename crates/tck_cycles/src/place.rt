@@ -5,8 +5,7 @@ ghost use Rattle.svf_programs.specs.Seen as seen;
 ghost use Rattle.svf_programs.specs.Steps as steps;
 
 use jt_tap::{State, last_of};
-use svf_parse::TrstWord;
-use svf_programs::{Action, Step};
+use svf_programs::{Action, Step, TrstWord};
 
 /// Where a step comes to rest that begins at this place.
 pub fn place_after(place: State, step: &Step) -> State

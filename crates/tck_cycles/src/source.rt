@@ -11,8 +11,7 @@ use crate::shifts::Shifts;
 use arrayvec::ArrayVec;
 use bitbang_protocol::Cycle;
 use jt_tap::State;
-use svf_parse::TrstWord;
-use svf_programs::{Action, Step};
+use svf_programs::{Action, Step, TrstWord};
 
 /// A place in the cycles of a step. It borrows nothing.
 #[derive(Debug, Clone, Copy, PartialEq, Eq)]

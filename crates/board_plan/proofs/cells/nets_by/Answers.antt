@@ -1,6 +1,6 @@
 use Rattle.std.proofs.Common.{None}
-use Rattle.bsdl_device.specs.declared.Cell.{Cell}
-use Rattle.bsdl_device.specs.declared.Function.TheVariants.{Input}
+use Rattle.chip_instructions.specs.Cell.{Cell}
+use Rattle.chip_instructions.specs.Function.TheVariants.{Input}
 use Rattle.board_plan.specs.CellNets.{net_by}
 use Rattle.board_plan.proofs.CellLaws.{mapped_push}
 use Rattle.board_plan.proofs.cells.nets_by.Goals as goal

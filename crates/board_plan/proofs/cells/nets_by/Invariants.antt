@@ -1,5 +1,5 @@
 use Rattle.std.proofs.Common.{◌≡◌, map, take}
-use Rattle.bsdl_device.specs.declared.Cell.{Cell}
+use Rattle.chip_instructions.specs.Cell.{Cell}
 use Rattle.board_plan.specs.CellNets.{net_by}
 use Rattle.board_plan.proofs.cells.nets_by.Given as goal
 

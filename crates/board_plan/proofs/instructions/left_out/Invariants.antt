@@ -1,5 +1,5 @@
 use Rattle.std.proofs.Common.{◌≡◌, drop, filter, map, slice_get}
-use Rattle.bsdl_device.specs.Device.{Opcode}
+use Rattle.chip_instructions.specs.Device.{Opcode}
 use Rattle.board_plan.specs.LeftOut.{is_left_out, left_out}
 use Rattle.board_plan.proofs.instructions.left_out.Given as goal
 

@@ -6,8 +6,8 @@ use Rattle.std.specs.Io.KnownBytes.{Appends}
 use Rattle.std.proofs.KnownBytes.{Appends-trans}
 use Rattle.byte_streams.proofs.Fronts.{WritesAll-lost, WritesAll-done}
 use Rattle.byte_streams.proofs.Pieces.{flat_map-more, flat_map-split}
-use Rattle.board_model.specs.Chain.{ChipState}
-use Rattle.board_chips.specs.WiredChips.{chip_state}
+use Rattle.board_chain.specs.Chain.{ChipState}
+use Rattle.board_chain.specs.WiredChips.{chip_state}
 use Rattle.board_report.specs.LeftOut.{device_lines}
 use Rattle.board_report.proofs.report.write_all_left_out.Goals as goal
 

@@ -3,7 +3,7 @@ use Rattle.std.proofs.lemmas.Grind.{common_steps}
 use Rattle.std.specs.Prelude.{codes}
 use Rattle.byte_streams.proofs.Fronts.{WritesAll-is, WritesAll-then, WritesAll-stopped}
 use Rattle.jt_tap.specs.Words.{word}
-use Rattle.board_chips.specs.WiredChips.{chip_state}
+use Rattle.board_chain.specs.WiredChips.{chip_state}
 use Rattle.board_report.specs.Report.{instruction_part}
 use Rattle.board_report.proofs.report.write_device.Goals as goal
 

@@ -6,7 +6,7 @@ use Rattle.std.proofs.KnownBytes.{Appends-trans}
 use Rattle.byte_streams.proofs.Fronts.{WritesAll-lost, WritesAll-done}
 use Rattle.byte_streams.proofs.Pieces.{flat_map-more, flat_map-split}
 use Rattle.pin_nets.specs.Wired.{Net}
-use Rattle.board_model.specs.Chain.{members}
+use Rattle.board_chain.specs.Chain.{members}
 use Rattle.board_report.specs.Report.{net_line}
 use Rattle.board_report.proofs.Lines.{net_said}
 use Rattle.board_report.proofs.report.write_nets.Goals as goal

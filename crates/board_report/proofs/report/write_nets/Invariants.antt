@@ -1,7 +1,7 @@
 use Rattle.std.proofs.Common.{◌≡◌, take}
 use Rattle.std.specs.Prelude.{flat_map}
 use Rattle.std.specs.Io.KnownBytes.{Appends}
-use Rattle.board_model.specs.Chain.{members}
+use Rattle.board_chain.specs.Chain.{members}
 use Rattle.board_report.specs.Report.{net_line}
 use Rattle.board_report.proofs.report.write_nets.Given as goal
 

@@ -14,7 +14,7 @@ use Rattle.board_model.specs.Whole.{AtRest}
 use Rattle.play_model.proofs.AfterOpening.{standing-members}
 use Rattle.play_model.specs.DirectPlay.{opened_state}
 use Rattle.play_model.specs.Meaning.{after_step}
-use Rattle.play_direct.proofs.WholePlay.{opened}
+use Rattle.board_faults.proofs.WholePlay.{opened}
 use Rattle.play_coverage.specs.declared.contending.Contention.{Contention}
 use Rattle.play_coverage.specs.Contending.{contending, contention, either, newly, opposed}
 use Rattle.play_coverage.proofs.Marks.{either_long}

@@ -2,7 +2,7 @@ use Rattle.std.proofs.Common.{◌≡◌, ◌++◌, ℕ, List, ap, ap₂, ◌∙�
 use Rattle.output_words.specs.Statuses.{number}
 use Rattle.svf_programs.specs.Sizes.{program_of}
 use Rattle.board_plan.specs.View.{wiring}
-use Rattle.jt_board.specs.Made.{board_of}
+use Rattle.board_faults.specs.Made.{board_of}
 use Rattle.play_coverage.specs.Contending as spec
 use Rattle.play_coverage.specs.Lines.{cover_lines, cover_status}
 use Rattle.play_coverage.proofs.covering.cover_of.Goals as goal

@@ -1,7 +1,7 @@
 use Rattle.std.proofs.Common.{◌≡◌, refl, sym, ◌∙◌}
 use Rattle.svf_programs.specs.Sizes.{program_of}
 use Rattle.board_plan.specs.View.{wiring}
-use Rattle.jt_board.specs.Made.{board_of}
+use Rattle.board_faults.specs.Made.{board_of}
 use Rattle.play_model.specs.Play.{play}
 use Rattle.play_coverage.proofs.Telling.{passed, verdict_lost}
 use Rattle.play_coverage.proofs.covering.write_cover.Goals as goal

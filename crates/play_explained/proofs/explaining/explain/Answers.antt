@@ -9,7 +9,7 @@ use Rattle.board_model.specs.Resting.{IsAtRest}
 use Rattle.play_model.specs.DirectPlay.{opened_state}
 use Rattle.play_model.specs.Meaning.{after_step}
 use Rattle.play_model.specs.Streams.{most_kept}
-use Rattle.play_direct.proofs.WholePlay.{opened}
+use Rattle.jt_player.proofs.WholePlay.{opened}
 use Rattle.play_explained.specs.declared.explaining.Explained.{Explained}
 use Rattle.play_explained.specs.Explaining.{explained, step_explained}
 use Rattle.play_explained.specs.Kept.{plates}

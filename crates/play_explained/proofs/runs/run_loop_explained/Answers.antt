@@ -1,10 +1,10 @@
 use Rattle.std.proofs.Common.{◌≡◌, ◌++◌, ap, subst, ◌∙◌}
 use Rattle.svf_programs.specs.Sizes.{program_of}
 use Rattle.svf_programs.specs.Steps.{Program}
-use Rattle.board_report.specs.Report.{report}
+use Rattle.jt_board.specs.Report.{report}
 use Rattle.play_model.specs.Endings.{status_of}
 use Rattle.play_model.specs.Streams.{StreamState}
-use Rattle.play_links.specs.Loops.{LoopsAllOver}
+use Rattle.jt_player.specs.Loops.{LoopsAllOver}
 use Rattle.jt_player.specs.Running.{Tells}
 use Rattle.play_explained.specs.Lines.{explained_lines}
 use Rattle.play_explained.specs.Runs.{why_on}

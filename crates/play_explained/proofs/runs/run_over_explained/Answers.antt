@@ -3,7 +3,7 @@ use Rattle.svf_programs.specs.Sizes.{program_of}
 use Rattle.svf_programs.specs.Steps.{Program}
 use Rattle.play_model.specs.Endings.{status_of}
 use Rattle.play_model.specs.Streams.{StreamState}
-use Rattle.play_links.specs.Links.{PlaysAllOver}
+use Rattle.jt_player.specs.Links.{PlaysAllOver}
 use Rattle.jt_player.specs.Running.{Tells}
 use Rattle.play_explained.specs.Lines.{explained_lines, lines_in_program}
 use Rattle.play_explained.proofs.runs.run_over_explained.Goals as goal

@@ -1,6 +1,6 @@
 use Rattle.std.proofs.Common.{refl}
 use Rattle.byte_streams.proofs.Fronts.{WritesAll-stopped, WritesAll-then}
-use Rattle.board_report.specs.Report.{report}
+use Rattle.jt_board.specs.Report.{report}
 use Rattle.play_explained.proofs.runs.write_with_report.Goals as goal
 
 pub returns-in_err-write_played : goal.returns-in_err-write_played

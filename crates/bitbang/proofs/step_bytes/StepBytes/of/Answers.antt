@@ -3,7 +3,7 @@ use Rattle.std.proofs.lemmas.List.{map-append}
 use Rattle.bitbang_protocol.specs.declared.Cycle.{Cycle}
 use Rattle.bitbang_protocol.specs.Protocol.{encode}
 use Rattle.bitbang_protocol.specs.Cycles.{closed_messages}
-use Rattle.svf_programs.specs.Seen as seen
+use Rattle.tck_cycles.specs.Seen as seen
 use Rattle.tck_cycles.specs.Cycles.{cycles}
 use Rattle.bitbang.specs.StepMessages.{line_message}
 use Rattle.bitbang.specs.Left.{bytes_left}

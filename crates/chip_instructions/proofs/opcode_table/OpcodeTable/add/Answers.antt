@@ -2,7 +2,7 @@ use Rattle.std.proofs.Common.{◌≡◌, Bool, List, sym, ap, subst, ◌∙◌, 
 use Rattle.std.specs.BTreeMap.{get}
 use Rattle.std.specs.Option.{option_or}
 use Rattle.std.specs.Ordering.{is_eq}
-use Rattle.jt_bits.specs.Order.{bits_order}
+use Rattle.bsdl_device.specs.Order.{bits_order}
 use Rattle.bsdl_device.specs.Opcodes.{matches, x_as_0}
 use Rattle.chip_instructions.specs.OpcodeTable.{IsRising, first_of, row_with_x}
 use Rattle.chip_instructions.specs.declared.opcode_table.WithX.{WithX}

@@ -1,6 +1,6 @@
 use Rattle.std.proofs.Common.{◌≡◌, drop}
 use Rattle.std.specs.BTreeMap.{get}
-use Rattle.jt_bits.specs.Order.{bits_order}
+use Rattle.bsdl_device.specs.Order.{bits_order}
 use Rattle.chip_instructions.specs.OpcodeTable.{row_with_x}
 use Rattle.chip_instructions.proofs.opcode_table.OpcodeTable.row.Given as goal
 

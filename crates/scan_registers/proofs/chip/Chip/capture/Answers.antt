@@ -1,5 +1,5 @@
 use Rattle.std.proofs.Common.{ap, ◌∙◌}
-use Rattle.bsdl_device.specs.Device.{Device}
+use Rattle.chip_instructions.specs.Device.{Device}
 use Rattle.chip_instructions.specs.Fitting.{fixed_of}
 use Rattle.scan_registers.proofs.ChipLaws.{selected_there, fixed_fits}
 use Rattle.scan_registers.proofs.chip.Chip.capture.Goals as goal

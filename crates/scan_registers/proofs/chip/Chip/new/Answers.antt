@@ -1,6 +1,6 @@
 use Rattle.std.proofs.Common.{◌≡◌, false, length, sym, ap, subst, ◌∙◌}
 use Rattle.std.proofs.lemmas.List.{length-replicate}
-use Rattle.bsdl_device.specs.Device.{Device}
+use Rattle.chip_instructions.specs.Device.{Device}
 use Rattle.chip_instructions.specs.Fitting.{IsFormed, Fits}
 use Rattle.chip_instructions.specs.Instruction.{reset_latch}
 use Rattle.scan_registers.proofs.ChipLaws.{started, started_at, lengths_at_start}
