@@ -4,7 +4,7 @@ use Rattle.std.specs.Prelude.{ℕ, ◌-◌, ◌^◌, Bool, true, false, List, []
 use Rattle.std.specs.Prelude.{if◌then◌else◌, option_and_then, unwrap_or}
 use Rattle.std.specs.Option.{option_map_or}
 use Rattle.std.specs.Str.Parse.{digits_value, without_leading_plus}
-use Rattle.clap.specs.Simple.{new_shape}
+use Rattle.clap.specs.Simple.{new_shape, on_top}
 use Rattle.clap.specs.ValueTests.{is_unsigned_in}
 use Rattle.clap.specs.Words.{App, Row, Rule, Shape, Text, first_of, new_app, new_rule, one_of, subcommand_of}
 use Rattle.clap.specs.Words.{with_subcommand}
@@ -125,11 +125,15 @@ list = record (new_rule (codes "list")) { long = Some (codes "list"); action = S
 abbrev pub cover : Shape
 cover = record (new_shape (codes "cover")) { rules = svf ∷ served_board ∷ list ∷ [] }
 
+-- a command that tells its version where it is asked for it
+abbrev pub with_version : App → App
+with_version a = on_top (λ s. record s { has_version = true }) a
+
 -- the program's command line
 abbrev pub jt_tool : App
 jt_tool =
     with_subcommand (with_subcommand (with_subcommand (with_subcommand (with_subcommand (with_subcommand
-    (with_subcommand (new_app (codes "jt_tool")) play) check) loop) serve) connect) describe) cover
+    (with_subcommand (with_version (new_app (codes "jt_tool"))) play) check) loop) serve) connect) describe) cover
 
 -- a server that is played on
 pub record Host : Type 0 where

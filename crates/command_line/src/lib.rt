@@ -2,6 +2,7 @@
 #![tactic(auto)]
 
 mod descriptions;
+mod help;
 mod nodes;
 mod outputs;
 mod request;

@@ -2,11 +2,12 @@
 
 ghost use Rattle.std.specs.Prelude.{◌≡◌, map, false, IfOk};
 ghost use Rattle.clap.specs.declared.builder.command.Command.TheViews.{out-Command};
-ghost use Rattle.clap.specs.Words.{FailsBy, app_of, fault_of, found_of, rows_of, rule_of, shape_of};
+ghost use Rattle.clap.specs.Words.{FailsBy, app_of, fault_of, found_of, new_app, rows_of, rule_of, shape_of};
 ghost use Rattle.clap.specs.Words.{subcommand_rows_of};
 ghost use Rattle.command_line.specs.Asking as spec;
 ghost use Rattle.command_line.specs.View.{action_of, asked_of, server_view};
 
+use crate::help;
 use clap::builder::ValueParser;
 use clap::{Arg, ArgAction, ArgMatches, Command, Error};
 use std::alloc::{AllocError, Global};
@@ -109,8 +110,8 @@ pub struct Request<'a> {
 /// - `describe --board BOARD`,
 /// - `cover [FILE] --board BOARD [--list]`.
 ///
-/// Refused are words that none of these takes, and a number that is not in its range; a call for help comes as such an
-/// error too.
+/// Refused are words that none of these takes, and a number that is not in its range; a call for help or for the version
+/// comes as such an error too.
 pub fn parse<'a>(alloc: Global, words: &'a [&'a str]) -> Result<Request<'a>, Error>
     // What the words ask for.
     ensures asked { IfOk result (λ r. asked_of r ≡ spec.asked (map (λ w. w.now) words.now)) }
@@ -252,105 +253,140 @@ fn is_given(found: &ArgMatches<'_>, flag: &str) -> bool
 fn command<'a>(alloc: Global) -> Result<Command<'a>, AllocError>
     ensures { IfOk result (λ c. app_of c ≡ spec.jt_tool) }
 {
-    Command::new(alloc, "jt_tool")
-        .about("Plays Serial Vector Format programs on a simulated boundary-scan board")
-        .subcommand(play_command(alloc)?)?
-        .subcommand(check_command(alloc)?)?
-        .subcommand(loop_command(alloc)?)?
-        .subcommand(serve_command(alloc)?)?
-        .subcommand(connect_command(alloc)?)?
-        .subcommand(describe_command(alloc)?)?
-        .subcommand(cover_command(alloc)?)
+    titled(
+        alloc,
+        "jt_tool",
+        "Plays Serial Vector Format programs on a simulated boundary-scan board",
+        help::ALL,
+    )
+    .version(help::VERSION)
+    .subcommand(play_command(alloc)?)?
+    .subcommand(check_command(alloc)?)?
+    .subcommand(loop_command(alloc)?)?
+    .subcommand(serve_command(alloc)?)?
+    .subcommand(connect_command(alloc)?)?
+    .subcommand(describe_command(alloc)?)?
+    .subcommand(cover_command(alloc)?)
+}
+
+/// A command of this name, with what help tells of it in front of the options and behind them.
+fn titled<'a>(alloc: Global, name: &'a str, about: &'a str, more: &'a str) -> Command<'a>
+    ensures app { app_of result ≡ new_app name.now }
+    ensures local { (out-Command result).has_globals ≡ false }
+{
+    Command::new(alloc, name).about(about).after_help(more)
 }
 
 fn play_command<'a>(alloc: Global) -> Result<Command<'a>, AllocError>
     ensures shape { IfOk result (λ c. shape_of c ≡ spec.play) }
     ensures local { IfOk result (λ c. (out-Command c).has_globals ≡ false) }
 {
-    Command::new(alloc, "play")
-        .about("Plays a program in process, and prints the verdict and the board's report")
-        .arg(svf_arg(alloc))?
-        .arg(board_arg(alloc))?
-        .arg(bytes_arg(alloc))?
-        .arg(all_arg(alloc))?
-        .arg(reasons_arg(alloc))?
-        .arg(vcd_arg(alloc))
+    titled(
+        alloc,
+        "play",
+        "Plays a program in process, and prints the verdict and the board's report",
+        help::PLAY,
+    )
+    .arg(svf_arg(alloc))?
+    .arg(board_arg(alloc))?
+    .arg(bytes_arg(alloc))?
+    .arg(all_arg(alloc))?
+    .arg(reasons_arg(alloc))?
+    .arg(vcd_arg(alloc))
 }
 
 fn check_command<'a>(alloc: Global) -> Result<Command<'a>, AllocError>
     ensures shape { IfOk result (λ c. shape_of c ≡ spec.check) }
     ensures local { IfOk result (λ c. (out-Command c).has_globals ≡ false) }
 {
-    Command::new(alloc, "check")
-        .about(
-            "Tells whether a program is accepted, its statements and steps, and which instructions stand for BYPASS",
-        )
-        .arg(svf_arg(alloc))?
-        .arg(board_arg(alloc))?
-        .arg(explain_arg(alloc))
+    titled(
+        alloc,
+        "check",
+        "Tells whether a program is accepted, its statements and steps, and which instructions stand for BYPASS",
+        help::CHECK,
+    )
+    .arg(svf_arg(alloc))?
+    .arg(board_arg(alloc))?
+    .arg(explain_arg(alloc))
 }
 
 fn loop_command<'a>(alloc: Global) -> Result<Command<'a>, AllocError>
     ensures shape { IfOk result (λ c. shape_of c ≡ spec.loop) }
     ensures local { IfOk result (λ c. (out-Command c).has_globals ≡ false) }
 {
-    Command::new(alloc, "loop")
-        .about(
-            "Plays a program over a socket of this machine, and prints the verdict and the board's report",
-        )
-        .arg(svf_arg(alloc))?
-        .arg(board_arg(alloc))?
-        .arg(all_arg(alloc))?
-        .arg(reasons_arg(alloc))
+    titled(
+        alloc,
+        "loop",
+        "Plays a program over a socket of this machine, and prints the verdict and the board's report",
+        help::LOOP,
+    )
+    .arg(svf_arg(alloc))?
+    .arg(board_arg(alloc))?
+    .arg(all_arg(alloc))?
+    .arg(reasons_arg(alloc))
 }
 
 fn serve_command<'a>(alloc: Global) -> Result<Command<'a>, AllocError>
     ensures shape { IfOk result (λ c. shape_of c ≡ spec.serve) }
     ensures local { IfOk result (λ c. (out-Command c).has_globals ≡ false) }
 {
-    Command::new(alloc, "serve")
-        .about("Serves a board to clients on 127.0.0.1, by OpenOCD's remote_bitbang protocol")
-        .arg(served_board_arg(alloc))?
-        .arg(port_arg(alloc))?
-        .arg(at_most_arg(alloc))?
-        .arg(connections_arg(alloc))?
-        .arg(timeout_arg(alloc))
+    titled(
+        alloc,
+        "serve",
+        "Serves a board to clients on 127.0.0.1, by OpenOCD's remote_bitbang protocol",
+        help::SERVE,
+    )
+    .arg(served_board_arg(alloc))?
+    .arg(port_arg(alloc))?
+    .arg(at_most_arg(alloc))?
+    .arg(connections_arg(alloc))?
+    .arg(timeout_arg(alloc))
 }
 
 fn connect_command<'a>(alloc: Global) -> Result<Command<'a>, AllocError>
     ensures shape { IfOk result (λ c. shape_of c ≡ spec.connect) }
     ensures local { IfOk result (λ c. (out-Command c).has_globals ≡ false) }
 {
-    Command::new(alloc, "connect")
-        .about(
-            "Plays a program on a server of OpenOCD's remote_bitbang protocol, and prints the verdict",
-        )
-        .arg(svf_arg(alloc))?
-        .arg(port_arg(alloc))?
-        .arg(host_arg(alloc))?
-        .arg(timeout_arg(alloc))?
-        .arg(all_arg(alloc))?
-        .arg(reasons_arg(alloc))
+    titled(
+        alloc,
+        "connect",
+        "Plays a program on a server of OpenOCD's remote_bitbang protocol, and prints the verdict",
+        help::CONNECT,
+    )
+    .arg(svf_arg(alloc))?
+    .arg(port_arg(alloc))?
+    .arg(host_arg(alloc))?
+    .arg(timeout_arg(alloc))?
+    .arg(all_arg(alloc))?
+    .arg(reasons_arg(alloc))
 }
 
 fn describe_command<'a>(alloc: Global) -> Result<Command<'a>, AllocError>
     ensures shape { IfOk result (λ c. shape_of c ≡ spec.describe) }
     ensures local { IfOk result (λ c. (out-Command c).has_globals ≡ false) }
 {
-    Command::new(alloc, "describe")
-        .about("Prints a board's devices, instructions, cells and nets, one fact a line")
-        .arg(served_board_arg(alloc))
+    titled(
+        alloc,
+        "describe",
+        "Prints a board's devices, instructions, cells and nets, one fact a line",
+        help::DESCRIBE,
+    )
+    .arg(served_board_arg(alloc))
 }
 
 fn cover_command<'a>(alloc: Global) -> Result<Command<'a>, AllocError>
     ensures shape { IfOk result (λ c. shape_of c ≡ spec.cover) }
     ensures local { IfOk result (λ c. (out-Command c).has_globals ≡ false) }
 {
-    Command::new(alloc, "cover")
-        .about("Tells which single faults of a board's nets a program would miss")
-        .arg(svf_arg(alloc))?
-        .arg(served_board_arg(alloc))?
-        .arg(list_arg(alloc))
+    titled(
+        alloc,
+        "cover",
+        "Tells which single faults of a board's nets a program would miss",
+        help::COVER,
+    )
+    .arg(svf_arg(alloc))?
+    .arg(served_board_arg(alloc))?
+    .arg(list_arg(alloc))
 }
 
 fn list_arg<'a>(alloc: Global) -> Arg<'a>

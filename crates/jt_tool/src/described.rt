@@ -8,7 +8,8 @@ use byte_streams::{Counted, Sink};
 use command_line::{Descriptions, InputFault, read_board_file};
 use jt_board::{PlanFault, bare_plan, plan_of_table, unplaced};
 use play_coverage::write_cover;
-use play_explained::plain::{Board, BoardFault, Program, board_table, table_names};
+use play_explained::plain::{Board, BoardFault, Kind, Program, board_table, table_names};
+use play_explained::run_play_explained;
 use play_waves::Stage;
 use std::alloc::{AllocError, Global};
 use std::marker::Model;
@@ -164,9 +165,26 @@ impl Planned {
         }
     }
 
-    /// The same board, as a stage of waves.
-    pub(crate) fn stage(&self, alloc: Global) -> Result<Stage, AllocError> {
-        Stage::powered_up(alloc, &self.plan)
+    /// The same board, as a stage of waves, for a player of this kind.
+    pub(crate) fn stage(&self, alloc: Global, kind: Kind) -> Result<Stage, AllocError> {
+        Stage::powered_up(alloc, &self.plan, kind)
+    }
+
+    /// Plays an accepted program of a text on a board, and tells of each bit that fails why, as it is found on the board
+    /// of the plan. Answers the exit status.
+    pub(crate) fn play_explained<W: Sink>(
+        &self,
+        alloc: Global,
+        kind: Kind,
+        program: &Program,
+        text: &[u8],
+        bytes: bool,
+        board: &mut Board,
+        out: &mut Counted<W>,
+    ) -> Result<u8, Untold>
+        requires { out.old.failures ≡ 0 }
+    {
+        run_play_explained(alloc, kind, program, text, bytes, board, &self.plan, out)
     }
 
     /// Writes what is to be known of the board.

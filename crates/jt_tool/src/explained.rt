@@ -1,15 +1,15 @@
 //! Where a refusal lies, for a user who asks.
 ghost use Rattle.std.specs.Prelude.{◌≡◌};
 
-use crate::described::{RefusedFile, Unmade};
+use crate::described::{Planned, RefusedFile, Unmade};
 use crate::statuses::or_lost;
+use board_description::Untold;
 use byte_streams::{Broken, Counted, Plain, Sink};
 use output_words::Status;
 use play_explained::plain::{
-    Board, BoardFault, Kind, Program, SvfFault, accept, refuse_board, refuse_file, refuse_text,
-    run_program,
+    Board, BoardFault, Kind, Program, SvfFault, accept, check_program, refuse_board, refuse_file,
+    refuse_text, run_program,
 };
-use play_explained::run_play_explained;
 use refusal_places::{refused_board, refused_description, refused_text};
 use std::alloc::Global;
 
@@ -30,23 +30,35 @@ pub(crate) fn accept_text(
     }
 }
 
-/// Plays an accepted program of a text on a board; where the same board comes once more, it is told of each bit that
-/// fails why, as it is found there. Answers the exit status.
+/// Plays an accepted program of a text on a board; where its plan is given, it is told of each bit that fails why, as it
+/// is found on the board of that plan. Answers the exit status.
 pub(crate) fn play_accepted<W: Sink>(
+    alloc: Global,
     kind: Kind,
     program: &Program,
     text: &[u8],
     bytes: bool,
     board: &mut Board,
-    other: Option<Board>,
+    planned: Option<&Planned>,
     out: &mut Counted<W>,
-) -> Result<u8, Broken>
+) -> Result<u8, Untold>
     requires { out.old.failures ≡ 0 }
 {
-    match other {
-        Some(mut other) => run_play_explained(kind, program, text, bytes, board, &mut other, out),
-        None => run_program(kind, program, board, bytes, out),
+    match planned {
+        Some(planned) => planned.play_explained(alloc, kind, program, text, bytes, board, out),
+        None => Ok(run_program(kind, program, board, bytes, out)?),
     }
+}
+
+/// Tells of an accepted program, and plays nothing. Answers the exit status.
+pub(crate) fn check_accepted<W: Sink>(
+    program: &Program,
+    board: &Board,
+    out: &mut Counted<W>,
+) -> Result<u8, Untold>
+    requires { out.old.failures ≡ 0 }
+{
+    Ok(check_program(program, board, out)?)
 }
 
 /// Tells why a text is refused, and where it is asked for where that lies. Answers the exit status.

@@ -9,7 +9,7 @@ mod statuses;
 mod waves;
 
 use crate::described::{Boards, Planned, Unmade, plan_board};
-use crate::explained::{accept_text, play_accepted, tell_unmade};
+use crate::explained::{accept_text, check_accepted, play_accepted, tell_unmade};
 use crate::linked::{AcceptedText, loop_over_socket, play_on_server};
 use crate::links::{accept, listen};
 use crate::statuses::{or_lost, tell_line, tell_memory};
@@ -20,8 +20,8 @@ use clap::error::ErrorKind as WordsFault;
 use command_line::{InputFault, Request, Serving, StandIns, Task, command_words, parse, read_text};
 use output_words::Status;
 use play_explained::plain::{
-    Board, Kind, Program, Served, check_program, refuse_file, refuse_memory, run_serve,
-    tell_listening, tell_served, write_report,
+    Board, Kind, Program, Served, refuse_file, refuse_memory, run_serve, tell_listening,
+    tell_served, write_report,
 };
 use play_waves::{Undrawn, status_behind};
 use std::alloc::Global;
@@ -96,24 +96,15 @@ fn run_request(rt: &HostRuntime, alloc: Global, request: &Request<'_>) -> u8 {
 }
 
 /// Describes the board of a plan, tells which of its faults a text would miss, or powers it up and does with it what is
-/// asked for. The plan is kept only where waves are drawn on the same board.
+/// asked for.
 fn run_planned(rt: &HostRuntime, alloc: Global, request: &Request<'_>, planned: Planned) -> u8 {
-    let explain = explains(request.task);
     match request.task {
-        Task::Describe => return describe_board(rt, alloc, &planned),
-        Task::Cover { listed } => return cover_board(rt, alloc, request.svf, &planned, listed),
-        _ => {}
-    }
-    let boards = match planned.boards(alloc, explain && plays(request.task)) {
-        Ok(boards) => boards,
-        Err(fault) => return refuse_board(rt, &fault, explain),
-    };
-    match waves_of(request.task) {
-        Some(waves) => draw_play(rt, alloc, request, waves, &planned, boards),
-        None => {
-            drop(planned);
-            run_boards(rt, alloc, request, boards)
-        }
+        Task::Describe => describe_board(rt, alloc, &planned),
+        Task::Cover { listed } => cover_board(rt, alloc, request.svf, &planned, listed),
+        task => match planned.boards(alloc, explains(task) && loops(task)) {
+            Ok(boards) => run_boards(rt, alloc, request, planned, boards),
+            Err(fault) => refuse_board(rt, &fault, explains(task)),
+        },
     }
 }
 
@@ -173,16 +164,9 @@ fn explains(task: Task<'_>) -> bool {
     }
 }
 
-/// Whether a text is played on a board of the program.
-fn plays(task: Task<'_>) -> bool {
-    match task {
-        Task::Play { .. } | Task::Loop { .. } => true,
-        Task::Check { .. }
-        | Task::Connect { .. }
-        | Task::Serve(_)
-        | Task::Describe
-        | Task::Cover { .. } => false,
-    }
+/// Whether a text is played over a connection of the program with itself.
+fn loops(task: Task<'_>) -> bool {
+    matches!(task, Task::Loop { .. })
 }
 
 /// The file that waves are drawn into, where one is named.
@@ -193,8 +177,34 @@ fn waves_of<'a>(task: Task<'a>) -> Option<&'a str> {
     }
 }
 
-/// Does with a board what is asked for.
-fn run_boards(rt: &HostRuntime, alloc: Global, request: &Request<'_>, boards: Boards) -> u8 {
+/// Does with a board what is asked for. Its plan is kept only where waves are drawn, or reasons found, on the same board.
+fn run_boards(
+    rt: &HostRuntime,
+    alloc: Global,
+    request: &Request<'_>,
+    planned: Planned,
+    boards: Boards,
+) -> u8 {
+    if let Some(waves) = waves_of(request.task) {
+        return draw_play(rt, alloc, request, waves, &planned, boards.board);
+    }
+    if explains(request.task) && !loops(request.task) {
+        let mut board = boards.board;
+        return run_text(
+            rt,
+            alloc,
+            request.svf,
+            request.task,
+            &mut board,
+            Some(&planned),
+        );
+    }
+    drop(planned);
+    run_alone(rt, alloc, request, boards)
+}
+
+/// Does with a board what is asked for and needs no plan.
+fn run_alone(rt: &HostRuntime, alloc: Global, request: &Request<'_>, boards: Boards) -> u8 {
     let Boards { mut board, other } = boards;
     match request.task {
         Task::Serve(serving) => or_lost(serve(rt, &mut board, serving)),
@@ -202,21 +212,21 @@ fn run_boards(rt: &HostRuntime, alloc: Global, request: &Request<'_>, boards: Bo
             Ok(accepted) => loop_over_socket(rt, alloc, kind_of(all), accepted, &mut board, other),
             Err(status) => status,
         },
-        task => run_text(rt, alloc, request.svf, task, &mut board, other),
+        task => run_text(rt, alloc, request.svf, task, &mut board, None),
     }
 }
 
-/// Plays a text on a board, or checks it.
+/// Plays a text on a board, or checks it; where a plan is given, it is told why bits fail, by the board of that plan.
 fn run_text(
     rt: &HostRuntime,
     alloc: Global,
     name: Option<&str>,
     task: Task<'_>,
     board: &mut Board,
-    other: Option<Board>,
+    planned: Option<&Planned>,
 ) -> u8 {
     match read_text(rt, alloc, name) {
-        Ok(text) => told(rt, alloc, &text, task, board, other),
+        Ok(text) => told(rt, alloc, &text, task, board, planned),
         Err(fault) => refuse_input(rt, name.unwrap_or("-"), fault),
     }
 }
@@ -228,10 +238,10 @@ fn draw_play(
     request: &Request<'_>,
     waves: &str,
     planned: &Planned,
-    boards: Boards,
+    board: Board,
 ) -> u8 {
     match text_and_waves(rt, alloc, request, waves, planned.descriptions()) {
-        Ok((text, file)) => draw_text(rt, alloc, &text, request.task, planned, boards, file),
+        Ok((text, file)) => draw_text(rt, alloc, &text, request.task, planned, board, file),
         Err(status) => status,
     }
 }
@@ -243,12 +253,12 @@ fn draw_text(
     text: &[u8],
     task: Task<'_>,
     planned: &Planned,
-    boards: Boards,
+    board: Board,
     file: File,
 ) -> u8 {
     match accept_text(rt, alloc, text, explains(task)) {
         Ok(program) => {
-            let status = told_on(rt, &program, text, task, boards);
+            let status = told_on(rt, alloc, &program, text, task, planned, board);
             draw_behind(rt, alloc, &program, task, planned, file, status)
         }
         Err(status) => status,
@@ -279,10 +289,19 @@ fn text_and_waves(
     }
 }
 
-/// Plays an accepted program of a text on a board. Answers the exit status.
-fn told_on(rt: &HostRuntime, program: &Program, text: &[u8], task: Task<'_>, boards: Boards) -> u8 {
-    let Boards { mut board, other } = boards;
-    told_of(rt, program, text, task, &mut board, other)
+/// Plays an accepted program of a text on the board of a plan. Answers the exit status.
+fn told_on(
+    rt: &HostRuntime,
+    alloc: Global,
+    program: &Program,
+    text: &[u8],
+    task: Task<'_>,
+    planned: &Planned,
+    board: Board,
+) -> u8 {
+    let mut board = board;
+    let planned = if explains(task) { Some(planned) } else { None };
+    told_of(rt, alloc, program, text, task, &mut board, planned)
 }
 
 /// Accepts a text, and plays it on a board, or checks it. Answers the exit status.
@@ -292,10 +311,10 @@ fn told(
     text: &[u8],
     task: Task<'_>,
     board: &mut Board,
-    other: Option<Board>,
+    planned: Option<&Planned>,
 ) -> u8 {
     match accept_text(rt, alloc, text, explains(task)) {
-        Ok(program) => told_of(rt, &program, text, task, board, other),
+        Ok(program) => told_of(rt, alloc, &program, text, task, board, planned),
         Err(status) => status,
     }
 }
@@ -303,21 +322,25 @@ fn told(
 /// Plays an accepted program of a text on a board, or tells that it is accepted. Answers the exit status.
 fn told_of(
     rt: &HostRuntime,
+    alloc: Global,
     program: &Program,
     text: &[u8],
     task: Task<'_>,
     board: &mut Board,
-    other: Option<Board>,
+    planned: Option<&Planned>,
 ) -> u8 {
     let mut out = Counted::new(Plain(io::writer(rt)));
-    let status = match task {
+    let told = match task {
         Task::Play { bytes, all, .. } => {
             let kind = kind_of(all);
-            play_accepted(kind, program, text, bytes, board, other, &mut out)
+            play_accepted(alloc, kind, program, text, bytes, board, planned, &mut out)
         }
-        _ => check_program(program, board, &mut out),
+        _ => check_accepted(program, board, &mut out),
     };
-    or_lost(status)
+    match told {
+        Ok(status) => status,
+        Err(fault) => refuse_untold(rt, fault),
+    }
 }
 
 /// Draws the waves of a play that ended with this status, where it was played at all. Answers the status, or that they
@@ -334,15 +357,21 @@ fn draw_behind(
     if status != Status::Pass.number() && status != Status::Fail.number() {
         return status;
     }
-    let all = matches!(task, Task::Play { all: true, .. });
-    let drawn = match planned.stage(alloc) {
-        Ok(stage) => draw_waves(alloc, kind_of(all), program, stage, file),
+    let drawn = match planned.stage(alloc, drawn_as(task, status)) {
+        Ok(stage) => draw_waves(alloc, program, stage, file),
         Err(_) => Err(Undrawn::NoMemory),
     };
     if matches!(drawn, Err(Undrawn::NoMemory)) {
         return tell_memory(rt);
     }
     status_behind(status, drawn)
+}
+
+/// The kind of player whose play is drawn, of one that ended with this status: without a failure each is drawn as one
+/// that plays on, for which no board is needed that judges.
+fn drawn_as(task: Task<'_>, status: u8) -> Kind {
+    let all = matches!(task, Task::Play { all: true, .. });
+    kind_of(all || status == Status::Pass.number())
 }
 
 /// Tells that a file of waves cannot be made, or that memory ran out for it. Answers the exit status.

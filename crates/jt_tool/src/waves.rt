@@ -2,7 +2,7 @@
 
 use byte_streams::{Counted, Plain};
 use command_line::{InputFault, Request, head_of, is_in_use};
-use play_explained::plain::{Kind, Program};
+use play_explained::plain::Program;
 use play_waves::{Stage, Undrawn, begins_as_waves, write_waves};
 use std::alloc::Global;
 use std::fs::File;
@@ -27,10 +27,9 @@ pub(crate) fn may_be_made(
     Ok(head.is_empty() || begins_as_waves(&head))
 }
 
-/// Draws the waves of an accepted program, as a player of this kind plays it, into a file.
+/// Draws the waves of an accepted program, as the player of a stage plays it, into a file.
 pub(crate) fn draw_waves(
     alloc: Global,
-    kind: Kind,
     program: &Program,
     stage: Stage,
     file: File,
@@ -39,7 +38,7 @@ pub(crate) fn draw_waves(
         return Err(Undrawn::NoMemory);
     };
     let mut out = Counted::new(Plain(&mut writer));
-    let written = write_waves(program, kind, stage, &mut out).is_ok();
+    let written = write_waves(program, stage, &mut out).is_ok();
     if written && writer.flush().is_ok() {
         Ok(())
     } else {

@@ -3,3 +3,4 @@ pub mod Passing
 pub mod Plates
 pub mod Reasons
 pub mod WantedSteps
+pub mod ToldLaws

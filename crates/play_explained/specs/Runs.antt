@@ -1,11 +1,13 @@
 -- Runs that say why bits fail. The reasons are found on another board, on which the program is played once more.
-use Rattle.std.specs.Prelude.{ℕ, Bool, List, ◌++◌}
+use Rattle.std.specs.Prelude.{ℕ, Bool, List, ◌++◌, Option, Some, None}
 use Rattle.scan_vectors.specs.declared.failures.Mismatch.{Mismatch}
 use Rattle.svf_programs.specs.Steps.{Program}
 use Rattle.board_model.specs.Chain.{BoardState}
 use Rattle.jt_board.specs.Report.{report}
 use Rattle.play_model.specs.ScheduleLaws.{full}
 use Rattle.play_model.specs.DirectPlay.{opened_state}
+use Rattle.play_model.specs.declared.ending.Ending.{Ending}
+use Rattle.play_model.specs.declared.ending.Ending.TheVariants.{Fail}
 use Rattle.play_model.specs.declared.kind.Kind.{Kind}
 use Rattle.jt_player.specs.Kinds.{ending_in, found_in}
 use Rattle.jt_player.specs.Running.{Run, note, played_run}
@@ -26,3 +28,8 @@ explained_run kind bytes text program before other =
     record (played_run kind bytes program before) {
       out = note kind bytes program before ++ told ++ report (full kind program.steps before).board;
     }
+
+-- The board on which reasons are looked for, where a play that ended so has any to tell.
+abbrev pub other_for : Ending → BoardState → Option BoardState
+other_for (Fail command part bit) before = Some before
+other_for _ before = None

@@ -2,6 +2,10 @@
 
 ghost use Rattle.std.specs.Prelude.{◌≡◌, ◌⊎◌, ◌++◌, IfOk, OnOk};
 ghost use Rattle.byte_streams.specs.Writes.{WritesAll};
+ghost use Rattle.board_description.specs.Kept.{Told};
+ghost use Rattle.board_model.specs.Chain.{BoardState};
+ghost use Rattle.board_plan.specs.View.{wiring};
+ghost use Rattle.jt_board.specs.Made.{IsReadyPlan, board_of};
 ghost use Rattle.jt_board.specs.Report.{report};
 ghost use Rattle.play_model.specs.ScheduleLaws.{full};
 ghost use Rattle.jt_player.specs.Links.{PlaysAllOver};
@@ -13,74 +17,139 @@ ghost use Rattle.svf_programs.specs.Sizes.{program_of};
 ghost use Rattle.jt_player.specs.Kinds.{MeansAsPlayed};
 ghost use Rattle.jt_player.specs.Running.{Tells};
 ghost use Rattle.play_explained.specs.Lines.{explained_lines, lines_in_program};
-ghost use Rattle.play_explained.specs.Runs.{explained_run, why_on};
+ghost use Rattle.play_explained.specs.Runs.{explained_run, other_for, why_on};
 
 use crate::explaining::explain;
 use crate::telling::{Known, write_explained};
+use board_description::Untold;
+use board_plan::Plan;
 use byte_streams::{Broken, Counted, End, Sink, Source};
 use jt_board::{Board, write_report};
-use jt_player::{fresh_player, loop_over_lent, play_and_note, play_over_lent};
+use jt_player::{fresh_player, loop_over_lent, play_and_note, play_over_lent, write_verdict};
 use play_model::{Ending, Kind};
 use player::Player;
 use scan_vectors::Failures;
-use std::alloc::Global;
+use std::alloc::{AllocError, Global};
 use svf_programs::Program;
 
 /// Plays an accepted program of a text, which is lent, on a board by a player of this kind and tells of it as
 /// `jt_player::run_program` does, and behind the line of each failing bit where its statement starts and why it failed,
-/// as it is found on the other board. Answers the exit status: 0 pass, 1 fail.
+/// as it is found on the board of a plan, which is powered up where a bit failed. Answers the exit status: 0 pass, 1
+/// fail.
 ///
-/// `Broken` comes exactly where the writer's first failure came in this call. Then it was told a front part of what it
-/// was owed, and the board is as it was or as the whole play leaves it.
+/// Refused for want of memory for that board: then the bytes were told, where they are asked for, and nothing else.
+/// `Broken` comes exactly where the writer's first failure came in this call. In both it was told a front part of what
+/// it was owed, and the board is as it was or as the whole play leaves it.
+///
+/// Asks that the plan is ready, as those are that `plan_of_table` and `bare_plan` make.
 pub fn run_play_explained<W: Sink>(
+    alloc: Global,
     kind: Kind,
     program: &Program,
     text: &[u8],
     bytes: bool,
     board: &mut Board,
-    other: &mut Board,
+    plan: &Plan,
     out: &mut Counted<W>,
-) -> Result<u8, Broken>
-    requires { out.old.failures ≡ 0 }
+) -> Result<u8, Untold>
+    requires whole { out.old.failures ≡ 0 }
+    requires ready { IsReadyPlan plan.now }
     // What it means over whole registers.
     ensures means { MeansAsPlayed kind (program_of program.now) board.old }
     // What is told, the exit status, and the board that is left.
-    ensures writes { WritesAll W.contents out.old out.new
-        (explained_run kind bytes text.now (program_of program.now) board.old other.old).out result }
-    ensures status { IfOk result (λ status. status
-        ≡ (explained_run kind bytes text.now (program_of program.now) board.old other.old).status) }
+    ensures writes { Told W.contents out.old out.new (explained_run kind bytes text.now (program_of program.now) board.old
+        (board_of (wiring plan.now))).out result }
+    ensures status { IfOk result (λ status. status ≡ (explained_run kind bytes text.now (program_of program.now)
+        board.old (board_of (wiring plan.now))).status) }
     ensures left { OnOk result (board.new ≡ (full kind program.now.steps board.old).board) }
     ensures board { (board.new ≡ board.old) ⊎ (board.new ≡ (full kind program.now.steps board.old).board) }
 {
     // For the proof alone: what the types keep of a program's steps and of a board's devices.
     let _ = program.len();
     let _ = board.devices();
-    play_and_explain(kind, program, text, bytes, board, other, out)
+    play_and_explain(alloc, kind, program, text, bytes, board, plan, out)
 }
 
 /// Plays and writes the bytes where they are asked for, how it ended with the reasons, and the report. Answers the exit
 /// status of the ending.
 fn play_and_explain<W: Sink>(
+    alloc: Global,
     kind: Kind,
     program: &Program,
     text: &[u8],
     bytes: bool,
     board: &mut Board,
-    other: &mut Board,
+    plan: &Plan,
     out: &mut Counted<W>,
-) -> Result<u8, Broken>
-    requires none_lost { out.old.failures ≡ 0 }
-    ensures writes { WritesAll W.contents out.old out.new
-        (explained_run kind bytes text.now (program_of program.now) board.old other.old).out result }
-    ensures status { IfOk result (λ status. status
-        ≡ (explained_run kind bytes text.now (program_of program.now) board.old other.old).status) }
+) -> Result<u8, Untold>
+    requires whole { out.old.failures ≡ 0 }
+    requires ready { IsReadyPlan plan.now }
+    ensures writes { Told W.contents out.old out.new (explained_run kind bytes text.now (program_of program.now) board.old
+        (board_of (wiring plan.now))).out result }
+    ensures status { IfOk result (λ status. status ≡ (explained_run kind bytes text.now (program_of program.now)
+        board.old (board_of (wiring plan.now))).status) }
     ensures left { OnOk result (board.new ≡ (full kind program.now.steps board.old).board) }
     ensures board { (board.new ≡ board.old) ⊎ (board.new ≡ (full kind program.now.steps board.old).board) }
 {
     let (ending, failures) = play_and_note(kind, program, board, bytes, out)?;
-    write_on_board(kind, ending, &failures, program, text, other, out)?;
-    write_report(board, out)?;
+    let other = other_board(alloc, ending, plan)?;
+    write_by_other(kind, ending, &failures, program, text, other, board, out)?;
     Ok(ending.status())
+}
+
+/// The board of a plan on which reasons are looked for, where a play that ended so has any to tell. Refuses for want of
+/// memory alone.
+fn other_board(alloc: Global, ending: Ending, plan: &Plan) -> Result<Option<Board>, AllocError>
+    requires { IsReadyPlan plan.now }
+    ensures { IfOk result (λ other. other ≡ other_for ending (board_of (wiring plan.now))) }
+{
+    match ending {
+        Ending::Fail { .. } => Ok(Some(Board::powered_up(alloc, plan)?)),
+        _ => Ok(None),
+    }
+}
+
+/// Writes how a play of this kind ended, with the reasons as they are found on the other board, which is there where
+/// there are any, and the report of a board.
+fn write_by_other<W: Sink>(
+    kind: Kind,
+    ending: Ending,
+    failures: &Failures,
+    program: &Program,
+    text: &[u8],
+    other: Option<Board>,
+    board: &Board,
+    out: &mut Counted<W>,
+) -> Result<(), Broken>
+    requires whole { out.old.failures ≡ 0 }
+    requires other { (before : BoardState) × (other ≡ other_for ending before) }
+    ensures { (before : BoardState) → other ≡ other_for ending before → WritesAll W.contents out.old out.new
+        (explained_lines text.now (why_on kind (program_of program.now) before) kind ending (found failures.now)
+        ++ report board.now) result }
+{
+    write_if_failed(kind, ending, failures, program, text, other, out)?;
+    write_report(board, out)
+}
+
+/// Writes how a play of this kind ended, with the reasons as they are found on the other board, which is there where
+/// there are any.
+fn write_if_failed<W: Sink>(
+    kind: Kind,
+    ending: Ending,
+    failures: &Failures,
+    program: &Program,
+    text: &[u8],
+    other: Option<Board>,
+    out: &mut Counted<W>,
+) -> Result<(), Broken>
+    requires { out.old.failures ≡ 0 }
+    ensures { (before : BoardState) → other ≡ other_for ending before → WritesAll W.contents out.old out.new
+        (explained_lines text.now (why_on kind (program_of program.now) before) kind ending (found failures.now)) result }
+{
+    match other {
+        Some(mut other) => write_on_board(kind, ending, failures, program, text, &mut other, out),
+        None => write_verdict(ending, out),
+    }
 }
 
 /// Writes how a play of this kind ended, with the reasons as they are found on this board.

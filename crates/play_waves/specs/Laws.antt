@@ -4,14 +4,18 @@ use Rattle.jt_tap.specs.declared.State.{State}
 use Rattle.bitbang_protocol.specs.declared.Message.{Message}
 use Rattle.bitbang_protocol.specs.declared.Message.TheVariants.{Ask}
 use Rattle.bitbang.specs.StepMessages.{line_message, step_messages}
-use Rattle.svf_programs.specs.Steps.{Step}
+use Rattle.svf_programs.specs.Steps.{Program, Step}
 use Rattle.tck_cycles.specs.Cycles.{cycles}
-use Rattle.board_model.specs.Chain.{hear, reply_of}
+use Rattle.board_model.specs.Chain.{BoardState, hear, reply_of}
 use Rattle.board_model.specs.declared.Reply.TheVariants.{Answer}
+use Rattle.play_model.specs.declared.ending.Ending.TheVariants.{Pass}
+use Rattle.play_model.specs.declared.kind.Kind.TheVariants.{Stops, PlaysOn}
+use Rattle.play_model.specs.Play.{play}
 use Rattle.output_words.specs.Digits.{digit}
 use Rattle.wave_files.specs.Values.{undriven}
 use Rattle.play_waves.specs.Drawing.{after_drawing, lasts, later, latest, shown}
 use Rattle.play_waves.specs.Pens.{Pen}
+use Rattle.play_waves.specs.Waves.{wave_file}
 
 -- ---- what is drawn is what is played
 
@@ -47,3 +51,10 @@ abbrev pub EachStepTakesItsCycles : Type 0
 EachStepTakesItsCycles = (period : ℕ) (place : State) (step : Step)
     → time_of period (step_messages place step)
     ≡ step_time period (length (line_message step)) (length (cycles place step))
+
+-- ---- a play that passes
+
+-- Its file is that of a play that goes on behind failures.
+abbrev pub APassIsDrawnToItsEnd : Type 0
+APassIsDrawnToItsEnd = (period_of : ℕ → ℕ) (program : Program) (b : BoardState) → (play program b).ending ≡ Pass
+    → wave_file period_of Stops program b ≡ wave_file period_of PlaysOn program b

@@ -7,6 +7,7 @@ pub mod Rows
 pub mod Samples
 pub mod Settled
 pub mod Shifted
+pub mod Stages
 pub mod Texts
 pub mod Waves
 pub mod Laws

@@ -1,6 +1,6 @@
 //! What holds of every wave, and worked waves.
 
-ghost use Rattle.play_waves.specs.Laws.{EachStepTakesItsCycles, TdoDrawnIsTheAnswer};
+ghost use Rattle.play_waves.specs.Laws.{APassIsDrawnToItsEnd, EachStepTakesItsCycles, TdoDrawnIsTheAnswer};
 ghost use Rattle.play_waves.specs.Laws.{TimeGoesOn, WhatIsDrawnIsTheBoard};
 ghost use Rattle.play_waves.specs.Rows.{WaveRows};
 
@@ -16,6 +16,11 @@ pub fn what_is_drawn_is_played()
 pub fn each_step_takes_its_cycles()
     ensures messages { TimeGoesOn }
     ensures steps { EachStepTakesItsCycles }
+{}
+
+/// A play that stops at its first failure and has none is drawn as one that plays on.
+pub fn a_pass_is_drawn_to_its_end()
+    ensures { APassIsDrawnToItsEnd }
 {}
 
 /// What is drawn of these messages, computed from the definitions.

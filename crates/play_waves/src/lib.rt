@@ -17,7 +17,9 @@ mod undrawn;
 mod waves;
 
 pub use fronts::begins_as_waves;
-pub use laws::{each_step_takes_its_cycles, waves_compute, what_is_drawn_is_played};
+pub use laws::{
+    a_pass_is_drawn_to_its_end, each_step_takes_its_cycles, waves_compute, what_is_drawn_is_played,
+};
 pub use stage::Stage;
 pub use undrawn::{Undrawn, status_behind};
 pub use wave_files::codes_differ;

@@ -10,11 +10,14 @@ ghost use Rattle.svf_programs.specs.Seen as seen;
 ghost use Rattle.svf_programs.specs.Sizes.{program_of};
 ghost use Rattle.svf_programs.specs.Sound.{IsWithin};
 ghost use Rattle.bitbang.specs.StepMessages.{step_messages};
+ghost use Rattle.board_model.specs.Chain.{BoardState};
+ghost use Rattle.play_model.specs.declared.kind.Kind.{Kind};
 ghost use Rattle.play_model.specs.Play.{step_turns, turns};
 ghost use Rattle.play_direct.specs.Accepting.{Accepts, KeepsPeriodsOf};
 ghost use Rattle.play_waves.specs.Drawing.{after_drawing};
 ghost use Rattle.play_waves.specs.Waves.{heading};
 ghost use Rattle.play_waves.specs.Pens.{begun};
+ghost use Rattle.play_waves.specs.Stages.{judge_for};
 ghost use Rattle.play_waves.specs.Texts.{Draws};
 ghost use Rattle.play_waves.specs.Waves as spec;
 
@@ -25,55 +28,50 @@ use byte_streams::{Broken, Counted, Sink};
 use jt_board::Board;
 use jt_tap::State;
 use play_direct::play_program;
-use play_model::{Ending, Kind};
+use play_model::Ending;
 use svf_programs::{Program, Step};
 use tck_cycles::place_after;
 
-/// Writes the wave file of an accepted program, which is lent, as a player of this kind plays it on the board of a
-/// stage. It takes no memory.
+/// Writes the wave file of an accepted program, which is lent, as the player of a stage plays it on its board. It takes
+/// no memory.
 ///
 /// `Broken` comes exactly where the writer's first failure came in this call.
 pub fn write_waves<W: Sink>(
     program: &Program,
-    kind: Kind,
     stage: Stage,
     out: &mut Counted<W>,
 ) -> Result<(), Broken>
     requires { out.old.failures ≡ 0 }
     // What is drawn of a program.
     ensures program { WritesAll W.contents out.old out.new
-        (spec.wave_file (period_in program.now.periods) kind (program_of program.now) stage) result }
+        (spec.wave_file (period_in program.now.periods) stage.kind (program_of program.now) stage.board) result }
     // Where it is the program of a text that was accepted, with the periods of that, these are the waves of the text.
     ensures text { (text : List ℕ) → Accepts text (program_of program.now) → KeepsPeriodsOf text program.now.periods
-        → Draws W.contents text kind stage out.old out.new result }
+        → Draws W.contents text stage.kind stage.board out.old out.new result }
 {
-    write_file(program, kind, stage, out)
+    write_file(program, stage, out)
 }
 
 /// Writes the wave file of a program.
-fn write_file<W: Sink>(
-    program: &Program,
-    kind: Kind,
-    stage: Stage,
-    out: &mut Counted<W>,
-) -> Result<(), Broken>
+fn write_file<W: Sink>(program: &Program, stage: Stage, out: &mut Counted<W>) -> Result<(), Broken>
     requires { out.old.failures ≡ 0 }
     ensures { WritesAll W.contents out.old out.new
-        (spec.wave_file (period_in program.now.periods) kind (program_of program.now) stage) result }
+        (spec.wave_file (period_in program.now.periods) stage.kind (program_of program.now) stage.board) result }
 {
-    let (mut judge, mut drawing) = stage.opened();
-    let failed = stopped_in(kind, program, &mut judge);
+    let (judge, mut drawing) = stage.opened();
+    let failed = stopped_in(program, judge);
     drawing.head(out)?;
     draw_program(program, failed, &mut drawing, out)
 }
 
-/// The statement in which a play stops, if it does.
-fn stopped_in(kind: Kind, program: &Program, board: &mut Board) -> Option<usize>
-    ensures { result ≡ spec.stopped_in kind (program_of program.now) board.old }
+/// The statement in which a play stops, if it does: it is played on the board on which it is judged.
+fn stopped_in(program: &Program, judge: Option<Board>) -> Option<usize>
+    ensures { (kind : Kind) (b : BoardState) → judge ≡ judge_for kind b
+        → result ≡ spec.stopped_in kind (program_of program.now) b }
 {
-    match kind {
-        Kind::PlaysOn => None,
-        Kind::Stops => failed_in(play_program(program, board)),
+    match judge {
+        None => None,
+        Some(mut board) => failed_in(play_program(program, &mut board)),
     }
 }
 

@@ -1,6 +1,6 @@
 //! The codes of variables, and the lines of values.
 
-ghost use Rattle.std.specs.Prelude.{◌≡◌, ◌<◌, ◌≤◌, ◌+◌};
+ghost use Rattle.std.specs.Prelude.{◌≡◌, ◌<◌, ◌≤◌, ◌+◌, ◌++◌, ◌∷◌, []};
 ghost use Rattle.byte_streams.specs.Writes.{WritesAll};
 ghost use Rattle.wave_files.specs.Codes as spec;
 ghost use Rattle.wave_files.specs.Codes.{base, binary, code, code_digit, further_digits};
@@ -24,17 +24,21 @@ const FIRST_CODE_IN_FORM: usize = 6;
 /// How far from its end the second one stands.
 const SECOND_CODE_FROM_END: usize = 2;
 
-/// Writes the code of a variable.
-pub(crate) fn write_code<W: Sink>(number: usize, out: &mut Counted<W>) -> Result<(), Broken>
+/// Writes the code of a variable, and one byte behind it.
+pub(crate) fn write_code<W: Sink>(
+    number: usize,
+    last: u8,
+    out: &mut Counted<W>,
+) -> Result<(), Broken>
     requires { out.old.failures ≡ 0 }
-    ensures { WritesAll W.contents out.old out.new (code number) result }
+    ensures { WritesAll W.contents out.old out.new (code number ++ last ∷ []) result }
 {
     let further = number / BASE;
     if further == 0 {
-        return put_all(out, &[digit_of_code(number)]);
+        return put_all(out, &[digit_of_code(number), last]);
     }
     if further / BASE == 0 {
-        return put_all(out, &[digit_of_code(number), digit_of_code(further)]);
+        return put_all(out, &[digit_of_code(number), digit_of_code(further), last]);
     }
     put_all(
         out,
@@ -42,6 +46,7 @@ pub(crate) fn write_code<W: Sink>(number: usize, out: &mut Counted<W>) -> Result
             digit_of_code(number),
             digit_of_code(further),
             digit_of_code(further / BASE),
+            last,
         ],
     )
 }
@@ -58,8 +63,7 @@ fn write_end<W: Sink>(number: usize, out: &mut Counted<W>) -> Result<(), Broken>
     requires { out.old.failures ≡ 0 }
     ensures { WritesAll W.contents out.old out.new (ended number) result }
 {
-    write_code(number, out)?;
-    put_all(out, b"\n")
+    write_code(number, b'\n', out)
 }
 
 /// Writes the line of a level.
@@ -69,8 +73,15 @@ pub fn write_byte<W: Sink>(number: usize, value: u8, out: &mut Counted<W>) -> Re
     requires { out.old.failures ≡ 0 }
     ensures { WritesAll W.contents out.old out.new (byte_line number value) result }
 {
-    if number / BASE == 0 {
+    let further = number / BASE;
+    if further == 0 {
         return put_all(out, &[value, digit_of_code(number), b'\n']);
+    }
+    if further / BASE == 0 {
+        return put_all(
+            out,
+            &[value, digit_of_code(number), digit_of_code(further), b'\n'],
+        );
     }
     put_all(out, &[value])?;
     write_end(number, out)

@@ -1,6 +1,6 @@
 //! What stands before the first time.
 
-ghost use Rattle.std.specs.Prelude.{◌≡◌, ◌≤◌, length};
+ghost use Rattle.std.specs.Prelude.{◌≡◌, ◌≤◌, codes, length};
 ghost use Rattle.byte_streams.specs.Writes.{WritesAll};
 ghost use Rattle.jt_limits.specs.Limits.{limits};
 ghost use Rattle.board_chips.specs.WiredChips.{chip_state};
@@ -119,8 +119,7 @@ fn write_variable<W: Sink>(
     put_all(out, b"$var ")?;
     put_all(out, kind)?;
     put_all(out, b" ")?;
-    write_code(number, out)?;
-    put_all(out, b" ")?;
+    write_code(number, b' ', out)?;
     put_all(out, name)?;
     put_all(out, b" $end\n")
 }
@@ -135,8 +134,8 @@ fn write_instruction_variable<W: Sink>(
     ensures { WritesAll W.contents out.old out.new (spec.instruction_variable number bits) result }
 {
     write_bits_kind(bits, out)?;
-    write_code(number, out)?;
-    put_all(out, b" instruction $end\n")
+    write_code(number, b' ', out)?;
+    put_all(out, b"instruction $end\n")
 }
 
 /// Writes the front of a variable of so many bits.
@@ -158,9 +157,24 @@ fn write_net_variables<W: Sink>(chain: &Chain, out: &mut Counted<W>) -> Result<(
 {
     let first = FIRST_OF_DEVICES + VARIABLES_OF_DEVICE * chain.devices();
     for k in 0..chain.nets() {
-        write_variable(b"wire 1", first + k, chain.net_name(k).as_bytes(), out)?;
+        write_net_variable(first + k, chain.net_name(k).as_bytes(), out)?;
     }
     Ok(())
+}
+
+/// Writes the variable of a net of this name, in four calls of the writer: a board may have thousands of them.
+fn write_net_variable<W: Sink>(
+    number: usize,
+    name: &[u8],
+    out: &mut Counted<W>,
+) -> Result<(), Broken>
+    requires { out.old.failures ≡ 0 }
+    ensures { WritesAll W.contents out.old out.new (variable (codes "wire 1") number name.now) result }
+{
+    put_all(out, b"$var wire 1 ")?;
+    write_code(number, b' ', out)?;
+    put_all(out, name)?;
+    put_all(out, b" $end\n")
 }
 
 /// Writes what each variable shows at the start.

@@ -8,7 +8,7 @@ use Rattle.command_line.proofs.request.check_command.Goals as goal
 pub returns-clause-shape : goal.returns-clause-shape
 returns-clause-shape c =
     let none = new_app (codes "check") in
-    let named : app_of c.about.result ≡ none = ap app_of_fields c.about.ensures ∙ c.new.ensures.app in
-    let arg0 = with_argument c.about.result c.in_ok-arg.field-0 c.svf_arg.result (none) svf c.in_ok-arg.ensures c.svf_arg.ensures.local c.svf_arg.ensures.rule named in
+    let named : app_of c.titled.result ≡ none = c.titled.ensures.app in
+    let arg0 = with_argument c.titled.result c.in_ok-arg.field-0 c.svf_arg.result (none) svf c.in_ok-arg.ensures c.svf_arg.ensures.local c.svf_arg.ensures.rule named in
     let arg1 = with_argument c.in_ok-arg.field-0 c.in_ok-arg-2.field-0 c.board_arg.result (with_rule none svf) board c.in_ok-arg-2.ensures c.board_arg.ensures.local c.board_arg.ensures.rule arg0 in
     with_last_argument c.in_ok-arg-2.field-0 c.explain_arg.result (with_rule (with_rule none svf) board) explain c.arg-3.result c.arg-3.ensures c.explain_arg.ensures.local c.explain_arg.ensures.rule arg1

@@ -8,5 +8,5 @@ use Rattle.command_line.proofs.request.describe_command.Goals as goal
 pub returns-clause-shape : goal.returns-clause-shape
 returns-clause-shape c =
     let none = new_app (codes "describe") in
-    let named : app_of c.about.result ≡ none = ap app_of_fields c.about.ensures ∙ c.new.ensures.app in
-    with_last_argument c.about.result c.served_board_arg.result none served_board c.arg.result c.arg.ensures c.served_board_arg.ensures.local c.served_board_arg.ensures.rule named
+    let named : app_of c.titled.result ≡ none = c.titled.ensures.app in
+    with_last_argument c.titled.result c.served_board_arg.result none served_board c.arg.result c.arg.ensures c.served_board_arg.ensures.local c.served_board_arg.ensures.rule named

@@ -11,8 +11,8 @@ use Rattle.command_line.proofs.request.play_command.Goals as goal
 pub returns-clause-shape : goal.returns-clause-shape
 returns-clause-shape c =
     let none = new_app (codes "play") in
-    let named : app_of c.about.result ≡ none = ap app_of_fields c.about.ensures ∙ c.new.ensures.app in
-    let one = with_argument c.about.result c.in_ok-arg.field-0 c.svf_arg.result none svf c.in_ok-arg.ensures c.svf_arg.ensures.local c.svf_arg.ensures.rule named in
+    let named : app_of c.titled.result ≡ none = c.titled.ensures.app in
+    let one = with_argument c.titled.result c.in_ok-arg.field-0 c.svf_arg.result none svf c.in_ok-arg.ensures c.svf_arg.ensures.local c.svf_arg.ensures.rule named in
     let two = with_argument c.in_ok-arg.field-0 c.in_ok-arg-2.field-0 c.board_arg.result (with_rule none svf) board c.in_ok-arg-2.ensures c.board_arg.ensures.local c.board_arg.ensures.rule one in
     let three = with_argument c.in_ok-arg-2.field-0 c.in_ok-arg-3.field-0 c.bytes_arg.result (with_rule (with_rule none svf) board) bytes c.in_ok-arg-3.ensures c.bytes_arg.ensures.local c.bytes_arg.ensures.rule two in
     let four = with_argument c.in_ok-arg-3.field-0 c.in_ok-arg-4.field-0 c.all_arg.result (with_rule (with_rule (with_rule none svf) board) bytes) all c.in_ok-arg-4.ensures c.all_arg.ensures.local c.all_arg.ensures.rule three in
@@ -21,8 +21,8 @@ returns-clause-shape c =
 
 pub returns-clause-local : goal.returns-clause-local
 returns-clause-local c =
-    let named : (out-Command c.about.result).has_globals ≡ false = ap (λ (f : Command-F Command). f.has_globals) c.about.ensures ∙ c.new.ensures.local in
-    let l0 = no_globals c.about.result c.in_ok-arg.field-0 c.svf_arg.result c.in_ok-arg.ensures c.svf_arg.ensures.local named in
+    let named : (out-Command c.titled.result).has_globals ≡ false = c.titled.ensures.local in
+    let l0 = no_globals c.titled.result c.in_ok-arg.field-0 c.svf_arg.result c.in_ok-arg.ensures c.svf_arg.ensures.local named in
     let l1 = no_globals c.in_ok-arg.field-0 c.in_ok-arg-2.field-0 c.board_arg.result c.in_ok-arg-2.ensures c.board_arg.ensures.local l0 in
     let l2 = no_globals c.in_ok-arg-2.field-0 c.in_ok-arg-3.field-0 c.bytes_arg.result c.in_ok-arg-3.ensures c.bytes_arg.ensures.local l1 in
     let l3 = no_globals c.in_ok-arg-3.field-0 c.in_ok-arg-4.field-0 c.all_arg.result c.in_ok-arg-4.ensures c.all_arg.ensures.local l2 in

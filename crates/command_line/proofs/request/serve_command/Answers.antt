@@ -11,8 +11,8 @@ use Rattle.command_line.proofs.request.serve_command.Goals as goal
 pub returns-clause-shape : goal.returns-clause-shape
 returns-clause-shape c =
     let none = new_app (codes "serve") in
-    let named : app_of c.about.result ≡ none = ap app_of_fields c.about.ensures ∙ c.new.ensures.app in
-    let arg0 = with_argument c.about.result c.in_ok-arg.field-0 c.served_board_arg.result (none) served_board c.in_ok-arg.ensures c.served_board_arg.ensures.local c.served_board_arg.ensures.rule named in
+    let named : app_of c.titled.result ≡ none = c.titled.ensures.app in
+    let arg0 = with_argument c.titled.result c.in_ok-arg.field-0 c.served_board_arg.result (none) served_board c.in_ok-arg.ensures c.served_board_arg.ensures.local c.served_board_arg.ensures.rule named in
     let arg1 = with_argument c.in_ok-arg.field-0 c.in_ok-arg-2.field-0 c.port_arg.result (with_rule (none) served_board) port c.in_ok-arg-2.ensures c.port_arg.ensures.local c.port_arg.ensures.rule arg0 in
     let arg2 = with_argument c.in_ok-arg-2.field-0 c.in_ok-arg-3.field-0 c.at_most_arg.result (with_rule (with_rule (none) served_board) port) at_most c.in_ok-arg-3.ensures c.at_most_arg.ensures.local c.at_most_arg.ensures.rule arg1 in
     let arg3 = with_argument c.in_ok-arg-3.field-0 c.in_ok-arg-4.field-0 c.connections_arg.result (with_rule (with_rule (with_rule (none) served_board) port) at_most) connections c.in_ok-arg-4.ensures c.connections_arg.ensures.local c.connections_arg.ensures.rule arg2 in
@@ -20,8 +20,8 @@ returns-clause-shape c =
 
 pub returns-clause-local : goal.returns-clause-local
 returns-clause-local c =
-    let named : (out-Command c.about.result).has_globals ≡ false = ap (λ (f : Command-F Command). f.has_globals) c.about.ensures ∙ c.new.ensures.local in
-    let l0 = no_globals c.about.result c.in_ok-arg.field-0 c.served_board_arg.result c.in_ok-arg.ensures c.served_board_arg.ensures.local named in
+    let named : (out-Command c.titled.result).has_globals ≡ false = c.titled.ensures.local in
+    let l0 = no_globals c.titled.result c.in_ok-arg.field-0 c.served_board_arg.result c.in_ok-arg.ensures c.served_board_arg.ensures.local named in
     let l1 = no_globals c.in_ok-arg.field-0 c.in_ok-arg-2.field-0 c.port_arg.result c.in_ok-arg-2.ensures c.port_arg.ensures.local l0 in
     let l2 = no_globals c.in_ok-arg-2.field-0 c.in_ok-arg-3.field-0 c.at_most_arg.result c.in_ok-arg-3.ensures c.at_most_arg.ensures.local l1 in
     let l3 = no_globals c.in_ok-arg-3.field-0 c.in_ok-arg-4.field-0 c.connections_arg.result c.in_ok-arg-4.ensures c.connections_arg.ensures.local l2 in

@@ -11,15 +11,15 @@ use Rattle.play_waves.proofs.waves.write_file.Goals as goal
 pub returns-in_err-head : goal.returns-in_err-head
 returns-in_err-head g c =
     let program = program_of c.args.program.now in
-    let rest : List ℕ = wave (period_in c.args.program.now.periods) (stopped_in c.args.kind program c.args.stage) (turns program.steps) (begun c.args.stage) in
+    let rest : List ℕ = wave (period_in c.args.program.now.periods) (stopped_in c.args.stage.kind program c.args.stage.board) (turns program.steps) (begun c.args.stage.board) in
     WritesAll-is (ap (λ (p : Pen). heading p ++ rest) c.opened-judge.ensures.drawing)
     (WritesAll-stopped rest c.in_err-head.ensures refl c.from_residual.ensures.0)
 
 pub returns : goal.returns
 returns g c =
     let program = program_of c.args.program.now in
-    let stopped : c.stopped_in-failed.result ≡ stopped_in c.args.kind program c.args.stage =
-    c.stopped_in-failed.ensures ∙ ap (stopped_in c.args.kind program) c.opened-judge.ensures.judge in
+    let stopped : c.stopped_in-failed.result ≡ stopped_in c.args.stage.kind program c.args.stage.board =
+    c.stopped_in-failed.ensures c.args.stage.kind c.args.stage.board c.opened-judge.ensures.judge in
     WritesAll-is
     (λ i. heading (c.opened-judge.ensures.drawing i)
     ++ wave (period_in c.args.program.now.periods) (stopped i) (turns program.steps) (c.opened-judge.ensures.drawing i))

@@ -15,21 +15,21 @@ loop-k-preserved g c =
     let m = 6 + 3 * c.devices.result + k in
     let it = variable_said nets k m (codes "wire 1") c.as_bytes.result.now (c.net_name.ensures ∙ ap (λ (l : List ℕ). Some l) (sym c.as_bytes.ensures.value)) in
     record {
-      none_lost = c.in_ok-write_variable.ensures.ok.0 refl;
+      none_lost = c.in_ok-write_net_variable.ensures.ok.0 refl;
       sent = written net_variable 1 first nets k m it.net it.is (omega (arith, by_one first k, c.devices.ensures)) _ _ _ c.loop-k.invariant.sent
-          (subst (λ (l : List ℕ). Appends (g.W.Write.contents c.loop-k.out.inner) (g.W.Write.contents c.write_variable.new.out.inner) l) it.text
-          c.in_ok-write_variable.ensures.whole);
+          (subst (λ (l : List ℕ). Appends (g.W.Write.contents c.loop-k.out.inner) (g.W.Write.contents c.write_net_variable.new.out.inner) l) it.text
+          c.in_ok-write_net_variable.ensures.whole);
     }
 
-pub returns-in_err-write_variable : goal.returns-in_err-write_variable
-returns-in_err-write_variable g c =
+pub returns-in_err-write_net_variable : goal.returns-in_err-write_net_variable
+returns-in_err-write_net_variable g c =
     let nets = c.args.chain.now.nets in
     let first = 6 + 3 * length c.args.chain.now.chips in
     let k = c.loop-k.k in
     let m = 6 + 3 * c.devices.result + k in
     let it = variable_said nets k m (codes "wire 1") c.as_bytes.result.now (c.net_name.ensures ∙ ap (λ (l : List ℕ). Some l) (sym c.as_bytes.ensures.value)) in
     lost net_variable 1 first nets k m it.net it.is (omega (arith, by_one first k, c.devices.ensures)) c.loop-k.invariant.sent
-    (WritesAll-is it.text c.in_err-write_variable.ensures) refl c.from_residual.ensures.0
+    (WritesAll-is it.text c.in_err-write_net_variable.ensures) refl c.from_residual.ensures.0
 
 pub returns : goal.returns
 returns g c =

@@ -1,0 +1,25 @@
+-- What was told of a run whose writer or memory failed.
+use Rattle.std.proofs.Common.{◌≡◌, ◌++◌, List, ℕ, refl, sym, ap, ◌∙◌, append_assoc, Option, Result, Ok}
+use Rattle.std.specs.Prelude.{Err, IsErr, IsErrAnd}
+use Rattle.std.specs.Io.KnownBytes.{Appends}
+use Rattle.byte_streams.specs.Counts.{CountedView}
+use Rattle.byte_streams.specs.Writes.{AppendsFront, WritesAll}
+use Rattle.byte_streams.proofs.Fronts.{AppendsFront-first}
+use Rattle.board_description.specs.declared.whole.Untold.{Untold}
+use Rattle.board_description.specs.declared.whole.Untold.TheVariants.{Broken, NoMemory}
+use Rattle.board_description.specs.Kept.{Told}
+
+-- a write of the first part was lost
+pub told-broken : {W A B E : Type 0} (contents : W → Option (List ℕ)) (a b : CountedView W) (xs ys : List ℕ) (write : Result A E) (result : Result B Untold)
+    → WritesAll contents a b xs write → IsErr write → IsErrAnd result (λ x. x ≡ Broken) → Told contents a b (xs ++ ys) result
+told-broken contents a b xs ys (Err w) (Err Broken) one is so = (one.broken.0 refl, AppendsFront-first ys one.front)
+told-broken contents a b xs ys (Err w) (Err NoMemory) one is so = absurd cc
+told-broken contents a b xs ys (Err w) (Ok x) one is so = absurd so
+told-broken contents a b xs ys (Ok w) result one is so = absurd cc
+
+-- memory ran out behind the first part
+pub told-front : {W B : Type 0} (contents : W → Option (List ℕ)) (a b : CountedView W) (xs ys : List ℕ) (result : Result B Untold) → b.failures ≡ 0
+    → Appends (contents a.inner) (contents b.inner) xs → IsErrAnd result (λ x. x ≡ NoMemory) → Told contents a b (xs ++ ys) result
+told-front contents a b xs ys (Err NoMemory) none whole so = (none, record { sent = xs; rest = ys; split = refl; appends = whole })
+told-front contents a b xs ys (Err Broken) none whole so = absurd cc
+told-front contents a b xs ys (Ok x) none whole so = absurd so
