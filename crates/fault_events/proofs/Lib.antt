@@ -1,0 +1,4 @@
+pub mod Events
+pub mod Groups
+pub mod Sources
+pub mod Telling

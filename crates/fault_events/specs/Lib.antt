@@ -1,0 +1,4 @@
+pub mod Events
+pub mod Notes
+pub mod Rows
+pub mod Sources
