@@ -8,22 +8,21 @@ use Rattle.jt_tap.specs.declared.Column.TheVariants.{Dr, Ir}
 use Rattle.jt_tap.specs.declared.State.{State}
 use Rattle.jt_tap.specs.declared.State.TheVariants as state
 use Rattle.jt_tap.specs.declared.Work.{Work}
-use Rattle.jt_tap.specs.declared.Work.TheVariants.{Resets, Captures, Shifts, Updates, Waits}
+use Rattle.jt_tap.specs.declared.Work.TheVariants.{Captures}
 use Rattle.jt_tap.specs.Controller.{is_at, pause, work}
-use Rattle.svf_words.specs.declared.keywords.TrstWord.TheVariants.{On, Off, Z, Absent}
 use Rattle.scan_vectors.specs.declared.part.Part.{Part}
 use Rattle.scan_vectors.specs.Vector.{VectorBit, differs, judge, tdis}
 use Rattle.svf_programs.specs.Steps.{Numbered, Step, Scan, Go, Path, Run, Trst}
-use Rattle.pin_nets.specs.declared.Follow.{Follow}
 use Rattle.pin_nets.specs.Wired.{Net}
-use Rattle.board_model.specs.Cells.{Member, Told}
+use Rattle.board_plan.specs.Planned as planned
+use Rattle.board_model.specs.Cells.{Member}
 use Rattle.board_model.specs.Nets.{strings}
 use Rattle.board_model.specs.Planned.{members_of}
-use Rattle.board_model.specs.Whole.{AtRest, along, arrive, capture, capture_all, cut_back, pass, reset_member, selected_bits_of, settle, settled_member, shift, trst_member, update, update_member}
+use Rattle.board_model.specs.Whole.{AtRest, capture, pass, reset_member, settle, shift, update}
 use Rattle.play_model.specs.declared.ending.Ending.{Ending}
 use Rattle.play_model.specs.declared.ending.Ending.TheVariants.{Pass, Fail}
 use Rattle.play_model.specs.DirectPlay.{opened_state}
-use Rattle.play_model.specs.Meaning.{after_step, failure, move_to, move_unless_there, outcome, scan_end}
+use Rattle.play_model.specs.Meaning.{after_step, failure, move_to, move_unless_there, outcome}
 use Rattle.board_faults.specs.Faults.{with_way}
 use Rattle.board_faults.specs.Made.{board_of}
 use Rattle.board_faults.specs.Staying.{captured, kept_along, kept_arriving, kept_ending, kept_moving, kept_passing, staying, with_nets}
@@ -32,102 +31,43 @@ use Rattle.board_faults.proofs.OnePlay.{means, means_with, opened-members, pick,
 use Rattle.board_faults.proofs.Staying.{captured-instructions, registers_differ, settle-same}
 use Rattle.fault_events.specs.Events.{Event, EventsTellOfFaults, EventsTellOfRuns, caught_at, ending_by, events, events_along, events_arriving, events_ending, events_moving, events_of_step, events_passing, first_other, reads_other, stays_other}
 use Rattle.fault_events.specs.Sources.{Source, sources, taken}
+use Rattle.fault_events.specs.Parts.{planned_parts}
+use Rattle.fault_events.proofs.PartsKept.{capture_keeps, map_keeps, move_keeps, pass_keeps, settle_keeps, shift_keeps, step_keeps, update_keeps}
 use Rattle.fault_events.proofs.Sources.{captures_take}
 
 -- ---- the devices have no strings before and behind each step
 
-strings-map : (f : Member → Member) → ((m : Member) → (f m).follows ≡ m.follows) → (ms : List Member) → strings (map f ms) ≡ strings ms
-strings-map f same [] = refl
-strings-map f same (m ∷ ms) = ap₂ (λ (fs : List Follow) (n : ℕ). length fs + n) (same m) (strings-map f same ms)
-
-strings-capture : (column : Column) (about : ℕ → Told) (k : ℕ) (ms : List Member) → strings (capture_all column about k ms) ≡ strings ms
-strings-capture column about k [] = refl
-strings-capture column about k (m ∷ ms) = ap (λ (n : ℕ). length m.follows + n) (strings-capture column about (suc k) ms)
-
-strings-cut : (column : Column) (bits : List Bool) (ms : List Member) → strings (cut_back column bits ms) ≡ strings ms
-strings-cut column bits [] = refl
-strings-cut column bits (m ∷ ms) =
-    ap (λ (n : ℕ). length m.follows + n) (strings-cut column (drop (length (selected_bits_of column m)) bits) ms)
-
 abbrev pub count : AtRest → ℕ
 count m = strings m.members
 
-capture-count : (column : Column) (m : AtRest) → count (capture column m) ≡ count m
-capture-count column m = strings-capture column _ 0 m.members
+abbrev planned-strings : List planned.Member → ℕ
+planned-strings [] = 0
+planned-strings (p ∷ ps) = length p.follows + planned-strings ps
 
-update-count : (column : Column) (m : AtRest) → count (update column m) ≡ count m
-update-count column m = strings-map (update_member column) (λ x. refl) m.members
+strings-planned : (ms : List Member) → strings ms ≡ planned-strings (planned_parts ms)
+strings-planned [] = refl
+strings-planned (m ∷ ms) = ap (λ (n : ℕ). length m.follows + n) (strings-planned ms)
 
-shift-count : (column : Column) (t : List Bool) (m : AtRest) → count (shift column t m) ≡ count m
-shift-count column t m = strings-cut column _ m.members
-
-settle-at : (s : State) (trst : Bool) (nets : List Net) (ms : List Member) → count (settle (record { place = s; trst = trst; nets = nets; members = ms })) ≡ strings ms
-settle-at state.DrPause trst nets ms = update-count Dr (record { place = state.DrPause; trst = trst; nets = nets; members = ms })
-settle-at state.IrPause trst nets ms = update-count Ir (record { place = state.IrPause; trst = trst; nets = nets; members = ms })
-settle-at s trst nets ms = refl
+counted : (ms ns : List Member) → planned_parts ms ≡ planned_parts ns → strings ms ≡ strings ns
+counted ms ns same = strings-planned ms ∙ ap planned-strings same ∙ sym (strings-planned ns)
 
 settle-count : (m : AtRest) → count (settle m) ≡ count m
-settle-count m = settle-at m.place m.trst m.nets m.members
+settle-count m = counted (settle m).members m.members (settle_keeps m)
 
-arrive-count : (s : State) (m : AtRest) → count (arrive s m) ≡ count m
-arrive-count state.Reset m = strings-map reset_member (λ x. refl) m.members
-arrive-count state.DrPause m = capture-count Dr m
-arrive-count state.IrPause m = capture-count Ir m
-arrive-count s m = refl
+update-count : (column : Column) (m : AtRest) → count (update column m) ≡ count m
+update-count column m = counted (update column m).members m.members (update_keeps column m)
 
 pass-count : (w : Work) (m : AtRest) → count (pass w m) ≡ count m
-pass-count Resets m = strings-map reset_member (λ x. refl) m.members
-pass-count (Captures column) m = capture-count column m
-pass-count (Shifts column) m = shift-count column (false ∷ []) m
-pass-count (Updates column) m = update-count column m
-pass-count Waits m = refl
-
-along-count : (path : List State) (m : AtRest) → count (along path m) ≡ count m
-along-count [] m = refl
-along-count (s ∷ path) m = along-count path (record (pass (work s) m) { place = s }) ∙ pass-count (work s) m
-
-end-count : (column : Column) (end : State) (m : AtRest) → count (scan_end column end m) ≡ count m
-end-count column end m = by (is_at end (pause column))
-  where
-    by : (b : Bool) → count (if b then record m { place = end } else arrive end (update column m)) ≡ count m
-    by true = refl
-    by false = arrive-count end (update column m) ∙ update-count column m
+pass-count w m = counted (pass w m).members m.members (pass_keeps w m)
 
 scanned-count : (column : Column) (t : List Bool) (m : AtRest) → count (shift column t (capture column m)) ≡ count m
-scanned-count column t m = shift-count column t (capture column m) ∙ capture-count column m
+scanned-count column t m = counted (shift column t (capture column m)).members m.members (shift_keeps column t (capture column m) ∙ capture_keeps column m)
 
 move-count : (s : State) (m : AtRest) → count (move_unless_there s m) ≡ count m
-move-count s m = by (is_at m.place s)
-  where
-    by : (b : Bool) → count (if b then m else move_to s m) ≡ count m
-    by true = refl
-    by false = arrive-count s (settle m) ∙ settle-count m
+move-count s m = counted (move_unless_there s m).members m.members (move_keeps s m)
 
-settled-follows : (s : State) (m : Member) → (settled_member s m).follows ≡ m.follows
-settled-follows s m = by (is_at s (pause Dr)) (is_at s (pause Ir))
-  where
-    by : (a b : Bool) → (if a then update_member Dr m else if b then update_member Ir m else m).follows ≡ m.follows
-    by true b = refl
-    by false true = refl
-    by false false = refl
-
-asserted-follows : (s : State) (m : Member) → (trst_member (settled_member s) m).follows ≡ m.follows
-asserted-follows s m = by m.device.has_trst
-  where
-    by : (b : Bool) → (reset_member (if b then m else settled_member s m)).follows ≡ m.follows
-    by true = refl
-    by false = settled-follows s m
-
-pub step-count : (step : Step) (m : AtRest) → count (after_step step m) ≡ count m
-step-count (Scan column v end) m =
-    end-count column end (shift column (tdis v) (capture column (settle m))) ∙ scanned-count column (tdis v) (settle m) ∙ settle-count m
-step-count (Go s) m = arrive-count s (settle m) ∙ settle-count m
-step-count (Path path) m = along-count path m
-step-count (Run run n end) m = move-count end (move_unless_there run m) ∙ move-count run m
-step-count (Trst On) m = strings-map (trst_member (settled_member m.place)) (asserted-follows m.place) m.members
-step-count (Trst Off) m = refl
-step-count (Trst Z) m = refl
-step-count (Trst Absent) m = refl
+step-count : (step : Step) (m : AtRest) → count (after_step step m) ≡ count m
+step-count step m = counted (after_step step m).members m.members (step_keeps step m)
 
 -- ---- bits and tests
 
@@ -480,7 +420,7 @@ runs_are_told steps m none passes nets ending e = runs-told nets ending steps m 
 pub faults_are_told : EventsTellOfFaults
 faults_are_told program legal w sound none passes its_way ending e =
     let opened : count (opened_state (board_of w)) ≡ 0 =
-    ap strings (opened-members w.nets (members_of w)) ∙ strings-map reset_member (λ x. refl) (members_of w) ∙ none in
+    ap strings (opened-members w.nets (members_of w)) ∙ counted (map reset_member (members_of w)) (members_of w) (map_keeps reset_member (λ x. refl) (members_of w)) ∙ none in
     means_with program legal w sound its_way
     ∙ runs-told (with_way its_way w.nets) ending program.steps (opened_state (board_of w)) opened
     (sym (means program legal w sound) ∙ passes) e

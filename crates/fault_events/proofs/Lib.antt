@@ -1,4 +1,12 @@
+pub mod AllNoted
+pub mod Entering
 pub mod Events
 pub mod Groups
+pub mod Marking
+pub mod Numbering
+pub mod PartsKept
+pub mod PinDrives
+pub mod Powered
+pub mod Resting
 pub mod Sources
 pub mod Telling

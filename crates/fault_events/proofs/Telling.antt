@@ -16,8 +16,8 @@ use Rattle.board_faults.specs.Faults.{with_way}
 use Rattle.board_faults.specs.Together.{unlike}
 use Rattle.fault_events.specs.declared.notes.Spot.{Spot}
 use Rattle.fault_events.specs.Events.{first_other, reads_other}
-use Rattle.fault_events.specs.Notes.{NotesTellOfWays, earlier, first_differs, first_from, first_pins, is_from, note_of, second_differs, second_pins, some_if}
-use Rattle.fault_events.specs.Sources.{Source, Fixed, Seen, sources, taken}
+use Rattle.fault_events.specs.Notes.{NotesTellOfWays, earlier, first_differs, first_from, first_pins, note_of, second_differs, second_pins, some_if}
+use Rattle.fault_events.specs.Sources.{Source, Fixed, Seen, is_from, sources, taken}
 use Rattle.fault_events.proofs.Groups.{Groups, known, made-by, sights}
 
 -- ---- a pin is one of some

@@ -1,4 +1,10 @@
+pub mod Captures
+pub mod Drives
 pub mod Events
+pub mod Marks
 pub mod Notes
+pub mod Numbers
+pub mod Parts
 pub mod Rows
 pub mod Sources
+pub mod Tables

@@ -5,8 +5,9 @@ use Rattle.std.specs.Prelude.{slice_index_or, nat_lt, Option, Some, None, option
 use Rattle.std.specs.List.{list_any, remove}
 use Rattle.scan_vectors.specs.Vector.{VectorBit}
 use Rattle.pin_nets.specs.declared.Pin.{Pin}
-use Rattle.pin_nets.specs.Wired.{Net, has_port_bit}
+use Rattle.pin_nets.specs.Wired.{Net}
 use Rattle.board_plan.specs.Planned.{Wiring}
+use Rattle.board_model.specs.Cells.{Member}
 use Rattle.board_model.specs.Nets.{pin_drive}
 use Rattle.board_faults.specs.declared.kinds.Way.{Way}
 use Rattle.board_faults.specs.declared.kinds.Way.TheVariants as way
@@ -17,13 +18,9 @@ use Rattle.board_faults.specs.Together.{driven, first_of, open_differs, pull_dif
 use Rattle.fault_events.specs.declared.notes.Note.{Note}
 use Rattle.fault_events.specs.declared.notes.Spot.{Spot}
 use Rattle.fault_events.specs.Events.{Event, caught_at, stays_other}
-use Rattle.fault_events.specs.Sources.{Source, Fixed, Seen, sources}
+use Rattle.fault_events.specs.Sources.{Source, is_from, sources}
 
 -- ---- of a group of pins
-
-abbrev pub is_from : List Pin → Source → Bool
-is_from pins (Fixed b) = false
-is_from pins (Seen pin) = has_port_bit pin.device pin.port pins
 
 -- from bit k of the vector on
 abbrev pub first_from : (Source → Bool) → (k : ℕ) → List VectorBit → List Source → Option Spot
@@ -32,13 +29,21 @@ first_from is k (v ∷ vs) (s ∷ ss) =
     else first_from is (suc k) vs ss
 first_from is k _ _ = None
 
--- what is noted of some pins
-abbrev pub note_of : Event → List Pin → Note
-note_of e pins = record {
-  made = driven (map (pin_drive e.board.members) pins);
-  first = first_from (is_from pins) 0 e.vector (sources e.board.members);
-  stays = list_any (is_from pins) (drop (length e.vector) (sources e.board.members));
+-- of devices before a capture and the vector that is shifted behind it
+abbrev pub note_in : List Member → List VectorBit → List Pin → Note
+note_in ms v pins = record {
+  made = driven (map (pin_drive ms) pins);
+  first = first_from (is_from pins) 0 v (sources ms);
+  stays = list_any (is_from pins) (drop (length v) (sources ms));
 }
+
+-- what is noted of some pins at a capture
+abbrev pub note_of : Event → List Pin → Note
+note_of e pins = note_in e.board.members e.vector pins
+
+-- of each pin for itself
+abbrev pub noted : List Pin → List Member → List VectorBit → List Note
+noted pins ms v = map (λ p. note_in ms v (p ∷ [])) pins
 
 -- ---- of a way
 

@@ -11,7 +11,7 @@ use Rattle.chip_registers.specs.Registers.{Registers, capture_of, stage_of, with
 use Rattle.boundary.specs.Cells.{cell_captures, takes_update}
 use Rattle.boundary.specs.Masks.{sighted_port}
 use Rattle.pin_nets.specs.declared.Pin.{Pin}
-use Rattle.pin_nets.specs.Wired.{Net}
+use Rattle.pin_nets.specs.Wired.{Net, has_port_bit}
 use Rattle.board_model.specs.Cells.{Member}
 use Rattle.board_model.specs.Nets.{sees_under, strings}
 use Rattle.board_model.specs.Whole.{AtRest}
@@ -26,6 +26,11 @@ pub data Source : Type 0 where
 abbrev pub taken : List Net → List Member → Source → Bool
 taken nets ms (Fixed b) = b
 taken nets ms (Seen pin) = sees_under nets ms pin.device pin.port
+
+-- whether a bit is taken from one of these pins
+abbrev pub is_from : List Pin → Source → Bool
+is_from pins (Fixed b) = false
+is_from pins (Seen pin) = has_port_bit pin.device pin.port pins
 
 -- a cell with a port whose sight it captures, or one that captures this
 abbrev pub source_at : (device : ℕ) → Option ℕ → Bool → Source

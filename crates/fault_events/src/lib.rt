@@ -3,9 +3,16 @@
 //! before. So one play of the board itself serves all its faults.
 #![tactic(auto)]
 
+mod captures;
+mod drives;
 mod laws;
+mod marks;
 mod notes;
+mod noting;
+mod numbers;
+mod tables;
 
+pub use captures::{Capture, note_captures};
 pub use laws::{
     captures_take_from_sources, events_compute, events_tell_of_faults, events_tell_of_runs,
     notes_tell_of_ways,
