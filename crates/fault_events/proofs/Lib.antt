@@ -3,6 +3,7 @@ pub mod Entering
 pub mod Events
 pub mod Groups
 pub mod Marking
+pub mod NotedEndings
 pub mod Numbering
 pub mod PartsKept
 pub mod PinDrives

@@ -99,7 +99,7 @@ module _ (nets faulty : List Net) (ps qs : List Pin) (b1 a1 b2 a2 : Driven → D
 
 -- ---- the first of them
 
-abbrev named : Spot → Part × ℕ
+abbrev pub named : Spot → Part × ℕ
 named s = (s.part, s.bit)
 
 named-if : (b : Bool) (s : Spot) (o : Option Spot) (p : Option (Part × ℕ)) → p ≡ option_map named o
@@ -150,14 +150,14 @@ earlier-if true true false s o p r from from' e = before-later s p from'
 earlier-if true false true s o p r from from' e = later-before s o from
 earlier-if true false false s o p r from from' e = e
 
-first-either : (one two : Source → Bool) (k : ℕ) (v : List VectorBit) (ss : List Source)
+pub first_either : (one two : Source → Bool) (k : ℕ) (v : List VectorBit) (ss : List Source)
     → first_from (λ s. one s || two s) k v ss ≡ earlier (first_from one k v ss) (first_from two k v ss)
-first-either one two k [] ss = refl
-first-either one two k (v ∷ vs) [] = refl
-first-either one two k (v ∷ vs) (s ∷ ss) =
+first_either one two k [] ss = refl
+first_either one two k (v ∷ vs) [] = refl
+first_either one two k (v ∷ vs) (s ∷ ss) =
     earlier-if (is_some v.wanted) (one s) (two s) (record { index = k; part = v.part; bit = v.place })
     (first_from one (suc k) vs ss) (first_from two (suc k) vs ss) (first_from (λ x. one x || two x) (suc k) vs ss)
-    (first-is-from one (suc k) vs ss) (first-is-from two (suc k) vs ss) (first-either one two (suc k) vs ss)
+    (first-is-from one (suc k) vs ss) (first-is-from two (suc k) vs ss) (first_either one two (suc k) vs ss)
 
 and-true : (b : Bool) → (b && true) ≡ b
 and-true true = refl
@@ -167,16 +167,16 @@ and-false : (b : Bool) → (b && false) ≡ false
 and-false true = refl
 and-false false = refl
 
-first-none : (k : ℕ) (v : List VectorBit) (ss : List Source) → first_from (λ s. false) k v ss ≡ None
-first-none k [] ss = refl
-first-none k (v ∷ vs) [] = refl
-first-none k (v ∷ vs) (s ∷ ss) =
+pub first_none : (k : ℕ) (v : List VectorBit) (ss : List Source) → first_from (λ s. false) k v ss ≡ None
+first_none k [] ss = refl
+first_none k (v ∷ vs) [] = refl
+first_none k (v ∷ vs) (s ∷ ss) =
     let spot : Spot = record { index = k; part = v.part; bit = v.place } in
-    ap (λ (b : Bool). if b then Some spot else first_from (λ x. false) (suc k) vs ss) (and-false (is_some v.wanted)) ∙ first-none (suc k) vs ss
+    ap (λ (b : Bool). if b then Some spot else first_from (λ x. false) (suc k) vs ss) (and-false (is_some v.wanted)) ∙ first_none (suc k) vs ss
 
 first-if : (is : Source → Bool) (o : Bool) (k : ℕ) (v : List VectorBit) (ss : List Source) → first_from (λ s. is s && o) k v ss ≡ some_if o (first_from is k v ss)
 first-if is true k v ss = ap (λ (t : Source → Bool). first_from t k v ss) (λ i s. and-true (is s) i)
-first-if is false k v ss = ap (λ (t : Source → Bool). first_from t k v ss) (λ i s. and-false (is s) i) ∙ first-none k v ss
+first-if is false k v ss = ap (λ (t : Source → Bool). first_from t k v ss) (λ i s. and-false (is s) i) ∙ first_none k v ss
 
 -- ---- whether one is there
 
@@ -186,17 +186,17 @@ or-four false true true d = refl
 or-four false true false d = refl
 or-four false false c d = refl
 
-any-either : (one two : Source → Bool) (ss : List Source) → list_any (λ s. one s || two s) ss ≡ (list_any one ss || list_any two ss)
-any-either one two [] = refl
-any-either one two (s ∷ ss) = ap (λ (b : Bool). (one s || two s) || b) (any-either one two ss) ∙ or-four (one s) (two s) (list_any one ss) (list_any two ss)
+pub any_either : (one two : Source → Bool) (ss : List Source) → list_any (λ s. one s || two s) ss ≡ (list_any one ss || list_any two ss)
+any_either one two [] = refl
+any_either one two (s ∷ ss) = ap (λ (b : Bool). (one s || two s) || b) (any_either one two ss) ∙ or-four (one s) (two s) (list_any one ss) (list_any two ss)
 
-any-none : (ss : List Source) → list_any (λ s. false) ss ≡ false
-any-none [] = refl
-any-none (s ∷ ss) = any-none ss
+pub any_none : (ss : List Source) → list_any (λ s. false) ss ≡ false
+any_none [] = refl
+any_none (s ∷ ss) = any_none ss
 
 any-if : (is : Source → Bool) (o : Bool) (ss : List Source) → list_any (λ s. is s && o) ss ≡ (list_any is ss && o)
 any-if is true ss = ap (λ (t : Source → Bool). list_any t ss) (λ i s. and-true (is s) i) ∙ sym (and-true (list_any is ss))
-any-if is false ss = ap (λ (t : Source → Bool). list_any t ss) (λ i s. and-false (is s) i) ∙ any-none ss ∙ sym (and-false (list_any is ss))
+any-if is false ss = ap (λ (t : Source → Bool). list_any t ss) (λ i s. and-false (is s) i) ∙ any_none ss ∙ sym (and-false (list_any is ss))
 
 -- ---- the law
 
@@ -221,9 +221,9 @@ notes_tell w may its_way its e same =
       ap (λ (t : Source → Bool). first_other t e.vector ss) others
           ∙ first-named (λ s. (is_from ps s && o1) || (is_from qs s && o2)) 0 e.vector ss
           ∙ ap (option_map named)
-          (first-either (λ s. is_from ps s && o1) (λ s. is_from qs s && o2) 0 e.vector ss
+          (first_either (λ s. is_from ps s && o1) (λ s. is_from qs s && o2) 0 e.vector ss
           ∙ ap₂ earlier (first-if (is_from ps) o1 0 e.vector ss) (first-if (is_from qs) o2 0 e.vector ss)),
       ap (λ (t : Source → Bool). list_any t (drop (length e.vector) ss)) others
-          ∙ any-either (λ s. is_from ps s && o1) (λ s. is_from qs s && o2) (drop (length e.vector) ss)
+          ∙ any_either (λ s. is_from ps s && o1) (λ s. is_from qs s && o2) (drop (length e.vector) ss)
           ∙ ap₂ (λ (a b : Bool). a || b) (any-if (is_from ps) o1 (drop (length e.vector) ss)) (any-if (is_from qs) o2 (drop (length e.vector) ss)),
     )

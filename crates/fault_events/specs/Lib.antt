@@ -1,5 +1,6 @@
 pub mod Captures
 pub mod Drives
+pub mod Endings
 pub mod Events
 pub mod Marks
 pub mod Notes

@@ -1,4 +1,5 @@
 //! Laws of captures.
+ghost use Rattle.fault_events.specs.Endings.{NotesTellOfFaults};
 ghost use Rattle.fault_events.specs.Events.{EventsTellOfFaults, EventsTellOfRuns};
 ghost use Rattle.fault_events.specs.Notes.{NotesTellOfWays};
 ghost use Rattle.fault_events.specs.Rows.{EventRows};
@@ -30,4 +31,11 @@ pub fn events_tell_of_faults()
 /// which wanted bit is the first that is another, and whether one that stays is.
 pub fn notes_tell_of_ways()
     ensures { NotesTellOfWays }
+{}
+
+/// Of a program that passes on a sound board without strings, what is noted of every pin at the captures of one play tells
+/// how it ends on the board where a fault shows in a way: with the first wanted bit that is another, or passed. It does
+/// not tell where a bit that stays in a register is another before: there the way is to be played as a whole.
+pub fn notes_tell_of_faults()
+    ensures { NotesTellOfFaults }
 {}

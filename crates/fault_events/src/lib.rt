@@ -15,6 +15,6 @@ mod tables;
 pub use captures::{Capture, note_captures};
 pub use laws::{
     captures_take_from_sources, events_compute, events_tell_of_faults, events_tell_of_runs,
-    notes_tell_of_ways,
+    notes_tell_of_faults, notes_tell_of_ways,
 };
 pub use notes::{Note, Spot};
