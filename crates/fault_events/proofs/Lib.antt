@@ -1,4 +1,5 @@
 pub mod AllNoted
+pub mod ByNets
 pub mod Entering
 pub mod Events
 pub mod Groups

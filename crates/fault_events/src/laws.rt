@@ -1,6 +1,7 @@
 //! Laws of captures.
 ghost use Rattle.fault_events.specs.Endings.{NotesTellOfFaults};
 ghost use Rattle.fault_events.specs.Events.{EventsTellOfFaults, EventsTellOfRuns};
+ghost use Rattle.fault_events.specs.Nets.{NetsTellOfFaults};
 ghost use Rattle.fault_events.specs.Notes.{NotesTellOfWays};
 ghost use Rattle.fault_events.specs.Rows.{EventRows};
 ghost use Rattle.fault_events.specs.Sources.{CapturesTakeFromSources};
@@ -38,4 +39,9 @@ pub fn notes_tell_of_ways()
 /// not tell where a bit that stays in a register is another before: there the way is to be played as a whole.
 pub fn notes_tell_of_faults()
     ensures { NotesTellOfFaults }
+{}
+
+/// The same by what is noted of each net, of every way but that of an open joint.
+pub fn nets_tell_of_faults()
+    ensures { NetsTellOfFaults }
 {}

@@ -4,9 +4,11 @@
 #![tactic(auto)]
 
 mod captures;
+mod differing;
 mod drives;
 mod laws;
 mod marks;
+mod nets;
 mod notes;
 mod noting;
 mod numbers;
@@ -15,6 +17,7 @@ mod tables;
 pub use captures::{Capture, note_captures};
 pub use laws::{
     captures_take_from_sources, events_compute, events_tell_of_faults, events_tell_of_runs,
-    notes_tell_of_faults, notes_tell_of_ways,
+    nets_tell_of_faults, notes_tell_of_faults, notes_tell_of_ways,
 };
+pub use nets::{NetCapture, net_captures, way_ending};
 pub use notes::{Note, Spot};
