@@ -1,0 +1,14 @@
+pub mod AllNoted
+pub mod ByNets
+pub mod Entering
+pub mod Events
+pub mod Groups
+pub mod Marking
+pub mod NotedEndings
+pub mod Numbering
+pub mod PartsKept
+pub mod PinDrives
+pub mod Powered
+pub mod Resting
+pub mod Sources
+pub mod Telling

@@ -1,0 +1,13 @@
+pub mod Captures
+pub mod Drives
+pub mod Endings
+pub mod Events
+pub mod Marks
+pub mod Nets
+pub mod Notes
+pub mod Numbers
+pub mod Parts
+pub mod Pulls
+pub mod Rows
+pub mod Sources
+pub mod Tables

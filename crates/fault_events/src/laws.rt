@@ -1,0 +1,47 @@
+//! Laws of captures.
+ghost use Rattle.fault_events.specs.Endings.{NotesTellOfFaults};
+ghost use Rattle.fault_events.specs.Events.{EventsTellOfFaults, EventsTellOfRuns};
+ghost use Rattle.fault_events.specs.Nets.{NetsTellOfFaults};
+ghost use Rattle.fault_events.specs.Notes.{NotesTellOfWays};
+ghost use Rattle.fault_events.specs.Rows.{EventRows};
+ghost use Rattle.fault_events.specs.Sources.{CapturesTakeFromSources};
+
+/// Whatever the nets are, a capture of the data column takes each bit from its source: what a pin sees, or a bit that
+/// hangs on no net. Of devices without strings, in whatever registers.
+pub fn captures_take_from_sources()
+    ensures { CapturesTakeFromSources }
+{}
+
+/// What a few scans tell of a net that is stuck.
+pub fn events_compute()
+    ensures { EventRows }
+{}
+
+/// Of a program that passes, the captures tell how it ends with other nets: it fails at the first of them at which a
+/// wanted bit is another, and at the least such bit, as long as no bit that stays is another before.
+pub fn events_tell_of_runs()
+    ensures { EventsTellOfRuns }
+{}
+
+/// The same of whole plays, from power-up, on a sound board and on the one where a fault shows in a way.
+pub fn events_tell_of_faults()
+    ensures { EventsTellOfFaults }
+{}
+
+/// Where a fault shows in a way, two groups of pins at most see another bit. What is noted of both at a capture tells
+/// which wanted bit is the first that is another, and whether one that stays is.
+pub fn notes_tell_of_ways()
+    ensures { NotesTellOfWays }
+{}
+
+/// Of a program that passes on a sound board without strings, what is noted of every pin at the captures of one play tells
+/// how it ends on the board where a fault shows in a way: with the first wanted bit that is another, or passed. It does
+/// not tell where a bit that stays in a register is another before: there the way is to be played as a whole.
+pub fn notes_tell_of_faults()
+    ensures { NotesTellOfFaults }
+{}
+
+/// The same by what is noted of each net, of every way but that of an open joint.
+pub fn nets_tell_of_faults()
+    ensures { NetsTellOfFaults }
+{}

@@ -1,0 +1,23 @@
+//! The captures of a program's run on a board, and what they tell of the board's faults: a way in which a fault may show
+//! is caught at the first capture at which a wanted bit is another, as long as no bit that stays in a register is another
+//! before. So one play of the board itself serves all its faults.
+#![tactic(auto)]
+
+mod captures;
+mod differing;
+mod drives;
+mod laws;
+mod marks;
+mod nets;
+mod notes;
+mod noting;
+mod numbers;
+mod tables;
+
+pub use captures::{Capture, note_captures};
+pub use laws::{
+    captures_take_from_sources, events_compute, events_tell_of_faults, events_tell_of_runs,
+    nets_tell_of_faults, notes_tell_of_faults, notes_tell_of_ways,
+};
+pub use nets::{NetCapture, net_captures, way_ending};
+pub use notes::{Note, Spot};

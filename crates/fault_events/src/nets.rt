@@ -1,0 +1,167 @@
+//! Captures as faults of whole nets are judged by them: what is noted of each net.
+
+ghost use Rattle.std.specs.Prelude.{◌≡◌, ◌++◌, drop, map, take, IfOk, OnOk};
+ghost use Rattle.board_plan.specs.View.{net as planned_net};
+ghost use Rattle.fault_events.specs.Captures as captures;
+ghost use Rattle.fault_events.specs.Endings as endings;
+ghost use Rattle.fault_events.specs.Nets as spec;
+ghost use Rattle.fault_events.specs.Nets.{ending_by_nets, ending_of_nets, nets_noted, seen, with_nets_noted};
+ghost use Rattle.fault_events.specs.Notes.{net_at};
+
+use crate::captures::Capture;
+use crate::differing::{Pulls, both, first_other, stays_other};
+use crate::notes::Note;
+use board_faults::{Driven, Way};
+use board_plan::PlannedNet;
+use pin_nets::Pull;
+use play_model::Ending;
+use std::alloc::{AllocError, Global};
+
+/// A capture of the data column: the number of its statement, counted from 1, and what is noted of each net's pins
+/// together.
+#[derive(Drop)]
+pub struct NetCapture {
+    pub command: usize,
+    pub nets: Vec<Note>,
+}
+
+/// Captures with what is noted of each net, by what is noted of its pins. Refused where memory runs out.
+pub fn net_captures(
+    alloc: Global,
+    nets: &[PlannedNet],
+    list: &[Capture],
+) -> Result<Vec<NetCapture>, AllocError>
+    ensures { IfOk result
+        (λ v. map seen v.items ≡ map (λ c. with_nets_noted (map planned_net nets.now) (captures.seen c)) list.now) }
+{
+    let mut all = Vec::with_capacity(alloc, list.len())?;
+    for capture in list {
+        all.push(NetCapture {
+            command: capture.command,
+            nets: net_notes(alloc, nets, &capture.pins)?,
+        })?;
+    }
+    Ok(all)
+}
+
+/// What is noted of each net, by the notes of all pins, net after net.
+fn net_notes(alloc: Global, nets: &[PlannedNet], notes: &[Note]) -> Result<Vec<Note>, AllocError>
+    ensures { IfOk result (λ v. v.items ≡ nets_noted (map planned_net nets.now) notes.now) }
+{
+    let mut all = Vec::with_capacity(alloc, nets.len())?;
+    let mut rest = notes;
+    for net in nets {
+        all.push(all_of(front(rest, net.pins.len())))?;
+        rest = behind(rest, net.pins.len());
+    }
+    Ok(all)
+}
+
+fn front(notes: &[Note], n: usize) -> &[Note]
+    ensures { result.now ≡ take n notes.now }
+{
+    if n < notes.len() { &notes[..n] } else { notes }
+}
+
+fn behind(notes: &[Note], n: usize) -> &[Note]
+    ensures { result.now ≡ drop n notes.now }
+{
+    if n < notes.len() { &notes[n..] } else { &[] }
+}
+
+/// What is noted of pins together.
+fn all_of(notes: &[Note]) -> Note
+    ensures { result ≡ endings.all_of notes.now }
+{
+    let mut all = NOTHING_NOTED;
+    let mut k = notes.len();
+    while k > 0 {
+        k -= 1;
+        all = both(notes[k], all);
+    }
+    all
+}
+
+/// What is noted of no pins.
+const NOTHING_NOTED: Note = Note {
+    made: Driven {
+        zero: false,
+        one: false,
+        weak: false,
+    },
+    first: None,
+    stays: false,
+};
+
+/// How a program that passes ends where a fault of whole nets shows in a way, by its captures; nothing where they do not
+/// tell, since a bit that stays in a register is another: there the way is to be played as a whole.
+pub(crate) fn net_ending(
+    list: &[NetCapture],
+    way: Way,
+    pulls: Pulls,
+    first: usize,
+    second: usize,
+) -> Option<Ending>
+    ensures { result ≡ ending_by_nets way pulls first second (map seen list.now) }
+{
+    for capture in list {
+        let one = note_at(first, &capture.nets);
+        let two = note_at(second, &capture.nets);
+        if let Some(spot) = first_other(way, pulls, one, two) {
+            return Some(Ending::Fail {
+                command: capture.command,
+                part: spot.part,
+                bit: spot.bit,
+            });
+        }
+        if stays_other(way, pulls, one, two) {
+            return None;
+        }
+    }
+    Some(Ending::Pass)
+}
+
+fn note_at(k: usize, notes: &[Note]) -> Note
+    ensures { result ≡ spec.note_at k notes.now }
+{
+    match notes.get(k) {
+        Some(note) => *note,
+        None => NOTHING_NOTED,
+    }
+}
+
+/// How a program that passes ends on the board where a fault shows in a way, by what is noted of each net at its
+/// captures. Nothing where they do not tell: of an open joint, and where a bit that stays in a register is another before
+/// one that is wanted. Such a way is to be played as a whole.
+pub fn way_ending(list: &[NetCapture], nets: &[PlannedNet], way: Way) -> Option<Ending>
+    ensures { result ≡ ending_of_nets (map planned_net nets.now) way (map seen list.now) }
+{
+    match way {
+        Way::Open { .. } => None,
+        Way::Pull { net } => net_ending(list, way, pulls_of(nets, net, net), net, net),
+        Way::Stuck { net, .. } => net_ending(list, way, pulls_of(nets, net, net), net, net),
+        Way::Short { first, second, .. } => {
+            net_ending(list, way, pulls_of(nets, first, second), first, second)
+        }
+    }
+}
+
+fn pulls_of(nets: &[PlannedNet], first: usize, second: usize) -> Pulls
+    ensures first { result.first ≡ (net_at (map planned_net nets.now) first).pull }
+    ensures second { result.second ≡ (net_at (map planned_net nets.now) second).pull }
+{
+    Pulls {
+        first: pull_of(nets, first),
+        second: pull_of(nets, second),
+    }
+}
+
+fn pull_of(nets: &[PlannedNet], net: usize) -> Pull
+    ensures { result ≡ (net_at (map planned_net nets.now) net).pull }
+{
+    if net < nets.len() {
+        nets[net].pull
+    } else {
+        Pull::Free
+    }
+}
