@@ -110,8 +110,8 @@ pub struct Request<'a> {
 /// - `describe --board BOARD`,
 /// - `cover [FILE] --board BOARD [--list]`.
 ///
-/// Refused are words that none of these takes, and a number that is not in its range; a call for help or for the version
-/// comes as such an error too.
+/// Refused are words that none of these takes, and a number that is not in its range; a call for help or for the
+/// version comes as such an error too.
 pub fn parse<'a>(alloc: Global, words: &'a [&'a str]) -> Result<Request<'a>, Error>
     // What the words ask for.
     ensures asked { IfOk result (λ r. asked_of r ≡ spec.asked (map (λ w. w.now) words.now)) }

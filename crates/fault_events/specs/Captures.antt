@@ -33,6 +33,7 @@ pub record Fits (ms : List Member) (devices : List PlannedDevice) (n : PinNumber
   pub numbered : AreNumbered (map planned_member devices) n
 
 -- a board is at rest in a state, and what is noted of these captures stands behind what was
-pub record Goes (pins : List Pin) (es : List Event) (after : AtRest) (board : BoardState) (old new : List Capture) : Type 0 where
+pub record Goes (pins : List Pin) (es : List Event) (after : AtRest) (board : BoardState)
+    (old new : List Capture) : Type 0 where
   pub rests : IsAtRest board after
   pub noted : map seen new ≡ map seen old ++ map (noted_at pins) es

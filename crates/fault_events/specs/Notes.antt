@@ -1,5 +1,5 @@
--- What is noted of pins at a capture, and what that tells of a way in which a fault may show: it changes what two groups
--- of pins see at most, by what each of them drives together.
+-- What is noted of pins at a capture, and what that tells of a way in which a fault may show: it changes what two
+-- groups of pins see at most, by what each of them drives together.
 use Rattle.std.specs.Prelude.{◌≡◌, Bool, true, false, ◌&&◌, ◌||◌, ℕ, suc, List, [], ◌∷◌, length, map, take, drop}
 use Rattle.std.specs.Prelude.{slice_index_or, nat_lt, Option, Some, None, option_map, is_some, if◌then◌else◌}
 use Rattle.std.specs.List.{list_any, remove}
@@ -50,7 +50,8 @@ noted pins ms v = map (λ p. note_in ms v (p ∷ [])) pins
 abbrev pub net_at : List Net → ℕ → Net
 net_at nets k = slice_index_or nets k nowhere
 
--- the pins that may see another bit: those of a net, and of the other of a bridge; of an open joint its pin, and the rest
+-- the pins that may see another bit: those of a net, and of the other of a bridge; of an open joint its pin, and the
+-- rest
 abbrev pub first_pins : List Net → Way → List Pin
 first_pins nets (way.Open net pin bit) = take 1 (drop pin (net_at nets net).pins)
 first_pins nets its_way = (net_at nets (first_of its_way)).pins

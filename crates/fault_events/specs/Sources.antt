@@ -1,5 +1,6 @@
 -- What each bit of a capture of the data column is taken from: what a pin sees of its net, or a bit that is the same
--- whatever the nets are (IEEE Std 1149.1-2001, clauses 9 to 12). Of devices without strings, whose cores hang on no net.
+-- whatever the nets are (IEEE Std 1149.1-2001, clauses 9 to 12). Of devices without strings, whose cores hang on no
+-- net.
 use Rattle.std.specs.Prelude.{◌≡◌, Bool, false, ℕ, suc, List, [], ◌∷◌, ◌++◌, map, Option, Some, None}
 use Rattle.jt_bits.specs.Words.{bit_of}
 use Rattle.jt_tap.specs.declared.Column.TheVariants.{Dr}

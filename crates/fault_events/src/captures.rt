@@ -347,8 +347,8 @@ fn drive_trst(step: &Step<'_>, board: &mut Board)
     play_step(step, board, &mut failures);
 }
 
-/// Plays a program on a board to its end, whatever fails, and notes the captures of the data column. Refused where memory
-/// runs out.
+/// Plays a program on a board to its end, whatever fails, and notes the captures of the data column. Refused where
+/// memory runs out.
 fn note_program(
     alloc: Global,
     devices: &[PlannedDevice],

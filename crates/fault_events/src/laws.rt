@@ -34,9 +34,9 @@ pub fn notes_tell_of_ways()
     ensures { NotesTellOfWays }
 {}
 
-/// Of a program that passes on a sound board without strings, what is noted of every pin at the captures of one play tells
-/// how it ends on the board where a fault shows in a way: with the first wanted bit that is another, or passed. It does
-/// not tell where a bit that stays in a register is another before: there the way is to be played as a whole.
+/// Of a program that passes on a sound board without strings, what is noted of every pin at the captures of one play
+/// tells how it ends on the board where a fault shows in a way: with the first wanted bit that is another, or passed.
+/// It does not tell where a bit that stays in a register is another before: there the way is to be played as a whole.
 pub fn notes_tell_of_faults()
     ensures { NotesTellOfFaults }
 {}

@@ -1,6 +1,6 @@
-//! The captures of a program's run on a board, and what they tell of the board's faults: a way in which a fault may show
-//! is caught at the first capture at which a wanted bit is another, as long as no bit that stays in a register is another
-//! before. So one play of the board itself serves all its faults.
+//! The captures of a program's run on a board, and what they tell of the board's faults: a way in which a fault may
+//! show is caught at the first capture at which a wanted bit is another, as long as no bit that stays in a register is
+//! another before. So one play of the board itself serves all its faults.
 #![tactic(auto)]
 
 mod captures;

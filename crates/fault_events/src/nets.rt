@@ -93,8 +93,8 @@ const NOTHING_NOTED: Note = Note {
     stays: false,
 };
 
-/// How a program that passes ends where a fault of whole nets shows in a way, by its captures; nothing where they do not
-/// tell, since a bit that stays in a register is another: there the way is to be played as a whole.
+/// How a program that passes ends where a fault of whole nets shows in a way, by its captures; nothing where they do
+/// not tell, since a bit that stays in a register is another: there the way is to be played as a whole.
 pub(crate) fn net_ending(
     list: &[NetCapture],
     way: Way,
@@ -131,8 +131,8 @@ fn note_at(k: usize, notes: &[Note]) -> Note
 }
 
 /// How a program that passes ends on the board where a fault shows in a way, by what is noted of each net at its
-/// captures. Nothing where they do not tell: of an open joint, and where a bit that stays in a register is another before
-/// one that is wanted. Such a way is to be played as a whole.
+/// captures. Nothing where they do not tell: of an open joint, and where a bit that stays in a register is another
+/// before one that is wanted. Such a way is to be played as a whole.
 pub fn way_ending(list: &[NetCapture], nets: &[PlannedNet], way: Way) -> Option<Ending>
     ensures { result ≡ ending_of_nets (map planned_net nets.now) way (map seen list.now) }
 {

@@ -21,8 +21,8 @@ use board_plan::PlannedDevice;
 use scan_vectors::Vector;
 use std::alloc::{AllocError, Global};
 
-/// What is noted of each pin, by its number, before a capture of the data column behind which a vector is shifted. Refused
-/// where memory runs out.
+/// What is noted of each pin, by its number, before a capture of the data column behind which a vector is shifted.
+/// Refused where memory runs out.
 pub(crate) fn note_pins(
     alloc: Global,
     chain: &Chain,

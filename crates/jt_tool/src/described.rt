@@ -170,8 +170,8 @@ impl Planned {
         Stage::powered_up(alloc, &self.plan, kind)
     }
 
-    /// Plays an accepted program of a text on a board, and tells of each bit that fails why, as it is found on the board
-    /// of the plan. Answers the exit status.
+    /// Plays an accepted program of a text on a board, and tells of each bit that fails why, as it is found on the
+    /// board of the plan. Answers the exit status.
     pub(crate) fn play_explained<W: Sink>(
         &self,
         alloc: Global,

@@ -30,8 +30,8 @@ pub(crate) fn accept_text(
     }
 }
 
-/// Plays an accepted program of a text on a board; where its plan is given, it is told of each bit that fails why, as it
-/// is found on the board of that plan. Answers the exit status.
+/// Plays an accepted program of a text on a board; where its plan is given, it is told of each bit that fails why, as
+/// it is found on the board of that plan. Answers the exit status.
 pub(crate) fn play_accepted<W: Sink>(
     alloc: Global,
     kind: Kind,

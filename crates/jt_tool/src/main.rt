@@ -177,7 +177,8 @@ fn waves_of<'a>(task: Task<'a>) -> Option<&'a str> {
     }
 }
 
-/// Does with a board what is asked for. Its plan is kept only where waves are drawn, or reasons found, on the same board.
+/// Does with a board what is asked for. Its plan is kept only where waves are drawn, or reasons found, on the same
+/// board.
 fn run_boards(
     rt: &HostRuntime,
     alloc: Global,

@@ -11,8 +11,8 @@ use std::io::{BufWriter, Write};
 /// So many bytes of a file tell whether it holds waves.
 const HEAD: u64 = 256;
 
-/// Whether a file of waves may be made anew: nothing is in it but waves of the program, and the request has no other use
-/// for it.
+/// Whether a file of waves may be made anew: nothing is in it but waves of the program, and the request has no other
+/// use for it.
 pub(crate) fn may_be_made(
     rt: &HostRuntime,
     alloc: Global,

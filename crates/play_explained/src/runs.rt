@@ -37,9 +37,9 @@ use svf_programs::Program;
 /// as it is found on the board of a plan, which is powered up where a bit failed. Answers the exit status: 0 pass, 1
 /// fail.
 ///
-/// Refused for want of memory for that board: then the bytes were told, where they are asked for, and nothing else.
-/// `Broken` comes exactly where the writer's first failure came in this call. In both it was told a front part of what
-/// it was owed, and the board is as it was or as the whole play leaves it.
+/// Refused for want of memory for that board, which is asked for after the play; no write was lost then. `Broken`
+/// comes exactly where the writer's first failure came in this call. In both it was told a front part of what it was
+/// owed, and the board is as it was or as the whole play leaves it.
 ///
 /// Asks that the plan is ready, as those are that `plan_of_table` and `bare_plan` make.
 pub fn run_play_explained<W: Sink>(
@@ -57,8 +57,8 @@ pub fn run_play_explained<W: Sink>(
     // What it means over whole registers.
     ensures means { MeansAsPlayed kind (program_of program.now) board.old }
     // What is told, the exit status, and the board that is left.
-    ensures writes { Told W.contents out.old out.new (explained_run kind bytes text.now (program_of program.now) board.old
-        (board_of (wiring plan.now))).out result }
+    ensures writes { Told W.contents out.old out.new (explained_run kind bytes text.now (program_of program.now)
+        board.old (board_of (wiring plan.now))).out result }
     ensures status { IfOk result (λ status. status ≡ (explained_run kind bytes text.now (program_of program.now)
         board.old (board_of (wiring plan.now))).status) }
     ensures left { OnOk result (board.new ≡ (full kind program.now.steps board.old).board) }
@@ -84,8 +84,8 @@ fn play_and_explain<W: Sink>(
 ) -> Result<u8, Untold>
     requires whole { out.old.failures ≡ 0 }
     requires ready { IsReadyPlan plan.now }
-    ensures writes { Told W.contents out.old out.new (explained_run kind bytes text.now (program_of program.now) board.old
-        (board_of (wiring plan.now))).out result }
+    ensures writes { Told W.contents out.old out.new (explained_run kind bytes text.now (program_of program.now)
+        board.old (board_of (wiring plan.now))).out result }
     ensures status { IfOk result (λ status. status ≡ (explained_run kind bytes text.now (program_of program.now)
         board.old (board_of (wiring plan.now))).status) }
     ensures left { OnOk result (board.new ≡ (full kind program.now.steps board.old).board) }
@@ -144,7 +144,8 @@ fn write_if_failed<W: Sink>(
 ) -> Result<(), Broken>
     requires { out.old.failures ≡ 0 }
     ensures { (before : BoardState) → other ≡ other_for ending before → WritesAll W.contents out.old out.new
-        (explained_lines text.now (why_on kind (program_of program.now) before) kind ending (found failures.now)) result }
+        (explained_lines text.now (why_on kind (program_of program.now) before) kind ending (found failures.now))
+        result }
 {
     match other {
         Some(mut other) => write_on_board(kind, ending, failures, program, text, &mut other, out),

@@ -4,8 +4,8 @@ ghost use Rattle.play_waves.specs.Laws.{APassIsDrawnToItsEnd, EachStepTakesItsCy
 ghost use Rattle.play_waves.specs.Laws.{TimeGoesOn, WhatIsDrawnIsTheBoard};
 ghost use Rattle.play_waves.specs.Rows.{WaveRows};
 
-/// Behind any messages what is drawn is the board that took them; and TDO as it is drawn then is the byte with which the
-/// board answers `R`, but where it is undriven.
+/// Behind any messages what is drawn is the board that took them; and TDO as it is drawn then is the byte with which
+/// the board answers `R`, but where it is undriven.
 pub fn what_is_drawn_is_played()
     ensures board { WhatIsDrawnIsTheBoard }
     ensures tdo { TdoDrawnIsTheAnswer }
