@@ -222,13 +222,7 @@ fn reports(rt: HostRuntime) -> Result<(), Fail> {
     let mut board = Board::bare(rt.alloc(), 2)?;
     cycles(&mut board, b"011010");
     cycles(&mut board, b"110");
-    let mut out = Counted::new(Vec::new(rt.alloc()));
-    assert!(rt; out.failures() == 0);
-    assert!(rt; write_report(&board, &mut out).is_ok());
-    assert_eq!(rt;
-        out.into_inner().as_slice(),
-        b"U1 IDLE 01 -\nU2 IDLE 01 -\n".as_slice()
-    );
+    assert_reported(&rt, rt.alloc(), &board, "U1 IDLE 01 -\nU2 IDLE 01 -\n");
     Ok(())
 }
 
@@ -254,21 +248,34 @@ pub(crate) fn reported(alloc: Global, board: &Board) -> Vec<u8> {
     shown.into_inner()
 }
 
+/// Asserts the report of a board.
+fn assert_reported(rt: &impl Abort, alloc: Global, board: &Board, wanted: &str) {
+    assert_eq!(rt; reported(alloc, board).as_slice(), wanted.as_bytes());
+}
+
+/// What a refusal holds.
+fn held(fault: &BoardFault) -> &str {
+    match fault {
+        BoardFault::BadField(text)
+        | BoardFault::UnknownFile(text)
+        | BoardFault::UnknownPin(text)
+        | BoardFault::PinTwice(text)
+        | BoardFault::CoreLoop(text) => text.as_str(),
+        _ => "",
+    }
+}
+
+/// A refusal with what it holds.
+fn told(alloc: Global, fault: &BoardFault) -> Result<Vec<u8>, AllocError> {
+    let text = held(fault);
+    format!(in alloc; "{fault} {text}").map(String::into_bytes)
+}
+
 /// The report of the fresh board of a board file, or its refusal with what it holds.
 fn made(alloc: Global, toml: &str) -> Result<Vec<u8>, AllocError> {
     match board_of(alloc, toml) {
         Ok(board) => Ok(reported(alloc, &board)),
-        Err(fault) => {
-            let text = match &fault {
-                BoardFault::BadField(text)
-                | BoardFault::UnknownFile(text)
-                | BoardFault::UnknownPin(text)
-                | BoardFault::PinTwice(text)
-                | BoardFault::CoreLoop(text) => text.as_str(),
-                _ => "",
-            };
-            format!(in alloc; "{fault} {text}").map(String::into_bytes)
-        }
+        Err(fault) => told(alloc, &fault),
     }
 }
 

@@ -35,30 +35,41 @@ fn chip(rt: &impl Abort, alloc: Global, change: (&str, &str)) -> Result<Chip<Pla
     Ok(Chip::new(alloc, &shared, boundary)?)
 }
 
-/// A rising edge with this TMS and TDI 1.
-fn rise(chip: &mut Chip<Plain>, tms: bool) {
-    chip.rise(tms, true);
+/// What is done to a chip, or asserted of it.
+enum Act<'a> {
+    /// Edges with these TMS values and TDI 1, a falling edge after each rising one.
+    Edges(&'a [bool]),
+    /// A rising edge alone.
+    Rise(bool),
+    Fall,
+    Trst(bool),
+    /// The state, and what TDO shows.
+    Shows(State, Option<bool>),
+    /// The state, and the digits of the latch and of the instruction register's stage.
+    Holds(State, u8, u8),
+    Selects(&'a str),
 }
 
-fn fall(chip: &mut Chip<Plain>) {
-    chip.fall();
-}
-
-/// Edges with these TMS values, a falling edge after each rising one.
 fn edges(chip: &mut Chip<Plain>, tms: &[bool]) {
     for bit in tms {
-        rise(chip, *bit);
-        fall(chip);
+        chip.rise(*bit, true);
+        chip.fall();
     }
 }
 
-/// Asserts the state, and what TDO shows.
-fn assert_tdo(rt: &impl Abort, chip: &Chip<Plain>, state: State, tdo: Option<bool>) {
-    assert_eq!(rt; (chip.state(), chip.tdo()), (state, tdo));
+fn act(rt: &impl Abort, chip: &mut Chip<Plain>, what: &Act<'_>) {
+    match what {
+        Act::Edges(tms) => edges(chip, tms),
+        Act::Rise(tms) => chip.rise(*tms, true),
+        Act::Fall => chip.fall(),
+        Act::Trst(asserted) => chip.trst(*asserted),
+        Act::Shows(state, tdo) => assert_eq!(rt; (chip.state(), chip.tdo()), (*state, *tdo)),
+        Act::Holds(state, latch, stage) => assert_holds(rt, chip, *state, *latch, *stage),
+        Act::Selects(wanted) => assert_eq!(rt; chip.instruction(), Some(*wanted)),
+    }
 }
 
-/// Asserts the state, and the digits of the latch and of the instruction register's stage.
-fn assert_latch(rt: &impl Abort, chip: &Chip<Plain>, state: State, latch: u8, stage: u8) {
+fn assert_holds(rt: &impl Abort, chip: &Chip<Plain>, state: State, latch: u8, stage: u8) {
     assert_eq!(rt; chip.state(), state);
     assert_eq!(rt;
         (chip.latch().hex_digit(0), chip.stage().hex_digit(0)),
@@ -66,19 +77,32 @@ fn assert_latch(rt: &impl Abort, chip: &Chip<Plain>, state: State, latch: u8, st
     );
 }
 
-fn assert_instruction(rt: &impl Abort, chip: &Chip<Plain>, wanted: &str) {
-    assert_eq!(rt; chip.instruction(), Some(wanted));
+/// A fresh chip to which all that was done, and of which all held.
+fn after(
+    rt: &impl Abort,
+    alloc: Global,
+    change: (&str, &str),
+    acts: &[Act<'_>],
+) -> Result<Chip<Plain>, Fail> {
+    let mut chip = chip(rt, alloc, change)?;
+    for what in acts {
+        act(rt, &mut chip, what);
+    }
+    Ok(chip)
 }
+
+const UP_TO_THE_CODE: &[Act<'_>] = &[
+    Act::Selects("IDCODE"),
+    Act::Edges(&[false, true, false]),
+    Act::Rise(false),
+    Act::Shows(State::DrShift, None),
+    Act::Fall,
+    Act::Shows(State::DrShift, Some(true)),
+];
 
 #[test]
 fn the_code_is_shifted_out(rt: HostRuntime) -> Result<(), Fail> {
-    let mut chip = chip(&rt, rt.alloc(), AS_IT_STANDS)?;
-    assert_instruction(&rt, &chip, "IDCODE");
-    edges(&mut chip, &[false, true, false]);
-    rise(&mut chip, false);
-    assert_tdo(&rt, &chip, State::DrShift, None);
-    fall(&mut chip);
-    assert_tdo(&rt, &chip, State::DrShift, Some(true));
+    let mut chip = after(&rt, rt.alloc(), AS_IT_STANDS, UP_TO_THE_CODE)?;
     let mut code: u32 = 1;
     for i in 1..32u32 {
         edges(&mut chip, &[false]);
@@ -90,47 +114,56 @@ fn the_code_is_shifted_out(rt: HostRuntime) -> Result<(), Fail> {
     Ok(())
 }
 
+const UNDER_TRST: &[Act<'_>] = &[
+    Act::Edges(&[false, true, false, false]),
+    Act::Shows(State::DrShift, Some(true)),
+    Act::Trst(true),
+    Act::Shows(State::Reset, None),
+    Act::Rise(false),
+    Act::Shows(State::Reset, None),
+    Act::Trst(false),
+    Act::Rise(false),
+    Act::Shows(State::Idle, None),
+];
+
 #[test]
 fn trst_holds_a_device_that_has_it(rt: HostRuntime) -> Result<(), Fail> {
-    let mut chip = chip(&rt, rt.alloc(), WITH_TRST)?;
-    edges(&mut chip, &[false, true, false, false]);
-    assert_tdo(&rt, &chip, State::DrShift, Some(true));
-    chip.trst(true);
-    assert_tdo(&rt, &chip, State::Reset, None);
-    rise(&mut chip, false);
-    assert_tdo(&rt, &chip, State::Reset, None);
-    chip.trst(false);
-    rise(&mut chip, false);
-    assert_tdo(&rt, &chip, State::Idle, None);
+    after(&rt, rt.alloc(), WITH_TRST, UNDER_TRST)?;
     Ok(())
 }
+
+const INTO_THE_LATCH: &[Act<'_>] = &[
+    Act::Edges(&[false, true, true, false, true, false]),
+    Act::Holds(State::IrPause, b'2', b'1'),
+    Act::Edges(&[true]),
+    Act::Rise(true),
+    Act::Holds(State::IrUpdate, b'2', b'1'),
+    Act::Fall,
+    Act::Holds(State::IrUpdate, b'1', b'1'),
+    Act::Selects("SAMPLE"),
+    Act::Edges(&[true, true]),
+    Act::Rise(true),
+    Act::Holds(State::Reset, b'1', b'1'),
+    Act::Fall,
+    Act::Holds(State::Reset, b'2', b'1'),
+    Act::Selects("IDCODE"),
+];
 
 #[test]
 fn the_latch_changes_on_falling_edges(rt: HostRuntime) -> Result<(), Fail> {
-    let mut chip = chip(&rt, rt.alloc(), AS_IT_STANDS)?;
-    edges(&mut chip, &[false, true, true, false, true, false]);
-    assert_latch(&rt, &chip, State::IrPause, b'2', b'1');
-    edges(&mut chip, &[true]);
-    rise(&mut chip, true);
-    assert_latch(&rt, &chip, State::IrUpdate, b'2', b'1');
-    fall(&mut chip);
-    assert_latch(&rt, &chip, State::IrUpdate, b'1', b'1');
-    assert_instruction(&rt, &chip, "SAMPLE");
-    edges(&mut chip, &[true, true]);
-    rise(&mut chip, true);
-    assert_latch(&rt, &chip, State::Reset, b'1', b'1');
-    fall(&mut chip);
-    assert_latch(&rt, &chip, State::Reset, b'2', b'1');
-    assert_instruction(&rt, &chip, "IDCODE");
+    after(&rt, rt.alloc(), AS_IT_STANDS, INTO_THE_LATCH)?;
     Ok(())
 }
 
+const INTO_LOAD: &[Act<'_>] = &[
+    Act::Edges(&[false, true, true, false, true, true]),
+    Act::Selects("LOAD"),
+    Act::Edges(&[true, false, false, false, false, true, true]),
+];
+
 #[test]
 fn a_user_register_keeps_what_it_is_given(rt: HostRuntime) -> Result<(), Fail> {
-    let mut chip = chip(&rt, rt.alloc(), WITH_LOAD)?;
-    edges(&mut chip, &[false, true, true, false, true, true]);
-    assert_instruction(&rt, &chip, "LOAD");
-    edges(&mut chip, &[true, false, false, false, false, true, true]);
+    let chip = after(&rt, rt.alloc(), WITH_LOAD, INTO_LOAD)?;
     let Some((stage, held)) = chip.user(0) else {
         return Err(Fail::from("no user register"));
     };

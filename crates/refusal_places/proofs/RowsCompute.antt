@@ -1,5 +1,6 @@
 -- The worked refusals compute.
-use Rattle.std.proofs.Common.{refl}
+use Rattle.std.proofs.Common.{refl, arith}
+use Rattle.std.proofs.lemmas.Fmt.{decimal_digit}
 use Rattle.svf_lex.specs.Cutting.{cut}
 use Rattle.refusal_places.specs.Rows.{PlaceRows}
 
@@ -12,6 +13,7 @@ place_rows = record {
   too_long = refl;
   no_memory = refl;
   missing = refl;
+  bad_cell = rw (decimal_digit 3 (omega arith)) refl;
   of_the_file = refl;
   no_name = refl;
 }

@@ -56,7 +56,7 @@ bsdl_words text (bsdl.BadToken place) = codes " " ++ position_words (position_of
 bsdl_words text (bsdl.BadForm place) = codes " " ++ position_words (position_of text place)
 bsdl_words text (bsdl.Missing a) = codes " " ++ name_words (attribute_word a)
 bsdl_words text (bsdl.Twice name) = codes " " ++ name_words (shown (string_bytes name))
-bsdl_words text (bsdl.BadCell number) = codes " " ++ name_words (decimal number)
+bsdl_words text (bsdl.BadCell number) = codes " cell " ++ decimal number
 bsdl_words text _ = []
 
 -- the line of a refused description, by its file and its text

@@ -26,5 +26,6 @@ pub record PlaceRows : Type 0 where
   pub no_memory : svf_line text (fault 0 code.NoMemory) ≡ []
   pub missing : bsdl_line (codes "k.bsd") [] (bsdl.Missing attribute.BoundaryLength)
       ≡ codes "in k.bsd name BOUNDARY_LENGTH\n"
+  pub bad_cell : bsdl_line (codes "k.bsd") [] (bsdl.BadCell 3) ≡ codes "in k.bsd cell 3\n"
   pub of_the_file : bsdl_line (codes "k.bsd") [] bsdl.BadCapture ≡ codes "in k.bsd\n"
   pub no_name : board_line board.BadToml ≡ []

@@ -43,7 +43,7 @@ fn svf_position(text: &[u8], fault: SvfFault) -> Option<Position>
 }
 
 /// Writes of a refused description its file, and where in its text the refusal lies or which name or cell it speaks of:
-/// `in k.bsd at line 3 column 1`, `in k.bsd name BOUNDARY_LENGTH`.
+/// `in k.bsd at line 3 column 1`, `in k.bsd name BOUNDARY_LENGTH`, `in k.bsd cell 3`.
 ///
 /// `Broken` comes exactly where the writer's first failure came in this call.
 pub fn refused_description<E: Sink>(
@@ -79,7 +79,7 @@ fn write_bsdl_words<E: Sink>(
         BsdlFault::Twice(name) => write_spaced_name(name.as_str(), err),
         BsdlFault::BadCell(number) => {
             let mut digits = Buffer::new();
-            put_pieces(err, &[b" name ", digits.format(*number).as_bytes()])
+            put_pieces(err, &[b" cell ", digits.format(*number).as_bytes()])
         }
         _ => put_all(err, b""),
     }
