@@ -176,8 +176,8 @@ static void put_heading(void) {
 	at += sprintf(at, "$var integer 32 %c statement $end\n$upscope $end\n", code(STATEMENT));
 	for (int k = 0; k < devices; k++) {
 		int n = FIRST_OF_DEVICES + OF_DEVICE * k;
-		at += sprintf(at, "$scope module U%d $end\n$var reg 4 %c state $end\n$var string 1 %c word $end\n$var reg %d %c instruction $end\n$upscope $end\n",
-			k + 1, code(n), code(n + 1), OPCODE, code(n + 2));
+		at += sprintf(at, "$scope module U%d $end\n$var reg 4 %c U%d_state $end\n$var string 1 %c U%d_word $end\n$var reg %d %c U%d_instruction $end\n$upscope $end\n",
+			k + 1, code(n), k + 1, code(n + 1), k + 1, OPCODE, code(n + 2), k + 1);
 		for (int s = 0; s < STATES; s++)
 			state_lines[k][s].len = sprintf(state_lines[k][s].text, "b%s %c\ns%s %c\n", states[s].code, code(n), states[s].word, code(n + 1));
 	}

@@ -19,7 +19,7 @@ import coverage
 import program
 from inputs import COVER_KINDS, KINDS, WAVE_KINDS, Case, case_of
 from refusal import Refusal
-from waves import waves
+from waves import waves, without_strings
 
 CASES = 450
 WAVE_CASES = 40
@@ -32,6 +32,9 @@ WAVE_FILE = "waves.vcd"
 WORDS = {"check": ["check"], "play": ["play", "--bytes"], "play to the end": ["play", "--bytes", "--all"],
          "describe": ["describe"], "waves": ["play", "--vcd", WAVE_FILE],
          "waves to the end": ["play", "--all", f"--vcd={WAVE_FILE}"],
+         "waves, noted": ["play", "--vcd-fails", "--vcd", WAVE_FILE],
+         "waves to the end, noted": ["play", "--all", "--vcd-fails", "--vcd", WAVE_FILE],
+         "waves, noted and plain": ["play", "--vcd-plain", "--vcd-fails", "--vcd", WAVE_FILE],
          "cover": ["cover"], "cover, listed": ["cover", "--list"]}
 
 
@@ -85,9 +88,12 @@ def expected_waves(case: Case) -> dict[str, program.Answer]:
         return {}
     if length_of(its_program) > LONGEST_WAVE:
         return {}
-    ends = {"waves": False, "waves to the end": True}
-    return {command: program.play(board, its_program, end)._replace(out=waves(board, case.text, end))
-            for command, end in ends.items()}
+    ends = {"waves": (False, False), "waves to the end": (True, False), "waves, noted": (False, True),
+            "waves to the end, noted": (True, True)}
+    drawn = {command: program.play(board, its_program, end)._replace(out=waves(board, case.text, end, noted))
+             for command, (end, noted) in ends.items()}
+    noted = drawn["waves, noted"]
+    return {**drawn, "waves, noted and plain": noted._replace(out=without_strings(noted.out))}
 
 
 def expected_covers(case: Case) -> dict[str, program.Answer]:

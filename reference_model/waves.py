@@ -1,7 +1,8 @@
-"""The waves of a play: the value change dump that `play --vcd FILE [--all]` draws.
+"""The waves of a play: the value change dump that `play --vcd FILE [--all] [--vcd-fails] [--vcd-plain]` draws.
 
 Each message of the play is put to the board of edges, and behind it all that is shown is worked out anew: what
-differs from what was drawn last is written.
+differs from what was drawn last is written. What is told of the bits that a scan wants (`--vcd-fails`) is written
+before the message at whose time it becomes so.
 """
 
 from __future__ import annotations
@@ -11,12 +12,13 @@ from itertools import count
 from board import Board, EdgeBoard
 from controller import STABLE
 from program import OPENING, place_after, step_bytes
-from svf import USUAL_PERIOD, Frequency, ScanStep, accept, parse
+from svf import USUAL_PERIOD, Bit, Frequency, ScanStep, accept, parse
 
 DRAWN_RESTS = 128  # messages of a rest, after which TCK is drawn as unknown
 LATEST = 2 ** 63 - 2
 FIRST_SIGN, SIGNS = 33, 94  # `!` to `~`
 LINES = ("TCK", "TMS", "TDI", "TDO", "TRST")
+NOTES = (("wire 1", "wanted"), ("wire 1", "fail"), ("integer 32", "bit"), ("string 1", "part"))
 STATE_CODES = {
     "DREXIT2": 0x0, "DREXIT1": 0x1, "DRSHIFT": 0x2, "DRPAUSE": 0x3, "IRSELECT": 0x4, "DRUPDATE": 0x5, "DRCAPTURE": 0x6,
     "DRSELECT": 0x7, "IREXIT2": 0x8, "IREXIT1": 0x9, "IRSHIFT": 0xA, "IRPAUSE": 0xB, "IDLE": 0xC, "IRUPDATE": 0xD,
@@ -32,19 +34,22 @@ def sign(number: int) -> str:
     return chr(FIRST_SIGN + digit) + (sign(rest) if rest else "")
 
 
-def heading(board: Board) -> str:
-    """The variables in their scopes, numbered in order."""
+def heading(board: Board, noted: bool) -> str:
+    """The variables in their scopes, numbered in order; those of the bits that are wanted come last in that."""
     numbers = count()
+    notes = count(len(LINES) + 1 + 3 * len(board.parts) + len(board.nets))
 
     def variable(kind: str, name: str) -> str:
         return f"$var {kind} {sign(next(numbers))} {name} $end"
 
     lines = ["$timescale 1 ps $end", "$scope module board $end", "$scope module tap $end"]
-    lines += [variable("wire 1", name) for name in LINES] + [variable("integer 32", "statement"), "$upscope $end"]
+    lines += [variable("wire 1", name) for name in LINES] + [variable("integer 32", "statement")]
+    lines += [f"$var {kind} {sign(next(notes))} {name} $end" for kind, name in NOTES if noted] + ["$upscope $end"]
     for part in board.parts:
         instruction = f"reg {len(part.device.capture)}"
-        lines += [f"$scope module {part.name} $end", variable("reg 4", "state"), variable("string 1", "word"),
-                  variable(instruction, "instruction"), "$upscope $end"]
+        lines += [f"$scope module {part.name} $end", variable("reg 4", f"{part.name}_state"),
+                  variable("string 1", f"{part.name}_word"), variable(instruction, f"{part.name}_instruction"),
+                  "$upscope $end"]
     lines += [variable("wire 1", net.name) for net in board.nets]
     return "".join(line + "\n" for line in [*lines, "$upscope $end", "$enddefinitions $end"])
 
@@ -56,13 +61,15 @@ def level(bit: int | None, none: str) -> str:
 class Drawing:
     """A board that takes a play, and what was drawn of it last; `tck` is None within a stretch of rest."""
 
-    def __init__(self, board: Board):
+    def __init__(self, board: Board, noted: bool):
         self.edges = EdgeBoard(board)
         self.tck, self.tms, self.tdi = 0, None, None
         self.time = self.rested = self.statement = 0
         self.values = self.shown()
-        first = "".join(f"{value}{sign(number)}\n" for number, value in enumerate(self.values))
-        self.pieces = [heading(board), f"#0\n$dumpvars\n{first}$end\n"]
+        self.wanted, self.fails = "x", "0"
+        first = [*self.values, *("x", "0", "bx ", "snone ")[:4 * noted]]
+        lines = "".join(f"{value}{sign(number)}\n" for number, value in enumerate(first))
+        self.pieces = [heading(board, noted), f"#0\n$dumpvars\n{lines}$end\n"]
 
     def shown(self) -> list[str]:
         """All values in the order of the variables, with the blank behind those of more than one letter."""
@@ -79,6 +86,17 @@ class Drawing:
         self.statement = statement
         self.values[len(LINES)] = f"b{statement:b} "
         self.pieces.append(f"#{self.time}\n{self.values[len(LINES)]}{sign(len(LINES))}\n")
+
+    def tell(self, wanted: str, failing: Bit | None) -> None:
+        """Write the time, and which bit is wanted and whether it fails, where that is another than before."""
+        fails = str(int(failing is not None))
+        values = [wanted if wanted != self.wanted else "", fails if fails != self.fails else "", "", ""]
+        if any(values):
+            if failing:
+                values[2:] = [f"b{failing.place:b} ", f"s{failing.part} "]
+            first = len(self.values)
+            self.pieces += [f"#{self.time}\n", *(f"{value}{sign(first + k)}\n" for k, value in enumerate(values) if value)]
+        self.wanted, self.fails = wanted, fails
 
     def byte(self, byte: str, period: int) -> int | None:
         """Take a byte and draw it; its answer. Only what sets a level takes time."""
@@ -128,14 +146,43 @@ def periods(text: bytes) -> dict[int, int]:
     return found
 
 
-def waves(board: Board, text: bytes, to_the_end: bool = False) -> str:
+def scan(drawing: Drawing, step: ScanStep, place: str, period: int, to_the_end: bool) -> list[int]:
+    """Draw a scan with what is told of the bits that it wants; its answers. TCK goes high behind the byte that asks."""
+    asked = [bit for bit in step.vector if bit.want is not None]
+    answers, bit = [], None
+    for byte in step_bytes(place, step):
+        if byte in "0123":
+            drawing.tell(drawing.wanted, None)
+        elif byte in "4567" and bit is None:
+            drawing.tell("x", None)
+        elif byte in "4567":
+            failing = bit if bit.want != answers[-1] else None
+            drawing.tell(str(bit.want), failing)
+            asked = asked if to_the_end or not failing else []
+            bit = None
+        answer = drawing.byte(byte, period)
+        if answer is not None:
+            answers.append(answer)
+            bit = asked.pop(0) if asked else None
+    return answers
+
+
+def without_strings(text: str) -> str:
+    """A file as `--vcd-plain` has it."""
+    return "".join(f"{line}\n" for line in text.splitlines() if not line.startswith(("s", "$var string ")))
+
+
+def waves(board: Board, text: bytes, to_the_end: bool = False, noted: bool = False) -> str:
     """The file of an accepted text, drawn up to and with the first statement that fails."""
-    drawing, place, period_at = Drawing(board), "RESET", periods(text)
+    drawing, place, period_at = Drawing(board, noted), "RESET", periods(text)
     for byte in OPENING:
         drawing.byte(byte, USUAL_PERIOD)
     for step in accept(text).steps:
         drawing.begin(step.number)
-        answers = [drawing.byte(byte, period_at[step.number]) for byte in step_bytes(place, step)]
+        if noted and isinstance(step, ScanStep):
+            answers = scan(drawing, step, place, period_at[step.number], to_the_end)
+        else:
+            answers = [drawing.byte(byte, period_at[step.number]) for byte in step_bytes(place, step)]
         place = place_after(place, step)
         if isinstance(step, ScanStep) and not to_the_end:
             wanted = [bit.want for bit in step.vector if bit.want is not None]

@@ -1,7 +1,7 @@
 -- What the words of a command line ask for. What a command with these arguments takes of its words is clap's own
 -- specification.
 use Rattle.std.specs.Prelude.{ℕ, ◌-◌, ◌^◌, Bool, true, false, List, [], ◌∷◌, Option, Some, None, codes, bytes_eq}
-use Rattle.std.specs.Prelude.{if◌then◌else◌, option_and_then, unwrap_or}
+use Rattle.std.specs.Prelude.{if◌then◌else◌, option_and_then, option_map, unwrap_or}
 use Rattle.std.specs.Option.{option_map_or}
 use Rattle.std.specs.Str.Parse.{digits_value, without_leading_plus}
 use Rattle.clap.specs.Simple.{new_shape, on_top}
@@ -37,9 +37,19 @@ explain = record (new_rule (codes "explain")) { long = Some (codes "explain"); a
 abbrev pub vcd : Rule
 vcd = record (new_rule (codes "vcd")) { long = Some (codes "vcd"); action = Some Set }
 
--- `play [FILE] [--board BOARD] [--bytes] [--all] [--explain] [--vcd FILE]`
+-- `[--vcd-fails]`
+abbrev pub vcd_fails : Rule
+vcd_fails = record (new_rule (codes "vcd-fails")) { long = Some (codes "vcd-fails"); action = Some SetTrue }
+
+-- `[--vcd-plain]`
+abbrev pub vcd_plain : Rule
+vcd_plain = record (new_rule (codes "vcd-plain")) { long = Some (codes "vcd-plain"); action = Some SetTrue }
+
+-- `play [FILE] [--board BOARD] [--bytes] [--all] [--explain] [--vcd FILE] [--vcd-fails] [--vcd-plain]`
 abbrev pub play : Shape
-play = record (new_shape (codes "play")) { rules = svf ∷ board ∷ bytes ∷ all ∷ explain ∷ vcd ∷ [] }
+play = record (new_shape (codes "play")) {
+  rules = svf ∷ board ∷ bytes ∷ all ∷ explain ∷ vcd ∷ vcd_fails ∷ vcd_plain ∷ [];
+}
 
 -- `check [FILE] [--board BOARD] [--explain]`
 abbrev pub check : Shape
@@ -141,11 +151,18 @@ pub record Host : Type 0 where
   pub port : ℕ
   pub timeout : Option ℕ
 
+-- the file that waves are drawn into; whether they show which bits are wanted and which of them fail, and whether they
+-- are without strings
+pub record Drawn : Type 0 where
+  pub file : Text
+  pub fails : Bool
+  pub plain : Bool
+
 -- what is done with a text or a board: whether the bytes are told, whether all failures are, and whether it is told why
--- a bit fails and where a refusal lies; the file of the waves of a play, where it is named; and whether every way of
--- every fault is listed
+-- a bit fails and where a refusal lies; the waves of a play, where their file is named; and whether every way of every
+-- fault is listed
 pub data Action : Type 0 where
-  plays : (bytes all explain : Bool) → (vcd : Option Text) → Action
+  plays : (bytes all explain : Bool) → (vcd : Option Drawn) → Action
   checks : (explain : Bool) → Action
   loops : (all explain : Bool) → Action
   serves : Serving → Action
@@ -200,6 +217,17 @@ serving_of rows = record {
 abbrev pub server_of : List Row → Host
 server_of rows = record { host = host_of rows; port = port_of rows; timeout = timeout_of rows }
 
+-- Without the file the flags of waves mean nothing.
+abbrev pub waves_of : List Row → Option Drawn
+waves_of rows =
+    option_map
+    (λ name. record {
+      file = name;
+      fails = is_given (codes "vcd-fails") rows;
+      plain = is_given (codes "vcd-plain") rows;
+    })
+    (first_of (codes "vcd") rows)
+
 -- what is done by this subcommand with these arguments
 abbrev pub task_of : Text → List Row → Action
 task_of name rows =
@@ -211,7 +239,7 @@ task_of name rows =
     else if bytes_eq name (codes "describe") then describes
     else if bytes_eq name (codes "cover") then covers (is_given (codes "list") rows)
     else plays (is_given (codes "bytes") rows) (is_given (codes "all") rows) (is_given (codes "explain") rows)
-    (first_of (codes "vcd") rows)
+    (waves_of rows)
 
 -- what a subcommand and its arguments ask for; without any the bytes are told too
 abbrev pub asked_by : Option (Text × List Row) → Asked

@@ -1,9 +1,9 @@
 -- Command lines, and what each asks for or by which kinds it is refused.
-use Rattle.std.specs.Prelude.{◌≡◌, true, false, List, [], ◌∷◌, Option, Some, None, codes}
+use Rattle.std.specs.Prelude.{◌≡◌, Bool, true, false, List, [], ◌∷◌, Option, Some, None, codes}
 use Rattle.clap.specs.Words.{Kinds, Text, fault_of}
 use Rattle.clap.specs.declared.error.kind.ErrorKind.TheVariants as kind
-use Rattle.command_line.specs.Asking.{Action, Asked, asked, checks, connects, covers, describes, jt_tool, loops}
-use Rattle.command_line.specs.Asking.{plays, serves}
+use Rattle.command_line.specs.Asking.{Action, Asked, Drawn, asked, checks, connects, covers, describes, jt_tool}
+use Rattle.command_line.specs.Asking.{loops, plays, serves}
 
 -- the command line is taken, and asks for this
 abbrev pub Asks : List Text → Asked → Type 0
@@ -22,6 +22,9 @@ file = codes "a.svf"
 
 abbrev pub board : Text
 board = codes "b.toml"
+
+abbrev pub waves : (fails plain : Bool) → Drawn
+waves fails plain = record { file = codes "a.vcd"; fails = fails; plain = plain }
 
 pub record UsageRows : Type 0 where
   pub no_words : Asks [] (request None None (plays true false false None))
@@ -49,7 +52,17 @@ pub record UsageRows : Type 0 where
   pub play_all_explain : Asks (codes "play" ∷ file ∷ codes "--explain" ∷ codes "--all" ∷ [])
       (request (Some file) None (plays false true true None))
   pub play_vcd : Asks (codes "play" ∷ file ∷ codes "--vcd" ∷ codes "a.vcd" ∷ [])
-      (request (Some file) None (plays false false false (Some (codes "a.vcd"))))
+      (request (Some file) None (plays false false false (Some (waves false false))))
+  pub play_vcd_fails : Asks (codes "play" ∷ file ∷ codes "--vcd-fails" ∷ codes "--vcd=a.vcd" ∷ [])
+      (request (Some file) None (plays false false false (Some (waves true false))))
+  pub play_vcd_plain : Asks (codes "play" ∷ codes "--vcd" ∷ codes "a.vcd" ∷ codes "--vcd-plain" ∷ file ∷ [])
+      (request (Some file) None (plays false false false (Some (waves false true))))
+  pub play_vcd_both : Asks
+      (codes "play" ∷ codes "--vcd-plain" ∷ codes "--all" ∷ codes "--vcd=a.vcd" ∷ codes "--vcd-fails" ∷ [])
+      (request None None (plays false true false (Some (waves true true))))
+  pub fails_of_no_waves : Asks (codes "play" ∷ codes "--vcd-fails" ∷ codes "--vcd-plain" ∷ [])
+      (request None None (plays false false false None))
+  pub check_draws_no_fails : IsRefused (codes "check" ∷ codes "--vcd-fails" ∷ []) (kind.UnknownArgument ∷ [])
   pub vcd_of_no_name : IsRefused (codes "play" ∷ codes "--vcd" ∷ []) (kind.InvalidValue ∷ [])
   pub check_draws_nothing : IsRefused (codes "check" ∷ codes "--vcd=a.vcd" ∷ []) (kind.UnknownArgument ∷ [])
   pub loop_draws_nothing : IsRefused (codes "loop" ∷ codes "--vcd=a.vcd" ∷ []) (kind.UnknownArgument ∷ [])

@@ -24,7 +24,7 @@ pub(crate) const PLAY: &str = "\
 Examples:
   jt_tool play test.svf --board board.toml
   jt_tool play test.svf --board board.toml --all --explain
-  jt_tool play test.svf --board board.toml --vcd test.vcd
+  jt_tool play test.svf --board board.toml --vcd test.vcd --vcd-fails
 
 Pages: docs/svf.md, docs/board_file.md, docs/output.md, docs/waves.md";
 

@@ -13,7 +13,7 @@ mod words;
 
 pub use descriptions::Descriptions;
 pub use outputs::{head_of, is_in_use};
-pub use request::{Request, Server, Serving, Task, parse};
+pub use request::{Request, Server, Serving, Task, Waves, parse};
 pub use streams::StandIns;
 pub use texts::{InputFault, read_board_file, read_text};
 pub use usage::usage_is_read;

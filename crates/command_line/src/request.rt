@@ -1,11 +1,11 @@
 //! What the command line asks for.
 
-ghost use Rattle.std.specs.Prelude.{◌≡◌, map, false, IfOk};
+ghost use Rattle.std.specs.Prelude.{◌≡◌, map, false, IfOk, option_map};
 ghost use Rattle.clap.specs.declared.builder.command.Command.TheViews.{out-Command};
 ghost use Rattle.clap.specs.Words.{FailsBy, app_of, fault_of, found_of, new_app, rows_of, rule_of, shape_of};
 ghost use Rattle.clap.specs.Words.{subcommand_rows_of};
 ghost use Rattle.command_line.specs.Asking as spec;
-ghost use Rattle.command_line.specs.View.{action_of, asked_of, server_view};
+ghost use Rattle.command_line.specs.View.{action_of, asked_of, server_view, waves_view};
 
 use crate::help;
 use clap::builder::ValueParser;
@@ -32,12 +32,12 @@ const THIS_HOST: &str = "127.0.0.1";
 pub enum Task<'a> {
     /// The text is played, and where `bytes` is set the bytes sent are told too. Where `all` is set it is played to the
     /// end, and all bits that fail are told. Where `explain` is set, it is told of each bit that fails why, and of a
-    /// refusal where it lies. Where `vcd` names a file, the waves of the play are drawn into it.
+    /// refusal where it lies. Where `vcd` is given, the waves of the play are drawn.
     Play {
         bytes: bool,
         all: bool,
         explain: bool,
-        vcd: Option<&'a str>,
+        vcd: Option<Waves<'a>>,
     },
     /// The text is only checked. Where `explain` is set, it is told of a refusal where it lies.
     Check {
@@ -62,6 +62,17 @@ pub enum Task<'a> {
     Cover {
         listed: bool,
     },
+}
+
+/// How the waves of a play are drawn.
+#[derive(Debug, Clone, Copy)]
+pub struct Waves<'a> {
+    /// The file that they are drawn into.
+    pub file: &'a str,
+    /// Whether they show which bits are wanted, and which of them fail.
+    pub fails: bool,
+    /// Whether they are without strings.
+    pub plain: bool,
 }
 
 /// How a board is served.
@@ -102,7 +113,7 @@ pub struct Request<'a> {
 /// Reads the words of a command line, of which the first is the program's name. Without any more it is `play --bytes`.
 ///
 /// The command line is one of
-/// - `play [FILE] [--board BOARD] [--bytes] [--all] [--explain] [--vcd FILE]`,
+/// - `play [FILE] [--board BOARD] [--bytes] [--all] [--explain] [--vcd FILE] [--vcd-fails] [--vcd-plain]`,
 /// - `check [FILE] [--board BOARD] [--explain]`,
 /// - `loop [FILE] [--board BOARD] [--all] [--explain]`,
 /// - `serve --board BOARD --port PORT [--at-most BYTES] [--connections COUNT] [--timeout SECONDS]`,
@@ -171,8 +182,22 @@ fn task_of<'a>(name: &str, found: &ArgMatches<'a>) -> Task<'a>
             bytes: is_given(found, "bytes"),
             all: is_given(found, "all"),
             explain: is_given(found, "explain"),
-            vcd: found.get_str("vcd"),
+            vcd: waves_of(found),
         },
+    }
+}
+
+/// How waves are drawn, where their file is named.
+fn waves_of<'a>(found: &ArgMatches<'a>) -> Option<Waves<'a>>
+    ensures { option_map waves_view result ≡ spec.waves_of (rows_of (found_of found.now)) }
+{
+    match found.get_str("vcd") {
+        Some(file) => Some(Waves {
+            file,
+            fails: is_given(found, "vcd-fails"),
+            plain: is_given(found, "vcd-plain"),
+        }),
+        None => None,
     }
 }
 
@@ -292,7 +317,9 @@ fn play_command<'a>(alloc: Global) -> Result<Command<'a>, AllocError>
     .arg(bytes_arg(alloc))?
     .arg(all_arg(alloc))?
     .arg(reasons_arg(alloc))?
-    .arg(vcd_arg(alloc))
+    .arg(vcd_arg(alloc))?
+    .arg(vcd_fails_arg(alloc))?
+    .arg(vcd_plain_arg(alloc))
 }
 
 fn check_command<'a>(alloc: Global) -> Result<Command<'a>, AllocError>
@@ -447,6 +474,26 @@ fn vcd_arg<'a>(alloc: Global) -> Arg<'a>
         .long("vcd")
         .action(ArgAction::Set)
         .help("The file that the waves of the play are drawn into")
+}
+
+fn vcd_fails_arg<'a>(alloc: Global) -> Arg<'a>
+    ensures rule { rule_of result ≡ spec.vcd_fails }
+    ensures local { result.global ≡ false }
+{
+    Arg::new(alloc, "vcd-fails")
+        .long("vcd-fails")
+        .action(ArgAction::SetTrue)
+        .help("The waves also show which bits are wanted, and which of them fail")
+}
+
+fn vcd_plain_arg<'a>(alloc: Global) -> Arg<'a>
+    ensures rule { rule_of result ≡ spec.vcd_plain }
+    ensures local { result.global ≡ false }
+{
+    Arg::new(alloc, "vcd-plain")
+        .long("vcd-plain")
+        .action(ArgAction::SetTrue)
+        .help("The waves are without strings, for viewers that know none")
 }
 
 fn board_arg<'a>(alloc: Global) -> Arg<'a>

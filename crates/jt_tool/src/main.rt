@@ -17,7 +17,9 @@ use crate::waves::{draw_waves, may_be_made};
 use board_description::Untold;
 use byte_streams::{Broken, Counted, Plain};
 use clap::error::ErrorKind as WordsFault;
-use command_line::{InputFault, Request, Serving, StandIns, Task, command_words, parse, read_text};
+use command_line::{
+    InputFault, Request, Serving, StandIns, Task, Waves, command_words, parse, read_text,
+};
 use output_words::Status;
 use play_explained::plain::{
     Board, Kind, Program, Served, refuse_file, refuse_memory, run_serve, tell_listening,
@@ -169,8 +171,8 @@ fn loops(task: Task<'_>) -> bool {
     matches!(task, Task::Loop { .. })
 }
 
-/// The file that waves are drawn into, where one is named.
-fn waves_of<'a>(task: Task<'a>) -> Option<&'a str> {
+/// How waves are drawn, where their file is named.
+fn waves_of<'a>(task: Task<'a>) -> Option<Waves<'a>> {
     match task {
         Task::Play { vcd, .. } => vcd,
         _ => None,
@@ -237,12 +239,12 @@ fn draw_play(
     rt: &HostRuntime,
     alloc: Global,
     request: &Request<'_>,
-    waves: &str,
+    waves: Waves<'_>,
     planned: &Planned,
     board: Board,
 ) -> u8 {
-    match text_and_waves(rt, alloc, request, waves, planned.descriptions()) {
-        Ok((text, file)) => draw_text(rt, alloc, &text, request.task, planned, board, file),
+    match text_and_waves(rt, alloc, request, waves.file, planned.descriptions()) {
+        Ok((text, file)) => draw_text(rt, alloc, &text, request.task, waves, planned, board, file),
         Err(status) => status,
     }
 }
@@ -253,6 +255,7 @@ fn draw_text(
     alloc: Global,
     text: &[u8],
     task: Task<'_>,
+    waves: Waves<'_>,
     planned: &Planned,
     board: Board,
     file: File,
@@ -260,7 +263,7 @@ fn draw_text(
     match accept_text(rt, alloc, text, explains(task)) {
         Ok(program) => {
             let status = told_on(rt, alloc, &program, text, task, planned, board);
-            draw_behind(rt, alloc, &program, task, planned, file, status)
+            draw_behind(rt, alloc, &program, task, waves, planned, file, status)
         }
         Err(status) => status,
     }
@@ -351,6 +354,7 @@ fn draw_behind(
     alloc: Global,
     program: &Program,
     task: Task<'_>,
+    waves: Waves<'_>,
     planned: &Planned,
     file: File,
     status: u8,
@@ -358,21 +362,25 @@ fn draw_behind(
     if status != Status::Pass.number() && status != Status::Fail.number() {
         return status;
     }
-    let drawn = match planned.stage(alloc, drawn_as(task, status)) {
-        Ok(stage) => draw_waves(alloc, program, stage, file),
+    let drawn = match planned.stage(alloc, drawn_as(task, waves, status)) {
+        Ok(stage) => draw_waves(alloc, program, stage, waves, file),
         Err(_) => Err(Undrawn::NoMemory),
     };
-    if matches!(drawn, Err(Undrawn::NoMemory)) {
-        return tell_memory(rt);
+    match drawn {
+        Ok(()) => {}
+        Err(Undrawn::NoMemory) => return tell_memory(rt),
+        Err(Undrawn::Broken) => {
+            let _lost = refuse_waves(rt, waves.file, InputFault::Unreadable);
+        }
     }
     status_behind(status, drawn)
 }
 
-/// The kind of player whose play is drawn, of one that ended with this status: without a failure each is drawn as one
-/// that plays on, for which no board is needed that judges.
-fn drawn_as(task: Task<'_>, status: u8) -> Kind {
+/// The kind of player whose play is drawn, of one that ended with this status: where it is not told which bits fail, a
+/// play without a failure is drawn as one that plays on, for which no board is needed that judges.
+fn drawn_as(task: Task<'_>, waves: Waves<'_>, status: u8) -> Kind {
     let all = matches!(task, Task::Play { all: true, .. });
-    kind_of(all || status == Status::Pass.number())
+    kind_of(all || !waves.fails && status == Status::Pass.number())
 }
 
 /// Tells that a file of waves cannot be made, or that memory ran out for it. Answers the exit status.

@@ -1,9 +1,9 @@
 //! The waves of a play, drawn into a file.
 
 use byte_streams::{Counted, Plain};
-use command_line::{InputFault, Request, head_of, is_in_use};
+use command_line::{InputFault, Request, Waves, head_of, is_in_use};
 use play_explained::plain::Program;
-use play_waves::{Stage, Undrawn, begins_as_waves, write_waves};
+use play_waves::{Stage, Undrawn, WithoutStrings, begins_as_waves, write_waves};
 use std::alloc::Global;
 use std::fs::File;
 use std::io::{BufWriter, Write};
@@ -27,18 +27,25 @@ pub(crate) fn may_be_made(
     Ok(head.is_empty() || begins_as_waves(&head))
 }
 
-/// Draws the waves of an accepted program, as the player of a stage plays it, into a file.
+/// Draws the waves of an accepted program, as the player of a stage plays it, into a file, as they are asked for.
 pub(crate) fn draw_waves(
     alloc: Global,
     program: &Program,
     stage: Stage,
+    waves: Waves<'_>,
     file: File,
 ) -> Result<(), Undrawn> {
     let Ok(mut writer) = BufWriter::new(alloc, file) else {
         return Err(Undrawn::NoMemory);
     };
-    let mut out = Counted::new(Plain(&mut writer));
-    let written = write_waves(program, stage, &mut out).is_ok();
+    let written = if waves.plain {
+        let mut lines = WithoutStrings::new(alloc, &mut writer);
+        let mut out = Counted::new(Plain(&mut lines));
+        write_waves(program, stage, waves.fails, &mut out).is_ok()
+    } else {
+        let mut out = Counted::new(Plain(&mut writer));
+        write_waves(program, stage, waves.fails, &mut out).is_ok()
+    };
     if written && writer.flush().is_ok() {
         Ok(())
     } else {

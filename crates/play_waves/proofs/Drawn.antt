@@ -1,5 +1,5 @@
 -- The waves of a text are those of its program.
-use Rattle.std.proofs.Common.{ℕ, List}
+use Rattle.std.proofs.Common.{ℕ, Bool, List}
 use Rattle.svf_programs.specs.Periods.{period_in}
 use Rattle.svf_programs.specs.Sizes.{Holding, program_of}
 use Rattle.board_model.specs.Chain.{BoardState}
@@ -8,13 +8,13 @@ use Rattle.play_direct.specs.Accepting.{Accepts, KeepsPeriodsOf}
 use Rattle.play_waves.specs.Texts.{IsWavesOf}
 use Rattle.play_waves.specs.Waves.{wave_file}
 
-pub are_waves : (text : List ℕ) (kind : Kind) (b : BoardState) (p : Holding) → Accepts text (program_of p) → KeepsPeriodsOf text p.periods
-    → IsWavesOf text kind b (wave_file (period_in p.periods) kind (program_of p) b)
-are_waves text kind b p (ss, spells, is) keeps =
+pub are_waves : (noted : Bool) (text : List ℕ) (kind : Kind) (b : BoardState) (p : Holding) → Accepts text (program_of p) → KeepsPeriodsOf text p.periods
+    → IsWavesOf noted text kind b (wave_file noted (period_in p.periods) kind (program_of p) b)
+are_waves noted text kind b p (ss, spells, is) keeps =
     let kept = keeps ss spells in
     record {
       said = ss;
       spelled = spells;
       accepted = is.0;
-      is = λ i. wave_file (λ (n : ℕ). kept.at n i) kind (is.1 i) b;
+      is = λ i. wave_file noted (λ (n : ℕ). kept.at n i) kind (is.1 i) b;
     }

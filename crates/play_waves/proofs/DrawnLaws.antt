@@ -1,20 +1,19 @@
 -- What is drawn is what is played, and how long it takes.
-use Rattle.std.proofs.Common.{◌≡◌, ◌⊎◌, inl, inr, ◌≤◌, ◌+◌, ◌-◌, ◌*◌, ℕ, zero, suc, Bool, true, false, min, List, [], ◌∷◌, ◌++◌, length, Option, Some, None, refl, sym, ap, ◌∙◌, arith}
+use Rattle.std.proofs.Common.{◌≡◌, ◌⊎◌, inl, inr, ◌≤◌, ◌+◌, ◌-◌, ◌*◌, ℕ, suc, Bool, true, false, min, List, [], ◌∷◌, ◌++◌, length, Option, Some, None, refl, ap, ◌∙◌, arith}
 use Rattle.std.specs.Prelude.{◌/◌, flat_map, if◌then◌else◌}
-use Rattle.jt_tap.specs.declared.State.{State}
 use Rattle.bitbang_protocol.specs.declared.Cycle.{Cycle}
 use Rattle.bitbang_protocol.specs.declared.Message.{Message}
 use Rattle.bitbang_protocol.specs.declared.Message.TheVariants.{Write, Ask, Quit, Light, Lines}
 use Rattle.bitbang_protocol.specs.Cycles.{closed_messages}
 use Rattle.bitbang_protocol.specs.Protocol.{cycle_messages}
-use Rattle.bitbang.specs.StepMessages.{line_message, step_messages}
+use Rattle.bitbang.specs.StepMessages.{line_message}
 use Rattle.svf_programs.specs.Steps.{Step, Scan, Go, Path, Run, Trst}
 use Rattle.svf_words.specs.declared.keywords.TrstWord.TheVariants.{On, Off, Z, Absent}
 use Rattle.tck_cycles.specs.Cycles.{cycles}
-use Rattle.board_model.specs.Chain.{ChipState, hear, reply_of}
+use Rattle.board_model.specs.Chain.{ChipState, reply_of}
 use Rattle.board_model.specs.declared.Reply.TheVariants.{Answer}
 use Rattle.output_words.specs.Digits.{digit}
-use Rattle.play_waves.specs.Drawing.{after_drawing, after_mark, lasts, later, latest, shown}
+use Rattle.play_waves.specs.Drawing.{after_mark, lasts, latest, shown}
 use Rattle.play_waves.specs.Laws.{EachStepTakesItsCycles, TdoDrawnIsTheAnswer, TimeGoesOn, WhatIsDrawnIsTheBoard, step_time, time_of}
 use Rattle.play_waves.specs.Pens.{Pen}
 use Rattle.wave_files.specs.Values.{undriven}

@@ -1,8 +1,11 @@
 pub mod Cycles
+pub mod FailLaws
 pub mod Drawn
 pub mod Held
+pub mod Judged
 pub mod Levels
 pub mod Messages
+pub mod PlainLaws
 pub mod Played
 pub mod RowsCompute
 pub mod Runs

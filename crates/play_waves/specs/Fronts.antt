@@ -1,5 +1,5 @@
 -- What each wave file begins with: it is told from other files by that.
-use Rattle.std.specs.Prelude.{ℕ, ◌≤◌, List, ◌++◌, take, codes}
+use Rattle.std.specs.Prelude.{ℕ, ◌≤◌, Bool, List, ◌++◌, take, codes}
 use Rattle.std.specs.Io.{StartsWith}
 use Rattle.svf_programs.specs.Steps.{Program}
 use Rattle.board_model.specs.Chain.{BoardState}
@@ -14,5 +14,5 @@ front = codes "$timescale 1 ps $end\n$scope module board $end\n" ++ line_variabl
 -- The first bytes of each wave file begin so, where they are 256 or more.
 abbrev pub EachBeginsSo : Type 0
 EachBeginsSo =
-    (period_of : ℕ → ℕ) → (kind : Kind) → (program : Program) → (b : BoardState) → (n : ℕ) → 256 ≤ n
-    → StartsWith (take n (wave_file period_of kind program b)) front
+    (noted : Bool) → (period_of : ℕ → ℕ) → (kind : Kind) → (program : Program) → (b : BoardState) → (n : ℕ) → 256 ≤ n
+    → StartsWith (take n (wave_file noted period_of kind program b)) front

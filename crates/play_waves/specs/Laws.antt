@@ -1,19 +1,29 @@
 -- What holds of every wave.
-use Rattle.std.specs.Prelude.{◌≡◌, ◌⊎◌, true, ℕ, zero, suc, ◌+◌, ◌-◌, ◌*◌, ◌/◌, ◌≤◌, List, [], ◌∷◌, length}
+use Rattle.std.specs.Prelude.{◌≡◌, ◌⊎◌, Bool, true, false, ℕ, zero, suc, ◌+◌, ◌-◌, ◌*◌, ◌/◌, ◌≤◌, List, [], ◌∷◌, ◌++◌, length}
+use Rattle.std.specs.Prelude.{map, Some, None}
 use Rattle.jt_tap.specs.declared.State.{State}
+use Rattle.bitbang_protocol.specs.declared.Cycle.{Cycle}
 use Rattle.bitbang_protocol.specs.declared.Message.{Message}
 use Rattle.bitbang_protocol.specs.declared.Message.TheVariants.{Ask}
+use Rattle.bitbang_protocol.specs.Cycles.{closed_messages}
 use Rattle.bitbang.specs.StepMessages.{line_message, step_messages}
+use Rattle.scan_vectors.specs.declared.part.Part.{Part}
+use Rattle.scan_vectors.specs.Failures.{differing}
+use Rattle.scan_vectors.specs.Vector.{VectorBit, judge}
 use Rattle.svf_programs.specs.Steps.{Program, Step}
 use Rattle.tck_cycles.specs.Cycles.{cycles}
 use Rattle.board_model.specs.Chain.{BoardState, hear, reply_of}
 use Rattle.board_model.specs.declared.Reply.TheVariants.{Answer}
 use Rattle.play_model.specs.declared.ending.Ending.TheVariants.{Pass}
+use Rattle.play_model.specs.declared.kind.Kind.{Kind}
 use Rattle.play_model.specs.declared.kind.Kind.TheVariants.{Stops, PlaysOn}
 use Rattle.play_model.specs.Play.{play}
 use Rattle.output_words.specs.Digits.{digit}
 use Rattle.wave_files.specs.Values.{undriven}
-use Rattle.play_waves.specs.Drawing.{after_drawing, lasts, later, latest, shown}
+use Rattle.play_waves.specs.declared.notes.Note.{Note}
+use Rattle.play_waves.specs.Drawing.{after_drawing, after_mark, lasts, later, latest, shown}
+use Rattle.play_waves.specs.Judging.{tdo_of, wanted_behind}
+use Rattle.play_waves.specs.Notes.{judged}
 use Rattle.play_waves.specs.Pens.{Pen}
 use Rattle.play_waves.specs.Waves.{wave_file}
 
@@ -52,9 +62,40 @@ EachStepTakesItsCycles = (period : ℕ) (place : State) (step : Step)
     → time_of period (step_messages place step)
     ≡ step_time period (length (line_message step)) (length (cycles place step))
 
+-- ---- the bits that fail
+
+-- the part and the place of a bit that is told to fail, if one is
+abbrev pub failing_of : Note → List (Part × ℕ)
+failing_of note = elim note.failing [ Some f ↦ f ∷ [] | None ↦ [] ]
+
+-- those that are told over the messages of a turn, one after another
+abbrev pub told_failing : Kind → (period : ℕ) → List Message → List VectorBit → Pen → List (Part × ℕ)
+told_failing kind period [] vs p = []
+told_failing kind period (Ask ∷ m ∷ ms) (v ∷ vs) p =
+    let next = judged v (tdo_of p) in
+    failing_of next ++ told_failing kind period ms (wanted_behind kind next.failing vs) (after_mark period m p)
+told_failing kind period (m ∷ ms) vs p = told_failing kind period ms vs (after_mark period m p)
+
+-- the bit by which a player that stops judges these answers, if one differs
+abbrev pub first_failing : List VectorBit → List Bool → List (Part × ℕ)
+first_failing vs answers = elim (judge vs answers) [ Some f ↦ f ∷ [] | None ↦ [] ]
+
+-- and all by which one that plays on does
+abbrev pub all_failing : List VectorBit → List Bool → List (Part × ℕ)
+all_failing vs answers = map (λ f. (f.part, f.bit)) (differing 0 vs answers)
+
+-- What is told to fail of a turn is what its verdict says: of what the board answers to these cycles.
+pub record WhatFailsIsTold : Type 0 where
+  pub stops : (period : ℕ) (cs : List Cycle) (vs : List VectorBit) (p : Pen)
+      → told_failing Stops period (closed_messages cs) vs p
+      ≡ first_failing vs (hear (closed_messages cs) p.board).answers
+  pub plays_on : (period : ℕ) (cs : List Cycle) (vs : List VectorBit) (p : Pen)
+      → told_failing PlaysOn period (closed_messages cs) vs p
+      ≡ all_failing vs (hear (closed_messages cs) p.board).answers
+
 -- ---- a play that passes
 
--- Its file is that of a play that goes on behind failures.
+-- Its file, without what is told of the bits that are wanted, is that of a play that goes on behind failures.
 abbrev pub APassIsDrawnToItsEnd : Type 0
 APassIsDrawnToItsEnd = (period_of : ℕ → ℕ) (program : Program) (b : BoardState) → (play program b).ending ≡ Pass
-    → wave_file period_of Stops program b ≡ wave_file period_of PlaysOn program b
+    → wave_file false period_of Stops program b ≡ wave_file false period_of PlaysOn program b

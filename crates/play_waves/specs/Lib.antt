@@ -1,7 +1,10 @@
 pub mod Drawing
 pub mod Fronts
 pub mod Holding
+pub mod Judging
+pub mod Notes
 pub mod Pens
+pub mod Plain
 pub mod Quiet
 pub mod Rows
 pub mod Samples

@@ -1,10 +1,12 @@
 -- Worked rows of waves, of one bare device and of a board of two: each text was computed by a program of its own.
-use Rattle.std.specs.Prelude.{◌≡◌, true, false, ℕ, List, [], ◌∷◌, ◌++◌, Some, None, codes, drop, flat_map, replicate}
-use Rattle.std.specs.Prelude.{take}
+use Rattle.std.specs.Prelude.{◌≡◌, true, false, ℕ, List, [], ◌∷◌, ◌++◌, Some, None, codes, drop, flat_map}
+use Rattle.std.specs.Prelude.{replicate, take}
 use Rattle.bitbang_protocol.specs.declared.Message.{Message}
 use Rattle.bitbang_protocol.specs.declared.Message.TheVariants.{Write}
 use Rattle.board_model.specs.Bare.{bare_board}
 use Rattle.board_model.specs.Chain.{BoardState}
+use Rattle.play_model.specs.declared.kind.Kind.{Kind}
+use Rattle.play_model.specs.declared.kind.Kind.TheVariants.{Stops, PlaysOn}
 use Rattle.play_model.specs.Play.{turns}
 use Rattle.svf_programs.specs.Steps.{Numbered}
 use Rattle.wave_files.specs.Codes.{code}
@@ -12,7 +14,7 @@ use Rattle.play_waves.specs.Drawing.{after_drawing, draw}
 use Rattle.wave_files.specs.Changes.{stamp}
 use Rattle.play_waves.specs.Waves.{heading}
 use Rattle.play_waves.specs.Pens.{Pen, begun}
-use Rattle.play_waves.specs.Samples.{asserting, delayed, driving, pair, selecting, waiting}
+use Rattle.play_waves.specs.Samples.{asserting, delayed, driving, failing, pair, selecting, waiting}
 use Rattle.play_waves.specs.Waves.{begins, wave}
 
 abbrev pub fresh : Pen
@@ -31,7 +33,13 @@ messages_of count steps = flat_map (λ t. t.messages) (take count (turns steps))
 -- The wave behind so many turns, which took no time. From there on TCK low lasts 1 ps and TCK high none.
 abbrev pub wave_behind : (count : ℕ) → List Numbered → BoardState → List ℕ
 wave_behind count steps b =
-    wave (λ command. 1) None (drop count (turns steps)) (after_drawing 0 (messages_of count steps) (begun b))
+    wave None (λ command. 1) None (drop count (turns steps)) (after_drawing 0 (messages_of count steps) (begun b))
+
+-- the same of a bare device, with what a player of this kind is told of the bits that it wants
+abbrev pub noted_behind : Kind → (count : ℕ) → List Numbered → List ℕ
+noted_behind kind count steps =
+    wave (Some kind) (λ command. 1) None (drop count (turns steps))
+    (after_drawing 0 (messages_of count steps) (begun (bare_board 1)))
 
 -- What is written at a time: the lines of what changed.
 pub record Written : Type 0 where
@@ -48,6 +56,20 @@ abbrev pub all_written : List Written → List ℕ
 all_written [] = []
 all_written (w ∷ ws) = written w ++ all_written ws
 
+-- the messages of `SDR 2 TDI (1)` on a bare device, up to where TCK goes high for the first bit
+abbrev pub up_to_bit_0 : List Written
+up_to_bit_0 =
+    at 0 [] ∷ at 1 (codes "1!\nb1100 '\nsIDLE (\n") ∷ at 1 (codes "0!\n1\"\n")
+    ∷ at 2 (codes "1!\nb0111 '\nsDRSELECT (\n") ∷ at 2 (codes "0!\n0\"\n")
+    ∷ at 3 (codes "1!\nb0110 '\nsDRCAPTURE (\n") ∷ at 3 (codes "0!\n")
+    ∷ at 4 (codes "1!\nb0010 '\nsDRSHIFT (\n") ∷ at 4 (codes "0!\n1#\n0$\n") ∷ []
+
+-- and from where TCK goes high for the first time behind them
+abbrev pub behind_bits : List Written
+behind_bits =
+    at 7 (codes "1!\nb0101 '\nsDRUPDATE (\n") ∷ at 7 (codes "0!\n0\"\n") ∷ at 8 (codes "1!\nb1100 '\nsIDLE (\n")
+    ∷ at 8 (codes "0!\n") ∷ []
+
 -- a turn: its number, and its messages one after another
 abbrev pub turn : Written → List Written → List ℕ
 turn number messages = written number ++ all_written messages
@@ -58,13 +80,23 @@ pub record WaveRows : Type 0 where
   pub first_of_two : code 94 ≡ codes "!\""
   pub last_of_two : code 8835 ≡ codes "~~"
   pub first_of_three : code 8836 ≡ codes "!!\""
-  pub heading_row : heading fresh
+  pub heading_row : heading false fresh
       ≡ codes "$timescale 1 ps $end\n$scope module board $end\n$scope module tap $end\n$var wire 1 ! TCK $end\n"
       ++ (codes "$var wire 1 \" TMS $end\n$var wire 1 # TDI $end\n$var wire 1 $ TDO $end\n"
       ++ (codes "$var wire 1 % TRST $end\n$var integer 32 & statement $end\n$upscope $end\n$scope module U1 $end\n"
-      ++ (codes "$var reg 4 ' state $end\n$var string 1 ( word $end\n$var reg 2 ) instruction $end\n$upscope $end\n"
-      ++ (codes "$upscope $end\n$enddefinitions $end\n#0\n$dumpvars\n0!\nx\"\nx#\nz$\n1%\nb0 &\n"
+      ++ (codes "$var reg 4 ' U1_state $end\n$var string 1 ( U1_word $end\n$var reg 2 ) U1_instruction $end\n"
+      ++ (codes "$upscope $end\n$upscope $end\n$enddefinitions $end\n#0\n$dumpvars\n0!\nx\"\nx#\nz$\n1%\nb0 &\n"
       ++ (codes "b1111 '\nsRESET (\nb11 )\n$end\n")))))
+  -- with what is told of the bits that are wanted
+  pub heading_noted : heading true fresh
+      ≡ codes "$timescale 1 ps $end\n$scope module board $end\n$scope module tap $end\n$var wire 1 ! TCK $end\n"
+      ++ (codes "$var wire 1 \" TMS $end\n$var wire 1 # TDI $end\n$var wire 1 $ TDO $end\n"
+      ++ (codes "$var wire 1 % TRST $end\n$var integer 32 & statement $end\n$var wire 1 * wanted $end\n"
+      ++ (codes "$var wire 1 + fail $end\n$var integer 32 , bit $end\n$var string 1 - part $end\n$upscope $end\n"
+      ++ (codes "$scope module U1 $end\n$var reg 4 ' U1_state $end\n$var string 1 ( U1_word $end\n"
+      ++ (codes "$var reg 2 ) U1_instruction $end\n$upscope $end\n$upscope $end\n$enddefinitions $end\n"
+      ++ (codes "#0\n$dumpvars\n0!\nx\"\nx#\nz$\n1%\nb0 &\nb1111 '\nsRESET (\nb11 )\n"
+      ++ codes "x*\n0+\nbx ,\nsnone -\n$end\n"))))))
   -- of a period of 3 the low half lasts 2
   pub odd_period : draw 3 (resets ++ cycle) fresh
       ≡ codes "#0\n1\"\n0#\n#2\n1!\n#3\n0!\n0\"\n#5\n1!\nb1100 '\nsIDLE (\n"
@@ -92,17 +124,42 @@ pub record WaveRows : Type 0 where
       ∷ at 6 (codes "0!\nz$\n") ∷ at 7 (codes "1!\nb0101 '\nsDRUPDATE (\n") ∷ at 7 (codes "0!\n0\"\n")
       ∷ at 8 (codes "1!\nb1100 '\nsIDLE (\n") ∷ at 8 (codes "0!\n") ∷ [])
       ++ (stamp 9 ++ [])
+  -- its bits are wanted as they come out: a 0, and then a 1; each from where TCK goes high
+  pub wanted_row : noted_behind Stops 1 (delayed ∷ [])
+      ≡ turn (at 0 (codes "b1 &\n"))
+      (up_to_bit_0
+      ++ (at 5 (codes "0*\n") ∷ at 5 (codes "1!\n") ∷ at 5 (codes "0!\n1\"\n0#\n1$\n")
+      ∷ at 6 (codes "1*\n") ∷ at 6 (codes "1!\nb0001 '\nsDREXIT1 (\n") ∷ at 6 (codes "0!\nz$\n")
+      ∷ at 7 (codes "x*\n") ∷ behind_bits))
+      ++ (stamp 9 ++ [])
+  -- Both come out otherwise: a player that stops is told of the first, and wants nothing behind it.
+  pub first_failing_row : noted_behind Stops 1 (failing ∷ [])
+      ≡ turn (at 0 (codes "b1 &\n"))
+      (up_to_bit_0
+      ++ (at 5 (codes "1*\n1+\nb0 ,\nsdata -\n") ∷ at 5 (codes "1!\n") ∷ at 5 (codes "0+\n")
+      ∷ at 5 (codes "0!\n1\"\n0#\n1$\n") ∷ at 6 (codes "x*\n") ∷ at 6 (codes "1!\nb0001 '\nsDREXIT1 (\n")
+      ∷ at 6 (codes "0!\nz$\n") ∷ behind_bits))
+      ++ (stamp 9 ++ [])
+  -- One that plays on is told of each: `fail` goes low with TCK between them.
+  pub each_failing_row : noted_behind PlaysOn 1 (failing ∷ [])
+      ≡ turn (at 0 (codes "b1 &\n"))
+      (up_to_bit_0
+      ++ (at 5 (codes "1*\n1+\nb0 ,\nsdata -\n") ∷ at 5 (codes "1!\n") ∷ at 5 (codes "0+\n")
+      ∷ at 5 (codes "0!\n1\"\n0#\n1$\n") ∷ at 6 (codes "0*\n1+\nb1 ,\nsdata -\n")
+      ∷ at 6 (codes "1!\nb0001 '\nsDREXIT1 (\n") ∷ at 6 (codes "0+\n") ∷ at 6 (codes "0!\nz$\n")
+      ∷ at 7 (codes "x*\n") ∷ behind_bits))
+      ++ (stamp 9 ++ [])
   -- what stands behind the statement that fails is not drawn
-  pub stopped : wave (λ command. 1) (Some 1) (drop 1 (turns (delayed ∷ driving ∷ asserting ∷ [])))
+  pub stopped : wave None (λ command. 1) (Some 1) (drop 1 (turns (delayed ∷ driving ∷ asserting ∷ [])))
       (after_drawing 0 (messages_of 1 []) fresh)
       ≡ wave_behind 1 (delayed ∷ []) (bare_board 1)
-  pub heading_of_two : heading (begun pair)
+  pub heading_of_two : heading false (begun pair)
       ≡ codes "$timescale 1 ps $end\n$scope module board $end\n$scope module tap $end\n$var wire 1 ! TCK $end\n"
       ++ (codes "$var wire 1 \" TMS $end\n$var wire 1 # TDI $end\n$var wire 1 $ TDO $end\n"
       ++ (codes "$var wire 1 % TRST $end\n$var integer 32 & statement $end\n$upscope $end\n$scope module U1 $end\n"
-      ++ (codes "$var reg 4 ' state $end\n$var string 1 ( word $end\n$var reg 2 ) instruction $end\n$upscope $end\n"
-      ++ (codes "$scope module U2 $end\n$var reg 4 * state $end\n$var string 1 + word $end\n"
-      ++ (codes "$var reg 2 , instruction $end\n$upscope $end\n$var wire 1 - N $end\n$upscope $end\n"
+      ++ (codes "$var reg 4 ' U1_state $end\n$var string 1 ( U1_word $end\n$var reg 2 ) U1_instruction $end\n"
+      ++ (codes "$upscope $end\n$scope module U2 $end\n$var reg 4 * U2_state $end\n$var string 1 + U2_word $end\n"
+      ++ (codes "$var reg 2 , U2_instruction $end\n$upscope $end\n$var wire 1 - N $end\n$upscope $end\n"
       ++ (codes "$enddefinitions $end\n#0\n$dumpvars\n0!\nx\"\nx#\nz$\n1%\nb0 &\n"
       ++ codes "b1111 '\nsRESET (\nb11 )\nb1111 *\nsRESET +\nb11 ,\nz-\n$end\n"))))))
   -- Q drives a 1 from the falling edge in DRUPDATE on

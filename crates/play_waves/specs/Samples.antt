@@ -1,5 +1,5 @@
 -- The boards of the worked waves, and the steps that are played on them.
-use Rattle.std.specs.Prelude.{Bool, true, false, List, [], ◌∷◌, ◌++◌, map, codes, Option, Some, None}
+use Rattle.std.specs.Prelude.{Bool, true, false, [], ◌∷◌, ◌++◌, map, codes, Option, Some, None}
 use Rattle.jt_tap.specs.declared.Column.TheVariants.{Dr, Ir}
 use Rattle.jt_tap.specs.declared.State.TheVariants.{Idle}
 use Rattle.bsdl_device.specs.Device.{Device}
@@ -49,6 +49,13 @@ bit tdi wanted = record { tdi = tdi; wanted = wanted; part = Data; place = 0 }
 -- `SDR 2 TDI (1) TDO (2);`
 abbrev pub delayed : Numbered
 delayed = record { number = 1; what = Scan Dr (bit true (Some false) ∷ bit false (Some true) ∷ []) Idle }
+
+-- `SDR 2 TDI (1) TDO (1);`: both bits come out otherwise
+abbrev pub failing : Numbered
+failing = record {
+  number = 1;
+  what = Scan Dr (bit true (Some true) ∷ record (bit false (Some false)) { place = 1 } ∷ []) Idle;
+}
 
 -- `SIR 4 TDI (C);`: EXTEST in the driver, BYPASS behind it
 abbrev pub selecting : Numbered

@@ -1,5 +1,5 @@
 -- The waves of a text of SVF, and the exit status of a play that was drawn.
-use Rattle.std.specs.Prelude.{◌≡◌, ℕ, List, Option, Result, Ok, Err}
+use Rattle.std.specs.Prelude.{◌≡◌, ℕ, Bool, List, Option, Result, Ok, Err}
 use Rattle.byte_streams.specs.Counts.{CountedView}
 use Rattle.byte_streams.specs.Writes.{WritesAll}
 use Rattle.output_words.specs.declared.status.Status.TheVariants as exits
@@ -15,17 +15,17 @@ use Rattle.play_waves.specs.declared.undrawn.Undrawn.TheVariants as undrawn
 use Rattle.play_waves.specs.Waves.{wave_file}
 
 -- the file of a text's waves: that of the program that its statements make, with their periods
-pub record IsWavesOf (text : List ℕ) (kind : Kind) (b : BoardState) (file : List ℕ) : Type 0 where
+pub record IsWavesOf (noted : Bool) (text : List ℕ) (kind : Kind) (b : BoardState) (file : List ℕ) : Type 0 where
   pub said : List Said
   pub spelled : TextSpells text said
   pub accepted : IsAccepted said
-  pub is : file ≡ wave_file (period_at said) kind (program said) b
+  pub is : file ≡ wave_file noted (period_at said) kind (program said) b
 
 -- A text's waves were written, or a front part of them where a write was lost.
-abbrev pub Draws : {W A E : Type 0} → (W → Option (List ℕ)) → List ℕ → Kind → BoardState → (before after : CountedView W)
-    → Result A E → Type 0
-Draws contents text kind b before after result =
-    (file : List ℕ) × IsWavesOf text kind b file × WritesAll contents before after file result
+abbrev pub Draws : {W A E : Type 0} → (W → Option (List ℕ)) → (noted : Bool) → List ℕ → Kind → BoardState
+    → (before after : CountedView W) → Result A E → Type 0
+Draws contents noted text kind b before after result =
+    (file : List ℕ) × IsWavesOf noted text kind b file × WritesAll contents before after file result
 
 -- The exit status of a play that ended with this one, and whose waves were then drawn so.
 abbrev pub status_behind : {A : Type 0} → ℕ → Result A Undrawn → ℕ

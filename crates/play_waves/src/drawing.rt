@@ -6,8 +6,10 @@ ghost use Rattle.jt_limits.specs.Limits.{limits};
 ghost use Rattle.play_waves.specs.Drawing as spec;
 ghost use Rattle.play_waves.specs.Drawing.{after_mark, lasting, mark};
 ghost use Rattle.play_waves.specs.Holding as held;
+ghost use Rattle.play_waves.specs.Judging.{tdo_of};
 ghost use Rattle.play_waves.specs.Pens.{Pen, begun};
 ghost use Rattle.wave_files.specs.Changes.{IsQuiet};
+ghost use Rattle.wave_files.specs.Values as numbers;
 ghost use Rattle.play_waves.specs.Waves as waves;
 ghost use Rattle.play_waves.specs.Waves.{heading};
 
@@ -23,7 +25,8 @@ use jt_board::Board;
 use output_words::digit_of;
 use std::marker::Model;
 use wave_files::{
-    STATEMENT_VARIABLE, write_byte, write_changes, write_heading, write_number, write_stamp,
+    STATEMENT_VARIABLE, first_of_notes, write_byte, write_changes, write_heading, write_number,
+    write_stamp,
 };
 
 /// Two boards that take the same messages: what differs between them while one of them has taken a message more is what
@@ -71,12 +74,36 @@ impl Drawing {
         }
     }
 
-    /// Writes what stands before the first message.
-    pub(crate) fn head<W: Sink>(&self, out: &mut Counted<W>) -> Result<(), Broken>
+    /// Writes what stands before the first message; where `noted` is set, for waves that tell of the bits that are
+    /// wanted.
+    pub(crate) fn head<W: Sink>(&self, noted: bool, out: &mut Counted<W>) -> Result<(), Broken>
         requires { out.old.failures ≡ 0 }
-        ensures { WritesAll W.contents out.old out.new (heading self.now) result }
+        ensures { WritesAll W.contents out.old out.new (heading noted self.now) result }
     {
-        write_heading(shown_on(self.marks, &self.ahead), self.ahead.chain(), out)
+        let shown = shown_on(self.marks, &self.ahead);
+        write_heading(noted, shown, self.ahead.chain(), out)
+    }
+
+    /// The number of the first variable that tells of the bits that are wanted.
+    pub(crate) fn first_of_notes(&self) -> usize
+        ensures number { result ≡ numbers.first_of_notes self.now.board.chips self.now.board.nets }
+        ensures few { result ≤ 100000 }
+    {
+        first_of_notes(self.ahead.chain())
+    }
+
+    /// The time behind what was drawn last.
+    pub(crate) fn time(&self) -> u64
+        ensures { result ≡ self.now.marks.time }
+    {
+        self.marks.time
+    }
+
+    /// What would answer a question for TDO.
+    pub(crate) fn tdo(&self) -> bool
+        ensures { result ≡ tdo_of self.now }
+    {
+        self.ahead.chain().tdo()
     }
 
     /// Draws that a statement begins, by its number: 0 stands for the opening, and is drawn at the start.

@@ -1,7 +1,7 @@
 //! What holds of every wave, and worked waves.
 
 ghost use Rattle.play_waves.specs.Laws.{APassIsDrawnToItsEnd, EachStepTakesItsCycles, TdoDrawnIsTheAnswer};
-ghost use Rattle.play_waves.specs.Laws.{TimeGoesOn, WhatIsDrawnIsTheBoard};
+ghost use Rattle.play_waves.specs.Laws.{TimeGoesOn, WhatFailsIsTold, WhatIsDrawnIsTheBoard};
 ghost use Rattle.play_waves.specs.Rows.{WaveRows};
 
 /// Behind any messages what is drawn is the board that took them; and TDO as it is drawn then is the byte with which
@@ -21,6 +21,12 @@ pub fn each_step_takes_its_cycles()
 /// A play that stops at its first failure and has none is drawn as one that plays on.
 pub fn a_pass_is_drawn_to_its_end()
     ensures { APassIsDrawnToItsEnd }
+{}
+
+/// What is told to fail of a turn is what the play's verdict says of it: the first bit that differs where the player
+/// stops, and each where it plays on.
+pub fn what_fails_is_told()
+    ensures { WhatFailsIsTold }
 {}
 
 /// What is drawn of these messages, computed from the definitions.

@@ -1,5 +1,5 @@
 //! The waves of a play: a value change dump (IEEE Std 1364-2001, clause 18) of the lines of the TAP, of the devices and
-//! of the named nets, message by message.
+//! of the named nets, message by message; where it is asked for also of the bits that scans want, and of those that fail.
 //!
 //! They are drawn on boards of their own, on which the program is played once more, so that the play itself is as
 //! without them.
@@ -8,8 +8,11 @@
 mod drawing;
 mod fronts;
 mod holding;
+mod judging;
 mod laws;
 mod marks;
+mod notes;
+mod plain;
 mod quiet;
 mod stage;
 mod steps;
@@ -18,8 +21,10 @@ mod waves;
 
 pub use fronts::begins_as_waves;
 pub use laws::{
-    a_pass_is_drawn_to_its_end, each_step_takes_its_cycles, waves_compute, what_is_drawn_is_played,
+    a_pass_is_drawn_to_its_end, each_step_takes_its_cycles, waves_compute, what_fails_is_told,
+    what_is_drawn_is_played,
 };
+pub use plain::{WithoutStrings, pieces_are_one};
 pub use stage::Stage;
 pub use undrawn::{Undrawn, status_behind};
 pub use wave_files::codes_differ;

@@ -52,6 +52,16 @@ impl Stage {
         })
     }
 
+    /// What kind of player plays.
+    pub(crate) fn kind(&self) -> Kind
+        ensures { result ≡ self.now.kind }
+    {
+        match self.judge {
+            Some(_) => Kind::Stops,
+            None => Kind::PlaysOn,
+        }
+    }
+
     /// The board on which the play is judged, if it is, and a wave as it begins on the other two.
     pub(crate) fn opened(self) -> (Option<Board>, Drawing)
         ensures judge { result.0 ≡ judge_for self.kind self.board }

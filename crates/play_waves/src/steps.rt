@@ -24,6 +24,13 @@ use svf_parse::TrstWord;
 use svf_programs::{Action, Step};
 use tck_cycles::{Shifts, Source};
 
+/// The low level that closes a step with cycles.
+pub(crate) const LOW: Message = Message::Write {
+    tck: false,
+    tms: false,
+    tdi: false,
+};
+
 /// Opens a wave as a play opens: TRST is released, and five cycles with TMS 1 follow.
 pub(crate) fn draw_opening<W: Sink>(
     drawing: &mut Drawing,
@@ -120,12 +127,7 @@ fn draw_low<W: Sink>(drawing: &mut Drawing, period: u64, out: &mut Counted<W>) -
     ensures writes { WritesAll W.contents out.old out.new (spec.draw period spec.closing_messages drawing.old) result }
     ensures pen { OnOk result (drawing.new ≡ after_drawing period spec.closing_messages drawing.old) }
 {
-    let low = Message::Write {
-        tck: false,
-        tms: false,
-        tdi: false,
-    };
-    drawing.draw(low, period, out)
+    drawing.draw(LOW, period, out)
 }
 
 /// Draws the cycles of a step, and what closes them.
@@ -263,7 +265,7 @@ fn draw_cycle<W: Sink>(
 }
 
 /// A level of TCK in a cycle.
-fn level(tck: bool, cycle: Cycle) -> Message
+pub(crate) fn level(tck: bool, cycle: Cycle) -> Message
     ensures { result ≡ Message.Write tck cycle.tms cycle.tdi }
 {
     Message::Write {

@@ -12,9 +12,13 @@ ghost use Rattle.svf_programs.specs.Sound.{IsWithin};
 ghost use Rattle.bitbang.specs.StepMessages.{step_messages};
 ghost use Rattle.board_model.specs.Chain.{BoardState};
 ghost use Rattle.play_model.specs.declared.kind.Kind.{Kind};
-ghost use Rattle.play_model.specs.Play.{step_turns, turns};
+ghost use Rattle.play_model.specs.Play.{step_turns, turns, wants_of};
+ghost use Rattle.scan_vectors.specs.Held.{bits};
 ghost use Rattle.play_direct.specs.Accepting.{Accepts, KeepsPeriodsOf};
 ghost use Rattle.play_waves.specs.Drawing.{after_drawing};
+ghost use Rattle.play_waves.specs.Judging.{draw_judging};
+ghost use Rattle.play_waves.specs.Notes.{no_note};
+ghost use Rattle.wave_files.specs.Values as numbers;
 ghost use Rattle.play_waves.specs.Waves.{heading};
 ghost use Rattle.play_waves.specs.Pens.{begun};
 ghost use Rattle.play_waves.specs.Stages.{judge_for};
@@ -22,46 +26,62 @@ ghost use Rattle.play_waves.specs.Texts.{Draws};
 ghost use Rattle.play_waves.specs.Waves as spec;
 
 use crate::drawing::Drawing;
+use crate::judging::draw_judged;
 use crate::stage::Stage;
 use crate::steps::{draw_opening, draw_step};
 use byte_streams::{Broken, Counted, Sink};
 use jt_board::Board;
 use jt_tap::State;
 use play_direct::play_program;
-use play_model::Ending;
-use svf_programs::{Program, Step};
-use tck_cycles::place_after;
+use play_model::{Ending, Kind};
+use scan_vectors::{Vector, next_wanted};
+use svf_programs::{Action, Program, Step};
+use tck_cycles::{Source, place_after};
 
-/// Writes the wave file of an accepted program, which is lent, as the player of a stage plays it on its board. It takes
-/// no memory.
+/// Writes the wave file of an accepted program, which is lent, as the player of a stage plays it on its board. Where
+/// `noted` is set, the file tells of the bits that are wanted, and of those that fail. It takes no memory.
 ///
 /// `Broken` comes exactly where the writer's first failure came in this call.
 pub fn write_waves<W: Sink>(
     program: &Program,
     stage: Stage,
+    noted: bool,
     out: &mut Counted<W>,
 ) -> Result<(), Broken>
     requires { out.old.failures ≡ 0 }
     // What is drawn of a program.
     ensures program { WritesAll W.contents out.old out.new
-        (spec.wave_file (period_in program.now.periods) stage.kind (program_of program.now) stage.board) result }
+        (spec.wave_file noted (period_in program.now.periods) stage.kind (program_of program.now) stage.board) result }
     // Where it is the program of a text that was accepted, with the periods of that, these are the waves of the text.
     ensures text { (text : List ℕ) → Accepts text (program_of program.now) → KeepsPeriodsOf text program.now.periods
-        → Draws W.contents text stage.kind stage.board out.old out.new result }
+        → Draws W.contents noted text stage.kind stage.board out.old out.new result }
 {
-    write_file(program, stage, out)
+    write_file(program, stage, noted, out)
 }
 
 /// Writes the wave file of a program.
-fn write_file<W: Sink>(program: &Program, stage: Stage, out: &mut Counted<W>) -> Result<(), Broken>
+fn write_file<W: Sink>(
+    program: &Program,
+    stage: Stage,
+    noted: bool,
+    out: &mut Counted<W>,
+) -> Result<(), Broken>
     requires { out.old.failures ≡ 0 }
     ensures { WritesAll W.contents out.old out.new
-        (spec.wave_file (period_in program.now.periods) stage.kind (program_of program.now) stage.board) result }
+        (spec.wave_file noted (period_in program.now.periods) stage.kind (program_of program.now) stage.board) result }
 {
+    let kind = noting(noted, stage.kind());
     let (judge, mut drawing) = stage.opened();
     let failed = stopped_in(program, judge);
-    drawing.head(out)?;
-    draw_program(program, failed, &mut drawing, out)
+    drawing.head(noted, out)?;
+    draw_program(program, kind, failed, &mut drawing, out)
+}
+
+/// The kind of a player, where it is told of the bits that it wants.
+fn noting(noted: bool, kind: Kind) -> Option<Kind>
+    ensures { result ≡ spec.noting noted kind }
+{
+    if noted { Some(kind) } else { None }
 }
 
 /// The statement in which a play stops, if it does: it is played on the board on which it is judged.
@@ -88,16 +108,17 @@ fn failed_in(ending: Ending) -> Option<usize>
 /// Draws a program, up to and with the statement that fails.
 fn draw_program<W: Sink>(
     program: &Program,
+    noted: Option<Kind>,
     failed: Option<usize>,
     drawing: &mut Drawing,
     out: &mut Counted<W>,
 ) -> Result<(), Broken>
     requires { out.old.failures ≡ 0 }
-    ensures { WritesAll W.contents out.old out.new (spec.wave (period_in program.now.periods) failed
+    ensures { WritesAll W.contents out.old out.new (spec.wave noted (period_in program.now.periods) failed
         (turns program.now.steps) drawing.old) result }
 {
     draw_opening(drawing, opening_period(program), out)?;
-    draw_steps(program, failed, drawing, out)
+    draw_steps(program, noted, failed, drawing, out)
 }
 
 /// The period of TCK in the opening of a program.
@@ -111,12 +132,13 @@ fn opening_period(program: &Program) -> u64
 /// Draws the steps of a program, up to and with that of the statement that fails.
 fn draw_steps<W: Sink>(
     program: &Program,
+    noted: Option<Kind>,
     failed: Option<usize>,
     drawing: &mut Drawing,
     out: &mut Counted<W>,
 ) -> Result<(), Broken>
     requires { out.old.failures ≡ 0 }
-    ensures { WritesAll W.contents out.old out.new (spec.wave (period_in program.now.periods) failed
+    ensures { WritesAll W.contents out.old out.new (spec.wave noted (period_in program.now.periods) failed
         (step_turns Reset program.now.steps) drawing.old) result }
 {
     // For the proof alone: what is kept of a program's steps.
@@ -128,7 +150,7 @@ fn draw_steps<W: Sink>(
             return drawing.close(out);
         }
         let period = periods.at(step.number);
-        draw_turn(drawing, place, &step, period, out)?;
+        draw_turn(drawing, place, &step, noted, period, out)?;
         place = place_after(place, &step);
     }
     drawing.close(out)
@@ -139,6 +161,7 @@ fn draw_turn<W: Sink>(
     drawing: &mut Drawing,
     place: State,
     step: &Step<'_>,
+    noted: Option<Kind>,
     period: u64,
     out: &mut Counted<W>,
 ) -> Result<(), Broken>
@@ -147,12 +170,95 @@ fn draw_turn<W: Sink>(
     requires formed { IsFormed place (seen.step step.now.what) }
     requires within { IsWithin (seen.step step.now.what) }
     ensures writes { WritesAll W.contents out.old out.new
-        (spec.draw_turn period step.now.number (step_messages place (seen.step step.now.what)) drawing.old) result }
+        (spec.draw_turn noted period (spec.turn_at place (seen.numbered step.now)) drawing.old) result }
     ensures pen { OnOk result
         (drawing.new ≡ after_drawing period (step_messages place (seen.step step.now.what)) drawing.old) }
 {
     drawing.begin(step.number, out)?;
-    draw_step(drawing, place, step, period, out)
+    draw_messages(drawing, place, step, noted, period, out)
+}
+
+/// Draws a step, from a resting place; where the kind of the player is given, with what is told of the bits that the step
+/// wants.
+fn draw_messages<W: Sink>(
+    drawing: &mut Drawing,
+    place: State,
+    step: &Step<'_>,
+    noted: Option<Kind>,
+    period: u64,
+    out: &mut Counted<W>,
+) -> Result<(), Broken>
+    requires none_lost { out.old.failures ≡ 0 }
+    requires rests { is_stable place ≡ true }
+    requires formed { IsFormed place (seen.step step.now.what) }
+    requires within { IsWithin (seen.step step.now.what) }
+    ensures writes { WritesAll W.contents out.old out.new
+        (spec.turn_text noted period (spec.turn_at place (seen.numbered step.now)) drawing.old) result }
+    ensures pen { OnOk result
+        (drawing.new ≡ after_drawing period (step_messages place (seen.step step.now.what)) drawing.old) }
+{
+    match noted {
+        None => draw_step(drawing, place, step, period, out),
+        Some(kind) => draw_noted_step(drawing, place, step, kind, period, out),
+    }
+}
+
+/// Draws a step, with what is told of the bits that it wants.
+fn draw_noted_step<W: Sink>(
+    drawing: &mut Drawing,
+    place: State,
+    step: &Step<'_>,
+    kind: Kind,
+    period: u64,
+    out: &mut Counted<W>,
+) -> Result<(), Broken>
+    requires none_lost { out.old.failures ≡ 0 }
+    requires rests { is_stable place ≡ true }
+    requires formed { IsFormed place (seen.step step.now.what) }
+    requires within { IsWithin (seen.step step.now.what) }
+    ensures writes { WritesAll W.contents out.old out.new (draw_judging kind
+        (numbers.first_of_notes drawing.old.board.chips drawing.old.board.nets) period
+        (step_messages place (seen.step step.now.what)) (wants_of (seen.step step.now.what)) no_note drawing.old) result }
+    ensures pen { OnOk result
+        (drawing.new ≡ after_drawing period (step_messages place (seen.step step.now.what)) drawing.old) }
+{
+    match step.what {
+        Action::Scan { vector, .. } => {
+            draw_scan(drawing, place, step, &vector, kind, period, out)
+        }
+        _ => draw_step(drawing, place, step, period, out),
+    }
+}
+
+/// Draws a scan of a vector, with what is told of the bits that it wants.
+fn draw_scan<W: Sink>(
+    drawing: &mut Drawing,
+    place: State,
+    step: &Step<'_>,
+    vector: &Vector<'_>,
+    kind: Kind,
+    period: u64,
+    out: &mut Counted<W>,
+) -> Result<(), Broken>
+    requires none_lost { out.old.failures ≡ 0 }
+    requires rests { is_stable place ≡ true }
+    requires formed { IsFormed place (seen.step step.now.what) }
+    requires within { IsWithin (seen.step step.now.what) }
+    requires scans { spec.IsScanOf (seen.step step.now.what) (bits vector.now) }
+    ensures writes { WritesAll W.contents out.old out.new (draw_judging kind
+        (numbers.first_of_notes drawing.old.board.chips drawing.old.board.nets) period
+        (step_messages place (seen.step step.now.what)) (wants_of (seen.step step.now.what)) no_note drawing.old) result }
+    ensures pen { OnOk result
+        (drawing.new ≡ after_drawing period (step_messages place (seen.step step.now.what)) drawing.old) }
+{
+    match next_wanted(vector, 0) {
+        None => draw_step(drawing, place, step, period, out),
+        Some(_) => {
+            let number = drawing.first_of_notes();
+            let source = Source::of(place, step);
+            draw_judged(drawing, source, vector, kind, number, period, out)
+        }
+    }
 }
 
 /// Whether a statement is one of the play.

@@ -1,13 +1,14 @@
 -- What stands before the first time: the variables in their scopes, and what each shows at the start (IEEE Std
 -- 1364-2001, clause 18). Names of devices and nets are letters, digits and `_`, as board files have them.
-use Rattle.std.specs.Prelude.{ℕ, ◌+◌, List, ◌++◌, length, codes, decimal}
+use Rattle.std.specs.Prelude.{ℕ, ◌+◌, Bool, false, List, [], ◌++◌, length, codes, decimal, if◌then◌else◌}
 use Rattle.pin_nets.specs.Wired.{Net}
 use Rattle.board_model.specs.Chain.{ChipState, members}
 use Rattle.board_model.specs.Nets.{level}
 use Rattle.wave_files.specs.Codes.{code}
 use Rattle.wave_files.specs.declared.shown.Shown.{Shown}
-use Rattle.wave_files.specs.Values.{by_numbers, byte_line, device_lines, first_of_devices, first_of_nets}
-use Rattle.wave_files.specs.Values.{latch, level_byte, variables_of_device}
+use Rattle.output_words.specs.Digits.{digit}
+use Rattle.wave_files.specs.Values.{bits_line, by_numbers, byte_line, device_lines, first_of_devices, first_of_nets}
+use Rattle.wave_files.specs.Values.{first_of_notes, latch, level_byte, unknown, variables_of_device, word_line}
 
 -- ---- the variables
 
@@ -22,30 +23,50 @@ abbrev pub line_variables : List ℕ
 line_variables =
     codes "$scope module tap $end\n$var wire 1 ! TCK $end\n$var wire 1 \" TMS $end\n"
     ++ (codes "$var wire 1 # TDI $end\n$var wire 1 $ TDO $end\n$var wire 1 % TRST $end\n"
-    ++ codes "$var integer 32 & statement $end\n$upscope $end\n")
+    ++ codes "$var integer 32 & statement $end\n")
+
+-- Of the bits that scans want: what is wanted beside TDO, whether a bit fails, and the place and the part of the bit that
+-- failed last.
+abbrev pub note_variables : ℕ → List ℕ
+note_variables n =
+    variable (codes "wire 1") n (codes "wanted")
+    ++ (variable (codes "wire 1") (n + 1) (codes "fail")
+    ++ (variable (codes "integer 32") (n + 2) (codes "bit") ++ variable (codes "string 1") (n + 3) (codes "part")))
+
+-- where they are drawn
+abbrev pub noted_variables : (noted : Bool) → ℕ → List ℕ
+noted_variables noted n = if noted then note_variables n else []
+
+abbrev pub tap_variables : (noted : Bool) → ℕ → List ℕ
+tap_variables noted n = line_variables ++ (noted_variables noted n ++ codes "$upscope $end\n")
 
 -- an instruction has as many bits as its device gives it
 abbrev pub bits_kind : (bits : ℕ) → List ℕ
 bits_kind bits = codes "$var reg " ++ (decimal bits ++ codes " ")
 
-abbrev pub instruction_variable : ℕ → (bits : ℕ) → List ℕ
-instruction_variable n bits = bits_kind bits ++ (code n ++ codes " instruction $end\n")
+-- Viewers list variables by their last names, so each of a device begins with the device's: `' U1_state $end`.
+abbrev pub named : ℕ → (device leaf : List ℕ) → List ℕ
+named n device leaf = code n ++ (codes " " ++ (device ++ (leaf ++ codes " $end\n")))
+
+-- the variables of a device of this name, with so many bits of instruction
+abbrev pub variables_named : ℕ → (device : List ℕ) → (bits : ℕ) → List ℕ
+variables_named n device bits =
+    scope device
+    ++ (codes "$var reg 4 " ++ (named n device (codes "_state")
+    ++ (codes "$var string 1 " ++ (named (n + 1) device (codes "_word")
+    ++ (bits_kind bits ++ (named (n + 2) device (codes "_instruction") ++ codes "$upscope $end\n"))))))
 
 -- a device: its state, the state's word, and its instruction
 abbrev pub device_variables : ℕ → ChipState → List ℕ
-device_variables n c =
-    scope c.member.name
-    ++ (variable (codes "reg 4") n (codes "state")
-    ++ (variable (codes "string 1") (n + 1) (codes "word")
-    ++ (instruction_variable (n + 2) (length (latch c)) ++ codes "$upscope $end\n")))
+device_variables n c = variables_named n c.member.name (length (latch c))
 
 abbrev pub net_variable : ℕ → Net → List ℕ
 net_variable n net = variable (codes "wire 1") n net.name
 
-abbrev pub variables : List ChipState → List Net → List ℕ
-variables cs nets =
+abbrev pub variables : (noted : Bool) → List ChipState → List Net → List ℕ
+variables noted cs nets =
     codes "$timescale 1 ps $end\n$scope module board $end\n"
-    ++ (line_variables
+    ++ (tap_variables noted (first_of_notes cs nets)
     ++ (by_numbers device_variables variables_of_device first_of_devices cs
     ++ (by_numbers net_variable 1 (first_of_nets cs) nets ++ codes "$upscope $end\n$enddefinitions $end\n")))
 
@@ -69,9 +90,20 @@ board_lines cs nets =
     by_numbers device_lines variables_of_device first_of_devices cs
     ++ by_numbers (net_line nets cs) 1 (first_of_nets cs) nets
 
-abbrev pub first_values : Shown → List ChipState → List Net → List ℕ
-first_values s cs nets =
-    codes "#0\n$dumpvars\n" ++ (first_lines s ++ (first_number ++ (board_lines cs nets ++ codes "$end\n")))
+-- No bit is wanted yet, and none has failed.
+abbrev pub first_notes : ℕ → List ℕ
+first_notes n =
+    byte_line n unknown
+    ++ (byte_line (n + 1) (digit false) ++ (bits_line (n + 2) (codes "x") ++ word_line (n + 3) (codes "none")))
 
-abbrev pub heading_of : Shown → List ChipState → List Net → List ℕ
-heading_of s cs nets = variables cs nets ++ first_values s cs nets
+abbrev pub noted_values : (noted : Bool) → ℕ → List ℕ
+noted_values noted n = if noted then first_notes n else []
+
+abbrev pub first_values : (noted : Bool) → Shown → List ChipState → List Net → List ℕ
+first_values noted s cs nets =
+    codes "#0\n$dumpvars\n"
+    ++ (first_lines s
+    ++ (first_number ++ (board_lines cs nets ++ (noted_values noted (first_of_notes cs nets) ++ codes "$end\n"))))
+
+abbrev pub heading_of : (noted : Bool) → Shown → List ChipState → List Net → List ℕ
+heading_of noted s cs nets = variables noted cs nets ++ first_values noted s cs nets

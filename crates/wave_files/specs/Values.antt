@@ -7,6 +7,7 @@ use mathlib.Core.Bool.{beq}
 use Rattle.jt_tap.specs.declared.State.{State}
 use Rattle.jt_tap.specs.Controller.{is_at}
 use Rattle.jt_tap.specs.Words.{word}
+use Rattle.pin_nets.specs.Wired.{Net}
 use Rattle.pin_nets.specs.declared.Level.{Level}
 use Rattle.pin_nets.specs.declared.Level.TheVariants.{Zero, One, Contend, Float}
 use Rattle.board_model.specs.Chain.{ChipState}
@@ -122,6 +123,13 @@ statement_variable = 5
 abbrev pub first_of_devices : ℕ
 first_of_devices = 6
 
--- the named nets come last
+-- then the named nets
 abbrev pub first_of_nets : List ChipState → ℕ
 first_of_nets cs = first_of_devices + variables_of_device * length cs
+
+-- and last, where they are drawn, what is told of the bits that scans want
+abbrev pub first_of_notes : List ChipState → List Net → ℕ
+first_of_notes cs nets = first_of_nets cs + length nets
+
+abbrev pub variables_of_notes : ℕ
+variables_of_notes = 4

@@ -45,7 +45,9 @@ fn write_further_lines<W: Sink>(
 }
 
 /// Writes a level where it differs from the one before.
-fn write_byte_change<W: Sink>(
+///
+/// `Broken` comes exactly where the writer's first failure came in this call.
+pub fn write_byte_change<W: Sink>(
     number: usize,
     before: u8,
     after: u8,

@@ -139,7 +139,9 @@ pub fn write_number<W: Sink>(
 }
 
 /// Writes the line of bits.
-fn write_bits_line<W: Sink>(
+///
+/// `Broken` comes exactly where the writer's first failure came in this call.
+pub fn write_bits_line<W: Sink>(
     number: usize,
     digits: &[u8],
     out: &mut Counted<W>,
@@ -154,7 +156,9 @@ fn write_bits_line<W: Sink>(
 }
 
 /// Writes the line of a word.
-fn write_word_line<W: Sink>(
+///
+/// `Broken` comes exactly where the writer's first failure came in this call.
+pub fn write_word_line<W: Sink>(
     number: usize,
     letters: &[u8],
     out: &mut Counted<W>,

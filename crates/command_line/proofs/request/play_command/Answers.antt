@@ -1,7 +1,7 @@
 use Rattle.std.proofs.Common.{◌≡◌, false, ap, ◌∙◌, codes}
 use Rattle.clap.specs.Simple.{app_of_fields}
 use Rattle.clap.specs.Words.{app_of, new_app, with_rule}
-use Rattle.command_line.specs.Asking.{all, board, bytes, explain, svf, vcd}
+use Rattle.command_line.specs.Asking.{all, board, bytes, explain, svf, vcd, vcd_fails, vcd_plain}
 use Rattle.clap.specs.declared.builder.command.Command.TheViews.{out-Command}
 use Rattle.clap.specs.declared.builder.command.Command.{Command}
 use Rattle.clap.specs.declared.builder.command.Command.TheOpen.{Command-F}
@@ -17,7 +17,9 @@ returns-clause-shape c =
     let three = with_argument c.in_ok-arg-2.field-0 c.in_ok-arg-3.field-0 c.bytes_arg.result (with_rule (with_rule none svf) board) bytes c.in_ok-arg-3.ensures c.bytes_arg.ensures.local c.bytes_arg.ensures.rule two in
     let four = with_argument c.in_ok-arg-3.field-0 c.in_ok-arg-4.field-0 c.all_arg.result (with_rule (with_rule (with_rule none svf) board) bytes) all c.in_ok-arg-4.ensures c.all_arg.ensures.local c.all_arg.ensures.rule three in
     let five = with_argument c.in_ok-arg-4.field-0 c.in_ok-arg-5.field-0 c.reasons_arg.result (with_rule (with_rule (with_rule (with_rule none svf) board) bytes) all) explain c.in_ok-arg-5.ensures c.reasons_arg.ensures.local c.reasons_arg.ensures.rule four in
-    with_last_argument c.in_ok-arg-5.field-0 c.vcd_arg.result (with_rule (with_rule (with_rule (with_rule (with_rule none svf) board) bytes) all) explain) vcd c.arg-6.result c.arg-6.ensures c.vcd_arg.ensures.local c.vcd_arg.ensures.rule five
+    let six = with_argument c.in_ok-arg-5.field-0 c.in_ok-arg-6.field-0 c.vcd_arg.result (with_rule (with_rule (with_rule (with_rule (with_rule none svf) board) bytes) all) explain) vcd c.in_ok-arg-6.ensures c.vcd_arg.ensures.local c.vcd_arg.ensures.rule five in
+    let seven = with_argument c.in_ok-arg-6.field-0 c.in_ok-arg-7.field-0 c.vcd_fails_arg.result (with_rule (with_rule (with_rule (with_rule (with_rule (with_rule none svf) board) bytes) all) explain) vcd) vcd_fails c.in_ok-arg-7.ensures c.vcd_fails_arg.ensures.local c.vcd_fails_arg.ensures.rule six in
+    with_last_argument c.in_ok-arg-7.field-0 c.vcd_plain_arg.result (with_rule (with_rule (with_rule (with_rule (with_rule (with_rule (with_rule none svf) board) bytes) all) explain) vcd) vcd_fails) vcd_plain c.arg-8.result c.arg-8.ensures c.vcd_plain_arg.ensures.local c.vcd_plain_arg.ensures.rule seven
 
 pub returns-clause-local : goal.returns-clause-local
 returns-clause-local c =
@@ -27,4 +29,6 @@ returns-clause-local c =
     let l2 = no_globals c.in_ok-arg-2.field-0 c.in_ok-arg-3.field-0 c.bytes_arg.result c.in_ok-arg-3.ensures c.bytes_arg.ensures.local l1 in
     let l3 = no_globals c.in_ok-arg-3.field-0 c.in_ok-arg-4.field-0 c.all_arg.result c.in_ok-arg-4.ensures c.all_arg.ensures.local l2 in
     let l4 = no_globals c.in_ok-arg-4.field-0 c.in_ok-arg-5.field-0 c.reasons_arg.result c.in_ok-arg-5.ensures c.reasons_arg.ensures.local l3 in
-    last_no_globals c.in_ok-arg-5.field-0 c.vcd_arg.result c.arg-6.result c.arg-6.ensures c.vcd_arg.ensures.local l4
+    let l5 = no_globals c.in_ok-arg-5.field-0 c.in_ok-arg-6.field-0 c.vcd_arg.result c.in_ok-arg-6.ensures c.vcd_arg.ensures.local l4 in
+    let l6 = no_globals c.in_ok-arg-6.field-0 c.in_ok-arg-7.field-0 c.vcd_fails_arg.result c.in_ok-arg-7.ensures c.vcd_fails_arg.ensures.local l5 in
+    last_no_globals c.in_ok-arg-7.field-0 c.vcd_plain_arg.result c.arg-8.result c.arg-8.ensures c.vcd_plain_arg.ensures.local l6

@@ -1,4 +1,4 @@
-use Rattle.std.proofs.Common.{◌++◌, Option, ℕ, ap}
+use Rattle.std.proofs.Common.{◌++◌, Option, None, ℕ, false, ap}
 use Rattle.play_model.specs.Play.{turns}
 use Rattle.play_waves.specs.Pens.{begun}
 use Rattle.play_waves.specs.Waves.{failed_in, heading, wave}
@@ -6,4 +6,4 @@ use Rattle.play_waves.proofs.laws.a_pass_is_drawn_to_its_end.Goals as goal
 
 pub returns : goal.returns
 returns c = λ period_of program b passes.
-    ap (λ (failed : Option ℕ). heading (begun b) ++ wave period_of failed (turns program.steps) (begun b)) (ap failed_in passes)
+    ap (λ (failed : Option ℕ). heading false (begun b) ++ wave None period_of failed (turns program.steps) (begun b)) (ap failed_in passes)

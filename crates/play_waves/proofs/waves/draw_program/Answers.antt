@@ -6,6 +6,7 @@ use Rattle.bitbang_protocol.specs.Cycles.{opening}
 use Rattle.play_model.specs.Play.{Turn, step_turns, turns}
 use Rattle.play_waves.specs.Drawing.{after_drawing}
 use Rattle.play_waves.specs.Waves.{wave}
+use Rattle.play_waves.proofs.Judged.{told_nothing}
 use Rattle.play_waves.proofs.Played.{one_more, opens}
 use Rattle.play_waves.proofs.waves.draw_program.Goals as goal
 
@@ -20,8 +21,8 @@ returns-in_err-draw_opening g c =
     let p = c.args.drawing.now in
     let now : ℕ = c.opening_period.result in
     let q = after_drawing now opening p in
-    WritesAll-is (sym (one_more period_of c.args.failed first (step_turns Reset steps) p (wave period_of c.args.failed (turns steps) p) [] now q refl (opens c.args.failed) c.opening_period.ensures refl))
-    (WritesAll-stopped (wave period_of c.args.failed (step_turns Reset steps) q) c.in_err-draw_opening.ensures.writes refl c.from_residual.ensures.0)
+    WritesAll-is (sym (one_more c.args.noted period_of c.args.failed first (step_turns Reset steps) p (wave c.args.noted period_of c.args.failed (turns steps) p) [] now q refl (opens c.args.failed) c.opening_period.ensures refl))
+    (WritesAll-stopped (wave c.args.noted period_of c.args.failed (step_turns Reset steps) q) (WritesAll-is (told_nothing c.args.noted now first p refl) c.in_err-draw_opening.ensures.writes) refl c.from_residual.ensures.0)
 
 pub returns : goal.returns
 returns g c =
@@ -30,5 +31,5 @@ returns g c =
     let p = c.args.drawing.now in
     let now : ℕ = c.opening_period.result in
     let q = c.draw_opening.new.drawing in
-    WritesAll-is (sym (one_more period_of c.args.failed first (step_turns Reset steps) p (wave period_of c.args.failed (turns steps) p) [] now q refl (opens c.args.failed) c.opening_period.ensures c.in_ok-draw_opening.ensures.pen))
-    (WritesAll-then c.in_ok-draw_opening.ensures.writes refl c.draw_steps.ensures)
+    WritesAll-is (sym (one_more c.args.noted period_of c.args.failed first (step_turns Reset steps) p (wave c.args.noted period_of c.args.failed (turns steps) p) [] now q refl (opens c.args.failed) c.opening_period.ensures c.in_ok-draw_opening.ensures.pen))
+    (WritesAll-then (WritesAll-is (told_nothing c.args.noted now first p refl) c.in_ok-draw_opening.ensures.writes) refl c.draw_steps.ensures)

@@ -13,15 +13,11 @@ use Rattle.svf_programs.specs.Sound.{AllWithin}
 use Rattle.svf_programs.specs.Steps.{Numbered, line_after, place_after}
 use Rattle.bitbang.specs.StepMessages.{step_messages}
 use Rattle.play_model.proofs.Legality.{place-stable}
-use Rattle.play_model.specs.Play.{Turn, step_turns, wants_of}
+use Rattle.play_model.specs.Play.{step_turns}
 use Rattle.play_waves.specs.Drawing.{after_drawing}
-use Rattle.play_waves.specs.Waves.{draw_turn, wave}
+use Rattle.play_waves.specs.Waves.{draw_turn, turn_at, wave}
 use Rattle.play_waves.proofs.Played.{not_drawn, one_more}
 use Rattle.play_waves.proofs.waves.draw_steps.Goals as goal
-
--- the turn of a step
-abbrev turn : State → Numbered → Turn
-turn place s = record { command = s.number; messages = step_messages place s.what; wants = wants_of s.what }
 
 pub loop-step-init : goal.loop-step-init
 loop-step-init g c =
@@ -37,7 +33,7 @@ loop-step-init g c =
       none_lost = c.requires;
       sent = [];
       writes = Appends-nil _;
-      split = ap (λ (l : List Numbered). wave (period_in changes) c.args.failed (step_turns Reset l) c.args.drawing.now) steps-are;
+      split = ap (λ (l : List Numbered). wave c.args.noted (period_in changes) c.args.failed (step_turns Reset l) c.args.drawing.now) steps-are;
     }
 
 pub draw_turn-requires-clause-rests : goal.draw_turn-requires-clause-rests
@@ -64,7 +60,7 @@ loop-step-preserved g c =
     let in_force = c.at-period.ensures.period ∙ ap (λ (cs : List PeriodChange). period_in cs s.number) i.same in
     let p = c.loop-step.drawing in
     let q = c.draw_turn.new.drawing in
-    let bytes : List ℕ = draw_turn now s.number (step_messages place s.what) p in
+    let bytes : List ℕ = draw_turn c.args.noted now (turn_at place s) p in
     let rests = sym c.place_after-place.ensures in
     record {
       trst = line_after i.trst s.what;
@@ -75,10 +71,10 @@ loop-step-preserved g c =
       none_lost = c.in_ok-draw_turn.ensures.writes.ok.0 refl;
       sent = i.sent ++ bytes;
       writes = Appends-trans _ _ _ _ _ i.writes c.in_ok-draw_turn.ensures.writes.whole;
-      split = one_more (period_in changes) c.args.failed (turn place s) (step_turns (place_after place s.what) ss) p _ i.sent now q
-          (i.split ∙ ap (λ (l : List Numbered). i.sent ++ wave (period_in changes) c.args.failed (step_turns place l) p) next-are)
+      split = one_more c.args.noted (period_in changes) c.args.failed (turn_at place s) (step_turns (place_after place s.what) ss) p _ i.sent now q
+          (i.split ∙ ap (λ (l : List Numbered). i.sent ++ wave c.args.noted (period_in changes) c.args.failed (step_turns place l) p) next-are)
           (sym c.is_played.ensures ∙ c.if-not-is_played.false) in_force c.in_ok-draw_turn.ensures.pen
-          ∙ ap (λ (x : State). (i.sent ++ bytes) ++ wave (period_in changes) c.args.failed (step_turns x ss) q) rests;
+          ∙ ap (λ (x : State). (i.sent ++ bytes) ++ wave c.args.noted (period_in changes) c.args.failed (step_turns x ss) q) rests;
     }
 
 pub returns-in_err-draw_turn : goal.returns-in_err-draw_turn
@@ -93,9 +89,9 @@ returns-in_err-draw_turn g c =
     let p = c.loop-step.drawing in
     let ts = step_turns (place_after place s.what) ss in
     let q = after_drawing now (step_messages place s.what) p in
-    WritesAll-lost _ i.sent (wave (period_in changes) c.args.failed ts q)
-    (one_more (period_in changes) c.args.failed (turn place s) ts p _ i.sent now q
-    (i.split ∙ ap (λ (l : List Numbered). i.sent ++ wave (period_in changes) c.args.failed (step_turns place l) p) c.in-Some.ensures.steps)
+    WritesAll-lost _ i.sent (wave c.args.noted (period_in changes) c.args.failed ts q)
+    (one_more c.args.noted (period_in changes) c.args.failed (turn_at place s) ts p _ i.sent now q
+    (i.split ∙ ap (λ (l : List Numbered). i.sent ++ wave c.args.noted (period_in changes) c.args.failed (step_turns place l) p) c.in-Some.ensures.steps)
     (sym c.is_played.ensures ∙ c.if-not-is_played.false) in_force refl)
     i.writes c.in_err-draw_turn.ensures.writes refl c.from_residual.ensures.0
 
@@ -107,9 +103,9 @@ returns-then-not-is_played g c =
     let ss : List Numbered = left c.next.new.self in
     let place : State = c.loop-step.place in
     let p = c.loop-step.drawing in
-    let all = i.split ∙ ap (λ (l : List Numbered). i.sent ++ wave (period_in changes) c.args.failed (step_turns place l) p) c.in-Some.ensures.steps
+    let all = i.split ∙ ap (λ (l : List Numbered). i.sent ++ wave c.args.noted (period_in changes) c.args.failed (step_turns place l) p) c.in-Some.ensures.steps
     ∙ ap (λ (l : List ℕ). i.sent ++ l)
-    (not_drawn (period_in changes) c.args.failed (turn place s) (step_turns (place_after place s.what) ss) p (sym c.is_played.ensures ∙ c.if-not-is_played.true)) in
+    (not_drawn c.args.noted (period_in changes) c.args.failed (turn_at place s) (step_turns (place_after place s.what) ss) p (sym c.is_played.ensures ∙ c.if-not-is_played.true)) in
     WritesAll-is (sym all) (WritesAll-then (WritesAll-done {A = ℕ} {E = ℕ} 0 i.none_lost i.writes) refl c.close.ensures)
 
 pub returns : goal.returns
@@ -117,5 +113,5 @@ returns g c =
     let i = c.loop-step.invariant in
     let changes = c.args.program.now.periods in
     let all = i.split
-    ∙ ap (λ (l : List Numbered). i.sent ++ wave (period_in changes) c.args.failed (step_turns c.loop-step.place l) c.loop-step.drawing) c.in-None.ensures.steps.0 in
+    ∙ ap (λ (l : List Numbered). i.sent ++ wave c.args.noted (period_in changes) c.args.failed (step_turns c.loop-step.place l) c.loop-step.drawing) c.in-None.ensures.steps.0 in
     WritesAll-is (sym all) (WritesAll-then (WritesAll-done {A = ℕ} {E = ℕ} 0 i.none_lost i.writes) refl c.close-2.ensures)

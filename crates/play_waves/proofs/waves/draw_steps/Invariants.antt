@@ -21,6 +21,6 @@ invariant-loop-step g l = record {
   none_lost : l.out.failures ≡ 0;
   sent : List ℕ;
   writes : Appends (g.W.Write.contents l.fn.out.inner) (g.W.Write.contents l.out.inner) sent;
-  split : wave (period_in l.program.periods) l.failed (step_turns Reset l.program.steps) l.fn.drawing
-      ≡ sent ++ wave (period_in l.program.periods) l.failed (step_turns l.place (left l.step-iterator)) l.drawing;
+  split : wave l.noted (period_in l.program.periods) l.failed (step_turns Reset l.program.steps) l.fn.drawing
+      ≡ sent ++ wave l.noted (period_in l.program.periods) l.failed (step_turns l.place (left l.step-iterator)) l.drawing;
 }

@@ -9,4 +9,4 @@ returns-in_err-begin-clause-writes g c =
 pub returns-clause-writes : goal.returns-clause-writes
 returns-clause-writes g c =
     WritesAll-then c.in_ok-begin.ensures refl
-    (c.draw_step.ensures.writes)
+    (c.draw_messages.ensures.writes)
