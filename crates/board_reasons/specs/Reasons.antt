@@ -42,7 +42,7 @@ wanted_at (v ∷ vs) (suc k) = wanted_at vs k
 -- why a wanted bit did not come out of a chain whose registers have captured
 abbrev pub reason : List Net → List Member → Column → List VectorBit → Mismatch → Reason
 reason nets ms column v f =
-    let k = place_in v f.part f.bit in record { wanted = wanted_at v k; holder = holder nets ms column k }
+    let k = place_in v f.part f.bit in record { wanted = wanted_at v k; holder = holder nets ms column v k }
 
 -- the reasons of all wanted bits that do not come out of a scan from rest
 abbrev pub scan_reasons : Column → List VectorBit → AtRest → List Reason
