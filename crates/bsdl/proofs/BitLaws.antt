@@ -16,7 +16,7 @@ use Rattle.bsdl_entity.specs.Ports.{Port, Range}
 use Rattle.bsdl_entity.specs.PortBits as declared
 use Rattle.bsdl_lookup.specs.PortNumbers as port_numbers
 use Rattle.bsdl_text.specs.Words.{is_among}
-use Rattle.bsdl_build.specs.Boundary.{port_bits}
+use Rattle.bsdl.specs.Boundary.{port_bits}
 use Rattle.bsdl.specs.Laws.{PinsFindTheBitsOfRows}
 use Rattle.bsdl.proofs.LimitedLaws.{port_len}
 

@@ -16,8 +16,8 @@ use Rattle.bsdl_description.specs.Describing.{Description, Refusal, described, â
 use Rattle.bsdl_rules.specs.Fits.{cells_end, has_no_port, is_driven_below, is_fit, names_tap, port_bit, port_fits, row_fits, rows_numbered}
 use Rattle.bsdl_rules.specs.Limits.{cells_within, instructions_within, ports_within, users_within}
 use Rattle.bsdl_lookup.specs.PortNumbers as port_numbers
-use Rattle.bsdl_build.specs.Boundary.{cell}
-use Rattle.bsdl_build.specs.Built.{device}
+use Rattle.bsdl.specs.Boundary.{cell}
+use Rattle.bsdl.specs.Built.{device}
 use Rattle.bsdl.specs.Form.{text_form}
 use Rattle.bsdl.specs.Judging.{fault, file_says, device_or_refusal, text_says}
 use Rattle.bsdl.specs.RowCells.{HasItsCell, HasRowCells, bit_named, row_cell, text_described}

@@ -13,7 +13,7 @@ use Rattle.bsdl_description.specs.Describing.{Description, Refusal, described, â
 use Rattle.bsdl_rules.specs.Lengths.{access_fits, agree, patterns_captured, captures_fit, codes_fit, differ, has_bits, has_len, instructions_fit, is_empty, row_len}
 use Rattle.bsdl_opcodes.specs.Users.{is_other, is_user, user_number, users_of}
 use Rattle.bsdl_opcodes.specs.Accesses.{access, accesses_of_row, public_place}
-use Rattle.bsdl_build.specs.Built.{device}
+use Rattle.bsdl.specs.Built.{device}
 use Rattle.bsdl.specs.Exact.{IsExactAccess, IsExactAt, IsExactDevice, Takes}
 use Rattle.bsdl.specs.Form.{text_form}
 use Rattle.bsdl.specs.Judging.{fault, file_says, device_or_refusal, text_says}

@@ -15,8 +15,8 @@ use Rattle.bsdl_description.specs.Describing.{Description}
 use Rattle.bsdl_text.specs.Words.{is_among}
 use Rattle.bsdl_rules.specs.Fits.{control_fits, has_no_port, is_control_cell, is_driven_below, names_tap, port_bit, port_fits, row_fits, same_bit}
 use Rattle.jt_limits.specs.Limits.{subscript_limit}
-use Rattle.bsdl_build.specs.Boundary.{cell}
-use Rattle.bsdl_build.specs.Built.{device}
+use Rattle.bsdl.specs.Boundary.{cell}
+use Rattle.bsdl.specs.Built.{device}
 use Rattle.bsdl.specs.FitCells.{CellFits, ControlFits, HasFitCells, IsControlCell, IsPinGiven, PortFits}
 use Rattle.bsdl.specs.Judging.{fault, text_says}
 use Rattle.bsdl.proofs.OnceLaws.{both}

@@ -5,6 +5,8 @@ pub mod ExactLaws
 pub mod FitLaws
 pub mod FormLaws
 pub mod LimitedLaws
+pub mod ListedCells
+pub mod NumberLaws
 pub mod OnceLaws
 pub mod OrderLaws
 pub mod ReadLaws

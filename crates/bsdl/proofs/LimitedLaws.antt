@@ -22,8 +22,8 @@ use Rattle.bsdl_entity.specs.PortBits.{highest, width}
 use Rattle.bsdl_opcodes.specs.Users.{users_of}
 use Rattle.bsdl_opcodes.specs.ResetOpcode.{opcode}
 use Rattle.bsdl_rules.specs.Twice.{given_again}
-use Rattle.bsdl_build.specs.Boundary.{cell, port_bits}
-use Rattle.bsdl_build.specs.Built.{device}
+use Rattle.bsdl.specs.Boundary.{cell, port_bits}
+use Rattle.bsdl.specs.Built.{device}
 use Rattle.bsdl.specs.Form.{text_form}
 use Rattle.bsdl.specs.Judging.{fault, file_says, device_or_refusal, text_says, twice_in, unless}
 use Rattle.bsdl.specs.Limited.{HasLengthIfGiven, HasPatternsOf, IsIndexWithin, IsLimitedDevice}

@@ -21,8 +21,8 @@ use Rattle.bsdl_text.specs.Words.{is_among}
 use Rattle.bsdl_opcodes.specs.ResetOpcode.{opcode}
 use Rattle.bsdl_opcodes.specs.Users.{users_of}
 use Rattle.bsdl_opcodes.specs.Accesses.{access, accesses_of_row}
-use Rattle.bsdl_build.specs.Boundary.{port_bits}
-use Rattle.bsdl_build.specs.Built.{device}
+use Rattle.bsdl.specs.Boundary.{port_bits}
+use Rattle.bsdl.specs.Built.{device}
 use Rattle.bsdl.specs.Form.{read_form, text_form, text_limit, tokens_form}
 use Rattle.bsdl.specs.Judging.{fault, file_says, device_or_refusal, text_says}
 use Rattle.bsdl.specs.Small.{IsSmallDevice, access_size, opcode_size, total}

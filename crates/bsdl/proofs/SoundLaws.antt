@@ -16,8 +16,8 @@ use Rattle.bsdl_rules.specs.Lengths.{access_fits, agree, patterns_captured, capt
 use Rattle.bsdl_opcodes.specs.Users.{is_other, user_number, users_of}
 use Rattle.bsdl_rules.specs.Twice.{given_again}
 use Rattle.bsdl_opcodes.specs.Accesses.{access, accesses_of_row, public_place}
-use Rattle.bsdl_build.specs.Boundary.{cell, cells_of}
-use Rattle.bsdl_build.specs.Built.{device}
+use Rattle.bsdl.specs.Boundary.{cell, cells_of}
+use Rattle.bsdl.specs.Built.{device}
 use Rattle.bsdl.specs.Form.{text_form}
 use Rattle.bsdl.specs.Judging.{fault, file_says, device_or_refusal, text_says, twice_in, unless}
 use Rattle.bsdl.proofs.OnceLaws.{both, each_cell_once, holds, neither}

@@ -11,7 +11,7 @@ use Rattle.bsdl_device.specs.Device.{Device, Name}
 use Rattle.bsdl_entity.specs.Entity.{File}
 use Rattle.bsdl_entity.specs.Ports.{Port}
 use Rattle.bsdl_description.specs.Describing.{Description, Refusal, described, bad_capture, bad_cell, bad_id, bad_length, too_large, ◌>>?◌}
-use Rattle.bsdl_build.specs.Built.{device}
+use Rattle.bsdl.specs.Built.{device}
 use Rattle.bsdl_rules.specs.Fits.{unfit_cell}
 use Rattle.bsdl_rules.specs.Lengths.{captures_one, ends_in_one, lengths_fit}
 use Rattle.bsdl_rules.specs.Limits.{instructions_fit, cells_fit, port_bits_fit, users_fit, keeps}

@@ -8,7 +8,7 @@ use Rattle.jt_limits.specs.Limits.{limits}
 use Rattle.bsdl.specs.Form.{text_form_within}
 use Rattle.bsdl_device.specs.Device.{Device}
 use Rattle.bsdl_entity.specs.Entity.{File}
-use Rattle.bsdl_build.specs.Built.{device}
+use Rattle.bsdl.specs.Built.{device}
 use Rattle.bsdl_opcodes.specs.ResetOpcode.{opcode, resets_to_idcode}
 use Rattle.bsdl_rules.specs.Namings.{Naming}
 use Rattle.bsdl_rules.specs.Twice.{given_again}

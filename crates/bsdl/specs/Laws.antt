@@ -8,7 +8,7 @@ use Rattle.bsdl_device.specs.Sound.{IsSoundDevice}
 use Rattle.bsdl_entity.specs.Ports.{Port}
 use Rattle.bsdl_lookup.specs.PortNumbers as port_numbers
 use Rattle.bsdl_description.specs.Describing.{Description}
-use Rattle.bsdl_build.specs.Boundary.{port_bits}
+use Rattle.bsdl.specs.Boundary.{port_bits}
 use Rattle.bsdl.specs.Judging.{text_says}
 use Rattle.bsdl.specs.Exact.{IsExactDevice}
 use Rattle.bsdl.specs.FitCells.{HasFitCells}

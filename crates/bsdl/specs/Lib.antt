@@ -1,5 +1,8 @@
 pub use Rattle.bsdl_description.specs.Describing
 pub use Rattle.bsdl_lookup.specs.Controls
+pub mod Bits
+pub mod Boundary
+pub mod Built
 pub mod Exact
 pub mod FitCells
 pub mod Form

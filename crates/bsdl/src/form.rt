@@ -5,10 +5,9 @@ ghost use Rattle.bsdl_description.specs.Describing.{described, ◌>>?◌};
 ghost use Rattle.bsdl_description.specs.View.{spelt};
 
 use crate::fault::BsdlFault;
-use bsdl_description::description::{Description, Unfit, describe};
-use bsdl_entity::entity::{Outline, read_entity};
-use bsdl_text::reading::Stop;
-use bsdl_text::{Lexer, bad_byte};
+use bsdl_description::{Description, Unfit, describe};
+use bsdl_entity::{Outline, read_entity};
+use bsdl_text::{Lexer, Stop, bad_byte};
 use jt_limits::LIMITS;
 use std::alloc::Global;
 

@@ -12,16 +12,14 @@ ghost use Rattle.bsdl_lookup.specs.Keyed.{AreKeyed};
 ghost use Rattle.bsdl_rules.specs.Twice.{given_again as first_given_again};
 
 use crate::fault::BsdlFault;
-use bsdl_description::description::Description;
-use bsdl_entity::entity::Outline;
-use bsdl_lookup::keyed_ports::KeyedPorts;
-use bsdl_opcodes::reset_opcode::resets_to_idcode;
-use bsdl_opcodes::users::users_of;
-use bsdl_rules::again::given_again;
-use bsdl_rules::ends::{captures_one, ends_in_one};
-use bsdl_rules::keyed::{known_by_key, unfit_cell_by_key};
-use bsdl_rules::lengths::lengths_fit;
-use bsdl_rules::limits::is_within_limits;
+use bsdl_description::Description;
+use bsdl_entity::Outline;
+use bsdl_lookup::KeyedPorts;
+use bsdl_opcodes::{resets_to_idcode, users_of};
+use bsdl_rules::{
+    captures_one, ends_in_one, given_again, is_within_limits, known_by_key, lengths_fit,
+    unfit_cell_by_key,
+};
 use std::alloc::Global;
 
 /// The first refusal of B4 to B9 of a description that is well formed, if there is one, or else the ports by the keys

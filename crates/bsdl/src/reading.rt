@@ -4,13 +4,13 @@ ghost use Rattle.bsdl.specs.View.{Tells};
 ghost use Rattle.bsdl_description.specs.Describing.{◌>>?◌};
 ghost use Rattle.bsdl_description.specs.View.{description, spelt};
 
+use crate::device::device_by_key;
 use crate::fault::BsdlFault;
 use crate::form::{description_of, outline_of};
 use crate::judge::judge_ports;
-use bsdl_build::device::device_by_key;
-use bsdl_description::description::Description;
+use bsdl_description::Description;
 use bsdl_device::Device;
-use bsdl_entity::entity::Outline;
+use bsdl_entity::Outline;
 use std::alloc::Global;
 
 /// The device that a text says, or its first refusal. Want of memory is B10; nothing is said of when it comes.

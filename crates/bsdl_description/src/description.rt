@@ -14,16 +14,10 @@ use crate::first_values::{
     FirstValue, accesses_in, capture_in, cells_in, codes_in, count_of, first_values, names_in,
     opcodes_in, port_of, take,
 };
-use bsdl_entity::Attribute;
-use bsdl_entity::entity::Outline;
-use bsdl_opcodes::own::own_accesses;
-use bsdl_text::Digits;
-use bsdl_text::names::Word;
-use bsdl_values::CellRow;
-use bsdl_values::instructions::names::{AccessRow, OpcodeRow, PrivateName};
-use bsdl_values::instructions::pattern_lists::Patterns;
-use bsdl_values::instructions::patterns::WrittenPattern;
-use bsdl_values::values::Value;
+use bsdl_entity::{Attribute, Outline};
+use bsdl_opcodes::own_accesses;
+use bsdl_text::{Digits, Word};
+use bsdl_values::{AccessRow, CellRow, OpcodeRow, Patterns, PrivateName, Value, WrittenPattern};
 use std::alloc::{AllocError, Global};
 
 /// The ports of the TAP.

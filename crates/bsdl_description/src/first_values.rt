@@ -11,27 +11,23 @@ ghost use Rattle.bsdl_values.specs.View.{value as value_view};
 ghost use Rattle.bsdl_description.specs.FirstValues as spec;
 ghost use Rattle.bsdl_description.specs.FirstView.{AreFirst, kept, with_first};
 
-use bsdl_entity::Attribute;
-use bsdl_entity::items::Given;
-use bsdl_text::Digits;
-use bsdl_text::names::Word;
-use bsdl_values::CellRow;
-use bsdl_values::instructions::names::{AccessRow, OpcodeRow, PrivateName};
-use bsdl_values::instructions::pattern_lists::Patterns;
-use bsdl_values::instructions::patterns::WrittenPattern;
-use bsdl_values::values::{Value, said};
+use bsdl_entity::{Attribute, Given};
+use bsdl_text::{Digits, Word};
+use bsdl_values::{
+    AccessRow, CellRow, OpcodeRow, Patterns, PrivateName, Value, WrittenPattern, said,
+};
 use std::alloc::{AllocError, Global};
 
 /// What the first giving of an attribute says.
 #[derive(Debug, Drop)]
-pub struct FirstValue<'a> {
+pub(crate) struct FirstValue<'a> {
     pub attribute: Attribute,
     pub value: Value<'a>,
 }
 
 /// What the first giving of each attribute says, or the first quote of the first text that says nothing, of whatever
 /// giving. Of a later giving nothing is kept. Refuses for want of memory alone.
-pub fn first_values<'o, 't: 'o>(
+pub(crate) fn first_values<'o, 't: 'o>(
     alloc: Global,
     given: &'o [Given<'t>],
 ) -> Result<Result<Vec<FirstValue<'o>>, usize>, AllocError>
@@ -81,7 +77,7 @@ fn value_of<'s, 'o>(firsts: &'s [FirstValue<'o>], attribute: Attribute) -> Optio
 }
 
 /// The port of the TAP that an attribute names.
-pub fn port_of<'o>(firsts: &[FirstValue<'o>], attribute: Attribute) -> Option<Word<'o>>
+pub(crate) fn port_of<'o>(firsts: &[FirstValue<'o>], attribute: Attribute) -> Option<Word<'o>>
     ensures { option_map (λ w. upper w.text.now) result ≡ spec.as_port (kept firsts.now attribute) }
 {
     match value_of(firsts, attribute) {
@@ -91,7 +87,7 @@ pub fn port_of<'o>(firsts: &[FirstValue<'o>], attribute: Attribute) -> Option<Wo
 }
 
 /// The length that an attribute says.
-pub fn count_of<'o>(firsts: &[FirstValue<'o>], attribute: Attribute) -> Option<Digits<'o>>
+pub(crate) fn count_of<'o>(firsts: &[FirstValue<'o>], attribute: Attribute) -> Option<Digits<'o>>
     ensures { option_map number_value result ≡ spec.as_count (kept firsts.now attribute) }
 {
     match value_of(firsts, attribute) {
@@ -101,7 +97,7 @@ pub fn count_of<'o>(firsts: &[FirstValue<'o>], attribute: Attribute) -> Option<D
 }
 
 /// Takes out what the first giving of an attribute says.
-pub fn take<'o>(firsts: &mut Vec<FirstValue<'o>>, attribute: Attribute) -> Option<Value<'o>>
+pub(crate) fn take<'o>(firsts: &mut Vec<FirstValue<'o>>, attribute: Attribute) -> Option<Value<'o>>
     ensures value { option_map value_view result ≡ kept firsts.old.items attribute }
     ensures others { (a : Attribute) → spec.is_attribute a attribute ≡ false
         → kept firsts.new.items a ≡ kept firsts.old.items a }
@@ -120,7 +116,7 @@ fn place_of(firsts: &[FirstValue<'_>], attribute: Attribute) -> Option<usize>
 }
 
 /// The opcodes, and where their text begins.
-pub fn opcodes_in<'o>(value: Option<Value<'o>>) -> Option<(usize, Vec<OpcodeRow<'o>>)>
+pub(crate) fn opcodes_in<'o>(value: Option<Value<'o>>) -> Option<(usize, Vec<OpcodeRow<'o>>)>
     ensures { option_map {U = ℕ × List rows.OpcodeRow} (λ p. (p.0, map rows_view.opcode_row p.1.items)) result
         ≡ spec.as_opcodes (option_map value_view value.entry) }
 {
@@ -131,7 +127,7 @@ pub fn opcodes_in<'o>(value: Option<Value<'o>>) -> Option<(usize, Vec<OpcodeRow<
 }
 
 /// What the instruction register captures.
-pub fn capture_in(value: Option<Value<'_>>) -> Option<WrittenPattern>
+pub(crate) fn capture_in(value: Option<Value<'_>>) -> Option<WrittenPattern>
     ensures { option_map rows_view.pattern result ≡ spec.as_pattern (option_map value_view value.entry) }
 {
     match value {
@@ -141,7 +137,7 @@ pub fn capture_in(value: Option<Value<'_>>) -> Option<WrittenPattern>
 }
 
 /// The rows of the boundary register.
-pub fn cells_in<'o>(value: Option<Value<'o>>) -> Option<Vec<CellRow<'o>>>
+pub(crate) fn cells_in<'o>(value: Option<Value<'o>>) -> Option<Vec<CellRow<'o>>>
     ensures { option_map {U = List cell_rows.CellRow} (λ v. map cells_view.cell_row v.items) result
         ≡ spec.as_cells (option_map value_view value.entry) }
 {
@@ -152,7 +148,7 @@ pub fn cells_in<'o>(value: Option<Value<'o>>) -> Option<Vec<CellRow<'o>>>
 }
 
 /// The patterns of a code register; none where it is not given.
-pub fn codes_in(alloc: Global, value: Option<Value<'_>>) -> Patterns
+pub(crate) fn codes_in(alloc: Global, value: Option<Value<'_>>) -> Patterns
     ensures { rows_view.patterns result ≡ spec.as_codes (option_map value_view value.entry) }
 {
     match value {
@@ -162,7 +158,7 @@ pub fn codes_in(alloc: Global, value: Option<Value<'_>>) -> Patterns
 }
 
 /// The names of the private instructions; none where they are not given.
-pub fn names_in<'o>(alloc: Global, value: Option<Value<'o>>) -> Vec<PrivateName<'o>>
+pub(crate) fn names_in<'o>(alloc: Global, value: Option<Value<'o>>) -> Vec<PrivateName<'o>>
     ensures { map rows_view.private_name result.items ≡ spec.as_names (option_map value_view value.entry) }
 {
     match value {
@@ -172,7 +168,10 @@ pub fn names_in<'o>(alloc: Global, value: Option<Value<'o>>) -> Vec<PrivateName<
 }
 
 /// The registers, and where their text begins; none at place 0 where they are not given.
-pub fn accesses_in<'o>(alloc: Global, value: Option<Value<'o>>) -> (usize, Vec<AccessRow<'o>>)
+pub(crate) fn accesses_in<'o>(
+    alloc: Global,
+    value: Option<Value<'o>>,
+) -> (usize, Vec<AccessRow<'o>>)
     ensures { (result.0, map rows_view.access_row result.1.items)
         ≡ spec.as_accesses (option_map value_view value.entry) }
 {

@@ -2,6 +2,9 @@
 //! giving says, or the first attribute that is missing; and which ports are the TAP's.
 #![tactic(auto)]
 
-pub mod description;
-pub mod first_values;
-pub mod taps;
+mod description;
+mod first_values;
+mod taps;
+
+pub use description::{Description, Taps, Unfit, describe};
+pub use taps::names_tap;

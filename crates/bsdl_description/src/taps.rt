@@ -5,8 +5,7 @@ ghost use Rattle.bsdl_text.specs.Words.{is_among, upper};
 ghost use Rattle.bsdl_description.specs.View.{taps as taps_view};
 
 use crate::description::Taps;
-use bsdl_text::names::Word;
-use bsdl_text::reading::same_name;
+use bsdl_text::{Word, same_name};
 
 /// Whether a port of this name is one of the TAP's.
 pub fn names_tap(taps: &Taps<'_>, name: &[u8]) -> bool

@@ -10,7 +10,7 @@ ghost use Rattle.bsdl_entity.specs.PortsView as view;
 use crate::ports::Group;
 use crate::scalars::{is_scalar, scalars_of};
 use bsdl_device::NameKey;
-use bsdl_text::names::Word;
+use bsdl_text::Word;
 use std::alloc::{AllocError, Global};
 use std::collections::BTreeMap;
 

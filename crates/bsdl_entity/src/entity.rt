@@ -14,9 +14,8 @@ use crate::items::{Given, behind_word, items};
 use crate::keywords::{END, ENTITY, IS};
 use crate::ports::{Group, read_ports};
 use crate::stops::behind_given;
-use bsdl_text::reading::{Stop, keyword, mark, word};
-use bsdl_text::{Kind, Lexer};
-use bsdl_values::passing::brackets;
+use bsdl_text::{Kind, Lexer, Stop, keyword, mark, word};
+use bsdl_values::brackets;
 use std::alloc::Global;
 
 /// The ports of an entity, and what its attributes say.
@@ -28,7 +27,7 @@ pub struct Outline<'a> {
 
 /// The ports and attributes of a whole description, its texts within quotes as they are written, and the lexer at the
 /// text's end (Annex B.8.1). A text within quotes that says nothing is refused too, at its first quote: here where
-/// other tokens do not fit behind it, else once its value is asked for (`bsdl_values::values::said`).
+/// other tokens do not fit behind it, else once its value is asked for (`bsdl_values::said`).
 ///
 /// Refuses at the first token that does not fit, `None` where the text ends too early; at the first quote of a text
 /// within quotes that says nothing and stands before; at the second number of a range that runs the wrong way; or for

@@ -16,12 +16,8 @@ use crate::asking::Scalars;
 use crate::keywords::{ATTRIBUTE, ATTRIBUTES, IS, OF};
 use crate::ports::Group;
 use crate::stops::{behind_given, behind_value};
-use bsdl_text::Lexer;
-use bsdl_text::names::Word;
-use bsdl_text::reading::{Stop, keyword, mark, same_name, stands_for, word};
-use bsdl_values::Attribute;
-use bsdl_values::passing::past_semi;
-use bsdl_values::values::{Written, read_value};
+use bsdl_text::{Lexer, Stop, Word, keyword, mark, same_name, stands_for, word};
+use bsdl_values::{Attribute, Written, past_semi, read_value};
 use std::alloc::Global;
 
 /// An attribute, and what it is given as.

@@ -3,11 +3,14 @@
 #![tactic(auto)]
 
 mod asking;
-pub mod entity;
-pub mod items;
+mod entity;
+mod items;
 mod keywords;
-pub mod ports;
+mod ports;
 mod scalars;
 mod stops;
 
-pub use bsdl_values::{Attribute, values};
+pub use bsdl_values::Attribute;
+pub use entity::{Outline, read_entity};
+pub use items::Given;
+pub use ports::{Group, Range};

@@ -10,10 +10,9 @@ ghost use Rattle.bsdl_entity.specs.PortsView as view;
 
 use crate::keywords::{DIRECTIONS, KINDS, MODES, PORT};
 use bsdl_device::PortMode;
-use bsdl_text::lists::{Entry, listed, room_for_one};
-use bsdl_text::names::Word;
-use bsdl_text::reading::{Stop, keyword, mark, number, stands, word};
-use bsdl_text::{Digits, Lexer};
+use bsdl_text::{
+    Digits, Entry, Lexer, Stop, Word, keyword, listed, mark, number, room_for_one, stands, word,
+};
 use std::alloc::Global;
 use std::cmp::Ordering;
 
@@ -53,7 +52,10 @@ impl<'a> Entry<'a> for Group<'a> {
 /// The ports of an entity, and the lexer behind them: `port ( group {; group} [;] ) ;` (Annex B.8.3).
 ///
 /// Refuses at the first token that does not fit, or for want of memory.
-pub fn read_ports<'a>(alloc: Global, lexer: Lexer<'a>) -> Result<(Vec<Group<'a>>, Lexer<'a>), Stop>
+pub(crate) fn read_ports<'a>(
+    alloc: Global,
+    lexer: Lexer<'a>,
+) -> Result<(Vec<Group<'a>>, Lexer<'a>), Stop>
     ensures gives { Gives (λ v. view.ports v.items) result (spec.ports (left lexer.entry)) }
     ensures shorter { IfOk result (λ p. length (left p.1) < length (left lexer.entry)) }
 {

@@ -7,7 +7,7 @@ ghost use Rattle.bsdl_entity.specs.Scalars.{first_scalar, scalar_at, tells};
 ghost use Rattle.bsdl_entity.specs.PortsView as view;
 
 use crate::ports::Group;
-use bsdl_text::names::Word;
+use bsdl_text::Word;
 use std::alloc::{AllocError, Global};
 use std::collections::BTreeMap;
 

@@ -4,8 +4,8 @@ ghost use Rattle.bsdl_entity.specs.GivenView.{first_unsaid};
 ghost use Rattle.bsdl_entity.specs.Stopping.{StopsBehind};
 
 use crate::items::Given;
-use bsdl_text::reading::Stop;
-use bsdl_values::values::{Written, said};
+use bsdl_text::Stop;
+use bsdl_values::{Written, said};
 use std::alloc::Global;
 
 /// Where reading stops that would stop here behind a value.

@@ -14,8 +14,8 @@ ghost use Rattle.bsdl_lookup.specs.View.{numbered_port as port_view, port_index}
 
 use crate::numbered_ports::{NumberedPort, port_index_at};
 use crate::port_index::PortIndex;
-use bsdl_entity::ports::{Group, Range};
-use bsdl_text::names::Word;
+use bsdl_entity::{Group, Range};
+use bsdl_text::Word;
 use bsdl_values::PortName;
 use name_keys::NameKey;
 use std::alloc::{AllocError, Global};

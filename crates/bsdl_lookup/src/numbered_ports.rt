@@ -7,7 +7,7 @@ ghost use Rattle.bsdl_lookup.specs.NamedPorts as spec;
 ghost use Rattle.bsdl_lookup.specs.View.{numbered_port as port_view, port_index};
 
 use crate::port_index::PortIndex;
-use bsdl_entity::ports::Range;
+use bsdl_entity::Range;
 use bsdl_text::Digits;
 use std::cmp::Ordering;
 

@@ -13,9 +13,8 @@ ghost use Rattle.bsdl_opcodes.specs.Accesses as spec;
 use crate::patterns::bits_of;
 use crate::users::Users;
 use bsdl_device::{Access, Place};
-use bsdl_text::reading::same_name;
-use bsdl_values::instructions::names::{AccessRow, Instr};
-use bsdl_values::instructions::patterns::WrittenPattern;
+use bsdl_text::same_name;
+use bsdl_values::{AccessRow, Instr, WrittenPattern};
 use jt_bits::Bits;
 use std::alloc::{AllocError, Global};
 

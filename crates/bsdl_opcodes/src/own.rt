@@ -8,9 +8,8 @@ ghost use Rattle.bsdl_opcodes.specs.Own as spec;
 ghost use Rattle.bsdl_text.specs.Words as words;
 ghost use Rattle.bsdl_opcodes.specs.NameSets.{has_some, is_own_by, opcode_named, private_named, row_with};
 
-use bsdl_text::names::Word;
-use bsdl_text::reading::stands_for;
-use bsdl_values::instructions::names::{AccessRow, Instr, OpcodeRow, PrivateName};
+use bsdl_text::{Word, stands_for};
+use bsdl_values::{AccessRow, Instr, OpcodeRow, PrivateName};
 use name_keys::NameKey;
 use std::alloc::{AllocError, Global};
 use std::collections::BTreeSet;

@@ -6,8 +6,7 @@ ghost use Rattle.bsdl_values.specs.InstructionView as rows_view;
 ghost use Rattle.bsdl_opcodes.specs.ResetOpcode.{opcode};
 
 use bsdl_device::{Names, Opcode, Pattern};
-use bsdl_values::instructions::names::{OpcodeRow, PrivateName};
-use bsdl_values::instructions::pattern_lists::Patterns;
+use bsdl_values::{OpcodeRow, Patterns, PrivateName};
 use jt_bits::Bits;
 use std::alloc::{AllocError, Global};
 

@@ -9,8 +9,8 @@ ghost use Rattle.bsdl_values.specs.InstructionValues.{bit, one_digit, pattern_of
 ghost use Rattle.bsdl_values.specs.InstructionView as rows_view;
 ghost use Rattle.bsdl_opcodes.specs.ResetOpcode as spec;
 
-use bsdl_text::reading::same_name;
-use bsdl_values::instructions::names::OpcodeRow;
+use bsdl_text::same_name;
+use bsdl_values::OpcodeRow;
 
 /// Whether the opcode that a reset loads, if there is one, names IDCODE.
 pub fn resets_to_idcode(rows: &[OpcodeRow<'_>]) -> bool

@@ -7,9 +7,8 @@ ghost use Rattle.bsdl_values.specs.InstructionView as rows_view;
 ghost use Rattle.bsdl_opcodes.specs.Users as spec;
 ghost use Rattle.bsdl_opcodes.specs.UserView.{Lists};
 
-use bsdl_text::Digits;
-use bsdl_text::names::Word;
-use bsdl_values::instructions::names::AccessRow;
+use bsdl_text::{Digits, Word};
+use bsdl_values::AccessRow;
 use std::alloc::{AllocError, Global};
 use std::collections::BTreeMap;
 

@@ -10,12 +10,10 @@ ghost use Rattle.bsdl_rules.specs.Twice as spec;
 ghost use Rattle.bsdl_rules.specs.NamingView.{again, named};
 
 use crate::naming::{Again, earlier_again, first_again};
-use bsdl_description::description::Description;
-use bsdl_entity::entity::Outline;
-use bsdl_entity::items::Given;
-use bsdl_entity::ports::Group;
-use bsdl_text::names::Word;
-use bsdl_values::instructions::names::{AccessRow, Instr, OpcodeRow};
+use bsdl_description::Description;
+use bsdl_entity::{Given, Group, Outline};
+use bsdl_text::Word;
+use bsdl_values::{AccessRow, Instr, OpcodeRow};
 use std::alloc::{AllocError, Global};
 
 fn port_names<'g, 'a>(

@@ -7,9 +7,8 @@ ghost use Rattle.bsdl_values.specs.InstructionView as rows_view;
 ghost use Rattle.bsdl_rules.specs.Agreeing.{agrees, row_agrees, with_row_length};
 ghost use Rattle.bsdl_rules.specs.Lengths as spec;
 
-use bsdl_text::Digits;
-use bsdl_text::names::Word;
-use bsdl_values::instructions::names::AccessRow;
+use bsdl_text::{Digits, Word};
+use bsdl_values::AccessRow;
 use std::alloc::{AllocError, Global};
 use std::cmp::Ordering;
 use std::collections::BTreeMap;

@@ -12,11 +12,9 @@ ghost use Rattle.bsdl_lookup.specs.Drivers.{driver_at, is_below};
 ghost use Rattle.bsdl_rules.specs.Fits as spec;
 ghost use Rattle.bsdl_rules.specs.Holds.{AreControls};
 
-use bsdl_description::description::Taps;
-use bsdl_description::taps::names_tap;
+use bsdl_description::{Taps, names_tap};
 use bsdl_device::Function;
-use bsdl_lookup::drivers::Drivers;
-use bsdl_lookup::port_index::PortIndex;
+use bsdl_lookup::{Drivers, PortIndex};
 use bsdl_text::Digits;
 use bsdl_values::{CellRow, Controlling, PortName};
 use jt_limits::{ABOVE_SUBSCRIPTS, SUBSCRIPT_LIMIT};

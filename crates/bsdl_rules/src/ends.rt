@@ -5,8 +5,7 @@ ghost use Rattle.bsdl_values.specs.InstructionView as rows_view;
 ghost use Rattle.bsdl_rules.specs.Lengths as spec;
 ghost use Rattle.bsdl_rules.specs.Sizes.{is_bit};
 
-use bsdl_values::instructions::pattern_lists::Patterns;
-use bsdl_values::instructions::patterns::WrittenPattern;
+use bsdl_values::{Patterns, WrittenPattern};
 
 /// Whether the two rightmost bits that the instruction register captures are 01.
 #[tactic(auto, using(crate::proofs::EndLaws::captures_by_bits))]

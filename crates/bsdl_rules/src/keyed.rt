@@ -15,12 +15,11 @@ ghost use Rattle.bsdl_rules.specs.Fits as spec;
 ghost use Rattle.bsdl_rules.specs.Holds.{HoldsByKey};
 
 use crate::cell_rows::{control_fits, has_no_port, port_index_fits};
-use bsdl_description::description::{Description, Taps};
-use bsdl_entity::entity::Outline;
-use bsdl_lookup::controls::controls_of;
-use bsdl_lookup::drivers::{Drivers, drivers_by_key};
-use bsdl_lookup::keyed_ports::{KeyedPorts, keyed_ports_of, port_index_by_key};
-use bsdl_lookup::table::Table;
+use bsdl_description::{Description, Taps};
+use bsdl_entity::Outline;
+use bsdl_lookup::{
+    Drivers, KeyedPorts, Table, controls_of, drivers_by_key, keyed_ports_of, port_index_by_key,
+};
 use bsdl_values::CellRow;
 use jt_limits::{ABOVE_SUBSCRIPTS, SUBSCRIPT_LIMIT};
 use std::alloc::{AllocError, Global};

@@ -10,11 +10,9 @@ ghost use Rattle.bsdl_rules.specs.Lengths as spec;
 ghost use Rattle.bsdl_rules.specs.Sizes.{IsSize, captures_are, is_len};
 
 use crate::agreeing::agree;
-use bsdl_description::description::Description;
-use bsdl_text::Digits;
-use bsdl_text::reading::same_name;
-use bsdl_values::instructions::names::{AccessRow, Instr, OpcodeRow};
-use bsdl_values::instructions::pattern_lists::Patterns;
+use bsdl_description::Description;
+use bsdl_text::{Digits, same_name};
+use bsdl_values::{AccessRow, Instr, OpcodeRow, Patterns};
 use std::alloc::{AllocError, Global};
 
 /// Whether every length fits: instructions have two bits at least, the boundary register one, codes 32; patterns are as

@@ -3,11 +3,17 @@
 //! the limits of this project (docs/bsdl.md).
 #![tactic(auto)]
 
-pub mod again;
+mod again;
 mod agreeing;
 mod cell_rows;
-pub mod ends;
-pub mod keyed;
-pub mod lengths;
-pub mod limits;
-pub mod naming;
+mod ends;
+mod keyed;
+mod lengths;
+mod limits;
+mod naming;
+
+pub use again::given_again;
+pub use ends::{captures_one, ends_in_one};
+pub use keyed::{KnownByKey, known_by_key, unfit_cell_by_key};
+pub use lengths::lengths_fit;
+pub use limits::is_within_limits;

@@ -13,10 +13,9 @@ ghost use Rattle.bsdl_opcodes.specs.Users.{users_of};
 ghost use Rattle.bsdl_opcodes.specs.UserView.{Lists};
 ghost use Rattle.bsdl_rules.specs.Widths.{capped_width};
 
-use bsdl_description::description::Description;
-use bsdl_entity::entity::Outline;
-use bsdl_entity::ports::{Group, Range};
-use bsdl_opcodes::users::Users;
+use bsdl_description::Description;
+use bsdl_entity::{Group, Outline, Range};
+use bsdl_opcodes::Users;
 use bsdl_text::Digits;
 use bsdl_values::CellRow;
 use jt_limits::{ABOVE_SUBSCRIPTS, LIMITS, SUBSCRIPT_LIMIT};

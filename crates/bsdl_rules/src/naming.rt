@@ -9,7 +9,7 @@ ghost use Rattle.bsdl_text.specs.Words.{upper};
 ghost use Rattle.bsdl_rules.specs.NamingView.{again, named, naming};
 ghost use Rattle.name_keys.specs.Keys.{key_order};
 
-use bsdl_text::names::Word;
+use bsdl_text::Word;
 use name_keys::NameKey;
 use std::alloc::{AllocError, Global};
 use std::collections::{BTreeMap, BTreeSet};
@@ -17,7 +17,7 @@ use std::collections::{BTreeMap, BTreeSet};
 /// The place of a name: that of a token of the text, or that of the first quote of a text within quotes and the byte
 /// within it.
 #[derive(Debug, Clone, Copy, PartialEq, Eq)]
-pub struct Position {
+struct Position {
     pub outer: usize,
     pub within: usize,
 }
@@ -41,7 +41,7 @@ impl Position {
 
 /// A name that is given at a place.
 #[derive(Debug, Clone, Copy)]
-pub struct Naming<'a> {
+struct Naming<'a> {
     pub name: Word<'a>,
     pub position: Position,
 }
@@ -65,13 +65,13 @@ fn earlier<'a>(one: Option<Naming<'a>>, other: Option<Naming<'a>>) -> Option<Nam
 
 /// A name that is given again, as it is spelt there.
 #[derive(Debug, Drop)]
-pub struct Again {
+pub(crate) struct Again {
     pub name: String,
     pub position: Position,
 }
 
 /// The earlier of two.
-pub fn earlier_again(one: Option<Again>, other: Option<Again>) -> Option<Again>
+pub(crate) fn earlier_again(one: Option<Again>, other: Option<Again>) -> Option<Again>
     ensures { option_map again result ≡ either (option_map again one) (option_map again other) }
 {
     match (one, other) {
@@ -108,7 +108,7 @@ fn naming_at<'a>(quote: Option<usize>, name: Word<'a>) -> Naming<'a>
 /// itself, or in the text within quotes of which the first stands at `quote`. Refuses for want of memory alone.
 ///
 /// The words are lent, eight bytes each: a text of 4 MiB may have two million.
-pub fn first_again(
+pub(crate) fn first_again(
     alloc: Global,
     quote: Option<usize>,
     names: &[&Word<'_>],

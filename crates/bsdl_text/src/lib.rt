@@ -4,12 +4,19 @@
 #![tactic(auto)]
 
 mod digits;
-pub mod laws;
-pub mod lists;
-pub mod names;
-pub mod reading;
-pub mod strings;
-pub mod tokens;
+mod laws;
+mod lists;
+mod names;
+mod reading;
+mod strings;
+mod tokens;
 
 pub use digits::Digits;
+pub use laws::names_match_in_any_case;
+pub use lists::{Entry, listed, room_for_one};
+pub use names::Word;
+pub use reading::{
+    Stop, closes, is_over, keyword, mark, number, same_name, stands, stands_for, word,
+};
+pub use strings::joined_text;
 pub use tokens::{Kind, Lexer, Token, bad_byte};

@@ -48,7 +48,7 @@ pub fn word<'a>(lexer: Lexer<'a>) -> Result<(Word<'a>, Lexer<'a>), Stop>
 }
 
 /// A string, and the lexer behind it. Refuses at the next token where it is none, or at the text's end.
-pub fn string<'a>(lexer: Lexer<'a>) -> Result<(Token<'a>, Lexer<'a>), Stop>
+pub(crate) fn string<'a>(lexer: Lexer<'a>) -> Result<(Token<'a>, Lexer<'a>), Stop>
     ensures gives { Gives lexeme result (spec.string (left lexer.entry)) }
     ensures shorter { IfOk result (λ p. length (left p.1) < length (left lexer.entry)) }
     ensures misfit { StopsAtMisfit result }
@@ -78,7 +78,7 @@ pub fn mark<'a>(lexer: Lexer<'a>, byte: u8) -> Result<Lexer<'a>, Stop>
 }
 
 /// The lexer behind this mark, where it stands next: `mark` and `stands` by one look.
-pub fn behind<'a>(lexer: Lexer<'a>, byte: u8) -> Option<Lexer<'a>>
+pub(crate) fn behind<'a>(lexer: Lexer<'a>, byte: u8) -> Option<Lexer<'a>>
     ensures stands { is_some result ≡ spec.stands byte (left lexer.entry) }
     ensures passes { IfSome result (λ l. (t : Lexeme) × (spec.mark byte (left lexer.entry) ≡ spec.fits t (left l))) }
     ensures shorter { IfSome result (λ l. length (left l) < length (left lexer.entry)) }

@@ -10,10 +10,9 @@ ghost use Rattle.bsdl_values.specs.CellView as view;
 
 use crate::cells::keywords::{BITS, DISABLED, FUNCTIONS, SAFE};
 use bsdl_device::{Disabled, Function};
-use bsdl_text::lists::Entry;
-use bsdl_text::names::Word;
-use bsdl_text::reading::{Stop, keyword, mark, number, stands, word};
-use bsdl_text::{Digits, Kind, Lexer, Token};
+use bsdl_text::{
+    Digits, Entry, Kind, Lexer, Stop, Token, Word, keyword, mark, number, stands, word,
+};
 use std::alloc::Global;
 
 mod keywords;

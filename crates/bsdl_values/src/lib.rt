@@ -6,10 +6,16 @@
 pub use cells::{CellRow, Controlling, PortName};
 
 mod cells;
-pub mod instructions;
+mod instructions;
 mod keywords;
-pub mod passing;
-pub mod values;
+mod passing;
+mod values;
+
+pub use instructions::{
+    AccessRow, Instr, OpcodeRow, PatternIter, Patterns, PrivateName, WrittenPattern,
+};
+pub use passing::{brackets, past_semi};
+pub use values::{Language, Quoted, Value, Written, read_value, said};
 
 /// An attribute that says something of a device.
 #[derive(Debug, Clone, Copy, PartialEq, Eq)]

@@ -4,8 +4,7 @@ ghost use Rattle.bsdl_text.specs.Left.{left};
 ghost use Rattle.bsdl_text.specs.View.{Passes, StopsAtMisfit};
 ghost use Rattle.bsdl_values.specs.Passing as spec;
 
-use bsdl_text::Lexer;
-use bsdl_text::reading::{Stop, mark, stands};
+use bsdl_text::{Lexer, Stop, mark, stands};
 
 /// The lexer behind tokens between matching brackets.
 ///

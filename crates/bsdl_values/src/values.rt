@@ -15,11 +15,9 @@ use crate::instructions::pattern_lists::Patterns;
 use crate::instructions::patterns::WrittenPattern;
 use crate::keywords::TRUTHS;
 use crate::passing::brackets;
-use bsdl_text::lists::{Entry, listed};
-use bsdl_text::names::Word;
-use bsdl_text::reading::{Stop, is_over, keyword, number};
-use bsdl_text::strings::joined_text;
-use bsdl_text::{Digits, Lexer, bad_byte};
+use bsdl_text::{
+    Digits, Entry, Lexer, Stop, Word, bad_byte, is_over, joined_text, keyword, listed, number,
+};
 use std::alloc::{AllocError, Global};
 
 /// What the text of an attribute is written in.
@@ -85,10 +83,7 @@ pub enum Value<'a> {
 }
 
 /// What a text within quotes says as rows: `None` where it says nothing. Refuses for want of memory alone.
-pub fn rows_of<'a, E: Entry<'a>>(
-    alloc: Global,
-    text: &'a [u8],
-) -> Result<Option<Vec<E>>, AllocError>
+fn rows_of<'a, E: Entry<'a>>(alloc: Global, text: &'a [u8]) -> Result<Option<Vec<E>>, AllocError>
     ensures { IfOk result (λ o. option_map (λ v. map E.seen v.items) o ≡ quoted_value (rows.rows E.says) text.now) }
 {
     if bad_byte(text, true).is_some() {
@@ -108,7 +103,7 @@ pub fn rows_of<'a, E: Entry<'a>>(
 }
 
 /// What a text within quotes says as one entry: `None` where it says nothing. Refuses for want of memory alone.
-pub fn entry_of<'a, E: Entry<'a>>(alloc: Global, text: &'a [u8]) -> Result<Option<E>, AllocError>
+fn entry_of<'a, E: Entry<'a>>(alloc: Global, text: &'a [u8]) -> Result<Option<E>, AllocError>
     ensures { IfOk result (λ o. option_map E.seen o ≡ quoted_value E.says text.now) }
 {
     if bad_byte(text, true).is_some() {

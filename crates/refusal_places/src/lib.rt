@@ -11,7 +11,7 @@ pub use output_words::Position;
 pub use text_positions::{StatementPositions, position_of, statement_position};
 
 mod lines;
-pub mod text_positions;
+mod text_positions;
 
 /// Refusals with their second lines.
 pub fn places_compute()

@@ -11,8 +11,13 @@ use crate::scan::first_token;
 use thiserror::Error;
 
 mod lanes;
-pub mod laws;
+mod laws;
 mod scan;
+
+pub use laws::{
+    a_text_has_one_cutting, the_lexer_gives_the_tokens, tokens_and_gaps_join_to_the_text,
+    tokens_are_slices_in_order, tokens_with_gaps_are_the_cut,
+};
 
 /// What a token is.
 #[derive(Debug, Clone, Copy, PartialEq, Eq)]

@@ -10,8 +10,7 @@ ghost use Rattle.svf_parse.specs.FormView.{digits_of, fields, given};
 
 use std::alloc::{AllocError, Global};
 use svf_lex::Lexer;
-use svf_words::keywords::{FieldName, field_of};
-use svf_words::words::{is_close, is_open, take_word};
+use svf_words::{FieldName, field_of, is_close, is_open, take_word};
 
 /// The hexadecimal digits of a field as they are written: one run of the text, or any number of runs, joined.
 #[derive(Drop)]

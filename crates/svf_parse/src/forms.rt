@@ -15,8 +15,7 @@ use crate::fields::{Fields, take_fields};
 use jt_tap::State;
 use std::alloc::{AllocError, Global};
 use svf_lex::Lexer;
-use svf_words::keywords::{TrstWord, state_of, trst_of};
-use svf_words::words::{is_number, reads, take_word};
+use svf_words::{TrstWord, is_number, reads, state_of, take_word, trst_of};
 
 /// One state.
 #[tactic(auto, unfolding(crate::specs::Forms::one_state))]

@@ -24,8 +24,7 @@ use crate::statement::Statement;
 use jt_bits::{Bits, digits_have_one_beyond, is_hexadecimal};
 use std::alloc::Global;
 use svf_lex::Lexer;
-use svf_words::keywords::{Clock, Command, Which};
-use svf_words::{Code, count, length, length_value, period, time};
+use svf_words::{Clock, Code, Command, Which, count, length, length_value, period, time};
 
 /// Adds the statement of this command and the words at the lexer, or gives the refusal with the lowest number among its
 /// own. The lexer stands behind the words that were read for its form, also where they have none. What is read goes

@@ -8,15 +8,19 @@
 
 mod fault;
 mod fields;
-pub mod form_laws;
+mod form_laws;
 mod forms;
 mod judging;
-pub mod laws;
+mod laws;
 mod run_test;
 mod statement;
 mod text;
 
+pub use form_laws::forms_are_read_as_they_are_written;
+pub use laws::{
+    a_field_has_the_value_of_its_digits, a_text_is_judged_once, texts_are_limited,
+    the_lowest_refusal_is_told,
+};
 pub use statement::Statement;
-pub use svf_words::keywords::{TrstWord, Which};
-pub use svf_words::{Code, SvfFault};
+pub use svf_words::{Code, SvfFault, TrstWord, Which};
 pub use text::{lexer_of, next_statement, parse};

@@ -10,8 +10,7 @@ ghost use Rattle.svf_words.specs.declared.keywords.Clock as declared_clock;
 
 use jt_tap::State;
 use svf_lex::Lexer;
-use svf_words::keywords::{Clock, clock_of, state_of};
-use svf_words::words::{is_number, reads, take_word};
+use svf_words::{Clock, clock_of, is_number, reads, state_of, take_word};
 
 /// A RUNTEST as it is written: each number as its word.
 #[derive(Drop, Clone, Copy)]

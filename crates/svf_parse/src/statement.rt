@@ -1,7 +1,7 @@
 //! The statements.
 use jt_bits::Bits;
 use jt_tap::State;
-use svf_words::keywords::{TrstWord, Which};
+use svf_words::{TrstWord, Which};
 
 /// A statement of SVF text, as it stands for itself.
 #[derive(Debug, Drop)]

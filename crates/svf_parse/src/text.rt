@@ -22,8 +22,7 @@ use crate::statement::Statement;
 use jt_limits::LIMITS;
 use std::alloc::Global;
 use svf_lex::{Kind, LexFault, Lexer};
-use svf_words::keywords::command_of;
-use svf_words::{Code, SvfFault};
+use svf_words::{Code, SvfFault, command_of};
 
 /// A text has at most so many bytes: 16 MiB.
 const TEXT_LIMIT: usize = LIMITS.text_bytes;

@@ -5,11 +5,19 @@
 #![tactic(auto)]
 
 mod fault;
-pub mod keywords;
-pub mod laws;
-pub mod number_laws;
+mod keywords;
+mod laws;
+mod number_laws;
 mod numbers;
-pub mod words;
+mod words;
 
 pub use fault::{Code, SvfFault};
+pub use keywords::{
+    Clock, Command, FieldName, TrstWord, Which, clock_of, command_of, field_of, state_of, trst_of,
+};
+pub use laws::keywords_are_read_in_any_case;
+pub use number_laws::{
+    measures_are_exact, numbers_are_limited, numbers_are_read_as_they_are_written,
+};
 pub use numbers::{count, length, length_value, period, time};
+pub use words::{is_close, is_number, is_open, reads, take_word};

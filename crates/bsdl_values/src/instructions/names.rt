@@ -10,10 +10,7 @@ ghost use Rattle.bsdl_values.specs.InstructionView as view;
 
 use crate::instructions::pattern_lists::{Patterns, bracketed_patterns};
 use crate::instructions::patterns::{WrittenPattern, bracketed, digits_of};
-use bsdl_text::lists::Entry;
-use bsdl_text::names::Word;
-use bsdl_text::reading::{Stop, mark, number, same_name, stands, word};
-use bsdl_text::{Digits, Lexer};
+use bsdl_text::{Digits, Entry, Lexer, Stop, Word, mark, number, same_name, stands, word};
 use std::alloc::Global;
 
 /// A row of the opcodes: `name (pattern {, pattern})`.

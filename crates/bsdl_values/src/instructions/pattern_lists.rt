@@ -13,9 +13,7 @@ ghost use Rattle.bsdl_values.specs.InstructionValues as spec;
 ghost use Rattle.bsdl_values.specs.InstructionView as view;
 
 use crate::instructions::patterns::{WrittenPattern, digits_of};
-use bsdl_text::Lexer;
-use bsdl_text::lists::Entry;
-use bsdl_text::reading::{Stop, closes, mark};
+use bsdl_text::{Entry, Lexer, Stop, closes, mark};
 use std::alloc::{AllocError, Global};
 use std::marker::Model;
 

@@ -7,9 +7,7 @@ ghost use Rattle.bsdl_device.specs.Device as device;
 ghost use Rattle.bsdl_values.specs.InstructionView as view;
 ghost use Rattle.std.specs.List.{list_all};
 
-use bsdl_text::Lexer;
-use bsdl_text::lists::{Entry, listed};
-use bsdl_text::reading::{Stop, mark};
+use bsdl_text::{Entry, Lexer, Stop, listed, mark};
 use std::alloc::Global;
 
 /// A pattern as it is written: digits `0`, `1`, `X` and `x`, the rightmost of which is bit 0.

@@ -7,7 +7,7 @@ ghost use Rattle.refusal_places.specs.TextRows.{StatementRows, OffsetRows};
 pub fn a_statement_stands_at_its_first_token()
     ensures { PositionOfFirstToken }
 {
-    svf_lex::laws::the_lexer_gives_the_tokens();
+    svf_lex::the_lexer_gives_the_tokens();
 }
 
 /// Where the statements of these texts start, and where bytes of them stand.

@@ -34,7 +34,7 @@ impl<'a> StatementPositions<'a> {
     pub fn new(text: &'a [u8]) -> StatementPositions<'a>
         ensures { left_of result ≡ spec.places_of text.now }
     {
-        svf_lex::laws::tokens_are_slices_in_order();
+        svf_lex::tokens_are_slices_in_order();
         StatementPositions {
             text,
             lexer: Lexer::new(text),
