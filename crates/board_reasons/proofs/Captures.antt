@@ -14,7 +14,7 @@ use Rattle.board_model.specs.Nets.{told}
 use Rattle.board_model.specs.Following.{AllDriveAlike, DrivesAlike, BitsInForceStay}
 use Rattle.board_reasons.specs.Laws.{CaptureKeepsLevels}
 
-latch_stays : (s : Selected) (bits : List Bool) (r : Registers) → r.latch ≡ (with_stage s bits r).latch
+pub latch_stays : (s : Selected) (bits : List Bool) (r : Registers) → r.latch ≡ (with_stage s bits r).latch
 latch_stays Bypass bits r = refl
 latch_stays Identification bits r = refl
 latch_stays Boundary bits r = refl

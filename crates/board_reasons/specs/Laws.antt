@@ -1,7 +1,6 @@
 -- What it means that a bit came from there: it is that bit, and it turns with that bit and with no other.
 use Rattle.std.specs.Prelude.{◌≡◌, ◌≢◌, Bool, true, not, ℕ, ◌<◌, List, [], length, slice_get, Option, Some, None}
-use Rattle.std.specs.Prelude.{codes, option_map}
-use Rattle.jt_bits.specs.Words.{bit_of}
+use Rattle.std.specs.Prelude.{codes, false, option_map, unwrap_or}
 use Rattle.jt_tap.specs.declared.Column.{Column}
 use Rattle.jt_tap.specs.declared.Column.TheVariants.{Dr}
 use Rattle.scan_vectors.specs.declared.failures.Mismatch.{Mismatch}
@@ -73,11 +72,15 @@ CaptureKeepsLevels =
     (column : Column) (m : AtRest) (net : Net)
     → level m.nets (capture column m).members net ≡ level m.nets m.members net
 
+-- a bit of a list, 0 beyond its end
+abbrev pub bit_at : List Bool → ℕ → Bool
+bit_at bits k = unwrap_or (slice_get bits k) false
+
 -- The bit that a cell captured, by what is told of it: its bit of the core or of the update stage, what the level of
 -- its port's net reads as, or what its port sees where that is on no net with a name.
 abbrev pub bit_told : Told → Member → (cell : ℕ) → (port : Option ℕ) → Captured → Bool
-bit_told about m cell port Core = bit_of about.core cell
-bit_told about m cell port Update = bit_of m.registers.update cell
+bit_told about m cell port Core = bit_at about.core cell
+bit_told about m cell port Update = bit_at m.registers.update cell
 bit_told about m cell port (Sight (Some shown)) = reads shown.level
 bit_told about m cell port (Sight None) = seen_at about.sight port
 
