@@ -8,7 +8,7 @@ use Rattle.board_model.specs.Cells.{Member}
 use Rattle.board_model.specs.Chain.{members}
 use Rattle.play_model.specs.Endings.{verdict_line}
 use Rattle.play_model.specs.declared.ending.Ending.{Ending}
-use Rattle.play_model.specs.declared.ending.Ending.TheVariants.{Fail}
+use Rattle.play_model.specs.declared.ending.Ending.TheVariants.{Fail, Lost, BadAnswer}
 use Rattle.play_model.specs.declared.kind.Kind.{Kind}
 use Rattle.play_model.specs.declared.kind.Kind.TheVariants.{Stops, PlaysOn}
 use Rattle.output_words.specs.Lines.{position_line, total_line}
@@ -56,13 +56,22 @@ lines_known (InProgram program) f = lines_in_program program.now.steps f
 abbrev pub lines_of_failure : (why : Mismatch → List ℕ) → Option Position → Mismatch → List ℕ
 lines_of_failure why position f = mismatch_line f ++ (at_line position ++ why f)
 
+-- How a play ended in which no bit failed, and where the statement starts in which it was lost or got a byte that is no
+-- answer.
+abbrev pub ended_lines : (text : List ℕ) → Ending → List ℕ
+ended_lines text (Lost command) = verdict_line (Lost command) ++ at_line (statement_position text command)
+ended_lines text (BadAnswer command byte) =
+    verdict_line (BadAnswer command byte) ++ at_line (statement_position text command)
+ended_lines text ending = verdict_line ending
+
 module _ (text : List ℕ) (why : Mismatch → List ℕ) where
   abbrev pub failure_lines : Mismatch → List ℕ
   failure_lines f = lines_of_failure why (statement_position text f.command) f
 
-  -- As a play tells without them how it ended and what it found, and behind the line of each failing bit why.
+  -- As a play tells without them how it ended and what it found, behind the line of each failing bit why, and behind
+  -- that of a play that was lost or got a bad answer where.
   abbrev pub explained_lines : Kind → Ending → Found → List ℕ
   explained_lines PlaysOn (Fail command part bit) found = flat_map failure_lines found.list ++ total_line found.total
   explained_lines Stops (Fail command part bit) found =
       failure_lines (record { command = command; part = part; bit = bit })
-  explained_lines kind ending found = verdict_line ending
+  explained_lines kind ending found = ended_lines text ending
