@@ -1,4 +1,5 @@
-"""What `describe` prints of a board: its devices from TDO on with their instructions and cells, its nets, its chain."""
+"""What `describe` prints of a board: its devices from TDO on with their cores, ports, instructions and cells, its nets,
+and where the registers of each device lie in the joined ones."""
 
 from __future__ import annotations
 
@@ -12,12 +13,19 @@ def describe(board: Board, tree: dict) -> str:
     nets = {pin: net.name for net in reversed(board.nets) for pin in net.pins}
     lines = []
     for place, (part, table) in enumerate(zip(board.parts, tree["device"])):
-        lines += device_lines(part, table["bsdl"])
+        lines.append(device_line(part, table["bsdl"]))
+        lines += setting_lines(part, nets, place)
+        lines += instruction_lines(part)
         lines += [cell_line(part, cell, nets, place) for cell in part.device.cells]
     for net in board.nets:
         pins = "".join(f" {board.parts[place].name}.{spelt(port)}" for place, port in net.pins)
         lines.append(f"net {net.name} pull {net.pull}{pins}")
     devices = [part.device for part in board.parts]
+    instruction = boundary = 0
+    for part in board.parts:
+        lines.append(f"{part.name} first instruction bit {instruction} first boundary bit {boundary}")
+        instruction += len(part.device.capture)
+        boundary += len(part.device.cells)
     lines.append(f"chain {len(devices)} devices, {sum(len(device.capture) for device in devices)} instruction bits, "
                  f"{sum(len(device.cells) for device in devices)} boundary bits")
     return "".join(line + "\n" for line in lines)
@@ -28,14 +36,36 @@ def spelt(port: tuple) -> str:
     return name if subscript is None else f"{name}({subscript})"
 
 
-def device_lines(part: Part, file: str) -> list[str]:
+def device_line(part: Part, file: str) -> str:
     device = part.device
     code = device.codes.get("IDCODE")
     code = "none" if code is None else f"0x{int(code.replace('X', '0'), 2):08X}"
     reset = bsdl.instruction(device.opcodes, device.reset_latch()) or "-"
     capture = device.capture.replace("X", "0")
-    lines = [f"{part.name} bsdl {file.translate(WORDS_BY_ESCAPE)} length {len(capture)} capture {capture} reset {reset} "
-             f"idcode {code} trst {'yes' if device.has_trst else 'no'}"]
+    return (f"{part.name} bsdl {file.translate(WORDS_BY_ESCAPE)} length {len(capture)} capture {capture} reset {reset} "
+            f"idcode {code} trst {'yes' if device.has_trst else 'no'}")
+
+
+def setting_lines(part: Part, nets: dict, place: int) -> list[str]:
+    """The user code, the core (cell 0 last), the strings that it follows, and the port bits."""
+    device, lines = part.device, []
+    if (code := device.codes.get("USERCODE")) is not None:
+        lines.append(f"{part.name} usercode 0x{int(code.replace('X', '0'), 2):08X}")
+    core = "".join(str(bit) for bit in reversed(part.core))
+    lines.append(f"{part.name} core {core} extest {'update' if part.extest_update else 'core'}")
+    for string in part.follows:
+        target = device.cells[string.cell].port
+        lines.append(f"{part.name} follow {spelt(target)} = {'!' if string.inverted else ''}{spelt(string.source)}")
+    for name, subscripts in device.ports.items():
+        for port in [(name, None)] if subscripts is None else [(name, subscript) for subscript in sorted(subscripts)]:
+            net = nets.get((place, port))
+            reach = "tap" if name in device.taps else f"net {net}" if net else "no net"
+            lines.append(f"{part.name} port {spelt(port)} {device.modes[name].lower()} {reach}")
+    return lines
+
+
+def instruction_lines(part: Part) -> list[str]:
+    device, lines = part.device, []
     for row in device.opcodes:
         end = " stands for BYPASS" if device.is_left_out(row.name) else ""
         lines += [f"{part.name} instruction {row.name} {pattern} register {register(device, row.name)}{end}"

@@ -8,5 +8,7 @@ described_rows = record {
   device_row = rw (decimal_digit 3 (omega arith)) refl;
   instructions = rw (decimal_digit 4 (omega arith)) refl;
   cells = rw (decimal_digit 0 (omega arith), decimal_digit 1 (omega arith), decimal_digit 2 (omega arith), decimal_digit 3 (omega arith)) refl;
-  wiring = rw (decimal_digit 0 (omega arith), decimal_digit 2 (omega arith), decimal_digit 6 (omega arith), decimal_digit 8 (omega arith)) refl;
+  settings = rw (decimal_digit 0 (omega arith)) refl;
+  no_usercode = refl;
+  wiring = rw (decimal_digit 0 (omega arith), decimal_digit 4 (omega arith), decimal_digit 3 (omega arith), decimal_digit 2 (omega arith), decimal_digit 6 (omega arith), decimal_digit 8 (omega arith)) refl;
 }

@@ -1,6 +1,6 @@
 -- Texts that grow, and the registers that instructions select.
 use Rattle.std.proofs.Common.{◌≡◌, ◌<◌, ◌≤◌, ℕ, zero, suc, ◌+◌, ◌-◌, ◌⊎◌, Bool, true, false, List, [], ◌∷◌, ◌++◌, length, drop, take, get_or, map, slice_get, Option, Some, None, if◌then◌else◌, refl, sym, ap, subst, ◌∙◌, inl, inr, ⊎_elim, arith, append_assoc, length-append}
-use Rattle.std.specs.Prelude.{flat_map, nat_lt, cond, bytes_eq, slice_set, option_map, option_and_then, unwrap_or}
+use Rattle.std.specs.Prelude.{slice_index_or, flat_map, nat_lt, cond, bytes_eq, slice_set, option_map, option_and_then, unwrap_or}
 use Rattle.std.specs.List.{find, position, position_or_len}
 use Rattle.std.proofs.lemmas.Option.{slice_get_past}
 use Rattle.std.proofs.lemmas.Bool.Decides.{nat_tests}
@@ -8,7 +8,7 @@ use Rattle.std.proofs.lemmas.List.Folds.{find_at}
 use Rattle.board_tables.proofs.TextLaws.{position_map}
 use Rattle.std.proofs.Math.Seq.{drop-cons}
 use Rattle.std.proofs.lemmas.List.{drop_all}
-use Rattle.bsdl_device.specs.Device.{Access, Device, Name}
+use Rattle.bsdl_device.specs.Device.{Access, Device, Name, PortBit}
 use Rattle.chip_instructions.specs.Instruction.{access_meaning, as_bypass, look_up, Meaning}
 use Rattle.board_description.specs.Words.{first_user, is_user}
 use Rattle.board_description.specs.Kept.{NamesUsers, NoNames, Told, own_names}
@@ -39,7 +39,7 @@ use Rattle.bsdl_device.specs.declared.Cell.{Cell}
 use Rattle.pin_nets.specs.Wired.{Net}
 use Rattle.board_plan.specs.Planned.{Member}
 use Rattle.byte_streams.proofs.Pieces.{flat_map-more}
-use Rattle.board_description.specs.Described.{cell_line, cell_lines, pin_of, pin_words, device_lines, device_part, pattern_digit, pattern_from, shown_file, total}
+use Rattle.board_description.specs.Described.{cell_line, cell_lines, pin_of, pin_words, device_lines, device_part, pattern_digit, pattern_from, place_line, place_lines, port_line, port_lines, shown_file, total}
 
 -- a list of texts with one of them replaced
 pub map_set : {X Y : Type 0} (f : X → Y) (xs : List X) (k : ℕ) (x : X) → map f (slice_set xs k x) ≡ slice_set (map f xs) k (f x)
@@ -104,6 +104,57 @@ cells_next nets place name d cells k x h =
     ap (cell_lines nets place name d k) (drop-cons cells k x h)
     ∙ ap (λ n. cell_line nets place name d k (get_or cells k x) ++ cell_lines nets place name d n (drop n cells)) (sym next)
 
+-- the line of a port bit at a place of the table of nets, and those behind it
+pub ports_next : (nets : List Net) (place : ℕ) (name : List ℕ) (ports : List PortBit) (table : List (Option ℕ)) (k : ℕ) (p : PortBit) (net other : Option ℕ) → k < length table
+    → HasNets place nets table → slice_get ports k ≡ Some p → net ≡ get_or table k other
+    → port_lines nets place name k (drop k ports) ≡ port_line nets name p net ++ port_lines nets place name (k + 1) (drop (k + 1) ports)
+ports_next nets place name ports table k p net other inside has there is =
+    let next : k + 1 ≡ suc k = omega arith in
+    ap (port_lines nets place name k) (drop_there ports k p there)
+    ∙ ap (λ o. port_line nets name p o ++ port_lines nets place name (suc k) (drop (suc k) ports)) (sym (is ∙ by_default table k other inside ∙ has.each k inside))
+    ∙ ap (λ n. port_line nets name p net ++ port_lines nets place name n (drop n ports)) (sym next)
+  where
+    drop_there : (xs : List PortBit) (n : ℕ) (x : PortBit) → slice_get xs n ≡ Some x → drop n xs ≡ x ∷ drop (suc n) xs
+    drop_there [] zero x e = absurd (cc)
+    drop_there [] (suc n) x e = absurd (cc)
+    drop_there (y ∷ xs) zero x e = let same : y ≡ x = cc in ap (λ v. v ∷ xs) same
+    drop_there (y ∷ xs) (suc n) x e = drop_there xs n x e
+
+    by_default : (xs : List (Option ℕ)) (n : ℕ) (o : Option ℕ) → n < length xs → get_or xs n o ≡ slice_index_or xs n None
+    by_default [] n o h = absurd (omega arith)
+    by_default (x ∷ xs) zero o h = refl
+    by_default (x ∷ xs) (suc n) o h = by_default xs n o (omega arith)
+
+-- the line of a device's first bits, and those of the devices behind it
+pub places_next : (xs : List PlannedDevice) (k : ℕ) (x : PlannedDevice) (instruction boundary : ℕ) → k < length xs
+    → place_lines instruction boundary (map planned_member (drop k xs))
+    ≡ place_line instruction boundary (string_bytes (get_or xs k x).name)
+    ++ place_lines (instruction + (get_or xs k x).device.instruction_length) (boundary + length (get_or xs k x).device.cells)
+    (map planned_member (drop (k + 1) xs))
+places_next xs k x instruction boundary h =
+    let next : k + 1 ≡ suc k = omega arith in
+    let d = get_or xs k x in
+    ap (λ (ys : List PlannedDevice). place_lines instruction boundary (map planned_member ys)) (drop-cons xs k x h)
+    ∙ ap (λ n. place_line instruction boundary (string_bytes d.name)
+    ++ place_lines (instruction + d.device.instruction_length) (boundary + length d.device.cells) (map planned_member (drop n xs))) (sym next)
+
+-- a step of the loop that puts them
+pub places_step : (xs : List PlannedDevice) (k : ℕ) (d : PlannedDevice) (instruction boundary long cells : ℕ) (name text now all : List ℕ)
+    → k < length xs → d ≡ get_or xs k d → name ≡ string_bytes d.name → long ≡ d.device.instruction_length → cells ≡ length d.device.cells
+    → now ≡ text ++ place_line instruction boundary name
+    → text ++ place_lines instruction boundary (map planned_member (drop k xs)) ≡ all
+    → now ++ place_lines (instruction + long) (boundary + cells) (map planned_member (drop (k + 1) xs)) ≡ all
+places_step xs k d instruction boundary long cells name text now all h is named as_long as_many_cells made before =
+    let ms = map planned_member (drop (k + 1) xs) in
+    let rest = place_lines (instruction + long) (boundary + cells) ms in
+    let next : place_lines instruction boundary (map planned_member (drop k xs)) ≡ place_line instruction boundary name ++ rest =
+    places_next xs k d instruction boundary h
+    ∙ ap (λ (x : PlannedDevice). place_line instruction boundary (string_bytes x.name) ++ place_lines (instruction + x.device.instruction_length) (boundary + length x.device.cells) ms) (sym is)
+    ∙ ap (λ n. place_line instruction boundary n ++ place_lines (instruction + d.device.instruction_length) (boundary + length d.device.cells) ms) (sym named)
+    ∙ ap (λ n. place_line instruction boundary name ++ place_lines (instruction + n) (boundary + length d.device.cells) ms) (sym as_long)
+    ∙ ap (λ n. place_line instruction boundary name ++ place_lines (instruction + long) (boundary + n) ms) (sym as_many_cells) in
+    ap (λ (l : List ℕ). l ++ rest) made ∙ append_assoc text (place_line instruction boundary name) rest ∙ ap (λ (l : List ℕ). text ++ l) (sym next) ∙ before
+
 pub total_next : {X : Type 0} (f : Member → ℕ) (g : X → Member) (xs : List X) (i : ℕ) (x : X) → i < length xs
     → total f (map g (drop i xs)) ≡ f (g (get_or xs i x)) + total f (map g (drop (i + 1) xs))
 total_next {X = X} f g xs i x h =
@@ -113,12 +164,12 @@ total_next {X = X} f g xs i x h =
 
 pub devices_next : (nets : List Net) (files : List (List ℕ)) (ms : List Member) (i : ℕ) (file : List ℕ) (m : Member) → i < length files → i < length ms
     → device_lines nets i (drop i files) (drop i ms)
-    ≡ device_part nets i (get_or files i file) (get_or ms i m).name (get_or ms i m).device ++ device_lines nets (i + 1) (drop (i + 1) files) (drop (i + 1) ms)
+    ≡ device_part nets i (get_or files i file) (get_or ms i m) ++ device_lines nets (i + 1) (drop (i + 1) files) (drop (i + 1) ms)
 devices_next nets files ms i file m h k =
     let next : i + 1 ≡ suc i = omega arith in
     ap (λ (fs : List (List ℕ)). device_lines nets i fs (drop i ms)) (drop-cons files i file h)
     ∙ ap (device_lines nets i (get_or files i file ∷ drop (suc i) files)) (drop-cons ms i m k)
-    ∙ ap (λ n. device_part nets i (get_or files i file) (get_or ms i m).name (get_or ms i m).device ++ device_lines nets n (drop n files) (drop n ms)) (sym next)
+    ∙ ap (λ n. device_part nets i (get_or files i file) (get_or ms i m) ++ device_lines nets n (drop n files) (drop n ms)) (sym next)
 
 -- no device without a file, and no file without a device
 pub devices_done : (nets : List Net) (files : List (List ℕ)) (ms : List Member) (i : ℕ) → (length files ≤ i) ⊎ (length ms ≤ i)
@@ -144,7 +195,7 @@ devices_end nets files ms i h = ⊎_elim
 -- the lines of the device at a place, and those of the devices behind it
 pub device_next : (nets : List Net) (devices : List PlannedDevice) (i : ℕ) (device : PlannedDevice) → i < length devices → device ≡ get_or devices i device
     → device_lines nets i (drop i (map shown_file devices)) (drop i (map planned_member devices))
-    ≡ device_part nets i (shown_file device) (string_bytes device.name) device.device
+    ≡ device_part nets i (shown_file device) (planned_member device)
     ++ device_lines nets (i + 1) (drop (i + 1) (map shown_file devices)) (drop (i + 1) (map planned_member devices))
 device_next nets devices i device k device-is =
     let names = map shown_file devices in
@@ -152,8 +203,8 @@ device_next nets devices i device k device-is =
     let rest = device_lines nets (i + 1) (drop (i + 1) names) (drop (i + 1) ms) in
     let m = get_or ms i (planned_member device) in
     devices_next nets names ms i (shown_file device) (planned_member device) (omega (arith, k, length-map devices shown_file)) (omega (arith, k, length-map devices planned_member))
-    ∙ ap (λ (f : List ℕ). device_part nets i f m.name m.device ++ rest) (get_or-map shown_file devices i device (shown_file device) k ∙ ap shown_file (sym device-is))
-    ∙ ap (λ (x : Member). device_part nets i (shown_file device) x.name x.device ++ rest) (get_or-map planned_member devices i device (planned_member device) k ∙ ap planned_member (sym device-is))
+    ∙ ap (λ (f : List ℕ). device_part nets i f m ++ rest) (get_or-map shown_file devices i device (shown_file device) k ∙ ap shown_file (sym device-is))
+    ∙ ap (λ (x : Member). device_part nets i (shown_file device) x ++ rest) (get_or-map planned_member devices i device (planned_member device) k ∙ ap planned_member (sym device-is))
 
 -- ---- pieces behind one another
 

@@ -1,16 +1,19 @@
 -- What a test engineer needs to know of a board to write vectors for it, one fact a line: its devices from TDO on, of
--- each the instructions and the cells, then the nets, and how long the joined registers are.
+-- each its core, ports, instructions and cells, then the nets, and where its registers lie in the joined ones.
 use Rattle.std.specs.Prelude.{Bool, ℕ, zero, suc, ◌+◌, List, [], ◌∷◌, ◌++◌, codes, decimal, flat_map}
-use Rattle.std.specs.Prelude.{length, get_or, slice_get, Option, Some, None, option_map, unwrap_or}
+use Rattle.std.specs.Prelude.{length, get_or, slice_get, Option, Some, None, option_and_then, option_map, unwrap_or}
 use Rattle.std.specs.Prelude.{if◌then◌else◌}
 use Rattle.bsdl_device.specs.declared.Cell.{Cell}
 use Rattle.bsdl_device.specs.declared.Control3.{Control3}
 use Rattle.bsdl_device.specs.declared.Disabled.{Disabled}
 use Rattle.bsdl_device.specs.declared.Disabled.TheVariants as leaves
+use Rattle.bsdl_device.specs.declared.PortMode.{PortMode}
+use Rattle.bsdl_device.specs.declared.PortMode.TheVariants as modes
 use Rattle.bsdl_device.specs.Device.{Device, Name, Opcode, Pattern, PortBit}
 use Rattle.chip_instructions.specs.declared.Selected.{Selected}
 use Rattle.chip_instructions.specs.declared.Selected.TheVariants as select
 use Rattle.chip_instructions.specs.Instruction.{instruction, meaning_of, reset_latch}
+use Rattle.pin_nets.specs.declared.Follow.{Follow}
 use Rattle.pin_nets.specs.declared.Pin.{Pin}
 use Rattle.pin_nets.specs.declared.Pull.{Pull}
 use Rattle.pin_nets.specs.declared.Pull.TheVariants as pulls
@@ -69,6 +72,74 @@ device_line file name d =
     texts (name ∷ codes " bsdl " ∷ []) ++ (shown file ++ (length_words d ++ (digits d.capture ++ (reset_words d
     ++ (code_words d.idcode ++ trst_words d)))))
 
+-- ---- what decides what a device shows and captures
+
+abbrev pub usercode_words : (name code : List ℕ) → List ℕ
+usercode_words name code = texts (name ∷ codes " usercode 0x" ∷ code ∷ codes "\n" ∷ [])
+
+-- the user code, where there is one
+abbrev pub usercode_line : (name : List ℕ) → Device → List ℕ
+usercode_line name d =
+    unwrap_or (option_map (λ code. usercode_words name (hexadecimal code_digits code)) d.usercode) []
+
+abbrev pub extest_words : (update : Bool) → List ℕ
+extest_words update = if update then codes " extest update\n" else codes " extest core\n"
+
+-- the constant bits of the core, as board files write them (cell 0 last), and what EXTEST captures
+abbrev pub core_line : (name : List ℕ) → (core : List Bool) → (update : Bool) → List ℕ
+core_line name core update = texts (name ∷ codes " core " ∷ []) ++ (digits core ++ extest_words update)
+
+abbrev pub port_if : Device → Option ℕ → List ℕ
+port_if d None = []
+port_if d (Some p) = port_of d p
+
+-- the port that a cell drives
+abbrev pub target_words : Device → (cell : ℕ) → List ℕ
+target_words d cell = port_if d (option_and_then (λ (c : Cell). c.port) (slice_get d.cells cell))
+
+abbrev pub equals_words : (inverted : Bool) → List ℕ
+equals_words inverted = if inverted then codes " = !" else codes " = "
+
+-- a string of the core, as board files write it: the port that it drives, and that which it sees
+abbrev pub follow_line : (name : List ℕ) → Device → Follow → List ℕ
+follow_line name d f =
+    texts (name ∷ codes " follow " ∷ []) ++ (target_words d f.cell ++ (equals_words f.inverted
+    ++ (port_of d f.source ++ codes "\n")))
+
+abbrev pub mode_word : PortMode → List ℕ
+mode_word modes.In = codes "in"
+mode_word modes.Out = codes "out"
+mode_word modes.InOut = codes "inout"
+mode_word modes.Buffer = codes "buffer"
+mode_word modes.Linkage = codes "linkage"
+
+abbrev pub on_net : List Net → Option ℕ → List ℕ
+on_net nets None = codes " no net"
+on_net nets (Some n) = codes " net " ++ net_name nets n
+
+-- the net that a port bit is on; the ports of the TAP are on none
+abbrev pub reach : List Net → (is_tap : Bool) → Option ℕ → List ℕ
+reach nets is_tap net = if is_tap then codes " tap" else on_net nets net
+
+-- a port bit: its mode, and its net
+abbrev pub port_line : List Net → (name : List ℕ) → PortBit → (net : Option ℕ) → List ℕ
+port_line nets name p net =
+    texts (name ∷ codes " port " ∷ []) ++ (port_words p ++ (texts (codes " " ∷ mode_word p.mode ∷ [])
+    ++ (reach nets p.is_tap net ++ codes "\n")))
+
+-- port bits from number k on
+abbrev pub port_lines : List Net → (device : ℕ) → (name : List ℕ) → ℕ → List PortBit → List ℕ
+port_lines nets device name k [] = []
+port_lines nets device name k (p ∷ ps) =
+    port_line nets name p (first_net device k 0 nets) ++ port_lines nets device name (suc k) ps
+
+abbrev pub setting_lines : List Net → (device : ℕ) → Member → List ℕ
+setting_lines nets device m =
+    usercode_line m.name m.device ++ (core_line m.name m.core m.extest_update
+    ++ (flat_map (follow_line m.name m.device) m.follows ++ port_lines nets device m.name 0 m.device.ports))
+
+-- ---- instructions and cells
+
 -- a user register and its length
 abbrev pub user_part : Device → ℕ → ℕ → List ℕ
 user_part d k long = texts (codes "of " ∷ user_words d k ∷ codes " " ∷ decimal long ∷ [])
@@ -111,10 +182,6 @@ control_words (Some c) = texts
     (codes " control " ∷ decimal c.cell ∷ codes " disables " ∷ (digit c.disabling ∷ []) ∷ codes " leaves "
     ∷ disabled_word c.leaves ∷ [])
 
-abbrev pub on_net : List Net → Option ℕ → List ℕ
-on_net nets None = codes " no net"
-on_net nets (Some n) = codes " net " ++ net_name nets n
-
 -- a port bit of the device at a place, and its net
 abbrev pub port_on_net : List Net → (device port : ℕ) → PortBit → List ℕ
 port_on_net nets device port p = texts (codes " port " ∷ port_words p ∷ on_net nets (first_net device port 0 nets) ∷ [])
@@ -135,10 +202,11 @@ cell_lines nets device name d k (cell ∷ cells) =
     cell_line nets device name d k cell ++ cell_lines nets device name d (suc k) cells
 
 -- the device at a place, with the file of its description
-abbrev pub device_part : List Net → (device : ℕ) → (file name : List ℕ) → Device → List ℕ
-device_part nets device file name d =
-    device_line file name d
-    ++ (flat_map (instruction_lines name d) d.opcodes ++ cell_lines nets device name d 0 d.cells)
+abbrev pub device_part : List Net → (device : ℕ) → (file : List ℕ) → Member → List ℕ
+device_part nets device file m =
+    device_line file m.name m.device ++ (setting_lines nets device m
+    ++ (flat_map (instruction_lines m.name m.device) m.device.opcodes
+    ++ cell_lines nets device m.name m.device 0 m.device.cells))
 
 -- the file of a device's description, `-` where it is in none
 abbrev pub shown_file : PlannedDevice → List ℕ
@@ -147,7 +215,7 @@ shown_file m = unwrap_or (planned_file m) (codes "-")
 -- the devices from a place on, with the files of their descriptions
 abbrev pub device_lines : List Net → (device : ℕ) → (files : List (List ℕ)) → List Member → List ℕ
 device_lines nets device (file ∷ files) (m ∷ ms) =
-    device_part nets device file m.name m.device ++ device_lines nets (suc device) files ms
+    device_part nets device file m ++ device_lines nets (suc device) files ms
 device_lines nets device _ _ = []
 
 abbrev pub pull_word : Pull → List ℕ
@@ -184,9 +252,25 @@ chain_line ms = texts
     ∷ decimal (total instruction_length ms) ∷ codes " instruction bits, "
     ∷ decimal (total boundary_length ms) ∷ codes " boundary bits\n" ∷ [])
 
--- nets and chain
+abbrev pub place_line : (instruction boundary : ℕ) → (name : List ℕ) → List ℕ
+place_line instruction boundary name = texts
+    (name ∷ codes " first instruction bit " ∷ decimal instruction ∷ codes " first boundary bit " ∷ decimal boundary
+    ∷ codes "\n" ∷ [])
+
+-- of each device the first bit of its instruction and boundary registers, where the chain joins those of all devices;
+-- so many bits lie before the first of these devices
+abbrev pub place_lines : (instruction boundary : ℕ) → List Member → List ℕ
+place_lines instruction boundary [] = []
+place_lines instruction boundary (m ∷ ms) =
+    place_line instruction boundary m.name
+    ++ place_lines (instruction + instruction_length m) (boundary + boundary_length m) ms
+
+abbrev pub net_lines : Wiring → List ℕ
+net_lines w = flat_map (net_line w.members) w.nets
+
+-- nets, places and chain
 abbrev pub wiring_lines : Wiring → List ℕ
-wiring_lines w = flat_map (net_line w.members) w.nets ++ chain_line w.members
+wiring_lines w = net_lines w ++ (place_lines 0 0 w.members ++ chain_line w.members)
 
 -- a board whose devices are described in these files
 abbrev pub described : (files : List (List ℕ)) → Wiring → List ℕ

@@ -1,7 +1,7 @@
 -- A board of two devices, described.
-use Rattle.std.specs.Prelude.{◌≡◌, ℕ, List, ◌++◌, codes, flat_map}
-use Rattle.board_description.specs.Described.{cell_lines, device_line, instruction_lines, wiring_lines}
-use Rattle.board_description.specs.Samples.{pair, sample}
+use Rattle.std.specs.Prelude.{◌≡◌, ℕ, List, [], ◌++◌, codes, flat_map}
+use Rattle.board_description.specs.Described.{cell_lines, device_line, instruction_lines, setting_lines, usercode_line, wiring_lines}
+use Rattle.board_description.specs.Samples.{followed, pair, sample}
 
 abbrev pub first : List ℕ
 first = codes "U1"
@@ -16,5 +16,10 @@ pub record DescribedRows : Type 0 where
   pub cells : cell_lines pair.nets 0 first sample 0 sample.cells
       ≡ codes "U1 cell 0 output3 port Q(0) net N control 1 disables 0 leaves Z\nU1 cell 1 control\n"
       ++ codes "U1 cell 2 input port D no net\nU1 cell 3 internal\n"
+  pub settings : setting_lines pair.nets 0 followed
+      ≡ codes "U1 usercode 0x00000A05\nU1 core 0110 extest update\nU1 follow Q(0) = !D\n"
+      ++ codes "U1 port Q(0) in net N\nU1 port D in no net\n"
+  pub no_usercode : usercode_line first sample ≡ []
   pub wiring : wiring_lines pair
-      ≡ codes "net N pull none U1.Q(0) U2.D\nchain 2 devices, 6 instruction bits, 8 boundary bits\n"
+      ≡ codes "net N pull none U1.Q(0) U2.D\nU1 first instruction bit 0 first boundary bit 0\n"
+      ++ codes "U2 first instruction bit 3 first boundary bit 4\nchain 2 devices, 6 instruction bits, 8 boundary bits\n"

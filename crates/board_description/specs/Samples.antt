@@ -1,6 +1,6 @@
 -- A device for worked lines, and a board of two of it. A net joins port Q of the one nearest TDO with port D of the
 -- other.
-use Rattle.std.specs.Prelude.{Bool, false, ℕ, zero, suc, ◌/◌, ◌%◌, ◌==◌, List, [], ◌∷◌, map, codes, Option}
+use Rattle.std.specs.Prelude.{Bool, false, true, ℕ, zero, suc, ◌/◌, ◌%◌, ◌==◌, List, [], ◌∷◌, map, codes, Option}
 use Rattle.std.specs.Prelude.{Some, None}
 use Rattle.bsdl_device.specs.Device.{Device, Opcode, PortBit}
 use Rattle.bsdl_device.specs.declared.PortMode.TheVariants.{In}
@@ -62,3 +62,14 @@ planned name = record { name = name; device = sample; core = bits 4 0; follows =
 
 abbrev pub pair : Wiring
 pair = record { members = planned (codes "U1") ∷ planned (codes "U2") ∷ []; nets = between ∷ [] }
+
+-- the first of them with a user code, some bits of its core at 1, a string from D to Q(0), and EXTEST that captures the
+-- update stage
+abbrev pub followed : Member
+followed = record {
+  name = codes "U1";
+  device = record sample { usercode = Some (bits 32 2565) };
+  core = bits 4 6;
+  follows = record { cell = 0; source = 1; inverted = true } ∷ [];
+  extest_update = true;
+}

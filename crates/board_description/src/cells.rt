@@ -107,7 +107,11 @@ pub(crate) fn put_port(text: &mut Vec<u8>, port: PortBit<'_>) -> Result<(), Allo
 }
 
 /// Puts the net of a port behind a text.
-fn put_net(text: &mut Vec<u8>, nets: &[PlannedNet], net: Option<usize>) -> Result<(), AllocError>
+pub(crate) fn put_net(
+    text: &mut Vec<u8>,
+    nets: &[PlannedNet],
+    net: Option<usize>,
+) -> Result<(), AllocError>
     ensures { OnOk result (text.new.items ≡ text.old.items ++ spec.on_net (map planned_net nets.now) net) }
 {
     match net {

@@ -1,5 +1,5 @@
 //! What a test engineer needs to know of a board to write vectors for it, one fact a line: its devices from TDO on, of
-//! each the instructions and the cells, then the nets, and how long the joined registers are.
+//! each its core, ports, instructions and cells, then the nets, and where its registers lie in the joined ones.
 #![tactic(auto)]
 
 ghost use Rattle.board_description.specs.Rows.{DescribedRows};
@@ -8,6 +8,7 @@ mod cells;
 mod instructions;
 mod nets;
 mod registers;
+mod settings;
 mod text;
 mod whole;
 mod words;

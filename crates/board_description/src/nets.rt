@@ -3,26 +3,33 @@ ghost use Rattle.std.specs.Prelude.{◌≡◌, ◌++◌, OnOk, flat_map, length,
 ghost use Rattle.board_plan.specs.View.{member as planned_member, net as planned_net, wiring};
 ghost use Rattle.board_description.specs.Described as spec;
 ghost use Rattle.board_description.specs.Described.{boundary_length, instruction_length, total};
-ghost use Rattle.board_description.specs.Words.{port_of};
 
-use crate::cells::put_port;
+use crate::settings::put_port_of;
 use crate::words::pull_word;
 use board_plan::{Plan, PlannedDevice, PlannedNet};
-use bsdl_device::Device;
 use itoa::Buffer;
 use output_words::put;
 use pin_nets::Pin;
 use std::alloc::AllocError;
 
-/// Puts the lines of a board's nets and of its chain behind a text.
-#[tactic(auto, using(output_words::proofs::TextLaws::flat_map_more))]
+/// Puts the lines of a board's nets, of its devices' first bits and of its chain behind a text.
 pub(crate) fn put_wiring(text: &mut Vec<u8>, plan: &Plan) -> Result<(), AllocError>
     ensures { OnOk result (text.new.items ≡ text.old.items ++ spec.wiring_lines (wiring plan.now)) }
+{
+    put_nets(text, plan)?;
+    put_places(text, &plan.devices)?;
+    put_chain(text, &plan.devices)
+}
+
+/// Puts the lines of a board's nets behind a text.
+#[tactic(auto, using(output_words::proofs::TextLaws::flat_map_more))]
+fn put_nets(text: &mut Vec<u8>, plan: &Plan) -> Result<(), AllocError>
+    ensures { OnOk result (text.new.items ≡ text.old.items ++ spec.net_lines (wiring plan.now)) }
 {
     for net in &plan.nets {
         put_net(text, &plan.devices, net)?;
     }
-    put_chain(text, &plan.devices)
+    Ok(())
 }
 
 /// Puts the line of a net behind a text.
@@ -68,15 +75,44 @@ pub fn put_pin(text: &mut Vec<u8>, devices: &[PlannedDevice], pin: Pin) -> Resul
     }
 }
 
-/// Puts the port bit of a number behind a text, nothing where the device has none of it.
-fn put_port_of(text: &mut Vec<u8>, device: &Device, port: usize) -> Result<(), AllocError>
-    ensures { OnOk result (text.new.items ≡ text.old.items ++ port_of device.now port) }
+/// Puts a line for each device behind a text: the first bits of its instruction and boundary registers, where the chain
+/// joins those of all devices.
+fn put_places(text: &mut Vec<u8>, devices: &[PlannedDevice]) -> Result<(), AllocError>
+    ensures { OnOk result (text.new.items
+        ≡ text.old.items ++ spec.place_lines 0 0 (map planned_member devices.now)) }
 {
-    if port < device.port_count() {
-        put_port(text, device.port(port))
-    } else {
-        Ok(())
+    let mut instruction: u128 = 0;
+    let mut boundary: u128 = 0;
+    for device in devices {
+        put_place(text, &device.name, instruction, boundary)?;
+        instruction += device.device.get().instruction_length() as u128;
+        boundary += device.device.get().cells().len() as u128;
     }
+    Ok(())
+}
+
+/// Puts the line of a device's first bits behind a text.
+fn put_place(
+    text: &mut Vec<u8>,
+    name: &str,
+    instruction: u128,
+    boundary: u128,
+) -> Result<(), AllocError>
+    ensures { OnOk result (text.new.items ≡ text.old.items ++ spec.place_line instruction boundary name.now) }
+{
+    let mut first = Buffer::new();
+    let mut second = Buffer::new();
+    put(
+        text,
+        &[
+            name.as_bytes(),
+            b" first instruction bit ",
+            first.format(instruction).as_bytes(),
+            b" first boundary bit ",
+            second.format(boundary).as_bytes(),
+            b"\n",
+        ],
+    )
 }
 
 /// Puts the line of the chain behind a text.

@@ -8,7 +8,7 @@ use output_words::{digit_of, put, put_hexadecimal};
 use std::alloc::AllocError;
 
 /// A code has so many hexadecimal digits.
-const CODE_DIGITS: usize = 8;
+pub(crate) const CODE_DIGITS: usize = 8;
 
 /// Puts an opcode behind a text, the highest bit first.
 #[tactic(auto, using(crate::proofs::TextLaws::pattern_down))]

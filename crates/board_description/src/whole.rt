@@ -10,6 +10,7 @@ ghost use Rattle.board_description.specs.Kept.{Told};
 use crate::cells::put_cells;
 use crate::instructions::put_instructions;
 use crate::nets::put_wiring;
+use crate::settings::put_settings;
 use crate::text::put_code;
 use board_plan::{Plan, PlannedDevice, PlannedNet, all_port_nets};
 use bsdl_device::Device;
@@ -49,8 +50,9 @@ impl From<Broken> for Untold {
 }
 
 /// Writes what a test engineer needs to know of a board: of each device, from the one nearest TDO on, a line of its own,
-/// one for each opcode of an instruction and one for each cell; then one for each net with a name, and one for the
-/// chain. A device whose description is in no file has `-` for its file.
+/// one for its user code and one for its core, and one for each string, port bit, opcode of an instruction and cell; then
+/// one for each net with a name, one for the first bits of each device, and one for the chain. A device whose description
+/// is in no file has `-` for its file.
 ///
 /// The lines of a device are made before they are written, so memory is in proportion to the longest of them.
 pub fn write_description<W: Sink>(
@@ -104,13 +106,14 @@ fn device_text(
     requires long { length table.now ≡ length planned.now.device.ports }
     ensures { (place : ℕ) → HasNets place (map planned_net nets.now) table.now
         → IfOk result (λ v. v.items ≡ spec.device_part (map planned_net nets.now) place (spec.shown_file planned.now)
-        (string_bytes planned.now.name) planned.now.device) }
+        (planned_member planned.now)) }
 {
     let mut text = Vec::new(alloc);
     let file = shown_file(planned);
     let name = planned.name.as_str();
     let device = planned.device.get();
     put_device(alloc, &mut text, file, name, device)?;
+    put_settings(&mut text, nets, table, planned)?;
     put_instructions(alloc, &mut text, name, device)?;
     put_cells(&mut text, nets, table, name, device)?;
     Ok(text)

@@ -3,7 +3,7 @@ ghost use Rattle.std.specs.Prelude.{◌≡◌};
 ghost use Rattle.board_description.specs.Described as spec;
 ghost use Rattle.board_description.specs.Words as words;
 
-use bsdl_device::{Disabled, Function};
+use bsdl_device::{Disabled, Function, PortMode};
 use pin_nets::Pull;
 
 /// The function of a cell, as descriptions name it (Annex B.8.14).
@@ -45,5 +45,18 @@ pub(crate) fn pull_word(pull: Pull) -> &'static [u8]
         Pull::Free => b"none",
         Pull::Up => b"up",
         Pull::Down => b"down",
+    }
+}
+
+/// The mode of a port, as descriptions write it (Annex B.8.3).
+pub(crate) fn mode_word(mode: PortMode) -> &'static [u8]
+    ensures { result.now ≡ spec.mode_word mode }
+{
+    match mode {
+        PortMode::In => b"in",
+        PortMode::Out => b"out",
+        PortMode::InOut => b"inout",
+        PortMode::Buffer => b"buffer",
+        PortMode::Linkage => b"linkage",
     }
 }

@@ -17,3 +17,4 @@ pub use ends::{captures_one, ends_in_one};
 pub use keyed::{KnownByKey, known_by_key, unfit_cell_by_key};
 pub use lengths::lengths_fit;
 pub use limits::is_within_limits;
+pub use naming::{Again, Position};

@@ -17,7 +17,7 @@ use std::collections::{BTreeMap, BTreeSet};
 /// The place of a name: that of a token of the text, or that of the first quote of a text within quotes and the byte
 /// within it.
 #[derive(Debug, Clone, Copy, PartialEq, Eq)]
-struct Position {
+pub struct Position {
     pub outer: usize,
     pub within: usize,
 }
@@ -65,7 +65,7 @@ fn earlier<'a>(one: Option<Naming<'a>>, other: Option<Naming<'a>>) -> Option<Nam
 
 /// A name that is given again, as it is spelt there.
 #[derive(Debug, Drop)]
-pub(crate) struct Again {
+pub struct Again {
     pub name: String,
     pub position: Position,
 }

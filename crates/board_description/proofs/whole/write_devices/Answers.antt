@@ -1,5 +1,5 @@
 use Rattle.std.proofs.Common.{◌≡◌, ◌<◌, ◌+◌, ◌++◌, ℕ, List, [], drop, length, map, refl, sym, ap, subst, ◌∙◌, arith, append_assoc}
-use Rattle.std.specs.Prelude.{string_bytes, Option}
+use Rattle.std.specs.Prelude.{Option}
 use Rattle.std.specs.Global.{Vec}
 use Rattle.std.specs.Io.KnownBytes.{Appends}
 use Rattle.std.proofs.KnownBytes.{Appends-trans}
@@ -38,7 +38,7 @@ returns-in_err-put_all g c =
     subst (HasNets i nets) (sym (c.deref.ensures.value ∙ ap (λ (t : Vec (Option ℕ)). t.items) c.index-tables-place.is))
     (nets_of_device (map planned_member devices) nets tables i c.index-tables-place.result c.requires.tables there) in
     let rest = device_lines nets (i + 1) (drop (i + 1) (map shown_file devices)) (drop (i + 1) (map planned_member devices)) in
-    let made : c.deref-in-loop-place.result.now ≡ device_part nets i (shown_file device) (string_bytes device.name) device.device =
+    let made : c.deref-in-loop-place.result.now ≡ device_part nets i (shown_file device) (planned_member device) =
     c.deref-in-loop-place.ensures.value ∙ c.in_ok-text.ensures i has in
     let sent = c.loop-place.invariant.sent in
     let split = ap (λ (l : List ℕ). sent ++ (l ++ rest)) made
@@ -61,7 +61,7 @@ loop-place-preserved g c =
     subst (HasNets i nets) (sym (c.deref.ensures.value ∙ ap (λ (t : Vec (Option ℕ)). t.items) c.index-tables-place.is))
     (nets_of_device (map planned_member devices) nets tables i c.index-tables-place.result c.requires.tables there) in
     let rest = device_lines nets (i + 1) (drop (i + 1) (map shown_file devices)) (drop (i + 1) (map planned_member devices)) in
-    let made : c.deref-in-loop-place.result.now ≡ device_part nets i (shown_file device) (string_bytes device.name) device.device =
+    let made : c.deref-in-loop-place.result.now ≡ device_part nets i (shown_file device) (planned_member device) =
     c.deref-in-loop-place.ensures.value ∙ c.in_ok-text.ensures i has in
     let sent = c.loop-place.invariant.sent in
     let text = c.deref-in-loop-place.result.now in
