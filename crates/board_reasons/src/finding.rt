@@ -1,8 +1,9 @@
 //! Where a bit that came out of a scan stood.
 ghost use Rattle.std.specs.Prelude.{◌≡◌, ◌<◌, Some, length, option_and_then, option_map, slice_get};
 ghost use Rattle.std.specs.Prelude.{true};
+ghost use Rattle.std.specs.List.{position};
 ghost use Rattle.jt_tap.specs.declared.Column.TheVariants.{Dr};
-ghost use Rattle.chip_instructions.specs.Instruction.{instruction, meaning};
+ghost use Rattle.chip_instructions.specs.Instruction.{instruction, meaning, meaning_of};
 ghost use Rattle.boundary.specs.Cells as cells;
 ghost use Rattle.board_model.specs.Chain.{members};
 ghost use Rattle.board_chips.specs.WiredChips.{chip_state, member_of};
@@ -18,7 +19,7 @@ use crate::vectors::{place_in, wanted_at};
 use crate::words::cell_at;
 use board_chain::{Chain, WiredChip};
 use board_plan::PlannedDevice;
-use bsdl_device::{Function, Opcode};
+use bsdl_device::{Device, Function, Opcode};
 use jt_tap::Column;
 use scan_registers::{Link, Selected};
 use scan_vectors::{Mismatch, Part, Vector};
@@ -158,14 +159,21 @@ fn selected_by(chip: &WiredChip) -> SelectedBy
     }
 }
 
-/// The first row of an instruction that has a name.
+/// By which row an instruction with this name is known: by the first that has the name.
 fn row_of(rows: &[Opcode], name: &str) -> SelectedBy
     ensures { result ≡ spec.selected_by rows.now (Some name.now) }
 {
-    match rows.iter().position(|row| is_named(name, row)) {
+    match place_of(rows, name) {
         Some(row) => SelectedBy::Row(row),
         None => SelectedBy::AllOnes,
     }
+}
+
+/// The place of the first row of an instruction that has a name.
+fn place_of(rows: &[Opcode], name: &str) -> Option<usize>
+    ensures { result ≡ position (spec.is_named name.now) rows.now }
+{
+    rows.iter().position(|row| is_named(name, row))
 }
 
 /// Whether a row is of the instruction with this name.
@@ -243,14 +251,21 @@ fn updates(devices: &[PlannedDevice], device: usize) -> bool
     }
 }
 
-/// Whether the instruction of a device is EXTEST, and not one of its private ones.
+/// Whether the instruction of a device is EXTEST.
 fn is_in_extest(chip: &WiredChip) -> bool
     ensures { result ≡ cells.takes_update true (meaning chip.now.chip.device chip.now.chip.latch).mode }
 {
     match chip.instruction() {
-        Some(name) => name == "EXTEST" && !chip.device().is_private(name),
+        Some(name) => is_extest(chip.device(), name),
         None => false,
     }
+}
+
+/// Whether an instruction is EXTEST, and not one of the device's private ones.
+fn is_extest(device: &Device, name: &str) -> bool
+    ensures { result ≡ cells.takes_update true (meaning_of device.now (Some name.now)).mode }
+{
+    name == "EXTEST" && !device.is_private(name)
 }
 
 /// A net with its level.
