@@ -93,8 +93,7 @@ first_is place port i (x ∷ nets) n e =
     elim (cases_Bool (joins place port x)) [
       | inl hit ↦
           let here : Some i ≡ Some n = sym (ap (λ (b : Bool). if b then Some i else first_net place port (suc i) nets) hit) ∙ e in
-          let same : i ≡ n = ap (λ (o : Option ℕ). unwrap_or o i) here in
-          (
+          let same : i ≡ n = ap (λ (o : Option ℕ). unwrap_or o i) here in (
             zero,
             omega (arith, same),
             record { net = x; there = refl; found = ap (λ (b : Bool). if b then Some x else find (joins place port) nets) hit },
@@ -102,8 +101,7 @@ first_is place port i (x ∷ nets) n e =
       | inr miss ↦
           let more = first_is place port (suc i) nets n (sym (ap (λ (b : Bool). if b then Some i else first_net place port (suc i) nets) miss) ∙ e) in
           let next : i + suc more.0 ≡ n = omega (arith, more.1) in
-          let it = more.2 in
-          (
+          let it = more.2 in (
             suc more.0,
             next,
             record { net = it.net; there = it.there; found = ap (λ (b : Bool). if b then Some x else find (joins place port) nets) miss ∙ it.found },

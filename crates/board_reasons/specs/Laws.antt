@@ -90,9 +90,9 @@ CellsHoldWhatIsTold =
     (m : AtRest) (device cell : ℕ) (d : Member) (c : Cell) → slice_get m.members device ≡ Some d
     → (meaning d.device d.registers.latch).selected ≡ Boundary → slice_get d.device.cells cell ≡ Some c
     → let after = capture Dr m in let about = told m.nets m.members device in
-      bit_there Dr after.members [] (Register device cell)
-      ≡ Some (bit_told about d cell c.port
-      (captured_at after.nets after.members device cell (capture_member Dr about d)))
+    bit_there Dr after.members [] (Register device cell)
+    ≡ Some (bit_told about d cell c.port
+    (captured_at after.nets after.members device cell (capture_member Dr about d)))
 
 -- the instruction that is told to have selected a register
 abbrev pub instruction_told : Device → SelectedBy → Option Name

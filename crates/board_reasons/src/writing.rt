@@ -198,12 +198,18 @@ fn write_by_name<W: Sink>(device: &Device, name: &str, out: &mut Counted<W>) -> 
     requires { out.old.failures ≡ 0 }
     ensures { WritesAll W.contents out.old out.new (spec.by_name device.now name.now) result }
 {
-    let left_out = left_out_words(device, name);
-    put_pieces(out, &[b" by instruction ", name.as_bytes(), left_out])
+    put_pieces(
+        out,
+        &[
+            b" by instruction ",
+            name.as_bytes(),
+            left_out_words(device, name),
+        ],
+    )
 }
 
 /// That an instruction stands for BYPASS, where it does.
-fn left_out_words(device: &Device, name: &str) -> &'static [u8]
+fn left_out_words<'a>(device: &Device, name: &'a str) -> &'a [u8]
     ensures { result.now ≡ spec.left_out_words device.now name.now }
 {
     if is_left_out(device, name) {
@@ -279,7 +285,6 @@ fn write_found_cell<W: Sink>(
 }
 
 /// Writes a cell: what it does, its port, and what it captured.
-#[tactic(auto, using(byte_streams::proofs::Fronts::fronts))]
 fn write_cell_words<W: Sink>(
     chain: &Chain,
     device: &Device,
@@ -319,7 +324,6 @@ fn write_at_port<W: Sink>(
 }
 
 /// Writes a port bit behind the word for it.
-#[tactic(auto, using(byte_streams::proofs::Fronts::fronts))]
 fn write_named_port<W: Sink>(
     device: &Device,
     port: usize,
