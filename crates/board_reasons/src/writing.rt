@@ -139,21 +139,23 @@ fn write_holder<W: Sink>(
     requires { out.old.failures ≡ 0 }
     ensures { WritesAll W.contents out.old out.new (spec.holder_words chain.now.nets device.now holder) result }
 {
-    let mut digits = Buffer::new();
     match holder {
         Holder::Bypass { by, .. } => write_bypass(device, by, out),
-        Holder::Identification { bit, .. } => put_pieces(
-            out,
-            &[b"identification bit ", digits.format(bit).as_bytes()],
-        ),
+        Holder::Identification { bit, .. } => write_bit(b"identification bit ", bit, out),
         Holder::User { register, bit, .. } => write_user(device, register, bit, out),
-        Holder::Instruction { bit, .. } => put_pieces(
-            out,
-            &[b"instruction bit ", digits.format(bit).as_bytes()],
-        ),
+        Holder::Instruction { bit, .. } => write_bit(b"instruction bit ", bit, out),
         Holder::Cell { cell, captured, .. } => write_cell(chain, device, cell, captured, out),
         Holder::Tdi { .. } => put_all(out, b""),
     }
+}
+
+/// Writes a bit of a register of this name.
+fn write_bit<W: Sink>(register: &[u8], bit: usize, out: &mut Counted<W>) -> Result<(), Broken>
+    requires { out.old.failures ≡ 0 }
+    ensures { WritesAll W.contents out.old out.new (register.now ++ decimal bit) result }
+{
+    let mut digits = Buffer::new();
+    put_pieces(out, &[register, digits.format(bit).as_bytes()])
 }
 
 /// Writes a bypass register, and by which instruction it was selected.

@@ -85,7 +85,6 @@ pub(crate) fn write_ended<W: Sink>(
 }
 
 /// Writes how a play ended, and where the statement starts in which it did.
-#[tactic(auto, using(byte_streams::proofs::Fronts::fronts))]
 fn write_stopped<W: Sink>(
     ending: Ending,
     position: Option<Position>,
