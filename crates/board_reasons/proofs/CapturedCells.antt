@@ -1,9 +1,8 @@
 -- What a cell captured is the bit that is told of it.
-use Rattle.std.proofs.Common.{◌≡◌, Bool, true, false, ℕ, zero, suc, ◌+◌, List, [], ◌∷◌, map, Option, Some, None, option_map, slice_get, refl, sym, ap, ◌∙◌, arith, inl, inr}
+use Rattle.std.proofs.Common.{◌≡◌, Bool, true, false, ℕ, zero, suc, ◌+◌, List, [], ◌∷◌, Option, Some, None, option_map, slice_get, refl, sym, ap, ◌∙◌, arith, inl, inr}
 use Rattle.std.specs.Prelude.{if◌then◌else◌, option_and_then, unwrap_or, find}
 use Rattle.std.proofs.lemmas.Bool.{cases_Bool}
 use Rattle.jt_tap.specs.declared.Column.TheVariants.{Dr}
-use Rattle.bsdl_device.specs.Device.{Device}
 use Rattle.bsdl_device.specs.declared.Cell.{Cell}
 use Rattle.bsdl_device.specs.declared.Function.{Function}
 use Rattle.bsdl_device.specs.declared.Function.TheVariants as kind
@@ -20,10 +19,8 @@ use Rattle.board_model.specs.Cells.{Member, Told, surroundings}
 use Rattle.board_model.specs.Nets.{in_force, level, level_under, lone_net, told}
 use Rattle.board_model.specs.Whole.{AtRest, capture, capture_all, capture_member, selected_bits_of}
 use Rattle.board_model.specs.Following.{BitsInForceStay}
-use Rattle.board_reasons.specs.declared.origins.Captured.{Captured}
-use Rattle.board_reasons.specs.declared.origins.Captured.TheVariants.{Core, Update, Sight}
-use Rattle.board_reasons.specs.declared.origins.NetLevel.{NetLevel}
-use Rattle.board_reasons.specs.Holders.{captured_at, captured_by, cell_captured, cell_level, net_level}
+use Rattle.board_reasons.specs.declared.origins.Captured.TheVariants.{Core, Sight}
+use Rattle.board_reasons.specs.Holders.{captured_by, net_level}
 use Rattle.board_reasons.specs.Laws.{CellsHoldWhatIsTold, bit_at, bit_told}
 use Rattle.board_reasons.proofs.Captures.{kept_levels, latch_stays}
 

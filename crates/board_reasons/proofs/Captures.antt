@@ -6,7 +6,6 @@ use Rattle.chip_instructions.specs.declared.Selected.{Selected}
 use Rattle.chip_instructions.specs.declared.Selected.TheVariants.{Bypass, Identification, Boundary, User}
 use Rattle.chip_instructions.specs.Instruction.{meaning}
 use Rattle.boundary.specs.Cells.{drive_in}
-use Rattle.pin_nets.specs.Wired.{Net}
 use Rattle.chip_registers.specs.Registers.{Registers, with_stage, capture_of}
 use Rattle.board_model.specs.Cells.{Member, Told, surroundings}
 use Rattle.board_model.specs.Whole.{capture_member, capture_all}

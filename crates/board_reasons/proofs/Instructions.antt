@@ -1,7 +1,7 @@
 -- The instruction in a latch, by its name and by its row.
-use Rattle.std.proofs.Common.{◌≡◌, Bool, true, false, not, List, [], ◌∷◌, ◌++◌, map, Option, Some, None, option_map, slice_get, refl, sym, ap, ◌∙◌, ⊎_elim, codes, ℕ, zero, suc, ◌<◌, arith, length, inl, inr}
+use Rattle.std.proofs.Common.{◌≡◌, Bool, true, false, not, List, [], ◌∷◌, ◌++◌, map, Option, Some, None, option_map, slice_get, refl, sym, ap, ◌∙◌, codes, ℕ, zero, suc, ◌<◌, arith, length, inl, inr}
 use Rattle.std.specs.Prelude.{◌&&◌, if◌then◌else◌, bytes_eq, unwrap_or, find}
-use Rattle.std.specs.List.{list_all, list_any, position, position_or_len, AllByRecursion}
+use Rattle.std.specs.List.{list_all, list_any, position_or_len, AllByRecursion}
 use Rattle.std.proofs.lemmas.Bool.{cases_Bool, cases_lt, le-ltb, lt-ltb}
 use Rattle.std.proofs.lemmas.List.Folds.{find_at}
 use Rattle.std.proofs.lemmas.Option.{slice_get_within}
@@ -12,10 +12,9 @@ use Rattle.bsdl_device.specs.declared.Place.{Place}
 use Rattle.bsdl_device.specs.declared.Place.TheVariants.{AtBypass, AtBoundary, AtDeviceId, AtUser}
 use Rattle.chip_instructions.specs.declared.Mode.{Mode}
 use Rattle.chip_instructions.specs.declared.Mode.TheVariants.{Extest, Clamp, HighZ, Core}
-use Rattle.chip_instructions.specs.Instruction.{Meaning, access_meaning, as_bypass, instruction, look_up, meaning, meaning_of, reads_code, standard}
+use Rattle.chip_instructions.specs.Instruction.{Meaning, access_meaning, as_bypass, look_up, meaning_of, reads_code, standard}
 use Rattle.boundary.specs.Cells.{takes_update}
-use Rattle.board_reasons.specs.declared.origins.SelectedBy.{SelectedBy}
-use Rattle.board_reasons.specs.declared.origins.SelectedBy.TheVariants.{AllOnes, Row, NoRow}
+use Rattle.board_reasons.specs.declared.origins.SelectedBy.TheVariants.{AllOnes, Row}
 use Rattle.board_reasons.specs.Holders.{is_named, selected_by}
 use Rattle.board_reasons.specs.Laws.{TellsTheInstruction, instruction_told}
 

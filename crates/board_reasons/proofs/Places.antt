@@ -1,19 +1,17 @@
 -- Where the bits of a joined vector stand, and what a failing bit's reason tells.
-use Rattle.std.proofs.Common.{◌≡◌, ◌<◌, ◌≤◌, ℕ, zero, suc, ◌+◌, ◌-◌, Bool, true, false, not, List, [], ◌∷◌, ◌++◌, length, map, slice_get, Some, Option, None, refl, sym, ap, subst, ◌∙◌, arith, ⊎_elim, append_assoc, length-take}
+use Rattle.std.proofs.Common.{◌≡◌, ◌<◌, ◌≤◌, ℕ, zero, suc, ◌+◌, ◌-◌, Bool, true, false, not, List, [], ◌∷◌, ◌++◌, length, slice_get, Some, Option, None, refl, sym, ap, subst, ◌∙◌, arith, ⊎_elim, append_assoc, length-take}
 use Rattle.std.proofs.lemmas.List.{append-nil}
 use Rattle.std.specs.Prelude.{◌==◌, ◌&&◌, if◌then◌else◌}
 use Rattle.std.proofs.lemmas.Bool.{cases_lt}
 use Rattle.std.proofs.lemmas.Option.{slice_get_within}
-use Rattle.jt_tap.specs.declared.Column.{Column}
 use Rattle.scan_vectors.specs.declared.part.Part.{Part}
 use Rattle.scan_vectors.specs.declared.part.Part.TheVariants.{Header, Data, Trailer}
 use Rattle.scan_vectors.specs.declared.failures.Mismatch.{Mismatch}
 use Rattle.scan_vectors.specs.Failures.{differing}
 use Rattle.scan_vectors.specs.Vector.{PartBits, VectorBit, bits_from, differs, join, tdis}
-use Rattle.board_model.specs.Cells.{Member}
 use Rattle.board_model.specs.Whole.{joined_bits, out_of_members}
 use Rattle.board_reasons.specs.Origins.{bit_there, origin}
-use Rattle.board_reasons.specs.Reasons.{is_bit, is_one, is_same_part, place_in, wanted_at}
+use Rattle.board_reasons.specs.Reasons.{is_one, is_same_part, place_in, wanted_at}
 use Rattle.board_reasons.specs.Laws.{IsWrong, ReasonTellsTheBit}
 use Rattle.board_reasons.proofs.Verdicts.{comes}
 

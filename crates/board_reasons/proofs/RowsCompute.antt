@@ -1,5 +1,5 @@
 -- The worked reasons compute.
-use Rattle.std.proofs.Common.{◌<◌, refl, arith}
+use Rattle.std.proofs.Common.{refl, arith}
 use Rattle.std.proofs.lemmas.Fmt.{decimal_digit}
 use Rattle.board_reasons.specs.Rows.{ReasonRows}
 

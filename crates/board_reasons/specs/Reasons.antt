@@ -1,5 +1,5 @@
 -- Why a bit of a scan failed: what was wanted, and what held the bit that came in its place.
-use Rattle.std.specs.Prelude.{Bool, true, false, ℕ, zero, suc, ◌&&◌, ◌==◌, List, [], ◌∷◌, ◌++◌, map, Option, Some, None}
+use Rattle.std.specs.Prelude.{Bool, true, false, ℕ, zero, suc, ◌&&◌, ◌==◌, List, [], ◌∷◌, ◌++◌, map, Option, Some}
 use Rattle.std.specs.Prelude.{if◌then◌else◌}
 use Rattle.jt_tap.specs.declared.Column.{Column}
 use Rattle.scan_vectors.specs.declared.part.Part.{Part}

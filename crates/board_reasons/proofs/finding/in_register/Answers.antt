@@ -1,6 +1,5 @@
-use Rattle.std.proofs.Common.{◌≡◌, ℕ, sym, ap, ◌∙◌}
+use Rattle.std.proofs.Common.{sym, ap, ◌∙◌}
 use Rattle.jt_tap.specs.declared.Column.TheVariants.{Dr}
-use Rattle.chip_instructions.specs.declared.Selected.{Selected}
 use Rattle.board_model.specs.Chain.{members}
 use Rattle.board_chips.specs.WiredChips.{chip_state, member_of}
 use Rattle.board_reasons.specs.declared.origins.Captured.{Captured}

@@ -1,4 +1,4 @@
-use Rattle.std.proofs.Common.{◌≡◌, Some, Bool, sym, ap, ◌∙◌}
+use Rattle.std.proofs.Common.{Some, Bool, sym, ap, ◌∙◌}
 use Rattle.std.specs.Prelude.{◌&&◌, not, bytes_eq}
 use Rattle.std.specs.List.{list_any}
 use Rattle.board_reasons.proofs.Instructions.{extest_by_name}

@@ -1,6 +1,6 @@
-use Rattle.std.proofs.Common.{◌≡◌, List, ℕ, Bool, Option, Some, true, sym, ap, ◌∙◌}
+use Rattle.std.proofs.Common.{Option, Some, true, ap, ◌∙◌}
 use Rattle.bsdl_device.specs.Device.{Device, Name}
-use Rattle.chip_instructions.specs.Instruction.{instruction, meaning, meaning_of}
+use Rattle.chip_instructions.specs.Instruction.{meaning_of}
 use Rattle.boundary.specs.Cells.{takes_update}
 use Rattle.board_reasons.proofs.finding.is_in_extest.Goals as goal
 

@@ -1,4 +1,4 @@
-use Rattle.std.proofs.Common.{◌≡◌, Bool, true, false, sym, ap, ◌∙◌}
+use Rattle.std.proofs.Common.{Bool, false, sym, ap, ◌∙◌}
 use Rattle.chip_instructions.specs.Instruction.{meaning}
 use Rattle.boundary.specs.Cells.{takes_update}
 use Rattle.board_reasons.proofs.Instructions.{update_split}

@@ -1,5 +1,4 @@
-use Rattle.std.proofs.Common.{◌≡◌, ◌<◌, Bool, true, false, length, sym, ap, ◌∙◌, ⊎_elim, arith, slice_get, Some}
-use Rattle.std.proofs.lemmas.Option.{slice_get_within}
+use Rattle.std.proofs.Common.{◌≡◌, ◌<◌, true, false, sym, ◌∙◌, ⊎_elim, arith}
 use Rattle.scan_vectors.specs.Fields.{part_of}
 use Rattle.scan_vectors.specs.Held.{bits, fields}
 use Rattle.board_reasons.specs.Reasons.{is_same_part}

@@ -1,7 +1,6 @@
-use Rattle.std.proofs.Common.{◌≡◌, ℕ, List, [], ◌∷◌, codes, ap, ◌∙◌}
+use Rattle.std.proofs.Common.{ℕ, List, [], ◌∷◌, codes, ap, ◌∙◌}
 use Rattle.byte_streams.proofs.Fronts.{WritesAll-is}
 use Rattle.output_words.specs.Texts.{texts}
-use Rattle.board_reasons.specs.Lines.{left_out_words}
 use Rattle.board_reasons.proofs.writing.write_by_name.Goals as goal
 
 pub returns : goal.returns
