@@ -135,8 +135,6 @@ fn loop_over_ends<P: End, B: End, O: Sink>(
         Some(planned) => planned.loop_explained(
             alloc, kind, program, player_end, board_end, board, &text, out,
         ),
-        None => Ok(run_loop(
-            alloc, kind, program, player_end, board_end, board, out,
-        )?),
+        None => Ok(run_loop(alloc, kind, program, player_end, board_end, board, out)?),
     }
 }
