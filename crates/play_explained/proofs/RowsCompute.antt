@@ -1,29 +1,14 @@
 -- The lines of plays without a verdict compute.
-use Rattle.std.proofs.Common.{◌≡◌, ◌<◌, ◌++◌, Some, None, refl, ap, ◌∙◌, arith, codes, Option}
+use Rattle.std.proofs.Common.{◌≡◌, ◌<◌, ◌++◌, Some, None, refl, ap, ◌∙◌, arith, codes, Option, List, ℕ}
 use Rattle.std.proofs.lemmas.Fmt.{decimal_digit}
-use Rattle.svf_lex.specs.Cutting.{cut}
 use Rattle.output_words.specs.declared.lines.Position.{Position}
 use Rattle.play_model.specs.Endings.{verdict_line}
 use Rattle.play_model.specs.declared.ending.Ending.{Ending}
 use Rattle.play_model.specs.declared.ending.Ending.TheVariants.{Pass, Lost, BadAnswer}
-use Rattle.refusal_places.specs.Starts.{statement_position}
+use Rattle.refusal_places.proofs.TextRowsCompute.{statement_rows}
+use Rattle.refusal_places.specs.TextRows.{at}
 use Rattle.play_explained.specs.Lines.{at_line}
-use Rattle.play_explained.specs.Rows.{EndedRows, two}
-
-abbrev at : (line column : _) → Position
-at line column = record { line = line; column = column }
-
-first : statement_position two 1 ≡ Some (at 1 1)
-unfolding cut
-first = refl
-
-second : statement_position two 2 ≡ Some (at 2 1)
-unfolding cut
-second = refl
-
-third : statement_position two 3 ≡ None
-unfolding cut
-third = refl
+use Rattle.play_explained.specs.Rows.{EndedRows}
 
 lost_line : verdict_line (Lost 2) ++ at_line (Some (at 2 1)) ≡ codes "lost command 2\nat line 2 column 1\n"
 lost_line = rw (decimal_digit 2 (omega arith), decimal_digit 1 (omega arith)) refl
@@ -37,15 +22,15 @@ unreached_line = rw (decimal_digit 0 (omega arith)) refl
 past_line : verdict_line (Lost 3) ++ at_line None ≡ codes "lost command 3\n"
 past_line = rw (decimal_digit 3 (omega arith)) refl
 
-with_place : Ending → Option Position → _
+with_place : Ending → Option Position → List ℕ
 with_place ending p = verdict_line ending ++ at_line p
 
 pub ended_rows : EndedRows
 unfolding with_place
 ended_rows = record {
-  lost = ap (with_place (Lost 2)) second ∙ lost_line;
-  bad_answer = ap (with_place (BadAnswer 1 120)) first ∙ bad_line;
+  lost = ap (with_place (Lost 2)) statement_rows.behind_line_feed ∙ lost_line;
+  bad_answer = ap (with_place (BadAnswer 1 120)) statement_rows.first ∙ bad_line;
   before_the_first = unreached_line;
-  behind_the_last = ap (with_place (Lost 3)) third ∙ past_line;
+  behind_the_last = ap (with_place (Lost 3)) statement_rows.no_third ∙ past_line;
   passed = refl;
 }
