@@ -1,5 +1,6 @@
 -- The lines of a play with those that say why its bits fail.
-use Rattle.std.specs.Prelude.{ℕ, ◌==◌, ◌&&◌, Bool, List, [], ◌∷◌, ◌++◌, find, flat_map, Option, option_map, unwrap_or}
+use Rattle.std.specs.Prelude.{ℕ, ◌==◌, ◌&&◌, Bool, List, [], ◌∷◌, ◌++◌, find, flat_map, Option, None, option_map}
+use Rattle.std.specs.Prelude.{unwrap_or}
 use Rattle.pin_nets.specs.Wired.{Net}
 use Rattle.scan_vectors.specs.declared.failures.Mismatch.{Mismatch}
 use Rattle.scan_vectors.specs.Failures.{Found}
@@ -56,13 +57,15 @@ lines_known (InProgram program) f = lines_in_program program.now.steps f
 abbrev pub lines_of_failure : (why : Mismatch → List ℕ) → Option Position → Mismatch → List ℕ
 lines_of_failure why position f = mismatch_line f ++ (at_line position ++ why f)
 
--- How a play ended in which no bit failed, and where the statement starts in which it was lost or got a byte that is no
--- answer.
+-- where the statement starts in which a play was lost or got a byte that is no answer, if it has a place
+abbrev pub stopped_at : (text : List ℕ) → Ending → Option Position
+stopped_at text (Lost command) = statement_position text command
+stopped_at text (BadAnswer command byte) = statement_position text command
+stopped_at text _ = None
+
+-- how a play ended in which no bit failed, and where
 abbrev pub ended_lines : (text : List ℕ) → Ending → List ℕ
-ended_lines text (Lost command) = verdict_line (Lost command) ++ at_line (statement_position text command)
-ended_lines text (BadAnswer command byte) =
-    verdict_line (BadAnswer command byte) ++ at_line (statement_position text command)
-ended_lines text ending = verdict_line ending
+ended_lines text ending = verdict_line ending ++ at_line (stopped_at text ending)
 
 module _ (text : List ℕ) (why : Mismatch → List ℕ) where
   abbrev pub failure_lines : Mismatch → List ℕ

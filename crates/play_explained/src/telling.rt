@@ -75,16 +75,21 @@ pub(crate) fn write_ended<W: Sink>(
     requires { out.old.failures ≡ 0 }
     ensures { WritesAll W.contents out.old out.new (spec.ended_lines text.now ending) result }
 {
+    write_stopped(ending, stopped_at(ending, text), out)
+}
+
+/// Where the statement starts in which a play was lost or got a byte that is no answer.
+fn stopped_at(ending: Ending, text: &[u8]) -> Option<Position>
+    ensures { result ≡ spec.stopped_at text.now ending }
+{
     match ending {
-        Ending::Lost { command } => write_stopped(ending, statement_position(text, command), out),
-        Ending::BadAnswer { command, .. } => {
-            write_stopped(ending, statement_position(text, command), out)
-        }
-        _ => write_verdict(ending, out),
+        Ending::Lost { command } => statement_position(text, command),
+        Ending::BadAnswer { command, .. } => statement_position(text, command),
+        Ending::Pass | Ending::Fail { .. } => None,
     }
 }
 
-/// Writes how a play ended, and where the statement starts in which it did.
+/// Writes how a play ended, and where, if there is a place to tell.
 fn write_stopped<W: Sink>(
     ending: Ending,
     position: Option<Position>,
