@@ -17,6 +17,7 @@ import tempfile
 
 import coverage
 import program
+import reasons
 from inputs import COVER_KINDS, KINDS, WAVE_KINDS, Case, case_of
 from refusal import Refusal
 from waves import waves
@@ -32,7 +33,7 @@ WAVE_FILE = "waves.vcd"
 WORDS = {"check": ["check"], "play": ["play", "--bytes"], "play to the end": ["play", "--bytes", "--all"],
          "describe": ["describe"], "waves": ["play", "--vcd", WAVE_FILE],
          "waves to the end": ["play", "--all", f"--vcd={WAVE_FILE}"],
-         "cover": ["cover"], "cover, listed": ["cover", "--list"]}
+         "reasons": ["play", "--all", "--explain"], "cover": ["cover"], "cover, listed": ["cover", "--list"]}
 
 
 def toml(value) -> str:
@@ -69,6 +70,7 @@ def expected(case: Case) -> dict[str, program.Answer]:
         answers["play"] = program.play(board, its_program)
         if answers["play"].status:  # a play that passes is the same to the end
             answers["play to the end"] = program.play(board, its_program, to_the_end=True)
+            answers["reasons"] = reasons.explain(board, its_program, case.text, to_the_end=True)
     return answers
 
 
