@@ -1,7 +1,7 @@
-"""What `play --explain` adds behind the line of each failing bit: where its statement starts, what was wanted, and where
-the bit came from.
+"""What `play --explain` adds behind the line of each failing bit.
 
-Each bit of the joined registers and of the vector behind them has a label, which moves through the scan as the bit does.
+That is where its statement starts, what was wanted, and where the bit came from. Each bit of the joined registers and
+of the vector behind them has a label, which moves through the scan as the bit does.
 """
 
 from __future__ import annotations
@@ -41,7 +41,8 @@ def starts(text: bytes) -> list[tuple[int, int]]:
                 is_open = True
                 found.append((line, column))
         if byte in b"\r\n":
-            line += 0 if text[at - 1:at + 1] == b"\r\n" else 1  # a line feed behind a carriage return ends no second line
+            # A line feed behind a carriage return ends no second line.
+            line += 0 if text[at - 1:at + 1] == b"\r\n" else 1
             column = 1
         else:
             column += 1
@@ -86,7 +87,7 @@ def labels_of(name: str, board: Board, whole: WholeBoard, chip: Chip, column: st
     if register == "bypass":
         return [f"{name} bypass by {bypass_label(chip)}"]
     if register not in ("instruction", "identification"):
-        # The accesses are kept from the last on; one without a length selects a register of the standard, whatever its name.
+        # The accesses are kept from the last on; one without a length selects a register of the standard.
         first = [own for own, access in chip.device.accesses.items()
                  if access.register == register and access.length is not None][-1]
         register = f"register of {first}"

@@ -5,7 +5,8 @@ use Rattle.board_model.specs.Cells.{Member}
 
 -- in the one as in the other, device by device
 abbrev pub CaptureAlike : List PlannedDevice → List Member → Type 0
-CaptureAlike devices ms = map (λ (p : PlannedDevice). p.extest_update) devices ≡ map (λ (m : Member). m.extest_update) ms
+CaptureAlike devices ms =
+    map (λ (p : PlannedDevice). p.extest_update) devices ≡ map (λ (m : Member). m.extest_update) ms
 
 -- whether EXTEST captures the update stage of the device at a place
 abbrev pub updates_at : List PlannedDevice → ℕ → Bool

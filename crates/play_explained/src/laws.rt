@@ -11,8 +11,8 @@ pub fn every_failure_is_explained()
 {}
 
 /// Of every text: behind the line of each failing bit stands where its statement starts and why it failed, behind that
-/// of a play that was lost or got a bad answer where that statement starts, and nothing else is told that a play without
-/// reasons does not tell.
+/// of a play that was lost or got a bad answer where that statement starts, and nothing else is told that a play
+/// without reasons does not tell.
 pub fn reasons_alone_are_added()
     ensures { ReasonsAloneAreAdded }
 {}

@@ -112,8 +112,8 @@ fn other_board(alloc: Global, ending: Ending, plan: &Plan) -> Result<Option<Boar
     }
 }
 
-/// Writes how a play of this kind ended, with the reasons as they are found on the board of a plan, which is there where
-/// there are any, and the report of a board.
+/// Writes how a play of this kind ended, with the reasons as they are found on the board of a plan, which is there
+/// where there are any, and the report of a board.
 fn write_by_other<W: Sink>(
     kind: Kind,
     ending: Ending,
@@ -134,8 +134,8 @@ fn write_by_other<W: Sink>(
     write_report(board, out)
 }
 
-/// Writes how a play of this kind ended, with the reasons as they are found on the board of a plan, which is there where
-/// there are any.
+/// Writes how a play of this kind ended, with the reasons as they are found on the board of a plan, which is there
+/// where there are any.
 fn write_if_failed<W: Sink>(
     kind: Kind,
     ending: Ending,

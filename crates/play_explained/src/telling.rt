@@ -39,8 +39,8 @@ pub enum Known<'a> {
 
 /// Writes how a play of this kind ended: the line of its verdict, or of one that plays on all failures that are listed
 /// and how many there were; and behind the line of each failing bit where its statement starts, `at line 3 column 1`,
-/// what was wanted, `wanted 0 got 1`, and where a board is known where the bit that came had stood. Behind the line of a
-/// play that was lost or got a bad answer stands where that statement starts.
+/// what was wanted, `wanted 0 got 1`, and where a board is known where the bit that came had stood. Behind the line of
+/// a play that was lost or got a bad answer stands where that statement starts.
 ///
 /// `Broken` comes exactly where the writer's first failure came in this call.
 pub fn write_explained<W: Sink>(
