@@ -1,6 +1,6 @@
 -- What was told of a run whose writer or memory failed.
 use Rattle.std.proofs.Common.{◌≡◌, ◌++◌, List, ℕ, refl, sym, ap, ◌∙◌, append_assoc, Option, Result, Ok}
-use Rattle.std.specs.Prelude.{Err, IsErr, IsErrAnd, IsOk}
+use Rattle.std.specs.Prelude.{Err, IfOk, IsErr, IsErrAnd, IsOk}
 use Rattle.std.specs.Io.KnownBytes.{Appends}
 use Rattle.byte_streams.specs.Counts.{CountedView}
 use Rattle.byte_streams.specs.Writes.{AppendsFront, WritesAll}
@@ -43,3 +43,8 @@ pub lost-has-memory : {B : Type 0} (result : Result B Untold) → IsErrAnd resul
 lost-has-memory (Err Broken) so lacks = cc
 lost-has-memory (Err NoMemory) so lacks = cc
 lost-has-memory (Ok x) so lacks = so
+
+-- of a run that was lost no status is told
+pub no-status : {B : Type 0} {P : Untold → Type 0} {Q : B → Type 0} (result : Result B Untold) → IsErrAnd result P → IfOk result Q
+no-status (Err e) so = tt
+no-status (Ok x) so = absurd so
