@@ -45,6 +45,6 @@ lost-has-memory (Err NoMemory) so lacks = cc
 lost-has-memory (Ok x) so lacks = so
 
 -- of a run that was lost no status is told
-pub no-status : {B : Type 0} {P : Untold → Type 0} {Q : B → Type 0} (result : Result B Untold) → IsErrAnd result P → IfOk result Q
-no-status (Err e) so = tt
-no-status (Ok x) so = absurd so
+pub no-status : (result : Result ℕ Untold) (status : ℕ) → IsErrAnd result (λ x. x ≡ Broken) → IfOk result (λ s. s ≡ status)
+no-status (Err e) status so = tt
+no-status (Ok x) status so = absurd so

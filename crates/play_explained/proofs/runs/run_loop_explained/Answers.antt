@@ -4,11 +4,13 @@ use Rattle.byte_streams.proofs.Fronts.{WritesAll-is}
 use Rattle.svf_programs.specs.Sizes.{program_of}
 use Rattle.svf_programs.specs.Steps.{Program}
 use Rattle.board_model.specs.Chain.{BoardState}
+use Rattle.board_plan.specs.declared.plan.PlannedDevice.{PlannedDevice}
 use Rattle.board_plan.specs.View.{wiring}
 use Rattle.board_reasons.specs.Planned.{CaptureAlike}
 use Rattle.jt_board.specs.Made.{board_of}
 use Rattle.jt_board.specs.Report.{report}
 use Rattle.play_model.specs.DirectPlay.{opened_state}
+use Rattle.play_model.specs.Endings.{status_of}
 use Rattle.play_model.specs.Streams.{StreamState}
 use Rattle.jt_player.specs.Loops.{LoopsAllOver}
 use Rattle.play_explained.specs.Lines.{explained_lines}
@@ -20,7 +22,8 @@ use Rattle.play_explained.proofs.runs.run_loop_explained.Goals as goal
 pub write_with_report-requires-clause-alike : goal.write_with_report-requires-clause-alike
 write_with_report-requires-clause-alike g c =
     let plan = c.args.plan.now in
-    subst (λ (b : BoardState). CaptureAlike plan.devices.items (opened_state b).members) (sym c.in_ok-other.ensures) (planned_alike plan)
+    subst (λ (l : List PlannedDevice). CaptureAlike l (opened_state c.in_ok-other.other).members) (sym c.deref.ensures.value)
+    (subst (λ (b : BoardState). CaptureAlike plan.devices.items (opened_state b).members) (sym c.in_ok-other.ensures) (planned_alike plan))
 
 pub returns-in_err-other-clause-played : goal.returns-in_err-other-clause-played
 returns-in_err-other-clause-played g c = λ has. absurd (has c.from_residual.ensures.1)
@@ -44,11 +47,11 @@ returns-in_err-write_with_report-clause-played g c = λ has.
           c.loop_over_lent-ending.new.board_end s.kind s.program a.board.now left ending p.found)
           fresh c.loop_over_lent-ending.ensures.played,
       told-lost g.O.Write.contents a.out.now c.write_with_report.new.out
-          (explained_lines a.text.now (why_on a.kind (program_of a.program) (board_of (wiring a.plan.now))) a.kind ending p.found ++ report left) _ _
+          (explained_lines a.text.now (why_on a.kind (program_of a.program) (board_of (wiring a.plan.now))) a.kind ending p.found ++ report left) _ c.from_residual-in_err-write_with_report.result
           (WritesAll-is (λ i. explained_lines a.text.now (why_on a.kind (same i) (c.in_ok-other.ensures i)) a.kind ending p.found ++ report left)
           c.in_err-write_with_report.ensures)
           refl c.from_residual-in_err-write_with_report.ensures.1,
-      no-status _ c.from_residual-in_err-write_with_report.ensures.1,
+      no-status c.from_residual-in_err-write_with_report.result (status_of ending) c.from_residual-in_err-write_with_report.ensures.1,
     )
 
 pub returns-clause-played : goal.returns-clause-played
@@ -66,8 +69,8 @@ returns-clause-played g c = λ has.
           g.B.Write.contents g.B.Read.remaining a.player_end.now c.loop_over_lent-ending.new.player_end a.board_end.now
           c.loop_over_lent-ending.new.board_end s.kind s.program a.board.now left ending p.found)
           fresh c.loop_over_lent-ending.ensures.played,
-      told-done g.O.Write.contents a.out.now c.write_with_report.new.out
-          (explained_lines a.text.now (why_on a.kind (program_of a.program) (board_of (wiring a.plan.now))) a.kind ending p.found ++ report left) _ _
+      told-done {B = ℕ} g.O.Write.contents a.out.now c.write_with_report.new.out
+          (explained_lines a.text.now (why_on a.kind (program_of a.program) (board_of (wiring a.plan.now))) a.kind ending p.found ++ report left) _ c.status.result
           (WritesAll-is (λ i. explained_lines a.text.now (why_on a.kind (same i) (c.in_ok-other.ensures i)) a.kind ending p.found ++ report left)
           c.in_ok-write_with_report.ensures)
           refl,

@@ -1,8 +1,9 @@
-use Rattle.std.proofs.Common.{◌≡◌, sym, ap, subst, ◌∙◌}
+use Rattle.std.proofs.Common.{◌≡◌, List, sym, ap, subst, ◌∙◌}
 use Rattle.byte_streams.proofs.Fronts.{WritesAll-is}
 use Rattle.scan_vectors.specs.Failures.{found}
 use Rattle.svf_programs.specs.Sizes.{program_of}
 use Rattle.board_model.specs.Chain.{BoardState}
+use Rattle.board_plan.specs.declared.plan.PlannedDevice.{PlannedDevice}
 use Rattle.board_plan.specs.View.{wiring}
 use Rattle.board_reasons.specs.Planned.{CaptureAlike}
 use Rattle.jt_board.specs.Made.{board_of}
@@ -17,7 +18,8 @@ pub write_on_board-requires-clause-alike : goal.write_on_board-requires-clause-a
 write_on_board-requires-clause-alike g c =
     let plan = c.args.plan.now in
     let same : c.in-Some.other ≡ board_of (wiring plan) = other_is c.args.ending c.in-Some.other (board_of (wiring plan)) (sym c.in-Some.is ∙ c.requires.other) in
-    subst (λ (b : BoardState). CaptureAlike plan.devices.items (opened_state b).members) (sym same) (planned_alike plan)
+    subst (λ (l : List PlannedDevice). CaptureAlike l (opened_state c.in-Some.other).members) (sym c.deref.ensures.value)
+    (subst (λ (b : BoardState). CaptureAlike plan.devices.items (opened_state b).members) (sym same) (planned_alike plan))
 
 pub returns-in-Some : goal.returns-in-Some
 returns-in-Some g c =
