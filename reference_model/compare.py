@@ -17,6 +17,7 @@ import tempfile
 
 import coverage
 import program
+import reasons
 from inputs import COVER_KINDS, KINDS, WAVE_KINDS, Case, case_of
 from refusal import Refusal
 from waves import waves, without_strings
@@ -35,7 +36,7 @@ WORDS = {"check": ["check"], "play": ["play", "--bytes"], "play to the end": ["p
          "waves, noted": ["play", "--vcd-fails", "--vcd", WAVE_FILE],
          "waves to the end, noted": ["play", "--all", "--vcd-fails", "--vcd", WAVE_FILE],
          "waves, noted and plain": ["play", "--vcd-plain", "--vcd-fails", "--vcd", WAVE_FILE],
-         "cover": ["cover"], "cover, listed": ["cover", "--list"]}
+         "reasons": ["play", "--all", "--explain"], "cover": ["cover"], "cover, listed": ["cover", "--list"]}
 
 
 def toml(value) -> str:
@@ -72,6 +73,7 @@ def expected(case: Case) -> dict[str, program.Answer]:
         answers["play"] = program.play(board, its_program)
         if answers["play"].status:  # a play that passes is the same to the end
             answers["play to the end"] = program.play(board, its_program, to_the_end=True)
+            answers["reasons"] = reasons.explain(board, its_program, case.text, to_the_end=True)
     return answers
 
 

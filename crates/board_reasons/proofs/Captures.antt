@@ -6,7 +6,6 @@ use Rattle.chip_instructions.specs.declared.Selected.{Selected}
 use Rattle.chip_instructions.specs.declared.Selected.TheVariants.{Bypass, Identification, Boundary, User}
 use Rattle.chip_instructions.specs.Instruction.{meaning}
 use Rattle.boundary.specs.Cells.{drive_in}
-use Rattle.pin_nets.specs.Wired.{Net}
 use Rattle.chip_registers.specs.Registers.{Registers, with_stage, capture_of}
 use Rattle.board_model.specs.Cells.{Member, Told, surroundings}
 use Rattle.board_model.specs.Whole.{capture_member, capture_all}
@@ -14,7 +13,7 @@ use Rattle.board_model.specs.Nets.{told}
 use Rattle.board_model.specs.Following.{AllDriveAlike, DrivesAlike, BitsInForceStay}
 use Rattle.board_reasons.specs.Laws.{CaptureKeepsLevels}
 
-latch_stays : (s : Selected) (bits : List Bool) (r : Registers) → r.latch ≡ (with_stage s bits r).latch
+pub latch_stays : (s : Selected) (bits : List Bool) (r : Registers) → r.latch ≡ (with_stage s bits r).latch
 latch_stays Bypass bits r = refl
 latch_stays Identification bits r = refl
 latch_stays Boundary bits r = refl

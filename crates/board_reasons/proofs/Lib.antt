@@ -1,5 +1,8 @@
+pub mod CapturedCells
 pub mod Captures
+pub mod Instructions
 pub mod Lists
+pub mod PartStarts
 pub mod Places
 pub mod Registers
 pub mod RowsCompute

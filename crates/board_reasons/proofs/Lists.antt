@@ -1,5 +1,5 @@
 -- A bit of two lists in a row, and one that is turned there.
-use Rattle.std.proofs.Common.{◌≡◌, ◌≢◌, Bool, not, ℕ, zero, suc, ◌+◌, ◌<◌, ◌≤◌, List, [], ◌∷◌, ◌++◌, length, take, refl, ap, ◌∙◌, arith, Option, slice_get, Some}
+use Rattle.std.proofs.Common.{◌≡◌, ◌≢◌, Bool, not, ℕ, zero, suc, ◌+◌, ◌<◌, List, [], ◌∷◌, ◌++◌, length, take, refl, ap, arith, slice_get, Some}
 use Rattle.board_reasons.specs.Turned.{turned}
 
 pub get_front : (xs ys : List Bool) (k : ℕ) → k < length xs → slice_get (xs ++ ys) k ≡ slice_get xs k

@@ -1,19 +1,17 @@
 -- Where the bits of a joined vector stand, and what a failing bit's reason tells.
-use Rattle.std.proofs.Common.{◌≡◌, ◌<◌, ◌≤◌, ℕ, zero, suc, ◌+◌, ◌-◌, Bool, true, false, not, List, [], ◌∷◌, ◌++◌, length, map, slice_get, Some, Option, None, refl, sym, ap, subst, ◌∙◌, arith, ⊎_elim, append_assoc, length-take}
+use Rattle.std.proofs.Common.{◌≡◌, ◌<◌, ◌≤◌, ℕ, zero, suc, ◌+◌, ◌-◌, Bool, true, false, not, List, [], ◌∷◌, ◌++◌, length, slice_get, Some, Option, None, refl, sym, ap, subst, ◌∙◌, arith, ⊎_elim, append_assoc, length-take}
 use Rattle.std.proofs.lemmas.List.{append-nil}
 use Rattle.std.specs.Prelude.{◌==◌, ◌&&◌, if◌then◌else◌}
 use Rattle.std.proofs.lemmas.Bool.{cases_lt}
 use Rattle.std.proofs.lemmas.Option.{slice_get_within}
-use Rattle.jt_tap.specs.declared.Column.{Column}
 use Rattle.scan_vectors.specs.declared.part.Part.{Part}
 use Rattle.scan_vectors.specs.declared.part.Part.TheVariants.{Header, Data, Trailer}
 use Rattle.scan_vectors.specs.declared.failures.Mismatch.{Mismatch}
 use Rattle.scan_vectors.specs.Failures.{differing}
 use Rattle.scan_vectors.specs.Vector.{PartBits, VectorBit, bits_from, differs, join, tdis}
-use Rattle.board_model.specs.Cells.{Member}
 use Rattle.board_model.specs.Whole.{joined_bits, out_of_members}
 use Rattle.board_reasons.specs.Origins.{bit_there, origin}
-use Rattle.board_reasons.specs.Reasons.{is_bit, is_one, is_same_part, place_in, wanted_at}
+use Rattle.board_reasons.specs.Reasons.{is_one, is_same_part, place_in, wanted_at}
 use Rattle.board_reasons.specs.Laws.{IsWrong, ReasonTellsTheBit}
 use Rattle.board_reasons.proofs.Verdicts.{comes}
 
@@ -23,7 +21,7 @@ some_is x y e = cc
 -- ---- bits of a part
 
 -- a bit of a part has that part, and counts from the first
-placed : (part : Part) (n : ℕ) (ts ws cs : List Bool) (k : ℕ) (v : VectorBit) → slice_get (bits_from part n ts ws cs) k ≡ Some v → (v.part ≡ part) × (v.place ≡ n + k)
+pub placed : (part : Part) (n : ℕ) (ts ws cs : List Bool) (k : ℕ) (v : VectorBit) → slice_get (bits_from part n ts ws cs) k ≡ Some v → (v.part ≡ part) × (v.place ≡ n + k)
 placed part n [] ws cs k v e = absurd cc
 placed part n (t ∷ ts) [] cs k v e = absurd cc
 placed part n (t ∷ ts) (w ∷ ws) [] k v e = absurd cc
@@ -77,24 +75,24 @@ passed part other apart n (t ∷ ts) (w ∷ ws) (c ∷ cs) rest bit =
 
 -- ---- whole vectors
 
-get_first : (xs ys : List VectorBit) (k : ℕ) → k < length xs → slice_get (xs ++ ys) k ≡ slice_get xs k
+pub get_first : (xs ys : List VectorBit) (k : ℕ) → k < length xs → slice_get (xs ++ ys) k ≡ slice_get xs k
 get_first [] ys k h = absurd (omega (arith, h))
 get_first (x ∷ xs) ys zero h = refl
 get_first (x ∷ xs) ys (suc k) h = get_first xs ys k (omega (arith, h))
 
-get_second : (xs ys : List VectorBit) (k : ℕ) → length xs ≤ k → slice_get (xs ++ ys) k ≡ slice_get ys (k - length xs)
+pub get_second : (xs ys : List VectorBit) (k : ℕ) → length xs ≤ k → slice_get (xs ++ ys) k ≡ slice_get ys (k - length xs)
 get_second [] ys k h = ap (slice_get ys) (omega arith)
 get_second (x ∷ xs) ys zero h = absurd (omega (arith, h))
 get_second (x ∷ xs) ys (suc k) h = get_second xs ys k (omega (arith, h)) ∙ ap (slice_get ys) (omega arith)
 
 -- header, data and trailer
-abbrev headed : PartBits → List VectorBit
+abbrev pub headed : PartBits → List VectorBit
 headed p = bits_from Header 0 p.tdi p.want p.care
 
-abbrev bodied : PartBits → List VectorBit
+abbrev pub bodied : PartBits → List VectorBit
 bodied p = bits_from Data 0 p.tdi p.want p.care
 
-abbrev trailed : PartBits → List VectorBit
+abbrev pub trailed : PartBits → List VectorBit
 trailed p = bits_from Trailer 0 p.tdi p.want p.care
 
 abbrev parted : (h b t : PartBits) → List VectorBit
@@ -138,7 +136,7 @@ parted_found h b t k v at = ⊎_elim
     (cases_lt k (length (headed h)))
 
 -- the bit at a place is found by its part and its place there
-place_found : (h b t : PartBits) (k : ℕ) (v : VectorBit) → slice_get (join h b t) k ≡ Some v → place_in (join h b t) v.part v.place ≡ k
+pub place_found : (h b t : PartBits) (k : ℕ) (v : VectorBit) → slice_get (join h b t) k ≡ Some v → place_in (join h b t) v.part v.place ≡ k
 place_found h b t k v at =
     let same : join h b t ≡ parted h b t = append_assoc (headed h) (bodied b) (trailed t) in
     ap (λ l. place_in l v.part v.place) same ∙ parted_found h b t k v (sym (ap (λ l. slice_get l k) same) ∙ at)

@@ -1,15 +1,15 @@
 -- What a scan's verdict hangs on.
-use Rattle.std.proofs.Common.{◌≡◌, ◌≢◌, Bool, true, false, not, ℕ, ◌<◌, ◌≤◌, List, ◌++◌, length, take, refl, sym, ap, ◌∙◌, arith, slice_get, Option, Some, None, length-take}
+use Rattle.std.proofs.Common.{◌≡◌, Bool, true, false, not, ◌<◌, List, ◌++◌, length, take, refl, sym, ap, ◌∙◌, arith, slice_get, Option, Some, None, length-take}
 use Rattle.std.proofs.lemmas.Option.{slice_get_within}
 use Rattle.jt_tap.specs.declared.Column.{Column}
-use Rattle.scan_vectors.specs.Vector.{VectorBit, differs}
+use Rattle.scan_vectors.specs.Vector.{differs}
 use Rattle.board_model.specs.Cells.{Member}
 use Rattle.board_model.specs.Whole.{joined_bits, out_of_members}
 use Rattle.board_reasons.specs.declared.origins.Origin.{Origin}
 use Rattle.board_reasons.specs.declared.origins.Origin.TheVariants.{Register, Tdi}
 use Rattle.board_reasons.specs.Origins.{origin}
-use Rattle.board_reasons.specs.Laws.{ComesFromOrigin, TurningItTurnsThatBit, NoOtherTurnsIt, VerdictTurnsOnIt, IsWrong, out_turned}
-use Rattle.board_reasons.specs.Turned.{turned, members_turned, tdi_turned}
+use Rattle.board_reasons.specs.Laws.{ComesFromOrigin, TurningItTurnsThatBit, NoOtherTurnsIt, VerdictTurnsOnIt, out_turned}
+use Rattle.board_reasons.specs.Turned.{members_turned, tdi_turned}
 use Rattle.board_reasons.proofs.Lists.{get_taken, turned_taken, turned_long, turned_at}
 use Rattle.board_reasons.proofs.Streams.{stream, there, turns, others_stay}
 

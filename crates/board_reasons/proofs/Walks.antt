@@ -1,6 +1,6 @@
 -- Where the joined registers of a chain are walked from TDO on.
-use Rattle.std.proofs.Common.{◌≡◌, Bool, ℕ, suc, ◌+◌, ◌-◌, ◌<◌, ◌≤◌, List, ◌∷◌, length, drop, get_or, map, Option, Some, None, option_map, slice_get, refl, sym, ap, ◌∙◌, arith}
-use Rattle.std.specs.Prelude.{if◌then◌else◌}
+use Rattle.std.proofs.Common.{◌≡◌, Bool, ℕ, suc, ◌+◌, ◌-◌, ◌<◌, ◌≤◌, List, ◌∷◌, length, drop, Option, Some, option_map, slice_get, sym, ap, ◌∙◌, arith}
+use Rattle.std.specs.Prelude.{false, if◌then◌else◌, unwrap_or}
 use Rattle.std.proofs.lemmas.Bool.{lt-ltb, le-ltb}
 use Rattle.std.proofs.lemmas.List.{drop_all, drop_more}
 use Rattle.std.proofs.lemmas.Option.{get_or_from_slice_get, slice_get-map, slice_get_within}
@@ -12,7 +12,9 @@ use Rattle.pin_nets.specs.Wired.{Net}
 use Rattle.board_reasons.specs.declared.origins.Holder.{Holder}
 use Rattle.board_reasons.specs.declared.origins.Origin.{Origin}
 use Rattle.board_reasons.specs.declared.origins.Origin.TheVariants.{Register, Tdi}
+use Rattle.board_plan.specs.declared.plan.PlannedDevice.{PlannedDevice}
 use Rattle.board_reasons.specs.Origins.{origin_from}
+use Rattle.board_reasons.specs.Planned.{CaptureAlike, updates_at}
 
 pub member_there : (chips : List ChipState) (i : ℕ) (s : ChipState) → slice_get chips i ≡ Some s → slice_get (members chips) i ≡ Some s.member
 member_there chips i s here = slice_get-map (λ (c : ChipState). c.member) chips i ∙ ap (option_map (λ (c : ChipState). c.member)) here
@@ -49,3 +51,12 @@ module _ (nets : List Net) (chips : List ChipState) (device bit : ℕ) where
   -- bits that every device would hold alike
   pub held_alike : (s : ChipState) (f : Member → Holder) (h : Holder) → slice_get chips device ≡ Some s → f s.member ≡ h → option_map f (slice_get (members chips) device) ≡ Some h
   held_alike s f h here same = ap (option_map f) (there s here) ∙ ap (λ x. Some x) same
+
+-- ---- which devices capture their update stages under EXTEST
+
+pub alike_at : (devices : List PlannedDevice) (ms : List Member) (k : ℕ) (m : Member) → CaptureAlike devices ms → slice_get ms k ≡ Some m → updates_at devices k ≡ m.extest_update
+alike_at devices ms k m alike here =
+    let planned = λ (p : PlannedDevice). p.extest_update in
+    let mine = λ (x : Member). x.extest_update in
+    ap (λ (o : Option Bool). unwrap_or o false)
+    (sym (slice_get-map planned devices k) ∙ ap (λ (l : List Bool). slice_get l k) alike ∙ slice_get-map mine ms k ∙ ap (option_map mine) here)

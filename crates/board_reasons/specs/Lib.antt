@@ -2,6 +2,7 @@ pub mod Holders
 pub mod Laws
 pub mod Lines
 pub mod Origins
+pub mod Planned
 pub mod Reasons
 pub mod Rows
 pub mod Samples

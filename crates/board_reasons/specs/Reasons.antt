@@ -1,5 +1,5 @@
 -- Why a bit of a scan failed: what was wanted, and what held the bit that came in its place.
-use Rattle.std.specs.Prelude.{Bool, true, false, ℕ, zero, suc, ◌&&◌, ◌==◌, List, [], ◌∷◌, ◌++◌, map, Option, Some, None}
+use Rattle.std.specs.Prelude.{Bool, true, false, ℕ, zero, suc, ◌&&◌, ◌==◌, List, [], ◌∷◌, ◌++◌, map, Option, Some}
 use Rattle.std.specs.Prelude.{if◌then◌else◌}
 use Rattle.jt_tap.specs.declared.Column.{Column}
 use Rattle.scan_vectors.specs.declared.part.Part.{Part}
@@ -42,7 +42,7 @@ wanted_at (v ∷ vs) (suc k) = wanted_at vs k
 -- why a wanted bit did not come out of a chain whose registers have captured
 abbrev pub reason : List Net → List Member → Column → List VectorBit → Mismatch → Reason
 reason nets ms column v f =
-    let k = place_in v f.part f.bit in record { wanted = wanted_at v k; holder = holder nets ms column k }
+    let k = place_in v f.part f.bit in record { wanted = wanted_at v k; holder = holder nets ms column v k }
 
 -- the reasons of all wanted bits that do not come out of a scan from rest
 abbrev pub scan_reasons : Column → List VectorBit → AtRest → List Reason

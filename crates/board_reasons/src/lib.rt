@@ -10,6 +10,6 @@ mod writing;
 
 pub use board_chain::Chain;
 pub use finding::{holder_of, origin_of, reason_of};
-pub use origins::{Holder, NetLevel, Origin, Reason};
+pub use origins::{Captured, Holder, NetLevel, Origin, Reason, SelectedBy};
 pub use vectors::{is_same_part, place_in, wanted_at};
 pub use writing::{write_reason, write_wanted};

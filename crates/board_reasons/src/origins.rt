@@ -1,6 +1,7 @@
 //! Where a bit that comes out of a scan stood when the scan began: in a register of a device, as it stood captured, or
 //! among the bits that went in. And the lines that say so.
 use pin_nets::Level;
+use scan_vectors::Part;
 
 pub mod laws;
 
@@ -28,12 +29,39 @@ pub struct NetLevel {
     pub level: Level,
 }
 
+/// What a boundary cell captured.
+#[derive(Debug, Clone, Copy, PartialEq, Eq)]
+pub enum Captured {
+    /// The bit that the core of its device has for it.
+    Core,
+    /// Its own bit of the update stage.
+    Update,
+    /// What its port sees: the net of the port, if that is on one with a name, with the level before the capture.
+    Sight(Option<NetLevel>),
+}
+
+/// The instruction by which a register is selected.
+#[derive(Debug, Clone, Copy, PartialEq, Eq)]
+pub enum SelectedBy {
+    /// BYPASS, which all ones are also where no row says so.
+    AllOnes,
+    /// That of this row of the description's opcodes, counted from 0.
+    Row(usize),
+    /// None: the opcode stands in no row.
+    NoRow,
+}
+
 /// What held a bit that came out of a scan. Devices are counted from 0, the one nearest TDO; bits and cells from 0, the
 /// one nearest TDO.
 #[derive(Debug, Clone, Copy, PartialEq, Eq)]
 pub enum Holder {
-    /// The bypass register of this device.
-    Bypass(usize),
+    /// The bypass register of a device.
+    Bypass {
+        /// Which device.
+        device: usize,
+        /// The instruction that had selected it.
+        by: SelectedBy,
+    },
     /// The identification register of a device.
     Identification {
         /// Which device.
@@ -63,11 +91,16 @@ pub enum Holder {
         device: usize,
         /// Which cell.
         cell: usize,
-        /// The net of its port, if it has one and that is on a net with a name, with the level before the capture.
-        net: Option<NetLevel>,
+        /// What it captured.
+        captured: Captured,
     },
-    /// The bits that went in at TDI: this one has passed the whole chain.
-    Tdi(usize),
+    /// The vector that went in at TDI: this bit of it has passed the whole chain.
+    Tdi {
+        /// The part of the vector in which it stands.
+        part: Part,
+        /// Its place there.
+        bit: usize,
+    },
 }
 
 /// Why a bit of a scan failed.

@@ -1,42 +1,38 @@
 //! Bits of a whole vector, by their part and their place there.
 
-ghost use Rattle.std.specs.Prelude.{◌≡◌, ◌<◌, ◌==◌, ◌&&◌, length, option_map, slice_get, Some};
+ghost use Rattle.std.specs.Prelude.{◌≡◌, ◌<◌, ◌≤◌, ◌-◌, ℕ, length, option_map, slice_get, Some};
+ghost use Rattle.scan_vectors.specs.declared.part.Part as declared;
 ghost use Rattle.scan_vectors.specs.Held.{bits};
 ghost use Rattle.board_reasons.specs.Reasons as spec;
 
 use scan_vectors::{Part, Vector};
 
 /// Where a bit of a part stands in a whole vector, counted from the bit that goes first; the vector's length where
-/// there is no such bit. Takes no memory.
+/// there is no such bit. Takes no memory, and looks at one bit of each part.
 pub fn place_in(vector: &Vector, part: Part, bit: usize) -> usize
     ensures { result ≡ spec.place_in (bits vector.now) part bit }
 {
-    let len = vector.len();
-    if bit >= len {
-        return len;
-    }
-    // No bit stands before its place in its part.
-    for place in bit..len {
-        if is_bit(vector, place, part, bit) {
-            return place;
+    let mut end = vector.len();
+    while end > 0 {
+        let (last, place) = last_before(vector, end);
+        let start = end - 1 - place;
+        if is_same_part(last, part) && bit <= place {
+            return start + bit;
         }
+        end = start;
     }
-    len
+    vector.len()
 }
 
-/// Whether the bit at a place of a vector is this bit of this part.
-fn is_bit(vector: &Vector, place: usize, part: Part, bit: usize) -> bool
-    requires { place < length (bits vector.now) }
-    ensures { option_map (spec.is_bit part bit) (slice_get (bits vector.now) place) ≡ Some result }
+/// The part and the place there of the bit before a place of a vector.
+fn last_before(vector: &Vector, end: usize) -> (Part, usize)
+    requires some { 0 < end }
+    requires inside { end ≤ length (bits vector.now) }
+    ensures part { option_map {U = declared.Part × ℕ} (λ b. (b.part, b.place)) (slice_get (bits vector.now) (end - 1))
+        ≡ Some result }
+    ensures room { result.1 < end }
 {
-    is_there(vector.part(place), part, bit)
-}
-
-/// Whether a part and a place there are these.
-fn is_there(found: (Part, usize), part: Part, bit: usize) -> bool
-    ensures { result ≡ (spec.is_same_part found.0 part && found.1 == bit) }
-{
-    is_same_part(found.0, part) && found.1 == bit
+    vector.part(end - 1)
 }
 
 /// Whether two parts are one.

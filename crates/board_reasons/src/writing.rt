@@ -1,5 +1,5 @@
 //! The lines that say why a bit of a scan failed.
-ghost use Rattle.std.specs.Prelude.{◌≡◌, [], ◌∷◌, codes, decimal, slice_get};
+ghost use Rattle.std.specs.Prelude.{◌≡◌, [], ◌∷◌, ◌++◌, codes, decimal, option_map, slice_get, unwrap_or};
 ghost use Rattle.output_words.specs.Texts.{texts};
 ghost use Rattle.byte_streams.specs.Writes.{WritesAll};
 ghost use Rattle.board_model.specs.Chain.{members};
@@ -9,14 +9,16 @@ ghost use Rattle.board_description.specs.Words as words;
 ghost use Rattle.board_reasons.specs.Lines as spec;
 ghost use Rattle.board_reasons.specs.Reasons.{reason_lines};
 
-use crate::origins::{Holder, NetLevel, Reason};
-use crate::words::user_words;
+use crate::origins::{Captured, Holder, NetLevel, Reason, SelectedBy};
+use crate::words::{cell_at, user_words};
 use board_chain::{Chain, WiredChip};
 use board_description::function_word;
-use bsdl_device::{Cell, Device, PortBit};
+use board_plan::is_left_out;
+use bsdl_device::{Cell, Device, Function, PortBit};
 use byte_streams::{Broken, Counted, Sink, put_all, put_pieces};
 use itoa::Buffer;
 use output_words::level_word;
+use scan_vectors::Part;
 
 /// Writes why a bit of a scan failed: what was wanted, and where the bit that came in its place had stood.
 ///
@@ -55,8 +57,8 @@ fn write_from<W: Sink>(chain: &Chain, holder: Holder, out: &mut Counted<W>) -> R
         result }
 {
     match holder {
-        Holder::Tdi(bit) => write_tdi(bit, out),
-        Holder::Bypass(device) => write_of_device(chain, device, holder, out),
+        Holder::Tdi { part, bit } => write_tdi(part, bit, out),
+        Holder::Bypass { device, .. } => write_of_device(chain, device, holder, out),
         Holder::Identification { device, .. } => write_of_device(chain, device, holder, out),
         Holder::User { device, .. } => write_of_device(chain, device, holder, out),
         Holder::Instruction { device, .. } => write_of_device(chain, device, holder, out),
@@ -65,16 +67,32 @@ fn write_from<W: Sink>(chain: &Chain, holder: Holder, out: &mut Counted<W>) -> R
 }
 
 /// Writes the line of a bit that went in at TDI.
-fn write_tdi<W: Sink>(bit: usize, out: &mut Counted<W>) -> Result<(), Broken>
+fn write_tdi<W: Sink>(part: Part, bit: usize, out: &mut Counted<W>) -> Result<(), Broken>
     requires { out.old.failures ≡ 0 }
-    ensures { WritesAll W.contents out.old out.new
-        (texts (codes "from TDI bit " ∷ decimal bit ∷ codes "\n" ∷ [])) result }
+    ensures { WritesAll W.contents out.old out.new (spec.tdi_line part bit) result }
 {
     let mut digits = Buffer::new();
     put_pieces(
         out,
-        &[b"from TDI bit ", digits.format(bit).as_bytes(), b"\n"],
+        &[
+            b"from TDI ",
+            part_word(part),
+            b" bit ",
+            digits.format(bit).as_bytes(),
+            b"\n",
+        ],
     )
+}
+
+/// A part of a vector, as the line of a failing bit calls it.
+fn part_word(part: Part) -> &'static [u8]
+    ensures { result.now ≡ spec.part_word part }
+{
+    match part {
+        Part::Header => b"header",
+        Part::Data => b"data",
+        Part::Trailer => b"trailer",
+    }
 }
 
 /// Writes the line of a bit that a device held.
@@ -121,20 +139,85 @@ fn write_holder<W: Sink>(
     requires { out.old.failures ≡ 0 }
     ensures { WritesAll W.contents out.old out.new (spec.holder_words chain.now.nets device.now holder) result }
 {
-    let mut digits = Buffer::new();
     match holder {
-        Holder::Bypass(_) => put_all(out, b"bypass"),
-        Holder::Identification { bit, .. } => put_pieces(
-            out,
-            &[b"identification bit ", digits.format(bit).as_bytes()],
-        ),
+        Holder::Bypass { by, .. } => write_bypass(device, by, out),
+        Holder::Identification { bit, .. } => write_bit(b"identification bit ", bit, out),
         Holder::User { register, bit, .. } => write_user(device, register, bit, out),
-        Holder::Instruction { bit, .. } => put_pieces(
-            out,
-            &[b"instruction bit ", digits.format(bit).as_bytes()],
-        ),
-        Holder::Cell { cell, net, .. } => write_cell(chain, device, cell, net, out),
-        Holder::Tdi(_) => put_all(out, b""),
+        Holder::Instruction { bit, .. } => write_bit(b"instruction bit ", bit, out),
+        Holder::Cell { cell, captured, .. } => write_cell(chain, device, cell, captured, out),
+        Holder::Tdi { .. } => put_all(out, b""),
+    }
+}
+
+/// Writes a bit of a register of this name.
+fn write_bit<W: Sink>(register: &[u8], bit: usize, out: &mut Counted<W>) -> Result<(), Broken>
+    requires { out.old.failures ≡ 0 }
+    ensures { WritesAll W.contents out.old out.new (register.now ++ decimal bit) result }
+{
+    let mut digits = Buffer::new();
+    put_pieces(out, &[register, digits.format(bit).as_bytes()])
+}
+
+/// Writes a bypass register, and by which instruction it was selected.
+fn write_bypass<W: Sink>(
+    device: &Device,
+    by: SelectedBy,
+    out: &mut Counted<W>,
+) -> Result<(), Broken>
+    requires { out.old.failures ≡ 0 }
+    ensures { WritesAll W.contents out.old out.new (codes "bypass" ++ spec.by_words device.now by) result }
+{
+    put_all(out, b"bypass")?;
+    write_by(device, by, out)
+}
+
+/// Writes by which instruction a register was selected.
+fn write_by<W: Sink>(device: &Device, by: SelectedBy, out: &mut Counted<W>) -> Result<(), Broken>
+    requires { out.old.failures ≡ 0 }
+    ensures { WritesAll W.contents out.old out.new (spec.by_words device.now by) result }
+{
+    match by {
+        SelectedBy::AllOnes => put_all(out, b" by instruction BYPASS"),
+        SelectedBy::Row(row) => write_by_row(device, row, out),
+        SelectedBy::NoRow => put_all(out, b" by an opcode without an instruction"),
+    }
+}
+
+/// Writes the instruction of a row, nothing where there is none of this number.
+fn write_by_row<W: Sink>(device: &Device, row: usize, out: &mut Counted<W>) -> Result<(), Broken>
+    requires { out.old.failures ≡ 0 }
+    ensures { WritesAll W.contents out.old out.new (unwrap_or (option_map (spec.by_row device.now)
+        (slice_get device.now.opcodes row)) []) result }
+{
+    match device.opcodes().get(row) {
+        Some(found) => write_by_name(device, found.name(), out),
+        None => put_all(out, b""),
+    }
+}
+
+/// Writes an instruction, and whether it stands for BYPASS.
+fn write_by_name<W: Sink>(device: &Device, name: &str, out: &mut Counted<W>) -> Result<(), Broken>
+    requires { out.old.failures ≡ 0 }
+    ensures { WritesAll W.contents out.old out.new (spec.by_name device.now name.now) result }
+{
+    put_pieces(
+        out,
+        &[
+            b" by instruction ",
+            name.as_bytes(),
+            left_out_words(device, name),
+        ],
+    )
+}
+
+/// That an instruction stands for BYPASS, where it does.
+fn left_out_words<'a>(device: &Device, name: &'a str) -> &'a [u8]
+    ensures { result.now ≡ spec.left_out_words device.now name.now }
+{
+    if is_left_out(device, name) {
+        b" which stands for BYPASS"
+    } else {
+        b""
     }
 }
 
@@ -161,26 +244,19 @@ fn write_user<W: Sink>(
     )
 }
 
-/// Writes a boundary cell, with its port and that one's net.
+/// Writes a boundary cell, and what it captured.
 fn write_cell<W: Sink>(
     chain: &Chain,
     device: &Device,
     cell: usize,
-    net: Option<NetLevel>,
+    captured: Captured,
     out: &mut Counted<W>,
 ) -> Result<(), Broken>
     requires { out.old.failures ≡ 0 }
-    ensures { WritesAll W.contents out.old out.new (spec.cell_line chain.now.nets device.now cell net) result }
+    ensures { WritesAll W.contents out.old out.new (spec.cell_line chain.now.nets device.now cell captured) result }
 {
     write_number(cell, out)?;
-    write_found_cell(chain, device, cell_at(device, cell), net, out)
-}
-
-/// The boundary cell of a number, if there is one.
-fn cell_at(device: &Device, cell: usize) -> Option<Cell>
-    ensures { result ≡ slice_get device.now.cells cell }
-{
-    device.cells().get(cell).copied()
+    write_found_cell(chain, device, cell_at(device, cell), captured, out)
 }
 
 /// Writes the number of a boundary cell.
@@ -192,55 +268,90 @@ fn write_number<W: Sink>(cell: usize, out: &mut Counted<W>) -> Result<(), Broken
     put_pieces(out, &[b"boundary cell ", digits.format(cell).as_bytes()])
 }
 
-/// Writes what a cell is at, nothing where there is none of its number.
+/// Writes what a cell is and captured, nothing where there is none of its number.
 fn write_found_cell<W: Sink>(
     chain: &Chain,
     device: &Device,
     cell: Option<Cell>,
-    net: Option<NetLevel>,
+    captured: Captured,
     out: &mut Counted<W>,
 ) -> Result<(), Broken>
     requires { out.old.failures ≡ 0 }
     ensures { WritesAll W.contents out.old out.new
-        (spec.found_cell chain.now.nets device.now net cell) result }
+        (spec.found_cell chain.now.nets device.now captured cell) result }
 {
     match cell {
-        Some(found) => write_cell_words(chain, device, found, net, out),
+        Some(found) => write_cell_words(chain, device, found, captured, out),
         None => put_all(out, b""),
     }
 }
 
-/// Writes what a cell is at: its port with the net, or what it does where it has none.
+/// Writes a cell: what it does, its port, and what it captured.
 fn write_cell_words<W: Sink>(
     chain: &Chain,
     device: &Device,
     cell: Cell,
-    net: Option<NetLevel>,
+    captured: Captured,
     out: &mut Counted<W>,
 ) -> Result<(), Broken>
     requires { out.old.failures ≡ 0 }
-    ensures { WritesAll W.contents out.old out.new (spec.cell_words chain.now.nets device.now net cell) result }
+    ensures { WritesAll W.contents out.old out.new (spec.cell_words chain.now.nets device.now captured cell) result }
 {
-    match cell.port {
-        None => put_pieces(out, &[b" ", function_word(cell.function)]),
-        Some(port) => write_at_port(chain, device, port, net, out),
+    write_function(cell.function, out)?;
+    write_at_port(device, cell.port, out)?;
+    write_captured(chain, captured, out)
+}
+
+/// Writes what a cell does.
+fn write_function<W: Sink>(function: Function, out: &mut Counted<W>) -> Result<(), Broken>
+    requires { out.old.failures ≡ 0 }
+    ensures { WritesAll W.contents out.old out.new (texts (codes " " ∷ words.function_word function ∷ [])) result }
+{
+    put_pieces(out, &[b" ", function_word(function)])
+}
+
+/// Writes the port of a cell, where it has one.
+fn write_at_port<W: Sink>(
+    device: &Device,
+    port: Option<usize>,
+    out: &mut Counted<W>,
+) -> Result<(), Broken>
+    requires { out.old.failures ≡ 0 }
+    ensures { WritesAll W.contents out.old out.new (spec.at_port device.now port) result }
+{
+    match port {
+        Some(port) => write_named_port(device, port, out),
+        None => put_all(out, b""),
     }
 }
 
-/// Writes a port bit with its net.
-fn write_at_port<W: Sink>(
-    chain: &Chain,
+/// Writes a port bit behind the word for it.
+fn write_named_port<W: Sink>(
     device: &Device,
     port: usize,
-    net: Option<NetLevel>,
     out: &mut Counted<W>,
 ) -> Result<(), Broken>
     requires { out.old.failures ≡ 0 }
-    ensures { WritesAll W.contents out.old out.new (spec.port_and_net chain.now.nets device.now port net) result }
+    ensures { WritesAll W.contents out.old out.new (codes " port " ++ words.port_of device.now port) result }
 {
     put_all(out, b" port ")?;
-    write_port(device, port, out)?;
-    write_net(chain, net, out)
+    write_port(device, port, out)
+}
+
+/// Writes what a cell captured.
+fn write_captured<W: Sink>(
+    chain: &Chain,
+    captured: Captured,
+    out: &mut Counted<W>,
+) -> Result<(), Broken>
+    requires { out.old.failures ≡ 0 }
+    ensures { WritesAll W.contents out.old out.new (spec.captured_words chain.now.nets captured) result }
+{
+    match captured {
+        Captured::Core => put_all(out, b" captured core"),
+        Captured::Update => put_all(out, b" captured update"),
+        Captured::Sight(net) => write_net(chain, net, out),
+    }
 }
 
 /// Writes a port bit of a device.

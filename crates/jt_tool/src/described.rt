@@ -4,12 +4,12 @@ ghost use Rattle.jt_board.specs.Made.{IsReadyPlan};
 
 use board_description::{Untold, write_description};
 use board_plan::Plan;
-use byte_streams::{Counted, Sink};
+use byte_streams::{Counted, End, Sink};
 use command_line::{Descriptions, InputFault, read_board_file};
 use jt_board::{PlanFault, bare_plan, plan_of_table, unplaced};
 use play_coverage::write_cover;
 use play_explained::plain::{Board, BoardFault, Kind, Program, board_table, table_names};
-use play_explained::run_play_explained;
+use play_explained::{run_loop_explained, run_play_explained};
 use play_waves::Stage;
 use std::alloc::{AllocError, Global};
 use std::marker::Model;
@@ -59,13 +59,6 @@ impl From<BoardFault> for Unmade {
     fn from(fault: BoardFault) -> Unmade {
         Unmade::Refused(fault)
     }
-}
-
-/// A board, and where it is asked for the same board once more.
-#[derive(Drop)]
-pub(crate) struct Boards {
-    pub(crate) board: Board,
-    pub(crate) other: Option<Board>,
 }
 
 /// The plan of a board, and the names of the descriptions that it was made of.
@@ -150,19 +143,9 @@ impl Planned {
         self.descriptions.as_slice()
     }
 
-    /// The board as it powers up, and where `twice` is set the same once more.
-    pub(crate) fn boards(&self, alloc: Global, twice: bool) -> Result<Boards, Unmade> {
-        let board = Board::powered_up(alloc, &self.plan)?;
-        let other = self.other(alloc, twice)?;
-        Ok(Boards { board, other })
-    }
-
-    fn other(&self, alloc: Global, wanted: bool) -> Result<Option<Board>, AllocError> {
-        if wanted {
-            Ok(Some(Board::powered_up(alloc, &self.plan)?))
-        } else {
-            Ok(None)
-        }
+    /// The board as it powers up.
+    pub(crate) fn board(&self, alloc: Global) -> Result<Board, Unmade> {
+        Ok(Board::powered_up(alloc, &self.plan)?)
     }
 
     /// The same board, as a stage of waves, for a player of this kind.
@@ -185,6 +168,28 @@ impl Planned {
         requires { out.old.failures ≡ 0 }
     {
         run_play_explained(alloc, kind, program, text, bytes, board, &self.plan, out)
+    }
+
+    /// Plays an accepted program of a text on a board over the two ends of a connection, and tells of each bit that
+    /// fails why, as it is found on the board of the plan. Answers the exit status.
+    pub(crate) fn loop_explained<P: End, B: End, O: Sink>(
+        &self,
+        alloc: Global,
+        kind: Kind,
+        program: Program,
+        player_end: &mut Counted<P>,
+        board_end: &mut Counted<B>,
+        board: &mut Board,
+        text: &[u8],
+        out: &mut Counted<O>,
+    ) -> Result<u8, Untold>
+        requires player_end { player_end.old.failures ≡ 0 }
+        requires board_end { board_end.old.failures ≡ 0 }
+        requires out { out.old.failures ≡ 0 }
+    {
+        run_loop_explained(
+            alloc, kind, program, player_end, board_end, board, text, &self.plan, out,
+        )
     }
 
     /// Writes what is to be known of the board.

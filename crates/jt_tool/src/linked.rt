@@ -1,15 +1,17 @@
 //! Plays over connections: on a server, and of the program with itself.
 ghost use Rattle.std.specs.Prelude.{◌≡◌};
 
+use crate::described::Planned;
 use crate::explained::accept_text;
 use crate::links::{Link, connect, pair};
 use crate::statuses::or_lost;
+use board_description::Untold;
 use byte_streams::{Broken, Counted, End, Plain, Sink};
 use command_line::Server;
 use play_explained::plain::{
     Board, Ending, Kind, Program, run_loop, run_over, tell_unplayed, tell_verdict,
 };
-use play_explained::{run_loop_explained, run_over_explained};
+use play_explained::run_over_explained;
 use std::alloc::Global;
 use std::io;
 
@@ -82,18 +84,18 @@ fn play_over_link<O: Sink>(
     }
 }
 
-/// Plays a text on a board over a connection of the program with itself; where the play is explained, by the same board
-/// once more. Answers the exit status.
+/// Plays a text on a board over a connection of the program with itself; where a plan is given, it is told of each bit
+/// that fails why, as it is found on the board of that plan. Answers the exit status.
 pub(crate) fn loop_over_socket(
     rt: &HostRuntime,
     alloc: Global,
     kind: Kind,
     accepted: AcceptedText,
     board: &mut Board,
-    other: Option<Board>,
-) -> u8 {
+    planned: Option<&Planned>,
+) -> Result<u8, Untold> {
     let mut out = Counted::new(Plain(io::writer(rt)));
-    let status = match pair(rt) {
+    match pair(rt) {
         Ok((player, server)) => {
             let mut player_end = Counted::new(player);
             let mut board_end = Counted::new(server);
@@ -104,16 +106,16 @@ pub(crate) fn loop_over_socket(
                 &mut player_end,
                 &mut board_end,
                 board,
-                other,
+                planned,
                 &mut out,
             )
         }
-        Err(_) => tell_unplayed(UNREACHED, board, &mut out),
-    };
-    or_lost(status)
+        Err(_) => Ok(tell_unplayed(UNREACHED, board, &mut out)?),
+    }
 }
 
-/// Plays a text on a board over the two ends of a connection; where the play is explained, by the same board once more.
+/// Plays a text on a board over the two ends of a connection; where a plan is given, it is told of each bit that fails
+/// why.
 fn loop_over_ends<P: End, B: End, O: Sink>(
     alloc: Global,
     kind: Kind,
@@ -121,18 +123,18 @@ fn loop_over_ends<P: End, B: End, O: Sink>(
     player_end: &mut Counted<P>,
     board_end: &mut Counted<B>,
     board: &mut Board,
-    other: Option<Board>,
+    planned: Option<&Planned>,
     out: &mut Counted<O>,
-) -> Result<u8, Broken>
+) -> Result<u8, Untold>
     requires player_end { player_end.old.failures ≡ 0 }
     requires board_end { board_end.old.failures ≡ 0 }
     requires out { out.old.failures ≡ 0 }
 {
     let AcceptedText { text, program, .. } = accepted;
-    match other {
-        Some(mut other) => run_loop_explained(
-            alloc, kind, program, player_end, board_end, board, &text, &mut other, out,
+    match planned {
+        Some(planned) => planned.loop_explained(
+            alloc, kind, program, player_end, board_end, board, &text, out,
         ),
-        None => run_loop(alloc, kind, program, player_end, board_end, board, out),
+        None => Ok(run_loop(alloc, kind, program, player_end, board_end, board, out)?),
     }
 }

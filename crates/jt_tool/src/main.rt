@@ -8,7 +8,7 @@ mod links;
 mod statuses;
 mod waves;
 
-use crate::described::{Boards, Planned, Unmade, plan_board};
+use crate::described::{Planned, Unmade, plan_board};
 use crate::explained::{accept_text, check_accepted, play_accepted, tell_unmade};
 use crate::linked::{AcceptedText, loop_over_socket, play_on_server};
 use crate::links::{accept, listen};
@@ -103,8 +103,8 @@ fn run_planned(rt: &HostRuntime, alloc: Global, request: &Request<'_>, planned: 
     match request.task {
         Task::Describe => describe_board(rt, alloc, &planned),
         Task::Cover { listed } => cover_board(rt, alloc, request.svf, &planned, listed),
-        task => match planned.boards(alloc, explains(task) && loops(task)) {
-            Ok(boards) => run_boards(rt, alloc, request, planned, boards),
+        task => match planned.board(alloc) {
+            Ok(board) => run_board(rt, alloc, request, planned, board),
             Err(fault) => refuse_board(rt, &fault, explains(task)),
         },
     }
@@ -166,11 +166,6 @@ fn explains(task: Task<'_>) -> bool {
     }
 }
 
-/// Whether a text is played over a connection of the program with itself.
-fn loops(task: Task<'_>) -> bool {
-    matches!(task, Task::Loop { .. })
-}
-
 /// How waves are drawn, where their file is named.
 fn waves_of<'a>(task: Task<'a>) -> Option<Waves<'a>> {
     match task {
@@ -181,41 +176,54 @@ fn waves_of<'a>(task: Task<'a>) -> Option<Waves<'a>> {
 
 /// Does with a board what is asked for. Its plan is kept only where waves are drawn, or reasons found, on the same
 /// board.
-fn run_boards(
+fn run_board(
     rt: &HostRuntime,
     alloc: Global,
     request: &Request<'_>,
     planned: Planned,
-    boards: Boards,
+    board: Board,
 ) -> u8 {
     if let Some(waves) = waves_of(request.task) {
-        return draw_play(rt, alloc, request, waves, &planned, boards.board);
+        return draw_play(rt, alloc, request, waves, &planned, board);
     }
-    if explains(request.task) && !loops(request.task) {
-        let mut board = boards.board;
-        return run_text(
-            rt,
-            alloc,
-            request.svf,
-            request.task,
-            &mut board,
-            Some(&planned),
-        );
+    let mut board = board;
+    if explains(request.task) {
+        return run_task(rt, alloc, request, &mut board, Some(&planned));
     }
     drop(planned);
-    run_alone(rt, alloc, request, boards)
+    run_task(rt, alloc, request, &mut board, None)
 }
 
-/// Does with a board what is asked for and needs no plan.
-fn run_alone(rt: &HostRuntime, alloc: Global, request: &Request<'_>, boards: Boards) -> u8 {
-    let Boards { mut board, other } = boards;
+/// Does with a board what is asked for; where a plan is given, it is told why bits fail, by the board of that plan.
+fn run_task(
+    rt: &HostRuntime,
+    alloc: Global,
+    request: &Request<'_>,
+    board: &mut Board,
+    planned: Option<&Planned>,
+) -> u8 {
     match request.task {
-        Task::Serve(serving) => or_lost(serve(rt, &mut board, serving)),
+        Task::Serve(serving) => or_lost(serve(rt, board, serving)),
         Task::Loop { all, explain } => match read_program(rt, alloc, request.svf, explain) {
-            Ok(accepted) => loop_over_socket(rt, alloc, kind_of(all), accepted, &mut board, other),
+            Ok(accepted) => loop_text(rt, alloc, kind_of(all), accepted, board, planned),
             Err(status) => status,
         },
-        task => run_text(rt, alloc, request.svf, task, &mut board, None),
+        task => run_text(rt, alloc, request.svf, task, board, planned),
+    }
+}
+
+/// Plays a text on a board over a connection of the program with itself. Answers the exit status.
+fn loop_text(
+    rt: &HostRuntime,
+    alloc: Global,
+    kind: Kind,
+    accepted: AcceptedText,
+    board: &mut Board,
+    planned: Option<&Planned>,
+) -> u8 {
+    match loop_over_socket(rt, alloc, kind, accepted, board, planned) {
+        Ok(status) => status,
+        Err(fault) => refuse_untold(rt, fault),
     }
 }
 

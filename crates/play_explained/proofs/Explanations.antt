@@ -12,7 +12,7 @@ use Rattle.scan_vectors.specs.Vector.{tdis}
 use Rattle.play_model.specs.declared.ending.Ending.{Ending}
 use Rattle.play_model.specs.declared.ending.Ending.TheVariants.{Pass, Fail, Lost, BadAnswer}
 use Rattle.play_model.specs.declared.kind.Kind.TheVariants.{PlaysOn, Stops}
-use Rattle.std.specs.Prelude.{flat_map, Option, None}
+use Rattle.std.specs.Prelude.{flat_map, Option, None, Some}
 use Rattle.refusal_places.specs.Starts.{statement_position}
 use Rattle.output_words.specs.declared.lines.Position.{Position}
 use Rattle.std.proofs.lemmas.List.{append-nil}
@@ -25,8 +25,12 @@ use Rattle.play_model.specs.Streams.{most_kept}
 use Rattle.jt_player.proofs.WholePlay.{meant_all}
 use Rattle.jt_board.proofs.InUse.{every_board}
 use Rattle.jt_player.proofs.HeadlineLaws.{legal}
-use Rattle.play_explained.specs.Laws.{EachListedBitHasItsReason, EveryFailureIsExplained, NothingElseIsTold, ReasonsAloneAreAdded}
-use Rattle.play_explained.specs.Lines.{at_line, explained_lines, failure_lines}
+use Rattle.scan_vectors.specs.declared.part.Part.TheVariants.{Header, Data, Trailer}
+use Rattle.board_model.specs.Chain.{BoardState}
+use Rattle.play_model.specs.Endings.{verdict_line}
+use Rattle.play_explained.specs.Laws.{EachListedBitHasItsReason, EveryFailureIsExplained, NothingElseIsTold, PartsAreCalledAlike, ReasonsAloneAreAdded}
+use Rattle.play_explained.specs.Runs.{other_for}
+use Rattle.play_explained.specs.Lines.{at_line, ended_lines, explained_lines, failure_lines}
 use Rattle.play_explained.specs.Laws.{ending_lines_with}
 use Rattle.play_model.specs.declared.kind.Kind.{Kind}
 use Rattle.jt_player.specs.Showing.{ending_lines}
@@ -109,15 +113,20 @@ module _ (text : List ℕ) (none : (n : ℕ) → statement_position text n ≡ N
   each_alone [] = refl
   each_alone (f ∷ fs) = λ i. alone f i ++ each_alone fs i
 
+-- endings without a verdict, in statements without a place
+module _ (text : List ℕ) (none : (n : ℕ) → statement_position text n ≡ None) where
+  no_place : (ending : Ending) (command : ℕ) → verdict_line ending ++ at_line (statement_position text command) ≡ verdict_line ending
+  no_place ending command = ap (λ (p : Option Position). verdict_line ending ++ at_line p) (none command) ∙ append-nil (verdict_line ending)
+
 pub nothing_else : NothingElseIsTold
 nothing_else text PlaysOn (Fail command part bit) found none = ap (λ l. l ++ total_line found.total) (each_alone text none found.list)
 nothing_else text Stops (Fail command part bit) found none = alone text none (record { command = command; part = part; bit = bit })
 nothing_else text PlaysOn Pass found none = refl
-nothing_else text PlaysOn (Lost command) found none = refl
-nothing_else text PlaysOn (BadAnswer command byte) found none = refl
+nothing_else text PlaysOn (Lost command) found none = no_place text none (Lost command) command
+nothing_else text PlaysOn (BadAnswer command byte) found none = no_place text none (BadAnswer command byte) command
 nothing_else text Stops Pass found none = refl
-nothing_else text Stops (Lost command) found none = refl
-nothing_else text Stops (BadAnswer command byte) found none = refl
+nothing_else text Stops (Lost command) found none = no_place text none (Lost command) command
+nothing_else text Stops (BadAnswer command byte) found none = no_place text none (BadAnswer command byte) command
 
 -- the lines of failing bits with nothing behind them
 bare_lines : (fs : List Mismatch) → flat_map (λ (f : Mismatch). mismatch_line f ++ []) fs ≡ flat_map mismatch_line fs
@@ -132,7 +141,8 @@ reasons_added = record {
   where
     by : (text : List ℕ) (why : Mismatch → List ℕ) (kind : Kind) (ending : Ending) (found : Found)
         → explained_lines text why kind ending found
-        ≡ ending_lines_with (λ (f : Mismatch). at_line (statement_position text f.command) ++ why f) kind ending found
+        ≡ ending_lines_with (λ (f : Mismatch). at_line (statement_position text f.command) ++ why f)
+        (λ (command : ℕ). at_line (statement_position text command)) kind ending found
     by text why PlaysOn (Fail command part bit) found = refl
     by text why Stops (Fail command part bit) found = refl
     by text why PlaysOn Pass found = refl
@@ -142,15 +152,39 @@ reasons_added = record {
     by text why Stops (Lost command) found = refl
     by text why Stops (BadAnswer command byte) found = refl
 
-    bare : (kind : Kind) (ending : Ending) (found : Found) → ending_lines_with (λ (f : Mismatch). []) kind ending found ≡ ending_lines kind ending found
+    bare : (kind : Kind) (ending : Ending) (found : Found)
+        → ending_lines_with (λ (f : Mismatch). []) (λ (command : ℕ). []) kind ending found ≡ ending_lines kind ending found
     bare PlaysOn (Fail command part bit) found = ap (λ l. l ++ total_line found.total) (bare_lines found.list)
     bare Stops (Fail command part bit) found = append-nil (mismatch_line (record { command = command; part = part; bit = bit }))
     bare PlaysOn Pass found = refl
-    bare PlaysOn (Lost command) found = refl
-    bare PlaysOn (BadAnswer command byte) found = refl
+    bare PlaysOn (Lost command) found = append-nil (verdict_line (Lost command))
+    bare PlaysOn (BadAnswer command byte) found = append-nil (verdict_line (BadAnswer command byte))
     bare Stops Pass found = refl
-    bare Stops (Lost command) found = refl
-    bare Stops (BadAnswer command byte) found = refl
+    bare Stops (Lost command) found = append-nil (verdict_line (Lost command))
+    bare Stops (BadAnswer command byte) found = append-nil (verdict_line (BadAnswer command byte))
+
+pub called_alike : PartsAreCalledAlike
+called_alike Header = refl
+called_alike Data = refl
+called_alike Trailer = refl
+
+-- where no bit failed, only how it ended is told
+pub ended_is : (text : List ℕ) (why : Mismatch → List ℕ) (kind : Kind) (ending : Ending) (found : Found) (before : BoardState) → None ≡ other_for ending before
+    → ended_lines text ending ≡ explained_lines text why kind ending found
+ended_is text why kind (Fail command part bit) found before none = absurd cc
+ended_is text why PlaysOn Pass found before none = refl
+ended_is text why PlaysOn (Lost command) found before none = refl
+ended_is text why PlaysOn (BadAnswer command byte) found before none = refl
+ended_is text why Stops Pass found before none = refl
+ended_is text why Stops (Lost command) found before none = refl
+ended_is text why Stops (BadAnswer command byte) found before none = refl
+
+-- the board that is there is the one that was meant
+pub other_is : (ending : Ending) (other before : BoardState) → Some other ≡ other_for ending before → other ≡ before
+other_is (Fail command part bit) other before is = cc
+other_is Pass other before is = absurd cc
+other_is (Lost command) other before is = absurd cc
+other_is (BadAnswer command byte) other before is = absurd cc
 
 pub each_listed : EachListedBitHasItsReason
 each_listed kind text program accepted before met =

@@ -33,12 +33,12 @@ module _ (nets : List Net) (ms ns : List Member) (same : plates ms ≡ plates ns
       by_plates nets ms h i ∙ ap (λ ps. unwrap_or (option_map (on_plate nets h) (slice_get ps i)) []) same ∙ sym (by_plates nets ns h i)
 
   from_same : (h : Holder) → from_line nets ms h ≡ from_line nets ns h
-  from_same (Tdi bit) = refl
-  from_same (Bypass device) = device_same (Bypass device) device
+  from_same (Tdi part bit) = refl
+  from_same (Bypass device by) = device_same (Bypass device by) device
   from_same (Identification device bit) = device_same (Identification device bit) device
   from_same (User device k bit) = device_same (User device k bit) device
   from_same (Instruction device bit) = device_same (Instruction device bit) device
-  from_same (Cell device cell shown) = device_same (Cell device cell shown) device
+  from_same (Cell device cell captured) = device_same (Cell device cell captured) device
 
   found_same : (found : Option Reason) → lines_found nets ms found ≡ lines_found nets ns found
   found_same None = refl

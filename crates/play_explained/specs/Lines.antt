@@ -1,5 +1,6 @@
 -- The lines of a play with those that say why its bits fail.
-use Rattle.std.specs.Prelude.{ℕ, ◌==◌, ◌&&◌, Bool, List, [], ◌∷◌, ◌++◌, find, flat_map, Option, option_map, unwrap_or}
+use Rattle.std.specs.Prelude.{ℕ, ◌==◌, ◌&&◌, Bool, List, [], ◌∷◌, ◌++◌, find, flat_map, Option, None, option_map}
+use Rattle.std.specs.Prelude.{unwrap_or}
 use Rattle.pin_nets.specs.Wired.{Net}
 use Rattle.scan_vectors.specs.declared.failures.Mismatch.{Mismatch}
 use Rattle.scan_vectors.specs.Failures.{Found}
@@ -8,7 +9,7 @@ use Rattle.board_model.specs.Cells.{Member}
 use Rattle.board_model.specs.Chain.{members}
 use Rattle.play_model.specs.Endings.{verdict_line}
 use Rattle.play_model.specs.declared.ending.Ending.{Ending}
-use Rattle.play_model.specs.declared.ending.Ending.TheVariants.{Fail}
+use Rattle.play_model.specs.declared.ending.Ending.TheVariants.{Fail, Lost, BadAnswer}
 use Rattle.play_model.specs.declared.kind.Kind.{Kind}
 use Rattle.play_model.specs.declared.kind.Kind.TheVariants.{Stops, PlaysOn}
 use Rattle.output_words.specs.Lines.{position_line, total_line}
@@ -56,13 +57,24 @@ lines_known (InProgram program) f = lines_in_program program.now.steps f
 abbrev pub lines_of_failure : (why : Mismatch → List ℕ) → Option Position → Mismatch → List ℕ
 lines_of_failure why position f = mismatch_line f ++ (at_line position ++ why f)
 
+-- where the statement starts in which a play was lost or got a byte that is no answer, if it has a place
+abbrev pub stopped_at : (text : List ℕ) → Ending → Option Position
+stopped_at text (Lost command) = statement_position text command
+stopped_at text (BadAnswer command byte) = statement_position text command
+stopped_at text _ = None
+
+-- how a play ended in which no bit failed, and where
+abbrev pub ended_lines : (text : List ℕ) → Ending → List ℕ
+ended_lines text ending = verdict_line ending ++ at_line (stopped_at text ending)
+
 module _ (text : List ℕ) (why : Mismatch → List ℕ) where
   abbrev pub failure_lines : Mismatch → List ℕ
   failure_lines f = lines_of_failure why (statement_position text f.command) f
 
-  -- As a play tells without them how it ended and what it found, and behind the line of each failing bit why.
+  -- As a play tells without them how it ended and what it found, behind the line of each failing bit why, and behind
+  -- that of a play that was lost or got a bad answer where.
   abbrev pub explained_lines : Kind → Ending → Found → List ℕ
   explained_lines PlaysOn (Fail command part bit) found = flat_map failure_lines found.list ++ total_line found.total
   explained_lines Stops (Fail command part bit) found =
       failure_lines (record { command = command; part = part; bit = bit })
-  explained_lines kind ending found = verdict_line ending
+  explained_lines kind ending found = ended_lines text ending

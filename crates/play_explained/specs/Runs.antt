@@ -1,7 +1,9 @@
 -- Runs that say why bits fail. The reasons are found on another board, on which the program is played once more.
-use Rattle.std.specs.Prelude.{ℕ, Bool, List, ◌++◌, Option, Some, None}
+use Rattle.std.specs.Prelude.{◌≡◌, ℕ, Bool, List, ◌++◌, Option, Some, None, Result, IsErrAnd}
 use Rattle.scan_vectors.specs.declared.failures.Mismatch.{Mismatch}
 use Rattle.svf_programs.specs.Steps.{Program}
+use Rattle.board_description.specs.declared.whole.Untold.{Untold}
+use Rattle.board_description.specs.declared.whole.Untold.TheVariants.{NoMemory}
 use Rattle.board_model.specs.Chain.{BoardState}
 use Rattle.jt_board.specs.Report.{report}
 use Rattle.play_model.specs.ScheduleLaws.{full}
@@ -33,3 +35,7 @@ explained_run kind bytes text program before other =
 abbrev pub other_for : Ending → BoardState → Option BoardState
 other_for (Fail command part bit) before = Some before
 other_for _ before = None
+
+-- a run was refused for want of memory
+abbrev pub LacksMemory : Result ℕ Untold → Type 0
+LacksMemory result = IsErrAnd result (λ e. e ≡ NoMemory)

@@ -10,6 +10,7 @@ ghost use Rattle.board_model.specs.Chain.{members};
 ghost use Rattle.board_model.specs.Resting.{IsAtRest};
 ghost use Rattle.board_model.specs.Whole as whole;
 ghost use Rattle.board_model.specs.Whole.{AtRest};
+ghost use Rattle.board_reasons.specs.Planned.{CaptureAlike};
 ghost use Rattle.jt_board.specs.Resting.{IsResting};
 ghost use Rattle.play_model.specs.DirectPlay.{opened_state};
 ghost use Rattle.play_model.specs.Meaning as meaning;
@@ -18,12 +19,13 @@ ghost use Rattle.play_explained.specs.Explaining.{explained_of, explained_on, sc
 ghost use Rattle.play_explained.specs.Kept.{plates};
 
 use arrayvec::ArrayVec;
+use board_plan::PlannedDevice;
 use board_reasons::{Chain, Holder, Reason, reason_of};
 use jt_board::Board;
 use jt_player::{end_scan, play_opening, play_step};
 use jt_tap::{Column, State};
 use play_model::Kind;
-use scan_vectors::{Failures, Mismatch, Vector};
+use scan_vectors::{Failures, Mismatch, Part, Vector};
 use svf_programs::{Action, Program, Step};
 
 /// The most bits that are explained: as many as a play to the end lists.
@@ -44,7 +46,10 @@ impl Default for Explained {
             failure: Mismatch::default(),
             reason: Reason {
                 wanted: false,
-                holder: Holder::Tdi(0),
+                holder: Holder::Tdi {
+                    part: Part::Data,
+                    bit: 0,
+                },
             },
         }
     }
@@ -55,7 +60,15 @@ pub type Reasons = ArrayVec<Explained, 256>;
 
 /// Plays an accepted program on a board for why its bits fail: of those that a play of this kind lists, the first or
 /// the first 256, each with its reason. The play ends behind the scan of the last of them. Takes no memory.
-pub fn explain(program: &Program, kind: Kind, board: &mut Board) -> Reasons
+///
+/// Asks that the devices are those that the board was planned of, as far as EXTEST captures their update stages or not.
+pub fn explain(
+    program: &Program,
+    kind: Kind,
+    devices: &[PlannedDevice],
+    board: &mut Board,
+) -> Reasons
+    requires { CaptureAlike devices.now (opened_state board.old).members }
     ensures explained { result.items ≡ explained_on kind (program_of program.now) board.old }
 
     // What is told of a reason, nets, names and descriptions, stays as it was.
@@ -72,7 +85,7 @@ pub fn explain(program: &Program, kind: Kind, board: &mut Board) -> Reasons
         if list.len() >= most {
             return list;
         }
-        explain_step(&step, most, board, &mut list);
+        explain_step(&step, most, devices, board, &mut list);
     }
     list
 }
@@ -89,7 +102,14 @@ fn most_explained(kind: Kind) -> usize
 }
 
 /// Plays a step on a board at rest (asked), and explains the bits that fail, so many in all.
-fn explain_step(step: &Step<'_>, most: usize, board: &mut Board, list: &mut Reasons)
+fn explain_step(
+    step: &Step<'_>,
+    most: usize,
+    devices: &[PlannedDevice],
+    board: &mut Board,
+    list: &mut Reasons,
+)
+    requires alike { CaptureAlike devices.now (members board.old.chips) }
     requires rests { IsResting board.old }
     requires within { IsWithin (seen.step step.now.what) }
     requires most { most ≤ 256 }
@@ -104,7 +124,16 @@ fn explain_step(step: &Step<'_>, most: usize, board: &mut Board, list: &mut Reas
             column,
             vector,
             end,
-        } => explain_scan(step.number, column, &vector, end, most, board, list),
+        } => explain_scan(
+            step.number,
+            column,
+            &vector,
+            end,
+            most,
+            devices,
+            board,
+            list,
+        ),
         Action::Go(_) => pass(step, board),
         Action::Path(_) => pass(step, board),
         Action::Run { .. } => pass(step, board),
@@ -130,9 +159,11 @@ fn explain_scan(
     vector: &Vector,
     end: State,
     most: usize,
+    devices: &[PlannedDevice],
     board: &mut Board,
     list: &mut Reasons,
 )
+    requires alike { CaptureAlike devices.now (members board.old.chips) }
     requires rests { IsResting board.old }
     requires within { length (bits vector.now) ≤ vector_limit }
     requires most { most ≤ 256 }
@@ -148,7 +179,7 @@ fn explain_scan(
     let mut failures = Failures::new();
     board.note(column, vector, command, &mut failures);
     let failed = failures.list.as_slice();
-    explain_each(board.chain(), column, vector, failed, most, list);
+    explain_each(board.chain(), devices, column, vector, failed, most, list);
     board.shift(column, vector);
     end_scan(column, end, board);
 }
@@ -156,27 +187,37 @@ fn explain_scan(
 /// Explains failing bits of a vector on a chain whose registers have captured, so many in all.
 fn explain_each(
     chain: &Chain,
+    devices: &[PlannedDevice],
     column: Column,
     vector: &Vector,
     failures: &[Mismatch],
     most: usize,
     list: &mut Reasons,
 )
+    requires alike { CaptureAlike devices.now (members chain.now.chips) }
     requires most { most ≤ 256 }
     requires listed { length list.old.items ≤ most }
     ensures { list.new.items ≡ take most (list.old.items
         ++ map (explained_of chain.now.nets (members chain.now.chips) column (bits vector.now)) failures.now) }
 {
     for failure in failures {
-        keep(explain_bit(chain, column, vector, *failure), most, list);
+        let explained = explain_bit(chain, devices, column, vector, *failure);
+        keep(explained, most, list);
     }
 }
 
 /// A failing bit of a vector on a chain whose registers have captured, with its reason.
-fn explain_bit(chain: &Chain, column: Column, vector: &Vector, failure: Mismatch) -> Explained
+fn explain_bit(
+    chain: &Chain,
+    devices: &[PlannedDevice],
+    column: Column,
+    vector: &Vector,
+    failure: Mismatch,
+) -> Explained
+    requires { CaptureAlike devices.now (members chain.now.chips) }
     ensures { result ≡ explained_of chain.now.nets (members chain.now.chips) column (bits vector.now) failure }
 {
-    let reason = reason_of(chain, column, vector, failure);
+    let reason = reason_of(chain, devices, column, vector, failure);
     Explained { failure, reason }
 }
 

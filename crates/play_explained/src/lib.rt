@@ -9,7 +9,8 @@
 pub use explaining::{Explained, Reasons, explain};
 pub use jt_player as plain;
 pub use laws::{
-    each_listed_bit_has_its_reason, every_failure_is_explained, reasons_alone_are_added,
+    each_listed_bit_has_its_reason, ended_lines_compute, every_failure_is_explained,
+    parts_are_called_alike, reasons_alone_are_added,
 };
 pub use runs::{run_loop_explained, run_over_explained, run_play_explained};
 pub use telling::{Known, write_explained};

@@ -3,7 +3,6 @@
 ghost use Rattle.std.specs.Prelude.{◌≡◌, ◌⊎◌, ◌++◌, IfOk, OnOk};
 ghost use Rattle.byte_streams.specs.Writes.{WritesAll};
 ghost use Rattle.board_description.specs.Kept.{Told};
-ghost use Rattle.board_model.specs.Chain.{BoardState};
 ghost use Rattle.board_plan.specs.View.{wiring};
 ghost use Rattle.jt_board.specs.Made.{IsReadyPlan, board_of};
 ghost use Rattle.jt_board.specs.Report.{report};
@@ -17,15 +16,17 @@ ghost use Rattle.svf_programs.specs.Sizes.{program_of};
 ghost use Rattle.jt_player.specs.Kinds.{MeansAsPlayed};
 ghost use Rattle.jt_player.specs.Running.{Tells};
 ghost use Rattle.play_explained.specs.Lines.{explained_lines, lines_in_program};
-ghost use Rattle.play_explained.specs.Runs.{explained_run, other_for, why_on};
+ghost use Rattle.board_reasons.specs.Planned.{CaptureAlike};
+ghost use Rattle.play_model.specs.DirectPlay.{opened_state};
+ghost use Rattle.play_explained.specs.Runs.{LacksMemory, explained_run, other_for, why_on};
 
 use crate::explaining::explain;
-use crate::telling::{Known, write_explained};
+use crate::telling::{Known, write_ended, write_explained};
 use board_description::Untold;
-use board_plan::Plan;
+use board_plan::{Plan, PlannedDevice};
 use byte_streams::{Broken, Counted, End, Sink, Source};
 use jt_board::{Board, write_report};
-use jt_player::{fresh_player, loop_over_lent, play_and_note, play_over_lent, write_verdict};
+use jt_player::{fresh_player, loop_over_lent, play_and_note, play_over_lent};
 use play_model::{Ending, Kind};
 use player::Player;
 use scan_vectors::Failures;
@@ -93,7 +94,9 @@ fn play_and_explain<W: Sink>(
 {
     let (ending, failures) = play_and_note(kind, program, board, bytes, out)?;
     let other = other_board(alloc, ending, plan)?;
-    write_by_other(kind, ending, &failures, program, text, other, board, out)?;
+    write_by_other(
+        kind, ending, &failures, program, text, plan, other, board, out,
+    )?;
     Ok(ending.status())
 }
 
@@ -109,47 +112,57 @@ fn other_board(alloc: Global, ending: Ending, plan: &Plan) -> Result<Option<Boar
     }
 }
 
-/// Writes how a play of this kind ended, with the reasons as they are found on the other board, which is there where
-/// there are any, and the report of a board.
+/// Writes how a play of this kind ended, with the reasons as they are found on the board of a plan, which is there
+/// where there are any, and the report of a board.
 fn write_by_other<W: Sink>(
     kind: Kind,
     ending: Ending,
     failures: &Failures,
     program: &Program,
     text: &[u8],
+    plan: &Plan,
     other: Option<Board>,
     board: &Board,
     out: &mut Counted<W>,
 ) -> Result<(), Broken>
     requires whole { out.old.failures ≡ 0 }
-    requires other { (before : BoardState) × (other ≡ other_for ending before) }
-    ensures { (before : BoardState) → other ≡ other_for ending before → WritesAll W.contents out.old out.new
-        (explained_lines text.now (why_on kind (program_of program.now) before) kind ending (found failures.now)
-        ++ report board.now) result }
+    requires other { other ≡ other_for ending (board_of (wiring plan.now)) }
+    ensures { WritesAll W.contents out.old out.new (explained_lines text.now (why_on kind (program_of program.now)
+        (board_of (wiring plan.now))) kind ending (found failures.now) ++ report board.now) result }
 {
-    write_if_failed(kind, ending, failures, program, text, other, out)?;
+    write_if_failed(kind, ending, failures, program, text, plan, other, out)?;
     write_report(board, out)
 }
 
-/// Writes how a play of this kind ended, with the reasons as they are found on the other board, which is there where
-/// there are any.
+/// Writes how a play of this kind ended, with the reasons as they are found on the board of a plan, which is there
+/// where there are any.
 fn write_if_failed<W: Sink>(
     kind: Kind,
     ending: Ending,
     failures: &Failures,
     program: &Program,
     text: &[u8],
+    plan: &Plan,
     other: Option<Board>,
     out: &mut Counted<W>,
 ) -> Result<(), Broken>
-    requires { out.old.failures ≡ 0 }
-    ensures { (before : BoardState) → other ≡ other_for ending before → WritesAll W.contents out.old out.new
-        (explained_lines text.now (why_on kind (program_of program.now) before) kind ending (found failures.now))
-        result }
+    requires whole { out.old.failures ≡ 0 }
+    requires other { other ≡ other_for ending (board_of (wiring plan.now)) }
+    ensures { WritesAll W.contents out.old out.new (explained_lines text.now (why_on kind (program_of program.now)
+        (board_of (wiring plan.now))) kind ending (found failures.now)) result }
 {
     match other {
-        Some(mut other) => write_on_board(kind, ending, failures, program, text, &mut other, out),
-        None => write_verdict(ending, out),
+        Some(mut other) => write_on_board(
+            kind,
+            ending,
+            failures,
+            program,
+            text,
+            &plan.devices,
+            &mut other,
+            out,
+        ),
+        None => write_ended(ending, text, out),
     }
 }
 
@@ -160,14 +173,16 @@ fn write_on_board<W: Sink>(
     failures: &Failures,
     program: &Program,
     text: &[u8],
+    devices: &[PlannedDevice],
     board: &mut Board,
     out: &mut Counted<W>,
 ) -> Result<(), Broken>
-    requires { out.old.failures ≡ 0 }
+    requires whole { out.old.failures ≡ 0 }
+    requires alike { CaptureAlike devices.now (opened_state board.old).members }
     ensures { WritesAll W.contents out.old out.new (explained_lines text.now
         (why_on kind (program_of program.now) board.old) kind ending (found failures.now)) result }
 {
-    let reasons = explain(program, kind, board);
+    let reasons = explain(program, kind, devices, board);
     let known = Known::OnBoard {
         chain: board.chain(),
         explained: reasons.as_slice(),
@@ -177,10 +192,13 @@ fn write_on_board<W: Sink>(
 
 /// Plays an accepted program of a text on a board over the two ends of one connection and tells of it as
 /// `jt_player::run_loop` does, and behind the line of each failing bit where its statement starts and why it failed: it
-/// is played once more on the other board.
-/// Answers the exit status: 0 pass, 1 fail, 3 a lost connection or a byte that is no answer.
+/// is played once more on the board of a plan. Answers the exit status: 0 pass, 1 fail, 3 a lost connection or a byte
+/// that is no answer.
 ///
-/// `Broken` comes exactly where the first failure of `out` came in this call.
+/// Refused for want of memory for that board, before anything is played: all is as it was then. `Broken` comes exactly
+/// where the first failure of `out` came in this call.
+///
+/// Asks that the plan is ready, as those are that `plan_of_table` and `bare_plan` make.
 pub fn run_loop_explained<P: End, B: End, O: Sink>(
     alloc: Global,
     kind: Kind,
@@ -189,39 +207,35 @@ pub fn run_loop_explained<P: End, B: End, O: Sink>(
     board_end: &mut Counted<B>,
     board: &mut Board,
     text: &[u8],
-    other: &mut Board,
+    plan: &Plan,
     out: &mut Counted<O>,
-) -> Result<u8, Broken>
+) -> Result<u8, Untold>
     requires player_end { player_end.old.failures ≡ 0 }
     requires board_end { board_end.old.failures ≡ 0 }
     requires out_whole { out.old.failures ≡ 0 }
-    ensures { (ending : end.Ending) × (all : Found)
+    requires ready { IsReadyPlan plan.now }
+    ensures refused { LacksMemory result → (player_end.new ≡ player_end.old) × (board_end.new ≡ board_end.old)
+        × (board.new ≡ board.old) × (out.new ≡ out.old) }
+    ensures played { ¬ LacksMemory result → (ending : end.Ending) × (all : Found)
         × LoopsAllOver P.puts P.hears B.puts B.hears P.contents P.remaining B.contents B.remaining player_end.old
         player_end.new board_end.old board_end.new kind (program_of program) board.old board.new ending all
-        × Tells O.contents out.old out.new (explained_lines text.now (why_on kind (program_of program) other.old) kind
-        ending all ++ report board.new) (status_of ending) result }
+        × Told O.contents out.old out.new (explained_lines text.now (why_on kind (program_of program)
+        (board_of (wiring plan.now))) kind ending all ++ report board.new) result
+        × IfOk result (λ status. status ≡ status_of ending) }
 {
+    let mut other = Board::powered_up(alloc, plan)?;
     let mut player = fresh_player(alloc, kind, program);
     let ending = loop_over_lent(player_end, board_end, &mut player, board);
-    tell_on_board(kind, ending, &player, text, other, board, out)
-}
-
-/// Writes how the play of a player of this kind ended, with the reasons as they are found on the other board, and the
-/// report of a board. Answers the exit status of the ending.
-fn tell_on_board<O: Sink>(
-    kind: Kind,
-    ending: Ending,
-    player: &Player,
-    text: &[u8],
-    other: &mut Board,
-    board: &Board,
-    out: &mut Counted<O>,
-) -> Result<u8, Broken>
-    requires { out.old.failures ≡ 0 }
-    ensures { Tells O.contents out.old out.new (explained_lines text.now (why_on kind player.now.program other.old)
-        kind ending player.now.found ++ report board.now) (status_of ending) result }
-{
-    write_with_report(kind, ending, player, text, other, board, out)?;
+    write_with_report(
+        kind,
+        ending,
+        &player,
+        text,
+        &plan.devices,
+        &mut other,
+        board,
+        out,
+    )?;
     Ok(ending.status())
 }
 
@@ -232,15 +246,17 @@ fn write_with_report<O: Sink>(
     ending: Ending,
     player: &Player,
     text: &[u8],
+    devices: &[PlannedDevice],
     other: &mut Board,
     board: &Board,
     out: &mut Counted<O>,
 ) -> Result<(), Broken>
-    requires { out.old.failures ≡ 0 }
+    requires whole { out.old.failures ≡ 0 }
+    requires alike { CaptureAlike devices.now (opened_state other.old).members }
     ensures { WritesAll O.contents out.old out.new (explained_lines text.now (why_on kind player.now.program other.old)
         kind ending player.now.found ++ report board.now) result }
 {
-    write_played(kind, ending, player, text, other, out)?;
+    write_played(kind, ending, player, text, devices, other, out)?;
     write_report(board, out)
 }
 
@@ -250,10 +266,12 @@ fn write_played<O: Sink>(
     ending: Ending,
     player: &Player,
     text: &[u8],
+    devices: &[PlannedDevice],
     board: &mut Board,
     out: &mut Counted<O>,
 ) -> Result<(), Broken>
-    requires { out.old.failures ≡ 0 }
+    requires whole { out.old.failures ≡ 0 }
+    requires alike { CaptureAlike devices.now (opened_state board.old).members }
     ensures { WritesAll O.contents out.old out.new (explained_lines text.now (why_on kind player.now.program board.old)
         kind ending player.now.found) result }
 {
@@ -263,6 +281,7 @@ fn write_played<O: Sink>(
         player.failures(),
         player.program(),
         text,
+        devices,
         board,
         out,
     )

@@ -5,6 +5,7 @@ ghost use Rattle.byte_streams.specs.Writes.{WritesAll};
 ghost use Rattle.scan_vectors.specs.Failures.{found};
 ghost use Rattle.board_model.specs.Chain.{members};
 ghost use Rattle.output_words.specs.Lines.{total_line};
+ghost use Rattle.play_model.specs.Endings.{verdict_line};
 ghost use Rattle.jt_player.specs.Showing.{mismatch_line};
 ghost use Rattle.play_explained.specs.Lines as spec;
 ghost use Rattle.play_explained.specs.Passed.{IsAt};
@@ -38,7 +39,8 @@ pub enum Known<'a> {
 
 /// Writes how a play of this kind ended: the line of its verdict, or of one that plays on all failures that are listed
 /// and how many there were; and behind the line of each failing bit where its statement starts, `at line 3 column 1`,
-/// what was wanted, `wanted 0 got 1`, and where a board is known where the bit that came had stood.
+/// what was wanted, `wanted 0 got 1`, and where a board is known where the bit that came had stood. Behind the line of
+/// a play that was lost or got a bad answer stands where that statement starts.
 ///
 /// `Broken` comes exactly where the writer's first failure came in this call.
 pub fn write_explained<W: Sink>(
@@ -59,8 +61,45 @@ pub fn write_explained<W: Sink>(
             let position = statement_position(text, command);
             write_failure(Mismatch { command, part, bit }, position, known, out)
         }
-        _ => write_verdict(ending, out),
+        _ => write_ended(ending, text, out),
     }
+}
+
+/// Writes how a play ended in which no bit failed, and where the statement starts in which it was lost or got a byte
+/// that is no answer.
+pub(crate) fn write_ended<W: Sink>(
+    ending: Ending,
+    text: &[u8],
+    out: &mut Counted<W>,
+) -> Result<(), Broken>
+    requires { out.old.failures ≡ 0 }
+    ensures { WritesAll W.contents out.old out.new (spec.ended_lines text.now ending) result }
+{
+    write_stopped(ending, stopped_at(ending, text), out)
+}
+
+/// Where the statement starts in which a play was lost or got a byte that is no answer.
+fn stopped_at(ending: Ending, text: &[u8]) -> Option<Position>
+    ensures { result ≡ spec.stopped_at text.now ending }
+{
+    match ending {
+        Ending::Lost { command } => statement_position(text, command),
+        Ending::BadAnswer { command, .. } => statement_position(text, command),
+        Ending::Pass | Ending::Fail { .. } => None,
+    }
+}
+
+/// Writes how a play ended, and where, if there is a place to tell.
+fn write_stopped<W: Sink>(
+    ending: Ending,
+    position: Option<Position>,
+    out: &mut Counted<W>,
+) -> Result<(), Broken>
+    requires { out.old.failures ≡ 0 }
+    ensures { WritesAll W.contents out.old out.new (verdict_line ending ++ spec.at_line position) result }
+{
+    write_verdict(ending, out)?;
+    write_place(position, out)
 }
 
 /// Writes the lines of each failing bit that is listed, and how many there were.

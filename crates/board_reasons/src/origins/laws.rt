@@ -1,6 +1,7 @@
 //! What holds of where bits come from, on every chain.
 ghost use Rattle.board_reasons.specs.Laws.{ComesFromOrigin, TurningItTurnsThatBit, NoOtherTurnsIt, VerdictTurnsOnIt};
-ghost use Rattle.board_reasons.specs.Laws.{CaptureKeepsLevels, ReasonTellsTheBit};
+ghost use Rattle.board_reasons.specs.Laws.{CaptureKeepsLevels, ReasonTellsTheBit, TellsTheInstruction};
+ghost use Rattle.board_reasons.specs.Laws.{CellsHoldWhatIsTold, TellsWhereItWentIn};
 ghost use Rattle.board_reasons.specs.Rows.{ReasonRows};
 
 /// The bit that comes out is the one that stood at its origin.
@@ -31,6 +32,24 @@ pub fn captures_keep_levels()
 {
     board_model::the_bits_in_force_stay();
 }
+
+/// Each cell of a boundary register that has captured holds the bit that is told of it: its core's, its own of the
+/// update stage, or what the level of its port's net reads as.
+pub fn cells_hold_what_is_told()
+    ensures { CellsHoldWhatIsTold }
+{
+    board_model::the_bits_in_force_stay();
+}
+
+/// The instruction that is told to have selected a register is the one in the latch.
+pub fn the_instruction_in_the_latch_is_told()
+    ensures { TellsTheInstruction }
+{}
+
+/// A bit that went in is told by its part and its place there, and stands there.
+pub fn bits_are_told_where_they_went_in()
+    ensures { TellsWhereItWentIn }
+{}
 
 /// The reasons of failing scans of a small board, and their lines.
 pub fn reasons_compute()

@@ -1,43 +1,35 @@
-use Rattle.std.proofs.Common.{◌≡◌, ◌+◌, ◌≤◌, ℕ, suc, Bool, drop, length, Some, sym, ap, ◌∙◌, arith}
+use Rattle.std.proofs.Common.{◌≡◌, ◌<◌, true, false, sym, ◌∙◌, ⊎_elim, arith}
 use Rattle.scan_vectors.specs.Fields.{part_of}
 use Rattle.scan_vectors.specs.Held.{bits, fields}
-use Rattle.board_reasons.specs.Reasons as reasons
-use Rattle.board_reasons.proofs.VectorBits.{found_first, found_later, found_nowhere, not_earlier}
+use Rattle.board_reasons.specs.Reasons.{is_same_part}
+use Rattle.board_reasons.proofs.PartStarts.{found_here, none_here, none_past, nowhere}
 use Rattle.board_reasons.proofs.vectors.place_in.Goals as goal
 
-pub returns-then-bit-len : goal.returns-then-bit-len
-returns-then-bit-len c =
+pub loop-end-init : goal.loop-end-init
+loop-end-init c = record {
+  inside = omega (arith, c.len-end.ensures);
+  none = none_past (bits c.args.vector.now) c.len-end.result c.args.part c.args.bit (omega (arith, c.len-end.ensures));
+}
+
+pub returns-then-bit-place : goal.returns-then-bit-place
+returns-then-bit-place c =
     let v = c.args.vector.now in
-    let n = length (bits v) in
-    let none = found_nowhere c.args.part c.args.bit (bits v) n (omega arith) in
-    let at = not_earlier c.args.part c.args.bit (part_of (fields v.header)) (part_of (fields v.body)) (part_of (fields v.trailer)) n (omega arith)
-    (omega (arith, c.if-bit-len.true, c.len-len.ensures)) in
-    omega (arith, none, at, c.len-len.ensures)
+    sym (found_here (part_of (fields v.header)) (part_of (fields v.body)) (part_of (fields v.trailer)) c.loop-end.end c.last_before-last.result c.loop-end-test.true
+    c.args.part c.args.bit c.last_before-last.ensures.part (sym c.is_same_part.ensures ∙ c.if-is_same_part.true) c.if-bit-place.true)
 
-pub loop-place-init : goal.loop-place-init
-loop-place-init c =
+pub loop-end-preserved : goal.loop-end-preserved
+loop-end-preserved c =
     let v = c.args.vector.now in
-    not_earlier c.args.part c.args.bit (part_of (fields v.header)) (part_of (fields v.body)) (part_of (fields v.trailer)) c.args.bit
-    (omega (arith, c.if-bit-len.false, c.len-len.ensures)) (omega arith)
-
-pub returns-then-is_bit : goal.returns-then-is_bit
-returns-then-is_bit c =
-    let vs = bits c.args.vector.now in
-    let i = c.loop-place.place in
-    let here = found_first c.args.part c.args.bit vs i (c.is_bit.ensures ∙ ap (λ (b : Bool). Some b) c.if-is_bit.true) in
-    omega (arith, here, c.loop-place.invariant)
-
-pub loop-place-preserved : goal.loop-place-preserved
-loop-place-preserved c =
-    let vs = bits c.args.vector.now in
-    let i = c.loop-place.place in
-    let next : suc i ≡ i + 1 = omega arith in
-    let later = found_later c.args.part c.args.bit vs i (c.is_bit.ensures ∙ ap (λ (b : Bool). Some b) c.if-is_bit.false)
-    ∙ ap (λ (n : ℕ). suc (reasons.place_in (drop n vs) c.args.part c.args.bit)) next in
-    omega (arith, later, c.loop-place.invariant)
+    let last = c.last_before-last.result in
+    let apart : is_same_part last.0 c.args.part ≡ true → last.1 < c.args.bit = λ same.
+    ⊎_elim (λ both. both.1) (λ other. let clash : true ≡ false = sym same ∙ sym c.is_same_part.ensures ∙ other in absurd cc) c.else-is_same_part.either in
+    record {
+      inside = omega (arith, c.loop-end.invariant.inside);
+      none = none_here (part_of (fields v.header)) (part_of (fields v.body)) (part_of (fields v.trailer)) c.loop-end.end last c.loop-end-test.true
+          c.args.part c.args.bit c.last_before-last.ensures.part c.loop-end.invariant.none apart;
+    }
 
 pub returns : goal.returns
 returns c =
     let vs = bits c.args.vector.now in
-    let none = found_nowhere c.args.part c.args.bit vs c.loop-place.place (omega (arith, c.loop-place-test.false, c.len-len.ensures)) in
-    omega (arith, none, c.loop-place.invariant, c.loop-place-test.false, c.len-len.ensures)
+    c.len.ensures ∙ sym (nowhere c.args.part c.args.bit vs (λ k v from at. c.loop-end.invariant.none k v (omega (arith, c.loop-end-test.false)) at))

@@ -1,8 +1,14 @@
-use Rattle.std.proofs.Common.{◌≡◌, ◌+◌, drop}
+use Rattle.std.proofs.Common.{◌≤◌, length}
 use Rattle.scan_vectors.specs.Held.{bits}
-use Rattle.board_reasons.specs.Reasons as reasons
+use Rattle.board_reasons.proofs.PartStarts.{NoneFrom}
 use Rattle.board_reasons.proofs.vectors.place_in.Given as goal
 
--- it stands among the bits that are left
-abbrev pub invariant-loop-place : goal.invariant-loop-place
-invariant-loop-place l = l.place + reasons.place_in (drop l.place (bits l.vector)) l.part l.bit ≡ reasons.place_in (bits l.vector) l.part l.bit
+-- no bit from the place on is the one that is looked for
+abbrev pub invariant-loop-end : goal.invariant-loop-end
+invariant-loop-end l = record {
+  inside : l.end ≤ length (bits l.vector);
+  none : NoneFrom (bits l.vector) l.end l.part l.bit;
+}
+
+abbrev pub decreases-loop-end : goal.decreases-loop-end
+decreases-loop-end l = l.end

@@ -6,9 +6,9 @@ use Rattle.board_reasons.proofs.writing.write_cell.Goals as goal
 pub returns-in_err-write_number : goal.returns-in_err-write_number
 returns-in_err-write_number g c =
     let d = c.args.device.now in
-    WritesAll-stopped (found_cell c.args.chain.now.nets d c.args.net (slice_get d.cells c.args.cell)) c.in_err-write_number.ensures refl c.from_residual.ensures.0
+    WritesAll-stopped (found_cell c.args.chain.now.nets d c.args.captured (slice_get d.cells c.args.cell)) c.in_err-write_number.ensures refl c.from_residual.ensures.0
 
 pub returns : goal.returns
 returns g c =
     WritesAll-then c.in_ok-write_number.ensures refl
-    (WritesAll-is (ap (found_cell c.args.chain.now.nets c.args.device.now c.args.net) c.cell_at.ensures) c.write_found_cell.ensures)
+    (WritesAll-is (ap (found_cell c.args.chain.now.nets c.args.device.now c.args.captured) c.cell_at.ensures) c.write_found_cell.ensures)

@@ -14,6 +14,7 @@ use Rattle.play_explained.specs.declared.explaining.Explained.{Explained}
 use Rattle.play_explained.specs.Explaining.{explained, step_explained}
 use Rattle.play_explained.specs.Kept.{plates}
 use Rattle.play_explained.proofs.Explanations.{keep_full, keep_none, take_again}
+use Rattle.play_explained.proofs.Kept.{alike_kept}
 use Rattle.play_explained.proofs.Plates.{after, members_resting, step_keeps}
 use Rattle.play_explained.proofs.explaining.explain.Goals as goal
 
@@ -37,6 +38,14 @@ loop-step-init c =
 
 pub explain_step-requires-clause-rests : goal.explain_step-requires-clause-rests
 explain_step-requires-clause-rests c = record { state = c.loop-step.invariant.m; is = c.loop-step.invariant.rests }
+
+pub explain_step-requires-clause-alike : goal.explain_step-requires-clause-alike
+explain_step-requires-clause-alike c =
+    let i = c.loop-step.invariant in
+    let before = opened_state c.args.board.now in
+    let now : members c.loop-step.board.chips ≡ i.m.members =
+    ap (λ (b : BoardState). members b.chips) i.rests ∙ members_resting i.m.place i.m.members in
+    alike_kept c.args.devices.now before.members (members c.loop-step.board.chips) (ap plates now ∙ i.keeps.kept) c.requires
 
 pub explain_step-requires-clause-within : goal.explain_step-requires-clause-within
 explain_step-requires-clause-within c = (subst AllWithin c.in-Some.ensures.steps c.loop-step.invariant.within).0

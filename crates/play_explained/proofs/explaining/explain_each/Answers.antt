@@ -22,13 +22,13 @@ loop-failure-preserved c =
     let i = c.loop-failure.failure-index in
     let old = c.args.list.now.items in
     let most = c.args.most in
-    let x = c.explain_bit.result in
+    let x = c.explain_bit-explained.result in
     let all = old ++ map e (take (i + 1) fs) in
     let told : c.keep.new.list.items ≡ take most all = c.keep.ensures
     ∙ ap (λ (l : List Explained). take most (l ++ x ∷ [])) c.loop-failure.invariant.told
     ∙ take_again most (old ++ map e (take i fs)) (x ∷ [])
     ∙ ap (take most) (append_assoc old (map e (take i fs)) (x ∷ []))
-    ∙ ap (λ (y : Explained). take most (old ++ (map e (take i fs) ++ y ∷ []))) c.explain_bit.ensures
+    ∙ ap (λ (y : Explained). take most (old ++ (map e (take i fs) ++ y ∷ []))) c.explain_bit-explained.ensures
     ∙ ap (λ (l : List Explained). take most (old ++ l)) (map_more e fs i _ (omega (arith, c.loop-failure-test.true))) in
     record {
       told = told;

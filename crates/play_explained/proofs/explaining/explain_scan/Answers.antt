@@ -11,7 +11,9 @@ use Rattle.board_model.specs.Whole.{AtRest, capture, out, settle}
 use Rattle.play_explained.specs.declared.explaining.Explained.{Explained}
 use Rattle.play_explained.specs.Explaining.{explained_of}
 use Rattle.play_explained.proofs.Explanations.{kept_within, map_taken}
-use Rattle.play_explained.proofs.Plates.{members_resting}
+use Rattle.play_explained.specs.Kept.{plates}
+use Rattle.play_explained.proofs.Kept.{alike_kept}
+use Rattle.play_explained.proofs.Plates.{capture_keeps, members_resting, settle_keeps}
 use Rattle.play_explained.proofs.explaining.explain_scan.Goals as goal
 
 pub returns-clause-board : goal.returns-clause-board
@@ -40,6 +42,19 @@ returns-clause-explained c = λ m is.
     ∙ ap (λ (l : List Member). take most (old ++ map (explained_of captured.nets l c.args.column v) (take most_listed d))) ms
     ∙ ap (λ (l : List Explained). take most (old ++ l)) (map_taken e most_listed d)
     ∙ kept_within most most_listed old (map e d) c.requires.most
+
+pub explain_each-requires-clause-alike : goal.explain_each-requires-clause-alike
+explain_each-requires-clause-alike c =
+    let m = c.requires.rests.state in
+    let captured : AtRest = capture c.args.column (settle m) in
+    let there = c.capture.ensures _ (c.settle.ensures m c.requires.rests.is) in
+    let before : members c.args.board.now.chips ≡ m.members =
+    ap (λ (b : BoardState). members b.chips) c.requires.rests.is ∙ members_resting m.place m.members in
+    let now : members c.chain.result.now.chips ≡ captured.members =
+    ap (λ (chips : List ChipState). members chips) c.chain.ensures.chips ∙ ap (λ (b : BoardState). members b.chips) there
+    ∙ members_resting captured.place captured.members in
+    alike_kept c.args.devices.now (members c.args.board.now.chips) (members c.chain.result.now.chips)
+    (ap plates now ∙ (capture_keeps c.args.column (settle m)).kept ∙ (settle_keeps m).kept ∙ sym (ap plates before)) c.requires.alike
 
 -- ---- the board is at rest after each part of a scan
 

@@ -18,10 +18,7 @@ use Rattle.play_explained.proofs.ToldLaws.{told-broken, told-front}
 use Rattle.play_explained.proofs.runs.play_and_explain.Goals as goal
 
 pub write_by_other-requires : goal.write_by_other-requires
-write_by_other-requires g c = record {
-  whole = c.in_ok-ending.ensures.writes.ok.0 refl;
-  other = (board_of (wiring c.args.plan.now), c.in_ok-other.ensures);
-}
+write_by_other-requires g c = record { whole = c.in_ok-ending.ensures.writes.ok.0 refl; other = c.in_ok-other.ensures }
 
 pub returns-in_err-ending-clause-writes : goal.returns-in_err-ending-clause-writes
 returns-in_err-ending-clause-writes g c =
@@ -56,7 +53,7 @@ returns-in_err-write_by_other-clause-writes g c =
     (ap (λ (l : List ℕ). sent ++ l) (append-nil told)
     ∙ (λ k. sent ++ (explained_lines c.args.text.now why c.args.kind (c.in_ok-ending.ensures.ending k) (c.in_ok-ending.ensures.found k) ++ report (c.in_ok-ending.ensures.left k)))
     ∙ sym (append_assoc sent lines last))
-    c.in_ok-ending.ensures.writes.whole (c.in_err-write_by_other.ensures (board_of (wiring c.args.plan.now)) c.in_ok-other.ensures) refl c.from_residual-in_err-write_by_other.ensures.1
+    c.in_ok-ending.ensures.writes.whole c.in_err-write_by_other.ensures refl c.from_residual-in_err-write_by_other.ensures.1
 
 pub returns-clause-writes : goal.returns-clause-writes
 returns-clause-writes g c =
@@ -65,7 +62,7 @@ returns-clause-writes g c =
     let why = why_on c.args.kind program (board_of (wiring c.args.plan.now)) in
     let lines = explained_lines c.args.text.now why c.args.kind (ending_in c.args.kind program c.args.board.now) (found_in c.args.kind program c.args.board.now) in
     let last = report (full c.args.kind c.args.program.now.steps c.args.board.now).board in
-    let writes = c.in_ok-write_by_other.ensures (board_of (wiring c.args.plan.now)) c.in_ok-other.ensures in (
+    let writes = c.in_ok-write_by_other.ensures in (
       writes.ok.0 refl,
       subst (λ (l : List ℕ). Appends (g.W.Write.contents c.args.out.now.inner) (g.W.Write.contents c.write_by_other.new.out.inner) l)
           ((λ k. sent ++ (explained_lines c.args.text.now why c.args.kind (c.in_ok-ending.ensures.ending k) (c.in_ok-ending.ensures.found k) ++ report (c.in_ok-ending.ensures.left k)))
