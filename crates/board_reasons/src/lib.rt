@@ -3,7 +3,7 @@
 #![tactic(auto)]
 
 mod finding;
-pub mod origins;
+mod origins;
 mod vectors;
 mod words;
 mod writing;

@@ -10,7 +10,7 @@ use play_explained::plain::{
     Board, BoardFault, Kind, Program, SvfFault, accept, check_program, refuse_board, refuse_file,
     refuse_text, run_program,
 };
-use refusal_places::{refused_board, refused_description, refused_text};
+use play_explained::{refused_board, refused_description, refused_text};
 use std::alloc::Global;
 
 /// The program of a text. Else tells why it is refused, and where it is asked for where that lies, and answers the exit

@@ -6,7 +6,7 @@ use Rattle.board_model.specs.Chain.{BoardState}
 use Rattle.play_model.specs.declared.kind.Kind.{Kind}
 use Rattle.play_direct.specs.Accepting.{Accepts, KeepsPeriodsOf}
 use Rattle.play_waves.specs.Texts.{IsWavesOf}
-use Rattle.play_waves.specs.Waves.{wave_file}
+use Rattle.play_drawing.specs.Waves.{wave_file}
 
 pub are_waves : (noted : Bool) (text : List ℕ) (kind : Kind) (b : BoardState) (p : Holding) → Accepts text (program_of p) → KeepsPeriodsOf text p.periods
     → IsWavesOf noted text kind b (wave_file noted (period_in p.periods) kind (program_of p) b)

@@ -13,9 +13,9 @@ use Rattle.tck_cycles.specs.Cycles.{cycles}
 use Rattle.board_model.specs.Chain.{ChipState, reply_of}
 use Rattle.board_model.specs.declared.Reply.TheVariants.{Answer}
 use Rattle.output_words.specs.Digits.{digit}
-use Rattle.play_waves.specs.Drawing.{after_mark, lasts, latest, shown}
+use Rattle.play_drawing.specs.Drawing.{after_mark, lasts, latest, shown}
 use Rattle.play_waves.specs.Laws.{EachStepTakesItsCycles, TdoDrawnIsTheAnswer, TimeGoesOn, WhatIsDrawnIsTheBoard, step_time, time_of}
-use Rattle.play_waves.specs.Pens.{Pen}
+use Rattle.play_drawing.specs.Pens.{Pen}
 use Rattle.wave_files.specs.Values.{undriven}
 
 -- ---- the board

@@ -13,10 +13,10 @@ use Rattle.scan_vectors.specs.Vector.{VectorBit, differs, judge}
 use Rattle.board_model.specs.Chain.{hear}
 use Rattle.play_model.specs.declared.kind.Kind.{Kind}
 use Rattle.play_model.specs.declared.kind.Kind.TheVariants.{Stops, PlaysOn}
-use Rattle.play_waves.specs.Drawing.{after_mark, closing_messages}
-use Rattle.play_waves.specs.Judging.{tdo_of, wanted_behind}
+use Rattle.play_drawing.specs.Drawing.{after_mark, closing_messages}
+use Rattle.play_drawing.specs.Judging.{tdo_of, wanted_behind}
 use Rattle.play_waves.specs.Laws.{WhatFailsIsTold, all_failing, first_failing, told_failing}
-use Rattle.play_waves.specs.Pens.{Pen}
+use Rattle.play_drawing.specs.Pens.{Pen}
 
 -- by the kind of player
 abbrev verdicts : Kind → List VectorBit → List Bool → List (Part × ℕ)

@@ -8,12 +8,12 @@ use Rattle.svf_programs.specs.Steps.{Program}
 use Rattle.board_model.specs.Chain.{BoardState, ChipState}
 use Rattle.play_model.specs.declared.kind.Kind.{Kind}
 use Rattle.play_model.specs.Play.{turns}
-use Rattle.play_waves.specs.Drawing.{shown}
+use Rattle.play_drawing.specs.Drawing.{shown}
 use Rattle.play_waves.specs.Fronts.{EachBeginsSo, front}
 use Rattle.wave_files.specs.Heading.{device_variables, first_values, net_variable, noted_variables}
-use Rattle.play_waves.specs.Pens.{begun}
+use Rattle.play_drawing.specs.Pens.{begun}
 use Rattle.wave_files.specs.Values.{by_numbers, first_of_devices, first_of_nets, first_of_notes, variables_of_device}
-use Rattle.play_waves.specs.Waves.{noting, stopped_in, wave, wave_file}
+use Rattle.play_drawing.specs.Waves.{noting, stopped_in, wave, wave_file}
 
 -- the variables behind the front
 abbrev further : (noted : Bool) → List ChipState → List Net → List ℕ

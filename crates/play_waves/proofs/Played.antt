@@ -4,9 +4,9 @@ use Rattle.std.proofs.lemmas.Bool.Decides.{nat_tests}
 use Rattle.std.specs.Prelude.{if◌then◌else◌}
 use Rattle.play_model.specs.Play.{Turn}
 use Rattle.play_model.specs.declared.kind.Kind.{Kind}
-use Rattle.play_waves.specs.Drawing.{after_drawing}
-use Rattle.play_waves.specs.Pens.{Pen}
-use Rattle.play_waves.specs.Waves.{closing, draw_turn, is_played, wave}
+use Rattle.play_drawing.specs.Drawing.{after_drawing}
+use Rattle.play_drawing.specs.Pens.{Pen}
+use Rattle.play_drawing.specs.Waves.{closing, draw_turn, is_played, wave}
 
 -- the opening is one of every play
 pub opens : (failed : Option ℕ) → is_played failed 0 ≡ true

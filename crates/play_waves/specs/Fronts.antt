@@ -5,7 +5,7 @@ use Rattle.svf_programs.specs.Steps.{Program}
 use Rattle.board_model.specs.Chain.{BoardState}
 use Rattle.play_model.specs.declared.kind.Kind.{Kind}
 use Rattle.wave_files.specs.Heading.{line_variables}
-use Rattle.play_waves.specs.Waves.{wave_file}
+use Rattle.play_drawing.specs.Waves.{wave_file}
 
 -- the unit of time, and the variables that stand in each file
 abbrev pub front : List ℕ

@@ -20,12 +20,12 @@ use Rattle.play_model.specs.declared.kind.Kind.TheVariants.{Stops, PlaysOn}
 use Rattle.play_model.specs.Play.{play}
 use Rattle.output_words.specs.Digits.{digit}
 use Rattle.wave_files.specs.Values.{undriven}
-use Rattle.play_waves.specs.declared.notes.Note.{Note}
-use Rattle.play_waves.specs.Drawing.{after_drawing, after_mark, lasts, later, latest, shown}
-use Rattle.play_waves.specs.Judging.{tdo_of, wanted_behind}
-use Rattle.play_waves.specs.Notes.{judged}
-use Rattle.play_waves.specs.Pens.{Pen}
-use Rattle.play_waves.specs.Waves.{wave_file}
+use Rattle.play_drawing.specs.declared.notes.Note.{Note}
+use Rattle.play_drawing.specs.Drawing.{after_drawing, after_mark, lasts, later, latest, shown}
+use Rattle.play_drawing.specs.Judging.{tdo_of, wanted_behind}
+use Rattle.play_drawing.specs.Notes.{judged}
+use Rattle.play_drawing.specs.Pens.{Pen}
+use Rattle.play_drawing.specs.Waves.{wave_file}
 
 -- ---- what is drawn is what is played
 

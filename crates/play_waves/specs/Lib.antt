@@ -1,16 +1,7 @@
-pub mod Drawing
 pub mod Fronts
-pub mod Holding
-pub mod Judging
-pub mod Notes
-pub mod Pens
 pub mod Plain
-pub mod Quiet
 pub mod Rows
 pub mod Samples
-pub mod Settled
-pub mod Shifted
 pub mod Stages
 pub mod Texts
-pub mod Waves
 pub mod Laws

@@ -10,12 +10,12 @@ use Rattle.play_model.specs.declared.kind.Kind.TheVariants.{Stops, PlaysOn}
 use Rattle.play_model.specs.Play.{turns}
 use Rattle.svf_programs.specs.Steps.{Numbered}
 use Rattle.wave_files.specs.Codes.{code}
-use Rattle.play_waves.specs.Drawing.{after_drawing, draw}
+use Rattle.play_drawing.specs.Drawing.{after_drawing, draw}
 use Rattle.wave_files.specs.Changes.{stamp}
-use Rattle.play_waves.specs.Waves.{heading}
-use Rattle.play_waves.specs.Pens.{Pen, begun}
+use Rattle.play_drawing.specs.Waves.{heading}
+use Rattle.play_drawing.specs.Pens.{Pen, begun}
 use Rattle.play_waves.specs.Samples.{asserting, delayed, driving, failing, pair, selecting, waiting}
-use Rattle.play_waves.specs.Waves.{begins, wave}
+use Rattle.play_drawing.specs.Waves.{begins, wave}
 
 abbrev pub fresh : Pen
 fresh = begun (bare_board 1)

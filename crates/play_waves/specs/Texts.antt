@@ -12,7 +12,7 @@ use Rattle.board_model.specs.Chain.{BoardState}
 use Rattle.play_model.specs.declared.kind.Kind.{Kind}
 use Rattle.play_waves.specs.declared.undrawn.Undrawn.{Undrawn}
 use Rattle.play_waves.specs.declared.undrawn.Undrawn.TheVariants as undrawn
-use Rattle.play_waves.specs.Waves.{wave_file}
+use Rattle.play_drawing.specs.Waves.{wave_file}
 
 -- the file of a text's waves: that of the program that its statements make, with their periods
 pub record IsWavesOf (noted : Bool) (text : List ℕ) (kind : Kind) (b : BoardState) (file : List ℕ) : Type 0 where

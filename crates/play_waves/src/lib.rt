@@ -5,17 +5,10 @@
 //! without them.
 #![tactic(auto)]
 
-mod drawing;
 mod fronts;
-mod holding;
-mod judging;
 mod laws;
-mod marks;
-mod notes;
 mod plain;
-mod quiet;
 mod stage;
-mod steps;
 mod undrawn;
 mod waves;
 

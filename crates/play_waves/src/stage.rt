@@ -3,12 +3,12 @@
 ghost use Rattle.std.specs.Prelude.{◌≡◌, IfOk};
 ghost use Rattle.board_plan.specs.View.{wiring};
 ghost use Rattle.jt_board.specs.Made.{IsReadyPlan, board_of};
-ghost use Rattle.play_waves.specs.Pens.{begun};
+ghost use Rattle.play_drawing.specs.Pens.{begun};
 ghost use Rattle.play_waves.specs.Stages.{judge_for};
 
-use crate::drawing::Drawing;
 use board_plan::Plan;
 use jt_board::Board;
+use play_drawing::Drawing;
 use play_model::Kind;
 use std::alloc::{AllocError, Global};
 use std::marker::Model;

@@ -3,7 +3,7 @@ use Rattle.byte_streams.proofs.Fronts.{WritesAll-is}
 use Rattle.bitbang.specs.StepMessages.{step_messages}
 use Rattle.svf_programs.specs.Seen as seen
 use Rattle.play_model.specs.Play.{wants_of}
-use Rattle.play_waves.proofs.Judged.{no_scan, told_nothing}
+use Rattle.play_drawing.proofs.Judged.{no_scan, told_nothing}
 use Rattle.play_waves.proofs.waves.draw_noted_step.Goals as goal
 
 pub draw_scan-requires-clause-scans : goal.draw_scan-requires-clause-scans

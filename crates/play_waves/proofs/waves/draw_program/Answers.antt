@@ -4,9 +4,9 @@ use Rattle.jt_tap.specs.declared.State.TheVariants.{Reset}
 use Rattle.svf_programs.specs.Periods.{period_in}
 use Rattle.bitbang_protocol.specs.Cycles.{opening}
 use Rattle.play_model.specs.Play.{Turn, step_turns, turns}
-use Rattle.play_waves.specs.Drawing.{after_drawing}
-use Rattle.play_waves.specs.Waves.{wave}
-use Rattle.play_waves.proofs.Judged.{told_nothing}
+use Rattle.play_drawing.specs.Drawing.{after_drawing}
+use Rattle.play_drawing.specs.Waves.{wave}
+use Rattle.play_drawing.proofs.Judged.{told_nothing}
 use Rattle.play_waves.proofs.Played.{one_more, opens}
 use Rattle.play_waves.proofs.waves.draw_program.Goals as goal
 

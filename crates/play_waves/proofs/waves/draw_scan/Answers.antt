@@ -10,11 +10,11 @@ use Rattle.svf_programs.specs.Steps.{Step}
 use Rattle.tck_cycles.specs.Cycles.{cycles}
 use Rattle.tck_cycles.specs.Sources.{left}
 use Rattle.play_model.specs.Play.{wants_of}
-use Rattle.play_waves.specs.Drawing.{after_drawing}
-use Rattle.play_waves.specs.Judging.{draw_judging}
-use Rattle.play_waves.specs.Notes.{no_note}
-use Rattle.play_waves.proofs.Judged.{told_nothing}
-use Rattle.play_waves.proofs.Runs.{on_ok_pen}
+use Rattle.play_drawing.specs.Drawing.{after_drawing}
+use Rattle.play_drawing.specs.Judging.{draw_judging}
+use Rattle.play_drawing.specs.Notes.{no_note}
+use Rattle.play_drawing.proofs.Judged.{told_nothing}
+use Rattle.play_drawing.proofs.Runs.{on_ok_pen}
 use Rattle.play_waves.proofs.waves.draw_scan.Goals as goal
 
 pub returns-in-None-clause-writes : goal.returns-in-None-clause-writes

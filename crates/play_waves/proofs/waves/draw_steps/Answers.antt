@@ -14,8 +14,8 @@ use Rattle.svf_programs.specs.Steps.{Numbered, line_after, place_after}
 use Rattle.bitbang.specs.StepMessages.{step_messages}
 use Rattle.play_model.proofs.Legality.{place-stable}
 use Rattle.play_model.specs.Play.{step_turns}
-use Rattle.play_waves.specs.Drawing.{after_drawing}
-use Rattle.play_waves.specs.Waves.{draw_turn, turn_at, wave}
+use Rattle.play_drawing.specs.Drawing.{after_drawing}
+use Rattle.play_drawing.specs.Waves.{draw_turn, turn_at, wave}
 use Rattle.play_waves.proofs.Played.{not_drawn, one_more}
 use Rattle.play_waves.proofs.waves.draw_steps.Goals as goal
 

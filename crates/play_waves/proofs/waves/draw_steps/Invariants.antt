@@ -7,7 +7,7 @@ use Rattle.svf_programs.specs.Sound.{AllWithin}
 use Rattle.svf_programs.specs.Left.{left}
 use Rattle.svf_programs.specs.Periods.{period_in}
 use Rattle.play_model.specs.Play.{step_turns}
-use Rattle.play_waves.specs.Waves.{wave}
+use Rattle.play_drawing.specs.Waves.{wave}
 use Rattle.play_waves.proofs.waves.draw_steps.Given as goal
 
 -- what was written, and behind it the wave of the steps that are left, is that of the program

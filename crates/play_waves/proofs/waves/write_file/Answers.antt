@@ -3,9 +3,9 @@ use Rattle.byte_streams.proofs.Fronts.{WritesAll-is, WritesAll-stopped, WritesAl
 use Rattle.svf_programs.specs.Periods.{period_in}
 use Rattle.svf_programs.specs.Sizes.{program_of}
 use Rattle.play_model.specs.Play.{turns}
-use Rattle.play_waves.specs.Waves.{heading}
-use Rattle.play_waves.specs.Pens.{Pen, begun}
-use Rattle.play_waves.specs.Waves.{noting, stopped_in, wave}
+use Rattle.play_drawing.specs.Waves.{heading}
+use Rattle.play_drawing.specs.Pens.{Pen, begun}
+use Rattle.play_drawing.specs.Waves.{noting, stopped_in, wave}
 use Rattle.play_waves.proofs.waves.write_file.Goals as goal
 
 pub returns-in_err-head : goal.returns-in_err-head

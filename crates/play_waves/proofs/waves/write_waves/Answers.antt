@@ -1,6 +1,6 @@
 use Rattle.svf_programs.specs.Periods.{period_in}
 use Rattle.svf_programs.specs.Sizes.{program_of}
-use Rattle.play_waves.specs.Waves.{wave_file}
+use Rattle.play_drawing.specs.Waves.{wave_file}
 use Rattle.play_waves.proofs.Drawn.{are_waves}
 use Rattle.play_waves.proofs.waves.write_waves.Goals as goal
 

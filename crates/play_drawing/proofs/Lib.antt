@@ -1,0 +1,12 @@
+pub mod Cycles
+pub mod Held
+pub mod Judged
+pub mod Levels
+pub mod Messages
+pub mod Runs
+pub mod Settled
+pub mod Shifted
+pub mod Sides
+pub mod Strokes
+pub mod Unmoved
+pub mod Words

@@ -1,0 +1,9 @@
+pub mod Drawing
+pub mod Holding
+pub mod Judging
+pub mod Notes
+pub mod Pens
+pub mod Quiet
+pub mod Settled
+pub mod Shifted
+pub mod Waves

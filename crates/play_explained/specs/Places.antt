@@ -1,0 +1,77 @@
+-- The second line of a refusal: where in which text it lies, or the name that it speaks of.
+use Rattle.std.specs.Prelude.{ℕ, List, [], ◌∷◌, ◌++◌, codes, decimal, string_bytes, Option, Some, None}
+use Rattle.std.specs.Prelude.{option_map, unwrap_or}
+use Rattle.svf_words.specs.declared.fault.Code.{Code}
+use Rattle.svf_words.specs.declared.fault.Code.TheVariants as code
+use Rattle.svf_words.specs.declared.fault.SvfFault.{SvfFault}
+use Rattle.bsdl_values.specs.declared.Attribute.{Attribute}
+use Rattle.bsdl_values.specs.declared.Attribute.TheVariants as attribute
+use Rattle.bsdl.specs.declared.fault.BsdlFault.{BsdlFault}
+use Rattle.bsdl.specs.declared.fault.BsdlFault.TheVariants as bsdl
+use Rattle.board_tables.specs.declared.fault.BoardFault.{BoardFault}
+use Rattle.board_tables.specs.declared.fault.BoardFault.TheVariants as board
+use Rattle.output_words.specs.declared.lines.Position.{Position}
+use Rattle.output_words.specs.Lines.{position_line, position_words}
+use Rattle.output_words.specs.Names.{shown}
+use Rattle.output_words.specs.Texts.{texts}
+use Rattle.play_explained.specs.Positions.{position_of}
+use Rattle.play_explained.specs.Starts.{statement_position}
+
+-- where a refusal of SVF text lies: at its byte, else where its statement starts, if it has one
+abbrev pub svf_position : List ℕ → SvfFault → Option Position
+svf_position text f = by f.code
+  where
+    by : Code → Option Position
+    by (code.BadByte place) = Some (position_of text place)
+    by (code.Unclosed place) = Some (position_of text place)
+    by _ = statement_position text f.statement
+
+-- the line of that, none where a text is too long or memory ran out
+abbrev pub svf_line : List ℕ → SvfFault → List ℕ
+svf_line text f = unwrap_or (option_map position_line (svf_position text f)) []
+
+-- an attribute as descriptions name it
+abbrev pub attribute_word : Attribute → List ℕ
+attribute_word attribute.TapScanIn = codes "TAP_SCAN_IN"
+attribute_word attribute.TapScanOut = codes "TAP_SCAN_OUT"
+attribute_word attribute.TapScanMode = codes "TAP_SCAN_MODE"
+attribute_word attribute.TapScanClock = codes "TAP_SCAN_CLOCK"
+attribute_word attribute.TapScanReset = codes "TAP_SCAN_RESET"
+attribute_word attribute.InstructionLength = codes "INSTRUCTION_LENGTH"
+attribute_word attribute.BoundaryLength = codes "BOUNDARY_LENGTH"
+attribute_word attribute.InstructionOpcode = codes "INSTRUCTION_OPCODE"
+attribute_word attribute.InstructionCapture = codes "INSTRUCTION_CAPTURE"
+attribute_word attribute.BoundaryRegister = codes "BOUNDARY_REGISTER"
+attribute_word attribute.IdcodeRegister = codes "IDCODE_REGISTER"
+attribute_word attribute.UsercodeRegister = codes "USERCODE_REGISTER"
+attribute_word attribute.InstructionPrivate = codes "INSTRUCTION_PRIVATE"
+attribute_word attribute.RegisterAccess = codes "REGISTER_ACCESS"
+
+abbrev pub name_words : List ℕ → List ℕ
+name_words name = codes "name " ++ name
+
+-- what a refusal of a description says beside its number: a place of the text, a name, or a cell
+abbrev pub bsdl_words : List ℕ → BsdlFault → List ℕ
+bsdl_words text (bsdl.BadToken place) = codes " " ++ position_words (position_of text place)
+bsdl_words text (bsdl.BadForm place) = codes " " ++ position_words (position_of text place)
+bsdl_words text (bsdl.Missing a) = codes " " ++ name_words (attribute_word a)
+bsdl_words text (bsdl.Twice name) = codes " " ++ name_words (shown (string_bytes name))
+bsdl_words text (bsdl.BadCell number) = codes " cell " ++ decimal number
+bsdl_words text _ = []
+
+-- the line of a refused description, by its file and its text
+abbrev pub bsdl_line : List ℕ → List ℕ → BsdlFault → List ℕ
+bsdl_line file text f = texts (codes "in " ∷ shown file ∷ bsdl_words text f ∷ codes "\n" ∷ [])
+
+abbrev pub name_line : List ℕ → List ℕ
+name_line name = texts (codes "name " ∷ shown name ∷ codes "\n" ∷ [])
+
+-- The line of a refused board file: the name that it speaks of, if there is one. Of a refused description (C4) it is
+-- told by file and text.
+abbrev pub board_line : BoardFault BsdlFault → List ℕ
+board_line (board.BadField key) = name_line (string_bytes key)
+board_line (board.UnknownFile name) = name_line (string_bytes name)
+board_line (board.UnknownPin text) = name_line (string_bytes text)
+board_line (board.PinTwice text) = name_line (string_bytes text)
+board_line (board.CoreLoop text) = name_line (string_bytes text)
+board_line _ = []

@@ -1,0 +1,158 @@
+//! The second line of a refusal.
+ghost use Rattle.std.specs.Prelude.{◌≡◌, ◌++◌, codes};
+ghost use Rattle.byte_streams.specs.Writes.{WritesAll};
+ghost use Rattle.output_words.specs.Lines.{position_words};
+ghost use Rattle.output_words.specs.Names.{shown};
+ghost use Rattle.play_explained.specs.Places as places;
+
+use crate::text_positions::{position_of, statement_position};
+use board_tables::BoardFault;
+use bsdl::{Attribute, BsdlFault};
+use byte_streams::{Broken, Counted, Sink, put_all, put_pieces};
+use itoa::Buffer;
+use output_words::{Position, write_position, write_position_line, write_shown};
+use svf_words::{Code, SvfFault};
+
+/// Writes where a refusal of SVF text lies, `at line 3 column 1`: a byte that begins nothing and a statement that is
+/// not closed at their places, any other where its statement starts. Nothing where the text is too long or memory ran
+/// out.
+///
+/// `Broken` comes exactly where the writer's first failure came in this call.
+pub fn refused_text<E: Sink>(
+    text: &[u8],
+    fault: SvfFault,
+    err: &mut Counted<E>,
+) -> Result<(), Broken>
+    requires { err.old.failures ≡ 0 }
+    ensures { WritesAll E.contents err.old err.new (places.svf_line text.now fault) result }
+{
+    match svf_position(text, fault) {
+        Some(position) => write_position_line(position, err),
+        None => put_all(err, b""),
+    }
+}
+
+/// Where a refusal of SVF text lies.
+fn svf_position(text: &[u8], fault: SvfFault) -> Option<Position>
+    ensures { result ≡ places.svf_position text.now fault }
+{
+    match fault.code {
+        Code::BadByte(place) | Code::Unclosed(place) => Some(position_of(text, place)),
+        _ => statement_position(text, fault.statement),
+    }
+}
+
+/// Writes of a refused description its file, and where in its text the refusal lies or which name or cell it speaks of:
+/// `in k.bsd at line 3 column 1`, `in k.bsd name BOUNDARY_LENGTH`, `in k.bsd cell 3`.
+///
+/// `Broken` comes exactly where the writer's first failure came in this call.
+pub fn refused_description<E: Sink>(
+    file: &str,
+    text: &[u8],
+    fault: &BsdlFault,
+    err: &mut Counted<E>,
+) -> Result<(), Broken>
+    requires { err.old.failures ≡ 0 }
+    ensures { WritesAll E.contents err.old err.new (places.bsdl_line file.now text.now fault.now) result }
+{
+    put_all(err, b"in ")?;
+    write_shown(file, err)?;
+    write_bsdl_words(text, fault, err)?;
+    put_all(err, b"\n")
+}
+
+/// Writes what a refusal of a description says beside its number.
+fn write_bsdl_words<E: Sink>(
+    text: &[u8],
+    fault: &BsdlFault,
+    err: &mut Counted<E>,
+) -> Result<(), Broken>
+    requires { err.old.failures ≡ 0 }
+    ensures { WritesAll E.contents err.old err.new (places.bsdl_words text.now fault.now) result }
+{
+    match fault {
+        BsdlFault::BadToken(place) => write_spaced_position(position_of(text, *place), err),
+        BsdlFault::BadForm(place) => write_spaced_position(position_of(text, *place), err),
+        BsdlFault::Missing(attribute) => {
+            put_pieces(err, &[b" name ", attribute_word(*attribute).as_bytes()])
+        }
+        BsdlFault::Twice(name) => write_spaced_name(name.as_str(), err),
+        BsdlFault::BadCell(number) => {
+            let mut digits = Buffer::new();
+            put_pieces(err, &[b" cell ", digits.format(*number).as_bytes()])
+        }
+        _ => put_all(err, b""),
+    }
+}
+
+/// Writes the words of a position, behind a blank.
+fn write_spaced_position<E: Sink>(position: Position, err: &mut Counted<E>) -> Result<(), Broken>
+    requires { err.old.failures ≡ 0 }
+    ensures { WritesAll E.contents err.old err.new (codes " " ++ position_words position) result }
+{
+    put_all(err, b" ")?;
+    write_position(position, err)
+}
+
+/// Writes the words of a name, behind a blank.
+fn write_spaced_name<E: Sink>(name: &str, err: &mut Counted<E>) -> Result<(), Broken>
+    requires { err.old.failures ≡ 0 }
+    ensures { WritesAll E.contents err.old err.new
+        (codes " " ++ places.name_words (shown name.now)) result }
+{
+    put_all(err, b" name ")?;
+    write_shown(name, err)
+}
+
+/// Writes the name that a refused board file speaks of, `name U3.Q(1)`: a key, a file, a pin or the target of a string.
+/// Nothing where it speaks of none, or where a description is refused, of which `refused_description` tells.
+///
+/// `Broken` comes exactly where the writer's first failure came in this call.
+pub fn refused_board<E: Sink>(
+    fault: &BoardFault<BsdlFault>,
+    err: &mut Counted<E>,
+) -> Result<(), Broken>
+    requires { err.old.failures ≡ 0 }
+    ensures { WritesAll E.contents err.old err.new (places.board_line fault.now) result }
+{
+    match fault {
+        BoardFault::BadField(name)
+        | BoardFault::UnknownFile(name)
+        | BoardFault::UnknownPin(name)
+        | BoardFault::PinTwice(name)
+        | BoardFault::CoreLoop(name) => write_name(name.as_str(), err),
+        _ => put_all(err, b""),
+    }
+}
+
+/// Writes the line of a name.
+fn write_name<E: Sink>(name: &str, err: &mut Counted<E>) -> Result<(), Broken>
+    requires { err.old.failures ≡ 0 }
+    ensures { WritesAll E.contents err.old err.new (places.name_line name.now) result }
+{
+    put_all(err, b"name ")?;
+    write_shown(name, err)?;
+    put_all(err, b"\n")
+}
+
+/// An attribute as descriptions name it.
+fn attribute_word(attribute: Attribute) -> &'static str
+    ensures { result.now ≡ places.attribute_word attribute }
+{
+    match attribute {
+        Attribute::TapScanIn => "TAP_SCAN_IN",
+        Attribute::TapScanOut => "TAP_SCAN_OUT",
+        Attribute::TapScanMode => "TAP_SCAN_MODE",
+        Attribute::TapScanClock => "TAP_SCAN_CLOCK",
+        Attribute::TapScanReset => "TAP_SCAN_RESET",
+        Attribute::InstructionLength => "INSTRUCTION_LENGTH",
+        Attribute::BoundaryLength => "BOUNDARY_LENGTH",
+        Attribute::InstructionOpcode => "INSTRUCTION_OPCODE",
+        Attribute::InstructionCapture => "INSTRUCTION_CAPTURE",
+        Attribute::BoundaryRegister => "BOUNDARY_REGISTER",
+        Attribute::IdcodeRegister => "IDCODE_REGISTER",
+        Attribute::UsercodeRegister => "USERCODE_REGISTER",
+        Attribute::InstructionPrivate => "INSTRUCTION_PRIVATE",
+        Attribute::RegisterAccess => "REGISTER_ACCESS",
+    }
+}

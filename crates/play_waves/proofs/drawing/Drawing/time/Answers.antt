@@ -1,6 +1,0 @@
-use Rattle.std.proofs.Common.{ap}
-use Rattle.play_waves.specs.Pens.{Pen}
-use Rattle.play_waves.proofs.drawing.Drawing.time.Goals as goal
-
-pub returns : goal.returns
-returns c = ap (λ (p : Pen). p.marks.time) c.self.view_is
