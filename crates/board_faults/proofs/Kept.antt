@@ -13,12 +13,14 @@ use Rattle.board_model.specs.Following.{IsAmong}
 use Rattle.board_chain.proofs.NetLaws.{are_found}
 use Rattle.board_faults.specs.declared.kinds.Way.{Way}
 use Rattle.board_faults.specs.declared.kinds.Way.TheVariants as way
+use Rattle.board_faults.specs.declared.sight.NetSight.{NetSight}
 use Rattle.board_faults.specs.declared.sight.PortSight.{PortSight}
+use Rattle.board_faults.specs.declared.sight.Sights.{Sights}
 use Rattle.board_faults.specs.declared.together.Driven.{Driven}
 use Rattle.board_faults.specs.Faults.{IsWayOf, nowhere}
 use Rattle.board_faults.specs.Sight.{IsInvisible, MayHaveFaults}
-use Rattle.board_faults.specs.Sights.{all_sights, any_read_in, shows_in, shows_of, sight_in, sights_of}
-use Rattle.board_faults.specs.Together.{all_can, any_read, can_make, first_of, no_sight, open_differs, port_sight, pull_differs, second_of, short_differs, shows, shows_at, sight_at, sight_of_pin, some_pair, some_single, stuck_differs}
+use Rattle.board_faults.specs.Sights.{AreSights, all_sights, any_read_in, net_sight, net_unseen, shows_by, shows_in, shows_of, sight_in, sights_of}
+use Rattle.board_faults.specs.Together.{all_can, any_read, at_driven, can_make, first_of, no_sight, open_differs, port_sight, pull_differs, second_of, short_differs, shows, shows_at, sight_at, sight_of_pin, some_pair, some_single, stuck_differs}
 use Rattle.board_faults.proofs.Apart.{faulty_found}
 use Rattle.board_faults.proofs.Choosing.{among_all, once}
 use Rattle.board_faults.proofs.Invisible.{Stands, shown_ways}
@@ -95,6 +97,23 @@ kept_shows ms nets its_way may =
     let pins : (k : ℕ) (q : Pin) → IsAmong q (get_or nets k nowhere).pins → IsPinOf ms q =
     λ k q among. all-among (IsPinOf ms) (all_pins nets) may.pins q (among_all nets k q among) in
     kept-at ms (get_or nets (first_of its_way) nowhere) (get_or nets (second_of its_way) nowhere) (pins (first_of its_way)) (pins (second_of its_way)) its_way
+
+-- ---- by what is kept of nets
+
+module _ (ms : List Member) (nets : List Net) (s : Sights) (are : AreSights ms nets s) where
+  net-at : (k : ℕ) → k < length nets → get_or s.nets.items k net_unseen ≡ net_sight (all_sights ms) (get_or nets k nowhere)
+  net-at k inside = ap (λ (l : List NetSight). get_or l k net_unseen) are.nets ∙ get_or-map (net_sight (all_sights ms)) nets k nowhere net_unseen inside
+
+  pub kept_by : (its_way : Way) → IsWayOf nets its_way → shows_by s nets its_way ≡ shows_in (all_sights ms) nets its_way
+  kept_by (way.Pull net) its =
+      ap (λ (x : NetSight). some_single (at_driven x.can) (pull_differs (get_or nets net nowhere).pull x.read)) (net-at net its)
+  kept_by (way.Stuck net bit) its =
+      ap (λ (x : NetSight). some_single (at_driven x.can) (stuck_differs (get_or nets net nowhere).pull bit x.read)) (net-at net its)
+  kept_by (way.Open net pin bit) its =
+      let n = get_or nets net nowhere in ap (λ (ts : List (List PortSight)). shows_of ts n n (way.Open net pin bit)) are.ports
+  kept_by (way.Short first second winner) its =
+      ap₂ (λ (x y : NetSight). some_pair (at_driven x.can) (at_driven y.can) (short_differs winner (get_or nets first nowhere).pull (get_or nets second nowhere).pull x.read y.read))
+      (net-at first (omega (arith, its.0, its.1))) (net-at second its.1)
 
 stands : (w : Wiring) (its_way : Way) → MayHaveFaults w → IsWayOf w.nets its_way → Stands w its_way
 stands w its_way may its = record {

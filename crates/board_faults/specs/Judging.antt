@@ -1,10 +1,11 @@
 -- What a program makes of the faults of a board: a board with a fault is a board, so each of its ways is caught where the
 -- play on the board with it, from power-up, finds a bit that fails.
 use Rattle.std.specs.Prelude.{⊤, ◌≡◌, List, [], ◌∷◌, Option, Some, None, option_map}
+use Rattle.std.specs.List.{AllByRecursion}
 use Rattle.svf_programs.specs.Steps.{Program}
 use Rattle.board_loops.specs.Depending.{dependencies}
 use Rattle.board_loops.specs.Loops.{HasNoLoop}
-use Rattle.board_plan.specs.Planned.{Wiring}
+use Rattle.board_plan.specs.Planned.{Member, Wiring}
 use Rattle.board_model.specs.Following.{IsAmong}
 use Rattle.play_direct.specs.Made.{board_of}
 use Rattle.play_model.specs.declared.ending.Ending.{Ending}
@@ -65,3 +66,11 @@ JudgesAll program w _ _ = ⊥
 -- of all faults of a board
 abbrev pub JudgesBoard : Program → Wiring → List Judged → Type 0
 JudgesBoard program w js = JudgesAll program w (faults w.nets) js
+
+-- ---- the law: a board without strings has a meaning with every fault
+
+abbrev pub HasNoStrings : Wiring → Type 0
+HasNoStrings w = AllByRecursion (λ (m : Member). m.follows ≡ []) w.members
+
+abbrev pub EveryFaultHasAMeaningWithoutStrings : Type 0
+EveryFaultHasAMeaningWithoutStrings = (w : Wiring) → HasNoStrings w → (way : Way) → HasMeaning w way

@@ -6,16 +6,19 @@ use Rattle.pin_nets.specs.Wired.{Net}
 use Rattle.boundary.specs.Cells.{is_port}
 use Rattle.pin_nets.specs.declared.Pin.{Pin}
 use Rattle.board_plan.specs.Planned.{Member}
+use Rattle.board_faults.specs.declared.sight.NetSight.{NetSight}
 use Rattle.board_faults.specs.declared.sight.PortSight.{PortSight}
 use Rattle.board_faults.specs.declared.sight.Pair.{Pair}
 use Rattle.board_faults.specs.declared.sight.Pair.TheVariants.{Open, Short}
+use Rattle.board_faults.specs.declared.sight.Sights.{Sights}
 use Rattle.board_faults.specs.declared.together.Driven.{Driven}
 use Rattle.board_faults.specs.declared.kinds.Way.{Way}
 use Rattle.board_faults.specs.declared.kinds.Way.TheVariants as way
 use Rattle.board_faults.specs.Faults.{nowhere}
 use Rattle.board_faults.specs.Sight.{is_read}
-use Rattle.board_faults.specs.Together.{can_make, first_of, no_sight, open_differs, port_sight, pull_differs, second_of}
-use Rattle.board_faults.specs.Together.{short_differs, some_pair, some_single, stuck_differs}
+use Rattle.board_faults.specs.Together.{at_driven, can_make, first_of, no_sight, open_differs, port_sight}
+use Rattle.board_faults.specs.Together.{pull_differs, second_of, short_differs, some_pair, some_single, stuck_differs}
+use Rattle.board_faults.specs.Together.{table}
 
 -- of each port bit of a device
 abbrev pub sights_of : Member → List PortSight
@@ -70,3 +73,30 @@ abbrev pub shows_in : List (List PortSight) → List Net → Way → Bool
 shows_in tables nets its_way =
     shows_of tables (slice_index_or nets (first_of its_way) nowhere) (slice_index_or nets (second_of its_way) nowhere)
     its_way
+
+-- ---- by what is kept of nets
+
+-- what the pins of a net can make, and whether one is read
+abbrev pub net_sight : List (List PortSight) → Net → NetSight
+net_sight tables n = record { can = table (makes_in tables n.pins); read = any_read_in tables n.pins }
+
+-- what is kept of the devices and of the nets of a board
+pub record AreSights (ms : List Member) (ns : List Net) (s : Sights) : Type 0 where
+  pub ports : map (λ t. t.items) s.ports.items ≡ all_sights ms
+  pub nets : s.nets.items ≡ map (net_sight (all_sights ms)) ns
+
+abbrev pub net_unseen : NetSight
+net_unseen = record { can = table (can_make []); read = false }
+
+abbrev pub shows_with : List (List PortSight) → (one other : NetSight) → (net second : Net) → Way → Bool
+shows_with tables s t n o (way.Pull net) = some_single (at_driven s.can) (pull_differs n.pull s.read)
+shows_with tables s t n o (way.Stuck net bit) = some_single (at_driven s.can) (stuck_differs n.pull bit s.read)
+shows_with tables s t n o (way.Open net pin bit) = shows_of tables n o (way.Open net pin bit)
+shows_with tables s t n o (way.Short first second winner) =
+    some_pair (at_driven s.can) (at_driven t.can) (short_differs winner n.pull o.pull s.read t.read)
+
+abbrev pub shows_by : Sights → List Net → Way → Bool
+shows_by s nets its_way =
+    shows_with (map (λ t. t.items) s.ports.items)
+    (slice_index_or s.nets.items (first_of its_way) net_unseen) (slice_index_or s.nets.items (second_of its_way) net_unseen)
+    (slice_index_or nets (first_of its_way) nowhere) (slice_index_or nets (second_of its_way) nowhere) its_way

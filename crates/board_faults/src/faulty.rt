@@ -1,15 +1,15 @@
 //! Boards with a fault.
 
-ghost use Rattle.std.specs.Prelude.{◌≡◌, map, IfOk, OnOk};
+ghost use Rattle.std.specs.Prelude.{◌≡◌, [], map, IfOk, OnOk};
 ghost use Rattle.board_loops.specs.Depending.{wired};
-ghost use Rattle.board_plan.specs.View.{member as planned_member, net as planned_net};
+ghost use Rattle.board_plan.specs.View.{member as planned_member, net as planned_net, wiring};
 ghost use Rattle.board_faults.specs.Faulty.{CanBeJudged, SameDevices, Wires};
 ghost use Rattle.board_faults.specs.Faults.{IsWayOf};
 
 use crate::kinds::Way;
 use crate::nets::nets_with;
 use board_loops::{Settling, settle_strings};
-use board_plan::{Plan, PlannedDevice, PlannedNet};
+use board_plan::{Plan, PlannedDevice, PlannedNet, copy_nets};
 use std::alloc::{AllocError, Global};
 
 /// Gives a bench the nets where a fault of these (asked) shows in a way, and an order of its strings. Answers whether
@@ -35,6 +35,19 @@ pub(crate) fn wire_way(
             Ok(true)
         }
     }
+}
+
+/// A bench for the board of a plan: the same board once more, without an order of its strings, and without the files of
+/// its descriptions. Refused where memory runs out.
+pub fn bench_of(alloc: Global, plan: &Plan) -> Result<Plan, AllocError>
+    ensures board { IfOk result (λ b. wiring b ≡ wiring plan.now) }
+    ensures order { IfOk result (λ b. b.order.items ≡ []) }
+{
+    Ok(Plan {
+        devices: copy_devices(alloc, &plan.devices)?,
+        nets: copy_nets(alloc, &plan.nets)?,
+        order: Vec::new(alloc),
+    })
 }
 
 /// The same devices once more, but for the files of their descriptions. Refused where memory runs out.

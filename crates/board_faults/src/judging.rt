@@ -1,18 +1,18 @@
 //! What a program makes of the faults of a board.
 
-ghost use Rattle.std.specs.Prelude.{◌≡◌, map, option_map, IfOk, OnOk};
+ghost use Rattle.std.specs.Prelude.{map, option_map, IfOk, OnOk};
 ghost use Rattle.svf_programs.specs.Sizes.{program_of};
 ghost use Rattle.board_loops.specs.Depending.{wired};
 ghost use Rattle.board_plan.specs.View.{member as planned_member, net as planned_net, wiring};
 ghost use Rattle.board_faults.specs.Faulty.{CanBeJudged, SameDevices};
 ghost use Rattle.board_faults.specs.Faults.{IsFaultOf, IsWayOf};
-ghost use Rattle.board_faults.specs.Sights.{all_sights};
+ghost use Rattle.board_faults.specs.Sights.{AreSights};
 ghost use Rattle.board_faults.specs.Judging.{JudgesBoard, JudgesFault, JudgesWayWith};
 
 use crate::faulty::{copy_devices, wire_way};
 use crate::kinds::{Fault, Way};
 use crate::listed::Faults;
-use crate::sight::{PortSight, is_invisible, sights_of};
+use crate::sight::{Sights, is_invisible, sights_of};
 use board_plan::{Plan, PlannedNet};
 use play_direct::{Board, play_program};
 use play_model::Ending;
@@ -60,7 +60,7 @@ pub fn judge_faults(
         nets: Vec::new(alloc),
         order: Vec::new(alloc),
     };
-    let sights = sights_of(alloc, &plan.devices)?;
+    let sights = sights_of(alloc, &plan.devices, &plan.nets)?;
     let mut all = Vec::new(alloc);
     for fault in Faults::of(&plan.nets) {
         let ways = judge_fault(alloc, &mut bench, &plan.nets, &sights, program, fault)?;
@@ -74,12 +74,12 @@ fn judge_fault(
     alloc: Global,
     bench: &mut Plan,
     nets: &[PlannedNet],
-    sights: &[Vec<PortSight>],
+    sights: &Sights,
     program: &Program,
     fault: Fault,
 ) -> Result<Option<Vec<JudgedWay>>, AllocError>
     requires may { CanBeJudged (wired nets.now bench.old.devices.items) }
-    requires sights { map (λ t. t.items) sights.now ≡ all_sights (map planned_member bench.old.devices.items) }
+    requires sights { AreSights (map planned_member bench.old.devices.items) (map planned_net nets.now) sights.now }
     requires fault { IsFaultOf (map planned_net nets.now) fault }
     ensures same { OnOk result (SameDevices bench.old bench.new) }
     ensures judged { IfOk result (λ o. JudgesFault (program_of program.now) (wired nets.now bench.old.devices.items) fault
@@ -97,18 +97,19 @@ fn judge_fault(
     Ok(Some(ways))
 }
 
-/// What a program makes of a way of a fault of these nets (asked), by a board of the devices of a bench; nothing where
-/// the board with it has no meaning.
-fn judge_way(
+/// What a program makes of a way of a fault of these nets (asked), by its play from power-up on a board of the devices
+/// of a bench, unless no program could catch the way; nothing where the board with it has no meaning. Refused where
+/// memory runs out.
+pub fn judge_way(
     alloc: Global,
     bench: &mut Plan,
     nets: &[PlannedNet],
-    sights: &[Vec<PortSight>],
+    sights: &Sights,
     program: &Program,
     way: Way,
 ) -> Result<Option<Verdict>, AllocError>
     requires may { CanBeJudged (wired nets.now bench.old.devices.items) }
-    requires sights { map (λ t. t.items) sights.now ≡ all_sights (map planned_member bench.old.devices.items) }
+    requires sights { AreSights (map planned_member bench.old.devices.items) (map planned_net nets.now) sights.now }
     requires way { IsWayOf (map planned_net nets.now) way }
     ensures same { OnOk result (SameDevices bench.old bench.new) }
     ensures judged { IfOk result (JudgesWayWith (program_of program.now) (wired nets.now bench.old.devices.items) way) }

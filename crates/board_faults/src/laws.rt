@@ -1,5 +1,6 @@
 //! Laws of faults.
 ghost use Rattle.board_faults.specs.Alike.{InvisibleFaultsAreNotCaptured};
+ghost use Rattle.board_faults.specs.Judging.{EveryFaultHasAMeaningWithoutStrings};
 ghost use Rattle.board_faults.specs.Missed.{EveryProgramMissesWhatIsInvisible};
 ghost use Rattle.board_faults.specs.OnePlay.{OnePlayServesAllFaults, OneRunServesOtherNets};
 ghost use Rattle.board_faults.specs.Rows.{FaultRows};
@@ -9,6 +10,11 @@ ghost use Rattle.board_faults.specs.StayingRows.{StayingRows};
 /// Which faults two nets have, the nets with one, and what they show.
 pub fn faults_compute()
     ensures { FaultRows }
+{}
+
+/// A board without strings has a meaning with every fault: no net depends on another.
+pub fn every_fault_has_a_meaning_without_strings()
+    ensures { EveryFaultHasAMeaningWithoutStrings }
 {}
 
 /// What is invisible changes no register: whatever the registers and the core bits of a board's devices are, each capture

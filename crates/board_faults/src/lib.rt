@@ -14,15 +14,17 @@ mod sight;
 mod together;
 
 pub use board_chain::Chain;
-pub use judging::{Judged, JudgedWay, Verdict, judge_faults};
+pub use faulty::bench_of;
+pub use judging::{Judged, JudgedWay, Verdict, judge_faults, judge_way};
 pub use kinds::{Fault, Way, Winner};
 pub use laws::{
-    every_program_misses_what_is_invisible, faults_compute, invisible_faults_are_not_captured,
-    one_play_serves_all_faults, one_run_serves_other_nets, registers_differ_by_what_stays,
-    what_stays_computes, whole_scans_leave_nothing,
+    every_fault_has_a_meaning_without_strings, every_program_misses_what_is_invisible,
+    faults_compute, invisible_faults_are_not_captured, one_play_serves_all_faults,
+    one_run_serves_other_nets, registers_differ_by_what_stays, what_stays_computes,
+    whole_scans_leave_nothing,
 };
 pub use listed::Faults;
-pub use nets::nets_with;
+pub use nets::{joined, nets_with, pull_to, rest_pull, turned};
 pub use play_direct::{Board, play_opening, play_program, play_step};
-pub use sight::{PortSight, is_invisible, sights_of};
-pub use together::Driven;
+pub use sight::{Sights, bridge_sees, is_invisible, sights_of};
+pub use together::{Driven, pulled};

@@ -162,7 +162,7 @@ fn both(alloc: Global, some: &[Pin], others: &[Pin]) -> Result<Vec<Pin>, AllocEr
 }
 
 /// The pull that points the other way.
-pub(crate) fn turned(pull: Pull) -> Pull
+pub fn turned(pull: Pull) -> Pull
     ensures { result ≡ spec.turned pull }
 {
     match pull {
@@ -173,14 +173,14 @@ pub(crate) fn turned(pull: Pull) -> Pull
 }
 
 /// The pull towards a bit.
-pub(crate) fn pull_to(bit: bool) -> Pull
+pub fn pull_to(bit: bool) -> Pull
     ensures { result ≡ spec.pull_to bit }
 {
     if bit { Pull::Up } else { Pull::Down }
 }
 
 /// The pull of what is left of a net: its own, or towards the bit to which it floats.
-pub(crate) fn rest_pull(bit: bool, pull: Pull) -> Pull
+pub fn rest_pull(bit: bool, pull: Pull) -> Pull
     ensures { result ≡ spec.rest_pull bit pull }
 {
     match pull {
@@ -190,7 +190,7 @@ pub(crate) fn rest_pull(bit: bool, pull: Pull) -> Pull
 }
 
 /// The pull of two nets that are bridged: of two that are opposed ports read 0.
-pub(crate) fn joined(one: Pull, other: Pull) -> Pull
+pub fn joined(one: Pull, other: Pull) -> Pull
     ensures { result ≡ spec.joined one other }
 {
     match (one, other) {

@@ -1,16 +1,18 @@
 //! Which ways of faults can show at all: by what pins can drive, whatever a program does, and which of them are read.
 
 ghost use Rattle.std.specs.Prelude.{◌≡◌, ◌<◌, ◌↔◌, ◌&&◌, ◌∷◌, [], drop, map, length, take, IfOk, IsTrue, List, Some};
+ghost use Rattle.std.specs.Prelude.{slice_index_or};
 ghost use Rattle.std.specs.List.{list_any, remove};
 ghost use Rattle.boundary.specs.Masks as masks;
 ghost use Rattle.board_plan.specs.Planned as planned;
 ghost use Rattle.board_plan.specs.View.{member as planned_member, net as planned_net};
-ghost use Rattle.board_faults.specs.Faults.{IsWayOf};
+ghost use Rattle.board_faults.specs.Faults.{IsWayOf, nowhere};
+ghost use Rattle.board_faults.specs.declared.kinds.Way.TheVariants as way;
 ghost use Rattle.board_faults.specs.Sight.{IsInvisible, MayHaveFaults, drives_by, drives_of};
-ghost use Rattle.board_faults.specs.Sights.{AreRead, Marks, all_sights, any_read_in, makes_in, pair_differs, shows_in, sight_in};
-ghost use Rattle.board_faults.specs.Sights.{sights_of};
+ghost use Rattle.board_faults.specs.Sights.{AreRead, AreSights, Marks, all_sights, any_read_in, makes_in, net_sight};
+ghost use Rattle.board_faults.specs.Sights.{net_unseen, pair_differs, shows_by, sight_in, sights_of};
 ghost use Rattle.board_faults.specs.Together as spec;
-ghost use Rattle.board_faults.specs.Together.{all_driven, at_driven, open_differs, pull_differs, short_differs};
+ghost use Rattle.board_faults.specs.Together.{all_driven, at_driven, open_differs, pull_differs};
 ghost use Rattle.board_faults.specs.Together.{some_pair, some_single, stuck_differs, table};
 
 use crate::kinds::{Way, Winner};
@@ -29,8 +31,60 @@ pub struct PortSight {
     pub read: bool,
 }
 
-/// Of each port bit of each device what it can drive, and whether it is read. Refused where memory runs out.
+/// What the pins of a net can make together, and whether one of them is read.
+#[derive(Drop, Clone, Copy)]
+pub struct NetSight {
+    can: Table,
+    read: bool,
+}
+
+/// Of each port bit of each device what it can drive, and whether it is read; and the same of each net.
+#[derive(Drop)]
+pub struct Sights {
+    ports: Vec<Vec<PortSight>>,
+    nets: Vec<NetSight>,
+}
+
+/// What the pins and the nets of a board can drive, and which of them are read. Refused where memory runs out.
 pub fn sights_of(
+    alloc: Global,
+    devices: &[PlannedDevice],
+    nets: &[PlannedNet],
+) -> Result<Sights, AllocError>
+    ensures { IfOk result (AreSights (map planned_member devices.now) (map planned_net nets.now)) }
+{
+    let ports = device_sights(alloc, devices)?;
+    let nets = net_sights(alloc, &ports, nets)?;
+    Ok(Sights { ports, nets })
+}
+
+/// Of each net what its pins can make together, and whether one of them is read.
+fn net_sights(
+    alloc: Global,
+    ports: &[Vec<PortSight>],
+    nets: &[PlannedNet],
+) -> Result<Vec<NetSight>, AllocError>
+    ensures { IfOk result
+        (λ v. v.items ≡ map (net_sight (map (λ t. t.items) ports.now)) (map planned_net nets.now)) }
+{
+    let mut all = Vec::with_capacity(alloc, nets.len())?;
+    for net in nets {
+        all.push(net_sight(ports, net))?;
+    }
+    Ok(all)
+}
+
+fn net_sight(ports: &[Vec<PortSight>], net: &PlannedNet) -> NetSight
+    ensures { result ≡ net_sight (map (λ t. t.items) ports.now) (planned_net net.now) }
+{
+    NetSight {
+        can: table_of(ports, &net.pins),
+        read: is_any_read(ports, &net.pins),
+    }
+}
+
+/// Of each port bit of each device what it can drive, and whether it is read. Refused where memory runs out.
+fn device_sights(
     alloc: Global,
     devices: &[PlannedDevice],
 ) -> Result<Vec<Vec<PortSight>>, AllocError>
@@ -132,65 +186,91 @@ fn cell_drives(k: usize, cell: Cell) -> Driven
     }
 }
 
-/// Whether no program could catch a way of a fault of these nets (asked), given of each port bit what it can drive, and
-/// whether it is read. Refused where memory runs out.
+/// Whether no program could catch a way of a fault of these nets (asked), given what is seen of their board. Refused
+/// where memory runs out.
 pub fn is_invisible(
     alloc: Global,
-    sights: &[Vec<PortSight>],
+    sights: &Sights,
     nets: &[PlannedNet],
     way: Way,
 ) -> Result<bool, AllocError>
     requires way { IsWayOf (map planned_net nets.now) way }
     ensures { (ms : List planned.Member) → MayHaveFaults (record { members = ms; nets = map planned_net nets.now })
-        → map (λ t. t.items) sights.now ≡ all_sights ms
+        → AreSights ms (map planned_net nets.now) sights.now
         → IfOk result (λ r. IsTrue r ↔ IsInvisible (record { members = ms; nets = map planned_net nets.now }) way) }
 {
     Ok(!shows(alloc, sights, nets, way)?)
 }
 
 /// Whether some of what the pins of a way's nets can make is seen otherwise with it.
-fn shows(
-    alloc: Global,
-    sights: &[Vec<PortSight>],
-    nets: &[PlannedNet],
-    way: Way,
-) -> Result<bool, AllocError>
+fn shows(alloc: Global, sights: &Sights, nets: &[PlannedNet], way: Way) -> Result<bool, AllocError>
     requires way { IsWayOf (map planned_net nets.now) way }
-    ensures { IfOk result (λ r. r ≡ shows_in (map (λ t. t.items) sights.now) (map planned_net nets.now) way) }
+    ensures { IfOk result (λ r. r ≡ shows_by sights.now (map planned_net nets.now) way) }
 {
     match way {
-        Way::Pull { net } => Ok(pull_shows(sights, &nets[net])),
-        Way::Stuck { net, bit } => Ok(stuck_shows(sights, &nets[net], bit)),
-        Way::Open { net, pin, bit } => open_shows(alloc, sights, &nets[net], pin, bit),
+        Way::Pull { net } => {
+            let seen = seen_at(sights, net);
+            Ok(some_pulled(seen.can, pull_at(nets, net), seen.read))
+        }
+        Way::Stuck { net, bit } => {
+            let seen = seen_at(sights, net);
+            Ok(some_stuck(seen.can, pull_at(nets, net), bit, seen.read))
+        }
+        Way::Open { net, pin, bit } => open_shows(alloc, &sights.ports, &nets[net], pin, bit),
         Way::Short {
             first,
             second,
             winner,
-        } => Ok(short_shows(sights, &nets[first], &nets[second], winner)),
+        } => Ok(short_shows(sights, nets, first, second, winner)),
     }
 }
 
-fn pull_shows(sights: &[Vec<PortSight>], net: &PlannedNet) -> bool
-    ensures { result ≡ some_single (makes_in (map (λ t. t.items) sights.now) net.now.pins.items)
-        (pull_differs net.now.pull (any_read_in (map (λ t. t.items) sights.now) net.now.pins.items)) }
+/// What is seen of a net; of none where there is none.
+fn seen_at(sights: &Sights, net: usize) -> NetSight
+    ensures { result ≡ slice_index_or sights.now.nets.items net net_unseen }
 {
-    some_pulled(
-        table_of(sights, &net.pins),
-        net.pull,
-        is_any_read(sights, &net.pins),
-    )
+    if net < sights.nets.len() {
+        sights.nets[net]
+    } else {
+        UNSEEN
+    }
 }
 
-fn stuck_shows(sights: &[Vec<PortSight>], net: &PlannedNet, bit: bool) -> bool
-    ensures { result ≡ some_single (makes_in (map (λ t. t.items) sights.now) net.now.pins.items)
-        (stuck_differs net.now.pull bit (any_read_in (map (λ t. t.items) sights.now) net.now.pins.items)) }
+/// What is seen of no pins.
+const UNSEEN: NetSight = NetSight {
+    can: NO_PINS,
+    read: false,
+};
+
+fn pull_at(nets: &[PlannedNet], net: usize) -> Pull
+    ensures { result ≡ (slice_index_or (map planned_net nets.now) net nowhere).pull }
 {
-    some_stuck(
-        table_of(sights, &net.pins),
-        net.pull,
-        bit,
-        is_any_read(sights, &net.pins),
-    )
+    if net < nets.len() {
+        nets[net].pull
+    } else {
+        Pull::Free
+    }
+}
+
+fn short_shows(
+    sights: &Sights,
+    nets: &[PlannedNet],
+    first: usize,
+    second: usize,
+    winner: Winner,
+) -> bool
+    ensures { result ≡ shows_by sights.now (map planned_net nets.now) (way.Short first second winner) }
+{
+    let one = seen_at(sights, first);
+    let other = seen_at(sights, second);
+    let pair = Pair::Short {
+        winner,
+        one: pull_at(nets, first),
+        other: pull_at(nets, second),
+        first: one.read,
+        second: other.read,
+    };
+    some_pair(one.can, other.can, pair)
 }
 
 fn open_shows(
@@ -218,32 +298,6 @@ fn open_shows(
         rest: is_any_read(sights, &rest),
     };
     Ok(some_pair(table_of(sights, &alone), table_of(sights, &rest), pair))
-}
-
-fn short_shows(
-    sights: &[Vec<PortSight>],
-    one: &PlannedNet,
-    other: &PlannedNet,
-    winner: Winner,
-) -> bool
-    ensures { result ≡ some_pair (makes_in (map (λ t. t.items) sights.now) one.now.pins.items)
-        (makes_in (map (λ t. t.items) sights.now) other.now.pins.items)
-        (short_differs winner one.now.pull other.now.pull
-        (any_read_in (map (λ t. t.items) sights.now) one.now.pins.items)
-        (any_read_in (map (λ t. t.items) sights.now) other.now.pins.items)) }
-{
-    let pair = Pair::Short {
-        winner,
-        one: one.pull,
-        other: other.pull,
-        first: is_any_read(sights, &one.pins),
-        second: is_any_read(sights, &other.pins),
-    };
-    some_pair(
-        table_of(sights, &one.pins),
-        table_of(sights, &other.pins),
-        pair,
-    )
 }
 
 // ---- groups of pins
@@ -379,8 +433,8 @@ fn open_differs(pull: Pull, bit: bool, pin: bool, rest: bool, f: Driven, g: Driv
         || (rest && before != pulled(rest_pull(bit, pull)).together(g).sees())
 }
 
-/// What a bridge with this pull shows.
-fn bridge_sees(winner: Winner, pull: Pull, f: Driven, g: Driven) -> bool
+/// What ports see of a bridge with this pull whose nets' pins drive these.
+pub fn bridge_sees(winner: Winner, pull: Pull, f: Driven, g: Driven) -> bool
     ensures { result ≡ spec.bridge_sees winner pull f g }
 {
     let all = pulled(pull).together(f.together(g));

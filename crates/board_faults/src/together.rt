@@ -68,7 +68,7 @@ pub(crate) const ALL: [Driven; 8] = [
 
 impl Driven {
     /// What both make together.
-    pub(crate) fn together(self, other: Driven) -> Driven
+    pub fn together(self, other: Driven) -> Driven
         ensures { result ≡ spec.together self other }
     {
         Driven {
@@ -79,7 +79,7 @@ impl Driven {
     }
 
     /// What ports see.
-    pub(crate) fn sees(self) -> bool
+    pub fn sees(self) -> bool
         ensures { result ≡ spec.sees self }
     {
         !self.zero && (self.one || !self.weak)
@@ -87,7 +87,7 @@ impl Driven {
 }
 
 /// What a pull drives.
-pub(crate) fn pulled(pull: Pull) -> Driven
+pub fn pulled(pull: Pull) -> Driven
     ensures { result ≡ spec.pulled pull }
 {
     match pull {

@@ -3,12 +3,13 @@ use Rattle.std.proofs.lemmas.List.{take_more}
 use Rattle.std.proofs.lemmas.Option.{get_or_from_slice_get, slice_get_within}
 use Rattle.svf_programs.specs.Sizes.{program_of}
 use Rattle.board_loops.specs.Depending.{wired}
-use Rattle.board_plan.specs.Planned.{Wiring}
+use Rattle.board_plan.specs.Planned.{Member, Wiring}
 use Rattle.board_plan.specs.View.{net as planned_net}
 use Rattle.board_faults.specs.declared.judging.JudgedWay.{JudgedWay}
 use Rattle.board_faults.specs.declared.kinds.Way.{Way}
 use Rattle.board_faults.specs.Faults.{ways}
 use Rattle.board_faults.specs.Judging.{JudgesEach, JudgesWayWith}
+use Rattle.board_faults.specs.Sights.{AreSights}
 use Rattle.board_faults.proofs.JudgingLaws.{among_slice, judges_more}
 use Rattle.board_faults.proofs.judging.judge_fault.Goals as goal
 
@@ -46,3 +47,7 @@ loop-way-preserved c =
           (subst (λ (ws : List Way). JudgesEach program w ws (c.loop-way.ways.items ++ record { way = way; verdict = c.in-Some-2.verdict } ∷ [])) (sym more)
           (judges_more program w (take k all) c.loop-way.ways.items way c.in-Some-2.verdict c.loop-way.invariant.judged judged.0 judged.1));
     }
+
+pub judge_way-requires-clause-sights : goal.judge_way-requires-clause-sights
+judge_way-requires-clause-sights c =
+    subst (λ (ms : List Member). AreSights ms (map planned_net c.args.nets.now) c.args.sights.now) (sym c.loop-way.invariant.same) c.requires.sights
