@@ -1,11 +1,13 @@
 pub mod AllNoted
 pub mod ByNets
+pub mod DriverTables
 pub mod Entering
 pub mod Events
 pub mod Groups
 pub mod Marking
 pub mod NotedEndings
 pub mod Numbering
+pub mod OnePlay
 pub mod PartsKept
 pub mod PinDrives
 pub mod Powered

@@ -36,6 +36,11 @@ abbrev pub all_of : List Note → Note
 all_of [] = nothing_noted
 all_of (n ∷ ns) = both n (all_of ns)
 
+-- the same with others behind them
+abbrev pub all_with : List Note → Note → Note
+all_with [] rest = rest
+all_with (n ∷ ns) rest = both n (all_with ns rest)
+
 -- of the notes of all pins, net after net, those of a net's
 abbrev pub notes_of : List Net → (net : ℕ) → List Note → List Note
 notes_of [] net notes = []

@@ -11,3 +11,4 @@ pub mod Pulls
 pub mod Rows
 pub mod Sources
 pub mod Tables
+pub mod Told

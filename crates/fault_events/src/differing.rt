@@ -1,22 +1,14 @@
 //! What two groups of pins see otherwise where a fault shows in a way, by what each drives together.
 
 ghost use Rattle.std.specs.Prelude.{◌≡◌};
-ghost use Rattle.board_faults.specs.Faults as faults;
 ghost use Rattle.board_faults.specs.Together as spec;
 ghost use Rattle.fault_events.specs.Endings as endings;
 ghost use Rattle.fault_events.specs.Notes as notes;
 ghost use Rattle.fault_events.specs.Pulls as spec_pulls;
 
 use crate::notes::{Note, Spot};
-use board_faults::{Driven, Way, Winner};
+use board_faults::{Driven, Way, bridge_sees, joined, pull_to, pulled, rest_pull, turned};
 use pin_nets::Pull;
-
-/// Nothing is driven.
-const NOTHING: Driven = Driven {
-    zero: false,
-    one: false,
-    weak: false,
-};
 
 /// Which pulls a way is about: that of its net, and of a bridge that of the other.
 #[derive(Drop, Clone, Copy)]
@@ -49,7 +41,7 @@ fn first_sees(way: Way, pulls: Pulls, f: Driven, g: Driven) -> bool
     match way {
         Way::Pull { .. } => seen(pulls.first, f) != seen(turned(pulls.first), f),
         Way::Stuck { bit, .. } => seen(pulls.first, f) != bit,
-        Way::Open { bit, .. } => seen(pulls.first, together(f, g)) != seen(pull_to(bit), f),
+        Way::Open { bit, .. } => seen(pulls.first, f.together(g)) != seen(pull_to(bit), f),
         Way::Short { winner, .. } => {
             seen(pulls.first, f) != bridge_sees(winner, joined(pulls.first, pulls.second), f, g)
         }
@@ -63,7 +55,7 @@ fn second_sees(way: Way, pulls: Pulls, f: Driven, g: Driven) -> bool
     match way {
         Way::Pull { .. } | Way::Stuck { .. } => false,
         Way::Open { bit, .. } => {
-            seen(pulls.first, together(f, g)) != seen(rest_pull(bit, pulls.first), g)
+            seen(pulls.first, f.together(g)) != seen(rest_pull(bit, pulls.first), g)
         }
         Way::Short { winner, .. } => {
             seen(pulls.second, g) != bridge_sees(winner, joined(pulls.first, pulls.second), f, g)
@@ -93,7 +85,7 @@ pub(crate) fn both(a: Note, b: Note) -> Note
     ensures { result ≡ endings.both a b }
 {
     Note {
-        made: together(a.made, b.made),
+        made: a.made.together(b.made),
         first: earlier(a.first, b.first),
         stays: a.stays || b.stays,
     }
@@ -103,85 +95,5 @@ pub(crate) fn both(a: Note, b: Note) -> Note
 fn seen(pull: Pull, f: Driven) -> bool
     ensures { result ≡ spec.sees (spec.together (spec.pulled pull) f) }
 {
-    sees(together(pulled(pull), f))
-}
-
-fn together(f: Driven, g: Driven) -> Driven
-    ensures { result ≡ spec.together f g }
-{
-    Driven {
-        zero: f.zero || g.zero,
-        one: f.one || g.one,
-        weak: f.weak || g.weak,
-    }
-}
-
-fn sees(f: Driven) -> bool
-    ensures { result ≡ spec.sees f }
-{
-    !f.zero && (f.one || !f.weak)
-}
-
-fn pulled(pull: Pull) -> Driven
-    ensures { result ≡ spec.pulled pull }
-{
-    match pull {
-        Pull::Down => Driven {
-            weak: true,
-            ..NOTHING
-        },
-        Pull::Up | Pull::Free => NOTHING,
-    }
-}
-
-/// What a bridge with this pull shows.
-fn bridge_sees(winner: Winner, pull: Pull, f: Driven, g: Driven) -> bool
-    ensures { result ≡ spec.bridge_sees winner pull f g }
-{
-    let all = together(pulled(pull), together(f, g));
-    if all.zero && all.one {
-        match winner {
-            Winner::Zeros => false,
-            Winner::Ones => true,
-            Winner::First => f.one && !f.zero,
-            Winner::Second => g.one && !g.zero,
-        }
-    } else {
-        sees(all)
-    }
-}
-
-fn turned(pull: Pull) -> Pull
-    ensures { result ≡ faults.turned pull }
-{
-    match pull {
-        Pull::Up => Pull::Down,
-        Pull::Down => Pull::Up,
-        Pull::Free => Pull::Free,
-    }
-}
-
-fn pull_to(bit: bool) -> Pull
-    ensures { result ≡ faults.pull_to bit }
-{
-    if bit { Pull::Up } else { Pull::Down }
-}
-
-fn rest_pull(bit: bool, pull: Pull) -> Pull
-    ensures { result ≡ faults.rest_pull bit pull }
-{
-    match pull {
-        Pull::Free => pull_to(bit),
-        Pull::Up | Pull::Down => pull,
-    }
-}
-
-fn joined(one: Pull, other: Pull) -> Pull
-    ensures { result ≡ faults.joined one other }
-{
-    match (one, other) {
-        (Pull::Down, _) | (_, Pull::Down) => Pull::Down,
-        (Pull::Up, _) | (_, Pull::Up) => Pull::Up,
-        (Pull::Free, Pull::Free) => Pull::Free,
-    }
+    pulled(pull).together(f).sees()
 }

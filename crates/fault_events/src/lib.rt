@@ -13,11 +13,13 @@ mod notes;
 mod noting;
 mod numbers;
 mod tables;
+mod ways;
 
 pub use captures::{Capture, note_captures};
 pub use laws::{
     captures_take_from_sources, events_compute, events_tell_of_faults, events_tell_of_runs,
-    nets_tell_of_faults, notes_tell_of_faults, notes_tell_of_ways,
+    nets_tell_of_faults, notes_tell_of_faults, notes_tell_of_ways, one_play_tells_of_faults,
 };
-pub use nets::{NetCapture, net_captures, way_ending};
+pub use nets::{NetCapture, net_captures};
 pub use notes::{Note, Spot};
+pub use ways::{Told, one_play, way_ending};

@@ -5,7 +5,7 @@ ghost use Rattle.board_plan.specs.View.{net as planned_net};
 ghost use Rattle.fault_events.specs.Captures as captures;
 ghost use Rattle.fault_events.specs.Endings as endings;
 ghost use Rattle.fault_events.specs.Nets as spec;
-ghost use Rattle.fault_events.specs.Nets.{ending_by_nets, ending_of_nets, nets_noted, seen, with_nets_noted};
+ghost use Rattle.fault_events.specs.Nets.{ending_by_nets, nets_noted, seen, with_nets_noted};
 ghost use Rattle.fault_events.specs.Notes.{net_at};
 
 use crate::captures::Capture;
@@ -57,23 +57,30 @@ fn net_notes(alloc: Global, nets: &[PlannedNet], notes: &[Note]) -> Result<Vec<N
     Ok(all)
 }
 
-fn front(notes: &[Note], n: usize) -> &[Note]
+pub(crate) fn front(notes: &[Note], n: usize) -> &[Note]
     ensures { result.now ≡ take n notes.now }
 {
     if n < notes.len() { &notes[..n] } else { notes }
 }
 
-fn behind(notes: &[Note], n: usize) -> &[Note]
+pub(crate) fn behind(notes: &[Note], n: usize) -> &[Note]
     ensures { result.now ≡ drop n notes.now }
 {
     if n < notes.len() { &notes[n..] } else { &[] }
 }
 
 /// What is noted of pins together.
-fn all_of(notes: &[Note]) -> Note
+pub(crate) fn all_of(notes: &[Note]) -> Note
     ensures { result ≡ endings.all_of notes.now }
 {
-    let mut all = NOTHING_NOTED;
+    all_with(notes, NOTHING_NOTED)
+}
+
+/// What is noted of pins together, and of others behind them.
+pub(crate) fn all_with(notes: &[Note], rest: Note) -> Note
+    ensures { result ≡ endings.all_with notes.now rest }
+{
+    let mut all = rest;
     let mut k = notes.len();
     while k > 0 {
         k -= 1;
@@ -96,15 +103,15 @@ const NOTHING_NOTED: Note = Note {
 /// How a program that passes ends where a fault of whole nets shows in a way, by its captures; nothing where they do
 /// not tell, since a bit that stays in a register is another: there the way is to be played as a whole.
 pub(crate) fn net_ending(
-    list: &[NetCapture],
+    captures: &[NetCapture],
     way: Way,
     pulls: Pulls,
     first: usize,
     second: usize,
 ) -> Option<Ending>
-    ensures { result ≡ ending_by_nets way pulls first second (map seen list.now) }
+    ensures { result ≡ ending_by_nets way pulls first second (map seen captures.now) }
 {
-    for capture in list {
+    for capture in captures {
         let one = note_at(first, &capture.nets);
         let two = note_at(second, &capture.nets);
         if let Some(spot) = first_other(way, pulls, one, two) {
@@ -130,23 +137,8 @@ fn note_at(k: usize, notes: &[Note]) -> Note
     }
 }
 
-/// How a program that passes ends on the board where a fault shows in a way, by what is noted of each net at its
-/// captures. Nothing where they do not tell: of an open joint, and where a bit that stays in a register is another
-/// before one that is wanted. Such a way is to be played as a whole.
-pub fn way_ending(list: &[NetCapture], nets: &[PlannedNet], way: Way) -> Option<Ending>
-    ensures { result ≡ ending_of_nets (map planned_net nets.now) way (map seen list.now) }
-{
-    match way {
-        Way::Open { .. } => None,
-        Way::Pull { net } => net_ending(list, way, pulls_of(nets, net, net), net, net),
-        Way::Stuck { net, .. } => net_ending(list, way, pulls_of(nets, net, net), net, net),
-        Way::Short { first, second, .. } => {
-            net_ending(list, way, pulls_of(nets, first, second), first, second)
-        }
-    }
-}
-
-fn pulls_of(nets: &[PlannedNet], first: usize, second: usize) -> Pulls
+/// The pulls of two nets.
+pub(crate) fn pulls_of(nets: &[PlannedNet], first: usize, second: usize) -> Pulls
     ensures first { result.first ≡ (net_at (map planned_net nets.now) first).pull }
     ensures second { result.second ≡ (net_at (map planned_net nets.now) second).pull }
 {

@@ -77,7 +77,7 @@ fn cell_number(cell: Cell, device: usize, tables: &[Vec<Option<usize>>]) -> Opti
 }
 
 /// The number that tables have for a port bit of a device.
-fn number_at(tables: &[Vec<Option<usize>>], device: usize, port: usize) -> Option<usize>
+pub(crate) fn number_at(tables: &[Vec<Option<usize>>], device: usize, port: usize) -> Option<usize>
     ensures { result ≡ number_in (map (λ t. t.items) tables.now) device port }
 {
     match tables.get(device) {

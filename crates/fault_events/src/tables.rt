@@ -1,17 +1,18 @@
 //! The pins of a board's nets by numbers, net after net.
 
-ghost use Rattle.std.specs.Prelude.{◌≡◌, ◌≢◌, ◌++◌, map, slice_get, IfOk, OnOk};
+ghost use Rattle.std.specs.Prelude.{◌≡◌, ◌≢◌, ◌++◌, map, IfOk, OnOk};
 ghost use Rattle.std.specs.List.{AllByRecursion, AllPairs};
-ghost use Rattle.boundary.specs.Cells.{driver_from};
 ghost use Rattle.board_plan.specs.Planned.{IsPinOf, all_pins};
 ghost use Rattle.board_plan.specs.View.{member as planned_member, net as planned_net};
 ghost use Rattle.pin_nets.specs.declared.Pin.{Pin as ThePin};
-ghost use Rattle.fault_events.specs.Drives.{driver_at, wire_of};
+ghost use Rattle.fault_events.specs.Drives.{AreDriverTables, HasDrivers, wire_in};
 ghost use Rattle.fault_events.specs.Tables.{AreNumbered, entered, table_of, tables_of, with_pin};
+ghost use Rattle.fault_events.specs.Told.{starts_of};
 
 use crate::drives::PinWire;
+use crate::numbers::number_at;
 use board_plan::{PlannedDevice, PlannedNet};
-use bsdl_device::Cell;
+use boundary::drivers;
 use pin_nets::Pin;
 use std::alloc::{AllocError, Global};
 
@@ -37,7 +38,8 @@ pub(crate) fn number_pins(
 {
     let pins = pins_of(alloc, nets)?;
     let tables = number_tables(alloc, devices, &pins)?;
-    let wires = pin_wires(alloc, devices, &pins)?;
+    let drivers = driver_tables(alloc, devices)?;
+    let wires = pin_wires(alloc, &drivers, &pins)?;
     Ok(PinNumbers {
         pins,
         tables,
@@ -54,6 +56,19 @@ pub(crate) fn pins_of(alloc: Global, nets: &[PlannedNet]) -> Result<Vec<Pin>, Al
         put_pins(&net.pins, &mut pins)?;
     }
     Ok(pins)
+}
+
+/// Where the pins of each net begin among those of all. Refused where memory runs out.
+pub(crate) fn net_starts(alloc: Global, nets: &[PlannedNet]) -> Result<Vec<usize>, AllocError>
+    ensures { IfOk result (λ v. v.items ≡ starts_of (map planned_net nets.now)) }
+{
+    let mut starts = Vec::with_capacity(alloc, nets.len())?;
+    let mut pins = Vec::new(alloc);
+    for net in nets {
+        starts.push(pins.len())?;
+        put_pins(&net.pins, &mut pins)?;
+    }
+    Ok(starts)
 }
 
 /// Pins, behind those listed.
@@ -112,48 +127,51 @@ fn enter(device: usize, n: usize, pin: Pin, table: &mut [Option<usize>])
     }
 }
 
-/// Of each pin its device and the cell that drives it. Refused where memory runs out.
-pub(crate) fn pin_wires(
+/// Of each port bit of each device the cell that drives it. Refused where memory runs out.
+fn driver_tables(
     alloc: Global,
     devices: &[PlannedDevice],
+) -> Result<Vec<Vec<Option<usize>>>, AllocError>
+    ensures { IfOk result (λ v. AreDriverTables (map planned_member devices.now) (map (λ t. t.items) v.items)) }
+{
+    let mut tables = Vec::with_capacity(alloc, devices.len())?;
+    for device in devices {
+        let table = driver_table(alloc, device)?;
+        tables.push(table)?;
+    }
+    Ok(tables)
+}
+
+/// The same of one device.
+fn driver_table(alloc: Global, device: &PlannedDevice) -> Result<Vec<Option<usize>>, AllocError>
+    ensures { IfOk result (λ t. HasDrivers (planned_member device.now) t.items) }
+{
+    let its = device.device.get();
+    let table = drivers(alloc, its.cells(), its.port_count())?;
+    Ok(table)
+}
+
+/// Of each pin its device and the cell that drives it, by the driving cells of each device's port bits. Refused where
+/// memory runs out.
+pub(crate) fn pin_wires(
+    alloc: Global,
+    drivers: &[Vec<Option<usize>>],
     pins: &[Pin],
 ) -> Result<Vec<PinWire>, AllocError>
-    ensures { IfOk result (λ v. v.items ≡ map (wire_of (map planned_member devices.now)) pins.now) }
+    ensures { IfOk result (λ v. v.items ≡ map (wire_in (map (λ t. t.items) drivers.now)) pins.now) }
 {
     let mut wires = Vec::with_capacity(alloc, pins.len())?;
     for pin in pins {
-        wires.push(pin_wire(devices, *pin))?;
+        wires.push(pin_wire(drivers, *pin))?;
     }
     Ok(wires)
 }
 
-fn pin_wire(devices: &[PlannedDevice], pin: Pin) -> PinWire
-    ensures { result ≡ wire_of (map planned_member devices.now) pin }
+fn pin_wire(drivers: &[Vec<Option<usize>>], pin: Pin) -> PinWire
+    ensures { result ≡ wire_in (map (λ t. t.items) drivers.now) pin }
 {
     PinWire {
         device: pin.device,
-        driver: driver_in(devices, pin),
+        driver: number_at(drivers, pin.device, pin.port),
     }
-}
-
-/// The cell that drives a pin, if there is its device.
-fn driver_in(devices: &[PlannedDevice], pin: Pin) -> Option<usize>
-    ensures { result ≡ driver_at pin.port (slice_get (map planned_member devices.now) pin.device) }
-{
-    if pin.device >= devices.len() {
-        return None;
-    }
-    driver_of(devices[pin.device].device.get().cells(), pin.port)
-}
-
-/// The first cell that drives a port bit.
-fn driver_of(cells: &[Cell], port: usize) -> Option<usize>
-    ensures { result ≡ driver_from port 0 cells.now }
-{
-    for k in 0..cells.len() {
-        if cells[k].function.drives() && cells[k].port == Some(port) {
-            return Some(k);
-        }
-    }
-    None
 }

@@ -1,12 +1,14 @@
-use Rattle.std.proofs.Common.{◌≡◌, ℕ, zero, suc, List, [], ◌∷◌, map, slice_get, Some, refl, sym, ap, subst, ◌∙◌, inl, inr}
+use Rattle.std.proofs.Common.{◌≡◌, ℕ, zero, suc, List, [], ◌∷◌, map, slice_get, Option, Some, refl, sym, ap, subst, ◌∙◌, inl, inr}
+use Rattle.std.specs.Global.{Vec}
 use Rattle.std.specs.List.{AllByRecursion}
 use Rattle.pin_nets.specs.declared.Pin.{Pin}
-use Rattle.board_plan.specs.Planned.{IsPinOf, Member}
-use Rattle.board_plan.specs.View.{member as planned_member}
+use Rattle.board_plan.specs.Planned.{IsPinOf, Member, all_pins}
+use Rattle.board_plan.specs.View.{member as planned_member, net as planned_net}
 use Rattle.board_model.specs.Following.{IsAmong}
 use Rattle.board_faults.proofs.Choosing.{Once, once}
-use Rattle.fault_events.specs.Drives.{wire_of}
+use Rattle.fault_events.specs.Drives.{AreDriverTables, wire_of}
 use Rattle.fault_events.specs.Tables.{AreApart, ArePorts, tables_of}
+use Rattle.fault_events.proofs.DriverTables.{wires_there}
 use Rattle.fault_events.proofs.tables.number_pins.Goals as goal
 
 got-among : (ps : List Pin) (j : ℕ) (p : Pin) → slice_get ps j ≡ Some p → IsAmong p ps
@@ -29,9 +31,15 @@ ports-at ms (x ∷ ps) all (suc n) p e = ports-at ms ps all.1 n p e
 pub returns-clause-numbered : goal.returns-clause-numbered
 returns-clause-numbered c =
     let ms = map planned_member c.args.devices.now in
+    let pins : c.deref-3.result.now ≡ all_pins (map planned_net c.args.nets.now) = c.deref-3.ensures.value ∙ c.in_ok-pins.ensures in
+    let drivers : AreDriverTables ms (map (λ t. t.items) c.deref-2.result.now) =
+    subst (λ (v : List (Vec (Option ℕ))). AreDriverTables ms (map (λ t. t.items) v)) (sym c.deref-2.ensures.value) c.in_ok-drivers.ensures in
     record {
       apart = subst AreApart (sym c.in_ok-pins.ensures) (apart-at _ (once _ c.requires.apart));
       ports = subst (ArePorts ms) (sym c.in_ok-pins.ensures) (ports-at ms _ c.requires.ports);
       tables = c.in_ok-tables.ensures ∙ ap (λ (ps : List Pin). tables_of ps ms) c.deref.ensures.value;
-      wires = c.in_ok-wires.ensures ∙ ap (map (wire_of ms)) c.deref-2.ensures.value;
+      wires = c.in_ok-wires.ensures
+          ∙ wires_there ms (map (λ t. t.items) c.deref-2.result.now) drivers c.deref-3.result.now
+          (subst (AllByRecursion (IsPinOf ms)) (sym pins) c.requires.ports)
+          ∙ ap (map (wire_of ms)) c.deref-3.ensures.value;
     }
