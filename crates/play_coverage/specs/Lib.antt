@@ -2,3 +2,5 @@ pub mod Contending
 pub mod Covering
 pub mod Lines
 pub mod Rows
+pub mod Benches
+pub mod Told

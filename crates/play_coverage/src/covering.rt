@@ -5,17 +5,18 @@ ghost use Rattle.svf_programs.specs.Sizes.{program_of};
 ghost use Rattle.board_plan.specs.View.{wiring};
 ghost use Rattle.board_faults.specs.Made.{IsReadyPlan, PowersUp, board_of};
 ghost use Rattle.output_words.specs.Statuses.{number};
-ghost use Rattle.play_model.specs.Play.{play};
 ghost use Rattle.play_coverage.specs.Contending as spec;
 ghost use Rattle.play_coverage.specs.Covering.{Covers, IsCover, Tells};
 ghost use Rattle.play_coverage.specs.Lines.{contention_line, cover_lines, cover_status, told_lines};
 
+use crate::benches::ending_on;
 use crate::contending::{Contention, contentions};
+use crate::judging::judge_faults;
 use crate::outcomes::any_missed;
 use crate::totals::put_totals;
 use crate::ways::{put_faults, put_missed};
 use board_description::{Untold, net_name};
-use board_faults::{Board, Judged, judge_faults, play_program};
+use board_faults::{Board, Judged};
 use board_plan::Plan;
 use byte_streams::{Counted, Sink, put_all};
 use itoa::Buffer;
@@ -32,7 +33,7 @@ use svf_programs::Program;
 /// missed and nothing contends, else 1. Of a program that fails on the board itself the verdict alone is written.
 ///
 /// Everything is made before the first byte is written, so nothing is where memory runs out. It asks that the plan is
-/// ready, as those are that board files make. It takes a play of the program for each way of each fault.
+/// ready, as those are that board files make. One play of the program tells of most faults.
 pub fn write_cover<W: Sink>(
     alloc: Global,
     plan: &Plan,
@@ -51,15 +52,6 @@ pub fn write_cover<W: Sink>(
             Ok(ending.status())
         }
     }
-}
-
-/// How a program's play on the board of a plan ends, from power-up.
-fn ending_on(alloc: Global, plan: &Plan, program: &Program) -> Result<Ending, AllocError>
-    requires { PowersUp plan.now }
-    ensures { IfOk result (λ e. e ≡ (play (program_of program.now) (board_of (wiring plan.now))).ending) }
-{
-    let mut board = Board::powered_up(alloc, plan)?;
-    Ok(play_program(program, &mut board))
 }
 
 /// What is printed of a program that passes on the board itself, and the exit status.

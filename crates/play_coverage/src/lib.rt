@@ -4,8 +4,10 @@
 
 ghost use Rattle.play_coverage.specs.Rows.{CoverRows};
 
+mod benches;
 mod contending;
 mod covering;
+mod judging;
 mod outcomes;
 mod totals;
 mod ways;
@@ -13,6 +15,7 @@ mod words;
 
 pub use contending::{Contention, contentions};
 pub use covering::write_cover;
+pub use judging::judge_faults;
 pub use outcomes::{FaultKind, Outcome};
 
 /// The lines of some faults, worked out.
