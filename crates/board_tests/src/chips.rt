@@ -57,7 +57,7 @@ fn edges(chip: &mut Chip<Plain>, tms: &[bool]) {
     }
 }
 
-fn act(rt: &impl Abort, chip: &mut Chip<Plain>, what: &Act<'_>) {
+fn perform(rt: &impl Abort, chip: &mut Chip<Plain>, what: &Act<'_>) {
     match what {
         Act::Edges(tms) => edges(chip, tms),
         Act::Rise(tms) => chip.rise(*tms, true),
@@ -86,7 +86,7 @@ fn after(
 ) -> Result<Chip<Plain>, Fail> {
     let mut chip = chip(rt, alloc, change)?;
     for what in acts {
-        act(rt, &mut chip, what);
+        perform(rt, &mut chip, what);
     }
     Ok(chip)
 }
