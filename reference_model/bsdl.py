@@ -495,7 +495,9 @@ def read(text: bytes) -> Device:
     own_names = {row.name for row in value["INSTRUCTION_OPCODE"]} - STANDARD - private
     own = [access for row in value.get("REGISTER_ACCESS", ()) for access in row if access.name in own_names]
     cells = sorted(value["BOUNDARY_REGISTER"], key=lambda cell: cell.number)
-    declared = {port.name: port.what for port in reversed(outer.ports)}
+    declared: dict[str, Port] = {}
+    for port in outer.ports:
+        declared.setdefault(port.name, port.what)
     ports = {name: port.subscripts for name, port in declared.items()}
     taps = frozenset(given.of for name, given in first.items() if name.startswith("TAP_SCAN"))
     accesses = {access.name: access.what for access in reversed(own)}
