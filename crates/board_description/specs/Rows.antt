@@ -1,6 +1,7 @@
 -- A board of two devices, described.
 use Rattle.std.specs.Prelude.{◌≡◌, ℕ, List, [], ◌++◌, codes, flat_map}
-use Rattle.board_description.specs.Described.{cell_lines, device_line, instruction_lines, setting_lines, usercode_line, wiring_lines}
+use Rattle.board_description.specs.Described.{cell_lines, device_line, instruction_lines, setting_lines}
+use Rattle.board_description.specs.Described.{usercode_line, wiring_lines}
 use Rattle.board_description.specs.Samples.{followed, pair, sample}
 
 abbrev pub first : List ℕ

@@ -49,10 +49,10 @@ impl From<Broken> for Untold {
     }
 }
 
-/// Writes what a test engineer needs to know of a board: of each device, from the one nearest TDO on, a line of its own,
-/// one for its user code and one for its core, and one for each string, port bit, opcode of an instruction and cell; then
-/// one for each net with a name, one for the first bits of each device, and one for the chain. A device whose description
-/// is in no file has `-` for its file.
+/// Writes what a test engineer needs to know of a board: of each device, from the one nearest TDO on, a line of its
+/// own, one for its user code and one for its core, and one for each string, port bit, opcode of an instruction and
+/// cell; then one for each net with a name, one for the first bits of each device, and one for the chain. A device
+/// whose description is in no file has `-` for its file.
 ///
 /// The lines of a device are made before they are written, so memory is in proportion to the longest of them.
 pub fn write_description<W: Sink>(

@@ -1,5 +1,5 @@
--- What a program makes of the faults of a board: a board with a fault is a board, so each of its ways is caught where the
--- play on the board with it, from power-up, finds a bit that fails.
+-- What a program makes of the faults of a board: a board with a fault is a board, so each of its ways is caught where
+-- the play on the board with it, from power-up, finds a bit that fails.
 use Rattle.std.specs.Prelude.{⊤, ◌≡◌, List, [], ◌∷◌, Option, Some, None, option_map}
 use Rattle.std.specs.List.{AllByRecursion}
 use Rattle.svf_programs.specs.Steps.{Program}

@@ -98,5 +98,6 @@ shows_with tables s t n o (way.Short first second winner) =
 abbrev pub shows_by : Sights → List Net → Way → Bool
 shows_by s nets its_way =
     shows_with (map (λ t. t.items) s.ports.items)
-    (slice_index_or s.nets.items (first_of its_way) net_unseen) (slice_index_or s.nets.items (second_of its_way) net_unseen)
+    (slice_index_or s.nets.items (first_of its_way) net_unseen)
+    (slice_index_or s.nets.items (second_of its_way) net_unseen)
     (slice_index_or nets (first_of its_way) nowhere) (slice_index_or nets (second_of its_way) nowhere) its_way

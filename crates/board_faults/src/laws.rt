@@ -17,14 +17,14 @@ pub fn every_fault_has_a_meaning_without_strings()
     ensures { EveryFaultHasAMeaningWithoutStrings }
 {}
 
-/// What is invisible changes no register: whatever the registers and the core bits of a board's devices are, each capture
-/// is the same with the fault as without, so no scan can tell them apart.
+/// What is invisible changes no register: whatever the registers and the core bits of a board's devices are, each
+/// capture is the same with the fault as without, so no scan can tell them apart.
 pub fn invisible_faults_are_not_captured()
     ensures { InvisibleFaultsAreNotCaptured }
 {}
 
-/// What is invisible is missed by every program: a legal program's play on a board with such a fault ends as on the board
-/// without it.
+/// What is invisible is missed by every program: a legal program's play on a board with such a fault ends as on the
+/// board without it.
 pub fn every_program_misses_what_is_invisible()
     ensures { EveryProgramMissesWhatIsInvisible }
 {}

@@ -1,7 +1,7 @@
 //! Single faults of the nets of a board: an open joint, a pull that is missing or the wrong one, a net that is stuck, a
 //! bridge of two nets. Each may show in several ways, since nobody knows what a pin that floats reads, or which driver
-//! wins on a bridge; each way is a board with other nets. Some can show to no program: by what pins can drive, and which
-//! of them are read.
+//! wins on a bridge; each way is a board with other nets. Some can show to no program: by what pins can drive, and
+//! which of them are read.
 #![tactic(auto)]
 
 mod faulty;

@@ -25,8 +25,8 @@ use play_model::Ending;
 use std::alloc::{AllocError, Global};
 use svf_programs::Program;
 
-/// What is noted at the captures of the data column in one play: of every pin of the board's nets, net after net, and of
-/// every net; and where the pins of each net begin.
+/// What is noted at the captures of the data column in one play: of every pin of the board's nets, net after net, and
+/// of every net; and where the pins of each net begin.
 #[derive(Drop)]
 pub struct Told {
     pins: Vec<Capture>,

@@ -25,8 +25,8 @@ pub(crate) struct Bench {
     pub(crate) told: Option<Told>,
 }
 
-/// A bench for the faults of a planned board and a program, which is played on the board once. Refused where memory runs
-/// out.
+/// A bench for the faults of a planned board and a program, which is played on the board once. Refused where memory
+/// runs out.
 ///
 /// Asks what `judge_faults` does.
 pub(crate) fn bench_for(alloc: Global, plan: &Plan, program: &Program) -> Result<Bench, AllocError>

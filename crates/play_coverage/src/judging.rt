@@ -45,8 +45,8 @@ pub fn judge_faults(
     Ok(all)
 }
 
-/// What a program makes of a fault of a planned board's nets (asked), by a bench for them: of each of its ways, in their
-/// order; nothing where the board with it has no meaning. Refused where memory runs out.
+/// What a program makes of a fault of a planned board's nets (asked), by a bench for them: of each of its ways, in
+/// their order; nothing where the board with it has no meaning. Refused where memory runs out.
 fn judge_fault(
     alloc: Global,
     bench: &mut Bench,

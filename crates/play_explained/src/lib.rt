@@ -1,6 +1,7 @@
 //! What a user is told who asks why. Of a play: why wanted bits do not come out, what was wanted, and what held the bit
-//! that came; and the runs that say so. Of a refusal: where in which text it lies, by lines and columns, or the name that
-//! it speaks of; a control byte in a name, and the backslash, stand as `\x0a` does, so that no name is told as two lines.
+//! that came; and the runs that say so. Of a refusal: where in which text it lies, by lines and columns, or the name
+//! that it speaks of; a control byte in a name, and the backslash, stand as `\x0a` does, so that no name is told as two
+//! lines.
 //!
 //! The reasons are found on a board of their own, on which the program is played once more, so that the play itself is
 //! as without them.

@@ -1,5 +1,6 @@
 //! The waves of a play: a value change dump (IEEE Std 1364-2001, clause 18) of the lines of the TAP, of the devices and
-//! of the named nets, message by message; where it is asked for also of the bits that scans want, and of those that fail.
+//! of the named nets, message by message; where it is asked for also of the bits that scans want, and of those that
+//! fail.
 //!
 //! They are drawn on boards of their own, on which the program is played once more, so that the play itself is as
 //! without them.

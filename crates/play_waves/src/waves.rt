@@ -176,8 +176,8 @@ fn draw_turn<W: Sink>(
     draw_messages(drawing, place, step, noted, period, out)
 }
 
-/// Draws a step, from a resting place; where the kind of the player is given, with what is told of the bits that the step
-/// wants.
+/// Draws a step, from a resting place; where the kind of the player is given, with what is told of the bits that the
+/// step wants.
 fn draw_messages<W: Sink>(
     drawing: &mut Drawing,
     place: State,
@@ -216,7 +216,8 @@ fn draw_noted_step<W: Sink>(
     requires within { IsWithin (seen.step step.now.what) }
     ensures writes { WritesAll W.contents out.old out.new (draw_judging kind
         (numbers.first_of_notes drawing.old.board.chips drawing.old.board.nets) period
-        (step_messages place (seen.step step.now.what)) (wants_of (seen.step step.now.what)) no_note drawing.old) result }
+        (step_messages place (seen.step step.now.what)) (wants_of (seen.step step.now.what)) no_note
+        drawing.old) result }
     ensures pen { OnOk result
         (drawing.new ≡ after_drawing period (step_messages place (seen.step step.now.what)) drawing.old) }
 {
@@ -245,7 +246,8 @@ fn draw_scan<W: Sink>(
     requires scans { spec.IsScanOf (seen.step step.now.what) (bits vector.now) }
     ensures writes { WritesAll W.contents out.old out.new (draw_judging kind
         (numbers.first_of_notes drawing.old.board.chips drawing.old.board.nets) period
-        (step_messages place (seen.step step.now.what)) (wants_of (seen.step step.now.what)) no_note drawing.old) result }
+        (step_messages place (seen.step step.now.what)) (wants_of (seen.step step.now.what)) no_note
+        drawing.old) result }
     ensures pen { OnOk result
         (drawing.new ≡ after_drawing period (step_messages place (seen.step step.now.what)) drawing.old) }
 {

@@ -25,8 +25,8 @@ line_variables =
     ++ (codes "$var wire 1 # TDI $end\n$var wire 1 $ TDO $end\n$var wire 1 % TRST $end\n"
     ++ codes "$var integer 32 & statement $end\n")
 
--- Of the bits that scans want: what is wanted beside TDO, whether a bit fails, and the place and the part of the bit that
--- failed last.
+-- Of the bits that scans want: what is wanted beside TDO, whether a bit fails, and the place and the part of the bit
+-- that failed last.
 abbrev pub note_variables : ℕ → List ℕ
 note_variables n =
     variable (codes "wire 1") n (codes "wanted")

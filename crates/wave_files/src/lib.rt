@@ -1,6 +1,6 @@
-//! Wave files: a value change dump (IEEE Std 1364-2001, clause 18) of the lines of the TAP, of the devices and of the named
-//! nets of a board, and where it is asked for of the bits that scans want. The codes of their variables, times and values; what stands before the first time; and what differs
-//! between two states of a board.
+//! Wave files: a value change dump (IEEE Std 1364-2001, clause 18) of the lines of the TAP, of the devices and of the
+//! named nets of a board, and where it is asked for of the bits that scans want. The codes of their variables, times
+//! and values; what stands before the first time; and what differs between two states of a board.
 #![tactic(auto)]
 
 mod binary;
