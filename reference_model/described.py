@@ -6,7 +6,8 @@ from __future__ import annotations
 import bsdl
 from board import Board, Part
 
-WORDS_BY_ESCAPE = {code: f"\\x{code:02x}" for code in (*range(32), 92, 127)}
+WORDS_BY_ESCAPE = {code: "".join(f"\\x{byte:02x}" for byte in chr(code).encode())
+                   for code in (*range(32), 92, *range(127, 160))}
 
 
 def describe(board: Board, tree: dict) -> str:

@@ -6,3 +6,4 @@ pub mod TwiceLaws
 pub mod LoopLaws
 pub mod WithinLaws
 pub mod RefusedLaws
+mod UnfitLaws

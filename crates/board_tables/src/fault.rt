@@ -56,7 +56,7 @@ pub fn told<F>(alloc: Global, unfit: Unfit<'_>) -> BoardFault<F>
     ensures { IsTold unfit.entry result }
 {
     match unfit {
-        Unfit::Field(key) => match String::from_str(alloc, key) {
+        Unfit::Field(key, _) => match String::from_str(alloc, key) {
             Ok(key) => BoardFault::BadField(key),
             Err(_) => BoardFault::NoMemory,
         },

@@ -6,7 +6,7 @@ ghost use Rattle.board_tables.specs.Fields.{tables_in};
 ghost use Rattle.board_tables.specs.WordView.{texts_of};
 ghost use Rattle.board_tables.specs.Files.{Reads, IsBadToml, names_of, distinct};
 ghost use Rattle.board_tables.specs.Files as spec;
-ghost use Rattle.board_tables.specs.FileView.{TellsNames, TellsBadToml, ReadsToml};
+ghost use Rattle.board_tables.specs.FileView.{TellsNames, TellsBadToml, ReadsToml, StopsAt};
 
 use crate::fault::{BoardFault, told};
 use crate::fields::check_fields;
@@ -38,7 +38,21 @@ pub fn read_table<F>(alloc: Global, text: &[u8]) -> Result<Table, BoardFault<F>>
     }
 }
 
-/// The same of a board file's table.
+/// Where a text stops being TOML, as its reader tells it: a byte's place, from 0, or the text's length. None where the
+/// text is a table. Refuses for want of memory alone.
+pub fn bad_toml_place(alloc: Global, text: &[u8]) -> Result<Option<usize>, AllocError>
+    ensures { IfOk result (StopsAt text.now) }
+{
+    match toml::table_from_slice(alloc, text) {
+        Ok(_) => Ok(None),
+        Err(error) => match error.span() {
+            Some(span) => Ok(Some(span.start)),
+            None => Err(AllocError),
+        },
+    }
+}
+
+/// `bsdl_names`, given the board file's table.
 pub fn names_of_table<F>(alloc: Global, table: &Table) -> Result<Vec<String>, BoardFault<F>>
     ensures { TellsNames result (names_of (table_view table.now)) }
 {

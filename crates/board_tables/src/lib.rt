@@ -16,8 +16,8 @@ mod values;
 mod word_laws;
 
 pub use fault::{BoardFault, told};
-pub use fields::{Unfit, check_fields};
-pub use files::{bsdl_names, distinct_files, names_of_table, read_table};
+pub use fields::{BoardTable, Unfit, check_fields};
+pub use files::{bad_toml_place, bsdl_names, distinct_files, names_of_table, read_table};
 pub use follows::{FollowText, follow_of, target_text};
 pub use keys::Known;
 pub use laws::judged_by_other_keys;

@@ -113,19 +113,19 @@ timeout = record (new_rule (codes "timeout")) {
 abbrev pub host : Rule
 host = record (new_rule (codes "host")) { long = Some (codes "host"); action = Some Set }
 
--- `serve --board BOARD --port PORT [--at-most BYTES] [--connections COUNT] [--timeout SECONDS]`
+-- `serve --board BOARD --port PORT [--at-most BYTES] [--connections COUNT] [--timeout SECONDS] [--explain]`
 abbrev pub serve : Shape
 serve = record (new_shape (codes "serve")) {
-  rules = served_board ∷ port ∷ at_most ∷ connections ∷ timeout ∷ [];
+  rules = served_board ∷ port ∷ at_most ∷ connections ∷ timeout ∷ explain ∷ [];
 }
 
 -- `connect [FILE] --port PORT [--host HOST] [--timeout SECONDS] [--all] [--explain]`
 abbrev pub connect : Shape
 connect = record (new_shape (codes "connect")) { rules = svf ∷ port ∷ host ∷ timeout ∷ all ∷ explain ∷ [] }
 
--- `describe --board BOARD`
+-- `describe --board BOARD [--explain]`
 abbrev pub describe : Shape
-describe = record (new_shape (codes "describe")) { rules = served_board ∷ [] }
+describe = record (new_shape (codes "describe")) { rules = served_board ∷ explain ∷ [] }
 
 -- `[--list]`
 abbrev pub list : Rule
@@ -165,9 +165,9 @@ pub data Action : Type 0 where
   plays : (bytes all explain : Bool) → (vcd : Option Drawn) → Action
   checks : (explain : Bool) → Action
   loops : (all explain : Bool) → Action
-  serves : Serving → Action
+  serves : Serving → (explain : Bool) → Action
   connects : Host → (all explain : Bool) → Action
-  describes : Action
+  describes : (explain : Bool) → Action
   covers : (listed : Bool) → Action
 
 -- what is asked for: the file of the program and the board file, where they are named, and what is done
@@ -233,10 +233,10 @@ abbrev pub task_of : Text → List Row → Action
 task_of name rows =
     if bytes_eq name (codes "check") then checks (is_given (codes "explain") rows)
     else if bytes_eq name (codes "loop") then loops (is_given (codes "all") rows) (is_given (codes "explain") rows)
-    else if bytes_eq name (codes "serve") then serves (serving_of rows)
+    else if bytes_eq name (codes "serve") then serves (serving_of rows) (is_given (codes "explain") rows)
     else if bytes_eq name (codes "connect")
     then connects (server_of rows) (is_given (codes "all") rows) (is_given (codes "explain") rows)
-    else if bytes_eq name (codes "describe") then describes
+    else if bytes_eq name (codes "describe") then describes (is_given (codes "explain") rows)
     else if bytes_eq name (codes "cover") then covers (is_given (codes "list") rows)
     else plays (is_given (codes "bytes") rows) (is_given (codes "all") rows) (is_given (codes "explain") rows)
     (waves_of rows)

@@ -18,9 +18,9 @@ abbrev pub action_of : Task → Action
 action_of (Play bytes all explain vcd) = asking.plays bytes all explain (option_map waves_view vcd)
 action_of (Check explain) = asking.checks explain
 action_of (Loop all explain) = asking.loops all explain
-action_of (Serve how) = asking.serves how
+action_of (Serve how explain) = asking.serves how explain
 action_of (Connect server all explain) = asking.connects (server_view server) all explain
-action_of Describe = asking.describes
+action_of (Describe explain) = asking.describes explain
 action_of (Cover listed) = asking.covers listed
 
 abbrev pub asked_of : Request → Asked

@@ -48,16 +48,21 @@ pub enum Task<'a> {
         all: bool,
         explain: bool,
     },
-    /// The board is served to clients.
-    Serve(Serving),
+    /// The board is served to clients; `explain` as for `Check`.
+    Serve {
+        serving: Serving,
+        explain: bool,
+    },
     /// The text is played on a server; `all` and `explain` as for `Play`.
     Connect {
         server: Server<'a>,
         all: bool,
         explain: bool,
     },
-    /// The board is described.
-    Describe,
+    /// The board is described; `explain` as for `Check`.
+    Describe {
+        explain: bool,
+    },
     /// It is told which faults of the board the text would miss; where `listed` is set, every way of every fault.
     Cover {
         listed: bool,
@@ -116,9 +121,9 @@ pub struct Request<'a> {
 /// - `play [FILE] [--board BOARD] [--bytes] [--all] [--explain] [--vcd FILE] [--vcd-fails] [--vcd-plain]`,
 /// - `check [FILE] [--board BOARD] [--explain]`,
 /// - `loop [FILE] [--board BOARD] [--all] [--explain]`,
-/// - `serve --board BOARD --port PORT [--at-most BYTES] [--connections COUNT] [--timeout SECONDS]`,
+/// - `serve --board BOARD --port PORT [--at-most BYTES] [--connections COUNT] [--timeout SECONDS] [--explain]`,
 /// - `connect [FILE] --port PORT [--host HOST] [--timeout SECONDS] [--all] [--explain]`,
-/// - `describe --board BOARD`,
+/// - `describe --board BOARD [--explain]`,
 /// - `cover [FILE] --board BOARD [--list]`.
 ///
 /// Refused are words that none of these takes, and a number that is not in its range; a call for help or for the
@@ -168,13 +173,18 @@ fn task_of<'a>(name: &str, found: &ArgMatches<'a>) -> Task<'a>
             all: is_given(found, "all"),
             explain: is_given(found, "explain"),
         },
-        "serve" => Task::Serve(serving_of(found)),
+        "serve" => Task::Serve {
+            serving: serving_of(found),
+            explain: is_given(found, "explain"),
+        },
         "connect" => Task::Connect {
             server: server_of(found),
             all: is_given(found, "all"),
             explain: is_given(found, "explain"),
         },
-        "describe" => Task::Describe,
+        "describe" => Task::Describe {
+            explain: is_given(found, "explain"),
+        },
         "cover" => Task::Cover {
             listed: is_given(found, "list"),
         },
@@ -367,7 +377,8 @@ fn serve_command<'a>(alloc: Global) -> Result<Command<'a>, AllocError>
     .arg(port_arg(alloc))?
     .arg(at_most_arg(alloc))?
     .arg(connections_arg(alloc))?
-    .arg(timeout_arg(alloc))
+    .arg(timeout_arg(alloc))?
+    .arg(explain_arg(alloc))
 }
 
 fn connect_command<'a>(alloc: Global) -> Result<Command<'a>, AllocError>
@@ -398,7 +409,8 @@ fn describe_command<'a>(alloc: Global) -> Result<Command<'a>, AllocError>
         "Prints a board's devices, instructions, cells and nets, one fact a line",
         help::DESCRIBE,
     )
-    .arg(served_board_arg(alloc))
+    .arg(served_board_arg(alloc))?
+    .arg(explain_arg(alloc))
 }
 
 fn cover_command<'a>(alloc: Global) -> Result<Command<'a>, AllocError>

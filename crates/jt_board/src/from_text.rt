@@ -5,21 +5,24 @@ ghost use Rattle.toml.specs.Data.{Members};
 ghost use Rattle.toml.specs.View.{table_view};
 ghost use Rattle.board_tables.specs.Fields.{tables_at};
 ghost use Rattle.board_tables.specs.Files.{IsBadToml, Reads, file_at, names_of};
-ghost use Rattle.board_tables.specs.FileView.{ReadsToml, TellsBadToml, TellsNames};
+ghost use Rattle.board_tables.specs.Faults as faults;
+ghost use Rattle.board_tables.specs.FileView.{ReadsToml, StopsAt, TellsBadToml, TellsNames};
 ghost use Rattle.board_parts.specs.LibraryView.{files_of};
 ghost use Rattle.board_file.specs.Refusals.{RefusesAt};
 ghost use Rattle.board_file.specs.View.{TellsBoard};
-ghost use Rattle.board_file.specs.Wiring.{makes, targets_in};
+ghost use Rattle.board_file.specs.Wiring.{known_at, makes, targets_in};
 ghost use Rattle.board_plan.specs.View.{files as files_in};
 ghost use Rattle.jt_board.specs.FromText.{IsWhyRefused, TellsMade, said_device};
 ghost use Rattle.jt_board.specs.Made.{IsReadyPlan};
 
 use crate::board::{Board, BoardFault};
-use board_file::{Describe, Refused, Unread, names_of_table, plan_of_text, read_table};
+use board_file::{
+    BoardTable, Describe, Refused, Unread, names_of_table, plan_of_text, read_table,
+};
 use board_plan::Plan;
 use bsdl::{BsdlFault, read};
 use bsdl_device::Device;
-use std::alloc::Global;
+use std::alloc::{AllocError, Global};
 use toml::Table;
 
 /// Why no plan was made of a board file's table: C2 to C9, and for C4 which description is refused.
@@ -90,6 +93,28 @@ pub fn plan_of_table<'f>(
         (λ p. files_in p ≡ map (λ d. Some (file_at d)) (tables_at (codes "device") (table_view table.now))) }
 {
     board_file::plan_of_table(alloc, &Bsdl, table, files)
+}
+
+/// The table in which the first key at fault of a board file stands (C2), given the descriptions in these files: they
+/// are read for it. None where no key is at fault. Refuses for want of memory alone.
+pub fn unfit_table<'f>(
+    alloc: Global,
+    table: &Table,
+    files: &[(&'f str, &'f [u8])],
+) -> Result<Option<BoardTable>, AllocError>
+    ensures { IfOk result (λ o. o
+        ≡ faults.unfit_table (map (known_at said_device (files_of files.now)) (tables_at (codes "device") (table_view table.now)))
+        (table_view table.now)) }
+{
+    board_file::unfit_table(alloc, &Bsdl, table, files)
+}
+
+/// Where a board file stops being TOML (C1), as the reader of TOML tells it: a byte's place, from 0, or the text's
+/// length. None where it is a table. Refuses for want of memory alone.
+pub fn bad_toml_place(alloc: Global, toml_text: &[u8]) -> Result<Option<usize>, AllocError>
+    ensures { IfOk result (StopsAt toml_text.now) }
+{
+    board_file::bad_toml_place(alloc, toml_text)
 }
 
 impl Board {

@@ -13,14 +13,16 @@ mod report;
 
 pub use bare::bare_plan;
 pub use board::{Board, BoardFault};
-pub use board_file::{Refused, unplaced};
+pub use board_file::{BoardTable, Refused, unplaced};
 pub use board_model::Reply;
 pub use board_plan::Plan;
 pub use board_report::Snapshot;
 pub use bsdl::BsdlFault;
 pub use byte_streams::{Broken, Counted};
 pub use circle_laws::{loops_are_circles, no_loop_is_no_circle};
-pub use from_text::{PlanFault, board_table, bsdl_names, plan_of_table, table_names};
+pub use from_text::{
+    PlanFault, bad_toml_place, board_table, bsdl_names, plan_of_table, table_names, unfit_table,
+};
 pub use laws::{
     boards_stay_within_larger_limits, every_board_in_use_is_sound, every_device_read_is_formed,
     every_string_of_a_board_in_use_holds,

@@ -101,7 +101,7 @@ fn run_request(rt: &HostRuntime, alloc: Global, request: &Request<'_>) -> u8 {
 /// asked for.
 fn run_planned(rt: &HostRuntime, alloc: Global, request: &Request<'_>, planned: Planned) -> u8 {
     match request.task {
-        Task::Describe => describe_board(rt, alloc, &planned),
+        Task::Describe { .. } => describe_board(rt, alloc, &planned),
         Task::Cover { listed } => cover_board(rt, alloc, request.svf, &planned, listed),
         task => match planned.board(alloc) {
             Ok(board) => run_board(rt, alloc, request, planned, board),
@@ -161,8 +161,10 @@ fn explains(task: Task<'_>) -> bool {
         Task::Play { explain, .. }
         | Task::Check { explain }
         | Task::Loop { explain, .. }
-        | Task::Connect { explain, .. } => explain,
-        Task::Serve(_) | Task::Describe | Task::Cover { .. } => false,
+        | Task::Serve { explain, .. }
+        | Task::Connect { explain, .. }
+        | Task::Describe { explain } => explain,
+        Task::Cover { .. } => false,
     }
 }
 
@@ -203,7 +205,7 @@ fn run_task(
     planned: Option<&Planned>,
 ) -> u8 {
     match request.task {
-        Task::Serve(serving) => or_lost(serve(rt, board, serving)),
+        Task::Serve { serving, .. } => or_lost(serve(rt, board, serving)),
         Task::Loop { all, explain } => match read_program(rt, alloc, request.svf, explain) {
             Ok(accepted) => loop_text(rt, alloc, kind_of(all), accepted, board, planned),
             Err(status) => status,

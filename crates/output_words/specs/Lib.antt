@@ -5,3 +5,4 @@ pub mod Names
 pub mod Rows
 pub mod Statuses
 pub mod Texts
+pub mod Told

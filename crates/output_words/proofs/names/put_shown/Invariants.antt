@@ -1,7 +1,9 @@
-use Rattle.std.proofs.Common.{◌≡◌, ◌++◌, take}
-use Rattle.std.specs.Prelude.{flat_map}
-use Rattle.output_words.specs.Names.{shown_byte}
+use Rattle.std.proofs.Common.{◌≡◌, ◌++◌, length}
+use Rattle.output_words.specs.Names.{shown}
 use Rattle.output_words.proofs.names.put_shown.Given as goal
 
-abbrev pub invariant-loop-byte : goal.invariant-loop-byte
-invariant-loop-byte l = l.text.items ≡ l.initial.text.items ++ flat_map shown_byte (take l.byte-index l.name)
+abbrev pub invariant-loop-first : goal.invariant-loop-first
+invariant-loop-first l = l.text.items ++ shown l.rest ≡ l.initial.text.items ++ shown l.name
+
+abbrev pub decreases-loop-first : goal.decreases-loop-first
+decreases-loop-first l = length l.rest
