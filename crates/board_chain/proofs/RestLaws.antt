@@ -13,9 +13,9 @@ use Rattle.chip_instructions.specs.Instruction.{meaning}
 use Rattle.chip_registers.specs.Registers.{put}
 use Rattle.boundary.specs.Cells.{BoundaryValue, drive_in}
 use Rattle.scan_vectors.specs.Vector.{VectorBit, tdis}
-use Rattle.board_scan.specs.Rows as rows
-use Rattle.board_scan.specs.Rows.{IsCutBack}
-use Rattle.board_scan.specs.Words.{word_bits}
+use Rattle.board_chain.specs.Rows as rows
+use Rattle.board_chain.specs.Rows.{IsCutBack}
+use Rattle.board_chain.specs.Words.{word_bits}
 use Rattle.jt_bits.proofs.WordShifts.{length-word}
 use Rattle.board_model.specs.Cells.{Member, Told, drive}
 use Rattle.board_model.specs.Chain.{ChipState, members}

@@ -9,4 +9,4 @@ mod renumbering;
 
 pub use depending::{dependencies, settle_strings};
 pub use laws::no_loop_without_strings;
-pub use net_loops::{Dependency, Settling, orders_have_each_once, settle_order};
+pub use net_loops::{Dependency, Settling, orders_have_each_once};

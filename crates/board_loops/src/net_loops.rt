@@ -44,7 +44,7 @@ pub enum Settling {
 ///
 /// Takes the time of going along each string a few times, and of one sort. Asks that each string is between two of
 /// the nets.
-pub fn settle_order(
+pub(crate) fn settle_order(
     alloc: Global,
     nets: usize,
     strings: &[Dependency],

@@ -44,7 +44,7 @@ impl<'t, T: Drop> From<AllocFailed<T>> for Unfound<'t> {
 
 /// The pins that the texts of these values name, in their order, given the names of all devices, and the devices.
 /// Refused at the first text that names none, and where memory runs out.
-pub fn find_pins<'t>(
+pub(crate) fn find_pins<'t>(
     alloc: Global,
     names: &Places<&str>,
     devices: &[SharedDevice],

@@ -13,11 +13,10 @@ mod strings;
 mod twice;
 
 pub use described::known_of;
-pub use found::{Unfound, find_pins};
+pub use found::Unfound;
 pub use known::plan_known_nets;
-pub use library::{Describe, Library, Unread, described_at, devices_of, read_files};
+pub use library::{Describe, Library, Unread, devices_of, read_files};
 pub use misplaced::first_twice;
-pub use pins::{find_pin, port_bit};
+pub use pins::port_bit;
 pub use plan::plan_devices;
-pub use strings::find_strings;
 pub use twice::has_pin_twice;

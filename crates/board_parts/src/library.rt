@@ -250,7 +250,7 @@ fn read_file<R: Describe>(
 }
 
 /// What is described of a device of the board file, given all names of files and what is described in each.
-pub fn described_at<'r>(
+pub(crate) fn described_at<'r>(
     names: &Places<&str>,
     described: &'r [Option<SharedDevice>],
     table: &Table,

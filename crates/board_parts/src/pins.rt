@@ -13,7 +13,7 @@ use std::alloc::{AllocError, Global};
 /// The pin that a text names, given the names of all devices, and the devices. `None` where the text has another form,
 /// or names no device, no port bit, or a port of the TAP. Refuses for want of memory alone.
 #[tactic(auto, unfolding(crate::specs::Pins::pin_at))]
-pub fn find_pin(
+pub(crate) fn find_pin(
     alloc: Global,
     names: &Places<&str>,
     devices: &[SharedDevice],

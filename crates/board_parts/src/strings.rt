@@ -78,7 +78,7 @@ impl DrivenDevice {
 /// The strings that the texts of these values say of a device, in their order: each from the core bit of a cell that
 /// drives a port bit to a port bit of mode in or inout, none of them the TAP's. `None` where a text says no such
 /// string, or one for a cell that has one. Refuses for want of memory alone.
-pub fn find_strings(
+pub(crate) fn find_strings(
     alloc: Global,
     device: &SharedDevice,
     texts: &[Value],

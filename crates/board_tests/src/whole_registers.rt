@@ -2,7 +2,7 @@
 ghost use Rattle.std.specs.Prelude.{◌≡◌};
 
 use crate::descriptions::{P, device};
-use board_scan::{note_chain, shift_chain};
+use board_chain::{note_chain, shift_chain};
 use jt_bits::{Bits, HexFault};
 use jt_tap::Column;
 use scan_registers::{Chip, Plain, SharedDevice, is_formed};

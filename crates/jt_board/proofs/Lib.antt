@@ -1,3 +1,6 @@
+pub use Rattle.board_report.proofs.Differing
+pub use Rattle.board_report.proofs.Rows
+pub use Rattle.board_report.proofs.WordLaws
 pub mod Lists
 pub mod NetLaws
 pub mod PlacedLaws

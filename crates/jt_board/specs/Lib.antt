@@ -1,5 +1,6 @@
 pub use Rattle.board_report.specs.LeftOut
 pub use Rattle.board_report.specs.Report
+pub use Rattle.board_report.specs.Words
 pub use Rattle.bsdl.specs.declared.fault.BsdlFault
 pub mod Circles
 pub mod Bares

@@ -3,10 +3,10 @@ use Rattle.std.proofs.Common.{◌≡◌, ℕ, List, [], ◌∷◌, refl, ◌∙�
 use Rattle.board_model.specs.Chain.{BoardState, after_byte, after_bytes, reply}
 use Rattle.board_model.specs.declared.Reply.{Reply}
 use Rattle.board_model.specs.declared.Reply.TheVariants as said
-use Rattle.jt_board.specs.InUse.{IsInUse}
-use Rattle.jt_board.proofs.InUse.{every_board}
-use Rattle.play_links.specs.Serves.{ServedBytes, serve_bytes, serve_one}
-use Rattle.play_links.proofs.HonestLink.{has_found_all, means_the_program}
+use Rattle.play_direct.specs.InUse.{IsInUse}
+use Rattle.play_direct.proofs.InUse.{every_board}
+use Rattle.play_pipes.specs.Serves.{ServedBytes, serve_bytes, serve_one}
+use Rattle.play_pipes.proofs.HonestLink.{has_found_all, means_the_program}
 use Rattle.jt_player.specs.Connected.{AnHonestEndHasFoundAllOfTheText, AnHonestEndMeansTheText}
 use Rattle.jt_player.proofs.HeadlineLaws.{in_use_after, legal}
 

@@ -6,7 +6,7 @@ use Rattle.svf_settings.proofs.FirstRefusals.{accepted_is_sound}
 use Rattle.board_model.specs.Chain.{BoardState, after_byte, after_bytes, hear}
 use Rattle.board_model.proofs.BytesAndMessages.{after_all-encoded}
 use Rattle.play_model.specs.ScheduleLaws.{bytes_of_full_play, full}
-use Rattle.jt_board.proofs.InUse.{every_board}
+use Rattle.play_direct.proofs.InUse.{every_board}
 use Rattle.play_model.proofs.DescribedPlays.{means_from_opening}
 use Rattle.play_direct.specs.Accepting.{Accepts}
 use Rattle.play_model.specs.declared.kind.Kind.{Kind}
@@ -21,7 +21,7 @@ use Rattle.play_pipes.proofs.Ends.{means, means_all}
 use Rattle.play_pipes.proofs.Inside.{inside}
 use Rattle.play_pipes.specs.Inside.{taken_by_board}
 use Rattle.play_pipes.specs.Laws.{joined_after_of}
-use Rattle.jt_board.specs.InUse.{IsInUse}
+use Rattle.play_direct.specs.InUse.{IsInUse}
 use Rattle.jt_player.specs.Headline.{DirectPlayMeansWhatTheTextMeans, EveryScheduleMeansWhatTheTextMeans}
 use Rattle.jt_player.specs.Headline.{DirectPlaysPassOrFail, EndsIn, EveryRunEnds, PassesOrFails, passes, fails, is_refused, wants_memory}
 use Rattle.jt_player.specs.Headline.{DirectPlayOfEitherKind, EveryScheduleOfEitherKind, WhatEventsOfEitherKindLeaveIsInUse}

@@ -1,7 +1,7 @@
 -- What plays over connections mean, of an accepted text and a board in use.
 use Rattle.std.specs.Prelude.{◌≡◌, Bool, false, ℕ, List}
 use Rattle.board_model.specs.Chain.{BoardState, after_bytes}
-use Rattle.jt_board.specs.InUse.{IsInUse}
+use Rattle.play_direct.specs.InUse.{IsInUse}
 use Rattle.play_model.specs.declared.ending.Ending.{Ending}
 use Rattle.play_model.specs.declared.kind.Kind.TheVariants.{Stops, PlaysOn}
 use Rattle.play_model.specs.DirectPlay.{MeansFromOpening}
@@ -10,8 +10,8 @@ use Rattle.play_model.specs.Playing.{PlayerState}
 use Rattle.play_model.specs.PlayingOn.{failures}
 use Rattle.play_model.specs.Streams.{Found}
 use Rattle.play_model.specs.Histories.{bits_told}
-use Rattle.play_links.specs.Honest.{AreLinked, HasFoundAll, IsHonest}
-use Rattle.play_links.specs.Links.{EndsSo, found_by, sent_by}
+use Rattle.play_pipes.specs.Honest.{AreLinked, HasFoundAll, IsHonest}
+use Rattle.play_pipes.specs.Links.{EndsSo, found_by, sent_by}
 use Rattle.svf_programs.specs.Steps.{Program}
 use Rattle.play_direct.specs.Accepting.{Accepts}
 

@@ -1,6 +1,6 @@
 pub use Rattle.play_direct.specs.Accepting
-pub use Rattle.play_links.specs.Links
-pub use Rattle.play_links.specs.Loops
+pub use Rattle.play_pipes.specs.Links
+pub use Rattle.play_pipes.specs.Loops
 pub mod Showing
 pub mod Kinds
 pub mod Running

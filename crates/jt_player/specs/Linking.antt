@@ -5,8 +5,8 @@ use Rattle.output_words.specs.declared.status.Status.TheVariants as exits
 use Rattle.output_words.specs.Digits.{hex_byte}
 use Rattle.output_words.specs.Statuses.{number}
 use Rattle.output_words.specs.Texts.{texts}
-use Rattle.play_links.specs.declared.serving.Served.{Served}
-use Rattle.play_links.specs.declared.serving.Served.TheVariants.{Quit, Closed, Refused, Bound, Broken}
+use Rattle.play_pipes.specs.Served.{Served}
+use Rattle.play_pipes.specs.Served.TheVariants.{Quit, Closed, Refused, Bound, Broken}
 
 -- the line of how serving ended; a refused byte is told by two lower-case hexadecimal digits
 abbrev pub served_line : Served → List ℕ

@@ -10,8 +10,8 @@ use Rattle.output_words.specs.Statuses.{number}
 use Rattle.svf_words.specs.declared.fault.SvfFault.{SvfFault}
 use Rattle.svf_programs.specs.Steps.{Program}
 use Rattle.board_model.specs.Chain.{BoardState}
-use Rattle.jt_board.specs.LeftOut.{left_out_lines}
-use Rattle.jt_board.specs.Report.{report}
+use Rattle.play_direct.specs.LeftOut.{left_out_lines}
+use Rattle.play_direct.specs.Report.{report}
 use Rattle.play_model.specs.ScheduleLaws.{bytes_of_full_play, full}
 use Rattle.play_model.specs.Endings.{status_of}
 use Rattle.play_model.specs.declared.kind.Kind.{Kind}

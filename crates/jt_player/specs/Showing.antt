@@ -19,8 +19,8 @@ use Rattle.svf_words.specs.declared.fault.SvfFault.{SvfFault}
 use Rattle.svf_programs.specs.Steps.{Program}
 use Rattle.board_tables.specs.declared.fault.BoardFault.{BoardFault}
 use Rattle.board_tables.specs.declared.fault.BoardFault.TheVariants as board
-use Rattle.jt_board.specs.BsdlFault.{BsdlFault}
-use Rattle.jt_board.specs.BsdlFault.TheVariants as bsdl
+use Rattle.play_direct.specs.BsdlFault.{BsdlFault}
+use Rattle.play_direct.specs.BsdlFault.TheVariants as bsdl
 
 -- the line of a wanted bit that did not come out
 abbrev pub mismatch_line : Mismatch → List ℕ

@@ -3,12 +3,12 @@
 ghost use Rattle.std.specs.Prelude.{ℕ};
 ghost use Rattle.board_model.specs.Chain.{BoardState};
 ghost use Rattle.byte_streams.specs.Counts.{CountedView};
-ghost use Rattle.jt_board.specs.InUse.{IsInUse};
+ghost use Rattle.play_direct.specs.InUse.{IsInUse};
 ghost use Rattle.jt_player.specs.Connected.{AnHonestEndHasFoundAllOfTheText, AnHonestEndMeansTheText};
 ghost use Rattle.jt_player.specs.Connected.{FindsAllOfTheTextWhereLinked, MeansTheTextWhereLinked};
-ghost use Rattle.play_links.specs.Loops.{LoopsAllOver, LoopsOver};
-ghost use Rattle.play_links.specs.Serves.{ServesOver};
-ghost use Rattle.play_links.specs.declared.serving.Served as serving;
+ghost use Rattle.play_pipes.specs.Loops.{LoopsAllOver, LoopsOver};
+ghost use Rattle.play_pipes.specs.Serves.{ServesOver};
+ghost use Rattle.play_pipes.specs.Served as serving;
 ghost use Rattle.play_model.specs.declared.ending.Ending.{Ending as TheEnding};
 ghost use Rattle.play_model.specs.declared.kind.Kind.{Kind as TheKind};
 ghost use Rattle.play_model.specs.declared.kind.Kind.TheVariants.{PlaysOn, Stops};

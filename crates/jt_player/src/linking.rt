@@ -1,17 +1,17 @@
 //! Runs over a connection: what is told of a play, and of a board that was served.
 
 ghost use Rattle.std.specs.Prelude.{◌≡◌, ◌++◌};
-ghost use Rattle.jt_board.specs.Report.{report};
+ghost use Rattle.play_direct.specs.Report.{report};
 ghost use Rattle.byte_streams.specs.Writes.{WritesAll};
-ghost use Rattle.play_links.specs.Links.{PlaysAllOver};
-ghost use Rattle.play_links.specs.Loops.{LoopsAllOver};
-ghost use Rattle.play_links.specs.Serves.{ServesOver};
+ghost use Rattle.play_pipes.specs.Links.{PlaysAllOver};
+ghost use Rattle.play_pipes.specs.Loops.{LoopsAllOver};
+ghost use Rattle.play_pipes.specs.Serves.{ServesOver};
 ghost use Rattle.play_model.specs.Endings.{status_of, verdict_line};
 ghost use Rattle.play_model.specs.declared.kind.Kind.TheVariants.{Stops};
 ghost use Rattle.play_model.specs.Streams.{new_stream};
 ghost use Rattle.svf_programs.specs.Sizes.{program_of};
 ghost use Rattle.play_model.specs.declared.ending.Ending as end;
-ghost use Rattle.play_links.specs.declared.serving.Served as serving;
+ghost use Rattle.play_pipes.specs.Served as serving;
 ghost use Rattle.jt_player.specs.Linking as spec;
 ghost use Rattle.jt_player.specs.Linking.{listening_line, served_line, served_status};
 ghost use Rattle.jt_player.specs.Running.{Tells};
@@ -21,10 +21,10 @@ ghost use Rattle.scan_vectors.specs.Failures.{Found, found};
 use crate::showing::write_ending;
 use byte_streams::{Broken, Counted, End, Sink, Source, put_all, put_pieces};
 use itoa::Buffer;
-use jt_board::{Board, write_report};
 use output_words::{Status, hex_byte};
-use play_links::{Player, Served, loop_over_all, play_over_all, serve_over};
+use play_direct::{Board, write_report};
 use play_model::{Ending, Kind, write_verdict};
+use play_pipes::{Player, Served, loop_over_all, play_over_all, serve_over};
 use scan_vectors::Failures;
 use std::alloc::Global;
 use svf_programs::Program;

@@ -9,10 +9,11 @@ ghost use Rattle.svf_programs.specs.Sizes.{program_of};
 ghost use Rattle.jt_player.specs.Kinds.{MeansAsPlayed, ending_in, found_of_ending, found_in};
 
 use byte_streams::{Counted, Sink};
-use jt_board::Board;
-use play_direct::{play_program, play_program_all, play_program_all_noted, play_program_noted};
-use play_links::Player;
+use play_direct::{
+    Board, play_program, play_program_all, play_program_all_noted, play_program_noted,
+};
 use play_model::{Ending, Kind};
+use play_pipes::Player;
 use scan_vectors::{Failures, Mismatch};
 use svf_programs::Program;
 

@@ -7,8 +7,8 @@ ghost use Rattle.jt_player.specs.Showing as showing;
 ghost use Rattle.jt_player.specs.Showing.{board_refusal_line, board_refusal_status, unreadable_line};
 
 use byte_streams::{Broken, Counted, Sink, put_all, put_pieces};
-use jt_board::{BoardFault, BsdlFault};
 use output_words::{Status, write_shown};
+use play_direct::{BoardFault, BsdlFault};
 
 /// Writes the line of a board that is not made: `board C5 UnknownPin`, the refusal of a description in place of C4
 /// (`bsdl B6 BadCapture`), `memory` in place of C8. Answers the exit status: 2 refused, 4 want of memory.

@@ -2,7 +2,7 @@
 
 ghost use Rattle.std.specs.Prelude.{◌≡◌, ◌≢◌, ◌⊎◌, ◌++◌, IfOk, OnOk, codes};
 ghost use Rattle.byte_streams.specs.Writes.{WritesAll};
-ghost use Rattle.jt_board.specs.LeftOut.{left_out_lines};
+ghost use Rattle.play_direct.specs.LeftOut.{left_out_lines};
 ghost use Rattle.play_model.specs.ScheduleLaws.{full};
 ghost use Rattle.play_model.specs.declared.kind.Kind.TheVariants.{Stops, PlaysOn};
 ghost use Rattle.scan_vectors.specs.Failures.{found};
@@ -15,9 +15,8 @@ use crate::play::{play_kind, play_kind_noted};
 use crate::refusing::refuse_memory;
 use crate::showing::{write_accepted, write_ending, write_refusal};
 use byte_streams::{Broken, Counted, Sink, put_all};
-use jt_board::{Board, write_left_out, write_report};
 use output_words::Status;
-use play_direct::accept;
+use play_direct::{Board, accept, write_left_out, write_report};
 use play_model::{Ending, Kind};
 use scan_vectors::Failures;
 use std::alloc::Global;

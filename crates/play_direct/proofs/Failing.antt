@@ -18,7 +18,7 @@ use Rattle.play_model.specs.declared.ending.Ending.TheVariants.{Fail}
 use Rattle.play_model.specs.Meaning.{failure}
 use Rattle.play_model.specs.PlayingOn.{ending_of, step_failures}
 use Rattle.play_model.specs.Streams.{found_of, some_differ, stops_for}
-use Rattle.board_scan.proofs.Differing.{few-wanted}
+use Rattle.jt_board.proofs.Differing.{few-wanted}
 use Rattle.play_model.proofs.AllFailures.{Judged, judged, none, some}
 
 clash : false ≡ true → ⊥

@@ -1,4 +1,5 @@
 pub use Rattle.jt_board.proofs.Bares
+pub use Rattle.jt_board.proofs.InUse
 pub mod Turns
 pub mod Failing
 pub mod WholePlay

@@ -1,4 +1,8 @@
+pub use Rattle.jt_board.specs.BsdlFault
+pub use Rattle.jt_board.specs.InUse
+pub use Rattle.jt_board.specs.LeftOut
 pub use Rattle.jt_board.specs.Made
+pub use Rattle.jt_board.specs.Report
 pub use Rattle.jt_board.specs.Resting
 pub mod Accepting
 pub mod Noting

@@ -11,7 +11,10 @@ mod stepping;
 mod steps;
 
 pub use accepting::accept;
-pub use jt_board::Board;
+pub use jt_board::{
+    Board, BoardFault, Broken, BsdlFault, Counted, Level, Reply, Snapshot, board_table, bsdl_names,
+    table_names, write_left_out, write_report,
+};
 pub use laws::texts_stay_accepted_within_larger_limits;
 pub use noted::{play_program_all_noted, play_program_noted};
 pub use playing::{play_program, play_program_all};

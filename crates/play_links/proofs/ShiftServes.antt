@@ -20,10 +20,10 @@ use Rattle.board_model.specs.Chain.{BoardState, ChipState, Heard, after_message,
 use Rattle.board_model.specs.declared.Reply.{Reply}
 use Rattle.board_model.specs.declared.Reply.TheVariants as said
 use Rattle.board_model.specs.Nets.{told}
-use Rattle.board_scan.specs.Words.{word_bits}
-use Rattle.board_scan.proofs.Rows.{bit-left, bit-right}
+use Rattle.jt_board.specs.Words.{word_bits}
+use Rattle.jt_board.proofs.Rows.{bit-left, bit-right}
 use Rattle.jt_bits.proofs.WordShifts.{length-word}
-use Rattle.board_scan.proofs.WordLaws.{is_front}
+use Rattle.jt_board.proofs.WordLaws.{is_front}
 use Rattle.jt_board.specs.Shifting.{shift_cycles, shifts}
 use Rattle.play_links.specs.Leaving.{left_after, left_behind}
 use Rattle.play_links.specs.Serves.{ServedBytes, serve_bytes, serve_one}

@@ -6,7 +6,7 @@ use Rattle.bitbang_protocol.specs.declared.Message.{Message}
 use Rattle.bitbang_protocol.specs.declared.Message.TheVariants.{Write}
 use Rattle.bitbang_protocol.specs.Protocol.{answer}
 use Rattle.board_model.specs.Chain.{BoardState, Heard, after_message, tdi_before}
-use Rattle.board_scan.specs.Words.{word_bits}
+use Rattle.jt_board.specs.Words.{word_bits}
 use Rattle.play_links.specs.Leaving.{left_behind}
 use Rattle.play_links.specs.Serves.{ServedBytes, serve_bytes}
 

@@ -7,7 +7,7 @@ ghost use Rattle.bitbang_protocol.specs.declared.Message.TheVariants.{Write};
 ghost use Rattle.play_links.specs.Leaving.{left_behind};
 ghost use Rattle.play_links.specs.Serves.{serve_bytes};
 ghost use Rattle.play_links.specs.Shifts.{IsCycle, IsRun, picked, writes_low};
-ghost use Rattle.board_scan.specs.Words.{word_bits};
+ghost use Rattle.jt_board.specs.Words.{word_bits};
 
 use bitbang_protocol::Cycle;
 use jt_board::Board;

@@ -1,3 +1,5 @@
+pub use Rattle.play_links.proofs.HonestLink
+pub use Rattle.play_links.proofs.LoopHonest
 pub mod Steps
 pub mod Together
 pub mod RoundsEnd

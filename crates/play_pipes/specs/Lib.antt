@@ -1,3 +1,8 @@
+pub use Rattle.play_links.specs.Honest
+pub use Rattle.play_links.specs.Links
+pub use Rattle.play_links.specs.Loops
+pub use Rattle.play_links.specs.Serves
+pub use Rattle.play_links.specs.declared.serving.Served
 pub mod Joining
 pub mod Standing
 pub mod Together

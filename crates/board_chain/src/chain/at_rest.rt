@@ -13,7 +13,7 @@ ghost use Rattle.scan_vectors.specs.Held.{bits};
 ghost use Rattle.scan_vectors.specs.Vector.{tdis};
 
 use super::Chain;
-use board_scan::note_chain;
+use crate::scan::note_chain;
 use jt_tap::{Column, State};
 use scan_vectors::{Failures, Vector};
 

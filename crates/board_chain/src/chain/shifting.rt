@@ -8,11 +8,11 @@ ghost use Rattle.board_chain.specs.AtRest.{chain_as, shifted_through};
 ghost use Rattle.board_chain.specs.Shifting as shifting;
 ghost use Rattle.board_chain.specs.Shifting.{all_shift};
 ghost use Rattle.board_chips.specs.WiredChips.{chip_state};
-ghost use Rattle.board_scan.specs.Words.{word_bits};
+ghost use Rattle.board_chain.specs.Words.{word_bits};
 
 use super::Chain;
+use crate::scan::word_out;
 use board_chips::WiredChip;
-use board_scan::word_out;
 use jt_tap::{Column, State};
 use scan_registers::Link;
 

@@ -11,14 +11,14 @@ ghost use Rattle.board_chain.specs.Settled.{Becomes, as_told};
 ghost use Rattle.board_chain.specs.Sweeping.{EachFrom, Still};
 ghost use Rattle.board_chips.specs.WiredChips.{chip_state};
 ghost use Rattle.board_chips.specs.Wires.{IsWired};
-ghost use Rattle.board_scan.specs.Words.{word_bits};
+ghost use Rattle.board_chain.specs.Words.{word_bits};
 ghost use Rattle.jt_tap.specs.declared.State.TheVariants.{Reset};
 ghost use Rattle.scan_vectors.specs.Held.{bits};
 ghost use Rattle.scan_vectors.specs.Vector.{tdis};
 
 use super::Settled;
+use crate::scan::{shift_chain, shift_word};
 use board_chips::{WiredChip, Wiring};
-use board_scan::{shift_chain, shift_word};
 use jt_tap::{Column, State};
 use scan_vectors::Vector;
 

@@ -1,5 +1,5 @@
-use Rattle.jt_board.proofs.InUse.{every_board}
-use Rattle.play_links.proofs.LoopHonest.{loop-finds, loop-means}
+use Rattle.play_direct.proofs.InUse.{every_board}
+use Rattle.play_pipes.proofs.LoopHonest.{loop-finds, loop-means}
 use Rattle.jt_player.proofs.HeadlineLaws.{legal}
 use Rattle.jt_player.proofs.connected.a_loop_over_linked_ends_means_the_text.Goals as goal
 

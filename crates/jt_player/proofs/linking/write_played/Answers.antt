@@ -1,6 +1,6 @@
 use Rattle.std.proofs.Common.{refl}
 use Rattle.byte_streams.proofs.Fronts.{WritesAll-then, WritesAll-stopped}
-use Rattle.jt_board.specs.Report.{report}
+use Rattle.play_direct.specs.Report.{report}
 use Rattle.jt_player.proofs.linking.write_played.Goals as goal
 
 pub returns-in_err-write_ending : goal.returns-in_err-write_ending

@@ -1,6 +1,6 @@
 use Rattle.std.proofs.Common.{refl, ap}
 use Rattle.byte_streams.proofs.Fronts.{WritesAll-is, WritesAll-then, WritesAll-stopped}
-use Rattle.jt_board.specs.Report.{report}
+use Rattle.play_direct.specs.Report.{report}
 use Rattle.play_model.specs.ScheduleLaws.{full}
 use Rattle.svf_programs.specs.Sizes.{program_of}
 use Rattle.jt_player.specs.Kinds.{ending_in, found_in}

@@ -1,6 +1,6 @@
 use Rattle.std.proofs.Common.{refl}
 use Rattle.byte_streams.proofs.Fronts.{WritesAll-then, WritesAll-stopped}
-use Rattle.jt_board.specs.LeftOut.{left_out_lines}
+use Rattle.play_direct.specs.LeftOut.{left_out_lines}
 use Rattle.jt_player.proofs.run.write_check.Goals as goal
 
 pub returns-in_err-write_accepted : goal.returns-in_err-write_accepted

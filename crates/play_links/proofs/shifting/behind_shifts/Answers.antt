@@ -1,6 +1,6 @@
 use Rattle.std.proofs.Common.{◌++◌, List, ℕ, append_assoc, map, take, ap, sym, ◌∙◌}
 use Rattle.bitbang_protocol.specs.Protocol.{answer}
-use Rattle.board_scan.specs.Words.{word_bits}
+use Rattle.jt_board.specs.Words.{word_bits}
 use Rattle.play_links.specs.Serves.{ServedBytes, serve_bytes}
 use Rattle.play_links.specs.Shifts.{picked}
 use Rattle.play_links.proofs.ShiftServes.{run_left, run_served}

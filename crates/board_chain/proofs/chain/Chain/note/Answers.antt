@@ -4,7 +4,7 @@ use Rattle.board_model.specs.Whole.{out_of_members, selected_bits_of}
 use Rattle.scan_vectors.specs.Failures.{differing, found, with_found}
 use Rattle.scan_vectors.specs.Held.{bits}
 use Rattle.scan_vectors.specs.Vector.{tdis}
-use Rattle.board_scan.specs.Rows as rows
+use Rattle.board_chain.specs.Rows as rows
 use Rattle.board_chain.specs.Chains.{ChainValue}
 use Rattle.board_chips.specs.WiredChips.{WiredChipValue, member_of}
 use Rattle.board_chain.proofs.RestLaws.{same_out}

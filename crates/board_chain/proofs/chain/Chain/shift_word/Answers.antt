@@ -1,4 +1,4 @@
-use Rattle.board_scan.specs.Words.{word_bits}
+use Rattle.board_chain.specs.Words.{word_bits}
 use Rattle.board_chain.specs.AtRest.{in_registers, shifted_through}
 use Rattle.board_chain.specs.Settled.{as_told}
 use Rattle.board_chain.proofs.SettledLaws.{chain_becomes}

@@ -1,8 +1,8 @@
 use Rattle.std.proofs.Common.{◌≡◌, ◌∙◌, ◌++◌, ◌≤◌, ℕ, List, map, take, ap, subst}
 use Rattle.board_model.specs.Chain.{members}
 use Rattle.board_model.specs.Whole.{out_of_members, selected_bits_of}
-use Rattle.board_scan.specs.Rows.{joined_registers}
-use Rattle.board_scan.specs.Words.{word_bits}
+use Rattle.board_chain.specs.Rows.{joined_registers}
+use Rattle.board_chain.specs.Words.{word_bits}
 use Rattle.board_chain.specs.Chains.{ChainValue}
 use Rattle.board_chips.specs.WiredChips.{WiredChipValue, member_of}
 use Rattle.board_chain.proofs.RestLaws.{word_comes_out}

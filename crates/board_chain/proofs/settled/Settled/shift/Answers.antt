@@ -2,7 +2,7 @@ use Rattle.std.proofs.Common.{Bool, List, map, subst}
 use Rattle.scan_vectors.specs.Held.{bits}
 use Rattle.scan_vectors.specs.Vector.{tdis}
 use Rattle.board_model.specs.Whole.{selected_bits_of}
-use Rattle.board_scan.specs.Rows.{left}
+use Rattle.board_chain.specs.Rows.{left}
 use Rattle.board_chips.specs.WiredChips.{WiredChipValue, member_of}
 use Rattle.board_chain.specs.AtRest.{in_registers, shifted_through}
 use Rattle.board_chain.specs.Settled.{as_told}

@@ -1,7 +1,7 @@
 use Rattle.std.proofs.Common.{◌++◌, Bool, List, drop, map, subst}
 use Rattle.board_model.specs.Whole.{selected_bits_of}
-use Rattle.board_scan.specs.Rows.{joined_registers}
-use Rattle.board_scan.specs.Words.{word_bits}
+use Rattle.board_chain.specs.Rows.{joined_registers}
+use Rattle.board_chain.specs.Words.{word_bits}
 use Rattle.board_chips.specs.WiredChips.{WiredChipValue, member_of}
 use Rattle.board_chain.specs.AtRest.{in_registers, shifted_through}
 use Rattle.board_chain.specs.Settled.{as_told}
