@@ -68,10 +68,23 @@ def setting_lines(part: Part, nets: dict, place: int) -> list[str]:
 def instruction_lines(part: Part) -> list[str]:
     device, lines = part.device, []
     for row in device.opcodes:
-        end = " stands for BYPASS" if device.is_left_out(row.name) else ""
-        lines += [f"{part.name} instruction {row.name} {pattern} register {register(device, row.name)}{end}"
-                  for pattern in row.patterns]
+        for pattern in row.patterns:
+            played = played_by(device, pattern)
+            if played != row.name:
+                end = f" covered by {played}"
+            else:
+                end = " stands for BYPASS" if device.is_left_out(row.name) else ""
+            lines.append(f"{part.name} instruction {row.name} {pattern} register {register(device, played)}{end}")
     return lines
+
+
+def played_by(device: bsdl.Device, pattern: str) -> str:
+    """The instruction that a device plays by an opcode: that of the first opcode with all of its codes. All ones is
+    BYPASS before all others."""
+    if "X" not in pattern:
+        return bsdl.instruction(device.opcodes, [int(digit) for digit in reversed(pattern)])
+    return next(row.name for row in device.opcodes for other in row.patterns
+                if all(wide in ("X", digit) for wide, digit in zip(other, pattern)))
 
 
 def register(device: bsdl.Device, name: str) -> str:

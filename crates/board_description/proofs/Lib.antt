@@ -1,2 +1,4 @@
+pub mod CoverLaws
 pub mod RowsCompute
+pub mod TakingLaws
 pub mod TextLaws

@@ -11,4 +11,10 @@ described_rows = record {
   settings = rw (decimal_digit 0 (omega arith)) refl;
   no_usercode = refl;
   wiring = rw (decimal_digit 0 (omega arith), decimal_digit 4 (omega arith), decimal_digit 3 (omega arith), decimal_digit 2 (omega arith), decimal_digit 6 (omega arith), decimal_digit 8 (omega arith)) refl;
+  itself = refl;
+  by_an_x = refl;
+  by_all_ones = refl;
+  by_the_same = refl;
+  in_part = refl;
+  covered_line = rw (decimal_digit 4 (omega arith)) refl;
 }

@@ -2,7 +2,7 @@
 -- each its core, ports, instructions and cells, then the nets, and where its registers lie in the joined ones.
 use Rattle.std.specs.Prelude.{Bool, ℕ, zero, suc, ◌+◌, List, [], ◌∷◌, ◌++◌, codes, decimal, flat_map}
 use Rattle.std.specs.Prelude.{length, get_or, slice_get, Option, Some, None, option_and_then, option_map, unwrap_or}
-use Rattle.std.specs.Prelude.{if◌then◌else◌}
+use Rattle.std.specs.Prelude.{bytes_eq, if◌then◌else◌}
 use Rattle.bsdl_device.specs.declared.Cell.{Cell}
 use Rattle.bsdl_device.specs.declared.Control3.{Control3}
 use Rattle.bsdl_device.specs.declared.Disabled.{Disabled}
@@ -26,6 +26,7 @@ use Rattle.board_plan.specs.declared.plan.PlannedDevice.{PlannedDevice}
 use Rattle.output_words.specs.Digits.{digit, digits, hexadecimal}
 use Rattle.output_words.specs.Names.{shown}
 use Rattle.output_words.specs.Texts.{texts}
+use Rattle.board_description.specs.Covered.{played}
 use Rattle.board_description.specs.Words.{function_word, net_name, port_of, port_words, user_words}
 
 abbrev pub pattern_digit : Option Bool → ℕ
@@ -158,11 +159,20 @@ abbrev pub opcode_front : (device : List ℕ) → Name → Pattern → List ℕ
 opcode_front device name pattern =
     texts (device ∷ codes " instruction " ∷ name ∷ codes " " ∷ []) ++ (pattern_digits pattern ++ codes " register ")
 
--- an opcode of an instruction, and the register that it selects
-abbrev pub opcode_line : (device : List ℕ) → Device → Name → Pattern → List ℕ
-opcode_line device d name pattern =
+-- what ends the line of an opcode of an instruction, given the instruction that the board plays by it
+abbrev pub end_words : Device → (name played : Name) → List ℕ
+end_words d name played =
+    if bytes_eq played name then left_out_words (is_left_out d name)
+    else texts (codes " covered by " ∷ played ∷ codes "\n" ∷ [])
+
+-- an opcode of an instruction, and the register that the board selects by it
+abbrev pub opcode_line_by : (device : List ℕ) → Device → Name → Pattern → (played : Name) → List ℕ
+opcode_line_by device d name pattern played =
     opcode_front device name pattern
-    ++ (register_words d (meaning_of d (Some name)).selected ++ left_out_words (is_left_out d name))
+    ++ (register_words d (meaning_of d (Some played)).selected ++ end_words d name played)
+
+abbrev pub opcode_line : (device : List ℕ) → Device → Name → Pattern → List ℕ
+opcode_line device d name pattern = opcode_line_by device d name pattern (played d name pattern)
 
 abbrev pub instruction_lines : (device : List ℕ) → Device → Opcode → List ℕ
 instruction_lines device d row = flat_map (opcode_line device d row.name) row.patterns

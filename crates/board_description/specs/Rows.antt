@@ -1,11 +1,35 @@
 -- A board of two devices, described.
-use Rattle.std.specs.Prelude.{◌≡◌, ℕ, List, [], ◌++◌, codes, flat_map}
-use Rattle.board_description.specs.Described.{cell_lines, device_line, instruction_lines, setting_lines}
+use Rattle.std.specs.Prelude.{◌≡◌, ℕ, true, false, List, [], ◌∷◌, ◌++◌, codes, flat_map, Some, None}
+use Rattle.bsdl_device.specs.Device.{Name, Opcode, Pattern}
+use Rattle.board_description.specs.Covered.{taking}
+use Rattle.board_description.specs.Described.{cell_lines, device_line, instruction_lines, opcode_line_by, setting_lines}
 use Rattle.board_description.specs.Described.{usercode_line, wiring_lines}
 use Rattle.board_description.specs.Samples.{followed, pair, sample}
 
 abbrev pub first : List ℕ
 first = codes "U1"
+
+abbrev pub row : Name → Pattern → Opcode
+row name pattern = record { name = name; patterns = pattern ∷ [] }
+
+-- the opcodes 11, 0X, 01 and 10, lowest bit first
+abbrev pub ones : Pattern
+ones = Some true ∷ Some true ∷ []
+
+abbrev pub low : Pattern
+low = None ∷ Some false ∷ []
+
+abbrev pub one : Pattern
+one = Some true ∷ Some false ∷ []
+
+abbrev pub two : Pattern
+two = Some false ∷ Some true ∷ []
+
+-- BYPASS (11), EXTEST (0X), INTEST (01), SAMPLE (11), CLAMP (10), HIGHZ (10)
+abbrev pub several : List Opcode
+several =
+    row (codes "BYPASS") ones ∷ row (codes "EXTEST") low ∷ row (codes "INTEST") one ∷ row (codes "SAMPLE") ones
+    ∷ row (codes "CLAMP") two ∷ row (codes "HIGHZ") two ∷ []
 
 pub record DescribedRows : Type 0 where
   pub device_row : device_line (codes "k.bsd") first sample
@@ -24,3 +48,10 @@ pub record DescribedRows : Type 0 where
   pub wiring : wiring_lines pair
       ≡ codes "net N pull none U1.Q(0) U2.D\nU1 first instruction bit 0 first boundary bit 0\n"
       ++ codes "U2 first instruction bit 3 first boundary bit 4\nchain 2 devices, 6 instruction bits, 8 boundary bits\n"
+  pub itself : taking several low ≡ Some (codes "EXTEST")
+  pub by_an_x : taking several one ≡ Some (codes "EXTEST")
+  pub by_all_ones : taking several ones ≡ Some (codes "BYPASS")
+  pub by_the_same : taking several two ≡ Some (codes "CLAMP")
+  pub in_part : taking (row (codes "INTEST") one ∷ row (codes "EXTEST") low ∷ []) low ≡ Some (codes "EXTEST")
+  pub covered_line : opcode_line_by first sample (codes "INTEST") one (codes "EXTEST")
+      ≡ codes "U1 instruction INTEST 01 register boundary 4 covered by EXTEST\n"

@@ -1,11 +1,13 @@
 //! The lines of a device's instructions.
 ghost use Rattle.std.specs.Prelude.{◌≡◌, ◌<◌, ◌++◌, OnOk, flat_map, length, slice_get, Some};
-ghost use Rattle.board_plan.specs.LeftOut as plan;
 ghost use Rattle.board_tables.specs.WordView.{texts_of};
 ghost use Rattle.board_description.specs.Described as spec;
 ghost use Rattle.board_description.specs.Described.{instruction_lines, register_words};
+ghost use Rattle.board_description.specs.Covered.{opcode_names, opcode_patterns};
 ghost use Rattle.board_description.specs.Kept.{NamesUsers, own_names};
+ghost use Rattle.board_description.specs.Opcodes.{Holds};
 
+use crate::opcodes::Opcodes;
 use crate::registers::{own_places, selected_by, user_names};
 use crate::text::put_pattern;
 use board_plan::is_left_out;
@@ -29,33 +31,55 @@ pub(crate) fn put_instructions(
 {
     let own = own_places(alloc, device)?;
     let users = user_names(alloc, device)?;
+    let opcodes = Opcodes::new(alloc, device.opcodes())?;
     for row in device.opcodes() {
-        put_instruction(text, name, device, &own, &users, row)?;
+        put_instruction(text, name, device, &own, &users, &opcodes, row)?;
     }
     Ok(())
 }
 
 /// Puts the lines of an instruction behind a text.
 #[tactic(auto, using(output_words::proofs::TextLaws::flat_map_more))]
-fn put_instruction(
+fn put_instruction<'d>(
     text: &mut Vec<u8>,
     name: &str,
     device: &Device,
     own: &Places<&str>,
     users: &[&str],
-    row: &Opcode,
+    opcodes: &Opcodes<'d>,
+    row: &'d Opcode,
 ) -> Result<(), AllocError>
     requires own { texts_of own.now ≡ own_names device.now }
     requires users { NamesUsers device.now.users device.now.accesses (texts_of users.now) }
+    requires opcodes { Holds (opcode_names device.now.opcodes) (opcode_patterns device.now.opcodes) opcodes.now }
     ensures { OnOk result (text.new.items ≡ text.old.items ++ instruction_lines name.now device.now row.now) }
 {
-    let selected = selected_by(device, own, row.name());
     for pattern in row.patterns() {
-        put_opcode(text, name, row.name(), pattern)?;
-        put_register(text, device, users, selected)?;
-        put_end(text, device, row.name())?;
+        let played = opcodes.played(row.name(), pattern);
+        put_line(text, name, device, own, users, row.name(), pattern, played)?;
     }
     Ok(())
+}
+
+/// Puts the line of an opcode of an instruction behind a text, given the instruction that the board plays by it.
+fn put_line(
+    text: &mut Vec<u8>,
+    device_name: &str,
+    device: &Device,
+    own: &Places<&str>,
+    users: &[&str],
+    name: &str,
+    pattern: &Pattern,
+    played: &str,
+) -> Result<(), AllocError>
+    requires own { texts_of own.now ≡ own_names device.now }
+    requires users { NamesUsers device.now.users device.now.accesses (texts_of users.now) }
+    ensures { OnOk result (text.new.items
+        ≡ text.old.items ++ spec.opcode_line_by device_name.now device.now name.now pattern.now played.now) }
+{
+    put_opcode(text, device_name, name, pattern)?;
+    put_register(text, device, users, selected_by(device, own, played))?;
+    put_end(text, device, name, played)
 }
 
 /// Puts the front of an opcode's line behind a text.
@@ -75,12 +99,13 @@ fn put_opcode(
     put(text, &[b" register "])
 }
 
-/// Puts what ends the line of an instruction behind a text.
-fn put_end(text: &mut Vec<u8>, device: &Device, name: &str) -> Result<(), AllocError>
-    ensures { OnOk result
-        (text.new.items ≡ text.old.items ++ spec.left_out_words (plan.is_left_out device.now name.now)) }
+/// Puts what ends the line of an opcode behind a text, given the instruction that the board plays by it.
+fn put_end(text: &mut Vec<u8>, device: &Device, name: &str, played: &str) -> Result<(), AllocError>
+    ensures { OnOk result (text.new.items ≡ text.old.items ++ spec.end_words device.now name.now played.now) }
 {
-    if is_left_out(device, name) {
+    if played != name {
+        put(text, &[b" covered by ", played.as_bytes(), b"\n"])
+    } else if is_left_out(device, name) {
         put(text, &[b" stands for BYPASS\n"])
     } else {
         put(text, &[b"\n"])

@@ -2,11 +2,13 @@
 //! each its core, ports, instructions and cells, then the nets, and where its registers lie in the joined ones.
 #![tactic(auto)]
 
+ghost use Rattle.board_description.specs.Covered.{TakesAsTheBoardDoes};
 ghost use Rattle.board_description.specs.Rows.{DescribedRows};
 
 mod cells;
 mod instructions;
 mod nets;
+mod opcodes;
 mod registers;
 mod settings;
 mod text;
@@ -17,6 +19,11 @@ pub use cells::net_name;
 pub use nets::put_pin;
 pub use whole::{Untold, write_description};
 pub use words::function_word;
+
+/// An opcode without an X is told as the board plays it: the instruction that takes it is that of its code.
+pub fn opcodes_are_told_as_the_board_plays_them()
+    ensures { TakesAsTheBoardDoes }
+{}
 
 /// A board of two devices, described.
 pub fn describes()

@@ -1,7 +1,6 @@
-use Rattle.std.proofs.Common.{◌≡◌, ◌<◌, ◌+◌, ◌++◌, ℕ, List, None, drop, length, map, refl, sym, ap, ◌∙◌, arith, append_assoc}
-use Rattle.bsdl_device.specs.View.{port_bit}
+use Rattle.std.proofs.Common.{◌<◌, ◌+◌, ◌++◌, ℕ, List, None, drop, length, map, refl, sym, ap, ◌∙◌, arith, append_assoc}
 use Rattle.board_plan.specs.View.{net as planned_net}
-use Rattle.board_description.specs.Described.{port_line, port_lines}
+use Rattle.board_description.specs.Described.{port_lines}
 use Rattle.board_description.proofs.TextLaws.{ports_next}
 use Rattle.board_description.proofs.settings.put_ports.Goals as goal
 
