@@ -16,9 +16,7 @@ ghost use Rattle.jt_board.specs.FromText.{IsWhyRefused, TellsMade, said_device};
 ghost use Rattle.jt_board.specs.Made.{IsReadyPlan};
 
 use crate::board::{Board, BoardFault};
-use board_file::{
-    BoardTable, Describe, Refused, Unread, names_of_table, plan_of_text, read_table,
-};
+use board_file::{BoardTable, Describe, Refused, Unread, names_of_table, plan_of_text, read_table};
 use board_plan::Plan;
 use bsdl::{BsdlFault, read};
 use bsdl_device::Device;
@@ -103,7 +101,8 @@ pub fn unfit_table<'f>(
     files: &[(&'f str, &'f [u8])],
 ) -> Result<Option<BoardTable>, AllocError>
     ensures { IfOk result (λ o. o
-        ≡ faults.unfit_table (map (known_at said_device (files_of files.now)) (tables_at (codes "device") (table_view table.now)))
+        ≡ faults.unfit_table
+        (map (known_at said_device (files_of files.now)) (tables_at (codes "device") (table_view table.now)))
         (table_view table.now)) }
 {
     board_file::unfit_table(alloc, &Bsdl, table, files)
