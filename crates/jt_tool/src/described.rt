@@ -6,7 +6,7 @@ use board_description::{Untold, write_description};
 use board_plan::Plan;
 use byte_streams::{Counted, End, Sink};
 use command_line::{Descriptions, InputFault, read_board_file};
-use jt_board::{PlanFault, bare_plan, plan_of_table, unplaced};
+use jt_board::{BoardTable, PlanFault, bare_plan, plan_of_table, unfit_table, unplaced};
 use play_coverage::write_cover;
 use play_explained::plain::{Board, BoardFault, Kind, Program, board_table, table_names};
 use play_explained::{run_loop_explained, run_play_explained};
@@ -22,8 +22,35 @@ pub(crate) enum Unmade {
     Unreadable(String),
     /// The board file is refused, or memory ran out.
     Refused(BoardFault),
+    /// The board file, whose text this is, is no TOML.
+    NoToml(Vec<u8>),
+    /// A key of the board file is at fault.
+    RefusedKey(RefusedKey),
     /// The description in a file is refused.
     RefusedFile(RefusedFile),
+}
+
+/// A key of a board file that is at fault, and what was read.
+#[derive(Drop)]
+pub(crate) struct RefusedKey {
+    pub(crate) fault: BoardFault,
+    read: ReadBoard,
+}
+
+impl RefusedKey {
+    /// The key.
+    pub(crate) fn key(&self) -> &str {
+        match &self.fault {
+            BoardFault::BadField(key) => key.as_str(),
+            _ => "",
+        }
+    }
+
+    /// The table in which it stands, found anew by what was read.
+    pub(crate) fn table(&self, alloc: Global) -> Result<Option<BoardTable>, AllocError> {
+        let files = files_of(alloc, &self.read.names, &self.read.descriptions)?;
+        unfit_table(alloc, &self.read.table, &files)
+    }
 }
 
 /// A description that is refused: why, and which of those that were read.
@@ -128,12 +155,16 @@ fn names_of(read: ReadBoard) -> Vec<String> {
     names
 }
 
-/// Why a board is refused; where a description is, with what was read.
+/// Why a board is refused; where a description or a key is, with what was read.
 fn refused(fault: PlanFault, read: ReadBoard) -> Unmade {
     let (fault, place) = unplaced(fault);
-    match place {
-        Some(place) => Unmade::RefusedFile(RefusedFile { fault, place, read }),
-        None => Unmade::Refused(fault),
+    match (fault, place) {
+        (fault, Some(place)) => Unmade::RefusedFile(RefusedFile { fault, place, read }),
+        (BoardFault::BadField(key), None) => Unmade::RefusedKey(RefusedKey {
+            fault: BoardFault::BadField(key),
+            read,
+        }),
+        (fault, None) => Unmade::Refused(fault),
     }
 }
 
@@ -229,19 +260,35 @@ struct ReadBoard {
 /// Reads a board file, and the descriptions that it names from the working folder.
 fn read_board(rt: &HostRuntime, alloc: Global, name: &str) -> Result<ReadBoard, Unmade> {
     let table = read_table(rt, alloc, name)?;
-    let names = table_names(alloc, &table)?;
-    let descriptions = read_descriptions(rt, alloc, &names)?;
-    Ok(ReadBoard {
-        table,
-        names,
-        descriptions,
-    })
+    match table_names(alloc, &table) {
+        Ok(names) => {
+            let descriptions = read_descriptions(rt, alloc, &names)?;
+            Ok(ReadBoard {
+                table,
+                names,
+                descriptions,
+            })
+        }
+        Err(BoardFault::BadField(key)) => Err(Unmade::RefusedKey(RefusedKey {
+            fault: BoardFault::BadField(key),
+            read: ReadBoard {
+                table,
+                names: Vec::new(alloc),
+                descriptions: Descriptions::new(alloc),
+            },
+        })),
+        Err(fault) => Err(Unmade::Refused(fault)),
+    }
 }
 
 /// Reads a board file.
 fn read_table(rt: &HostRuntime, alloc: Global, name: &str) -> Result<Table, Unmade> {
     match read_board_file(rt, alloc, name) {
-        Ok(text) => Ok(board_table(alloc, &text)?),
+        Ok(text) => match board_table(alloc, &text) {
+            Ok(table) => Ok(table),
+            Err(BoardFault::BadToml) => Err(Unmade::NoToml(text)),
+            Err(fault) => Err(Unmade::Refused(fault)),
+        },
         Err(fault) => Err(unread(alloc, name, fault)),
     }
 }

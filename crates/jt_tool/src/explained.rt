@@ -1,16 +1,17 @@
 //! Where a refusal lies, for a user who asks.
 ghost use Rattle.std.specs.Prelude.{◌≡◌};
 
-use crate::described::{Planned, RefusedFile, Unmade};
+use crate::described::{Planned, RefusedFile, RefusedKey, Unmade};
 use crate::statuses::or_lost;
 use board_description::Untold;
 use byte_streams::{Broken, Counted, Plain, Sink};
+use jt_board::bad_toml_place;
 use output_words::Status;
 use play_explained::plain::{
     Board, BoardFault, Kind, Program, SvfFault, accept, check_program, refuse_board, refuse_file,
-    refuse_text, run_program,
+    refuse_memory, refuse_text, run_program,
 };
-use play_explained::{refused_board, refused_description, refused_text};
+use play_explained::{refused_board, refused_description, refused_key, refused_text, refused_toml};
 use std::alloc::Global;
 
 /// The program of a text. Else tells why it is refused, and where it is asked for where that lies, and answers the exit
@@ -80,6 +81,7 @@ fn refuse_program<E: Sink>(
 /// Tells why no board was made, and where it is asked for what the refusal names, or where in which file it lies.
 /// Answers the exit status.
 pub(crate) fn tell_unmade<E: Sink>(
+    alloc: Global,
     fault: &Unmade,
     explain: bool,
     err: &mut Counted<E>,
@@ -88,13 +90,11 @@ pub(crate) fn tell_unmade<E: Sink>(
 {
     match fault {
         Unmade::Unreadable(name) => refuse_file(name, err),
-        Unmade::Refused(fault) => {
-            let status = refuse_board(fault, err)?;
-            if explain {
-                refused_board(fault, err)?;
-            }
-            Ok(status)
-        }
+        Unmade::Refused(fault) => tell_refused(fault, explain, err),
+        Unmade::NoToml(text) if explain => tell_no_toml(alloc, text, err),
+        Unmade::NoToml(_) => refuse_board(&BoardFault::BadToml, err),
+        Unmade::RefusedKey(key) if explain => tell_key(alloc, key, err),
+        Unmade::RefusedKey(key) => refuse_board(&key.fault, err),
         Unmade::RefusedFile(file) => {
             let status = refuse_board(&file.fault, err)?;
             if explain {
@@ -102,6 +102,57 @@ pub(crate) fn tell_unmade<E: Sink>(
             }
             Ok(status)
         }
+    }
+}
+
+/// Tells why a board file is refused, and where it is asked for the name that the refusal speaks of.
+fn tell_refused<E: Sink>(
+    fault: &BoardFault,
+    explain: bool,
+    err: &mut Counted<E>,
+) -> Result<u8, Broken>
+    requires { err.old.failures ≡ 0 }
+{
+    let status = refuse_board(fault, err)?;
+    if explain {
+        refused_board(fault, err)?;
+    }
+    Ok(status)
+}
+
+/// Tells that a text is no TOML, and where it stops being so.
+fn tell_no_toml<E: Sink>(alloc: Global, text: &[u8], err: &mut Counted<E>) -> Result<u8, Broken>
+    requires { err.old.failures ≡ 0 }
+{
+    match bad_toml_place(alloc, text) {
+        Ok(place) => {
+            let status = refuse_board(&BoardFault::BadToml, err)?;
+            if let Some(place) = place {
+                refused_toml(text, place, err)?;
+            }
+            Ok(status)
+        }
+        Err(_) => refuse_memory(err),
+    }
+}
+
+/// Tells that a key of a board file is at fault, which, and in which table.
+fn tell_key<E: Sink>(
+    alloc: Global,
+    refused: &RefusedKey,
+    err: &mut Counted<E>,
+) -> Result<u8, Broken>
+    requires { err.old.failures ≡ 0 }
+{
+    match refused.table(alloc) {
+        Ok(table) => {
+            let status = refuse_board(&refused.fault, err)?;
+            if let Some(table) = table {
+                refused_key(table, refused.key(), err)?;
+            }
+            Ok(status)
+        }
+        Err(_) => refuse_memory(err),
     }
 }
 

@@ -470,7 +470,7 @@ fn serve_client(
 /// Tells why no board was made, and where it is asked for where that lies. Answers the exit status.
 fn refuse_board(rt: &HostRuntime, fault: &Unmade, explain: bool) -> u8 {
     let mut err = Counted::new(Plain(rt.stderr()));
-    or_lost(tell_unmade(fault, explain, &mut err))
+    or_lost(tell_unmade(rt.alloc(), fault, explain, &mut err))
 }
 
 /// Tells that no text of a program was read. Answers the exit status.

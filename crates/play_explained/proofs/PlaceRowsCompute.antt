@@ -16,4 +16,8 @@ place_rows = record {
   bad_cell = rw (decimal_digit 3 (omega arith)) refl;
   of_the_file = refl;
   no_name = refl;
+  key_of_the_file = refl;
+  key_of_a_device = rw (decimal_digit 3 (omega arith)) refl;
+  key_of_a_net = rw (decimal_digit 1 (omega arith)) refl;
+  no_toml = rw (decimal_digit 2 (omega arith), decimal_digit 5 (omega arith)) refl;
 }

@@ -6,8 +6,9 @@ use Rattle.svf_words.specs.declared.fault.SvfFault.{SvfFault}
 use Rattle.bsdl_values.specs.declared.Attribute.TheVariants as attribute
 use Rattle.bsdl.specs.declared.fault.BsdlFault.TheVariants as bsdl
 use Rattle.board_tables.specs.declared.fault.BoardFault.TheVariants as board
+use Rattle.board_tables.specs.declared.fields.BoardTable.TheVariants as tables
 use Rattle.output_words.specs.declared.lines.Position.{Position}
-use Rattle.play_explained.specs.Places.{svf_position, svf_line, bsdl_line, board_line}
+use Rattle.play_explained.specs.Places.{svf_position, svf_line, bsdl_line, board_line, key_line, toml_line}
 
 abbrev pub at : (line column : ℕ) → Position
 at line column = record { line = line; column = column }
@@ -29,3 +30,7 @@ pub record PlaceRows : Type 0 where
   pub bad_cell : bsdl_line (codes "k.bsd") [] (bsdl.BadCell 3) ≡ codes "in k.bsd cell 3\n"
   pub of_the_file : bsdl_line (codes "k.bsd") [] bsdl.BadCapture ≡ codes "in k.bsd\n"
   pub no_name : board_line board.BadToml ≡ []
+  pub key_of_the_file : key_line tables.File (codes "speed") ≡ codes "key speed\n"
+  pub key_of_a_device : key_line (tables.Device 3) (codes "name") ≡ codes "device 3 key name\n"
+  pub key_of_a_net : key_line (tables.Net 1) (codes "pull") ≡ codes "net 1 key pull\n"
+  pub no_toml : toml_line (codes "a = 1\nb = \n") 10 ≡ codes "at line 2 column 5\n"

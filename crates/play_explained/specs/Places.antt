@@ -8,6 +8,8 @@ use Rattle.bsdl_values.specs.declared.Attribute.{Attribute}
 use Rattle.bsdl_values.specs.declared.Attribute.TheVariants as attribute
 use Rattle.bsdl.specs.declared.fault.BsdlFault.{BsdlFault}
 use Rattle.bsdl.specs.declared.fault.BsdlFault.TheVariants as bsdl
+use Rattle.board_tables.specs.declared.fields.BoardTable.{BoardTable}
+use Rattle.board_tables.specs.declared.fields.BoardTable.TheVariants as tables
 use Rattle.board_tables.specs.declared.fault.BoardFault.{BoardFault}
 use Rattle.board_tables.specs.declared.fault.BoardFault.TheVariants as board
 use Rattle.output_words.specs.declared.lines.Position.{Position}
@@ -75,3 +77,17 @@ board_line (board.UnknownPin text) = name_line (string_bytes text)
 board_line (board.PinTwice text) = name_line (string_bytes text)
 board_line (board.CoreLoop text) = name_line (string_bytes text)
 board_line _ = []
+
+-- a table of a board file, and a blank: none for the file's own
+abbrev pub table_words : BoardTable → List ℕ
+table_words tables.File = []
+table_words (tables.Device n) = texts (codes "device " ∷ decimal n ∷ codes " " ∷ [])
+table_words (tables.Net n) = texts (codes "net " ∷ decimal n ∷ codes " " ∷ [])
+
+-- the line of a key at fault (C2), by the table in which it stands
+abbrev pub key_line : BoardTable → List ℕ → List ℕ
+key_line table key = texts (table_words table ∷ codes "key " ∷ shown key ∷ codes "\n" ∷ [])
+
+-- the line of a text that stops being TOML at a place (C1)
+abbrev pub toml_line : List ℕ → ℕ → List ℕ
+toml_line text place = position_line (position_of text place)

@@ -16,7 +16,7 @@ pub use laws::{
     each_listed_bit_has_its_reason, ended_lines_compute, every_failure_is_explained,
     parts_are_called_alike, reasons_alone_are_added,
 };
-pub use refused::{refused_board, refused_description, refused_text};
+pub use refused::{refused_board, refused_description, refused_key, refused_text, refused_toml};
 pub use runs::{run_loop_explained, run_over_explained, run_play_explained};
 pub use telling::{Known, write_explained};
 pub use text_positions::laws::{a_statement_stands_at_its_first_token, positions_compute};

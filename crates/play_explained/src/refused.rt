@@ -6,7 +6,7 @@ ghost use Rattle.output_words.specs.Names.{shown};
 ghost use Rattle.play_explained.specs.Places as places;
 
 use crate::text_positions::{position_of, statement_position};
-use board_tables::BoardFault;
+use board_tables::{BoardFault, BoardTable};
 use bsdl::{Attribute, BsdlFault};
 use byte_streams::{Broken, Counted, Sink, put_all, put_pieces};
 use itoa::Buffer;
@@ -105,7 +105,8 @@ fn write_spaced_name<E: Sink>(name: &str, err: &mut Counted<E>) -> Result<(), Br
 }
 
 /// Writes the name that a refused board file speaks of, `name U3.Q(1)`: a key, a file, a pin or the target of a string.
-/// Nothing where it speaks of none, or where a description is refused, of which `refused_description` tells.
+/// Nothing where it speaks of none, or where a description is refused, of which `refused_description` tells. Of a key
+/// `refused_key` tells more, and of what is no TOML `refused_toml`.
 ///
 /// `Broken` comes exactly where the writer's first failure came in this call.
 pub fn refused_board<E: Sink>(
@@ -123,6 +124,52 @@ pub fn refused_board<E: Sink>(
         | BoardFault::CoreLoop(name) => write_name(name.as_str(), err),
         _ => put_all(err, b""),
     }
+}
+
+/// Writes which key of a board file is at fault (C2), by the table in which it stands: `device 3 key name`, `net 1 key
+/// pull`, and `key speed` for one of the file's own.
+///
+/// `Broken` comes exactly where the writer's first failure came in this call.
+pub fn refused_key<E: Sink>(
+    table: BoardTable,
+    key: &str,
+    err: &mut Counted<E>,
+) -> Result<(), Broken>
+    requires { err.old.failures ≡ 0 }
+    ensures { WritesAll E.contents err.old err.new (places.key_line table key.now) result }
+{
+    write_table(table, err)?;
+    put_all(err, b"key ")?;
+    write_shown(key, err)?;
+    put_all(err, b"\n")
+}
+
+/// Writes the words of a table, and a blank: none for the file's own.
+fn write_table<E: Sink>(table: BoardTable, err: &mut Counted<E>) -> Result<(), Broken>
+    requires { err.old.failures ≡ 0 }
+    ensures { WritesAll E.contents err.old err.new (places.table_words table) result }
+{
+    let mut digits = Buffer::new();
+    match table {
+        BoardTable::File => put_all(err, b""),
+        BoardTable::Device(number) => put_pieces(
+            err,
+            &[b"device ", digits.format(number).as_bytes(), b" "],
+        ),
+        BoardTable::Net(number) => {
+            put_pieces(err, &[b"net ", digits.format(number).as_bytes(), b" "])
+        }
+    }
+}
+
+/// Writes where a board file stops being TOML (C1), `at line 3 column 1`.
+///
+/// `Broken` comes exactly where the writer's first failure came in this call.
+pub fn refused_toml<E: Sink>(text: &[u8], place: usize, err: &mut Counted<E>) -> Result<(), Broken>
+    requires { err.old.failures ≡ 0 }
+    ensures { WritesAll E.contents err.old err.new (places.toml_line text.now place) result }
+{
+    write_position_line(position_of(text, place), err)
 }
 
 /// Writes the line of a name.
