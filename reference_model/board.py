@@ -426,8 +426,15 @@ PIN = re.compile(rf"({NAME.pattern})\.{follow.PORT}")
 LIMITS = {"device": 256, "net": 16_384}
 
 
-def refusal(code: int, value: str = "") -> Refusal:
-    return Refusal(f"board C{code} {FAULT_NAMES[code]}", value)
+SHOWN = {code: "".join(f"\\x{byte:02x}" for byte in chr(code).encode()) for code in (*range(32), 92, *range(127, 160))}
+"""How characters are shown that a terminal may act on, and the backslash that shows them."""
+
+
+def refusal(code: int, value: str = "", table: str = "") -> Refusal:
+    """A refused board file; of a key (C2) with the table in which it stands, as `device 3 `."""
+    word = f"{table}key" if code == 2 else "name"
+    second = f"{word} {value.translate(SHOWN)}" if value else ""
+    return Refusal(f"board C{code} {FAULT_NAMES[code]}", value, second)
 
 
 def is_text(value) -> bool:
@@ -476,7 +483,7 @@ def judge_tables(tree: dict, devices: dict[str, bsdl.Device]) -> None:
     """
     for word, keys in KEYS.items():
         names = set()
-        for table in tree.get(word, []):
+        for number, table in enumerate(tree.get(word, []), 1):
             bad = {key for key, value in table.items() if key not in keys or not keys[key](value)}
             bad |= {key for key in keys if key in NEEDED and key not in table}
             if "name" not in bad and table["name"] in names:
@@ -486,7 +493,7 @@ def judge_tables(tree: dict, devices: dict[str, bsdl.Device]) -> None:
                 bad |= {key for key, fits in FITS.items()
                         if key in table and key not in bad and not fits(table[key], device)}
             if bad:
-                raise refusal(2, min(bad, key=str.encode))
+                raise refusal(2, min(bad, key=str.encode), f"{word} {number} ")
             names.add(table["name"])
 
 

@@ -30,7 +30,8 @@ LONGEST_WAVE = 2_000  # and its waves are not compared
 TIMEOUT = 60
 BOARD_FILE = "board.toml"
 WAVE_FILE = "waves.vcd"
-WORDS = {"check": ["check"], "play": ["play", "--bytes"], "play to the end": ["play", "--bytes", "--all"],
+WORDS = {"check": ["check"], "check, explained": ["check", "--explain"], "play": ["play", "--bytes"],
+         "play to the end": ["play", "--bytes", "--all"],
          "describe": ["describe"], "waves": ["play", "--vcd", WAVE_FILE],
          "waves to the end": ["play", "--all", f"--vcd={WAVE_FILE}"],
          "waves, noted": ["play", "--vcd-fails", "--vcd", WAVE_FILE],
@@ -67,7 +68,10 @@ def expected(case: Case) -> dict[str, program.Answer]:
     try:
         board, its_program = program.read(*case)
     except Refusal as refusal:
-        return {**dict.fromkeys(("check", "play", "play to the end"), program.refused(refusal)), **answers}
+        refused = program.refused(refusal)
+        if refusal.second:
+            answers["check, explained"] = refused._replace(err=f"{refused.err}{refusal.second}\n")
+        return {**dict.fromkeys(("check", "play", "play to the end"), refused), **answers}
     answers["check"] = program.check(board, its_program)
     if length_of(its_program) <= LONGEST_PLAY:
         answers["play"] = program.play(board, its_program)

@@ -4,10 +4,7 @@ and where the registers of each device lie in the joined ones."""
 from __future__ import annotations
 
 import bsdl
-from board import Board, Part
-
-WORDS_BY_ESCAPE = {code: "".join(f"\\x{byte:02x}" for byte in chr(code).encode())
-                   for code in (*range(32), 92, *range(127, 160))}
+from board import SHOWN, Board, Part
 
 
 def describe(board: Board, tree: dict) -> str:
@@ -43,7 +40,7 @@ def device_line(part: Part, file: str) -> str:
     code = "none" if code is None else f"0x{int(code.replace('X', '0'), 2):08X}"
     reset = bsdl.instruction(device.opcodes, device.reset_latch()) or "-"
     capture = device.capture.replace("X", "0")
-    return (f"{part.name} bsdl {file.translate(WORDS_BY_ESCAPE)} length {len(capture)} capture {capture} reset {reset} "
+    return (f"{part.name} bsdl {file.translate(SHOWN)} length {len(capture)} capture {capture} reset {reset} "
             f"idcode {code} trst {'yes' if device.has_trst else 'no'}")
 
 
