@@ -1,5 +1,5 @@
 //! Laws of captures.
-ghost use Rattle.fault_events.specs.Endings.{NotesTellOfFaults};
+ghost use Rattle.fault_events.specs.Endings.{CapturesMayBeCut, NotesTellOfFaults};
 ghost use Rattle.fault_events.specs.Events.{EventsTellOfFaults, EventsTellOfRuns};
 ghost use Rattle.fault_events.specs.Nets.{NetsTellOfFaults};
 ghost use Rattle.fault_events.specs.Notes.{NotesTellOfWays};
@@ -51,4 +51,10 @@ pub fn nets_tell_of_faults()
 /// faults of a board.
 pub fn one_play_tells_of_faults()
     ensures { OnePlayTellsOfFaults }
+{}
+
+/// Captures may be judged block by block: how a program ends by some and then by more is as the first tell, unless they
+/// tell that it passes; then it is as the others tell.
+pub fn captures_may_be_cut()
+    ensures { CapturesMayBeCut }
 {}

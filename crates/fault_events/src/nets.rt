@@ -128,7 +128,8 @@ pub(crate) fn net_ending(
     Some(Ending::Pass)
 }
 
-fn note_at(k: usize, notes: &[Note]) -> Note
+/// What is noted of a net, by the notes of all.
+pub fn note_at(k: usize, notes: &[Note]) -> Note
     ensures { result ≡ spec.note_at k notes.now }
 {
     match notes.get(k) {
