@@ -7,5 +7,5 @@ use Rattle.play_coverage.proofs.benches.telling_of.Goals as goal
 pub returns : goal.returns
 returns c = record {
   told = c.in_ok-told.ensures;
-  words = subst (λ (l : List NetCapture). AreNetWords (map seen l) c.in_ok-words.words.items) c.captures.ensures c.in_ok-words.ensures;
+  words = subst (λ (l : List NetCapture). AreNetWords (map seen l) c.in_ok-words.words.items) c.captures-2.ensures c.in_ok-words.ensures;
 }

@@ -29,8 +29,13 @@ returns-in-Short c =
     c.quiet_captures-quiet.ensures ns (subst (λ (ws : List NoteWords). AreNetWords ns ws) (sym c.deref.ensures.value) c.requires.words) in
     let behind : c.captures_behind.result.now ≡ drop quiet all = c.captures_behind.ensures ∙ ap (drop quiet) c.captures-captures.ensures in
     c.way_ending.ensures
-    ∙ ap (λ (l : List NetCapture). ending_told nets c.args.way ps (map seen l)) behind
-    ∙ ap (λ (x : Way). ending_told nets x ps (map seen (drop quiet all))) c.in-Short.is
+    ∙ ap (λ (l : List NetCapture). ending_told nets w ps (map seen l)) behind
     ∙ ap (ending_told nets w ps) (sym (drop-map seen quiet all))
     ∙ sym (passed_over nets first second winner quiet ps ns are)
     ∙ sym (ap (λ (x : Way). ending_told nets x ps ns) c.in-Short.is)
+
+pub returns-in_default : goal.returns-in_default
+returns-in_default c =
+    let nets : List Net = map planned_net c.args.nets.now in
+    let ps : List Noted = map captures.seen c.args.telling.now.told.pins.items in
+    c.way_ending-in_default.ensures ∙ ap (λ (l : List NetCapture). ending_told nets c.args.way ps (map seen l)) c.captures-captures.ensures
