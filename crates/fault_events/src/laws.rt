@@ -36,8 +36,7 @@ pub fn notes_tell_of_ways()
 {}
 
 /// Of a program that passes on a sound board without strings, what is noted of every pin at the captures of one play
-/// tells how it ends on the board where a fault shows in a way: with the first wanted bit that is another, or passed.
-/// It does not tell where a bit that stays in a register is another before: there the way is to be played as a whole.
+/// tells how it ends on the board where a fault shows in a way, unless a bit that stays is another before.
 pub fn notes_tell_of_faults()
     ensures { NotesTellOfFaults }
 {}
@@ -53,8 +52,7 @@ pub fn one_play_tells_of_faults()
     ensures { OnePlayTellsOfFaults }
 {}
 
-/// Captures may be judged block by block: how a program ends by some and then by more is as the first tell, unless they
-/// tell that it passes; then it is as the others tell.
+/// Captures may be judged block by block: the first that do not tell that a program passes tell how it ends.
 pub fn captures_may_be_cut()
     ensures { CapturesMayBeCut }
 {}

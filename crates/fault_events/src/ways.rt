@@ -59,27 +59,28 @@ pub fn one_play(alloc: Global, plan: &Plan, program: &Program) -> Result<Told, A
     Ok(Told { pins, nets, starts })
 }
 
-/// How a program that passes ends on the board where a fault of these nets shows in a way, by what one play told of
-/// pins, and by these captures of its nets. Nothing where that does not tell: where a bit that stays in a register is another before one that is wanted. Such a
+/// How a program that passes ends on the board where a fault of these nets shows in a way, by what one play told.
+/// Nothing where that does not tell: where a bit that stays in a register is another before one that is wanted. Such a
 /// way is to be played as a whole.
 ///
 /// Asks that it was a play on these nets.
-pub fn way_ending(
-    told: &Told,
-    captures: &[NetCapture],
-    nets: &[PlannedNet],
-    way: Way,
-) -> Option<Ending>
+pub fn way_ending(told: &Told, nets: &[PlannedNet], way: Way) -> Option<Ending>
     requires { told.now.starts.items ≡ starts_of (map planned_net nets.now) }
     ensures { result ≡ ending_told (map planned_net nets.now) way (map seen told.now.pins.items)
-        (map nets_spec.seen captures.now) }
+        (map nets_spec.seen told.now.nets.items) }
 {
     match way {
         Way::Open { net, pin, bit } => open_ending(&told.pins, &told.starts, nets, net, pin, bit),
-        Way::Pull { net } => net_ending(captures, way, pulls_of(nets, net, net), net, net),
-        Way::Stuck { net, .. } => net_ending(captures, way, pulls_of(nets, net, net), net, net),
+        Way::Pull { net } => net_ending(&told.nets, way, pulls_of(nets, net, net), net, net),
+        Way::Stuck { net, .. } => net_ending(&told.nets, way, pulls_of(nets, net, net), net, net),
         Way::Short { first, second, .. } => {
-            net_ending(captures, way, pulls_of(nets, first, second), first, second)
+            net_ending(
+                &told.nets,
+                way,
+                pulls_of(nets, first, second),
+                first,
+                second,
+            )
         }
     }
 }

@@ -19,7 +19,7 @@ use crate::planing::{captures_behind, quiet_captures};
 use crate::tallies::{Tally, tally_behind, tell};
 use board_faults::{Fault, Faults, Judged, JudgedWay, Verdict, Way, is_invisible, judge_way};
 use board_plan::{Plan, PlannedNet};
-use fault_events::way_ending;
+use fault_events::{net_ending, pulls_of, way_ending};
 use play_model::Ending;
 use std::alloc::{AllocError, Global};
 use svf_programs::Program;
@@ -142,7 +142,6 @@ fn told_ending(telling: &Telling, nets: &[PlannedNet], way: Way) -> Option<Endin
     ensures { result ≡ ending_told (map planned_net nets.now) way (map seen telling.now.told.pins.items)
         (map seen_nets telling.now.told.nets.items) }
 {
-    let captures = telling.told.captures();
     match way {
         Way::Short {
             first,
@@ -150,9 +149,10 @@ fn told_ending(telling: &Telling, nets: &[PlannedNet], way: Way) -> Option<Endin
             winner,
         } => {
             let quiet = quiet_captures(&telling.words, nets, first, second, winner);
-            way_ending(&telling.told, captures_behind(captures, quiet), nets, way)
+            let behind = captures_behind(telling.told.captures(), quiet);
+            net_ending(behind, way, pulls_of(nets, first, second), first, second)
         }
-        _ => way_ending(&telling.told, captures, nets, way),
+        _ => way_ending(&telling.told, nets, way),
     }
 }
 
