@@ -51,10 +51,7 @@ pub fn bench_of(alloc: Global, plan: &Plan) -> Result<Plan, AllocError>
 }
 
 /// The same devices once more, but for the files of their descriptions. Refused where memory runs out.
-pub(crate) fn copy_devices(
-    alloc: Global,
-    devices: &[PlannedDevice],
-) -> Result<Vec<PlannedDevice>, AllocError>
+fn copy_devices(alloc: Global, devices: &[PlannedDevice]) -> Result<Vec<PlannedDevice>, AllocError>
     ensures { IfOk result (λ v. map planned_member v.items ≡ map planned_member devices.now) }
 {
     let mut copies = Vec::with_capacity(alloc, devices.len())?;

@@ -1,18 +1,17 @@
 //! What a program makes of the faults of a board.
 
-ghost use Rattle.std.specs.Prelude.{map, option_map, IfOk, OnOk};
+ghost use Rattle.std.specs.Prelude.{map, IfOk, OnOk};
 ghost use Rattle.svf_programs.specs.Sizes.{program_of};
 ghost use Rattle.board_loops.specs.Depending.{wired};
-ghost use Rattle.board_plan.specs.View.{member as planned_member, net as planned_net, wiring};
+ghost use Rattle.board_plan.specs.View.{member as planned_member, net as planned_net};
 ghost use Rattle.board_faults.specs.Faulty.{CanBeJudged, SameDevices};
-ghost use Rattle.board_faults.specs.Faults.{IsFaultOf, IsWayOf};
+ghost use Rattle.board_faults.specs.Faults.{IsWayOf};
 ghost use Rattle.board_faults.specs.Sights.{AreSights};
-ghost use Rattle.board_faults.specs.Judging.{JudgesBoard, JudgesFault, JudgesWayWith};
+ghost use Rattle.board_faults.specs.Judging.{JudgesWayWith};
 
-use crate::faulty::{copy_devices, wire_way};
+use crate::faulty::wire_way;
 use crate::kinds::{Fault, Way};
-use crate::listed::Faults;
-use crate::sight::{Sights, is_invisible, sights_of};
+use crate::sight::{Sights, is_invisible};
 use board_plan::{Plan, PlannedNet};
 use play_direct::{Board, play_program};
 use play_model::Ending;
@@ -41,60 +40,6 @@ pub struct JudgedWay {
 pub struct Judged {
     pub fault: Fault,
     pub ways: Option<Vec<JudgedWay>>,
-}
-
-/// What a program makes of every fault of a planned board's nets, in the order of `Faults`: each way of each is played
-/// from power-up on a board of its own, but for those that no program could catch. Refused where memory runs out.
-///
-/// Asks that the plan powers up, and that every net shows what its drivers say, as of a board file it does.
-pub fn judge_faults(
-    alloc: Global,
-    plan: &Plan,
-    program: &Program,
-) -> Result<Vec<Judged>, AllocError>
-    requires { CanBeJudged (wiring plan.now) }
-    ensures { IfOk result (λ v. JudgesBoard (program_of program.now) (wiring plan.now) v.items) }
-{
-    let mut bench = Plan {
-        devices: copy_devices(alloc, &plan.devices)?,
-        nets: Vec::new(alloc),
-        order: Vec::new(alloc),
-    };
-    let sights = sights_of(alloc, &plan.devices, &plan.nets)?;
-    let mut all = Vec::new(alloc);
-    for fault in Faults::of(&plan.nets) {
-        let ways = judge_fault(alloc, &mut bench, &plan.nets, &sights, program, fault)?;
-        all.push(Judged { fault, ways })?;
-    }
-    Ok(all)
-}
-
-/// What a program makes of a fault of these nets (asked), by boards of the devices of a bench.
-fn judge_fault(
-    alloc: Global,
-    bench: &mut Plan,
-    nets: &[PlannedNet],
-    sights: &Sights,
-    program: &Program,
-    fault: Fault,
-) -> Result<Option<Vec<JudgedWay>>, AllocError>
-    requires may { CanBeJudged (wired nets.now bench.old.devices.items) }
-    requires sights { AreSights (map planned_member bench.old.devices.items) (map planned_net nets.now) sights.now }
-    requires fault { IsFaultOf (map planned_net nets.now) fault }
-    ensures same { OnOk result (SameDevices bench.old bench.new) }
-    ensures judged { IfOk result (λ o. JudgesFault (program_of program.now) (wired nets.now bench.old.devices.items) fault
-        (option_map (λ js. js.items) o)) }
-{
-    let mut ways = Vec::with_capacity(alloc, 4)?;
-    let mut k = 0;
-    while let Some(way) = fault.way(k) {
-        match judge_way(alloc, bench, nets, sights, program, way)? {
-            None => return Ok(None),
-            Some(verdict) => ways.push(JudgedWay { way, verdict })?,
-        }
-        k += 1;
-    }
-    Ok(Some(ways))
 }
 
 /// What a program makes of a way of a fault of these nets (asked), by its play from power-up on a board of the devices

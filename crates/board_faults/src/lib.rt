@@ -15,7 +15,7 @@ mod together;
 
 pub use board_chain::Chain;
 pub use faulty::bench_of;
-pub use judging::{Judged, JudgedWay, Verdict, judge_faults, judge_way};
+pub use judging::{Judged, JudgedWay, Verdict, judge_way};
 pub use kinds::{Fault, Way, Winner};
 pub use laws::{
     every_fault_has_a_meaning_without_strings, every_program_misses_what_is_invisible,
@@ -26,5 +26,5 @@ pub use laws::{
 pub use listed::Faults;
 pub use nets::{joined, nets_with, pull_to, rest_pull, turned};
 pub use play_direct::{Board, play_opening, play_program, play_step};
-pub use sight::{Sights, bridge_sees, is_invisible, sights_of};
+pub use sight::{Sights, bridge_sees, is_invisible, pull_at, sights_of};
 pub use together::{Driven, pulled};

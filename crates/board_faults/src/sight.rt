@@ -1,6 +1,6 @@
 //! Which ways of faults can show at all: by what pins can drive, whatever a program does, and which of them are read.
 
-ghost use Rattle.std.specs.Prelude.{◌≡◌, ◌<◌, ◌↔◌, ◌&&◌, ◌∷◌, [], drop, map, length, take, IfOk, IsTrue, List, Some};
+ghost use Rattle.std.specs.Prelude.{◌≡◌, ◌<◌, ◌↔◌, ◌&&◌, ◌||◌, ◌∷◌, [], drop, map, length, take, IfOk, IsTrue, List, Some};
 ghost use Rattle.std.specs.Prelude.{slice_index_or};
 ghost use Rattle.std.specs.List.{list_any, remove};
 ghost use Rattle.boundary.specs.Masks as masks;
@@ -242,7 +242,8 @@ const UNSEEN: NetSight = NetSight {
     read: false,
 };
 
-fn pull_at(nets: &[PlannedNet], net: usize) -> Pull
+/// The pull of a net; none where there is none.
+pub fn pull_at(nets: &[PlannedNet], net: usize) -> Pull
     ensures { result ≡ (slice_index_or (map planned_net nets.now) net nowhere).pull }
 {
     if net < nets.len() {
@@ -270,7 +271,21 @@ fn short_shows(
         first: one.read,
         second: other.read,
     };
-    some_pair(one.can, other.can, pair)
+    shows_if_read(one, other, pair)
+}
+
+/// Whether one of two nets is read, and some of what their pins can make is seen otherwise.
+fn shows_if_read(one: NetSight, other: NetSight, pair: Pair) -> bool
+    ensures { result ≡ ((one.read || other.read)
+        && spec.some_pair (at_driven one.can) (at_driven other.can) (pair_differs pair)) }
+{
+    is_either_read(one, other) && some_pair(one.can, other.can, pair)
+}
+
+fn is_either_read(one: NetSight, other: NetSight) -> bool
+    ensures { result ≡ (one.read || other.read) }
+{
+    one.read || other.read
 }
 
 fn open_shows(

@@ -14,3 +14,4 @@ pub mod Powered
 pub mod Resting
 pub mod Sources
 pub mod Telling
+pub mod Cuts

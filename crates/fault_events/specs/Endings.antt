@@ -1,5 +1,5 @@
 -- How a program ends where a fault shows in a way, by what is noted of every pin at its captures.
-use Rattle.std.specs.Prelude.{◌≡◌, ◌||◌, ℕ, zero, suc, List, [], ◌∷◌, length, map, take, drop, Option, Some, None}
+use Rattle.std.specs.Prelude.{◌≡◌, ◌||◌, ℕ, zero, suc, List, [], ◌∷◌, ◌++◌, length, map, take, drop, Option, Some, None}
 use Rattle.std.specs.Prelude.{if◌then◌else◌}
 use Rattle.std.specs.List.{remove}
 use Rattle.svf_programs.specs.Legal.{IsLegalProgram}
@@ -9,7 +9,7 @@ use Rattle.board_plan.specs.Planned.{Wiring, all_pins}
 use Rattle.board_model.specs.Nets.{strings}
 use Rattle.board_model.specs.Planned.{members_of}
 use Rattle.play_model.specs.declared.ending.Ending.{Ending}
-use Rattle.play_model.specs.declared.ending.Ending.TheVariants.{Pass, Fail}
+use Rattle.play_model.specs.declared.ending.Ending.TheVariants.{Pass, Fail, Lost, BadAnswer}
 use Rattle.play_model.specs.DirectPlay.{opened_state}
 use Rattle.play_model.specs.Play.{play}
 use Rattle.board_faults.specs.declared.kinds.Way.{Way}
@@ -68,6 +68,20 @@ ending_noted nets its_way (n ∷ ns) =
     let two = second_note nets its_way n.notes in
     let rest = if way_stays nets its_way one two then None else ending_noted nets its_way ns in
     elim (way_first nets its_way one two) [ None ↦ rest | Some s ↦ Some (Fail n.command s.part s.bit) ]
+
+-- how it ends by some captures and then by more: as the first tell, unless they tell that it passes
+abbrev pub and_then : Option Ending → Option Ending → Option Ending
+and_then None rest = None
+and_then (Some Pass) rest = rest
+and_then (Some (Fail command part bit)) rest = Some (Fail command part bit)
+and_then (Some (Lost command)) rest = Some (Lost command)
+and_then (Some (BadAnswer command byte)) rest = Some (BadAnswer command byte)
+
+-- the law: captures may be judged block by block
+abbrev pub CapturesMayBeCut : Type 0
+CapturesMayBeCut = (nets : List Net) (its_way : Way) (first rest : List Noted)
+    → ending_noted nets its_way (first ++ rest)
+    ≡ and_then (ending_noted nets its_way first) (ending_noted nets its_way rest)
 
 -- the law: of a program that passes on a sound board without strings, what is noted of every pin at the captures of one
 -- play tells how it ends on the board where a fault shows in a way, wherever it tells

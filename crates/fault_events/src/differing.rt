@@ -12,7 +12,7 @@ use pin_nets::Pull;
 
 /// Which pulls a way is about: that of its net, and of a bridge that of the other.
 #[derive(Drop, Clone, Copy)]
-pub(crate) struct Pulls {
+pub struct Pulls {
     pub(crate) first: Pull,
     pub(crate) second: Pull,
 }

@@ -1,5 +1,5 @@
 //! Laws of captures.
-ghost use Rattle.fault_events.specs.Endings.{NotesTellOfFaults};
+ghost use Rattle.fault_events.specs.Endings.{CapturesMayBeCut, NotesTellOfFaults};
 ghost use Rattle.fault_events.specs.Events.{EventsTellOfFaults, EventsTellOfRuns};
 ghost use Rattle.fault_events.specs.Nets.{NetsTellOfFaults};
 ghost use Rattle.fault_events.specs.Notes.{NotesTellOfWays};
@@ -36,8 +36,7 @@ pub fn notes_tell_of_ways()
 {}
 
 /// Of a program that passes on a sound board without strings, what is noted of every pin at the captures of one play
-/// tells how it ends on the board where a fault shows in a way: with the first wanted bit that is another, or passed.
-/// It does not tell where a bit that stays in a register is another before: there the way is to be played as a whole.
+/// tells how it ends on the board where a fault shows in a way, unless a bit that stays is another before.
 pub fn notes_tell_of_faults()
     ensures { NotesTellOfFaults }
 {}
@@ -51,4 +50,9 @@ pub fn nets_tell_of_faults()
 /// faults of a board.
 pub fn one_play_tells_of_faults()
     ensures { OnePlayTellsOfFaults }
+{}
+
+/// Captures may be judged block by block: the first that do not tell that a program passes tell how it ends.
+pub fn captures_may_be_cut()
+    ensures { CapturesMayBeCut }
 {}

@@ -16,10 +16,12 @@ mod tables;
 mod ways;
 
 pub use captures::{Capture, note_captures};
+pub use differing::Pulls;
 pub use laws::{
-    captures_take_from_sources, events_compute, events_tell_of_faults, events_tell_of_runs,
-    nets_tell_of_faults, notes_tell_of_faults, notes_tell_of_ways, one_play_tells_of_faults,
+    captures_may_be_cut, captures_take_from_sources, events_compute, events_tell_of_faults,
+    events_tell_of_runs, nets_tell_of_faults, notes_tell_of_faults, notes_tell_of_ways,
+    one_play_tells_of_faults,
 };
-pub use nets::{NetCapture, net_captures};
+pub use nets::{NetCapture, net_captures, net_ending, note_at, pulls_of};
 pub use notes::{Note, Spot};
 pub use ways::{Told, one_play, way_ending};

@@ -102,7 +102,7 @@ const NOTHING_NOTED: Note = Note {
 
 /// How a program that passes ends where a fault of whole nets shows in a way, by its captures; nothing where they do
 /// not tell, since a bit that stays in a register is another: there the way is to be played as a whole.
-pub(crate) fn net_ending(
+pub fn net_ending(
     captures: &[NetCapture],
     way: Way,
     pulls: Pulls,
@@ -128,7 +128,8 @@ pub(crate) fn net_ending(
     Some(Ending::Pass)
 }
 
-fn note_at(k: usize, notes: &[Note]) -> Note
+/// What is noted of a net, by the notes of all.
+pub fn note_at(k: usize, notes: &[Note]) -> Note
     ensures { result ≡ spec.note_at k notes.now }
 {
     match notes.get(k) {
@@ -138,7 +139,7 @@ fn note_at(k: usize, notes: &[Note]) -> Note
 }
 
 /// The pulls of two nets.
-pub(crate) fn pulls_of(nets: &[PlannedNet], first: usize, second: usize) -> Pulls
+pub fn pulls_of(nets: &[PlannedNet], first: usize, second: usize) -> Pulls
     ensures first { result.first ≡ (net_at (map planned_net nets.now) first).pull }
     ensures second { result.second ≡ (net_at (map planned_net nets.now) second).pull }
 {

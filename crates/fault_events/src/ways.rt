@@ -34,6 +34,17 @@ pub struct Told {
     starts: Vec<usize>,
 }
 
+impl Told {
+    ghost use Rattle.std.specs.Prelude.{◌≡◌};
+
+    /// What is noted of every net, capture after capture.
+    pub fn captures(&self) -> &[NetCapture]
+        ensures { result.now ≡ self.now.nets.items }
+    {
+        &self.nets
+    }
+}
+
 /// What a program's play on the board of a plan tells of the board's faults: from power-up, to its end whatever fails.
 /// Refused where memory runs out.
 ///

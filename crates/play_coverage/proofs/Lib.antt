@@ -1,6 +1,10 @@
 pub mod Marks
-pub mod Missing
+pub mod Counting
+pub mod Tallying
 pub mod NetsKept
 pub mod Telling
 pub mod OnePlay
 pub mod Plain
+pub mod WordBits
+pub mod Putting
+pub mod Quiet

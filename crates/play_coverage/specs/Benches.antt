@@ -8,17 +8,24 @@ use Rattle.play_model.specs.Play.{play}
 use Rattle.board_faults.specs.Judging.{HasNoStrings}
 use Rattle.board_faults.specs.Made.{board_of}
 use Rattle.board_faults.specs.Sights.{AreSights}
-use Rattle.fault_events.specs.declared.ways.Told.{Told}
+use Rattle.fault_events.specs.Nets.{seen}
 use Rattle.fault_events.specs.Told.{IsTold}
 use Rattle.play_coverage.specs.declared.benches.Bench.{Bench}
+use Rattle.play_coverage.specs.declared.benches.Telling.{Telling}
+use Rattle.play_coverage.specs.Planes.{AreNetWords}
+
+-- what one play told of a board, and the same of its nets by words
+pub record IsTelling (program : Program) (w : Wiring) (t : Telling) : Type 0 where
+  pub told : IsTold program w t.told
+  pub words : AreNetWords (map seen t.told.nets.items) t.words.items
 
 -- what one play told of a board tells of its faults: the board has no strings, and the program passes on it
-pub record Serves (program : Program) (w : Wiring) (t : Told) : Type 0 where
+pub record Serves (program : Program) (w : Wiring) (t : Telling) : Type 0 where
   pub plain : HasNoStrings w
   pub passes : (play program (board_of w)).ending ≡ Pass
-  pub told : IsTold program w t
+  pub told : IsTelling program w t
 
-abbrev pub MayServe : Program → Wiring → Option Told → Type 0
+abbrev pub MayServe : Program → Wiring → Option Telling → Type 0
 MayServe program w None = ⊤
 MayServe program w (Some t) = Serves program w t
 

@@ -4,3 +4,5 @@ pub mod Lines
 pub mod Rows
 pub mod Benches
 pub mod Told
+pub mod Tallies
+pub mod Planes

@@ -7,16 +7,15 @@ ghost use Rattle.board_faults.specs.Made.{IsReadyPlan, PowersUp, board_of};
 ghost use Rattle.output_words.specs.Statuses.{number};
 ghost use Rattle.play_coverage.specs.Contending as spec;
 ghost use Rattle.play_coverage.specs.Covering.{Covers, IsCover, Tells};
-ghost use Rattle.play_coverage.specs.Lines.{contention_line, cover_lines, cover_status, told_lines};
+ghost use Rattle.play_coverage.specs.Lines.{contention_line};
+ghost use Rattle.play_coverage.specs.Tallies.{status_by};
 
 use crate::benches::ending_on;
 use crate::contending::{Contention, contentions};
-use crate::judging::judge_faults;
-use crate::outcomes::any_missed;
+use crate::judging::tell_faults;
 use crate::totals::put_totals;
-use crate::ways::{put_faults, put_missed};
 use board_description::{Untold, net_name};
-use board_faults::{Board, Judged};
+use board_faults::Board;
 use board_plan::Plan;
 use byte_streams::{Counted, Sink, put_all};
 use itoa::Buffer;
@@ -89,11 +88,15 @@ fn cover_of(
         (λ c. Covers (program_of program.now) (wiring plan.now) listed c.text.items (number c.status)) }
 {
     let contending = contentions_of(alloc, plan, program)?;
-    let judged = judge_faults(alloc, plan, program)?;
-    let mut text = Vec::new(alloc);
-    put_cover(&mut text, plan, listed, &contending, &judged)?;
-    let status = status_of(&contending, &judged);
-    Ok(Cover { text, status })
+    let mut before = Vec::new(alloc);
+    put_contentions(&mut before, plan, &contending)?;
+    let mut tally = tell_faults(alloc, plan, program, listed, before)?;
+    let status = status_of(&contending, tally.told);
+    put_totals(&mut tally)?;
+    Ok(Cover {
+        text: tally.text,
+        status,
+    })
 }
 
 /// The nets whose strong drivers disagree while a program plays on the board of a plan, from power-up.
@@ -108,22 +111,6 @@ fn contentions_of(
 {
     let mut board = Board::powered_up(alloc, plan)?;
     contentions(alloc, program, &mut board)
-}
-
-/// Puts what is printed behind a text.
-fn put_cover(
-    text: &mut Vec<u8>,
-    plan: &Plan,
-    listed: bool,
-    contending: &[Contention],
-    judged: &[Judged],
-) -> Result<(), AllocError>
-    ensures { OnOk result
-        (text.new.items ≡ text.old.items ++ cover_lines listed (wiring plan.now) contending.now judged.now) }
-{
-    put_contentions(text, plan, contending)?;
-    put_told(text, plan, listed, judged)?;
-    put_totals(text, judged)
 }
 
 /// Puts a line for each net whose drivers disagree behind a text.
@@ -159,28 +146,11 @@ fn put_contention(text: &mut Vec<u8>, plan: &Plan, contention: Contention) -> Re
     )
 }
 
-/// Puts the lines of all ways behind a text where they are listed, else those of the faults that are missed.
-fn put_told(
-    text: &mut Vec<u8>,
-    plan: &Plan,
-    listed: bool,
-    judged: &[Judged],
-) -> Result<(), AllocError>
-    ensures { OnOk result
-        (text.new.items ≡ text.old.items ++ told_lines listed (wiring plan.now) judged.now) }
+/// The exit status: a pass where nothing contends and nothing is missed, by how many faults are missed and told.
+fn status_of(contending: &[Contention], told: usize) -> Status
+    ensures { result ≡ status_by contending.now told }
 {
-    if listed {
-        put_faults(text, plan, judged)
-    } else {
-        put_missed(text, plan, judged)
-    }
-}
-
-/// The exit status: a pass where nothing contends and nothing is missed.
-fn status_of(contending: &[Contention], judged: &[Judged]) -> Status
-    ensures { result ≡ cover_status contending.now judged.now }
-{
-    if contending.is_empty() && !any_missed(judged) {
+    if contending.is_empty() && told == 0 {
         Status::Pass
     } else {
         Status::Fail

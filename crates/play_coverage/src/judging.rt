@@ -1,53 +1,63 @@
 //! What a program makes of faults, one after another.
 
-ghost use Rattle.std.specs.Prelude.{option_map, IfOk, OnOk};
+ghost use Rattle.std.specs.Prelude.{◌≡◌, map, option_map, IfOk, OnOk};
 ghost use Rattle.svf_programs.specs.Sizes.{program_of};
-ghost use Rattle.board_plan.specs.View.{wiring};
+ghost use Rattle.board_plan.specs.View.{net as planned_net, wiring};
 ghost use Rattle.board_faults.specs.Faults.{IsFaultOf, IsWayOf};
 ghost use Rattle.board_faults.specs.Faulty.{CanBeJudged};
-ghost use Rattle.board_faults.specs.Judging.{JudgesBoard, JudgesFault, JudgesWayWith};
+ghost use Rattle.board_faults.specs.Judging.{JudgesFault, JudgesWayWith};
+ghost use Rattle.fault_events.specs.Captures.{seen};
+ghost use Rattle.fault_events.specs.Nets.{seen as seen_nets};
+ghost use Rattle.fault_events.specs.Told.{ending_told, starts_of};
 ghost use Rattle.play_coverage.specs.Benches.{IsBench};
+ghost use Rattle.play_coverage.specs.Planes.{AreNetWords};
+ghost use Rattle.play_coverage.specs.Tallies.{TellsFaults};
 ghost use Rattle.play_coverage.specs.Told.{JudgesEnding, JudgesPassed, MayJudge};
 
-use crate::benches::{Bench, bench_for};
+use crate::benches::{Bench, Telling, bench_for};
+use crate::planing::{captures_behind, quiet_captures};
+use crate::tallies::{Tally, tally_behind, tell};
 use board_faults::{Fault, Faults, Judged, JudgedWay, Verdict, Way, is_invisible, judge_way};
-use board_plan::Plan;
-use fault_events::way_ending;
+use board_plan::{Plan, PlannedNet};
+use fault_events::{net_ending, pulls_of, way_ending};
 use play_model::Ending;
 use std::alloc::{AllocError, Global};
 use svf_programs::Program;
 
-/// What a program makes of every fault of a planned board's nets, in the order of `Faults`: how the play of the program
-/// on the board with it ends, from power-up, of each of its ways but those that no program could catch. Refused where
-/// memory runs out.
+/// What a program makes of every fault of a planned board's nets, in the order of `Faults`, told one after another
+/// behind a text: how the play of the program on the board with it ends, from power-up, of each of its ways but those
+/// that no program could catch. Refused where memory runs out, or where a count does not fit.
 ///
 /// One play of the board tells it, where the board has no strings and the program passes on it; a way in which a bit
-/// that stays in a register is another is played as a whole, and elsewhere every way is.
+/// that stays in a register is another is played as a whole, and elsewhere every way is. No fault is kept.
 ///
 /// Asks that the plan's board is ready, and that every net shows what its drivers say, as of a board file it does.
-pub fn judge_faults(
+pub(crate) fn tell_faults(
     alloc: Global,
     plan: &Plan,
     program: &Program,
-) -> Result<Vec<Judged>, AllocError>
+    listed: bool,
+    text: Vec<u8>,
+) -> Result<Tally, AllocError>
     requires { CanBeJudged (wiring plan.now) }
-    ensures { IfOk result (λ v. JudgesBoard (program_of program.now) (wiring plan.now) v.items) }
+    ensures { IfOk result (TellsFaults (program_of program.now) (wiring plan.now) text.items listed) }
 {
     let mut bench = bench_for(alloc, plan, program)?;
-    if bench.told.is_none() {
-        return board_faults::judge_faults(alloc, plan, program);
-    }
-    let mut all = Vec::new(alloc);
+    let mut tally = tally_behind(text);
     for fault in Faults::of(&plan.nets) {
         let ways = judge_fault(alloc, &mut bench, plan, program, fault)?;
-        all.push(Judged { fault, ways })?;
+        let judged = Judged { fault, ways };
+        tell(&mut tally, plan, listed, &judged)?;
     }
-    Ok(all)
+    Ok(tally)
 }
 
 /// What a program makes of a fault of a planned board's nets (asked), by a bench for them: of each of its ways, in
-/// their order; nothing where the board with it has no meaning. Refused where memory runs out.
-fn judge_fault(
+/// their order, how the play on the board with it ends, from power-up, unless no program could catch the way; nothing
+/// where the board with it has no meaning. Refused where memory runs out.
+///
+/// Asks that the plan's board is ready, and that every net shows what its drivers say, as of a board file it does.
+pub fn judge_fault(
     alloc: Global,
     bench: &mut Bench,
     plan: &Plan,
@@ -118,9 +128,31 @@ fn told_verdict(
     let Some(told) = &bench.told else {
         return Ok(None);
     };
-    match way_ending(told, &plan.nets, way) {
+    match told_ending(told, &plan.nets, way) {
         None => Ok(None),
         Some(ending) => Ok(Some(verdict_by(alloc, bench, plan, program, way, ending)?)),
+    }
+}
+
+/// How a program that passes ends on the board where a fault of these nets shows in a way, by what one play told;
+/// nothing where that does not tell. The first captures at which a bridge tells nothing are passed over, by words.
+fn told_ending(telling: &Telling, nets: &[PlannedNet], way: Way) -> Option<Ending>
+    requires starts { telling.now.told.starts.items ≡ starts_of (map planned_net nets.now) }
+    requires words { AreNetWords (map seen_nets telling.now.told.nets.items) telling.now.words.items }
+    ensures { result ≡ ending_told (map planned_net nets.now) way (map seen telling.now.told.pins.items)
+        (map seen_nets telling.now.told.nets.items) }
+{
+    match way {
+        Way::Short {
+            first,
+            second,
+            winner,
+        } => {
+            let quiet = quiet_captures(&telling.words, nets, first, second, winner);
+            let behind = captures_behind(telling.told.captures(), quiet);
+            net_ending(behind, way, pulls_of(nets, first, second), first, second)
+        }
+        _ => way_ending(&telling.told, nets, way),
     }
 }
 

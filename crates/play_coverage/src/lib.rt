@@ -9,13 +9,17 @@ mod contending;
 mod covering;
 mod judging;
 mod outcomes;
+mod planes;
+mod planing;
+mod tallies;
 mod totals;
 mod ways;
 mod words;
 
+pub use benches::{Bench, bench_for};
 pub use contending::{Contention, contentions};
 pub use covering::write_cover;
-pub use judging::judge_faults;
+pub use judging::judge_fault;
 pub use outcomes::{FaultKind, Outcome};
 
 /// The lines of some faults, worked out.

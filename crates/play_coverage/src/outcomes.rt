@@ -1,7 +1,6 @@
 //! What a fault comes to, by what is told of its ways.
 
 ghost use Rattle.std.specs.Prelude.{◌≡◌};
-ghost use Rattle.std.specs.List.{count_by};
 ghost use Rattle.play_coverage.specs.Lines as spec;
 ghost use Rattle.play_coverage.specs.Lines.{comes_to, has_come, is_counted};
 
@@ -93,34 +92,11 @@ fn is_kind(kind: FaultKind, fault: Fault) -> bool
     }
 }
 
-fn is_counted(kind: FaultKind, outcome: Outcome, judged: &Judged) -> bool
+/// Whether a fault is one of a kind, and has come to this.
+pub(crate) fn is_counted(kind: FaultKind, outcome: Outcome, judged: &Judged) -> bool
     ensures { result ≡ is_counted kind outcome judged.now }
 {
     is_kind(kind, judged.fault) && has_come(outcome, judged)
-}
-
-/// How many faults of a kind have come to this.
-pub(crate) fn count(kind: FaultKind, outcome: Outcome, judged: &[Judged]) -> usize
-    ensures { result ≡ spec.count kind outcome judged.now }
-{
-    judged
-        .iter()
-        .filter(|each| is_counted(kind, outcome, each))
-        .count()
-}
-
-/// How many faults are not judged, since the board has no meaning with them.
-pub(crate) fn loops(judged: &[Judged]) -> usize
-    ensures { result ≡ count_by spec.is_loop judged.now }
-{
-    judged.iter().filter(|each| each.ways.is_none()).count()
-}
-
-/// Whether a fault is missed.
-pub(crate) fn any_missed(judged: &[Judged]) -> bool
-    ensures { result ≡ spec.any_missed judged.now }
-{
-    judged.iter().any(|each| has_come(Outcome::Missed, each))
 }
 
 /// Whether each way of a fault that shows is missed.

@@ -1,39 +1,25 @@
-//! The lines of faults, one after another.
+//! The lines of a fault.
 
 ghost use Rattle.std.specs.Prelude.{◌≡◌, ◌++◌, OnOk, flat_map};
 ghost use Rattle.board_plan.specs.View.{wiring};
 ghost use Rattle.play_coverage.specs.Lines as spec;
-ghost use Rattle.play_coverage.specs.Lines.{fault_lines, missed_line, missed_lines, missed_ways, missed_words};
+ghost use Rattle.play_coverage.specs.Lines.{fault_lines, missed_line, missed_ways, missed_words};
 ghost use Rattle.play_coverage.specs.Lines.{way_line};
 
-use crate::outcomes::{Outcome, all_missed, has_come, is_passed};
+use crate::outcomes::{all_missed, is_passed};
 use crate::words::{put_failing, put_fault, put_way, verdict_word};
 use board_faults::{Fault, Judged, JudgedWay};
 use board_plan::Plan;
 use output_words::put;
 use std::alloc::AllocError;
 
-/// So many faults that are missed are told, each with a line.
-const MOST_TOLD: usize = 256;
-
-/// Puts the lines of every way of every fault behind a text. Refuses for want of memory alone.
-#[tactic(auto, using(output_words::proofs::TextLaws::flat_map_more))]
-pub(crate) fn put_faults(
+/// Puts the lines of every way of a fault behind a text; one alone where the board has no meaning with it. Refuses for
+/// want of memory alone.
+pub(crate) fn put_each_way(
     text: &mut Vec<u8>,
     plan: &Plan,
-    judged: &[Judged],
+    judged: &Judged,
 ) -> Result<(), AllocError>
-    ensures { OnOk result
-        (text.new.items ≡ text.old.items ++ flat_map (fault_lines (wiring plan.now)) judged.now) }
-{
-    for each in judged {
-        put_each_way(text, plan, each)?;
-    }
-    Ok(())
-}
-
-/// Puts the lines of every way of a fault behind a text; one alone where the board has no meaning with it.
-fn put_each_way(text: &mut Vec<u8>, plan: &Plan, judged: &Judged) -> Result<(), AllocError>
     ensures { OnOk result (text.new.items ≡ text.old.items ++ fault_lines (wiring plan.now) judged.now) }
 {
     match &judged.ways {
@@ -79,26 +65,12 @@ fn put_way_line(
     put(text, &[b"\n"])
 }
 
-/// Puts the lines of the first faults that are missed behind a text. Refuses for want of memory alone.
-pub(crate) fn put_missed(
+/// Puts the line of a fault that is missed behind a text. Refuses for want of memory alone.
+pub(crate) fn put_missed_line(
     text: &mut Vec<u8>,
     plan: &Plan,
-    judged: &[Judged],
+    judged: &Judged,
 ) -> Result<(), AllocError>
-    ensures { OnOk result (text.new.items ≡ text.old.items ++ missed_lines (wiring plan.now) judged.now) }
-{
-    let mut told = 0;
-    for each in judged {
-        if told < MOST_TOLD && has_come(Outcome::Missed, each) {
-            put_missed_line(text, plan, each)?;
-            told += 1;
-        }
-    }
-    Ok(())
-}
-
-/// Puts the line of a fault that is missed behind a text.
-fn put_missed_line(text: &mut Vec<u8>, plan: &Plan, judged: &Judged) -> Result<(), AllocError>
     ensures { OnOk result (text.new.items ≡ text.old.items ++ missed_line (wiring plan.now) judged.now) }
 {
     put(text, &[b"missed "])?;

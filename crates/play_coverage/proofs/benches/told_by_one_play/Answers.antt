@@ -7,12 +7,12 @@ ending_on-requires c =
     let plain = plain_if c.args.board.now c.deref.result.now c.have_strings.result c.deref.ensures.value c.have_strings.ensures c.if-have_strings.false in
     powers_plain c.args.board.now c.requires.may plain c.requires.order
 
-pub one_play-requires : goal.one_play-requires
-one_play-requires c =
+pub telling_of-requires : goal.telling_of-requires
+telling_of-requires c =
     let plain = plain_if c.args.board.now c.deref.result.now c.have_strings.result c.deref.ensures.value c.have_strings.ensures c.if-have_strings.false in
     powers_plain c.args.board.now c.requires.may plain c.requires.order
 
-pub returns-in_ok-one_play-in-Pass : goal.returns-in_ok-one_play-in-Pass
-returns-in_ok-one_play-in-Pass c =
+pub returns-in_ok-telling_of-in-Pass : goal.returns-in_ok-telling_of-in-Pass
+returns-in_ok-telling_of-in-Pass c =
     let plain = plain_if c.args.board.now c.deref.result.now c.have_strings.result c.deref.ensures.value c.have_strings.ensures c.if-have_strings.false in
-    record { plain = plain; passes = sym c.in_ok-ending_on.ensures ∙ c.in-Pass.is; told = c.in_ok-one_play-in-Pass.ensures }
+    record { plain = plain; passes = sym c.in_ok-ending_on.ensures ∙ c.in-Pass.is; told = c.in_ok-telling_of-in-Pass.ensures }

@@ -1,0 +1,110 @@
+//! What is noted of nets, put into words: up to 64 captures at once.
+
+ghost use Rattle.std.specs.Prelude.{◌≡◌, ◌≢◌, ◌<◌, ℕ, List, false, drop, map, IfOk};
+ghost use Rattle.jt_bits.specs.Packed.{has_bit};
+ghost use Rattle.board_faults.specs.declared.kinds.Way.TheVariants as way;
+ghost use Rattle.board_plan.specs.View.{net as planned_net};
+ghost use Rattle.fault_events.specs.declared.notes.Note.{Note as TheNote};
+ghost use Rattle.fault_events.specs.Captures.{Noted};
+ghost use Rattle.fault_events.specs.Marks.{nothing_noted};
+ghost use Rattle.fault_events.specs.Nets.{seen};
+ghost use Rattle.play_coverage.specs.Planes.{AreNetWords, AreQuiet, AreWordsOf, IsNoteAt};
+
+use crate::planes::{BridgePulls, DrivenWords, NOTHING, NoteWords, quiet_front};
+use board_faults::{Winner, pull_at};
+use board_plan::PlannedNet;
+use fault_events::{NetCapture, Note, note_at};
+use std::alloc::{AllocError, Global};
+
+/// Nothing is noted at any capture.
+const NO_NOTES: NoteWords = NoteWords {
+    made: NOTHING,
+    wanted: 0,
+    stays: 0,
+};
+
+/// Of each of so many nets what is noted at the first 64 captures. Refused where memory runs out.
+pub(crate) fn net_words(
+    alloc: Global,
+    captures: &[NetCapture],
+    count: usize,
+) -> Result<Vec<NoteWords>, AllocError>
+    ensures { IfOk result (λ v. AreNetWords (map seen captures.now) v.items) }
+{
+    let mut all = Vec::with_capacity(alloc, count)?;
+    for net in 0..count {
+        all.push(words_of(captures, net))?;
+    }
+    Ok(all)
+}
+
+/// What is noted of a net at the first 64 captures.
+fn words_of(captures: &[NetCapture], net: usize) -> NoteWords
+    ensures { AreWordsOf net (map seen captures.now) result }
+{
+    let mut words = NO_NOTES;
+    for k in 0..captures.len().min(64) {
+        words = with_note(words, k, note_at(net, &captures[k].nets));
+    }
+    words
+}
+
+/// The words with a note at the k-th capture, at which nothing is noted.
+fn with_note(words: NoteWords, k: usize, note: Note) -> NoteWords
+    requires below { k < 64 }
+    requires free { IsNoteAt k nothing_noted words }
+    ensures here { IsNoteAt k note result }
+    ensures others { (j : ℕ) (n : TheNote) → j < 64 → j ≢ k → IsNoteAt j n words → IsNoteAt j n result }
+{
+    NoteWords {
+        made: DrivenWords {
+            zero: with_bit(words.made.zero, k, note.made.zero),
+            one: with_bit(words.made.one, k, note.made.one),
+            weak: with_bit(words.made.weak, k, note.made.weak),
+        },
+        wanted: with_bit(words.wanted, k, note.first.is_some()),
+        stays: with_bit(words.stays, k, note.stays),
+    }
+}
+
+/// The word with this in the place of bit `k`, which is 0.
+fn with_bit(word: u64, k: usize, bit: bool) -> u64
+    requires below { k < 64 }
+    requires free { has_bit word k ≡ false }
+    ensures here { has_bit result k ≡ bit }
+    ensures others { (j : ℕ) → j < 64 → j ≢ k → has_bit result j ≡ has_bit word j }
+{
+    if bit { word | 1 << k } else { word }
+}
+
+/// At so many of the first captures a bridge tells nothing, by the words of nets; at none where it is none of theirs.
+pub(crate) fn quiet_captures(
+    words: &[NoteWords],
+    nets: &[PlannedNet],
+    first: usize,
+    second: usize,
+    winner: Winner,
+) -> usize
+    ensures { (ns : List Noted) → AreNetWords ns words.now
+        → AreQuiet (map planned_net nets.now) (way.Short first second winner) ns result }
+{
+    let pulls = BridgePulls {
+        first: pull_at(nets, first),
+        second: pull_at(nets, second),
+    };
+    if first < words.len() && second < words.len() {
+        return quiet_front(winner, pulls, words[first], words[second]);
+    }
+    0
+}
+
+/// Captures behind so many.
+pub(crate) fn captures_behind(captures: &[NetCapture], n: usize) -> &[NetCapture]
+    ensures { result.now ≡ drop n captures.now }
+{
+    if n < captures.len() {
+        &captures[n..]
+    } else {
+        &[]
+    }
+}
