@@ -3,6 +3,7 @@
     compare.py PROGRAM [KIND ..] [--cases N] [--from N]    compares N cases of each kind
     compare.py PROGRAM --show KIND NUMBER [--waves]        prints a case's input and both answers
     compare.py PROGRAM --describe BOARD ..                 compares what is told of board files
+    compare.py PROGRAM --diagnose BOARD SVF                compares what is told of the log of every way of every fault
     compare.py PROGRAM [KIND ..] --waves [--cases N] [--from N]    compares the waves of short plays
 """
 
@@ -14,17 +15,19 @@ import os
 import subprocess
 import sys
 import tempfile
+from typing import NamedTuple
 
 import coverage
 import program
 import reasons
-from inputs import COVER_KINDS, KINDS, WAVE_KINDS, Case, case_of
+from inputs import COVER_KINDS, DIAGNOSE_KINDS, KINDS, WAVE_KINDS, Case, case_of
 from refusal import Refusal
 from waves import waves, without_strings
 
 CASES = 450
 WAVE_CASES = 40
 COVER_CASES = 200
+DIAGNOSE_CASES = 100
 LONGEST_PLAY = 60_000  # bits and cycles; a longer program is checked and not played
 LONGEST_WAVE = 2_000  # and its waves are not compared
 TIMEOUT = 60
@@ -107,11 +110,38 @@ def expected_covers(case: Case) -> dict[str, program.Answer]:
         return dict.fromkeys(commands, program.refused(refusal))
 
 
-def obtained(path: str, command: str, case: Case, folder: str) -> program.Answer:
-    """What the program prints, its files being in the folder, or the waves that it draws."""
-    words = [path, *WORDS[command]] + ([] if case.tree is None else ["--board", BOARD_FILE])
+class Diagnose(NamedTuple):
+    """The command that tells which faults give what this log says."""
+    log: str
+
+    def __str__(self) -> str:
+        return f"diagnose of {shortened(self.log, 200)}"
+
+
+def expected_diagnoses(case: Case) -> dict[Diagnose, program.Answer]:
+    """By log, what should be told of it: of each log that a fault of the board gives, played to the end or not."""
     try:
-        done = subprocess.run(words, input=case.text, cwd=folder, capture_output=True, timeout=TIMEOUT)
+        board, its_program = program.read(*case)
+    except Refusal as refusal:
+        return {Diagnose("pass\n"): program.refused(refusal)}
+    found, answers = coverage.tried(board, its_program), {}
+    played = program.play(board, its_program, to_the_end=True).out.splitlines()
+    around = played[:1], played[len(played) - len(board.parts) - len(board.nets):]
+    for to_the_end in (True, False):
+        for said in {tuple(program.verdict(failures, to_the_end)): None for _, ways in found for failures in ways}:
+            log = "".join(line + "\n" for line in [*around[0], *said, *around[1]])
+            answers[Diagnose(log)] = coverage.diagnosis(found, list(said), to_the_end)
+    return answers
+
+
+def obtained(path: str, command: str | Diagnose, case: Case, folder: str) -> program.Answer:
+    """What the program prints, its files being in the folder, or the waves that it draws."""
+    text, words = case.text, WORDS.get(command)
+    if isinstance(command, Diagnose):
+        text, words = command.log.encode(), ["diagnose", "./-"]
+    words = [path, *words] + ([] if case.tree is None else ["--board", BOARD_FILE])
+    try:
+        done = subprocess.run(words, input=text, cwd=folder, capture_output=True, timeout=TIMEOUT)
     except subprocess.TimeoutExpired:
         return program.Answer("", f"hangs for {TIMEOUT} seconds", -1)
     drawn = os.path.join(folder, WAVE_FILE)
@@ -163,18 +193,42 @@ def compare(path: str, kind: str, numbers: range, expect) -> int:
     return differing
 
 
-def compare_boards(path: str, names: list[str]) -> int:
-    """Compare what is told of board files, whose descriptions are found from here; how many differ. It needs Python 3.11."""
+def read_case(board: str, svf: str | None) -> Case:
+    """The case of a board file, whose descriptions are found from here, and of a program. It needs Python 3.11."""
     import tomllib
+    with open(board, "rb") as file:
+        tree = tomllib.load(file)
+    files = {}
+    for table in tree["device"]:
+        with open(table["bsdl"], "rb") as file:
+            files[table["bsdl"]] = file.read()
+    if svf is None:
+        return Case(b"", tree, files)
+    with open(svf, "rb") as file:
+        return Case(file.read(), tree, files)
+
+
+def compare_diagnoses(path: str, board: str, svf: str) -> int:
+    """Compare what is told of each log that a fault of a board gives; how many differ."""
+    case = read_case(board, svf)
+    flat = Case(case.text, {**case.tree, "device": [{**table, "bsdl": os.path.basename(table["bsdl"])}
+                                                    for table in case.tree["device"]]},
+                {os.path.basename(name): text for name, text in case.files.items()})
+    both = both_answers(path, flat, expected_diagnoses)
+    for command, got, wanted in both:
+        if got != wanted:
+            print(f"{command} differs\n  program: {shortened(got, 400)}\n  expected: {shortened(wanted, 400)}")
+    differing = sum(1 for _, got, wanted in both if got != wanted)
+    print(f"logs of {board}: {len(both)} diagnosed, {differing} differ", flush=True)
+    return differing
+
+
+def compare_boards(path: str, names: list[str]) -> int:
+    """Compare what is told of board files, whose descriptions are found from here; how many differ."""
     differing = 0
     for name in names:
-        with open(name, "rb") as file:
-            tree = tomllib.load(file)
-        files = {}
-        for table in tree["device"]:
-            with open(table["bsdl"], "rb") as file:
-                files[table["bsdl"]] = file.read()
-        wanted = program.described(tree, files)
+        case = read_case(name, None)
+        wanted = program.described(case.tree, case.files)
         done = subprocess.run([path, "describe", "--board", name], capture_output=True, timeout=TIMEOUT)
         got = program.Answer(done.stdout.decode(), done.stderr.decode(), done.returncode)
         if got != wanted:
@@ -196,21 +250,25 @@ def show(path: str, kind: str, number: int, expect) -> None:
 def main() -> int:
     parser = argparse.ArgumentParser(description=__doc__.splitlines()[0])
     parser.add_argument("program")
-    parser.add_argument("kinds", nargs="*", metavar="KIND", help=", ".join({**KINDS, **COVER_KINDS, **WAVE_KINDS}))
+    parser.add_argument("kinds", nargs="*", metavar="KIND", 
+                        help=", ".join({**KINDS, **COVER_KINDS, **DIAGNOSE_KINDS, **WAVE_KINDS}))
     parser.add_argument("--cases", type=int, metavar="N")
     parser.add_argument("--from", type=int, default=0, metavar="N", dest="start")
     parser.add_argument("--waves", action="store_true", help="compare the waves of short plays")
     parser.add_argument("--show", nargs=2, metavar=("KIND", "NUMBER"))
     parser.add_argument("--describe", nargs="+", metavar="BOARD")
+    parser.add_argument("--diagnose", nargs=2, metavar=("BOARD", "SVF"))
     words = parser.parse_args()
     path = os.path.abspath(words.program)
     if words.describe:
         return int(compare_boards(path, words.describe) > 0)
+    if words.diagnose:
+        return int(compare_diagnoses(path, *words.diagnose) > 0)
     if words.show:
         show(path, words.show[0], int(words.show[1]), way_of(words.show[0], words.waves)[0])
         return 0
     differing = 0
-    for kind in words.kinds or (WAVE_KINDS if words.waves else {**KINDS, **COVER_KINDS}):
+    for kind in words.kinds or (WAVE_KINDS if words.waves else {**KINDS, **COVER_KINDS, **DIAGNOSE_KINDS}):
         expect, usual = way_of(kind, words.waves)
         numbers = range(words.start, words.start + (usual if words.cases is None else words.cases))
         differing += compare(path, kind, numbers, expect)
@@ -221,6 +279,8 @@ def way_of(kind: str, as_waves: bool) -> tuple:
     """How a kind is compared: what says the expected answers, and the usual number of cases."""
     if as_waves:
         return expected_waves, WAVE_CASES
+    if kind in DIAGNOSE_KINDS:
+        return expected_diagnoses, DIAGNOSE_CASES
     return (expected_covers, COVER_CASES) if kind in COVER_KINDS else (expected, CASES)
 
 

@@ -268,13 +268,17 @@ def told(contends: list[str], judged: list[Judged], listed: bool) -> Answer:
     return Answer("".join(line + "\n" for line in lines), "", int(bool(missed or contends)))
 
 
-def diagnose(board: Board, program: Program, failures: list[str], to_the_end: bool) -> Answer:
-    """The faults that give exactly these bits, `failures` being what a play told of them."""
+def tried(board: Board, program: Program) -> list[tuple[Fault, list[list[str]]]]:
+    """Each fault with which the board has a meaning, and of each of its ways all the bits that fail."""
+    return [(fault, [plays(board, program, way.nets) for way in fault.ways])
+            for fault in faults(board) if not is_loop(board, fault)]
+
+
+def diagnosis(found: list[tuple[Fault, list[list[str]]]], said: list[str], to_the_end: bool) -> Answer:
+    """The faults that give exactly these bits, `said` being what a play told of them."""
     lines = []
-    for fault in faults(board):
-        if is_loop(board, fault):
-            continue
-        fits = [verdict(plays(board, program, way.nets), to_the_end) == failures for way in fault.ways]
+    for fault, ways in found:
+        fits = [verdict(failures, to_the_end) == said for failures in ways]
         names = [way.name for way, its in zip(fault.ways, fits) if its]
         if names:
             lines.append(" ".join([fault.name] + (names if len(names) < len(fits) else [])))
@@ -307,7 +311,7 @@ def main() -> int:
         program = accept(file.read())
     if words.like:
         other = read_files(words.like)
-        answer = diagnose(board, program, verdict(plays(other, program, other.nets), True), True)
+        answer = diagnosis(tried(board, program), verdict(plays(other, program, other.nets), True), True)
     else:
         answer = cover(board, program)[words.list]
     print(answer.out, end="")

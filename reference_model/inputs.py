@@ -849,6 +849,11 @@ def covers(rng, number: int) -> Case:
     return Case(damaged_bytes(rng, text, ODD_BYTES) if rng.random() < 0.03 else text, tree, its_files)
 
 
+def diagnoses(rng, number: int) -> Case:
+    """Boards and tests as those of `covers`."""
+    return covers(rng, number)
+
+
 # Waves
 
 FREQUENCIES = ("1E6", "3E6", "7E5", "1.5E7", "3E11", "1E12", "1E-3", "2E-6")
@@ -944,7 +949,8 @@ WAVE_KINDS = {kind.__name__: kind for kind in (rests, programs, boards, banks, f
 
 
 COVER_KINDS = {covers.__name__: covers}
+DIAGNOSE_KINDS = {diagnoses.__name__: diagnoses}
 
 
 def case_of(kind: str, number: int) -> Case:
-    return {**KINDS, **WAVE_KINDS, **COVER_KINDS}[kind](random.Random(f"{kind} {number}"), number)
+    return {**KINDS, **WAVE_KINDS, **COVER_KINDS, **DIAGNOSE_KINDS}[kind](random.Random(f"{kind} {number}"), number)

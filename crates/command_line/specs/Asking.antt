@@ -135,6 +135,18 @@ list = record (new_rule (codes "list")) { long = Some (codes "list"); action = S
 abbrev pub cover : Shape
 cover = record (new_shape (codes "cover")) { rules = svf ∷ served_board ∷ list ∷ [] }
 
+-- `FILE`, which must be named where standard input is the log
+abbrev pub named_svf : Rule
+named_svf = record svf { required = true }
+
+-- `[--log LOG]`
+abbrev pub log : Rule
+log = record (new_rule (codes "log")) { long = Some (codes "log"); action = Some Set }
+
+-- `diagnose FILE --board BOARD [--log LOG] [--explain]`
+abbrev pub diagnose : Shape
+diagnose = record (new_shape (codes "diagnose")) { rules = named_svf ∷ served_board ∷ log ∷ explain ∷ [] }
+
 -- a command that tells its version where it is asked for it
 abbrev pub with_version : App → App
 with_version a = on_top (λ s. record s { has_version = true }) a
@@ -143,7 +155,8 @@ with_version a = on_top (λ s. record s { has_version = true }) a
 abbrev pub jt_tool : App
 jt_tool =
     with_subcommand (with_subcommand (with_subcommand (with_subcommand (with_subcommand (with_subcommand
-    (with_subcommand (with_version (new_app (codes "jt_tool"))) play) check) loop) serve) connect) describe) cover
+    (with_subcommand (with_subcommand (with_version (new_app (codes "jt_tool"))) play) check) loop) serve) connect)
+    describe) cover) diagnose
 
 -- a server that is played on
 pub record Host : Type 0 where
@@ -159,8 +172,8 @@ pub record Drawn : Type 0 where
   pub plain : Bool
 
 -- what is done with a text or a board: whether the bytes are told, whether all failures are, and whether it is told why
--- a bit fails and where a refusal lies; the waves of a play, where their file is named; and whether every way of every
--- fault is listed
+-- a bit fails and where a refusal lies; the waves of a play, where their file is named; whether every way of every fault
+-- is listed; and the log of a play, where its file is named
 pub data Action : Type 0 where
   plays : (bytes all explain : Bool) → (vcd : Option Drawn) → Action
   checks : (explain : Bool) → Action
@@ -169,6 +182,7 @@ pub data Action : Type 0 where
   connects : Host → (all explain : Bool) → Action
   describes : (explain : Bool) → Action
   covers : (listed : Bool) → Action
+  diagnoses : (log : Option Text) → (explain : Bool) → Action
 
 -- what is asked for: the file of the program and the board file, where they are named, and what is done
 pub record Asked : Type 0 where
@@ -228,6 +242,9 @@ waves_of rows =
     })
     (first_of (codes "vcd") rows)
 
+abbrev pub log_of : List Row → Option Text
+log_of rows = first_of (codes "log") rows
+
 -- what is done by this subcommand with these arguments
 abbrev pub task_of : Text → List Row → Action
 task_of name rows =
@@ -238,6 +255,7 @@ task_of name rows =
     then connects (server_of rows) (is_given (codes "all") rows) (is_given (codes "explain") rows)
     else if bytes_eq name (codes "describe") then describes (is_given (codes "explain") rows)
     else if bytes_eq name (codes "cover") then covers (is_given (codes "list") rows)
+    else if bytes_eq name (codes "diagnose") then diagnoses (log_of rows) (is_given (codes "explain") rows)
     else plays (is_given (codes "bytes") rows) (is_given (codes "all") rows) (is_given (codes "explain") rows)
     (waves_of rows)
 

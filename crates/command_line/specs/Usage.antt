@@ -2,8 +2,8 @@
 use Rattle.std.specs.Prelude.{◌≡◌, Bool, true, false, List, [], ◌∷◌, Option, Some, None, codes}
 use Rattle.clap.specs.Words.{Kinds, Text, fault_of}
 use Rattle.clap.specs.declared.error.kind.ErrorKind.TheVariants as kind
-use Rattle.command_line.specs.Asking.{Action, Asked, Drawn, asked, checks, connects, covers, describes, jt_tool}
-use Rattle.command_line.specs.Asking.{loops, plays, serves}
+use Rattle.command_line.specs.Asking.{Action, Asked, Drawn, asked, checks, connects, covers, describes}
+use Rattle.command_line.specs.Asking.{diagnoses, jt_tool, loops, plays, serves}
 
 -- the command line is taken, and asks for this
 abbrev pub Asks : List Text → Asked → Type 0
@@ -112,6 +112,15 @@ pub record UsageRows : Type 0 where
   pub cover_list : Asks (codes "cover" ∷ codes "--list" ∷ codes "--board=b.toml" ∷ [])
       (request None (Some board) (covers true))
   pub cover_without_board : IsRefused (codes "cover" ∷ file ∷ []) (kind.MissingRequiredArgument ∷ [])
+  pub diagnose : Asks (codes "diagnose" ∷ file ∷ codes "--board" ∷ board ∷ [])
+      (request (Some file) (Some board) (diagnoses None false))
+  pub diagnose_log : Asks
+      (codes "diagnose" ∷ codes "--log=a.log" ∷ file ∷ codes "--explain" ∷ codes "--board=b.toml" ∷ [])
+      (request (Some file) (Some board) (diagnoses (Some (codes "a.log")) true))
+  pub diagnose_without_file : IsRefused (codes "diagnose" ∷ codes "--board=b.toml" ∷ codes "--log=a.log" ∷ [])
+      (kind.MissingRequiredArgument ∷ [])
+  pub diagnose_without_board : IsRefused (codes "diagnose" ∷ file ∷ []) (kind.MissingRequiredArgument ∷ [])
+  pub play_reads_no_log : IsRefused (codes "play" ∷ file ∷ codes "--log=a.log" ∷ []) (kind.UnknownArgument ∷ [])
   pub play_lists_nothing : IsRefused (codes "play" ∷ codes "--list" ∷ []) (kind.UnknownArgument ∷ [])
   pub serve_without_board : IsRefused (codes "serve" ∷ codes "--port=5555" ∷ []) (kind.MissingRequiredArgument ∷ [])
   pub connect_without_port : IsRefused (codes "connect" ∷ file ∷ []) (kind.MissingRequiredArgument ∷ [])

@@ -6,6 +6,7 @@ use Rattle.command_line.specs.declared.request.Request.{Request}
 use Rattle.command_line.specs.declared.request.Server.{Server}
 use Rattle.command_line.specs.declared.request.Task.{Task}
 use Rattle.command_line.specs.declared.request.Task.TheVariants.{Play, Check, Loop, Serve, Connect, Describe, Cover}
+use Rattle.command_line.specs.declared.request.Task.TheVariants.{Diagnose}
 use Rattle.command_line.specs.declared.request.Waves.{Waves}
 
 abbrev pub server_view : Server → Host
@@ -22,6 +23,7 @@ action_of (Serve how explain) = asking.serves how explain
 action_of (Connect server all explain) = asking.connects (server_view server) all explain
 action_of (Describe explain) = asking.describes explain
 action_of (Cover listed) = asking.covers listed
+action_of (Diagnose log explain) = asking.diagnoses (option_map (λ s. s.now) log) explain
 
 abbrev pub asked_of : Request → Asked
 asked_of r = record {

@@ -7,9 +7,9 @@ pub(crate) const ALL: &str = "\
 Without a command, jt_tool reads a program from standard input and prints its bytes and its verdict.
 
 Exit status:
-  0  pass: accepted, every expected bit came, nothing missed
-  1  fail: a bit differs, or a fault is missed
-  2  refused: the command line, the program, or the board
+  0  pass: accepted, every expected bit came, nothing missed, a fault found
+  1  fail: a bit differs, a fault is missed, or none is found
+  2  refused: the command line, the program, the board, or a log
   3  lost: a connection, an input or an output
   4  out of memory
 
@@ -17,6 +17,7 @@ Examples:
   jt_tool check test.svf
   jt_tool play test.svf --board board.toml --explain
   jt_tool cover test.svf --board board.toml
+  jt_tool connect test.svf --port 5555 --all | jt_tool diagnose test.svf --board board.toml
 
 `jt_tool COMMAND --help` tells the options of a command. The pages are README.md and docs/.";
 
@@ -61,5 +62,12 @@ Pages: docs/board_file.md, docs/bsdl.md, docs/output.md";
 pub(crate) const COVER: &str = "\
 Example:
   jt_tool cover test.svf --board board.toml --list
+
+Page: docs/coverage.md";
+
+pub(crate) const DIAGNOSE: &str = "\
+Examples:
+  jt_tool connect test.svf --port 5555 --all | jt_tool diagnose test.svf --board board.toml
+  jt_tool diagnose test.svf --board board.toml --log test.log
 
 Page: docs/coverage.md";

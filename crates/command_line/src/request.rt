@@ -67,6 +67,12 @@ pub enum Task<'a> {
     Cover {
         listed: bool,
     },
+    /// It is told which faults of the board give just what a log says of a play of the text. The log comes from the file
+    /// of this name, or from standard input; `explain` as for `Check`.
+    Diagnose {
+        log: Option<&'a str>,
+        explain: bool,
+    },
 }
 
 /// How the waves of a play are drawn.
@@ -124,7 +130,8 @@ pub struct Request<'a> {
 /// - `serve --board BOARD --port PORT [--at-most BYTES] [--connections COUNT] [--timeout SECONDS] [--explain]`,
 /// - `connect [FILE] --port PORT [--host HOST] [--timeout SECONDS] [--all] [--explain]`,
 /// - `describe --board BOARD [--explain]`,
-/// - `cover [FILE] --board BOARD [--list]`.
+/// - `cover [FILE] --board BOARD [--list]`,
+/// - `diagnose FILE --board BOARD [--log LOG] [--explain]`.
 ///
 /// Refused are words that none of these takes, and a number that is not in its range; a call for help or for the
 /// version comes as such an error too.
@@ -188,6 +195,10 @@ fn task_of<'a>(name: &str, found: &ArgMatches<'a>) -> Task<'a>
         "cover" => Task::Cover {
             listed: is_given(found, "list"),
         },
+        "diagnose" => Task::Diagnose {
+            log: log_of(found),
+            explain: is_given(found, "explain"),
+        },
         _ => Task::Play {
             bytes: is_given(found, "bytes"),
             all: is_given(found, "all"),
@@ -209,6 +220,13 @@ fn waves_of<'a>(found: &ArgMatches<'a>) -> Option<Waves<'a>>
         }),
         None => None,
     }
+}
+
+/// The file of the log, where it is named.
+fn log_of<'a>(found: &ArgMatches<'a>) -> Option<&'a str>
+    ensures { option_map (λ s. s.now) result ≡ spec.log_of (rows_of (found_of found.now)) }
+{
+    found.get_str("log")
 }
 
 fn serving_of(found: &ArgMatches<'_>) -> Serving
@@ -301,7 +319,8 @@ fn command<'a>(alloc: Global) -> Result<Command<'a>, AllocError>
     .subcommand(serve_command(alloc)?)?
     .subcommand(connect_command(alloc)?)?
     .subcommand(describe_command(alloc)?)?
-    .subcommand(cover_command(alloc)?)
+    .subcommand(cover_command(alloc)?)?
+    .subcommand(diagnose_command(alloc)?)
 }
 
 /// A command of this name, with what help tells of it in front of the options and behind them.
@@ -426,6 +445,42 @@ fn cover_command<'a>(alloc: Global) -> Result<Command<'a>, AllocError>
     .arg(svf_arg(alloc))?
     .arg(served_board_arg(alloc))?
     .arg(list_arg(alloc))
+}
+
+fn diagnose_command<'a>(alloc: Global) -> Result<Command<'a>, AllocError>
+    ensures shape { IfOk result (λ c. shape_of c ≡ spec.diagnose) }
+    ensures local { IfOk result (λ c. (out-Command c).has_globals ≡ false) }
+{
+    titled(
+        alloc,
+        "diagnose",
+        "Tells which single faults of a board's nets give just the bits that a log of a play has",
+        help::DIAGNOSE,
+    )
+    .arg(named_svf_arg(alloc))?
+    .arg(served_board_arg(alloc))?
+    .arg(log_arg(alloc))?
+    .arg(explain_arg(alloc))
+}
+
+fn log_arg<'a>(alloc: Global) -> Arg<'a>
+    ensures rule { rule_of result ≡ spec.log }
+    ensures local { result.global ≡ false }
+{
+    Arg::new(alloc, "log")
+        .long("log")
+        .action(ArgAction::Set)
+        .help("The file of what a play printed; standard input where none is named")
+}
+
+fn named_svf_arg<'a>(alloc: Global) -> Arg<'a>
+    ensures rule { rule_of result ≡ spec.named_svf }
+    ensures local { result.global ≡ false }
+{
+    Arg::new(alloc, "svf")
+        .required(true)
+        .action(ArgAction::Set)
+        .help("The file of the program")
 }
 
 fn list_arg<'a>(alloc: Global) -> Arg<'a>

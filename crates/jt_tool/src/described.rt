@@ -8,6 +8,7 @@ use byte_streams::{Counted, End, Sink};
 use command_line::{Descriptions, InputFault, read_board_file};
 use jt_board::{PlanFault, bare_plan, plan_of_table, unplaced};
 use play_coverage::write_cover;
+use play_diagnosis::{Said, write_diagnosis};
 use play_explained::plain::{Board, BoardFault, Kind, Program, board_table, table_names};
 use play_explained::{run_loop_explained, run_play_explained};
 use play_waves::Stage;
@@ -215,6 +216,19 @@ impl Planned {
         requires { out.old.failures ≡ 0 }
     {
         write_cover(alloc, &self.plan, program, listed, out)
+    }
+
+    /// Writes which faults of the board give just what a log says of a play of a program. Answers the exit status.
+    pub(crate) fn diagnose<W: Sink>(
+        &self,
+        alloc: Global,
+        program: &Program,
+        said: &Said,
+        out: &mut Counted<W>,
+    ) -> Result<u8, Untold>
+        requires { out.old.failures ≡ 0 }
+    {
+        write_diagnosis(alloc, &self.plan, program, said, out)
     }
 }
 

@@ -2,6 +2,7 @@
 #![tactic(auto)]
 
 mod described;
+mod diagnosed;
 mod explained;
 mod linked;
 mod links;
@@ -9,6 +10,7 @@ mod statuses;
 mod waves;
 
 use crate::described::{Planned, Unmade, plan_board};
+use crate::diagnosed::diagnose_log;
 use crate::explained::{accept_text, check_accepted, play_accepted, tell_unmade};
 use crate::linked::{AcceptedText, loop_over_socket, play_on_server};
 use crate::links::{accept, listen};
@@ -97,12 +99,15 @@ fn run_request(rt: &HostRuntime, alloc: Global, request: &Request<'_>) -> u8 {
     }
 }
 
-/// Describes the board of a plan, tells which of its faults a text would miss, or powers it up and does with it what is
-/// asked for.
+/// Describes the board of a plan, tells which of its faults a text would miss or give what a log says, or powers it up
+/// and does with it what is asked for.
 fn run_planned(rt: &HostRuntime, alloc: Global, request: &Request<'_>, planned: Planned) -> u8 {
     match request.task {
         Task::Describe { .. } => describe_board(rt, alloc, &planned),
         Task::Cover { listed } => cover_board(rt, alloc, request.svf, &planned, listed),
+        Task::Diagnose { log, explain } => {
+            diagnose_board(rt, alloc, request.svf, &planned, log, explain)
+        }
         task => match planned.board(alloc) {
             Ok(board) => run_board(rt, alloc, request, planned, board),
             Err(fault) => refuse_board(rt, &fault, explains(task)),
@@ -147,6 +152,40 @@ fn cover_program(
     }
 }
 
+/// Tells which faults of the board of a plan give just what a log says of a play of a text. Answers the exit status.
+fn diagnose_board(
+    rt: &HostRuntime,
+    alloc: Global,
+    name: Option<&str>,
+    planned: &Planned,
+    log: Option<&str>,
+    explain: bool,
+) -> u8 {
+    match read_program(rt, alloc, name, explain) {
+        Ok(accepted) => diagnose_program(rt, alloc, planned, &accepted.program, log, explain),
+        Err(status) => status,
+    }
+}
+
+/// The same of a play of an accepted program. The log comes from standard input where no file of it is named.
+fn diagnose_program(
+    rt: &HostRuntime,
+    alloc: Global,
+    planned: &Planned,
+    program: &Program,
+    log: Option<&str>,
+    explain: bool,
+) -> u8 {
+    let told = match read_text(rt, alloc, log) {
+        Ok(text) => diagnose_log(rt, alloc, planned, program, &text, explain),
+        Err(fault) => return refuse_input(rt, log.unwrap_or("-"), fault),
+    };
+    match told {
+        Ok(status) => status,
+        Err(fault) => refuse_untold(rt, fault),
+    }
+}
+
 /// What is to be told of a board was lost, or memory ran out for it. Answers the exit status.
 fn refuse_untold(rt: &HostRuntime, fault: Untold) -> u8 {
     match fault {
@@ -163,7 +202,8 @@ fn explains(task: Task<'_>) -> bool {
         | Task::Loop { explain, .. }
         | Task::Serve { explain, .. }
         | Task::Connect { explain, .. }
-        | Task::Describe { explain } => explain,
+        | Task::Describe { explain }
+        | Task::Diagnose { explain, .. } => explain,
         Task::Cover { .. } => false,
     }
 }

@@ -17,6 +17,7 @@ pub use contending::{Contention, contentions};
 pub use covering::write_cover;
 pub use judging::judge_faults;
 pub use outcomes::{FaultKind, Outcome};
+pub use words::{put_fault, put_way};
 
 /// The lines of some faults, worked out.
 pub fn covers_compute()

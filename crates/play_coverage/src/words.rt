@@ -16,7 +16,7 @@ use play_model::{Ending, part_word};
 use std::alloc::AllocError;
 
 /// Puts what a fault is called behind a text. Refuses for want of memory alone.
-pub(crate) fn put_fault(text: &mut Vec<u8>, plan: &Plan, fault: Fault) -> Result<(), AllocError>
+pub fn put_fault(text: &mut Vec<u8>, plan: &Plan, fault: Fault) -> Result<(), AllocError>
     ensures { OnOk result (text.new.items ≡ text.old.items ++ fault_words (wiring plan.now) fault) }
 {
     match fault {
@@ -68,7 +68,7 @@ fn put_stuck(text: &mut Vec<u8>, net: &str, bit: bool) -> Result<(), AllocError>
 }
 
 /// Puts which way of its fault it is behind a text, a blank before it; nothing where the fault has one way.
-pub(crate) fn put_way(text: &mut Vec<u8>, way: Way) -> Result<(), AllocError>
+pub fn put_way(text: &mut Vec<u8>, way: Way) -> Result<(), AllocError>
     ensures { OnOk result (text.new.items ≡ text.old.items ++ way_words way) }
 {
     match way {

@@ -1,7 +1,7 @@
 use Rattle.std.proofs.Common.{◌≡◌, ap, ◌∙◌, codes}
 use Rattle.clap.specs.Simple.{app_of_fields}
 use Rattle.clap.specs.Words.{app_of, new_app, with_subcommand}
-use Rattle.command_line.specs.Asking.{check, connect, cover, describe, loop, play, serve, with_version}
+use Rattle.command_line.specs.Asking.{check, connect, cover, describe, diagnose, loop, play, serve, with_version}
 use Rattle.command_line.proofs.CommandLaws.{with_command, with_last_command}
 use Rattle.command_line.proofs.request.command.Goals as goal
 
@@ -15,4 +15,6 @@ returns c =
     let sub3 = with_command c.in_ok-subcommand-3.field-0 c.in_ok-serve_command.field-0 c.in_ok-subcommand-4.field-0 (with_subcommand (with_subcommand (with_subcommand (none) play) check) loop) serve c.in_ok-subcommand-4.ensures c.in_ok-serve_command.ensures.local c.in_ok-serve_command.ensures.shape sub2 in
     let sub4 = with_command c.in_ok-subcommand-4.field-0 c.in_ok-connect_command.field-0 c.in_ok-subcommand-5.field-0 (with_subcommand (with_subcommand (with_subcommand (with_subcommand (none) play) check) loop) serve) connect c.in_ok-subcommand-5.ensures c.in_ok-connect_command.ensures.local c.in_ok-connect_command.ensures.shape sub3 in
     let sub5 = with_command c.in_ok-subcommand-5.field-0 c.in_ok-describe_command.field-0 c.in_ok-subcommand-6.field-0 (with_subcommand (with_subcommand (with_subcommand (with_subcommand (with_subcommand (none) play) check) loop) serve) connect) describe c.in_ok-subcommand-6.ensures c.in_ok-describe_command.ensures.local c.in_ok-describe_command.ensures.shape sub4 in
-    with_last_command c.in_ok-subcommand-6.field-0 c.in_ok-cover_command.field-0 (with_subcommand (with_subcommand (with_subcommand (with_subcommand (with_subcommand (with_subcommand (none) play) check) loop) serve) connect) describe) cover c.subcommand-7.result c.subcommand-7.ensures c.in_ok-cover_command.ensures.local c.in_ok-cover_command.ensures.shape sub5
+    let all6 = with_subcommand (with_subcommand (with_subcommand (with_subcommand (with_subcommand (with_subcommand (none) play) check) loop) serve) connect) describe in
+    let sub6 = with_command c.in_ok-subcommand-6.field-0 c.in_ok-cover_command.field-0 c.in_ok-subcommand-7.field-0 all6 cover c.in_ok-subcommand-7.ensures c.in_ok-cover_command.ensures.local c.in_ok-cover_command.ensures.shape sub5 in
+    with_last_command c.in_ok-subcommand-7.field-0 c.in_ok-diagnose_command.field-0 (with_subcommand all6 cover) diagnose c.subcommand-8.result c.subcommand-8.ensures c.in_ok-diagnose_command.ensures.local c.in_ok-diagnose_command.ensures.shape sub6

@@ -1,0 +1,10 @@
+pub mod AnyLaws
+pub mod Cutting
+pub mod Ends
+pub mod Giving
+pub mod Left
+pub mod NumberLaws
+pub mod Tests
+pub mod ToldFits
+pub mod Tried
+pub mod WordLaws

@@ -1,0 +1,19 @@
+use Rattle.std.proofs.Common.{◌≤◌, ◌-◌, length, take}
+use Rattle.svf_programs.specs.Sizes.{program_of}
+use Rattle.board_plan.specs.View.{wiring}
+use Rattle.board_faults.specs.Faults.{ways}
+use Rattle.play_diagnosis.specs.Benches.{IsBench}
+use Rattle.play_diagnosis.specs.Fitting.{TriesEach}
+use Rattle.play_diagnosis.specs.Reading.{verdict_of}
+use Rattle.play_diagnosis.proofs.fitting.try_fault.Given as goal
+
+-- the first ways are tried
+abbrev pub invariant-loop-way : goal.invariant-loop-way
+invariant-loop-way l = record {
+  within : l.k ≤ length (ways l.fault);
+  bench : IsBench (program_of l.program) (wiring l.plan) l.bench;
+  tries : TriesEach (verdict_of l.said) (program_of l.program) (wiring l.plan) (take l.k (ways l.fault)) l.ways.items;
+}
+
+abbrev pub decreases-loop-way : goal.decreases-loop-way
+decreases-loop-way l = length (ways l.fault) - l.k

@@ -1,0 +1,25 @@
+-- What the ending of a play tells of whether it gives what a log says.
+use Rattle.std.specs.Prelude.{Bool, true, false, ◌&&◌, ◌==◌, List, [], ◌∷◌, Option, Some, None}
+use Rattle.scan_vectors.specs.declared.failures.Mismatch.{Mismatch}
+use Rattle.play_model.specs.declared.ending.Ending.{Ending}
+use Rattle.play_model.specs.declared.ending.Ending.TheVariants.{Pass, Fail}
+use Rattle.play_diagnosis.specs.Reading.{Verdict, Passes, Stops, PlaysOn, is_part}
+
+abbrev pub is_pass : Ending → Bool
+is_pass Pass = true
+is_pass _ = false
+
+-- the first bit that failed is this one
+abbrev pub is_first : Mismatch → Ending → Bool
+is_first m (Fail command part bit) = command == m.command && (is_part part m.part && bit == m.bit)
+is_first m _ = false
+
+-- A log of a play to the end does not fit where it lists another bit first; else only the play tells.
+abbrev pub by_first : List Mismatch → Ending → Option Bool
+by_first [] ending = None
+by_first (m ∷ ms) ending = elim (is_first m ending) [ true ↦ None | false ↦ Some false ]
+
+abbrev pub by_ending : Verdict → Ending → Option Bool
+by_ending Passes ending = Some (is_pass ending)
+by_ending (Stops m) ending = Some (is_first m ending)
+by_ending (PlaysOn f) ending = by_first f.list ending

@@ -1,0 +1,10 @@
+pub mod Benches
+pub mod Diagnosis
+pub mod Ended
+pub mod Fitting
+pub mod LogLines
+pub mod Pieces
+pub mod Reading
+pub mod Readings
+pub mod Refusals
+pub mod Rows
