@@ -44,16 +44,16 @@ module _ (program : Program) (b : BoardState) (ending : Ending) (is : ending ≡
       apart : (first : Bool) → is_first m ending ≡ first → (elim first [ true ↦ None | false ↦ Some false ]) ≡ Some told → IsTrue told ↔ Gives (PlaysOn f) program b
       apart true h t = absurd cc
       apart false h t =
-          (λ yes. absurd cc, λ gives. absurd (differ h ((firsts m ending).1 (is ∙ all_begin program b f m ms e gives))))
+          (λ holds. absurd cc, λ gives. absurd (differ h ((firsts m ending).1 (is ∙ all_begin program b f m ms e gives))))
         where
           differ : is_first m ending ≡ false → is_first m ending ≡ true → ⊥
-          differ no yes = absurd cc
+          differ no holds = absurd cc
 
   pub ended_so : (said : Verdict) (told : Bool) → by_ending said ending ≡ Some told → IsTrue told ↔ Gives said program b
   ended_so Passes told tells =
       let same = same_Some (is_pass ending) told tells in
-      (λ yes. sym is ∙ (passes ending).0 (same ∙ yes), λ gives. sym same ∙ (passes ending).1 (is ∙ gives))
+      (λ holds. sym is ∙ (passes ending).0 (same ∙ holds), λ gives. sym same ∙ (passes ending).1 (is ∙ gives))
   ended_so (Stops m) told tells =
       let same = same_Some (is_first m ending) told tells in
-      (λ yes. sym is ∙ (firsts m ending).0 (same ∙ yes), λ gives. sym same ∙ (firsts m ending).1 (is ∙ gives))
+      (λ holds. sym is ∙ (firsts m ending).0 (same ∙ holds), λ gives. sym same ∙ (firsts m ending).1 (is ∙ gives))
   ended_so (PlaysOn f) told tells = by-list f f.list told refl tells

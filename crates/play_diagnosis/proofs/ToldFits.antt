@@ -34,4 +34,4 @@ told_fits program legal w can t serves way its ending e said None tells = tt
 told_fits program legal w can t serves way its ending e said (Some told) tells =
     let is = sym (told_faults program legal w can.sound (may_have w can) (without_strings w serves.plain) serves.passes t serves.told way its ending e) in
     let so = ended_so program (board_of (wiring_with way w)) ending is passes firsts said told (sym tells) in
-    (λ yes. record { meaning = no_loop (wiring_with way w) serves.plain; gives = so.0 yes }, λ fits. so.1 fits.gives)
+    (λ holds. record { meaning = no_loop (wiring_with way w) serves.plain; gives = so.0 holds }, λ fits. so.1 fits.gives)

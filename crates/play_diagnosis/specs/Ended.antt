@@ -1,6 +1,7 @@
 -- What the ending of a play tells of whether it gives what a log says.
 use Rattle.std.specs.Prelude.{Bool, true, false, ◌&&◌, ◌==◌, List, [], ◌∷◌, Option, Some, None}
 use Rattle.scan_vectors.specs.declared.failures.Mismatch.{Mismatch}
+use Rattle.scan_vectors.specs.Failures.{Found}
 use Rattle.play_model.specs.declared.ending.Ending.{Ending}
 use Rattle.play_model.specs.declared.ending.Ending.TheVariants.{Pass, Fail}
 use Rattle.play_diagnosis.specs.Reading.{Verdict, Passes, Stops, PlaysOn, is_part}
@@ -23,3 +24,16 @@ abbrev pub by_ending : Verdict → Ending → Option Bool
 by_ending Passes ending = Some (is_pass ending)
 by_ending (Stops m) ending = Some (is_first m ending)
 by_ending (PlaysOn f) ending = by_first f.list ending
+
+-- ---- lists of failures
+
+abbrev pub is_same_bit : Mismatch → Mismatch → Bool
+is_same_bit m n = m.command == n.command && (is_part m.part n.part && m.bit == n.bit)
+
+abbrev pub same_bits : List Mismatch → List Mismatch → Bool
+same_bits [] [] = true
+same_bits (m ∷ ms) (n ∷ ns) = is_same_bit m n && same_bits ms ns
+same_bits _ _ = false
+
+abbrev pub are_same : Found → Found → Bool
+are_same f g = f.total == g.total && same_bits f.list g.list

@@ -1,6 +1,6 @@
 //! Whether what a play found is what a log says.
 
-ghost use Rattle.std.specs.Prelude.{◌≡◌, ◌↔◌, IsTrue};
+ghost use Rattle.std.specs.Prelude.{◌≡◌};
 ghost use Rattle.scan_vectors.specs.Failures.{found};
 ghost use Rattle.play_diagnosis.specs.Ended as ended;
 ghost use Rattle.play_diagnosis.specs.Reading.{verdict_of};
@@ -59,18 +59,14 @@ pub(crate) fn is_first(first: Mismatch, ending: Ending) -> bool
 
 /// Whether two lists of failures are the same, and of the same length where they are cut short.
 pub(crate) fn are_same(one: &Failures, other: &Failures) -> bool
-    ensures { IsTrue result ↔ (found one.now ≡ found other.now) }
+    ensures { result ≡ ended.are_same (found one.now) (found other.now) }
 {
-    if one.total == other.total {
-        same_bits(one.list.as_slice(), other.list.as_slice())
-    } else {
-        false
-    }
+    one.total == other.total && same_bits(one.list.as_slice(), other.list.as_slice())
 }
 
 /// Whether the same bits are listed in the same order.
 fn same_bits(one: &[Mismatch], other: &[Mismatch]) -> bool
-    ensures { IsTrue result ↔ (one.now ≡ other.now) }
+    ensures { result ≡ ended.same_bits one.now other.now }
 {
     one == other
 }

@@ -9,4 +9,4 @@ pub returns : goal.returns
 returns c =
     let ends = c.play_program.ensures.ending ∙ ap (λ (b : BoardState). (play (program_of c.args.program.now) b).ending) c.in_ok-board.ensures in
     let so = passes c.play_program.result in
-    (λ yes. sym ends ∙ so.0 (sym c.is_pass.ensures ∙ yes), λ is. c.is_pass.ensures ∙ so.1 (ends ∙ is))
+    (λ holds. sym ends ∙ so.0 (sym c.is_pass.ensures ∙ holds), λ is. c.is_pass.ensures ∙ so.1 (ends ∙ is))
