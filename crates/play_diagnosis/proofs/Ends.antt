@@ -23,7 +23,7 @@ use Rattle.play_diagnosis.specs.Reading.{Verdict, Passes, Stops, PlaysOn}
 -- of a list of failures of which the first ones begin so, the first is this
 first-of : (all : List Mismatch) (m : Mismatch) (ms : List Mismatch) → take 256 all ≡ m ∷ ms → ending_of all ≡ Fail m.command m.part m.bit
 first-of [] m ms e = absurd cc
-first-of (a ∷ as) m ms e = ap (λ (x : Mismatch). Fail x.command x.part x.bit) (head-is a m (take 255 as) ms e)
+first-of (a ∷ more) m ms e = ap (λ (x : Mismatch). Fail x.command x.part x.bit) (head-is a m (take 255 more) ms e)
   where
     head-is : (a b : Mismatch) (us vs : List Mismatch) → a ∷ us ≡ b ∷ vs → a ≡ b
     head-is a b us vs e = cc
@@ -47,7 +47,7 @@ module _ (program : Program) (b : BoardState) (ending : Ending) (is : ending ≡
           (λ holds. absurd cc, λ gives. absurd (differ h ((firsts m ending).1 (is ∙ all_begin program b f m ms e gives))))
         where
           differ : is_first m ending ≡ false → is_first m ending ≡ true → ⊥
-          differ no holds = absurd cc
+          differ fails holds = absurd cc
 
   pub ended_so : (said : Verdict) (told : Bool) → by_ending said ending ≡ Some told → IsTrue told ↔ Gives said program b
   ended_so Passes told tells =

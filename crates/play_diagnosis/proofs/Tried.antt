@@ -6,9 +6,8 @@ use Rattle.svf_programs.specs.Steps.{Program}
 use Rattle.board_plan.specs.Planned.{Wiring}
 use Rattle.board_faults.specs.declared.kinds.Fault.{Fault}
 use Rattle.board_faults.specs.declared.kinds.Way.{Way}
-use Rattle.board_faults.specs.Faults.{ways}
 use Rattle.play_diagnosis.specs.declared.fitting.TriedWay.{TriedWay}
-use Rattle.play_diagnosis.specs.Diagnosis.{TellsFault, TellsFaults, fault_line}
+use Rattle.play_diagnosis.specs.Diagnosis.{TellsFault, TellsFaults}
 use Rattle.play_diagnosis.specs.Fitting.{Fits, TriesEach}
 use Rattle.play_diagnosis.specs.Reading.{Verdict}
 
@@ -26,8 +25,3 @@ module _ (said : Verdict) (program : Program) (w : Wiring) where
   tells_more (f ∷ faults) told fault line all is =
       let rest = all.2.0 in
       (all.0, all.1, (rest ++ line, tells_more faults rest fault line all.2.1 is, ap (λ (l : List ℕ). l ++ line) all.2.2 ∙ append_assoc all.0 rest line))
-
-  -- with the line of a fault whose ways were tried
-  pub tells_line : (faults : List Fault) (told : List ℕ) (fault : Fault) (ts : List TriedWay) → TellsFaults said program w faults told
-      → TriesEach said program w (ways fault) ts → TellsFaults said program w (faults ++ fault ∷ []) (told ++ fault_line w fault ts)
-  tells_line faults told fault ts all is = tells_more faults told fault (fault_line w fault ts) all (record { ways = ts; tries = is; tells = refl })

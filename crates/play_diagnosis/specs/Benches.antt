@@ -1,5 +1,5 @@
 -- What the ways of a board's faults are tried with.
-use Rattle.std.specs.Prelude.{⊤, ◌≡◌, ◌×◌, map, Option, Some, None}
+use Rattle.std.specs.Prelude.{⊤, ◌≡◌, map, Option, Some, None}
 use Rattle.svf_programs.specs.Steps.{Program}
 use Rattle.board_plan.specs.Planned.{Wiring}
 use Rattle.board_plan.specs.View.{member as planned_member}

@@ -1,5 +1,5 @@
 -- Which single faults give just what a log says, as lines tell it.
-use Rattle.std.specs.Prelude.{◌≡◌, ◌×◌, ◌==◌, Bool, ℕ, List, [], ◌∷◌, ◌++◌, codes, flat_map, length}
+use Rattle.std.specs.Prelude.{◌≡◌, ◌==◌, Bool, ℕ, List, [], ◌∷◌, ◌++◌, codes, flat_map, length}
 use Rattle.std.specs.Prelude.{if◌then◌else◌}
 use Rattle.std.specs.List.{list_all, list_any}
 use Rattle.output_words.specs.declared.status.Status.{Status}
@@ -40,6 +40,11 @@ pub record TellsFault (said : Verdict) (program : Program) (w : Wiring) (fault :
   pub ways : List TriedWay
   pub tries : TriesFault said program w fault ways
   pub tells : line ≡ fault_line w fault ways
+
+-- behind a text
+abbrev pub PutsFault : Verdict → Program → Wiring → Fault → (before after : List ℕ) → Type 0
+PutsFault said program w fault before after =
+    (line : List ℕ) × TellsFault said program w fault line × (after ≡ before ++ line)
 
 abbrev pub TellsFaults : Verdict → Program → Wiring → List Fault → (told : List ℕ) → Type 0
 TellsFaults said program w [] told = told ≡ []

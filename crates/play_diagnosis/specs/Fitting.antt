@@ -1,5 +1,5 @@
 -- Which ways of which faults give just what a log says.
-use Rattle.std.specs.Prelude.{⊤, ⊥, ◌≡◌, ◌×◌, ◌↔◌, Bool, List, [], ◌∷◌, IsTrue}
+use Rattle.std.specs.Prelude.{⊤, ◌≡◌, ◌↔◌, Bool, List, [], ◌∷◌, IsTrue}
 use Rattle.scan_vectors.specs.Failures.{Found}
 use Rattle.svf_programs.specs.Steps.{Program}
 use Rattle.board_plan.specs.Planned.{Wiring}

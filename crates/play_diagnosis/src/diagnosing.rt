@@ -4,15 +4,17 @@ ghost use Rattle.std.specs.Prelude.{◌≡◌, ◌++◌, IfOk, OnOk, flat_map};
 ghost use Rattle.output_words.specs.Statuses.{number};
 ghost use Rattle.svf_programs.specs.Sizes.{program_of};
 ghost use Rattle.board_plan.specs.View.{wiring};
-ghost use Rattle.board_faults.specs.Faults.{faults};
+ghost use Rattle.board_faults.specs.Faults.{IsFaultOf, faults};
 ghost use Rattle.board_faults.specs.Faulty.{CanBeJudged};
 ghost use Rattle.board_faults.specs.Made.{IsReadyPlan};
 ghost use Rattle.play_coverage.specs.Covering.{Tells};
+ghost use Rattle.play_diagnosis.specs.Benches.{IsBench};
 ghost use Rattle.play_diagnosis.specs.Diagnosis as spec;
-ghost use Rattle.play_diagnosis.specs.Diagnosis.{IsDiagnosis, TellsFaults, fault_line, fitting_ways, fitting_words};
+ghost use Rattle.play_diagnosis.specs.Diagnosis.{IsDiagnosis, PutsFault, TellsFaults, fault_line};
+ghost use Rattle.play_diagnosis.specs.Diagnosis.{fitting_ways, fitting_words};
 ghost use Rattle.play_diagnosis.specs.Reading.{verdict_of};
 
-use crate::fitting::{TriedWay, bench_for, try_fault};
+use crate::fitting::{Bench, TriedWay, bench_for, try_fault};
 use crate::reading::Said;
 use board_description::Untold;
 use board_faults::{Fault, Faults};
@@ -109,10 +111,31 @@ fn tell_faults(
     let mut bench = bench_for(alloc, plan, program)?;
     let mut text = Vec::new(alloc);
     for fault in Faults::of(&plan.nets) {
-        let ways = try_fault(alloc, &mut bench, plan, program, said, fault)?;
-        put_line(&mut text, plan, fault, &ways)?;
+        tell_fault(alloc, &mut bench, plan, program, said, fault, &mut text)?;
     }
     Ok(text)
+}
+
+/// Puts the line of a fault of a planned board's nets (asked) behind a text, if it gives just what a log says.
+fn tell_fault(
+    alloc: Global,
+    bench: &mut Bench,
+    plan: &Plan,
+    program: &Program,
+    said: &Said,
+    fault: Fault,
+    text: &mut Vec<u8>,
+) -> Result<(), AllocError>
+    requires may { CanBeJudged (wiring plan.now) }
+    requires bench { IsBench (program_of program.now) (wiring plan.now) bench.old }
+    requires fault { IsFaultOf (wiring plan.now).nets fault }
+    ensures bench { OnOk result (IsBench (program_of program.now) (wiring plan.now) bench.new) }
+    ensures tells { OnOk result (PutsFault (verdict_of said.now) (program_of program.now) (wiring plan.now) fault
+        text.old.items text.new.items) }
+{
+    let ways = try_fault(alloc, bench, plan, program, said, fault)?;
+    put_line(text, plan, fault, &ways)?;
+    Ok(())
 }
 
 /// Puts the line of a fault behind a text; nothing where none of its ways fits.

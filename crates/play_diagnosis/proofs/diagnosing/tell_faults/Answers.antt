@@ -6,11 +6,11 @@ use Rattle.board_faults.specs.Listing.{left_of}
 use Rattle.board_faults.proofs.JudgingLaws.{fault_there}
 use Rattle.play_diagnosis.specs.Diagnosis.{TellsFaults}
 use Rattle.play_diagnosis.specs.Reading.{verdict_of}
-use Rattle.play_diagnosis.proofs.Tried.{tells_line}
+use Rattle.play_diagnosis.proofs.Tried.{tells_more}
 use Rattle.play_diagnosis.proofs.diagnosing.tell_faults.Goals as goal
 
-pub try_fault-requires-clause-fault : goal.try_fault-requires-clause-fault
-try_fault-requires-clause-fault c =
+pub tell_fault-requires-clause-fault : goal.tell_fault-requires-clause-fault
+tell_fault-requires-clause-fault c =
     let i = c.loop-fault.invariant in
     fault_there (map planned_net c.args.plan.now.nets.items) i.done c.in-Some.fault (left_of c.next.new.self)
     (i.left ∙ ap (λ (l : List Fault). i.done ++ l) c.in-Some.ensures.steps)
@@ -26,8 +26,9 @@ loop-fault-preserved c =
     record {
       done = i.done ++ f ∷ [];
       left = i.left ∙ ap (λ (l : List Fault). i.done ++ l) c.in-Some.ensures.steps ∙ sym (append_assoc i.done (f ∷ []) rest);
-      bench = c.in_ok-ways.ensures.bench;
+      bench = c.in_ok-tell_fault.ensures.bench;
       tells =
-          subst (λ (told : List ℕ). TellsFaults said program w (i.done ++ f ∷ []) told) (sym c.in_ok-put_line.ensures)
-          (tells_line said program w i.done c.loop-fault.text.items f _ i.tells _);
+          let put = c.in_ok-tell_fault.ensures.tells in
+          subst (λ (told : List ℕ). TellsFaults said program w (i.done ++ f ∷ []) told) (sym put.2)
+          (tells_more said program w i.done c.loop-fault.text.items f put.0 i.tells put.1);
     }

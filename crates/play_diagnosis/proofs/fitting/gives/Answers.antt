@@ -17,5 +17,5 @@ returns-in-First c =
 
 pub returns-in-All : goal.returns-in-All
 returns-in-All c =
-    gives_all (program_of c.args.program.now) c.args.board.now (verdict_of c.args.said.now) c.are_same.result _ (found c.play_program_all.result.1)
-    (ap verdict_of c.in-All.is) c.play_program_all.ensures.failures c.are_same.ensures
+    gives_all (program_of c.args.program.now) c.args.board.now (verdict_of c.args.said.now) c.are_same.result _ (found c.play_program_all-found.result.1)
+    (ap verdict_of c.in-All.is) c.play_program_all-found.ensures.failures c.are_same.ensures
