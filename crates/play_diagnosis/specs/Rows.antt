@@ -32,11 +32,11 @@ abbrev pub scan : Program
 scan = record {
   statements = 1;
   steps = record {
-      number = 1;
-      what = Scan Dr
-          (record { tdi = false; wanted = Some true; part = Data; place = 0 }
-          ∷ record { tdi = false; wanted = None; part = Data; place = 1 } ∷ []) Idle;
-    } ∷ [];
+    number = 1;
+    what = Scan Dr
+        (record { tdi = false; wanted = Some true; part = Data; place = 0 }
+        ∷ record { tdi = false; wanted = None; part = Data; place = 1 } ∷ []) Idle;
+  } ∷ [];
 }
 
 abbrev pub tried : Way → (fits : Bool) → TriedWay
@@ -47,7 +47,6 @@ pub record LogRows : Type 0 where
   pub states : (s : State) → is_state (word s) ≡ true
   pub levels : (l : Level) → is_level (level_word l) ≡ true
   pub parts : (p : Part) → part (part_word p) ≡ Some p
-
   -- lines
   pub pass : line_of (codes "pass") ≡ line.Pass
   pub carriage_return : line_of (codes "pass" ++ 13 ∷ []) ≡ line.Pass
@@ -60,7 +59,6 @@ pub record LogRows : Type 0 where
   pub a_net : line_of (codes "failures Zero") ≡ line.Beside
   pub nothing : line_of [] ≡ line.Beside
   pub blanks : line_of (codes "pass ") ≡ line.Unknown
-
   -- logs
   pub passes : read scan (codes "bytes 26\npass\nU1 IDLE 01 -\n") ≡ Ok Passes
   pub first : read scan (codes "fail command 1 data bit 1\nN One") ≡ Ok (Stops (bit 1 1))
@@ -72,12 +70,10 @@ pub record LogRows : Type 0 where
   pub no_such_statement : read scan (codes "\nfail command 2 data bit 0\n") ≡ Err (NoSuchBit 2)
   pub no_such_bit : read scan (codes "fail command 1 data bit 2\n") ≡ Err (NoSuchBit 1)
   pub no_verdict : read scan (codes "N One\n") ≡ Err Empty
-
   -- refusals
   pub explained : refusal_lines true (BadLine 7) ≡ codes "log L1 BadLine line 7\nat line 7 column 1\n"
   pub refused : refusal_lines false (NoSuchBit 12) ≡ codes "log L3 NoSuchBit line 12\n"
   pub without_a_line : refusal_lines true TooLarge ≡ codes "log L4 TooLarge\n"
-
   -- faults
   pub every_way : fault_line board (fault.Pull 0) (tried (way.Pull 0) true ∷ []) ≡ codes "pull N\n"
   pub some_ways : fault_line board (fault.Short 0 1)

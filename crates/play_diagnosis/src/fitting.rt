@@ -5,7 +5,6 @@ ghost use Rattle.std.specs.List.{list_any};
 ghost use Rattle.svf_programs.specs.Sizes.{program_of};
 ghost use Rattle.board_loops.specs.Depending.{wired};
 ghost use Rattle.board_plan.specs.View.{net as planned_net, wiring};
-ghost use Rattle.play_model.specs.declared.ending.Ending.TheVariants.{Pass};
 ghost use Rattle.play_model.specs.Play.{play};
 ghost use Rattle.board_faults.specs.Faults.{IsFaultOf, IsWayOf};
 ghost use Rattle.board_faults.specs.Faulty.{CanBeJudged, SameDevices, Wires};
@@ -21,6 +20,7 @@ use board_loops::{Settling, settle_strings};
 use board_plan::{Plan, PlannedDevice, PlannedNet};
 use fault_events::{Told, one_play, way_ending};
 use play_direct::play_program_all;
+use play_model::Ending;
 use std::alloc::{AllocError, Global};
 use svf_programs::Program;
 
@@ -64,10 +64,9 @@ fn told_by_one_play(
     if have_strings(&board.devices) {
         return Ok(None);
     }
-    if passes(alloc, board, program)? {
-        Ok(Some(one_play(alloc, board, program)?))
-    } else {
-        Ok(None)
+    match ending_on(alloc, board, program)? {
+        Ending::Pass => Ok(Some(one_play(alloc, board, program)?)),
+        _ => Ok(None),
     }
 }
 
@@ -84,14 +83,13 @@ fn has_strings(device: &PlannedDevice) -> bool
     !device.follows.is_empty()
 }
 
-/// Whether a program passes on the board of a plan, from power-up.
-fn passes(alloc: Global, plan: &Plan, program: &Program) -> Result<bool, AllocError>
+/// How a program's play on the board of a plan ends, from power-up.
+fn ending_on(alloc: Global, plan: &Plan, program: &Program) -> Result<Ending, AllocError>
     requires { PowersUp plan.now }
-    ensures { IfOk result (λ b. IsTrue b
-        ↔ ((play (program_of program.now) (board_of (wiring plan.now))).ending ≡ Pass)) }
+    ensures { IfOk result (λ e. e ≡ (play (program_of program.now) (board_of (wiring plan.now))).ending) }
 {
     let mut board = Board::powered_up(alloc, plan)?;
-    Ok(is_pass(play_program(program, &mut board)))
+    Ok(play_program(program, &mut board))
 }
 
 /// Of a fault of a planned board's nets (asked) each way in which it may show, and whether that gives just what a log
@@ -144,13 +142,7 @@ fn fits(
 }
 
 /// The same by what one play told; nothing where that does not tell.
-fn told_fit(
-    bench: &Bench,
-    plan: &Plan,
-    program: &Program,
-    said: &Said,
-    way: Way,
-) -> Option<bool>
+fn told_fit(bench: &Bench, plan: &Plan, program: &Program, said: &Said, way: Way) -> Option<bool>
     requires may { CanBeJudged (wiring plan.now) }
     requires bench { IsBench (program_of program.now) (wiring plan.now) bench.now }
     requires way { IsWayOf (wiring plan.now).nets way }
