@@ -25,8 +25,8 @@ use Rattle.play_diagnosis.specs.LogLines.{is_level, is_state, line_of, part}
 use Rattle.play_diagnosis.specs.Reading.{Passes, PlaysOn, Stops, read}
 use Rattle.play_diagnosis.specs.Refusals.{refusal_lines}
 
-abbrev pub bit : (command bit : ℕ) → Mismatch
-bit command bit = record { command = command; part = Data; bit = bit }
+abbrev pub failing : (command place : ℕ) → Mismatch
+failing command place = record { command = command; part = Data; bit = place }
 
 abbrev pub scan : Program
 scan = record {
@@ -50,7 +50,7 @@ pub record LogRows : Type 0 where
   -- lines
   pub pass : line_of (codes "pass") ≡ line.Pass
   pub carriage_return : line_of (codes "pass" ++ 13 ∷ []) ≡ line.Pass
-  pub fails : line_of (codes "fail command 12 data bit 5") ≡ line.Fail (bit 12 5)
+  pub fails : line_of (codes "fail command 12 data bit 5") ≡ line.Fail (failing 12 5)
   pub a_zero_first : line_of (codes "fail command 02 data bit 5") ≡ line.Unknown
   pub failures : line_of (codes "failures 300") ≡ line.Total 300
   pub lost : line_of (codes "lost command 2") ≡ line.Cut
@@ -61,9 +61,9 @@ pub record LogRows : Type 0 where
   pub blanks : line_of (codes "pass ") ≡ line.Unknown
   -- logs
   pub passes : read scan (codes "bytes 26\npass\nU1 IDLE 01 -\n") ≡ Ok Passes
-  pub first : read scan (codes "fail command 1 data bit 1\nN One") ≡ Ok (Stops (bit 1 1))
+  pub first : read scan (codes "fail command 1 data bit 1\nN One") ≡ Ok (Stops (failing 1 1))
   pub all : read scan (codes "fail command 1 data bit 0\nfailures 1\n")
-      ≡ Ok (PlaysOn (record { list = bit 1 0 ∷ []; total = 1 }))
+      ≡ Ok (PlaysOn (record { list = failing 1 0 ∷ []; total = 1 }))
   pub cut_off : read scan (codes "fail command 1 data bit 0\nfail command 1 data bit 1\nN One\n") ≡ Err (NoVerdict 2)
   pub another_number : read scan (codes "fail command 1 data bit 0\nfailures 2\n") ≡ Err (BadLine 2)
   pub two_verdicts : read scan (codes "pass\nN One\npass\n") ≡ Err (BadLine 3)
@@ -72,7 +72,7 @@ pub record LogRows : Type 0 where
   pub no_verdict : read scan (codes "N One\n") ≡ Err Empty
   -- refusals
   pub explained : refusal_lines true (BadLine 7) ≡ codes "log L1 BadLine line 7\nat line 7 column 1\n"
-  pub refused : refusal_lines false (NoSuchBit 12) ≡ codes "log L3 NoSuchBit line 12\n"
+  pub refused : refusal_lines false (NoSuchBit 9) ≡ codes "log L3 NoSuchBit line 9\n"
   pub without_a_line : refusal_lines true TooLarge ≡ codes "log L4 TooLarge\n"
   -- faults
   pub every_way : fault_line board (fault.Pull 0) (tried (way.Pull 0) true ∷ []) ≡ codes "pull N\n"

@@ -1,4 +1,5 @@
-use Rattle.std.proofs.Common.{◌≡◌, true, Some, refl}
+use Rattle.std.proofs.Common.{◌≡◌, true, Some, refl, arith}
+use Rattle.std.proofs.lemmas.Fmt.{decimal_digit}
 use Rattle.jt_tap.specs.declared.State.{State}
 use Rattle.jt_tap.specs.declared.State.TheVariants.{Reset, Idle, DrSelect, DrCapture, DrShift, DrExit1, DrPause}
 use Rattle.jt_tap.specs.declared.State.TheVariants.{DrExit2, DrUpdate, IrSelect, IrCapture, IrShift, IrExit1, IrPause}
@@ -67,8 +68,8 @@ returns c = record {
   no_such_statement = refl;
   no_such_bit = refl;
   no_verdict = refl;
-  explained = refl;
-  refused = refl;
+  explained = rw (decimal_digit 7 (omega arith)) refl;
+  refused = rw (decimal_digit 9 (omega arith)) refl;
   without_a_line = refl;
   every_way = refl;
   some_ways = refl;
