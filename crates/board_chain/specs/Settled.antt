@@ -16,7 +16,11 @@ use Rattle.board_chips.specs.declared.strings.WiredString.{WiredString}
 
 -- What was put to the nets last is what each pin drives by the core bits that the boundaries hold, and these are those
 -- in force: the strings are an order of work.
-pub record IsSettled (chips : List WiredChipValue) (w : WiringValue) (d : DrivingTable) (strings : List WiredString) : Type 0
+pub record IsSettled
+    (chips : List WiredChipValue)
+    (w : WiringValue)
+    (d : DrivingTable)
+    (strings : List WiredString) : Type 0
   where
     pub wired : IsWired chips w
     pub driving : IsDriving (map cells_of chips) w d
@@ -42,8 +46,8 @@ pub record SettledValue : Type 0 where
   pub nets : List Net
   pub chips : List WiredChipValue
 
--- On the same nets the devices become what f makes of them. Where all were told a level of TRST last, they have now been
--- told the one that it leads to.
+-- On the same nets the devices become what f makes of them. Where all were told a level of TRST last, they have now
+-- been told the one that it leads to.
 pub record Becomes (trst : Bool → Bool) (f : List ChipState → List ChipState) (old new : SettledValue) : Type 0 where
   pub chips : map chip_state new.chips ≡ f (map chip_state old.chips)
   pub told : (level : Bool) → AllTold level old.chips → AllTold (trst level) new.chips

@@ -136,8 +136,8 @@ impl Chain {
     /// Whether strong drivers of 0 and of 1 are on a net.
     pub fn is_opposed(&self, net: usize) -> bool
         requires { net < length self.now.nets }
-        ensures { option_map (nets.is_opposed self.now.nets (meant.members self.now.chips)) (slice_get self.now.nets net)
-            ≡ Some result }
+        ensures { option_map (nets.is_opposed self.now.nets (meant.members self.now.chips))
+            (slice_get self.now.nets net) ≡ Some result }
     {
         self.settled.wiring().is_opposed(net)
     }

@@ -2,17 +2,13 @@
 use Rattle.std.proofs.Common.{◌≡◌, ◌<◌, ◌≤◌, ℕ, zero, suc, ◌+◌, false, List, [], ◌∷◌, ◌++◌, length, map, take, get_or, slice_get, Option, Some, None, refl, sym, ap, subst, ◌∙◌, arith, take_all}
 use Rattle.std.proofs.Common.{Global}
 use Rattle.std.specs.Global.{Vec}
-use Rattle.std.specs.List.{AllByRecursion, zip}
-use Rattle.std.proofs.lemmas.List.{length-map}
-use Rattle.std.proofs.iter.Yields.{fronts}
-use Rattle.std.proofs.lemmas.Iterator.{YieldsList, YieldsList-from_slice, YieldsList-from_zip, zips}
+use Rattle.std.specs.List.{AllByRecursion}
+use Rattle.std.proofs.lemmas.List.{length-map, length-take-le}
+use Rattle.std.proofs.lemmas.Iterator.{YieldsList}
 use Rattle.std.proofs.lemmas.Iterator.Adapters.{YieldsList-from_vec}
 use Rattle.std.proofs.lemmas.Iterator.Consumers.{YieldsList-end, YieldsList-turn}
 use Rattle.std.specs.Iterator.{Yields}
-use Rattle.std.specs.Iterator.Adapters.{zip_first, zip_second}
-use Rattle.std.specs.Slice.Iter.{iter_rest}
 use Rattle.std.specs.Vec.Iter.{into_iter_items, into_iter_len, into_iter_steps}
-use Rattle.std.proofs.lemmas.Slice.Zip.{get_or-zip, length-zip}
 use Rattle.std.proofs.lemmas.Option.{none-some, same_Some, slice_get_within}
 use Rattle.bsdl_device.specs.Device.{Device}
 use Rattle.pin_nets.specs.declared.Pin.{Pin}
@@ -105,48 +101,50 @@ get_or-all_cell_nets nets k (suc i) (x ∷ ms) m at =
     let same : suc k + i ≡ k + suc i = omega arith in
     get_or-all_cell_nets nets (suc k) i ms m at ∙ ap (λ (j : ℕ). map (cell_net nets j) m.device.cells) same
 
-long-zip : (nets : List Net) (devices : List PlannedDevice) (all : List (Vec (Option ℕ))) → lists_of all ≡ all_cell_nets nets 0 (map planned_member devices) → length all ≡ length devices
-long-zip nets devices all are =
+long-cells : (nets : List Net) (devices : List PlannedDevice) (all : List (Vec (Option ℕ))) → lists_of all ≡ all_cell_nets nets 0 (map planned_member devices) → length all ≡ length devices
+long-cells nets devices all are =
     sym (length-map all (λ v. v.items)) ∙ ap length are ∙ length-all_cell_nets nets 0 (map planned_member devices) ∙ length-map devices planned_member
 
-turn_at : (nets : List Net) (devices : List PlannedDevice) (all : List (Vec (Option ℕ))) (i : ℕ) (d : PlannedDevice) (cells : Vec (Option ℕ)) → lists_of all ≡ all_cell_nets nets 0 (map planned_member devices)
-    → i < length (zip devices all) → (d, cells) ≡ get_or (zip devices all) i (d, cells) → IsTurn nets devices i d cells.items
-turn_at nets devices all i d cells are h is =
-    let long : length all ≡ length devices = long-zip nets devices all are in
-    let inside : i < length devices = omega (arith, h, long, length-zip devices all) in
-    let within : i < length all = omega (arith, inside, long) in
-    let both = is ∙ get_or-zip devices all i (d, cells) inside within in
-    let at = planned_at devices i d inside (ap (λ (p : PlannedDevice × Vec (Option ℕ)). p.0) both) in
+pub turn_at : (nets : List Net) (devices : List PlannedDevice) (all : List (Vec (Option ℕ))) (i : ℕ) (d : PlannedDevice) (cells : Vec (Option ℕ)) → lists_of all ≡ all_cell_nets nets 0 (map planned_member devices)
+    → (i < length all) × (cells ≡ get_or all i cells) → d ≡ get_or devices i d → IsTurn nets devices i d cells.items
+turn_at nets devices all i d cells are is device =
+    let within : i < length devices = omega (arith, is.0, long-cells nets devices all are) in
+    let at = planned_at devices i d within device in
     let place : 0 + i ≡ i = omega arith in
     record {
       at = at;
       wired =
-          vector_at all i cells within (ap (λ (p : PlannedDevice × Vec (Option ℕ)). p.1) both)
+          vector_at all i cells is.0 is.1
           ∙ ap (λ (ls : List (List (Option ℕ))). get_or ls i []) are
           ∙ get_or-all_cell_nets nets 0 i (map planned_member devices) (planned_member d) at
           ∙ ap (λ (k : ℕ). map (cell_net nets k) d.device.cells) place;
     }
 
--- a loop over the devices and the vectors of the nets of their cells
-road : (s z it : _) (devices : List PlannedDevice) (all : Vec (Vec (Option ℕ))) → s ≡ z → zip_first z ≡ it → iter_rest it ≡ devices
-    → (into_iter_items {Z = Global} (zip_second z) ≡ all.items) × (into_iter_len (zip_second z) ≡ all.len) → YieldsList (zips fronts into_iter_steps) (λ p. (p.0.now, p.1)) s (zip devices all.items)
-road s z it devices all same first rest second =
-    YieldsList-from_zip (YieldsList-from_slice devices (ap (λ x. iter_rest (zip_first x)) same ∙ ap iter_rest first ∙ rest))
-    (YieldsList-from_vec all.items (ap (λ x. into_iter_items (zip_second x)) same ∙ second.0) (ap (λ x. into_iter_len (zip_second x)) same ∙ second.1 ∙ all.ok.0))
+-- as many chips are made as vectors were taken
+pub made : (nets : List Net) (devices : List PlannedDevice) (all : List (Vec (Option ℕ))) (chips : List WiredChipValue) (i place : ℕ) → lists_of all ≡ all_cell_nets nets 0 (map planned_member devices)
+    → chips ≡ take i (wired_chips_of nets 0 (map planned_member devices)) → i < length all → place ≡ length chips → (place ≡ i) × (place < length devices)
+made nets devices all chips i place are is h long =
+    let whole = wired_chips_of nets 0 (map planned_member devices) in
+    let within : i < length devices = omega (arith, h, long-cells nets devices all are) in
+    let front : i ≤ length whole = omega (arith, within, length-chips nets 0 (map planned_member devices), length-map devices planned_member) in
+    let same = long ∙ ap length is ∙ length-take-le i whole front in
+    (same, omega (arith, same, within))
 
-pub turn : (s z it t u : _) (nets : List Net) (devices : List PlannedDevice) (all : Vec (Vec (Option ℕ))) → s ≡ z → zip_first z ≡ it → iter_rest it ≡ devices
-    → (into_iter_items {Z = Global} (zip_second z) ≡ all.items) × (into_iter_len (zip_second z) ≡ all.len) → lists_of all.items ≡ all_cell_nets nets 0 (map planned_member devices)
-    → (xs : _) → Yields (zips fronts into_iter_steps) s xs t → (r : _) (x : _) → r ≡ Some x → zips fronts into_iter_steps t r u → IsTurn nets devices (length xs) x.0.now x.1.items
-turn s z it t u nets devices all same first rest second are xs so_far r x is steps =
-    let at = YieldsList-turn (road s z it devices all same first rest second) xs t so_far r u x is steps in
-    turn_at nets devices all.items (length xs) x.0.now x.1 are at.0 at.1
+-- a loop over the vectors of the nets of the cells
+road : (s : _) (all : Vec (Vec (Option ℕ))) → into_iter_items {X = Vec (Option ℕ)} {Z = Global} s ≡ all.items → into_iter_len s ≡ all.len → YieldsList (into_iter_steps {X = Vec (Option ℕ)} {Z = Global}) (λ y. y) s all.items
+road s all items long = YieldsList-from_vec all.items items (long ∙ all.ok.0)
 
-pub turns_end : (s z it t u : _) (nets : List Net) (devices : List PlannedDevice) (all : Vec (Vec (Option ℕ))) → s ≡ z → zip_first z ≡ it → iter_rest it ≡ devices
-    → (into_iter_items {Z = Global} (zip_second z) ≡ all.items) × (into_iter_len (zip_second z) ≡ all.len) → lists_of all.items ≡ all_cell_nets nets 0 (map planned_member devices)
-    → (xs : _) → Yields (zips fronts into_iter_steps) s xs t → (r : _) → r ≡ None → zips fronts into_iter_steps t r u → length (map planned_member devices) ≤ length xs
-turns_end s z it t u nets devices all same first rest second are xs so_far r is steps =
-    let end = YieldsList-end (road s z it devices all same first rest second) xs t so_far r u is steps in
-    omega (arith, end.1, long-zip nets devices all.items are, length-zip devices all.items, length-map devices planned_member)
+pub turn : (s t u : _) (all : Vec (Vec (Option ℕ))) → into_iter_items {X = Vec (Option ℕ)} {Z = Global} s ≡ all.items → into_iter_len s ≡ all.len
+    → (xs : List (Vec (Option ℕ))) → Yields (into_iter_steps {X = Vec (Option ℕ)} {Z = Global}) s xs t → (r : Option (Vec (Option ℕ))) (x : Vec (Option ℕ)) → r ≡ Some x → into_iter_steps {X = Vec (Option ℕ)} {Z = Global} t r u
+    → (length xs < length all.items) × (x ≡ get_or all.items (length xs) x)
+turn s t u all items long xs so_far r x is steps = YieldsList-turn (road s all items long) xs t so_far r u x is steps
+
+pub turns_end : (s t u : _) (nets : List Net) (devices : List PlannedDevice) (all : Vec (Vec (Option ℕ))) → into_iter_items {X = Vec (Option ℕ)} {Z = Global} s ≡ all.items → into_iter_len s ≡ all.len
+    → lists_of all.items ≡ all_cell_nets nets 0 (map planned_member devices)
+    → (xs : List (Vec (Option ℕ))) → Yields (into_iter_steps {X = Vec (Option ℕ)} {Z = Global}) s xs t → (r : Option (Vec (Option ℕ))) → r ≡ None → into_iter_steps {X = Vec (Option ℕ)} {Z = Global} t r u → length (map planned_member devices) ≤ length xs
+turns_end s t u nets devices all items long are xs so_far r is steps =
+    let end = YieldsList-end (road s all items long) xs t so_far r u is steps in
+    omega (arith, end.1, long-cells nets devices all.items are, length-map devices planned_member)
 
 -- ---- the start
 

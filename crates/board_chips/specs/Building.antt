@@ -23,7 +23,8 @@ wired_chip_of nets m = record {
 -- the devices from this place on
 abbrev pub wired_chips_of : List Net → ℕ → List planned.Member → List WiredChipValue
 wired_chips_of nets place [] = []
-wired_chips_of nets place (m ∷ ms) = wired_chip_of (map (cell_net nets place) m.device.cells) m ∷ wired_chips_of nets (suc place) ms
+wired_chips_of nets place (m ∷ ms) =
+    wired_chip_of (map (cell_net nets place) m.device.cells) m ∷ wired_chips_of nets (suc place) ms
 
 -- what a chain is made of: the cores are whole, the pins are port bits, the descriptions are formed
 pub record IsReady (w : planned.Wiring) : Type 0 where

@@ -68,8 +68,13 @@ pub record HasPins (place : ℕ) (pins : List Pin) (n : ℕ) (table : List (Opti
       → port < length table → (j : ℕ) × (slice_index_or table port None ≡ Some j)
 
 -- Of each port bit of each device the number of a pin that it is, among the first n of these, if it is one.
-pub record HaveNumbers (members : List planned.Member) (pins : List Pin) (n : ℕ) (tables : List (List (Option ℕ))) : Type 0 where
-  pub long : length tables ≡ length members
-  pub ports : (place : ℕ) (m : planned.Member) → slice_get members place ≡ Some m
-      → length (table_at tables place) ≡ length m.device.ports
-  pub each : (place : ℕ) → HasPins place pins n (table_at tables place)
+pub record HaveNumbers
+    (members : List planned.Member)
+    (pins : List Pin)
+    (n : ℕ)
+    (tables : List (List (Option ℕ))) : Type 0
+  where
+    pub long : length tables ≡ length members
+    pub ports : (place : ℕ) (m : planned.Member) → slice_get members place ≡ Some m
+        → length (table_at tables place) ≡ length m.device.ports
+    pub each : (place : ℕ) → HasPins place pins n (table_at tables place)

@@ -15,12 +15,14 @@ pub fn all_chips(
     nets: &[PlannedNet],
 ) -> Result<Vec<WiredChip>, AllocError>
     requires { IsReady (record { members = map planned_member devices.now; nets = map planned_net nets.now }) }
-    ensures { IfOk result (λ v. v.items ≡ wired_chips_of (map planned_net nets.now) 0 (map planned_member devices.now)) }
+    ensures { IfOk result
+        (λ v. v.items ≡ wired_chips_of (map planned_net nets.now) 0 (map planned_member devices.now)) }
 {
     let all_cells = all_cell_nets(alloc, nets, devices)?;
     let mut chips = Vec::with_capacity(alloc, devices.len())?;
-    for (device, cells) in devices.iter().zip(all_cells) {
-        chips.push(WiredChip::new(alloc, device, cells)?)?;
+    for cells in all_cells {
+        let place = chips.len();
+        chips.push(WiredChip::new(alloc, &devices[place], cells)?)?;
     }
     Ok(chips)
 }

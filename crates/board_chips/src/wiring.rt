@@ -77,8 +77,8 @@ impl Wiring {
         ensures put { option_map (levels.level self.now.drives) (slice_get (with_pin_numbers 0 self.now.nets) net)
             ≡ Some result }
         ensures driven { (f : ThePin → TheDrive) → self.now.drives ≡ map f (all_pins self.now.nets)
-            → option_map (λ n. levels.shown n.rule (levels.pull_drive n.pull) (map f n.pins)) (slice_get self.now.nets net)
-            ≡ Some result }
+            → option_map (λ n. levels.shown n.rule (levels.pull_drive n.pull) (map f n.pins))
+            (slice_get self.now.nets net) ≡ Some result }
     {
         self.levels.level(net)
     }
@@ -99,8 +99,8 @@ impl Wiring {
     pub fn is_opposed(&self, net: usize) -> bool
         requires { net < length self.now.nets }
         ensures { (f : ThePin → TheDrive) → self.now.drives ≡ map f (all_pins self.now.nets)
-            → option_map (λ n. levels.opposed_by (levels.pull_drive n.pull) (map f n.pins)) (slice_get self.now.nets net)
-            ≡ Some result }
+            → option_map (λ n. levels.opposed_by (levels.pull_drive n.pull) (map f n.pins))
+            (slice_get self.now.nets net) ≡ Some result }
     {
         self.levels.is_opposed(net)
     }

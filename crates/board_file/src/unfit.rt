@@ -20,7 +20,8 @@ pub fn unfit_table<'f, R: Describe>(
     files: &[(&'f str, &'f [u8])],
 ) -> Result<Option<BoardTable>, AllocError>
     ensures { IfOk result (λ o. o
-        ≡ faults.unfit_table (map (known_at R.says (files_of files.now)) (tables_at (codes "device") (table_view table.now)))
+        ≡ faults.unfit_table
+        (map (known_at R.says (files_of files.now)) (tables_at (codes "device") (table_view table.now)))
         (table_view table.now)) }
 {
     let names = distinct_files(alloc, items_at(table, "device"))?;

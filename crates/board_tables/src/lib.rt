@@ -21,7 +21,6 @@ pub use files::{bad_toml_place, bsdl_names, distinct_files, names_of_table, read
 pub use follows::{FollowText, follow_of, target_text};
 pub use keys::Known;
 pub use laws::judged_by_other_keys;
-pub use names::is_name;
 pub use pins::{PinText, PortText, pin_of};
 pub use places::Places;
 pub use tables::{items_at, name_at, text_at};

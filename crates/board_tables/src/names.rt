@@ -4,7 +4,7 @@ ghost use Rattle.std.specs.List.{list_all};
 ghost use Rattle.board_tables.specs.Names as spec;
 
 /// Whether the text is a name: a letter, then letters, digits and `_`.
-pub fn is_name(text: &str) -> bool
+pub(crate) fn is_name(text: &str) -> bool
     ensures { result ≡ spec.is_name text.now }
 {
     match text.as_bytes().split_first() {

@@ -298,42 +298,44 @@ pub(crate) fn assert_one(
     Ok(())
 }
 
+/// Board files, and what is made of each.
+const BOARD_FILES: &[(&str, &str)] = &[
+    (
+        "[[device]]\nname='U1'\nbsdl='k'\ncore='011'\n[[net]]\nname='N'\npins=['U1.Q']\n",
+        "U1 RESET 10 IDCODE\nN One\n",
+    ),
+    (
+        "[[device]]\nname='U1'\nbsdl='k'\ncore='001'\n[[net]]\nname='N'\npins=['U1.Q']\n",
+        "U1 RESET 10 IDCODE\nN Float\n",
+    ),
+    (
+        "[[device]]\nname='U1'\nbsdl='k'\ncore='01'\n",
+        "C2 BadField core",
+    ),
+    ("[[device]]\nname='U1'\nbsdl='q'\n", "C3 UnknownFile q"),
+    (
+        "[[device]]\nname='U1'\nbsdl='k'\n[[net]]\nname='N'\npins=['U1.TDI']\n",
+        "C5 UnknownPin U1.TDI",
+    ),
+    (
+        "[[device]]\nname='U1'\nbsdl='k'\n[[net]]\nname='N'\npins=['U1.Q', 'u1.q']\n",
+        "C5 UnknownPin u1.q",
+    ),
+    (
+        "[[device]]\nname='U1'\nbsdl='k'\n[[net]]\nname='N'\npins=['U1.Q', 'U1.q']\n",
+        "C6 PinTwice U1.q",
+    ),
+    (
+        "[[device]]\nname='U1'\nbsdl='k'\n[[net]]\nname='N'\npull='UP'\npins=[]\n",
+        "C2 BadField pull",
+    ),
+    ("", "C2 BadField device"),
+    ("[[device", "C1 BadToml "),
+];
+
 #[test]
 fn boards_of_board_files(rt: HostRuntime) -> Result<(), Fail> {
-    let rows = [
-        (
-            "[[device]]\nname='U1'\nbsdl='k'\ncore='011'\n[[net]]\nname='N'\npins=['U1.Q']\n",
-            "U1 RESET 10 IDCODE\nN One\n",
-        ),
-        (
-            "[[device]]\nname='U1'\nbsdl='k'\ncore='001'\n[[net]]\nname='N'\npins=['U1.Q']\n",
-            "U1 RESET 10 IDCODE\nN Float\n",
-        ),
-        (
-            "[[device]]\nname='U1'\nbsdl='k'\ncore='01'\n",
-            "C2 BadField core",
-        ),
-        ("[[device]]\nname='U1'\nbsdl='q'\n", "C3 UnknownFile q"),
-        (
-            "[[device]]\nname='U1'\nbsdl='k'\n[[net]]\nname='N'\npins=['U1.TDI']\n",
-            "C5 UnknownPin U1.TDI",
-        ),
-        (
-            "[[device]]\nname='U1'\nbsdl='k'\n[[net]]\nname='N'\npins=['U1.Q', 'u1.q']\n",
-            "C5 UnknownPin u1.q",
-        ),
-        (
-            "[[device]]\nname='U1'\nbsdl='k'\n[[net]]\nname='N'\npins=['U1.Q', 'U1.q']\n",
-            "C6 PinTwice U1.q",
-        ),
-        (
-            "[[device]]\nname='U1'\nbsdl='k'\n[[net]]\nname='N'\npull='UP'\npins=[]\n",
-            "C2 BadField pull",
-        ),
-        ("", "C2 BadField device"),
-        ("[[device", "C1 BadToml "),
-    ];
-    assert_made(&rt, rt.alloc(), &rows)?;
+    assert_made(&rt, rt.alloc(), BOARD_FILES)?;
     let mut many = String::new(rt.alloc());
     for i in 0..257 {
         many.push_str(format!(in rt.alloc(); "[[device]]\nname='U{i}'\nbsdl='k'\n")?.as_str())?;

@@ -71,49 +71,53 @@ fn assert_wide(rt: &impl Abort, alloc: Global, rows: &[(&str, &str)]) -> Result<
     Ok(())
 }
 
+/// Strings, and what is made of a board with them.
+const ORDERS: &[(&str, &str)] = &[
+    ("", "U1 RESET 111 BYPASS\nN Zero\nV Zero\n"),
+    ("'O = X'", "U1 RESET 111 BYPASS\nN Zero\nV Zero\n"),
+    ("'O = !X'", "U1 RESET 111 BYPASS\nN One\nV Zero\n"),
+    // The cell of A(1) is its own control: it drives 0 from a 0, and rests on a weak 1 from a 1.
+    (
+        "'X = A(0)', 'O = A(1)'",
+        "U1 RESET 111 BYPASS\nN Zero\nV Contend\n",
+    ),
+    (
+        "'X = A(0)', 'A(1) = A(0)', 'O = A(1)'",
+        "U1 RESET 111 BYPASS\nN One\nV One\n",
+    ),
+    (
+        "'O = A(1)', 'A(1) = A(0)', 'X = A(0)'",
+        "U1 RESET 111 BYPASS\nN One\nV One\n",
+    ),
+];
+
 #[test]
 fn strings_are_put_in_the_order_of_what_they_see(rt: HostRuntime) -> Result<(), Fail> {
-    let rows = [
-        ("", "U1 RESET 111 BYPASS\nN Zero\nV Zero\n"),
-        ("'O = X'", "U1 RESET 111 BYPASS\nN Zero\nV Zero\n"),
-        ("'O = !X'", "U1 RESET 111 BYPASS\nN One\nV Zero\n"),
-        // The cell of A(1) is its own control: it drives 0 from a 0, and rests on a weak 1 from a 1.
-        (
-            "'X = A(0)', 'O = A(1)'",
-            "U1 RESET 111 BYPASS\nN Zero\nV Contend\n",
-        ),
-        (
-            "'X = A(0)', 'A(1) = A(0)', 'O = A(1)'",
-            "U1 RESET 111 BYPASS\nN One\nV One\n",
-        ),
-        (
-            "'O = A(1)', 'A(1) = A(0)', 'X = A(0)'",
-            "U1 RESET 111 BYPASS\nN One\nV One\n",
-        ),
-    ];
-    Ok(assert_wide(&rt, rt.alloc(), &rows)?)
+    Ok(assert_wide(&rt, rt.alloc(), ORDERS)?)
 }
+
+/// Strings that close a circle, and the refusal.
+const CIRCLES: &[(&str, &str)] = &[
+    ("'O = I(6)'", "C9 CoreLoop U1.O"),
+    ("'A(1) = X'", "C9 CoreLoop U1.A(1)"),
+    ("'X = A(1)'", "C9 CoreLoop U1.X"),
+    ("'A(0) = A(0)'", "C9 CoreLoop U1.A(0)"),
+    ("'A(0) = !a(00)'", "C9 CoreLoop U1.A(0)"),
+    ("' a(00) = A(0)'", "C9 CoreLoop U1.a(00)"),
+    ("'X = X'", "C9 CoreLoop U1.X"),
+    ("'A(0) = X', 'A(1) = A(0)'", "C9 CoreLoop U1.A(0)"),
+    (
+        "'P = A(3)', 'X = A(0)', 'E = I(7)', 'A(0) = A(1)'",
+        "C9 CoreLoop U1.X",
+    ),
+    ("'P = A(0)', 'A(0) = !A(0)'", "C9 CoreLoop U1.A(0)"),
+    ("'A(0) = A(0)', 'E = A(0)', 'O = X'", "C9 CoreLoop U1.A(0)"),
+    ("'X = I(7)', 'A(1) = X'", "C9 CoreLoop U1.A(1)"),
+];
 
 #[test]
 fn circles_of_one_device(rt: HostRuntime) -> Result<(), Fail> {
-    let rows = [
-        ("'O = I(6)'", "C9 CoreLoop U1.O"),
-        ("'A(1) = X'", "C9 CoreLoop U1.A(1)"),
-        ("'X = A(1)'", "C9 CoreLoop U1.X"),
-        ("'A(0) = A(0)'", "C9 CoreLoop U1.A(0)"),
-        ("'A(0) = !a(00)'", "C9 CoreLoop U1.A(0)"),
-        ("' a(00) = A(0)'", "C9 CoreLoop U1.a(00)"),
-        ("'X = X'", "C9 CoreLoop U1.X"),
-        ("'A(0) = X', 'A(1) = A(0)'", "C9 CoreLoop U1.A(0)"),
-        (
-            "'P = A(3)', 'X = A(0)', 'E = I(7)', 'A(0) = A(1)'",
-            "C9 CoreLoop U1.X",
-        ),
-        ("'P = A(0)', 'A(0) = !A(0)'", "C9 CoreLoop U1.A(0)"),
-        ("'A(0) = A(0)', 'E = A(0)', 'O = X'", "C9 CoreLoop U1.A(0)"),
-        ("'X = I(7)', 'A(1) = X'", "C9 CoreLoop U1.A(1)"),
-    ];
-    Ok(assert_wide(&rt, rt.alloc(), &rows)?)
+    Ok(assert_wide(&rt, rt.alloc(), CIRCLES)?)
 }
 
 /// A board file of these nets and so many K, each with a string from D to Q.
@@ -126,37 +130,40 @@ fn chained(alloc: Global, devices: usize, nets: &str) -> Result<String, AllocErr
     Ok(text)
 }
 
+/// How many devices, their nets, and the refusal.
+const CHAINS: &[(usize, &str, &str)] = &[
+    (
+        1,
+        "{ name = 'M', pins = ['U0.Q', 'U0.D'] }",
+        "C9 CoreLoop U0.Q",
+    ),
+    (
+        2,
+        "{ name = 'M', pins = ['U0.Q', 'U1.D'] }, { name = 'N', pins = ['U1.Q', 'U0.D'] }",
+        "C9 CoreLoop U0.Q",
+    ),
+    // The first device hangs on the circle of the second, and is not on it.
+    (
+        3,
+        "{ name = 'M', pins = ['U0.D', 'U2.Q'] }, { name = 'N', pins = ['U1.Q', 'U2.D', 'U1.D'] }",
+        "C9 CoreLoop U1.Q",
+    ),
+];
+
 #[test]
 fn circles_of_several_devices(rt: HostRuntime) -> Result<(), Fail> {
-    let rows = [
-        (
-            1,
-            "{ name = 'M', pins = ['U0.Q', 'U0.D'] }",
-            "C9 CoreLoop U0.Q",
-        ),
-        (
-            2,
-            "{ name = 'M', pins = ['U0.Q', 'U1.D'] }, { name = 'N', pins = ['U1.Q', 'U0.D'] }",
-            "C9 CoreLoop U0.Q",
-        ),
-        // The first device hangs on the circle of the second, and is not on it.
-        (
-            3,
-            "{ name = 'M', pins = ['U0.D', 'U2.Q'] }, { name = 'N', pins = ['U1.Q', 'U2.D', 'U1.D'] }",
-            "C9 CoreLoop U1.Q",
-        ),
-    ];
-    for (devices, nets, wanted) in &rows[..] {
+    for (devices, nets, wanted) in CHAINS {
         let toml = chained(rt.alloc(), *devices, nets)?;
         assert_one(&rt, rt.alloc(), toml.as_str(), wanted)?;
     }
     Ok(())
 }
 
+const UNFIT: &[&str] = &["'D = Q'", "'Q = D', 'Q = !D'", "'Q = D', 'q=D'", "'Q'"];
+
 #[test]
 fn strings_that_do_not_fit(rt: HostRuntime) -> Result<(), Fail> {
-    let rows = ["'D = Q'", "'Q = D', 'Q = !D'", "'Q = D', 'q=D'", "'Q'"];
-    for strings in &rows[..] {
+    for strings in UNFIT {
         let toml = format!(in rt.alloc(); "[[device]]\nname='U1'\nbsdl='k'\nfollow=[{strings}]\n")?;
         assert_one(&rt, rt.alloc(), toml.as_str(), "C2 BadField follow")?;
     }

@@ -172,8 +172,8 @@ pub record Drawn : Type 0 where
   pub plain : Bool
 
 -- what is done with a text or a board: whether the bytes are told, whether all failures are, and whether it is told why
--- a bit fails and where a refusal lies; the waves of a play, where their file is named; whether every way of every fault
--- is listed; and the log of a play, where its file is named
+-- a bit fails and where a refusal lies; the waves of a play, where their file is named; whether every way of every
+-- fault is listed; and the log of a play, where its file is named
 pub data Action : Type 0 where
   plays : (bytes all explain : Bool) → (vcd : Option Drawn) → Action
   checks : (explain : Bool) → Action

@@ -54,8 +54,8 @@ fn is_called<R: Files>(rt: &R, node: Node, name: &str) -> Result<bool, InputFaul
     Ok(known(rt, name)?.is_some_and(|known| node_of(&known) == node))
 }
 
-/// The first bytes of what a file keeps, so many at most: none where it is not there, or is a folder, a pipe, a terminal
-/// or another device that keeps nothing.
+/// The first bytes of what a file keeps, so many at most: none where it is not there, or is a folder, a pipe, a
+/// terminal or another device that keeps nothing.
 pub fn head_of<R: Files + AllocGlobal>(
     rt: &R,
     alloc: Global,

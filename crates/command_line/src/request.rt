@@ -67,8 +67,8 @@ pub enum Task<'a> {
     Cover {
         listed: bool,
     },
-    /// It is told which faults of the board give just what a log says of a play of the text. The log comes from the file
-    /// of this name, or from standard input; `explain` as for `Check`.
+    /// It is told which faults of the board give just what a log says of a play of the text. The log comes from the
+    /// file of this name, or from standard input; `explain` as for `Check`.
     Diagnose {
         log: Option<&'a str>,
         explain: bool,

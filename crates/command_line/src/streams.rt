@@ -20,8 +20,8 @@ pub struct StandIns {
 }
 
 impl StandIns {
-    /// Takes the descriptors of the standard streams that are closed, from the lowest on: the system gives out the lowest
-    /// that is free.
+    /// Takes the descriptors of the standard streams that are closed, from the lowest on: the system gives out the
+    /// lowest that is free.
     pub fn new(rt: &HostRuntime) -> io::Result<StandIns> {
         Ok(StandIns {
             _input: stand_in(rt, &rt.stdin())?,

@@ -27,7 +27,7 @@ use Rattle.board_plan.specs.View.{wiring}
 use Rattle.board_plan.specs.declared.plan.Plan.{Plan}
 use Rattle.board_model.specs.Following.{FollowsNoOtherControl}
 use Rattle.board_model.specs.Planned.{powered_up}
-use Rattle.board_report.specs.Ready.{IsReady}
+use Rattle.board_chain.specs.Ready.{IsReady}
 use Rattle.jt_board.specs.Made.{IsReadyPlan, IsSoundWiring, board_of}
 use Rattle.jt_board.specs.Bares.{bare_at, bare_planned, bare_wiring}
 

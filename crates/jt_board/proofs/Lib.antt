@@ -1,6 +1,7 @@
-pub use Rattle.board_report.proofs.Differing
-pub use Rattle.board_report.proofs.Rows
-pub use Rattle.board_report.proofs.WordLaws
+pub use Rattle.board_chain.proofs.Differing
+pub use Rattle.board_chain.proofs.Rows
+pub use Rattle.board_chain.proofs.WordLaws
+pub mod Lines
 pub mod Lists
 pub mod NetLaws
 pub mod PlacedLaws

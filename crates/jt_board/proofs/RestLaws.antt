@@ -21,8 +21,8 @@ use Rattle.board_model.specs.Whole.{update_member}
 use Rattle.board_model.proofs.ShiftCycles.{count-cut_back}
 use Rattle.board_model.proofs.Sound.{Sound-capture_all, Sound-cut_back, Sound-reset, Sound-update, sound-other}
 use Rattle.board_model.proofs.Sound.{sound-updated}
-use Rattle.board_report.specs.AtRest.{as_members, chain_as, shifted_through}
-use Rattle.board_report.specs.Chains.{ChainValue}
+use Rattle.board_chain.specs.AtRest.{as_members, chain_as, shifted_through}
+use Rattle.board_chain.specs.Chains.{ChainValue}
 use Rattle.jt_board.specs.Made.{board_at}
 
 -- ---- members and chips

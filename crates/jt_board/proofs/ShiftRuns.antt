@@ -17,8 +17,8 @@ use Rattle.board_model.proofs.OneCycle.{Free, given, cycled, ran, Ran, hear-tail
 use Rattle.board_model.proofs.Shift.{shift_state, Full}
 use Rattle.board_model.proofs.ShiftCycles.{Full-cut_back, begins, count-cut_back, cut_back-cut_back, cycled-shift, joined-cut_back, length-moved_line, moved_line, stays}
 use Rattle.board_model.proofs.Sound.{Sound-Full}
-use Rattle.board_report.specs.AtRest.{as_members, shifted_through}
-use Rattle.board_report.specs.Shifting.{all_shift, is_shift_of, shows}
+use Rattle.board_chain.specs.AtRest.{as_members, shifted_through}
+use Rattle.board_chain.specs.Shifting.{all_shift, is_shift_of, shows}
 use Rattle.jt_board.specs.Shifting.{shift_cycles, shifts}
 
 -- what comes out of the joined list followed by what is shifted in, and what stays

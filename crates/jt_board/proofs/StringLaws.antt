@@ -20,8 +20,8 @@ use Rattle.board_model.specs.Planned.{members_of, powered_up}
 use Rattle.board_model.specs.Resting.{chip_at_rest}
 use Rattle.board_model.proofs.Following.{every_string_holds, no_loop, only_in_force}
 use Rattle.board_model.proofs.OtherRegisters.{circles_stand}
-use Rattle.board_report.proofs.NetLaws.{are_found}
-use Rattle.board_report.specs.Ready.{IsReady}
+use Rattle.board_chain.proofs.NetLaws.{are_found}
+use Rattle.board_chain.specs.Ready.{IsReady}
 use Rattle.board_file.proofs.FitLaws.{board_fits, board_said}
 use Rattle.jt_board.specs.FromText.{said_device}
 use Rattle.jt_board.specs.InUse.{IsMade, bare, described}

@@ -39,7 +39,7 @@ use Rattle.board_tables.specs.declared.fault.BoardFault.{BoardFault}
 use Rattle.board_tables.specs.declared.fault.BoardFault.TheVariants.{NoMemory}
 use Rattle.board_plan.specs.declared.plan.Plan.{Plan}
 use Rattle.board_model.specs.Chain.{BoardState}
-use Rattle.board_report.specs.Ready.{IsReady}
+use Rattle.board_chain.specs.Ready.{IsReady}
 use Rattle.jt_board.specs.FromText.{TellsMade, IsWhyRefused, said_device}
 use Rattle.jt_board.specs.Made.{IsReadyPlan, IsSoundWiring, board_of}
 

@@ -1,6 +1,4 @@
-pub use Rattle.board_report.specs.LeftOut
-pub use Rattle.board_report.specs.Report
-pub use Rattle.board_report.specs.Words
+pub use Rattle.board_chain.specs.Words
 pub use Rattle.bsdl.specs.declared.fault.BsdlFault
 pub mod Circles
 pub mod Bares
@@ -8,8 +6,11 @@ pub mod FromText
 pub mod Idling
 pub mod InUse
 pub mod Laws
+pub mod LeftOut
 pub mod Made
+pub mod Report
 pub mod Resting
 pub mod Shifting
+pub mod Shown
 pub mod Within
 pub mod Strings

@@ -12,8 +12,8 @@ use Rattle.board_plan.specs.View.{wiring}
 use Rattle.board_model.specs.Chain.{BoardState}
 use Rattle.board_model.specs.Resting.{power_up, board_at_rest}
 use Rattle.board_model.specs.Planned.{members_of}
-use Rattle.board_report.specs.Chains.{ChainValue}
-use Rattle.board_report.specs.Ready.{IsReady}
+use Rattle.board_chain.specs.Chains.{ChainValue}
+use Rattle.board_chain.specs.Ready.{IsReady}
 
 -- a board of this chain, at this level of TCK
 abbrev pub board_at : Bool → ChainValue → BoardState

@@ -5,7 +5,7 @@ use Rattle.jt_tap.specs.declared.Column.{Column}
 use Rattle.jt_tap.specs.declared.Column.TheVariants.{Dr, Ir}
 use Rattle.bitbang_protocol.specs.declared.Cycle.{Cycle}
 use Rattle.board_model.specs.Chain.{BoardState}
-use Rattle.board_report.specs.Shifting.{all_shift}
+use Rattle.board_chain.specs.Shifting.{all_shift}
 
 -- TCK is low, TRST released, and all devices shift.
 abbrev pub shifts : BoardState → Bool

@@ -18,10 +18,11 @@ mod idle;
 mod shifting;
 
 use crate::bare::bare_plan;
+use crate::snapshot::Snapshot;
 use bitbang_protocol::Message;
+use board_chain::Chain;
 use board_model::Reply;
 use board_plan::Plan;
-use board_report::{Chain, Snapshot};
 use bsdl::BsdlFault;
 use jt_limits::LIMITS;
 use std::alloc::{AllocError, Global};

@@ -17,9 +17,9 @@ pub fn every_board_in_use_is_sound()
     ensures { EveryBoardInUseIsSound }
 {}
 
-/// Of every such board, after any bytes: no net depends on itself by strings of `follow`, whatever the instructions are.
-/// Every string holds under the core bits in force, each port bit seeing its net under these same bits, and under no
-/// others.
+/// Of every such board, after any bytes: no net depends on itself by strings of `follow`, whatever the instructions
+/// are. Every string holds under the core bits in force, each port bit seeing its net under these same bits, and under
+/// no others.
 pub fn every_string_of_a_board_in_use_holds()
     ensures { EveryBoardInUseHasItsStrings }
 {}

@@ -10,13 +10,13 @@ mod circle_laws;
 mod from_text;
 mod laws;
 mod report;
+mod snapshot;
 
 pub use bare::bare_plan;
 pub use board::{Board, BoardFault};
 pub use board_file::{BoardTable, Refused, unplaced};
 pub use board_model::Reply;
 pub use board_plan::Plan;
-pub use board_report::Snapshot;
 pub use bsdl::BsdlFault;
 pub use byte_streams::{Broken, Counted};
 pub use circle_laws::{loops_are_circles, no_loop_is_no_circle};
@@ -29,3 +29,4 @@ pub use laws::{
 };
 pub use pin_nets::Level;
 pub use report::{write_left_out, write_report};
+pub use snapshot::Snapshot;

@@ -2,12 +2,14 @@
 
 ghost use Rattle.std.specs.Prelude.{◌≡◌};
 ghost use Rattle.byte_streams.specs.Writes.{WritesAll};
-ghost use Rattle.board_report.specs.Report.{report};
-ghost use Rattle.board_report.specs.LeftOut.{left_out_lines};
+ghost use Rattle.jt_board.specs.Report.{report};
+ghost use Rattle.jt_board.specs.LeftOut.{left_out_lines};
+
+mod lines;
 
 use crate::board::Board;
-use board_report::{write_all_left_out, write_devices, write_nets};
 use byte_streams::{Broken, Counted, Sink};
+use lines::{write_all_left_out, write_devices, write_nets};
 
 /// Writes the report of a board: for each device, from the one nearest TDO on, a line of its name, the word of its
 /// controller's state, the bits of its instruction, highest first, and the instruction's name, `-` where it has none;

@@ -41,4 +41,5 @@ shown_byte b = if is_escaped b then escaped b else b ∷ []
 abbrev pub shown : List ℕ → List ℕ
 shown [] = []
 shown (b ∷ []) = shown_byte b
-shown (a ∷ b ∷ rest) = if is_high_control a b then escaped a ++ escaped b ++ shown rest else shown_byte a ++ shown (b ∷ rest)
+shown (a ∷ b ∷ rest) =
+    if is_high_control a b then escaped a ++ escaped b ++ shown rest else shown_byte a ++ shown (b ∷ rest)

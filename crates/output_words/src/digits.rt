@@ -43,8 +43,8 @@ pub fn put_bits(text: &mut Vec<u8>, bits: &Bits) -> Result<(), AllocError>
     Ok(())
 }
 
-/// Puts the lowest `count` hexadecimal digits of bits behind a text, the highest of them first and in upper case. Refuses
-/// for want of memory alone.
+/// Puts the lowest `count` hexadecimal digits of bits behind a text, the highest of them first and in upper case.
+/// Refuses for want of memory alone.
 #[tactic(auto, using(crate::proofs::DigitLaws::hexadecimal_down))]
 pub fn put_hexadecimal(text: &mut Vec<u8>, bits: &Bits, count: usize) -> Result<(), AllocError>
     ensures { OnOk result (text.new.items ≡ text.old.items ++ hexadecimal count bits.now) }

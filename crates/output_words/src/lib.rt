@@ -1,5 +1,5 @@
-//! What a user reads, said once: the exit statuses, the words of levels, bits and bytes as digits, names, where something
-//! stands in a text, and how many bits failed.
+//! What a user reads, said once: the exit statuses, the words of levels, bits and bytes as digits, names, where
+//! something stands in a text, and how many bits failed.
 //!
 //! Each has a definition of its bytes, and a call that gives them, writes them, or puts them behind a text that grows.
 #![tactic(auto)]

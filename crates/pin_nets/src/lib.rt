@@ -80,7 +80,8 @@ pub enum Pull {
     Free,
 }
 
-/// What a net shows beside what its drivers say: a net of a board file is counted, one with a fault may have another rule.
+/// What a net shows beside what its drivers say: a net of a board file is counted, one with a fault may have another
+/// rule.
 #[derive(Debug, Clone, Copy, PartialEq, Eq)]
 pub enum Rule {
     /// What its drivers say, by counting them.

@@ -94,8 +94,8 @@ impl Joined {
         finishing::finish(&mut self.pipes)
     }
 
-    /// The wanted bits that did not come out so far: of a player that plays on the first 256 and how many they are, of one
-    /// that stops the first alone.
+    /// The wanted bits that did not come out so far: of a player that plays on the first 256 and how many they are, of
+    /// one that stops the first alone.
     pub fn failures(&self) -> &Failures
         ensures { found result.now ≡ self.now.world.player.found }
     {

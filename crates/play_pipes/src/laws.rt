@@ -36,8 +36,8 @@ pub fn what_is_joined_stays_inside_the_full_play()
 {}
 
 /// The down pipe holds bytes of the protocol and the up pipe answers `0` and `1`; as many answers are owed as are asked
-/// for in the one and stand in the other; and `Q` stands last in the down pipe from when it is given out until the board
-/// takes it.
+/// for in the one and stand in the other; and `Q` stands last in the down pipe from when it is given out until the
+/// board takes it.
 pub fn what_is_joined_holds_what_is_owed()
     ensures { WhatIsJoinedHoldsWhatIsOwed }
 {}

@@ -10,7 +10,8 @@ use Rattle.pin_nets.specs.declared.Follow.{Follow}
 use Rattle.board_model.specs.Cells.{Member, powered}
 use Rattle.board_model.specs.Nets.{in_force, net_of, rounds}
 use Rattle.std.specs.List.{AllByRecursion}
-use Rattle.board_model.specs.Following.{AreFit, EveryStringHolds, HasNoCircle, HasNoLoop, IsOnCircle, Placed, after_strings}
+use Rattle.board_model.specs.Following.{AreFit, EveryStringHolds, HasNoCircle, HasNoLoop, IsOnCircle, Placed}
+use Rattle.board_model.specs.Following.{after_strings}
 use Rattle.board_model.specs.Whole.{AtRest}
 use Rattle.board_model.specs.Resting.{power_up, board_at_rest}
 use Rattle.svf_programs.specs.Steps.{Numbered}

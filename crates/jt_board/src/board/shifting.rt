@@ -3,10 +3,10 @@
 ghost use Rattle.std.specs.Prelude.{◌≡◌, ◌<◌, ◌≤◌, true};
 ghost use Rattle.bitbang_protocol.specs.Cycles.{closed_messages};
 ghost use Rattle.board_model.specs.Chain as chain;
-ghost use Rattle.board_report.specs.Shifting.{all_shift};
+ghost use Rattle.board_chain.specs.Shifting.{all_shift};
 ghost use Rattle.jt_board.specs.Shifting as shifting;
 ghost use Rattle.jt_board.specs.Shifting.{shift_column, shift_cycles};
-ghost use Rattle.board_report.specs.Words.{word_bits};
+ghost use Rattle.board_chain.specs.Words.{word_bits};
 
 use super::Board;
 use jt_tap::{Column, State};

@@ -3,7 +3,7 @@ use Rattle.std.specs.Prelude.{flat_map}
 use Rattle.byte_streams.proofs.Fronts.{WritesAll-is, WritesAll-then, WritesAll-stopped}
 use Rattle.pin_nets.specs.Wired.{Net}
 use Rattle.board_model.specs.Chain.{ChipState, members}
-use Rattle.board_report.specs.Report.{device_line, net_line}
+use Rattle.jt_board.specs.Report.{device_line, net_line}
 use Rattle.jt_board.proofs.report.write_report.Goals as goal
 
 -- the lines of the nets, among these devices

@@ -4,7 +4,7 @@ use Rattle.board_model.specs.Resting.{IsAtRest}
 use Rattle.board_model.specs.Sound.{IsChain}
 use Rattle.board_model.specs.Whole as whole
 use Rattle.board_model.specs.Whole.{AtRest}
-use Rattle.board_report.specs.Chains.{ChainValue}
+use Rattle.board_chain.specs.Chains.{ChainValue}
 use Rattle.jt_board.specs.Made.{board_at}
 use Rattle.jt_board.specs.contracts.board.Board.{the_view}
 use Rattle.jt_board.proofs.RestLaws.{chain-captured, rests_captured}

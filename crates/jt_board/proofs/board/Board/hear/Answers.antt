@@ -2,7 +2,7 @@ use Rattle.std.proofs.Common.{false, sym, ap, subst}
 use Rattle.bitbang_protocol.specs.declared.Message.TheVariants.{Lines}
 use Rattle.board_model.specs.Sound.{IsChain}
 use Rattle.board_model.proofs.SoundEdges.{IsChain-told}
-use Rattle.board_report.specs.Chains.{ChainValue}
+use Rattle.board_chain.specs.Chains.{ChainValue}
 use Rattle.jt_board.specs.contracts.board.Board.{the_view}
 use Rattle.jt_board.proofs.board.Board.hear.Goals as goal
 

@@ -1,7 +1,7 @@
 use Rattle.std.proofs.Common.{sym, ap, subst}
 use Rattle.board_plan.specs.View.{wiring}
 use Rattle.board_model.specs.Sound.{IsChain}
-use Rattle.board_report.specs.Chains.{ChainValue}
+use Rattle.board_chain.specs.Chains.{ChainValue}
 use Rattle.jt_board.specs.Made.{board_at}
 use Rattle.jt_board.proofs.Bares.{sound_chain}
 use Rattle.jt_board.proofs.board.Board.powered_up.Goals as goal

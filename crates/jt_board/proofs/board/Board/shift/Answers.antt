@@ -6,7 +6,7 @@ use Rattle.board_model.specs.Whole as whole
 use Rattle.board_model.specs.Whole.{AtRest}
 use Rattle.scan_vectors.specs.Held.{bits}
 use Rattle.scan_vectors.specs.Vector.{tdis}
-use Rattle.board_report.specs.Chains.{ChainValue}
+use Rattle.board_chain.specs.Chains.{ChainValue}
 use Rattle.jt_board.specs.Made.{board_at}
 use Rattle.jt_board.specs.contracts.board.Board.{the_view}
 use Rattle.jt_board.proofs.RestLaws.{chain-shifted, rests_shifted}

@@ -1,7 +1,7 @@
 use Rattle.std.proofs.Common.{◌≡◌, ◌∙◌, List, Some, ap, sym, subst}
 use Rattle.std.specs.Prelude.{slice_get}
 use Rattle.board_model.specs.Chain.{BoardState, ChipState}
-use Rattle.board_report.specs.WiredChips.{chip_state}
+use Rattle.board_chain.specs.WiredChips.{chip_state}
 use Rattle.jt_board.proofs.ShiftRuns.{dr_column, dr_first, ir_column, ir_first, shift_of}
 use Rattle.jt_board.proofs.board.Board.shift_column.Goals as goal
 

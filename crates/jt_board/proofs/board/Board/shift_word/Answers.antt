@@ -4,10 +4,10 @@ use Rattle.bitbang_protocol.specs.declared.Message.TheVariants.{Write}
 use Rattle.board_model.specs.Chain.{BoardState, fall, hear, members}
 use Rattle.board_model.specs.Sound.{IsChain}
 use Rattle.board_model.proofs.SoundEdges.{IsChain-told}
-use Rattle.board_report.specs.AtRest.{as_members, shifted_through}
-use Rattle.board_report.specs.Chains.{ChainValue}
-use Rattle.board_report.specs.Shifting.{all_shift}
-use Rattle.board_report.specs.Words.{word_bits}
+use Rattle.board_chain.specs.AtRest.{as_members, shifted_through}
+use Rattle.board_chain.specs.Chains.{ChainValue}
+use Rattle.board_chain.specs.Shifting.{all_shift}
+use Rattle.board_chain.specs.Words.{word_bits}
 use Rattle.jt_bits.proofs.WordShifts.{length-word}
 use Rattle.jt_board.specs.Made.{board_at}
 use Rattle.jt_board.specs.Shifting.{shift_cycles, shifts}

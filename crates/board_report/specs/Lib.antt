@@ -1,9 +1,0 @@
-pub use Rattle.board_chain.specs.AtRest
-pub use Rattle.board_chain.specs.Chains
-pub use Rattle.board_chain.specs.Ready
-pub use Rattle.board_chain.specs.Shifting
-pub use Rattle.board_chain.specs.WiredChips
-pub use Rattle.board_chain.specs.Words
-pub mod LeftOut
-pub mod Report
-pub mod Shown
