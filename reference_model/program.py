@@ -10,6 +10,7 @@ from typing import NamedTuple
 from board import BARE, Board, EdgeBoard, WholeBoard, read_board
 from controller import NEXT, default_path, path_from_exit1
 from described import describe
+from places import second_line
 from refusal import Refusal
 from svf import GoStep, PathStep, Program, RunStep, ScanStep, TrstStep, accept
 
@@ -30,7 +31,11 @@ def read(text: bytes, tree: dict | None, files: dict[str, bytes]) -> tuple[Board
     The board is judged before the text.
     """
     board = BARE if tree is None else read_board(tree, files)
-    return board, accept(text)
+    try:
+        return board, accept(text)
+    except Refusal as refusal:
+        refusal.second = second_line(text, *refusal.value)
+        raise
 
 
 def refused(refusal: Refusal) -> Answer:

@@ -41,7 +41,7 @@ class Fault(Exception):
 
 def refusal(code: int, statement: int) -> Refusal:
     """Statements count from 1; statement 0 is the text itself."""
-    return Refusal(f"svf S{code} {FAULT_NAMES[code]} statement {statement}")
+    return Refusal(f"svf S{code} {FAULT_NAMES[code]} statement {statement}", (code, statement))
 
 
 # Tokens

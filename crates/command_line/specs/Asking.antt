@@ -131,9 +131,9 @@ describe = record (new_shape (codes "describe")) { rules = served_board ∷ expl
 abbrev pub list : Rule
 list = record (new_rule (codes "list")) { long = Some (codes "list"); action = Some SetTrue }
 
--- `cover [FILE] --board BOARD [--list]`
+-- `cover [FILE] --board BOARD [--list] [--explain]`
 abbrev pub cover : Shape
-cover = record (new_shape (codes "cover")) { rules = svf ∷ served_board ∷ list ∷ [] }
+cover = record (new_shape (codes "cover")) { rules = svf ∷ served_board ∷ list ∷ explain ∷ [] }
 
 -- `FILE`, which must be named where standard input is the log
 abbrev pub named_svf : Rule
@@ -181,7 +181,7 @@ pub data Action : Type 0 where
   serves : Serving → (explain : Bool) → Action
   connects : Host → (all explain : Bool) → Action
   describes : (explain : Bool) → Action
-  covers : (listed : Bool) → Action
+  covers : (listed explain : Bool) → Action
   diagnoses : (log : Option Text) → (explain : Bool) → Action
 
 -- what is asked for: the file of the program and the board file, where they are named, and what is done
@@ -254,7 +254,8 @@ task_of name rows =
     else if bytes_eq name (codes "connect")
     then connects (server_of rows) (is_given (codes "all") rows) (is_given (codes "explain") rows)
     else if bytes_eq name (codes "describe") then describes (is_given (codes "explain") rows)
-    else if bytes_eq name (codes "cover") then covers (is_given (codes "list") rows)
+    else if bytes_eq name (codes "cover")
+    then covers (is_given (codes "list") rows) (is_given (codes "explain") rows)
     else if bytes_eq name (codes "diagnose") then diagnoses (log_of rows) (is_given (codes "explain") rows)
     else plays (is_given (codes "bytes") rows) (is_given (codes "all") rows) (is_given (codes "explain") rows)
     (waves_of rows)

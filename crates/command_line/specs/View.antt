@@ -22,7 +22,7 @@ action_of (Loop all explain) = asking.loops all explain
 action_of (Serve how explain) = asking.serves how explain
 action_of (Connect server all explain) = asking.connects (server_view server) all explain
 action_of (Describe explain) = asking.describes explain
-action_of (Cover listed) = asking.covers listed
+action_of (Cover listed explain) = asking.covers listed explain
 action_of (Diagnose log explain) = asking.diagnoses (option_map (λ s. s.now) log) explain
 
 abbrev pub asked_of : Request → Asked

@@ -64,8 +64,10 @@ pub enum Task<'a> {
         explain: bool,
     },
     /// It is told which faults of the board the text would miss; where `listed` is set, every way of every fault.
+    /// `explain` as for `Check`.
     Cover {
         listed: bool,
+        explain: bool,
     },
     /// It is told which faults of the board give just what a log says of a play of the text. The log comes from the
     /// file of this name, or from standard input; `explain` as for `Check`.
@@ -130,7 +132,7 @@ pub struct Request<'a> {
 /// - `serve --board BOARD --port PORT [--at-most BYTES] [--connections COUNT] [--timeout SECONDS] [--explain]`,
 /// - `connect [FILE] --port PORT [--host HOST] [--timeout SECONDS] [--all] [--explain]`,
 /// - `describe --board BOARD [--explain]`,
-/// - `cover [FILE] --board BOARD [--list]`,
+/// - `cover [FILE] --board BOARD [--list] [--explain]`,
 /// - `diagnose FILE --board BOARD [--log LOG] [--explain]`.
 ///
 /// Refused are words that none of these takes, and a number that is not in its range; a call for help or for the
@@ -194,6 +196,7 @@ fn task_of<'a>(name: &str, found: &ArgMatches<'a>) -> Task<'a>
         },
         "cover" => Task::Cover {
             listed: is_given(found, "list"),
+            explain: is_given(found, "explain"),
         },
         "diagnose" => Task::Diagnose {
             log: log_of(found),
@@ -444,7 +447,8 @@ fn cover_command<'a>(alloc: Global) -> Result<Command<'a>, AllocError>
     )
     .arg(svf_arg(alloc))?
     .arg(served_board_arg(alloc))?
-    .arg(list_arg(alloc))
+    .arg(list_arg(alloc))?
+    .arg(explain_arg(alloc))
 }
 
 fn diagnose_command<'a>(alloc: Global) -> Result<Command<'a>, AllocError>

@@ -11,7 +11,10 @@ use play_explained::plain::{
     Board, BoardFault, Kind, Program, SvfFault, accept, check_program, refuse_board, refuse_file,
     refuse_memory, refuse_text, run_program,
 };
-use play_explained::{refused_board, refused_description, refused_key, refused_text, refused_toml};
+use play_explained::refusals::{
+    place_in_description, refused_board, refused_description, refused_key, refused_text,
+    refused_toml,
+};
 use std::alloc::Global;
 
 /// The program of a text. Else tells why it is refused, and where it is asked for where that lies, and answers the exit
@@ -95,13 +98,8 @@ pub(crate) fn tell_unmade<E: Sink>(
         Unmade::NoToml(_) => refuse_board(&BoardFault::BadToml, err),
         Unmade::RefusedKey(key) if explain => tell_key(alloc, key, err),
         Unmade::RefusedKey(key) => refuse_board(&key.fault, err),
-        Unmade::RefusedFile(file) => {
-            let status = refuse_board(&file.fault, err)?;
-            if explain {
-                tell_file(file, err)?;
-            }
-            Ok(status)
-        }
+        Unmade::RefusedFile(file) if explain => tell_file(alloc, file, err),
+        Unmade::RefusedFile(file) => refuse_board(&file.fault, err),
     }
 }
 
@@ -156,12 +154,20 @@ fn tell_key<E: Sink>(
     }
 }
 
-/// Tells where in a file's description its refusal lies.
-fn tell_file<E: Sink>(file: &RefusedFile, err: &mut Counted<E>) -> Result<(), Broken>
+/// Tells that the description in a file is refused, and where in it the refusal lies, or what it names.
+fn tell_file<E: Sink>(alloc: Global, file: &RefusedFile, err: &mut Counted<E>) -> Result<u8, Broken>
     requires { err.old.failures ≡ 0 }
 {
-    match &file.fault {
-        BoardFault::Bsdl(fault) => refused_description(file.name(), file.text(), fault, err),
-        _ => Ok(()),
+    let BoardFault::Bsdl(fault) = &file.fault else {
+        return refuse_board(&file.fault, err);
+    };
+    let text = file.text();
+    match place_in_description(alloc, text, fault) {
+        Ok(place) => {
+            let status = refuse_board(&file.fault, err)?;
+            refused_description(file.name(), text, fault, place, err)?;
+            Ok(status)
+        }
+        Err(_) => refuse_memory(err),
     }
 }

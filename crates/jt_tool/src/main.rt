@@ -104,7 +104,9 @@ fn run_request(rt: &HostRuntime, alloc: Global, request: &Request<'_>) -> u8 {
 fn run_planned(rt: &HostRuntime, alloc: Global, request: &Request<'_>, planned: Planned) -> u8 {
     match request.task {
         Task::Describe { .. } => describe_board(rt, alloc, &planned),
-        Task::Cover { listed } => cover_board(rt, alloc, request.svf, &planned, listed),
+        Task::Cover { listed, explain } => {
+            cover_board(rt, alloc, request.svf, &planned, listed, explain)
+        }
         Task::Diagnose { log, explain } => {
             diagnose_board(rt, alloc, request.svf, &planned, log, explain)
         }
@@ -130,8 +132,9 @@ fn cover_board(
     name: Option<&str>,
     planned: &Planned,
     listed: bool,
+    explain: bool,
 ) -> u8 {
-    match read_program(rt, alloc, name, false) {
+    match read_program(rt, alloc, name, explain) {
         Ok(accepted) => cover_program(rt, alloc, planned, &accepted.program, listed),
         Err(status) => status,
     }
@@ -203,8 +206,8 @@ fn explains(task: Task<'_>) -> bool {
         | Task::Serve { explain, .. }
         | Task::Connect { explain, .. }
         | Task::Describe { explain }
+        | Task::Cover { explain, .. }
         | Task::Diagnose { explain, .. } => explain,
-        Task::Cover { .. } => false,
     }
 }
 

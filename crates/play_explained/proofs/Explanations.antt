@@ -13,7 +13,7 @@ use Rattle.play_model.specs.declared.ending.Ending.{Ending}
 use Rattle.play_model.specs.declared.ending.Ending.TheVariants.{Pass, Fail, Lost, BadAnswer}
 use Rattle.play_model.specs.declared.kind.Kind.TheVariants.{PlaysOn, Stops}
 use Rattle.std.specs.Prelude.{flat_map, Option, None, Some}
-use Rattle.play_explained.specs.Starts.{statement_position}
+use Rattle.refusal_places.specs.Starts.{statement_position}
 use Rattle.output_words.specs.declared.lines.Position.{Position}
 use Rattle.std.proofs.lemmas.List.{append-nil}
 use Rattle.output_words.specs.Lines.{total_line}

@@ -6,8 +6,3 @@ pub mod Reasons
 pub mod RowsCompute
 pub mod WantedSteps
 pub mod ToldLaws
-pub mod FirstTokens
-pub mod Order
-pub mod TextRowsCompute
-pub mod Small
-pub mod PlaceRowsCompute

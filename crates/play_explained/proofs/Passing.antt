@@ -1,7 +1,7 @@
 -- Statements of a text, passed one after another.
 use Rattle.std.proofs.Common.{◌≡◌, ℕ, zero, suc, ◌+◌, ◌≤◌, ◌<◌, List, [], ◌∷◌, drop, length, Option, Some, None, slice_get, refl, sym, ap, ◌∙◌, arith}
-use Rattle.play_explained.specs.Left.{left_of}
-use Rattle.play_explained.specs.Starts.{places_of, statement_position}
+use Rattle.refusal_places.specs.Left.{left_of}
+use Rattle.refusal_places.specs.Starts.{places_of, statement_position}
 use Rattle.output_words.specs.declared.lines.Position.{Position}
 use Rattle.play_explained.specs.Passed.{IsAt, PassesTo}
 use Rattle.play_explained.specs.declared.places.Passed.{Passed}

@@ -5,8 +5,8 @@ use Rattle.output_words.specs.declared.lines.Position.{Position}
 use Rattle.play_model.specs.Endings.{verdict_line}
 use Rattle.play_model.specs.declared.ending.Ending.{Ending}
 use Rattle.play_model.specs.declared.ending.Ending.TheVariants.{Pass, Lost, BadAnswer}
-use Rattle.play_explained.proofs.TextRowsCompute.{statement_rows}
-use Rattle.play_explained.specs.TextRows.{at}
+use Rattle.refusal_places.proofs.TextRowsCompute.{statement_rows}
+use Rattle.refusal_places.specs.TextRows.{at}
 use Rattle.play_explained.specs.Lines.{at_line}
 use Rattle.play_explained.specs.Rows.{EndedRows}
 

@@ -15,7 +15,7 @@ use Rattle.play_model.specs.declared.ending.Ending.TheVariants.{Pass, Fail, Lost
 use Rattle.play_model.specs.declared.kind.Kind.{Kind}
 use Rattle.play_model.specs.declared.kind.Kind.TheVariants.{PlaysOn, Stops}
 use Rattle.jt_player.specs.Accepting.{Accepts}
-use Rattle.play_explained.specs.Starts.{statement_position}
+use Rattle.refusal_places.specs.Starts.{statement_position}
 use Rattle.jt_player.specs.Kinds.{found_in}
 use Rattle.output_words.specs.Lines.{total_line}
 use Rattle.jt_player.specs.Showing.{ending_lines, mismatch_line}

@@ -6,11 +6,3 @@ pub mod Passed
 pub mod Rows
 pub mod Runs
 pub mod Wanted
-pub mod PositionLaws
-pub mod Left
-pub mod Positions
-pub mod Rising
-pub mod TextRows
-pub mod Starts
-pub mod Places
-pub mod PlaceRows

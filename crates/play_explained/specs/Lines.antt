@@ -14,7 +14,7 @@ use Rattle.play_model.specs.declared.kind.Kind.{Kind}
 use Rattle.play_model.specs.declared.kind.Kind.TheVariants.{Stops, PlaysOn}
 use Rattle.output_words.specs.Lines.{position_line, total_line}
 use Rattle.jt_player.specs.Showing.{mismatch_line}
-use Rattle.play_explained.specs.Starts.{statement_position}
+use Rattle.refusal_places.specs.Starts.{statement_position}
 use Rattle.output_words.specs.declared.lines.Position.{Position}
 use Rattle.board_reasons.specs.Lines.{wanted_line}
 use Rattle.board_reasons.specs.Reasons.{is_same_part, reason_lines}

@@ -1,7 +1,7 @@
 -- The statements of a text up to some place.
 use Rattle.std.specs.Prelude.{◌≡◌, ◌+◌, List, [], ◌∷◌, drop, Option, Some, None}
-use Rattle.play_explained.specs.Left.{left_of}
-use Rattle.play_explained.specs.Starts.{places_of, statement_position}
+use Rattle.refusal_places.specs.Left.{left_of}
+use Rattle.refusal_places.specs.Starts.{places_of, statement_position}
 use Rattle.output_words.specs.declared.lines.Position.{Position}
 use Rattle.play_explained.specs.declared.places.Passed.{Passed}
 use Rattle.std.specs.Prelude.{ℕ}

@@ -1,7 +1,7 @@
 -- Plays that ended without a verdict, and their lines.
 use Rattle.std.specs.Prelude.{◌≡◌, ℕ, List, ◌++◌, codes}
 use Rattle.play_model.specs.declared.ending.Ending.TheVariants.{Pass, Lost, BadAnswer}
-use Rattle.play_explained.specs.TextRows.{lf, two}
+use Rattle.refusal_places.specs.TextRows.{lf, two}
 use Rattle.play_explained.specs.Lines.{ended_lines}
 
 -- two statements, each on a line of its own

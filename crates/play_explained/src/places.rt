@@ -1,11 +1,11 @@
 //! Where the statements of a text start, asked for one after another.
 
 ghost use Rattle.std.specs.Prelude.{◌≡◌, ◌+◌, ◌≤◌, ◌<◌, ◌^◌};
-ghost use Rattle.play_explained.specs.Starts as spec;
+ghost use Rattle.refusal_places.specs.Starts as spec;
 ghost use Rattle.play_explained.specs.Passed.{IsAt, PassesOne};
 
-use crate::text_positions::StatementPositions;
 use output_words::Position;
+use refusal_places::StatementPositions;
 
 /// The statements of a text up to some place: how many they are, where the last of them starts, and those behind it.
 #[derive(Debug, Clone, Copy)]

@@ -13,13 +13,13 @@ ghost use Rattle.play_explained.specs.Lines.{explained_lines, failure_lines, lin
 
 use crate::explaining::Explained;
 use crate::places::{Passed, none_passed, position_from};
-use crate::text_positions::statement_position;
 use crate::wanted::wanted_of;
 use board_reasons::{Chain, Reason, is_same_part, write_reason, write_wanted};
 use byte_streams::{Broken, Counted, Sink, put_all};
 use jt_player::write_verdict;
 use output_words::{Position, write_position_line, write_total};
 use play_model::{Ending, Kind};
+use refusal_places::statement_position;
 use scan_vectors::{Failures, Mismatch};
 use svf_programs::Program;
 

@@ -1,5 +1,5 @@
 use Rattle.std.proofs.Common.{◌≡◌, sym, ap, ◌∙◌, arith}
-use Rattle.play_explained.specs.Starts.{statement_position}
+use Rattle.refusal_places.specs.Starts.{statement_position}
 use Rattle.play_explained.proofs.Passing.{none_further, passed_on}
 use Rattle.play_explained.proofs.places.position_behind.Goals as goal
 

@@ -1,0 +1,13 @@
+pub mod Positions
+pub mod Starts
+pub mod PositionLaws
+pub mod Left
+pub mod Rising
+pub mod TextRows
+pub mod Misfits
+pub mod TokenFaults
+pub mod TokenRows
+pub mod QuotedPlaces
+pub mod QuotedRows
+pub mod Places
+pub mod PlaceRows
