@@ -68,6 +68,8 @@ def at_fault(group: list[Token], code: int) -> Token:
     """The token at fault of a statement, which `;` ends; the first where no one token is."""
     if code == 4:
         return next(token for k, token in enumerate(group) if not goes_on(group[:k + 1]))
+    if code == 9:  # a path: its first state is one clock from where the program rests, which the statement does not say
+        return next((to for at, to in zip(group[1:-1], group[2:-1]) if to.word not in NEXT[at.word]), group[1])
     return next((token for k, token in enumerate(group[:-1]) if code in codes_of(group, k)), group[0])
 
 

@@ -6,6 +6,7 @@ use Rattle.std.specs.Char.{is_ascii_hexdigit}
 use Rattle.jt_bits.specs.Hex.{has_one_beyond}
 use Rattle.jt_tap.specs.declared.State.{State}
 use Rattle.jt_tap.specs.Controller.{is_stable}
+use Rattle.jt_tap.specs.Stated.{follows}
 use Rattle.svf_lex.specs.declared.Kind.{Kind}
 use Rattle.svf_lex.specs.declared.Kind.TheVariants as kind
 use Rattle.svf_lex.specs.declared.LexFault.{LexFault}
@@ -148,11 +149,42 @@ abbrev pub is_misfit : Code → Bool
 is_misfit code.BadForm = true
 is_misfit _ = false
 
+-- S9
+abbrev pub is_gap : Code → Bool
+is_gap code.BadPath = true
+is_gap _ = false
+
+-- a state is one cycle from the one before, where both are states
+abbrev pub may_follow : Option State → Option State → Bool
+may_follow (Some s) (Some t) = follows s t
+may_follow _ _ = true
+
+-- the first state of a path that is not one cycle from the one before it
+abbrev pub gap_behind : Option State → List (Result Lexeme LexFault) → Option ℕ
+gap_behind before [] = None
+gap_behind before (Err e ∷ items) = None
+gap_behind before (Ok t ∷ items) =
+    if is_semi t.kind then None
+    else if may_follow before (state_of t.text) then gap_behind (state_of t.text) items
+    else Some t.start
+
+abbrev pub next_start : List (Result Lexeme LexFault) → Option ℕ
+next_start [] = None
+next_start (Err e ∷ items) = None
+next_start (Ok t ∷ items) = Some t.start
+
+-- that, or else the first state of the path, which is not one cycle from where the program rests
+abbrev pub or_first : Option ℕ → List (Result Lexeme LexFault) → Option ℕ
+or_first None items = next_start items
+or_first (Some start) items = Some start
+
 -- Where the token at fault stands in a statement of a command, whose tokens behind it these are: of S4 the first that
--- does not fit, of the others the first that has the refusal, if one has.
+-- does not fit, of S9 the first state that is not one cycle from the one before, of the others the first that has the
+-- refusal, if one has.
 abbrev pub in_command : Code → Command → List (Result Lexeme LexFault) → Option ℕ
 in_command c k items =
     if is_misfit c then option_and_then (λ a. misfit a items) (behind_command k)
+    else if is_gap c then or_first (gap_behind None items) items
     else first_with (number c) k (len_value (next_word items)) false items
 
 abbrev pub in_statement : Code → List (Result Lexeme LexFault) → Option ℕ

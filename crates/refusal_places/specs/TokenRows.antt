@@ -38,6 +38,8 @@ pub record OwnRows : Type 0 where
   pub second_field : At (codes "SDR 4 TDI (F) MASK (10);") code.TooWide (Some 20)
   pub unstable_last : At (codes "STATE DRSELECT DRCAPTURE;") code.BadState (Some 15)
   pub unstable_end : At (codes "RUNTEST 5 TCK ENDSTATE DRSHIFT;") code.BadState (Some 23)
+  pub gap : At (codes "STATE IDLE DRPAUSE IDLE;") code.BadPath (Some 11)
+  pub gap_before : At (codes "STATE DRSELECT IRSELECT;") code.BadPath (Some 6)
   pub no_bits : At (codes "SDR 0;") code.EmptyScan (Some 4)
   pub system_clock : At (codes "RUNTEST 5 SCK;") code.Unsupported (Some 10)
   pub port : At (codes "PIO (HL);") code.Unsupported None

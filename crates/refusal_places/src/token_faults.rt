@@ -1,5 +1,5 @@
 //! The token at fault in a refused statement of SVF text.
-ghost use Rattle.std.specs.Prelude.{◌≡◌, ◌^◌, ◌<◌, ◌∷◌, [], MatchOption, IfSome, Ok, false, length};
+ghost use Rattle.std.specs.Prelude.{◌≡◌, ◌^◌, ◌<◌, ◌∷◌, [], MatchOption, IfSome, None, Ok, false, length};
 ghost use Rattle.svf_lex.specs.Cutting.{items_of};
 ghost use Rattle.svf_lex.specs.Left.{left};
 ghost use Rattle.svf_lex.specs.Scanning.{lexeme};
@@ -9,6 +9,7 @@ ghost use Rattle.refusal_places.specs.TokenFaults as spec;
 
 use crate::misfits::{behind_command, first_misfit};
 use jt_bits::{has_one_beyond, is_hexadecimal};
+use jt_tap::State;
 use svf_lex::{Kind, Lexer, Token};
 use svf_words::{
     Code, Command, SvfFault, Which, command_of, count, is_number, length, length_value, period,
@@ -16,8 +17,9 @@ use svf_words::{
 };
 
 /// Where the token stands that is at fault in a refused text, if one token is: of S4 the first that does not fit the
-/// form of its command, of S5, S6, S8, S12, S13 and S15 the first that has the refusal. Takes no memory, and its time
-/// is linear in the text.
+/// form of its command, of S9 the first state that is not one clock from the one before it, or else the first of the
+/// path, of S5, S6, S8, S12, S13 and S15 the first that has the refusal. Takes no memory, and its time is linear in the
+/// text.
 pub(crate) fn token_at_fault(text: &[u8], fault: SvfFault) -> Option<usize>
     ensures { result ≡ spec.token_at_fault text.now fault }
 {
@@ -26,6 +28,8 @@ pub(crate) fn token_at_fault(text: &[u8], fault: SvfFault) -> Option<usize>
     let command = command_of(first.text)?;
     if is_misfit(fault.code) {
         first_misfit(behind_command(command)?, words)
+    } else if is_gap(fault.code) {
+        gap_or_first(words)
     } else {
         first_with(fault.code.number(), command, words)
     }
@@ -35,6 +39,61 @@ fn is_misfit(code: Code) -> bool
     ensures { result ≡ spec.is_misfit code }
 {
     matches!(code, Code::BadForm)
+}
+
+fn is_gap(code: Code) -> bool
+    ensures { result ≡ spec.is_gap code }
+{
+    matches!(code, Code::BadPath)
+}
+
+/// Where the first state of a path stands that is not one clock from the one before it, or else its first state.
+fn gap_or_first(words: Lexer<'_>) -> Option<usize>
+    ensures { result ≡ spec.or_first (spec.gap_behind None (left words.entry)) (left words.entry) }
+{
+    match first_gap(words) {
+        Some(start) => Some(start),
+        None => next_start(words),
+    }
+}
+
+fn first_gap(words: Lexer<'_>) -> Option<usize>
+    ensures { result ≡ spec.gap_behind None (left words.entry) }
+{
+    let mut rest = words;
+    let mut before = None;
+    while let Some(Ok(token)) = rest.next() {
+        if is_semi(token.kind) {
+            return None;
+        }
+        let state = state_of(token.text);
+        if !may_follow(before, state) {
+            return Some(token.start);
+        }
+        before = state;
+    }
+    None
+}
+
+/// Whether a state is one clock from the one before, where both are states.
+fn may_follow(before: Option<State>, state: Option<State>) -> bool
+    ensures { result ≡ spec.may_follow before state }
+{
+    match (before, state) {
+        (Some(from), Some(to)) => from.step(to.entered_by()) == to,
+        _ => true,
+    }
+}
+
+/// Where the next token stands, if there is one.
+fn next_start(words: Lexer<'_>) -> Option<usize>
+    ensures { result ≡ spec.next_start (left words.entry) }
+{
+    let mut rest = words;
+    match rest.next() {
+        Some(Ok(token)) => Some(token.start),
+        _ => None,
+    }
 }
 
 /// The first token of the statement that stands behind so many others, and what is behind it.
