@@ -70,6 +70,8 @@ def at_fault(group: list[Token], code: int) -> Token:
         return next(token for k, token in enumerate(group) if not goes_on(group[:k + 1]))
     if code == 9:  # a path: its first state is one clock from where the program rests, which the statement does not say
         return next((to for at, to in zip(group[1:-1], group[2:-1]) if to.word not in NEXT[at.word]), group[1])
+    if group[0].word not in svf.FORMS or group[0].word in ("PIO", "PIOMAP"):
+        return group[0]
     return next((token for k, token in enumerate(group[:-1]) if code in codes_of(group, k)), group[0])
 
 
